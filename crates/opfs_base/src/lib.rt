@@ -1,0 +1,18 @@
+//! Names, paths, keys, locators and lists of blocks: the words that the whole store shares.
+#![tactic(auto)]
+
+pub mod bytes;
+pub mod extents;
+pub mod key;
+pub mod locator;
+pub mod name;
+pub mod path;
+pub mod words;
+
+pub use bytes::Bytes;
+pub use extents::{Extent, Extents};
+pub use key::Key;
+pub use locator::{Kind, Locator};
+pub use name::Name;
+pub use path::Path;
+pub use words::Words;

@@ -1,0 +1,10 @@
+//! What agents ask of the store, what it answers, and the history of both.
+#![tactic(auto)]
+
+pub mod entry;
+pub mod op;
+pub mod reply;
+
+pub use entry::Entry;
+pub use op::{Mode, Op, Word};
+pub use reply::{Refusal, Reply};
