@@ -1,8 +1,11 @@
 //! The outside in memory: sources, sinks, disks and hosts whose calls fail where they are told to.
 #![tactic(auto)]
 
+mod bytes;
+mod ram_disk;
 mod sink;
 mod source;
 
+pub use ram_disk::RamDisk;
 pub use sink::MemSink;
 pub use source::MemSource;
