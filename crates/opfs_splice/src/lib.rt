@@ -1,0 +1,2 @@
+//! Bytes by position.
+#![tactic(auto)]
