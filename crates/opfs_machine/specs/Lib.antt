@@ -1,0 +1,17 @@
+pub mod Agents
+pub mod Alone
+pub mod Changes
+pub mod Contents
+pub mod Effects
+pub mod Histories
+pub mod Machine
+pub mod Openings
+pub mod OwnRows
+pub mod Replies
+pub mod Rows
+pub mod Ruled
+pub mod Rulings
+pub mod Runs
+pub mod Steps
+pub mod Sums
+pub mod Victims
