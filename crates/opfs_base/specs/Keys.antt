@@ -1,6 +1,6 @@
 -- Storage keys of URLs (Storage: obtain a storage key; HTML: origin). A URL is what the crate `url` reads, which is the
 -- URL Standard's parser. That only five schemes have a key, and the limit of 255 bytes, are this project's own.
-use Rattle.std.specs.Prelude.{ℕ, ◌==◌, nat_le, Bool, not, ◌||◌, ◌++◌, length, codes, None, Result, Ok, Err}
+use Rattle.std.specs.Prelude.{◌==◌, nat_le, Bool, true, false, not, ◌||◌, ◌++◌, length, codes, None, Result, Ok, Err}
 use Rattle.std.specs.List.{list_any}
 use Rattle.url.specs.Parser.{parse_url}
 use Rattle.url.specs.Parts.{Parts, text_between}
@@ -29,8 +29,8 @@ abbrev pub key_of_parts : Parts → Result Text KeyRefusal
 key_of_parts url = elim (has_tuple_origin url.scheme) [ true ↦ checked_key (origin_text url) | false ↦ Err Opaque ]
 
 -- The key of the URL that a text is read as.
-unfoldable pub key_of : Text → Result Text KeyRefusal
-key_of text = elim (parse_url None text) [ | Ok url ↦ key_of_parts url | Err error ↦ Err BadUrl ]
+abbrev pub key_of : Text → Result Text KeyRefusal
+key_of text = elim (parse_url None text) [ Ok url ↦ key_of_parts url | Err error ↦ Err BadUrl ]
 
 -- Whether a key is an origin's, which names no bucket.
 abbrev pub is_origin : Text → Bool

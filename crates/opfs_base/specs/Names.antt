@@ -1,5 +1,5 @@
 -- File names (File System: valid file name). Only `/` separates. The limits are this project's own.
-use Rattle.std.specs.Prelude.{ℕ, ◌==◌, nat_le, Bool, not, ◌&&◌, List, [], ◌∷◌, length, codes}
+use Rattle.std.specs.Prelude.{◌==◌, nat_le, Bool, not, ◌&&◌, List, [], length, codes}
 use Rattle.std.specs.List.{list_any}
 use Rattle.opfs_base.specs.Texts.{Text, same_text}
 

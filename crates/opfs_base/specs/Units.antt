@@ -1,6 +1,6 @@
 -- Units: the buckets of an origin. Named buckets are this project's own; an origin's key is that of the Storage
 -- Standard (obtain a storage key).
-use Rattle.std.specs.Prelude.{ℕ, ◌+◌, ◌-◌, ◌==◌, nat_le, Bool, true, false, not, ◌&&◌, ◌||◌, List, [], ◌∷◌, ◌++◌, length, take_while, drop, codes}
+use Rattle.std.specs.Prelude.{ℕ, ◌+◌, ◌==◌, nat_le, Bool, true, false, not, ◌&&◌, ◌||◌, [], ◌∷◌, ◌++◌, length, take_while, drop, codes}
 use Rattle.std.specs.List.{list_any, list_all}
 use Rattle.opfs_base.specs.Texts.{Text, same_text}
 

@@ -1,10 +1,9 @@
 //! A list of bytes that is done growing.
 
-ghost use Rattle.std.specs.Prelude.{◌≡◌, ℕ, List, length, IfOk};
+ghost use Rattle.std.specs.Prelude.{◌≡◌, ◌==◌, ℕ, List, length, IfOk};
 ghost use Rattle.std.specs.Cmp.{partial_order_from_agreeing_total};
 ghost use Rattle.std.specs.Cmp.Lexicographic.{slice_cmp, pointwise, nat_list_cmp_total, texts_ties};
 ghost use Rattle.std.specs.Cmp.Rules.{comparing};
-
 ghost use Rattle.std.proofs.Common.{rules, refl};
 ghost use Rattle.std.specs.Prelude.{nat_eq, Some};
 ghost use Rattle.std.specs.Ordering.{nat_cmp};
@@ -56,12 +55,26 @@ impl Bytes {
         self.items.len()
     }
 
+    /// Whether there is no byte.
+    pub fn is_empty(&self) -> bool
+        ensures { result ≡ (length self.now == 0) }
+    {
+        self.items.is_empty()
+    }
+
     /// A copy of a slice.
     pub fn copy_of(alloc: Global, bytes: &[u8]) -> Result<Bytes, AllocError>
         ensures ok { IfOk result (λ copy. copy ≡ bytes.now) }
     {
         let items = bytes.to_vec(alloc)?;
         Ok(Bytes { items })
+    }
+
+    /// The same bytes in new memory.
+    pub fn copy(&self, alloc: Global) -> Result<Bytes, AllocError>
+        ensures { IfOk result (λ copy. copy ≡ self.now) }
+    {
+        Bytes::copy_of(alloc, self.items.as_slice())
     }
 }
 

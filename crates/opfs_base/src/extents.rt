@@ -1,7 +1,8 @@
 //! Runs of data blocks.
 
-ghost use Rattle.std.specs.Prelude.{◌≡◌, ℕ, List, length};
+ghost use Rattle.std.specs.Prelude.{◌≡◌, [], ℕ, List, length, IfOk};
 
+use std::alloc::{AllocError, Global};
 use std::marker::Model;
 
 /// A run of data blocks: the first one's number, and how many there are.
@@ -41,6 +42,30 @@ impl Extents {
         ensures { result.items ≡ self }
     {
         self.items
+    }
+
+    /// No runs. Takes no memory.
+    pub fn none(alloc: Global) -> Extents
+        ensures { result ≡ [] }
+    {
+        Extents {
+            items: Vec::new(alloc),
+        }
+    }
+
+    /// How many runs there are.
+    pub fn len(&self) -> usize
+        ensures { result ≡ length self.now }
+    {
+        self.items.len()
+    }
+
+    /// The same runs in new memory.
+    pub fn copy(&self, alloc: Global) -> Result<Extents, AllocError>
+        ensures { IfOk result (λ copy. copy ≡ self.now) }
+    {
+        let items = self.items.as_slice().to_vec(alloc)?;
+        Ok(Extents { items })
     }
 
     /// The runs as a slice.

@@ -11,8 +11,8 @@ pub mod words;
 
 pub use bytes::Bytes;
 pub use extents::{Extent, Extents};
-pub use key::Key;
-pub use locator::{Kind, Locator};
-pub use name::Name;
+pub use key::{Key, KeyRefusal, UnitRefusal, is_bucket_name, same_origin};
+pub use locator::{Kind, Locator, resolve, same};
+pub use name::{Name, is_valid_name};
 pub use path::Path;
 pub use words::Words;
