@@ -1,5 +1,9 @@
 pub mod Counts
 pub mod Disks
+pub mod DriveLaws
+pub mod Drives
 pub mod Streams
+pub mod KeptCalls
+pub mod KeptEvents
 pub mod Laws
 pub mod Overwrites

@@ -2,10 +2,12 @@
 #![tactic(auto)]
 
 mod bytes;
+mod mem_disk;
 mod ram_disk;
 mod sink;
 mod source;
 
+pub use mem_disk::MemDisk;
 pub use ram_disk::RamDisk;
 pub use sink::MemSink;
 pub use source::MemSource;
