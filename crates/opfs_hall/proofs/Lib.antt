@@ -1,0 +1,9 @@
+pub mod Ends
+pub mod Hands
+pub mod Looks
+pub mod Numbers
+pub mod Owned
+pub mod Seats
+pub mod Sums
+pub mod Tickets
+pub mod Views

@@ -1,0 +1,188 @@
+//! The hall, and the turn that a pass takes in it.
+ghost use Rattle.std.specs.Prelude.{◌≡◌, ◌≢◌, ℕ, ◌+◌, ◌≤◌, [], ◌∷◌, false, true, All, IfOk, IfErr, vec_capacity};
+ghost use Rattle.opfs_hall.specs.History.{GrowsByOthers, Adds, IsPrefix, HasEnded};
+ghost use Rattle.opfs_hall.specs.Seen.{AreNew, new_pass, in_turn, at_rest, joined, HasAll};
+ghost use Rattle.opfs_hall.specs.Turns.{IsFresh};
+
+use crate::board::{Board, Key, Place, SERVING, VALUE};
+use crate::chronicle::Chronicle;
+use crate::pass::Pass;
+use crate::plays::{Apart, Together};
+use crate::steps::{draw, hand_on, number, take_out, wait};
+use crate::told::Told;
+use atomic_table::{Refused, Table};
+use std::alloc::Global;
+use std::marker::Model;
+use std::sync::Wait;
+
+/// A lock that holds a value, and hands it on in ticket order. Clauses see it as which hall it is (`id`), the opening
+/// of its value, and its number of agents.
+pub struct Hall<V: Chronicle> {
+    board: Board<V>,
+}
+
+impl<V: Chronicle> Model for Hall<V> {
+    ghost use Rattle.opfs_hall.specs.Seen.{HallSeen, hall_code};
+    ghost use Rattle.opfs_hall.specs.Turns.{IsSized};
+
+    ghost Value = { HallSeen V.Opening };
+
+    ghost view = { λ h. record { id = h.board.shared.table_id; opening = V.opening h.board.shared.key.value.value; agents = h.board.shared.key.agents } };
+
+    ghost invariant = { λ h. IsSized h.board.shared.table_id };
+}
+
+/// A turn that a pass has taken, with the value. It is spent by `leave`, and `entered` is its pass as it took the turn.
+pub struct Turn<V: Chronicle> {
+    pub value: V,
+    entered: Told<Pass<V>>,
+    ghost busy: { entered.value.busy ≡ true },
+}
+
+/// The hall, and its first seat. It gives the value back where memory is short.
+fn lay<V: Chronicle>(alloc: Global, value: V, agents: u32) -> Result<(Hall<V>, Place<V>), V>
+    requires few { agents ≤ 64 }
+    requires empty { V.entries value ≡ [] }
+    ensures hall { IfOk result (λ r. (r.0.opening ≡ V.opening value) × (r.0.agents ≡ agents)) }
+    ensures seat { IfOk result (λ r. IsFresh r.1 r.0 0) }
+    ensures err { IfErr result (λ v. v ≡ value) }
+{
+    let about = Key {
+        value: Told::of(&value),
+        agents,
+    };
+    let Ok(mut slots) = Vec::with_capacity(alloc, 1) else {
+        return Err(value);
+    };
+    slots.push_reserved(Some(value));
+    match Table::new(alloc, &[0, 0, 0], slots, &about) {
+        Ok((board, seat)) => Ok((Hall { board }, seat)),
+        Err(Refused { slots }) => Err(only(slots)),
+    }
+}
+
+/// The value of the only slot.
+fn only<V>(mut slots: Vec<Option<V>>) -> V
+    requires one { (x : V) × (slots.items ≡ Some x ∷ []) }
+    ensures { slots.items ≡ Some result ∷ [] }
+{
+    let slot = slots.pop().unwrap();
+    slots.destroy_empty();
+    slot.unwrap()
+}
+
+/// Makes a pass of a seat that is none yet, and the seat of the next one.
+fn number_one<V: Chronicle>(hall: &Hall<V>, seat: Place<V>, next: u32) -> (Pass<V>, Place<V>)
+    requires seat { IsFresh seat hall.now next }
+    requires few { next ≤ hall.now.agents }
+    ensures pass { result.0 ≡ new_pass hall.now next [] }
+    ensures seat { IsFresh result.1 hall.now (next + 1) }
+{
+    let top = &hall.board.shared;
+    let mut place = seat;
+    number(top, &mut place, next);
+    let rest = top.split_seat::<Apart>(&mut place);
+    let pass = Pass {
+        place,
+        agent: next,
+        hall: Told::of(hall),
+    };
+    (pass, rest)
+}
+
+/// Makes the passes, in order. There is room for them.
+fn number_all<V: Chronicle>(hall: &Hall<V>, first: Place<V>, count: u32, passes: &mut Vec<Pass<V>>)
+    requires seat { IsFresh first hall.now 0 }
+    requires all { count ≤ hall.now.agents + 1 }
+    requires none { passes.old.items ≡ [] }
+    requires room { count ≤ vec_capacity passes.old }
+    ensures { AreNew hall.now count passes.new.items }
+{
+    let mut seat = first;
+    for next in 0..count {
+        let (pass, rest) = number_one(hall, seat, next);
+        passes.push_reserved(pass);
+        seat = rest;
+    }
+}
+
+impl<V: Chronicle> Hall<V> {
+    /// A hall of a value whose list is empty, and its passes 0 to `agents`, in order. Pass 0 is the owner's.
+    /// It gives the value back where memory is short, and refuses for nothing else.
+    pub fn make<R: AllocGlobal>(rt: &R, value: V, agents: u32) -> Result<(Hall<V>, Vec<Pass<V>>), V>
+        requires few { agents ≤ 64 }
+        requires empty { V.entries value ≡ [] }
+        ensures hall { IfOk result (λ r. (r.0.opening ≡ V.opening value) × (r.0.agents ≡ agents)) }
+        ensures passes { IfOk result (λ r. AreNew r.0 (agents + 1) r.1.items) }
+        ensures err { IfErr result (λ v. v ≡ value) }
+    {
+        let alloc = rt.alloc();
+        let count = agents + 1;
+        let Ok(mut passes) = Vec::with_capacity(alloc, count as usize) else {
+            return Err(value);
+        };
+        let (hall, seat) = lay(alloc, value, agents)?;
+        number_all(&hall, seat, count, &mut passes);
+        Ok((hall, passes))
+    }
+
+    /// Waits for the turn of the pass, and takes it.
+    pub fn enter<R: Wait>(&self, rt: &R, pass: &mut Pass<V>) -> Turn<V>
+        requires own { pass.old.hall ≡ self.now }
+        requires idle { pass.old.busy ≡ false }
+        ensures opening { V.opening result.value ≡ self.now.opening }
+        ensures grows { GrowsByOthers V.owner pass.old.agent pass.old.base (V.entries result.value) }
+        ensures pass { pass.new ≡ in_turn pass.old (V.entries result.value) }
+        ensures entered { result.entered.value ≡ pass.new }
+    {
+        let top = &self.board.shared;
+        let mine = draw(top, &mut pass.place);
+        wait(rt, top, &mut pass.place, mine);
+        let value = take_out(top, &mut pass.place);
+        Turn {
+            value,
+            entered: Told::of(pass),
+        }
+    }
+
+    /// Hands the turn on. The value's list is what the next pass finds.
+    pub fn leave(&self, pass: &mut Pass<V>, turn: Turn<V>)
+        requires own { pass.old.hall ≡ self.now }
+        requires entered { turn.entered.value ≡ pass.old }
+        requires opening { V.opening turn.value ≡ self.now.opening }
+        requires adds { Adds V.owner pass.old.agent pass.old.base (V.entries turn.value) }
+        ensures { pass.new ≡ at_rest pass.old (V.entries turn.value) }
+    {
+        let Turn { value, entered: _ } = turn;
+        let top = &self.board.shared;
+        hand_on(top, &mut pass.place, value);
+        top.wake_all(SERVING);
+    }
+
+    /// Collects a pass that has ended, with all that it has collected.
+    pub fn join(&self, into: &mut Pass<V>, from: Pass<V>)
+        requires own { (into.old.hall ≡ self.now) × (from.hall ≡ self.now) }
+        requires idle { (into.old.busy ≡ false) × (from.busy ≡ false) }
+        requires agent { from.agent ≢ 0 }
+        ensures { into.new ≡ joined into.old from }
+    {
+        let top = &self.board.shared;
+        top.join_seat::<Together>(&mut into.place, from.into_place());
+    }
+
+    /// Ends the hall, with a pass that has collected all others, and gives the value.
+    pub fn close(self, pass: Pass<V>) -> V
+        requires own { pass.hall ≡ self }
+        requires idle { pass.busy ≡ false }
+        requires all { HasAll pass }
+        ensures opening { V.opening result ≡ self.opening }
+        ensures base { IsPrefix pass.base (V.entries result) }
+        ensures ended { All (HasEnded V.owner (V.entries result)) pass.ended }
+    {
+        let Self { board } = self;
+        let mut closed = board.close_with(pass.into_place());
+        let slot = closed.take(VALUE);
+        closed.free();
+        slot.unwrap()
+    }
+}

@@ -1,0 +1,59 @@
+//! What an agent enters the hall with.
+ghost use Rattle.std.specs.Prelude.{◌≡◌};
+ghost use Rattle.opfs_hall.specs.Turns.{IsPlaceOf};
+
+use crate::board::Place;
+use crate::chronicle::Chronicle;
+use crate::hall::Hall;
+use crate::told::Told;
+use std::marker::Model;
+
+/// A pass of a hall. Clauses see it as its hall, its agent's number, the list that it has seen (`base`), the number
+/// and base of each pass that was joined into it (`ended`), and whether it has the turn (`busy`).
+/// A hall can be closed only with a pass that has collected all others, so a pass that is dropped keeps it open.
+pub struct Pass<V: Chronicle> {
+    pub(crate) place: Place<V>,
+    pub(crate) agent: u32,
+    pub(crate) hall: Told<Hall<V>>,
+}
+
+impl<V: Chronicle> Model for Pass<V> {
+    ghost use Rattle.opfs_hall.specs.Seen.{PassSeen, pass_code};
+    ghost use Rattle.opfs_hall.specs.Turns.{IsPlaced};
+
+    ghost Value = { PassSeen V.Opening V.Entry };
+
+    ghost view = { λ p. record { hall = p.hall.value; agent = p.agent; base = p.place.me.0.base; ended = p.place.me.0.ended; busy = p.place.me.0.inside } };
+
+    ghost invariant = { λ p. IsPlaced p.place p.hall.value p.agent };
+}
+
+impl<V: Chronicle> Pass<V> {
+    /// The number of its agent.
+    pub fn agent(&self) -> u32
+        ensures { result ≡ self.now.agent }
+    {
+        self.agent
+    }
+
+    pub(crate) fn into_place(self) -> Place<V>
+        ensures { IsPlaceOf result self }
+    {
+        let Self {
+            place,
+            agent: _,
+            hall: _,
+        } = self;
+        place
+    }
+}
+
+impl<V: Chronicle> Drop for Pass<V> {
+    fn drop(self) {
+        let Self {
+            place: _,
+            agent: _,
+            hall: _,
+        } = self;
+    }
+}

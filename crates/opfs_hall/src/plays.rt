@@ -1,0 +1,52 @@
+//! What each kind of step on the table tells, and how seats are split and joined.
+ghost use Rattle.opfs_hall.specs.Turns.{ticketed, looked, handed_on, numbered, split_left, split_right, joined_view, spent_view};
+
+use crate::board::View;
+use crate::chronicle::Chronicle;
+use atomic_table::{Join, Play, Split};
+
+/// A pass draws its ticket.
+pub(crate) struct Ticket;
+
+impl<V: Chronicle> Play<Option<V>, View<V::Opening, V::Entry>> for Ticket {
+    ghost then = { ticketed };
+}
+
+/// A pass looks which ticket is served, and takes the turn where it is its own.
+pub(crate) struct Look;
+
+impl<V: Chronicle> Play<Option<V>, View<V::Opening, V::Entry>> for Look {
+    ghost then = { looked V.opening V.entries V.owner };
+}
+
+/// The pass that has the turn hands it on.
+pub(crate) struct HandOn;
+
+impl<V: Chronicle> Play<Option<V>, View<V::Opening, V::Entry>> for HandOn {
+    ghost then = { handed_on V.entries };
+}
+
+/// A seat draws the number of its pass.
+pub(crate) struct Number;
+
+impl<V: Chronicle> Play<Option<V>, View<V::Opening, V::Entry>> for Number {
+    ghost then = { numbered };
+}
+
+/// A new seat comes beside a pass, and the right to draw the next number goes to it.
+pub(crate) struct Apart;
+
+impl<O, E> Split<View<O, E>> for Apart {
+    ghost left = { split_left };
+
+    ghost right = { split_right };
+}
+
+/// A pass collects another one, with all that it has collected.
+pub(crate) struct Together;
+
+impl<O, E> Join<View<O, E>> for Together {
+    ghost both = { joined_view };
+
+    ghost spent = { spent_view };
+}
