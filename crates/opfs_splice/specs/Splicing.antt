@@ -1,5 +1,5 @@
 -- Bytes by position (File System: write a chunk; file position and truncation).
-use Rattle.std.specs.Prelude.{ℕ, ◌+◌, ◌-◌, List, ◌++◌, length, take, drop, replicate}
+use Rattle.std.specs.Prelude.{ℕ, ◌+◌, ◌-◌, ◌++◌, length, take, drop, replicate}
 use Rattle.opfs_base.specs.Texts.{Text}
 
 -- The bytes after new ones were written at a position: a gap past the old end is filled with 0, and what stands behind
