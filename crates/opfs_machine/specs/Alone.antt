@@ -13,6 +13,7 @@ use Rattle.opfs_machine.specs.declared.own.Own.{Own}
 use Rattle.opfs_machine.specs.declared.state.Agent.{Agent}
 use Rattle.opfs_machine.specs.declared.state.Party.{Party}
 use Rattle.opfs_machine.specs.declared.state.Party.TheVariants.{Origin, Alone}
+use Rattle.opfs_machine.specs.declared.state.Need.{Need}
 use Rattle.opfs_machine.specs.declared.state.State.{State}
 use Rattle.opfs_machine.specs.Agents.{agent_of, party_with, same_party}
 use Rattle.opfs_machine.specs.Contents.{in_bytes}
@@ -22,7 +23,7 @@ use Rattle.opfs_machine.specs.Replies.{answer, sizes_of, origin_in}
 use Rattle.opfs_machine.specs.Ruled.{Ruled, ◌>>=◌, ◌>>◌, unless}
 use Rattle.opfs_machine.specs.Rulings.{ruling}
 use Rattle.opfs_machine.specs.Steps.{evicted, after_reply}
-use Rattle.opfs_machine.specs.Sums.{Need, usage, fits_quota, is_persistent}
+use Rattle.opfs_machine.specs.Sums.{usage, fits_quota, is_persistent}
 use Rattle.opfs_machine.specs.Victims.{root_units, none_taken}
 
 -- Whether a unit is the party's.

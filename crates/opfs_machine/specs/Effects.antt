@@ -75,7 +75,7 @@ opens_bucket s bucket (Some origin) = made s (unit_of origin bucket, []) row.Dir
 abbrev pub opens_stream : {F R : Type 0} → Contents F R → State F R → ℕ → Place → ℕ → Bool → Option (FileRow F) → State F R
 opens_stream c s k file reserve keep None = s
 opens_stream c s k file reserve keep (Some f) =
-    adds_own (with_row s file (row.File (with_lock want.Shared f))) k
+    adds_own (with_file s file (with_lock want.Shared)) k
     (c.stream file (if keep then f.present else c.empty) reserve)
 
 -- getFile.

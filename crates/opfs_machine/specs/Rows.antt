@@ -1,6 +1,7 @@
 -- The rows of the store: a finite map from places, as the list in their order.
 use Rattle.std.specs.Prelude.{ℕ, Bool, true, false, not, ◌&&◌, List, [], ◌∷◌, Option, Some, None, is_some, filter}
 use Rattle.std.specs.List.{list_any, filter_map}
+use Rattle.std.specs.Ordering.{is_eq}
 use Rattle.std.specs.FinMap.Entries.{put, find}
 use Rattle.opfs_base.specs.Texts.{Text}
 use Rattle.opfs_base.specs.Places.{Place, place_cmp, place_of, is_within, child_name}
@@ -94,6 +95,18 @@ first_locked (e ∷ es) = elim (taken_lock e.1) [ Some lock ↦ Some lock | None
 abbrev pub new_file : {F : Type 0} → F → ℕ → Row F
 new_file content stamp = row.File (record { present = content; stamp = stamp; lock = open_lock; durable = content; durable_stamp = stamp })
 
--- The state with a file at a place changed, where one is there.
+abbrev pub changed_row : {F : Type 0} → (FileRow F → FileRow F) → Row F → Row F
+changed_row change row.Directory = row.Directory
+changed_row change (row.File f) = row.File (change f)
+
+-- The rows with the file at a place changed, where one is there.
+abbrev pub change_at : {F : Type 0} → Place → (FileRow F → FileRow F) → Rows F → Rows F
+change_at place change [] = []
+change_at place change (e ∷ es) = elim (is_eq (place_cmp place e.0)) [
+  | true ↦ (e.0, changed_row change e.1) ∷ es
+  | false ↦ e ∷ change_at place change es
+]
+
+-- The state with the file at a place changed, where one is there.
 abbrev pub with_file : {F R : Type 0} → State F R → Place → (FileRow F → FileRow F) → State F R
-with_file s place change = elim (file_at s place) [ Some f ↦ with_row s place (row.File (change f)) | None ↦ s ]
+with_file s place change = record s { rows = change_at place change s.rows }

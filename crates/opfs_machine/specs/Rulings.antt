@@ -21,12 +21,13 @@ use Rattle.opfs_locks.specs.declared.Want.TheVariants as want
 use Rattle.opfs_machine.specs.declared.state.FileRow.{FileRow}
 use Rattle.opfs_machine.specs.declared.state.Row.{Row}
 use Rattle.opfs_machine.specs.declared.state.Sizes.{Sizes}
+use Rattle.opfs_machine.specs.declared.state.Need.{Need}
 use Rattle.opfs_machine.specs.declared.state.State.{State}
 use Rattle.opfs_machine.specs.Agents.{agent_of, open_stream, open_handle, party_of, is_posted}
 use Rattle.opfs_machine.specs.Contents.{Contents}
 use Rattle.opfs_machine.specs.Rows.{row_at, is_located, is_of_kind, rows_within, has_children, first_locked, file_at}
 use Rattle.opfs_machine.specs.Ruled.{Ruled, ◌>>=◌, ◌>>◌, unless, some_or}
-use Rattle.opfs_machine.specs.Sums.{Need, no_need, keeps_blocks, charges, block_charge, place_charge, mode_charge, is_persistent}
+use Rattle.opfs_machine.specs.Sums.{no_need, keeps_blocks, charges, block_charge, place_charge, mode_charge, is_persistent}
 
 -- Where a write or read begins: at its position, or else where the last one ended.
 abbrev pub start_of : Sizes → Option ℕ → ℕ

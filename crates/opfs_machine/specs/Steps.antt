@@ -7,6 +7,7 @@ use Rattle.opfs_hist.specs.declared.reply.Refusal.TheVariants as refusal
 use Rattle.opfs_hist.specs.declared.reply.Reply.{Reply}
 use Rattle.opfs_hist.specs.declared.reply.Reply.TheVariants as reply
 use Rattle.opfs_machine.specs.declared.own.Own.{Own}
+use Rattle.opfs_machine.specs.declared.state.Need.{Need}
 use Rattle.opfs_machine.specs.declared.state.State.{State}
 use Rattle.opfs_machine.specs.Agents.{agent_of, counted}
 use Rattle.opfs_machine.specs.Contents.{Contents, in_bytes}
@@ -14,7 +15,7 @@ use Rattle.opfs_machine.specs.Effects.{effect, refused}
 use Rattle.opfs_machine.specs.Replies.{answer, sizes_of, origin_in}
 use Rattle.opfs_machine.specs.Ruled.{Ruled, ◌>>=◌, ◌>>◌, unless, some_or}
 use Rattle.opfs_machine.specs.Rulings.{ruling}
-use Rattle.opfs_machine.specs.Sums.{Need, usage, pool, charge, fits_quota, fits_area}
+use Rattle.opfs_machine.specs.Sums.{usage, pool, charge, fits_quota, fits_area}
 use Rattle.opfs_machine.specs.Victims.{cleared, victims}
 
 -- The units that are cleared for a need, judged in this order: the quota, the area, the pool.

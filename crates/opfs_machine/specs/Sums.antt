@@ -11,6 +11,7 @@ use Rattle.opfs_base.specs.declared.locator.Kind.TheVariants as kind
 use Rattle.opfs_machine.specs.declared.own.Outline.{Outline}
 use Rattle.opfs_machine.specs.declared.own.Outline.TheVariants as outline
 use Rattle.opfs_machine.specs.declared.own.StreamOutline.{StreamOutline}
+use Rattle.opfs_machine.specs.declared.state.Need.{Need}
 use Rattle.opfs_machine.specs.declared.state.Row.{Row}
 use Rattle.opfs_machine.specs.declared.state.Row.TheVariants as row
 use Rattle.opfs_machine.specs.declared.state.State.{State}
@@ -18,12 +19,7 @@ use Rattle.opfs_machine.specs.Agents.{stream_in}
 use Rattle.opfs_machine.specs.Contents.{Contents}
 use Rattle.opfs_machine.specs.Rows.{is_root}
 
--- What a call asks for: blocks of its origin's quota, blocks of the pool, and bytes of the charge.
-pub record Need : Type 0 where
-  pub quota : ℕ
-  pub pool : ℕ
-  pub charge : ℕ
-
+-- What asks for nothing.
 abbrev pub no_need : Need
 no_need = record { quota = 0; pool = 0; charge = 0 }
 

@@ -8,4 +8,4 @@ pub mod state;
 
 pub use many::Many;
 pub use own::{HandleOutline, HandleRow, IteratorRow, Outline, Own, StreamOutline, StreamRow};
-pub use state::{Agent, FileRow, Limits, Party, Place, Posted, Row, Sizes, State};
+pub use state::{Agent, FileRow, Limits, Need, Party, Place, Posted, Row, Sizes, State};

@@ -97,3 +97,14 @@ pub struct Sizes {
     pub size: u64,
     pub position: u64,
 }
+
+/// What a call asks for.
+#[derive(Clone, Copy, Debug, PartialEq, Eq)]
+pub struct Need {
+    /// Blocks of its origin's quota.
+    pub quota: u64,
+    /// Blocks of the pool.
+    pub pool: u64,
+    /// Bytes of the charge.
+    pub charge: u64,
+}
