@@ -2,9 +2,11 @@
 #![tactic(auto)]
 
 pub mod entry;
+pub mod history;
 pub mod op;
 pub mod reply;
 
 pub use entry::Entry;
+pub use history::{History, Pending, PendingSum, Room};
 pub use op::{Mode, Op, Word};
 pub use reply::{Refusal, Reply};
