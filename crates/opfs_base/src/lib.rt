@@ -7,6 +7,7 @@ pub mod key;
 pub mod locator;
 pub mod name;
 pub mod path;
+pub mod text;
 pub mod words;
 
 pub use bytes::Bytes;
@@ -15,4 +16,5 @@ pub use key::{Key, KeyRefusal, UnitRefusal, is_bucket_name, same_origin};
 pub use locator::{Kind, Locator, resolve, same};
 pub use name::{Name, is_valid_name};
 pub use path::Path;
+pub use text::Text;
 pub use words::Words;
