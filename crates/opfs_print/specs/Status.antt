@@ -1,5 +1,5 @@
 -- Status lines: this project's own.
-use Rattle.std.specs.Prelude.{List, [], ◌∷◌, ◌++◌, codes, decimal}
+use Rattle.std.specs.Prelude.{[], ◌∷◌, ◌++◌, codes, decimal}
 use Rattle.opfs_base.specs.Texts.{Text}
 use Rattle.opfs_print.specs.Lines.{joined, two_text}
 use Rattle.opfs_print.specs.declared.end.BadScript.{BadScript}
