@@ -1,0 +1,5 @@
+pub mod Clauses
+pub mod Format
+pub mod Reading
+pub mod Seen
+pub mod Standing

@@ -1,0 +1,146 @@
+// A list of records on a disk that may stop at any moment.
+ghost use Rattle.std.specs.Prelude.{◌≡◌, ◌⊎◌, ◌+◌, ◌*◌, ◌<◌, ◌≤◌, ℕ, true, false, List, [], ◌∷◌, ◌++◌, length, OnOk, OnErr};
+ghost use Rattle.opfs_outside.specs.Bytes.{Same, window, Beside};
+ghost use Rattle.opfs_outside.specs.Faults.{Rose};
+ghost use Rattle.opfs_outside.specs.Moments.{Elapses};
+ghost use Rattle.opfs_journal.specs.Clauses.{Outside, OutsideBut, Before, After, OneOf};
+ghost use Rattle.opfs_journal.specs.Format.{records_of};
+ghost use Rattle.opfs_journal.specs.Seen.{Stays, kept};
+
+use crate::synced::write_synced;
+use crate::{Areas, DiskFault};
+use opfs_outside::Disk;
+use std::alloc::AllocError;
+use std::marker::Model;
+
+// A gate that is open, and one that is closed.
+const OPEN: u8 = 0xA5;
+
+const CLOSED: u8 = 0;
+
+/// A journal on a disk: two areas of records behind gates, of which one rules.
+#[derive(Drop)]
+pub struct Journal<D: Disk> {
+    disk: D,
+    areas: Areas,
+    // Area 1 rules.
+    second: bool,
+    // The generation byte of the area that rules.
+    generation: u8,
+    // The place of the last gate in that area.
+    tail: u64,
+    // The first gate of the other area is durably closed, once no gate is in doubt.
+    closed: bool,
+    // The place of the gate in doubt on the disk.
+    doubt: Option<u64>,
+    // The longest body that the buffer has room for.
+    spare: u64,
+    buffer: Vec<u8>,
+}
+
+impl<D: Disk> Model for Journal<D> {
+    ghost use Rattle.std.specs.Prelude.{◌+◌, ◌≤◌};
+    ghost use Rattle.std.specs.Vec.{vec_capacity};
+    ghost use Rattle.opfs_journal.specs.Seen.{Seen, seen};
+    ghost use Rattle.opfs_journal.specs.Standing.{Holds};
+
+    ghost Value = { Seen D };
+
+    ghost view = { λ j. seen D.content j.areas j.generation j.tail j.spare j.doubt j.disk };
+
+    ghost invariant = { λ j. Holds D.tells D.size D.content D.moment D.since j.areas j.second j.generation j.tail j.closed j.doubt j.disk
+        × (j.spare + 6 ≤ vec_capacity j.buffer) };
+}
+
+impl<D: Disk> Journal<D> {
+    /// Makes room for bodies of so many bytes. Calls no disk.
+    pub fn reserve(&mut self, n: u64) -> Result<(), AllocError>
+        ensures spare { OnOk result (n ≤ self.new.spare) }
+        ensures no_less { self.old.spare ≤ self.new.spare }
+        ensures same { self.new ≡ record self.old { spare = self.new.spare } }
+    {
+        if n <= self.spare {
+            return Ok(());
+        }
+        let room = n.checked_add(6).ok_or(AllocError)?;
+        self.buffer.clear();
+        self.buffer.reserve(room as usize)?;
+        self.spare = n;
+        Ok(())
+    }
+
+    /// Writes bytes outside of both areas. Until a sync a crash may leave any bytes there, also after a failure.
+    pub fn put(&mut self, at: u64, bytes: &[u8]) -> Result<(), DiskFault>
+        requires lies { at + length bytes.now ≤ D.size self.old.disk }
+        requires apart { (at + length bytes.now ≤ self.old.areas.first) ⊎ (self.old.areas.first + 2 * self.old.areas.bytes ≤ at) }
+        requires settled { self.old.in_doubt ≡ false }
+        ensures stays { Stays D.size self.old self.new }
+        ensures tail { self.new.tail ≡ self.old.tail }
+        ensures format { self.new.format ≡ self.old.format }
+        ensures sure { self.new.in_doubt ≡ false }
+        ensures records { D.tells → self.new.records ≡ self.old.records }
+        ensures written { OnOk result (D.tells → window (D.content self.new.disk) at (length bytes.now) ≡ bytes.now) }
+        ensures elsewhere { D.tells → Same (Beside at (length bytes.now)) (D.content self.new.disk) (D.content self.old.disk) }
+        ensures time { D.tells → Elapses D.moment D.since self.old.disk self.new.disk }
+        ensures moments { D.tells → (c : List ℕ) → D.since self.new.disk (D.moment self.old.disk) c
+            → Before (records_of self.old.areas) (kept self.old) (D.since self.old.disk (D.moment self.old.disk)) (OutsideBut self.old.areas at (length bytes.now)) c }
+        ensures later { D.faults self.old.disk ≤ D.faults self.new.disk }
+        ensures cause { OnErr result (Rose (D.faults self.old.disk) (D.faults self.new.disk)) }
+    {
+        self.disk.write(at, bytes).map_err(|_| DiskFault)
+    }
+
+    /// Reads bytes outside of both areas.
+    pub fn get(&mut self, at: u64, into: &mut [u8]) -> Result<(), DiskFault>
+        requires lies { at + length into.old ≤ D.size self.old.disk }
+        requires apart { (at + length into.old ≤ self.old.areas.first) ⊎ (self.old.areas.first + 2 * self.old.areas.bytes ≤ at) }
+        ensures stays { Stays D.size self.old self.new }
+        ensures tail { self.new.tail ≡ self.old.tail }
+        ensures format { self.new.format ≡ self.old.format }
+        ensures in_doubt { self.new.in_doubt ≡ self.old.in_doubt }
+        ensures records { D.tells → self.new.records ≡ self.old.records }
+        ensures doubt { D.tells → self.new.doubt ≡ self.old.doubt }
+        ensures bytes { OnOk result (D.tells → into.new ≡ window (D.content self.old.disk) at (length into.new)) }
+        ensures same { D.tells → D.content self.new.disk ≡ D.content self.old.disk }
+        ensures time { D.tells → Elapses D.moment D.since self.old.disk self.new.disk }
+        ensures moments { D.tells → (c : List ℕ) → D.since self.new.disk (D.moment self.old.disk) c → D.since self.old.disk (D.moment self.old.disk) c }
+        ensures later { D.faults self.old.disk ≤ D.faults self.new.disk }
+        ensures cause { OnErr result (Rose (D.faults self.old.disk) (D.faults self.new.disk)) }
+    {
+        self.disk.read(at, into).map_err(|_| DiskFault)
+    }
+
+    /// Ends the doubt, if there is one: closes the gate in doubt, and syncs. Without doubt it calls no disk.
+    pub fn settle(&mut self) -> Result<(), DiskFault>
+        ensures stays { Stays D.size self.old self.new }
+        ensures tail { self.new.tail ≡ self.old.tail }
+        ensures format { self.new.format ≡ self.old.format }
+        ensures none { self.old.in_doubt ≡ false → self.new ≡ self.old }
+        ensures ok { OnOk result (self.new.in_doubt ≡ false) }
+        ensures in_doubt { OnErr result (self.new.in_doubt ≡ true) }
+        ensures records { D.tells → self.new.records ≡ self.old.records }
+        ensures doubt { OnErr result (D.tells → self.new.doubt ≡ self.old.doubt) }
+        ensures outside { D.tells → Same (Outside self.old.areas) (D.content self.new.disk) (D.content self.old.disk) }
+        ensures time { D.tells → Elapses D.moment D.since self.old.disk self.new.disk }
+        ensures moments { D.tells → self.old.in_doubt ≡ true → (c : List ℕ) → D.since self.new.disk (D.moment self.old.disk) c
+            → OneOf (records_of self.old.areas) (D.since self.old.disk (D.moment self.old.disk)) (Outside self.old.areas) (kept self.old) self.old.doubt (D.content self.old.disk) c }
+        ensures durable { OnOk result (D.tells → (c : List ℕ) → D.since self.new.disk (D.moment self.new.disk) c → records_of self.old.areas c ≡ Some (kept self.old)) }
+        ensures behind { OnErr result (D.tells → (c : List ℕ) → D.since self.new.disk (D.moment self.new.disk) c → Same (Outside self.old.areas) c (D.content self.new.disk)) }
+        ensures later { D.faults self.old.disk ≤ D.faults self.new.disk }
+        ensures cause { OnErr result (Rose (D.faults self.old.disk) (D.faults self.new.disk)) }
+    {
+        if let Some(gate) = self.doubt {
+            write_synced(&mut self.disk, gate, &[CLOSED])?;
+            self.doubt = None;
+        }
+        Ok(())
+    }
+
+    /// Gives the disk back.
+    pub fn give_back(self) -> D
+        ensures { result ≡ self.disk }
+    {
+        let Journal { disk, .. } = self;
+        disk
+    }
+}

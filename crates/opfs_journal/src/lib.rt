@@ -1,0 +1,11 @@
+//! A journal on a disk that may stop at any moment: a list of records that is added to or replaced as a whole.
+#![tactic(auto)]
+
+mod areas;
+mod journal;
+mod refusal;
+mod synced;
+
+pub use areas::Areas;
+pub use journal::Journal;
+pub use refusal::{DiskFault, JournalRefusal, OpenRefusal};

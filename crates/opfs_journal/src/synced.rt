@@ -1,0 +1,19 @@
+// A write and its sync.
+ghost use Rattle.std.specs.Prelude.{◌≡◌, ◌+◌, ◌≤◌, length, OnOk, OnErr};
+ghost use Rattle.opfs_outside.specs.Faults.{Rose};
+ghost use Rattle.opfs_journal.specs.Standing.{Torn, Wrote};
+
+use opfs_outside::{Disk, Failed};
+
+/// Writes these bytes, and syncs.
+pub fn write_synced<D: Disk>(disk: &mut D, at: u64, bytes: &[u8]) -> Result<(), Failed>
+    requires { at + length bytes.now ≤ D.size disk.old }
+    ensures size { D.size disk.new ≡ D.size disk.old }
+    ensures torn { D.tells → Torn D.content D.moment D.since at (length bytes.now) disk.old disk.new }
+    ensures done { OnOk result (D.tells → Wrote D.content D.moment D.since at bytes.now disk.new) }
+    ensures later { D.faults disk.old ≤ D.faults disk.new }
+    ensures cause { OnErr result (Rose (D.faults disk.old) (D.faults disk.new)) }
+{
+    disk.write(at, bytes)?;
+    disk.sync()
+}
