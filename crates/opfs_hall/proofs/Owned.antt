@@ -47,6 +47,11 @@ module _ {E : Type 0} (owner : E → ℕ) where
         others_only k p.0 (nil_from_length (owned owner k p.0) (omega (arith, whole, length-append (owned owner k base) (owned owner k p.0)))),
   )
 
+  -- and then it has the same entries of k
+  pub owned-grows : (k : ℕ) (base list : List E) → k ≢ 0 → GrowsByOthers owner k base list → owned owner k list ≡ owned owner k base
+  owned-grows k base list real grows = ap (owned owner k) grows.1 ∙ (owned-append k base grows.0
+      ∙ (ap (λ es. owned owner k base ++ es) (owned-others k grows.0 (grows.2 real)) ∙ append-nil (owned owner k base)))
+
   -- what an agent adds has no entry of another agent
   pub owned-adds : (k agent : ℕ) (log list : List E) → Adds owner agent log list → k ≢ agent → k ≢ 0 → owned owner k list ≡ owned owner k log
   owned-adds k agent log list adds other real = let none : owned owner k adds.0 ≡ [] = owned-others k adds.0 (All-weaker (λ e. (owner e ≡ agent) ⊎ (owner e ≡ 0)) (λ e. owner e ≢ k)

@@ -22,7 +22,7 @@ pub struct Hall<V: Chronicle> {
 }
 
 impl<V: Chronicle> Model for Hall<V> {
-    ghost use Rattle.opfs_hall.specs.Seen.{HallSeen, hall_code};
+    ghost use Rattle.opfs_hall.specs.Seen.{HallSeen};
     ghost use Rattle.opfs_hall.specs.Turns.{IsSized};
 
     ghost Value = { HallSeen V.Opening };

@@ -18,7 +18,7 @@ pub struct Pass<V: Chronicle> {
 }
 
 impl<V: Chronicle> Model for Pass<V> {
-    ghost use Rattle.opfs_hall.specs.Seen.{PassSeen, pass_code};
+    ghost use Rattle.opfs_hall.specs.Seen.{PassSeen};
     ghost use Rattle.opfs_hall.specs.Turns.{IsPlaced};
 
     ghost Value = { PassSeen V.Opening V.Entry };
