@@ -1,6 +1,6 @@
 -- What a journal is seen as.
 use Rattle.std.proofs.Common.{◌≡◌, ◌≢◌, ℕ, ◌+◌, ◌*◌, ◌<◌, ◌≤◌, ◌⊎◌, Bool, true, false, not, List, [], ◌∷◌, ◌++◌, length, inl, inr, refl, sym, ◌∙◌, ap, subst, arith, Option, Some, None, Result, Ok, Err}
-use Rattle.std.specs.Prelude.{is_some, unwrap_or, OnOk, OnErr, slice_index, slice_set}
+use Rattle.std.specs.Prelude.{is_some, is_err, unwrap_or, OnOk, OnErr, slice_index, slice_set}
 use Rattle.std.proofs.lemmas.List.{get_or-set_same, get_or-set_other, set_past, get_or_past}
 use Rattle.std.proofs.lemmas.Bool.{cases_lt}
 use Rattle.opfs_outside.specs.Bytes.{Same, window, Beside}
@@ -16,6 +16,9 @@ use Rattle.opfs_journal.proofs.Shapes.{rests_reads}
 pub none_from : {X : Type 0} (o : Option X) → is_some o ≡ false → o ≡ None
 none_from None e = refl
 none_from (Some x) e = absurd (cc)
+
+pub some_same : {X : Type 0} {x y : X} → Some x ≡ Some y → x ≡ y
+some_same e = cc
 
 pub on_err : {T E P : Type 0} (r : Result T E) → P → OnErr r P
 on_err (Ok x) p = tt {0}
@@ -86,3 +89,8 @@ beside_one gate i other = elim (cases_lt i gate) [
   | inl below ↦ inl below
   | inr above ↦ inr (omega arith)
 ]
+
+-- what is said of Ok holds where it is no error
+pub if_no_error : {T E P : Type 0} (r : Result T E) → is_err r ≡ false → OnOk r P → P
+if_no_error (Ok x) e p = p
+if_no_error (Err x) e p = absurd (cc e)

@@ -3,7 +3,8 @@
 -- A record is a gate (1 byte), a length (4 bytes, the lowest first) and a body of that length. The next gate follows.
 -- A gate is open exactly where it is 0xA5. The first record of an area has a body that begins with a generation byte:
 -- 0, 1 or 2 in format 1, and 16, 17 or 18 in format 2.
-use Rattle.std.specs.Prelude.{◌≡◌, ℕ, zero, suc, ◌+◌, ◌*◌, ◌%◌, ◌<◌, ◌≤◌, ◌==◌, Bool, true, false, not, ◌&&◌, ◌||◌, nat_lt, nat_le, if◌then◌else◌, Option, Some, None, Result, Ok, Err, List, [], ◌∷◌, length, drop, slice_index}
+use Rattle.std.specs.Prelude.{◌≡◌, ℕ, zero, suc, ◌+◌, ◌*◌, ◌%◌, ◌<◌, ◌≤◌, ◌==◌, Bool, true, false, not, ◌&&◌, ◌||◌, nat_lt, nat_le, if◌then◌else◌, Option, Some, None, Result, Ok, Err, List, [], ◌∷◌, ◌++◌, length, drop, slice_index}
+use Rattle.std.specs.Int.{w32, to_le_bytes}
 use Rattle.opfs_outside.specs.Bytes.{window}
 use Rattle.opfs_journal.specs.declared.refusal.OpenRefusal.{OpenRefusal}
 use Rattle.opfs_journal.specs.declared.refusal.OpenRefusal.TheVariants.{NoArea, BadRecord}
@@ -95,3 +96,7 @@ stored_if_ok (Err refusal) = None
 -- the records of an image, where it has some
 abbrev pub records_of : Areas → List ℕ → Option Stored
 records_of a c = stored_if_ok (read_areas a c)
+
+-- the bytes behind a gate: the length, a body and a gate that is closed
+abbrev pub framed : List ℕ → List ℕ
+framed body = to_le_bytes w32 (length body) ++ body ++ 0 ∷ []

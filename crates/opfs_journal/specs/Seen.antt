@@ -1,5 +1,5 @@
 -- What a journal is seen as.
-use Rattle.std.specs.Prelude.{◌≡◌, ℕ, Bool, Option, Some, None, is_some, unwrap_or, List, [], slice_set}
+use Rattle.std.specs.Prelude.{◌≡◌, ℕ, Bool, Option, Some, None, is_some, unwrap_or, List, [], ◌∷◌, ◌++◌, slice_set}
 use Rattle.opfs_journal.specs.Format.{Stored, records_of, format_of}
 use Rattle.opfs_journal.specs.declared.areas.Areas.{Areas}
 
@@ -18,6 +18,13 @@ pub record Seen (D : Type 0) : Type 0 where
 -- what it keeps
 abbrev pub kept : {D : Type 0} → Seen D → Stored
 kept k = record { format = k.format; records = k.records }
+
+-- one record more, and one alone
+abbrev pub with_record : Stored → List ℕ → Stored
+with_record was b = record { format = was.format; records = was.records ++ b ∷ [] }
+
+abbrev pub one_record : ℕ → List ℕ → Stored
+one_record format b = record { format = format; records = b ∷ [] }
 
 abbrev pub nothing : Stored
 nothing = record { format = 1; records = [] }

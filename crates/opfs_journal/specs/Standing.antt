@@ -2,6 +2,7 @@
 use Rattle.std.specs.Prelude.{◌≡◌, ◌≢◌, ℕ, ◌+◌, ◌*◌, ◌^◌, ◌<◌, ◌≤◌, Bool, true, false, not, Option, Some, None, List, [], ◌∷◌, ◌++◌, length}
 use Rattle.opfs_outside.specs.Bytes.{Same, window, Beside}
 use Rattle.opfs_outside.specs.Moments.{Elapses}
+use Rattle.opfs_journal.specs.Clauses.{Outside}
 use Rattle.opfs_journal.specs.Format.{is_open, number_at, begin_of, is_generation}
 use Rattle.opfs_journal.specs.Reading.{Shape, bodies_of, IsRuled, Rests}
 use Rattle.opfs_journal.specs.declared.areas.Areas.{Areas}
@@ -80,3 +81,9 @@ pub record Holds {D : Type 0} (tells : Type 0) (size : D → ℕ) (content : D �
     (a : Areas) (second : Bool) (generation tail : ℕ) (closed : Bool) (doubt : Option ℕ) (disk : D) : Type 0 where
   pub bounds : Bounds a (size disk) generation tail doubt
   pub told : tells → Told a second generation tail closed doubt (content disk) (since disk (moment disk))
+
+-- Calls that began at start wrote in the areas alone: outside, the content and each image since have what was there.
+pub record Began {D : Type 0} (content : D → List ℕ) (moment : D → ℕ) (since : D → ℕ → List ℕ → Type 0) (a : Areas) (start disk : D) : Type 0 where
+  pub time : Elapses moment since start disk
+  pub outside : Same (Outside a) (content disk) (content start)
+  pub from : (c : List ℕ) → since disk (moment start) c → (d : List ℕ) × since start (moment start) d × Same (Outside a) c d

@@ -1,14 +1,15 @@
 // A list of records on a disk that may stop at any moment.
-ghost use Rattle.std.specs.Prelude.{◌≡◌, ◌⊎◌, ◌+◌, ◌*◌, ◌<◌, ◌≤◌, ℕ, true, false, List, [], ◌∷◌, ◌++◌, length, OnOk, OnErr};
+ghost use Rattle.std.specs.Prelude.{◌≡◌, ◌⊎◌, ◌+◌, ◌*◌, ◌<◌, ◌≤◌, ℕ, true, false, List, [], ◌∷◌, ◌++◌, length, ◌↔◌, OnOk, OnErr, IsErrOf};
 ghost use Rattle.opfs_outside.specs.Bytes.{Same, window, Beside};
 ghost use Rattle.opfs_outside.specs.Faults.{Rose};
 ghost use Rattle.opfs_outside.specs.Moments.{Elapses};
 ghost use Rattle.opfs_journal.specs.Clauses.{Outside, OutsideBut, Before, After, OneOf};
 ghost use Rattle.opfs_journal.specs.Format.{records_of};
-ghost use Rattle.opfs_journal.specs.Seen.{Stays, kept};
+ghost use Rattle.opfs_journal.specs.Seen.{Stays, kept, with_record};
 
+use crate::frame::frame;
 use crate::synced::write_synced;
-use crate::{Areas, DiskFault};
+use crate::{Areas, DiskFault, JournalRefusal};
 use opfs_outside::Disk;
 use std::alloc::AllocError;
 use std::marker::Model;
@@ -133,6 +134,47 @@ impl<D: Disk> Journal<D> {
             write_synced(&mut self.disk, gate, &[CLOSED])?;
             self.doubt = None;
         }
+        Ok(())
+    }
+
+    /// Adds a record. At `Ok` it is durable. After a disk fault a gate may be in doubt, and then the disk may hold
+    /// the record or not. Takes no memory.
+    pub fn append(&mut self, bytes: &[u8]) -> Result<(), JournalRefusal>
+        requires settled { self.old.in_doubt ≡ false }
+        requires spare { length bytes.now ≤ self.old.spare }
+        ensures stays { Stays D.size self.old self.new }
+        ensures format { self.new.format ≡ self.old.format }
+        ensures no_room { IsErrOf result JournalRefusal.NoRoom ↔ (self.old.areas.bytes < self.old.tail + length bytes.now + 6) }
+        ensures unchanged { IsErrOf result JournalRefusal.NoRoom → self.new ≡ self.old }
+        ensures sure { OnOk result (self.new.in_doubt ≡ false) }
+        ensures tail { OnOk result (self.new.tail ≡ self.old.tail + 5 + length bytes.now) }
+        ensures same_tail { OnErr result (self.new.tail ≡ self.old.tail) }
+        ensures records { OnOk result (D.tells → self.new.records ≡ self.old.records ++ bytes.now ∷ []) }
+        ensures same_records { OnErr result (D.tells → self.new.records ≡ self.old.records) }
+        ensures doubt { OnErr result (D.tells → self.new.in_doubt ≡ true → self.new.doubt ≡ with_record (kept self.old) bytes.now) }
+        ensures outside { D.tells → Same (Outside self.old.areas) (D.content self.new.disk) (D.content self.old.disk) }
+        ensures time { D.tells → Elapses D.moment D.since self.old.disk self.new.disk }
+        ensures moments { D.tells → (c : List ℕ) → D.since self.new.disk (D.moment self.old.disk) c
+            → OneOf (records_of self.old.areas) (D.since self.old.disk (D.moment self.old.disk)) (Outside self.old.areas) (kept self.old) (with_record (kept self.old) bytes.now) (D.content self.old.disk) c }
+        ensures durable { OnOk result (D.tells → (c : List ℕ) → D.since self.new.disk (D.moment self.new.disk) c
+            → After (records_of self.old.areas) (with_record (kept self.old) bytes.now) (D.content self.old.disk) (Outside self.old.areas) c) }
+        ensures known { OnErr result (D.tells → self.new.in_doubt ≡ false → (c : List ℕ) → D.since self.new.disk (D.moment self.new.disk) c → records_of self.old.areas c ≡ Some (kept self.old)) }
+        ensures behind { OnErr result (D.tells → self.new.in_doubt ≡ true → (c : List ℕ) → D.since self.new.disk (D.moment self.new.disk) c → Same (Outside self.old.areas) c (D.content self.new.disk)) }
+        ensures later { D.faults self.old.disk ≤ D.faults self.new.disk }
+        ensures cause { IsErrOf result JournalRefusal.DiskFault → Rose (D.faults self.old.disk) (D.faults self.new.disk) }
+    {
+        let len = bytes.len() as u64;
+        if self.areas.bytes - self.tail < len.saturating_add(6) {
+            return Err(JournalRefusal::NoRoom);
+        }
+        frame(&mut self.buffer, &[], bytes);
+        let gate = self.areas.begin(self.second) + self.tail;
+        write_synced(&mut self.disk, gate + 1, &self.buffer)?;
+        if write_synced(&mut self.disk, gate, &[OPEN]).is_err() {
+            self.doubt = Some(gate);
+            return Err(JournalRefusal::DiskFault);
+        }
+        self.tail += 5 + len;
         Ok(())
     }
 

@@ -2,6 +2,7 @@
 #![tactic(auto)]
 
 mod areas;
+mod frame;
 mod journal;
 mod refusal;
 mod synced;

@@ -1,3 +1,6 @@
+ghost use Rattle.std.specs.Prelude.{◌≡◌};
+ghost use Rattle.opfs_journal.specs.declared.refusal.JournalRefusal.TheVariants.{DiskFault};
+
 use opfs_outside::Failed;
 use std::error::Error;
 use std::fmt;
@@ -52,6 +55,14 @@ impl fmt::Display for JournalRefusal {
 }
 
 impl Error for JournalRefusal {}
+
+impl From<Failed> for JournalRefusal {
+    ghost from_gives = { λ _ refusal. refusal ≡ DiskFault };
+
+    fn from(_failed: Failed) -> JournalRefusal {
+        JournalRefusal::DiskFault
+    }
+}
 
 impl fmt::Display for OpenRefusal {
     fn fmt<W: fmt::Write>(&self, f: &mut fmt::Formatter<W>) -> fmt::Result {
