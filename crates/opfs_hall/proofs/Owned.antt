@@ -1,5 +1,5 @@
 -- The entries of one owner in a list that grows.
-use Rattle.std.proofs.Common.{◌≡◌, ◌≢◌, ◌⊎◌, ℕ, List, [], ◌∷◌, ◌++◌, length, sym, refl, ap, ◌∙◌, ⊎_elim, arith, cond, append_assoc, length-append, eq-eqb, ne_eqb}
+use Rattle.std.proofs.Common.{◌≡◌, ◌≢◌, ◌⊎◌, ℕ, List, [], ◌∷◌, ◌++◌, length, sym, refl, ap, ◌∙◌, ⊎_elim, inl, arith, Bool, true, false, cond, append_assoc, length-append, eq-eqb, ne_eqb}
 use Rattle.std.specs.Prelude.{All, count_by, map, Contains, nat_eq}
 use Rattle.std.proofs.lemmas.List.{append-nil, nil_from_length}
 use Rattle.std.proofs.lemmas.List.Elements.{filter-append, All-nil, All-cons, All-head, All-tail, All-weaker, All-map, All-contains}
@@ -57,6 +57,18 @@ module _ {E : Type 0} (owner : E → ℕ) where
   owned-adds k agent log list adds other real = let none : owned owner k adds.0 ≡ [] = owned-others k adds.0 (All-weaker (λ e. (owner e ≡ agent) ⊎ (owner e ≡ 0)) (λ e. owner e ≢ k)
       (λ e h is. ⊎_elim (λ a. other (sym is ∙ a)) (λ z. real (sym is ∙ z)) h) adds.0 adds.2) in
       ap (owned owner k) adds.1 ∙ (owned-append k log adds.0 ∙ (ap (λ es. owned owner k log ++ es) none ∙ append-nil (owned owner k log)))
+
+  -- for callers of `leave`: an agent that adds nothing, one entry of its own, or one of the two
+  pub adds_none : (agent : ℕ) (base list : List E) → list ≡ base → Adds owner agent base list
+  adds_none agent base list is = ([], is ∙ sym (append-nil base), All-nil (λ e. (owner e ≡ agent) ⊎ (owner e ≡ 0)))
+
+  pub adds_one : (agent : ℕ) (base list : List E) (e : E) → owner e ≡ agent → list ≡ base ++ e ∷ [] → Adds owner agent base list
+  adds_one agent base list e own is = let Own : E → Type 0 = λ x. (owner x ≡ agent) ⊎ (owner x ≡ 0) in
+      (e ∷ [], is, All-cons Own e [] (inl own) (All-nil Own))
+
+  pub adds_if : (agent : ℕ) (added : Bool) (base list : List E) (e : E) → owner e ≡ agent → list ≡ cond added (base ++ e ∷ []) base → Adds owner agent base list
+  adds_if agent false base list e own is = adds_none agent base list is
+  adds_if agent true base list e own is = adds_one agent base list e own is
 
   -- what ended stays ended while another agent adds
   pub ended_stays : (agent : ℕ) (log list : List E) (p : ℕ × List E) → Adds owner agent log list → p.0 ≢ agent → p.0 ≢ 0 → HasEnded owner log p → HasEnded owner list p

@@ -27,12 +27,17 @@ impl<V: Chronicle> Model for Hall<V> {
 
     ghost Value = { HallSeen V.Opening };
 
-    ghost view = { λ h. record { id = h.board.shared.table_id; opening = V.opening h.board.shared.key.value.value; agents = h.board.shared.key.agents } };
+    ghost view = { λ h. record {
+      id = h.board.shared.table_id;
+      opening = V.opening h.board.shared.key.value.value;
+      agents = h.board.shared.key.agents;
+    } };
 
     ghost invariant = { λ h. IsSized h.board.shared.table_id };
 }
 
-/// A turn that a pass has taken, with the value. It is spent by `leave`, and `entered` is its pass as it took the turn.
+/// A turn that a pass has taken, with the value. `entered` is the pass as it took the turn.
+/// It has to be spent, by `leave`: it cannot be dropped or taken apart, so let no `?` come while it is held.
 pub struct Turn<V: Chronicle> {
     pub value: V,
     entered: Told<Pass<V>>,

@@ -16,3 +16,4 @@ mod told;
 pub use chronicle::Chronicle;
 pub use hall::{Hall, Turn};
 pub use pass::Pass;
+pub use told::Told;

@@ -23,7 +23,13 @@ impl<V: Chronicle> Model for Pass<V> {
 
     ghost Value = { PassSeen V.Opening V.Entry };
 
-    ghost view = { λ p. record { hall = p.hall.value; agent = p.agent; base = p.place.me.0.base; ended = p.place.me.0.ended; busy = p.place.me.0.inside } };
+    ghost view = { λ p. record {
+      hall = p.hall.value;
+      agent = p.agent;
+      base = p.place.me.0.base;
+      ended = p.place.me.0.ended;
+      busy = p.place.me.0.inside;
+    } };
 
     ghost invariant = { λ p. IsPlaced p.place p.hall.value p.agent };
 }

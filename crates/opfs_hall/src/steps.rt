@@ -17,7 +17,8 @@ pub(crate) fn draw<V: Chronicle>(top: &Top<V>, place: &mut Place<V>) -> u64
     requires table { (place.old.table_id ≡ top.now.table_id) × IsSized top.now.table_id }
     requires idle { IsIdle place.old }
     ensures seat { IsSameSeat place.old place.new }
-    ensures ticket { (t : ℕ) × (place.new.me ≡ (record place.old.me.0 { ticket = Some t }, [])) × (t % 2 ^ 64 ≡ result) }
+    ensures ticket { (t : ℕ) × (t % 2 ^ 64 ≡ result)
+        × (place.new.me ≡ (record place.old.me.0 { ticket = Some t }, [])) }
 {
     top.fetch_add::<Ticket>(place, TICKET, 1)
 }
@@ -63,9 +64,11 @@ pub(crate) fn hand_on<V: Chronicle>(top: &Top<V>, place: &mut Place<V>, value: V
     requires table { (place.old.table_id ≡ top.now.table_id) × IsSized top.now.table_id }
     requires inside { (place.old.me.0.inside ≡ true) × (place.old.me.1 ≡ (0, None) ∷ []) }
     requires opening { place.old.me.0.opening ≡ Some (V.opening value) }
-    requires adds { (k : ℕ) × (place.old.me.0.number ≡ Some k) × Adds V.owner k place.old.me.0.base (V.entries value) }
+    requires adds { (k : ℕ) × (place.old.me.0.number ≡ Some k)
+        × Adds V.owner k place.old.me.0.base (V.entries value) }
     ensures seat { IsSameSeat place.old place.new }
-    ensures rests { place.new.me ≡ (record place.old.me.0 { inside = false; ticket = None; base = V.entries value }, []) }
+    ensures rests { place.new.me
+        ≡ (record place.old.me.0 { inside = false; ticket = None; base = V.entries value }, []) }
 {
     let before = top.exchange(place, VALUE, Some(value));
     let None = before else { unreachable!() };
@@ -76,10 +79,11 @@ pub(crate) fn hand_on<V: Chronicle>(top: &Top<V>, place: &mut Place<V>, value: V
 pub(crate) fn number<V: Chronicle>(top: &Top<V>, place: &mut Place<V>, number: u32)
     requires table { (place.old.table_id ≡ top.now.table_id) × IsSized top.now.table_id }
     requires idle { (place.old.me.0.ticket ≡ None) × (place.old.me.1 ≡ []) }
-    requires fresh { (place.old.me.0.number ≡ None) × (place.old.me.0.next ≡ Some number) × (place.old.me.0.ended ≡ []) }
+    requires fresh { (place.old.me.0.number ≡ None) × (place.old.me.0.next ≡ Some number) }
     requires few { (o : V.Opening) × (place.old.me.0.opening ≡ Some o) × (number ≤ place.old.me.0.agents) }
     ensures seat { IsSameSeat place.old place.new }
-    ensures drawn { place.new.me ≡ (record place.old.me.0 { number = Some number; next = Some (number + 1) }, []) }
+    ensures drawn { place.new.me
+        ≡ (record place.old.me.0 { number = Some number; next = Some (number + 1) }, []) }
 {
     let expected = u64::from(number);
     let found = top.compare_exchange::<Number>(place, NUMBER, expected, expected + 1);

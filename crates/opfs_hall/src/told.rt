@@ -4,7 +4,8 @@ ghost use base.Fml.{ftrue};
 
 use std::marker::{Model, PhantomData};
 
-/// A `T` as clauses saw it at one moment. It has no bytes, and any thread may have it, whatever `T` is.
+/// A `T` as clauses saw it at one moment. It has no bytes, and any thread may have it, whatever `T` is, also inside a
+/// struct with a model. So a value in a hall can hold what its history began from.
 pub struct Told<T> {
     marker: PhantomData<T>,
     pub ghost value: { T },
@@ -15,7 +16,8 @@ impl<T> Model for Told<T> {
 }
 
 impl<T> Told<T> {
-    pub(crate) fn of(value: &T) -> Told<T>
+    /// What the reference shows now.
+    pub fn of(value: &T) -> Told<T>
         ensures { result.value ≡ value.now }
     {
         let _ = value;

@@ -22,7 +22,8 @@ pub fn leave_mark<R: Wait>(rt: &R, hall: &Hall<Marks>, pass: &mut Pass<Marks>, c
     requires agent { pass.old.agent ≢ 0 }
     requires idle { pass.old.busy ≡ false }
     ensures same { IsSamePass pass.old pass.new }
-    ensures own { own_marks pass.old.agent pass.new.base ≡ (if result then own_marks pass.old.agent pass.old.base ++ mark pass.old.agent count ∷ [] else own_marks pass.old.agent pass.old.base) }
+    ensures own { let before = own_marks pass.old.agent pass.old.base in
+        own_marks pass.old.agent pass.new.base ≡ (if result then before ++ mark pass.old.agent count ∷ [] else before) }
 {
     let agent = pass.agent();
     let mut turn = hall.enter(rt, pass);
@@ -50,7 +51,8 @@ pub fn join_runs(hall: &Hall<Marks>, first: Run, second: Run) -> Run
     requires own { (first.pass.hall ≡ hall.now) × (second.pass.hall ≡ hall.now) }
     requires idle { (first.pass.busy ≡ false) × (second.pass.busy ≡ false) }
     requires agent { second.pass.agent ≢ 0 }
-    ensures { result ≡ record { pass = joined first.pass second.pass; complete = first.complete && second.complete } }
+    ensures pass { result.pass ≡ joined first.pass second.pass }
+    ensures complete { result.complete ≡ (first.complete && second.complete) }
 {
     let Run { mut pass, complete } = first;
     hall.join(&mut pass, second.pass);
@@ -115,7 +117,8 @@ pub fn run_hall<R: Threads + Wait + Sync + AllocGlobal>(
     turns: u32,
 ) -> Option<(Marks, bool)>
     requires { (0 < agents) × (agents ≤ 64) }
-    ensures { IfSome result (λ r. r.1 ≡ true → (k : ℕ) → k ≢ 0 → k ≤ agents → HasRun turns (k, r.0.list.items)) }
+    ensures { IfSome result (λ r. r.1 ≡ true
+        → (k : ℕ) → k ≢ 0 → k ≤ agents → HasRun turns (k, r.0.list.items)) }
 {
     let Ok((hall, passes)) = Hall::make(rt, Marks::new(rt.alloc()), agents) else {
         return None;

@@ -35,7 +35,9 @@ fn three(
     mut passes: Vec<Pass<Marks>>,
 ) -> (Pass<Marks>, Pass<Marks>, Pass<Marks>)
     requires { AreNew hall.now 3 passes.items }
-    ensures { (result.0 ≡ new_pass hall.now 0 []) × (result.1 ≡ new_pass hall.now 1 []) × (result.2 ≡ new_pass hall.now 2 []) }
+    ensures owner { result.0 ≡ new_pass hall.now 0 [] }
+    ensures first { result.1 ≡ new_pass hall.now 1 [] }
+    ensures second { result.2 ≡ new_pass hall.now 2 [] }
 {
     let _ = hall;
     let second = passes.remove(2);
