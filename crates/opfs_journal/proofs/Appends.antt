@@ -11,7 +11,7 @@ use Rattle.opfs_journal.specs.Standing.{Stands, Torn, Wrote, IsAtRest, IsInDoubt
 use Rattle.opfs_journal.specs.declared.areas.Areas.{Areas}
 use Rattle.opfs_journal.proofs.Chains.{walks_le}
 use Rattle.opfs_journal.proofs.Frames.{is_framed, length-framed}
-use Rattle.opfs_journal.proofs.Gates.{poised_append}
+use Rattle.opfs_journal.proofs.Gates.{poised_append, stands_same}
 use Rattle.opfs_journal.proofs.Moves.{told_at_rest, told_in_doubt}
 use Rattle.opfs_journal.proofs.Opens.{began_here, began_more, staged_image, staged_rest, only_before, opened_began, opened_moments, opens, opened_after, opened_unsure, opened_behind}
 use Rattle.opfs_journal.proofs.Views.{stored_at, kept_told, doubt_told}
@@ -38,6 +38,10 @@ pub in_areas : (a : Areas) (second : Bool) (at : ℕ) → begin_of a second ≤ 
 in_areas a true at from to = (omega arith, omega arith)
 in_areas a false at from to = (omega arith, omega arith)
 
+pub gate_bounds_of : (a : Areas) (second : Bool) → 7 ≤ a.bytes → (a.first ≤ begin_of a second) × (begin_of a second < a.first + 2 * a.bytes)
+gate_bounds_of a true least = (omega arith, omega arith)
+gate_bounds_of a false least = (omega arith, omega arith)
+
 pub gate_bounds : (a : Areas) (second : Bool) (tail : ℕ) → tail < a.bytes → (a.first ≤ begin_of a second + tail) × (begin_of a second + tail < a.first + 2 * a.bytes)
 gate_bounds a true tail within = (omega arith, omega arith)
 gate_bounds a false tail within = (omega arith, omega arith)
@@ -63,6 +67,9 @@ module _ {D : Type 0} (content : D → List ℕ) (moment : D → ℕ) (since : D
         (omega (arith, size, t.of_tail, room, ap (λ x. begin_of a x) t.of_second)) least h in
       subst (λ x. Beside (x + 1) (length (framed b)) i) t.of_tail inside
 
+  keeps : (c d : List ℕ) → Same (Beside (gate + 1) (length (framed b))) c d → Stands a s closed d → Stands a s closed c
+  keeps c d same st = stands_same a s closed d c (λ i h. same i (free i h)) st
+
   gate_in : (a.first ≤ gate) × (gate + 6 + length b ≤ a.first + 2 * a.bytes)
   gate_in =
       let low = in_areas a second gate (omega arith) (omega (arith, room)) in
@@ -71,7 +78,7 @@ module _ {D : Type 0} (content : D → List ℕ) (moment : D → ℕ) (since : D
 
   -- the bytes are written, or in part
   rest1 : IsAtRest a s closed (content d1) (since d1 (moment d1))
-  rest1 = staged_rest content moment since falls a s closed old d1 (gate + 1) (length (framed b)) free (t.rest sure) torn1
+  rest1 = staged_rest content moment since falls a s closed old d1 (gate + 1) (length (framed b)) keeps (t.rest sure) torn1
 
   pub told1 : (t' : Told a second generation tail closed doubt (content d1) (since d1 (moment d1))) × (t'.shape ≡ s)
   told1 = told_at_rest a second generation tail closed doubt (content d1) (since d1 (moment d1)) s t.of_second t.of_generation t.of_tail sure rest1
@@ -80,7 +87,7 @@ module _ {D : Type 0} (content : D → List ℕ) (moment : D → ℕ) (since : D
   began1 = began_more content moment since falls a old old d1 (gate + 1) (length (framed b)) (omega (arith, gate_in)) (omega (arith, gate_in, size)) (began_here content moment since falls a old) torn1
 
   images1 : (c : List ℕ) → since d1 (moment old) c → Rests a s c
-  images1 c is = (staged_image content moment since falls a s closed old d1 (gate + 1) (length (framed b)) free (t.rest sure) torn1 c is).rests
+  images1 c is = (staged_image content moment since falls a s closed old d1 (gate + 1) (length (framed b)) keeps (t.rest sure) torn1 c is).rests
 
   kept_is : kept (seen content a generation tail spare doubt old) ≡ stored_of s
   kept_is = kept_told content a second generation tail closed spare old (since old (moment old)) doubt t

@@ -1,5 +1,5 @@
 -- One gate decides.
-use Rattle.std.proofs.Common.{◌≡◌, ◌≢◌, ℕ, ◌+◌, ◌*◌, ◌%◌, ◌<◌, ◌≤◌, Bool, true, false, not, ◌&&◌, ◌||◌, leb, ltb, eqb, List, [], ◌∷◌, ◌++◌, length, inl, inr, refl, sym, ◌∙◌, ap, subst, arith, add-zero}
+use Rattle.std.proofs.Common.{◌≡◌, ◌≢◌, ℕ, ◌+◌, ◌*◌, ◌%◌, ◌<◌, ◌≤◌, Bool, true, false, not, ◌&&◌, ◌||◌, ◌⊎◌, leb, ltb, eqb, List, [], ◌∷◌, ◌++◌, length, inl, inr, refl, sym, ◌∙◌, ap, subst, arith, add-zero}
 use Rattle.std.specs.Prelude.{slice_index, ◌==◌}
 use Rattle.std.proofs.lemmas.Bool.{both_ways, agree_below_at, eq-eqb}
 use Rattle.std.proofs.lemmas.Bool.Decides.{nat_tests}
@@ -145,3 +145,35 @@ module _ (a : Areas) (s : Shape) (c : List ℕ) (g : ℕ) (b : List ℕ) (least 
           other = ruled;
         };
   }
+
+-- with the other area closed, its first gate alone matters of it
+pub stands_closed_same : (a : Areas) (s : Shape) (d c : List ℕ) → Same (λ i. ((begin_of a s.second ≤ i) × (i ≤ s.tail)) ⊎ (i ≡ begin_of a (not s.second))) d c → Stands a s true c → Stands a s true d
+stands_closed_same a s d c same st =
+    let other : is_open d (begin_of a (not s.second)) ≡ false = same_gate d c (begin_of a (not s.second)) (same (begin_of a (not s.second)) (inr refl)) ∙ st.other in
+    record {
+      rests = record {
+        walks = walks_same d c (begin_of a s.second) (bodies_of s) s.tail (λ i h. same i (inl (h.0, omega (arith, h.1)))) st.rests.walks;
+        shut = same_gate d c s.tail (same s.tail (inl (walks_le c (begin_of a s.second) (bodies_of s) s.tail st.rests.walks, omega arith))) ∙ st.rests.shut;
+        room = st.rests.room;
+        known = st.rests.known;
+        other = λ is_opened. absurd (both_ways (is_open d (begin_of a (not s.second))) other is_opened);
+      };
+      other = other;
+    }
+
+-- with an other area that would not rule, its first gate does not matter
+pub stands_ruled_same : (a : Areas) (s : Shape) (d c : List ℕ) → 7 ≤ a.bytes → Same (λ i. i ≢ begin_of a (not s.second)) d c → Stands a s false c → Stands a s false d
+stands_ruled_same a s d c least same st =
+    let off : (i : ℕ) → begin_of a s.second ≤ i → i ≤ s.tail → i ≢ begin_of a (not s.second) = λ i from to e.
+      apart a s.second i from (omega (arith, to, st.rests.room)) (omega (arith, e)) (omega (arith, e, least)) in
+    let ruled = ruled_same a s d c (λ i h. same i (λ e. omega (arith, e, h.0))) st.other in
+    record {
+      rests = record {
+        walks = walks_same d c (begin_of a s.second) (bodies_of s) s.tail (λ i h. same i (off i h.0 (omega (arith, h.1)))) st.rests.walks;
+        shut = same_gate d c s.tail (same s.tail (off s.tail (walks_le c (begin_of a s.second) (bodies_of s) s.tail st.rests.walks) (omega arith))) ∙ st.rests.shut;
+        room = st.rests.room;
+        known = st.rests.known;
+        other = λ _. ruled;
+      };
+      other = ruled;
+    }

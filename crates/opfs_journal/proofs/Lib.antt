@@ -1,5 +1,6 @@
 pub mod Appends
 pub mod Chains
+pub mod Checkpoints
 pub mod Frames
 pub mod Gates
 pub mod Moves

@@ -39,18 +39,24 @@ module _ {D : Type 0} (content : D → List ℕ) (moment : D → ℕ) (since : D
 
   module _ (s : Shape) (closed : Bool) where
     -- a write of what does not matter yet
-    pub staged_image : (old new : D) (at n : ℕ) → ((i : ℕ) → Relevant a s i → Beside at n i) → IsAtRest a s closed (content old) (since old (moment old)) → Torn content moment since at n old new
+    pub staged_image : (old new : D) (at n : ℕ) → ((c d : List ℕ) → Same (Beside at n) c d → Stands a s closed d → Stands a s closed c) → IsAtRest a s closed (content old) (since old (moment old)) → Torn content moment since at n old new
       → (c : List ℕ) → since new (moment old) c → Stands a s closed c
-    staged_image old new at n free rest torn c is =
+    staged_image old new at n keeps rest torn c is =
         let was = torn.moments c is in
-        stands_same a s closed was.0 c (λ i h. was.2 i (free i h)) (rest.images was.0 was.1)
+        keeps c was.0 was.2 (rest.images was.0 was.1)
 
-    pub staged_rest : (old new : D) (at n : ℕ) → ((i : ℕ) → Relevant a s i → Beside at n i) → IsAtRest a s closed (content old) (since old (moment old)) → Torn content moment since at n old new
+    pub staged_rest : (old new : D) (at n : ℕ) → ((c d : List ℕ) → Same (Beside at n) c d → Stands a s closed d → Stands a s closed c) → IsAtRest a s closed (content old) (since old (moment old)) → Torn content moment since at n old new
       → IsAtRest a s closed (content new) (since new (moment new))
-    staged_rest old new at n free rest torn = record {
-      here = stands_same a s closed (content old) (content new) (λ i h. torn.elsewhere i (free i h)) rest.here;
-      images = λ c is. staged_image old new at n free rest torn c (falls new (moment old) (moment new) c torn.time.later is);
+    staged_rest old new at n keeps rest torn = record {
+      here = keeps (content new) (content old) torn.elsewhere rest.here;
+      images = λ c is. staged_image old new at n keeps rest torn c (falls new (moment old) (moment new) c torn.time.later is);
     }
+
+    -- one write more, and each image since the start still has the shape
+    pub images_more : (start old new : D) (at n : ℕ) → ((c d : List ℕ) → Same (Beside at n) c d → Stands a s closed d → Stands a s closed c) → Began content moment since a start old → ((c : List ℕ) → since old (moment start) c → Rests a s c)
+      → IsAtRest a s closed (content old) (since old (moment old)) → Torn content moment since at n old new → (c : List ℕ) → since new (moment start) c → Rests a s c
+    images_more start old new at n keeps b images rest torn =
+        each_of_both moment since falls start old new (λ c. Rests a s c) b.time torn.time images (λ c is. (staged_image old new at n keeps rest torn c is).rests)
 
     -- each image since the start still has the records
     pub only_before : (start disk : D) (s' : Stored) → Began content moment since a start disk → ((c : List ℕ) → since disk (moment start) c → Rests a s c)

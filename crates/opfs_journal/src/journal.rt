@@ -5,10 +5,10 @@ ghost use Rattle.opfs_outside.specs.Faults.{Rose};
 ghost use Rattle.opfs_outside.specs.Moments.{Elapses};
 ghost use Rattle.opfs_journal.specs.Clauses.{Outside, OutsideBut, Before, After, OneOf};
 ghost use Rattle.opfs_journal.specs.Format.{records_of};
-ghost use Rattle.opfs_journal.specs.Seen.{Stays, kept, with_record};
+ghost use Rattle.opfs_journal.specs.Seen.{Stays, kept, one_record, with_record};
 
 use crate::frame::frame;
-use crate::synced::write_synced;
+use crate::synced::{close_gate, write_synced};
 use crate::{Areas, DiskFault, JournalRefusal};
 use opfs_outside::Disk;
 use std::alloc::AllocError;
@@ -175,6 +175,114 @@ impl<D: Disk> Journal<D> {
             return Err(JournalRefusal::DiskFault);
         }
         self.tail += 5 + len;
+        Ok(())
+    }
+
+    /// Puts this one record in the place of all, in the same format. At `Ok` it is durable. After a disk fault a gate
+    /// may be in doubt, and then the disk may hold this record alone, or those that were there. Takes no memory.
+    pub fn checkpoint(&mut self, bytes: &[u8]) -> Result<(), JournalRefusal>
+        requires settled { self.old.in_doubt ≡ false }
+        requires spare { length bytes.now ≤ self.old.spare }
+        ensures stays { Stays D.size self.old self.new }
+        ensures format { OnOk result (self.new.format ≡ self.old.format) }
+        ensures same_format { OnErr result (self.new.format ≡ self.old.format) }
+        ensures no_room { IsErrOf result JournalRefusal.NoRoom ↔ (self.old.areas.bytes < length bytes.now + 7) }
+        ensures unchanged { IsErrOf result JournalRefusal.NoRoom → self.new ≡ self.old }
+        ensures sure { OnOk result (self.new.in_doubt ≡ false) }
+        ensures tail { OnOk result (self.new.tail ≡ length bytes.now + 6) }
+        ensures same_tail { OnErr result (self.new.tail ≡ self.old.tail) }
+        ensures records { OnOk result (D.tells → self.new.records ≡ bytes.now ∷ []) }
+        ensures same_records { OnErr result (D.tells → self.new.records ≡ self.old.records) }
+        ensures doubt { OnErr result (D.tells → self.new.in_doubt ≡ true → self.new.doubt ≡ one_record self.old.format bytes.now) }
+        ensures outside { D.tells → Same (Outside self.old.areas) (D.content self.new.disk) (D.content self.old.disk) }
+        ensures time { D.tells → Elapses D.moment D.since self.old.disk self.new.disk }
+        ensures moments { D.tells → (c : List ℕ) → D.since self.new.disk (D.moment self.old.disk) c
+            → OneOf (records_of self.old.areas) (D.since self.old.disk (D.moment self.old.disk)) (Outside self.old.areas) (kept self.old) (one_record self.old.format bytes.now) (D.content self.old.disk) c }
+        ensures durable { OnOk result (D.tells → (c : List ℕ) → D.since self.new.disk (D.moment self.new.disk) c
+            → After (records_of self.old.areas) (one_record self.old.format bytes.now) (D.content self.old.disk) (Outside self.old.areas) c) }
+        ensures known { OnErr result (D.tells → self.new.in_doubt ≡ false → (c : List ℕ) → D.since self.new.disk (D.moment self.new.disk) c → records_of self.old.areas c ≡ Some (kept self.old)) }
+        ensures behind { OnErr result (D.tells → self.new.in_doubt ≡ true → (c : List ℕ) → D.since self.new.disk (D.moment self.new.disk) c → Same (Outside self.old.areas) c (D.content self.new.disk)) }
+        ensures later { D.faults self.old.disk ≤ D.faults self.new.disk }
+        ensures cause { IsErrOf result JournalRefusal.DiskFault → Rose (D.faults self.old.disk) (D.faults self.new.disk) }
+    {
+        let format = if self.generation < 16 { 1 } else { 2 };
+        self.rule_anew(format, bytes)
+    }
+
+    /// Is a checkpoint out of format 1 into format 2.
+    pub fn raise(&mut self, bytes: &[u8]) -> Result<(), JournalRefusal>
+        requires format { self.old.format ≡ 1 }
+        requires settled { self.old.in_doubt ≡ false }
+        requires spare { length bytes.now ≤ self.old.spare }
+        ensures stays { Stays D.size self.old self.new }
+        ensures format { OnOk result (self.new.format ≡ 2) }
+        ensures same_format { OnErr result (self.new.format ≡ self.old.format) }
+        ensures no_room { IsErrOf result JournalRefusal.NoRoom ↔ (self.old.areas.bytes < length bytes.now + 7) }
+        ensures unchanged { IsErrOf result JournalRefusal.NoRoom → self.new ≡ self.old }
+        ensures sure { OnOk result (self.new.in_doubt ≡ false) }
+        ensures tail { OnOk result (self.new.tail ≡ length bytes.now + 6) }
+        ensures same_tail { OnErr result (self.new.tail ≡ self.old.tail) }
+        ensures records { OnOk result (D.tells → self.new.records ≡ bytes.now ∷ []) }
+        ensures same_records { OnErr result (D.tells → self.new.records ≡ self.old.records) }
+        ensures doubt { OnErr result (D.tells → self.new.in_doubt ≡ true → self.new.doubt ≡ one_record 2 bytes.now) }
+        ensures outside { D.tells → Same (Outside self.old.areas) (D.content self.new.disk) (D.content self.old.disk) }
+        ensures time { D.tells → Elapses D.moment D.since self.old.disk self.new.disk }
+        ensures moments { D.tells → (c : List ℕ) → D.since self.new.disk (D.moment self.old.disk) c
+            → OneOf (records_of self.old.areas) (D.since self.old.disk (D.moment self.old.disk)) (Outside self.old.areas) (kept self.old) (one_record 2 bytes.now) (D.content self.old.disk) c }
+        ensures durable { OnOk result (D.tells → (c : List ℕ) → D.since self.new.disk (D.moment self.new.disk) c
+            → After (records_of self.old.areas) (one_record 2 bytes.now) (D.content self.old.disk) (Outside self.old.areas) c) }
+        ensures known { OnErr result (D.tells → self.new.in_doubt ≡ false → (c : List ℕ) → D.since self.new.disk (D.moment self.new.disk) c → records_of self.old.areas c ≡ Some (kept self.old)) }
+        ensures behind { OnErr result (D.tells → self.new.in_doubt ≡ true → (c : List ℕ) → D.since self.new.disk (D.moment self.new.disk) c → Same (Outside self.old.areas) c (D.content self.new.disk)) }
+        ensures later { D.faults self.old.disk ≤ D.faults self.new.disk }
+        ensures cause { IsErrOf result JournalRefusal.DiskFault → Rose (D.faults self.old.disk) (D.faults self.new.disk) }
+    {
+        self.rule_anew(2, bytes)
+    }
+
+    // Writes this one record into the other area, with the next generation in this format, and lets that area rule.
+    fn rule_anew(&mut self, format: u8, bytes: &[u8]) -> Result<(), JournalRefusal>
+        requires known { (format ≡ 1) ⊎ (format ≡ 2) }
+        requires settled { self.old.in_doubt ≡ false }
+        requires spare { length bytes.now ≤ self.old.spare }
+        ensures stays { Stays D.size self.old self.new }
+        ensures format { OnOk result (self.new.format ≡ format) }
+        ensures same_format { OnErr result (self.new.format ≡ self.old.format) }
+        ensures no_room { IsErrOf result JournalRefusal.NoRoom ↔ (self.old.areas.bytes < length bytes.now + 7) }
+        ensures unchanged { IsErrOf result JournalRefusal.NoRoom → self.new ≡ self.old }
+        ensures sure { OnOk result (self.new.in_doubt ≡ false) }
+        ensures tail { OnOk result (self.new.tail ≡ length bytes.now + 6) }
+        ensures same_tail { OnErr result (self.new.tail ≡ self.old.tail) }
+        ensures records { OnOk result (D.tells → self.new.records ≡ bytes.now ∷ []) }
+        ensures same_records { OnErr result (D.tells → self.new.records ≡ self.old.records) }
+        ensures doubt { OnErr result (D.tells → self.new.in_doubt ≡ true → self.new.doubt ≡ one_record format bytes.now) }
+        ensures outside { D.tells → Same (Outside self.old.areas) (D.content self.new.disk) (D.content self.old.disk) }
+        ensures time { D.tells → Elapses D.moment D.since self.old.disk self.new.disk }
+        ensures moments { D.tells → (c : List ℕ) → D.since self.new.disk (D.moment self.old.disk) c
+            → OneOf (records_of self.old.areas) (D.since self.old.disk (D.moment self.old.disk)) (Outside self.old.areas) (kept self.old) (one_record format bytes.now) (D.content self.old.disk) c }
+        ensures durable { OnOk result (D.tells → (c : List ℕ) → D.since self.new.disk (D.moment self.new.disk) c
+            → After (records_of self.old.areas) (one_record format bytes.now) (D.content self.old.disk) (Outside self.old.areas) c) }
+        ensures known { OnErr result (D.tells → self.new.in_doubt ≡ false → (c : List ℕ) → D.since self.new.disk (D.moment self.new.disk) c → records_of self.old.areas c ≡ Some (kept self.old)) }
+        ensures behind { OnErr result (D.tells → self.new.in_doubt ≡ true → (c : List ℕ) → D.since self.new.disk (D.moment self.new.disk) c → Same (Outside self.old.areas) c (D.content self.new.disk)) }
+        ensures later { D.faults self.old.disk ≤ D.faults self.new.disk }
+        ensures cause { IsErrOf result JournalRefusal.DiskFault → Rose (D.faults self.old.disk) (D.faults self.new.disk) }
+    {
+        if self.areas.bytes < (bytes.len() as u64).saturating_add(7) {
+            return Err(JournalRefusal::NoRoom);
+        }
+        let generation = (self.generation % 16 + 1) % 3 + 16 * (format - 1);
+        let other = self.areas.begin(!self.second);
+        close_gate(&mut self.disk, self.closed, other)?;
+        self.closed = true;
+        frame(&mut self.buffer, &[generation], bytes);
+        write_synced(&mut self.disk, other + 1, &self.buffer)?;
+        if write_synced(&mut self.disk, other, &[OPEN]).is_err() {
+            self.doubt = Some(other);
+            return Err(JournalRefusal::DiskFault);
+        }
+        self.second = !self.second;
+        self.generation = generation;
+        self.tail = bytes.len() as u64 + 6;
+        self.closed = false;
         Ok(())
     }
 
