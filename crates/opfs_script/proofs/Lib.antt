@@ -1,0 +1,4 @@
+pub mod EachLemmas
+pub mod HeadLemmas
+pub mod JsonLemmas
+pub mod MembersLemmas

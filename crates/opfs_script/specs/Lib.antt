@@ -1,2 +1,10 @@
+pub mod Answers
+pub mod Faults
 pub mod Forms
+pub mod Heads
+pub mod Limits
+pub mod Members
+pub mod Reading
 pub mod Scripts
+pub mod Shapes
+pub mod Words

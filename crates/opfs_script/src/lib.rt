@@ -1,10 +1,24 @@
 //! Scripts: what agents are told to do.
 #![tactic(auto)]
 
+mod agents;
 pub mod data;
+mod draft;
+mod fault;
+mod head;
+mod limits;
+mod members;
+pub mod reader;
+pub mod refusal;
 pub mod script;
+mod shapes;
 pub mod step;
+mod steps;
+mod telling;
+mod words;
 
 pub use data::Data;
+pub use reader::read_script;
+pub use refusal::ScriptRefusal;
 pub use script::{AgentScript, Script};
 pub use step::Step;
