@@ -6,11 +6,11 @@ pub enum BadScript {
     /// It is no JSON.
     NotJson,
     /// The step of the agent has another form.
-    BadShape(u32, u32),
+    BadShape(u64, u64),
     /// The step of the agent has a word that is not there.
-    UnknownStep(u32, u32),
+    UnknownStep(u64, u64),
     /// The agent's origin gives no key.
-    BadOrigin(u32),
+    BadOrigin(u64),
     /// It asks for more than a script may.
     TooMany,
 }
