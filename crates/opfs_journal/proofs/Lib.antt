@@ -1,5 +1,6 @@
 pub mod Appends
 pub mod Chains
+pub mod Choices
 pub mod Checkpoints
 pub mod Frames
 pub mod Gates
@@ -7,3 +8,4 @@ pub mod Moves
 pub mod Opens
 pub mod Shapes
 pub mod Views
+pub mod Walks

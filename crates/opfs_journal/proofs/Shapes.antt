@@ -5,7 +5,7 @@ use Rattle.std.proofs.lemmas.Bool.{cases_Bool}
 use Rattle.std.proofs.lemmas.Bool.Decides.{nat_tests}
 use Rattle.opfs_outside.specs.Bytes.{Same, window}
 use Rattle.opfs_outside.specs.Windows.{slice_index-window}
-use Rattle.opfs_journal.specs.Format.{is_open, number_at, begin_of, is_generation, next_of, is_bad_first, is_second, chain, opened, read_areas}
+use Rattle.opfs_journal.specs.Format.{is_open, number_at, begin_of, is_generation, next_of, is_bad_first, chain, opened, read_areas}
 use Rattle.opfs_journal.specs.Reading.{Walks, Shape, bodies_of, opened_of, Rules, IsRuled, Rests, Relevant}
 use Rattle.opfs_journal.specs.declared.areas.Areas.{Areas}
 use Rattle.opfs_journal.proofs.Chains.{walks_le, walks_same, same_number, same_gate, chain_walks}
@@ -64,14 +64,14 @@ reads_at : (a : Areas) (second : Bool) (generation : ℕ) (first : List ℕ) (mo
 reads_at a false generation first more tail c r =
     let s : Shape = record { second = false; generation = generation; first = first; more = more; tail = tail } in
     let some_area = no_area (is_open c a.first) (is_open c (a.first + a.bytes)) (inl r.walks.0) in
-    let rules : is_second a c ≡ false =
+    let rules : (is_open c (a.first + a.bytes) && (not (is_open c a.first) || (slice_index c (a.first + a.bytes + 5) % 16 == next_of (slice_index c (a.first + 5))))) ≡ false =
     first_rules (is_open c a.first) (is_open c (a.first + a.bytes)) (slice_index c (a.first + a.bytes + 5) % 16 == next_of (slice_index c (a.first + 5))) r.walks.0
     (λ is_opened. ap (λ g. slice_index c (a.first + a.bytes + 5) % 16 == next_of g) (generation_is a s c r) ∙ (r.other is_opened).rules) in
     rw (some_area, first_good a s c r, other_good a s c r, rules, chain_is a s c r) refl
 reads_at a true generation first more tail c r =
     let s : Shape = record { second = true; generation = generation; first = first; more = more; tail = tail } in
     let some_area = no_area (is_open c a.first) (is_open c (a.first + a.bytes)) (inr r.walks.0) in
-    let rules : is_second a c ≡ true =
+    let rules : (is_open c (a.first + a.bytes) && (not (is_open c a.first) || (slice_index c (a.first + a.bytes + 5) % 16 == next_of (slice_index c (a.first + 5))))) ≡ true =
     second_rules (is_open c a.first) (is_open c (a.first + a.bytes)) (slice_index c (a.first + a.bytes + 5) % 16 == next_of (slice_index c (a.first + 5))) r.walks.0
     (λ is_opened. ap (λ g. g % 16 == next_of (slice_index c (a.first + 5))) (generation_is a s c r) ∙ (r.other is_opened).rules) in
     rw (some_area, other_good a s c r, first_good a s c r, rules, chain_is a s c r) refl

@@ -33,14 +33,25 @@ abbrev pub format_of : ℕ → ℕ
 format_of byte = if nat_lt byte 16 then 1 else 2
 
 -- the first gate of an area is open and bad: its length is 0 or passes the area's end, or its generation byte is none
-abbrev pub is_bad_first : List ℕ → ℕ → ℕ → Bool
-is_bad_first c begin bytes =
-    is_open c begin && ((number_at c (begin + 1) == 0 || nat_lt bytes (5 + number_at c (begin + 1))) || not (is_generation (slice_index c (begin + 5))))
+abbrev pub is_bad_head : ℕ → Bool → ℕ → ℕ → Bool
+is_bad_head bytes open_there len generation = open_there && ((len == 0 || nat_lt bytes (5 + len)) || not (is_generation generation))
 
--- Area 1 rules: its first gate is open, and that of area 0 is not or has the generation before.
-abbrev pub is_second : Areas → List ℕ → Bool
-is_second a c =
-    is_open c (a.first + a.bytes) && (not (is_open c a.first) || (slice_index c (a.first + a.bytes + 5) % 16 == next_of (slice_index c (a.first + 5))))
+abbrev pub is_bad_first : List ℕ → ℕ → ℕ → Bool
+is_bad_first c begin bytes = is_bad_head bytes (is_open c begin) (number_at c (begin + 1)) (slice_index c (begin + 5))
+
+-- Which area rules, given the first gates, lengths and generation bytes of both: area 1 where its gate is open, and that
+-- of area 0 is not or has the generation before.
+abbrev pub chosen : Areas → Bool → ℕ → ℕ → Bool → ℕ → ℕ → Result Bool OpenRefusal
+chosen a open0 len0 byte0 open1 len1 byte1 =
+    if not open0 && not open1 then Err NoArea
+    else (if is_bad_head a.bytes open0 len0 byte0 then Err (BadRecord a.first)
+    else (if is_bad_head a.bytes open1 len1 byte1 then Err (BadRecord (a.first + a.bytes))
+    else Ok (open1 && (not open0 || (byte1 % 16 == next_of byte0)))))
+
+abbrev pub chosen_in : Areas → List ℕ → Result Bool OpenRefusal
+chosen_in a c =
+    chosen a (is_open c a.first) (number_at c (a.first + 1)) (slice_index c (a.first + 5))
+    (is_open c (a.first + a.bytes)) (number_at c (a.first + a.bytes + 1)) (slice_index c (a.first + a.bytes + 5))
 
 -- the bodies of some records and the place of the gate behind them
 pub record Chain : Type 0 where
@@ -72,13 +83,13 @@ abbrev pub opened : Bool → Result Chain ℕ → Result Opened OpenRefusal
 opened second (Ok found) = Ok (record { second = second; bodies = found.bodies; tail = found.tail })
 opened second (Err place) = Err (BadRecord place)
 
+abbrev pub read_chosen : Areas → List ℕ → Result Bool OpenRefusal → Result Opened OpenRefusal
+read_chosen a c (Ok second) = opened second (chain a.bytes c (begin_of a second) (begin_of a second + a.bytes))
+read_chosen a c (Err refusal) = Err refusal
+
 -- what an image's areas hold, or why they are refused
 abbrev pub read_areas : Areas → List ℕ → Result Opened OpenRefusal
-read_areas a c =
-    if not (is_open c a.first) && not (is_open c (a.first + a.bytes)) then Err NoArea
-    else (if is_bad_first c a.first a.bytes then Err (BadRecord a.first)
-    else (if is_bad_first c (a.first + a.bytes) a.bytes then Err (BadRecord (a.first + a.bytes))
-    else opened (is_second a c) (chain a.bytes c (begin_of a (is_second a c)) (begin_of a (is_second a c) + a.bytes))))
+read_areas a c = read_chosen a c (chosen_in a c)
 
 -- what is stored: the format, and the bodies of the records, the first without its generation byte
 pub record Stored : Type 0 where

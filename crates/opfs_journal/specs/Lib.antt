@@ -3,3 +3,4 @@ pub mod Format
 pub mod Reading
 pub mod Seen
 pub mod Standing
+pub mod Walking

@@ -4,6 +4,7 @@
 mod areas;
 mod frame;
 mod journal;
+mod reader;
 mod refusal;
 mod synced;
 

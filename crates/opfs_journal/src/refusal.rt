@@ -1,5 +1,6 @@
 ghost use Rattle.std.specs.Prelude.{◌≡◌};
 ghost use Rattle.opfs_journal.specs.declared.refusal.JournalRefusal.TheVariants.{DiskFault};
+ghost use Rattle.opfs_journal.specs.declared.refusal.OpenRefusal.TheVariants.{DiskFault as OpenFault};
 
 use opfs_outside::Failed;
 use std::error::Error;
@@ -76,3 +77,11 @@ impl fmt::Display for OpenRefusal {
 }
 
 impl Error for OpenRefusal {}
+
+impl From<Failed> for OpenRefusal {
+    ghost from_gives = { λ _ refusal. refusal ≡ OpenFault };
+
+    fn from(_failed: Failed) -> OpenRefusal {
+        OpenRefusal::DiskFault
+    }
+}
