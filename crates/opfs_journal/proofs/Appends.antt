@@ -1,13 +1,12 @@
 -- A record is added: its bytes are written behind the last gate, and then the gate is opened.
-use Rattle.std.proofs.Common.{◌≡◌, ◌≢◌, ℕ, ◌+◌, ◌*◌, ◌^◌, ◌<◌, ◌≤◌, ◌⊎◌, Bool, true, false, not, List, [], ◌∷◌, ◌++◌, length, inl, inr, refl, sym, ◌∙◌, ap, subst, arith, Option, Some, None}
-use Rattle.opfs_outside.specs.Bytes.{Same, window, Beside}
+use Rattle.std.proofs.Common.{◌≡◌, ℕ, ◌+◌, ◌*◌, ◌<◌, ◌≤◌, ◌⊎◌, Bool, true, false, not, List, [], ◌∷◌, length, inl, inr, refl, sym, ◌∙◌, ap, subst, arith, Option, Some, None}
+use Rattle.opfs_outside.specs.Bytes.{Same, Beside}
 use Rattle.std.specs.Prelude.{slice_index}
-use Rattle.opfs_outside.specs.Moments.{Elapses}
-use Rattle.opfs_journal.specs.Clauses.{Outside, Before, After, OneOf}
-use Rattle.opfs_journal.specs.Format.{is_open, begin_of, Stored, records_of, framed}
+use Rattle.opfs_journal.specs.Clauses.{Outside, After, OneOf}
+use Rattle.opfs_journal.specs.Format.{begin_of, Stored, records_of, framed}
 use Rattle.opfs_journal.specs.Reading.{Shape, bodies_of, stored_of, Rests, Relevant}
-use Rattle.opfs_journal.specs.Seen.{Seen, seen, kept, with_record}
-use Rattle.opfs_journal.specs.Standing.{Stands, Torn, Wrote, IsAtRest, IsInDoubt, IsPoised, Told, Bounds, Began, IsFramed, longer}
+use Rattle.opfs_journal.specs.Seen.{seen, kept, with_record}
+use Rattle.opfs_journal.specs.Standing.{Stands, Torn, Wrote, IsAtRest, IsInDoubt, IsPoised, Told, Began, IsFramed, longer}
 use Rattle.opfs_journal.specs.declared.areas.Areas.{Areas}
 use Rattle.opfs_journal.proofs.Chains.{walks_le}
 use Rattle.opfs_journal.proofs.Frames.{is_framed, length-framed}
@@ -18,16 +17,16 @@ use Rattle.opfs_journal.proofs.Views.{stored_at, kept_told, doubt_told}
 
 -- the same range and the same bytes under other names
 pub torn_as : {D : Type 0} (content : D → List ℕ) (moment : D → ℕ) (since : D → ℕ → List ℕ → Type 0) (at at' : ℕ) (xs ys : List ℕ) (old new : D)
-  → at ≡ at' → xs ≡ ys → Torn content moment since at (length xs) old new → Torn content moment since at' (length ys) old new
+    → at ≡ at' → xs ≡ ys → Torn content moment since at (length xs) old new → Torn content moment since at' (length ys) old new
 torn_as content moment since at at' xs ys old new e f t = subst (λ x. Torn content moment since x (length ys) old new) e (subst (λ zs. Torn content moment since at (length zs) old new) f t)
 
 pub wrote_as : {D : Type 0} (content : D → List ℕ) (moment : D → ℕ) (since : D → ℕ → List ℕ → Type 0) (at at' : ℕ) (xs ys : List ℕ) (new : D)
-  → at ≡ at' → xs ≡ ys → Wrote content moment since at xs new → Wrote content moment since at' ys new
+    → at ≡ at' → xs ≡ ys → Wrote content moment since at xs new → Wrote content moment since at' ys new
 wrote_as content moment since at at' xs ys new e f w = subst (λ x. Wrote content moment since x ys new) e (subst (λ zs. Wrote content moment since at zs new) f w)
 
 -- behind the last gate nothing matters
 free_behind : (a : Areas) (second : Bool) (tail n i : ℕ) → begin_of a second ≤ tail → tail + 1 + n ≤ begin_of a second + a.bytes → 7 ≤ a.bytes
-  → ((begin_of a second ≤ i) × (i ≤ tail)) ⊎ ((begin_of a (not second) ≤ i) × (i < begin_of a (not second) + 6)) → Beside (tail + 1) n i
+    → ((begin_of a second ≤ i) × (i ≤ tail)) ⊎ ((begin_of a (not second) ≤ i) × (i < begin_of a (not second) + 6)) → Beside (tail + 1) n i
 free_behind a true tail n i begins fits least (inl h) = inl (omega arith)
 free_behind a true tail n i begins fits least (inr h) = inl (omega arith)
 free_behind a false tail n i begins fits least (inl h) = inl (omega arith)
@@ -47,10 +46,10 @@ gate_bounds a true tail within = (omega arith, omega arith)
 gate_bounds a false tail within = (omega arith, omega arith)
 
 module _ {D : Type 0} (content : D → List ℕ) (moment : D → ℕ) (since : D → ℕ → List ℕ → Type 0)
-  (falls : (d : D) (t u : ℕ) (c : List ℕ) → t ≤ u → since d u c → since d t c)
-  (a : Areas) (second : Bool) (generation tail : ℕ) (closed : Bool) (spare : ℕ) (doubt : Option ℕ) (old d1 : D) (b : List ℕ)
-  (t : Told a second generation tail closed doubt (content old) (since old (moment old))) (sure : doubt ≡ None) (least : 7 ≤ a.bytes) (most : a.bytes ≤ 16777216)
-  (room : tail + length b + 6 ≤ a.bytes) (torn1 : Torn content moment since (begin_of a second + tail + 1) (length (framed b)) old d1) where
+    (falls : (d : D) (t u : ℕ) (c : List ℕ) → t ≤ u → since d u c → since d t c)
+    (a : Areas) (second : Bool) (generation tail : ℕ) (closed : Bool) (spare : ℕ) (doubt : Option ℕ) (old d1 : D) (b : List ℕ)
+    (t : Told a second generation tail closed doubt (content old) (since old (moment old))) (sure : doubt ≡ None) (least : 7 ≤ a.bytes) (most : a.bytes ≤ 16777216)
+    (room : tail + length b + 6 ≤ a.bytes) (torn1 : Torn content moment since (begin_of a second + tail + 1) (length (framed b)) old d1) where
   abbrev gate : ℕ
   gate = begin_of a second + tail
 
@@ -63,8 +62,8 @@ module _ {D : Type 0} (content : D → List ℕ) (moment : D → ℕ) (since : D
   free : (i : ℕ) → Relevant a s i → Beside (gate + 1) (length (framed b)) i
   free i h =
       let inside : Beside (s.tail + 1) (length (framed b)) i =
-        free_behind a s.second s.tail (length (framed b)) i (walks_le (content old) (begin_of a s.second) (bodies_of s) s.tail (t.rest sure).here.rests.walks)
-        (omega (arith, size, t.of_tail, room, ap (λ x. begin_of a x) t.of_second)) least h in
+      free_behind a s.second s.tail (length (framed b)) i (walks_le (content old) (begin_of a s.second) (bodies_of s) s.tail (t.rest sure).here.rests.walks)
+      (omega (arith, size, t.of_tail, room, ap (λ x. begin_of a x) t.of_second)) least h in
       subst (λ x. Beside (x + 1) (length (framed b)) i) t.of_tail inside
 
   keeps : (c d : List ℕ) → Same (Beside (gate + 1) (length (framed b))) c d → Stands a s closed d → Stands a s closed c
@@ -93,7 +92,7 @@ module _ {D : Type 0} (content : D → List ℕ) (moment : D → ℕ) (since : D
   kept_is = kept_told content a second generation tail closed spare old (since old (moment old)) doubt t
 
   pub moments1 : (c : List ℕ) → since d1 (moment old) c
-    → OneOf (records_of a) (since old (moment old)) (Outside a) (kept (seen content a generation tail spare doubt old)) (with_record (kept (seen content a generation tail spare doubt old)) b) (content old) c
+      → OneOf (records_of a) (since old (moment old)) (Outside a) (kept (seen content a generation tail spare doubt old)) (with_record (kept (seen content a generation tail spare doubt old)) b) (content old) c
   moments1 c is = subst (λ (k : Stored). OneOf (records_of a) (since old (moment old)) (Outside a) k (with_record k b) (content old) c) (sym kept_is) (only_before content moment since falls a s closed old d1 (with_record (stored_of s) b) began1 images1 c is)
 
   pub records1 : kept (seen content a generation tail spare doubt d1) ≡ kept (seen content a generation tail spare doubt old)
@@ -108,6 +107,7 @@ module _ {D : Type 0} (content : D → List ℕ) (moment : D → ℕ) (since : D
         let frame = is_framed (content d1) gate b (omega (arith, room, most)) wrote1.written in
         subst (λ g. IsPoised a g s closed (longer s b) closed (content d1)) t.of_tail
         (poised_append a s closed (content d1) least rest1.here b (subst (λ g. IsFramed (content d1) g b) (sym t.of_tail) frame) (omega (arith, t.of_tail, room, ap (λ x. begin_of a x) t.of_second)))
+
     unsure1 : IsInDoubt a gate s closed (longer s b) closed (content d1) (since d1 (moment d1))
     unsure1 = record { poised = poised1; behind = λ c is i other. ap (λ d. slice_index d i) (wrote1.durable c is) }
 
@@ -119,13 +119,13 @@ module _ {D : Type 0} (content : D → List ℕ) (moment : D → ℕ) (since : D
       began2 = opened_began content moment since falls a s closed (longer s b) closed old d1 d2 gate gate_in.0 gate_to began1 images1 unsure1 torn2
 
       pub moments2 : (c : List ℕ) → since d2 (moment old) c
-        → OneOf (records_of a) (since old (moment old)) (Outside a) (kept (seen content a generation tail spare doubt old)) (with_record (kept (seen content a generation tail spare doubt old)) b) (content old) c
+          → OneOf (records_of a) (since old (moment old)) (Outside a) (kept (seen content a generation tail spare doubt old)) (with_record (kept (seen content a generation tail spare doubt old)) b) (content old) c
       moments2 c is = subst (λ (k : Stored). OneOf (records_of a) (since old (moment old)) (Outside a) k (with_record k b) (content old) c) (sym kept_is) (opened_moments content moment since falls a s closed (longer s b) closed old d1 d2 gate gate_in.0 gate_to began1 images1 unsure1 torn2 c is)
 
       -- the gate is in doubt
       pub told2 : (t' : Told a second generation tail closed (Some gate) (content d2) (since d2 (moment d2))) × (t'.shape ≡ s) × (t'.next ≡ longer s b)
       told2 = told_in_doubt a second generation tail closed gate (content d2) (since d2 (moment d2)) s (longer s b) closed t.of_second t.of_generation t.of_tail
-        (opened_unsure content moment since falls a s closed (longer s b) closed old d1 d2 gate gate_in.0 gate_to began1 images1 unsure1 torn2)
+          (opened_unsure content moment since falls a s closed (longer s b) closed old d1 d2 gate gate_in.0 gate_to began1 images1 unsure1 torn2)
 
       pub records2 : kept (seen content a generation tail spare (Some gate) d2) ≡ kept (seen content a generation tail spare doubt old)
       records2 = kept_told content a second generation tail closed spare d2 (since d2 (moment d2)) (Some gate) told2.0 ∙ ap stored_of told2.1 ∙ sym kept_is
@@ -141,7 +141,7 @@ module _ {D : Type 0} (content : D → List ℕ) (moment : D → ℕ) (since : D
       module _ (wrote2 : Wrote content moment since gate (165 ∷ []) d2) where
         pub told3 : (t' : Told a second generation (tail + (5 + length b)) closed doubt (content d2) (since d2 (moment d2))) × (t'.shape ≡ longer s b)
         told3 = told_at_rest a second generation (tail + (5 + length b)) closed doubt (content d2) (since d2 (moment d2)) (longer s b) t.of_second t.of_generation
-          (omega (arith, t.of_tail)) sure (opens content moment since falls a s closed (longer s b) closed old d1 d2 gate gate_in.0 gate_to began1 images1 unsure1 torn2 wrote2)
+            (omega (arith, t.of_tail)) sure (opens content moment since falls a s closed (longer s b) closed old d1 d2 gate gate_in.0 gate_to began1 images1 unsure1 torn2 wrote2)
 
         pub records3 : kept (seen content a generation (tail + (5 + length b)) spare doubt d2) ≡ with_record (kept (seen content a generation tail spare doubt old)) b
         records3 = kept_told content a second generation (tail + (5 + length b)) closed spare d2 (since d2 (moment d2)) doubt told3.0 ∙ ap stored_of told3.1 ∙ ap (λ k. with_record k b) (sym kept_is)

@@ -1,10 +1,10 @@
 -- Records one behind another.
-use Rattle.std.proofs.Common.{◌≡◌, ℕ, zero, suc, ◌+◌, ◌*◌, ◌<◌, ◌≤◌, Bool, true, false, cond, leb, List, [], ◌∷◌, ◌++◌, length, refl, sym, ◌∙◌, ap, subst, arith, Ok, Err, Result, add-zero}
+use Rattle.std.proofs.Common.{◌≡◌, ℕ, zero, suc, ◌+◌, ◌*◌, ◌<◌, ◌≤◌, true, false, leb, List, [], ◌∷◌, ◌++◌, length, refl, sym, ◌∙◌, ap, subst, arith, Ok, Err}
 use Rattle.std.specs.Prelude.{slice_index, ◌==◌}
 use Rattle.std.proofs.lemmas.Bool.{le-leb, lt-leb}
 use Rattle.opfs_outside.specs.Bytes.{Same, window}
 use Rattle.opfs_outside.specs.Windows.{same_window}
-use Rattle.opfs_journal.specs.Format.{is_open, number_at, Chain, with_body, chain}
+use Rattle.opfs_journal.specs.Format.{is_open, number_at, chain}
 use Rattle.opfs_journal.specs.Reading.{Walks}
 
 pub walks_le : (c : List ℕ) (gate : ℕ) (bodies : List (List ℕ)) (tail : ℕ) → Walks c gate bodies tail → gate ≤ tail

@@ -1,14 +1,13 @@
 -- One record takes the place of all: it is written into the other area, whose first gate is closed, and then that gate
 -- is opened.
-use Rattle.std.proofs.Common.{◌≡◌, ◌≢◌, ℕ, zero, suc, ◌+◌, ◌-◌, ◌*◌, ◌%◌, ◌^◌, ◌<◌, ◌≤◌, ◌⊎◌, Bool, true, false, not, List, [], ◌∷◌, ◌++◌, length, inl, inr, refl, sym, ◌∙◌, ap, subst, arith, Option, Some, None, Result}
-use Rattle.std.specs.Prelude.{slice_index, ◌==◌, IsOk, OnOk, is_err}
-use Rattle.opfs_outside.specs.Bytes.{Same, window, Beside}
-use Rattle.opfs_outside.specs.Moments.{Elapses}
-use Rattle.opfs_journal.specs.Clauses.{Outside, Before, After, OneOf}
-use Rattle.opfs_journal.specs.Format.{is_open, begin_of, is_generation, next_of, format_of, Stored, records_of, framed}
-use Rattle.opfs_journal.specs.Reading.{Shape, bodies_of, stored_of, Rests, Relevant}
-use Rattle.opfs_journal.specs.Seen.{Seen, seen, kept, one_record}
-use Rattle.opfs_journal.specs.Standing.{Stands, Torn, Wrote, IsAtRest, IsInDoubt, IsPoised, Told, Bounds, Began, IsFramed, alone}
+use Rattle.std.proofs.Common.{◌≡◌, ℕ, zero, suc, ◌+◌, ◌-◌, ◌*◌, ◌%◌, ◌<◌, ◌≤◌, ◌⊎◌, Bool, true, false, not, List, [], ◌∷◌, length, inl, inr, refl, sym, ◌∙◌, ap, subst, arith, Option, Some, None}
+use Rattle.std.specs.Prelude.{slice_index, ◌==◌}
+use Rattle.opfs_outside.specs.Bytes.{Same, Beside}
+use Rattle.opfs_journal.specs.Clauses.{Outside, After, OneOf}
+use Rattle.opfs_journal.specs.Format.{begin_of, is_generation, next_of, format_of, Stored, records_of, framed}
+use Rattle.opfs_journal.specs.Reading.{Shape, bodies_of, stored_of, Rests}
+use Rattle.opfs_journal.specs.Seen.{seen, kept, one_record}
+use Rattle.opfs_journal.specs.Standing.{Stands, Torn, Wrote, IsAtRest, IsInDoubt, IsPoised, Told, Began, IsFramed, alone}
 use Rattle.opfs_journal.specs.declared.areas.Areas.{Areas}
 use Rattle.opfs_journal.proofs.Appends.{in_areas}
 use Rattle.opfs_journal.proofs.Chains.{walks_le}
@@ -16,7 +15,6 @@ use Rattle.opfs_journal.proofs.Frames.{is_framed, length-framed}
 use Rattle.opfs_journal.proofs.Gates.{poised_other, stands_closed_same, stands_ruled_same}
 use Rattle.opfs_journal.proofs.Moves.{told_at_rest, told_in_doubt}
 use Rattle.opfs_journal.proofs.Opens.{began_here, began_more, staged_image, staged_rest, images_more, only_before, opened_began, opened_moments, opens, opened_after, opened_unsure, opened_behind}
-use Rattle.opfs_journal.proofs.Shapes.{apart}
 use Rattle.opfs_journal.proofs.Views.{stored_at, kept_told, doubt_told, beside_one}
 
 -- the first gate of the other area is closed for good
@@ -26,15 +24,15 @@ pub record IsClosed {D : Type 0} (content : D → List ℕ) (moment : D → ℕ)
   pub rest : IsAtRest a s true (content disk) (since disk (moment disk))
 
 other_free : (a : Areas) (second : Bool) (tail n i : ℕ) → tail < begin_of a second + a.bytes → begin_of a second ≤ tail → 1 + n ≤ a.bytes → 7 ≤ a.bytes
-  → ((begin_of a second ≤ i) × (i ≤ tail)) ⊎ (i ≡ begin_of a (not second)) → Beside (begin_of a (not second) + 1) n i
+    → ((begin_of a second ≤ i) × (i ≤ tail)) ⊎ (i ≡ begin_of a (not second)) → Beside (begin_of a (not second) + 1) n i
 other_free a true tail n i room begins fits least (inl h) = inr (omega arith)
 other_free a true tail n i room begins fits least (inr e) = inl (omega arith)
 other_free a false tail n i room begins fits least (inl h) = inl (omega arith)
 other_free a false tail n i room begins fits least (inr e) = inl (omega arith)
 
 module _ {D : Type 0} (content : D → List ℕ) (moment : D → ℕ) (since : D → ℕ → List ℕ → Type 0)
-  (falls : (d : D) (t u : ℕ) (c : List ℕ) → t ≤ u → since d u c → since d t c)
-  (a : Areas) (s : Shape) (least : 7 ≤ a.bytes) where
+    (falls : (d : D) (t u : ℕ) (c : List ℕ) → t ≤ u → since d u c → since d t c)
+    (a : Areas) (s : Shape) (least : 7 ≤ a.bytes) where
   abbrev other : ℕ
   other = begin_of a (not s.second)
 
@@ -72,7 +70,7 @@ module _ {D : Type 0} (content : D → List ℕ) (moment : D → ℕ) (since : D
 
   -- the gate is closed where it has to be
   pub is_closed : (closed : Bool) (old new : D) → IsAtRest a s closed (content old) (since old (moment old)) → (closed ≡ true → new ≡ old)
-    → (closed ≡ false → Torn content moment since other 1 old new) → (closed ≡ false → Wrote content moment since other (0 ∷ []) new) → IsClosed content moment since a s old new
+      → (closed ≡ false → Torn content moment since other 1 old new) → (closed ≡ false → Wrote content moment since other (0 ∷ []) new) → IsClosed content moment since a s old new
   is_closed true old new rest none torn wrote = subst (λ d. IsClosed content moment since a s old d) (sym (none refl)) (closed_before old rest)
   is_closed false old new rest none torn wrote = closed_now old new rest (torn refl) (wrote refl)
 
@@ -90,11 +88,11 @@ next_byte g format h = of_small (next_of g) format (omega arith) h
     of_small (suc (suc (suc n))) format h e = absurd (omega arith)
 
 module _ {D : Type 0} (content : D → List ℕ) (moment : D → ℕ) (since : D → ℕ → List ℕ → Type 0)
-  (falls : (d : D) (t u : ℕ) (c : List ℕ) → t ≤ u → since d u c → since d t c)
-  (a : Areas) (second : Bool) (generation tail : ℕ) (closed : Bool) (spare : ℕ) (doubt : Option ℕ) (old d1 d2 : D) (b : List ℕ) (format : ℕ)
-  (t : Told a second generation tail closed doubt (content old) (since old (moment old))) (sure : doubt ≡ None) (least : 7 ≤ a.bytes) (most : a.bytes ≤ 16777216)
-  (room : length b + 7 ≤ a.bytes) (in_format : (format ≡ 1) ⊎ (format ≡ 2)) (k : IsClosed content moment since a t.shape old d1)
-  (torn2 : Torn content moment since (begin_of a (not second) + 1) (length (framed ((next_of generation + 16 * (format - 1)) ∷ b))) d1 d2) where
+    (falls : (d : D) (t u : ℕ) (c : List ℕ) → t ≤ u → since d u c → since d t c)
+    (a : Areas) (second : Bool) (generation tail : ℕ) (closed : Bool) (spare : ℕ) (doubt : Option ℕ) (old d1 d2 : D) (b : List ℕ) (format : ℕ)
+    (t : Told a second generation tail closed doubt (content old) (since old (moment old))) (sure : doubt ≡ None) (least : 7 ≤ a.bytes) (most : a.bytes ≤ 16777216)
+    (room : length b + 7 ≤ a.bytes) (in_format : (format ≡ 1) ⊎ (format ≡ 2)) (k : IsClosed content moment since a t.shape old d1)
+    (torn2 : Torn content moment since (begin_of a (not second) + 1) (length (framed ((next_of generation + 16 * (format - 1)) ∷ b))) d1 d2) where
   abbrev gate : ℕ
   gate = begin_of a (not second)
 
@@ -115,9 +113,9 @@ module _ {D : Type 0} (content : D → List ℕ) (moment : D → ℕ) (since : D
 
   keeps : (c d : List ℕ) → Same (Beside (gate + 1) (length (framed (byte ∷ b)))) c d → Stands a s true d → Stands a s true c
   keeps c d same st = stands_closed_same a s c d (λ i h.
-    let free : Beside (begin_of a (not s.second) + 1) (length (framed (byte ∷ b))) i =
+      let free : Beside (begin_of a (not s.second) + 1) (length (framed (byte ∷ b))) i =
       other_free a s.second s.tail (length (framed (byte ∷ b))) i st.rests.room (walks_le d (begin_of a s.second) (bodies_of s) s.tail st.rests.walks) (omega (arith, size, room)) least h in
-    same i (subst (λ x. Beside (x + 1) (length (framed (byte ∷ b))) i) other_is free)) st
+      same i (subst (λ x. Beside (x + 1) (length (framed (byte ∷ b))) i) other_is free)) st
 
   gate_in : (a.first ≤ gate) × (gate + 7 + length b ≤ a.first + 2 * a.bytes)
   gate_in =
@@ -145,7 +143,7 @@ module _ {D : Type 0} (content : D → List ℕ) (moment : D → ℕ) (since : D
   images2 = images_more content moment since falls a s true old d1 d2 (gate + 1) (length (framed (byte ∷ b))) keeps k.began k.images k.rest torn2
 
   pub moments2 : (c : List ℕ) → since d2 (moment old) c
-    → OneOf (records_of a) (since old (moment old)) (Outside a) (kept (seen content a generation tail spare doubt old)) (one_record format b) (content old) c
+      → OneOf (records_of a) (since old (moment old)) (Outside a) (kept (seen content a generation tail spare doubt old)) (one_record format b) (content old) c
   moments2 c is = subst (λ (r : Stored). OneOf (records_of a) (since old (moment old)) (Outside a) r (one_record format b) (content old) c) (sym kept_is) (only_before content moment since falls a s true old d2 (one_record format b) began2 images2 c is)
 
   pub records2 : kept (seen content a generation tail spare doubt d2) ≡ kept (seen content a generation tail spare doubt old)
@@ -173,7 +171,7 @@ module _ {D : Type 0} (content : D → List ℕ) (moment : D → ℕ) (since : D
       began3 = opened_began content moment since falls a s true s' false old d2 d3 gate gate_in.0 gate_to began2 images2 unsure2 torn3
 
       pub moments3 : (c : List ℕ) → since d3 (moment old) c
-        → OneOf (records_of a) (since old (moment old)) (Outside a) (kept (seen content a generation tail spare doubt old)) (one_record format b) (content old) c
+          → OneOf (records_of a) (since old (moment old)) (Outside a) (kept (seen content a generation tail spare doubt old)) (one_record format b) (content old) c
       moments3 c is =
           let raw = opened_moments content moment since falls a s true s' false old d2 d3 gate gate_in.0 gate_to began2 images2 unsure2 torn3 c is in
           let named = subst (λ (r : Stored). OneOf (records_of a) (since old (moment old)) (Outside a) (stored_of s) r (content old) c) stored_is raw in
@@ -182,7 +180,7 @@ module _ {D : Type 0} (content : D → List ℕ) (moment : D → ℕ) (since : D
       -- the gate is in doubt
       pub told3 : (t' : Told a second generation tail true (Some gate) (content d3) (since d3 (moment d3))) × (t'.shape ≡ s) × (t'.next ≡ s')
       told3 = told_in_doubt a second generation tail true gate (content d3) (since d3 (moment d3)) s s' false t.of_second t.of_generation t.of_tail
-        (opened_unsure content moment since falls a s true s' false old d2 d3 gate gate_in.0 gate_to began2 images2 unsure2 torn3)
+          (opened_unsure content moment since falls a s true s' false old d2 d3 gate gate_in.0 gate_to began2 images2 unsure2 torn3)
 
       pub records3 : kept (seen content a generation tail spare (Some gate) d3) ≡ kept (seen content a generation tail spare doubt old)
       records3 = kept_told content a second generation tail true spare d3 (since d3 (moment d3)) (Some gate) told3.0 ∙ ap stored_of told3.1 ∙ sym kept_is
@@ -197,7 +195,7 @@ module _ {D : Type 0} (content : D → List ℕ) (moment : D → ℕ) (since : D
       module _ (wrote3 : Wrote content moment since gate (165 ∷ []) d3) where
         pub told4 : (t' : Told a (not second) byte (length b + 6) false doubt (content d3) (since d3 (moment d3))) × (t'.shape ≡ s')
         told4 = told_at_rest a (not second) byte (length b + 6) false doubt (content d3) (since d3 (moment d3)) s' (ap not t.of_second) refl
-          (omega (arith, other_is)) sure (opens content moment since falls a s true s' false old d2 d3 gate gate_in.0 gate_to began2 images2 unsure2 torn3 wrote3)
+            (omega (arith, other_is)) sure (opens content moment since falls a s true s' false old d2 d3 gate gate_in.0 gate_to began2 images2 unsure2 torn3 wrote3)
 
         pub records4 : kept (seen content a byte (length b + 6) spare doubt d3) ≡ one_record format b
         records4 = kept_told content a (not second) byte (length b + 6) false spare d3 (since d3 (moment d3)) doubt told4.0 ∙ ap stored_of told4.1 ∙ stored_is
@@ -210,15 +208,15 @@ not_closed true never = absurd (never refl)
 not_closed false never = refl
 
 module _ {D : Type 0} (content : D → List ℕ) (moment : D → ℕ) (since : D → ℕ → List ℕ → Type 0)
-  (falls : (d : D) (t u : ℕ) (c : List ℕ) → t ≤ u → since d u c → since d t c)
-  (a : Areas) (second : Bool) (generation tail : ℕ) (closed : Bool) (spare : ℕ) (doubt : Option ℕ) (old d1 : D)
-  (t : Told a second generation tail closed doubt (content old) (since old (moment old))) (sure : doubt ≡ None) (least : 7 ≤ a.bytes) where
+    (falls : (d : D) (t u : ℕ) (c : List ℕ) → t ≤ u → since d u c → since d t c)
+    (a : Areas) (second : Bool) (generation tail : ℕ) (closed : Bool) (spare : ℕ) (doubt : Option ℕ) (old d1 : D)
+    (t : Told a second generation tail closed doubt (content old) (since old (moment old))) (sure : doubt ≡ None) (least : 7 ≤ a.bytes) where
   abbrev named : begin_of a (not second) ≡ begin_of a (not t.shape.second)
   named = sym (ap (λ x. begin_of a (not x)) t.of_second)
 
   -- after the gate is closed, where it was not
   pub closes : (closed ≡ true → d1 ≡ old) → (closed ≡ false → Torn content moment since (begin_of a (not second)) 1 old d1) → (closed ≡ false → Wrote content moment since (begin_of a (not second)) (0 ∷ []) d1)
-    → IsClosed content moment since a t.shape old d1
+      → IsClosed content moment since a t.shape old d1
   closes none torn wrote =
       is_closed content moment since falls a t.shape least closed old d1 (t.rest sure) none
       (λ e. subst (λ g. Torn content moment since g 1 old d1) named (torn e)) (λ e. subst (λ g. Wrote content moment since g (0 ∷ []) d1) named (wrote e))
@@ -236,7 +234,7 @@ module _ {D : Type 0} (content : D → List ℕ) (moment : D → ℕ) (since : D
 
     pub told1 : (t' : Told a second generation tail closed doubt (content d1) (since d1 (moment d1))) × (t'.shape ≡ t.shape)
     told1 = told_at_rest a second generation tail closed doubt (content d1) (since d1 (moment d1)) t.shape t.of_second t.of_generation t.of_tail sure
-      (subst (λ x. IsAtRest a t.shape x (content d1) (since d1 (moment d1))) (sym e) rest1)
+        (subst (λ x. IsAtRest a t.shape x (content d1) (since d1 (moment d1))) (sym e) rest1)
 
     pub began1 : Began content moment since a old d1
     began1 = closing_began content moment since falls a t.shape least old d1 rest0 torn
@@ -245,9 +243,9 @@ module _ {D : Type 0} (content : D → List ℕ) (moment : D → ℕ) (since : D
     kept_old = kept_told content a second generation tail closed spare old (since old (moment old)) doubt t
 
     pub moments1 : (next : Stored) (c : List ℕ) → since d1 (moment old) c
-      → OneOf (records_of a) (since old (moment old)) (Outside a) (kept (seen content a generation tail spare doubt old)) next (content old) c
+        → OneOf (records_of a) (since old (moment old)) (Outside a) (kept (seen content a generation tail spare doubt old)) next (content old) c
     moments1 next c is = subst (λ (r : Stored). OneOf (records_of a) (since old (moment old)) (Outside a) r next (content old) c) (sym kept_old)
-      (only_before content moment since falls a t.shape false old d1 next began1 (closing_images content moment since falls a t.shape least old d1 rest0 torn) c is)
+        (only_before content moment since falls a t.shape false old d1 next began1 (closing_images content moment since falls a t.shape least old d1 rest0 torn) c is)
 
     pub records1 : kept (seen content a generation tail spare doubt d1) ≡ kept (seen content a generation tail spare doubt old)
     records1 = kept_told content a second generation tail closed spare d1 (since d1 (moment d1)) doubt told1.0 ∙ ap stored_of told1.1 ∙ sym kept_old

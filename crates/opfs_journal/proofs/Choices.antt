@@ -1,15 +1,14 @@
 -- What a reader of the areas finds.
-use Rattle.std.proofs.Common.{◌≡◌, ℕ, zero, suc, ◌+◌, ◌-◌, ◌*◌, ◌%◌, ◌<◌, ◌≤◌, ◌⊎◌, Bool, true, false, not, cond, ◌&&◌, ◌||◌, eqb, ltb, List, [], ◌∷◌, ◌++◌, length, inl, inr, refl, sym, ◌∙◌, ap, subst, arith, Option, Some, None, Result, Ok, Err}
-use Rattle.std.specs.Prelude.{slice_index, ◌==◌}
+use Rattle.std.proofs.Common.{◌≡◌, ℕ, suc, ◌+◌, ◌-◌, ◌%◌, ◌<◌, ◌≤◌, Bool, true, false, not, cond, ◌&&◌, ◌||◌, eqb, ltb, List, [], ◌∷◌, length, refl, sym, ◌∙◌, ap, subst, arith, None, Ok, Err}
+use Rattle.std.specs.Prelude.{◌==◌}
 use Rattle.std.proofs.lemmas.Bool.Decides.{nat_tests}
 use Rattle.opfs_outside.specs.Bytes.{window}
 use Rattle.opfs_outside.specs.Windows.{length-window}
-use Rattle.opfs_journal.specs.Format.{is_open, number_at, begin_of, is_generation, next_of, is_bad_head, chosen, chosen_in, chain, opened, read_areas}
+use Rattle.opfs_journal.specs.Format.{is_open, begin_of, is_generation, next_of, is_bad_head, chosen, chosen_in, chain}
 use Rattle.opfs_journal.specs.Reading.{Walks, Shape, Rules, IsRuled, Rests}
-use Rattle.opfs_journal.specs.Standing.{OtherIs, Stands, IsAtRest, Told}
+use Rattle.opfs_journal.specs.Standing.{OtherIs, Stands, Told}
 use Rattle.opfs_journal.specs.Walking.{IsFirst, Leads, IsBad}
 use Rattle.opfs_journal.specs.declared.areas.Areas.{Areas}
-use Rattle.opfs_journal.specs.declared.refusal.OpenRefusal.{OpenRefusal}
 use Rattle.opfs_journal.specs.declared.refusal.OpenRefusal.TheVariants.{NoArea, BadRecord}
 use Rattle.opfs_journal.proofs.Chains.{chain_bad}
 
@@ -32,7 +31,7 @@ first_facts false false f some e = absurd (cc)
 
 -- the choice by what was read is that of the image
 pub chosen_same : (a : Areas) (c : List ℕ) (open0 : Bool) (len0 byte0 : ℕ) (open1 : Bool) (len1 byte1 : ℕ) → IsFirst c a.first open0 len0 byte0 → IsFirst c (a.first + a.bytes) open1 len1 byte1
-  → chosen a open0 len0 byte0 open1 len1 byte1 ≡ chosen_in a c
+    → chosen a open0 len0 byte0 open1 len1 byte1 ≡ chosen_in a c
 chosen_same a c open0 len0 byte0 open1 len1 byte1 f0 f1 = λ i. chosen a (f0.gate i) (f0.size i) (f0.byte i) (f1.gate i) (f1.size i) (f1.byte i)
 
 -- the facts of an area that rules: its gate is open, both first records are good, and it rules over the other
@@ -60,8 +59,8 @@ good_parts n bytes true e = (λ z. grind (arith, nat_tests), grind (arith, nat_t
 good_parts n bytes false e = absurd (grind (arith, nat_tests))
 
 module _ (a : Areas) (second head_open : Bool) (len generation : ℕ) (other_open : Bool) (other_len other_generation : ℕ) (c : List ℕ)
-  (is : IsChosen a second head_open len generation other_open other_len other_generation)
-  (head : IsFirst c (begin_of a second) head_open len generation) (other : IsFirst c (begin_of a (not second)) other_open other_len other_generation) where
+    (is : IsChosen a second head_open len generation other_open other_len other_generation)
+    (head : IsFirst c (begin_of a second) head_open len generation) (other : IsFirst c (begin_of a (not second)) other_open other_len other_generation) where
   abbrev begin : ℕ
   begin = begin_of a second
 
@@ -85,17 +84,17 @@ module _ (a : Areas) (second head_open : Bool) (len generation : ℕ) (other_ope
 
   -- the area is read to its end
   pub chosen_told : (now : List ℕ → Type 0) (tail from : ℕ) → from ≡ begin + 5 + len → Leads c from tail → is_open c tail ≡ false → begin ≤ tail → tail < begin + a.bytes → ((d : List ℕ) → now d → d ≡ c)
-    → Told a second generation (tail - begin) (not other_open) None c now
+      → Told a second generation (tail - begin) (not other_open) None c now
   chosen_told now tail from from_is leads shut above below durable =
       let s : Shape = record { second = second; generation = generation; first = body; more = leads.bodies; tail = tail } in
       let ruled : other_open ≡ true → IsRuled a second generation c = λ e.
-        let parts = good_parts other_len a.bytes (is_generation other_generation) (subst (λ o. is_bad_head a.bytes o other_len other_generation ≡ false) e is.other_good) in
-        record {
-          some = λ none. parts.0 (other.size ∙ none);
-          within = omega (arith, parts.1, other.size);
-          known = ap is_generation (sym other.byte) ∙ parts.2;
-          rules = subst (λ o. Rules second generation o) other.byte (is.rules e);
-        } in
+      let parts = good_parts other_len a.bytes (is_generation other_generation) (subst (λ o. is_bad_head a.bytes o other_len other_generation ≡ false) e is.other_good) in
+      record {
+        some = λ none. parts.0 (other.size ∙ none);
+        within = omega (arith, parts.1, other.size);
+        known = ap is_generation (sym other.byte) ∙ parts.2;
+        rules = subst (λ o. Rules second generation o) other.byte (is.rules e);
+      } in
       let rests : Rests a s c = record {
         walks = walks_to leads.bodies tail (subst (λ f. Walks c f leads.bodies tail) from_is leads.walks);
         shut = shut;

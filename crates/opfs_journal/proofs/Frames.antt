@@ -1,12 +1,12 @@
 -- What is written behind a gate is read there.
-use Rattle.std.proofs.Common.{◌≡◌, ℕ, suc, ◌+◌, ◌*◌, ◌^◌, ◌<◌, ◌≤◌, Bool, true, false, List, [], ◌∷◌, ◌++◌, length, refl, sym, ◌∙◌, ap, arith, add-zero}
+use Rattle.std.proofs.Common.{◌≡◌, ℕ, suc, ◌+◌, ◌*◌, ◌^◌, ◌<◌, List, [], ◌∷◌, ◌++◌, length, refl, sym, ◌∙◌, ap, arith, add-zero}
 use Rattle.std.specs.Prelude.{slice_index, ◌==◌}
 use Rattle.std.specs.Int.{w32, to_le_bytes, from_le_bytes}
 use Rattle.std.proofs.lemmas.Nat.{from_le_bytes-to_le_bytes_4}
 use Rattle.std.proofs.lemmas.List.{length-append, ext_get_or, get_or_append_left, get_or_at}
 use Rattle.opfs_outside.specs.Bytes.{window}
 use Rattle.opfs_outside.specs.Windows.{slice_index-window, length-window}
-use Rattle.opfs_journal.specs.Format.{is_open, number_at, framed}
+use Rattle.opfs_journal.specs.Format.{number_at, framed}
 use Rattle.opfs_journal.specs.Standing.{IsFramed}
 
 pub number_of : (bytes : List ℕ) → from_le_bytes w32 bytes ≡ slice_index bytes 0 + 256 * slice_index bytes 1 + 65536 * slice_index bytes 2 + 16777216 * slice_index bytes 3
@@ -37,7 +37,7 @@ module _ (c : List ℕ) (gate : ℕ) (b : List ℕ) (small : length b < 2 ^ 32) 
   is_framed = record {
     size = number_is;
     bytes = ext_get_or 0 (window c (gate + 5) (length b)) b (length-window c (gate + 5) (length b)) (λ k h.
-      let k_in : k < length b = omega (arith, length-window c (gate + 5) (length b)) in
-      slice_index-window c (gate + 5) (length b) k k_in ∙ behind k (omega (arith, k_in)) ∙ get_or_append_left b (0 ∷ []) 0 k k_in);
+        let k_in : k < length b = omega (arith, length-window c (gate + 5) (length b)) in
+        slice_index-window c (gate + 5) (length b) k k_in ∙ behind k (omega (arith, k_in)) ∙ get_or_append_left b (0 ∷ []) 0 k k_in);
     shut = ap (λ x. x == 165) (behind (length b) (omega arith) ∙ get_or_at b 0 [] 0 (length b) refl);
   }

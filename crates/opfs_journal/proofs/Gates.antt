@@ -1,9 +1,9 @@
 -- One gate decides.
-use Rattle.std.proofs.Common.{◌≡◌, ◌≢◌, ℕ, ◌+◌, ◌*◌, ◌%◌, ◌<◌, ◌≤◌, Bool, true, false, not, ◌&&◌, ◌||◌, ◌⊎◌, leb, ltb, eqb, List, [], ◌∷◌, ◌++◌, length, inl, inr, refl, sym, ◌∙◌, ap, subst, arith, add-zero}
+use Rattle.std.proofs.Common.{◌≡◌, ◌≢◌, ℕ, ◌+◌, ◌%◌, ◌<◌, ◌≤◌, Bool, true, false, not, ◌&&◌, ◌⊎◌, List, ◌∷◌, length, inl, inr, refl, sym, ◌∙◌, ap, subst, arith}
 use Rattle.std.specs.Prelude.{slice_index, ◌==◌}
 use Rattle.std.proofs.lemmas.Bool.{both_ways, agree_below_at, eq-eqb}
 use Rattle.std.proofs.lemmas.Bool.Decides.{nat_tests}
-use Rattle.opfs_outside.specs.Bytes.{Same, window}
+use Rattle.opfs_outside.specs.Bytes.{Same}
 use Rattle.opfs_outside.specs.Windows.{same_window}
 use Rattle.opfs_journal.specs.Format.{is_open, number_at, begin_of, is_generation, next_of}
 use Rattle.opfs_journal.specs.Reading.{Walks, Shape, bodies_of, Rules, IsRuled, Rests, Relevant}
@@ -165,7 +165,7 @@ stands_closed_same a s d c same st =
 pub stands_ruled_same : (a : Areas) (s : Shape) (d c : List ℕ) → 7 ≤ a.bytes → Same (λ i. i ≢ begin_of a (not s.second)) d c → Stands a s false c → Stands a s false d
 stands_ruled_same a s d c least same st =
     let off : (i : ℕ) → begin_of a s.second ≤ i → i ≤ s.tail → i ≢ begin_of a (not s.second) = λ i from to e.
-      apart a s.second i from (omega (arith, to, st.rests.room)) (omega (arith, e)) (omega (arith, e, least)) in
+    apart a s.second i from (omega (arith, to, st.rests.room)) (omega (arith, e)) (omega (arith, e, least)) in
     let ruled = ruled_same a s d c (λ i h. same i (λ e. omega (arith, e, h.0))) st.other in
     record {
       rests = record {

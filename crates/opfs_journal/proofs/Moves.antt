@@ -1,17 +1,15 @@
 -- What a call of the disk leaves of what the journal knows.
-use Rattle.std.proofs.Common.{◌≡◌, ◌≢◌, ℕ, ◌+◌, ◌*◌, ◌<◌, ◌≤◌, ◌⊎◌, Bool, true, false, not, List, [], ◌∷◌, ◌++◌, length, inl, inr, refl, sym, ◌∙◌, ap, subst, arith, Option, Some, None}
+use Rattle.std.proofs.Common.{◌≡◌, ◌≢◌, ℕ, ◌+◌, ◌*◌, ◌<◌, ◌≤◌, ◌⊎◌, Bool, false, List, [], ◌∷◌, length, inl, inr, refl, sym, ◌∙◌, ap, subst, Option, Some, None}
 use Rattle.std.specs.Prelude.{slice_index, ◌==◌}
 use Rattle.std.proofs.lemmas.Bool.{cases_Bool}
-use Rattle.opfs_outside.specs.Bytes.{Same, window, Beside}
+use Rattle.opfs_outside.specs.Bytes.{Same, Beside}
 use Rattle.opfs_outside.specs.Moments.{Elapses}
-use Rattle.opfs_outside.specs.Windows.{slice_index-window}
-use Rattle.opfs_journal.specs.Clauses.{Outside, OutsideBut, Before, After, OneOf}
+use Rattle.opfs_journal.specs.Clauses.{Outside, OutsideBut, Before, OneOf}
 use Rattle.opfs_journal.specs.Format.{is_open, begin_of, Stored, records_of}
-use Rattle.opfs_journal.specs.Reading.{Shape, stored_of, Rests, Relevant}
+use Rattle.opfs_journal.specs.Reading.{Shape, stored_of}
 use Rattle.opfs_journal.specs.Seen.{seen, kept}
-use Rattle.opfs_journal.specs.Standing.{Stands, Torn, Wrote, IsAtRest, IsInDoubt, IsPoised, Told, Bounds}
+use Rattle.opfs_journal.specs.Standing.{Stands, Torn, Wrote, IsAtRest, IsInDoubt, IsPoised, Told}
 use Rattle.opfs_journal.specs.declared.areas.Areas.{Areas}
-use Rattle.opfs_journal.proofs.Chains.{same_gate}
 use Rattle.opfs_journal.proofs.Gates.{stands_same}
 use Rattle.opfs_journal.proofs.Views.{stored_at, kept_told, doubt_told, relevant_inside, beside_areas, outside_not, beside_one}
 
@@ -175,37 +173,44 @@ durable_at_rest content a second generation tail closed spare disk now doubt t s
 
 -- what the journal knows of a disk at rest, and of one in doubt
 pub told_at_rest : (a : Areas) (second : Bool) (generation tail : ℕ) (closed : Bool) (doubt : Option ℕ) (content : List ℕ) (now : List ℕ → Type 0) (s : Shape)
-  → s.second ≡ second → s.generation ≡ generation → s.tail ≡ begin_of a second + tail → doubt ≡ None → IsAtRest a s closed content now
-  → (t : Told a second generation tail closed doubt content now) × (t.shape ≡ s)
-told_at_rest a second generation tail closed doubt content now s of_second of_generation of_tail sure rest = (record {
-  shape = s;
-  of_second = of_second;
-  of_generation = of_generation;
-  of_tail = of_tail;
-  rest = λ none. rest;
-  next = s;
-  next_closed = closed;
-  unsure = λ gate is. absurd (cc (sure, is));
-}, refl)
+    → s.second ≡ second → s.generation ≡ generation → s.tail ≡ begin_of a second + tail → doubt ≡ None → IsAtRest a s closed content now
+    → (t : Told a second generation tail closed doubt content now) × (t.shape ≡ s)
+told_at_rest a second generation tail closed doubt content now s of_second of_generation of_tail sure rest = (
+  record {
+    shape = s;
+    of_second = of_second;
+    of_generation = of_generation;
+    of_tail = of_tail;
+    rest = λ none. rest;
+    next = s;
+    next_closed = closed;
+    unsure = λ gate is. absurd (cc (sure, is));
+  },
+  refl,
+)
 
 pub told_in_doubt : (a : Areas) (second : Bool) (generation tail : ℕ) (closed : Bool) (gate : ℕ) (content : List ℕ) (now : List ℕ → Type 0) (s s' : Shape) (closed' : Bool)
-  → s.second ≡ second → s.generation ≡ generation → s.tail ≡ begin_of a second + tail → IsInDoubt a gate s closed s' closed' content now
-  → (t : Told a second generation tail closed (Some gate) content now) × (t.shape ≡ s) × (t.next ≡ s')
-told_in_doubt a second generation tail closed gate content now s s' closed' of_second of_generation of_tail u = (record {
-  shape = s;
-  of_second = of_second;
-  of_generation = of_generation;
-  of_tail = of_tail;
-  rest = λ none. absurd (cc none);
-  next = s';
-  next_closed = closed';
-  unsure = λ other is. let same : gate ≡ other = cc is in subst (λ x. IsInDoubt a x s closed s' closed' content now) same u;
-}, refl, refl)
+    → s.second ≡ second → s.generation ≡ generation → s.tail ≡ begin_of a second + tail → IsInDoubt a gate s closed s' closed' content now
+    → (t : Told a second generation tail closed (Some gate) content now) × (t.shape ≡ s) × (t.next ≡ s')
+told_in_doubt a second generation tail closed gate content now s s' closed' of_second of_generation of_tail u = (
+  record {
+    shape = s;
+    of_second = of_second;
+    of_generation = of_generation;
+    of_tail = of_tail;
+    rest = λ none. absurd (cc none);
+    next = s';
+    next_closed = closed';
+    unsure = λ other is. let same : gate ≡ other = cc is in subst (λ x. IsInDoubt a x s closed s' closed' content now) same u;
+  },
+  refl,
+  refl,
+)
 
 -- nothing was done
 pub at_start : {D : Type 0} (content : D → List ℕ) (moment : D → ℕ) (since : D → ℕ → List ℕ → Type 0) (falls : (d : D) (t u : ℕ) (c : List ℕ) → t ≤ u → since d u c → since d t c)
-  (a : Areas) (second : Bool) (generation tail : ℕ) (closed : Bool) (spare : ℕ) (disk : D) (doubt : Option ℕ)
-  (t : Told a second generation tail closed doubt (content disk) (since disk (moment disk))) → doubt ≡ None → (next : Stored) → (c : List ℕ) → since disk (moment disk) c
-  → OneOf (records_of a) (since disk (moment disk)) (Outside a) (kept (seen content a generation tail spare doubt disk)) next (content disk) c
+    (a : Areas) (second : Bool) (generation tail : ℕ) (closed : Bool) (spare : ℕ) (disk : D) (doubt : Option ℕ)
+    (t : Told a second generation tail closed doubt (content disk) (since disk (moment disk))) → doubt ≡ None → (next : Stored) → (c : List ℕ) → since disk (moment disk) c
+    → OneOf (records_of a) (since disk (moment disk)) (Outside a) (kept (seen content a generation tail spare doubt disk)) next (content disk) c
 at_start content moment since falls a second generation tail closed spare disk doubt t sure next c is =
     inl (record { stored = durable_at_rest content a second generation tail closed spare disk (since disk (moment disk)) doubt t sure c is; from = c; was_left = is; bytes = λ i h. refl })

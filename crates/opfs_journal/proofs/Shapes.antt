@@ -1,12 +1,12 @@
 -- What an image of a shape reads as, and which bytes matter.
-use Rattle.std.proofs.Common.{◌≡◌, ℕ, zero, suc, ◌+◌, ◌*◌, ◌%◌, ◌<◌, ◌≤◌, Bool, true, false, not, cond, ◌&&◌, ◌||◌, ◌⊎◌, leb, ltb, eqb, List, [], ◌∷◌, ◌++◌, length, inl, inr, refl, sym, ◌∙◌, ap, subst, arith, Ok, Err, Result, add-zero}
+use Rattle.std.proofs.Common.{◌≡◌, ℕ, ◌+◌, ◌%◌, ◌<◌, ◌≤◌, Bool, true, false, not, ◌&&◌, ◌||◌, ◌⊎◌, ltb, eqb, List, ◌∷◌, length, inl, inr, refl, sym, ◌∙◌, ap, arith, Ok, add-zero}
 use Rattle.std.specs.Prelude.{slice_index, ◌==◌}
 use Rattle.std.proofs.lemmas.Bool.{cases_Bool}
 use Rattle.std.proofs.lemmas.Bool.Decides.{nat_tests}
-use Rattle.opfs_outside.specs.Bytes.{Same, window}
+use Rattle.opfs_outside.specs.Bytes.{Same}
 use Rattle.opfs_outside.specs.Windows.{slice_index-window}
-use Rattle.opfs_journal.specs.Format.{is_open, number_at, begin_of, is_generation, next_of, is_bad_first, chain, opened, read_areas}
-use Rattle.opfs_journal.specs.Reading.{Walks, Shape, bodies_of, opened_of, Rules, IsRuled, Rests, Relevant}
+use Rattle.opfs_journal.specs.Format.{is_open, number_at, begin_of, is_generation, next_of, is_bad_first, chain, read_areas}
+use Rattle.opfs_journal.specs.Reading.{Shape, bodies_of, opened_of, IsRuled, Rests, Relevant}
 use Rattle.opfs_journal.specs.declared.areas.Areas.{Areas}
 use Rattle.opfs_journal.proofs.Chains.{walks_le, walks_same, same_number, same_gate, chain_walks}
 

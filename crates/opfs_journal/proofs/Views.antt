@@ -1,16 +1,15 @@
 -- What a journal is seen as.
-use Rattle.std.proofs.Common.{◌≡◌, ◌≢◌, ℕ, ◌+◌, ◌*◌, ◌<◌, ◌≤◌, ◌⊎◌, Bool, true, false, not, List, [], ◌∷◌, ◌++◌, length, inl, inr, refl, sym, ◌∙◌, ap, subst, arith, Option, Some, None, Result, Ok, Err}
-use Rattle.std.specs.Prelude.{is_some, is_err, unwrap_or, OnOk, OnErr, slice_index, slice_set}
+use Rattle.std.proofs.Common.{◌≡◌, ◌≢◌, ℕ, ◌+◌, ◌*◌, ◌<◌, ◌≤◌, ◌⊎◌, Bool, true, false, not, List, length, inl, inr, refl, sym, ◌∙◌, ap, arith, Option, Some, None, Result, Ok, Err}
+use Rattle.std.specs.Prelude.{is_some, is_err, unwrap_or, OnOk, OnErr, slice_set}
 use Rattle.std.proofs.lemmas.List.{get_or-set_same, get_or-set_other, set_past, get_or_past}
 use Rattle.std.proofs.lemmas.Bool.{cases_lt}
-use Rattle.opfs_outside.specs.Bytes.{Same, window, Beside}
+use Rattle.opfs_outside.specs.Bytes.{Same, Beside}
 use Rattle.opfs_journal.specs.Clauses.{Outside}
-use Rattle.opfs_journal.specs.Format.{is_open, begin_of, Stored, stored_if_ok, records_of, format_of}
-use Rattle.opfs_journal.specs.Reading.{Walks, Shape, bodies_of, stored_of, Rests, Relevant}
-use Rattle.opfs_journal.specs.Seen.{Seen, seen, kept, nothing, settled}
-use Rattle.opfs_journal.specs.Standing.{Stands, IsAtRest, IsInDoubt, Told, Bounds}
+use Rattle.opfs_journal.specs.Format.{is_open, begin_of, stored_if_ok, records_of, format_of}
+use Rattle.opfs_journal.specs.Reading.{Shape, stored_of, Rests, Relevant}
+use Rattle.opfs_journal.specs.Seen.{seen, kept, nothing}
+use Rattle.opfs_journal.specs.Standing.{Told}
 use Rattle.opfs_journal.specs.declared.areas.Areas.{Areas}
-use Rattle.opfs_journal.proofs.Chains.{walks_le}
 use Rattle.opfs_journal.proofs.Shapes.{rests_reads}
 
 pub none_from : {X : Type 0} (o : Option X) → is_some o ≡ false → o ≡ None

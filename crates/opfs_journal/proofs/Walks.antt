@@ -1,16 +1,15 @@
 -- A walk from gate to gate.
-use Rattle.std.proofs.Common.{◌≡◌, ℕ, ◌+◌, ◌*◌, ◌<◌, ◌≤◌, ◌⊎◌, Bool, true, false, List, [], ◌∷◌, ◌++◌, length, inl, inr, refl, sym, ◌∙◌, ap, subst, arith, Option, Some, None}
-use Rattle.std.specs.Prelude.{slice_index}
+use Rattle.std.proofs.Common.{◌≡◌, ℕ, ◌+◌, ◌≤◌, true, List, [], ◌∷◌, ◌++◌, length, inl, refl, sym, ◌∙◌, ap, subst, arith}
 use Rattle.opfs_outside.specs.Bytes.{window}
-use Rattle.opfs_outside.specs.Moments.{Elapses, elapses-trans, each_of_both}
+use Rattle.opfs_outside.specs.Moments.{elapses-trans, each_of_both}
 use Rattle.opfs_outside.specs.Windows.{length-window}
 use Rattle.opfs_journal.specs.Format.{is_open, number_at}
 use Rattle.opfs_journal.specs.Reading.{Walks}
-use Rattle.opfs_journal.specs.Walking.{Untouched, OnlyRead, Leads, IsBad}
+use Rattle.opfs_journal.specs.Walking.{OnlyRead, Leads}
 use Rattle.opfs_journal.proofs.Chains.{walks_more}
 
 module _ {D : Type 0} (tells : Type 0) (size : D → ℕ) (content : D → List ℕ) (moment : D → ℕ) (since : D → ℕ → List ℕ → Type 0) (faults : D → ℕ)
-  (falls : tells → (d : D) (t u : ℕ) (c : List ℕ) → t ≤ u → since d u c → since d t c) where
+    (falls : tells → (d : D) (t u : ℕ) (c : List ℕ) → t ≤ u → since d u c → since d t c) where
   pub only_nothing : (d : D) → OnlyRead tells size content moment since faults d d
   only_nothing d = record {
     length = refl;
@@ -26,7 +25,7 @@ module _ {D : Type 0} (tells : Type 0) (size : D → ℕ) (content : D → List 
       same = (b.told told).same ∙ (a.told told).same;
       time = elapses-trans moment since (falls told) old mid new (a.told told).time (b.told told).time;
       moments = each_of_both moment since (falls told) old mid new (λ c. since old (moment old) c) (a.told told).time (b.told told).time (a.told told).moments
-        (λ c is. (a.told told).moments c (falls told mid (moment old) (moment mid) c (a.told told).time.later ((b.told told).moments c is)));
+          (λ c is. (a.told told).moments c (falls told mid (moment old) (moment mid) c (a.told told).time.later ((b.told told).moments c is)));
     };
   }
 
@@ -44,7 +43,7 @@ leads_more c from gate len l is_opened e =
     record {
       bodies = l.bodies ++ window c (gate + 5) len ∷ [];
       walks = subst (λ t. Walks c from (l.bodies ++ window c (gate + 5) len ∷ []) t) to
-        (walks_more c from l.bodies gate (window c (gate + 5) len) l.walks is_opened (sym e ∙ sym size) (ap (λ n. window c (gate + 5) n) size));
+          (walks_more c from l.bodies gate (window c (gate + 5) len) l.walks is_opened (sym e ∙ sym size) (ap (λ n. window c (gate + 5) n) size));
     }
 
 pub leads_none : (c : List ℕ) (from : ℕ) → Leads c from from

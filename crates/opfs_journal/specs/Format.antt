@@ -3,7 +3,7 @@
 -- A record is a gate (1 byte), a length (4 bytes, the lowest first) and a body of that length. The next gate follows.
 -- A gate is open exactly where it is 0xA5. The first record of an area has a body that begins with a generation byte:
 -- 0, 1 or 2 in format 1, and 16, 17 or 18 in format 2.
-use Rattle.std.specs.Prelude.{◌≡◌, ℕ, zero, suc, ◌+◌, ◌*◌, ◌%◌, ◌<◌, ◌≤◌, ◌==◌, Bool, true, false, not, ◌&&◌, ◌||◌, nat_lt, nat_le, if◌then◌else◌, Option, Some, None, Result, Ok, Err, List, [], ◌∷◌, ◌++◌, length, drop, slice_index}
+use Rattle.std.specs.Prelude.{ℕ, zero, suc, ◌+◌, ◌*◌, ◌%◌, ◌==◌, Bool, not, ◌&&◌, ◌||◌, nat_lt, nat_le, if◌then◌else◌, Option, Some, None, Result, Ok, Err, List, [], ◌∷◌, ◌++◌, length, drop, slice_index}
 use Rattle.std.specs.Int.{w32, to_le_bytes}
 use Rattle.opfs_outside.specs.Bytes.{window}
 use Rattle.opfs_journal.specs.declared.refusal.OpenRefusal.{OpenRefusal}

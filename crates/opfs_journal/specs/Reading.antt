@@ -1,7 +1,7 @@
 -- The bytes that make an area's records.
 use Rattle.std.specs.Prelude.{◌≡◌, ℕ, ◌+◌, ◌%◌, ◌<◌, ◌≤◌, ◌⊎◌, ◌==◌, Bool, true, false, not, List, [], ◌∷◌, length, slice_index}
-use Rattle.opfs_outside.specs.Bytes.{Same, window}
-use Rattle.opfs_journal.specs.Format.{is_open, number_at, begin_of, is_generation, next_of, is_bad_first, Opened, Stored, stored_in}
+use Rattle.opfs_outside.specs.Bytes.{window}
+use Rattle.opfs_journal.specs.Format.{is_open, number_at, begin_of, is_generation, next_of, Opened, Stored, stored_in}
 use Rattle.opfs_journal.specs.declared.areas.Areas.{Areas}
 
 -- from this gate on there are records of these bodies, and then the gate at tail

@@ -4,7 +4,7 @@ use Rattle.opfs_outside.specs.Bytes.{Same, window, Beside}
 use Rattle.opfs_outside.specs.Moments.{Elapses}
 use Rattle.opfs_journal.specs.Clauses.{Outside}
 use Rattle.opfs_journal.specs.Format.{is_open, number_at, begin_of, is_generation}
-use Rattle.opfs_journal.specs.Reading.{Shape, bodies_of, IsRuled, Rests}
+use Rattle.opfs_journal.specs.Reading.{Shape, IsRuled, Rests}
 use Rattle.opfs_journal.specs.declared.areas.Areas.{Areas}
 
 -- the other area's first gate is closed, or its first record, were the gate open, would not rule

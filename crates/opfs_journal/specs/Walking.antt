@@ -1,5 +1,5 @@
 -- What a reader of the areas finds.
-use Rattle.std.specs.Prelude.{◌≡◌, ℕ, ◌+◌, ◌<◌, ◌≤◌, Bool, true, false, List, slice_index}
+use Rattle.std.specs.Prelude.{◌≡◌, ℕ, ◌+◌, ◌<◌, ◌≤◌, Bool, true, List, slice_index}
 use Rattle.opfs_outside.specs.Moments.{Elapses}
 use Rattle.opfs_journal.specs.Format.{is_open, number_at}
 use Rattle.opfs_journal.specs.Reading.{Walks}

@@ -1,17 +1,19 @@
 // A list of records on a disk that may stop at any moment.
-ghost use Rattle.std.specs.Prelude.{◌≡◌, ◌⊎◌, ◌+◌, ◌*◌, ◌<◌, ◌≤◌, ℕ, true, false, List, [], ◌∷◌, ◌++◌, length, ◌↔◌, OnOk, OnErr, IsErrOf};
+ghost use Rattle.std.specs.Prelude.{◌≡◌, ◌≢◌, ◌⊎◌, ◌+◌, ◌*◌, ◌<◌, ◌≤◌, ℕ, true, false, List, [], ◌∷◌, ◌++◌, length, ◌↔◌, IfOk, IfErr, OnOk, OnErr, IsErrOf};
 ghost use Rattle.opfs_outside.specs.Bytes.{Same, window, Beside};
 ghost use Rattle.opfs_outside.specs.Faults.{Rose};
 ghost use Rattle.opfs_outside.specs.Moments.{Elapses};
 ghost use Rattle.opfs_journal.specs.Clauses.{Outside, OutsideBut, Before, After, OneOf};
-ghost use Rattle.opfs_journal.specs.Format.{records_of};
+ghost use Rattle.opfs_journal.specs.Format.{read_areas, records_of};
+ghost use Rattle.opfs_journal.specs.Walking.{OnlyRead};
 ghost use Rattle.opfs_journal.specs.Seen.{Stays, kept, one_record, with_record};
 
 use crate::frame::frame;
+use crate::reader::find;
 use crate::synced::{close_gate, write_synced};
-use crate::{Areas, DiskFault, JournalRefusal};
+use crate::{Areas, DiskFault, JournalRefusal, OpenRefusal};
 use opfs_outside::Disk;
-use std::alloc::AllocError;
+use std::alloc::{AllocError, Global};
 use std::marker::Model;
 
 // A gate that is open, and one that is closed.
@@ -54,6 +56,45 @@ impl<D: Disk> Model for Journal<D> {
 }
 
 impl<D: Disk> Journal<D> {
+    /// Finds the journal that a disk holds. It syncs, and reads of each record the gate and the length, once; a
+    /// refusal gives the disk back. Among refusals by what the disk holds, the first gate in the order of reading comes.
+    pub fn begin(alloc: Global, disk: D, areas: Areas) -> Result<Journal<D>, (D, OpenRefusal)>
+        requires lies { areas.first + 2 * areas.bytes ≤ D.size disk }
+        requires least { 7 ≤ areas.bytes }
+        requires most { areas.bytes ≤ 16777216 }
+        ensures areas { IfOk result (λ journal. journal.areas ≡ areas) }
+        ensures sure { IfOk result (λ journal. journal.in_doubt ≡ false) }
+        ensures spare { IfOk result (λ journal. journal.spare ≡ 0) }
+        ensures tail { IfOk result (λ journal. journal.tail < areas.bytes) }
+        ensures records { IfOk result (λ journal. D.tells → records_of areas (D.content disk) ≡ Some (kept journal)) }
+        ensures durable { IfOk result (λ journal. D.tells → (c : List ℕ) → D.since journal.disk (D.moment journal.disk) c → c ≡ D.content journal.disk) }
+        ensures refused { IfErr result (λ err. err.1 ≢ OpenRefusal.DiskFault → err.1 ≢ OpenRefusal.NoMemory → D.tells → read_areas areas (D.content disk) ≡ Err err.1) }
+        ensures only_read { IfOk result (λ journal. OnlyRead D.tells D.size D.content D.moment D.since D.faults disk journal.disk) }
+        ensures only_read_err { IfErr result (λ err. OnlyRead D.tells D.size D.content D.moment D.since D.faults disk err.0) }
+        ensures cause { IfErr result (λ err. err.1 ≡ OpenRefusal.DiskFault → Rose (D.faults disk) (D.faults err.0)) }
+    {
+        let mut disk = disk;
+        let len = disk.len();
+        prove!(areas.bytes <= len && areas.first <= len - areas.bytes);
+        let Ok(buffer) = Vec::with_capacity(alloc, 6) else {
+            return Err((disk, OpenRefusal::NoMemory));
+        };
+        match find(&mut disk, areas) {
+            Ok(found) => Ok(Journal {
+                disk,
+                areas,
+                second: found.second,
+                generation: found.generation,
+                tail: found.tail,
+                closed: found.closed,
+                doubt: None,
+                spare: 0,
+                buffer,
+            }),
+            Err(refusal) => Err((disk, refusal)),
+        }
+    }
+
     /// Makes room for bodies of so many bytes. Calls no disk.
     pub fn reserve(&mut self, n: u64) -> Result<(), AllocError>
         ensures spare { OnOk result (n ≤ self.new.spare) }

@@ -85,7 +85,6 @@ fn read_gate<D: Disk>(disk: &mut D, gate: u64, stop: u64) -> Result<Option<u64>,
 fn walk<D: Disk>(disk: &mut D, from: u64, stop: u64) -> Result<u64, OpenRefusal>
     requires inside { from < stop }
     requires lies { stop ≤ D.size disk.old }
-    requires small { stop < 2 ^ 63 }
     ensures only { OnlyRead D.tells D.size D.content D.moment D.since D.faults disk.old disk.new }
     ensures above { IfOk result (λ tail. from ≤ tail) }
     ensures within { IfOk result (λ tail. tail < stop) }
@@ -108,7 +107,7 @@ fn walk<D: Disk>(disk: &mut D, from: u64, stop: u64) -> Result<u64, OpenRefusal>
 
 // Whether area 1 rules, given the first gates of both.
 fn choose(areas: Areas, first: First, second: First) -> Result<bool, OpenRefusal>
-    requires fits { areas.first + 2 * areas.bytes < 2 ^ 63 }
+    requires fits { areas.first + 2 * areas.bytes < 2 ^ 64 }
     requires first_small { first.len < 2 ^ 32 }
     requires second_small { second.len < 2 ^ 32 }
     ensures { result ≡ chosen areas first.open first.len first.generation second.open second.len second.generation }
@@ -135,7 +134,7 @@ fn read_ruling<D: Disk>(
     other: First,
 ) -> Result<Found, OpenRefusal>
     requires lies { areas.first + 2 * areas.bytes ≤ D.size disk.old }
-    requires fits { areas.first + 2 * areas.bytes < 2 ^ 63 }
+    requires fits { areas.first + 2 * areas.bytes < 2 ^ 64 }
     requires least { 7 ≤ areas.bytes }
     requires small { head.len < 2 ^ 32 }
     requires open { head.open ≡ true }
@@ -169,7 +168,7 @@ fn read_ruling<D: Disk>(
 /// Syncs, and finds the area that rules.
 pub fn find<D: Disk>(disk: &mut D, areas: Areas) -> Result<Found, OpenRefusal>
     requires lies { areas.first + 2 * areas.bytes ≤ D.size disk.old }
-    requires fits { areas.first + 2 * areas.bytes < 2 ^ 63 }
+    requires fits { areas.first + 2 * areas.bytes < 2 ^ 64 }
     requires least { 7 ≤ areas.bytes }
     ensures only { OnlyRead D.tells D.size D.content D.moment D.since D.faults disk.old disk.new }
     ensures within { IfOk result (λ found. found.tail < areas.bytes) }

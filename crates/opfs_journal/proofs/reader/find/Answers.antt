@@ -1,4 +1,4 @@
-use Rattle.std.proofs.Common.{◌≡◌, ◌+◌, inl, inr, refl, sym, ◌∙◌, ap, subst, arith}
+use Rattle.std.proofs.Common.{◌≡◌, ◌+◌, inl, inr, sym, ◌∙◌, ap, subst}
 use Rattle.std.specs.Prelude.{ℕ, ◌⊎◌, Bool, true, false, Result, Ok, Err}
 use Rattle.std.proofs.lemmas.Result.{IfErr-weaker}
 use Rattle.opfs_journal.specs.Format.{begin_of, chain, chosen_in, opened, read_chosen, read_areas}
@@ -14,7 +14,7 @@ pub returns-in_err-second-clause-only : goal.returns-in_err-second-clause-only
 returns-in_err-second-clause-only g c =
     let laws = g.met.D.Disk g.world.𝓛 g.world.𝓜 g.world.𝓡 ((λ s x. x), (λ x. x), (λ x. x), λ x. x) in
     let synced : OnlyRead g.D.Disk.tells g.D.Disk.size g.D.Disk.content g.D.Disk.moment g.D.Disk.since g.D.Disk.faults c.args.disk.now c.sync.new.self =
-      record { length = c.sync.ensures.size; later = c.sync.ensures.later; told = λ told. record { same = c.sync.ensures.same told; time = c.sync.ensures.time told; moments = c.sync.ensures.moments told } } in
+    record { length = c.sync.ensures.size; later = c.sync.ensures.later; told = λ told. record { same = c.sync.ensures.same told; time = c.sync.ensures.time told; moments = c.sync.ensures.moments told } } in
     let first = only_more g.D.Disk.tells g.D.Disk.size g.D.Disk.content g.D.Disk.moment g.D.Disk.since g.D.Disk.faults laws.falls c.args.disk.now c.sync.new.self c.read.new.disk synced c.read.ensures.only in
     let both = only_more g.D.Disk.tells g.D.Disk.size g.D.Disk.content g.D.Disk.moment g.D.Disk.since g.D.Disk.faults laws.falls c.args.disk.now c.read.new.disk c.read-2.new.disk first c.read-2.ensures.only in
     both
@@ -23,7 +23,7 @@ pub returns-in_err-choose-clause-only : goal.returns-in_err-choose-clause-only
 returns-in_err-choose-clause-only g c =
     let laws = g.met.D.Disk g.world.𝓛 g.world.𝓜 g.world.𝓡 ((λ s x. x), (λ x. x), (λ x. x), λ x. x) in
     let synced : OnlyRead g.D.Disk.tells g.D.Disk.size g.D.Disk.content g.D.Disk.moment g.D.Disk.since g.D.Disk.faults c.args.disk.now c.sync.new.self =
-      record { length = c.sync.ensures.size; later = c.sync.ensures.later; told = λ told. record { same = c.sync.ensures.same told; time = c.sync.ensures.time told; moments = c.sync.ensures.moments told } } in
+    record { length = c.sync.ensures.size; later = c.sync.ensures.later; told = λ told. record { same = c.sync.ensures.same told; time = c.sync.ensures.time told; moments = c.sync.ensures.moments told } } in
     let first = only_more g.D.Disk.tells g.D.Disk.size g.D.Disk.content g.D.Disk.moment g.D.Disk.since g.D.Disk.faults laws.falls c.args.disk.now c.sync.new.self c.read.new.disk synced c.read.ensures.only in
     let both = only_more g.D.Disk.tells g.D.Disk.size g.D.Disk.content g.D.Disk.moment g.D.Disk.since g.D.Disk.faults laws.falls c.args.disk.now c.read.new.disk c.read-2.new.disk first c.read-2.ensures.only in
     both
@@ -44,7 +44,7 @@ pub returns-then-branch-clause-only : goal.returns-then-branch-clause-only
 returns-then-branch-clause-only g c =
     let laws = g.met.D.Disk g.world.𝓛 g.world.𝓜 g.world.𝓡 ((λ s x. x), (λ x. x), (λ x. x), λ x. x) in
     let synced : OnlyRead g.D.Disk.tells g.D.Disk.size g.D.Disk.content g.D.Disk.moment g.D.Disk.since g.D.Disk.faults c.args.disk.now c.sync.new.self =
-      record { length = c.sync.ensures.size; later = c.sync.ensures.later; told = λ told. record { same = c.sync.ensures.same told; time = c.sync.ensures.time told; moments = c.sync.ensures.moments told } } in
+    record { length = c.sync.ensures.size; later = c.sync.ensures.later; told = λ told. record { same = c.sync.ensures.same told; time = c.sync.ensures.time told; moments = c.sync.ensures.moments told } } in
     let first = only_more g.D.Disk.tells g.D.Disk.size g.D.Disk.content g.D.Disk.moment g.D.Disk.since g.D.Disk.faults laws.falls c.args.disk.now c.sync.new.self c.read.new.disk synced c.read.ensures.only in
     let both = only_more g.D.Disk.tells g.D.Disk.size g.D.Disk.content g.D.Disk.moment g.D.Disk.since g.D.Disk.faults laws.falls c.args.disk.now c.read.new.disk c.read-2.new.disk first c.read-2.ensures.only in
     only_more g.D.Disk.tells g.D.Disk.size g.D.Disk.content g.D.Disk.moment g.D.Disk.since g.D.Disk.faults laws.falls c.args.disk.now c.read-2.new.disk c.read_ruling.new.disk both c.read_ruling.ensures.only
@@ -60,24 +60,24 @@ pub returns-then-branch-clause-refused : goal.returns-then-branch-clause-refused
 returns-then-branch-clause-refused g c =
     let laws = g.met.D.Disk g.world.𝓛 g.world.𝓜 g.world.𝓡 ((λ s x. x), (λ x. x), (λ x. x), λ x. x) in
     let synced : OnlyRead g.D.Disk.tells g.D.Disk.size g.D.Disk.content g.D.Disk.moment g.D.Disk.since g.D.Disk.faults c.args.disk.now c.sync.new.self =
-      record { length = c.sync.ensures.size; later = c.sync.ensures.later; told = λ told. record { same = c.sync.ensures.same told; time = c.sync.ensures.time told; moments = c.sync.ensures.moments told } } in
+    record { length = c.sync.ensures.size; later = c.sync.ensures.later; told = λ told. record { same = c.sync.ensures.same told; time = c.sync.ensures.time told; moments = c.sync.ensures.moments told } } in
     let first = only_more g.D.Disk.tells g.D.Disk.size g.D.Disk.content g.D.Disk.moment g.D.Disk.since g.D.Disk.faults laws.falls c.args.disk.now c.sync.new.self c.read.new.disk synced c.read.ensures.only in
     let both = only_more g.D.Disk.tells g.D.Disk.size g.D.Disk.content g.D.Disk.moment g.D.Disk.since g.D.Disk.faults laws.falls c.args.disk.now c.read.new.disk c.read-2.new.disk first c.read-2.ensures.only in
     let ok = c.in_ok-choose.ensures in
     let weaken : (refusal : OpenRefusal) → (refusal ≡ DiskFault) ⊎ ((gate : ℕ) × (refusal ≡ BadRecord gate) × (g.D.Disk.tells → chain c.args.areas.bytes (g.D.Disk.content c.read-2.new.disk) (begin_of c.args.areas true) (begin_of c.args.areas true + c.args.areas.bytes) ≡ Err gate))
-      → (refusal ≡ DiskFault) ⊎ (g.D.Disk.tells → read_areas c.args.areas (g.D.Disk.content c.args.disk.now) ≡ Err refusal) = λ refusal h. elim h [
+    → (refusal ≡ DiskFault) ⊎ (g.D.Disk.tells → read_areas c.args.areas (g.D.Disk.content c.args.disk.now) ≡ Err refusal) = λ refusal h. elim h [
       | inl fault ↦ inl fault
       | inr bad ↦ inr (λ told.
-        let content = g.D.Disk.content c.args.disk.now in
-        let same0 = c.sync.ensures.same told in
-        let same1 = (first.told told).same in
-        let same2 = (both.told told).same in
-        let f0 = subst (λ c'. IsFirst c' c.args.areas.first c.in_ok-first.first.open c.in_ok-first.first.len c.in_ok-first.first.generation) same0 (c.in_ok-first.ensures.first told) in
-        let f1 = subst (λ c'. IsFirst c' (c.args.areas.first + c.args.areas.bytes) c.in_ok-second.second.open c.in_ok-second.second.len c.in_ok-second.second.generation) same1 (c.in_ok-second.ensures.first told) in
-        let choice : chosen_in c.args.areas content ≡ Ok true = sym (chosen_same c.args.areas content c.in_ok-first.first.open c.in_ok-first.first.len c.in_ok-first.first.generation c.in_ok-second.second.open c.in_ok-second.second.len c.in_ok-second.second.generation f0 f1) ∙ sym ok ∙ ap (λ (x : Bool). Ok x) c.if-branch.true in
-        ap (λ (x : Result Bool OpenRefusal). read_chosen c.args.areas content x) choice
-        ∙ ap (λ x. opened true x) (ap (λ c'. chain c.args.areas.bytes c' (begin_of c.args.areas true) (begin_of c.args.areas true + c.args.areas.bytes)) (sym same2) ∙ bad.2 told)
-        ∙ ap (λ (x : OpenRefusal). Err x) (sym bad.1))
+          let content = g.D.Disk.content c.args.disk.now in
+          let same0 = c.sync.ensures.same told in
+          let same1 = (first.told told).same in
+          let same2 = (both.told told).same in
+          let f0 = subst (λ c'. IsFirst c' c.args.areas.first c.in_ok-first.first.open c.in_ok-first.first.len c.in_ok-first.first.generation) same0 (c.in_ok-first.ensures.first told) in
+          let f1 = subst (λ c'. IsFirst c' (c.args.areas.first + c.args.areas.bytes) c.in_ok-second.second.open c.in_ok-second.second.len c.in_ok-second.second.generation) same1 (c.in_ok-second.ensures.first told) in
+          let choice : chosen_in c.args.areas content ≡ Ok true = sym (chosen_same c.args.areas content c.in_ok-first.first.open c.in_ok-first.first.len c.in_ok-first.first.generation c.in_ok-second.second.open c.in_ok-second.second.len c.in_ok-second.second.generation f0 f1) ∙ sym ok ∙ ap (λ (x : Bool). Ok x) c.if-branch.true in
+          ap (λ (x : Result Bool OpenRefusal). read_chosen c.args.areas content x) choice
+          ∙ ap (λ x. opened true x) (ap (λ c'. chain c.args.areas.bytes c' (begin_of c.args.areas true) (begin_of c.args.areas true + c.args.areas.bytes)) (sym same2) ∙ bad.2 told)
+          ∙ ap (λ (x : OpenRefusal). Err x) (sym bad.1))
     ] in
     IfErr-weaker c.read_ruling.result _ _ weaken c.read_ruling.ensures.bad
 
@@ -85,7 +85,7 @@ pub returns-else-branch-clause-only : goal.returns-else-branch-clause-only
 returns-else-branch-clause-only g c =
     let laws = g.met.D.Disk g.world.𝓛 g.world.𝓜 g.world.𝓡 ((λ s x. x), (λ x. x), (λ x. x), λ x. x) in
     let synced : OnlyRead g.D.Disk.tells g.D.Disk.size g.D.Disk.content g.D.Disk.moment g.D.Disk.since g.D.Disk.faults c.args.disk.now c.sync.new.self =
-      record { length = c.sync.ensures.size; later = c.sync.ensures.later; told = λ told. record { same = c.sync.ensures.same told; time = c.sync.ensures.time told; moments = c.sync.ensures.moments told } } in
+    record { length = c.sync.ensures.size; later = c.sync.ensures.later; told = λ told. record { same = c.sync.ensures.same told; time = c.sync.ensures.time told; moments = c.sync.ensures.moments told } } in
     let first = only_more g.D.Disk.tells g.D.Disk.size g.D.Disk.content g.D.Disk.moment g.D.Disk.since g.D.Disk.faults laws.falls c.args.disk.now c.sync.new.self c.read.new.disk synced c.read.ensures.only in
     let both = only_more g.D.Disk.tells g.D.Disk.size g.D.Disk.content g.D.Disk.moment g.D.Disk.since g.D.Disk.faults laws.falls c.args.disk.now c.read.new.disk c.read-2.new.disk first c.read-2.ensures.only in
     only_more g.D.Disk.tells g.D.Disk.size g.D.Disk.content g.D.Disk.moment g.D.Disk.since g.D.Disk.faults laws.falls c.args.disk.now c.read-2.new.disk c.read_ruling-else-branch.new.disk both c.read_ruling-else-branch.ensures.only
@@ -101,23 +101,23 @@ pub returns-else-branch-clause-refused : goal.returns-else-branch-clause-refused
 returns-else-branch-clause-refused g c =
     let laws = g.met.D.Disk g.world.𝓛 g.world.𝓜 g.world.𝓡 ((λ s x. x), (λ x. x), (λ x. x), λ x. x) in
     let synced : OnlyRead g.D.Disk.tells g.D.Disk.size g.D.Disk.content g.D.Disk.moment g.D.Disk.since g.D.Disk.faults c.args.disk.now c.sync.new.self =
-      record { length = c.sync.ensures.size; later = c.sync.ensures.later; told = λ told. record { same = c.sync.ensures.same told; time = c.sync.ensures.time told; moments = c.sync.ensures.moments told } } in
+    record { length = c.sync.ensures.size; later = c.sync.ensures.later; told = λ told. record { same = c.sync.ensures.same told; time = c.sync.ensures.time told; moments = c.sync.ensures.moments told } } in
     let first = only_more g.D.Disk.tells g.D.Disk.size g.D.Disk.content g.D.Disk.moment g.D.Disk.since g.D.Disk.faults laws.falls c.args.disk.now c.sync.new.self c.read.new.disk synced c.read.ensures.only in
     let both = only_more g.D.Disk.tells g.D.Disk.size g.D.Disk.content g.D.Disk.moment g.D.Disk.since g.D.Disk.faults laws.falls c.args.disk.now c.read.new.disk c.read-2.new.disk first c.read-2.ensures.only in
     let ok = c.in_ok-choose.ensures in
     let weaken : (refusal : OpenRefusal) → (refusal ≡ DiskFault) ⊎ ((gate : ℕ) × (refusal ≡ BadRecord gate) × (g.D.Disk.tells → chain c.args.areas.bytes (g.D.Disk.content c.read-2.new.disk) (begin_of c.args.areas false) (begin_of c.args.areas false + c.args.areas.bytes) ≡ Err gate))
-      → (refusal ≡ DiskFault) ⊎ (g.D.Disk.tells → read_areas c.args.areas (g.D.Disk.content c.args.disk.now) ≡ Err refusal) = λ refusal h. elim h [
+    → (refusal ≡ DiskFault) ⊎ (g.D.Disk.tells → read_areas c.args.areas (g.D.Disk.content c.args.disk.now) ≡ Err refusal) = λ refusal h. elim h [
       | inl fault ↦ inl fault
       | inr bad ↦ inr (λ told.
-        let content = g.D.Disk.content c.args.disk.now in
-        let same0 = c.sync.ensures.same told in
-        let same1 = (first.told told).same in
-        let same2 = (both.told told).same in
-        let f0 = subst (λ c'. IsFirst c' c.args.areas.first c.in_ok-first.first.open c.in_ok-first.first.len c.in_ok-first.first.generation) same0 (c.in_ok-first.ensures.first told) in
-        let f1 = subst (λ c'. IsFirst c' (c.args.areas.first + c.args.areas.bytes) c.in_ok-second.second.open c.in_ok-second.second.len c.in_ok-second.second.generation) same1 (c.in_ok-second.ensures.first told) in
-        let choice : chosen_in c.args.areas content ≡ Ok false = sym (chosen_same c.args.areas content c.in_ok-first.first.open c.in_ok-first.first.len c.in_ok-first.first.generation c.in_ok-second.second.open c.in_ok-second.second.len c.in_ok-second.second.generation f0 f1) ∙ sym ok ∙ ap (λ (x : Bool). Ok x) c.if-branch.false in
-        ap (λ (x : Result Bool OpenRefusal). read_chosen c.args.areas content x) choice
-        ∙ ap (λ x. opened false x) (ap (λ c'. chain c.args.areas.bytes c' (begin_of c.args.areas false) (begin_of c.args.areas false + c.args.areas.bytes)) (sym same2) ∙ bad.2 told)
-        ∙ ap (λ (x : OpenRefusal). Err x) (sym bad.1))
+          let content = g.D.Disk.content c.args.disk.now in
+          let same0 = c.sync.ensures.same told in
+          let same1 = (first.told told).same in
+          let same2 = (both.told told).same in
+          let f0 = subst (λ c'. IsFirst c' c.args.areas.first c.in_ok-first.first.open c.in_ok-first.first.len c.in_ok-first.first.generation) same0 (c.in_ok-first.ensures.first told) in
+          let f1 = subst (λ c'. IsFirst c' (c.args.areas.first + c.args.areas.bytes) c.in_ok-second.second.open c.in_ok-second.second.len c.in_ok-second.second.generation) same1 (c.in_ok-second.ensures.first told) in
+          let choice : chosen_in c.args.areas content ≡ Ok false = sym (chosen_same c.args.areas content c.in_ok-first.first.open c.in_ok-first.first.len c.in_ok-first.first.generation c.in_ok-second.second.open c.in_ok-second.second.len c.in_ok-second.second.generation f0 f1) ∙ sym ok ∙ ap (λ (x : Bool). Ok x) c.if-branch.false in
+          ap (λ (x : Result Bool OpenRefusal). read_chosen c.args.areas content x) choice
+          ∙ ap (λ x. opened false x) (ap (λ c'. chain c.args.areas.bytes c' (begin_of c.args.areas false) (begin_of c.args.areas false + c.args.areas.bytes)) (sym same2) ∙ bad.2 told)
+          ∙ ap (λ (x : OpenRefusal). Err x) (sym bad.1))
     ] in
     IfErr-weaker c.read_ruling-else-branch.result _ _ weaken c.read_ruling-else-branch.ensures.bad

@@ -1,8 +1,7 @@
-use Rattle.std.proofs.Common.{◌≡◌, ◌+◌, inl, inr, refl, sym, ◌∙◌, ap, subst, arith}
-use Rattle.std.specs.Prelude.{Some, List, ℕ, Err, IfErr}
+use Rattle.std.proofs.Common.{◌≡◌, ◌+◌, inl, inr, refl, ap, arith}
+use Rattle.std.specs.Prelude.{List, ℕ}
 use Rattle.std.proofs.lemmas.Result.{err_from_is_err_and}
 use Rattle.opfs_journal.specs.Format.{begin_of}
-use Rattle.opfs_journal.specs.Standing.{Told}
 use Rattle.opfs_journal.proofs.Chains.{walks_le}
 use Rattle.opfs_journal.proofs.Choices.{chosen_told, chosen_bad, chosen_short}
 use Rattle.opfs_journal.proofs.reader.read_ruling.Goals as goal
@@ -25,10 +24,14 @@ returns-in_err-tail-clause-bad g c =
     let p = err_from_is_err_and c.from_residual.result c.from_residual.ensures.1 in
     rw (p.1, p.2) (elim c.in_err-tail.ensures.bad [
       | inl fault ↦ inl fault
-      | inr found ↦ inr (found.0, found.1, λ told.
-        let bad = rw c.begin-begin.ensures at (found.2 told) in
-        chosen_bad a c.args.second head.open head.len head.generation other.open other.len other.generation (g.D.Disk.content c.args.disk.now) (record { opened = c.requires.open; good = c.requires.good; other_good = c.requires.other_good; rules = c.requires.rules }) (c.requires.head_is told) (c.requires.other_is told) (begin_of a c.args.second + 5 + head.len) found.0 refl bad
-        (omega (arith, walks_le (g.D.Disk.content c.args.disk.now) (begin_of a c.args.second + 5 + head.len) bad.leads.bodies found.0 bad.leads.walks)))
+      | inr found ↦ inr (
+        found.0,
+        found.1,
+        λ told.
+            let bad = rw c.begin-begin.ensures at (found.2 told) in
+            chosen_bad a c.args.second head.open head.len head.generation other.open other.len other.generation (g.D.Disk.content c.args.disk.now) (record { opened = c.requires.open; good = c.requires.good; other_good = c.requires.other_good; rules = c.requires.rules }) (c.requires.head_is told) (c.requires.other_is told) (begin_of a c.args.second + 5 + head.len) found.0 refl bad
+            (omega (arith, walks_le (g.D.Disk.content c.args.disk.now) (begin_of a c.args.second + 5 + head.len) bad.leads.bodies found.0 bad.leads.walks)),
+      )
     ])
 
 pub returns-clause-told : goal.returns-clause-told
@@ -42,6 +45,6 @@ returns-clause-told g c = λ told.
     let now : List ℕ → Type 0 = λ i. g.D.Disk.since c.walk.new.disk (g.D.Disk.moment c.walk.new.disk) i in
     let laws = g.met.D.Disk g.world.𝓛 g.world.𝓜 g.world.𝓡 ((λ s x. x), (λ x. x), (λ x. x), λ x. x) in
     let left : (i : List ℕ) → now i → i ≡ content = λ i is.
-      c.requires.durable told i ((c.walk.ensures.only.told told).moments i (laws.falls told c.walk.new.disk (g.D.Disk.moment c.args.disk.now) (g.D.Disk.moment c.walk.new.disk) i (c.walk.ensures.only.told told).time.later is)) in
+    c.requires.durable told i ((c.walk.ensures.only.told told).moments i (laws.falls told c.walk.new.disk (g.D.Disk.moment c.args.disk.now) (g.D.Disk.moment c.walk.new.disk) i (c.walk.ensures.only.told told).time.later is)) in
     rw (at, same) (chosen_told a c.args.second head.open head.len head.generation other.open other.len other.generation (g.D.Disk.content c.args.disk.now) (record { opened = c.requires.open; good = c.requires.good; other_good = c.requires.other_good; rules = c.requires.rules }) (c.requires.head_is told) (c.requires.other_is told) now c.in_ok-tail.tail (c.begin-begin.result + 5 + head.len) (ap (λ x. x + 5 + head.len) at) (c.in_ok-tail.ensures.leads told) (c.in_ok-tail.ensures.shut told)
-      (omega (arith, c.in_ok-tail.ensures.above, at)) (omega (arith, c.in_ok-tail.ensures.within, at)) left)
+    (omega (arith, c.in_ok-tail.ensures.above, at)) (omega (arith, c.in_ok-tail.ensures.within, at)) left)

@@ -1,6 +1,5 @@
-use Rattle.std.proofs.Common.{◌≡◌, ◌+◌, true, sym, ◌∙◌, ap, subst, arith}
+use Rattle.std.proofs.Common.{◌+◌, sym, ◌∙◌, ap, arith}
 use Rattle.opfs_journal.specs.Format.{is_open, number_at}
-use Rattle.opfs_journal.specs.Walking.{Leads}
 use Rattle.opfs_journal.proofs.Walks.{only_more, leads_more}
 use Rattle.opfs_journal.proofs.reader.walk.Goals as goal
 
@@ -16,8 +15,8 @@ gates-preserved g c =
       lies = omega (arith, at.lies, c.read_gate.ensures.only.length);
       only = only_more g.D.Disk.tells g.D.Disk.size g.D.Disk.content g.D.Disk.moment g.D.Disk.since g.D.Disk.faults laws.falls c.args.disk.now c.gates.disk c.read_gate.new.disk at.only c.read_gate.ensures.only;
       leads = λ told.
-        let same = (at.only.told told).same in
-        let is_opened = ap (λ c'. is_open c' c.gates.gate) (sym same) ∙ open_is told in
-        let size = size_is told (omega (arith, c.if-stop-gate.false, at.inside)) ∙ ap (λ c'. number_at c' (c.gates.gate + 1)) same in
-        leads_more (g.D.Disk.content c.args.disk.now) c.args.from c.gates.gate c.in-Some.len (at.leads told) is_opened size;
+          let same = (at.only.told told).same in
+          let is_opened = ap (λ c'. is_open c' c.gates.gate) (sym same) ∙ open_is told in
+          let size = size_is told (omega (arith, c.if-stop-gate.false, at.inside)) ∙ ap (λ c'. number_at c' (c.gates.gate + 1)) same in
+          leads_more (g.D.Disk.content c.args.disk.now) c.args.from c.gates.gate c.in-Some.len (at.leads told) is_opened size;
     }

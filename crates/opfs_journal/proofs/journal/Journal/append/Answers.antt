@@ -51,11 +51,13 @@ invariant_of-self g c =
     let room : j.tail + length b + 6 ≤ j.areas.bytes = omega (arith, c.if-self-saturating_add.false, c.saturating_add.ensures, was.bounds.within, was.bounds.most) in
     let d1 = c.write_synced.new.disk in
     let buffer : c.deref.result.now ≡ framed b = c.deref.ensures.value ∙ c.frame.ensures.bytes in
-    let at1 : c.begin.result + j.tail + 1 ≡ begin_of j.areas j.second + j.tail + 1 = ap (λ x. x + j.tail + 1) c.begin.ensures in
-    (record {
-      bounds = subst (λ n. Bounds j.areas n j.generation j.tail j.doubt) (sym c.write_synced.ensures.size) was.bounds;
-      told = λ told. (told1 g.D.Disk.content g.D.Disk.moment g.D.Disk.since (laws.falls told) j.areas j.second j.generation j.tail j.closed j.spare j.doubt old d1 b (was.told told) sure was.bounds.least was.bounds.most room (torn_as g.D.Disk.content g.D.Disk.moment g.D.Disk.since (c.begin.result + j.tail + 1) (begin_of j.areas j.second + j.tail + 1) c.deref.result.now (framed b) old d1 at1 buffer (c.write_synced.ensures.torn told))).0;
-    }, omega (arith, c.self.invariant.1, c.frame.ensures.capacity))
+    let at1 : c.begin.result + j.tail + 1 ≡ begin_of j.areas j.second + j.tail + 1 = ap (λ x. x + j.tail + 1) c.begin.ensures in (
+      record {
+        bounds = subst (λ n. Bounds j.areas n j.generation j.tail j.doubt) (sym c.write_synced.ensures.size) was.bounds;
+        told = λ told. (told1 g.D.Disk.content g.D.Disk.moment g.D.Disk.since (laws.falls told) j.areas j.second j.generation j.tail j.closed j.spare j.doubt old d1 b (was.told told) sure was.bounds.least was.bounds.most room (torn_as g.D.Disk.content g.D.Disk.moment g.D.Disk.since (c.begin.result + j.tail + 1) (begin_of j.areas j.second + j.tail + 1) c.deref.result.now (framed b) old d1 at1 buffer (c.write_synced.ensures.torn told))).0;
+      },
+      omega (arith, c.self.invariant.1, c.frame.ensures.capacity),
+    )
 
 pub returns-in_err-write_synced-clause-same_records : goal.returns-in_err-write_synced-clause-same_records
 returns-in_err-write_synced-clause-same_records g c =
@@ -127,18 +129,21 @@ invariant_of-self-then-is_err g c =
     let at1 : c.begin.result + j.tail + 1 ≡ begin_of j.areas j.second + j.tail + 1 = ap (λ x. x + j.tail + 1) c.begin.ensures in
     let d2 = c.write_synced-2.new.disk in
     let at2 : c.begin.result + j.tail ≡ begin_of j.areas j.second + j.tail = ap (λ x. x + j.tail) c.begin.ensures in
-    rw c.begin.ensures (record {
-      bounds = record {
-        lies = omega (arith, was.bounds.lies, c.write_synced.ensures.size, c.write_synced-2.ensures.size);
-        fits = was.bounds.fits;
-        least = was.bounds.least;
-        most = was.bounds.most;
-        within = was.bounds.within;
-        known = was.bounds.known;
-        gate = λ gate is. subst (λ x. (j.areas.first ≤ x) × (x < j.areas.first + 2 * j.areas.bytes)) (some_same is) (gate_bounds j.areas j.second j.tail was.bounds.within);
-      };
-      told = λ told. (told2 g.D.Disk.content g.D.Disk.moment g.D.Disk.since (laws.falls told) j.areas j.second j.generation j.tail j.closed j.spare j.doubt old d1 b (was.told told) sure was.bounds.least was.bounds.most room (torn_as g.D.Disk.content g.D.Disk.moment g.D.Disk.since (c.begin.result + j.tail + 1) (begin_of j.areas j.second + j.tail + 1) c.deref.result.now (framed b) old d1 at1 buffer (c.write_synced.ensures.torn told)) (wrote_as g.D.Disk.content g.D.Disk.moment g.D.Disk.since (c.begin.result + j.tail + 1) (begin_of j.areas j.second + j.tail + 1) c.deref.result.now (framed b) d1 at1 buffer (c.in_ok-write_synced.ensures.done told)) d2 (torn_as g.D.Disk.content g.D.Disk.moment g.D.Disk.since (c.begin.result + j.tail) (begin_of j.areas j.second + j.tail) (165 ∷ []) (165 ∷ []) d1 d2 at2 refl (c.write_synced-2.ensures.torn told))).0;
-    }, omega (arith, c.self.invariant.1, c.frame.ensures.capacity))
+    rw c.begin.ensures (
+      record {
+        bounds = record {
+          lies = omega (arith, was.bounds.lies, c.write_synced.ensures.size, c.write_synced-2.ensures.size);
+          fits = was.bounds.fits;
+          least = was.bounds.least;
+          most = was.bounds.most;
+          within = was.bounds.within;
+          known = was.bounds.known;
+          gate = λ gate is. subst (λ x. (j.areas.first ≤ x) × (x < j.areas.first + 2 * j.areas.bytes)) (some_same is) (gate_bounds j.areas j.second j.tail was.bounds.within);
+        };
+        told = λ told. (told2 g.D.Disk.content g.D.Disk.moment g.D.Disk.since (laws.falls told) j.areas j.second j.generation j.tail j.closed j.spare j.doubt old d1 b (was.told told) sure was.bounds.least was.bounds.most room (torn_as g.D.Disk.content g.D.Disk.moment g.D.Disk.since (c.begin.result + j.tail + 1) (begin_of j.areas j.second + j.tail + 1) c.deref.result.now (framed b) old d1 at1 buffer (c.write_synced.ensures.torn told)) (wrote_as g.D.Disk.content g.D.Disk.moment g.D.Disk.since (c.begin.result + j.tail + 1) (begin_of j.areas j.second + j.tail + 1) c.deref.result.now (framed b) d1 at1 buffer (c.in_ok-write_synced.ensures.done told)) d2 (torn_as g.D.Disk.content g.D.Disk.moment g.D.Disk.since (c.begin.result + j.tail) (begin_of j.areas j.second + j.tail) (165 ∷ []) (165 ∷ []) d1 d2 at2 refl (c.write_synced-2.ensures.torn told))).0;
+      },
+      omega (arith, c.self.invariant.1, c.frame.ensures.capacity),
+    )
 
 pub returns-then-is_err-clause-same_records : goal.returns-then-is_err-clause-same_records
 returns-then-is_err-clause-same_records g c =
@@ -251,19 +256,21 @@ invariant_of-self-2 g c =
     let at1 : c.begin.result + j.tail + 1 ≡ begin_of j.areas j.second + j.tail + 1 = ap (λ x. x + j.tail + 1) c.begin.ensures in
     let d2 = c.write_synced-2.new.disk in
     let at2 : c.begin.result + j.tail ≡ begin_of j.areas j.second + j.tail = ap (λ x. x + j.tail) c.begin.ensures in
-    let is_ok = c.is_err.ensures.value in
-    (record {
-      bounds = record {
-        lies = omega (arith, was.bounds.lies, c.write_synced.ensures.size, c.write_synced-2.ensures.size);
-        fits = was.bounds.fits;
-        least = was.bounds.least;
-        most = was.bounds.most;
-        within = omega (arith, room);
-        known = was.bounds.known;
-        gate = was.bounds.gate;
-      };
-      told = λ told. (told3 g.D.Disk.content g.D.Disk.moment g.D.Disk.since (laws.falls told) j.areas j.second j.generation j.tail j.closed j.spare j.doubt old d1 b (was.told told) sure was.bounds.least was.bounds.most room (torn_as g.D.Disk.content g.D.Disk.moment g.D.Disk.since (c.begin.result + j.tail + 1) (begin_of j.areas j.second + j.tail + 1) c.deref.result.now (framed b) old d1 at1 buffer (c.write_synced.ensures.torn told)) (wrote_as g.D.Disk.content g.D.Disk.moment g.D.Disk.since (c.begin.result + j.tail + 1) (begin_of j.areas j.second + j.tail + 1) c.deref.result.now (framed b) d1 at1 buffer (c.in_ok-write_synced.ensures.done told)) d2 (torn_as g.D.Disk.content g.D.Disk.moment g.D.Disk.since (c.begin.result + j.tail) (begin_of j.areas j.second + j.tail) (165 ∷ []) (165 ∷ []) d1 d2 at2 refl (c.write_synced-2.ensures.torn told)) (wrote_as g.D.Disk.content g.D.Disk.moment g.D.Disk.since (c.begin.result + j.tail) (begin_of j.areas j.second + j.tail) (165 ∷ []) (165 ∷ []) d2 at2 refl (if_no_error c.write_synced-2.result (sym c.is_err.ensures.value ∙ c.if-is_err.false) c.write_synced-2.ensures.done told))).0;
-    }, omega (arith, c.self.invariant.1, c.frame.ensures.capacity))
+    let is_ok = c.is_err.ensures.value in (
+      record {
+        bounds = record {
+          lies = omega (arith, was.bounds.lies, c.write_synced.ensures.size, c.write_synced-2.ensures.size);
+          fits = was.bounds.fits;
+          least = was.bounds.least;
+          most = was.bounds.most;
+          within = omega (arith, room);
+          known = was.bounds.known;
+          gate = was.bounds.gate;
+        };
+        told = λ told. (told3 g.D.Disk.content g.D.Disk.moment g.D.Disk.since (laws.falls told) j.areas j.second j.generation j.tail j.closed j.spare j.doubt old d1 b (was.told told) sure was.bounds.least was.bounds.most room (torn_as g.D.Disk.content g.D.Disk.moment g.D.Disk.since (c.begin.result + j.tail + 1) (begin_of j.areas j.second + j.tail + 1) c.deref.result.now (framed b) old d1 at1 buffer (c.write_synced.ensures.torn told)) (wrote_as g.D.Disk.content g.D.Disk.moment g.D.Disk.since (c.begin.result + j.tail + 1) (begin_of j.areas j.second + j.tail + 1) c.deref.result.now (framed b) d1 at1 buffer (c.in_ok-write_synced.ensures.done told)) d2 (torn_as g.D.Disk.content g.D.Disk.moment g.D.Disk.since (c.begin.result + j.tail) (begin_of j.areas j.second + j.tail) (165 ∷ []) (165 ∷ []) d1 d2 at2 refl (c.write_synced-2.ensures.torn told)) (wrote_as g.D.Disk.content g.D.Disk.moment g.D.Disk.since (c.begin.result + j.tail) (begin_of j.areas j.second + j.tail) (165 ∷ []) (165 ∷ []) d2 at2 refl (if_no_error c.write_synced-2.result (sym c.is_err.ensures.value ∙ c.if-is_err.false) c.write_synced-2.ensures.done told))).0;
+      },
+      omega (arith, c.self.invariant.1, c.frame.ensures.capacity),
+    )
 
 pub returns-clause-records : goal.returns-clause-records
 returns-clause-records g c =

@@ -1,9 +1,7 @@
-use Rattle.std.proofs.Common.{◌≡◌, sym, ◌∙◌, ap, subst, length, Option, None}
-use Rattle.opfs_journal.specs.Clauses.{OutsideBut}
-use Rattle.opfs_journal.specs.Format.{Stored, records_of}
-use Rattle.opfs_journal.specs.Seen.{Seen, kept}
+use Rattle.std.proofs.Common.{◌≡◌, sym, ◌∙◌, ap, subst, length, None}
+use Rattle.opfs_journal.specs.Format.{Stored}
 use Rattle.opfs_journal.specs.Reading.{stored_of}
-use Rattle.opfs_journal.specs.Standing.{Bounds, Told}
+use Rattle.opfs_journal.specs.Standing.{Bounds}
 use Rattle.opfs_journal.proofs.Moves.{told_put, now_since, put_before}
 use Rattle.opfs_journal.proofs.Views.{none_from, kept_told}
 use Rattle.opfs_journal.proofs.journal.Journal.put.Goals as goal

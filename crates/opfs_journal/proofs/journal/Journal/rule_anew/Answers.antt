@@ -40,11 +40,13 @@ invariant_of-self g c =
     let room : length b + 7 ≤ j.areas.bytes = omega (arith, c.if-self-saturating_add.false, c.saturating_add.ensures, was.bounds.most) in
     let d1 = c.close_gate.new.disk in
     let at0 : c.begin-other.result ≡ begin_of j.areas (not j.second) = c.begin-other.ensures in
-    let shut : j.closed ≡ false = not_closed j.closed (λ e. absurd (cc (c.in_err-close_gate.ensures.ok e))) in
-    (record {
-      bounds = subst (λ n. Bounds j.areas n j.generation j.tail j.doubt) (sym c.close_gate.ensures.size) was.bounds;
-      told = λ told. (closing.told1 g.D.Disk.content g.D.Disk.moment g.D.Disk.since (laws.falls told) j.areas j.second j.generation j.tail j.closed j.spare j.doubt old d1 (was.told told) sure was.bounds.least shut (torn_as g.D.Disk.content g.D.Disk.moment g.D.Disk.since c.begin-other.result (begin_of j.areas (not j.second)) (0 ∷ []) (0 ∷ []) old d1 at0 refl (c.close_gate.ensures.torn shut told))).0;
-    }, c.self.invariant.1)
+    let shut : j.closed ≡ false = not_closed j.closed (λ e. absurd (cc (c.in_err-close_gate.ensures.ok e))) in (
+      record {
+        bounds = subst (λ n. Bounds j.areas n j.generation j.tail j.doubt) (sym c.close_gate.ensures.size) was.bounds;
+        told = λ told. (closing.told1 g.D.Disk.content g.D.Disk.moment g.D.Disk.since (laws.falls told) j.areas j.second j.generation j.tail j.closed j.spare j.doubt old d1 (was.told told) sure was.bounds.least shut (torn_as g.D.Disk.content g.D.Disk.moment g.D.Disk.since c.begin-other.result (begin_of j.areas (not j.second)) (0 ∷ []) (0 ∷ []) old d1 at0 refl (c.close_gate.ensures.torn shut told))).0;
+      },
+      c.self.invariant.1,
+    )
 
 pub returns-in_err-close_gate-clause-same_records : goal.returns-in_err-close_gate-clause-same_records
 returns-in_err-close_gate-clause-same_records g c =
@@ -143,19 +145,21 @@ invariant_of-self-in_err-write_synced g c =
     let at0 : c.begin-other.result ≡ begin_of j.areas (not j.second) = c.begin-other.ensures in
     let d2 = c.write_synced.new.disk in
     let buffer : c.deref.result.now ≡ framed ((next_of j.generation + 16 * (c.args.format - 1)) ∷ b) = c.deref.ensures.value ∙ c.frame.ensures.bytes in
-    let at1 : c.begin-other.result + 1 ≡ begin_of j.areas (not j.second) + 1 = ap (λ x. x + 1) at0 in
-    (record {
-      bounds = record {
-        lies = omega (arith, was.bounds.lies, c.close_gate.ensures.size, c.write_synced.ensures.size);
-        fits = was.bounds.fits;
-        least = was.bounds.least;
-        most = was.bounds.most;
-        within = was.bounds.within;
-        known = was.bounds.known;
-        gate = was.bounds.gate;
-      };
-      told = λ told. (told2 g.D.Disk.content g.D.Disk.moment g.D.Disk.since (laws.falls told) j.areas j.second j.generation j.tail j.closed j.spare j.doubt old d1 d2 b c.args.format (was.told told) sure was.bounds.least was.bounds.most room c.requires.known (closes g.D.Disk.content g.D.Disk.moment g.D.Disk.since (laws.falls told) j.areas j.second j.generation j.tail j.closed j.spare j.doubt old d1 (was.told told) sure was.bounds.least c.close_gate.ensures.none (λ e. torn_as g.D.Disk.content g.D.Disk.moment g.D.Disk.since c.begin-other.result (begin_of j.areas (not j.second)) (0 ∷ []) (0 ∷ []) old d1 at0 refl (c.close_gate.ensures.torn e told)) (λ e. wrote_as g.D.Disk.content g.D.Disk.moment g.D.Disk.since c.begin-other.result (begin_of j.areas (not j.second)) (0 ∷ []) (0 ∷ []) d1 at0 refl (c.in_ok-close_gate.ensures.done e told))) (torn_as g.D.Disk.content g.D.Disk.moment g.D.Disk.since (c.begin-other.result + 1) (begin_of j.areas (not j.second) + 1) c.deref.result.now (framed ((next_of j.generation + 16 * (c.args.format - 1)) ∷ b)) d1 d2 at1 buffer (c.write_synced.ensures.torn told))).0;
-    }, omega (arith, c.self.invariant.1, c.frame.ensures.capacity))
+    let at1 : c.begin-other.result + 1 ≡ begin_of j.areas (not j.second) + 1 = ap (λ x. x + 1) at0 in (
+      record {
+        bounds = record {
+          lies = omega (arith, was.bounds.lies, c.close_gate.ensures.size, c.write_synced.ensures.size);
+          fits = was.bounds.fits;
+          least = was.bounds.least;
+          most = was.bounds.most;
+          within = was.bounds.within;
+          known = was.bounds.known;
+          gate = was.bounds.gate;
+        };
+        told = λ told. (told2 g.D.Disk.content g.D.Disk.moment g.D.Disk.since (laws.falls told) j.areas j.second j.generation j.tail j.closed j.spare j.doubt old d1 d2 b c.args.format (was.told told) sure was.bounds.least was.bounds.most room c.requires.known (closes g.D.Disk.content g.D.Disk.moment g.D.Disk.since (laws.falls told) j.areas j.second j.generation j.tail j.closed j.spare j.doubt old d1 (was.told told) sure was.bounds.least c.close_gate.ensures.none (λ e. torn_as g.D.Disk.content g.D.Disk.moment g.D.Disk.since c.begin-other.result (begin_of j.areas (not j.second)) (0 ∷ []) (0 ∷ []) old d1 at0 refl (c.close_gate.ensures.torn e told)) (λ e. wrote_as g.D.Disk.content g.D.Disk.moment g.D.Disk.since c.begin-other.result (begin_of j.areas (not j.second)) (0 ∷ []) (0 ∷ []) d1 at0 refl (c.in_ok-close_gate.ensures.done e told))) (torn_as g.D.Disk.content g.D.Disk.moment g.D.Disk.since (c.begin-other.result + 1) (begin_of j.areas (not j.second) + 1) c.deref.result.now (framed ((next_of j.generation + 16 * (c.args.format - 1)) ∷ b)) d1 d2 at1 buffer (c.write_synced.ensures.torn told))).0;
+      },
+      omega (arith, c.self.invariant.1, c.frame.ensures.capacity),
+    )
 
 pub returns-in_err-write_synced-clause-same_records : goal.returns-in_err-write_synced-clause-same_records
 returns-in_err-write_synced-clause-same_records g c =
@@ -252,18 +256,21 @@ invariant_of-self-then-is_err g c =
     let buffer : c.deref.result.now ≡ framed ((next_of j.generation + 16 * (c.args.format - 1)) ∷ b) = c.deref.ensures.value ∙ c.frame.ensures.bytes in
     let at1 : c.begin-other.result + 1 ≡ begin_of j.areas (not j.second) + 1 = ap (λ x. x + 1) at0 in
     let d3 = c.write_synced-2.new.disk in
-    rw c.begin-other.ensures (record {
-      bounds = record {
-        lies = omega (arith, was.bounds.lies, c.close_gate.ensures.size, c.write_synced.ensures.size, c.write_synced-2.ensures.size);
-        fits = was.bounds.fits;
-        least = was.bounds.least;
-        most = was.bounds.most;
-        within = was.bounds.within;
-        known = was.bounds.known;
-        gate = λ gate is. subst (λ x. (j.areas.first ≤ x) × (x < j.areas.first + 2 * j.areas.bytes)) (some_same is) (gate_bounds_of j.areas (not j.second) was.bounds.least);
-      };
-      told = λ told. (told3 g.D.Disk.content g.D.Disk.moment g.D.Disk.since (laws.falls told) j.areas j.second j.generation j.tail j.closed j.spare j.doubt old d1 d2 b c.args.format (was.told told) sure was.bounds.least was.bounds.most room c.requires.known (closes g.D.Disk.content g.D.Disk.moment g.D.Disk.since (laws.falls told) j.areas j.second j.generation j.tail j.closed j.spare j.doubt old d1 (was.told told) sure was.bounds.least c.close_gate.ensures.none (λ e. torn_as g.D.Disk.content g.D.Disk.moment g.D.Disk.since c.begin-other.result (begin_of j.areas (not j.second)) (0 ∷ []) (0 ∷ []) old d1 at0 refl (c.close_gate.ensures.torn e told)) (λ e. wrote_as g.D.Disk.content g.D.Disk.moment g.D.Disk.since c.begin-other.result (begin_of j.areas (not j.second)) (0 ∷ []) (0 ∷ []) d1 at0 refl (c.in_ok-close_gate.ensures.done e told))) (torn_as g.D.Disk.content g.D.Disk.moment g.D.Disk.since (c.begin-other.result + 1) (begin_of j.areas (not j.second) + 1) c.deref.result.now (framed ((next_of j.generation + 16 * (c.args.format - 1)) ∷ b)) d1 d2 at1 buffer (c.write_synced.ensures.torn told)) (wrote_as g.D.Disk.content g.D.Disk.moment g.D.Disk.since (c.begin-other.result + 1) (begin_of j.areas (not j.second) + 1) c.deref.result.now (framed ((next_of j.generation + 16 * (c.args.format - 1)) ∷ b)) d2 at1 buffer (c.in_ok-write_synced.ensures.done told)) d3 (torn_as g.D.Disk.content g.D.Disk.moment g.D.Disk.since c.begin-other.result (begin_of j.areas (not j.second)) (165 ∷ []) (165 ∷ []) d2 d3 at0 refl (c.write_synced-2.ensures.torn told))).0;
-    }, omega (arith, c.self.invariant.1, c.frame.ensures.capacity))
+    rw c.begin-other.ensures (
+      record {
+        bounds = record {
+          lies = omega (arith, was.bounds.lies, c.close_gate.ensures.size, c.write_synced.ensures.size, c.write_synced-2.ensures.size);
+          fits = was.bounds.fits;
+          least = was.bounds.least;
+          most = was.bounds.most;
+          within = was.bounds.within;
+          known = was.bounds.known;
+          gate = λ gate is. subst (λ x. (j.areas.first ≤ x) × (x < j.areas.first + 2 * j.areas.bytes)) (some_same is) (gate_bounds_of j.areas (not j.second) was.bounds.least);
+        };
+        told = λ told. (told3 g.D.Disk.content g.D.Disk.moment g.D.Disk.since (laws.falls told) j.areas j.second j.generation j.tail j.closed j.spare j.doubt old d1 d2 b c.args.format (was.told told) sure was.bounds.least was.bounds.most room c.requires.known (closes g.D.Disk.content g.D.Disk.moment g.D.Disk.since (laws.falls told) j.areas j.second j.generation j.tail j.closed j.spare j.doubt old d1 (was.told told) sure was.bounds.least c.close_gate.ensures.none (λ e. torn_as g.D.Disk.content g.D.Disk.moment g.D.Disk.since c.begin-other.result (begin_of j.areas (not j.second)) (0 ∷ []) (0 ∷ []) old d1 at0 refl (c.close_gate.ensures.torn e told)) (λ e. wrote_as g.D.Disk.content g.D.Disk.moment g.D.Disk.since c.begin-other.result (begin_of j.areas (not j.second)) (0 ∷ []) (0 ∷ []) d1 at0 refl (c.in_ok-close_gate.ensures.done e told))) (torn_as g.D.Disk.content g.D.Disk.moment g.D.Disk.since (c.begin-other.result + 1) (begin_of j.areas (not j.second) + 1) c.deref.result.now (framed ((next_of j.generation + 16 * (c.args.format - 1)) ∷ b)) d1 d2 at1 buffer (c.write_synced.ensures.torn told)) (wrote_as g.D.Disk.content g.D.Disk.moment g.D.Disk.since (c.begin-other.result + 1) (begin_of j.areas (not j.second) + 1) c.deref.result.now (framed ((next_of j.generation + 16 * (c.args.format - 1)) ∷ b)) d2 at1 buffer (c.in_ok-write_synced.ensures.done told)) d3 (torn_as g.D.Disk.content g.D.Disk.moment g.D.Disk.since c.begin-other.result (begin_of j.areas (not j.second)) (165 ∷ []) (165 ∷ []) d2 d3 at0 refl (c.write_synced-2.ensures.torn told))).0;
+      },
+      omega (arith, c.self.invariant.1, c.frame.ensures.capacity),
+    )
 
 pub returns-then-is_err-clause-same_records : goal.returns-then-is_err-clause-same_records
 returns-then-is_err-clause-same_records g c =
@@ -382,19 +389,21 @@ invariant_of-self-2 g c =
     let d2 = c.write_synced.new.disk in
     let buffer : c.deref.result.now ≡ framed ((next_of j.generation + 16 * (c.args.format - 1)) ∷ b) = c.deref.ensures.value ∙ c.frame.ensures.bytes in
     let at1 : c.begin-other.result + 1 ≡ begin_of j.areas (not j.second) + 1 = ap (λ x. x + 1) at0 in
-    let d3 = c.write_synced-2.new.disk in
-    (record {
-      bounds = record {
-        lies = omega (arith, was.bounds.lies, c.close_gate.ensures.size, c.write_synced.ensures.size, c.write_synced-2.ensures.size);
-        fits = was.bounds.fits;
-        least = was.bounds.least;
-        most = was.bounds.most;
-        within = omega (arith, room);
-        known = (next_byte j.generation c.args.format c.requires.known).0;
-        gate = was.bounds.gate;
-      };
-      told = λ told. (told4 g.D.Disk.content g.D.Disk.moment g.D.Disk.since (laws.falls told) j.areas j.second j.generation j.tail j.closed j.spare j.doubt old d1 d2 b c.args.format (was.told told) sure was.bounds.least was.bounds.most room c.requires.known (closes g.D.Disk.content g.D.Disk.moment g.D.Disk.since (laws.falls told) j.areas j.second j.generation j.tail j.closed j.spare j.doubt old d1 (was.told told) sure was.bounds.least c.close_gate.ensures.none (λ e. torn_as g.D.Disk.content g.D.Disk.moment g.D.Disk.since c.begin-other.result (begin_of j.areas (not j.second)) (0 ∷ []) (0 ∷ []) old d1 at0 refl (c.close_gate.ensures.torn e told)) (λ e. wrote_as g.D.Disk.content g.D.Disk.moment g.D.Disk.since c.begin-other.result (begin_of j.areas (not j.second)) (0 ∷ []) (0 ∷ []) d1 at0 refl (c.in_ok-close_gate.ensures.done e told))) (torn_as g.D.Disk.content g.D.Disk.moment g.D.Disk.since (c.begin-other.result + 1) (begin_of j.areas (not j.second) + 1) c.deref.result.now (framed ((next_of j.generation + 16 * (c.args.format - 1)) ∷ b)) d1 d2 at1 buffer (c.write_synced.ensures.torn told)) (wrote_as g.D.Disk.content g.D.Disk.moment g.D.Disk.since (c.begin-other.result + 1) (begin_of j.areas (not j.second) + 1) c.deref.result.now (framed ((next_of j.generation + 16 * (c.args.format - 1)) ∷ b)) d2 at1 buffer (c.in_ok-write_synced.ensures.done told)) d3 (torn_as g.D.Disk.content g.D.Disk.moment g.D.Disk.since c.begin-other.result (begin_of j.areas (not j.second)) (165 ∷ []) (165 ∷ []) d2 d3 at0 refl (c.write_synced-2.ensures.torn told)) (wrote_as g.D.Disk.content g.D.Disk.moment g.D.Disk.since c.begin-other.result (begin_of j.areas (not j.second)) (165 ∷ []) (165 ∷ []) d3 at0 refl (if_no_error c.write_synced-2.result (sym c.is_err.ensures.value ∙ c.if-is_err.false) c.write_synced-2.ensures.done told))).0;
-    }, omega (arith, c.self.invariant.1, c.frame.ensures.capacity))
+    let d3 = c.write_synced-2.new.disk in (
+      record {
+        bounds = record {
+          lies = omega (arith, was.bounds.lies, c.close_gate.ensures.size, c.write_synced.ensures.size, c.write_synced-2.ensures.size);
+          fits = was.bounds.fits;
+          least = was.bounds.least;
+          most = was.bounds.most;
+          within = omega (arith, room);
+          known = (next_byte j.generation c.args.format c.requires.known).0;
+          gate = was.bounds.gate;
+        };
+        told = λ told. (told4 g.D.Disk.content g.D.Disk.moment g.D.Disk.since (laws.falls told) j.areas j.second j.generation j.tail j.closed j.spare j.doubt old d1 d2 b c.args.format (was.told told) sure was.bounds.least was.bounds.most room c.requires.known (closes g.D.Disk.content g.D.Disk.moment g.D.Disk.since (laws.falls told) j.areas j.second j.generation j.tail j.closed j.spare j.doubt old d1 (was.told told) sure was.bounds.least c.close_gate.ensures.none (λ e. torn_as g.D.Disk.content g.D.Disk.moment g.D.Disk.since c.begin-other.result (begin_of j.areas (not j.second)) (0 ∷ []) (0 ∷ []) old d1 at0 refl (c.close_gate.ensures.torn e told)) (λ e. wrote_as g.D.Disk.content g.D.Disk.moment g.D.Disk.since c.begin-other.result (begin_of j.areas (not j.second)) (0 ∷ []) (0 ∷ []) d1 at0 refl (c.in_ok-close_gate.ensures.done e told))) (torn_as g.D.Disk.content g.D.Disk.moment g.D.Disk.since (c.begin-other.result + 1) (begin_of j.areas (not j.second) + 1) c.deref.result.now (framed ((next_of j.generation + 16 * (c.args.format - 1)) ∷ b)) d1 d2 at1 buffer (c.write_synced.ensures.torn told)) (wrote_as g.D.Disk.content g.D.Disk.moment g.D.Disk.since (c.begin-other.result + 1) (begin_of j.areas (not j.second) + 1) c.deref.result.now (framed ((next_of j.generation + 16 * (c.args.format - 1)) ∷ b)) d2 at1 buffer (c.in_ok-write_synced.ensures.done told)) d3 (torn_as g.D.Disk.content g.D.Disk.moment g.D.Disk.since c.begin-other.result (begin_of j.areas (not j.second)) (165 ∷ []) (165 ∷ []) d2 d3 at0 refl (c.write_synced-2.ensures.torn told)) (wrote_as g.D.Disk.content g.D.Disk.moment g.D.Disk.since c.begin-other.result (begin_of j.areas (not j.second)) (165 ∷ []) (165 ∷ []) d3 at0 refl (if_no_error c.write_synced-2.result (sym c.is_err.ensures.value ∙ c.if-is_err.false) c.write_synced-2.ensures.done told))).0;
+      },
+      omega (arith, c.self.invariant.1, c.frame.ensures.capacity),
+    )
 
 pub returns-clause-records : goal.returns-clause-records
 returns-clause-records g c =
