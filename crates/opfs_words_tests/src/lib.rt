@@ -1,0 +1,15 @@
+//! Tests of names, keys, locks, splicing, histories, texts and scripts.
+#![tactic(auto)]
+
+#[cfg(test)]
+mod bytes;
+#[cfg(test)]
+mod keys;
+#[cfg(test)]
+mod lines;
+#[cfg(test)]
+mod locks;
+#[cfg(test)]
+mod names;
+#[cfg(test)]
+mod scripts;

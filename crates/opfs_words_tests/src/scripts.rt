@@ -1,0 +1,278 @@
+//! Scripts.
+
+use opfs_script::{Script, ScriptRefusal, Step, read_script};
+use std::alloc::{AllocError, Global};
+
+// Why a script is refused, or None.
+fn refusal(alloc: Global, text: &str) -> Option<ScriptRefusal> {
+    read_script(alloc, text.as_bytes()).err()
+}
+
+// Why a script of one agent with these steps is refused, or None.
+fn step_refusal(alloc: Global, steps: &str) -> Result<Option<ScriptRefusal>, AllocError> {
+    let text = format!(in alloc;
+        "{{\"agents\":[{{\"origin\":\"https://a.example\",\"steps\":[{steps}]}}]}}"
+    )?;
+    Ok(refusal(alloc, text.as_str()))
+}
+
+#[test]
+fn tops_are_judged_first(rt: HostRuntime) {
+    let shape = Some(ScriptRefusal::BadShape(0, 0));
+    let cases = [
+        ("{\"agents\":[]}", None),
+        (" { \"agents\" : [ ] } ", None),
+        ("{", Some(ScriptRefusal::NotJson)),
+        ("", Some(ScriptRefusal::NotJson)),
+        ("{\"agents\":[1e400]}", Some(ScriptRefusal::NotJson)),
+        ("[]", shape),
+        ("{}", shape),
+        ("{\"agents\":{}}", shape),
+        ("{\"agents\":[],\"more\":1}", shape),
+        ("{\"agents\":1,\"agents\":[]}", None),
+    ];
+    for (text, wanted) in cases {
+        assert_eq!(rt; refusal(rt.alloc(), text), wanted, "{text}");
+    }
+    assert_eq!(rt;
+        read_script(rt.alloc(), b"{\"agents\":[]}\xff").err(),
+        Some(ScriptRefusal::NotJson)
+    );
+}
+
+#[test]
+fn agents_are_judged_in_order(rt: HostRuntime) {
+    let cases = [
+        ("{\"agents\":[1]}", Some(ScriptRefusal::BadShape(1, 0))),
+        (
+            "{\"agents\":[{\"origin\":\"https://a.example\"}]}",
+            Some(ScriptRefusal::BadShape(1, 0)),
+        ),
+        (
+            "{\"agents\":[{\"origin\":\"nonsense\",\"steps\":[]}]}",
+            Some(ScriptRefusal::BadOrigin(1)),
+        ),
+        (
+            "{\"agents\":[{\"origin\":\"nonsense\",\"steps\":[],\"x\":1}]}",
+            Some(ScriptRefusal::BadShape(1, 0)),
+        ),
+        (
+            "{\"agents\":[{\"origin\":\"nonsense\",\"steps\":[1]},2]}",
+            Some(ScriptRefusal::BadOrigin(1)),
+        ),
+        (
+            "{\"agents\":[{\"origin\":\"data:,x\",\"steps\":[]},{\"origin\":\"https://b.example\",\"steps\":[{\"do\":\"fly\"}]}]}",
+            Some(ScriptRefusal::UnknownStep(2, 1)),
+        ),
+        (
+            "{\"agents\":[{\"origin\":\"data:,x\",\"steps\":[],\"grants\":[\"persistent-storage\",\"persistent-storage\"]}]}",
+            None,
+        ),
+        (
+            "{\"agents\":[{\"origin\":\"data:,x\",\"steps\":[],\"grants\":[\"camera\"]}]}",
+            Some(ScriptRefusal::BadShape(1, 0)),
+        ),
+        (
+            "{\"agents\":[{\"origin\":\"data:,x\",\"steps\":[],\"grants\":null}]}",
+            Some(ScriptRefusal::BadShape(1, 0)),
+        ),
+    ];
+    for (text, wanted) in cases {
+        assert_eq!(rt; refusal(rt.alloc(), text), wanted, "{text}");
+    }
+}
+
+#[test]
+fn every_word_has_its_members(rt: HostRuntime) -> Result<(), AllocError> {
+    let good = [
+        "{\"do\":\"getDirectory\",\"as\":\"d\"}",
+        "{\"do\":\"getDirectory\",\"bucket\":\"-x\",\"as\":\"d\"}",
+        "{\"do\":\"getDirectoryHandle\",\"dir\":\"d\",\"name\":\"\",\"as\":\"x\"}",
+        "{\"do\":\"getFileHandle\",\"dir\":\"d\",\"name\":\"a/b\",\"create\":true,\"as\":\"x\"}",
+        "{\"do\":\"removeEntry\",\"dir\":\"d\",\"name\":\"x\",\"recursive\":false}",
+        "{\"do\":\"values\",\"dir\":\"d\",\"as\":\"i\"}",
+        "{\"do\":\"next\",\"iterator\":\"i\",\"as\":\"x\"}",
+        "{\"do\":\"resolve\",\"dir\":\"d\",\"entry\":\"x\"}",
+        "{\"do\":\"isSameEntry\",\"entry\":\"x\",\"other\":\"y\"}",
+        "{\"do\":\"getFile\",\"file\":\"f\",\"as\":\"s\"}",
+        "{\"do\":\"slice\",\"snapshot\":\"s\",\"at\":9007199254740991,\"len\":65536}",
+        "{\"do\":\"createWritable\",\"file\":\"f\",\"keepExistingData\":true,\"as\":\"w\"}",
+        "{\"do\":\"write\",\"stream\":\"w\",\"data\":\"\",\"position\":0}",
+        "{\"do\":\"write\",\"stream\":\"w\",\"data\":{\"hex\":\"0aF0\"}}",
+        "{\"do\":\"write\",\"stream\":\"w\",\"data\":{\"fill\":255,\"count\":16777216}}",
+        "{\"do\":\"seek\",\"stream\":\"w\",\"position\":1}",
+        "{\"do\":\"truncate\",\"stream\":\"w\",\"size\":1}",
+        "{\"do\":\"close\",\"stream\":\"w\"}",
+        "{\"do\":\"abort\",\"stream\":\"w\"}",
+        "{\"do\":\"createSyncAccessHandle\",\"file\":\"f\",\"as\":\"h\"}",
+        "{\"do\":\"createSyncAccessHandle\",\"file\":\"f\",\"mode\":\"read-only\",\"as\":\"h\"}",
+        "{\"do\":\"syncRead\",\"sync\":\"h\",\"len\":0}",
+        "{\"do\":\"syncWrite\",\"sync\":\"h\",\"data\":\"x\",\"at\":4}",
+        "{\"do\":\"syncTruncate\",\"sync\":\"h\",\"size\":4}",
+        "{\"do\":\"syncGetSize\",\"sync\":\"h\"}",
+        "{\"do\":\"syncFlush\",\"sync\":\"h\"}",
+        "{\"do\":\"syncClose\",\"sync\":\"h\"}",
+        "{\"do\":\"persist\"}",
+        "{\"do\":\"persisted\",\"bucket\":\"drafts\"}",
+        "{\"do\":\"estimate\"}",
+        "{\"do\":\"moment\",\"ms\":1700000000000}",
+    ];
+    for step in good {
+        assert_eq!(rt; step_refusal(rt.alloc(), step)?, None, "{step}");
+    }
+    Ok(())
+}
+
+#[test]
+fn steps_of_another_shape_are_refused(rt: HostRuntime) -> Result<(), AllocError> {
+    let bad = [
+        "1",
+        "{}",
+        "{\"do\":1}",
+        "{\"do\":\"getDirectory\"}",
+        "{\"do\":\"getDirectory\",\"as\":\"\"}",
+        "{\"do\":\"getDirectory\",\"as\":\"d\",\"bucket\":null}",
+        "{\"do\":\"getDirectory\",\"as\":\"d\",\"name\":\"x\"}",
+        "{\"do\":\"getFileHandle\",\"dir\":\"d\",\"name\":1,\"as\":\"x\"}",
+        "{\"do\":\"getFileHandle\",\"dir\":\"d\",\"name\":\"x\",\"create\":1,\"as\":\"x\"}",
+        "{\"do\":\"seek\",\"stream\":\"w\",\"position\":-0}",
+        "{\"do\":\"seek\",\"stream\":\"w\",\"position\":-1}",
+        "{\"do\":\"seek\",\"stream\":\"w\",\"position\":1.0}",
+        "{\"do\":\"seek\",\"stream\":\"w\",\"position\":1e0}",
+        "{\"do\":\"seek\",\"stream\":\"w\",\"position\":9007199254740992}",
+        "{\"do\":\"seek\",\"stream\":\"w\",\"position\":18446744073709551616}",
+        "{\"do\":\"write\",\"stream\":\"w\",\"data\":{}}",
+        "{\"do\":\"write\",\"stream\":\"w\",\"data\":{\"hex\":\"0\"}}",
+        "{\"do\":\"write\",\"stream\":\"w\",\"data\":{\"hex\":\"0g\"}}",
+        "{\"do\":\"write\",\"stream\":\"w\",\"data\":{\"hex\":\"00\",\"fill\":0}}",
+        "{\"do\":\"write\",\"stream\":\"w\",\"data\":{\"fill\":256,\"count\":1}}",
+        "{\"do\":\"write\",\"stream\":\"w\",\"data\":{\"fill\":0,\"count\":16777217}}",
+        "{\"do\":\"write\",\"stream\":\"w\",\"data\":{\"fill\":0}}",
+        "{\"do\":\"write\",\"stream\":\"w\",\"data\":\"x\",\"position\":null}",
+        "{\"do\":\"slice\",\"snapshot\":\"s\",\"at\":0,\"len\":65537}",
+        "{\"do\":\"syncRead\",\"sync\":\"h\",\"len\":65537}",
+        "{\"do\":\"createSyncAccessHandle\",\"file\":\"f\",\"mode\":\"read\",\"as\":\"h\"}",
+        "{\"do\":\"estimate\",\"bucket\":\"x\"}",
+    ];
+    for step in bad {
+        assert_eq!(rt;
+            step_refusal(rt.alloc(), step)?,
+            Some(ScriptRefusal::BadShape(1, 1)),
+            "{step}"
+        );
+    }
+    let second = "{\"do\":\"estimate\"},{\"do\":\"fly\",\"x\":1}";
+    assert_eq!(rt;
+        step_refusal(rt.alloc(), second)?,
+        Some(ScriptRefusal::UnknownStep(1, 2))
+    );
+    Ok(())
+}
+
+// A text so many times, with commas between.
+fn times(alloc: Global, text: &str, count: usize) -> Result<String, AllocError> {
+    let mut all = String::new(alloc);
+    for place in 0..count {
+        if place > 0 {
+            all.push(',')?;
+        }
+        all.push_str(text)?;
+    }
+    Ok(all)
+}
+
+#[test]
+fn variables_end_at_64_bytes(rt: HostRuntime) -> Result<(), AllocError> {
+    for (count, wanted) in [(64, None), (65, Some(ScriptRefusal::BadShape(1, 1)))] {
+        let mut name = String::new(rt.alloc());
+        for _ in 0..count {
+            name.push('v')?;
+        }
+        let step = format!(in rt.alloc(); "{{\"do\":\"close\",\"stream\":\"{}\"}}", name.as_str())?;
+        assert_eq!(rt; step_refusal(rt.alloc(), step.as_str())?, wanted, "{count}");
+    }
+    Ok(())
+}
+
+#[test]
+fn too_much_is_refused_last(rt: HostRuntime) -> Result<(), AllocError> {
+    let many = Some(ScriptRefusal::TooMany);
+    for (count, wanted) in [(20_000, None), (20_001, many)] {
+        let steps = times(rt.alloc(), "{\"do\":\"estimate\"}", count)?;
+        assert_eq!(rt;
+            step_refusal(rt.alloc(), steps.as_str())?,
+            wanted,
+            "{count} steps"
+        );
+    }
+    let full = "{\"do\":\"write\",\"stream\":\"w\",\"data\":{\"fill\":0,\"count\":16777216}}";
+    let read = "{\"do\":\"syncRead\",\"sync\":\"h\",\"len\":1}";
+    let four = times(rt.alloc(), full, 4)?;
+    assert_eq!(rt; step_refusal(rt.alloc(), four.as_str())?, None);
+    let more = format!(in rt.alloc(); "{},{read}", four.as_str())?;
+    assert_eq!(rt; step_refusal(rt.alloc(), more.as_str())?, many);
+    let fly = format!(in rt.alloc(); "{},{{\"do\":\"fly\"}}", more.as_str())?;
+    assert_eq!(rt;
+        step_refusal(rt.alloc(), fly.as_str())?,
+        Some(ScriptRefusal::UnknownStep(1, 6))
+    );
+    for (count, wanted) in [(64, None), (65, many)] {
+        let agents = times(rt.alloc(), "{\"origin\":\"data:,x\",\"steps\":[]}", count)?;
+        let text = format!(in rt.alloc(); "{{\"agents\":[{}]}}", agents.as_str())?;
+        assert_eq!(rt;
+            refusal(rt.alloc(), text.as_str()),
+            wanted,
+            "{count} agents"
+        );
+    }
+    Ok(())
+}
+
+// What a script of two agents says: per agent its key, its grant and its number of steps, and the bytes that are written.
+fn told(alloc: Global, script: &Script) -> Result<String, AllocError> {
+    let mut text = String::new(alloc);
+    for agent in script.agents() {
+        text.push_str(agent.key().map_or("none", |key| key.as_str()))?;
+        text.push_str(if agent.grant() { " granted" } else { " plain" })?;
+        for step in agent.steps() {
+            match step {
+                Step::Write {
+                    stream,
+                    bytes,
+                    position,
+                } => {
+                    let bytes = bytes.to_bytes(alloc)?;
+                    let place = position.unwrap_or(99);
+                    let written = format!(in alloc;
+                        " {} {:?} {place}",
+                        stream.as_str(),
+                        bytes.as_slice()
+                    )?;
+                    text.push_str(written.as_str())?;
+                }
+                _ => text.push_str(" other")?,
+            }
+        }
+        text.push('\n')?;
+    }
+    Ok(text)
+}
+
+#[test]
+fn scripts_keep_what_they_say(rt: HostRuntime) -> Result<(), AllocError> {
+    let text =
+        "{\"agents\":[{\"origin\":\"https://A.example:443/\",\"grants\":[\"persistent-storage\"],\"steps\":[\
+        {\"do\":\"write\",\"stream\":\"w\",\"data\":\"hé\"},\
+        {\"do\":\"write\",\"stream\":\"v\",\"data\":{\"hex\":\"0aFF\"},\"position\":7},\
+        {\"do\":\"write\",\"stream\":\"v\",\"data\":{\"fill\":65,\"count\":2}}]},\
+        {\"origin\":\"data:,x\",\"grants\":[],\"steps\":[{\"do\":\"estimate\"}]}]}";
+    match read_script(rt.alloc(), text.as_bytes()) {
+        Ok(script) => {
+            let wanted =
+                "https://a.example granted w [104, 195, 169] 99 v [10, 255] 7 v [65, 65] 99\nnone plain other\n";
+            assert_eq!(rt; told(rt.alloc(), &script)?.as_str(), wanted);
+        }
+        Err(refusal) => assert!(rt; false, "{refusal:?}"),
+    }
+    Ok(())
+}
