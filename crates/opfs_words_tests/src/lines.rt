@@ -1,23 +1,14 @@
 //! Lines of transcripts, and status lines.
 
 use opfs_base::{Bytes, Key, Kind, Locator, Name, Path, Text, is_valid_name};
-use opfs_hist::{Entry, History, Op, Pending, Refusal, Reply, Room, Word};
+use opfs_hist::{Entry, History, Op, Pending, Refusal, Reply, Room};
 use opfs_locks::LockValue;
-use opfs_print::{BadImage, BadScript, End, line, status_line, transcript};
+use opfs_print::{BadImage, BadScript, End, line, reply_text, status_line, transcript};
 use std::alloc::{AllocError, Global};
 
-// The line of an entry of agent 1.
-fn line_of(alloc: Global, number: u32, op: Op, reply: Reply) -> Result<Vec<u8>, AllocError> {
-    let mut into = Vec::new(alloc);
-    let entry = Entry {
-        agent: 1,
-        number,
-        op,
-        reply,
-        turn: true,
-    };
-    line(alloc, &entry, &mut into)?;
-    Ok(into)
+// Whether a reply is printed so.
+fn shows(alloc: Global, reply: Reply, wanted: &str) -> Result<bool, AllocError> {
+    Ok(reply_text(alloc, &reply)?.as_str() == wanted)
 }
 
 #[test]
@@ -46,127 +37,95 @@ fn refusals_are_printed_with_what_they_carry(rt: HostRuntime) -> Result<(), Allo
         (Refusal::Unbound, "Unbound"),
     ];
     for (refusal, text) in cases {
-        let printed = line_of(rt.alloc(), 4, Op::Close { row: 1 }, Reply::No(refusal))?;
-        let wanted = format!(in rt.alloc(); "1.4 close {text}\n")?;
-        assert_eq!(rt; printed.as_slice(), wanted.as_bytes(), "{text}");
+        assert!(rt; shows(rt.alloc(), Reply::No(refusal), text)?, "{text}");
     }
     Ok(())
+}
+
+// The bytes that were read.
+fn read(alloc: Global, bytes: &[u8]) -> Result<Reply, AllocError> {
+    Ok(Reply::Read(Bytes::copy_of(alloc, bytes)?))
 }
 
 #[test]
 fn values_are_printed_behind_ok(rt: HostRuntime) -> Result<(), AllocError> {
     let alloc = rt.alloc();
-    let cases = [
-        (Reply::Done, "ok"),
-        (Reply::Length(5), "ok 5"),
-        (Reply::Flag(true), "ok true"),
-        (Reply::Flag(false), "ok false"),
-        (Reply::Last, "ok end"),
-        (Reply::NoPath, "ok null"),
-        (
+    assert!(rt; shows(alloc, Reply::Done, "ok")?);
+    assert!(rt; shows(alloc, Reply::Length(5), "ok 5")?);
+    assert!(rt; shows(alloc, Reply::Flag(true), "ok true")?);
+    assert!(rt; shows(alloc, Reply::Flag(false), "ok false")?);
+    assert!(rt; shows(alloc, Reply::Last, "ok end")?);
+    assert!(rt; shows(alloc, Reply::NoPath, "ok null")?);
+    assert!(rt;
+        shows(
+            alloc,
             Reply::FileInfo(11, 1_700_000_000_000),
-            "ok 11 1700000000000",
-        ),
-        (Reply::Estimate(8192, 8192), "ok 8192 8192"),
-        (Reply::Read(Bytes::copy_of(alloc, b"")?), "ok 0"),
-        (
-            Reply::Read(Bytes::copy_of(alloc, b"cd\x00")?),
-            "ok 3 636400",
-        ),
-        (Reply::Names(Path::root(alloc)), "ok []"),
-    ];
-    for (reply, text) in cases {
-        let printed = line_of(alloc, 1, Op::End, reply)?;
-        let wanted = format!(in alloc; "1.1 end {text}\n")?;
-        assert_eq!(rt; printed.as_slice(), wanted.as_bytes(), "{text}");
-    }
+            "ok 11 1700000000000"
+        )?
+    );
+    assert!(rt; shows(alloc, Reply::Estimate(8192, 4096), "ok 8192 4096")?);
+    assert!(rt; shows(alloc, read(alloc, b"")?, "ok 0")?);
+    assert!(rt; shows(alloc, read(alloc, b"cd\x00")?, "ok 3 636400")?);
+    assert!(rt; shows(alloc, Reply::Names(Path::root(alloc)), "ok []")?);
     Ok(())
 }
 
-// The reply that names a child and the one that has it as a path.
-fn named(alloc: Global, text: &str) -> Result<(Vec<u8>, Vec<u8>), AllocError> {
-    if !is_valid_name(text) {
-        return Ok((Vec::new(alloc), Vec::new(alloc)));
+// Whether a name is printed so, as a child and, twice, as a path.
+fn shows_name(alloc: Global, name: &str, wanted: &str) -> Result<bool, AllocError> {
+    if !is_valid_name(name) {
+        return Ok(false);
     }
-    let name = Name::read(alloc, text)?;
+    let name = Name::read(alloc, name)?;
     let path = Path::root(alloc).child(alloc, &name)?.child(alloc, &name)?;
-    let child = line_of(
-        alloc,
-        1,
-        Op::Unbound { word: Word::Next },
-        Reply::Child(Kind::File, name),
-    )?;
-    let names = line_of(
-        alloc,
-        1,
-        Op::Unbound {
-            word: Word::Resolve,
-        },
-        Reply::Names(path),
-    )?;
-    Ok((child, names))
+    let child = format!(in alloc; "ok directory {wanted}")?;
+    let names = format!(in alloc; "ok [{wanted},{wanted}]")?;
+    let is_child = shows(alloc, Reply::Child(Kind::Directory, name), child.as_str())?;
+    Ok(is_child && shows(alloc, Reply::Names(path), names.as_str())?)
 }
 
 #[test]
 fn names_are_printed_as_json(rt: HostRuntime) -> Result<(), AllocError> {
-    let cases = [
-        ("b", "\"b\""),
-        ("a\"\\\n\u{1}é", "\"a\\\"\\\\\\n\\u0001é\""),
-    ];
-    for (name, text) in cases {
-        let (child, names) = named(rt.alloc(), name)?;
-        let wanted = format!(in rt.alloc(); "1.1 next ok file {text}\n")?;
-        assert_eq!(rt; child.as_slice(), wanted.as_bytes());
-        let wanted = format!(in rt.alloc(); "1.1 resolve ok [{text},{text}]\n")?;
-        assert_eq!(rt; names.as_slice(), wanted.as_bytes());
+    assert!(rt; shows_name(rt.alloc(), "b", "\"b\"")?);
+    assert!(rt; shows_name(rt.alloc(), "a\"\\\n\u{1}é", "\"a\\\"\\\\\\n\\u0001é\"")?);
+    Ok(())
+}
+
+// Adds an entry of an agent to a history that is short.
+fn put(history: &mut History, alloc: Global, agent: u32, op: Op) -> Result<(), AllocError> {
+    let entry = Entry {
+        agent,
+        number: 3,
+        op,
+        reply: Reply::Done,
+        turn: true,
+    };
+    let mut pending = Pending::make(alloc);
+    pending.add(Room::make(alloc)?, entry);
+    let sum = pending.sum();
+    if history.len() < 9 && sum.entries == 1 {
+        history.take_in(&mut pending);
     }
     Ok(())
 }
 
-fn entry(number: u32, op: Op, reply: Reply) -> Entry {
-    Entry {
-        agent: 2,
-        number,
-        op,
-        reply,
-        turn: false,
-    }
-}
-
-// A history of an eviction, a wait and an await, behind three pending entries.
-fn history(alloc: Global) -> Result<History, AllocError> {
-    let mut pending = Pending::make(alloc);
-    let dir = Locator {
-        key: Key::of_text(alloc, "https://a.example")?,
+fn root_of(alloc: Global, key: &str) -> Result<Locator, AllocError> {
+    Ok(Locator {
+        key: Key::of_text(alloc, key)?,
         path: Path::root(alloc),
         kind: Kind::Directory,
-    };
-    let room = (Room::make(alloc)?, Room::make(alloc)?, Room::make(alloc)?);
-    pending.add(room.0, entry(1, Op::Values { dir }, Reply::Done));
-    pending.add(room.1, entry(2, Op::Moment { ms: 7 }, Reply::Done));
-    pending.add(
-        room.2,
-        entry(
-            3,
-            Op::Wait {
-                tag: Text::copy_of(alloc, "t")?,
-            },
-            Reply::Done,
-        ),
-    );
+    })
+}
+
+// A history of a call, a wait, an eviction and an end.
+fn history(alloc: Global) -> Result<History, AllocError> {
     let mut history = History::make(alloc);
-    history.take_in(&mut pending);
+    let dir = root_of(alloc, "https://a.example")?;
+    put(&mut history, alloc, 2, Op::Values { dir })?;
+    let tag = Text::copy_of(alloc, "t")?;
+    put(&mut history, alloc, 2, Op::Wait { tag })?;
     let key = Key::of_text(alloc, "https://b.example#x")?;
-    let gone = key.copy(alloc)?;
-    let evict = Entry {
-        agent: 0,
-        number: 0,
-        op: Op::Evict { key },
-        reply: Reply::Gone(gone),
-        turn: true,
-    };
-    pending.add(Room::make(alloc)?, evict);
-    history.take_in(&mut pending);
+    put(&mut history, alloc, 0, Op::Evict { key })?;
+    put(&mut history, alloc, 1, Op::End)?;
     Ok(history)
 }
 
@@ -175,26 +134,15 @@ fn transcripts_leave_waits_out(rt: HostRuntime) -> Result<(), AllocError> {
     let history = history(rt.alloc())?;
     let mut text = Vec::from_slice(rt.alloc(), b"> ")?;
     transcript(rt.alloc(), &history, &mut text)?;
-    let wanted = b"> 2.1 values ok\n2.2 moment ok\nevict https://b.example#x\n";
+    let wanted = b"> 2.3 values ok\nevict https://b.example#x\n1.3 end ok\n";
     assert_eq!(rt; text.as_slice(), &wanted[..]);
     assert_eq!(rt; history.len(), 4);
     assert!(rt; !history.is_empty());
-    let wanted = [1, 2, 3, 0];
-    for (entry, number) in history.entries(rt.alloc())?.iter().zip(wanted.iter()) {
-        assert_eq!(rt; entry.number, *number);
+    let mut alone = Vec::new(rt.alloc());
+    for entry in history.entries(rt.alloc())? {
+        line(rt.alloc(), entry, &mut alone)?;
     }
-    Ok(())
-}
-
-#[test]
-fn pending_entries_add_up(rt: HostRuntime) -> Result<(), AllocError> {
-    let alloc = rt.alloc();
-    let mut pending = Pending::make(alloc);
-    let first = (Room::make(alloc)?, Room::make(alloc)?);
-    pending.add(first.0, entry(1, Op::Moment { ms: 7 }, Reply::Done));
-    pending.add(first.1, entry(2, Op::Moment { ms: 5 }, Reply::Done));
-    let sum = pending.sum();
-    assert_eq!(rt; (sum.entries, sum.rows, sum.moment), (2, 0, Some(5)));
+    assert_eq!(rt; alone.as_slice(), &wanted[2..]);
     Ok(())
 }
 
