@@ -1,6 +1,6 @@
 -- What the calls of a disk in memory do to its images.
 use Rattle.std.proofs.Common.{◌≡◌, ℕ, zero, suc, ◌+◌, ◌-◌, ◌^◌, ◌<◌, ◌≤◌, ◌⊎◌, min, Bool, true, false, cond, ◌||◌, List, [], ◌∷◌, ◌++◌, length, take, refl, sym, ◌∙◌, ap, subst, inl, inr, arith, Result, Ok, Err, add-zero}
-use Rattle.std.specs.Prelude.{slice_index, slice_set, IsOk, OnOk, OnErr}
+use Rattle.std.specs.Prelude.{slice_index, slice_set, is_ok, IfOk, MatchResult, OnOk, OnErr}
 use Rattle.std.proofs.lemmas.Bool.{cases_lt, both_ways}
 use Rattle.std.proofs.lemmas.Result.{on_ok_weaker}
 use Rattle.std.proofs.lemmas.List.{length-append, length-set, get_or-set_same, take_all, take-append-le, append-nil, ext_get_or}
@@ -262,3 +262,17 @@ read_bytes d at old new r replied found = read_if (call_fails d 0) r replied fou
     read_if false r replied found =
         let size : length new ≡ length old = ap length found ∙ length-window (content_of d) at (length old) in
         subst (λ r. OnOk r (new ≡ window (content_of d) at (length new))) (sym replied) (found ∙ ap (λ n. window (content_of d) at n) (sym size))
+
+-- a disk that did nothing yet has its content as its one image
+pub fresh_image : (d : Drive) → d.log ≡ [] → (c : List ℕ) → LeftSince d 0 c → c ≡ content_of d
+fresh_image d none c left =
+    let start : Platter = record { content = d.first; synced = d.first; written = [] } in
+    let log : take left.at d.log ≡ [] = ap (λ l. take left.at l) none ∙ take_all left.at [] (omega arith) in
+    let image : IsImage start c = subst (λ l. IsImage (replayed d.first l) c) log left.image in
+    only_content d.first c image ∙ sym (ap (λ l. (replayed d.first l).content) none)
+
+-- what is said of Ok goes through `map_err`
+pub through_map_err : {T E F : Type 0} (r : Result T E) (s : Result T F) (P : T → Type 0) (Q : E → Type 0) → MatchResult r (λ x. s ≡ Ok x) Q → is_ok s ≡ is_ok r → IfOk r P → IfOk s P
+through_map_err (Ok x) s P Q e same p = subst (λ s. IfOk s P) (sym e) p
+through_map_err (Err d) (Ok y) P Q e same p = absurd (cc)
+through_map_err (Err d) (Err f) P Q e same p = tt {0}

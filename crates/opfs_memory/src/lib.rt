@@ -3,11 +3,13 @@
 
 mod bytes;
 mod mem_disk;
+mod mem_host;
 mod ram_disk;
 mod sink;
 mod source;
 
 pub use mem_disk::MemDisk;
+pub use mem_host::MemHost;
 pub use ram_disk::RamDisk;
 pub use sink::MemSink;
 pub use source::MemSource;

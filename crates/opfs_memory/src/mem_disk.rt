@@ -118,6 +118,13 @@ impl MemDisk {
         Ok(image)
     }
 
+    /// How many calls failed.
+    pub fn faults(&self) -> u64
+        ensures { result ≡ self.now.faults }
+    {
+        self.faults
+    }
+
     fn has_room(&self, bytes: usize) -> bool
         ensures { result ≡ not (passes_room self.now bytes) }
     {
