@@ -139,6 +139,21 @@ fn format_1_is_begun_and_kept(rt: HostRuntime) -> Result<(), Fail> {
 }
 
 #[test]
+fn bytes_are_read_beside_the_areas(rt: HostRuntime) -> Result<(), Fail> {
+    let alloc = rt.alloc();
+    let mut bytes = [0; 32];
+    bytes[14] = 0xA5;
+    bytes[15] = 1;
+    bytes[28] = 3;
+    let disk = disk_of(alloc, &bytes, &[])?;
+    let mut journal = Journal::begin(alloc, disk, areas_of_both()).map_err(|e| e.1)?;
+    let mut into = [0; 1];
+    journal.get(28, &mut into)?;
+    assert_eq!(rt; into, [3]);
+    Ok(())
+}
+
+#[test]
 fn bytes_are_put_beside_the_areas(rt: HostRuntime) -> Result<(), Fail> {
     let alloc = rt.alloc();
     let mut bytes = [0; 32];
@@ -146,10 +161,10 @@ fn bytes_are_put_beside_the_areas(rt: HostRuntime) -> Result<(), Fail> {
     bytes[15] = 1;
     let disk = disk_of(alloc, &bytes, &[])?;
     let mut journal = Journal::begin(alloc, disk, areas_of_both()).map_err(|e| e.1)?;
-    let mut into = [0; 1];
     journal.put(28, &[3])?;
-    journal.get(28, &mut into)?;
-    assert_eq!(rt; into, [3]);
+    let disk = journal.give_back();
+    assert_eq!(rt; disk.content().len(), 32);
+    assert_eq!(rt; disk.content()[28], 3);
     Ok(())
 }
 
