@@ -7,7 +7,7 @@ ghost use Rattle.std.specs.Option.{option_copied};
 ghost use Rattle.serde_json.specs.View.{view};
 ghost use Rattle.opfs_base.specs.Texts.{same_text};
 ghost use Rattle.opfs_script.specs.Members.{has_only, text, text_or, flag, whole, number, optional_number, read_only_named, read_only};
-ghost use Rattle.opfs_script.specs.Faults.{Reads};
+ghost use Rattle.opfs_script.specs.Faults.{Reads, Finds};
 
 use crate::fault::Fault;
 use opfs_base::Text;
@@ -82,7 +82,7 @@ fn copied(alloc: Global, text: &str) -> Result<Text, Fault>
 
 /// A truth value, false where there is no such member.
 pub fn flag(value: &Value, name: &str) -> Result<bool, Fault>
-    ensures { Reads result (flag name.now (view value.now)) }
+    ensures { Finds result (flag name.now (view value.now)) }
 {
     match value.get(name) {
         Some(member) => found(member.as_bool()),
@@ -92,14 +92,14 @@ pub fn flag(value: &Value, name: &str) -> Result<bool, Fault>
 
 // What was found, or a fault of shape.
 fn found<T: Drop>(value: Option<T>) -> Result<T, Fault>
-    ensures { Reads result value }
+    ensures { Finds result value }
 {
     value.ok_or(Fault::Shape)
 }
 
 /// A number.
 pub fn number(value: &Value, name: &str) -> Result<u64, Fault>
-    ensures { Reads result (number name.now (view value.now)) }
+    ensures { Finds result (number name.now (view value.now)) }
 {
     match value.get(name) {
         Some(member) => found(member.as_u64()),
@@ -109,7 +109,7 @@ pub fn number(value: &Value, name: &str) -> Result<u64, Fault>
 
 /// A number, if there is such a member.
 pub fn optional_number(value: &Value, name: &str) -> Result<Option<u64>, Fault>
-    ensures { Reads result (optional_number name.now (view value.now)) }
+    ensures { Finds result (optional_number name.now (view value.now)) }
 {
     match value.get(name) {
         Some(member) => Ok(Some(found(member.as_u64())?)),
@@ -119,7 +119,7 @@ pub fn optional_number(value: &Value, name: &str) -> Result<Option<u64>, Fault>
 
 /// The mode of an access handle: whether it only reads.
 pub fn read_only(value: &Value, name: &str) -> Result<bool, Fault>
-    ensures { Reads result (read_only name.now (view value.now)) }
+    ensures { Finds result (read_only name.now (view value.now)) }
 {
     match value.get(name) {
         Some(member) => match member.as_str() {
