@@ -151,8 +151,8 @@ pub fn same_origin(a: &Key, b: &Key) -> bool
     origin_of(a.as_bytes()) == origin_of(b.as_bytes())
 }
 
-// The bytes before the first `#`.
-fn origin_of(unit: &[u8]) -> &[u8]
+/// The key of a unit's origin: the bytes before the first `#`.
+pub fn origin_of(unit: &[u8]) -> &[u8]
     ensures { result.now ≡ origin_of unit.now }
 {
     match hash_place(unit) {

@@ -12,7 +12,7 @@ pub mod words;
 
 pub use bytes::Bytes;
 pub use extents::{Extent, Extents};
-pub use key::{Key, KeyRefusal, UnitRefusal, is_bucket_name, same_origin};
+pub use key::{Key, KeyRefusal, UnitRefusal, is_bucket_name, origin_of, same_origin};
 pub use locator::{Kind, Locator, resolve, same};
 pub use name::{Name, is_valid_name};
 pub use path::Path;

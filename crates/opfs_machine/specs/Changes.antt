@@ -1,6 +1,8 @@
 -- What a history does to what is stored for good. This project's own.
 use Rattle.std.specs.Prelude.{ℕ, ◌+◌, Bool, true, false, not, ◌&&◌, if◌then◌else◌, List, [], ◌∷◌, ◌++◌, map, fold, filter, Option, Some, None}
 use Rattle.std.specs.FinMap.Entries.{put}
+use Rattle.std.specs.Ordering.{nat_cmp}
+use Rattle.std.specs.Cmp.Lexicographic.{slice_cmp}
 use Rattle.opfs_base.specs.Texts.{Text}
 use Rattle.opfs_base.specs.Places.{Place, place_cmp, place_of, child, is_within}
 use Rattle.opfs_base.specs.Units.{unit_of}
@@ -16,9 +18,10 @@ use Rattle.opfs_machine.specs.declared.state.Row.TheVariants as row
 use Rattle.opfs_machine.specs.declared.state.State.{State}
 use Rattle.opfs_machine.specs.Agents.{agent_of, own_of, open_handle}
 use Rattle.opfs_machine.specs.Contents.{in_bytes}
-use Rattle.opfs_machine.specs.Effects.{insert_text, moment_of}
+use Rattle.opfs_machine.specs.Effects.{moment_of}
 use Rattle.opfs_machine.specs.Histories.{after_entry}
 use Rattle.opfs_machine.specs.Openings.{Opening, Map, Stored, folder, document, begun}
+use Rattle.opfs_machine.specs.Ordered.{insert_by}
 use Rattle.opfs_machine.specs.Rows.{row_at, file_at}
 use Rattle.opfs_machine.specs.Rulings.{is_read_write}
 use Rattle.opfs_machine.specs.Steps.{is_refusal}
@@ -102,7 +105,7 @@ changed m (make_directory place) = stored_at m place folder
 changed m (make_file place stamp) = stored_at m place (document [] stamp)
 changed m (remove place) = stored_without m place
 changed m (content place stamp bytes) = stored_at m place (document bytes stamp)
-changed m (persist unit) = record m { persistent = insert_text unit m.persistent }
+changed m (persist unit) = record m { persistent = insert_by (slice_cmp nat_cmp) unit m.persistent }
 changed m (evict unit) = stored_without m (unit, [])
 
 -- What is stored after a list of changes.

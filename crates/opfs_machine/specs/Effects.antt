@@ -1,8 +1,7 @@
 -- What each call changes where it is not refused. It asks nothing: the ruling went before.
-use Rattle.std.specs.Prelude.{ℕ, ◌+◌, ◌-◌, min, Bool, false, if◌then◌else◌, List, [], ◌∷◌, ◌++◌, length, Option, Some, None, unwrap_or}
+use Rattle.std.specs.Prelude.{ℕ, ◌+◌, ◌-◌, min, Bool, false, if◌then◌else◌, [], ◌∷◌, ◌++◌, length, Option, Some, None, unwrap_or}
 use Rattle.std.specs.Ordering.{nat_cmp}
 use Rattle.std.specs.Cmp.Lexicographic.{slice_cmp}
-use Rattle.std.specs.declared.cmp.Ordering.TheVariants.{Less, Equal, Greater}
 use Rattle.opfs_base.specs.Texts.{Text}
 use Rattle.opfs_base.specs.Places.{Place, place_of, child}
 use Rattle.opfs_base.specs.Units.{unit_of}
@@ -23,6 +22,7 @@ use Rattle.opfs_machine.specs.declared.state.Sizes.{Sizes}
 use Rattle.opfs_machine.specs.declared.state.State.{State}
 use Rattle.opfs_machine.specs.Agents.{agent_of, with_agent, own_of, with_own, adds_own, open_stream, open_handle, party_of}
 use Rattle.opfs_machine.specs.Contents.{Contents}
+use Rattle.opfs_machine.specs.Ordered.{insert_by}
 use Rattle.opfs_machine.specs.Rows.{row_at, with_row, file_at, with_file, without, children_of, new_file}
 use Rattle.opfs_machine.specs.Rulings.{start_of, size_written, reserve_for, want_of, is_read_write, first_reserve}
 use Rattle.opfs_machine.specs.Sums.{reserve_of}
@@ -59,11 +59,12 @@ undone f = record f { present = f.durable; stamp = f.durable_stamp }
 abbrev pub replaced : {F : Type 0} → F → ℕ → FileRow F → FileRow F
 replaced content stamp f = record f { present = content; stamp = stamp; durable = content; durable_stamp = stamp }
 
-abbrev pub in_mode : {F : Type 0} → Mode → (FileRow F → FileRow F) → FileRow F → FileRow F
-in_mode m change f = if is_read_write m then change f else f
+-- The state with a file changed by an access handle that may write; a read-only one changes nothing.
+abbrev pub with_written : {F R : Type 0} → State F R → Mode → Place → (FileRow F → FileRow F) → State F R
+with_written s m file change = if is_read_write m then with_file s file change else s
 
 -- The state with a row of the agent changed by what it was.
-abbrev pub with_changed : {F R : Type 0} → State F R → ℕ → ℕ → (R → R) → State F R
+unfoldable pub with_changed : {F R : Type 0} → State F R → ℕ → ℕ → (R → R) → State F R
 with_changed s k n change = elim (own_of (agent_of s k) n) [ Some r ↦ with_own s k n (change r) | None ↦ s ]
 
 -- getDirectory makes a missing root.
@@ -93,7 +94,7 @@ abbrev pub closes_stream : {F R : Type 0} → Contents F R → State F R → Siz
 closes_stream c s z k n None = s
 closes_stream c s z k n (Some w) =
     with_own
-    (with_file s w.file (λ f. unlocked (replaced (content_of c (own_of (agent_of s k) n) z.size) (moment_of s k) f)))
+    (with_file (with_file s w.file (replaced (content_of c (own_of (agent_of s k) n) z.size) (moment_of s k))) w.file unlocked)
     k n c.closed_stream
 
 -- abort of a stream.
@@ -102,7 +103,7 @@ aborts_stream c s k n None = s
 aborts_stream c s k n (Some w) = with_own (with_file s w.file unlocked) k n c.closed_stream
 
 -- A write or truncate of an access handle: its file has the new content at once, and the handle this cursor.
-abbrev pub changes_file : {F R : Type 0} → Contents F R → State F R → ℕ → ℕ → (F → F) → ℕ → ℕ → Option HandleOutline → State F R
+unfoldable pub changes_file : {F R : Type 0} → Contents F R → State F R → ℕ → ℕ → (F → F) → ℕ → ℕ → Option HandleOutline → State F R
 changes_file c s k n change cursor size None = s
 changes_file c s k n change cursor size (Some h) =
     with_changed
@@ -112,33 +113,27 @@ changes_file c s k n change cursor size (Some h) =
 -- flush of an access handle; a read-only one changes nothing.
 abbrev pub flushes : {F R : Type 0} → Contents F R → State F R → Sizes → ℕ → ℕ → Option HandleOutline → State F R
 flushes c s z k n None = s
-flushes c s z k n (Some h) = with_changed (with_file s h.file (in_mode h.mode flushed)) k n (λ r. c.moved r z.position 0)
+flushes c s z k n (Some h) = with_changed (with_written s h.mode h.file flushed) k n (λ r. c.moved r z.position 0)
 
 -- close of an access handle; a closed one changes nothing.
 abbrev pub closes_handle : {F R : Type 0} → Contents F R → State F R → ℕ → ℕ → Option HandleOutline → State F R
 closes_handle c s k n None = s
-closes_handle c s k n (Some h) = with_own (with_file s h.file (λ f. unlocked (in_mode h.mode flushed f))) k n c.closed_handle
+closes_handle c s k n (Some h) = with_own (with_file (with_written s h.mode h.file flushed) h.file unlocked) k n c.closed_handle
 
 -- What a script's end does to an open access handle.
 abbrev pub discards : {F R : Type 0} → Contents F R → State F R → ℕ → ℕ → Option HandleOutline → State F R
 discards c s k n None = s
-discards c s k n (Some h) = with_own (with_file s h.file (λ f. unlocked (in_mode h.mode undone f))) k n c.closed_handle
+discards c s k n (Some h) = with_own (with_file (with_written s h.mode h.file undone) h.file unlocked) k n c.closed_handle
 
 -- Where a read of an access handle leaves the cursor.
 abbrev pub cursor_after_read : Sizes → ℕ → Option ℕ → ℕ
 cursor_after_read z len at = min z.size (start_of z at + min len (z.size - start_of z at))
 
--- The texts with one more, in order.
-abbrev pub insert_text : Text → List Text → List Text
-insert_text t [] = t ∷ []
-insert_text t (u ∷ us) =
-    elim (slice_cmp nat_cmp t u) [ Less ↦ t ∷ u ∷ us | Equal ↦ u ∷ us | Greater ↦ u ∷ insert_text t us ]
-
 -- persist: with the grant, the unit is persistent.
 abbrev pub persists : {F R : Type 0} → State F R → Text → Bool → Option Text → State F R
 persists s bucket grant None = s
 persists s bucket grant (Some origin) =
-    if grant then record s { persistent = insert_text (unit_of origin bucket) s.persistent } else s
+    if grant then record s { persistent = insert_by (slice_cmp nat_cmp) (unit_of origin bucket) s.persistent } else s
 
 -- The state once an agent waits for a tag, or for none.
 abbrev pub with_waiting : {F R : Type 0} → State F R → ℕ → Option Text → State F R

@@ -1,5 +1,5 @@
 -- Which histories are legal. A history is a list of entries in groups: evictions, often none, and then one call.
-use Rattle.std.specs.Prelude.{◌≡◌, ℕ, Bool, true, false, not, ◌&&◌, ◌||◌, List, [], ◌∷◌, ◌++◌, fold, Option, Some, None, IsTrue}
+use Rattle.std.specs.Prelude.{◌≡◌, ◌⊎◌, ℕ, Bool, true, false, not, ◌&&◌, ◌||◌, List, [], ◌∷◌, ◌++◌, fold, Option, Some, None, IsTrue}
 use Rattle.opfs_base.specs.Texts.{Text, same_text, same_texts}
 use Rattle.opfs_base.specs.Places.{Place, place_of}
 use Rattle.opfs_base.specs.Units.{origin_of}
@@ -7,6 +7,7 @@ use Rattle.opfs_base.specs.declared.locator.Locator.{Locator}
 use Rattle.opfs_hist.specs.declared.entry.Entry.{Entry}
 use Rattle.opfs_hist.specs.declared.op.Op.{Op}
 use Rattle.opfs_hist.specs.declared.op.Op.TheVariants.{GetDirectory, GetDirectoryHandle, GetFileHandle, RemoveEntry, Values, Next, GetFile, Slice, CreateWritable, Write, Seek, Truncate, Close, Abort, CreateSyncAccessHandle, SyncRead, SyncWrite, SyncTruncate, SyncGetSize, SyncFlush, SyncClose, Persist, Await, Wait, Discard, End, Evict}
+use Rattle.opfs_hist.specs.declared.reply.Refusal.TheVariants as refusal
 use Rattle.opfs_hist.specs.declared.reply.Reply.{Reply}
 use Rattle.opfs_hist.specs.declared.reply.Reply.TheVariants as reply
 use Rattle.opfs_machine.specs.declared.own.HandleOutline.{HandleOutline}
@@ -17,7 +18,7 @@ use Rattle.opfs_machine.specs.Agents.{agent_of, own_of, open_handle, has_open_ro
 use Rattle.opfs_machine.specs.Contents.{in_bytes}
 use Rattle.opfs_machine.specs.Openings.{Opening, begun}
 use Rattle.opfs_machine.specs.Rulings.{is_read_write}
-use Rattle.opfs_machine.specs.Steps.{step, Outcome, evicted, after_reply, is_fault, is_refusal}
+use Rattle.opfs_machine.specs.Steps.{step, Outcome, evicted, after_reply, is_refusal}
 
 -- Whether a locator is of the agent's own origin.
 abbrev pub is_of_origin : Option Text → Locator → Bool
@@ -119,7 +120,8 @@ IsFront front whole = (rest : List Text) × (whole ≡ front ++ rest)
 
 -- A disk fault in the place of what the call would have answered: it was not refused, and it may need the disk. The
 -- evictions are a front of its victims.
-pub record IsFault (s : State Text Own) (gone : List Text) (k : ℕ) (op : Op) (done : Outcome) : Type 0 where
+pub record IsFault (s : State Text Own) (gone : List Text) (k : ℕ) (op : Op) (answered : Reply) (done : Outcome) : Type 0 where
+  pub told : answered ≡ reply.No refusal.DiskFault
   pub accepted : is_refusal done.answered ≡ false
   pub disk : IsTrue (is_disk_op s k op)
   pub front : IsFront gone done.victims
@@ -130,7 +132,7 @@ pub record IsAnswer (gone : List Text) (answered : Reply) (done : Outcome) : Typ
   pub victims : gone ≡ done.victims
 
 abbrev pub Agrees : State Text Own → List Text → ℕ → Op → Reply → Outcome → Type 0
-Agrees s gone k op answered done = elim (is_fault answered) [ true ↦ IsFault s gone k op done | false ↦ IsAnswer gone answered done ]
+Agrees s gone k op answered done = IsAnswer gone answered done ⊎ IsFault s gone k op answered done
 
 -- A call after some evictions, in the state before these.
 pub record IsCall (s : State Text Own) (gone : List Text) (e : Entry) : Type 0 where

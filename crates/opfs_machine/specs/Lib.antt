@@ -6,6 +6,7 @@ pub mod Effects
 pub mod Histories
 pub mod Machine
 pub mod Openings
+pub mod Ordered
 pub mod OwnRows
 pub mod Replies
 pub mod Rows

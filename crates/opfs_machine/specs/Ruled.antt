@@ -1,5 +1,5 @@
 -- What is answered, or the first refusal that holds. `do` puts the tests in the order in which they are judged.
-use Rattle.std.specs.Prelude.{Bool, if◌then◌else◌, Option, Some, None, Result, Ok, Err}
+use Rattle.std.specs.Prelude.{⊤, Bool, if◌then◌else◌, Option, Some, None, Result, Ok, Err}
 use Rattle.opfs_hist.specs.declared.reply.Refusal.{Refusal}
 
 abbrev pub Ruled : Type 0 → Type 0
@@ -23,3 +23,8 @@ unless test refusal = if test then Ok tt else Err refusal
 abbrev pub some_or : {A : Type 0} → Option A → Refusal → Ruled A
 some_or (Some x) refusal = Ok x
 some_or None refusal = Err refusal
+
+-- One name that opens both to a proof.
+unfoldable pub binding : ⊤
+unfolding ◌>>=◌ ◌>>◌
+binding = tt

@@ -2,7 +2,6 @@
 use Rattle.std.specs.Prelude.{ℕ, ◌+◌, Bool, true, false, List, [], fold, Option, Ok, Err}
 use Rattle.opfs_base.specs.Texts.{Text}
 use Rattle.opfs_hist.specs.declared.op.Op.{Op}
-use Rattle.opfs_hist.specs.declared.reply.Refusal.{Refusal}
 use Rattle.opfs_hist.specs.declared.reply.Refusal.TheVariants as refusal
 use Rattle.opfs_hist.specs.declared.reply.Reply.{Reply}
 use Rattle.opfs_hist.specs.declared.reply.Reply.TheVariants as reply
@@ -39,23 +38,9 @@ abbrev pub is_refusal : Reply → Bool
 is_refusal (reply.No r) = true
 is_refusal r = false
 
-abbrev pub fault_in : Refusal → Bool
-fault_in refusal.DiskFault = true
-fault_in r = false
-
-abbrev pub is_fault : Reply → Bool
-is_fault (reply.No r) = fault_in r
-is_fault r = false
-
 -- What a call changes, by what it answered.
 abbrev pub changed_by : State Text Own → ℕ → Op → Reply → State Text Own
-changed_by s k op answered = elim (is_fault answered) [
-  | true ↦ s
-  | false ↦ elim (is_refusal answered) [
-    | true ↦ refused s k op
-    | false ↦ effect in_bytes s (sizes_of s k op) k op
-  ]
-]
+changed_by s k op answered = elim (is_refusal answered) [ true ↦ refused s k op | false ↦ effect in_bytes s (sizes_of s k op) k op ]
 
 -- The state after a call, the evictions before it being done.
 abbrev pub after_reply : State Text Own → ℕ → Op → Reply → State Text Own

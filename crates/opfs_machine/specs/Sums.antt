@@ -86,11 +86,15 @@ abbrev pub stream_reserve : Text → Option StreamOutline → ℕ
 stream_reserve origin None = 0
 stream_reserve origin (Some w) = if same_text origin (origin_of w.file.0) then w.reserve else 0
 
+-- What an own row keeps of the origin's quota: a stream its reserve.
+unfoldable pub row_reserve : {F R : Type 0} → Contents F R → Text → R → ℕ
+row_reserve c origin r = stream_reserve origin (stream_in (c.outline r))
+
 -- The blocks that an origin uses: those of the present bytes of its units' files, and its streams' reserves.
 abbrev pub usage : {F R : Type 0} → Contents F R → State F R → Text → ℕ
 usage c s origin =
     sum_by (λ e. present_blocks c e.1) (filter (λ e. same_text origin (origin_of e.0.0)) s.rows)
-    + sum_by (λ r. stream_reserve origin (stream_in (c.outline r))) (all_own s)
+    + sum_by (row_reserve c origin) (all_own s)
 
 -- The blocks that are kept for durable bytes and for open rows.
 abbrev pub pool : {F R : Type 0} → Contents F R → State F R → ℕ

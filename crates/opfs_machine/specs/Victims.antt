@@ -1,7 +1,6 @@
 -- Which units are cleared where the pool is too small (Storage: storage pressure; the choice is this project's own).
 use Rattle.std.specs.Prelude.{ℕ, Bool, true, false, not, ◌&&◌, ◌||◌, List, [], ◌∷◌, map, fold, Option, Some, None, option_map, filter}
 use Rattle.std.specs.List.{list_all, filter_map}
-use Rattle.std.specs.FinMap.Entries.{put}
 use Rattle.std.specs.Ordering.{nat_cmp, ordering_then}
 use Rattle.std.specs.Cmp.Lexicographic.{slice_cmp}
 use Rattle.std.specs.declared.cmp.Ordering.{Ordering}
@@ -12,6 +11,7 @@ use Rattle.opfs_machine.specs.declared.state.Row.{Row}
 use Rattle.opfs_machine.specs.declared.state.State.{State}
 use Rattle.opfs_machine.specs.Agents.{last_use}
 use Rattle.opfs_machine.specs.Contents.{Contents}
+use Rattle.opfs_machine.specs.Ordered.{insert_by}
 use Rattle.opfs_machine.specs.Rows.{without, taken_lock, is_root}
 use Rattle.opfs_machine.specs.Sums.{is_persistent, fits_pool}
 use Rattle.std.specs.Prelude.{is_none}
@@ -44,7 +44,7 @@ use_cmp a b = ordering_then (nat_cmp a.0 b.0) (slice_cmp nat_cmp a.1 b.1)
 -- The candidates for a call, the one that was used longest ago first.
 abbrev pub candidates : {F R : Type 0} → State F R → Option Text → List Text
 candidates s caller =
-    map (λ e. e.1) (fold (λ sorted unit. put use_cmp (last_use s (origin_of unit), unit) unit sorted) [] (filter (is_candidate s caller) (root_units s)))
+    map (λ e. e.1) (fold (λ sorted unit. insert_by use_cmp (last_use s (origin_of unit), unit) sorted) [] (filter (is_candidate s caller) (root_units s)))
 
 -- The state without a unit's rows.
 abbrev pub cleared : {F R : Type 0} → State F R → Text → State F R

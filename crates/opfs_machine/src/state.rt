@@ -2,7 +2,7 @@
 
 use crate::many::Many;
 use opfs_base::{Bytes, Key, Path};
-use opfs_locks::FileLock;
+use opfs_locks::LockValue;
 
 /// A unit, and the names from its root down.
 pub type Place = (Key, Path);
@@ -14,8 +14,8 @@ pub struct FileRow<F> {
     pub present: F,
     /// The time stamp of that, in milliseconds.
     pub stamp: u64,
-    /// The lock, and how many hold it.
-    pub lock: FileLock,
+    /// The lock, and how many hold it where it is shared or read-only.
+    pub lock: (LockValue, u32),
     /// What was last stored for good.
     pub durable: F,
     /// The time stamp of that, in milliseconds.

@@ -1,14 +1,14 @@
 //! What variables name.
 
 use crate::hand::Named;
-use opfs_base::Bytes;
+use opfs_base::Text;
 use std::collections::BTreeMap;
 use std::marker::Model;
 
 /// What variables name, seen as the list of variables and what they name, in the order of the variables.
 #[derive(Debug, Drop)]
 pub struct Bindings {
-    map: BTreeMap<Bytes, Named>,
+    map: BTreeMap<Text, Named>,
 }
 
 impl Model for Bindings {
