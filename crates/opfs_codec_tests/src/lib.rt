@@ -1,0 +1,5 @@
+//! Tests of sets of blocks.
+#![tactic(auto)]
+
+#[cfg(test)]
+mod blocks;
