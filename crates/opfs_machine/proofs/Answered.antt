@@ -1,10 +1,13 @@
 -- The state that a call leaves, from what it does one after another.
-use Rattle.std.proofs.Common.{◌≡◌, ℕ, Bool, true, false, List, fold, Option, Some, None, Ok, Err, refl, sym, ap, ◌∙◌}
+use Rattle.std.proofs.Common.{◌≡◌, ℕ, Bool, true, false, List, [], ◌∷◌, ◌++◌, append_assoc, map, fold, Option, Some, None, Ok, Err, refl, sym, ap, ◌∙◌}
 use Rattle.opfs_base.specs.Places.{Place, place_of, resolved}
 use Rattle.opfs_base.specs.Texts.{Text}
+use Rattle.opfs_hist.specs.declared.entry.Entry.{Entry}
 use Rattle.opfs_hist.specs.declared.op.Op.{Op}
 use Rattle.opfs_hist.specs.declared.op.Op.TheVariants.{Next, Resolve, GetFile}
 use Rattle.opfs_hist.specs.declared.reply.Refusal.{Refusal}
+use Rattle.opfs_hist.specs.declared.reply.Reply.{Reply}
+use Rattle.opfs_hist.specs.declared.reply.Reply.TheVariants.{No}
 use Rattle.opfs_machine.specs.declared.own.Own.{Own}
 use Rattle.opfs_machine.specs.declared.state.FileRow.{FileRow}
 use Rattle.opfs_machine.specs.declared.state.Sizes.{Sizes}
@@ -14,6 +17,7 @@ use Rattle.opfs_machine.specs.Contents.{in_bytes, next_of}
 use Rattle.opfs_machine.specs.Effects.{effect, refused}
 use Rattle.opfs_machine.specs.Replies.{answer, sizes_of, child_reply, path_reply, file_reply, given_in}
 use Rattle.opfs_machine.specs.Rows.{children_of, file_at}
+use Rattle.opfs_machine.specs.Runs.{Call, eviction, group_of}
 use Rattle.opfs_machine.specs.Steps.{is_refusal, evicted, outcome_of}
 
 child-accepted : (s : State Text Own) (dir : Place) (name : Option Text) → is_refusal (child_reply s dir name) ≡ false
@@ -45,6 +49,7 @@ pub accepted-after : (s cleared changed counted_state : State Text Own) (k : ℕ
     → changed ≡ effect in_bytes cleared (sizes_of cleared k op) k op
     → counted_state ≡ counted changed k
     → counted_state ≡ (outcome_of s k op (Ok units)).after
+unfolding outcome_of
 accepted-after s cleared changed counted_state k op units is_cleared is_changed is_counted =
     is_counted
     ∙ ap (λ t. counted t k) (is_changed ∙ ap (λ t. effect in_bytes t (sizes_of t k op) k op) is_cleared)
@@ -54,4 +59,33 @@ accepted-after s cleared changed counted_state k op units is_cleared is_changed 
 pub refused-after : (s changed counted_state : State Text Own) (k : ℕ) (op : Op) (r : Refusal)
     → changed ≡ refused s k op → counted_state ≡ counted changed k
     → counted_state ≡ (outcome_of s k op (Err r)).after
+unfolding outcome_of
 refused-after s changed counted_state k op r is_changed is_counted = is_counted ∙ ap (λ t. counted t k) is_changed
+
+-- The same, with the effect and the count in one.
+pub performed-after : (s cleared counted_state : State Text Own) (k : ℕ) (op : Op) (units : List Text)
+    → cleared ≡ fold evicted s units
+    → counted_state ≡ counted (effect in_bytes cleared (sizes_of cleared k op) k op) k
+    → counted_state ≡ (outcome_of s k op (Ok units)).after
+performed-after s cleared counted_state k op units is_cleared is_counted =
+    accepted-after s cleared (effect in_bytes cleared (sizes_of cleared k op) k op) counted_state k op units is_cleared refl is_counted
+
+-- What an accepted call tells: its evictions, and its entry.
+pub accepted-told : (s : State Text Own) (before between after : List Entry) (c : Call) (answered : Reply) (units : List Text)
+    → between ≡ before ++ map eviction units
+    → after ≡ between ++ record { agent = c.agent; number = c.number; op = c.op; reply = answered; turn = true } ∷ []
+    → answered ≡ answer s (sizes_of s c.agent c.op) c.agent c.op
+    → after ≡ before ++ group_of s c (outcome_of s c.agent c.op (Ok units))
+unfolding outcome_of
+accepted-told s before between after c answered units is_between is_after is_answered =
+    is_after
+    ∙ ap (λ es. es ++ record { agent = c.agent; number = c.number; op = c.op; reply = answered; turn = true } ∷ []) is_between
+    ∙ append_assoc before (map eviction units) _
+    ∙ ap (λ r. before ++ (map eviction units ++ record { agent = c.agent; number = c.number; op = c.op; reply = r; turn = true } ∷ [])) is_answered
+
+-- What a refused call tells: its entry.
+pub refused-told : (s : State Text Own) (before after : List Entry) (c : Call) (r : Refusal)
+    → after ≡ before ++ record { agent = c.agent; number = c.number; op = c.op; reply = No r; turn = true } ∷ []
+    → after ≡ before ++ group_of s c (outcome_of s c.agent c.op (Err r))
+unfolding outcome_of
+refused-told s before after c r is_after = is_after

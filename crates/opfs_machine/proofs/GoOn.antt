@@ -62,6 +62,7 @@ evictions-after s (unit ∷ units) = evictions-after (evicted s unit) units
 
 outcome-after : (s : State Text Own) (k : ℕ) (op : Op) (ruled : Ruled (List Text))
     → (outcome_of s k op ruled).after ≡ after_reply (fold evicted s (outcome_of s k op ruled).victims) k op (outcome_of s k op ruled).answered
+unfolding outcome_of
 outcome-after s k op (Ok units) = refl
 outcome-after s k op (Err refusal) = refl
 

@@ -51,7 +51,7 @@ pub record Outcome : Type 0 where
   pub victims : List Text
   pub after : State Text Own
 
-abbrev pub outcome_of : State Text Own → ℕ → Op → Ruled (List Text) → Outcome
+unfoldable pub outcome_of : State Text Own → ℕ → Op → Ruled (List Text) → Outcome
 outcome_of s k op (Ok units) = record {
   answered = answer s (sizes_of s k op) k op;
   victims = units;
