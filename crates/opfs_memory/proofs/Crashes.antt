@@ -1,12 +1,12 @@
 -- What a crash leaves, call by call.
-use Rattle.std.proofs.Common.{◌≡◌, ℕ, ◌+◌, ◌-◌, ◌<◌, ◌≤◌, Bool, true, false, cond, List, [], ◌∷◌, ◌++◌, length, take, drop, inl, inr, refl, sym, ◌∙◌, ap, subst, arith}
+use Rattle.std.proofs.Common.{◌≡◌, ℕ, ◌+◌, ◌-◌, ◌<◌, ◌≤◌, Bool, true, List, ◌∷◌, length, take, drop, inl, inr, sym, ◌∙◌, ap, subst, arith}
 use Rattle.std.specs.Prelude.{slice_index}
 use Rattle.std.proofs.lemmas.Bool.{cases_lt}
 use Rattle.std.proofs.lemmas.Bool.Decides.{nat_tests}
-use Rattle.opfs_outside.specs.Bytes.{Same, window, Beside}
+use Rattle.opfs_outside.specs.Bytes.{window, Beside}
 use Rattle.opfs_outside.specs.Windows.{length-window, slice_index-window, window_is}
 use Rattle.opfs_memory.specs.Disks.{Overwritten}
-use Rattle.opfs_memory.specs.Drives.{Event, Idle, Wrote, Synced, Platter, after_event, is_written, IsImageOf, IsCrash}
+use Rattle.opfs_memory.specs.Drives.{Wrote, Synced, Platter, after_event, is_written, IsImageOf}
 use Rattle.opfs_memory.specs.DriveLaws.{is_written-more}
 
 is_written-still : (ranges : List (ℕ × ℕ)) (at n i : ℕ) → is_written ((at, n) ∷ ranges) i ≡ true → Beside at n i → is_written ranges i ≡ true

@@ -11,7 +11,7 @@ use Rattle.opfs_outside.specs.Moments.{Elapses}
 use Rattle.opfs_outside.specs.Windows.{length-window, slice_index-window}
 use Rattle.opfs_outside.specs.declared.stream.Failed.{Failed}
 use Rattle.opfs_memory.specs.Counts.{counted, is_named}
-use Rattle.opfs_memory.specs.Drives.{Event, Idle, Wrote, Synced, over, Platter, after_event, replayed, is_written, IsImage, Drive, content_of, moment_of, LeftSince, is_after, passes_room, call_fails, call_reply, call_after, written_event, synced_event}
+use Rattle.opfs_memory.specs.Drives.{Event, Idle, Wrote, Synced, over, Platter, after_event, replayed, IsImage, Drive, content_of, moment_of, LeftSince, is_after, passes_room, call_fails, call_reply, call_after, written_event, synced_event}
 use Rattle.opfs_memory.specs.DriveLaws.{length-over, over-beside, is_written-beside, sound_replayed, image_of_content}
 
 -- in the range there are the bytes

@@ -1,5 +1,5 @@
 -- How a disk in memory keeps what it did.
-use Rattle.std.proofs.Common.{◌≡◌, ℕ, zero, suc, ◌+◌, ◌-◌, ◌<◌, ◌≤◌, Bool, true, false, cond, ◌||◌, leb, ltb, List, [], ◌∷◌, ◌++◌, length, map, take, inl, inr, refl, sym, ◌∙◌, ap, subst, arith}
+use Rattle.std.proofs.Common.{◌≡◌, ℕ, suc, ◌+◌, ◌-◌, ◌<◌, ◌≤◌, Bool, false, ◌||◌, leb, ltb, List, [], ◌∷◌, ◌++◌, length, take, inl, inr, refl, sym, ◌∙◌, ap, subst, arith}
 use Rattle.std.specs.Prelude.{All, slice_index}
 use Rattle.std.proofs.lemmas.List.{length-append, map_push, drop_at, take_all, ext_get_or, length-map}
 use Rattle.std.proofs.lemmas.List.Sums.{fold_push}
@@ -7,10 +7,10 @@ use Rattle.std.proofs.lemmas.List.Elements.{All-push, All-weaker}
 use Rattle.std.proofs.lemmas.Bool.{cases_lt}
 use Rattle.std.proofs.lemmas.Bool.Decides.{nat_tests}
 use Rattle.std.proofs.lemmas.List.{get_or_append_left}
-use Rattle.opfs_outside.specs.Bytes.{Same, window, Beside}
+use Rattle.opfs_outside.specs.Bytes.{window}
 use Rattle.opfs_outside.specs.Windows.{window_is, same_window, slice_index-window}
 use Rattle.opfs_memory.specs.Disks.{Overwritten}
-use Rattle.opfs_memory.specs.Drives.{Event, Idle, Wrote, Synced, over, after_event, replayed, Drive, passes_room}
+use Rattle.opfs_memory.specs.Drives.{Event, Wrote, over, after_event, replayed, Drive, passes_room}
 use Rattle.opfs_memory.specs.DriveLaws.{length-over, over-beside, sound_replayed}
 use Rattle.opfs_memory.specs.KeptEvents.{event_of, events, IsInside}
 use Rattle.opfs_memory.specs.KeptCalls.{IsInOrder, drive_of}

@@ -9,8 +9,3 @@ counted n = min (n + 1) (2 ^ 64 - 1)
 -- the list names this number
 abbrev pub is_named : List ℕ → ℕ → Bool
 is_named fails n = list_any (λ k. k == n) fails
-
--- how often a host or a disk that was given back has failed, and how often the host itself
-pub record Faults : Type 0 where
-  pub all : ℕ
-  pub own : ℕ

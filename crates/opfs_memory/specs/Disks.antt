@@ -1,5 +1,5 @@
 -- What a write does to the bytes of a disk. This project's own.
-use Rattle.std.specs.Prelude.{◌≡◌, ℕ, ◌+◌, List, length}
+use Rattle.std.specs.Prelude.{◌≡◌, ℕ, List, length}
 use Rattle.opfs_outside.specs.Bytes.{Same, window, Beside}
 
 -- new is old with these bytes at this place

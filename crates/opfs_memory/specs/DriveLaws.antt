@@ -1,10 +1,9 @@
 -- What holds of a disk in memory at any time.
-use Rattle.std.specs.Prelude.{◌≡◌, ℕ, zero, suc, ◌+◌, ◌<◌, ◌≤◌, ◌⊎◌, ◌≢◌, Bool, true, false, List, [], ◌∷◌, ◌++◌, length, take, fold, slice_index, slice_set, refl}
-use Rattle.std.proofs.Common.{sym, ◌∙◌, ap, inl, inr, arith, get_or, set}
-use Rattle.std.proofs.lemmas.Bool.{cases_Bool, cases_eq, cases_lt}
+use Rattle.std.specs.Prelude.{◌≡◌, ℕ, ◌+◌, ◌≤◌, ◌≢◌, true, false, List, [], ◌∷◌, length, take, fold, slice_index, slice_set, refl}
+use Rattle.std.proofs.Common.{sym, ◌∙◌, inl, inr, arith}
 use Rattle.std.proofs.lemmas.Bool.Decides.{nat_tests}
-use Rattle.std.proofs.lemmas.List.{length-set, get_or-set_same, get_or-set_other, take_all}
-use Rattle.opfs_outside.specs.Bytes.{Same, window, Beside}
+use Rattle.std.proofs.lemmas.List.{length-set, get_or-set_other, take_all}
+use Rattle.opfs_outside.specs.Bytes.{Same, Beside}
 use Rattle.opfs_memory.specs.Drives.{Event, Idle, Wrote, Synced, over, Platter, after_event, replayed, is_written, IsImage, Drive, content_of, LeftSince}
 
 pub length-over : (c : List ℕ) (at : ℕ) (bytes : List ℕ) → length (over c at bytes) ≡ length c

@@ -1,6 +1,6 @@
 -- A disk in memory whose calls may fail: what it is seen as, what its calls do, and what a crash leaves of it.
 -- This project's own.
-use Rattle.std.specs.Prelude.{◌≡◌, ℕ, ◌+◌, ◌<◌, ◌≤◌, ◌==◌, Bool, true, false, ◌||◌, ◌&&◌, nat_lt, nat_le, if◌then◌else◌, Option, Some, None, Result, Ok, Err, List, [], ◌∷◌, ◌++◌, length, take, fold, slice_index, slice_set}
+use Rattle.std.specs.Prelude.{◌≡◌, ℕ, ◌+◌, ◌≤◌, Bool, true, false, ◌||◌, ◌&&◌, nat_lt, nat_le, if◌then◌else◌, Option, Some, None, Result, Ok, Err, List, [], ◌∷◌, ◌++◌, length, take, fold, slice_index, slice_set}
 use Rattle.std.specs.List.{list_any}
 use Rattle.opfs_outside.specs.Bytes.{window}
 use Rattle.opfs_outside.specs.declared.stream.Failed.{Failed}

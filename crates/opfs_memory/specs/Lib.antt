@@ -7,3 +7,5 @@ pub mod KeptCalls
 pub mod KeptEvents
 pub mod Laws
 pub mod Overwrites
+pub mod Places
+pub mod Shelves

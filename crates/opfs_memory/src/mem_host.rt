@@ -1,33 +1,95 @@
 // A host in memory.
-ghost use Rattle.std.specs.Prelude.{◌≡◌, ◌+◌, ◌-◌, ◌^◌, ◌<◌, ◌≤◌, ℕ, [], length, Some, min, IfOk, IfSome};
-ghost use Rattle.opfs_memory.specs.Counts.{counted};
+ghost use Rattle.std.specs.Prelude.{◌≡◌, ◌+◌, ◌-◌, ◌^◌, ◌<◌, ℕ, [], ◌∷◌, ◌++◌, Option, Some, None, true, length, map, min, replicate, slice_set, option_map, option_copied, if◌then◌else◌, IfOk, IfSome, OnOk, OnErr};
+ghost use Rattle.std.specs.List.{position, slice_get};
+ghost use Rattle.opfs_memory.specs.Counts.{counted, is_named};
+ghost use Rattle.opfs_memory.specs.Shelves.{newest, is_at, given_at, fetched_disk, asked, spot_lent, spot_made, spot_given, spot_put, can_take};
 
 use crate::MemDisk;
 use opfs_outside::{Failed, Host, HostStop};
 use std::alloc::{AllocError, Global};
 use std::marker::Model;
 
-// A path, the image that its file had before any disk was given back since it was made, and the disks that were
-// given back there, the last of them last. `replaced` says that the file was made anew after the last of them.
+// A path and its image, which is that of the last disk where there are no bytes; the disks that were given back
+// there, the last of them last; and how many of those that were fetched are still out.
 #[derive(Drop)]
 struct Place {
     path: Vec<u8>,
-    image: Vec<u8>,
-    replaced: bool,
+    image: Option<Vec<u8>>,
     given: Vec<MemDisk>,
+    out: usize,
+}
+
+impl Model for Place {
+    ghost use Rattle.opfs_memory.specs.Shelves.{Spot};
+
+    ghost Value = { Spot };
+
+    ghost use Rattle.opfs_memory.specs.Places.{spot_of, HasRoom};
+
+    ghost view = { spot_of };
+
+    ghost invariant = { HasRoom };
 }
 
 impl Place {
-    fn content(&self) -> &[u8] {
-        match self.given.last() {
-            Some(disk) if !self.replaced => disk.content(),
-            _ => &self.image,
+    fn make(alloc: Global, path: Vec<u8>, image: Vec<u8>) -> Place
+        ensures { result ≡ record { path = path.items; image = image.items; given = []; out = 0 } }
+    {
+        Place {
+            path,
+            image: Some(image),
+            given: Vec::new(alloc),
+            out: 0,
         }
+    }
+
+    fn is_at(&self, path: &[u8]) -> bool
+        ensures { result ≡ is_at path.now self.now }
+    {
+        self.path.as_slice() == path
+    }
+
+    fn last(&self) -> Option<&MemDisk>
+        ensures { option_copied result ≡ newest self.now.given }
+    {
+        self.given.last()
+    }
+
+    fn image(&self) -> &[u8]
+        ensures { result.now ≡ self.now.image }
+    {
+        match (&self.image, self.given.last()) {
+            (Some(bytes), _) => bytes.as_slice(),
+            (None, Some(disk)) => disk.content(),
+            (None, None) => &[],
+        }
+    }
+
+    // Keeps room for one more disk, and puts these bytes there.
+    fn lend(&mut self, bytes: Option<Vec<u8>>) -> Result<(), AllocError>
+        ensures lent { OnOk result (self.new ≡ spot_put (option_map (λ v. v.items) bytes) self.old) }
+        ensures same { OnErr result (self.new ≡ self.old) }
+    {
+        self.given.reserve(self.out + 1)?;
+        self.out += 1;
+        if bytes.is_some() {
+            self.image = bytes;
+        }
+        Ok(())
+    }
+
+    fn keep(&mut self, disk: MemDisk)
+        requires { 0 < self.old.out }
+        ensures { self.new ≡ spot_given disk self.old }
+    {
+        self.given.push(disk).unwrap();
+        self.out -= 1;
+        self.image = None;
     }
 }
 
 /// Images by path in memory. Its calls are numbered from 1; a call fails exactly where its number is named, where a
-/// path to fetch without `make` is not there, or where a disk is given back that was not fetched.
+/// path to fetch without `make` is not there, or where a disk is given back and none that was fetched there is out.
 #[derive(Drop)]
 pub struct MemHost {
     alloc: Global,
@@ -43,16 +105,26 @@ pub struct MemHost {
 }
 
 impl Model for MemHost {
-    ghost use Rattle.opfs_memory.specs.Counts.{Faults};
+    ghost use Rattle.opfs_memory.specs.Shelves.{Shelf};
 
-    ghost Value = { Faults };
+    ghost Value = { Shelf };
 
-    ghost view = { λ host. record { all = host.faults; own = host.own_faults } };
+    ghost view = { λ host. record {
+      places = host.places.items;
+      fails = host.fails.items;
+      disk_fails = host.disk_fails.items;
+      stop = host.stop;
+      room_calls = host.room_calls;
+      room_bytes = host.room_bytes;
+      calls = host.calls;
+      all = host.faults;
+      own = host.own_faults;
+    } };
 }
 
 impl MemHost {
-    /// A host of these images by path, of which no two are equal. The disks that it fetches have these failing
-    /// calls, this stop and this room.
+    /// A host of these images by path; of two with one path the first counts. The disks that it fetches have these
+    /// failing calls, this stop and this room.
     pub fn make(
         alloc: Global,
         images: Vec<(Vec<u8>, Vec<u8>)>,
@@ -62,16 +134,21 @@ impl MemHost {
         calls: u64,
         bytes: u64,
     ) -> Result<MemHost, AllocError>
-        ensures { IfOk result (λ host. host ≡ record { all = 0; own = 0 }) }
+        ensures { IfOk result (λ host. host ≡ record {
+          places = map (λ image. record { path = image.0.items; image = image.1.items; given = []; out = 0 }) images.items;
+          fails = fails.items;
+          disk_fails = disk_fails.items;
+          stop = stop;
+          room_calls = calls;
+          room_bytes = bytes;
+          calls = 0;
+          all = 0;
+          own = 0;
+        }) }
     {
         let mut places = Vec::with_capacity(alloc, images.len())?;
         for (path, image) in images {
-            places.push(Place {
-                path,
-                image,
-                replaced: false,
-                given: Vec::new(alloc),
-            })?;
+            places.push(Place::make(alloc, path, image))?;
         }
         Ok(MemHost {
             alloc,
@@ -87,51 +164,35 @@ impl MemHost {
         })
     }
 
-    /// The disk that was last given back at this path.
-    pub fn given(&self, path: &str) -> Option<&MemDisk> {
-        let path = path.as_bytes();
-        for place in &self.places {
-            if place.path.as_slice() == path {
-                return place.given.last();
-            }
+    /// The disk that was last given back at this path; none exactly where none was.
+    pub fn given(&self, path: &str) -> Option<&MemDisk>
+        ensures { option_copied result ≡ newest (given_at self.now path.now) }
+    {
+        match self.find(path) {
+            Some(at) => self.last_at(at),
+            None => None,
         }
-        None
+    }
+
+    fn last_at(&self, at: usize) -> Option<&MemDisk>
+        requires { at < length self.now.places }
+        ensures { IfSome (slice_get self.now.places at) (λ spot. option_copied result ≡ newest spot.given) }
+    {
+        let place = &self.places[at];
+        place.last()
     }
 
     fn find(&self, path: &str) -> Option<usize>
-        ensures { IfSome result (λ at. at < 2 ^ 63) }
+        ensures { result ≡ position (is_at path.now) self.now.places }
     {
         let path = path.as_bytes();
-        for (at, place) in self.places.iter().enumerate() {
-            if place.path.as_slice() == path {
-                return Some(at);
-            }
-        }
-        None
+        self.places.iter().position(|place| place.is_at(path))
     }
 
-    // A disk of the image at this place, or of zeros, for which room is kept to be given back.
-    fn fetch_found(
-        &mut self,
-        path: &str,
-        place: Option<usize>,
-        make: Option<u64>,
-    ) -> Result<MemDisk, AllocError>
-        ensures same { self.new ≡ self.old }
-        ensures disk { IfOk result (λ disk. (disk.log ≡ []) × (disk.faults ≡ 0)) }
-        ensures made { IfOk result (λ disk. (n : ℕ) → make ≡ Some n → length disk.first ≡ n) }
+    fn disk_of(&self, content: Vec<u8>) -> Result<MemDisk, AllocError>
+        ensures { IfOk result (λ disk. disk ≡ fetched_disk self.now content.items) }
     {
-        let content = match (make, place.and_then(|at| self.places.get(at))) {
-            (Some(len), _) => vec![in self.alloc; 0; len as usize]?,
-            (None, Some(place)) => place.content().to_vec(self.alloc)?,
-            (None, None) => Vec::new(self.alloc),
-        };
         let fails = self.disk_fails.to_vec(self.alloc)?;
-        let zeros = if make.is_some() {
-            Some(content.to_vec(self.alloc)?)
-        } else {
-            None
-        };
         let disk = MemDisk::make(
             self.alloc,
             content,
@@ -140,53 +201,103 @@ impl MemHost {
             self.room_calls,
             self.room_bytes,
         )?;
-        self.keep_place(path, place, zeros)?;
         Ok(disk)
     }
 
-    // Keeps room for a disk to be given back, and where the file is made anew its zeros.
-    fn keep_place(
-        &mut self,
-        path: &str,
-        place: Option<usize>,
-        zeros: Option<Vec<u8>>,
-    ) -> Result<(), AllocError>
-        ensures { self.new ≡ self.old }
+    // A disk of the image at this place, or of so many zeros.
+    fn fetch_at(&mut self, at: usize, make: Option<u64>) -> Result<MemDisk, AllocError>
+        requires { at < length self.old.places }
+        ensures fresh { IfOk result (λ disk. (disk.log ≡ []) × (disk.faults ≡ 0)) }
+        ensures made { IfOk result (λ disk. (n : ℕ) → make ≡ Some n → length disk.first ≡ n) }
+        ensures disk { IfOk result (λ disk. IfSome (slice_get self.old.places at) (λ spot. disk.first ≡ asked make spot.image)) }
+        ensures after { OnOk result (IfSome (slice_get self.old.places at) (λ spot. self.new.places ≡ slice_set self.old.places at (spot_lent make spot))) }
+        ensures counts { (self.new.all ≡ self.old.all) × (self.new.own ≡ self.old.own) }
+        ensures same { OnErr result (self.new ≡ self.old) }
     {
-        if let Some(at) = place
-            && let Some(place) = self.places.get_mut(at)
-        {
-            place.given.reserve(1)?;
-            if let Some(zeros) = zeros {
-                place.image = zeros;
-                place.replaced = true;
-            }
-        } else if let Some(image) = zeros {
-            let mut given = Vec::new(self.alloc);
-            given.reserve(1)?;
-            self.places.push(Place {
-                path: path.as_bytes().to_vec(self.alloc)?,
-                image,
-                replaced: true,
-                given,
-            })?;
+        match make {
+            Some(len) => self.fetch_zeros(at, len),
+            None => self.fetch_image(at),
         }
+    }
+
+    fn fetch_image(&mut self, at: usize) -> Result<MemDisk, AllocError>
+        requires { at < length self.old.places }
+        ensures fresh { IfOk result (λ disk. (disk.log ≡ []) × (disk.faults ≡ 0)) }
+        ensures disk { IfOk result (λ disk. IfSome (slice_get self.old.places at) (λ spot. disk.first ≡ spot.image)) }
+        ensures after { OnOk result (IfSome (slice_get self.old.places at) (λ spot. self.new.places ≡ slice_set self.old.places at (spot_lent None spot))) }
+        ensures counts { (self.new.all ≡ self.old.all) × (self.new.own ≡ self.old.own) }
+        ensures same { OnErr result (self.new ≡ self.old) }
+    {
+        let content = self.image_at(at)?;
+        let disk = self.disk_of(content)?;
+        self.lend(at, None)?;
+        Ok(disk)
+    }
+
+    fn fetch_zeros(&mut self, at: usize, len: u64) -> Result<MemDisk, AllocError>
+        requires { at < length self.old.places }
+        ensures fresh { IfOk result (λ disk. (disk.log ≡ []) × (disk.faults ≡ 0)) }
+        ensures disk { IfOk result (λ disk. disk.first ≡ replicate len 0) }
+        ensures after { OnOk result (IfSome (slice_get self.old.places at) (λ spot. self.new.places ≡ slice_set self.old.places at (spot_lent (Some len) spot))) }
+        ensures counts { (self.new.all ≡ self.old.all) × (self.new.own ≡ self.old.own) }
+        ensures same { OnErr result (self.new ≡ self.old) }
+    {
+        let content = vec![in self.alloc; 0; len as usize]?;
+        let zeros = vec![in self.alloc; 0; len as usize]?;
+        let disk = self.disk_of(content)?;
+        self.lend(at, Some(zeros))?;
+        Ok(disk)
+    }
+
+    fn image_at(&self, at: usize) -> Result<Vec<u8>, AllocError>
+        requires { at < length self.now.places }
+        ensures { IfOk result (λ image. IfSome (slice_get self.now.places at) (λ spot. image.items ≡ spot.image)) }
+    {
+        let place = &self.places[at];
+        let image = place.image().to_vec(self.alloc)?;
+        Ok(image)
+    }
+
+    fn lend(&mut self, at: usize, bytes: Option<Vec<u8>>) -> Result<(), AllocError>
+        requires { at < length self.old.places }
+        ensures lent { OnOk result (IfSome (slice_get self.old.places at) (λ spot. self.new ≡ record self.old { places = slice_set self.old.places at (spot_put (option_map (λ v. v.items) bytes) spot) })) }
+        ensures same { OnErr result (self.new ≡ self.old) }
+    {
+        let place = &mut self.places[at];
+        place.lend(bytes)?;
         Ok(())
     }
 
-    // Whether there was room for the disk.
-    fn take_back(&mut self, path: &str, disk: MemDisk) -> bool
-        ensures { self.new ≡ self.old }
+    fn is_out(&self, at: usize) -> bool
+        requires { at < length self.now.places }
+        ensures { result ≡ can_take (slice_get self.now.places at) }
     {
-        if let Some(at) = self.find(path)
-            && let Some(place) = self.places.get_mut(at)
-        {
-            if place.given.len() < place.given.capacity() && place.given.push(disk).is_ok() {
-                place.replaced = false;
-                return true;
-            }
-        }
-        false
+        let place = &self.places[at];
+        place.out > 0
+    }
+
+    fn keep(&mut self, at: usize, disk: MemDisk)
+        requires out { can_take (slice_get self.old.places at) ≡ true }
+        requires within { at < length self.old.places }
+        ensures after { IfSome (slice_get self.old.places at) (λ spot. self.new.places ≡ slice_set self.old.places at (spot_given disk spot)) }
+        ensures counts { (self.new.all ≡ self.old.all) × (self.new.own ≡ self.old.own) }
+    {
+        let place = &mut self.places[at];
+        place.keep(disk);
+    }
+
+    // A disk of so many zeros at a path that was not there.
+    fn fetch_new(&mut self, path: &str, len: u64) -> Result<MemDisk, AllocError>
+        ensures disk { IfOk result (λ disk. disk ≡ fetched_disk self.old (replicate len 0)) }
+        ensures after { OnOk result (self.new ≡ record self.old { places = self.old.places ++ spot_made path.now len ∷ [] }) }
+        ensures same { OnErr result (self.new ≡ self.old) }
+    {
+        let disk = self.disk_of(vec![in self.alloc; 0; len as usize]?)?;
+        let path = path.as_bytes().to_vec(self.alloc)?;
+        let mut place = Place::make(self.alloc, path, vec![in self.alloc; 0; len as usize]?);
+        place.lend(None)?;
+        self.places.push(place)?;
+        Ok(disk)
     }
 
     fn take_faults(&mut self, faults: u64)
@@ -197,14 +308,15 @@ impl MemHost {
 
     // Counts a call: whether it is named.
     fn is_named(&mut self) -> bool
-        ensures { self.new ≡ self.old }
+        ensures named { result ≡ is_named self.old.fails (counted self.old.calls) }
+        ensures counted { self.new ≡ record self.old { calls = counted self.old.calls } }
     {
         self.calls = self.calls.saturating_add(1);
         self.fails.contains(&self.calls)
     }
 
     fn fail(&mut self)
-        ensures { self.new ≡ record { all = counted self.old.all; own = counted self.old.own } }
+        ensures { self.new ≡ record self.old { all = counted self.old.all; own = counted self.old.own } }
     {
         self.faults = self.faults.saturating_add(1);
         self.own_faults = self.own_faults.saturating_add(1);
@@ -214,37 +326,48 @@ impl MemHost {
 impl Host for MemHost {
     type D = MemDisk;
 
-    ghost use Rattle.std.specs.Prelude.{◌-◌, ◌^◌, min, None};
+    ghost use Rattle.std.specs.Prelude.{◌-◌, ◌^◌, min};
+    ghost use Rattle.opfs_memory.specs.Shelves.{image_at, Trail};
 
-    ghost tells = { ⊥ };
+    ghost tells = { Unit {0} };
 
-    ghost image = { λ _ _. None };
+    ghost image = { image_at };
 
-    ghost trail = { λ _ _ _. ⊥ };
+    ghost trail = { Trail };
 
     ghost faults = { λ host. min host.all (2 ^ 64 - 1) };
 
     ghost own_faults = { λ host. min host.own (2 ^ 64 - 1) };
 
     fn fetch(&mut self, path: &str, make: Option<u64>) -> Result<MemDisk, HostStop> {
-        let named = self.is_named();
-        let place = self.find(path);
-        if named || (place.is_none() && make.is_none()) {
+        if self.is_named() {
             self.fail();
             return Err(HostStop::Failed);
         }
-        self.fetch_found(path, place, make)
-            .map_err(|_| HostStop::NoMemory)
+        match self.find(path) {
+            Some(at) => self.fetch_at(at, make).map_err(|_| HostStop::NoMemory),
+            None => match make {
+                Some(len) => self.fetch_new(path, len).map_err(|_| HostStop::NoMemory),
+                None => {
+                    self.fail();
+                    Err(HostStop::Failed)
+                }
+            },
+        }
     }
 
     fn give_back(&mut self, path: &str, disk: MemDisk) -> Result<(), Failed> {
         let named = self.is_named();
         self.take_faults(disk.faults());
-        if named || !self.take_back(path, disk) {
-            self.fail();
-            return Err(Failed);
+        if !named
+            && let Some(at) = self.find(path)
+            && self.is_out(at)
+        {
+            self.keep(at, disk);
+            return Ok(());
         }
-        Ok(())
+        self.fail();
+        Err(Failed)
     }
 
     ghost use Rattle.opfs_memory.specs.Laws.{capped};
@@ -253,7 +376,7 @@ impl Host for MemHost {
 
     ghost own_counted = { λ host. capped host.own };
 
-    ghost disk_tells = { λ never. absurd never };
+    ghost disk_tells = { λ told. told };
 
-    ghost disk_crashes = { λ never. absurd never };
+    ghost disk_crashes = { λ told. told };
 }

@@ -1,4 +1,4 @@
-use Rattle.std.proofs.Common.{◌≡◌, ◌+◌, ◌-◌, ◌≤◌, true, false, cond, length, take, drop, sym, ◌∙◌, ap, subst, arith}
+use Rattle.std.proofs.Common.{◌≡◌, ◌+◌, ◌-◌, cond, length, take, drop, sym, ◌∙◌, ap, arith}
 use Rattle.opfs_outside.specs.Bytes.{window}
 use Rattle.opfs_outside.specs.Windows.{length-window, window_is}
 use Rattle.opfs_memory.specs.Drives.{over}

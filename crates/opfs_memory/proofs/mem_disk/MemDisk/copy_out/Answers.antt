@@ -1,4 +1,4 @@
-use Rattle.std.proofs.Common.{length, sym, ◌∙◌, ap, arith, rules}
+use Rattle.std.proofs.Common.{length, ap, arith, rules}
 use Rattle.opfs_memory.specs.Drives.{Drive}
 use Rattle.opfs_memory.specs.Overwrites.{is_window}
 use Rattle.opfs_memory.proofs.Keeping.{sizes}

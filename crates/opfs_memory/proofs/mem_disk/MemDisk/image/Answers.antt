@@ -1,10 +1,9 @@
-use Rattle.std.proofs.Common.{◌≡◌, ◌<◌, ◌≤◌, ℕ, List, length, take, sym, ◌∙◌, ap, subst, arith}
+use Rattle.std.proofs.Common.{◌≡◌, ◌<◌, ◌≤◌, length, take, sym, ◌∙◌, ap, subst, arith}
 use Rattle.std.specs.Prelude.{slice_index_or}
 use Rattle.std.proofs.lemmas.List.{get_or-take, take-map, take_all, length-take-le, length-map}
-use Rattle.opfs_memory.specs.Drives.{Drive, Event, Platter, replayed, IsImageOf}
+use Rattle.opfs_memory.specs.Drives.{Drive, replayed, IsImageOf}
 use Rattle.opfs_memory.specs.DriveLaws.{sound_replayed}
-use Rattle.opfs_memory.specs.KeptEvents.{event_of, events, IsInside}
-use Rattle.opfs_memory.specs.declared.mem_disk.Kept.{Kept}
+use Rattle.opfs_memory.specs.KeptEvents.{event_of, events}
 use Rattle.opfs_memory.specs.declared.mem_disk.Kept.TheVariants.{Nothing}
 use Rattle.opfs_memory.proofs.mem_disk.MemDisk.image.Goals as goal
 

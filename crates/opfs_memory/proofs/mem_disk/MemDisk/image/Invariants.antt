@@ -1,4 +1,4 @@
-use Rattle.std.proofs.Common.{◌≡◌, length, take}
+use Rattle.std.proofs.Common.{take}
 use Rattle.opfs_memory.specs.Drives.{replayed, IsCrash}
 use Rattle.opfs_memory.specs.KeptEvents.{events}
 use Rattle.opfs_memory.proofs.mem_disk.MemDisk.image.Given as goal

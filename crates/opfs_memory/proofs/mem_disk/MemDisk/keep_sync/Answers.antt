@@ -1,4 +1,4 @@
-use Rattle.std.proofs.Common.{◌≡◌, [], ◌∷◌, ◌++◌, length, sym, ◌∙◌, ap, arith, rules}
+use Rattle.std.proofs.Common.{length, sym, ◌∙◌, ap, arith}
 use Rattle.std.proofs.lemmas.List.{map_push, length_push}
 use Rattle.std.proofs.lemmas.List.Elements.{All-push}
 use Rattle.opfs_memory.specs.Drives.{Synced, replayed, Platter}

@@ -1,6 +1,6 @@
-use Rattle.std.proofs.Common.{◌≡◌, ℕ, ◌+◌, ◌≤◌, true, false, List, [], ◌∷◌, ◌++◌, length, sym, ◌∙◌, ap, subst, arith}
+use Rattle.std.proofs.Common.{◌≡◌, ◌+◌, ◌≤◌, length, sym, ◌∙◌, ap, subst, arith}
 use Rattle.std.proofs.lemmas.List.{length_push, length-append, with_items_is}
-use Rattle.opfs_memory.specs.Drives.{Drive, Event, Wrote, over, after_event, replayed, Platter}
+use Rattle.opfs_memory.specs.Drives.{Drive, Wrote, over, after_event, replayed, Platter}
 use Rattle.opfs_memory.specs.KeptEvents.{events}
 use Rattle.opfs_memory.specs.KeptCalls.{drive_of}
 use Rattle.opfs_memory.specs.declared.mem_disk.Kept.TheVariants.{Write}
