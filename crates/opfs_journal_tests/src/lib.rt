@@ -1,4 +1,4 @@
-//! Tests of the disks in memory and of the journal over them.
+//! Tests of the disks and hosts in memory and of the journal over them.
 #![tactic(auto)]
 
 mod examples;
@@ -7,6 +7,8 @@ mod silent;
 pub use examples::{FORMAT_1, FORMAT_2, areas_of_both, format_1, format_2};
 pub use silent::SilentDisk;
 
+#[cfg(test)]
+mod hosts;
 #[cfg(test)]
 mod journals;
 #[cfg(test)]
