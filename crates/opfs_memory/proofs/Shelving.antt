@@ -1,11 +1,11 @@
 -- What a change at the first spot of a path does to the map of a host.
-use Rattle.std.proofs.Common.{◌≡◌, ◌≢◌, ◌↔◌, ℕ, suc, zero, ◌+◌, ◌<◌, ◌≤◌, ◌⊎◌, Bool, true, false, cond, not, Option, Some, None, List, [], ◌∷◌, ◌++◌, length, refl, sym, ◌∙◌, ap, subst, inl, inr, arith}
+use Rattle.std.proofs.Common.{◌≡◌, ◌≢◌, ◌↔◌, ℕ, suc, zero, ◌+◌, ◌<◌, ◌≤◌, ◌⊎◌, Bool, true, false, cond, not, Option, Some, None, List, [], ◌∷◌, ◌++◌, length, refl, sym, ◌∙◌, ap, subst, inl, inr, arith, ◌||◌}
 use Rattle.std.specs.Prelude.{IfSome, option_map, unwrap_or, slice_set, nat_lt, nat_eq}
 use Rattle.std.specs.List.{position, position_or_len, slice_get}
 use Rattle.std.specs.Cmp.Lexicographic.{pointwise, bytes_decides}
 use Rattle.std.proofs.lemmas.Bool.{ltb-true, lt-ltb, both_ways, cases_lt}
 use Rattle.opfs_memory.specs.Drives.{Drive, LeftSince}
-use Rattle.opfs_memory.specs.Shelves.{Spot, Shelf, is_at, spot_at, given_at, LeftBy, Trail}
+use Rattle.opfs_memory.specs.Shelves.{Spot, Shelf, is_at, spot_at, given_at, LeftBy, Trail, can_take}
 
 pub at_own : (path : List ℕ) (s : Spot) → s.path ≡ path → is_at path s ≡ true
 at_own path s e = (bytes_decides s.path path).1 e
@@ -164,3 +164,15 @@ module _ (path : List ℕ) (h m n : Shelf) (same : m.places ≡ h.places) (is : 
       ap (λ xs. option_map g (spot_at q xs)) change
       ∙ push_look g q m.places s (not_at (is_at q s) (λ e. ne (sym (own_at q s e) ∙ own)))
       ∙ ap (λ xs. option_map g (spot_at q xs)) same
+
+-- whether a disk of the path is out, as the first spot says
+pub out_at : (path : List ℕ) (xs : List Spot) (at : ℕ) (b : Bool) → position (is_at path) xs ≡ Some at → can_take (slice_get xs at) ≡ b → can_take (spot_at path xs) ≡ b
+out_at path xs at b is e =
+    let here = found path xs at is in
+    ap can_take (here.first ∙ sym here.get) ∙ e
+
+pub none_out : (path : List ℕ) (xs : List Spot) → position (is_at path) xs ≡ None → can_take (spot_at path xs) ≡ false
+none_out path xs e = ap can_take (missing path xs e)
+
+pub fails_as : (a b named out : Bool) → a ≡ named → b ≡ out → (named || not out) ≡ (a || not b)
+fails_as a b named out e f = λ i. sym e i || not (sym f i)

@@ -1,7 +1,8 @@
 -- Images by path, and the disks that were fetched and given back there. This project's own.
-use Rattle.std.specs.Prelude.{ℕ, ◌+◌, ◌-◌, Bool, false, if◌then◌else◌, Option, Some, None, option_map, unwrap_or, List, [], ◌∷◌, ◌++◌, length, replicate, ◌⊎◌, nat_eq, nat_lt}
+use Rattle.std.specs.Prelude.{ℕ, ◌+◌, ◌-◌, Bool, false, if◌then◌else◌, Option, Some, None, option_map, unwrap_or, List, [], ◌∷◌, ◌++◌, length, replicate, ◌⊎◌, nat_eq, nat_lt, ◌||◌, ◌&&◌, not, is_some}
 use Rattle.std.specs.Cmp.Lexicographic.{pointwise}
-use Rattle.std.specs.List.{slice_get}
+use Rattle.std.specs.List.{position, slice_get}
+use Rattle.opfs_memory.specs.Counts.{counted, is_named}
 use Rattle.opfs_memory.specs.Drives.{Drive, LeftSince, content_of}
 
 -- A path and its image, the disks that were given back there, the last of them last, and how many more may be.
@@ -93,3 +94,11 @@ spot_given disk spot = record { path = spot.path; image = content_of disk; given
 abbrev pub can_take : Option Spot → Bool
 can_take (Some spot) = nat_lt 0 spot.out
 can_take None = false
+
+-- a fetch fails: the call is named, or the path is not there and no zeros are asked for
+abbrev pub fetch_fails : Shelf → List ℕ → Option ℕ → Bool
+fetch_fails host path make = is_named host.fails (counted host.calls) || (not (is_some make) && not (is_some (position (is_at path) host.places)))
+
+-- a return fails: the call is named, or none of the path that was fetched is out
+abbrev pub return_fails : Shelf → List ℕ → Bool
+return_fails host path = is_named host.fails (counted host.calls) || not (can_take (spot_at path host.places))

@@ -1,8 +1,8 @@
 // A host in memory.
-ghost use Rattle.std.specs.Prelude.{◌≡◌, ◌+◌, ◌-◌, ◌^◌, ◌<◌, ℕ, [], ◌∷◌, ◌++◌, Option, Some, None, true, length, map, min, replicate, slice_set, option_map, option_copied, if◌then◌else◌, IfOk, IfSome, OnOk, OnErr};
+ghost use Rattle.std.specs.Prelude.{◌≡◌, ◌+◌, ◌-◌, ◌^◌, ◌<◌, ℕ, [], ◌∷◌, ◌++◌, Option, Some, None, true, false, MatchOption, length, map, min, replicate, slice_set, option_map, option_copied, if◌then◌else◌, IfOk, IfSome, OnOk, OnErr};
 ghost use Rattle.std.specs.List.{position, slice_get};
 ghost use Rattle.opfs_memory.specs.Counts.{counted, is_named};
-ghost use Rattle.opfs_memory.specs.Shelves.{newest, is_at, given_at, fetched_disk, asked, spot_lent, spot_made, spot_given, spot_put, can_take};
+ghost use Rattle.opfs_memory.specs.Shelves.{newest, is_at, spot_at, given_at, fetched_disk, asked, spot_lent, spot_made, spot_given, spot_put, can_take};
 
 use crate::MemDisk;
 use opfs_outside::{Failed, Host, HostStop};
@@ -189,6 +189,17 @@ impl MemHost {
         self.places.iter().position(|place| place.is_at(path))
     }
 
+    // The place of this path where one that was fetched there is still out.
+    fn find_out(&self, path: &str) -> Option<usize>
+        ensures { MatchOption result (can_take (spot_at path.now self.now.places) ≡ false) (λ at.
+            (position (is_at path.now) self.now.places ≡ Some at) × (can_take (slice_get self.now.places at) ≡ true)) }
+    {
+        match self.find(path) {
+            Some(at) => if self.is_out(at) { Some(at) } else { None },
+            None => None,
+        }
+    }
+
     fn disk_of(&self, content: Vec<u8>) -> Result<MemDisk, AllocError>
         ensures { IfOk result (λ disk. disk ≡ fetched_disk self.now content.items) }
     {
@@ -208,6 +219,7 @@ impl MemHost {
     fn fetch_at(&mut self, at: usize, make: Option<u64>) -> Result<MemDisk, AllocError>
         requires { at < length self.old.places }
         ensures fresh { IfOk result (λ disk. (disk.log ≡ []) × (disk.faults ≡ 0)) }
+        ensures fetched { IfOk result (λ disk. disk ≡ fetched_disk self.old disk.first) }
         ensures made { IfOk result (λ disk. (n : ℕ) → make ≡ Some n → length disk.first ≡ n) }
         ensures disk { IfOk result (λ disk. IfSome (slice_get self.old.places at) (λ spot. disk.first ≡ asked make spot.image)) }
         ensures after { OnOk result (IfSome (slice_get self.old.places at) (λ spot. self.new.places ≡ slice_set self.old.places at (spot_lent make spot))) }
@@ -223,6 +235,7 @@ impl MemHost {
     fn fetch_image(&mut self, at: usize) -> Result<MemDisk, AllocError>
         requires { at < length self.old.places }
         ensures fresh { IfOk result (λ disk. (disk.log ≡ []) × (disk.faults ≡ 0)) }
+        ensures fetched { IfOk result (λ disk. disk ≡ fetched_disk self.old disk.first) }
         ensures disk { IfOk result (λ disk. IfSome (slice_get self.old.places at) (λ spot. disk.first ≡ spot.image)) }
         ensures after { OnOk result (IfSome (slice_get self.old.places at) (λ spot. self.new.places ≡ slice_set self.old.places at (spot_lent None spot))) }
         ensures counts { (self.new.all ≡ self.old.all) × (self.new.own ≡ self.old.own) }
@@ -237,6 +250,7 @@ impl MemHost {
     fn fetch_zeros(&mut self, at: usize, len: u64) -> Result<MemDisk, AllocError>
         requires { at < length self.old.places }
         ensures fresh { IfOk result (λ disk. (disk.log ≡ []) × (disk.faults ≡ 0)) }
+        ensures fetched { IfOk result (λ disk. disk ≡ fetched_disk self.old disk.first) }
         ensures disk { IfOk result (λ disk. disk.first ≡ replicate len 0) }
         ensures after { OnOk result (IfSome (slice_get self.old.places at) (λ spot. self.new.places ≡ slice_set self.old.places at (spot_lent (Some len) spot))) }
         ensures counts { (self.new.all ≡ self.old.all) × (self.new.own ≡ self.old.own) }
@@ -326,8 +340,10 @@ impl MemHost {
 impl Host for MemHost {
     type D = MemDisk;
 
-    ghost use Rattle.std.specs.Prelude.{◌-◌, ◌^◌, min};
-    ghost use Rattle.opfs_memory.specs.Shelves.{image_at, Trail};
+    ghost use Rattle.std.specs.Prelude.{◌≡◌, ◌≢◌, ◌↔◌, ◌⊎◌, ◌+◌, ◌-◌, ◌^◌, ◌≤◌, ℕ, List, Some, None, length, min, replicate, is_err, IsErrOf, IsTrue, IfOk, OnOk, OnErr};
+    ghost use Rattle.opfs_memory.specs.Drives.{LeftSince, content_of, moment_of};
+    ghost use Rattle.opfs_memory.specs.Shelves.{image_at, Trail, fetched_disk, fetch_fails, return_fails};
+    ghost use Rattle.opfs_outside.specs.Faults.{Rose, RoseBy};
 
     ghost tells = { Unit {0} };
 
@@ -339,7 +355,25 @@ impl Host for MemHost {
 
     ghost own_faults = { λ host. min host.own (2 ^ 64 - 1) };
 
-    fn fetch(&mut self, path: &str, make: Option<u64>) -> Result<MemDisk, HostStop> {
+    fn fetch(&mut self, path: &str, make: Option<u64>) -> Result<MemDisk, HostStop>
+        ensures fails { IsErrOf result HostStop.Failed ↔ IsTrue (fetch_fails self.old path.now make) }
+        ensures fetched { IfOk result (λ disk. disk ≡ fetched_disk self.old disk.first) }
+        ensures fresh { IfOk result (λ disk. min disk.faults (2 ^ 64 - 1) ≡ 0) }
+        ensures first { IfOk result (λ disk. moment_of disk ≡ 0) }
+        ensures one_image { IfOk result (λ disk. (c : List ℕ) → LeftSince disk 0 c → c ≡ content_of disk) }
+        ensures made { IfOk result (λ disk. (n : ℕ) → make ≡ Some n → length disk.first ≡ n) }
+        ensures content { IfOk result (λ disk. image_at self.new path.now ≡ Some (content_of disk)) }
+        ensures zeros { OnOk result ((n : ℕ) → make ≡ Some n → image_at self.new path.now ≡ Some (replicate n 0)) }
+        ensures images_stay { make ≡ None → (p : List ℕ) → image_at self.new p ≡ image_at self.old p }
+        ensures trails_stay { make ≡ None → (p c : List ℕ) → Trail self.new p c ↔ Trail self.old p c }
+        ensures no_memory_images { IsErrOf result HostStop.NoMemory → (p : List ℕ) → image_at self.new p ≡ image_at self.old p }
+        ensures no_memory_trails { IsErrOf result HostStop.NoMemory → (p c : List ℕ) → Trail self.new p c ↔ Trail self.old p c }
+        ensures other_images { OnOk result ((p : List ℕ) → p ≢ path.now → image_at self.new p ≡ image_at self.old p) }
+        ensures other_trails { OnOk result ((p c : List ℕ) → p ≢ path.now → Trail self.new p c ↔ Trail self.old p c) }
+        ensures own_later { min self.old.own (2 ^ 64 - 1) ≤ min self.new.own (2 ^ 64 - 1) }
+        ensures later { RoseBy (min self.new.own (2 ^ 64 - 1) - min self.old.own (2 ^ 64 - 1)) (min self.old.all (2 ^ 64 - 1)) (min self.new.all (2 ^ 64 - 1)) }
+        ensures cause { IsErrOf result HostStop.Failed → Rose (min self.old.own (2 ^ 64 - 1)) (min self.new.own (2 ^ 64 - 1)) }
+    {
         if self.is_named() {
             self.fail();
             return Err(HostStop::Failed);
@@ -356,18 +390,32 @@ impl Host for MemHost {
         }
     }
 
-    fn give_back(&mut self, path: &str, disk: MemDisk) -> Result<(), Failed> {
+    fn give_back(&mut self, path: &str, disk: MemDisk) -> Result<(), Failed>
+        ensures fails { is_err result ≡ return_fails self.old path.now }
+        ensures content { OnOk result (image_at self.new path.now ≡ Some (content_of disk)) }
+        ensures trail { OnOk result ((c : List ℕ) → Trail self.new path.now c ↔ (Trail self.old path.now c ⊎ LeftSince disk 0 c)) }
+        ensures other_images { OnOk result ((p : List ℕ) → p ≢ path.now → image_at self.new p ≡ image_at self.old p) }
+        ensures other_trails { OnOk result ((p c : List ℕ) → p ≢ path.now → Trail self.new p c ↔ Trail self.old p c) }
+        ensures own_later { min self.old.own (2 ^ 64 - 1) ≤ min self.new.own (2 ^ 64 - 1) }
+        ensures later { RoseBy (min disk.faults (2 ^ 64 - 1) + (min self.new.own (2 ^ 64 - 1) - min self.old.own (2 ^ 64 - 1))) (min self.old.all (2 ^ 64 - 1)) (min self.new.all (2 ^ 64 - 1)) }
+        ensures cause { OnErr result (Rose (min self.old.own (2 ^ 64 - 1)) (min self.new.own (2 ^ 64 - 1))) }
+    {
         let named = self.is_named();
         self.take_faults(disk.faults());
-        if !named
-            && let Some(at) = self.find(path)
-            && self.is_out(at)
-        {
-            self.keep(at, disk);
-            return Ok(());
+        if named {
+            self.fail();
+            return Err(Failed);
         }
-        self.fail();
-        Err(Failed)
+        match self.find_out(path) {
+            Some(at) => {
+                self.keep(at, disk);
+                Ok(())
+            }
+            None => {
+                self.fail();
+                Err(Failed)
+            }
+        }
     }
 
     ghost use Rattle.opfs_memory.specs.Laws.{capped};

@@ -1,28 +1,43 @@
-use Rattle.std.proofs.Common.{◌≡◌, sym, ◌∙◌, ap}
-use Rattle.opfs_memory.specs.Shelves.{Shelf}
+use Rattle.std.proofs.Common.{◌≡◌, true, false, sym, ◌∙◌, ap}
+use Rattle.opfs_memory.specs.Shelves.{Shelf, spot_at, can_take}
+use Rattle.opfs_memory.proofs.Shelving.{out_at, fails_as}
 use Rattle.opfs_memory.proofs.HostCalls.{given_content, given_trail, given_other_images, given_other_trails}
 use Rattle.opfs_memory.proofs.mem_host.MemHostHost.give_back.Goals as goal
 
-pub returns-clause-content : goal.returns-clause-content
-returns-clause-content c = λ told.
+pub returns-in-Some-clause-content : goal.returns-in-Some-clause-content
+returns-in-Some-clause-content c =
     let m = c.take_faults.new.self in
     let same : m.places ≡ c.args.self.now.places = ap (λ (x : Shelf). x.places) c.take_faults.ensures ∙ ap (λ (x : Shelf). x.places) c.is_named-named.ensures.counted in
-    given_content c.args.path.now c.args.self.now m c.keep.new.self same c.in-Some.at (sym c.in-Some.ensures) c.args.disk c.keep.ensures.after
+    given_content c.args.path.now c.args.self.now m c.keep.new.self same c.in-Some.at c.in-Some.ensures.0 c.args.disk c.keep.ensures.after
 
-pub returns-clause-trail : goal.returns-clause-trail
-returns-clause-trail c = λ told k.
+pub returns-in-Some-clause-trail : goal.returns-in-Some-clause-trail
+returns-in-Some-clause-trail c = λ k.
     let m = c.take_faults.new.self in
     let same : m.places ≡ c.args.self.now.places = ap (λ (x : Shelf). x.places) c.take_faults.ensures ∙ ap (λ (x : Shelf). x.places) c.is_named-named.ensures.counted in
-    given_trail c.args.path.now c.args.self.now m c.keep.new.self same c.in-Some.at (sym c.in-Some.ensures) c.args.disk c.keep.ensures.after k
+    given_trail c.args.path.now c.args.self.now m c.keep.new.self same c.in-Some.at c.in-Some.ensures.0 c.args.disk c.keep.ensures.after k
 
-pub returns-clause-other_images : goal.returns-clause-other_images
-returns-clause-other_images c = λ told p ne.
+pub returns-in-Some-clause-other_images : goal.returns-in-Some-clause-other_images
+returns-in-Some-clause-other_images c = λ p ne.
     let m = c.take_faults.new.self in
     let same : m.places ≡ c.args.self.now.places = ap (λ (x : Shelf). x.places) c.take_faults.ensures ∙ ap (λ (x : Shelf). x.places) c.is_named-named.ensures.counted in
-    given_other_images c.args.path.now c.args.self.now m c.keep.new.self same c.in-Some.at (sym c.in-Some.ensures) c.args.disk c.keep.ensures.after p ne
+    given_other_images c.args.path.now c.args.self.now m c.keep.new.self same c.in-Some.at c.in-Some.ensures.0 c.args.disk c.keep.ensures.after p ne
 
-pub returns-clause-other_trails : goal.returns-clause-other_trails
-returns-clause-other_trails c = λ told p k ne.
+pub returns-in-Some-clause-other_trails : goal.returns-in-Some-clause-other_trails
+returns-in-Some-clause-other_trails c = λ p k ne.
     let m = c.take_faults.new.self in
     let same : m.places ≡ c.args.self.now.places = ap (λ (x : Shelf). x.places) c.take_faults.ensures ∙ ap (λ (x : Shelf). x.places) c.is_named-named.ensures.counted in
-    given_other_trails c.args.path.now c.args.self.now m c.keep.new.self same c.in-Some.at (sym c.in-Some.ensures) c.args.disk c.keep.ensures.after p k ne
+    given_other_trails c.args.path.now c.args.self.now m c.keep.new.self same c.in-Some.at c.in-Some.ensures.0 c.args.disk c.keep.ensures.after p k ne
+
+pub returns-in-Some-clause-fails : goal.returns-in-Some-clause-fails
+returns-in-Some-clause-fails c =
+    let m = c.take_faults.new.self in
+    let same : m.places ≡ c.args.self.now.places = ap (λ (x : Shelf). x.places) c.take_faults.ensures ∙ ap (λ (x : Shelf). x.places) c.is_named-named.ensures.counted in
+    let out : can_take (spot_at c.args.path.now c.args.self.now.places) ≡ true = ap (λ xs. can_take (spot_at c.args.path.now xs)) (sym same) ∙ out_at c.args.path.now m.places c.in-Some.at true c.in-Some.ensures.0 c.in-Some.ensures.1 in
+    fails_as _ _ false true (sym c.is_named-named.ensures.named ∙ c.if-named.false) out
+
+pub returns-in-None-clause-fails : goal.returns-in-None-clause-fails
+returns-in-None-clause-fails c =
+    let m = c.take_faults.new.self in
+    let same : m.places ≡ c.args.self.now.places = ap (λ (x : Shelf). x.places) c.take_faults.ensures ∙ ap (λ (x : Shelf). x.places) c.is_named-named.ensures.counted in
+    let out : can_take (spot_at c.args.path.now c.args.self.now.places) ≡ false = ap (λ xs. can_take (spot_at c.args.path.now xs)) (sym same) ∙ c.in-None.ensures in
+    fails_as _ _ false false (sym c.is_named-named.ensures.named ∙ c.if-named.false) out
