@@ -1,0 +1,4 @@
+pub mod ChangeLemmas
+pub mod FieldLemmas
+pub mod Loop
+pub mod WritingLemmas

@@ -1,0 +1,4 @@
+pub mod Charges
+pub mod Fields
+pub mod Reading
+pub mod Spelling

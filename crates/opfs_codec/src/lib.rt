@@ -1,0 +1,14 @@
+//! Changes of the store as bytes and back.
+#![tactic(auto)]
+
+mod change;
+mod fields;
+mod lengths;
+mod miss;
+mod reading;
+mod writing;
+
+pub use change::{Change, ChangeRef, Format};
+pub use lengths::charge;
+pub use reading::{one_spelling, read, read_old};
+pub use writing::write;
