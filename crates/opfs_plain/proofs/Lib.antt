@@ -1,0 +1,5 @@
+pub mod Here
+pub mod UnitBytes
+pub mod AgentSums
+pub mod Cleared
+pub mod Roots

@@ -1,0 +1,172 @@
+//! What calls change of directories and their entries.
+#![tactic(auto, unfolding(opfs_machine::specs::Machine::machine))]
+
+ghost use Rattle.std.specs.Prelude.{◌≡◌, IsTrue, IfOk, OnOk};
+ghost use Rattle.std.specs.Option.{option_copied};
+ghost use Rattle.opfs_base.specs.Names.{is_valid_name};
+ghost use Rattle.opfs_base.specs.Places.{place_of, child};
+ghost use Rattle.opfs_machine.specs.Agents.{agent_of, adds_own};
+ghost use Rattle.opfs_machine.specs.Contents.{in_bytes, advanced_row};
+ghost use Rattle.opfs_machine.specs.Effects.{made, opens_bucket, new_row, moment_of, takes_snapshot, with_changed};
+ghost use Rattle.opfs_machine.specs.Rows.{row_at, without, file_at, children_of};
+ghost use Rattle.opfs_plain.specs.Known.{IsAgent, IsOwn, given_row};
+
+use crate::agents::{add_own, agent};
+use crate::ordered::put;
+use crate::replies::next_given;
+use crate::rows::{remove_within, row_at};
+use crate::rulings::{child_place, file_at, root_of};
+use crate::streams::place_of;
+use opfs_base::{Bytes, Kind, Locator, Name, Text};
+use opfs_locks::LockValue;
+use opfs_machine::{FileRow, IteratorRow, Many, Own, Place, Row, State};
+use std::alloc::{AllocError, Global};
+
+/// Makes a row, where none is there.
+fn make(state: &mut State<Bytes, Own>, place: Place, row: Row<Bytes>) -> Result<(), AllocError>
+    ensures { OnOk result (state.new ≡ made state.old place row) }
+{
+    if row_at(state.rows.items.as_slice(), &place.0, &place.1).is_some() {
+        return Ok(());
+    }
+    put(&mut state.rows.items, place, row)?;
+    Ok(())
+}
+
+/// getDirectory makes a missing root.
+pub fn open_bucket(
+    alloc: Global,
+    state: &mut State<Bytes, Own>,
+    number: u32,
+    bucket: &Text,
+) -> Result<(), AllocError>
+    requires { IsAgent state.old number }
+    ensures { OnOk result (state.new ≡ opens_bucket state.old bucket.now (agent_of state.old number).key) }
+{
+    let Some(origin) = &agent(state, number).key else {
+        return Ok(());
+    };
+    let root = root_of(alloc, origin, bucket)?;
+    make(state, root, Row::Directory)
+}
+
+/// The row that a call makes.
+fn new_row(alloc: Global, kind: Kind, stamp: u64) -> Row<Bytes>
+    ensures { result ≡ new_row in_bytes kind stamp }
+{
+    match kind {
+        Kind::Directory => Row::Directory,
+        Kind::File => Row::File(FileRow {
+            present: Bytes::from_vec(Vec::new(alloc)),
+            stamp,
+            lock: (LockValue::Free, 0),
+            durable: Bytes::from_vec(Vec::new(alloc)),
+            durable_stamp: stamp,
+        }),
+    }
+}
+
+/// getFileHandle and getDirectoryHandle make a missing child.
+pub fn make_child(
+    alloc: Global,
+    state: &mut State<Bytes, Own>,
+    number: u32,
+    kind: Kind,
+    dir: &Locator,
+    name: &Text,
+) -> Result<(), AllocError>
+    requires agent { IsAgent state.old number }
+    requires valid { IsTrue (is_valid_name name.now) }
+    ensures { OnOk result (state.new ≡ made state.old (child (place_of dir.now) name.now) (new_row in_bytes kind (moment_of state.old number))) }
+{
+    let place = child_place(alloc, dir, name)?;
+    let row = new_row(alloc, kind, agent(state, number).moment);
+    make(state, place, row)
+}
+
+/// removeEntry.
+pub fn remove_child(
+    alloc: Global,
+    state: &mut State<Bytes, Own>,
+    dir: &Locator,
+    name: &Text,
+) -> Result<(), AllocError>
+    requires { IsTrue (is_valid_name name.now) }
+    ensures { OnOk result (state.new ≡ without state.old (child (place_of dir.now) name.now)) }
+{
+    let place = child_place(alloc, dir, name)?;
+    remove_within(&mut state.rows.items, &place);
+    Ok(())
+}
+
+/// getFile.
+pub fn take_snapshot(
+    alloc: Global,
+    state: &mut State<Bytes, Own>,
+    number: u32,
+    at: &Locator,
+) -> Result<(), AllocError>
+    requires { IsAgent state.old number }
+    ensures { OnOk result (state.new ≡ takes_snapshot in_bytes state.old number (file_at state.old (place_of at.now))) }
+{
+    let Some(file) = file_at(state, &at.key, &at.path) else {
+        return Ok(());
+    };
+    let bytes = file.present.copy(alloc)?;
+    add_own(state, number, Own::Snapshot(bytes))
+}
+
+/// values.
+pub fn add_iterator(
+    alloc: Global,
+    state: &mut State<Bytes, Own>,
+    number: u32,
+    dir: &Locator,
+) -> Result<(), AllocError>
+    requires { IsAgent state.old number }
+    ensures { OnOk result (state.new ≡ adds_own state.old number (in_bytes.iterator (place_of dir.now))) }
+{
+    let dir = place_of(alloc, dir)?;
+    let given = Many {
+        items: Vec::new(alloc),
+    };
+    add_own(state, number, Own::Iterator(IteratorRow { dir, given }))
+}
+
+/// An iterator that gives one more name, or the end.
+fn give_row(row: &mut Own, name: Option<Name>) -> Result<(), AllocError>
+    ensures { OnOk result (row.new ≡ given_row row.old name) }
+{
+    if let (Own::Iterator(iterator), Some(name)) = (row, name) {
+        iterator.given.items.push(name)?;
+    }
+    Ok(())
+}
+
+/// A copy of a name that may be there.
+fn copy_name(alloc: Global, name: Option<&Name>) -> Result<Option<Name>, AllocError>
+    ensures { IfOk result (λ copy. copy ≡ option_copied name.entry) }
+{
+    match name {
+        None => Ok(None),
+        Some(name) => Ok(Some(name.copy(alloc)?)),
+    }
+}
+
+/// next of an iterator: it has given one more name, or the end.
+pub fn advance(
+    alloc: Global,
+    state: &mut State<Bytes, Own>,
+    number: u32,
+    row: u32,
+    dir: &Locator,
+) -> Result<(), AllocError>
+    requires agent { IsAgent state.old number }
+    requires row { IsOwn (agent_of state.old number) row }
+    ensures { OnOk result (state.new ≡ with_changed state.old number row (λ r. advanced_row r (children_of state.old (place_of dir.now)))) }
+{
+    let place = place_of(alloc, dir)?;
+    let name = copy_name(alloc, next_given(state, number, row, &place))?;
+    let agent = &mut state.agents.items[number as usize - 1];
+    give_row(&mut agent.own.items[row as usize - 1], name)
+}

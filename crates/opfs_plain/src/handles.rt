@@ -1,0 +1,320 @@
+//! What calls change of access handles and their files.
+
+ghost use Rattle.std.specs.Prelude.{◌≡◌, OnOk, IfOk};
+ghost use Rattle.opfs_base.specs.Places.{place_of};
+ghost use Rattle.opfs_machine.specs.Agents.{agent_of, adds_own, open_handle};
+ghost use Rattle.opfs_machine.specs.Contents.{in_bytes, moved_row};
+ghost use Rattle.opfs_machine.specs.Effects.{with_lock, with_changed, with_written, flushed, undone, changes_file, flushes, closes_handle, discards};
+ghost use Rattle.opfs_machine.specs.Rows.{changed_row, change_at, with_file};
+ghost use Rattle.opfs_machine.specs.Rulings.{want_of};
+ghost use Rattle.opfs_machine.specs.declared.state.Sizes.{Sizes};
+ghost use Rattle.opfs_plain.specs.Known.{IsAgent, IsOwn};
+ghost use Rattle.opfs_splice.specs.Splicing.{splice, resize};
+
+use crate::agents::{add_own, agent, set_own};
+use crate::files::{flush, lock, undo, unlock};
+use crate::handle_rulings::{open_handle, want_of};
+use crate::rows::{PlacedRow, index_of};
+use crate::rulings::blocks;
+use crate::streams::{copy_place, place_of, resized, spliced};
+use opfs_base::{Bytes, Locator};
+use opfs_hist::Mode;
+use opfs_machine::{HandleRow, Own, Place, Row, Sizes, State};
+use std::alloc::{AllocError, Global};
+use std::mem;
+
+/// createSyncAccessHandle.
+pub fn create_sync(
+    alloc: Global,
+    state: &mut State<Bytes, Own>,
+    number: u32,
+    at: &Locator,
+    mode: Mode,
+) -> Result<(), AllocError>
+    requires { IsAgent state.old number }
+    ensures { OnOk result (state.new ≡ adds_own (with_file state.old (place_of at.now) (with_lock (want_of mode))) number (in_bytes.handle (place_of at.now) mode)) }
+{
+    let place = place_of(alloc, at)?;
+    lock(state, &place, want_of(mode))?;
+    add_own(
+        state,
+        number,
+        Own::Handle(HandleRow {
+            file: place,
+            mode,
+            cursor: 0,
+            reserve: 0,
+        }),
+    )
+}
+
+/// An access handle with another cursor and reserve.
+fn move_row(row: &mut Own, cursor: u64, reserve: u64)
+    ensures { row.new ≡ moved_row row.old cursor reserve }
+{
+    if let Own::Handle(handle) = row {
+        handle.cursor = cursor;
+        handle.reserve = reserve;
+    }
+}
+
+/// Gives an access handle another cursor and reserve.
+#[tactic(auto, unfolding(opfs_machine::specs::Effects::with_changed))]
+pub fn move_handle(state: &mut State<Bytes, Own>, number: u32, row: u32, cursor: u64, reserve: u64)
+    requires agent { IsAgent state.old number }
+    requires row { IsOwn (agent_of state.old number) row }
+    ensures { state.new ≡ with_changed state.old number row (λ r. moved_row r cursor reserve) }
+{
+    let agent = &mut state.agents.items[number as usize - 1];
+    move_row(&mut agent.own.items[row as usize - 1], cursor, reserve);
+}
+
+/// A file with bytes written at a position.
+fn overwrite_row(
+    row: &mut Row<Bytes>,
+    empty: Bytes,
+    position: u64,
+    bytes: &[u8],
+    stamp: u64,
+) -> Result<(), AllocError>
+    ensures { OnOk result (row.new ≡ changed_row (λ f. record f { present = splice f.present position bytes.now; stamp = stamp }) row.old) }
+{
+    if let Row::File(file) = row {
+        let old = mem::replace(&mut file.present, empty);
+        file.present = spliced(old, position, bytes)?;
+        file.stamp = stamp;
+    }
+    Ok(())
+}
+
+fn overwrite_at(
+    rows: &mut [PlacedRow],
+    place: &Place,
+    empty: Bytes,
+    position: u64,
+    bytes: &[u8],
+    stamp: u64,
+) -> Result<(), AllocError>
+    ensures { OnOk result (rows.new ≡ change_at place.now (λ f. record f { present = splice f.present position bytes.now; stamp = stamp }) rows.old) }
+{
+    if let Some(at) = index_of(rows, &place.0, &place.1) {
+        overwrite_row(&mut rows[at].1, empty, position, bytes, stamp)?;
+    }
+    Ok(())
+}
+
+/// A file cut or extended to a size.
+fn cut_row(row: &mut Row<Bytes>, empty: Bytes, size: u64, stamp: u64) -> Result<(), AllocError>
+    ensures { OnOk result (row.new ≡ changed_row (λ f. record f { present = resize f.present size; stamp = stamp }) row.old) }
+{
+    if let Row::File(file) = row {
+        let old = mem::replace(&mut file.present, empty);
+        file.present = resized(old, size)?;
+        file.stamp = stamp;
+    }
+    Ok(())
+}
+
+fn cut_at(
+    rows: &mut [PlacedRow],
+    place: &Place,
+    empty: Bytes,
+    size: u64,
+    stamp: u64,
+) -> Result<(), AllocError>
+    ensures { OnOk result (rows.new ≡ change_at place.now (λ f. record f { present = resize f.present size; stamp = stamp }) rows.old) }
+{
+    if let Some(at) = index_of(rows, &place.0, &place.1) {
+        cut_row(&mut rows[at].1, empty, size, stamp)?;
+    }
+    Ok(())
+}
+
+/// Writes bytes of the file at a place.
+fn overwrite(
+    state: &mut State<Bytes, Own>,
+    place: &Place,
+    empty: Bytes,
+    position: u64,
+    bytes: &[u8],
+    stamp: u64,
+) -> Result<(), AllocError>
+    ensures { OnOk result (state.new ≡ with_file state.old place.now (λ f. record f { present = splice f.present position bytes.now; stamp = stamp })) }
+{
+    overwrite_at(
+        state.rows.items.as_mut_slice(),
+        place,
+        empty,
+        position,
+        bytes,
+        stamp,
+    )
+}
+
+/// Cuts or extends the file at a place.
+fn cut(
+    state: &mut State<Bytes, Own>,
+    place: &Place,
+    empty: Bytes,
+    size: u64,
+    stamp: u64,
+) -> Result<(), AllocError>
+    ensures { OnOk result (state.new ≡ with_file state.old place.now (λ f. record f { present = resize f.present size; stamp = stamp })) }
+{
+    cut_at(state.rows.items.as_mut_slice(), place, empty, size, stamp)
+}
+
+/// write of an access handle, which leaves its file with a size.
+#[tactic(auto, unfolding(opfs_machine::specs::Effects::changes_file))]
+pub fn write_file(
+    alloc: Global,
+    state: &mut State<Bytes, Own>,
+    number: u32,
+    row: u32,
+    position: u64,
+    bytes: &[u8],
+    cursor: u64,
+    size: u64,
+) -> Result<(), AllocError>
+    requires agent { IsAgent state.old number }
+    requires row { IsOwn (agent_of state.old number) row }
+    ensures { OnOk result (state.new ≡ changes_file in_bytes state.old number row (λ f. splice f position bytes.now) cursor size (open_handle in_bytes state.old number row)) }
+{
+    let Some(handle) = open_handle(state, number, row) else {
+        return Ok(());
+    };
+    let place = copy_place(alloc, &handle.file)?;
+    let reserve = handle.reserve.max(blocks(size));
+    let stamp = agent(state, number).moment;
+    overwrite(
+        state,
+        &place,
+        Bytes::from_vec(Vec::new(alloc)),
+        position,
+        bytes,
+        stamp,
+    )?;
+    move_handle(state, number, row, cursor, reserve);
+    Ok(())
+}
+
+/// truncate of an access handle.
+#[tactic(auto, unfolding(opfs_machine::specs::Effects::changes_file))]
+pub fn cut_file(
+    alloc: Global,
+    state: &mut State<Bytes, Own>,
+    number: u32,
+    row: u32,
+    cursor: u64,
+    size: u64,
+) -> Result<(), AllocError>
+    requires agent { IsAgent state.old number }
+    requires row { IsOwn (agent_of state.old number) row }
+    ensures { OnOk result (state.new ≡ changes_file in_bytes state.old number row (λ f. resize f size) cursor size (open_handle in_bytes state.old number row)) }
+{
+    let Some(handle) = open_handle(state, number, row) else {
+        return Ok(());
+    };
+    let place = copy_place(alloc, &handle.file)?;
+    let reserve = handle.reserve.max(blocks(size));
+    let stamp = agent(state, number).moment;
+    cut(state, &place, Bytes::from_vec(Vec::new(alloc)), size, stamp)?;
+    move_handle(state, number, row, cursor, reserve);
+    Ok(())
+}
+
+/// Stores a file's present bytes, where the access handle may write.
+fn flush_written(
+    alloc: Global,
+    state: &mut State<Bytes, Own>,
+    mode: Mode,
+    place: &Place,
+) -> Result<(), AllocError>
+    ensures { OnOk result (state.new ≡ with_written state.old mode place.now flushed) }
+{
+    match mode {
+        Mode::ReadOnly => Ok(()),
+        Mode::ReadWrite => flush(alloc, state, place),
+    }
+}
+
+/// Gives a file its durable bytes again, where the access handle may write.
+fn undo_written(
+    alloc: Global,
+    state: &mut State<Bytes, Own>,
+    mode: Mode,
+    place: &Place,
+) -> Result<(), AllocError>
+    ensures { OnOk result (state.new ≡ with_written state.old mode place.now undone) }
+{
+    match mode {
+        Mode::ReadOnly => Ok(()),
+        Mode::ReadWrite => undo(alloc, state, place),
+    }
+}
+
+/// flush of an access handle, whose cursor is told.
+pub fn flush_handle(
+    alloc: Global,
+    state: &mut State<Bytes, Own>,
+    sizes: Sizes,
+    number: u32,
+    row: u32,
+) -> Result<(), AllocError>
+    requires agent { IsAgent state.old number }
+    requires row { IsOwn (agent_of state.old number) row }
+    ensures { OnOk result (state.new ≡ flushes in_bytes state.old sizes number row (open_handle in_bytes state.old number row)) }
+{
+    let Some(handle) = open_handle(state, number, row) else {
+        return Ok(());
+    };
+    let mode = handle.mode;
+    let place = copy_place(alloc, &handle.file)?;
+    flush_written(alloc, state, mode, &place)?;
+    move_handle(state, number, row, sizes.position, 0);
+    Ok(())
+}
+
+/// close of an access handle.
+pub fn close_handle(
+    alloc: Global,
+    state: &mut State<Bytes, Own>,
+    number: u32,
+    row: u32,
+) -> Result<(), AllocError>
+    requires agent { IsAgent state.old number }
+    requires row { IsOwn (agent_of state.old number) row }
+    ensures { OnOk result (state.new ≡ closes_handle in_bytes state.old number row (open_handle in_bytes state.old number row)) }
+{
+    let Some(handle) = open_handle(state, number, row) else {
+        return Ok(());
+    };
+    let mode = handle.mode;
+    let place = copy_place(alloc, &handle.file)?;
+    flush_written(alloc, state, mode, &place)?;
+    unlock(state, &place);
+    set_own(state, number, row, Own::ClosedHandle);
+    Ok(())
+}
+
+/// What a script's end does to an open access handle.
+pub fn discard_handle(
+    alloc: Global,
+    state: &mut State<Bytes, Own>,
+    number: u32,
+    row: u32,
+) -> Result<(), AllocError>
+    requires agent { IsAgent state.old number }
+    requires row { IsOwn (agent_of state.old number) row }
+    ensures { OnOk result (state.new ≡ discards in_bytes state.old number row (open_handle in_bytes state.old number row)) }
+{
+    let Some(handle) = open_handle(state, number, row) else {
+        return Ok(());
+    };
+    let mode = handle.mode;
+    let place = copy_place(alloc, &handle.file)?;
+    undo_written(alloc, state, mode, &place)?;
+    unlock(state, &place);
+    set_own(state, number, row, Own::ClosedHandle);
+    Ok(())
+}

@@ -1,0 +1,331 @@
+//! The plain machine, and one call of it.
+
+ghost use Rattle.std.specs.Prelude.{◌≡◌, ◌++◌, ◌∷◌, [], true, fold, map, IfOk, OnOk, IsTrue, option_map};
+ghost use Rattle.std.specs.Option.{option_copied};
+ghost use Rattle.opfs_machine.specs.Agents.{agent_of, counted};
+ghost use Rattle.opfs_machine.specs.Contents.{in_bytes};
+ghost use Rattle.opfs_machine.specs.Effects.{effect, refused};
+ghost use Rattle.opfs_machine.specs.Histories.{may_enter, LegalFrom};
+ghost use Rattle.opfs_machine.specs.Replies.{row_named, sizes_of};
+ghost use Rattle.opfs_machine.specs.Runs.{eviction, group_of, entry_of};
+ghost use Rattle.opfs_machine.specs.Steps.{judged, evicted, step, outcome_of, after_reply};
+ghost use Rattle.opfs_machine.specs.Victims.{cleared};
+ghost use Rattle.opfs_plain.specs.Known.{IsAgent, IsOwn, IsFitting};
+
+use crate::agents::agent;
+use crate::effects::apply;
+use crate::judging::ruling;
+use crate::marks::set_waiting;
+use crate::numbers::plus;
+use crate::ordered::put;
+use crate::replies::{answer, sizes_of};
+use crate::room::room_for;
+use crate::rows::remove_within;
+use crate::rulings::Ruled;
+use opfs_base::{Bytes, Key, Path, is_valid_name};
+use opfs_hist::{Entry, Op, Refusal, Reply};
+use opfs_machine::{Many, Own, State};
+use std::alloc::{AllocError, Global};
+
+/// The number of the stream or access handle that a call names; 0 where it names none.
+fn row_named(op: &Op) -> u32
+    ensures { result ≡ row_named op.now }
+{
+    match op {
+        Op::Write { row, .. }
+        | Op::Seek { row, .. }
+        | Op::Truncate { row, .. }
+        | Op::Close { row }
+        | Op::Abort { row }
+        | Op::SyncRead { row, .. }
+        | Op::SyncWrite { row, .. }
+        | Op::SyncTruncate { row, .. }
+        | Op::SyncGetSize { row }
+        | Op::SyncFlush { row }
+        | Op::SyncClose { row }
+        | Op::Discard { row } => *row,
+        _ => 0,
+    }
+}
+
+/// The refusal of a call, or the units that are cleared for it.
+#[tactic(auto, unfolding(opfs_machine::specs::Ruled::binding, opfs_machine::specs::Steps::judged))]
+fn judge(alloc: Global, state: &State<Bytes, Own>, number: u32, op: &Op) -> Ruled<Many<Key>>
+    requires { IsAgent state.now number }
+    ensures { IfOk result (λ ruled. ruled ≡ judged state.now number op.now) }
+{
+    let sizes = sizes_of(state, number, row_named(op));
+    let need = match ruling(alloc, state, sizes, number, op)? {
+        Ok(need) => need,
+        Err(refusal) => return Ok(Err(refusal)),
+    };
+    room_for(alloc, state, agent(state, number).key.as_ref(), need)
+}
+
+/// The key of an agent's origin; None for an opaque one, and where there is no such agent.
+fn key_of(alloc: Global, state: &State<Bytes, Own>, number: u32) -> Result<Option<Key>, AllocError>
+    ensures { IfOk result (λ key. key ≡ (agent_of state.now number).key) }
+{
+    if number == 0 {
+        return Ok(None);
+    }
+    match state.agents.items.get(number as usize - 1) {
+        None => Ok(None),
+        Some(agent) => copy_key(alloc, agent.key.as_ref()),
+    }
+}
+
+/// A copy of a key that may be there.
+fn copy_key(alloc: Global, key: Option<&Key>) -> Result<Option<Key>, AllocError>
+    ensures { IfOk result (λ copy. copy ≡ option_copied key.entry) }
+{
+    match key {
+        None => Ok(None),
+        Some(key) => Ok(Some(key.copy(alloc)?)),
+    }
+}
+
+/// Counts an entry of an agent, which is the last use of its origin.
+fn count(alloc: Global, state: &mut State<Bytes, Own>, number: u32) -> Result<(), AllocError>
+    ensures { OnOk result (state.new ≡ counted state.old number) }
+{
+    let entry = plus(state.entries, 1)?;
+    if let Some(origin) = key_of(alloc, state, number)? {
+        put(&mut state.used.items, origin, entry)?;
+    }
+    state.entries = entry;
+    Ok(())
+}
+
+/// What a refused call changes.
+fn refuse(state: &mut State<Bytes, Own>, number: u32, op: &Op)
+    requires { IsAgent state.old number }
+    ensures { state.new ≡ refused state.old number op.now }
+{
+    if let Op::Await { .. } = op {
+        set_waiting(state, number, None);
+    }
+}
+
+/// Clears a unit.
+fn evict(alloc: Global, state: &mut State<Bytes, Own>, unit: &Key) -> Result<(), AllocError>
+    ensures { OnOk result (state.new ≡ evicted state.old unit.now) }
+{
+    let entry = plus(state.entries, 1)?;
+    let root = (unit.copy(alloc)?, Path::root(alloc));
+    remove_within(&mut state.rows.items, &root);
+    state.entries = entry;
+    Ok(())
+}
+
+/// Clears units, each with an entry.
+fn evict_all(
+    alloc: Global,
+    state: &mut State<Bytes, Own>,
+    entries: &mut Vec<Entry>,
+    units: Many<Key>,
+) -> Result<(), AllocError>
+    ensures state { OnOk result (state.new ≡ fold evicted state.old units) }
+    ensures told { OnOk result (entries.new.items ≡ entries.old.items ++ map eviction units) }
+{
+    for unit in units.items {
+        evict(alloc, state, &unit)?;
+        entries.push(Entry {
+            agent: 0,
+            number: 0,
+            op: Op::Evict {
+                key: unit.copy(alloc)?,
+            },
+            reply: Reply::Gone(unit),
+            turn: true,
+        })?;
+    }
+    Ok(())
+}
+
+/// A refused call.
+fn enter_refused(
+    alloc: Global,
+    state: &mut State<Bytes, Own>,
+    entries: &mut Vec<Entry>,
+    agent: u32,
+    number: u32,
+    op: Op,
+    refusal: Refusal,
+) -> Result<(), AllocError>
+    requires { IsAgent state.old agent }
+    ensures state { OnOk result (state.new ≡ (outcome_of state.old agent op (Err refusal)).after) }
+    ensures told { OnOk result (entries.new.items ≡ entries.old.items ++ group_of state.old (record { agent = agent; number = number; op = op }) (outcome_of state.old agent op (Err refusal))) }
+{
+    refuse(state, agent, &op);
+    count(alloc, state, agent)?;
+    entries.push(Entry {
+        agent,
+        number,
+        op,
+        reply: Reply::No(refusal),
+        turn: true,
+    })?;
+    Ok(())
+}
+
+/// A call that is not refused, once the evictions before it are done: its effect and its count.
+fn perform(
+    alloc: Global,
+    state: &mut State<Bytes, Own>,
+    agent: u32,
+    op: &Op,
+) -> Result<(), AllocError>
+    requires agent { IsAgent state.old agent }
+    requires fitting { IsFitting state.old agent op.now }
+    ensures { OnOk result (state.new ≡ counted (effect in_bytes state.old (sizes_of state.old agent op.now) agent op.now) agent) }
+{
+    let sizes = sizes_of(state, agent, row_named(op));
+    apply(alloc, state, sizes, agent, op)?;
+    count(alloc, state, agent)?;
+    Ok(())
+}
+
+/// Whether there is an agent of a number.
+fn is_agent(state: &State<Bytes, Own>, number: u32) -> bool
+    ensures { IsTrue result → IsAgent state.now number }
+{
+    number > 0 && number as usize <= state.agents.items.len()
+}
+
+/// Whether an agent has an own row of a number.
+fn has_row(state: &State<Bytes, Own>, number: u32, row: u32) -> bool
+    requires { IsAgent state.now number }
+    ensures { IsTrue result → IsOwn (agent_of state.now number) row }
+{
+    row > 0 && row as usize <= agent(state, number).own.items.len()
+}
+
+/// Whether a call's name is valid where it makes or removes a child, and its row is there where it changes one.
+#[tactic(auto, unfolding(crate::specs::Known::IsFittingFor))]
+fn is_fitting(state: &State<Bytes, Own>, number: u32, op: &Op) -> bool
+    requires { IsAgent state.now number }
+    ensures { IsTrue result → IsFitting state.now number op.now }
+{
+    match op {
+        Op::GetDirectoryHandle { name, .. }
+        | Op::GetFileHandle { name, .. }
+        | Op::RemoveEntry { name, .. } => is_valid_name(name.as_str()),
+        Op::Next { row, .. }
+        | Op::Write { row, .. }
+        | Op::Seek { row, .. }
+        | Op::Truncate { row, .. }
+        | Op::Close { row }
+        | Op::Abort { row }
+        | Op::SyncRead { row, .. }
+        | Op::SyncWrite { row, .. }
+        | Op::SyncTruncate { row, .. }
+        | Op::SyncFlush { row }
+        | Op::SyncClose { row }
+        | Op::Discard { row } => has_row(state, number, *row),
+        _ => true,
+    }
+}
+
+/// The evictions of a call that is not refused, its effect and its count.
+fn evict_and_perform(
+    alloc: Global,
+    state: &mut State<Bytes, Own>,
+    entries: &mut Vec<Entry>,
+    agent: u32,
+    op: &Op,
+    units: Many<Key>,
+) -> Result<(), AllocError>
+    ensures state { OnOk result (state.new ≡ (outcome_of state.old agent op.now (Ok units)).after) }
+    ensures told { OnOk result (entries.new.items ≡ entries.old.items ++ map eviction units) }
+{
+    evict_all(alloc, state, entries, units)?;
+    if !is_agent(state, agent) || !is_fitting(state, agent, op) {
+        return Err(AllocError);
+    }
+    perform(alloc, state, agent, op)?;
+    Ok(())
+}
+
+/// Tells an entry.
+fn tell(
+    entries: &mut Vec<Entry>,
+    agent: u32,
+    number: u32,
+    op: Op,
+    reply: Reply,
+) -> Result<(), AllocError>
+    ensures { OnOk result (entries.new.items ≡ entries.old.items ++ record { agent = agent; number = number; op = op; reply = reply; turn = true } ∷ []) }
+{
+    entries.push(Entry {
+        agent,
+        number,
+        op,
+        reply,
+        turn: true,
+    })?;
+    Ok(())
+}
+
+/// A call that is not refused, and the evictions before it.
+fn enter_accepted(
+    alloc: Global,
+    state: &mut State<Bytes, Own>,
+    entries: &mut Vec<Entry>,
+    agent: u32,
+    number: u32,
+    op: Op,
+    units: Many<Key>,
+) -> Result<(), AllocError>
+    requires { IsAgent state.old agent }
+    ensures state { OnOk result (state.new ≡ (outcome_of state.old agent op (Ok units)).after) }
+    ensures told { OnOk result (entries.new.items ≡ entries.old.items ++ group_of state.old (record { agent = agent; number = number; op = op }) (outcome_of state.old agent op (Ok units))) }
+{
+    let sizes = sizes_of(state, agent, row_named(&op));
+    let reply = match answer(alloc, state, sizes, agent, &op) {
+        Ok(reply) => reply,
+        Err(error) => {
+            drop(op);
+            drop(units);
+            return Err(error);
+        }
+    };
+    match evict_and_perform(alloc, state, entries, agent, &op, units) {
+        Ok(()) => {
+            tell(entries, agent, number, op, reply)?;
+            Ok(())
+        }
+        Err(error) => {
+            drop(op);
+            drop(reply);
+            Err(error)
+        }
+    }
+}
+
+/// A call, with the evictions before it.
+#[tactic(auto, unfolding(opfs_machine::specs::Steps::step))]
+pub fn enter(
+    alloc: Global,
+    state: &mut State<Bytes, Own>,
+    entries: &mut Vec<Entry>,
+    agent: u32,
+    number: u32,
+    op: Op,
+) -> Result<(), AllocError>
+    requires { IsAgent state.old agent }
+    ensures state { OnOk result (state.new ≡ (step state.old agent op).after) }
+    ensures told { OnOk result (entries.new.items ≡ entries.old.items ++ group_of state.old (record { agent = agent; number = number; op = op }) (step state.old agent op)) }
+{
+    let ruled = match judge(alloc, state, agent, &op) {
+        Ok(ruled) => ruled,
+        Err(error) => {
+            drop(op);
+            return Err(error);
+        }
+    };
+    match ruled {
+        Err(refusal) => enter_refused(alloc, state, entries, agent, number, op, refusal),
+        Ok(units) => enter_accepted(alloc, state, entries, agent, number, op, units),
+    }
+}

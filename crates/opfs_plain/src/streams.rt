@@ -1,0 +1,248 @@
+//! What calls change of streams.
+
+ghost use Rattle.std.specs.Prelude.{◌≡◌, ◌+◌, OnOk, length, if◌then◌else◌, IfOk};
+ghost use Rattle.opfs_base.specs.Places.{place_of};
+ghost use Rattle.opfs_machine.specs.Contents.{in_bytes, written_row, truncated_row, sought_row};
+ghost use Rattle.opfs_machine.specs.Effects.{opens_stream, with_changed, closes_stream, aborts_stream};
+ghost use Rattle.opfs_machine.specs.Rows.{file_at};
+ghost use Rattle.opfs_machine.specs.Rulings.{first_reserve};
+ghost use Rattle.opfs_plain.specs.Known.{IsAgent, IsOwn};
+ghost use Rattle.opfs_machine.specs.Agents.{agent_of, open_stream};
+ghost use Rattle.opfs_machine.specs.declared.state.Sizes.{Sizes};
+ghost use Rattle.opfs_splice.specs.Splicing.{splice, resize};
+
+use crate::agents::{add_own, agent, own_row, set_own};
+use crate::files::{lock, replace, unlock};
+use crate::numbers::plus;
+use crate::rulings::{file_at, first_reserve};
+use opfs_base::{Bytes, Locator};
+use opfs_locks::Want;
+use opfs_machine::{Own, Place, State, StreamRow};
+use opfs_splice::{patch, resize};
+use std::alloc::{AllocError, Global};
+use std::mem;
+
+/// Where a locator's entry stands.
+pub fn place_of(alloc: Global, at: &Locator) -> Result<Place, AllocError>
+    ensures { IfOk result (λ place. place ≡ place_of at.now) }
+{
+    Ok((at.key.copy(alloc)?, at.path.copy(alloc)?))
+}
+
+/// createWritable.
+pub fn open_stream(
+    alloc: Global,
+    state: &mut State<Bytes, Own>,
+    number: u32,
+    at: &Locator,
+    keep: bool,
+) -> Result<(), AllocError>
+    requires { IsAgent state.old number }
+    ensures { OnOk result (state.new ≡ opens_stream in_bytes state.old number (place_of at.now)
+        (first_reserve in_bytes state.old at.now keep) keep (file_at state.old (place_of at.now))) }
+{
+    let Some(file) = file_at(state, &at.key, &at.path) else {
+        return Ok(());
+    };
+    let buffer = if keep {
+        file.present.copy(alloc)?
+    } else {
+        Bytes::from_vec(Vec::new(alloc))
+    };
+    let reserve = first_reserve(Some(file), keep);
+    let place = place_of(alloc, at)?;
+    lock(state, &place, Want::Shared)?;
+    add_own(
+        state,
+        number,
+        Own::Stream(StreamRow {
+            file: place,
+            buffer,
+            offset: 0,
+            reserve,
+        }),
+    )
+}
+
+/// The bytes with others written at a position.
+pub fn spliced(old: Bytes, position: u64, new: &[u8]) -> Result<Bytes, AllocError>
+    ensures { IfOk result (λ bytes. bytes ≡ splice old position new.now) }
+{
+    let mut buffer = old.into_vec();
+    let end = plus(position, new.len() as u64)? as usize;
+    if end > buffer.capacity() {
+        buffer.reserve(end - buffer.len())?;
+    }
+    patch(&mut buffer, position, new);
+    Ok(Bytes::from_vec(buffer))
+}
+
+/// The bytes cut or extended to a size.
+pub fn resized(old: Bytes, size: u64) -> Result<Bytes, AllocError>
+    ensures { IfOk result (λ bytes. bytes ≡ resize old size) }
+{
+    let mut buffer = old.into_vec();
+    let wanted = size as usize;
+    if wanted > buffer.capacity() {
+        buffer.reserve(wanted - buffer.len())?;
+    }
+    resize(&mut buffer, size);
+    Ok(Bytes::from_vec(buffer))
+}
+
+/// A write of a stream.
+fn write_row(row: Own, position: u64, bytes: &[u8], reserve: u64) -> Result<Own, AllocError>
+    ensures { IfOk result (λ after. after ≡ written_row row position bytes.now reserve) }
+{
+    let Own::Stream(stream) = row else {
+        return Ok(row);
+    };
+    let StreamRow {
+        file,
+        buffer,
+        offset: _,
+        reserve: _,
+    } = stream;
+    let buffer = spliced(buffer, position, bytes)?;
+    let offset = plus(position, bytes.len() as u64)?;
+    Ok(Own::Stream(StreamRow {
+        file,
+        buffer,
+        offset,
+        reserve,
+    }))
+}
+
+/// write of a stream, with the reserve that it then has.
+#[tactic(auto, unfolding(opfs_machine::specs::Effects::with_changed))]
+pub fn write(
+    state: &mut State<Bytes, Own>,
+    number: u32,
+    row: u32,
+    position: u64,
+    bytes: &[u8],
+    reserve: u64,
+) -> Result<(), AllocError>
+    requires agent { IsAgent state.old number }
+    requires row { IsOwn (agent_of state.old number) row }
+    ensures { OnOk result (state.new ≡ with_changed state.old number row (λ r. written_row r position bytes.now reserve)) }
+{
+    let agent = &mut state.agents.items[number as usize - 1];
+    let own = &mut agent.own.items[row as usize - 1];
+    let old = mem::replace(own, Own::ClosedStream);
+    *own = write_row(old, position, bytes, reserve)?;
+    Ok(())
+}
+
+/// A truncate of a stream.
+fn truncate_row(row: Own, size: u64, reserve: u64) -> Result<Own, AllocError>
+    ensures { IfOk result (λ after. after ≡ truncated_row row size reserve) }
+{
+    let Own::Stream(stream) = row else {
+        return Ok(row);
+    };
+    let StreamRow {
+        file,
+        buffer,
+        offset,
+        reserve: _,
+    } = stream;
+    let buffer = resized(buffer, size)?;
+    Ok(Own::Stream(StreamRow {
+        file,
+        buffer,
+        offset: offset.min(size),
+        reserve,
+    }))
+}
+
+/// truncate of a stream, with the reserve that it then has.
+#[tactic(auto, unfolding(opfs_machine::specs::Effects::with_changed))]
+pub fn truncate(
+    state: &mut State<Bytes, Own>,
+    number: u32,
+    row: u32,
+    size: u64,
+    reserve: u64,
+) -> Result<(), AllocError>
+    requires agent { IsAgent state.old number }
+    requires row { IsOwn (agent_of state.old number) row }
+    ensures { OnOk result (state.new ≡ with_changed state.old number row (λ r. truncated_row r size reserve)) }
+{
+    let agent = &mut state.agents.items[number as usize - 1];
+    let own = &mut agent.own.items[row as usize - 1];
+    let old = mem::replace(own, Own::ClosedStream);
+    *own = truncate_row(old, size, reserve)?;
+    Ok(())
+}
+
+/// A seek of a stream.
+fn seek_row(row: &mut Own, offset: u64)
+    ensures { row.new ≡ sought_row row.old offset }
+{
+    if let Own::Stream(stream) = row {
+        stream.offset = offset;
+    }
+}
+
+/// seek of a stream.
+#[tactic(auto, unfolding(opfs_machine::specs::Effects::with_changed))]
+pub fn seek(state: &mut State<Bytes, Own>, number: u32, row: u32, offset: u64)
+    requires agent { IsAgent state.old number }
+    requires row { IsOwn (agent_of state.old number) row }
+    ensures { state.new ≡ with_changed state.old number row (λ r. sought_row r offset) }
+{
+    let agent = &mut state.agents.items[number as usize - 1];
+    seek_row(&mut agent.own.items[row as usize - 1], offset);
+}
+
+/// A copy of a place.
+pub fn copy_place(alloc: Global, place: &Place) -> Result<Place, AllocError>
+    ensures { IfOk result (λ copy. copy ≡ place.now) }
+{
+    Ok((place.0.copy(alloc)?, place.1.copy(alloc)?))
+}
+
+/// close of a stream: its file has the buffer, for good.
+pub fn close_stream(
+    alloc: Global,
+    state: &mut State<Bytes, Own>,
+    number: u32,
+    row: u32,
+) -> Result<(), AllocError>
+    requires agent { IsAgent state.old number }
+    requires row { IsOwn (agent_of state.old number) row }
+    ensures { OnOk result ((z : Sizes) → state.new ≡ closes_stream in_bytes state.old z number row (open_stream in_bytes state.old number row)) }
+{
+    let Some(Own::Stream(stream)) = own_row(state, number, row) else {
+        return Ok(());
+    };
+    let present = stream.buffer.copy(alloc)?;
+    let durable = stream.buffer.copy(alloc)?;
+    let place = copy_place(alloc, &stream.file)?;
+    let stamp = agent(state, number).moment;
+    replace(state, &place, present, durable, stamp);
+    unlock(state, &place);
+    set_own(state, number, row, Own::ClosedStream);
+    Ok(())
+}
+
+/// abort of a stream.
+pub fn abort_stream(
+    alloc: Global,
+    state: &mut State<Bytes, Own>,
+    number: u32,
+    row: u32,
+) -> Result<(), AllocError>
+    requires agent { IsAgent state.old number }
+    requires row { IsOwn (agent_of state.old number) row }
+    ensures { OnOk result (state.new ≡ aborts_stream in_bytes state.old number row (open_stream in_bytes state.old number row)) }
+{
+    let Some(Own::Stream(stream)) = own_row(state, number, row) else {
+        return Ok(());
+    };
+    let place = copy_place(alloc, &stream.file)?;
+    unlock(state, &place);
+    set_own(state, number, row, Own::ClosedStream);
+    Ok(())
+}
