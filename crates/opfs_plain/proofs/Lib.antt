@@ -3,3 +3,4 @@ pub mod UnitBytes
 pub mod AgentSums
 pub mod Cleared
 pub mod Roots
+pub mod Kept

@@ -15,6 +15,7 @@ pub mod machine;
 mod marks;
 mod numbers;
 mod ordered;
+pub mod plain;
 mod removals;
 mod replies;
 mod room;
@@ -25,4 +26,5 @@ mod streams;
 mod sums;
 
 pub use machine::enter;
+pub use plain::Plain;
 pub use standing::may_enter;

@@ -187,7 +187,7 @@ fn perform(
 }
 
 /// Whether there is an agent of a number.
-fn is_agent(state: &State<Bytes, Own>, number: u32) -> bool
+pub fn is_agent(state: &State<Bytes, Own>, number: u32) -> bool
     ensures { IsTrue result → IsAgent state.now number }
 {
     number > 0 && number as usize <= state.agents.items.len()
