@@ -1,0 +1,201 @@
+//! The pool of data blocks.
+
+ghost use Rattle.std.specs.Prelude.{◌≡◌, ◌+◌, ◌-◌, ◌≤◌, ◌↔◌, [], true, false, IsTrue, IfOk, OnOk, OnErr};
+ghost use Rattle.opfs_pool.specs.Shares.{has_share, share_at, held, touched, changed};
+ghost use Rattle.opfs_pool.specs.Victims.{victims};
+
+use crate::shares::{set_share, share_at};
+use crate::victims::{Keys, candidates, shortest_front};
+use opfs_base::Key;
+use std::alloc::{AllocError, Global};
+use std::collections::BTreeMap;
+use std::marker::Model;
+
+/// What a unit keeps of the pool.
+#[derive(Clone, Copy, Debug, PartialEq, Eq)]
+pub struct Share {
+    /// Whether the unit may be cleared: it is best-effort, has a root and no taken lock.
+    pub candidate: bool,
+    /// The last use of the unit's origin, as a position in the history.
+    pub last: u64,
+    /// The blocks that are kept for the unit's files and open rows.
+    pub blocks: u64,
+}
+
+/// A share as it first is: of no blocks, of a unit that was never used and is no candidate.
+pub const FIRST: Share = Share {
+    candidate: false,
+    last: 0,
+    blocks: 0,
+};
+
+/// A number of data blocks, and the shares that units have of them, in the order of the units' texts. No more blocks
+/// are kept than there are.
+#[derive(Drop)]
+pub struct Pool {
+    size: u64,
+    count: u64,
+    shares: BTreeMap<Key, Share>,
+    alloc: Global,
+}
+
+impl Model for Pool {
+    ghost use Rattle.std.specs.Prelude.{◌≡◌, ◌≤◌};
+    ghost use Rattle.opfs_pool.specs.Shares.{Blocks, held};
+
+    ghost Value = { Blocks };
+
+    ghost view = { λ pool. record { size = pool.size; shares = pool.shares.entries } };
+
+    ghost invariant = { λ pool. (pool.count ≡ held pool.shares.entries) × (pool.count ≤ pool.size) };
+}
+
+impl Pool {
+    /// A pool of so many blocks, without shares. Takes no memory.
+    pub fn make(alloc: Global, size: u64) -> Pool
+        ensures { result ≡ record { size = size; shares = [] } }
+    {
+        Pool {
+            size,
+            count: 0,
+            shares: BTreeMap::new(alloc),
+            alloc,
+        }
+    }
+
+    /// The blocks of all shares together.
+    pub fn count(&self) -> u64
+        ensures count { result ≡ held self.now.shares }
+        ensures within { result ≤ self.now.size }
+    {
+        self.count
+    }
+
+    /// Whether so many blocks more are there, in one step.
+    pub fn room(&self, need: u64) -> bool
+        ensures { IsTrue result ↔ (held self.now.shares + need ≤ self.now.size) }
+    {
+        need <= self.size - self.count
+    }
+
+    /// Gives a unit a share, where it has none one of no blocks, never used and no candidate. Where there is no memory the
+    /// pool is as before.
+    pub fn touch(&mut self, key: &Key) -> Result<(), AllocError>
+        ensures there { OnOk result (IsTrue (has_share self.new.shares key.now)) }
+        ensures touched { OnOk result (self.new ≡ record self.old { shares = touched self.old.shares key.now }) }
+        ensures held { held self.new.shares ≡ held self.old.shares }
+        ensures err { OnErr result (self.new ≡ self.old) }
+    {
+        if self.shares.contains_key(key) {
+            return Ok(());
+        }
+        let key = key.copy(self.alloc)?;
+        self.shares.insert(key, FIRST)?;
+        Ok(())
+    }
+
+    /// Keeps so many blocks more for a unit. Takes no memory.
+    pub fn raise(&mut self, key: &Key, n: u64)
+        requires there { IsTrue (has_share self.old.shares key.now) }
+        requires room { held self.old.shares + n ≤ self.old.size }
+        ensures share { self.new ≡ changed self.old key.now (record (share_at self.old.shares key.now) { blocks = (share_at self.old.shares key.now).blocks + n }) }
+        ensures held { held self.new.shares ≡ held self.old.shares + n }
+    {
+        let Share {
+            candidate,
+            last,
+            blocks,
+        } = share_at(&self.shares, key);
+        let blocks = blocks + n;
+        self.put(
+            key,
+            Share {
+                candidate,
+                last,
+                blocks,
+            },
+        );
+    }
+
+    /// Keeps so many blocks less for a unit. Takes no memory.
+    pub fn lower(&mut self, key: &Key, n: u64)
+        requires { n ≤ (share_at self.old.shares key.now).blocks }
+        ensures share { self.new ≡ changed self.old key.now (record (share_at self.old.shares key.now) { blocks = (share_at self.old.shares key.now).blocks - n }) }
+        ensures held { held self.new.shares + n ≡ held self.old.shares }
+    {
+        let Share {
+            candidate,
+            last,
+            blocks,
+        } = share_at(&self.shares, key);
+        let blocks = blocks - n;
+        self.put(
+            key,
+            Share {
+                candidate,
+                last,
+                blocks,
+            },
+        );
+    }
+
+    /// Keeps no block for a unit, which is no candidate then. Takes no memory.
+    pub fn clear(&mut self, key: &Key)
+        ensures share { self.new ≡ changed self.old key.now (record (share_at self.old.shares key.now) { candidate = false; blocks = 0 }) }
+        ensures held { held self.new.shares + (share_at self.old.shares key.now).blocks ≡ held self.old.shares }
+    {
+        let Share { last, .. } = share_at(&self.shares, key);
+        let candidate = false;
+        let blocks = 0;
+        self.put(
+            key,
+            Share {
+                candidate,
+                last,
+                blocks,
+            },
+        );
+    }
+
+    /// Sets whether a unit may be cleared, and its origin's last use. Takes no memory.
+    pub fn mark(&mut self, key: &Key, candidate: bool, last: u64)
+        requires { IsTrue (has_share self.old.shares key.now) }
+        ensures share { self.new ≡ changed self.old key.now (record (share_at self.old.shares key.now) { candidate = candidate; last = last }) }
+        ensures held { held self.new.shares ≡ held self.old.shares }
+    {
+        let Share { blocks, .. } = share_at(&self.shares, key);
+        self.put(
+            key,
+            Share {
+                candidate,
+                last,
+                blocks,
+            },
+        );
+    }
+
+    /// The units that are cleared so that so many blocks more find room: the shortest front of the candidates that are not
+    /// of the caller's origin, by last use and then by text. None where all together are not enough.
+    pub fn victims(&self, caller: &Key, need: u64) -> Result<Option<Keys>, AllocError>
+        ensures { IfOk result (λ units. units ≡ victims self.now caller.now need) }
+    {
+        let lacking = need.saturating_sub(self.size - self.count);
+        let sorted = candidates(self.alloc, caller, &self.shares)?;
+        let units = shortest_front(self.alloc, lacking, &sorted)?;
+        Ok(units)
+    }
+
+    // Changes the share of a unit that has one; none is changed to no blocks alone.
+    fn put(&mut self, key: &Key, share: Share)
+        requires absent { has_share self.old.shares key.now ≡ false → share.blocks ≡ 0 }
+        requires room { held self.old.shares + share.blocks ≤ self.old.size + (share_at self.old.shares key.now).blocks }
+        ensures share { self.new ≡ changed self.old key.now share }
+        ensures held { held self.new.shares + (share_at self.old.shares key.now).blocks ≡ held self.old.shares + share.blocks }
+    {
+        let Some(old) = self.shares.get(key) else {
+            return;
+        };
+        self.count = self.count - old.blocks + share.blocks;
+        set_share(&mut self.shares, key, share);
+    }
+}

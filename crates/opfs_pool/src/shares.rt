@@ -1,0 +1,27 @@
+//! Shares by their units, in a map that takes no memory to change one.
+
+ghost use Rattle.std.specs.Prelude.{◌≡◌};
+ghost use Rattle.opfs_pool.specs.Shares.{share_at, with_share};
+
+use crate::pool::{FIRST, Share};
+use opfs_base::Key;
+use std::collections::BTreeMap;
+
+/// The share of a unit, as it first is where the unit has none.
+pub fn share_at(shares: &BTreeMap<Key, Share>, unit: &Key) -> Share
+    ensures { result ≡ share_at shares.now.entries unit.now }
+{
+    match shares.get(unit) {
+        Some(share) => *share,
+        None => FIRST,
+    }
+}
+
+/// Changes the share of a unit that has one.
+pub fn set_share(shares: &mut BTreeMap<Key, Share>, unit: &Key, share: Share)
+    ensures { shares.new.entries ≡ with_share shares.old.entries unit.now share }
+{
+    if let Some(place) = shares.get_mut(unit) {
+        *place = share;
+    }
+}
