@@ -1,0 +1,3 @@
+pub mod Agentless
+pub mod Made
+pub mod Runs

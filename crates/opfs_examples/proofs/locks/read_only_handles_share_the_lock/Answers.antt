@@ -1,0 +1,25 @@
+use Rattle.std.proofs.Common.{◌≡◌, refl}
+use Rattle.std.specs.Fmt.{digits}
+use Rattle.hex.proofs.OnLiterals.{hex_on_literals}
+use Rattle.serde_json.proofs.OnLiterals.{serde_json_on_literals}
+use Rattle.opfs_hist.specs.declared.reply.Refusal.TheVariants as refusal
+use Rattle.opfs_locks.specs.declared.LockValue.TheVariants as value
+use Rattle.opfs_machine.specs.Machine.{whole_machine}
+use Rattle.opfs_examples.specs.Trying.{try_opening, one_agent, refused, locked}
+use Rattle.opfs_examples.specs.Locks.{read_only_handles_share_the_lock_history}
+use Rattle.opfs_examples.proofs.Runs.{legal-by_run, differs}
+use Rattle.opfs_examples.proofs.locks.read_only_handles_share_the_lock.Goals as goal
+
+other : (locked value.ReadOnly 1) ≡ (locked value.ReadOnly 2) → ⊥
+other e = cc
+
+sound : (locked value.ReadOnly 1) ≡ refused refusal.DiskFault → ⊥
+sound e = cc
+
+pub returns : goal.returns
+unfolding whole_machine digits hex_on_literals serde_json_on_literals
+returns c = record {
+  legal = legal-by_run (try_opening one_agent) read_only_handles_share_the_lock_history refl refl;
+  text = refl;
+  strict = λ h. differs _ _ _ (locked value.ReadOnly 2) refl other sound h.1.1.1.1.1.1.1.0;
+}

@@ -1,0 +1,12 @@
+pub mod Buckets
+pub mod Determined
+pub mod Directories
+pub mod Faults
+pub mod Handles
+pub mod Locks
+pub mod Names
+pub mod Nobody
+pub mod Room
+pub mod Streams
+pub mod Tags
+pub mod Trying

@@ -1,0 +1,15 @@
+//! Worked examples: histories that are legal, their transcripts, and an answer that each of them refuses. Each is the
+//! contract of a function that does nothing.
+#![tactic(auto)]
+
+pub mod buckets;
+pub mod determined;
+pub mod directories;
+pub mod faults;
+pub mod handles;
+pub mod locks;
+pub mod names;
+pub mod nobody;
+pub mod room;
+pub mod streams;
+pub mod tags;

@@ -1,0 +1,18 @@
+//! Examples of streams.
+
+ghost use Rattle.opfs_examples.specs.Streams.{AFileIsWritten, AWritePastTheEndFillsWithZeros, ACutStreamMovesItsOffset};
+
+/// A file is made, written through a stream, and read.
+pub fn a_file_is_written()
+    ensures { AFileIsWritten }
+{}
+
+/// A write behind the end fills what lies between with zeros, and a close sets the time stamp.
+pub fn a_write_past_the_end_fills_with_zeros()
+    ensures { AWritePastTheEndFillsWithZeros }
+{}
+
+/// A stream that is cut writes on at its new end, and bytes that it grew by are zeros.
+pub fn a_cut_stream_moves_its_offset()
+    ensures { ACutStreamMovesItsOffset }
+{}
