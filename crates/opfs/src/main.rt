@@ -1,0 +1,40 @@
+//! The program `opfs`: the one call, over the process's words, standard input and standard output.
+#![tactic(auto)]
+
+mod streams;
+
+use opfs_base::{Bytes, Words};
+use opfs_top::{Status, opfs};
+use std::alloc::AllocError;
+use std::env::{self, Env};
+use std::io::ErrorKind;
+use std::process::ExitCode;
+use streams::{StdinSource, StdoutSink};
+
+/// The words of the command line behind the program's name. Where one is no UTF-8 there are none.
+fn words_of<R: Env + AllocGlobal>(rt: &R) -> Result<Words, AllocError> {
+    let mut words = Vec::new(rt.alloc());
+    match env::args(rt) {
+        Ok(args) => {
+            for word in args.skip(1) {
+                words.push(Bytes::from_vec(word.into_bytes()))?;
+            }
+        }
+        Err(error) => {
+            if error.kind() == ErrorKind::OutOfMemory {
+                return Err(AllocError);
+            }
+        }
+    }
+    Ok(Words::from_vec(words))
+}
+
+fn main(rt: HostRuntime) -> ExitCode {
+    let mut source = StdinSource::make(rt.stdin());
+    let mut sink = StdoutSink::make(rt.stdout());
+    let status = match words_of(&rt) {
+        Ok(words) => opfs(rt.alloc(), &words, &mut source, &mut sink),
+        Err(_) => Status::Memory,
+    };
+    ExitCode::from(status.number())
+}

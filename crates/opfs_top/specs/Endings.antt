@@ -1,0 +1,142 @@
+-- How the command `try` ends, and what it puts out. This project's own.
+use Rattle.std.specs.Prelude.{◌≡◌, ◌⊎◌, ℕ, ◌<◌, ◌≤◌, Bool, true, false, List, [], ◌∷◌, ◌++◌, length, Option, Some, None, Result, Ok, Err, codes, IsTrue}
+use Rattle.opfs_base.specs.Texts.{Text, same_text}
+use Rattle.opfs_hist.specs.declared.entry.Entry.{Entry}
+use Rattle.opfs_outside.specs.Faults.{Rose}
+use Rattle.opfs_print.specs.declared.end.BadScript.{BadScript}
+use Rattle.opfs_print.specs.declared.end.BadScript.TheVariants as bad
+use Rattle.opfs_print.specs.declared.end.End.TheVariants as end
+use Rattle.opfs_print.specs.Lines.{text_of}
+use Rattle.opfs_print.specs.Status.{status_text}
+use Rattle.opfs_script.specs.declared.refusal.ScriptRefusal.{ScriptRefusal}
+use Rattle.opfs_script.specs.declared.refusal.ScriptRefusal.TheVariants as refused
+use Rattle.opfs_script.specs.Reading.{reads}
+use Rattle.opfs_script.specs.Scripts.{Asked}
+use Rattle.opfs_trial.specs.Trials.{IsTrial}
+use Rattle.opfs_top.specs.declared.status.Status.{Status}
+use Rattle.opfs_top.specs.declared.status.Status.TheVariants as status
+
+-- The number of a status.
+abbrev pub number_of : Status → ℕ
+number_of status.Done = 0
+number_of status.Usage = 1
+number_of status.Script = 2
+number_of status.Image = 3
+number_of status.Host = 4
+number_of status.Source = 5
+number_of status.Sink = 6
+number_of status.Memory = 7
+
+-- Whether the words ask for a trial: the one word `try`.
+abbrev pub is_try : List Text → Bool
+is_try (word ∷ []) = same_text word (codes "try")
+is_try words = false
+
+-- The most bytes that a script may have.
+abbrev pub most_bytes : ℕ
+most_bytes = 16777216
+
+-- A source was read to its end, and gave these bytes.
+pub record IsReadWhole (tells : Type 0) (before after bytes : Text) : Type 0 where
+  pub all : tells → before ≡ bytes
+  pub end : tells → after ≡ []
+  pub fits : length bytes ≤ most_bytes
+
+-- More bytes were read of a source than a script may have.
+pub record IsReadTooFar (tells : Type 0) (before after : Text) : Type 0 where
+  pub read : Text
+  pub long : most_bytes < length read
+  pub all : tells → before ≡ read ++ after
+
+-- Why a script is refused, as the status line says it.
+abbrev pub told_as : ScriptRefusal → Option BadScript
+told_as refused.NotJson = Some bad.NotJson
+told_as (refused.BadShape agent step) = Some (bad.BadShape agent step)
+told_as (refused.UnknownStep agent step) = Some (bad.UnknownStep agent step)
+told_as (refused.BadOrigin agent) = Some (bad.BadOrigin agent)
+told_as refused.TooMany = Some bad.TooMany
+told_as refused.NoMemory = None
+
+-- The text is the line that says why a script is refused.
+pub record IsRefusal (why : ScriptRefusal) (text : Text) : Type 0 where
+  pub told : BadScript
+  pub same : told_as why ≡ Some told
+  pub line : text ≡ status_text (end.Script told)
+
+-- Bytes are refused as a script, and the text is the line that says why.
+pub record IsRefused (bytes text : Text) : Type 0 where
+  pub why : ScriptRefusal
+  pub refused : reads bytes ≡ Err why
+  pub line : IsRefusal why text
+
+-- The text is the transcript of one history of a trial of the script.
+pub record IsTrialText (script : List Asked) (text : Text) : Type 0 where
+  pub history : List Entry
+  pub trial : IsTrial script history
+  pub lines : text ≡ text_of history
+
+-- Bytes read as a script, and the text is the transcript of one history of a trial of it.
+pub record IsTranscript (bytes text : Text) : Type 0 where
+  pub script : List Asked
+  pub read : reads bytes ≡ Ok script
+  pub trial : IsTrialText script text
+
+-- The script was read to its end, and it ran.
+pub record IsDone (words : List Text) (tells : Type 0) (before after text : Text) : Type 0 where
+  pub asked : IsTrue (is_try words)
+  pub bytes : Text
+  pub whole : IsReadWhole tells before after bytes
+  pub ran : IsTranscript bytes text
+
+-- The words ask for nothing.
+pub record IsUsage (words : List Text) (text : Text) : Type 0 where
+  pub asked : is_try words ≡ false
+  pub line : text ≡ status_text end.Usage
+
+-- The script was read to its end and is refused.
+pub record IsReadRefused (tells : Type 0) (before after text : Text) : Type 0 where
+  pub bytes : Text
+  pub whole : IsReadWhole tells before after bytes
+  pub refused : IsRefused bytes text
+
+-- The script has too many bytes.
+pub record IsTooLong (tells : Type 0) (before after text : Text) : Type 0 where
+  pub far : IsReadTooFar tells before after
+  pub line : text ≡ status_text (end.Script bad.TooMany)
+
+-- The script is refused.
+pub record IsBadScript (words : List Text) (tells : Type 0) (before after text : Text) : Type 0 where
+  pub asked : IsTrue (is_try words)
+  pub cause : IsReadRefused tells before after text ⊎ IsTooLong tells before after text
+
+-- The source failed.
+pub record IsBadSource (words : List Text) (old new : ℕ) (text : Text) : Type 0 where
+  pub asked : IsTrue (is_try words)
+  pub rose : Rose old new
+  pub line : text ≡ status_text end.Source
+
+-- What bytes that were read whole give.
+abbrev pub Outcome : Text → Status → Text → Type 0
+Outcome bytes status.Done text = IsTranscript bytes text
+Outcome bytes status.Script text = IsRefused bytes text
+Outcome bytes s text = ⊥
+
+-- What is to be put out at each end, by its cause: before and after are what the source holds, old and new its count.
+abbrev pub Output : List Text → Type 0 → Text → Text → ℕ → ℕ → Status → Text → Type 0
+Output words tells before after old new status.Done text = IsDone words tells before after text
+Output words tells before after old new status.Usage text = IsUsage words text
+Output words tells before after old new status.Script text = IsBadScript words tells before after text
+Output words tells before after old new status.Source text = IsBadSource words old new text
+Output words tells before after old new s text = ⊥
+
+-- A front of what was to be put out.
+pub record IsCutShort (ToPut : Status → Text → Type 0) (text : Text) : Type 0 where
+  pub status : Status
+  pub rest : Text
+  pub whole : ToPut status (text ++ rest)
+
+-- A text of this kind was put out.
+pub record IsPut (tells : Type 0) (before after : Text) (Kind : Text → Type 0) : Type 0 where
+  pub text : Text
+  pub kind : Kind text
+  pub put : tells → after ≡ before ++ text

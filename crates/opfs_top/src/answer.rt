@@ -1,0 +1,125 @@
+//! What a command puts out, and how it ends.
+
+ghost use Rattle.std.specs.Prelude.{◌≡◌, true, false, IsTrue, IfOk, flat_map};
+ghost use Rattle.opfs_print.specs.Lines.{text_of};
+ghost use Rattle.opfs_print.specs.Status.{status_text};
+ghost use Rattle.opfs_top.specs.Endings.{is_try, IsRefusal, IsTrialText, Outcome, Output};
+
+use crate::input::{Input, read_all};
+use crate::status::Status;
+use opfs_base::{Bytes, Words};
+use opfs_hist::Entry;
+use opfs_outside::Source;
+use opfs_print::{BadScript, End, line, status_line};
+use opfs_script::{Script, ScriptRefusal, read_script};
+use opfs_trial::run_script;
+use std::alloc::{AllocError, Global};
+
+/// How a command ends, and what it is to put out.
+#[derive(Debug, Drop)]
+pub struct Answer {
+    pub status: Status,
+    pub text: Bytes,
+}
+
+/// Whether the words ask for a trial.
+pub fn is_try(words: &Words) -> bool
+    ensures { result ≡ is_try words.now }
+{
+    match words.as_slice() {
+        [word] => word.as_slice() == b"try".as_slice(),
+        _ => false,
+    }
+}
+
+/// A status line.
+fn line_of(alloc: Global, end: End) -> Result<Bytes, AllocError>
+    ensures { IfOk result (λ text. text ≡ status_text end) }
+{
+    let mut text = Vec::new(alloc);
+    status_line(alloc, &end, &mut text)?;
+    Ok(Bytes::from_vec(text))
+}
+
+/// The line that says why a script is refused.
+fn refusal(alloc: Global, why: ScriptRefusal) -> Result<Bytes, AllocError>
+    ensures { IfOk result (λ text. IsRefusal why text) }
+{
+    let told = match why {
+        ScriptRefusal::NotJson => BadScript::NotJson,
+        ScriptRefusal::BadShape(agent, step) => BadScript::BadShape(agent, step),
+        ScriptRefusal::UnknownStep(agent, step) => BadScript::UnknownStep(agent, step),
+        ScriptRefusal::BadOrigin(agent) => BadScript::BadOrigin(agent),
+        ScriptRefusal::TooMany => BadScript::TooMany,
+        ScriptRefusal::NoMemory => return Err(AllocError),
+    };
+    let text = line_of(alloc, End::Script(told))?;
+    Ok(text)
+}
+
+/// The lines of a history.
+fn lines_of(alloc: Global, entries: &[Entry]) -> Result<Bytes, AllocError>
+    ensures { IfOk result (λ text. text ≡ text_of entries.now) }
+{
+    let mut text = Vec::new(alloc);
+    for entry in entries {
+        line(alloc, entry, &mut text)?;
+    }
+    Ok(Bytes::from_vec(text))
+}
+
+/// The transcript of a trial of a script.
+fn trial_text(alloc: Global, script: &Script) -> Result<Bytes, AllocError>
+    ensures { IfOk result (λ text. IsTrialText script.now text) }
+{
+    let history = run_script(alloc, script)?;
+    let text = lines_of(alloc, &history.items)?;
+    Ok(text)
+}
+
+/// Runs the script that bytes are.
+fn run(alloc: Global, bytes: &Bytes) -> Result<Answer, AllocError>
+    ensures { IfOk result (λ answer. Outcome bytes.now answer.status answer.text) }
+{
+    match read_script(alloc, bytes.as_slice()) {
+        Ok(script) => {
+            let text = trial_text(alloc, &script)?;
+            Ok(Answer {
+                status: Status::Done,
+                text,
+            })
+        }
+        Err(why) => {
+            let text = refusal(alloc, why)?;
+            Ok(Answer {
+                status: Status::Script,
+                text,
+            })
+        }
+    }
+}
+
+/// How a command ends, and what it is to put out.
+pub fn answer_to<S: Source>(
+    alloc: Global,
+    words: &Words,
+    source: &mut S,
+) -> Result<Answer, AllocError>
+    ensures { IfOk result (λ answer. Output words.now S.tells (S.rest source.old) (S.rest source.new) (S.faults source.old) (S.faults source.new) answer.status answer.text) }
+{
+    if !is_try(words) {
+        let text = line_of(alloc, End::Usage)?;
+        return Ok(Answer {
+            status: Status::Usage,
+            text,
+        });
+    }
+    let (status, end) = match read_all(alloc, source) {
+        Input::Whole(bytes) => return run(alloc, &bytes),
+        Input::TooFar => (Status::Script, End::Script(BadScript::TooMany)),
+        Input::Failed => (Status::Source, End::Source),
+        Input::NoMemory => return Err(AllocError),
+    };
+    let text = line_of(alloc, end)?;
+    Ok(Answer { status, text })
+}

@@ -1,0 +1,13 @@
+use Rattle.std.proofs.Common.{rules, ◌≡◌, refl, false, drop, [], subst, length, arith}
+use Rattle.std.proofs.lemmas.List.{drop_all}
+use Rattle.opfs_runs.specs.Running.{entries_of, IsRunFrom}
+use Rattle.opfs_trial.specs.Stepping.{Begins}
+use Rattle.opfs_trial.proofs.Runs.{begins_end, begins_more}
+use Rattle.opfs_trial.proofs.Turns.{beside_then}
+use Rattle.opfs_trial.proofs.runner.run_steps.Goals as goal
+
+pub returns-clause-begins : goal.returns-clause-begins
+returns-clause-begins c =
+    let done : drop c.loop-step.step-index c.args.script.now.steps ≡ [] = subst (λ t. drop c.loop-step.step-index t ≡ []) c.steps-step-items.ensures.steps (drop_all c.loop-step.step-index c.steps-step-items.result.now (omega (arith, c.loop-step-test.false))) in
+    begins_end c.args.script.now (entries_of c.args.agent c.loop-step.plain.entries) c.loop-step.hand c.loop-step.number
+    (subst (λ t. Begins c.args.script.now (entries_of c.args.agent c.loop-step.plain.entries) (IsRunFrom c.loop-step.hand c.loop-step.number false t)) done c.loop-step.invariant.begins)

@@ -1,0 +1,9 @@
+//! Trials: a script's agents run one after another on the plain machine, over an empty store.
+#![tactic(auto)]
+
+mod numbers;
+mod opening;
+mod runner;
+pub mod trial;
+
+pub use trial::run_script;

@@ -1,0 +1,79 @@
+//! With what a trial begins.
+
+ghost use Rattle.std.specs.Prelude.{◌≡◌, [], map, IfOk};
+ghost use Rattle.std.specs.Option.{option_copied};
+ghost use Rattle.opfs_machine.specs.Openings.{agent_in, begun};
+ghost use Rattle.opfs_trial.specs.Trials.{who_of, trial_opening};
+
+use opfs_base::{Bytes, Key};
+use opfs_machine::{Agent, Limits, Many, Own, State};
+use opfs_plain::Plain;
+use opfs_script::{AgentScript, Script};
+use std::alloc::{AllocError, Global};
+
+/// A list of nothing.
+fn none<T>(alloc: Global) -> Many<T>
+    ensures { result ≡ [] }
+{
+    Many {
+        items: Vec::new(alloc),
+    }
+}
+
+/// A copy of a key that may be there.
+pub fn copy_key(alloc: Global, key: Option<&Key>) -> Result<Option<Key>, AllocError>
+    ensures { IfOk result (λ copy. copy ≡ option_copied key.entry) }
+{
+    match key {
+        None => Ok(None),
+        Some(key) => Ok(Some(key.copy(alloc)?)),
+    }
+}
+
+/// An agent of a script, before its first step.
+fn agent_of(alloc: Global, script: &AgentScript) -> Result<Agent<Own>, AllocError>
+    ensures { IfOk result (λ agent. agent ≡ agent_in (who_of script.now)) }
+{
+    Ok(Agent {
+        key: copy_key(alloc, script.key())?,
+        grant: script.grant(),
+        live: true,
+        moment: 0,
+        waits: None,
+        own: none(alloc),
+    })
+}
+
+/// The agents of a script, before their first steps.
+fn agents_of(alloc: Global, scripts: &[AgentScript]) -> Result<Many<Agent<Own>>, AllocError>
+    ensures { IfOk result (λ agents. agents ≡ map agent_in (map who_of scripts.now)) }
+{
+    let mut agents = Vec::new(alloc);
+    for script in scripts {
+        agents.push(agent_of(alloc, script)?)?;
+    }
+    Ok(Many { items: agents })
+}
+
+/// The plain machine over an empty store, with the agents of a script.
+pub fn begin(alloc: Global, script: &Script) -> Result<Plain, AllocError>
+    ensures { IfOk result (λ plain. plain ≡ record { state = begun (trial_opening script.now); entries = [] }) }
+{
+    let agents = agents_of(alloc, script.agents())?;
+    Ok(Plain {
+        state: State {
+            rows: none(alloc),
+            persistent: none(alloc),
+            posted: none(alloc),
+            agents,
+            entries: 0,
+            used: none(alloc),
+            limits: Limits {
+                area: 1_048_576,
+                blocks: 16_384,
+                quota: 8_192,
+            },
+        },
+        entries: none(alloc),
+    })
+}

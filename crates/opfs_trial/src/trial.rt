@@ -1,0 +1,44 @@
+//! The trial of a script.
+
+ghost use Rattle.std.specs.Prelude.{◌≡◌, ◌≤◌, [], All, length, IfOk, OnOk};
+ghost use Rattle.opfs_base.specs.Texts.{Text};
+ghost use Rattle.opfs_machine.specs.declared.own.Own.{Own};
+ghost use Rattle.opfs_machine.specs.declared.state.State.{State};
+ghost use Rattle.opfs_plain.specs.Keeping.{IsKept};
+ghost use Rattle.opfs_trial.specs.Trials.{IsTrial, EachRuns, trial_opening};
+
+use crate::numbers::next;
+use crate::opening::begin;
+use crate::runner::run_agent;
+use opfs_hist::Entry;
+use opfs_machine::Many;
+use opfs_plain::Plain;
+use opfs_script::{AgentScript, Script};
+use std::alloc::{AllocError, Global};
+
+/// Runs the agents one after another, in the order of their numbers.
+fn run_agents(alloc: Global, plain: &mut Plain, scripts: &[AgentScript]) -> Result<(), AllocError>
+    requires { plain.old.entries ≡ [] }
+    ensures kept { OnOk result ((start : State Text Own) → IsKept start plain.old → IsKept start plain.new) }
+    ensures runs { OnOk result (EachRuns scripts.now plain.new.entries) }
+    ensures agents { OnOk result (All (λ e. e.agent ≤ length scripts.now) plain.new.entries) }
+{
+    let mut agent = 0;
+    for script in scripts {
+        agent = next(agent)?;
+        run_agent(alloc, plain, agent, script)?;
+    }
+    Ok(())
+}
+
+/// Runs a script's agents one after another over an empty store: all entries are one legal history, in which each
+/// agent's calls stand once, in its order.
+pub fn run_script(alloc: Global, script: &Script) -> Result<Many<Entry>, AllocError>
+    ensures { IfOk result (λ entries. IsTrial script.now entries) }
+{
+    let mut plain = begin(alloc, script)?;
+    run_agents(alloc, &mut plain, script.agents())?;
+    let Plain { state, entries } = plain;
+    drop(state);
+    Ok(entries)
+}
