@@ -1,0 +1,10 @@
+pub mod Changes
+pub mod Closed
+pub mod Maps
+pub mod Orders
+pub mod Places
+pub mod Ranges
+pub mod Removals
+pub mod Steps
+pub mod Whole
+pub mod Writes

@@ -1,0 +1,21 @@
+use Rattle.std.proofs.Common.{◌≡◌, true, false}
+use Rattle.opfs_tree.proofs.Changes.{found_here, changed_here}
+use Rattle.opfs_tree.proofs.unit.Unit.release.Goals as goal
+
+pub unreachable-requires : goal.unreachable-requires
+unreachable-requires c =
+    let found = found_here _ _ _ _ c.self.view_is c.in-None.ensures.value in
+    let there : false ≡ true = rw found at c.requires.there in cc
+
+pub release-requires-clause-there : goal.release-requires-clause-there
+release-requires-clause-there c =
+    let found = found_here _ _ _ _ c.self.view_is c.in-Some.ensures.value in rw found at c.requires.there
+
+pub release-requires-clause-taken : goal.release-requires-clause-taken
+release-requires-clause-taken c =
+    let found = found_here _ _ _ _ c.self.view_is c.in-Some.ensures.value in rw found at c.requires.taken
+
+pub returns : goal.returns
+returns c = record {
+  rows = changed_here _ _ _ _ _ _ _ c.self.view_is c.in-Some.ensures.value (c.get_mut.follows.holds _).0 c.release.ensures.row;
+}

@@ -1,0 +1,13 @@
+//! The rows of the store as a tree: a finite map from places to directories and files, closed under parents.
+#![tactic(auto)]
+
+mod given;
+mod paths;
+mod row;
+mod tree;
+mod unit;
+mod walk;
+
+pub use row::{FileRow, Row};
+pub use tree::Tree;
+pub use walk::Walk;
