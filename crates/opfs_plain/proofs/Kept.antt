@@ -1,6 +1,7 @@
 -- A history goes on with one more call of the machine.
-use Rattle.std.proofs.Common.{◌≡◌, ℕ, true, List, [], ◌∷◌, ◌++◌, map, fold, refl, sym, ap, ◌∙◌, subst, IsTrue, Result, Ok, Err, OnOk}
+use Rattle.std.proofs.Common.{◌≡◌, ℕ, true, false, All, List, [], ◌∷◌, ◌++◌, map, fold, refl, sym, ap, ◌∙◌, subst, IsTrue, Result, Ok, Err, OnOk}
 use Rattle.std.proofs.lemmas.List.Sums.{fold-append}
+use Rattle.std.proofs.lemmas.List.Elements.{All-append}
 use Rattle.opfs_base.specs.Texts.{Text}
 use Rattle.opfs_hist.specs.declared.entry.Entry.{Entry}
 use Rattle.opfs_machine.specs.declared.own.Own.{Own}
@@ -9,8 +10,9 @@ use Rattle.opfs_machine.specs.Agents.{agent_of}
 use Rattle.opfs_machine.specs.Histories.{may_enter, LegalFrom, after_entry}
 use Rattle.opfs_machine.specs.Runs.{Call, group_of}
 use Rattle.opfs_machine.specs.Steps.{step, outcome_of, judged}
+use Rattle.opfs_plain.proofs.NeverFaults.{group_sound}
 use Rattle.opfs_machine.proofs.GoOn.{group-after, legal-group}
-use Rattle.opfs_plain.specs.Keeping.{IsKept, IsEntered}
+use Rattle.opfs_plain.specs.Keeping.{IsKept, IsEntered, is_disk_fault}
 use Rattle.opfs_plain.specs.declared.plain.Plain.{Plain}
 
 step-after : (s : State Text Own) (c : Call) → may_enter s c.agent c.op ≡ true
@@ -26,6 +28,8 @@ kept-more start old new c kept live fitting is_after is_more =
     let group = group_of old.state c (step old.state c.agent c.op) in
     record {
       legal = subst (LegalFrom start []) (sym is_more) (legal-group start old.entries old.state c kept.present kept.legal live fitting);
+      faultless = subst (All (λ e. is_disk_fault e.reply ≡ false)) (sym is_more)
+          (All-append (λ e. is_disk_fault e.reply ≡ false) old.entries group kept.faultless (group_sound old.state c));
       present =
           is_after
           ∙ sym (step-after old.state c fitting)

@@ -4,3 +4,4 @@ pub mod AgentSums
 pub mod Cleared
 pub mod Roots
 pub mod Kept
+pub mod NeverFaults

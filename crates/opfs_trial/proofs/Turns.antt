@@ -7,10 +7,14 @@ use Rattle.opfs_base.specs.Texts.{Text}
 use Rattle.opfs_hist.specs.declared.entry.Entry.{Entry}
 use Rattle.opfs_hist.specs.declared.op.Op.{Op}
 use Rattle.opfs_machine.specs.Runs.{eviction}
-use Rattle.opfs_plain.specs.Keeping.{IsEntered}
+use Rattle.opfs_plain.specs.Keeping.{IsEntered, IsKept, is_disk_fault}
 use Rattle.opfs_runs.specs.Running.{IsRun, entries_of}
 use Rattle.opfs_script.specs.Scripts.{Asked}
-use Rattle.opfs_trial.specs.Trials.{EachRuns}
+use Rattle.opfs_machine.specs.declared.own.Own.{Own}
+use Rattle.opfs_machine.specs.declared.state.State.{State}
+use Rattle.opfs_machine.specs.Openings.{begun}
+use Rattle.opfs_plain.specs.declared.plain.Plain.{Plain}
+use Rattle.opfs_trial.specs.Trials.{EachRuns, IsTrial, trial_opening}
 use Rattle.opfs_trial.specs.Stepping.{IsBeside}
 
 pub same : (n : ℕ) → (n == n) ≡ true
@@ -152,3 +156,14 @@ pub within_next : (n : ℕ) (es : List Entry) → All (λ e. e.agent ≤ n) es �
 within_next n [] h = All-nil (λ e. e.agent ≤ n + 1)
 within_next n (e ∷ es) h =
     All-cons (λ e. e.agent ≤ n + 1) e es (omega (arith, All-head (λ e. e.agent ≤ n) e es h)) (within_next n es (All-tail (λ e. e.agent ≤ n) e es h))
+
+-- What is kept from an empty start makes a trial.
+pub trial_of : (script : List Asked) (old new : Plain) → old ≡ record { state = begun (trial_opening script); entries = [] }
+    → ((start : State Text Own) → IsKept start old → IsKept start new) → EachRuns script new.entries
+    → All (λ e. e.agent ≤ length script) new.entries → IsTrial script new.entries
+trial_of script old new is kept runs agents =
+    let first : IsKept (begun (trial_opening script)) old =
+    subst (IsKept (begun (trial_opening script))) (sym is)
+    (record { legal = refl; faultless = All-nil (λ e. is_disk_fault e.reply ≡ false); present = refl }) in
+    let all = kept (begun (trial_opening script)) first in
+    record { legal = all.legal; runs = runs; agents = agents; faultless = all.faultless }

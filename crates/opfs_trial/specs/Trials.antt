@@ -1,9 +1,10 @@
 -- A trial: a script's agents run over an empty store. This project's own.
-use Rattle.std.specs.Prelude.{◌≡◌, ℕ, ◌+◌, ◌≤◌, List, All, length, map, Option, Some, slice_get}
+use Rattle.std.specs.Prelude.{◌≡◌, ℕ, ◌+◌, ◌≤◌, false, List, All, length, map, Option, Some, slice_get}
 use Rattle.opfs_hist.specs.declared.entry.Entry.{Entry}
 use Rattle.opfs_machine.specs.declared.state.Limits.{Limits}
 use Rattle.opfs_machine.specs.Histories.{Legal}
 use Rattle.opfs_machine.specs.Openings.{Opening, Who, empty_map}
+use Rattle.opfs_plain.specs.Keeping.{is_disk_fault}
 use Rattle.opfs_runs.specs.Running.{IsRun, entries_of}
 use Rattle.opfs_script.specs.Scripts.{Asked}
 
@@ -23,9 +24,10 @@ trial_opening script = record { stored = empty_map; agents = map who_of script; 
 abbrev pub EachRuns : List Asked → List Entry → Type 0
 EachRuns script es = (k : ℕ) (a : Asked) → slice_get script k ≡ Some a → IsRun a (entries_of (k + 1) es)
 
--- A history of a trial: it is legal, the entries of each agent are its script's run, and no other agent has an entry
--- but 0, whose entries are the evictions.
+-- A history of a trial: it is legal, the entries of each agent are its script's run, no other agent has an entry but 0,
+-- whose entries are the evictions, and no entry is a disk fault.
 pub record IsTrial (script : List Asked) (es : List Entry) : Type 0 where
   pub legal : Legal (trial_opening script) es
   pub runs : EachRuns script es
   pub agents : All (λ e. e.agent ≤ length script) es
+  pub faultless : All (λ e. is_disk_fault e.reply ≡ false) es
