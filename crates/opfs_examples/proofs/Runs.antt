@@ -92,3 +92,10 @@ faults s gone e live fitting told accepted disk front = record {
   fitting = fitting;
   agrees = inr (record { told = told; accepted = accepted; disk = disk; front = front });
 }
+
+-- A call that may not be entered is not legal.
+pub unfit : (s : State Text Own) (gone : List Text) (e : Entry) → may_enter s e.agent e.op ≡ false → IsCall s gone e → ⊥
+unfit s gone e is call = apart (sym call.fitting ∙ is)
+  where
+    apart : true ≡ false → ⊥
+    apart h = cc

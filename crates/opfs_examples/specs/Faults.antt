@@ -1,12 +1,12 @@
 -- Examples of faults of the disk.
-use Rattle.std.specs.Prelude.{List, [], ◌∷◌, None, codes, true, false}
+use Rattle.std.specs.Prelude.{List, [], ◌∷◌, None, codes, true, false, ◌≡◌, Some}
 use Rattle.opfs_base.specs.Texts.{Text}
 use Rattle.opfs_base.specs.Units.{default_bucket}
 use Rattle.opfs_hist.specs.declared.entry.Entry.{Entry}
 use Rattle.opfs_hist.specs.declared.op.Op.TheVariants as op
 use Rattle.opfs_hist.specs.declared.reply.Refusal.TheVariants as refusal
 use Rattle.opfs_hist.specs.declared.reply.Reply.TheVariants as reply
-use Rattle.opfs_examples.specs.Trying.{IsExample, try_opening, one_agent, file, root, by_one, refused}
+use Rattle.opfs_examples.specs.Trying.{IsExample, try_opening, one_agent, file, root, by_one, refused, kept_at}
 
 -- A close that the disk refuses stores nothing and leaves the stream open.
 abbrev pub a_disk_fault_leaves_the_stream_open_history : List Entry
@@ -37,3 +37,8 @@ abbrev pub ADiskFaultLeavesTheStreamOpen : Type 0
 ADiskFaultLeavesTheStreamOpen =
     IsExample (try_opening one_agent) a_disk_fault_leaves_the_stream_open_history
     a_disk_fault_leaves_the_stream_open_lines 5 (reply.FileInfo 5 0)
+
+-- Nothing is stored by a close that the disk refuses, nor by the abort after it.
+abbrev pub AFaultStoresNothing : Type 0
+AFaultStoresNothing =
+    kept_at (try_opening one_agent) a_disk_fault_leaves_the_stream_open_history (file (codes "note" ∷ [])) ≡ Some ([], [])

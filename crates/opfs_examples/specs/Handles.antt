@@ -1,5 +1,5 @@
 -- Examples of access handles.
-use Rattle.std.specs.Prelude.{List, [], ◌∷◌, Some, None, codes, true, false}
+use Rattle.std.specs.Prelude.{List, [], ◌∷◌, Some, None, codes, true, false, ◌≡◌}
 use Rattle.opfs_base.specs.Texts.{Text}
 use Rattle.opfs_base.specs.Units.{default_bucket}
 use Rattle.opfs_hist.specs.declared.entry.Entry.{Entry}
@@ -7,7 +7,7 @@ use Rattle.opfs_hist.specs.declared.op.Mode.TheVariants as mode
 use Rattle.opfs_hist.specs.declared.op.Op.TheVariants as op
 use Rattle.opfs_hist.specs.declared.reply.Refusal.TheVariants as refusal
 use Rattle.opfs_hist.specs.declared.reply.Reply.TheVariants as reply
-use Rattle.opfs_examples.specs.Trying.{IsExample, try_opening, one_agent, root, the_file, by_one, refused}
+use Rattle.opfs_examples.specs.Trying.{IsExample, try_opening, one_agent, root, the_file, by_one, refused, kept_at}
 
 -- An access handle reads and writes at its cursor or at a place, and answers nothing once it is closed.
 abbrev pub an_access_handle_reads_and_writes_at_its_cursor_history : List Entry
@@ -92,3 +92,14 @@ abbrev pub AnOpenAccessHandleIsDiscarded : Type 0
 AnOpenAccessHandleIsDiscarded =
     IsExample (try_opening one_agent) an_open_access_handle_is_discarded_history
     an_open_access_handle_is_discarded_lines 6 (reply.FileInfo 2 0)
+
+-- What was flushed before the end stays, and nothing that was written after it.
+abbrev pub OnlyFlushedBytesStay : Type 0
+OnlyFlushedBytesStay =
+    kept_at (try_opening one_agent) an_open_access_handle_is_discarded_history the_file ≡ Some (codes "ab", codes "ab")
+
+-- What an access handle wrote and cut stays once it is closed.
+abbrev pub WhatAClosedHandleWroteStays : Type 0
+WhatAClosedHandleWroteStays =
+    kept_at (try_opening one_agent) an_access_handle_reads_and_writes_at_its_cursor_history the_file
+    ≡ Some (codes "ab", codes "ab")

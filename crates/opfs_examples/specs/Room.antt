@@ -2,14 +2,16 @@
 use Rattle.std.specs.Prelude.{List, [], ◌∷◌, Some, None, codes, replicate, true, false}
 use Rattle.opfs_base.specs.Texts.{Text}
 use Rattle.opfs_base.specs.Units.{default_bucket}
+use Rattle.opfs_base.specs.declared.locator.Kind.{Kind}
 use Rattle.opfs_base.specs.declared.locator.Kind.TheVariants as kind
 use Rattle.opfs_base.specs.declared.locator.Locator.{Locator}
 use Rattle.opfs_hist.specs.declared.entry.Entry.{Entry}
+use Rattle.opfs_hist.specs.declared.op.Mode.TheVariants as mode
 use Rattle.opfs_hist.specs.declared.op.Op.TheVariants as op
 use Rattle.opfs_hist.specs.declared.reply.Refusal.TheVariants as refusal
 use Rattle.opfs_hist.specs.declared.reply.Reply.TheVariants as reply
 use Rattle.opfs_machine.specs.Histories.{Legal}
-use Rattle.opfs_machine.specs.Openings.{Opening, empty_map}
+use Rattle.opfs_machine.specs.Openings.{Opening, Who, empty_map}
 use Rattle.opfs_examples.specs.Trying.{IsExample, a_example, one_agent, file, root, the_file, by, by_one, evicting, refused, without_entry}
 
 -- Sixteen blocks, an area of 16,384 bytes, and a quota of two blocks.
@@ -189,3 +191,93 @@ AnEvictionMakesRoom =
 -- Without the entry of the eviction that history is not legal.
 abbrev pub AnEvictionIsEntered : Type 0
 AnEvictionIsEntered = Legal three_origins (without_entry 14 an_eviction_makes_room_history) → ⊥
+
+-- One agent over two blocks, and agents of two origins over as many.
+abbrev pub two_blocks_for : List Who → Opening
+two_blocks_for whos = record {
+  stored = empty_map;
+  agents = whos;
+  limits = record { area = 16384; blocks = 2; quota = 4 };
+}
+
+abbrev pub two_origins : List Who
+two_origins = record { key = Some a_example; grant = false } ∷ record { key = Some b_example; grant = false } ∷ []
+
+abbrev pub in_drafts : Kind → List Text → Locator
+in_drafts k path = record { key = codes "https://a.example#drafts"; path = path; kind = k }
+
+-- The buckets of the asking origin stay, also those that the call does not touch.
+abbrev pub an_origin_is_not_evicted_for_itself_history : List Entry
+an_origin_is_not_evicted_for_itself_history =
+    by_one 1 (op.GetDirectory (codes "drafts")) reply.Done
+    ∷ by_one 2 (op.GetFileHandle (in_drafts kind.Directory []) (codes "n") true) reply.Done
+    ∷ by_one 3 (op.CreateWritable (in_drafts kind.File (codes "n" ∷ [])) false) reply.Done
+    ∷ by_one 4 (op.Write 1 (replicate 8192 65) None) reply.Done
+    ∷ by_one 5 (op.Close 1) reply.Done
+    ∷ by_one 6 (op.GetDirectory default_bucket) reply.Done
+    ∷ by_one 7 (op.GetFileHandle root (codes "f") true) reply.Done
+    ∷ by_one 8 (op.CreateWritable the_file false) reply.Done
+    ∷ by_one 9 (op.Write 2 (codes "x") None) (refused (refusal.DataFull 2 1 2))
+    ∷ by_one 10 (op.Abort 2) reply.Done
+    ∷ by_one 11 op.End reply.Done
+    ∷ []
+
+abbrev pub an_origin_is_not_evicted_for_itself_lines : List Text
+an_origin_is_not_evicted_for_itself_lines =
+    codes "1.1 getDirectory ok"
+    ∷ codes "1.2 getFileHandle ok"
+    ∷ codes "1.3 createWritable ok"
+    ∷ codes "1.4 write ok"
+    ∷ codes "1.5 close ok"
+    ∷ codes "1.6 getDirectory ok"
+    ∷ codes "1.7 getFileHandle ok"
+    ∷ codes "1.8 createWritable ok"
+    ∷ codes "1.9 write DataFull 2 1 2"
+    ∷ codes "1.10 abort ok"
+    ∷ codes "1.11 end ok"
+    ∷ []
+
+abbrev pub AnOriginIsNotEvictedForItself : Type 0
+AnOriginIsNotEvictedForItself =
+    IsExample (two_blocks_for one_agent) an_origin_is_not_evicted_for_itself_history
+    an_origin_is_not_evicted_for_itself_lines 8 reply.Done
+
+-- A bucket stays while a lock in it is taken.
+abbrev pub a_bucket_in_use_is_not_evicted_history : List Entry
+a_bucket_in_use_is_not_evicted_history =
+    by 1 1 (op.GetDirectory default_bucket) reply.Done
+    ∷ by 1 2 (op.GetFileHandle root (codes "f") true) reply.Done
+    ∷ by 1 3 (op.CreateWritable the_file false) reply.Done
+    ∷ by 1 4 (op.Write 1 (codes "x") None) reply.Done
+    ∷ by 1 5 (op.Close 1) reply.Done
+    ∷ by 1 6 (op.CreateSyncAccessHandle the_file mode.ReadWrite) reply.Done
+    ∷ by 2 1 (op.GetDirectory default_bucket) reply.Done
+    ∷ by 2 2 (op.GetFileHandle (root_of b_example) (codes "y") true) reply.Done
+    ∷ by 2 3 (op.CreateWritable (file_of b_example (codes "y")) false) reply.Done
+    ∷ by 2 4 (op.Write 1 (replicate 8192 65) None) (refused (refusal.DataFull 1 2 2))
+    ∷ by 1 7 (op.SyncClose 2) reply.Done
+    ∷ evicting a_example
+    ∷ by 2 5 (op.Write 1 (replicate 8192 65) None) reply.Done
+    ∷ []
+
+abbrev pub a_bucket_in_use_is_not_evicted_lines : List Text
+a_bucket_in_use_is_not_evicted_lines =
+    codes "1.1 getDirectory ok"
+    ∷ codes "1.2 getFileHandle ok"
+    ∷ codes "1.3 createWritable ok"
+    ∷ codes "1.4 write ok"
+    ∷ codes "1.5 close ok"
+    ∷ codes "1.6 createSyncAccessHandle ok"
+    ∷ codes "2.1 getDirectory ok"
+    ∷ codes "2.2 getFileHandle ok"
+    ∷ codes "2.3 createWritable ok"
+    ∷ codes "2.4 write DataFull 1 2 2"
+    ∷ codes "1.7 syncClose ok"
+    ∷ codes "evict https://a.example"
+    ∷ codes "2.5 write ok"
+    ∷ []
+
+abbrev pub ABucketInUseIsNotEvicted : Type 0
+ABucketInUseIsNotEvicted =
+    IsExample (two_blocks_for two_origins) a_bucket_in_use_is_not_evicted_history
+    a_bucket_in_use_is_not_evicted_lines 9 reply.Done

@@ -1,11 +1,11 @@
 -- Examples of streams.
-use Rattle.std.specs.Prelude.{List, [], ◌∷◌, ◌++◌, None, codes, replicate, true, false}
+use Rattle.std.specs.Prelude.{List, [], ◌∷◌, ◌++◌, None, codes, replicate, true, false, ◌≡◌, Some}
 use Rattle.opfs_base.specs.Texts.{Text}
 use Rattle.opfs_base.specs.Units.{default_bucket}
 use Rattle.opfs_hist.specs.declared.entry.Entry.{Entry}
 use Rattle.opfs_hist.specs.declared.op.Op.TheVariants as op
 use Rattle.opfs_hist.specs.declared.reply.Reply.TheVariants as reply
-use Rattle.opfs_examples.specs.Trying.{IsExample, try_opening, one_agent, file, root, the_file, by_one}
+use Rattle.opfs_examples.specs.Trying.{IsExample, try_opening, one_agent, file, root, the_file, by_one, kept_at}
 
 -- A file is made, written through a stream, and read.
 abbrev pub a_file_is_written_history : List Entry
@@ -106,3 +106,8 @@ abbrev pub ACutStreamMovesItsOffset : Type 0
 ACutStreamMovesItsOffset =
     IsExample (try_opening one_agent) a_cut_stream_moves_its_offset_history
     a_cut_stream_moves_its_offset_lines 10 (reply.Read (codes "abc"))
+
+-- A file has a stream's bytes for good once that is closed.
+abbrev pub WhatAClosedStreamWroteStays : Type 0
+WhatAClosedStreamWroteStays =
+    kept_at (try_opening one_agent) a_file_is_written_history (file (codes "note" ∷ [])) ≡ Some (codes "hello", codes "hello")

@@ -1,5 +1,6 @@
 -- What a worked example is: a history that begins with nothing stored, and its transcript. This project's own.
-use Rattle.std.specs.Prelude.{◌≡◌, ℕ, zero, suc, true, false, Some, List, [], ◌∷◌, ◌++◌, flat_map, codes}
+use Rattle.std.specs.Prelude.{◌≡◌, ℕ, zero, suc, true, false, Option, Some, option_map, List, [], ◌∷◌, ◌++◌, flat_map, codes}
+use Rattle.opfs_base.specs.Places.{place_of}
 use Rattle.opfs_base.specs.Texts.{Text}
 use Rattle.opfs_base.specs.declared.locator.Kind.TheVariants as kind
 use Rattle.opfs_base.specs.declared.locator.Locator.{Locator}
@@ -11,8 +12,9 @@ use Rattle.opfs_hist.specs.declared.reply.Refusal.TheVariants as refusal
 use Rattle.opfs_hist.specs.declared.reply.Reply.{Reply}
 use Rattle.opfs_hist.specs.declared.reply.Reply.TheVariants as reply
 use Rattle.opfs_locks.specs.declared.LockValue.{LockValue}
-use Rattle.opfs_machine.specs.Histories.{Legal}
+use Rattle.opfs_machine.specs.Histories.{Legal, state_after}
 use Rattle.opfs_machine.specs.Openings.{Opening, Who, empty_map}
+use Rattle.opfs_machine.specs.Rows.{file_at}
 use Rattle.opfs_print.specs.Lines.{text_of}
 
 -- The opening of `try`, where nothing is stored.
@@ -79,6 +81,10 @@ abbrev pub without_entry : ℕ → List Entry → List Entry
 without_entry n [] = []
 without_entry zero (e ∷ es) = es
 without_entry (suc n) (e ∷ es) = e ∷ without_entry n es
+
+-- What a file holds after a history: its present bytes, and those that are stored for good.
+abbrev pub kept_at : Opening → List Entry → Locator → Option (Text × Text)
+kept_at o es at = option_map (λ f. (f.present, f.durable)) (file_at (state_after o es) (place_of at))
 
 -- The history is legal, its transcript is these lines, and with that other answer in that place it is not legal.
 pub record IsExample (o : Opening) (es : List Entry) (told : List Text) (place : ℕ) (wrong : Reply) : Type 0 where

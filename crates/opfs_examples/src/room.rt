@@ -1,6 +1,6 @@
 //! Examples of room: the quota, the area, and evictions.
 
-ghost use Rattle.opfs_examples.specs.Room.{TheQuotaRefusesAWrite, TheAreaRefusesAChild, AnEvictionMakesRoom, AnEvictionIsEntered};
+ghost use Rattle.opfs_examples.specs.Room.{TheQuotaRefusesAWrite, TheAreaRefusesAChild, AnEvictionMakesRoom, AnEvictionIsEntered, AnOriginIsNotEvictedForItself, ABucketInUseIsNotEvicted};
 
 /// A write past the quota is refused, and the stream goes on as it was.
 pub fn the_quota_refuses_a_write()
@@ -20,4 +20,14 @@ pub fn an_eviction_makes_room()
 /// An eviction has an entry of its own before the call that it makes room for.
 pub fn an_eviction_is_entered()
     ensures { AnEvictionIsEntered }
+{}
+
+/// The buckets of the asking origin stay, also those that the call does not touch.
+pub fn an_origin_is_not_evicted_for_itself()
+    ensures { AnOriginIsNotEvictedForItself }
+{}
+
+/// A bucket stays while a lock in it is taken, and goes once that is released.
+pub fn a_bucket_in_use_is_not_evicted()
+    ensures { ABucketInUseIsNotEvicted }
 {}

@@ -1,6 +1,6 @@
 //! Examples of streams.
 
-ghost use Rattle.opfs_examples.specs.Streams.{AFileIsWritten, AWritePastTheEndFillsWithZeros, ACutStreamMovesItsOffset};
+ghost use Rattle.opfs_examples.specs.Streams.{AFileIsWritten, AWritePastTheEndFillsWithZeros, ACutStreamMovesItsOffset, WhatAClosedStreamWroteStays};
 
 /// A file is made, written through a stream, and read.
 pub fn a_file_is_written()
@@ -15,4 +15,9 @@ pub fn a_write_past_the_end_fills_with_zeros()
 /// A stream that is cut writes on at its new end, and bytes that it grew by are zeros.
 pub fn a_cut_stream_moves_its_offset()
     ensures { ACutStreamMovesItsOffset }
+{}
+
+/// What a stream wrote is stored for good once it is closed.
+pub fn what_a_closed_stream_wrote_stays()
+    ensures { WhatAClosedStreamWroteStays }
 {}

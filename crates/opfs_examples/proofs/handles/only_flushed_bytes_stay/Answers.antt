@@ -1,0 +1,7 @@
+use Rattle.std.proofs.Common.{refl}
+use Rattle.opfs_machine.specs.Machine.{whole_machine}
+use Rattle.opfs_examples.proofs.handles.only_flushed_bytes_stay.Goals as goal
+
+pub returns : goal.returns
+unfolding whole_machine
+returns c = refl
