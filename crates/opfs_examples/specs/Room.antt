@@ -1,5 +1,5 @@
 -- Examples of room: the quota, the area, and evictions.
-use Rattle.std.specs.Prelude.{List, [], ◌∷◌, Some, None, codes, replicate, true, false}
+use Rattle.std.specs.Prelude.{List, [], ◌∷◌, ◌++◌, Some, None, codes, replicate, true, false}
 use Rattle.opfs_base.specs.Texts.{Text}
 use Rattle.opfs_base.specs.Units.{default_bucket}
 use Rattle.opfs_base.specs.declared.locator.Kind.{Kind}
@@ -281,3 +281,102 @@ abbrev pub ABucketInUseIsNotEvicted : Type 0
 ABucketInUseIsNotEvicted =
     IsExample (two_blocks_for two_origins) a_bucket_in_use_is_not_evicted_history
     a_bucket_in_use_is_not_evicted_lines 9 reply.Done
+
+-- One agent over one block.
+abbrev pub one_block : Opening
+one_block = record {
+  stored = empty_map;
+  agents = one_agent;
+  limits = record { area = 16384; blocks = 1; quota = 4 };
+}
+
+-- An access handle keeps blocks for the whole new length, also where it cuts the file.
+abbrev pub a_cut_of_a_file_needs_room_for_what_it_leaves_history : List Entry
+a_cut_of_a_file_needs_room_for_what_it_leaves_history =
+    by_one 1 (op.GetDirectory default_bucket) reply.Done
+    ∷ by_one 2 (op.GetFileHandle root (codes "f") true) reply.Done
+    ∷ by_one 3 (op.CreateWritable the_file false) reply.Done
+    ∷ by_one 4 (op.Write 1 (codes "xy") None) reply.Done
+    ∷ by_one 5 (op.Close 1) reply.Done
+    ∷ by_one 6 (op.CreateSyncAccessHandle the_file mode.ReadWrite) reply.Done
+    ∷ by_one 7 (op.SyncTruncate 2 1) (refused (refusal.DataFull 1 1 1))
+    ∷ by_one 8 (op.SyncTruncate 2 0) reply.Done
+    ∷ by_one 9 (op.SyncGetSize 2) (reply.Length 0)
+    ∷ by_one 10 (op.Discard 2) reply.Done
+    ∷ by_one 11 (op.GetFile the_file) (reply.FileInfo 2 0)
+    ∷ by_one 12 op.End reply.Done
+    ∷ []
+
+abbrev pub a_cut_of_a_file_needs_room_for_what_it_leaves_lines : List Text
+a_cut_of_a_file_needs_room_for_what_it_leaves_lines =
+    codes "1.1 getDirectory ok"
+    ∷ codes "1.2 getFileHandle ok"
+    ∷ codes "1.3 createWritable ok"
+    ∷ codes "1.4 write ok"
+    ∷ codes "1.5 close ok"
+    ∷ codes "1.6 createSyncAccessHandle ok"
+    ∷ codes "1.7 syncTruncate DataFull 1 1 1"
+    ∷ codes "1.8 syncTruncate ok"
+    ∷ codes "1.9 syncGetSize ok 0"
+    ∷ codes "1.10 discard ok"
+    ∷ codes "1.11 getFile ok 2 0"
+    ∷ codes "1.12 end ok"
+    ∷ []
+
+abbrev pub ACutOfAFileNeedsRoomForWhatItLeaves : Type 0
+ACutOfAFileNeedsRoomForWhatItLeaves =
+    IsExample one_block a_cut_of_a_file_needs_room_for_what_it_leaves_history
+    a_cut_of_a_file_needs_room_for_what_it_leaves_lines 6 reply.Done
+
+abbrev pub three_whos : List Who
+three_whos = two_origins ++ record { key = Some c_example; grant = false } ∷ []
+
+-- Of two buckets that may go, the one goes whose origin made no call for longer.
+abbrev pub the_bucket_that_was_used_longest_ago_goes_history : List Entry
+the_bucket_that_was_used_longest_ago_goes_history =
+    by 1 1 (op.GetDirectory default_bucket) reply.Done
+    ∷ by 1 2 (op.GetFileHandle root (codes "f") true) reply.Done
+    ∷ by 1 3 (op.CreateWritable the_file false) reply.Done
+    ∷ by 1 4 (op.Write 1 (codes "x") None) reply.Done
+    ∷ by 1 5 (op.Close 1) reply.Done
+    ∷ by 2 1 (op.GetDirectory default_bucket) reply.Done
+    ∷ by 2 2 (op.GetFileHandle (root_of b_example) (codes "y") true) reply.Done
+    ∷ by 2 3 (op.CreateWritable (file_of b_example (codes "y")) false) reply.Done
+    ∷ by 2 4 (op.Write 1 (codes "x") None) reply.Done
+    ∷ by 2 5 (op.Close 1) reply.Done
+    ∷ by 1 6 (op.GetFile the_file) (reply.FileInfo 1 0)
+    ∷ by 3 1 (op.GetDirectory default_bucket) reply.Done
+    ∷ by 3 2 (op.GetFileHandle (root_of c_example) (codes "z") true) reply.Done
+    ∷ by 3 3 (op.CreateWritable (file_of c_example (codes "z")) false) reply.Done
+    ∷ evicting b_example
+    ∷ by 3 4 (op.Write 1 (codes "x") None) reply.Done
+    ∷ by 1 7 (op.GetFile the_file) (reply.FileInfo 1 0)
+    ∷ by 2 6 (op.GetFile (file_of b_example (codes "y"))) (refused refusal.NotFoundError)
+    ∷ []
+
+abbrev pub the_bucket_that_was_used_longest_ago_goes_lines : List Text
+the_bucket_that_was_used_longest_ago_goes_lines =
+    codes "1.1 getDirectory ok"
+    ∷ codes "1.2 getFileHandle ok"
+    ∷ codes "1.3 createWritable ok"
+    ∷ codes "1.4 write ok"
+    ∷ codes "1.5 close ok"
+    ∷ codes "2.1 getDirectory ok"
+    ∷ codes "2.2 getFileHandle ok"
+    ∷ codes "2.3 createWritable ok"
+    ∷ codes "2.4 write ok"
+    ∷ codes "2.5 close ok"
+    ∷ codes "1.6 getFile ok 1 0"
+    ∷ codes "3.1 getDirectory ok"
+    ∷ codes "3.2 getFileHandle ok"
+    ∷ codes "3.3 createWritable ok"
+    ∷ codes "evict https://b.example"
+    ∷ codes "3.4 write ok"
+    ∷ codes "1.7 getFile ok 1 0"
+    ∷ codes "2.6 getFile NotFoundError"
+    ∷ []
+
+abbrev pub TheBucketThatWasUsedLongestAgoGoes : Type 0
+TheBucketThatWasUsedLongestAgoGoes =
+    IsExample (two_blocks_for three_whos) the_bucket_that_was_used_longest_ago_goes_history
+    the_bucket_that_was_used_longest_ago_goes_lines 16 (refused refusal.NotFoundError)

@@ -111,3 +111,47 @@ ACutStreamMovesItsOffset =
 abbrev pub WhatAClosedStreamWroteStays : Type 0
 WhatAClosedStreamWroteStays =
     kept_at (try_opening one_agent) a_file_is_written_history (file (codes "note" ∷ [])) ≡ Some (codes "hello", codes "hello")
+
+-- A stream that keeps the bytes writes over them from a position on, and goes on behind what it wrote.
+abbrev pub a_kept_stream_writes_over_what_is_there_history : List Entry
+a_kept_stream_writes_over_what_is_there_history =
+    by_one 1 (op.GetDirectory default_bucket) reply.Done
+    ∷ by_one 2 (op.GetFileHandle root (codes "f") true) reply.Done
+    ∷ by_one 3 (op.CreateWritable the_file false) reply.Done
+    ∷ by_one 4 (op.Write 1 (codes "hello") None) reply.Done
+    ∷ by_one 5 (op.Close 1) reply.Done
+    ∷ by_one 6 (op.CreateWritable the_file true) reply.Done
+    ∷ by_one 7 (op.Write 2 (codes "J") (Some 0)) reply.Done
+    ∷ by_one 8 (op.Write 2 (codes "u") None) reply.Done
+    ∷ by_one 9 (op.Close 2) reply.Done
+    ∷ by_one 10 (op.GetFile the_file) (reply.FileInfo 5 0)
+    ∷ by_one 11 (op.Slice 3 0 5) (reply.Read (codes "Jullo"))
+    ∷ by_one 12 (op.CreateWritable the_file false) reply.Done
+    ∷ by_one 13 (op.Close 4) reply.Done
+    ∷ by_one 14 (op.GetFile the_file) (reply.FileInfo 0 0)
+    ∷ by_one 15 op.End reply.Done
+    ∷ []
+
+abbrev pub a_kept_stream_writes_over_what_is_there_lines : List Text
+a_kept_stream_writes_over_what_is_there_lines =
+    codes "1.1 getDirectory ok"
+    ∷ codes "1.2 getFileHandle ok"
+    ∷ codes "1.3 createWritable ok"
+    ∷ codes "1.4 write ok"
+    ∷ codes "1.5 close ok"
+    ∷ codes "1.6 createWritable ok"
+    ∷ codes "1.7 write ok"
+    ∷ codes "1.8 write ok"
+    ∷ codes "1.9 close ok"
+    ∷ codes "1.10 getFile ok 5 0"
+    ∷ codes "1.11 slice ok 5 4a756c6c6f"
+    ∷ codes "1.12 createWritable ok"
+    ∷ codes "1.13 close ok"
+    ∷ codes "1.14 getFile ok 0 0"
+    ∷ codes "1.15 end ok"
+    ∷ []
+
+abbrev pub AKeptStreamWritesOverWhatIsThere : Type 0
+AKeptStreamWritesOverWhatIsThere =
+    IsExample (try_opening one_agent) a_kept_stream_writes_over_what_is_there_history
+    a_kept_stream_writes_over_what_is_there_lines 10 (reply.Read (codes "Ju"))

@@ -1,6 +1,6 @@
 //! Examples of room: the quota, the area, and evictions.
 
-ghost use Rattle.opfs_examples.specs.Room.{TheQuotaRefusesAWrite, TheAreaRefusesAChild, AnEvictionMakesRoom, AnEvictionIsEntered, AnOriginIsNotEvictedForItself, ABucketInUseIsNotEvicted};
+ghost use Rattle.opfs_examples.specs.Room.{TheQuotaRefusesAWrite, TheAreaRefusesAChild, AnEvictionMakesRoom, AnEvictionIsEntered, AnOriginIsNotEvictedForItself, ABucketInUseIsNotEvicted, ACutOfAFileNeedsRoomForWhatItLeaves, TheBucketThatWasUsedLongestAgoGoes};
 
 /// A write past the quota is refused, and the stream goes on as it was.
 pub fn the_quota_refuses_a_write()
@@ -30,4 +30,14 @@ pub fn an_origin_is_not_evicted_for_itself()
 /// A bucket stays while a lock in it is taken, and goes once that is released.
 pub fn a_bucket_in_use_is_not_evicted()
     ensures { ABucketInUseIsNotEvicted }
+{}
+
+/// An access handle keeps blocks for the whole new length, also where it cuts the file.
+pub fn a_cut_of_a_file_needs_room_for_what_it_leaves()
+    ensures { ACutOfAFileNeedsRoomForWhatItLeaves }
+{}
+
+/// Of two buckets that may go, the one goes whose origin made no call for longer.
+pub fn the_bucket_that_was_used_longest_ago_goes()
+    ensures { TheBucketThatWasUsedLongestAgoGoes }
 {}
