@@ -1,0 +1,11 @@
+//! The working copy of a stream or an access handle, in pages of 4,096 bytes.
+#![tactic(auto)]
+
+pub mod buffer;
+pub mod sizes;
+pub mod spares;
+pub mod table;
+pub mod work;
+
+pub use table::Page;
+pub use work::Work;
