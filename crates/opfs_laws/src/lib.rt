@@ -1,0 +1,5 @@
+//! Laws over every legal history. They speak of the definitions of `opfs_machine` alone; each is the contract of a
+//! function that does nothing.
+#![tactic(auto)]
+
+pub mod going_on;
