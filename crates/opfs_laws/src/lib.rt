@@ -3,3 +3,4 @@
 #![tactic(auto)]
 
 pub mod going_on;
+pub mod locked;
