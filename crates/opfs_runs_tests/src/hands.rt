@@ -1,0 +1,203 @@
+//! Hands that go through scripts.
+
+use opfs_base::{Key, Text};
+use opfs_hist::{Entry, Op, Refusal, Reply, Word};
+use opfs_runs::{Hand, Named, Open};
+use opfs_script::{Script, Step, read_script};
+use std::alloc::{AllocError, Global};
+
+// Steps of one agent that bind each kind of variable, and of another that name each.
+const STEPS: &[u8] = b"{\"agents\":[{\"origin\":\"https://a.example\",\"steps\":[\
+{\"do\":\"getDirectory\",\"bucket\":\"drafts\",\"as\":\"d\"},\
+{\"do\":\"getFileHandle\",\"dir\":\"d\",\"name\":\"n\",\"create\":true,\"as\":\"f\"},\
+{\"do\":\"createWritable\",\"file\":\"f\",\"as\":\"w\"},\
+{\"do\":\"createSyncAccessHandle\",\"file\":\"f\",\"as\":\"h\"},\
+{\"do\":\"getFile\",\"file\":\"f\",\"as\":\"s\"},\
+{\"do\":\"values\",\"dir\":\"d\",\"as\":\"i\"}]},\
+{\"origin\":\"https://a.example\",\"steps\":[\
+{\"do\":\"getDirectoryHandle\",\"dir\":\"d\",\"name\":\"n\",\"as\":\"x\"},\
+{\"do\":\"removeEntry\",\"dir\":\"d\",\"name\":\"n\"},\
+{\"do\":\"next\",\"iterator\":\"i\",\"as\":\"x\"},\
+{\"do\":\"resolve\",\"dir\":\"d\",\"entry\":\"f\"},\
+{\"do\":\"isSameEntry\",\"entry\":\"f\",\"other\":\"d\"},\
+{\"do\":\"slice\",\"snapshot\":\"s\",\"at\":0,\"len\":1},\
+{\"do\":\"write\",\"stream\":\"w\",\"data\":\"x\"},\
+{\"do\":\"seek\",\"stream\":\"w\",\"position\":1},\
+{\"do\":\"truncate\",\"stream\":\"w\",\"size\":1},\
+{\"do\":\"abort\",\"stream\":\"w\"},\
+{\"do\":\"syncRead\",\"sync\":\"h\",\"len\":1},\
+{\"do\":\"syncWrite\",\"sync\":\"h\",\"data\":\"x\"},\
+{\"do\":\"syncTruncate\",\"sync\":\"h\",\"size\":1},\
+{\"do\":\"syncGetSize\",\"sync\":\"h\"},\
+{\"do\":\"syncFlush\",\"sync\":\"h\"},\
+{\"do\":\"syncClose\",\"sync\":\"h\"}]}]}";
+
+// What the second agent's steps ask after the first's: the word, and the row.
+const ASKED: [Option<(Word, u32)>; 16] = [
+    Some((Word::GetDirectoryHandle, 0)),
+    Some((Word::RemoveEntry, 0)),
+    Some((Word::Next, 4)),
+    Some((Word::Resolve, 0)),
+    Some((Word::IsSameEntry, 0)),
+    Some((Word::Slice, 3)),
+    Some((Word::Write, 1)),
+    Some((Word::Seek, 1)),
+    Some((Word::Truncate, 1)),
+    Some((Word::Abort, 1)),
+    Some((Word::SyncRead, 2)),
+    Some((Word::SyncWrite, 2)),
+    Some((Word::SyncTruncate, 2)),
+    Some((Word::SyncGetSize, 2)),
+    Some((Word::SyncFlush, 2)),
+    Some((Word::SyncClose, 2)),
+];
+
+// The script of these steps.
+fn script(alloc: Global) -> Result<Script, AllocError> {
+    match read_script(alloc, STEPS) {
+        Ok(script) => Ok(script),
+        Err(_) => Err(AllocError),
+    }
+}
+
+// The steps of an agent, counted from 0.
+fn steps_of(script: &Script, agent: usize) -> &[Step] {
+    match script.agents().get(agent) {
+        Some(agent) => agent.steps(),
+        None => &[],
+    }
+}
+
+// The word of a call, and the row that it names, if any.
+fn told(op: &Op) -> Option<(Word, u32)> {
+    match op {
+        Op::GetDirectoryHandle { .. } => Some((Word::GetDirectoryHandle, 0)),
+        Op::RemoveEntry { .. } => Some((Word::RemoveEntry, 0)),
+        Op::Next { row, .. } => Some((Word::Next, *row)),
+        Op::Resolve { .. } => Some((Word::Resolve, 0)),
+        Op::IsSameEntry { .. } => Some((Word::IsSameEntry, 0)),
+        Op::Slice { row, .. } => Some((Word::Slice, *row)),
+        Op::Write { row, .. } => Some((Word::Write, *row)),
+        Op::Seek { row, .. } => Some((Word::Seek, *row)),
+        Op::Truncate { row, .. } => Some((Word::Truncate, *row)),
+        Op::Abort { row } => Some((Word::Abort, *row)),
+        Op::SyncRead { row, .. } => Some((Word::SyncRead, *row)),
+        Op::SyncWrite { row, .. } => Some((Word::SyncWrite, *row)),
+        Op::SyncTruncate { row, .. } => Some((Word::SyncTruncate, *row)),
+        Op::SyncGetSize { row } => Some((Word::SyncGetSize, *row)),
+        Op::SyncFlush { row } => Some((Word::SyncFlush, *row)),
+        Op::SyncClose { row } => Some((Word::SyncClose, *row)),
+        _ => None,
+    }
+}
+
+// What a step asks.
+fn asked(alloc: Global, hand: &Hand, step: &Step) -> Result<Option<(Word, u32)>, AllocError> {
+    match hand.op_of(alloc, step) {
+        Ok(op) => {
+            let asked = told(&op);
+            drop(op);
+            Ok(asked)
+        }
+        Err(error) => Err(error),
+    }
+}
+
+// What steps ask.
+fn all_asked(
+    alloc: Global,
+    hand: &Hand,
+    steps: &[Step],
+) -> Result<Vec<Option<(Word, u32)>>, AllocError> {
+    let mut all = Vec::new(alloc);
+    for step in steps {
+        all.push(asked(alloc, hand, step)?)?;
+    }
+    Ok(all)
+}
+
+// The entry of a call that is answered so.
+fn entry(op: Op, reply: Reply) -> Entry {
+    Entry {
+        agent: 1,
+        number: 1,
+        op,
+        reply,
+        turn: true,
+    }
+}
+
+// Plays a step that is accepted, or refused.
+fn play(alloc: Global, hand: &mut Hand, step: &Step, accepted: bool) -> Result<(), AllocError> {
+    match hand.op_of(alloc, step) {
+        Ok(op) => {
+            let entry = if accepted {
+                entry(op, Reply::Done)
+            } else {
+                entry(op, Reply::No(Refusal::NotFoundError))
+            };
+            let noted = hand.then(alloc, step, &entry);
+            drop(entry);
+            noted
+        }
+        Err(error) => Err(error),
+    }
+}
+
+// A hand that went through steps, all accepted, or all refused.
+fn played(alloc: Global, steps: &[Step], accepted: bool) -> Result<Hand, AllocError> {
+    let key = Key::of_text(alloc, "https://a.example")?;
+    let mut hand = Hand::make(alloc, Some(key));
+    for step in steps {
+        play(alloc, &mut hand, step, accepted)?;
+    }
+    Ok(hand)
+}
+
+// The unit of the file that a variable names, as its text; empty where it names none.
+fn unit_of<'a>(hand: &'a Hand, variable: &Text) -> &'a str {
+    match hand.bound.named_by(variable) {
+        Some(Named::File(at)) => at.key.as_str(),
+        _ => "",
+    }
+}
+
+#[test]
+fn steps_ask_of_what_their_variables_name(rt: HostRuntime) -> Result<(), AllocError> {
+    let script = script(rt.alloc())?;
+    let hand = played(rt.alloc(), steps_of(&script, 0), true)?;
+    let all = all_asked(rt.alloc(), &hand, steps_of(&script, 1))?;
+    assert_eq!(rt; all.as_slice(), ASKED.as_slice());
+    Ok(())
+}
+
+#[test]
+fn rows_are_numbered_and_open(rt: HostRuntime) -> Result<(), AllocError> {
+    let script = script(rt.alloc())?;
+    let hand = played(rt.alloc(), steps_of(&script, 0), true)?;
+    assert_eq!(rt; hand.rows, 4);
+    assert_eq!(rt;
+        hand.opened(),
+        [Open::Stream(1), Open::Handle(2)].as_slice()
+    );
+    Ok(())
+}
+
+#[test]
+fn files_are_bound_in_their_unit(rt: HostRuntime) -> Result<(), AllocError> {
+    let script = script(rt.alloc())?;
+    let hand = played(rt.alloc(), steps_of(&script, 0), true)?;
+    let variable = Text::copy_of(rt.alloc(), "f")?;
+    assert_eq!(rt; unit_of(&hand, &variable), "https://a.example#drafts");
+    Ok(())
+}
+
+#[test]
+fn a_refused_call_binds_nothing(rt: HostRuntime) -> Result<(), AllocError> {
+    let script = script(rt.alloc())?;
+    let hand = played(rt.alloc(), steps_of(&script, 0), false)?;
+    let all = all_asked(rt.alloc(), &hand, steps_of(&script, 1))?;
+    assert_eq!(rt; all.as_slice(), [None; 16].as_slice());
+    assert_eq!(rt; hand.rows, 0);
+    Ok(())
+}

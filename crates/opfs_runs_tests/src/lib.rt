@@ -1,0 +1,5 @@
+//! Tests of a script's run.
+#![tactic(auto)]
+
+#[cfg(test)]
+mod hands;
