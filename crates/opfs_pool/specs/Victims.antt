@@ -1,5 +1,5 @@
 -- Which units are cleared where the pool is too small (Storage: storage pressure; the choice is this project's own).
-use Rattle.std.specs.Prelude.{ℕ, ◌+◌, ◌-◌, ◌==◌, Bool, not, ◌&&◌, if◌then◌else◌, List, [], ◌∷◌, Option, Some, None, option_map, filter, fold}
+use Rattle.std.specs.Prelude.{ℕ, ◌+◌, ◌-◌, ◌==◌, Bool, not, ◌&&◌, if◌then◌else◌, List, [], ◌∷◌, Option, Some, None, option_map, filter, fold, sum_by}
 use Rattle.std.specs.BTreeMap.{insert_entry}
 use Rattle.std.specs.Ordering.{nat_cmp, ordering_then}
 use Rattle.std.specs.declared.cmp.Ordering.{Ordering}
@@ -27,6 +27,10 @@ with_candidate sorted e = insert_entry use_cmp sorted (e.1.last, e.0) e.1.blocks
 -- The candidates for a caller, the one that was used longest ago first.
 abbrev pub candidates : Text → Shares → Candidates
 candidates caller shares = fold with_candidate [] (filter (is_candidate caller) shares)
+
+-- The blocks of all candidates together.
+abbrev pub clearable : Text → Shares → ℕ
+clearable caller shares = sum_by (λ e. e.1) (candidates caller shares)
 
 -- The shortest front of units that have as many blocks as are lacking; None where all together have too few.
 abbrev pub shortest_front : ℕ → Candidates → Option (List Text)

@@ -1,8 +1,8 @@
 //! The pool of data blocks.
 
-ghost use Rattle.std.specs.Prelude.{◌≡◌, ◌+◌, ◌-◌, ◌≤◌, ◌↔◌, [], true, false, IsTrue, IfOk, OnOk, OnErr};
+ghost use Rattle.std.specs.Prelude.{◌≡◌, ◌+◌, ◌-◌, ◌<◌, ◌≤◌, ◌↔◌, [], true, false, IsTrue, IsNone, IfOk, OnOk, OnErr};
 ghost use Rattle.opfs_pool.specs.Shares.{has_share, share_at, held, touched, changed};
-ghost use Rattle.opfs_pool.specs.Victims.{victims};
+ghost use Rattle.opfs_pool.specs.Victims.{victims, clearable};
 
 use crate::shares::{set_share, share_at};
 use crate::victims::{Keys, candidates, shortest_front};
@@ -177,7 +177,8 @@ impl Pool {
     /// The units that are cleared so that so many blocks more find room: the shortest front of the candidates that are not
     /// of the caller's origin, by last use and then by text. None where all together are not enough.
     pub fn victims(&self, caller: &Key, need: u64) -> Result<Option<Keys>, AllocError>
-        ensures { IfOk result (λ units. units ≡ victims self.now caller.now need) }
+        ensures units { IfOk result (λ units. units ≡ victims self.now caller.now need) }
+        ensures none { IfOk result (λ units. IsNone units ↔ (self.now.size + clearable caller.now self.now.shares < held self.now.shares + need)) }
     {
         let lacking = need.saturating_sub(self.size - self.count);
         let sorted = candidates(self.alloc, caller, &self.shares)?;
