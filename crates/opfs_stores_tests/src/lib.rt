@@ -1,0 +1,9 @@
+//! Tests of the shed, the pool and working copies.
+#![tactic(auto)]
+
+#[cfg(test)]
+mod pools;
+#[cfg(test)]
+mod sheds;
+#[cfg(test)]
+mod works;

@@ -1,0 +1,96 @@
+//! Shares of the pool and victims.
+
+use opfs_base::Key;
+use opfs_pool::{Keys, Pool};
+use std::alloc::{AllocError, Global};
+use std::test::Fail;
+
+#[test]
+fn blocks_are_kept_and_given_back(rt: HostRuntime) -> Result<(), Fail> {
+    let key = Key::of_text(rt.alloc(), "https://a.example")?;
+    let mut pool = Pool::make(rt.alloc(), 4);
+    pool.touch(&key)?;
+    pool.raise(&key, 3);
+    assert_eq!(rt; pool.count(), 3);
+    assert!(rt; pool.room(1));
+    assert!(rt; !pool.room(2));
+    pool.lower(&key, 1);
+    assert_eq!(rt; pool.count(), 2);
+    pool.clear(&key);
+    assert_eq!(rt; pool.count(), 0);
+    Ok(())
+}
+
+// A pool of four blocks with the shares of three candidates, the last one of the caller's origin.
+fn shared(alloc: Global, first: &Key, second: &Key, caller: &Key) -> Result<Pool, AllocError> {
+    let mut pool = Pool::make(alloc, 4);
+    pool.touch(first)?;
+    pool.mark(first, true, 9);
+    pool.touch(second)?;
+    pool.mark(second, true, 5);
+    pool.touch(caller)?;
+    pool.mark(caller, true, 1);
+    Ok(pool)
+}
+
+// Keeps a block more for a unit.
+fn keep(pool: &mut Pool, unit: &Key) -> Result<(), AllocError> {
+    pool.touch(unit)?;
+    if pool.room(1) {
+        pool.raise(unit, 1);
+    }
+    Ok(())
+}
+
+// Whether the victims have these texts.
+fn are(victims: Option<Keys>, texts: &[&str]) -> bool {
+    match victims {
+        None => false,
+        Some(units) => {
+            let units = units.as_slice();
+            units.len() == texts.len()
+                && units
+                    .iter()
+                    .zip(texts)
+                    .all(|(unit, text)| unit.as_str() == *text)
+        }
+    }
+}
+
+// A pool of four blocks with a block of each of three candidates.
+fn filled(alloc: Global, first: &Key, second: &Key, third: &Key) -> Result<Pool, AllocError> {
+    let mut pool = shared(alloc, first, second, third)?;
+    keep(&mut pool, first)?;
+    keep(&mut pool, second)?;
+    keep(&mut pool, third)?;
+    Ok(pool)
+}
+
+// Whether the victims of a need have these texts.
+fn gives(pool: &Pool, caller: &Key, need: u64, texts: &[&str]) -> Result<bool, AllocError> {
+    let victims = pool.victims(caller, need)?;
+    Ok(are(victims, texts))
+}
+
+// Whether a need has no victims.
+fn gives_none(pool: &Pool, caller: &Key, need: u64) -> Result<bool, AllocError> {
+    let victims = pool.victims(caller, need)?;
+    Ok(victims.is_none())
+}
+
+// The same, of two units and of one of the caller's origin.
+fn three(alloc: Global) -> Result<Pool, AllocError> {
+    let first = Key::of_text(alloc, "a")?;
+    let second = Key::of_text(alloc, "b")?;
+    let third = Key::of_text(alloc, "c#d")?;
+    filled(alloc, &first, &second, &third)
+}
+
+#[test]
+fn victims_go_by_last_use(rt: HostRuntime) -> Result<(), Fail> {
+    let pool = three(rt.alloc())?;
+    let caller = Key::of_text(rt.alloc(), "c")?;
+    assert!(rt; gives(&pool, &caller, 3, &["b", "a"])?);
+    assert!(rt; gives_none(&pool, &caller, 4)?);
+    Ok(())
+}
