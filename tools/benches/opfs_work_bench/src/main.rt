@@ -1,6 +1,6 @@
 //! How long a working copy of 8 MiB and one of 16 MiB take to be written in pieces of 64 KiB, with at most 256 pages in
-//! memory. It is not in crates.txt: to run it, add the line `opfs_work_bench: opfs_base opfs_splice opfs_work` there,
-//! and call `rt try` in this folder.
+//! memory. It is no crate of the repository: to run it, copy this folder to `crates/`, add the line
+//! `opfs_work_bench: opfs_base opfs_splice opfs_work` to crates.txt, and call `rt try` in the copy.
 #![tactic(auto)]
 
 use opfs_work::Work;
