@@ -5,3 +5,5 @@ pub mod OwnFiles
 pub mod OwnKept
 pub mod Reaching
 pub mod Refused
+pub mod Alike
+pub mod Numbers

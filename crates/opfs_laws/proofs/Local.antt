@@ -56,12 +56,12 @@ handle_asks s k n = elim (open_handle in_bytes s k n) as (λ w. Asks ((some_or w
 abbrev Closed : State Text Own → Sizes → ℕ → Option Own → Option HandleOutline → Type 0
 Closed s z size row h = is_closed_handle row ≡ true → h ≡ None
 
-closed : (row : Option Own) → is_closed_handle row ≡ true → of_row (λ r. handle_in (outline_of r)) row ≡ None
+pub closed : (row : Option Own) → is_closed_handle row ≡ true → of_row (λ r. handle_in (outline_of r)) row ≡ None
 closed None h = refl
 closed (Some (own.Handle w)) h = cc
 closed (Some r) h = refl
 
-abbrev grown : State Text Own → Sizes → ℕ → HandleOutline → Ruled Need
+abbrev pub grown : State Text Own → Sizes → ℕ → HandleOutline → Ruled Need
 grown s z size h = do
   unless (is_read_write h.mode) (locked_by (lock_in (file_at s h.file)))
   Ok (record {
@@ -70,7 +70,7 @@ grown s z size h = do
     charge = block_charge * (reserve_for h.reserve size - h.reserve);
   })
 
-grow_closed : (s : State Text Own) (z : Sizes) (k n size : ℕ) → open_handle in_bytes s k n ≡ None → Asks (grow_handle_ruling in_bytes s z k n size)
+pub grow_closed : (s : State Text Own) (z : Sizes) (k n size : ℕ) → open_handle in_bytes s k n ≡ None → Asks (grow_handle_ruling in_bytes s z k n size)
 unfolding grow_handle_ruling ◌>>=◌
 grow_closed s z k n size h = subst (λ o. Asks ((some_or o refusal.InvalidStateError) >>= (grown s z size))) (sym h) (refuses _)
 
@@ -100,7 +100,7 @@ none_cleared : (s : State Text Own) (units : List Text) → shortest_front in_by
 none_cleared s [] = refl
 none_cleared s (unit ∷ units) = refl
 
-room_for_nothing : (s : State Text Own) (caller : Option Text) → room_for in_bytes s caller no_need ≡ Ok []
+pub room_for_nothing : (s : State Text Own) (caller : Option Text) → room_for in_bytes s caller no_need ≡ Ok []
 unfolding room_for ◌>>◌
 room_for_nothing s caller = ap (λ v. some_or v (refusal.DataFull (pool in_bytes s) 0 s.limits.blocks)) (none_cleared s (candidates s caller))
 

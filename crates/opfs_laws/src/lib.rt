@@ -4,3 +4,4 @@
 
 pub mod going_on;
 pub mod locked;
+pub mod owned;
