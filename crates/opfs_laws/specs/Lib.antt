@@ -1,3 +1,4 @@
 pub mod GoingOn
+pub mod Holders
 pub mod LockRefusals
 pub mod OwnRowsLaw
