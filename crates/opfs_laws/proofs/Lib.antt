@@ -8,11 +8,16 @@ pub mod Local
 pub mod LockCauses
 pub mod LocksEffect
 pub mod LocksKept
+pub mod Maps
 pub mod Numbers
 pub mod Others
 pub mod OwnFiles
 pub mod OwnKept
+pub mod OwnSizes
 pub mod OwnSums
 pub mod Reaching
 pub mod Refused
+pub mod RowsEffect
+pub mod Splices
 pub mod Spots
+pub mod Wholes

@@ -2,3 +2,4 @@ pub mod GoingOn
 pub mod Holders
 pub mod LockRefusals
 pub mod OwnRowsLaw
+pub mod Whole

@@ -5,3 +5,4 @@
 pub mod going_on;
 pub mod locked;
 pub mod owned;
+pub mod whole;
