@@ -1,0 +1,13 @@
+//! Tests of the program's one call: transcripts, refusals, and the ends of a command.
+#![tactic(auto)]
+
+#[cfg(test)]
+mod asking;
+#[cfg(test)]
+mod endings;
+#[cfg(test)]
+mod every_word;
+#[cfg(test)]
+mod refusals;
+#[cfg(test)]
+mod transcripts;
