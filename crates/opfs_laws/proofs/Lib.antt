@@ -1,6 +1,7 @@
 pub mod Alike
 pub mod Allowed
 pub mod Apart
+pub mod CoveredKept
 pub mod Going
 pub mod Gone
 pub mod Held

@@ -169,7 +169,7 @@ locks-changed s k n change number same h =
 pub counts-here : (p : Place) (w v : Want) (r : Own) → hold_of r ≡ Some (p, w) → counts p v (hold_of r) ≡ one_of v w
 counts-here p w v r is = ap (counts p v) is ∙ ap (λ b. cond (b && same_want v w) 1 0) (place_itself p)
 
-counts-there : (p q : Place) (w v : Want) (r : Own) → p ≢ q → hold_of r ≡ Some (p, w) → counts q v (hold_of r) ≡ 0
+pub counts-there : (p q : Place) (w v : Want) (r : Own) → p ≢ q → hold_of r ≡ Some (p, w) → counts q v (hold_of r) ≡ 0
 counts-there p q w v r apart is = ap (counts q v) is ∙ ap (λ b. cond (b && same_want v w) 1 0) (place_apart q p (λ e. apart (sym e)))
 
 -- A lock is taken with the row that holds it.

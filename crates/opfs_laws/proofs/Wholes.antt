@@ -28,9 +28,11 @@ use Rattle.opfs_machine.specs.Rows.{Rows, row_at, file_at}
 use Rattle.opfs_machine.specs.Rulings.{is_read_write, lock_in}
 use Rattle.opfs_machine.specs.Steps.{evicted, after_reply, changed_by, is_refusal}
 use Rattle.opfs_machine.specs.Victims.{is_candidate, is_callers}
+use Rattle.opfs_laws.specs.Covered.{AreCovered}
 use Rattle.opfs_laws.specs.Holders.{hold_of, counts, holders, AreHolders, IsLockOf, AreLocksOfHolders}
 use Rattle.opfs_laws.specs.Whole.{IsInOrder, IsClosed, IsWhole, IsWholeOpening, WhatEveryReachedStateKeeps}
 use Rattle.opfs_laws.proofs.Allowed.{row-stays}
+use Rattle.opfs_laws.proofs.CoveredKept.{covered-calls, covered-begun}
 use Rattle.opfs_laws.proofs.Gone.{Ran, ran-by, gone-candidates}
 use Rattle.opfs_laws.proofs.Held.{one_of}
 use Rattle.opfs_laws.proofs.LocksEffect.{locks-kept, locks-begun}
@@ -130,4 +132,5 @@ whole o es opening legal =
       files = file-there t locks;
       buffers = λ k n w is. keeps-row Fits t k n (own.Stream w) fits is;
       readers = λ k n h is reads. keeps-row Fits t k n (own.Handle h) fits is (ap is_read_write reads);
+      covered = kept-all AreCovered covered-calls (begun o) [] es legal (covered-begun o);
     }

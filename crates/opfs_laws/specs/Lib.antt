@@ -1,3 +1,4 @@
+pub mod Covered
 pub mod GoingOn
 pub mod Holders
 pub mod LockRefusals

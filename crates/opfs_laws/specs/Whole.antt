@@ -21,6 +21,7 @@ use Rattle.opfs_machine.specs.Histories.{Legal, state_after}
 use Rattle.opfs_machine.specs.Openings.{Opening, begun}
 use Rattle.opfs_machine.specs.Rows.{Rows, file_at}
 use Rattle.opfs_machine.specs.Sums.{pool, charge}
+use Rattle.opfs_laws.specs.Covered.{AreCovered}
 use Rattle.opfs_laws.specs.Holders.{hold_of, AreLocksOfHolders}
 
 -- The rows stand in the order of their places, one at each.
@@ -32,7 +33,8 @@ abbrev pub IsClosed : Rows Text → Type 0
 IsClosed rows = (dir : Place) (name : Text) (r : Row Text) → find place_cmp (child dir name) rows ≡ Some r → find place_cmp dir rows ≡ Some row.Directory
 
 -- What is kept of the state: its rows are a map in order and closed under parents; each lock tells its holders; the
--- file of each open row is there; a stream's reserve covers its buffer; an access handle that may not write keeps none.
+-- file of each open row is there; a stream's reserve covers its buffer; an access handle that may not write keeps none;
+-- and a file's bytes are stored for good, or an access handle that may write it keeps blocks enough for them.
 pub record IsWhole (s : State Text Own) : Type 0 where
   pub order : IsInOrder s.rows
   pub parents : IsClosed s.rows
@@ -41,6 +43,7 @@ pub record IsWhole (s : State Text Own) : Type 0 where
       → (f : FileRow Text) × (file_at s place ≡ Some f)
   pub buffers : (k n : ℕ) (w : StreamRow) → own_of (agent_of s k) n ≡ Some (own.Stream w) → blocks (length w.buffer) ≤ w.reserve
   pub readers : (k n : ℕ) (h : HandleRow) → own_of (agent_of s k) n ≡ Some (own.Handle h) → h.mode ≡ ReadOnly → h.reserve ≡ 0
+  pub covered : AreCovered s
 
 -- An opening whose rows are in order and closed under parents.
 pub record IsWholeOpening (o : Opening) : Type 0 where
