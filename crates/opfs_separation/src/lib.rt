@@ -1,0 +1,4 @@
+//! Separation of origins: a law over every legal history. It speaks of the definitions of `opfs_machine` alone.
+#![tactic(auto)]
+
+pub mod apart;
