@@ -175,7 +175,7 @@ left-file false o f h = absurd (none_some h)
 covered-without : (s : State Text Own) (p : Place) → AreCovered s → AreCovered (without s p)
 covered-without s p h q f is = h q f (left-file (not (is_within p q)) (row_at s q) f (sym (ap file_of (row-without s p q)) ∙ is))
 
-covered-gone : (gone : List Text) (s : State Text Own) → AreCovered s → AreCovered (fold evicted s gone)
+pub covered-gone : (gone : List Text) (s : State Text Own) → AreCovered s → AreCovered (fold evicted s gone)
 covered-gone [] s h = h
 covered-gone (unit ∷ units) s h = covered-gone units (evicted s unit) (covered-without s (unit, []) h)
 

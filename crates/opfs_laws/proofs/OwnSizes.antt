@@ -49,7 +49,7 @@ Fits key r = Unit {0}
 abbrev pub OwnFits : State Text Own → Type 0
 OwnFits s = OwnKeeps Fits s
 
-abbrev AgentsFit : List (Agent Own) → Type 0
+abbrev pub AgentsFit : List (Agent Own) → Type 0
 AgentsFit agents = All (AgentKeeps Fits) agents
 
 at-most : (a b c : ℕ) → a ≡ b → a ≤ max c b

@@ -1,6 +1,8 @@
 -- How a call changes the rows: it makes one, removes some, or changes a file.
 use Rattle.std.proofs.Common.{◌≡◌, ℕ, ◌+◌, Bool, true, false, cond, not, List, [], ◌∷◌, ◌++◌, filter, fold, Option, Some, None, Result, Ok, Err, refl, sym, ap, ◌∙◌, subst}
 use Rattle.std.specs.FinMap.Entries.{put, find}
+use Rattle.std.specs.Ordering.{nat_cmp}
+use Rattle.std.specs.Cmp.Lexicographic.{slice_cmp}
 use Rattle.std.proofs.lemmas.Bool.{false≢true, and_parts}
 use Rattle.opfs_base.specs.Places.{Place, place_cmp, place_of, child, is_within}
 use Rattle.opfs_base.specs.Texts.{Text}
@@ -18,6 +20,7 @@ use Rattle.opfs_machine.specs.declared.own.StreamOutline.{StreamOutline}
 use Rattle.opfs_machine.specs.declared.own.Own.{Own}
 use Rattle.opfs_machine.specs.declared.own.Own.TheVariants as own
 use Rattle.opfs_machine.specs.declared.state.FileRow.{FileRow}
+use Rattle.opfs_machine.specs.declared.state.Limits.{Limits}
 use Rattle.opfs_machine.specs.declared.state.Need.{Need}
 use Rattle.opfs_machine.specs.declared.state.Row.{Row}
 use Rattle.opfs_machine.specs.declared.state.Row.TheVariants as row
@@ -26,6 +29,7 @@ use Rattle.opfs_machine.specs.declared.state.State.{State}
 use Rattle.opfs_machine.specs.Agents.{agent_of, own_of, open_stream, open_handle, with_own}
 use Rattle.opfs_machine.specs.Contents.{in_bytes}
 use Rattle.opfs_machine.specs.Effects.{effect, made, new_row, moment_of, opens_bucket, opens_stream, takes_snapshot, closes_stream, aborts_stream, changes_file, flushes, closes_handle, discards, persists, with_written, with_changed, with_lock, flushed, unlocked, undone, replaced, content_of}
+use Rattle.opfs_machine.specs.Ordered.{insert_by}
 use Rattle.opfs_machine.specs.Rows.{Rows, row_at, file_at, with_row, with_file, change_at, is_located, holds_kind, wants}
 use Rattle.opfs_machine.specs.Ruled.{Ruled}
 use Rattle.opfs_machine.specs.Rulings.{want_of, get_handle_ruling, ruling, first_reserve}
@@ -76,79 +80,83 @@ no-parent unit dir name h = empty dir.1 (ap (λ (p : Place). p.1) h)
     empty (x ∷ xs) e = cc
 
 -- The rows keep what each of the three keeps.
-module _ (Q : Rows Text → Type 0)
-    (puts : (p : Place) (r : Row Text) (rows : Rows Text) → find place_cmp p rows ≡ None → HasParent p rows → Q rows → Q (put place_cmp p r rows))
-    (removes : (p : Place) (rows : Rows Text) → Q rows → Q (filter (λ e. not (is_within p e.0)) rows))
-    (changes : (p : Place) (change : FileRow Text → FileRow Text) (rows : Rows Text) → Q rows → Q (change_at p change rows)) where
-  made-rows : (s : State Text Own) (p : Place) (r : Row Text) → HasParent p s.rows → Q s.rows → Q (made s p r).rows
+module _ (Q : Rows Text → List Text → Limits → Type 0)
+    (puts : (p : Place) (r : Row Text) (rows : Rows Text) (modes : List Text) (limits : Limits) → find place_cmp p rows ≡ None → HasParent p rows → Q rows modes limits → Q (put place_cmp p r rows) modes limits)
+    (removes : (p : Place) (rows : Rows Text) (modes : List Text) (limits : Limits) → Q rows modes limits → Q (filter (λ e. not (is_within p e.0)) rows) modes limits)
+    (changes : (p : Place) (change : FileRow Text → FileRow Text) (rows : Rows Text) (modes : List Text) (limits : Limits) → Q rows modes limits → Q (change_at p change rows) modes limits)
+    (inserts : (unit : Text) (rows : Rows Text) (modes : List Text) (limits : Limits) → Q rows modes limits → Q rows (insert_by (slice_cmp nat_cmp) unit modes) limits) where
+  abbrev K : State Text Own → Type 0
+  K s = Q s.rows s.persistent s.limits
+
+  made-rows : (s : State Text Own) (p : Place) (r : Row Text) → HasParent p s.rows → K s → K (made s p r)
   made-rows s p r parent h =
-      elim (row_at s p) as (λ o. row_at s p ≡ o → Q (elim o as (λ x. State Text Own) [ Some old ↦ s | None ↦ with_row s p r ]).rows) [
+      elim (row_at s p) as (λ o. row_at s p ≡ o → K (elim o as (λ x. State Text Own) [ Some old ↦ s | None ↦ with_row s p r ])) [
         | Some old ↦ λ is. h
-        | None ↦ λ is. puts p r s.rows is parent h
+        | None ↦ λ is. puts p r s.rows s.persistent s.limits is parent h
       ] refl
 
-  bucket-rows : (s : State Text Own) (bucket : Text) (key : Option Text) → Q s.rows → Q (opens_bucket s bucket key).rows
+  bucket-rows : (s : State Text Own) (bucket : Text) (key : Option Text) → K s → K (opens_bucket s bucket key)
   bucket-rows s bucket None h = h
   bucket-rows s bucket (Some origin) h = made-rows s (unit_of origin bucket, []) row.Directory (λ dir name is. absurd (no-parent (unit_of origin bucket) dir name is)) h
 
-  changed-rows : (s : State Text Own) (k n : ℕ) (change : Own → Own) → Q s.rows → Q (with_changed s k n change).rows
+  changed-rows : (s : State Text Own) (k n : ℕ) (change : Own → Own) → K s → K (with_changed s k n change)
   unfolding with_changed
   changed-rows s k n change h =
-      elim (own_of (agent_of s k) n) as (λ o. Q (elim o as (λ x. State Text Own) [ Some r ↦ with_own s k n (change r) | None ↦ s ]).rows) [ Some r ↦ h | None ↦ h ]
+      elim (own_of (agent_of s k) n) as (λ o. K (elim o as (λ x. State Text Own) [ Some r ↦ with_own s k n (change r) | None ↦ s ])) [ Some r ↦ h | None ↦ h ]
 
-  stream-rows : (s : State Text Own) (k : ℕ) (p : Place) (reserve : ℕ) (keep : Bool) (f : Option (FileRow Text)) → Q s.rows → Q (opens_stream in_bytes s k p reserve keep f).rows
+  stream-rows : (s : State Text Own) (k : ℕ) (p : Place) (reserve : ℕ) (keep : Bool) (f : Option (FileRow Text)) → K s → K (opens_stream in_bytes s k p reserve keep f)
   stream-rows s k p reserve keep None h = h
-  stream-rows s k p reserve keep (Some f) h = changes p (with_lock want.Shared) s.rows h
+  stream-rows s k p reserve keep (Some f) h = changes p (with_lock want.Shared) s.rows s.persistent s.limits h
 
-  snapshot-rows : (s : State Text Own) (k : ℕ) (f : Option (FileRow Text)) → Q s.rows → Q (takes_snapshot in_bytes s k f).rows
+  snapshot-rows : (s : State Text Own) (k : ℕ) (f : Option (FileRow Text)) → K s → K (takes_snapshot in_bytes s k f)
   snapshot-rows s k None h = h
   snapshot-rows s k (Some f) h = h
 
-  closes-rows : (s : State Text Own) (z : Sizes) (k n : ℕ) (w : Option StreamOutline) → Q s.rows → Q (closes_stream in_bytes s z k n w).rows
+  closes-rows : (s : State Text Own) (z : Sizes) (k n : ℕ) (w : Option StreamOutline) → K s → K (closes_stream in_bytes s z k n w)
   closes-rows s z k n None h = h
-  closes-rows s z k n (Some w) h = changes w.file unlocked _ (changes w.file (replaced (content_of in_bytes (own_of (agent_of s k) n) z.size) (moment_of s k)) s.rows h)
+  closes-rows s z k n (Some w) h = changes w.file unlocked _ s.persistent s.limits (changes w.file (replaced (content_of in_bytes (own_of (agent_of s k) n) z.size) (moment_of s k)) s.rows s.persistent s.limits h)
 
-  aborts-rows : (s : State Text Own) (k n : ℕ) (w : Option StreamOutline) → Q s.rows → Q (aborts_stream in_bytes s k n w).rows
+  aborts-rows : (s : State Text Own) (k n : ℕ) (w : Option StreamOutline) → K s → K (aborts_stream in_bytes s k n w)
   aborts-rows s k n None h = h
-  aborts-rows s k n (Some w) h = changes w.file unlocked s.rows h
+  aborts-rows s k n (Some w) h = changes w.file unlocked s.rows s.persistent s.limits h
 
-  file-rows : (s : State Text Own) (k n : ℕ) (change : Text → Text) (cursor size : ℕ) (o : Option HandleOutline) → Q s.rows → Q (changes_file in_bytes s k n change cursor size o).rows
+  file-rows : (s : State Text Own) (k n : ℕ) (change : Text → Text) (cursor size : ℕ) (o : Option HandleOutline) → K s → K (changes_file in_bytes s k n change cursor size o)
   unfolding changes_file
   file-rows s k n change cursor size None h = h
   file-rows s k n change cursor size (Some o) h =
       let to : FileRow Text → FileRow Text = λ f. record f { present = change f.present; stamp = moment_of s k } in
-      changed-rows (with_file s o.file to) k n _ (changes o.file to s.rows h)
+      changed-rows (with_file s o.file to) k n _ (changes o.file to s.rows s.persistent s.limits h)
 
-  written-rows : (s : State Text Own) (m : Mode) (p : Place) (change : FileRow Text → FileRow Text) → Q s.rows → Q (with_written s m p change).rows
-  written-rows s mode.ReadWrite p change h = changes p change s.rows h
+  written-rows : (s : State Text Own) (m : Mode) (p : Place) (change : FileRow Text → FileRow Text) → K s → K (with_written s m p change)
+  written-rows s mode.ReadWrite p change h = changes p change s.rows s.persistent s.limits h
   written-rows s mode.ReadOnly p change h = h
 
-  flushes-rows : (s : State Text Own) (z : Sizes) (k n : ℕ) (o : Option HandleOutline) → Q s.rows → Q (flushes in_bytes s z k n o).rows
+  flushes-rows : (s : State Text Own) (z : Sizes) (k n : ℕ) (o : Option HandleOutline) → K s → K (flushes in_bytes s z k n o)
   flushes-rows s z k n None h = h
   flushes-rows s z k n (Some o) h = changed-rows (with_written s o.mode o.file flushed) k n _ (written-rows s o.mode o.file flushed h)
 
-  closed-rows : (s : State Text Own) (k n : ℕ) (o : Option HandleOutline) → Q s.rows → Q (closes_handle in_bytes s k n o).rows
+  closed-rows : (s : State Text Own) (k n : ℕ) (o : Option HandleOutline) → K s → K (closes_handle in_bytes s k n o)
   closed-rows s k n None h = h
-  closed-rows s k n (Some o) h = changes o.file unlocked _ (written-rows s o.mode o.file flushed h)
+  closed-rows s k n (Some o) h = changes o.file unlocked _ _ _ (written-rows s o.mode o.file flushed h)
 
-  discards-rows : (s : State Text Own) (k n : ℕ) (o : Option HandleOutline) → Q s.rows → Q (discards in_bytes s k n o).rows
+  discards-rows : (s : State Text Own) (k n : ℕ) (o : Option HandleOutline) → K s → K (discards in_bytes s k n o)
   discards-rows s k n None h = h
-  discards-rows s k n (Some o) h = changes o.file unlocked _ (written-rows s o.mode o.file undone h)
+  discards-rows s k n (Some o) h = changes o.file unlocked _ _ _ (written-rows s o.mode o.file undone h)
 
-  persists-rows : (s : State Text Own) (bucket : Text) (grant : Bool) (key : Option Text) → Q s.rows → Q (persists s bucket grant key).rows
+  persists-rows : (s : State Text Own) (bucket : Text) (grant : Bool) (key : Option Text) → K s → K (persists s bucket grant key)
   persists-rows s bucket grant None h = h
-  persists-rows s bucket true (Some origin) h = h
+  persists-rows s bucket true (Some origin) h = inserts (unit_of origin bucket) s.rows s.persistent s.limits h
   persists-rows s bucket false (Some origin) h = h
 
   child-placed : (s : State Text Own) (dir : Place) (name : Text) → row_at s dir ≡ Some row.Directory → HasParent (child dir name) s.rows
   child-placed s dir name there other last is = ap (row_at s) (sym (child-parent dir other name last is)) ∙ there
 
-  pub effect-rows : (s : State Text Own) (z : Sizes) (k : ℕ) (o : Op) → IsPlaced s o → Q s.rows → Q (effect in_bytes s z k o).rows
+  pub effect-rows : (s : State Text Own) (z : Sizes) (k : ℕ) (o : Op) → IsPlaced s o → K s → K (effect in_bytes s z k o)
   unfolding effect
   effect-rows s z k (op.GetDirectory bucket) may h = bucket-rows s bucket (agent_of s k).key h
   effect-rows s z k (op.GetDirectoryHandle dir name create) may h = made-rows s (child (place_of dir) name) row.Directory (child-placed s (place_of dir) name may) h
   effect-rows s z k (op.GetFileHandle dir name create) may h = made-rows s (child (place_of dir) name) (new_row in_bytes kind.File (moment_of s k)) (child-placed s (place_of dir) name may) h
-  effect-rows s z k (op.RemoveEntry dir name recursive) may h = removes (child (place_of dir) name) s.rows h
+  effect-rows s z k (op.RemoveEntry dir name recursive) may h = removes (child (place_of dir) name) s.rows s.persistent s.limits h
   effect-rows s z k (op.Next n dir) may h = changed-rows s k n _ h
   effect-rows s z k (op.GetFile at) may h = snapshot-rows s k (file_at s (place_of at)) h
   effect-rows s z k (op.CreateWritable at keep) may h = stream-rows s k (place_of at) (first_reserve in_bytes s at keep) keep (file_at s (place_of at)) h
@@ -157,7 +165,7 @@ module _ (Q : Rows Text → Type 0)
   effect-rows s z k (op.Truncate n size) may h = changed-rows s k n _ h
   effect-rows s z k (op.Close n) may h = closes-rows s z k n (open_stream in_bytes s k n) h
   effect-rows s z k (op.Abort n) may h = aborts-rows s k n (open_stream in_bytes s k n) h
-  effect-rows s z k (op.CreateSyncAccessHandle at m) may h = changes (place_of at) (with_lock (want_of m)) s.rows h
+  effect-rows s z k (op.CreateSyncAccessHandle at m) may h = changes (place_of at) (with_lock (want_of m)) s.rows s.persistent s.limits h
   effect-rows s z k (op.SyncRead n len at) may h = changed-rows s k n _ h
   effect-rows s z k (op.SyncWrite n bytes at) may h = file-rows s k n _ _ _ (open_handle in_bytes s k n) h
   effect-rows s z k (op.SyncTruncate n size) may h = file-rows s k n _ _ _ (open_handle in_bytes s k n) h

@@ -56,7 +56,7 @@ placed-after s gone k (op.GetDirectoryHandle dir name create) all may h = dir-st
 placed-after s gone k (op.GetFileHandle dir name create) all may h = dir-stays s gone k dir all may h
 placed-after s gone k o all may h = tt
 
-call-placed : (s : State Text Own) (gone : List Text) (e : Entry) → IsCall s gone e → is_refusal e.reply ≡ false → IsPlaced (fold evicted s gone) e.op
+pub call-placed : (s : State Text Own) (gone : List Text) (e : Entry) → IsCall s gone e → is_refusal e.reply ≡ false → IsPlaced (fold evicted s gone) e.op
 call-placed s gone e call accepted =
     let ran = ran-by s gone e call in
     elim ran as (λ r. IsPlaced (fold evicted s gone) e.op) [
@@ -86,10 +86,11 @@ changed-map : (s : State Text Own) (k : ℕ) (o : Op) (answered : Reply) → (is
 changed-map s k o answered may h =
     elim (is_refusal answered) as (λ b. (b ≡ false → IsPlaced s o) → IsMap (elim b as (λ x. State Text Own) [ true ↦ refused s k o | false ↦ effect in_bytes s (sizes_of s k o) k o ]).rows) [
       | true ↦ λ m. refused-map s k o h
-      | false ↦ λ m. effect-rows IsMap
-          (λ p r rows free parent old. record { order = order-put p r rows old.order; parents = closed-put p r rows free parent old.parents })
-          (λ p rows old. record { order = order-without p rows old.order; parents = closed-without p rows old.parents })
-          (λ p change rows old. record { order = order-change p change rows old.order; parents = closed-change p change rows old.parents })
+      | false ↦ λ m. effect-rows (λ rows modes limits. IsMap rows)
+          (λ p r rows modes limits free parent old. record { order = order-put p r rows old.order; parents = closed-put p r rows free parent old.parents })
+          (λ p rows modes limits old. record { order = order-without p rows old.order; parents = closed-without p rows old.parents })
+          (λ p change rows modes limits old. record { order = order-change p change rows old.order; parents = closed-change p change rows old.parents })
+          (λ unit rows modes limits old. old)
           s (sizes_of s k o) k o (m refl) h
     ] may
 
@@ -118,19 +119,3 @@ file-there s locks k n r place w is holds =
           let same = one_itself w in
           absurd (some_one w (holders s place) (subst (λ f. IsLockOf (lock_in f) (holders s place)) there (locks place)).1 (omega (arith, part, one, same)))
     ] refl
-
-pub whole : WhatEveryReachedStateKeeps
-whole o es opening legal =
-    let t = state_after o es in
-    let map_of = kept-all (λ s. IsMap s.rows) map-kept (begun o) [] es legal (record { order = opening.order; parents = opening.parents }) in
-    let locks = kept-all AreLocksOfHolders locks-kept (begun o) [] es legal (locks-begun o) in
-    let fits = kept-all OwnFits fits-kept (begun o) [] es legal (fits-begun o) in
-    record {
-      order = map_of.order;
-      parents = map_of.parents;
-      locks = locks;
-      files = file-there t locks;
-      buffers = λ k n w is. keeps-row Fits t k n (own.Stream w) fits is;
-      readers = λ k n h is reads. keeps-row Fits t k n (own.Handle h) fits is (ap is_read_write reads);
-      covered = kept-all AreCovered covered-calls (begun o) [] es legal (covered-begun o);
-    }
