@@ -1,8 +1,8 @@
 -- What a call that is not refused tells of the locks that it names.
-use Rattle.std.proofs.Common.{◌≡◌, ℕ, Bool, true, false, not, ◌&&◌, zero, suc, All, List, [], ◌∷◌, fold, filter, Option, Some, None, Result, Ok, Err, refl, sym, ap, ◌∙◌, subst}
+use Rattle.std.proofs.Common.{◌≡◌, ℕ, Bool, true, false, not, ◌&&◌, zero, suc, All, List, [], ◌∷◌, fold, filter, Option, Some, None, Ok, Err, refl, sym, ap, ◌∙◌, subst}
 use Rattle.std.specs.Prelude.{is_some, cond}
 use Rattle.std.proofs.lemmas.Bool.{and_parts, false≢true}
-use Rattle.std.proofs.lemmas.List.Elements.{All-nil, All-cons, All-head, All-tail}
+use Rattle.std.proofs.lemmas.List.Elements.{All-head, All-tail}
 use Rattle.std.specs.Cmp.Lexicographic.{same_text as equal_texts}
 use Rattle.opfs_base.specs.Places.{Place, place_of, child, is_within}
 use Rattle.opfs_base.specs.Texts.{Text, same_text}
@@ -12,7 +12,6 @@ use Rattle.opfs_hist.specs.declared.op.Mode.{Mode}
 use Rattle.opfs_hist.specs.declared.op.Op.{Op}
 use Rattle.opfs_hist.specs.declared.op.Op.TheVariants as op
 use Rattle.opfs_hist.specs.declared.reply.Refusal.{Refusal}
-use Rattle.opfs_hist.specs.declared.reply.Refusal.TheVariants as refusal
 use Rattle.opfs_locks.specs.Taking.{Lock, taken}
 use Rattle.opfs_locks.specs.declared.Want.{Want}
 use Rattle.opfs_locks.specs.declared.Want.TheVariants as want
@@ -28,10 +27,10 @@ use Rattle.opfs_machine.specs.Agents.{agent_of, own_of, open_handle, of_row, han
 use Rattle.opfs_machine.specs.Contents.{in_bytes, outline_of}
 use Rattle.opfs_machine.specs.Histories.{may_enter, is_own}
 use Rattle.opfs_machine.specs.Rows.{Rows, row_at, file_at, file_of, is_located, holds_kind, rows_within, first_locked, taken_lock, wants}
-use Rattle.opfs_machine.specs.Ruled.{Ruled, unless, some_or}
-use Rattle.opfs_machine.specs.Rulings.{remove_entry_ruling, none_locked, create_writable_ruling, create_sync_ruling, grow_handle_ruling, ruling, takes_lock, lock_in, want_of, is_read_write, size_written}
+use Rattle.opfs_machine.specs.Ruled.{Ruled}
+use Rattle.opfs_machine.specs.Rulings.{remove_entry_ruling, none_locked, create_writable_ruling, create_sync_ruling, grow_handle_ruling, ruling, lock_in, want_of, is_read_write, size_written}
 use Rattle.opfs_machine.specs.Steps.{evicted}
-use Rattle.opfs_machine.specs.Victims.{is_callers, is_candidate, none_taken}
+use Rattle.opfs_machine.specs.Victims.{is_callers, is_candidate}
 use Rattle.opfs_laws.proofs.Gone.{then-gave, bind-gave, unless-gave, some-gave}
 use Rattle.opfs_laws.proofs.LocksKept.{lock_or, none_first}
 use Rattle.opfs_laws.proofs.OwnFiles.{callers-own}

@@ -1,11 +1,9 @@
 -- No call of another agent changes what is an agent's own.
-use Rattle.std.proofs.Common.{◌≡◌, ◌≢◌, ◌⊎◌, ℕ, ◌+◌, ◌≤◌, zero, suc, Bool, true, false, cond, not, ◌&&◌, All, List, [], ◌∷◌, ◌++◌, fold, Option, Some, None, option_map, Result, Ok, Err, refl, sym, ap, ◌∙◌, subst, inl, inr, arith}
+use Rattle.std.proofs.Common.{◌≡◌, ◌≢◌, ℕ, ◌+◌, ◌≤◌, zero, suc, Bool, true, false, cond, not, List, [], Option, Some, None, option_map, refl, sym, ap, ◌∙◌, subst, inl, inr, arith}
 use Rattle.std.specs.Prelude.{slice_get}
 use Rattle.std.specs.List.{filter_map}
-use Rattle.std.specs.FinMap.Entries.{find}
 use Rattle.std.specs.Ordering.{eq_by_cmp}
 use Rattle.std.proofs.lemmas.Bool.{false≢true}
-use Rattle.std.proofs.lemmas.List.Elements.{All-head, All-tail, All-weaker}
 use Rattle.opfs_base.specs.Places.{Place, place_cmp, place_of, child, is_within}
 use Rattle.opfs_base.specs.Texts.{Text}
 use Rattle.opfs_base.specs.Units.{unit_of}
@@ -14,7 +12,6 @@ use Rattle.opfs_hist.specs.declared.op.Mode.{Mode}
 use Rattle.opfs_hist.specs.declared.op.Mode.TheVariants as mode
 use Rattle.opfs_hist.specs.declared.op.Op.{Op}
 use Rattle.opfs_hist.specs.declared.op.Op.TheVariants as op
-use Rattle.opfs_hist.specs.declared.entry.Entry.{Entry}
 use Rattle.opfs_hist.specs.declared.reply.Reply.{Reply}
 use Rattle.opfs_locks.specs.Taking.{Lock, open_lock}
 use Rattle.opfs_locks.specs.declared.LockValue.TheVariants as value
@@ -32,20 +29,19 @@ use Rattle.opfs_machine.specs.declared.state.Row.{Row}
 use Rattle.opfs_machine.specs.declared.state.Row.TheVariants as row
 use Rattle.opfs_machine.specs.declared.state.Sizes.{Sizes}
 use Rattle.opfs_machine.specs.declared.state.State.{State}
-use Rattle.opfs_machine.specs.Agents.{agent_of, own_of, open_stream, open_handle, with_own, with_agent, adds_own}
-use Rattle.opfs_machine.specs.Contents.{in_bytes, written_row, truncated_row, sought_row, moved_row, advanced_row, outline_of}
-use Rattle.opfs_machine.specs.Effects.{effect, refused, made, new_row, moment_of, opens_bucket, opens_stream, takes_snapshot, closes_stream, aborts_stream, changes_file, flushes, closes_handle, discards, persists, with_written, with_changed, with_lock, flushed, unlocked, undone, replaced, content_of, cursor_after_read}
-use Rattle.opfs_machine.specs.OwnRows.{Mine, mine, handle_file}
+use Rattle.opfs_machine.specs.Agents.{agent_of, own_of, open_stream, open_handle, with_own, with_agent}
+use Rattle.opfs_machine.specs.Contents.{in_bytes}
+use Rattle.opfs_machine.specs.Effects.{effect, refused, made, new_row, moment_of, opens_bucket, opens_stream, takes_snapshot, closes_stream, aborts_stream, changes_file, flushes, closes_handle, discards, persists, with_written, with_changed, with_lock, flushed, unlocked, undone, replaced, content_of}
+use Rattle.opfs_machine.specs.OwnRows.{mine, handle_file}
 use Rattle.opfs_machine.specs.Replies.{bytes_in, bytes_at, sizes_of}
-use Rattle.opfs_machine.specs.Rows.{row_at, file_at, file_of, with_row, with_file, without, rows_within, first_locked, children_of}
-use Rattle.opfs_machine.specs.Rulings.{start_of, size_written, reserve_for, want_of, is_read_write, first_reserve, lock_in}
-use Rattle.opfs_machine.specs.Steps.{evicted, changed_by, after_reply, is_refusal}
-use Rattle.opfs_machine.specs.Sums.{reserve_of}
-use Rattle.opfs_laws.specs.Holders.{hold_of, counts, holders, AreHolders, IsLockOf, AreLocksOfHolders}
-use Rattle.opfs_laws.proofs.Allowed.{IsLockGiven, IsAllowed}
+use Rattle.opfs_machine.specs.Rows.{row_at, file_at, file_of, with_row, with_file, without, rows_within, first_locked}
+use Rattle.opfs_machine.specs.Rulings.{want_of, is_read_write, first_reserve, lock_in}
+use Rattle.opfs_machine.specs.Steps.{evicted, changed_by, is_refusal}
+use Rattle.opfs_laws.specs.Holders.{hold_of, counts, holders, IsLockOf, AreLocksOfHolders}
+use Rattle.opfs_laws.proofs.Allowed.{IsAllowed}
 use Rattle.opfs_laws.proofs.Held.{one_of}
-use Rattle.opfs_laws.proofs.LocksEffect.{IsHolder, stream-holder, handle-holder, Untaken, untaken-stays, locks-fold}
-use Rattle.opfs_laws.proofs.LocksKept.{open-within, unit-open, locks-evicted, counts-here}
+use Rattle.opfs_laws.proofs.LocksEffect.{IsHolder, stream-holder, handle-holder, Untaken}
+use Rattle.opfs_laws.proofs.LocksKept.{open-within, unit-open, counts-here}
 use Rattle.opfs_laws.proofs.Numbers.{IsNumber, agent-other, filter_map-alike}
 use Rattle.opfs_laws.proofs.OwnSums.{row-part, two-parts}
 use Rattle.opfs_laws.proofs.Spots.{same_or_apart, same_place, file-changed, file-other, row-put, row-without}

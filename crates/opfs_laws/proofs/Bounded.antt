@@ -1,7 +1,7 @@
 -- The pool stays within the data blocks, and the charge within the area.
-use Rattle.std.proofs.Common.{◌≡◌, ◌⊎◌, ℕ, ◌+◌, ◌*◌, ◌≤◌, zero, suc, Bool, true, false, cond, not, ◌-◌, ◌&&◌, ◌||◌, All, List, [], ◌∷◌, ◌++◌, fold, filter, length, Option, Some, None, Result, Ok, Err, refl, sym, ap, ◌∙◌, subst, inl, inr, arith, leb}
+use Rattle.std.proofs.Common.{◌≡◌, ℕ, ◌+◌, ◌*◌, ◌≤◌, Bool, true, false, cond, not, ◌-◌, ◌||◌, All, List, [], ◌∷◌, fold, filter, length, Option, Some, None, Ok, refl, sym, ap, ◌∙◌, subst, inl, inr, arith, leb}
 use Rattle.std.specs.Prelude.{option_map}
-use Rattle.std.proofs.lemmas.Bool.{false≢true, or_cases, leb-true}
+use Rattle.std.proofs.lemmas.Bool.{or_cases, leb-true}
 use Rattle.opfs_base.specs.Blocks.{blocks}
 use Rattle.opfs_base.specs.Places.{Place, place_of, child, is_within}
 use Rattle.opfs_base.specs.Texts.{Text}
@@ -10,44 +10,39 @@ use Rattle.opfs_base.specs.declared.locator.Kind.TheVariants as kind
 use Rattle.opfs_hist.specs.declared.entry.Entry.{Entry}
 use Rattle.opfs_hist.specs.declared.op.Op.{Op}
 use Rattle.opfs_hist.specs.declared.op.Op.TheVariants as op
-use Rattle.opfs_hist.specs.declared.reply.Reply.{Reply}
-use Rattle.opfs_machine.specs.declared.own.HandleOutline.{HandleOutline}
 use Rattle.opfs_machine.specs.declared.own.Own.{Own}
 use Rattle.opfs_machine.specs.declared.own.Own.TheVariants as own
 use Rattle.opfs_machine.specs.declared.state.Limits.{Limits}
 use Rattle.opfs_machine.specs.declared.state.Need.{Need}
-use Rattle.opfs_machine.specs.declared.state.Row.{Row}
 use Rattle.opfs_machine.specs.declared.state.Sizes.{Sizes}
 use Rattle.opfs_machine.specs.declared.state.State.{State}
-use Rattle.opfs_machine.specs.Agents.{agent_of, own_of, open_stream, open_handle, of_row, stream_in, handle_in, counted}
+use Rattle.opfs_machine.specs.Agents.{agent_of, own_of, open_stream, open_handle, of_row, stream_in, handle_in}
 use Rattle.opfs_machine.specs.Contents.{in_bytes, outline_of}
 use Rattle.opfs_machine.specs.Effects.{effect, refused}
 use Rattle.opfs_machine.specs.Histories.{may_enter, IsCall}
-use Rattle.opfs_machine.specs.Openings.{Opening, begun}
-use Rattle.opfs_machine.specs.Replies.{sizes_of, sizes_in, row_named, bytes_in, bytes_at, origin_in}
-use Rattle.opfs_machine.specs.Rows.{Rows, row_at, file_at, file_of}
-use Rattle.opfs_machine.specs.Ruled.{◌>>=◌, ◌>>◌, unless, some_or}
-use Rattle.opfs_machine.specs.Rulings.{making, persisting, first_reserve, size_in, reserve_for, size_written}
-use Rattle.opfs_machine.specs.Steps.{room_for, evicted, after_reply, changed_by, is_refusal}
-use Rattle.opfs_machine.specs.Sums.{no_need, pool, charge, block_charge, usage, fits_area, fits_pool, fits_quota, keeps_blocks}
+use Rattle.opfs_machine.specs.Replies.{sizes_of, sizes_in, row_named, bytes_in, bytes_at}
+use Rattle.opfs_machine.specs.Rows.{Rows, row_at, file_of}
+use Rattle.opfs_machine.specs.Rulings.{size_in, reserve_for, size_written}
+use Rattle.opfs_machine.specs.Steps.{room_for, evicted, changed_by, is_refusal}
+use Rattle.opfs_machine.specs.Sums.{pool, charge, block_charge, fits_area, fits_pool, keeps_blocks}
 use Rattle.opfs_machine.specs.Victims.{victims, shortest_front, candidates, cleared, is_candidate, is_callers}
 use Rattle.opfs_laws.specs.Covered.{AreCovered}
 use Rattle.opfs_laws.specs.Holders.{AreLocksOfHolders}
 use Rattle.opfs_laws.specs.Whole.{is_rising}
 use Rattle.opfs_laws.proofs.Allowed.{agent-stays, row-stays}
 use Rattle.opfs_laws.proofs.CoveredKept.{covered-calls, covered-gone}
-use Rattle.opfs_laws.proofs.Gone.{Ran, IsGiven, ran-by, gone-candidates, given-candidates, then-gave, unless-gave, some-gave}
-use Rattle.opfs_laws.proofs.Growing.{Grows, plain_charge, grows-without}
+use Rattle.opfs_laws.proofs.Gone.{IsGiven, ran-by, gone-candidates, then-gave, unless-gave, some-gave}
+use Rattle.opfs_laws.proofs.Growing.{Grows, grows-without}
 use Rattle.opfs_laws.proofs.Growth.{IsWithin, effect-within, refused-within, making-none, persisting-none}
 use Rattle.opfs_laws.proofs.LocksEffect.{locks-kept, locks-fold, gone-untaken, number-after}
 use Rattle.opfs_laws.proofs.Modes.{rising-insert}
 use Rattle.opfs_laws.proofs.Needs.{Needs, needs}
 use Rattle.opfs_laws.proofs.Numbers.{IsNumber}
-use Rattle.opfs_laws.proofs.OwnFiles.{OwnFiles, HasOwnFile, has_own_file, callers-own, own_files-kept}
+use Rattle.opfs_laws.proofs.OwnFiles.{OwnFiles, HasOwnFile, callers-own, own_files-kept}
 use Rattle.opfs_laws.proofs.OwnKept.{keeps-row, evicted-agents}
 use Rattle.opfs_laws.proofs.OwnSizes.{OwnFits, AgentsFit, fits-kept}
 use Rattle.opfs_laws.proofs.Reaching.{IsKeptBy}
-use Rattle.opfs_laws.proofs.RowsEffect.{effect-rows, IsPlaced, placed}
+use Rattle.opfs_laws.proofs.RowsEffect.{effect-rows, IsPlaced}
 use Rattle.opfs_laws.proofs.Wholes.{call-placed}
 
 -- The sizes that a call tells are the same once its units are cleared.
@@ -131,7 +126,7 @@ limits-gone : (gone : List Text) (s : State Text Own) → (fold evicted s gone).
 limits-gone [] s = refl
 limits-gone (unit ∷ units) s = limits-gone units (evicted s unit)
 
-modes-gone : (gone : List Text) (s : State Text Own) → (fold evicted s gone).persistent ≡ s.persistent
+pub modes-gone : (gone : List Text) (s : State Text Own) → (fold evicted s gone).persistent ≡ s.persistent
 modes-gone [] s = refl
 modes-gone (unit ∷ units) s = modes-gone units (evicted s unit)
 
@@ -176,7 +171,7 @@ pub record HasLimits (l : Limits) (rows : Rows Text) (modes : List Text) (limits
   pub same : limits ≡ l
   pub rising : is_rising modes ≡ true
 
-effect-limits : (s : State Text Own) (z : Sizes) (k : ℕ) (o : Op) → IsPlaced s o → is_rising s.persistent ≡ true → HasLimits s.limits (effect in_bytes s z k o).rows (effect in_bytes s z k o).persistent (effect in_bytes s z k o).limits
+pub effect-limits : (s : State Text Own) (z : Sizes) (k : ℕ) (o : Op) → IsPlaced s o → is_rising s.persistent ≡ true → HasLimits s.limits (effect in_bytes s z k o).rows (effect in_bytes s z k o).persistent (effect in_bytes s z k o).limits
 effect-limits s z k o there rising =
     effect-rows (HasLimits s.limits)
     (λ p r rows modes limits free parent h. record { same = h.same; rising = h.rising })
@@ -185,7 +180,7 @@ effect-limits s z k o there rising =
     (λ unit rows modes limits h. record { same = h.same; rising = rising-insert unit modes h.rising })
     s z k o there (record { same = refl; rising = rising })
 
-refused-limits : (s : State Text Own) (k : ℕ) (o : Op) → is_rising s.persistent ≡ true → HasLimits s.limits (refused s k o).rows (refused s k o).persistent (refused s k o).limits
+pub refused-limits : (s : State Text Own) (k : ℕ) (o : Op) → is_rising s.persistent ≡ true → HasLimits s.limits (refused s k o).rows (refused s k o).persistent (refused s k o).limits
 refused-limits s k (op.Await tag) h = record { same = refl; rising = h }
 refused-limits s k o h = record { same = refl; rising = h }
 

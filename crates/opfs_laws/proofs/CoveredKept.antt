@@ -1,5 +1,5 @@
 -- Each call keeps that a file's bytes are stored or covered.
-use Rattle.std.proofs.Common.{◌≡◌, ◌≢◌, ◌⊎◌, ℕ, ◌+◌, ◌*◌, ◌≤◌, zero, suc, Bool, true, false, cond, not, ◌&&◌, All, List, [], ◌∷◌, ◌++◌, filter, map, fold, length, max, min, sum_by, Option, Some, None, option_map, refl, sym, ap, ◌∙◌, subst, inl, inr, arith}
+use Rattle.std.proofs.Common.{◌≡◌, ◌⊎◌, ℕ, ◌+◌, ◌*◌, ◌≤◌, zero, suc, Bool, true, false, cond, not, ◌&&◌, List, [], ◌∷◌, map, fold, length, max, Option, Some, None, option_map, refl, sym, ap, ◌∙◌, subst, inl, inr, arith}
 use Rattle.std.proofs.Math.Nat.{mul-le-mul_left}
 use Rattle.std.proofs.lemmas.Bool.{false≢true}
 use Rattle.std.specs.FinMap.Entries.{find}
@@ -9,7 +9,6 @@ use Rattle.opfs_base.specs.Places.{Place, place_cmp, place_of, child, is_within}
 use Rattle.opfs_base.specs.Texts.{Text}
 use Rattle.opfs_base.specs.Units.{unit_of}
 use Rattle.opfs_base.specs.declared.locator.Kind.TheVariants as kind
-use Rattle.opfs_hist.specs.declared.entry.Entry.{Entry}
 use Rattle.opfs_hist.specs.declared.op.Mode.{Mode}
 use Rattle.opfs_hist.specs.declared.op.Mode.TheVariants as mode
 use Rattle.opfs_hist.specs.declared.op.Op.{Op}
@@ -27,26 +26,24 @@ use Rattle.opfs_machine.specs.declared.state.Row.{Row}
 use Rattle.opfs_machine.specs.declared.state.Row.TheVariants as row
 use Rattle.opfs_machine.specs.declared.state.Sizes.{Sizes}
 use Rattle.opfs_machine.specs.declared.state.State.{State}
-use Rattle.opfs_machine.specs.Agents.{agent_of, own_of, open_stream, open_handle, of_row, handle_in, stream_in, with_own, with_agent, adds_own}
+use Rattle.opfs_machine.specs.Agents.{agent_of, own_of, open_stream, open_handle, of_row, handle_in, with_own, with_agent, adds_own}
 use Rattle.opfs_machine.specs.Contents.{in_bytes, outline_of, written_row, truncated_row, sought_row, moved_row, advanced_row}
-use Rattle.opfs_machine.specs.Effects.{effect, refused, made, new_row, moment_of, opens_bucket, opens_stream, takes_snapshot, closes_stream, aborts_stream, changes_file, flushes, closes_handle, discards, persists, with_written, with_changed, with_lock, flushed, unlocked, undone, replaced, content_of, cursor_after_read}
-use Rattle.opfs_machine.specs.Histories.{IsCall}
+use Rattle.opfs_machine.specs.Effects.{effect, refused, made, new_row, moment_of, opens_bucket, opens_stream, takes_snapshot, closes_stream, aborts_stream, changes_file, flushes, closes_handle, discards, persists, with_written, with_changed, with_lock, flushed, unlocked, undone, replaced, content_of}
 use Rattle.opfs_machine.specs.Openings.{Opening, Stored, folder, document, row_of, begun}
 use Rattle.opfs_machine.specs.Replies.{sizes_of, sizes_in, bytes_at, bytes_in}
 use Rattle.opfs_machine.specs.Rows.{row_at, file_at, file_of, with_row, with_file, without, children_of}
 use Rattle.opfs_machine.specs.Rulings.{start_of, size_written, reserve_for, want_of, is_read_write, first_reserve}
 use Rattle.opfs_machine.specs.Steps.{evicted, changed_by, is_refusal}
-use Rattle.opfs_machine.specs.Sums.{reserve_of, all_own}
+use Rattle.opfs_machine.specs.Sums.{reserve_of}
 use Rattle.opfs_splice.specs.Splicing.{splice, resize}
 use Rattle.opfs_laws.specs.Covered.{writer_reserve, reserve_at, IsCovered, AreCovered}
 use Rattle.opfs_laws.specs.Holders.{hold_of, same_want, counts, holders}
-use Rattle.opfs_laws.proofs.Held.{one_of}
 use Rattle.opfs_laws.proofs.LocksEffect.{IsHolder, stream-holder, handle-holder, number-after, call-allowed}
 use Rattle.opfs_laws.proofs.LocksKept.{counts-here, counts-there}
 use Rattle.opfs_laws.proofs.Numbers.{IsNumber}
-use Rattle.opfs_laws.proofs.OwnSums.{own_sum, sum-adds, sum-sets, sum-same, row-part}
+use Rattle.opfs_laws.proofs.OwnSums.{sum-adds, sum-sets, sum-same, row-part}
 use Rattle.opfs_laws.proofs.Reaching.{IsKeptBy}
-use Rattle.opfs_laws.proofs.Spots.{same_or_apart, same_place, file-changed, file-other, row-put, row-without}
+use Rattle.opfs_laws.proofs.Spots.{same_or_apart, file-changed, file-other, row-put, row-without}
 use Rattle.opfs_laws.proofs.Splices.{length-splice, length-resize}
 use Rattle.opfs_laws.proofs.Allowed.{IsAllowed}
 

@@ -1,14 +1,12 @@
 -- The units that a call clears.
-use Rattle.std.proofs.Common.{◌≡◌, ◌⊎◌, ℕ, Bool, true, false, not, ◌&&◌, All, List, [], ◌∷◌, ◌++◌, map, filter, fold, Option, Some, None, Result, Ok, Err, refl, sym, ap, ◌∙◌, subst, inl, inr, IsTrue}
+use Rattle.std.proofs.Common.{◌≡◌, ◌⊎◌, ℕ, Bool, true, false, All, List, [], ◌∷◌, ◌++◌, filter, fold, Option, Some, None, Ok, Err, refl, sym, ap, ◌∙◌, subst, inl, inr}
 use Rattle.std.specs.Prelude.{option_map}
 use Rattle.std.specs.FinMap.Entries.{by_order}
 use Rattle.std.specs.declared.cmp.Ordering.{Ordering}
 use Rattle.std.specs.declared.cmp.Ordering.TheVariants.{Less, Equal, Greater}
-use Rattle.std.proofs.lemmas.Bool.{and_parts, not-true, false≢true}
+use Rattle.std.proofs.lemmas.Bool.{false≢true}
 use Rattle.std.proofs.lemmas.List.Elements.{All-nil, All-cons, All-head, All-tail, All-map, filter_passes}
-use Rattle.std.specs.Cmp.Lexicographic.{same_text as equal_texts}
-use Rattle.opfs_base.specs.Places.{Place, is_within}
-use Rattle.opfs_base.specs.Texts.{Text, same_text}
+use Rattle.opfs_base.specs.Texts.{Text}
 use Rattle.opfs_base.specs.Units.{origin_of}
 use Rattle.opfs_hist.specs.declared.op.Op.{Op}
 use Rattle.opfs_hist.specs.declared.entry.Entry.{Entry}
@@ -22,12 +20,12 @@ use Rattle.opfs_machine.specs.Agents.{agent_of, last_use}
 use Rattle.opfs_machine.specs.Contents.{in_bytes}
 use Rattle.opfs_machine.specs.Histories.{IsCall, IsFront}
 use Rattle.opfs_machine.specs.Ordered.{insert_by}
-use Rattle.opfs_machine.specs.Replies.{sizes_of, origin_in}
+use Rattle.opfs_machine.specs.Replies.{sizes_of}
 use Rattle.opfs_machine.specs.Ruled.{Ruled, ◌>>=◌, ◌>>◌, unless, some_or}
 use Rattle.opfs_machine.specs.Rulings.{ruling}
-use Rattle.opfs_machine.specs.Steps.{room_for, judged, outcome_of, step, evicted, is_refusal}
+use Rattle.opfs_machine.specs.Steps.{room_for, judged, outcome_of, step, is_refusal}
 use Rattle.opfs_machine.specs.Sums.{fits_pool}
-use Rattle.opfs_machine.specs.Victims.{is_callers, is_candidate, candidates, cleared, shortest_front, victims, none_taken, root_units, use_cmp}
+use Rattle.opfs_machine.specs.Victims.{is_candidate, candidates, cleared, shortest_front, victims, root_units, use_cmp}
 use Rattle.opfs_laws.proofs.Refused.{answer-accepted}
 
 -- What a bind that gives something had before.

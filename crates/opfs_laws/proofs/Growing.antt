@@ -1,45 +1,31 @@
 -- How much the pool and the charge may grow by a call.
-use Rattle.std.proofs.Common.{◌≡◌, ◌≢◌, ◌⊎◌, ℕ, ◌+◌, ◌-◌, ◌*◌, ◌≤◌, zero, suc, Bool, true, false, cond, not, ◌&&◌, All, List, [], ◌∷◌, ◌++◌, filter, fold, length, max, min, sum_by, flat_map, Option, Some, None, option_map, refl, sym, ap, ◌∙◌, subst, inl, inr, arith}
-use Rattle.std.proofs.lemmas.Bool.{false≢true}
+use Rattle.std.proofs.Common.{◌≡◌, ℕ, ◌+◌, ◌*◌, ◌≤◌, zero, suc, not, List, [], ◌∷◌, length, sum_by, Option, Some, None, option_map, refl, ap, ◌∙◌, inl, inr, arith}
 use Rattle.std.proofs.lemmas.List.Sums.{sum_by-cons}
 use Rattle.opfs_base.specs.Blocks.{blocks}
-use Rattle.opfs_base.specs.Places.{Place, place_cmp, place_of, child, is_within}
+use Rattle.opfs_base.specs.Places.{Place, is_within}
 use Rattle.opfs_base.specs.Texts.{Text}
-use Rattle.opfs_base.specs.Units.{unit_of}
 use Rattle.opfs_base.specs.declared.locator.Kind.{Kind}
-use Rattle.opfs_base.specs.declared.locator.Kind.TheVariants as kind
-use Rattle.opfs_base.specs.declared.locator.Locator.{Locator}
-use Rattle.opfs_hist.specs.declared.op.Mode.{Mode}
-use Rattle.opfs_hist.specs.declared.op.Mode.TheVariants as mode
-use Rattle.opfs_hist.specs.declared.op.Op.{Op}
-use Rattle.opfs_hist.specs.declared.op.Op.TheVariants as op
 use Rattle.opfs_locks.specs.Taking.{Lock}
 use Rattle.opfs_locks.specs.declared.LockValue.TheVariants as value
 use Rattle.opfs_locks.specs.declared.Want.{Want}
 use Rattle.opfs_locks.specs.declared.Want.TheVariants as want
-use Rattle.opfs_machine.specs.declared.own.HandleOutline.{HandleOutline}
-use Rattle.opfs_machine.specs.declared.own.StreamOutline.{StreamOutline}
 use Rattle.opfs_machine.specs.declared.own.Own.{Own}
 use Rattle.opfs_machine.specs.declared.own.Own.TheVariants as own
 use Rattle.opfs_machine.specs.declared.state.Agent.{Agent}
 use Rattle.opfs_machine.specs.declared.state.FileRow.{FileRow}
-use Rattle.opfs_machine.specs.declared.state.Need.{Need}
 use Rattle.opfs_machine.specs.declared.state.Row.{Row}
-use Rattle.opfs_machine.specs.declared.state.Row.TheVariants as row
-use Rattle.opfs_machine.specs.declared.state.Sizes.{Sizes}
 use Rattle.opfs_machine.specs.declared.state.State.{State}
-use Rattle.opfs_machine.specs.Agents.{agent_of, own_of, open_stream, open_handle, of_row, stream_in, handle_in, with_own, with_agent, adds_own}
-use Rattle.opfs_machine.specs.Contents.{in_bytes, outline_of, written_row, truncated_row, sought_row, moved_row, advanced_row, buffer_of}
-use Rattle.opfs_machine.specs.Effects.{made, with_written, with_changed, with_lock, flushed, unlocked, undone, replaced, content_of}
-use Rattle.opfs_machine.specs.Rows.{row_at, file_at, file_of, with_row, with_file, without}
-use Rattle.opfs_machine.specs.Rulings.{making, reserve_for, is_read_write, want_of, lock_in}
-use Rattle.opfs_machine.specs.Sums.{no_need, charges, place_charge, row_charge, mode_charge, reserve_of, all_own, pool, charge}
-use Rattle.opfs_laws.specs.Covered.{writer_reserve, reserve_at, IsCovered, AreCovered}
-use Rattle.opfs_laws.specs.Holders.{hold_of, same_want, counts, holders, AreHolders, IsLockOf, AreLocksOfHolders}
-use Rattle.opfs_laws.proofs.LocksEffect.{IsHolder, stream-holder, handle-holder}
+use Rattle.opfs_machine.specs.Agents.{agent_of, own_of, with_own, with_agent, adds_own}
+use Rattle.opfs_machine.specs.Contents.{in_bytes, outline_of}
+use Rattle.opfs_machine.specs.Effects.{made, with_changed, flushed, unlocked}
+use Rattle.opfs_machine.specs.Rows.{row_at, file_at, with_row, with_file, without}
+use Rattle.opfs_machine.specs.Rulings.{making, lock_in}
+use Rattle.opfs_machine.specs.Sums.{place_charge, row_charge, mode_charge, reserve_of, all_own, pool}
+use Rattle.opfs_laws.specs.Covered.{writer_reserve, reserve_at, AreCovered}
+use Rattle.opfs_laws.specs.Holders.{hold_of, counts, holders, IsLockOf, AreLocksOfHolders}
 use Rattle.opfs_laws.proofs.LocksKept.{counts-here}
 use Rattle.opfs_laws.proofs.Numbers.{IsNumber}
-use Rattle.opfs_laws.proofs.OwnSums.{own_sum, sum-adds, sum-sets, sum-same, row-part}
+use Rattle.opfs_laws.proofs.OwnSums.{sum-adds, sum-sets, sum-same, row-part}
 use Rattle.opfs_laws.proofs.RowSums.{sum-less, sum-put, sum-change, charge-change, stored_in, row_stored}
 
 abbrev pub kept_by : Own → ℕ

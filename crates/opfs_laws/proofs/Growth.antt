@@ -1,6 +1,5 @@
 -- Each call grows the pool and the charge by no more than its need.
-use Rattle.std.proofs.Common.{◌≡◌, ◌⊎◌, ℕ, zero, suc, ◌+◌, ◌-◌, ◌*◌, ◌≤◌, Bool, true, false, cond, not, ◌&&◌, All, List, [], ◌∷◌, fold, length, max, sum_by, Option, Some, None, option_map, refl, sym, ap, ◌∙◌, subst, inl, inr, arith}
-use Rattle.std.proofs.lemmas.Bool.{false≢true}
+use Rattle.std.proofs.Common.{◌≡◌, ℕ, zero, suc, ◌+◌, ◌-◌, ◌*◌, ◌≤◌, Bool, true, false, cond, not, ◌&&◌, List, [], length, sum_by, Option, Some, None, option_map, refl, sym, ap, ◌∙◌, subst, arith}
 use Rattle.opfs_base.specs.Blocks.{blocks}
 use Rattle.opfs_base.specs.Places.{Place, place_of, child}
 use Rattle.opfs_base.specs.Texts.{Text}
@@ -20,18 +19,18 @@ use Rattle.opfs_machine.specs.declared.state.Need.{Need}
 use Rattle.opfs_machine.specs.declared.state.Row.TheVariants as row
 use Rattle.opfs_machine.specs.declared.state.Sizes.{Sizes}
 use Rattle.opfs_machine.specs.declared.state.State.{State}
-use Rattle.opfs_machine.specs.Agents.{agent_of, own_of, open_stream, open_handle, of_row, stream_in, handle_in, with_own, with_agent, adds_own}
+use Rattle.opfs_machine.specs.Agents.{agent_of, own_of, open_stream, open_handle, of_row, stream_in, handle_in, with_own}
 use Rattle.opfs_machine.specs.Contents.{in_bytes, outline_of, written_row, truncated_row, sought_row, moved_row, advanced_row}
-use Rattle.opfs_machine.specs.Effects.{effect, refused, made, new_row, moment_of, opens_bucket, opens_stream, takes_snapshot, closes_stream, aborts_stream, changes_file, flushes, closes_handle, discards, persists, with_written, with_changed, with_lock, flushed, unlocked, undone, replaced, content_of, cursor_after_read}
+use Rattle.opfs_machine.specs.Effects.{effect, refused, new_row, moment_of, opens_bucket, opens_stream, takes_snapshot, closes_stream, aborts_stream, changes_file, flushes, closes_handle, discards, persists, with_written, with_changed, with_lock, flushed, unlocked, undone, replaced, content_of, cursor_after_read}
 use Rattle.opfs_machine.specs.Replies.{sizes_of}
 use Rattle.opfs_machine.specs.Rows.{row_at, file_at, with_file, children_of}
-use Rattle.opfs_machine.specs.Rulings.{start_of, size_written, reserve_for, want_of, is_read_write, first_reserve, making, persisting}
+use Rattle.opfs_machine.specs.Rulings.{size_written, reserve_for, want_of, first_reserve, making, persisting}
 use Rattle.opfs_machine.specs.Sums.{no_need, charges, mode_charge, is_persistent, reserve_of}
 use Rattle.opfs_laws.specs.Covered.{AreCovered}
 use Rattle.opfs_laws.specs.Holders.{hold_of, AreLocksOfHolders}
 use Rattle.opfs_laws.specs.Whole.{is_rising}
 use Rattle.opfs_laws.proofs.Growing.{Grows, kept_by, grows-none, grows-agent, grows-adds, grows-sets, grows-changed, grows-both, grows-file, grows-without, grows-made, grows-stores, grows-flushes, flush-most}
-use Rattle.opfs_laws.proofs.LocksEffect.{IsHolder, stream-holder, handle-holder}
+use Rattle.opfs_laws.proofs.LocksEffect.{stream-holder, handle-holder}
 use Rattle.opfs_laws.proofs.Modes.{insert-same, insert-sum}
 use Rattle.opfs_laws.proofs.Needs.{Needs}
 use Rattle.opfs_laws.proofs.Numbers.{IsNumber}

@@ -1,6 +1,6 @@
 -- A lock that is taken or released still tells its holders.
-use Rattle.std.proofs.Common.{◌≡◌, ◌≢◌, ℕ, ◌+◌, ◌-◌, ◌<◌, Bool, true, false, Option, Some, None, refl, sym, ap, ◌∙◌, subst, arith, eqb, cond}
-use Rattle.std.proofs.lemmas.Bool.{cases_Bool, eqb-true, eqb-false}
+use Rattle.std.proofs.Common.{◌≡◌, ℕ, ◌+◌, ◌-◌, true, false, Some, refl, sym, ap, ◌∙◌, subst, arith, eqb, cond}
+use Rattle.std.proofs.lemmas.Bool.{eqb-true, eqb-false}
 use Rattle.opfs_locks.specs.Taking.{Lock, taken, released, open_lock}
 use Rattle.opfs_locks.specs.declared.LockValue.TheVariants as value
 use Rattle.opfs_locks.specs.declared.Want.{Want}

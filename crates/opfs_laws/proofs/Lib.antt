@@ -2,7 +2,9 @@ pub mod Alike
 pub mod Allowed
 pub mod Apart
 pub mod Bounded
+pub mod Building
 pub mod CoveredKept
+pub mod Durables
 pub mod Going
 pub mod Gone
 pub mod Growing

@@ -1,5 +1,5 @@
 -- Each call keeps that each lock tells its holders.
-use Rattle.std.proofs.Common.{◌≡◌, ℕ, ◌+◌, ◌||◌, not, zero, suc, sum_by, flat_map, min, length, Bool, true, false, cond, All, List, [], ◌∷◌, ◌++◌, map, filter, fold, Option, Some, None, Result, Ok, Err, unwrap_or, refl, sym, ap, ◌∙◌, subst, inl, inr}
+use Rattle.std.proofs.Common.{◌≡◌, ℕ, ◌||◌, not, zero, suc, sum_by, flat_map, Bool, true, false, cond, All, List, [], ◌∷◌, map, filter, fold, Option, Some, None, refl, sym, ap, ◌∙◌, subst, inl, inr}
 use Rattle.std.specs.Prelude.{is_none}
 use Rattle.std.specs.List.{list_all}
 use Rattle.std.specs.FinMap.Entries.{find}
@@ -9,7 +9,6 @@ use Rattle.std.proofs.lemmas.List.Elements.{All-head, All-tail, All-weaker}
 use Rattle.opfs_base.specs.Places.{Place, place_of, place_cmp, child, is_within}
 use Rattle.opfs_base.specs.Texts.{Text, same_text}
 use Rattle.opfs_base.specs.Units.{unit_of}
-use Rattle.opfs_base.specs.declared.locator.Kind.{Kind}
 use Rattle.opfs_base.specs.declared.locator.Kind.TheVariants as kind
 use Rattle.opfs_hist.specs.declared.entry.Entry.{Entry}
 use Rattle.opfs_hist.specs.declared.op.Mode.{Mode}
@@ -29,23 +28,22 @@ use Rattle.opfs_machine.specs.declared.state.Row.{Row}
 use Rattle.opfs_machine.specs.declared.state.Row.TheVariants as row
 use Rattle.opfs_machine.specs.declared.state.Sizes.{Sizes}
 use Rattle.opfs_machine.specs.declared.state.State.{State}
-use Rattle.opfs_machine.specs.Agents.{agent_of, own_of, open_stream, open_handle, of_row, stream_in, handle_in, with_own, with_agent, adds_own}
+use Rattle.opfs_machine.specs.Agents.{agent_of, own_of, open_stream, open_handle, of_row, stream_in, handle_in, with_own}
 use Rattle.opfs_machine.specs.Contents.{in_bytes, outline_of, written_row, truncated_row, sought_row, moved_row, advanced_row}
-use Rattle.opfs_machine.specs.Effects.{effect, refused, made, new_row, moment_of, opens_bucket, opens_stream, takes_snapshot, closes_stream, aborts_stream, changes_file, flushes, closes_handle, discards, persists, with_written, with_changed, with_lock, flushed, unlocked, undone, replaced, content_of, cursor_after_read}
-use Rattle.opfs_machine.specs.Histories.{may_enter, IsCall}
+use Rattle.opfs_machine.specs.Effects.{effect, refused, made, new_row, moment_of, opens_bucket, opens_stream, takes_snapshot, closes_stream, aborts_stream, changes_file, flushes, closes_handle, discards, persists, with_written, flushed, unlocked, undone, replaced, content_of, cursor_after_read}
+use Rattle.opfs_machine.specs.Histories.{IsCall}
 use Rattle.opfs_machine.specs.Openings.{Opening, Stored, Who, folder, document, row_of, agent_in, begun}
 use Rattle.opfs_machine.specs.Replies.{sizes_of}
-use Rattle.opfs_machine.specs.Rows.{Rows, taken_lock, file_at, file_of, row_at, with_file, without, children_of}
-use Rattle.opfs_machine.specs.Rulings.{start_of, size_written, reserve_for, want_of, is_read_write, first_reserve, lock_in}
-use Rattle.opfs_machine.specs.Steps.{evicted, after_reply, changed_by, is_refusal}
-use Rattle.opfs_machine.specs.Sums.{reserve_of, all_own}
+use Rattle.opfs_machine.specs.Rows.{Rows, taken_lock, file_at, file_of, with_file, without, children_of}
+use Rattle.opfs_machine.specs.Rulings.{start_of, size_written, reserve_for, want_of, first_reserve, lock_in}
+use Rattle.opfs_machine.specs.Steps.{evicted, changed_by, is_refusal}
+use Rattle.opfs_machine.specs.Sums.{reserve_of}
 use Rattle.opfs_machine.specs.Victims.{is_candidate, none_taken}
-use Rattle.opfs_laws.specs.Holders.{hold_of, counts, holders, AreHolders, IsLockOf, AreLocksOfHolders}
+use Rattle.opfs_laws.specs.Holders.{hold_of, counts, holders, IsLockOf, AreLocksOfHolders}
 use Rattle.opfs_laws.proofs.Allowed.{IsLockGiven, IsAllowed, allowed, allowed-after, agent-stays}
-use Rattle.opfs_laws.proofs.Gone.{Ran, ran-by, gone-candidates}
-use Rattle.opfs_laws.proofs.LocksKept.{AreAlike, locks-alike, alike-file, alike-written, alike-made, alike-without, locks-agent, locks-adds, locks-sets, locks-changed, locks-takes, locks-releases, locks-evicted}
+use Rattle.opfs_laws.proofs.Gone.{ran-by, gone-candidates}
+use Rattle.opfs_laws.proofs.LocksKept.{locks-alike, alike-file, alike-written, alike-made, alike-without, locks-agent, locks-adds, locks-changed, locks-takes, locks-releases, locks-evicted}
 use Rattle.opfs_laws.proofs.Numbers.{IsNumber, number-of}
-use Rattle.opfs_laws.proofs.OwnFiles.{may-after}
 use Rattle.opfs_laws.proofs.Reaching.{IsKeptBy}
 
 abbrev Locks : State Text Own → Type 0

@@ -1,10 +1,10 @@
 -- How the small changes of a state keep that each lock tells its holders.
-use Rattle.std.proofs.Common.{◌≡◌, ◌≢◌, ◌⊎◌, ℕ, ◌+◌, ◌<◌, Bool, true, false, cond, not, ◌&&◌, List, [], ◌∷◌, ◌++◌, filter, fold, sum_by, flat_map, Option, Some, None, option_map, unwrap_or, refl, sym, ap, ◌∙◌, subst, inl, inr, arith}
-use Rattle.std.specs.Prelude.{is_some, is_none, ◌||◌}
+use Rattle.std.proofs.Common.{◌≡◌, ◌≢◌, ℕ, Bool, true, false, cond, not, ◌&&◌, [], ◌∷◌, filter, sum_by, flat_map, Option, Some, None, option_map, unwrap_or, refl, sym, ap, ◌∙◌, subst, inl, inr, arith}
+use Rattle.std.specs.Prelude.{is_none, ◌||◌}
 use Rattle.std.specs.List.{list_all}
 use Rattle.std.specs.FinMap.Entries.{find}
 use Rattle.std.specs.Ordering.{eq_by_cmp}
-use Rattle.std.proofs.lemmas.Bool.{cases_Bool, false≢true, and_parts}
+use Rattle.std.proofs.lemmas.Bool.{false≢true, and_parts}
 use Rattle.opfs_base.specs.Places.{Place, place_cmp, is_within}
 use Rattle.opfs_base.specs.Texts.{Text, same_text}
 use Rattle.opfs_hist.specs.declared.op.Mode.{Mode}
@@ -21,14 +21,13 @@ use Rattle.opfs_machine.specs.declared.state.State.{State}
 use Rattle.opfs_machine.specs.Agents.{agent_of, own_of, with_agent, with_own, adds_own}
 use Rattle.opfs_machine.specs.Effects.{made, with_changed, with_written, with_lock, unlocked}
 use Rattle.opfs_machine.specs.Rows.{Rows, row_at, file_at, file_of, with_row, with_file, without, rows_within, first_locked, taken_lock}
-use Rattle.opfs_machine.specs.Rulings.{lock_in, is_read_write}
+use Rattle.opfs_machine.specs.Rulings.{lock_in}
 use Rattle.opfs_machine.specs.Steps.{evicted}
-use Rattle.opfs_machine.specs.Sums.{all_own}
 use Rattle.opfs_machine.specs.Victims.{none_taken}
-use Rattle.opfs_laws.specs.Holders.{hold_of, same_want, counts, holders, AreHolders, IsLockOf, AreLocksOfHolders}
+use Rattle.opfs_laws.specs.Holders.{hold_of, same_want, counts, holders, IsLockOf, AreLocksOfHolders}
 use Rattle.opfs_laws.proofs.Held.{one_of, lock-same, lock-taken, lock-released}
 use Rattle.opfs_laws.proofs.Numbers.{IsNumber}
-use Rattle.opfs_laws.proofs.OwnSums.{own_sum, sum-agent, sum-adds, sum-sets, sum-same}
+use Rattle.opfs_laws.proofs.OwnSums.{sum-adds, sum-sets, sum-same}
 use Rattle.opfs_laws.proofs.Spots.{same_or_apart, same_place, place_itself, place_apart, file-changed, file-other, row-put, row-without}
 
 -- The same locks, and the same agents.

@@ -1,12 +1,8 @@
 -- What a call that is not refused needs.
-use Rattle.std.proofs.Common.{◌≡◌, ℕ, ◌+◌, ◌-◌, ◌*◌, Bool, true, false, not, ◌&&◌, ◌||◌, All, List, [], ◌∷◌, fold, length, max, Option, Some, None, Result, Ok, Err, refl, sym, ap, ◌∙◌, subst}
-use Rattle.std.specs.Prelude.{is_some}
-use Rattle.std.proofs.lemmas.Bool.{false≢true}
-use Rattle.opfs_base.specs.Blocks.{blocks}
-use Rattle.opfs_base.specs.Names.{is_valid_name, fits_limits}
+use Rattle.std.proofs.Common.{◌≡◌, ℕ, ◌-◌, ◌*◌, Bool, [], Option, Some, None, Ok, Err, ap}
 use Rattle.opfs_base.specs.Places.{Place, place_of, child}
 use Rattle.opfs_base.specs.Texts.{Text}
-use Rattle.opfs_base.specs.Units.{is_bucket_name, unit_of}
+use Rattle.opfs_base.specs.Units.{unit_of}
 use Rattle.opfs_base.specs.declared.locator.Kind.{Kind}
 use Rattle.opfs_base.specs.declared.locator.Kind.TheVariants as kind
 use Rattle.opfs_base.specs.declared.locator.Locator.{Locator}
@@ -23,11 +19,11 @@ use Rattle.opfs_machine.specs.declared.state.Sizes.{Sizes}
 use Rattle.opfs_machine.specs.declared.state.State.{State}
 use Rattle.opfs_machine.specs.Agents.{agent_of, open_stream, open_handle}
 use Rattle.opfs_machine.specs.Contents.{in_bytes}
-use Rattle.opfs_machine.specs.Rows.{row_at, file_at, is_of_kind}
-use Rattle.opfs_machine.specs.Ruled.{Ruled, ◌>>=◌, ◌>>◌, unless, some_or}
-use Rattle.opfs_machine.specs.Rulings.{get_directory_ruling, get_handle_ruling, child_ruling, remove_entry_ruling, none_locked, located_ruling, create_writable_ruling, grow_stream_ruling, stream_ruling, create_sync_ruling, grow_handle_ruling, handle_ruling, persist_ruling, persisted_ruling, estimate_ruling, await_ruling, ruling, making, persisting, first_reserve, reserve_for, size_written}
-use Rattle.opfs_machine.specs.Sums.{no_need, keeps_blocks, charges, block_charge, place_charge}
-use Rattle.opfs_laws.proofs.Gone.{then-gave, bind-gave, unless-gave, some-gave}
+use Rattle.opfs_machine.specs.Rows.{row_at}
+use Rattle.opfs_machine.specs.Ruled.{Ruled}
+use Rattle.opfs_machine.specs.Rulings.{get_directory_ruling, get_handle_ruling, child_ruling, remove_entry_ruling, located_ruling, create_writable_ruling, grow_stream_ruling, stream_ruling, create_sync_ruling, grow_handle_ruling, handle_ruling, persist_ruling, persisted_ruling, estimate_ruling, await_ruling, ruling, making, persisting, first_reserve, reserve_for, size_written}
+use Rattle.opfs_machine.specs.Sums.{no_need, keeps_blocks, block_charge}
+use Rattle.opfs_laws.proofs.Gone.{then-gave, bind-gave, some-gave}
 
 abbrev Grown : State Text Own → ℕ → ℕ → ℕ → Need → Type 0
 Grown s k n size need = (w : StreamOutline) × (open_stream in_bytes s k n ≡ Some w) × (need ≡ keeps_blocks (reserve_for w.reserve size - w.reserve))

@@ -1,22 +1,20 @@
 -- What is an agent's own, over a legal history.
-use Rattle.std.proofs.Common.{◌≡◌, ◌≢◌, ◌⊎◌, ℕ, zero, suc, true, false, All, List, [], ◌∷◌, ◌++◌, fold, Option, Some, None, refl, sym, ap, ◌∙◌, subst, inl, inr}
-use Rattle.std.proofs.lemmas.List.Elements.{All-nil, All-cons, All-head, All-tail, All-weaker}
+use Rattle.std.proofs.Common.{◌≡◌, ◌≢◌, ℕ, zero, suc, All, List, [], ◌∷◌, ◌++◌, fold, Option, Some, None, refl, sym, ap, ◌∙◌, subst}
+use Rattle.std.proofs.lemmas.List.Elements.{All-nil, All-cons, All-head, All-tail}
 use Rattle.std.proofs.lemmas.List.Sums.{fold-append}
 use Rattle.opfs_base.specs.Texts.{Text}
 use Rattle.opfs_hist.specs.declared.entry.Entry.{Entry}
 use Rattle.opfs_machine.specs.declared.own.Own.{Own}
 use Rattle.opfs_machine.specs.declared.state.State.{State}
-use Rattle.opfs_machine.specs.Agents.{agent_of, counted}
-use Rattle.opfs_machine.specs.Histories.{evicted_by, IsCall, IsEviction, LegalFrom, Legal, after_op, after_entry, state_after}
+use Rattle.opfs_machine.specs.Agents.{counted}
+use Rattle.opfs_machine.specs.Histories.{evicted_by, IsCall, LegalFrom, Legal, after_op, after_entry, state_after}
 use Rattle.opfs_machine.specs.Openings.{Opening, begun}
 use Rattle.opfs_machine.specs.OwnRows.{mine}
-use Rattle.opfs_machine.specs.Steps.{evicted, after_reply, changed_by, is_refusal}
+use Rattle.opfs_machine.specs.Steps.{evicted, after_reply, changed_by}
 use Rattle.opfs_laws.specs.Holders.{AreLocksOfHolders}
-use Rattle.opfs_laws.proofs.Apart.{IsApart, mine-apart, apart-evicted, changed-apart}
-use Rattle.opfs_laws.proofs.Going.{NextFrom, not_evict}
+use Rattle.opfs_laws.proofs.Apart.{mine-apart, apart-evicted, changed-apart}
+use Rattle.opfs_laws.proofs.Going.{NextFrom}
 use Rattle.opfs_laws.proofs.LocksEffect.{Untaken, untaken-stays, locks-fold, gone-untaken, number-after, call-allowed, locks-kept, locks-begun}
-use Rattle.opfs_laws.proofs.Numbers.{IsNumber}
-use Rattle.opfs_laws.proofs.Reaching.{IsKeptBy}
 
 all-front : (P : Text → Type 0) (xs ys : List Text) → All P (xs ++ ys) → All P xs
 all-front P [] ys all = All-nil P

@@ -1,11 +1,10 @@
 -- What every reached state keeps, together.
-use Rattle.std.proofs.Common.{◌≡◌, ℕ, [], refl, sym, ap, ◌∙◌}
+use Rattle.std.proofs.Common.{[], ap}
 use Rattle.opfs_machine.specs.declared.own.Own.TheVariants as own
-use Rattle.opfs_machine.specs.declared.own.Own.{Own}
 use Rattle.opfs_machine.specs.Histories.{state_after}
 use Rattle.opfs_machine.specs.Openings.{begun}
 use Rattle.opfs_machine.specs.Rulings.{is_read_write}
-use Rattle.opfs_laws.specs.Whole.{IsWhole, WhatEveryReachedStateKeeps}
+use Rattle.opfs_laws.specs.Whole.{WhatEveryReachedStateKeeps}
 use Rattle.opfs_laws.proofs.Bounded.{IsBounded, bounded-kept}
 use Rattle.opfs_laws.proofs.CoveredKept.{covered-begun}
 use Rattle.opfs_laws.proofs.LocksEffect.{locks-begun}

@@ -1,5 +1,5 @@
 -- How a call changes the rows: it makes one, removes some, or changes a file.
-use Rattle.std.proofs.Common.{◌≡◌, ℕ, ◌+◌, Bool, true, false, cond, not, List, [], ◌∷◌, ◌++◌, filter, fold, Option, Some, None, Result, Ok, Err, refl, sym, ap, ◌∙◌, subst}
+use Rattle.std.proofs.Common.{◌≡◌, ℕ, Bool, true, false, not, List, [], ◌∷◌, ◌++◌, filter, Option, Some, None, Ok, refl, sym, ap, ◌∙◌}
 use Rattle.std.specs.FinMap.Entries.{put, find}
 use Rattle.std.specs.Ordering.{nat_cmp}
 use Rattle.std.specs.Cmp.Lexicographic.{slice_cmp}
@@ -18,7 +18,6 @@ use Rattle.opfs_locks.specs.declared.Want.TheVariants as want
 use Rattle.opfs_machine.specs.declared.own.HandleOutline.{HandleOutline}
 use Rattle.opfs_machine.specs.declared.own.StreamOutline.{StreamOutline}
 use Rattle.opfs_machine.specs.declared.own.Own.{Own}
-use Rattle.opfs_machine.specs.declared.own.Own.TheVariants as own
 use Rattle.opfs_machine.specs.declared.state.FileRow.{FileRow}
 use Rattle.opfs_machine.specs.declared.state.Limits.{Limits}
 use Rattle.opfs_machine.specs.declared.state.Need.{Need}
@@ -31,7 +30,6 @@ use Rattle.opfs_machine.specs.Contents.{in_bytes}
 use Rattle.opfs_machine.specs.Effects.{effect, made, new_row, moment_of, opens_bucket, opens_stream, takes_snapshot, closes_stream, aborts_stream, changes_file, flushes, closes_handle, discards, persists, with_written, with_changed, with_lock, flushed, unlocked, undone, replaced, content_of}
 use Rattle.opfs_machine.specs.Ordered.{insert_by}
 use Rattle.opfs_machine.specs.Rows.{Rows, row_at, file_at, with_row, with_file, change_at, is_located, holds_kind, wants}
-use Rattle.opfs_machine.specs.Ruled.{Ruled}
 use Rattle.opfs_machine.specs.Rulings.{want_of, get_handle_ruling, ruling, first_reserve}
 use Rattle.opfs_laws.proofs.Gone.{then-gave, unless-gave}
 use Rattle.opfs_laws.proofs.Maps.{HasParent}

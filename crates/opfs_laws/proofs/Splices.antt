@@ -1,7 +1,6 @@
 -- How long spliced and cut bytes are.
-use Rattle.std.proofs.Common.{◌≡◌, ℕ, ◌+◌, ◌-◌, ◌≤◌, ◌++◌, max, min, length, take, drop, replicate, arith, length-append, length-drop, ap}
+use Rattle.std.proofs.Common.{◌≡◌, ℕ, ◌+◌, max, length, arith, length-append, length-drop}
 use Rattle.std.proofs.lemmas.List.{length-take, length-replicate}
-use Rattle.opfs_base.specs.Blocks.{blocks}
 use Rattle.opfs_base.specs.Texts.{Text}
 use Rattle.opfs_splice.specs.Splicing.{splice, resize}
 

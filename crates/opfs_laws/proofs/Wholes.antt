@@ -1,48 +1,38 @@
 -- What every reached state keeps.
-use Rattle.std.proofs.Common.{◌≡◌, ◌⊎◌, ℕ, ◌+◌, ◌≤◌, Bool, true, false, All, List, [], ◌∷◌, fold, length, Option, Some, None, Result, Ok, Err, refl, sym, ap, ◌∙◌, subst, inl, inr, arith}
+use Rattle.std.proofs.Common.{◌≡◌, ℕ, ◌≤◌, true, false, All, List, [], ◌∷◌, fold, Some, None, refl, sym, ap, ◌∙◌, subst, inl, inr, arith}
 use Rattle.std.proofs.lemmas.Bool.{false≢true}
-use Rattle.std.proofs.lemmas.List.Elements.{All-head, All-tail}
 use Rattle.opfs_base.specs.Places.{Place, place_of}
 use Rattle.opfs_base.specs.Texts.{Text}
 use Rattle.opfs_base.specs.declared.locator.Locator.{Locator}
 use Rattle.opfs_hist.specs.declared.entry.Entry.{Entry}
-use Rattle.opfs_hist.specs.declared.op.Mode.{Mode}
 use Rattle.opfs_hist.specs.declared.op.Op.{Op}
 use Rattle.opfs_hist.specs.declared.op.Op.TheVariants as op
 use Rattle.opfs_hist.specs.declared.reply.Reply.{Reply}
-use Rattle.opfs_locks.specs.Taking.{open_lock}
 use Rattle.opfs_locks.specs.declared.Want.{Want}
 use Rattle.opfs_locks.specs.declared.Want.TheVariants as want
 use Rattle.opfs_machine.specs.declared.own.Own.{Own}
-use Rattle.opfs_machine.specs.declared.own.Own.TheVariants as own
 use Rattle.opfs_machine.specs.declared.state.FileRow.{FileRow}
 use Rattle.opfs_machine.specs.declared.state.Row.TheVariants as row
 use Rattle.opfs_machine.specs.declared.state.State.{State}
 use Rattle.opfs_machine.specs.Agents.{agent_of, own_of}
 use Rattle.opfs_machine.specs.Contents.{in_bytes}
 use Rattle.opfs_machine.specs.Effects.{effect, refused}
-use Rattle.opfs_machine.specs.Histories.{may_enter, is_own, IsCall, Legal, state_after}
-use Rattle.opfs_machine.specs.Openings.{Opening, begun}
+use Rattle.opfs_machine.specs.Histories.{may_enter, is_own, IsCall}
 use Rattle.opfs_machine.specs.Replies.{sizes_of}
 use Rattle.opfs_machine.specs.Rows.{Rows, row_at, file_at}
-use Rattle.opfs_machine.specs.Rulings.{is_read_write, lock_in}
-use Rattle.opfs_machine.specs.Steps.{evicted, after_reply, changed_by, is_refusal}
-use Rattle.opfs_machine.specs.Victims.{is_candidate, is_callers}
-use Rattle.opfs_laws.specs.Covered.{AreCovered}
+use Rattle.opfs_machine.specs.Rulings.{lock_in}
+use Rattle.opfs_machine.specs.Steps.{evicted, changed_by, is_refusal}
+use Rattle.opfs_machine.specs.Victims.{is_candidate}
 use Rattle.opfs_laws.specs.Holders.{hold_of, counts, holders, AreHolders, IsLockOf, AreLocksOfHolders}
-use Rattle.opfs_laws.specs.Whole.{IsInOrder, IsClosed, IsWhole, IsWholeOpening, WhatEveryReachedStateKeeps}
+use Rattle.opfs_laws.specs.Whole.{IsInOrder, IsClosed}
 use Rattle.opfs_laws.proofs.Allowed.{row-stays}
-use Rattle.opfs_laws.proofs.CoveredKept.{covered-calls, covered-begun}
-use Rattle.opfs_laws.proofs.Gone.{Ran, ran-by, gone-candidates}
+use Rattle.opfs_laws.proofs.Gone.{ran-by, gone-candidates}
 use Rattle.opfs_laws.proofs.Held.{one_of}
-use Rattle.opfs_laws.proofs.LocksEffect.{locks-kept, locks-begun}
 use Rattle.opfs_laws.proofs.LocksKept.{counts-here}
 use Rattle.opfs_laws.proofs.Maps.{order-put, order-without, order-change, closed-put, closed-without, closed-change}
 use Rattle.opfs_laws.proofs.OwnFiles.{callers-own}
-use Rattle.opfs_laws.proofs.OwnKept.{keeps-row}
-use Rattle.opfs_laws.proofs.OwnSizes.{Fits, OwnFits, fits-kept, fits-begun}
 use Rattle.opfs_laws.proofs.OwnSums.{row-part}
-use Rattle.opfs_laws.proofs.Reaching.{IsKeptBy, kept-all}
+use Rattle.opfs_laws.proofs.Reaching.{IsKeptBy}
 use Rattle.opfs_laws.proofs.RowsEffect.{IsPlaced, placed, effect-rows}
 
 dir-stays : (s : State Text Own) (gone : List Text) (k : ℕ) (dir : Locator) → All (λ u. is_candidate s (agent_of s k).key u ≡ true) gone → is_own s k dir ≡ true
@@ -73,7 +63,7 @@ pub record IsMap (rows : Rows Text) : Type 0 where
   pub order : IsInOrder rows
   pub parents : IsClosed rows
 
-map-gone : (gone : List Text) (s : State Text Own) → IsMap s.rows → IsMap (fold evicted s gone).rows
+pub map-gone : (gone : List Text) (s : State Text Own) → IsMap s.rows → IsMap (fold evicted s gone).rows
 map-gone [] s h = h
 map-gone (unit ∷ units) s h =
     map-gone units (evicted s unit) (record { order = order-without (unit, []) s.rows h.order; parents = closed-without (unit, []) s.rows h.parents })

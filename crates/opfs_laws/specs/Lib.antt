@@ -1,3 +1,4 @@
+pub mod Builds
 pub mod Covered
 pub mod GoingOn
 pub mod Holders

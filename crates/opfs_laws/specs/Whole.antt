@@ -1,7 +1,7 @@
 -- What every state that a legal history reaches keeps. This project's own.
 use Rattle.std.specs.Ordering.{nat_cmp, is_lt}
 use Rattle.std.specs.Cmp.Lexicographic.{slice_cmp}
-use Rattle.std.specs.Prelude.{Bool, true, ◌&&◌, [], ◌∷◌, ◌≡◌, ℕ, ◌+◌, ◌≤◌, ◌⊎◌, List, length, Option, Some, None, IsTrue}
+use Rattle.std.specs.Prelude.{Bool, true, ◌&&◌, [], ◌∷◌, ◌≡◌, ℕ, ◌+◌, ◌≤◌, List, length, Some, IsTrue}
 use Rattle.std.specs.FinMap.Entries.{find, is_sorted}
 use Rattle.opfs_base.specs.Blocks.{blocks}
 use Rattle.opfs_base.specs.Places.{Place, place_cmp, child}

@@ -5,4 +5,5 @@
 pub mod going_on;
 pub mod locked;
 pub mod owned;
+pub mod stored;
 pub mod whole;
