@@ -13,6 +13,7 @@ pub mod Reading
 pub mod SameAnswer
 pub mod SameCall
 pub mod SameRuling
-pub mod Small
 pub mod Separation
 pub mod Sides
+pub mod Small
+pub mod Twice

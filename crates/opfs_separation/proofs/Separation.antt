@@ -46,7 +46,7 @@ NextFrom s gone e es (Some unit) = IsEviction unit e × LegalFrom s (gone ++ uni
 NextFrom s gone e es None = IsCall s gone e × LegalFrom (after_reply (fold evicted s gone) e.agent e.op e.reply) [] es
 
 -- The same of a party's own run.
-abbrev NextAlone : State Text Own → Entry → List Entry → Option Text → Type 0
+abbrev pub NextAlone : State Text Own → Entry → List Entry → Option Text → Type 0
 NextAlone t e es (Some unit) = IsEvictionAlone t unit e × AloneFrom (evicted t unit) es
 NextAlone t e es None = IsCallAlone t e × AloneFrom (after_reply t e.agent e.op e.reply) es
 
