@@ -1,8 +1,9 @@
 -- What one call more does to the entries of each agent.
-use Rattle.std.proofs.Common.{◌≡◌, ℕ, zero, suc, ◌+◌, ◌-◌, ◌<◌, ◌≤◌, ◌==◌, true, false, Bool, List, [], ◌∷◌, ◌++◌, map, filter, length, All, Option, Some, slice_get, refl, sym, ap, ◌∙◌, subst, append_assoc, append-nil, length-append, arith, inl, inr, unwrap_or}
+use Rattle.std.proofs.Common.{◌≡◌, ℕ, zero, suc, ◌+◌, ◌-◌, ◌<◌, ◌≤◌, ◌==◌, true, false, Bool, List, [], ◌∷◌, ◌++◌, map, filter, length, All, Option, Some, slice_get, refl, sym, ap, ◌∙◌, subst, append_assoc, append-nil, length-append, arith, inl, inr, unwrap_or, IsTrue, None, take, get_or}
+use Rattle.std.proofs.lemmas.Grind.{take_at_read}
 use Rattle.std.proofs.lemmas.Option.{slice_get_within}
 use Rattle.std.proofs.Math.Nat.{eq-or-lt_of_le}
-use Rattle.std.proofs.lemmas.List.Elements.{filter-append, All-append, All-cons, All-nil, All-head, All-tail}
+use Rattle.std.proofs.lemmas.List.Elements.{filter-append, All-append, All-cons, All-nil, All-head, All-tail, All-map}
 use Rattle.opfs_base.specs.Texts.{Text}
 use Rattle.opfs_hist.specs.declared.entry.Entry.{Entry}
 use Rattle.opfs_hist.specs.declared.op.Op.{Op}
@@ -14,7 +15,9 @@ use Rattle.opfs_machine.specs.declared.own.Own.{Own}
 use Rattle.opfs_machine.specs.declared.state.State.{State}
 use Rattle.opfs_machine.specs.Openings.{begun}
 use Rattle.opfs_plain.specs.declared.plain.Plain.{Plain}
-use Rattle.opfs_trial.specs.Trials.{EachRuns, IsTrial, trial_opening}
+use Rattle.opfs_script.specs.Limits.{is_origin_key}
+use Rattle.opfs_separation.specs.Apart.{EachPartyRunsAlone, IsInOrder, has_origin_key}
+use Rattle.opfs_trial.specs.Trials.{EachRuns, IsTrial, trial_opening, who_of}
 use Rattle.opfs_trial.specs.Stepping.{IsBeside}
 
 pub same : (n : ℕ) → (n == n) ≡ true
@@ -157,13 +160,42 @@ within_next n [] h = All-nil (λ e. e.agent ≤ n + 1)
 within_next n (e ∷ es) h =
     All-cons (λ e. e.agent ≤ n + 1) e es (omega (arith, All-head (λ e. e.agent ≤ n) e es h)) (within_next n es (All-tail (λ e. e.agent ≤ n) e es h))
 
+same_key : (key : Option Text) → IsTrue (is_origin_key key) → IsTrue (has_origin_key key)
+same_key None h = h
+same_key (Some key) h = h
+
+same_keys : (script : List Asked) → All (λ a. IsTrue (is_origin_key a.key)) script → All (λ a. IsTrue (has_origin_key (who_of a).key)) script
+same_keys [] h = All-nil (λ a. IsTrue (has_origin_key (who_of a).key))
+same_keys (a ∷ script) h =
+    All-cons (λ a. IsTrue (has_origin_key (who_of a).key)) a script (same_key a.key (All-head (λ a. IsTrue (is_origin_key a.key)) a script h))
+    (same_keys script (All-tail (λ a. IsTrue (is_origin_key a.key)) a script h))
+
+-- The agents of a script with keys of origins are agents with such keys.
+origin_keys : (script : List Asked) → All (λ a. IsTrue (is_origin_key a.key)) script → All (λ who. IsTrue (has_origin_key who.key)) (map who_of script)
+origin_keys script h = All-map (λ who. IsTrue (has_origin_key who.key)) who_of script (same_keys script h)
+
 -- What is kept from an empty start makes a trial.
 pub trial_of : (script : List Asked) (old new : Plain) → old ≡ record { state = begun (trial_opening script); entries = [] }
     → ((start : State Text Own) → IsKept start old → IsKept start new) → EachRuns script new.entries
-    → All (λ e. e.agent ≤ length script) new.entries → IsTrial script new.entries
-trial_of script old new is kept runs agents =
+    → All (λ e. e.agent ≤ length script) new.entries → All (λ a. IsTrue (is_origin_key a.key)) script → EachPartyRunsAlone
+    → IsTrial script new.entries
+trial_of script old new is kept runs agents keys apart =
     let first : IsKept (begun (trial_opening script)) old =
     subst (IsKept (begun (trial_opening script))) (sym is)
     (record { legal = refl; faultless = All-nil (λ e. is_disk_fault e.reply ≡ false); present = refl }) in
     let all = kept (begun (trial_opening script)) first in
-    record { legal = all.legal; runs = runs; agents = agents; faultless = all.faultless }
+    let order : IsInOrder (trial_opening script) = record { rows = refl; keys = origin_keys script keys } in
+    record {
+      legal = all.legal;
+      runs = runs;
+      agents = agents;
+      faultless = all.faultless;
+      alone = λ party. apart (trial_opening script) party new.entries order all.legal;
+    }
+
+-- One item more of a front.
+pub All_take_more : {A : Type 0} (P : A → Type 0) (xs : List A) (i : ℕ) (x : A) → i < length xs → x ≡ get_or xs i x
+    → All P (take i xs) → P x → All P (take (i + 1) xs)
+All_take_more P xs i x below is h px =
+    subst (All P) (sym (take_at_read xs i x below).1)
+    (All-append P (take i xs) (get_or xs i x ∷ []) h (All-cons P (get_or xs i x) [] (subst P is px) (All-nil P)))

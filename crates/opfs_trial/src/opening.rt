@@ -1,8 +1,9 @@
 //! With what a trial begins.
 
-ghost use Rattle.std.specs.Prelude.{◌≡◌, [], map, IfOk};
+ghost use Rattle.std.specs.Prelude.{◌≡◌, [], All, map, IfOk, OnOk, IsTrue};
 ghost use Rattle.std.specs.Option.{option_copied};
 ghost use Rattle.opfs_machine.specs.Openings.{agent_in, begun};
+ghost use Rattle.opfs_script.specs.Limits.{is_origin_key};
 ghost use Rattle.opfs_trial.specs.Trials.{who_of, trial_opening};
 
 use opfs_base::{Bytes, Key};
@@ -32,7 +33,8 @@ pub fn copy_key(alloc: Global, key: Option<&Key>) -> Result<Option<Key>, AllocEr
 
 /// An agent of a script, before its first step.
 fn agent_of(alloc: Global, script: &AgentScript) -> Result<Agent<Own>, AllocError>
-    ensures { IfOk result (λ agent. agent ≡ agent_in (who_of script.now)) }
+    ensures agent { IfOk result (λ agent. agent ≡ agent_in (who_of script.now)) }
+    ensures key { IsTrue (is_origin_key script.now.key) }
 {
     Ok(Agent {
         key: copy_key(alloc, script.key())?,
@@ -46,7 +48,8 @@ fn agent_of(alloc: Global, script: &AgentScript) -> Result<Agent<Own>, AllocErro
 
 /// The agents of a script, before their first steps.
 fn agents_of(alloc: Global, scripts: &[AgentScript]) -> Result<Many<Agent<Own>>, AllocError>
-    ensures { IfOk result (λ agents. agents ≡ map agent_in (map who_of scripts.now)) }
+    ensures agents { IfOk result (λ agents. agents ≡ map agent_in (map who_of scripts.now)) }
+    ensures keys { OnOk result (All (λ a. IsTrue (is_origin_key a.key)) scripts.now) }
 {
     let mut agents = Vec::new(alloc);
     for script in scripts {
@@ -57,7 +60,8 @@ fn agents_of(alloc: Global, scripts: &[AgentScript]) -> Result<Many<Agent<Own>>,
 
 /// The plain machine over an empty store, with the agents of a script.
 pub fn begin(alloc: Global, script: &Script) -> Result<Plain, AllocError>
-    ensures { IfOk result (λ plain. plain ≡ record { state = begun (trial_opening script.now); entries = [] }) }
+    ensures plain { IfOk result (λ plain. plain ≡ record { state = begun (trial_opening script.now); entries = [] }) }
+    ensures keys { OnOk result (All (λ a. IsTrue (is_origin_key a.key)) script.now) }
 {
     let agents = agents_of(alloc, script.agents())?;
     Ok(Plain {

@@ -14,6 +14,7 @@ use opfs_hist::Entry;
 use opfs_machine::Many;
 use opfs_plain::Plain;
 use opfs_script::{AgentScript, Script};
+use opfs_separation::apart::each_party_runs_alone;
 use std::alloc::{AllocError, Global};
 
 /// Runs the agents one after another, in the order of their numbers.
@@ -32,12 +33,14 @@ fn run_agents(alloc: Global, plain: &mut Plain, scripts: &[AgentScript]) -> Resu
 }
 
 /// Runs a script's agents one after another over an empty store: all entries are one legal history, in which each
-/// agent's calls stand once, in its order.
+/// agent's calls stand once, in its order, and each party's answers are those of its own calls, the recorded evictions
+/// and the recorded refusals of shared room.
 pub fn run_script(alloc: Global, script: &Script) -> Result<Many<Entry>, AllocError>
     ensures { IfOk result (λ entries. IsTrial script.now entries) }
 {
     let mut plain = begin(alloc, script)?;
     run_agents(alloc, &mut plain, script.agents())?;
+    each_party_runs_alone();
     let Plain { state, entries } = plain;
     drop(state);
     Ok(entries)
