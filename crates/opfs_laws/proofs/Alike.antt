@@ -28,7 +28,7 @@ use Rattle.opfs_machine.specs.Sums.{no_need, keeps_blocks, reserve_of}
 use Rattle.opfs_splice.specs.Splicing.{window}
 use Rattle.opfs_laws.proofs.Local.{Asks, nothing, refuses, local_asks, room_for_nothing, closed, grown}
 use Rattle.opfs_laws.proofs.Numbers.{IsNumber, number-of, agent-set, filter_map-set}
-use Rattle.opfs_laws.proofs.Refused.{answer-accepted}
+use Rattle.opfs_laws.proofs.Accepted.{answer-accepted}
 
 abbrev row_in : List Own → ℕ → Option Own
 row_in rows zero = None

@@ -26,7 +26,7 @@ use Rattle.opfs_machine.specs.Rulings.{ruling}
 use Rattle.opfs_machine.specs.Steps.{room_for, judged, outcome_of, step, is_refusal}
 use Rattle.opfs_machine.specs.Sums.{fits_pool}
 use Rattle.opfs_machine.specs.Victims.{is_candidate, candidates, cleared, shortest_front, victims, root_units, use_cmp}
-use Rattle.opfs_laws.proofs.Refused.{answer-accepted}
+use Rattle.opfs_laws.proofs.Accepted.{answer-accepted}
 
 -- What a bind that gives something had before.
 pub bind-gave : {A B : Type 0} (m : Ruled A) (f : A → Ruled B) (b : B) → (m >>= f) ≡ Ok b → (a : A) × (m ≡ Ok a) × (f a ≡ Ok b)

@@ -26,7 +26,7 @@ use Rattle.opfs_machine.specs.declared.state.Row.{Row}
 use Rattle.opfs_machine.specs.declared.state.Row.TheVariants as row
 use Rattle.opfs_machine.specs.declared.state.Sizes.{Sizes}
 use Rattle.opfs_machine.specs.declared.state.State.{State}
-use Rattle.opfs_machine.specs.Agents.{agent_of, open_stream, open_handle, is_posted, party_of}
+use Rattle.opfs_machine.specs.Agents.{own_of, agent_of, open_stream, open_handle, is_posted, party_of}
 use Rattle.opfs_machine.specs.Contents.{in_bytes}
 use Rattle.opfs_machine.specs.Replies.{sizes_of, origin_in}
 use Rattle.opfs_machine.specs.Rows.{Rows, row_at, file_at, is_located, is_of_kind, has_children, rows_within, first_locked}
@@ -35,7 +35,10 @@ use Rattle.opfs_machine.specs.Rulings.{get_directory_ruling, get_handle_ruling, 
 use Rattle.opfs_machine.specs.Steps.{room_for, judged}
 use Rattle.opfs_machine.specs.Sums.{usage, pool, charge, fits_quota, fits_area}
 use Rattle.opfs_machine.specs.Victims.{victims}
-use Rattle.opfs_laws.specs.LockRefusals.{IsNotGiven, IsFirstLocked, RefusedAt}
+use Rattle.opfs_laws.specs.Holders.{AreLocksOfHolders}
+use Rattle.opfs_laws.specs.LockRefusals.{IsReadOnly, IsNotGiven, IsFirstLocked, RefusedAt}
+use Rattle.opfs_laws.proofs.LocksEffect.{handle-holder}
+use Rattle.opfs_laws.proofs.Wholes.{file-there}
 
 abbrev pub is_lock_refusal : Refusal → Bool
 is_lock_refusal (refusal.NoModificationAllowedError v n) = true
@@ -239,48 +242,55 @@ first_at ((file, row.File f) ∷ es) lock h =
       | false ↦ λ is told. (file, record { before = []; held = f; after = es; split = refl; first = refl; taken = is; found = some_same told })
     ] refl h
 
-ruling_caused : (s : State Text Own) (z : Sizes) (k : ℕ) (o : Op) → Caused (Refuser s k o) (ruling in_bytes s z k o)
-unfolding ruling
-ruling_caused s z k (op.GetDirectory bucket) = get_directory_caused s k bucket
-ruling_caused s z k (op.GetDirectoryHandle dir name create) = get_handle_caused s kind.Directory dir name create
-ruling_caused s z k (op.GetFileHandle dir name create) = get_handle_caused s kind.File dir name create
-ruling_caused s z k (op.RemoveEntry dir name recursive) =
-    remove_entry_caused s dir name recursive (λ lock h. first_at (rows_within s (child (place_of dir) name)) lock h)
-ruling_caused s z k (op.Values dir) = fine _
-ruling_caused s z k (op.Next n dir) = located_caused s kind.Directory dir
-ruling_caused s z k (op.Resolve dir entry) = fine _
-ruling_caused s z k (op.IsSameEntry entry to) = fine _
-ruling_caused s z k (op.GetFile at) = located_caused s kind.File at
-ruling_caused s z k (op.Slice n at len) = fine _
-ruling_caused s z k (op.CreateWritable at keep) =
-    create_writable_caused s at keep (λ h. not_given s (place_of at) want.Shared (file_at s (place_of at)) refl h)
-ruling_caused s z k (op.Write n bytes position) = grow_stream_caused s k n (size_written z position bytes)
-ruling_caused s z k (op.Seek n position) = stream_caused s k n
-ruling_caused s z k (op.Truncate n size) = grow_stream_caused s k n size
-ruling_caused s z k (op.Close n) = stream_caused s k n
-ruling_caused s z k (op.Abort n) = stream_caused s k n
-ruling_caused s z k (op.CreateSyncAccessHandle at m) =
-    create_sync_caused s at m (λ h. not_given s (place_of at) (want_of m) (file_at s (place_of at)) refl h)
-ruling_caused s z k (op.SyncRead n len at) = handle_caused s k n
-ruling_caused s z k (op.SyncWrite n bytes at) =
-    grow_handle_caused s z k n (size_written z at bytes) (λ h is reads. (h.file, record { handle = h; stands = is; reads = reads; named = refl; found = refl }))
-ruling_caused s z k (op.SyncTruncate n size) =
-    grow_handle_caused s z k n size (λ h is reads. (h.file, record { handle = h; stands = is; reads = reads; named = refl; found = refl }))
-ruling_caused s z k (op.SyncGetSize n) = handle_caused s k n
-ruling_caused s z k (op.SyncFlush n) = handle_caused s k n
-ruling_caused s z k (op.SyncClose n) = fine _
-ruling_caused s z k (op.Persist bucket) = persist_caused s k bucket
-ruling_caused s z k (op.Persisted bucket) = persisted_caused s k bucket
-ruling_caused s z k op.Estimate = estimate_caused s k
-ruling_caused s z k (op.Moment ms) = fine _
-ruling_caused s z k (op.Post tag) = fine _
-ruling_caused s z k (op.Await tag) = await_caused s k tag
-ruling_caused s z k (op.Wait tag) = fine _
-ruling_caused s z k (op.Discard n) = fine _
-ruling_caused s z k op.End = fine _
-ruling_caused s z k (op.Unbound word) = other refusal.Unbound refl
-ruling_caused s z k (op.Evict unit) = fine _
+reader_found : (s : State Text Own) (k n : ℕ) → AreLocksOfHolders s → (h : HandleOutline) → open_handle in_bytes s k n ≡ Some h → is_read_write h.mode ≡ false
+    → (file : Place) × IsReadOnly s k n (lock_in (file_at s h.file)) file
+reader_found s k n locks h is reads =
+    let holder = handle-holder (own_of (agent_of s k) n) h is in
+    let f = file-there s locks k n holder.row h.file (want_of h.mode) holder.is holder.holds in
+    (h.file, record { handle = h; stands = is; reads = reads; named = refl; held = f.0; stands_there = f.1; found = sym (ap lock_in f.1) })
 
-pub judged_caused : (s : State Text Own) (k : ℕ) (o : Op) → Caused (Refuser s k o) (judged s k o)
+ruling_caused : (s : State Text Own) (z : Sizes) (k : ℕ) (o : Op) → AreLocksOfHolders s → Caused (Refuser s k o) (ruling in_bytes s z k o)
+unfolding ruling
+ruling_caused s z k (op.GetDirectory bucket) locks = get_directory_caused s k bucket
+ruling_caused s z k (op.GetDirectoryHandle dir name create) locks = get_handle_caused s kind.Directory dir name create
+ruling_caused s z k (op.GetFileHandle dir name create) locks = get_handle_caused s kind.File dir name create
+ruling_caused s z k (op.RemoveEntry dir name recursive) locks =
+    remove_entry_caused s dir name recursive (λ lock h. first_at (rows_within s (child (place_of dir) name)) lock h)
+ruling_caused s z k (op.Values dir) locks = fine _
+ruling_caused s z k (op.Next n dir) locks = located_caused s kind.Directory dir
+ruling_caused s z k (op.Resolve dir entry) locks = fine _
+ruling_caused s z k (op.IsSameEntry entry to) locks = fine _
+ruling_caused s z k (op.GetFile at) locks = located_caused s kind.File at
+ruling_caused s z k (op.Slice n at len) locks = fine _
+ruling_caused s z k (op.CreateWritable at keep) locks =
+    create_writable_caused s at keep (λ h. not_given s (place_of at) want.Shared (file_at s (place_of at)) refl h)
+ruling_caused s z k (op.Write n bytes position) locks = grow_stream_caused s k n (size_written z position bytes)
+ruling_caused s z k (op.Seek n position) locks = stream_caused s k n
+ruling_caused s z k (op.Truncate n size) locks = grow_stream_caused s k n size
+ruling_caused s z k (op.Close n) locks = stream_caused s k n
+ruling_caused s z k (op.Abort n) locks = stream_caused s k n
+ruling_caused s z k (op.CreateSyncAccessHandle at m) locks =
+    create_sync_caused s at m (λ h. not_given s (place_of at) (want_of m) (file_at s (place_of at)) refl h)
+ruling_caused s z k (op.SyncRead n len at) locks = handle_caused s k n
+ruling_caused s z k (op.SyncWrite n bytes at) locks =
+    grow_handle_caused s z k n (size_written z at bytes) (reader_found s k n locks)
+ruling_caused s z k (op.SyncTruncate n size) locks =
+    grow_handle_caused s z k n size (reader_found s k n locks)
+ruling_caused s z k (op.SyncGetSize n) locks = handle_caused s k n
+ruling_caused s z k (op.SyncFlush n) locks = handle_caused s k n
+ruling_caused s z k (op.SyncClose n) locks = fine _
+ruling_caused s z k (op.Persist bucket) locks = persist_caused s k bucket
+ruling_caused s z k (op.Persisted bucket) locks = persisted_caused s k bucket
+ruling_caused s z k op.Estimate locks = estimate_caused s k
+ruling_caused s z k (op.Moment ms) locks = fine _
+ruling_caused s z k (op.Post tag) locks = fine _
+ruling_caused s z k (op.Await tag) locks = await_caused s k tag
+ruling_caused s z k (op.Wait tag) locks = fine _
+ruling_caused s z k (op.Discard n) locks = fine _
+ruling_caused s z k op.End locks = fine _
+ruling_caused s z k (op.Unbound word) locks = other refusal.Unbound refl
+ruling_caused s z k (op.Evict unit) locks = fine _
+
+pub judged_caused : (s : State Text Own) (k : ℕ) (o : Op) → AreLocksOfHolders s → Caused (Refuser s k o) (judged s k o)
 unfolding judged
-judged_caused s k o = bind_caused (ruling_caused s (sizes_of s k o) k o) (λ need is. room_caused s (agent_of s k).key need)
+judged_caused s k o locks = bind_caused (ruling_caused s (sizes_of s k o) k o locks) (λ need is. room_caused s (agent_of s k).key need)

@@ -31,31 +31,14 @@ use Rattle.opfs_machine.specs.Rows.{Rows, children_of, file_at}
 use Rattle.opfs_machine.specs.Ruled.{Ruled}
 use Rattle.opfs_machine.specs.Steps.{is_refusal, evicted, outcome_of, judged, step}
 use Rattle.opfs_machine.specs.Victims.{is_callers}
+use Rattle.opfs_laws.specs.Holders.{AreLocksOfHolders}
 use Rattle.opfs_laws.specs.LockRefusals.{IsFirstLocked, IsNotGiven, IsReadOnly, RefusedAt, IsRefusedByLock, ALockRefusesWithItsCause}
+use Rattle.opfs_laws.proofs.Accepted.{answer-accepted}
 use Rattle.opfs_laws.proofs.LockCauses.{Refuser, judged_caused, cause_of}
+use Rattle.opfs_laws.proofs.LocksEffect.{locks-kept, locks-begun}
 use Rattle.opfs_laws.proofs.OwnFiles.{OwnFiles, HasOwnFile, callers-own, own_files-kept, own_files-begun}
 use Rattle.opfs_laws.proofs.OwnKept.{keeps-row}
-use Rattle.opfs_laws.proofs.Reaching.{found-at}
-
-child-accepted : (s : State Text Own) (dir : Place) (name : Option Text) → is_refusal (child_reply s dir name) ≡ false
-child-accepted s dir None = refl
-child-accepted s dir (Some name) = refl
-
-path-accepted : (names : Option (List Text)) → is_refusal (path_reply names) ≡ false
-path-accepted None = refl
-path-accepted (Some names) = refl
-
-file-accepted : (f : Option (FileRow Text)) → is_refusal (file_reply f) ≡ false
-file-accepted None = refl
-file-accepted (Some f) = refl
-
--- What is answered where nothing refuses is no refusal.
-pub answer-accepted : (s : State Text Own) (z : Sizes) (k : ℕ) (o : Op) → is_refusal (answer s z k o) ≡ false
-unfolding answer
-answer-accepted s z k (op.Next n dir) = child-accepted s (place_of dir) (next_of (given_in (own_of (agent_of s k) n)) (children_of s (place_of dir)))
-answer-accepted s z k (op.Resolve dir entry) = path-accepted (resolved dir entry)
-answer-accepted s z k (op.GetFile at) = file-accepted (file_at s (place_of at))
-answer-accepted s z k o = refl
+use Rattle.opfs_laws.proofs.Reaching.{IsKeptBy, found-at}
 
 abbrev refusal_in : Reply → Refusal
 refusal_in (reply.No r) = r
@@ -120,22 +103,30 @@ refuser-own s k (op.SyncWrite n bytes at) lock file may kept h = read-only-own s
 refuser-own s k (op.SyncTruncate n size) lock file may kept h = read-only-own s k n lock file kept h
 refuser-own s k o lock file may kept h = absurd h
 
-refused-call : (s : State Text Own) (gone : List Text) (e : Entry) (v : LockValue) (n : ℕ) → OwnFiles s → IsCall s gone e
+refused-call : (s : State Text Own) (gone : List Text) (e : Entry) (v : LockValue) (n : ℕ) → OwnFiles s → AreLocksOfHolders s → IsCall s gone e
     → e.reply ≡ reply.No (refusal.NoModificationAllowedError v n) → (gone ≡ []) × IsRefusedByLock s e.agent e.op (v, n)
-refused-call s gone e v n kept call told =
+refused-call s gone e v n kept locks call told =
     elim call.agrees as (λ a. (gone ≡ []) × IsRefusedByLock s e.agent e.op (v, n)) [
       | inl same ↦
           let judges = refused-step s e.agent e.op (refusal.NoModificationAllowedError v n) (sym same.same_reply ∙ told) in
-          let found = cause_of (Refuser s e.agent e.op) (judged s e.agent e.op) v n (judged_caused s e.agent e.op) judges.0 in
+          let found = cause_of (Refuser s e.agent e.op) (judged s e.agent e.op) v n (judged_caused s e.agent e.op locks) judges.0 in
           (same.victims ∙ judges.1, record { file = found.0; own = refuser-own s e.agent e.op (v, n) found.0 call.fitting kept found.1; cause = found.1 })
       | inr fault ↦ absurd (false≢true (ap (λ r. is_fault (refusal_in r)) (sym told ∙ fault.told)))
     ]
 
+-- What is kept for this.
+record IsFound (s : State Text Own) : Type 0 where
+  pub files : OwnFiles s
+  pub locks : AreLocksOfHolders s
+
+found-kept : IsKeptBy IsFound
+found-kept s gone e call h = record { files = own_files-kept s gone e call h.files; locks = locks-kept s gone e call h.locks }
+
 pub refused-entry : ALockRefusesWithItsCause
 refused-entry o front e rest v n legal told =
-    elim (found-at OwnFiles own_files-kept (begun o) [] front e rest legal (own_files-begun o)) as (λ f. IsRefusedByLock (state_after o front) e.agent e.op (v, n)) [
+    elim (found-at IsFound found-kept (begun o) [] front e rest legal (record { files = own_files-begun o; locks = locks-begun o })) as (λ f. IsRefusedByLock (state_after o front) e.agent e.op (v, n)) [
       | inl eviction ↦ absurd (false≢true (ap is_refusal (sym eviction.1.told ∙ told)))
       | inr stands ↦
-          let both = refused-call stands.before stands.gone e v n stands.holds stands.call told in
+          let both = refused-call stands.before stands.gone e v n stands.holds.files stands.holds.locks stands.call told in
           subst (λ t. IsRefusedByLock t e.agent e.op (v, n)) (sym (ap (fold evicted stands.before) both.0) ∙ stands.is) both.1
     ]

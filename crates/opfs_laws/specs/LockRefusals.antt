@@ -21,7 +21,7 @@ use Rattle.opfs_machine.specs.Contents.{in_bytes}
 use Rattle.opfs_machine.specs.Histories.{Legal, state_after}
 use Rattle.opfs_machine.specs.Openings.{Opening}
 use Rattle.opfs_machine.specs.Rows.{Rows, file_at, rows_within, first_locked}
-use Rattle.opfs_machine.specs.Rulings.{want_of, is_read_write, lock_in}
+use Rattle.opfs_machine.specs.Rulings.{want_of, is_read_write}
 use Rattle.opfs_machine.specs.Victims.{is_callers}
 
 -- The file stands at its place with this lock, and the lock is not given as asked.
@@ -48,7 +48,9 @@ pub record IsReadOnly (s : State Text Own) (k n : ℕ) (lock : Lock) (file : Pla
   pub stands : open_handle in_bytes s k n ≡ Some handle
   pub reads : is_read_write handle.mode ≡ false
   pub named : file ≡ handle.file
-  pub found : lock_in (file_at s file) ≡ lock
+  pub held : FileRow Text
+  pub stands_there : file_at s file ≡ Some held
+  pub found : held.lock ≡ lock
 
 -- What a lock refuses, by the call that is refused.
 abbrev pub RefusedAt : State Text Own → ℕ → Op → Lock → Place → Type 0
