@@ -3,7 +3,7 @@ use Rattle.std.proofs.Common.{◌≡◌, ℕ, Bool, true, false, List, [], ◌�
 use Rattle.std.specs.Cmp.Lexicographic.{same_text as equal_texts}
 use Rattle.std.proofs.lemmas.Bool.{false≢true, and_parts}
 use Rattle.std.proofs.lemmas.List.Elements.{filter_passes, All-contains, All-same, Contains-append_right}
-use Rattle.opfs_base.specs.Places.{Place, place_of, child, is_within, resolved}
+use Rattle.opfs_base.specs.Places.{Place, place_of, child, is_within}
 use Rattle.opfs_base.specs.Texts.{Text, same_text}
 use Rattle.opfs_base.specs.declared.locator.Locator.{Locator}
 use Rattle.opfs_hist.specs.declared.entry.Entry.{Entry}
@@ -18,16 +18,14 @@ use Rattle.opfs_locks.specs.declared.LockValue.{LockValue}
 use Rattle.opfs_machine.specs.declared.own.HandleOutline.{HandleOutline}
 use Rattle.opfs_machine.specs.declared.own.Own.{Own}
 use Rattle.opfs_machine.specs.declared.own.Own.TheVariants as own
-use Rattle.opfs_machine.specs.declared.state.FileRow.{FileRow}
 use Rattle.opfs_machine.specs.declared.state.Row.TheVariants as row
-use Rattle.opfs_machine.specs.declared.state.Sizes.{Sizes}
 use Rattle.opfs_machine.specs.declared.state.State.{State}
 use Rattle.opfs_machine.specs.Agents.{agent_of, own_of, handle_in, of_row}
-use Rattle.opfs_machine.specs.Contents.{outline_of, next_of}
+use Rattle.opfs_machine.specs.Contents.{outline_of}
 use Rattle.opfs_machine.specs.Histories.{may_enter, is_own, IsCall, state_after}
 use Rattle.opfs_machine.specs.Openings.{begun}
-use Rattle.opfs_machine.specs.Replies.{answer, sizes_of, child_reply, path_reply, file_reply, given_in}
-use Rattle.opfs_machine.specs.Rows.{Rows, children_of, file_at}
+use Rattle.opfs_machine.specs.Replies.{sizes_of}
+use Rattle.opfs_machine.specs.Rows.{Rows}
 use Rattle.opfs_machine.specs.Ruled.{Ruled}
 use Rattle.opfs_machine.specs.Steps.{is_refusal, evicted, outcome_of, judged, step}
 use Rattle.opfs_machine.specs.Victims.{is_callers}

@@ -1,7 +1,7 @@
 -- What a party has of the store, as the machine of that party alone has it.
-use Rattle.std.proofs.Common.{◌≡◌, ℕ, Bool, true, false, cond, not, ◌&&◌, List, [], ◌∷◌, filter, Option, Some, None, refl, sym, ap, ◌∙◌, subst}
+use Rattle.std.proofs.Common.{◌≡◌, ℕ, Bool, true, false, cond, List, [], ◌∷◌, filter, Option, Some, None, refl, sym, ap, ◌∙◌, subst}
 use Rattle.std.specs.Prelude.{is_some}
-use Rattle.std.specs.List.{filter_map, list_any, cons_option}
+use Rattle.std.specs.List.{filter_map, cons_option}
 use Rattle.std.specs.FinMap.Entries.{find, find-where_key}
 use Rattle.std.proofs.lemmas.Bool.{false≢true, and_parts}
 use Rattle.std.specs.Cmp.Lexicographic.{same_text as equal_texts}
@@ -9,11 +9,10 @@ use Rattle.opfs_base.specs.Places.{Place, place_cmp, is_within, child_name, only
 use Rattle.opfs_base.specs.Texts.{Text, same_text}
 use Rattle.opfs_machine.specs.declared.own.Own.{Own}
 use Rattle.opfs_machine.specs.declared.state.Party.{Party}
-use Rattle.opfs_machine.specs.declared.state.Row.{Row}
 use Rattle.opfs_machine.specs.declared.state.State.{State}
 use Rattle.opfs_machine.specs.Agents.{agent_of, party_of, same_party, is_posted}
 use Rattle.opfs_machine.specs.Alone.{is_partys}
-use Rattle.opfs_machine.specs.Rows.{Rows, row_at, file_at, rows_within, has_children, children_of}
+use Rattle.opfs_machine.specs.Rows.{row_at, rows_within, children_of}
 use Rattle.opfs_laws.proofs.Spots.{exact_places}
 
 -- The state of the party alone beside that of the whole machine.
@@ -52,7 +51,7 @@ module _ {X : Type 0} (keep : X → Bool) where
 within-partys : (party : Party) (above below : Place) → is_partys party above.0 ≡ true → is_within above below ≡ true → is_partys party below.0 ≡ true
 within-partys party above below mine inside = subst (λ u. is_partys party u ≡ true) (equal_texts above.0 below.0 (sym (and_parts _ _ inside).0)) mine
 
-child-partys : (party : Party) (dir below : Place) → is_partys party dir.0 ≡ true → is_some (child_name dir below) ≡ true → is_partys party below.0 ≡ true
+pub child-partys : (party : Party) (dir below : Place) → is_partys party dir.0 ≡ true → is_some (child_name dir below) ≡ true → is_partys party below.0 ≡ true
 child-partys party dir below mine inside =
     elim (same_text dir.0 below.0) as (λ b. same_text dir.0 below.0 ≡ b → is_some (elim b as (λ x. Option Text) [ true ↦ only_name (rest_below dir.1 below.1) | false ↦ None ]) ≡ true → is_partys party below.0 ≡ true) [
       | true ↦ λ is h. subst (λ u. is_partys party u ≡ true) (equal_texts dir.0 below.0 (sym is)) mine
