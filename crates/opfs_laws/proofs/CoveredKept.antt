@@ -1,8 +1,7 @@
 -- Each call keeps that a file's bytes are stored or covered.
-use Rattle.std.proofs.Common.{◌≡◌, ◌⊎◌, ℕ, ◌+◌, ◌*◌, ◌≤◌, zero, suc, Bool, true, false, cond, not, ◌&&◌, List, [], ◌∷◌, map, fold, length, max, Option, Some, None, option_map, refl, sym, ap, ◌∙◌, subst, inl, inr, arith}
+use Rattle.std.proofs.Common.{◌≡◌, ◌⊎◌, ℕ, ◌+◌, ◌*◌, ◌≤◌, zero, suc, Bool, true, false, cond, not, ◌&&◌, List, [], ◌∷◌, fold, length, max, Option, Some, None, option_map, refl, sym, ap, ◌∙◌, subst, inl, inr, arith}
 use Rattle.std.proofs.Math.Nat.{mul-le-mul_left}
 use Rattle.std.proofs.lemmas.Bool.{false≢true}
-use Rattle.std.specs.FinMap.Entries.{find}
 use Rattle.std.specs.Ordering.{eq_by_cmp}
 use Rattle.opfs_base.specs.Blocks.{blocks}
 use Rattle.opfs_base.specs.Places.{Place, place_cmp, place_of, child, is_within}
@@ -29,7 +28,6 @@ use Rattle.opfs_machine.specs.declared.state.State.{State}
 use Rattle.opfs_machine.specs.Agents.{agent_of, own_of, open_stream, open_handle, of_row, handle_in, with_own, with_agent, adds_own}
 use Rattle.opfs_machine.specs.Contents.{in_bytes, outline_of, written_row, truncated_row, sought_row, moved_row, advanced_row}
 use Rattle.opfs_machine.specs.Effects.{effect, refused, made, new_row, moment_of, opens_bucket, opens_stream, takes_snapshot, closes_stream, aborts_stream, changes_file, flushes, closes_handle, discards, persists, with_written, with_changed, with_lock, flushed, unlocked, undone, replaced, content_of}
-use Rattle.opfs_machine.specs.Openings.{Opening, Stored, folder, document, row_of, begun}
 use Rattle.opfs_machine.specs.Replies.{sizes_of, sizes_in, bytes_at, bytes_in}
 use Rattle.opfs_machine.specs.Rows.{row_at, file_at, file_of, with_row, with_file, without, children_of}
 use Rattle.opfs_machine.specs.Rulings.{start_of, size_written, reserve_for, want_of, is_read_write, first_reserve}
@@ -483,18 +481,3 @@ changed-covered s k o answered number may h =
 pub covered-calls : IsKeptBy AreCovered
 covered-calls s gone e call h =
     changed-covered (fold evicted s gone) e.agent e.op e.reply (number-after s gone e.agent call.live) (call-allowed s gone e call) (covered-gone gone s h)
-
-row-even : (x : Stored) (f : FileRow Text) → file_of (Some (row_of x)) ≡ Some f → f.present ≡ f.durable
-row-even folder f is = cc
-row-even (document bytes stamp) f is = let same = some-file is in ap (λ x. x.present) (sym same) ∙ ap (λ x. x.durable) same
-
-begun-even : (p : Place) (es : List (Place × Stored)) (f : FileRow Text) → file_of (find place_cmp p (map (λ e. (e.0, row_of e.1)) es)) ≡ Some f → f.present ≡ f.durable
-begun-even p [] f is = cc
-begun-even p (e ∷ es) f is =
-    elim (eq_by_cmp place_cmp p e.0) as (λ b. file_of (cond b (Some (row_of e.1)) (find place_cmp p (map (λ d. (d.0, row_of d.1)) es))) ≡ Some f → f.present ≡ f.durable) [
-      | true ↦ λ h. row-even e.1 f h
-      | false ↦ λ h. begun-even p es f h
-    ] is
-
-pub covered-begun : (o : Opening) → AreCovered (begun o)
-covered-begun o p f is = inl (begun-even p o.stored.rows f is)

@@ -4,6 +4,7 @@ pub mod Allowed
 pub mod Apart
 pub mod Bounded
 pub mod Building
+pub mod CoveredBegun
 pub mod CoveredKept
 pub mod Durables
 pub mod Going

@@ -6,7 +6,7 @@ use Rattle.opfs_machine.specs.Openings.{begun}
 use Rattle.opfs_machine.specs.Rulings.{is_read_write}
 use Rattle.opfs_laws.specs.Whole.{WhatEveryReachedStateKeeps}
 use Rattle.opfs_laws.proofs.Bounded.{IsBounded, bounded-kept}
-use Rattle.opfs_laws.proofs.CoveredKept.{covered-begun}
+use Rattle.opfs_laws.proofs.CoveredBegun.{covered-begun}
 use Rattle.opfs_laws.proofs.LocksEffect.{locks-begun}
 use Rattle.opfs_laws.proofs.OwnFiles.{own_files-begun}
 use Rattle.opfs_laws.proofs.OwnKept.{keeps-row}
