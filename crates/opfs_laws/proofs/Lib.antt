@@ -30,8 +30,6 @@ pub mod Reaching
 pub mod Refused
 pub mod RowSums
 pub mod RowsEffect
-pub mod SharedRulings
-pub mod Shares
 pub mod Splices
 pub mod Spots
 pub mod Wholes
