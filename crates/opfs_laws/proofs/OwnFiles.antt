@@ -177,7 +177,7 @@ refused-keeps : (s : State Text Own) (k : ℕ) (o : Op) → OwnFiles s → OwnFi
 refused-keeps s k (op.Await tag) h = keeps-with_agent HasOwnFile s k (record (agent_of s k) { waits = None }) h (keeps-agent HasOwnFile s k h)
 refused-keeps s k o h = h
 
-changed-keeps : (s : State Text Own) (k : ℕ) (o : Op) (answered : Reply) → may_enter s k o ≡ true → OwnFiles s → OwnFiles (changed_by s k o answered)
+pub changed-keeps : (s : State Text Own) (k : ℕ) (o : Op) (answered : Reply) → may_enter s k o ≡ true → OwnFiles s → OwnFiles (changed_by s k o answered)
 changed-keeps s k o answered may h =
     elim (is_refusal answered) as (λ b. OwnFiles (elim b as (λ x. State Text Own) [ true ↦ refused s k o | false ↦ effect in_bytes s (sizes_of s k o) k o ])) [
       | true ↦ refused-keeps s k o h

@@ -17,7 +17,7 @@ use Rattle.opfs_machine.specs.Steps.{evicted, changed_by, after_reply, is_refusa
 use Rattle.opfs_separation.proofs.Alike.{Alike, alike-same, key-alike}
 use Rattle.opfs_separation.proofs.Clearing.{evicted-ordered}
 use Rattle.opfs_separation.proofs.Follows.{Pair, Follows, IsPlain, effect-follows, refused-follows}
-use Rattle.opfs_separation.proofs.OwnFiles.{OwnFiles, changed-keeps}
+use Rattle.opfs_laws.proofs.OwnFiles.{OwnFiles, changed-keeps}
 use Rattle.opfs_separation.proofs.Sides.{Ours, Others, ours-follow, others-follow}
 use Rattle.opfs_separation.proofs.Small.{InOrder}
 

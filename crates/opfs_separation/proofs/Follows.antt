@@ -32,8 +32,8 @@ use Rattle.opfs_machine.specs.Rows.{row_at, with_row, file_of, file_at, with_fil
 use Rattle.opfs_machine.specs.Rulings.{start_of, size_written, reserve_for, want_of, is_read_write, size_in}
 use Rattle.opfs_machine.specs.Sums.{reserve_of}
 use Rattle.opfs_machine.specs.Victims.{is_callers}
-use Rattle.opfs_separation.proofs.OwnFiles.{OwnFiles, HasOwnFile, callers-own}
-use Rattle.opfs_separation.proofs.OwnKept.{keeps-row}
+use Rattle.opfs_laws.proofs.OwnFiles.{OwnFiles, HasOwnFile, callers-own}
+use Rattle.opfs_laws.proofs.OwnKept.{keeps-row}
 
 abbrev pub Pair : Type 1
 Pair = State Text Own → State Text Own → Type 0

@@ -5,8 +5,6 @@ pub mod Follows
 pub mod Fronts
 pub mod Lists
 pub mod Numbered
-pub mod OwnFiles
-pub mod OwnKept
 pub mod OwnRows
 pub mod Parties
 pub mod Reading

@@ -19,8 +19,8 @@ use Rattle.opfs_machine.specs.Sums.{is_persistent, usage, row_reserve, present_b
 use Rattle.opfs_machine.specs.Victims.{is_callers}
 use Rattle.opfs_separation.proofs.Alike.{Alike, row-alike, children-alike, has-alike, within-alike, posted-alike, agent-alike}
 use Rattle.opfs_separation.proofs.Numbered.{seen, seen_by, seen_from, is_ours, no_help, stuck-seen}
-use Rattle.opfs_separation.proofs.OwnFiles.{OwnFiles, HasOwnFile}
-use Rattle.opfs_separation.proofs.OwnKept.{AgentKeeps}
+use Rattle.opfs_laws.proofs.OwnFiles.{OwnFiles, HasOwnFile}
+use Rattle.opfs_laws.proofs.OwnKept.{AgentKeeps}
 use Rattle.opfs_separation.proofs.Parties.{partys-own, partys-other}
 use Rattle.opfs_separation.proofs.Sides.{Ours}
 

@@ -32,7 +32,7 @@ use Rattle.opfs_machine.specs.Sums.{is_persistent, usage, no_need, charges, mode
 use Rattle.opfs_machine.specs.Victims.{is_callers}
 use Rattle.opfs_separation.proofs.Follows.{IsPlain, open-handle-file, open-stream-file}
 use Rattle.opfs_separation.proofs.Lists.{from_false}
-use Rattle.opfs_separation.proofs.OwnFiles.{OwnFiles, callers-own}
+use Rattle.opfs_laws.proofs.OwnFiles.{OwnFiles, callers-own}
 use Rattle.opfs_separation.proofs.Reading.{Reads}
 use Rattle.opfs_separation.proofs.SameRuling.{own-at}
 use Rattle.opfs_splice.specs.Splicing.{window}

@@ -28,7 +28,7 @@ use Rattle.opfs_machine.specs.Sums.{usage, pool, charge, fits_quota, fits_area, 
 use Rattle.opfs_machine.specs.Victims.{victims, shortest_front, candidates, cleared}
 use Rattle.opfs_separation.proofs.Follows.{IsPlain}
 use Rattle.opfs_separation.proofs.Lists.{from_false}
-use Rattle.opfs_separation.proofs.OwnFiles.{OwnFiles}
+use Rattle.opfs_laws.proofs.OwnFiles.{OwnFiles}
 use Rattle.opfs_separation.proofs.Reading.{Reads}
 use Rattle.opfs_separation.proofs.SameRuling.{ruling-same, sizes-same, may-same, disk-same}
 use Rattle.opfs_separation.proofs.SameAnswer.{ruling-free, is_free, answer-same, usage-at}

@@ -36,8 +36,8 @@ use Rattle.opfs_machine.specs.Rulings.{get_directory_ruling, get_handle_ruling, 
 use Rattle.opfs_machine.specs.Sums.{no_need, keeps_blocks, charges, mode_charge, block_charge}
 use Rattle.opfs_machine.specs.Victims.{is_callers}
 use Rattle.opfs_separation.proofs.Follows.{IsPlain, open-handle-file}
-use Rattle.opfs_separation.proofs.OwnFiles.{OwnFiles, HasOwnFile, callers-own}
-use Rattle.opfs_separation.proofs.OwnKept.{keeps-row}
+use Rattle.opfs_laws.proofs.OwnFiles.{OwnFiles, HasOwnFile, callers-own}
+use Rattle.opfs_laws.proofs.OwnKept.{keeps-row}
 use Rattle.opfs_separation.proofs.Reading.{Reads}
 
 -- Two continuations that agree on what is there.

@@ -30,8 +30,8 @@ use Rattle.opfs_separation.proofs.Clearing.{may-evict, may-others, evictable-aft
 use Rattle.opfs_separation.proofs.Follows.{IsPlain}
 use Rattle.opfs_separation.proofs.Fronts.{front-fine, call-front}
 use Rattle.opfs_separation.proofs.Numbered.{seen, seen_by, seen_from, is_ours}
-use Rattle.opfs_separation.proofs.OwnFiles.{OwnFiles, HasOwnFile, changed-keeps, own_files-begun, may-after}
-use Rattle.opfs_separation.proofs.OwnKept.{AgentKeeps}
+use Rattle.opfs_laws.proofs.OwnFiles.{OwnFiles, HasOwnFile, changed-keeps, own_files-begun, may-after}
+use Rattle.opfs_laws.proofs.OwnKept.{AgentKeeps}
 use Rattle.opfs_separation.proofs.Lists.{filter-within, any-within}
 use Rattle.opfs_separation.proofs.Parties.{partys-own}
 use Rattle.opfs_separation.proofs.Reading.{ours-reads}
