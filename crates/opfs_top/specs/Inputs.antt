@@ -1,5 +1,5 @@
 -- What a source gave, and a sink took. This project's own.
-use Rattle.std.specs.Prelude.{◌≡◌, ℕ, ◌<◌, List, [], ◌++◌, length}
+use Rattle.std.specs.Prelude.{◌≡◌, ℕ, ◌<◌, [], ◌++◌, length}
 use Rattle.opfs_base.specs.Texts.{Text}
 use Rattle.opfs_outside.specs.Faults.{Rose}
 use Rattle.opfs_top.specs.Endings.{IsReadWhole, IsReadTooFar}

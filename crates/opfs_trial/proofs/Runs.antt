@@ -1,6 +1,5 @@
 -- What a script's steps and its end add to its run.
-use Rattle.std.proofs.Common.{◌≡◌, ℕ, ◌+◌, ◌-◌, ◌<◌, false, true, Bool, List, [], ◌∷◌, ◌++◌, Option, Some, None, slice_get, length, refl, sym, ap, ◌∙◌, subst, append_assoc, append-nil}
-use Rattle.opfs_base.specs.declared.locator.Locator.{Locator}
+use Rattle.std.proofs.Common.{◌≡◌, ℕ, ◌+◌, ◌-◌, ◌<◌, false, true, Bool, List, [], ◌∷◌, ◌++◌, Option, Some, None, slice_get, length, refl, sym, ap, ◌∙◌, subst, append_assoc}
 use Rattle.opfs_hist.specs.declared.entry.Entry.{Entry}
 use Rattle.opfs_hist.specs.declared.op.Op.{Op}
 use Rattle.opfs_hist.specs.declared.op.Op.TheVariants as op
@@ -10,12 +9,12 @@ use Rattle.opfs_runs.specs.declared.hand.Hand.{Hand}
 use Rattle.opfs_runs.specs.declared.hand.Named.{Named}
 use Rattle.opfs_runs.specs.declared.hand.Named.TheVariants as named
 use Rattle.opfs_runs.specs.declared.hand.Open.{Open}
-use Rattle.opfs_runs.specs.Running.{IsRun, IsRunFrom, IsEnd, IsStep, IsWait, op_of, next_op, hand_then, is_wait, ending, called, called_by_two, entries_of, named_by, a_directory, a_file, an_entry, a_stream, a_handle, a_snapshot, mode_of}
+use Rattle.opfs_runs.specs.Running.{IsRun, IsRunFrom, IsEnd, IsStep, IsWait, op_of, next_op, hand_then, is_wait, ending, called, called_by_two, named_by, a_directory, a_file, an_entry, a_stream, a_handle, a_snapshot, mode_of}
 use Rattle.opfs_script.specs.declared.step.Step.{Step}
 use Rattle.opfs_script.specs.declared.step.Step.TheVariants as step
 use Rattle.opfs_script.specs.Scripts.{Asked}
 use Rattle.opfs_plain.specs.Keeping.{IsEntered}
-use Rattle.opfs_trial.specs.Stepping.{Begins, IsBeside, IsStepped}
+use Rattle.opfs_trial.specs.Stepping.{Begins, IsStepped}
 use Rattle.opfs_trial.proofs.Turns.{entered_own, entered_beside, entered_last}
 
 called_waits : {A : Type 0} (w : Word) (x : Option A) (f : A → Op) → ((a : A) → is_wait (f a) ≡ false) → is_wait (called w x f) ≡ false

@@ -1,4 +1,4 @@
-use Rattle.std.proofs.Common.{rules, ◌≡◌, ◌≤◌, refl, arith}
+use Rattle.std.proofs.Common.{refl, arith}
 use Rattle.opfs_top.proofs.Putting.{more_put}
 use Rattle.opfs_top.proofs.output.put_all.Goals as goal
 

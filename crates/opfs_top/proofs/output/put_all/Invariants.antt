@@ -1,4 +1,4 @@
-use Rattle.std.proofs.Common.{◌≡◌, ◌≤◌, length}
+use Rattle.std.proofs.Common.{◌≤◌, length}
 use Rattle.opfs_top.specs.Inputs.{IsPutSoFar}
 use Rattle.opfs_top.proofs.output.put_all.Given as goal
 

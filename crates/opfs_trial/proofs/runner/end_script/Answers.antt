@@ -1,4 +1,4 @@
-use Rattle.std.proofs.Common.{rules, ◌≡◌, refl, true}
+use Rattle.std.proofs.Common.{refl, true}
 use Rattle.opfs_hist.specs.declared.entry.Entry.{Entry}
 use Rattle.opfs_hist.specs.declared.op.Op.TheVariants.{End}
 use Rattle.opfs_trial.proofs.Runs.{run_whole}

@@ -1,4 +1,4 @@
-use Rattle.std.proofs.Common.{rules, ◌≡◌, ◌-◌, ap, subst, Some, slice_get, length}
+use Rattle.std.proofs.Common.{rules, ◌≡◌, ◌-◌, subst, Some, slice_get, length}
 use Rattle.opfs_hist.specs.declared.entry.Entry.{Entry}
 use Rattle.opfs_plain.specs.Keeping.{IsEntered}
 use Rattle.opfs_runs.specs.Running.{op_of, hand_then}

@@ -1,9 +1,8 @@
-use Rattle.std.proofs.Common.{rules, ◌≡◌, refl, false, drop, [], subst, length, arith}
+use Rattle.std.proofs.Common.{◌≡◌, false, drop, [], subst, arith}
 use Rattle.std.proofs.lemmas.List.{drop_all}
 use Rattle.opfs_runs.specs.Running.{entries_of, IsRunFrom}
 use Rattle.opfs_trial.specs.Stepping.{Begins}
-use Rattle.opfs_trial.proofs.Runs.{begins_end, begins_more}
-use Rattle.opfs_trial.proofs.Turns.{beside_then}
+use Rattle.opfs_trial.proofs.Runs.{begins_end}
 use Rattle.opfs_trial.proofs.runner.run_steps.Goals as goal
 
 pub returns-clause-begins : goal.returns-clause-begins

@@ -1,4 +1,4 @@
-use Rattle.std.proofs.Common.{◌≡◌, false, drop}
+use Rattle.std.proofs.Common.{false, drop}
 use Rattle.opfs_base.specs.Texts.{Text}
 use Rattle.opfs_machine.specs.declared.own.Own.{Own}
 use Rattle.opfs_machine.specs.declared.state.State.{State}

@@ -1,6 +1,5 @@
-use Rattle.std.proofs.Common.{rules, ◌≡◌, ◌≤◌, ◌+◌, ◌∙◌, ap, sym, subst, suc, [], All, Some, slice_get, get_or, add-one, arith}
+use Rattle.std.proofs.Common.{◌≡◌, ◌≤◌, ◌+◌, ◌∙◌, ap, sym, subst, [], All, Some, slice_get, add-one, arith}
 use Rattle.std.proofs.lemmas.Option.{slice_get-get_or}
-use Rattle.opfs_hist.specs.declared.entry.Entry.{Entry}
 use Rattle.opfs_runs.specs.Running.{IsRun, entries_of}
 use Rattle.opfs_script.specs.Scripts.{Asked}
 use Rattle.opfs_trial.specs.Stepping.{IsBeside}
