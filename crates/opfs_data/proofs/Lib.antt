@@ -1,2 +1,5 @@
 pub mod CallLemmas
+pub mod PageLemmas
+pub mod RowLemmas
 pub mod RunLemmas
+pub mod WriteLemmas

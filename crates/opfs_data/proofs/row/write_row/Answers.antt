@@ -1,0 +1,37 @@
+use Rattle.std.proofs.Common.{List, [], length, get_or, ap, ◌∙◌}
+use Rattle.opfs_data.specs.declared.page.Page.{Page}
+use Rattle.opfs_data.specs.declared.page.PageWrite.{PageWrite}
+use Rattle.opfs_data.specs.Pages.{page_of, blank}
+use Rattle.opfs_data.proofs.PageLemmas.{page_stays}
+use Rattle.opfs_data.proofs.RowLemmas.{left_all, kept_other, kept_block, length-with_kept}
+use Rattle.opfs_data.proofs.row.write_row.Goals as goal
+
+pub returns-then-is_err-clause-left : goal.returns-then-is_err-clause-left
+returns-then-is_err-clause-left g c = λ told j lt.
+    ap (λ (ps : List Page). page_of (g.D.Disk.content c.put_pages.new.journal.disk) c.args.base (get_or ps j blank)) c.keep_saved.ensures.kept
+    ∙ left_all (g.D.Disk.content c.args.journal.now.disk) (g.D.Disk.content c.put_pages.new.journal.disk) c.args.base c.args.saved.items c.args.pages.now.items c.args.writes.now
+    (c.requires.now told) c.requires.saved c.requires.own (c.put_pages.ensures.writes.told told).elsewhere j lt
+
+pub returns-then-is_err-clause-newly : goal.returns-then-is_err-clause-newly
+returns-then-is_err-clause-newly g c = λ j none.
+    ap (λ (ps : List Page). get_or ps j blank) c.keep_saved.ensures.kept
+    ∙ kept_other c.args.saved.items c.args.pages.now.items j (λ there.
+    let found = c.requires.saved.only j there in
+    let d : PageWrite = record { page = 0; block = 0; bytes = [] } in
+    let here = found.2 d in
+    none found.0 d found.1 here.0 here.1)
+
+pub returns-then-is_err-clause-apart : goal.returns-then-is_err-clause-apart
+returns-then-is_err-clause-apart g c = λ told page apart.
+    page_stays (g.D.Disk.content c.args.journal.now.disk) (g.D.Disk.content c.put_pages.new.journal.disk) c.args.base c.args.writes.now page (c.put_pages.ensures.writes.told told).elsewhere apart
+
+pub returns-clause-apart : goal.returns-clause-apart
+returns-clause-apart g c = λ told page apart.
+    page_stays (g.D.Disk.content c.args.journal.now.disk) (g.D.Disk.content c.put_pages.new.journal.disk) c.args.base c.args.writes.now page (c.put_pages.ensures.writes.told told).elsewhere apart
+
+pub returns-then-is_err-clause-len : goal.returns-then-is_err-clause-len
+returns-then-is_err-clause-len g c = ap length c.keep_saved.ensures.kept ∙ length-with_kept c.args.saved.items c.args.pages.now.items
+
+pub returns-then-is_err-clause-blocks : goal.returns-then-is_err-clause-blocks
+returns-then-is_err-clause-blocks g c = λ j.
+    ap (λ (ps : List Page). (get_or ps j blank).block) c.keep_saved.ensures.kept ∙ kept_block c.args.saved.items c.args.pages.now.items j c.requires.saved.inside

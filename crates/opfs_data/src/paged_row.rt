@@ -1,0 +1,169 @@
+//! The pages of an open row, in blocks.
+
+ghost use Rattle.std.specs.Prelude.{◌≡◌, ◌+◌, ◌*◌, ◌^◌, ◌<◌, ◌≤◌, ℕ, List, None, false, length, is_some, count_by, slice_index_or, IfOk, OnOk, OnErr, IsErrOf, MatchOption};
+ghost use Rattle.std.specs.List.{AllByRecursion};
+ghost use Rattle.opfs_outside.specs.Faults.{Rose};
+ghost use Rattle.opfs_data.specs.Calls.{Reads, Writes};
+ghost use Rattle.opfs_data.specs.Places.{AllLie};
+ghost use Rattle.opfs_data.specs.declared.page.Page.{Page};
+ghost use Rattle.opfs_data.specs.declared.page.PageWrite.{PageWrite};
+ghost use Rattle.opfs_data.specs.Pages.{block_bytes, page_of, blank, runs_of, resized, with_writes, pages_in, IsAgain, AreSaved, AreNow, AreOwn, IsApart, LiesIn};
+
+use crate::page::{Page, SavedPage};
+use crate::pages::read_page;
+use crate::placing::open_pages;
+use crate::row::{save_pages, write_row};
+use crate::{DataRefusal, PageWrites};
+use opfs_base::Extent;
+use opfs_journal::{DiskFault, Journal};
+use opfs_outside::Disk;
+use std::alloc::{AllocError, Global};
+use std::marker::Model;
+
+/// The pages of an open row: which block each one has, and the bytes that are kept of it since a write failed. What is
+/// prepared for the next write is the room for pages and the bytes of those that it writes again in their own block.
+#[derive(Debug, Drop)]
+pub struct PagedRow {
+    pages: Vec<Page>,
+    saved: Option<Vec<SavedPage>>,
+}
+
+impl Model for PagedRow {
+    ghost use Rattle.std.specs.Prelude.{option_map};
+    ghost use Rattle.std.specs.Vec.{vec_capacity};
+    ghost use Rattle.opfs_data.specs.Pages.{RowSeen};
+
+    ghost Value = { RowSeen };
+
+    ghost view = { λ row. record { pages = row.pages.items; room = vec_capacity row.pages; saved = option_map (λ saved. saved.items) row.saved } };
+}
+
+impl PagedRow {
+    /// Pages that have the blocks of runs in order, and nothing is kept of them.
+    pub fn make(alloc: Global, extents: &[Extent]) -> Result<PagedRow, AllocError>
+        requires { AllByRecursion (λ extent. extent.start + extent.count ≤ 2 ^ 32) extents.now }
+        ensures pages { IfOk result (λ row. row.pages ≡ pages_in extents.now) }
+        ensures none { IfOk result (λ row. row.saved ≡ None) }
+    {
+        let pages = open_pages(alloc, extents)?;
+        Ok(PagedRow { pages, saved: None })
+    }
+
+    /// How many pages there are.
+    pub fn len(&self) -> u64
+        ensures { result ≡ length self.now.pages }
+    {
+        self.pages.len() as u64
+    }
+
+    /// The number of pages with kept bytes.
+    pub fn kept(&self) -> u64
+        ensures { result ≡ count_by (λ page. is_some page.kept) self.now.pages }
+    {
+        self.pages.iter().filter(|page| page.kept.is_some()).count() as u64
+    }
+
+    /// The block of a page; None where it has none.
+    pub fn block(&self, page: u64) -> Option<u32>
+        requires { page < length self.now.pages }
+        ensures { result ≡ (slice_index_or self.now.pages page blank).block }
+    {
+        self.pages[page as usize].block
+    }
+
+    /// Reads a page: the bytes that are kept of it, or those of its block, or zeros. Block 0 begins at byte `base` of the
+    /// disk. Takes no memory.
+    pub fn read<D: Disk>(
+        &self,
+        journal: &mut Journal<D>,
+        base: u64,
+        page: u64,
+        into: &mut [u8],
+    ) -> Result<(), DiskFault>
+        requires there { page < length self.now.pages }
+        requires whole { length into.old ≡ 4096 }
+        requires lies { LiesIn base (D.size journal.old.disk) (slice_index_or self.now.pages page blank).block }
+        requires behind { journal.old.areas.first + 2 * journal.old.areas.bytes ≤ base }
+        requires small { base < 2 ^ 63 }
+        ensures reads { Reads D.tells D.size D.content D.moment D.since D.faults journal.old journal.new }
+        ensures read { OnOk result (D.tells → into.new ≡ page_of (D.content journal.old.disk) base (slice_index_or self.now.pages page blank)) }
+        ensures cause { OnErr result (Rose (D.faults journal.old.disk) (D.faults journal.new.disk)) }
+    {
+        read_page(journal, base, &self.pages[page as usize], into)?;
+        Ok(())
+    }
+
+    /// Takes all memory of a write that leaves so many pages, and saves the bytes of each page that it writes again in its
+    /// own block. The pages are as before.
+    pub fn prepare<D: Disk>(
+        &mut self,
+        alloc: Global,
+        journal: &mut Journal<D>,
+        base: u64,
+        pages: u64,
+        writes: &PageWrites,
+    ) -> Result<(), DataRefusal>
+        requires lies { AllByRecursion (λ page. LiesIn base (D.size journal.old.disk) page.block) self.old.pages }
+        requires behind { journal.old.areas.first + 2 * journal.old.areas.bytes ≤ base }
+        requires small { base < 2 ^ 63 }
+        ensures same { self.new.pages ≡ self.old.pages }
+        ensures room { OnOk result (pages ≤ self.new.room) }
+        ensures saved { OnOk result (MatchOption self.new.saved ⊥ (λ saved. AreSaved saved self.new.pages writes.now)) }
+        ensures now { OnOk result (D.tells → MatchOption self.new.saved ⊥ (λ saved. AreNow (D.content journal.new.disk) base self.new.pages saved)) }
+        ensures reads { Reads D.tells D.size D.content D.moment D.since D.faults journal.old journal.new }
+        ensures cause { IsErrOf result DataRefusal.DiskFault → Rose (D.faults journal.old.disk) (D.faults journal.new.disk) }
+    {
+        let missing = (pages as usize).saturating_sub(self.pages.len());
+        self.pages.reserve(missing)?;
+        let saved = save_pages(alloc, journal, base, &self.pages, writes.as_slice())?;
+        self.saved = Some(saved);
+        Ok(())
+    }
+
+    /// Writes the pages of a list that is prepared into their blocks, and leaves so many pages; new ones that the list does
+    /// not name have no block. Where the disk fails each page reads as before. Nothing is prepared then. Takes no memory.
+    pub fn write<D: Disk>(
+        &mut self,
+        journal: &mut Journal<D>,
+        base: u64,
+        pages: u64,
+        writes: &PageWrites,
+    ) -> Result<(), DiskFault>
+        requires settled { journal.old.in_doubt ≡ false }
+        requires lies { AllLie base (D.size journal.old.disk) (runs_of writes.now) }
+        requires behind { journal.old.areas.first + 2 * journal.old.areas.bytes ≤ base }
+        requires small { base < 2 ^ 63 }
+        requires inside { (k : ℕ) (d : PageWrite) → k < length writes.now → (slice_index_or writes.now k d).page < pages }
+        requires room { pages ≤ self.old.room }
+        requires saved { MatchOption self.old.saved ⊥ (λ saved. AreSaved saved self.old.pages writes.now) }
+        requires now { D.tells → MatchOption self.old.saved ⊥ (λ saved. AreNow (D.content journal.old.disk) base self.old.pages saved) }
+        requires own { AreOwn self.old.pages writes.now }
+        ensures none { self.new.saved ≡ None }
+        ensures pages { OnOk result (self.new.pages ≡ with_writes writes.now (resized pages self.old.pages)) }
+        ensures bytes { OnOk result (D.tells → (k : ℕ) (d : PageWrite) → k < length writes.now
+            → block_bytes (D.content journal.new.disk) base (slice_index_or writes.now k d).block ≡ (slice_index_or writes.now k d).bytes) }
+        ensures left { OnErr result (D.tells → (j : ℕ) → j < length self.old.pages
+            → page_of (D.content journal.new.disk) base (slice_index_or self.new.pages j blank) ≡ page_of (D.content journal.old.disk) base (slice_index_or self.old.pages j blank)) }
+        ensures len { OnErr result (length self.new.pages ≡ length self.old.pages) }
+        ensures blocks { OnErr result ((j : ℕ) → (slice_index_or self.new.pages j blank).block ≡ (slice_index_or self.old.pages j blank).block) }
+        ensures newly { OnErr result ((j : ℕ) → ((k : ℕ) (d : PageWrite) → k < length writes.now → (slice_index_or writes.now k d).page ≡ j → IsAgain self.old.pages (slice_index_or writes.now k d) → ⊥)
+            → slice_index_or self.new.pages j blank ≡ slice_index_or self.old.pages j blank) }
+        ensures apart { D.tells → (page : Page) → IsApart page writes.now → page_of (D.content journal.new.disk) base page ≡ page_of (D.content journal.old.disk) base page }
+        ensures writes { Writes D.tells D.size D.content D.moment D.since D.faults base (runs_of writes.now) journal.old journal.new }
+        ensures cause { OnErr result (Rose (D.faults journal.old.disk) (D.faults journal.new.disk)) }
+    {
+        let Some(saved) = self.saved.take() else {
+            unreachable!();
+        };
+        let writes = writes.as_slice();
+        write_row(
+            journal,
+            base,
+            &mut self.pages,
+            saved,
+            pages as usize,
+            writes,
+        )?;
+        Ok(())
+    }
+}
