@@ -4,4 +4,6 @@
 #[cfg(test)]
 mod disks;
 #[cfg(test)]
+mod pages;
+#[cfg(test)]
 mod runs;
