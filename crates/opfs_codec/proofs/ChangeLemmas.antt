@@ -1,9 +1,10 @@
 -- What is read as a change is spelled so, and what is spelled so is read.
-use Rattle.std.proofs.Common.{◌≡◌, ℕ, zero, suc, ◌+◌, ◌^◌, ◌<◌, ◌≤◌, List, [], ◌∷◌, ◌++◌, length, drop, Option, Some, None, refl, sym, ap, subst, ◌∙◌, append_assoc}
+use Rattle.std.proofs.Common.{◌≡◌, ℕ, zero, suc, ◌+◌, ◌-◌, ◌^◌, ◌<◌, ◌≤◌, List, [], ◌∷◌, ◌++◌, length, drop, Option, Some, None, refl, sym, ap, subst, ◌∙◌, append_assoc, arith}
 use Rattle.std.specs.Int.{w8, w16, w32, w64, to_le_bytes}
 use Rattle.std.specs.List.{flat_map}
 use Rattle.std.proofs.lemmas.Bool.{and_parts}
-use Rattle.std.proofs.lemmas.List.{length-append, drop_all}
+use Rattle.std.proofs.lemmas.List.{length-append, drop_all, drop-drop}
+use Rattle.std.proofs.Math.Seq.{drop-append_seam}
 use Rattle.opfs_base.specs.Texts.{Text}
 use Rattle.opfs_base.specs.Names.{is_valid_name}
 use Rattle.opfs_base.specs.Keys.{is_origin}
@@ -288,3 +289,32 @@ begins_not f bytes at e change b =
 pub past_end : (f : Format) (bytes : List ℕ) (at : ℕ) → length bytes ≤ at → (change : Change) → BeginsAt f bytes at change → ⊥
 unfolding change_at
 past_end f bytes at le = begins_not f bytes at (ap (change_at f) (drop_all at bytes le))
+
+-- ---- what is behind a change
+
+spelling_some : (f : Format) (c : Change) → 0 < length (spelling f c)
+unfolding spelling
+spelling_some f (MakeRoot u) = omega arith
+spelling_some f (MakeDir u p) = omega arith
+spelling_some f (MakeFile u p stamp) = omega arith
+spelling_some f (Remove u p) = omega arith
+spelling_some f (Content u p stamp size es) = omega arith
+spelling_some f (Persist u) = omega arith
+spelling_some f (Evict u) = omega arith
+
+-- a change has a byte at least, and what is behind it is what is left
+pub goes_behind : (f : Format) (bytes : List ℕ) (at : ℕ) (x : Change × List ℕ) → IsBytes bytes → at ≤ length bytes → change_at f (drop at bytes) ≡ Some x
+    → (0 < length (drop at bytes) - length x.1) × (length (drop at bytes) - length x.1 ≤ length (drop at bytes)) × (drop (at + (length (drop at bytes) - length x.1)) bytes ≡ x.1)
+goes_behind f bytes at x fits le e =
+    let t = change_takes f (drop at bytes) x (IsBytes-drop at bytes fits) e in
+    let sum : length (drop at bytes) ≡ length (spelling f x.0) + length x.1 = ap length t.0.parts ∙ length-append (spelling f x.0) x.1 in
+    let taken : length (drop at bytes) - length x.1 ≡ length (spelling f x.0) = omega arith in
+    let some = spelling_some f x.0 in
+    let behind : drop (at + length (spelling f x.0)) bytes ≡ x.1 =
+    sym (drop-drop (length (spelling f x.0)) at bytes) ∙ ap (drop (length (spelling f x.0))) t.0.parts ∙ drop-append_seam (spelling f x.0) x.1 in
+    (omega arith, omega arith, ap (λ (n : ℕ). drop (at + n) bytes) taken ∙ behind)
+
+-- past the end no change is read
+pub nothing_past : (f : Format) (bytes : List ℕ) (at : ℕ) → length bytes ≤ at → change_at f (drop at bytes) ≡ None
+unfolding change_at
+nothing_past f bytes at le = ap (change_at f) (drop_all at bytes le)

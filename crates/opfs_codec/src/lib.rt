@@ -9,6 +9,6 @@ mod reading;
 mod writing;
 
 pub use change::{Change, ChangeRef, Format};
-pub use lengths::charge;
+pub use lengths::{bucket_of, charge};
 pub use reading::{one_spelling, read, read_old};
 pub use writing::write;

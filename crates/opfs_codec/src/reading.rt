@@ -1,6 +1,6 @@
 //! Changes are read.
 
-ghost use Rattle.std.specs.Prelude.{◌≡◌, ◌+◌, ◌++◌, ℕ, List, length, drop, Some, None, IfOk, IfSome, IfNone};
+ghost use Rattle.std.specs.Prelude.{◌≡◌, ◌+◌, ◌<◌, ◌≤◌, ◌++◌, ℕ, List, length, drop, Some, None, option_map, IfOk, IfSome, IfNone};
 ghost use Rattle.opfs_codec.specs.Spelling.{spelling, IsChange, BeginsAt};
 ghost use Rattle.opfs_codec.specs.declared.change.Change.{Change};
 ghost use Rattle.opfs_codec.specs.Reading.{Gives, file_at, content_at, change_at};
@@ -14,6 +14,8 @@ use std::alloc::{AllocError, Global};
 pub fn read(alloc: Global, bytes: &[u8], at: u64) -> Result<Option<(Change, u64)>, AllocError>
     ensures found { IfOk result (λ r. IfSome r (λ x. BeginsAt Format.New bytes.now at x.0 × (x.1 ≡ at + length (spelling Format.New x.0)))) }
     ensures none { IfOk result (λ r. IfNone r ((change : Change) → BeginsAt Format.New bytes.now at change → ⊥)) }
+    ensures exact { IfOk result (λ r. option_map (λ x. (x.0, drop x.1 bytes.now)) r ≡ change_at Format.New (drop at bytes.now)) }
+    ensures forth { IfOk result (λ r. IfSome r (λ x. (at < x.1) × (x.1 ≤ length bytes.now))) }
 {
     read_in(alloc, Format::New, bytes, at)
 }
@@ -22,6 +24,8 @@ pub fn read(alloc: Global, bytes: &[u8], at: u64) -> Result<Option<(Change, u64)
 pub fn read_old(alloc: Global, bytes: &[u8], at: u64) -> Result<Option<(Change, u64)>, AllocError>
     ensures found { IfOk result (λ r. IfSome r (λ x. BeginsAt Format.Old bytes.now at x.0 × (x.1 ≡ at + length (spelling Format.Old x.0)))) }
     ensures none { IfOk result (λ r. IfNone r ((change : Change) → BeginsAt Format.Old bytes.now at change → ⊥)) }
+    ensures exact { IfOk result (λ r. option_map (λ x. (x.0, drop x.1 bytes.now)) r ≡ change_at Format.Old (drop at bytes.now)) }
+    ensures forth { IfOk result (λ r. IfSome r (λ x. (at < x.1) × (x.1 ≤ length bytes.now))) }
 {
     read_in(alloc, Format::Old, bytes, at)
 }
@@ -40,6 +44,8 @@ fn read_in(
 ) -> Result<Option<(Change, u64)>, AllocError>
     ensures found { IfOk result (λ r. IfSome r (λ x. BeginsAt format bytes.now at x.0 × (x.1 ≡ at + length (spelling format x.0)))) }
     ensures none { IfOk result (λ r. IfNone r ((change : Change) → BeginsAt format bytes.now at change → ⊥)) }
+    ensures exact { IfOk result (λ r. option_map (λ x. (x.0, drop x.1 bytes.now)) r ≡ change_at format (drop at bytes.now)) }
+    ensures forth { IfOk result (λ r. IfSome r (λ x. (at < x.1) × (x.1 ≤ length bytes.now))) }
 {
     if at > bytes.len() as u64 {
         return Ok(None);
