@@ -1,0 +1,49 @@
+use opfs_files::DirHost;
+use opfs_outside::{Disk, Failed, Host, HostStop};
+use std::fs;
+use std::test::Fail;
+
+const IMAGE: &str = "opfs_files_host.image";
+
+/// All bytes of a disk of three.
+fn bytes_of<D: Disk>(disk: &mut D) -> Result<[u8; 3], Failed> {
+    let mut bytes = [9; 3];
+    if disk.len() != 3 {
+        return Err(Failed);
+    }
+    disk.read(0, &mut bytes)?;
+    Ok(bytes)
+}
+
+/// A file of three bytes that a host makes.
+fn made<H: Host>(host: &mut H) -> Result<(), HostStop> {
+    let mut disk = host.fetch(IMAGE, Some(3))?;
+    let written = disk.write(1, b"ab");
+    let given = host.give_back(IMAGE, disk);
+    written.and(given).map_err(|_| HostStop::Failed)
+}
+
+#[test]
+fn a_host_keeps_files_and_counts_those_that_are_missing(rt: HostRuntime) -> Result<(), Fail> {
+    let mut host = DirHost::make(&rt);
+    made(&mut host)?;
+    let mut again = host.fetch(IMAGE, None)?;
+    assert_eq!(rt; bytes_of(&mut again)?, *b"\0ab");
+    host.give_back(IMAGE, again)?;
+    let mut anew = host.fetch(IMAGE, Some(3))?;
+    assert_eq!(rt; bytes_of(&mut anew)?, [0, 0, 0]);
+    host.give_back(IMAGE, anew)?;
+    assert_eq!(rt; (host.faults(), host.own_faults()), (0, 0));
+    fs::remove_file(&rt, IMAGE)?;
+    let missing = host.fetch(IMAGE, None);
+    assert!(rt; matches!(&missing, Err(HostStop::Failed)));
+    assert_eq!(rt; (host.faults(), host.own_faults()), (1, 1));
+    let nowhere = host.fetch("opfs_files_nowhere/image", Some(3));
+    assert!(rt; matches!(&nowhere, Err(HostStop::Failed)));
+    assert_eq!(rt; (host.faults(), host.own_faults()), (2, 2));
+    let too_long = host.fetch(IMAGE, Some(u64::MAX));
+    assert!(rt; matches!(&too_long, Err(HostStop::Failed)));
+    assert_eq!(rt; (host.faults(), host.own_faults()), (3, 3));
+    fs::remove_file(&rt, IMAGE)?;
+    Ok(())
+}
