@@ -1,5 +1,7 @@
 pub mod CallLemmas
 pub mod PageLemmas
+pub mod PlacedLemmas
 pub mod RowLemmas
 pub mod RunLemmas
+pub mod SwapLemmas
 pub mod WriteLemmas

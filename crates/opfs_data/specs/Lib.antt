@@ -1,3 +1,4 @@
 pub mod Calls
 pub mod Pages
 pub mod Places
+pub mod Rows

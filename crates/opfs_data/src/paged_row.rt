@@ -7,7 +7,7 @@ ghost use Rattle.opfs_data.specs.Calls.{Reads, Writes};
 ghost use Rattle.opfs_data.specs.Places.{AllLie};
 ghost use Rattle.opfs_data.specs.declared.page.Page.{Page};
 ghost use Rattle.opfs_data.specs.declared.page.PageWrite.{PageWrite};
-ghost use Rattle.opfs_data.specs.Pages.{block_bytes, page_of, blank, runs_of, resized, with_writes, pages_in, IsAgain, AreSaved, AreNow, AreOwn, IsApart, LiesIn};
+ghost use Rattle.opfs_data.specs.Pages.{block_bytes, page_of, blank, runs_of, resized, with_writes, pages_in, NamesPage, IsAgain, AreSaved, AreNow, AreOwn, IsApart, LiesIn};
 
 use crate::page::{Page, SavedPage};
 use crate::pages::read_page;
@@ -25,17 +25,39 @@ use std::marker::Model;
 #[derive(Debug, Drop)]
 pub struct PagedRow {
     pages: Vec<Page>,
+    // how many of them have kept bytes
+    kept: u64,
     saved: Option<Vec<SavedPage>>,
 }
 
 impl Model for PagedRow {
-    ghost use Rattle.std.specs.Prelude.{option_map};
+    ghost use Rattle.std.specs.Prelude.{◌≡◌, option_map, count_by, is_some};
     ghost use Rattle.std.specs.Vec.{vec_capacity};
     ghost use Rattle.opfs_data.specs.Pages.{RowSeen};
 
     ghost Value = { RowSeen };
 
     ghost view = { λ row. record { pages = row.pages.items; room = vec_capacity row.pages; saved = option_map (λ saved. saved.items) row.saved } };
+
+    ghost invariant = { λ row. row.kept ≡ count_by (λ page. is_some page.kept) row.pages.items };
+}
+
+// How many pages have kept bytes.
+fn count_kept(pages: &[Page]) -> u64
+    ensures { result ≡ count_by (λ page. is_some page.kept) pages.now }
+{
+    pages.iter().filter(|page| page.kept.is_some()).count() as u64
+}
+
+// The same, at once where nothing was kept before a write that kept nothing.
+fn count_left(before: u64, pages: &[Page]) -> u64
+    requires { before ≡ 0 → count_by (λ page. is_some page.kept) pages.now ≡ 0 }
+    ensures { result ≡ count_by (λ page. is_some page.kept) pages.now }
+{
+    if before == 0 {
+        return 0;
+    }
+    count_kept(pages)
 }
 
 impl PagedRow {
@@ -46,7 +68,12 @@ impl PagedRow {
         ensures none { IfOk result (λ row. row.saved ≡ None) }
     {
         let pages = open_pages(alloc, extents)?;
-        Ok(PagedRow { pages, saved: None })
+        let kept = count_kept(&pages);
+        Ok(PagedRow {
+            pages,
+            kept,
+            saved: None,
+        })
     }
 
     /// How many pages there are.
@@ -56,11 +83,11 @@ impl PagedRow {
         self.pages.len() as u64
     }
 
-    /// The number of pages with kept bytes.
+    /// The number of pages with kept bytes. It is known, and so costs nothing.
     pub fn kept(&self) -> u64
         ensures { result ≡ count_by (λ page. is_some page.kept) self.now.pages }
     {
-        self.pages.iter().filter(|page| page.kept.is_some()).count() as u64
+        self.kept
     }
 
     /// The block of a page; None where it has none.
@@ -142,6 +169,10 @@ impl PagedRow {
         ensures pages { OnOk result (self.new.pages ≡ with_writes writes.now (resized pages self.old.pages)) }
         ensures bytes { OnOk result (D.tells → (k : ℕ) (d : PageWrite) → k < length writes.now
             → block_bytes (D.content journal.new.disk) base (slice_index_or writes.now k d).block ≡ (slice_index_or writes.now k d).bytes) }
+        ensures given { OnOk result (D.tells → (k : ℕ) (d : PageWrite) → k < length writes.now
+            → page_of (D.content journal.new.disk) base (slice_index_or self.new.pages (slice_index_or writes.now k d).page blank) ≡ (slice_index_or writes.now k d).bytes) }
+        ensures rest { OnOk result (D.tells → (j : ℕ) → j < pages → j < length self.old.pages → (NamesPage writes.now j → ⊥)
+            → page_of (D.content journal.new.disk) base (slice_index_or self.new.pages j blank) ≡ page_of (D.content journal.old.disk) base (slice_index_or self.old.pages j blank)) }
         ensures left { OnErr result (D.tells → (j : ℕ) → j < length self.old.pages
             → page_of (D.content journal.new.disk) base (slice_index_or self.new.pages j blank) ≡ page_of (D.content journal.old.disk) base (slice_index_or self.old.pages j blank)) }
         ensures len { OnErr result (length self.new.pages ≡ length self.old.pages) }
@@ -156,14 +187,12 @@ impl PagedRow {
             unreachable!();
         };
         let writes = writes.as_slice();
-        write_row(
-            journal,
-            base,
-            &mut self.pages,
-            saved,
-            pages as usize,
-            writes,
-        )?;
+        let count = pages as usize;
+        if write_row(journal, base, &mut self.pages, saved, count, writes).is_err() {
+            self.kept = count_kept(&self.pages);
+            return Err(DiskFault);
+        }
+        self.kept = count_left(self.kept, &self.pages);
         Ok(())
     }
 }

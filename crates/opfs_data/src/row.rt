@@ -8,7 +8,7 @@ ghost use Rattle.opfs_data.specs.Calls.{Reads, Writes};
 ghost use Rattle.opfs_data.specs.Places.{AllLie};
 ghost use Rattle.opfs_data.specs.declared.page.Page.{Page};
 ghost use Rattle.opfs_data.specs.declared.page.PageWrite.{PageWrite};
-ghost use Rattle.opfs_data.specs.Pages.{block_bytes, page_of, blank, runs_of, resized, with_writes, AreOnce, IsAgain, AreSaved, AreNow, AreOwn, IsApart, LiesIn};
+ghost use Rattle.opfs_data.specs.Pages.{block_bytes, page_of, blank, runs_of, resized, with_writes, AreOnce, NamesPage, IsAgain, AreSaved, AreNow, AreOwn, IsApart, LiesIn};
 
 use crate::DataRefusal;
 use crate::page::{Page, PageBytes, PageWrite, SavedPage};
@@ -42,6 +42,10 @@ pub fn write_row<D: Disk>(
     ensures written { OnOk result (pages.new.items ≡ with_writes writes.now (resized count pages.old.items)) }
     ensures bytes { OnOk result (D.tells → (k : ℕ) (d : PageWrite) → k < length writes.now
         → block_bytes (D.content journal.new.disk) base (slice_index_or writes.now k d).block ≡ (slice_index_or writes.now k d).bytes) }
+    ensures given { OnOk result (D.tells → (k : ℕ) (d : PageWrite) → k < length writes.now
+        → page_of (D.content journal.new.disk) base (slice_index_or pages.new.items (slice_index_or writes.now k d).page blank) ≡ (slice_index_or writes.now k d).bytes) }
+    ensures rest { OnOk result (D.tells → (j : ℕ) → j < count → j < length pages.old.items → (NamesPage writes.now j → ⊥)
+        → page_of (D.content journal.new.disk) base (slice_index_or pages.new.items j blank) ≡ page_of (D.content journal.old.disk) base (slice_index_or pages.old.items j blank)) }
     ensures left { OnErr result (D.tells → (j : ℕ) → j < length pages.old.items
         → page_of (D.content journal.new.disk) base (slice_index_or pages.new.items j blank) ≡ page_of (D.content journal.old.disk) base (slice_index_or pages.old.items j blank)) }
     ensures len { OnErr result (length pages.new.items ≡ length pages.old.items) }

@@ -7,3 +7,5 @@ mod disks;
 mod pages;
 #[cfg(test)]
 mod runs;
+#[cfg(test)]
+mod swap;

@@ -8,7 +8,7 @@ use std::alloc::{AllocError, Global};
 use std::test::Fail;
 
 // One page that goes into block 0.
-fn one_page(alloc: Global, bytes: &[u8]) -> Result<PageWrites, AllocError>
+pub fn one_page(alloc: Global, bytes: &[u8]) -> Result<PageWrites, AllocError>
     requires { length bytes.now ≡ 4096 }
     ensures { IfOk result (λ writes. writes ≡ (record { page = 0; block = 0; bytes = bytes.now }) ∷ []) }
 {

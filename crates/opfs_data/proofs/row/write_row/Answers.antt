@@ -1,9 +1,10 @@
 use Rattle.std.proofs.Common.{List, [], length, get_or, ap, ◌∙◌}
 use Rattle.opfs_data.specs.declared.page.Page.{Page}
 use Rattle.opfs_data.specs.declared.page.PageWrite.{PageWrite}
-use Rattle.opfs_data.specs.Pages.{page_of, blank}
+use Rattle.opfs_data.specs.Pages.{page_of, blank, with_writes}
 use Rattle.opfs_data.proofs.PageLemmas.{page_stays}
 use Rattle.opfs_data.proofs.RowLemmas.{left_all, kept_other, kept_block, length-with_kept}
+use Rattle.opfs_data.proofs.PlacedLemmas.{written_reads, rest_reads, ok_holds}
 use Rattle.opfs_data.proofs.row.write_row.Goals as goal
 
 pub returns-then-is_err-clause-left : goal.returns-then-is_err-clause-left
@@ -35,3 +36,12 @@ returns-then-is_err-clause-len g c = ap length c.keep_saved.ensures.kept ∙ len
 pub returns-then-is_err-clause-blocks : goal.returns-then-is_err-clause-blocks
 returns-then-is_err-clause-blocks g c = λ j.
     ap (λ (ps : List Page). (get_or ps j blank).block) c.keep_saved.ensures.kept ∙ kept_block c.args.saved.items c.args.pages.now.items j c.requires.saved.inside
+
+pub returns-clause-given : goal.returns-clause-given
+returns-clause-given g c = λ told k d lt.
+    written_reads (g.D.Disk.content c.put_pages.new.journal.disk) c.args.base c.args.count c.args.pages.now.items _ c.args.writes.now k d (c.place_writes.ensures ∙ ap (λ (ps : List Page). with_writes c.args.writes.now ps) c.resize.ensures) c.requires.once lt (c.requires.inside k d lt) (ok_holds c.put_pages.result _ c.if-is_err.ensures.value c.put_pages.ensures.written told k d lt)
+
+pub returns-clause-rest : goal.returns-clause-rest
+returns-clause-rest g c = λ told j below there none.
+    rest_reads (g.D.Disk.content c.args.journal.now.disk) (g.D.Disk.content c.put_pages.new.journal.disk) c.args.base c.args.count c.args.pages.now.items _ c.args.writes.now j (c.place_writes.ensures ∙ ap (λ (ps : List Page). with_writes c.args.writes.now ps) c.resize.ensures) c.requires.own
+    (c.put_pages.ensures.writes.told told).elsewhere below there none

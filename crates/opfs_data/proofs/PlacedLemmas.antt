@@ -1,0 +1,101 @@
+-- Pages that got their blocks, and how many are kept.
+use Rattle.std.proofs.Common.{◌≡◌, ℕ, zero, suc, ◌+◌, ◌-◌, ◌*◌, ◌<◌, ◌≤◌, cond, Some, None, is_some, List, [], ◌∷◌, length, get_or, set, take, drop, replicate, inl, inr, refl, sym, ap, subst, ◌∙◌, arith, Result, Ok, Err, OnOk, is_err, false}
+use Rattle.std.specs.List.{sum_by, count_by}
+use Rattle.std.proofs.lemmas.Bool.{cases_lt, false≢true}
+use Rattle.std.proofs.lemmas.List.{length-set, length-append, length-take, length-replicate, get_or-set_same, get_or-set_other, get_or-take, get_or_append_left, take-append-drop}
+use Rattle.std.proofs.lemmas.List.Sums.{sum_by-append, sum_by-set}
+use Rattle.std.proofs.lemmas.List.Folds.{sum_by-replicate}
+use Rattle.opfs_outside.specs.Bytes.{Same}
+use Rattle.opfs_data.specs.Places.{Aside}
+use Rattle.opfs_data.specs.declared.page.Page.{Page}
+use Rattle.opfs_data.specs.declared.page.PageWrite.{PageWrite}
+use Rattle.opfs_data.specs.Pages.{block_bytes, page_of, blank, runs_of, resized, with_writes, NamesPage, AreOnce, AreOwn}
+use Rattle.opfs_data.proofs.PageLemmas.{page_stays}
+
+-- what holds of an Ok holds where there was no error
+pub ok_holds : {X E : Type 0} (result : Result X E) (P : Type 0) → false ≡ is_err result → OnOk result P → P
+ok_holds (Ok x) P never h = h
+ok_holds (Err e) P never h = absurd (false≢true never)
+
+-- the page of an item that is to be written
+abbrev pub page_in : PageWrite → Page
+page_in w = record { block = Some w.block; kept = None }
+
+names_page : (ws : List PageWrite) (k : ℕ) (d : PageWrite) → k < length ws → NamesPage ws (get_or ws k d).page
+names_page [] k d lt = absurd (omega arith)
+names_page (w ∷ ws) zero d lt = inl refl
+names_page (w ∷ ws) (suc k) d lt = inr (names_page ws k d (omega arith))
+
+with_writes_other : (ws : List PageWrite) (pages : List Page) (j : ℕ) → (NamesPage ws j → ⊥) → get_or (with_writes ws pages) j blank ≡ get_or pages j blank
+with_writes_other [] pages j none = refl
+with_writes_other (w ∷ ws) pages j none =
+    with_writes_other ws (set pages w.page (page_in w)) j (λ more. none (inr more))
+    ∙ get_or-set_other pages w.page j (page_in w) blank (λ is. none (inl (sym is)))
+
+with_writes_at : (ws : List PageWrite) (pages : List Page) (k : ℕ) (d : PageWrite) → AreOnce ws → k < length ws → (get_or ws k d).page < length pages
+    → get_or (with_writes ws pages) (get_or ws k d).page blank ≡ page_in (get_or ws k d)
+with_writes_at [] pages k d once lt below = absurd (omega arith)
+with_writes_at (w ∷ ws) pages zero d once lt below = with_writes_other ws (set pages w.page (page_in w)) w.page once.0 ∙ get_or-set_same pages w.page (page_in w) blank below
+with_writes_at (w ∷ ws) pages (suc k) d once lt below = with_writes_at ws (set pages w.page (page_in w)) k d once.2 (omega arith) (omega (arith, below, length-set pages w.page (page_in w)))
+
+length-resized : (n : ℕ) (pages : List Page) → length (resized n pages) ≡ n
+length-resized n pages =
+    let new : List Page = replicate (n - length pages) blank in
+    omega (arith, length-append (take n pages) new, length-take n pages, length-replicate (n - length pages) blank)
+
+resized_at : (n : ℕ) (pages : List Page) (j : ℕ) → j < n → j < length pages → get_or (resized n pages) j blank ≡ get_or pages j blank
+resized_at n pages j below there = get_or_append_left (take n pages) (replicate (n - length pages) blank) blank j (omega (arith, length-take n pages)) ∙ get_or-take n pages j blank below
+
+-- a page that was written has its bytes
+pub written_reads : (c : List ℕ) (base n : ℕ) (old new : List Page) (ws : List PageWrite) (k : ℕ) (d : PageWrite) → new ≡ with_writes ws (resized n old) → AreOnce ws → k < length ws → (get_or ws k d).page < n
+    → block_bytes c base (get_or ws k d).block ≡ (get_or ws k d).bytes → page_of c base (get_or new (get_or ws k d).page blank) ≡ (get_or ws k d).bytes
+written_reads c base n old new ws k d is once lt below bytes =
+    let w : PageWrite = get_or ws k d in
+    ap (λ (ps : List Page). page_of c base (get_or ps w.page blank)) is
+    ∙ ap (λ (p : Page). page_of c base p) (with_writes_at ws (resized n old) k d once lt (omega (arith, below, length-resized n old)))
+    ∙ bytes
+
+-- a page that is not written reads as before
+pub rest_reads : (c c' : List ℕ) (base n : ℕ) (old new : List Page) (ws : List PageWrite) (j : ℕ) → new ≡ with_writes ws (resized n old) → AreOwn old ws → Same (Aside base (runs_of ws)) c' c
+    → j < n → j < length old → (NamesPage ws j → ⊥) → page_of c' base (get_or new j blank) ≡ page_of c base (get_or old j blank)
+rest_reads c c' base n old new ws j is own same below there none =
+    ap (λ (ps : List Page). page_of c' base (get_or ps j blank)) is
+    ∙ ap (λ (p : Page). page_of c' base p) (with_writes_other ws (resized n old) j none ∙ resized_at n old j below there)
+    ∙ page_stays c c' base ws (get_or old j blank) same (λ k d within kept block. none (subst (NamesPage ws) (sym (own k j d within there block)) (names_page ws k d within)))
+
+-- ---- kept pages
+
+-- 1 where bytes are kept
+abbrev one_kept : Page → ℕ
+one_kept page = cond (is_some page.kept) 1 0
+
+set_past : (xs : List Page) (i : ℕ) (y : Page) → length xs ≤ i → set xs i y ≡ xs
+set_past [] i y past = refl
+set_past (x ∷ xs) zero y past = absurd (omega arith)
+set_past (x ∷ xs) (suc i) y past = ap (λ (l : List Page). x ∷ l) (set_past xs i y (omega arith))
+
+kept_set : (xs : List Page) (w : PageWrite) → sum_by one_kept (set xs w.page (page_in w)) ≤ sum_by one_kept xs
+kept_set xs w = elim (cases_lt w.page (length xs)) [
+  | inl lt ↦ omega (arith, sum_by-set one_kept xs w.page (page_in w) blank lt)
+  | inr past ↦ omega (arith, ap (λ (l : List Page). sum_by one_kept l) (set_past xs w.page (page_in w) past))
+]
+
+kept_writes : (ws : List PageWrite) (xs : List Page) → sum_by one_kept (with_writes ws xs) ≤ sum_by one_kept xs
+kept_writes [] xs = omega arith
+kept_writes (w ∷ ws) xs = omega (arith, kept_set xs w, kept_writes ws (set xs w.page (page_in w)))
+
+kept_resized : (n : ℕ) (xs : List Page) → sum_by one_kept (resized n xs) ≤ sum_by one_kept xs
+kept_resized n xs =
+    let new : List Page = replicate (n - length xs) blank in
+    let none : sum_by one_kept new ≡ (n - length xs) * 0 = sum_by-replicate one_kept (n - length xs) blank in
+    let whole : sum_by one_kept xs ≡ sum_by one_kept (take n xs) + sum_by one_kept (drop n xs) =
+    ap (λ (l : List Page). sum_by one_kept l) (sym (take-append-drop n xs)) ∙ sum_by-append one_kept (take n xs) (drop n xs) in
+    omega (arith, none, whole, sum_by-append one_kept (take n xs) new)
+
+-- where nothing was kept, nothing is kept after a write
+pub none_kept : (n : ℕ) (old new : List Page) (ws : List PageWrite) → new ≡ with_writes ws (resized n old) → count_by (λ page. is_some page.kept) old ≡ 0 → count_by (λ page. is_some page.kept) new ≡ 0
+none_kept n old new ws is none =
+    let same : sum_by one_kept new ≡ sum_by one_kept (with_writes ws (resized n old)) = ap (λ (l : List Page). sum_by one_kept l) is in
+    let before : sum_by one_kept old ≡ 0 = none in
+    let after : sum_by one_kept new ≡ 0 = omega (arith, same, before, kept_writes ws (resized n old), kept_resized n old) in
+    after

@@ -1,0 +1,15 @@
+use Rattle.std.proofs.Common.{subst}
+use Rattle.std.specs.List.{AllByRecursion}
+use Rattle.opfs_data.specs.declared.page.Page.{Page}
+use Rattle.opfs_data.specs.Pages.{RowSeen, LiesIn}
+use Rattle.opfs_data.proofs.SwapLemmas.{row_there, others_written}
+use Rattle.opfs_data.proofs.swap.Swap.prepare.Goals as goal
+
+pub prepare-requires-clause-lies : goal.prepare-requires-clause-lies
+prepare-requires-clause-lies g c = λ κs lives. subst (λ (r : RowSeen). AllByRecursion (λ (page : Page). LiesIn c.args.base (g.D.Disk.size c.args.journal.now.disk) page.block) r.pages) (row_there c.args.agent c.args.row _ _ _ c.in-Some.ensures.value c.self.view_is) c.requires.lies
+
+pub returns-in_err-prepare-clause-others : goal.returns-in_err-prepare-clause-others
+returns-in_err-prepare-clause-others g c = others_written c.args.agent c.args.row _ _ _ _ c.in-Some.ensures.value c.self.view_is (λ some. ((c.get_mut.follows.holds _).3 some).2)
+
+pub returns-clause-others : goal.returns-clause-others
+returns-clause-others g c = others_written c.args.agent c.args.row _ _ _ _ c.in-Some.ensures.value c.self.view_is (λ some. ((c.get_mut.follows.holds _).3 some).2)

@@ -1,0 +1,206 @@
+//! The pages of all open rows, in blocks.
+
+ghost use Rattle.std.specs.Prelude.{◌≡◌, ◌+◌, ◌*◌, ◌-◌, ◌^◌, ◌<◌, ◌≤◌, ℕ, [], None, Some, true, false, length, min, is_some, slice_index_or, IfOk, OnOk, OnErr, IsErrOf, IfSome, MatchOption};
+ghost use Rattle.std.specs.List.{AllByRecursion};
+ghost use Rattle.opfs_outside.specs.Faults.{Rose};
+ghost use Rattle.opfs_data.specs.Calls.{Reads, Writes};
+ghost use Rattle.opfs_data.specs.Places.{AllLie};
+ghost use Rattle.opfs_data.specs.declared.page.Page.{Page};
+ghost use Rattle.opfs_data.specs.declared.page.PageWrite.{PageWrite};
+ghost use Rattle.opfs_data.specs.Pages.{block_bytes, page_of, blank, runs_of, resized, with_writes, pages_in, NamesPage, IsAgain, AreSaved, AreNow, AreOwn, IsApart, LiesIn};
+ghost use Rattle.opfs_data.specs.Rows.{row_of, row_at, pages_at, page_at, kept_count, IsOther, OthersStay, AreFree};
+
+use crate::{DataRefusal, PageWrites, PagedRow};
+use opfs_base::Extent;
+use opfs_journal::{DiskFault, Journal};
+use opfs_outside::Disk;
+use std::alloc::{AllocError, Global};
+use std::collections::BTreeMap;
+use std::marker::Model;
+
+/// The pages of all open rows, seen as the list of the rows, each under its agent and its number.
+#[derive(Drop)]
+pub struct Swap {
+    rows: BTreeMap<(u32, u32), PagedRow>,
+}
+
+impl Model for Swap {
+    ghost use Rattle.opfs_data.specs.Rows.{Rows};
+
+    ghost Value = { Rows };
+
+    ghost view = { λ swap. swap.rows.entries };
+}
+
+impl Swap {
+    /// No rows. Takes no memory.
+    pub fn make(alloc: Global) -> Swap
+        ensures { result ≡ [] }
+    {
+        Swap {
+            rows: BTreeMap::new(alloc),
+        }
+    }
+
+    /// The number of pages with kept bytes, or all ones where there are more. Takes no memory.
+    pub fn kept(&self) -> u64
+        ensures { result ≡ min (kept_count self.now) (2 ^ 64 - 1) }
+    {
+        let mut count = 0u64;
+        for row in self.rows.values() {
+            count = count.saturating_add(row.kept());
+        }
+        count
+    }
+
+    /// The block of a page; None where it has none. Takes no memory.
+    pub fn block(&self, agent: u32, row: u32, page: u64) -> Option<u32>
+        requires { page < length (pages_at agent row self.now) }
+        ensures { result ≡ (page_at agent row page self.now).block }
+    {
+        match self.rows.get(&(agent, row)) {
+            Some(found) => found.block(page),
+            None => unreachable!(),
+        }
+    }
+
+    /// Adds a row whose pages have the blocks of runs in order, and nothing is kept of them. Where there is no memory all
+    /// is as before.
+    pub fn open(
+        &mut self,
+        alloc: Global,
+        agent: u32,
+        row: u32,
+        extents: &[Extent],
+    ) -> Result<(), AllocError>
+        requires absent { row_of agent row self.old ≡ None }
+        requires lies { AllByRecursion (λ extent. extent.start + extent.count ≤ 2 ^ 32) extents.now }
+        ensures there { OnOk result (is_some (row_of agent row self.new) ≡ true) }
+        ensures pages { OnOk result (pages_at agent row self.new ≡ pages_in extents.now) }
+        ensures none { OnOk result ((row_at agent row self.new).saved ≡ None) }
+        ensures others { OthersStay agent row self.old self.new }
+        ensures err { OnErr result (self.new ≡ self.old) }
+    {
+        let pages = PagedRow::make(alloc, extents)?;
+        self.rows.insert((agent, row), pages)?;
+        Ok(())
+    }
+
+    /// Reads a page: the bytes that are kept of it, or those of its block, or zeros. Block 0 begins at byte `base` of the
+    /// disk. Takes no memory.
+    pub fn read<D: Disk>(
+        &self,
+        journal: &mut Journal<D>,
+        base: u64,
+        agent: u32,
+        row: u32,
+        page: u64,
+        into: &mut [u8],
+    ) -> Result<(), DiskFault>
+        requires there { page < length (pages_at agent row self.now) }
+        requires whole { length into.old ≡ 4096 }
+        requires lies { LiesIn base (D.size journal.old.disk) (page_at agent row page self.now).block }
+        requires behind { journal.old.areas.first + 2 * journal.old.areas.bytes ≤ base }
+        requires small { base < 2 ^ 63 }
+        ensures reads { Reads D.tells D.size D.content D.moment D.since D.faults journal.old journal.new }
+        ensures read { OnOk result (D.tells → into.new ≡ page_of (D.content journal.old.disk) base (page_at agent row page self.now)) }
+        ensures cause { OnErr result (Rose (D.faults journal.old.disk) (D.faults journal.new.disk)) }
+    {
+        let Some(found) = self.rows.get(&(agent, row)) else {
+            unreachable!();
+        };
+        found.read(journal, base, page, into)?;
+        Ok(())
+    }
+
+    /// Takes all memory of a write that leaves a row so many pages, and saves the bytes of each page that it writes again
+    /// in its own block. All pages are as before.
+    pub fn prepare<D: Disk>(
+        &mut self,
+        alloc: Global,
+        journal: &mut Journal<D>,
+        base: u64,
+        agent: u32,
+        row: u32,
+        pages: u64,
+        writes: &PageWrites,
+    ) -> Result<(), DataRefusal>
+        requires there { is_some (row_of agent row self.old) ≡ true }
+        requires lies { AllByRecursion (λ page. LiesIn base (D.size journal.old.disk) page.block) (pages_at agent row self.old) }
+        requires behind { journal.old.areas.first + 2 * journal.old.areas.bytes ≤ base }
+        requires small { base < 2 ^ 63 }
+        ensures there { is_some (row_of agent row self.new) ≡ true }
+        ensures same { pages_at agent row self.new ≡ pages_at agent row self.old }
+        ensures others { OthersStay agent row self.old self.new }
+        ensures room { OnOk result (pages ≤ (row_at agent row self.new).room) }
+        ensures saved { OnOk result (MatchOption (row_at agent row self.new).saved ⊥ (λ saved. AreSaved saved (pages_at agent row self.new) writes.now)) }
+        ensures now { OnOk result (D.tells → MatchOption (row_at agent row self.new).saved ⊥ (λ saved. AreNow (D.content journal.new.disk) base (pages_at agent row self.new) saved)) }
+        ensures reads { Reads D.tells D.size D.content D.moment D.since D.faults journal.old journal.new }
+        ensures cause { IsErrOf result DataRefusal.DiskFault → Rose (D.faults journal.old.disk) (D.faults journal.new.disk) }
+    {
+        let Some(found) = self.rows.get_mut(&(agent, row)) else {
+            unreachable!();
+        };
+        found.prepare(alloc, journal, base, pages, writes)?;
+        Ok(())
+    }
+
+    /// Writes the pages of a list that is prepared for a row into their blocks, and leaves the row so many pages; new ones
+    /// that the list does not name have no block. Where the disk fails each page of each row reads as before. Nothing is
+    /// prepared for the row then. Takes no memory.
+    pub fn write<D: Disk>(
+        &mut self,
+        journal: &mut Journal<D>,
+        base: u64,
+        agent: u32,
+        row: u32,
+        pages: u64,
+        writes: &PageWrites,
+    ) -> Result<(), DiskFault>
+        requires settled { journal.old.in_doubt ≡ false }
+        requires lies { AllLie base (D.size journal.old.disk) (runs_of writes.now) }
+        requires behind { journal.old.areas.first + 2 * journal.old.areas.bytes ≤ base }
+        requires small { base < 2 ^ 63 }
+        requires inside { (k : ℕ) (d : PageWrite) → k < length writes.now → (slice_index_or writes.now k d).page < pages }
+        requires room { pages ≤ (row_at agent row self.old).room }
+        requires saved { MatchOption (row_at agent row self.old).saved ⊥ (λ saved. AreSaved saved (pages_at agent row self.old) writes.now) }
+        requires now { D.tells → MatchOption (row_at agent row self.old).saved ⊥ (λ saved. AreNow (D.content journal.old.disk) base (pages_at agent row self.old) saved) }
+        requires own { AreOwn (pages_at agent row self.old) writes.now }
+        requires free { AreFree agent row self.old writes.now }
+        ensures there { is_some (row_of agent row self.new) ≡ true }
+        ensures none { (row_at agent row self.new).saved ≡ None }
+        ensures others { OthersStay agent row self.old self.new }
+        ensures pages { OnOk result (pages_at agent row self.new ≡ with_writes writes.now (resized pages (pages_at agent row self.old))) }
+        ensures bytes { OnOk result (D.tells → (k : ℕ) (d : PageWrite) → k < length writes.now
+            → block_bytes (D.content journal.new.disk) base (slice_index_or writes.now k d).block ≡ (slice_index_or writes.now k d).bytes) }
+        ensures given { OnOk result (D.tells → (k : ℕ) (d : PageWrite) → k < length writes.now
+            → page_of (D.content journal.new.disk) base (page_at agent row (slice_index_or writes.now k d).page self.new) ≡ (slice_index_or writes.now k d).bytes) }
+        ensures rest { OnOk result (D.tells → (j : ℕ) → j < pages → j < length (pages_at agent row self.old) → (NamesPage writes.now j → ⊥)
+            → page_of (D.content journal.new.disk) base (page_at agent row j self.new) ≡ page_of (D.content journal.old.disk) base (page_at agent row j self.old)) }
+        ensures left { OnErr result (D.tells → (a r j : ℕ) → j < length (pages_at a r self.old)
+            → page_of (D.content journal.new.disk) base (page_at a r j self.new) ≡ page_of (D.content journal.old.disk) base (page_at a r j self.old)) }
+        ensures len { OnErr result (length (pages_at agent row self.new) ≡ length (pages_at agent row self.old)) }
+        ensures blocks { OnErr result ((j : ℕ) → (page_at agent row j self.new).block ≡ (page_at agent row j self.old).block) }
+        ensures newly { OnErr result ((j : ℕ) → ((k : ℕ) (d : PageWrite) → k < length writes.now → (slice_index_or writes.now k d).page ≡ j → IsAgain (pages_at agent row self.old) (slice_index_or writes.now k d) → ⊥)
+            → page_at agent row j self.new ≡ page_at agent row j self.old) }
+        ensures others_read { D.tells → (a r : ℕ) → IsOther agent row a r → (j : ℕ) → j < length (pages_at a r self.old)
+            → page_of (D.content journal.new.disk) base (page_at a r j self.new) ≡ page_of (D.content journal.old.disk) base (page_at a r j self.old) }
+        ensures apart { D.tells → (page : Page) → IsApart page writes.now → page_of (D.content journal.new.disk) base page ≡ page_of (D.content journal.old.disk) base page }
+        ensures writes { Writes D.tells D.size D.content D.moment D.since D.faults base (runs_of writes.now) journal.old journal.new }
+        ensures cause { OnErr result (Rose (D.faults journal.old.disk) (D.faults journal.new.disk)) }
+    {
+        let Some(found) = self.rows.get_mut(&(agent, row)) else {
+            unreachable!();
+        };
+        found.write(journal, base, pages, writes)?;
+        Ok(())
+    }
+
+    /// Takes out a row, if it is there. Takes no memory.
+    pub fn drop_row(&mut self, agent: u32, row: u32)
+        ensures gone { row_of agent row self.new ≡ None }
+        ensures others { OthersStay agent row self.old self.new }
+    {
+        let _ = self.rows.remove(&(agent, row));
+    }
+}
