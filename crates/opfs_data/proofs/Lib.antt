@@ -1,4 +1,5 @@
 pub mod CallLemmas
+pub mod KeptLemmas
 pub mod PageLemmas
 pub mod PlacedLemmas
 pub mod RowLemmas

@@ -1,15 +1,16 @@
 -- Pages that got their blocks, and how many are kept.
-use Rattle.std.proofs.Common.{◌≡◌, ℕ, zero, suc, ◌+◌, ◌-◌, ◌*◌, ◌<◌, ◌≤◌, cond, Some, None, is_some, List, [], ◌∷◌, length, get_or, set, take, drop, replicate, inl, inr, refl, sym, ap, subst, ◌∙◌, arith, Result, Ok, Err, OnOk, is_err, false}
+use Rattle.std.proofs.Common.{◌≡◌, ℕ, zero, suc, ◌+◌, ◌-◌, ◌*◌, ◌<◌, ◌≤◌, ◌++◌, cond, Some, None, is_some, List, [], ◌∷◌, length, get_or, set, take, drop, replicate, inl, inr, refl, sym, ap, subst, ◌∙◌, arith, Result, Ok, Err, OnOk, is_err, false}
 use Rattle.std.specs.List.{sum_by, count_by}
 use Rattle.std.proofs.lemmas.Bool.{cases_lt, false≢true}
 use Rattle.std.proofs.lemmas.List.{length-set, length-append, length-take, length-replicate, get_or-set_same, get_or-set_other, get_or-take, get_or_append_left, take-append-drop}
 use Rattle.std.proofs.lemmas.List.Sums.{sum_by-append, sum_by-set}
 use Rattle.std.proofs.lemmas.List.Folds.{sum_by-replicate}
+use Rattle.opfs_base.specs.declared.extents.Extent.{Extent}
 use Rattle.opfs_outside.specs.Bytes.{Same}
 use Rattle.opfs_data.specs.Places.{Aside}
 use Rattle.opfs_data.specs.declared.page.Page.{Page}
 use Rattle.opfs_data.specs.declared.page.PageWrite.{PageWrite}
-use Rattle.opfs_data.specs.Pages.{block_bytes, page_of, blank, runs_of, resized, with_writes, NamesPage, AreOnce, AreOwn}
+use Rattle.opfs_data.specs.Pages.{block_bytes, page_of, blank, runs_of, resized, with_writes, pages_from, pages_in, NamesPage, AreOnce, AreOwn}
 use Rattle.opfs_data.proofs.PageLemmas.{page_stays}
 
 -- what holds of an Ok holds where there was no error
@@ -92,10 +93,24 @@ kept_resized n xs =
     ap (λ (l : List Page). sum_by one_kept l) (sym (take-append-drop n xs)) ∙ sum_by-append one_kept (take n xs) (drop n xs) in
     omega (arith, none, whole, sum_by-append one_kept (take n xs) new)
 
--- where nothing was kept, nothing is kept after a write
-pub none_kept : (n : ℕ) (old new : List Page) (ws : List PageWrite) → new ≡ with_writes ws (resized n old) → count_by (λ page. is_some page.kept) old ≡ 0 → count_by (λ page. is_some page.kept) new ≡ 0
-none_kept n old new ws is none =
+-- no more is kept after a write, and nothing where nothing was
+pub kept_less : (n : ℕ) (old new : List Page) (ws : List PageWrite) → new ≡ with_writes ws (resized n old) → count_by (λ page. is_some page.kept) new ≤ count_by (λ page. is_some page.kept) old
+kept_less n old new ws is =
     let same : sum_by one_kept new ≡ sum_by one_kept (with_writes ws (resized n old)) = ap (λ (l : List Page). sum_by one_kept l) is in
-    let before : sum_by one_kept old ≡ 0 = none in
-    let after : sum_by one_kept new ≡ 0 = omega (arith, same, before, kept_writes ws (resized n old), kept_resized n old) in
-    after
+    let less : sum_by one_kept new ≤ sum_by one_kept old = omega (arith, same, kept_writes ws (resized n old), kept_resized n old) in
+    less
+
+pub none_kept : (n : ℕ) (old new : List Page) (ws : List PageWrite) → new ≡ with_writes ws (resized n old) → count_by (λ page. is_some page.kept) old ≡ 0 → count_by (λ page. is_some page.kept) new ≡ 0
+none_kept n old new ws is none = omega (arith, none, kept_less n old new ws is)
+
+-- nothing is kept of new pages
+kept_from : (start count : ℕ) → sum_by one_kept (pages_from start count) ≡ 0
+kept_from start zero = refl
+kept_from start (suc count) = kept_from (start + 1) count
+
+pub kept_open : (extents : List Extent) → count_by (λ page. is_some page.kept) (pages_in extents) ≡ 0
+kept_open [] = refl
+kept_open (e ∷ extents) =
+    let rest : sum_by one_kept (pages_in extents) ≡ 0 = kept_open extents in
+    let both : sum_by one_kept (pages_from e.start e.count ++ pages_in extents) ≡ 0 = omega (arith, rest, kept_from e.start e.count, sum_by-append one_kept (pages_from e.start e.count) (pages_in extents)) in
+    both

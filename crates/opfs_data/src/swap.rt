@@ -8,7 +8,7 @@ ghost use Rattle.opfs_data.specs.Places.{AllLie};
 ghost use Rattle.opfs_data.specs.declared.page.Page.{Page};
 ghost use Rattle.opfs_data.specs.declared.page.PageWrite.{PageWrite};
 ghost use Rattle.opfs_data.specs.Pages.{block_bytes, page_of, blank, runs_of, resized, with_writes, pages_in, NamesPage, IsAgain, AreSaved, AreNow, AreOwn, IsApart, LiesIn};
-ghost use Rattle.opfs_data.specs.Rows.{row_of, row_at, pages_at, page_at, kept_count, IsOther, OthersStay, AreFree};
+ghost use Rattle.opfs_data.specs.Rows.{row_of, row_at, pages_at, page_at, kept_in, kept_count, IsOther, OthersStay, AreFree};
 
 use crate::{DataRefusal, PageWrites, PagedRow};
 use opfs_base::Extent;
@@ -42,7 +42,7 @@ impl Swap {
         }
     }
 
-    /// The number of pages with kept bytes, or all ones where there are more. Takes no memory.
+    /// The number of pages with kept bytes, or 2^64 - 1 where there are more. Takes no memory.
     pub fn kept(&self) -> u64
         ensures { result ≡ min (kept_count self.now) (2 ^ 64 - 1) }
     {
@@ -79,6 +79,7 @@ impl Swap {
         ensures pages { OnOk result (pages_at agent row self.new ≡ pages_in extents.now) }
         ensures none { OnOk result ((row_at agent row self.new).saved ≡ None) }
         ensures others { OthersStay agent row self.old self.new }
+        ensures kept { kept_count self.new ≡ kept_count self.old }
         ensures err { OnErr result (self.new ≡ self.old) }
     {
         let pages = PagedRow::make(alloc, extents)?;
@@ -132,6 +133,7 @@ impl Swap {
         ensures there { is_some (row_of agent row self.new) ≡ true }
         ensures same { pages_at agent row self.new ≡ pages_at agent row self.old }
         ensures others { OthersStay agent row self.old self.new }
+        ensures kept { kept_count self.new ≡ kept_count self.old }
         ensures room { OnOk result (pages ≤ (row_at agent row self.new).room) }
         ensures saved { OnOk result (MatchOption (row_at agent row self.new).saved ⊥ (λ saved. AreSaved saved (pages_at agent row self.new) writes.now)) }
         ensures now { OnOk result (D.tells → MatchOption (row_at agent row self.new).saved ⊥ (λ saved. AreNow (D.content journal.new.disk) base (pages_at agent row self.new) saved)) }
@@ -170,6 +172,8 @@ impl Swap {
         ensures there { is_some (row_of agent row self.new) ≡ true }
         ensures none { (row_at agent row self.new).saved ≡ None }
         ensures others { OthersStay agent row self.old self.new }
+        ensures count { kept_count self.new + kept_in (row_at agent row self.old) ≡ kept_count self.old + kept_in (row_at agent row self.new) }
+        ensures fewer { OnOk result (kept_count self.new ≤ kept_count self.old) }
         ensures pages { OnOk result (pages_at agent row self.new ≡ with_writes writes.now (resized pages (pages_at agent row self.old))) }
         ensures bytes { OnOk result (D.tells → (k : ℕ) (d : PageWrite) → k < length writes.now
             → block_bytes (D.content journal.new.disk) base (slice_index_or writes.now k d).block ≡ (slice_index_or writes.now k d).bytes) }
@@ -200,6 +204,7 @@ impl Swap {
     pub fn drop_row(&mut self, agent: u32, row: u32)
         ensures gone { row_of agent row self.new ≡ None }
         ensures others { OthersStay agent row self.old self.new }
+        ensures kept { kept_count self.new + kept_in (row_at agent row self.old) ≡ kept_count self.old }
     {
         let _ = self.rows.remove(&(agent, row));
     }

@@ -2,6 +2,7 @@ use Rattle.std.proofs.Common.{subst, ◌≤◌, ◌<◌, List, length, get_or, a
 use Rattle.std.specs.Option.{MatchOption}
 use Rattle.opfs_data.specs.declared.page.SavedPage.{SavedPage}
 use Rattle.opfs_data.specs.Pages.{RowSeen, page_of, blank, AreSaved, AreNow, AreOwn}
+use Rattle.opfs_data.proofs.KeptLemmas.{count_changed, count_less}
 use Rattle.opfs_data.proofs.SwapLemmas.{row_there, row_written, others_written, others_read, all_read, on_err}
 use Rattle.opfs_data.proofs.swap.Swap.write.Goals as goal
 
@@ -48,3 +49,12 @@ returns-clause-rest g c = λ told j below there none.
     ap (λ (r : RowSeen). page_of (g.D.Disk.content c.write.new.journal.disk) c.args.base (get_or r.pages j blank)) (row_written c.args.agent c.args.row _ _ _ c.write.new.self c.in-Some.ensures.value (λ some. ((c.get_mut.follows.holds c.write.new.self).3 some).1))
     ∙ c.in_ok-write.ensures.rest told j below (subst (λ (r : RowSeen). j < length r.pages) (row_there c.args.agent c.args.row _ _ _ c.in-Some.ensures.value c.self.view_is) there) none
     ∙ ap (λ (r : RowSeen). page_of (g.D.Disk.content c.args.journal.now.disk) c.args.base (get_or r.pages j blank)) (sym (row_there c.args.agent c.args.row _ _ _ c.in-Some.ensures.value c.self.view_is))
+
+pub returns-in_err-write-clause-count : goal.returns-in_err-write-clause-count
+returns-in_err-write-clause-count g c = count_changed c.args.agent c.args.row _ _ _ _ c.write.new.self c.in-Some.ensures.value c.self.view_is (c.get_mut.follows.holds c.write.new.self).0 (row_there c.args.agent c.args.row _ _ _ c.in-Some.ensures.value c.self.view_is) (row_written c.args.agent c.args.row _ _ _ c.write.new.self c.in-Some.ensures.value (λ some. ((c.get_mut.follows.holds c.write.new.self).3 some).1))
+
+pub returns-clause-count : goal.returns-clause-count
+returns-clause-count g c = count_changed c.args.agent c.args.row _ _ _ _ c.write.new.self c.in-Some.ensures.value c.self.view_is (c.get_mut.follows.holds c.write.new.self).0 (row_there c.args.agent c.args.row _ _ _ c.in-Some.ensures.value c.self.view_is) (row_written c.args.agent c.args.row _ _ _ c.write.new.self c.in-Some.ensures.value (λ some. ((c.get_mut.follows.holds c.write.new.self).3 some).1))
+
+pub returns-clause-fewer : goal.returns-clause-fewer
+returns-clause-fewer g c = count_less c.args.agent c.args.row c.args.pages _ _ _ _ c.write.new.self c.args.writes.now c.in-Some.ensures.value c.self.view_is (c.get_mut.follows.holds c.write.new.self).0 c.in_ok-write.ensures.pages
