@@ -1,0 +1,5 @@
+pub mod Applying
+pub mod Built
+pub mod Kept
+pub mod Replaying
+pub mod Sums

@@ -1,0 +1,10 @@
+//! The rows that the records of a journal build.
+#![tactic(auto)]
+
+mod charges;
+mod places;
+mod replay;
+mod stores;
+mod usages;
+
+pub use replay::{Rebuilt, Replay};
