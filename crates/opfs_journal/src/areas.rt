@@ -9,8 +9,8 @@ pub struct Areas {
 }
 
 impl Areas {
-    // The place of the first gate of area 1 or of area 0.
-    pub(crate) fn begin(self, second: bool) -> u64
+    /// The place of the first gate of area 1, or of area 0.
+    pub fn begin(self, second: bool) -> u64
         requires { self.first + 2 * self.bytes < 2 ^ 64 }
         ensures { result ≡ begin_of self second }
     {

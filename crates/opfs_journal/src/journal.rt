@@ -95,6 +95,14 @@ impl<D: Disk> Journal<D> {
         }
     }
 
+    /// The format of the area that rules, 1 or 2.
+    pub fn format(&self) -> u8
+        ensures value { result ≡ self.now.format }
+        ensures known { (result ≡ 1) ⊎ (result ≡ 2) }
+    {
+        if self.generation < 16 { 1 } else { 2 }
+    }
+
     /// Makes room for bodies of so many bytes. Calls no disk.
     pub fn reserve(&mut self, n: u64) -> Result<(), AllocError>
         ensures spare { OnOk result (n ≤ self.new.spare) }

@@ -10,4 +10,5 @@ mod synced;
 
 pub use areas::Areas;
 pub use journal::Journal;
+pub use reader::{Ruling, find_ruling, read_gate};
 pub use refusal::{DiskFault, JournalRefusal, OpenRefusal};

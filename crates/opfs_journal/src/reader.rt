@@ -1,7 +1,7 @@
 // What a disk's areas hold. Of each record only the gate, the length and the generation byte are read, once.
-ghost use Rattle.std.specs.Prelude.{◌≡◌, ◌≢◌, ◌⊎◌, ◌+◌, ◌*◌, ◌^◌, ◌<◌, ◌≤◌, ◌==◌, ◌&&◌, ◌||◌, ℕ, List, true, false, not, nat_lt, None, Err, IfOk, IfErr, OnOk, OnErr, IsErrOf, MatchOption, slice_index};
+ghost use Rattle.std.specs.Prelude.{◌≡◌, ◌≢◌, ◌⊎◌, ◌+◌, ◌*◌, ◌^◌, ◌<◌, ◌≤◌, ◌==◌, ◌&&◌, ◌||◌, ℕ, List, true, false, not, nat_lt, None, Ok, Err, IfOk, IfErr, OnOk, OnErr, IsErrOf, MatchOption, slice_index};
 ghost use Rattle.opfs_outside.specs.Faults.{Rose};
-ghost use Rattle.opfs_journal.specs.Format.{is_open, number_at, begin_of, is_generation, is_bad_head, chosen, chain, read_areas};
+ghost use Rattle.opfs_journal.specs.Format.{is_open, number_at, begin_of, is_generation, is_bad_head, chosen, chosen_in, chain, read_areas};
 ghost use Rattle.opfs_journal.specs.Reading.{Rules};
 ghost use Rattle.opfs_journal.specs.Standing.{Told};
 ghost use Rattle.opfs_journal.specs.Walking.{OnlyRead, IsFirst, Leads, IsBad};
@@ -61,8 +61,8 @@ impl First {
     }
 }
 
-// The length behind the gate, where it is open. So near to the area's end that it does not fit, it is any number.
-fn read_gate<D: Disk>(disk: &mut D, gate: u64, stop: u64) -> Result<Option<u64>, Failed>
+/// The length behind a gate, where it is open. So near to the area's end that it does not fit, it is any number.
+pub fn read_gate<D: Disk>(disk: &mut D, gate: u64, stop: u64) -> Result<Option<u64>, Failed>
     requires inside { gate < stop }
     requires lies { stop ≤ D.size disk.old }
     ensures only { OnlyRead D.tells D.size D.content D.moment D.since D.faults disk.old disk.new }
@@ -186,4 +186,53 @@ pub fn find<D: Disk>(disk: &mut D, areas: Areas) -> Result<Found, OpenRefusal>
     } else {
         read_ruling(disk, areas, false, first, second)
     }
+}
+
+/// An area that rules by the first gates of both: which one, and its generation byte.
+#[derive(Clone, Copy, Debug, PartialEq, Eq)]
+pub struct Ruling {
+    /// Area 1 rules.
+    pub second: bool,
+    /// The generation byte of its first record.
+    pub generation: u8,
+}
+
+// The first gates of both areas.
+fn read_heads<D: Disk>(disk: &mut D, areas: Areas) -> Result<(First, First), Failed>
+    requires lies { areas.first + 2 * areas.bytes ≤ D.size disk.old }
+    requires fits { areas.first + 2 * areas.bytes < 2 ^ 64 }
+    requires least { 7 ≤ areas.bytes }
+    ensures only { OnlyRead D.tells D.size D.content D.moment D.since D.faults disk.old disk.new }
+    ensures first { IfOk result (λ heads. D.tells → IsFirst (D.content disk.old) areas.first heads.0.open heads.0.len heads.0.generation) }
+    ensures second { IfOk result (λ heads. D.tells → IsFirst (D.content disk.old) (areas.first + areas.bytes) heads.1.open heads.1.len heads.1.generation) }
+    ensures small { IfOk result (λ heads. (heads.0.len < 2 ^ 32) × (heads.1.len < 2 ^ 32)) }
+    ensures cause { OnErr result (Rose (D.faults disk.old) (D.faults disk.new)) }
+{
+    let first = First::read(disk, areas.first)?;
+    let second = First::read(disk, areas.first + areas.bytes)?;
+    Ok((first, second))
+}
+
+/// Finds the area that rules, by the first gates alone. The records behind them may be bad.
+pub fn find_ruling<D: Disk>(disk: &mut D, areas: Areas) -> Result<Ruling, OpenRefusal>
+    requires lies { areas.first + 2 * areas.bytes ≤ D.size disk.old }
+    requires fits { areas.first + 2 * areas.bytes < 2 ^ 64 }
+    requires least { 7 ≤ areas.bytes }
+    ensures only { OnlyRead D.tells D.size D.content D.moment D.since D.faults disk.old disk.new }
+    ensures rules { IfOk result (λ ruling. D.tells → chosen_in areas (D.content disk.old) ≡ Ok ruling.second) }
+    ensures generation { IfOk result (λ ruling. D.tells → ruling.generation ≡ slice_index (D.content disk.old) (begin_of areas ruling.second + 5)) }
+    ensures refused { IfErr result (λ refusal. (refusal ≡ OpenRefusal.DiskFault) ⊎ (D.tells → chosen_in areas (D.content disk.old) ≡ Err refusal)) }
+    ensures cause { IsErrOf result OpenRefusal.DiskFault → Rose (D.faults disk.old) (D.faults disk.new) }
+{
+    let (first, second) = read_heads(disk, areas)?;
+    if choose(areas, first, second)? {
+        return Ok(Ruling {
+            second: true,
+            generation: second.generation,
+        });
+    }
+    Ok(Ruling {
+        second: false,
+        generation: first.generation,
+    })
 }

@@ -1,0 +1,7 @@
+pub mod Chained
+pub mod Formatted
+pub mod Heads
+pub mod Images
+pub mod Layering
+pub mod Named
+pub mod Yielding

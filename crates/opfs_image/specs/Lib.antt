@@ -1,0 +1,10 @@
+pub mod Agreeing
+pub mod Answers
+pub mod Empty
+pub mod Filling
+pub mod Layers
+pub mod Props
+pub mod Reading
+pub mod Refusals
+pub mod Superblock
+pub mod Walking

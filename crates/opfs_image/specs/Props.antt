@@ -1,0 +1,12 @@
+-- That the facts of a recovered image are propositions.
+use Rattle.std.specs.Prelude.{ℕ}
+use Rattle.std.proofs.Props.{props}
+use Rattle.opfs_replay.specs.Built.{IsSoundRow}
+use Rattle.opfs_tree.specs.declared.row.Row.{Row}
+use Rattle.opfs_tree.specs.declared.row.Row.TheVariants as row
+
+pub sound_row-prop : (size : ℕ) (r : Row) → Prim.IsProp (IsSoundRow size r)
+sound_row-prop size row.Dir = Prim.hlevel
+sound_row-prop size (row.File f) = Prim.hlevel props
+
+pub ruleset image_props = (props, sound_row-prop)

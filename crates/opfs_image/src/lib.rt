@@ -1,0 +1,20 @@
+//! Images of the store: what they stand for, and how they are read and made.
+#![tactic(auto)]
+
+mod formatting;
+mod geometry;
+mod laws;
+mod reading;
+mod records;
+mod recovered;
+mod recovering;
+mod refusal;
+mod superblock;
+
+pub use formatting::format;
+pub use geometry::Geometry;
+pub use laws::{an_image_is_what_its_records_build, only_named_blocks_matter};
+pub use reading::{ReadImage, read_image};
+pub use recovered::Recovered;
+pub use recovering::recover;
+pub use refusal::{ImageRefusal, ReadRefusal};
