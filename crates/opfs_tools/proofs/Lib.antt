@@ -1,0 +1,5 @@
+pub mod Digesting
+pub mod Filled
+pub mod Keeping
+pub mod Merging
+pub mod Walking

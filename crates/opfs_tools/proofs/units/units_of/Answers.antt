@@ -1,0 +1,8 @@
+use Rattle.opfs_tools.specs.Units.{units_of}
+use Rattle.opfs_tools.proofs.Merging.{all_added}
+use Rattle.opfs_tools.proofs.units.units_of.Goals as goal
+
+pub returns : goal.returns
+returns c =
+    all_added c.args.rows.now c.loop-at.at c.loop-at.past c.args.persistent.now c.loop-at.units.items c.add_alone.new.units.items (units_of c.args.rows.now c.args.persistent.now)
+    c.loop-at-test.false c.in_ok-add_alone.ensures c.loop-at.invariant.units

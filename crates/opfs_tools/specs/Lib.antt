@@ -1,0 +1,5 @@
+pub mod Checking
+pub mod Listing
+pub mod Reading
+pub mod Sights
+pub mod Units
