@@ -9,7 +9,7 @@ check_text-requires-clause-lies g c κs within =
     let from = c.args.from.now in
     let fits : image_size from.geometry ≤ g.D.Disk.size from.journal.disk = from.journal_of.length in
     let base : c.data_base-base.result ≡ data_base from.geometry = c.data_base-base.ensures.same in
-    rows_lie c.data_base-base.result from.geometry.blocks (g.D.Disk.size from.journal.disk) from.tree (omega (arith, fits, base)) from.agrees.sound.files
+    rows_lie c.data_base-base.result from.geometry.blocks (g.D.Disk.size from.journal.disk) from.tree (omega (arith, fits, base)) from.agrees.parts.sound.files
 
 pub invariant_of-from : goal.invariant_of-from
 invariant_of-from g c =
@@ -26,4 +26,4 @@ returns-clause-checked g c = λ told.
     let from = c.args.from.now in
     c.in_ok-extend_from_slice.ensures.items
     ∙ ap (λ (x : List ℕ). c.args.into.now.items ++ x) (c.as_slice.ensures.value ∙ (c.in_ok-text.ensures.text told
-    ∙ whole_text from.geometry.blocks (g.D.Disk.content from.journal.disk) c.data_base-base.result (data_base from.geometry) from.tree from.shed c.data_base-base.ensures.same from.agrees.sound.files))
+    ∙ whole_text from.geometry.blocks (g.D.Disk.content from.journal.disk) c.data_base-base.result (data_base from.geometry) from.tree from.shed c.data_base-base.ensures.same from.agrees.parts.sound.files))

@@ -10,6 +10,6 @@ pub returns-clause-listed : goal.returns-clause-listed
 returns-clause-listed g c =
     let from = c.args.from.now in
     let content : List ℕ = g.D.Disk.content from.journal.disk in
-    let sound = from.agrees.sound in
+    let sound = from.agrees.parts.sound in
     appended g.D.Disk.tells c.extend_from_slice.result c.args.into.now.items c.extend_from_slice.new.self.items c.as_slice.result.now _ c.extend_from_slice.ensures.items
     (λ told. c.as_slice.ensures.value ∙ (c.in_ok-text.ensures ∙ ap (λ (rows : Sights). list_of rows (persistent_in from.shed.buckets)) (sym (same_sights from.geometry.blocks content (data_base from.geometry) from.tree sound.files))))
