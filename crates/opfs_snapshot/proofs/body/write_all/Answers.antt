@@ -1,0 +1,33 @@
+use Rattle.std.proofs.Common.{◌≡◌, ◌≤◌, ◌++◌, [], List, ℕ, length, refl, sym, ap, subst, ◌∙◌}
+use Rattle.opfs_base.specs.Texts.{Text}
+use Rattle.opfs_replay.specs.Built.{nothing_built}
+use Rattle.opfs_replay.specs.Sums.{persistent_in, charge_of}
+use Rattle.opfs_codec.specs.declared.change.Format.TheVariants.{New}
+use Rattle.opfs_tree.specs.Rows.{Rows}
+use Rattle.opfs_snapshot.specs.Written.{rows_bytes, units_bytes}
+use Rattle.opfs_snapshot.proofs.Building.{one_record, builds_both, builds_same}
+use Rattle.opfs_snapshot.proofs.Charging.{written_below}
+use Rattle.opfs_snapshot.proofs.Making.{rows_built, builds_rows}
+use Rattle.opfs_snapshot.proofs.Persisting.{builds_units}
+use Rattle.opfs_snapshot.proofs.body.write_all.Goals as goal
+
+-- what is in the buffer after both parts were written into it
+both_parts : (none now whole : List ℕ) (rows : Rows) (units : List Text) → none ≡ [] → now ≡ none ++ rows_bytes rows → whole ≡ now ++ units_bytes units → rows_bytes rows ++ units_bytes units ≡ whole
+both_parts none now whole rows units empty first second = sym (second ∙ ap (λ (xs : List ℕ). xs ++ units_bytes units) (first ∙ ap (λ (xs : List ℕ). xs ++ rows_bytes rows) empty))
+
+pub returns-clause-builds : goal.returns-clause-builds
+returns-clause-builds c size sound =
+    let rows = c.args.tree.now in
+    let units = persistent_in c.args.shed.now.buckets in
+    let bytes = both_parts _ _ c.write_units.new.into.items rows units c.requires c.in_ok-write_rows.ensures.written c.in_ok-write_units.ensures.written in
+    let first = builds_rows size [] rows c.in_directories.ensures.order c.in_directories.ensures.closed sound.once sound.files c.in_ok-write_rows.ensures.writable in
+    let second = builds_units size rows [] units c.in_ok-write_units.ensures.ordered c.in_ok-write_units.ensures.writable in
+    one_record size c.write_units.new.into.items (record { rows = rows; persistent = units })
+    (builds_same size _ _ nothing_built _ _ bytes refl (builds_both size (rows_bytes rows) (units_bytes units) nothing_built (rows_built rows) (record { rows = rows; persistent = units }) first second))
+
+pub returns-clause-fits : goal.returns-clause-fits
+returns-clause-fits c size sound =
+    let rows = c.args.tree.now in
+    let units = persistent_in c.args.shed.now.buckets in
+    let bytes = both_parts _ _ c.write_units.new.into.items rows units c.requires c.in_ok-write_rows.ensures.written c.in_ok-write_units.ensures.written in
+    subst (λ (xs : List ℕ). length xs ≤ charge_of New (record { rows = rows; persistent = units })) bytes (written_below size rows units sound.files)

@@ -1,0 +1,16 @@
+use Rattle.std.proofs.Common.{length, refl, ap, subst, arith}
+use Rattle.opfs_base.specs.Texts.{Text}
+use Rattle.opfs_codec.specs.Spelling.{IsKey}
+use Rattle.opfs_codec.specs.declared.change.Format.TheVariants.{New}
+use Rattle.opfs_snapshot.proofs.Keys.{plain_key, named_key}
+use Rattle.opfs_snapshot.proofs.checks.is_key.Goals as goal
+
+pub returns-then-end-unit : goal.returns-then-end-unit
+returns-then-end-unit c h =
+    subst (λ (t : Text). IsKey New t) c.as_bytes-unit.ensures
+    (plain_key c.as_bytes-unit.result.now (omega (arith, c.if-end-unit.true, ap length c.origin_of-end.ensures)) (c.is_origin.ensures h))
+
+pub returns-then-is_origin : goal.returns-then-is_origin
+returns-then-is_origin c h =
+    subst (λ (t : Text). IsKey New t) c.as_bytes-unit.ensures
+    (named_key c.as_bytes-unit.result.now c.origin_of-end.result.now _ _ c.origin_of-end.ensures c.if-end-unit.false refl refl (c.is_origin-2.ensures c.if-is_origin.true) (c.is_named_bucket.ensures h))

@@ -1,0 +1,7 @@
+use Rattle.std.proofs.Common.{sym, ap, ◌∙◌}
+use Rattle.std.proofs.lemmas.Str.{is_utf8-from_IsUtf8}
+use Rattle.opfs_codec.specs.Spelling.{is_key_text}
+use Rattle.opfs_snapshot.proofs.checks.is_origin.Goals as goal
+
+pub returns-in-Ok : goal.returns-in-Ok
+returns-in-Ok c h = (is_utf8-from_IsUtf8 c.args.bytes.now c.in-Ok.ensures.cases.1, ap is_key_text (sym c.in-Ok.ensures.cases.0) ∙ sym c.is_key_text.ensures ∙ h)

@@ -1,0 +1,45 @@
+//! The one record of a checkpoint.
+
+ghost use Rattle.std.specs.Prelude.{◌≡◌, ◌≤◌, ℕ, [], ◌∷◌, Some, length, OnOk, OnErr};
+ghost use Rattle.opfs_codec.specs.declared.change.Format.TheVariants.{New};
+ghost use Rattle.opfs_replay.specs.Applying.{rows_of};
+ghost use Rattle.opfs_replay.specs.Built.{IsSound};
+ghost use Rattle.opfs_replay.specs.Sums.{charge_of, persistent_in};
+
+use crate::rows::{in_directories, write_rows};
+use crate::units::write_units;
+use opfs_shed::Shed;
+use opfs_tree::Tree;
+use std::alloc::AllocError;
+
+/// Writes the body of a checkpoint's one record in place of what the buffer holds: a list of changes in format 2 that
+/// builds, from nothing, the rows of a tree and the persistent units of a shed. It is no longer than their charge in
+/// bytes. Takes memory only as the buffer grows; where there is none, the buffer is left empty.
+///
+/// A row or a unit that no list of changes can spell is answered as want of memory. An image has none.
+pub fn snapshot(tree: &Tree, shed: &Shed, into: &mut Vec<u8>) -> Result<(), AllocError>
+    ensures builds { OnOk result ((size : ℕ) → IsSound size tree.now → rows_of New size (into.new.items ∷ []) ≡ Some (record { rows = tree.now; persistent = persistent_in shed.now.buckets })) }
+    ensures fits { OnOk result ((size : ℕ) → IsSound size tree.now → length into.new.items ≤ charge_of New (record { rows = tree.now; persistent = persistent_in shed.now.buckets })) }
+    ensures err { OnErr result (into.new.items ≡ []) }
+{
+    into.clear();
+    match write_all(tree, shed, into) {
+        Ok(()) => Ok(()),
+        Err(e) => {
+            into.clear();
+            Err(e)
+        }
+    }
+}
+
+// Writes the body into an empty buffer.
+fn write_all(tree: &Tree, shed: &Shed, into: &mut Vec<u8>) -> Result<(), AllocError>
+    requires { into.old.items ≡ [] }
+    ensures builds { OnOk result ((size : ℕ) → IsSound size tree.now → rows_of New size (into.new.items ∷ []) ≡ Some (record { rows = tree.now; persistent = persistent_in shed.now.buckets })) }
+    ensures fits { OnOk result ((size : ℕ) → IsSound size tree.now → length into.new.items ≤ charge_of New (record { rows = tree.now; persistent = persistent_in shed.now.buckets })) }
+{
+    in_directories(tree);
+    write_rows(tree, into)?;
+    write_units(shed, into)?;
+    Ok(())
+}

@@ -1,0 +1,102 @@
+//! The rows of a tree are written.
+
+ghost use Rattle.std.specs.Prelude.{◌≡◌, ◌++◌, OnOk, [], length};
+ghost use Rattle.std.specs.List.{AllByRecursion};
+ghost use Rattle.opfs_snapshot.specs.Written.{dir_bytes, content_bytes, file_bytes, row_bytes, rows_bytes, IsWritablePlace, IsWritableFile, IsWritableRow};
+ghost use Rattle.opfs_tree.specs.Rows.{IsInOrder, IsClosed};
+
+use crate::checks::is_writable;
+use opfs_base::{Key, Path};
+use opfs_codec::{ChangeRef, write};
+use opfs_tree::{FileRow, Row, Tree, Walk};
+use std::alloc::AllocError;
+
+/// Appends the changes that build the rows. A row that has no spelling is answered as want of memory; an image has none.
+pub(crate) fn write_rows(tree: &Tree, into: &mut Vec<u8>) -> Result<(), AllocError>
+    ensures written { OnOk result (into.new.items ≡ into.old.items ++ rows_bytes tree.now) }
+    ensures writable { OnOk result (AllByRecursion (λ e. IsWritableRow e.0 e.1) tree.now) }
+{
+    let mut walk = Walk::make();
+    while let Some(row) = tree.step(&mut walk) {
+        write_row(walk.key(), walk.path(), row, into)?;
+    }
+    Ok(())
+}
+
+/// What a tree says of its rows: they stand in order, and each but the roots in a directory.
+pub(crate) fn in_directories(tree: &Tree)
+    ensures order { IsInOrder tree.now }
+    ensures closed { IsClosed tree.now }
+{
+    let mut first = Walk::make();
+    if let Some(_) = tree.step(&mut first) {
+        tree.kind(first.key(), first.path());
+    }
+}
+
+// Appends the changes that make a row.
+fn write_row(unit: &Key, path: &Path, row: &Row, into: &mut Vec<u8>) -> Result<(), AllocError>
+    ensures written { OnOk result (into.new.items ≡ into.old.items ++ row_bytes (unit.now, path.now) row.now) }
+    ensures writable { OnOk result (IsWritableRow (unit.now, path.now) row.now) }
+{
+    if !is_writable(unit, path, row) {
+        return Err(AllocError);
+    }
+    match row {
+        Row::Dir => write_dir(unit, path, into)?,
+        Row::File(file) => write_file(unit, path, file, into)?,
+    }
+    Ok(())
+}
+
+// Appends the change that makes a directory.
+#[tactic(auto, unfolding(opfs_codec::specs::Fields::plain, opfs_codec::specs::Fields::Fits))]
+fn write_dir(unit: &Key, path: &Path, into: &mut Vec<u8>) -> Result<(), AllocError>
+    requires { IsWritablePlace (unit.now, path.now) }
+    ensures { OnOk result (into.new.items ≡ into.old.items ++ dir_bytes unit.now path.now) }
+{
+    if path.names().is_empty() {
+        write(&ChangeRef::MakeRoot(unit), into)?;
+    } else {
+        write(&ChangeRef::MakeDir(unit, path), into)?;
+    }
+    Ok(())
+}
+
+// Appends the changes that make a file and its content.
+#[tactic(auto, unfolding(opfs_codec::specs::Fields::plain, opfs_codec::specs::Fields::Fits))]
+fn write_file(unit: &Key, path: &Path, file: &FileRow, into: &mut Vec<u8>) -> Result<(), AllocError>
+    requires place { IsWritablePlace (unit.now, path.now) }
+    requires file { IsWritableFile path.now file.now }
+    ensures { OnOk result (into.new.items ≡ into.old.items ++ file_bytes unit.now path.now file.now) }
+{
+    write(&ChangeRef::MakeFile(unit, path, file.stamp), into)?;
+    write_content(unit, path, file, into)?;
+    Ok(())
+}
+
+// Appends the change that gives a file its content, where it has bytes.
+#[tactic(auto, unfolding(opfs_codec::specs::Fields::plain, opfs_codec::specs::Fields::Fits))]
+fn write_content(
+    unit: &Key,
+    path: &Path,
+    file: &FileRow,
+    into: &mut Vec<u8>,
+) -> Result<(), AllocError>
+    requires place { IsWritablePlace (unit.now, path.now) }
+    requires file { IsWritableFile path.now file.now }
+    ensures { OnOk result (into.new.items ≡ into.old.items ++ content_bytes unit.now path.now file.now) }
+{
+    if file.length == 0 {
+        return Ok(());
+    }
+    let FileRow {
+        length,
+        stamp,
+        extents,
+        ..
+    } = file;
+    let content = ChangeRef::Content(unit, path, *stamp, *length, extents);
+    write(&content, into)?;
+    Ok(())
+}
