@@ -1,6 +1,6 @@
 -- What is seen of the rows of a tree, and of the map that they stand for.
-use Rattle.std.proofs.Common.{◌≡◌, ℕ, ◌+◌, ◌*◌, ◌≤◌, List, [], ◌∷◌, ◌++◌, length, length-append, refl, sym, ap, ◌∙◌, arith}
-use Rattle.std.specs.Prelude.{map, sum_by, Result, Ok, Err, OnOk, if◌then◌else◌}
+use Rattle.std.proofs.Common.{◌≡◌, ℕ, ◌+◌, ◌*◌, ◌^◌, ◌<◌, ◌≤◌, Bool, true, false, List, [], ◌∷◌, ◌++◌, length, length-append, refl, sym, ap, ◌∙◌, arith}
+use Rattle.std.specs.Prelude.{◌&&◌, nat_le, map, sum_by, Result, Ok, Err, OnOk, if◌then◌else◌}
 use Rattle.std.specs.Result.{is_ok}
 use Rattle.std.specs.List.{AllByRecursion, flat_map}
 use Rattle.std.proofs.lemmas.List.{length-take-le}
@@ -11,6 +11,8 @@ use Rattle.opfs_base.specs.declared.extents.Extent.{Extent}
 use Rattle.opfs_outside.specs.Windows.{length-window}
 use Rattle.opfs_data.specs.Places.{run_bytes, run_place, run_room, room_of, bytes_of, AllLie}
 use Rattle.opfs_image.specs.Filling.{filled, filled_row}
+use Rattle.opfs_image.specs.Superblock.{area_bytes, is_between, is_in_range}
+use Rattle.opfs_image.specs.declared.geometry.Geometry.{Geometry}
 use Rattle.opfs_replay.specs.Built.{IsSoundRow, IsSoundFile, block_count}
 use Rattle.opfs_codec.specs.Charges.{unit_bytes}
 use Rattle.opfs_codec.specs.declared.change.Format.TheVariants.{New}
@@ -24,8 +26,9 @@ use Rattle.opfs_tree.specs.declared.row.Row.{Row}
 use Rattle.opfs_tree.specs.declared.row.Row.TheVariants as row
 use Rattle.opfs_tools.specs.Checking.{row_charge, whole_charge, ok_line, counts_line, check_text, count_of, is_directory, is_file}
 use Rattle.opfs_tools.specs.Reading.{Lies, RowsLie, stored_lines}
-use Rattle.opfs_tools.specs.Sights.{Sights, sights_of, sight_of, sights_in, sight_in, used_blocks}
+use Rattle.opfs_tools.specs.Sights.{Sights, sights_of, sight_of, sights_in, sight_in, used_blocks, sight_blocks}
 use Rattle.opfs_tools.specs.Units.{UnitSeen, units_of}
+use Rattle.opfs_tools.specs.declared.sights.Sight.{Sight}
 use Rattle.opfs_tools.specs.declared.sights.Sight.TheVariants as sight
 
 pub room_is : (es : List Extent) → room_of es ≡ 4096 * block_count es
@@ -113,3 +116,37 @@ unfolding stored_lines
 whole_text size c base' base rows shed same sound =
     ap (λ (n : ℕ). stored_lines n c rows ++ counts_line (sights_in rows) (persistent_in shed.buckets)) same
     ∙ ap (λ (xs : Sights). stored_lines base c rows ++ counts_line xs (persistent_in shed.buckets)) (sym (same_sights size c base rows sound))
+
+-- the blocks that are used are fewer than the charge
+blocks_le : (place : Place) (r : Row) → sight_blocks (sight_in r) ≤ row_charge (place, sight_in r)
+blocks_le (unit, []) row.Dir = omega arith
+blocks_le (unit, name ∷ names) row.Dir = omega arith
+blocks_le (unit, []) (row.File f) = omega arith
+blocks_le (unit, name ∷ names) (row.File f) = omega arith
+
+used_le : (rows : Rows) → used_blocks (sights_in rows) ≤ sum_by row_charge (sights_in rows)
+used_le [] = omega arith
+used_le (e ∷ es) =
+    omega (arith, used_le es, blocks_le e.0 e.1, sum_by-cons (λ (x : Place × Sight). sight_blocks x.1) (e.0, sight_in e.1) (sights_in es), sum_by-cons row_charge (e.0, sight_in e.1) (sights_in es))
+
+pub used_fits : (rows : Rows) (shed : Storage) (charge : ℕ) → charge ≡ charge_of New (built_in rows shed) → charge < 2 ^ 64 → used_blocks (sights_in rows) < 2 ^ 64
+unfolding whole_charge
+used_fits rows shed charge is fits = omega (arith, used_le rows, is ∙ same_charge rows shed)
+
+-- and the charge that fits an area is small
+and_first : (a b : Bool) → (a && b) ≡ true → a ≡ true
+and_first true b h = refl
+and_first false b h = h
+
+and_second : (a b : Bool) → (a && b) ≡ true → b ≡ true
+and_second true b h = h
+and_second false b h = cc
+
+areas_small : (g : Geometry) → is_in_range g ≡ true → g.areas ≤ 4096
+areas_small g range =
+    let areas : is_between 1 4096 g.areas ≡ true = and_first _ _ (and_first _ _ range) in
+    let most : nat_le g.areas 4096 ≡ true = and_second (nat_le 1 g.areas) _ areas in
+    search (arith, most)
+
+pub charge_small : (g : Geometry) (charge : ℕ) → is_in_range g ≡ true → charge + 7 ≤ area_bytes g → charge < 2 ^ 64
+charge_small g charge range fits = omega (arith, areas_small g range)

@@ -1,5 +1,5 @@
 -- Rows unit by unit.
-use Rattle.std.proofs.Common.{◌≡◌, ℕ, suc, ◌+◌, ◌-◌, ◌<◌, ◌≤◌, Bool, true, false, cond, List, [], ◌∷◌, ◌++◌, take, drop, refl, sym, ap, ◌∙◌, append_assoc, drop-drop, length-drop, subst, get_or, length, arith}
+use Rattle.std.proofs.Common.{◌≡◌, ℕ, suc, ◌+◌, ◌-◌, ◌^◌, ◌<◌, ◌≤◌, Bool, true, false, cond, List, [], ◌∷◌, ◌++◌, take, drop, refl, sym, ap, ◌∙◌, append_assoc, drop-drop, length-drop, subst, get_or, length, arith}
 use Rattle.std.specs.Prelude.{map}
 use Rattle.std.specs.List.{prefix_len}
 use Rattle.std.specs.Ordering.{is_eq}
@@ -7,9 +7,10 @@ use Rattle.std.specs.Cmp.{tied_itself}
 use Rattle.std.specs.Cmp.Lexicographic.{nat_list_cmp_total, texts_ties}
 use Rattle.std.specs.Cmp.Lexicographic as lists
 use Rattle.std.proofs.lemmas.List.{drop_all, take_all}
+use Rattle.std.proofs.lemmas.List.Sums.{sum_by-take-le, sum_by-take-drop}
 use Rattle.opfs_base.specs.Texts.{Text, same_text}
 use Rattle.opfs_base.specs.Places.{Place}
-use Rattle.opfs_tools.specs.Sights.{Sights}
+use Rattle.opfs_tools.specs.Sights.{Sights, sight_blocks, used_blocks}
 use Rattle.opfs_tools.specs.Units.{UnitSeen, with_row, by_unit, merged, units_of, alone, unit_with, count_before, from_unit, is_first, count_first}
 use Rattle.opfs_tools.specs.declared.sights.Sight.{Sight}
 
@@ -106,3 +107,8 @@ pub all_added : (rows : Sights) (at past : ℕ) (units : List Text) (done next w
 all_added rows at past units done next whole end next_is so_far =
     let all : take (length units - past) (drop past units) ≡ drop past units = take_all (length units - past) (drop past units) (omega (arith, length-drop past units)) in
     next_is ∙ (ap (λ xs. done ++ map alone xs) all ∙ (ap (λ xs. done ++ xs) (sym (no_units (drop past units))) ∙ (ap (λ xs. done ++ units_of xs (drop past units)) (sym (drop_all at rows end)) ∙ so_far)))
+
+-- some of the rows use no more blocks than all
+pub used_within : (rows : Sights) (at n : ℕ) → used_blocks rows < 2 ^ 64 → used_blocks (take n (drop at rows)) < 2 ^ 64
+used_within rows at n fits =
+    omega (arith, sum_by-take-le (λ (e : Place × Sight). sight_blocks e.1) (drop at rows) n, sum_by-take-drop (λ (e : Place × Sight). sight_blocks e.1) rows at)

@@ -1,5 +1,5 @@
 // The counts of an image.
-ghost use Rattle.std.specs.Prelude.{◌≡◌, length, IfOk, string_bytes};
+ghost use Rattle.std.specs.Prelude.{◌≡◌, ◌^◌, ◌<◌, length, IfOk, string_bytes};
 ghost use Rattle.opfs_codec.specs.declared.change.Format.TheVariants.{New};
 ghost use Rattle.opfs_image.specs.Agreeing.{built_in};
 ghost use Rattle.opfs_replay.specs.Sums.{charge_of, persistent_in};
@@ -45,11 +45,12 @@ fn count_files(rows: &[Entry]) -> usize
 
 // The line of units, of rows, and of a charge.
 fn ok_line(alloc: Global, units: &[Unit], rows: &[Entry], charge: u64) -> Result<String, AllocError>
+    requires { used_blocks rows.now < 2 ^ 64 }
     ensures { IfOk result (λ text. string_bytes text ≡ ok_line (length units.now) (count_of is_directory rows.now) (count_of is_file rows.now) (used_blocks rows.now) charge) }
 {
     let directories = count_directories(rows);
     let files = count_files(rows);
-    let used = used_blocks(rows)?;
+    let used = used_blocks(rows);
     format!(in alloc;
         "ok {} {directories} {files} {used} {charge}\n",
         units.len()

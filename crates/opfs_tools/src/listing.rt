@@ -1,12 +1,12 @@
 // What an image has.
-ghost use Rattle.std.specs.Prelude.{◌≡◌, ◌++◌, IfOk, OnOk, OnErr};
+ghost use Rattle.std.specs.Prelude.{◌≡◌, ◌^◌, ◌<◌, ◌++◌, IfOk, OnOk, OnErr};
 ghost use Rattle.std.specs.List.{flat_map};
 ghost use Rattle.opfs_image.specs.Agreeing.{built_in};
 ghost use Rattle.opfs_image.specs.Filling.{filled};
 ghost use Rattle.opfs_image.specs.Superblock.{data_base};
 ghost use Rattle.opfs_replay.specs.Sums.{persistent_in};
 ghost use Rattle.opfs_tools.specs.Listing.{list_of, list_text, row_line, unit_text};
-ghost use Rattle.opfs_tools.specs.Sights.{sights_in};
+ghost use Rattle.opfs_tools.specs.Sights.{sights_in, used_blocks};
 
 use crate::gathering::{persistent_of, rows_of};
 use crate::lines::{row_line, unit_line};
@@ -53,6 +53,7 @@ fn units_text(alloc: Global, units: &[Unit]) -> Result<Vec<u8>, AllocError>
 
 // The text of rows and persistent units.
 fn list_text(alloc: Global, tree: &Tree, shed: &Shed) -> Result<Vec<u8>, AllocError>
+    requires { used_blocks (sights_in tree.now) < 2 ^ 64 }
     ensures { IfOk result (λ text. text.items ≡ list_of (sights_in tree.now) (persistent_in shed.now.buckets)) }
 {
     let rows = rows_of(alloc, tree)?;

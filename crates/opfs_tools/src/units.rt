@@ -1,5 +1,5 @@
 // Rows unit by unit.
-ghost use Rattle.std.specs.Prelude.{◌≡◌, ◌+◌, ◌<◌, ◌≤◌, ◌++◌, map, length, drop, IfOk, OnOk};
+ghost use Rattle.std.specs.Prelude.{◌≡◌, ◌+◌, ◌^◌, ◌<◌, ◌≤◌, ◌++◌, map, length, drop, IfOk, OnOk};
 ghost use Rattle.std.specs.List.{prefix_len};
 ghost use Rattle.opfs_base.specs.Texts.{same_text};
 ghost use Rattle.opfs_tools.specs.Sights.{used_blocks};
@@ -63,16 +63,17 @@ impl<'a> Model for Unit<'a> {
 
 impl<'a> Unit<'a> {
     // A unit with these rows.
-    fn make(key: &'a Key, persistent: bool, rows: &'a [Entry<'a>]) -> Result<Unit<'a>, AllocError>
-        ensures { IfOk result (λ unit. unit ≡ record { key = key.now; persistent = persistent; rows = rows.now }) }
+    fn make(key: &'a Key, persistent: bool, rows: &'a [Entry<'a>]) -> Unit<'a>
+        requires { used_blocks rows.now < 2 ^ 64 }
+        ensures { result ≡ record { key = key.now; persistent = persistent; rows = rows.now } }
     {
-        let blocks = used_blocks(rows)?;
-        Ok(Unit {
+        let blocks = used_blocks(rows);
+        Unit {
             key,
             persistent,
             blocks,
             rows,
-        })
+        }
     }
 
     /// Its key.
@@ -104,25 +105,16 @@ impl<'a> Unit<'a> {
     }
 }
 
-// A sum; an error where it is 2^64 or more.
-fn plus(a: u64, b: u64) -> Result<u64, AllocError>
-    ensures { IfOk result (λ sum. sum ≡ a + b) }
-{
-    match a.checked_add(b) {
-        Some(sum) => Ok(sum),
-        None => Err(AllocError),
-    }
-}
-
 /// The data blocks that rows use.
-pub(crate) fn used_blocks(rows: &[Entry]) -> Result<u64, AllocError>
-    ensures { IfOk result (λ sum. sum ≡ used_blocks rows.now) }
+pub(crate) fn used_blocks(rows: &[Entry]) -> u64
+    requires { used_blocks rows.now < 2 ^ 64 }
+    ensures { result ≡ used_blocks rows.now }
 {
     let mut total = 0;
     for entry in rows {
-        total = plus(total, entry.sight().blocks())?;
+        total += entry.sight().blocks();
     }
-    Ok(total)
+    total
 }
 
 // How many of the rows, from the first one on, are of a unit.
@@ -174,7 +166,7 @@ fn add_alone<'a>(persistent: &[Persistent<'a>], units: &mut Vec<Unit<'a>>) -> Re
     ensures { OnOk result (units.new.items ≡ units.old.items ++ map alone persistent.now) }
 {
     for unit in persistent {
-        units.push(Unit::make(unit.key(), true, &[])?)?;
+        units.push(Unit::make(unit.key(), true, &[]))?;
     }
     Ok(())
 }
@@ -186,7 +178,8 @@ fn add_first<'a>(
     persistent: &[Persistent<'a>],
     units: &mut Vec<Unit<'a>>,
 ) -> Result<(usize, usize), AllocError>
-    requires { 0 < length rows.now }
+    requires some { 0 < length rows.now }
+    requires fits { used_blocks rows.now < 2 ^ 64 }
     ensures units { IfOk result (λ passed. units.new.items ++ units_of (drop passed.0 rows.now) (drop passed.1 persistent.now) ≡ units.old.items ++ units_of rows.now persistent.now) }
     ensures some { IfOk result (λ passed. 0 < passed.0) }
     ensures rows { IfOk result (λ passed. passed.0 ≤ length rows.now) }
@@ -196,7 +189,7 @@ fn add_first<'a>(
     let count = count_within(key, rows);
     let (before, from) = persistent.split_at(count_before(key, persistent));
     add_alone(before, units)?;
-    let unit = Unit::make(key, is_first(key, from), &rows[..count])?;
+    let unit = Unit::make(key, is_first(key, from), &rows[..count]);
     units.push(unit)?;
     Ok((count, before.len() + count_first(key, from)))
 }
@@ -207,6 +200,7 @@ pub(crate) fn units_of<'a>(
     rows: &'a [Entry<'a>],
     persistent: &[Persistent<'a>],
 ) -> Result<Vec<Unit<'a>>, AllocError>
+    requires { used_blocks rows.now < 2 ^ 64 }
     ensures { IfOk result (λ units. units.items ≡ units_of rows.now persistent.now) }
 {
     let mut units = Vec::new(alloc);
