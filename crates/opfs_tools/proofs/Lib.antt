@@ -1,5 +1,6 @@
 pub mod Digesting
 pub mod Filled
 pub mod Keeping
+pub mod Listed
 pub mod Merging
 pub mod Walking

@@ -5,10 +5,12 @@ mod checking;
 mod counts;
 mod digests;
 mod gathering;
+mod laws;
 mod lines;
 mod listing;
 mod sights;
 mod units;
 
 pub use checking::check;
+pub use laws::all_is_listed;
 pub use listing::list;
