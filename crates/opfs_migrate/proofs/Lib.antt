@@ -1,0 +1,4 @@
+pub mod Areas
+pub mod Counted
+pub mod Moves
+pub mod Refused

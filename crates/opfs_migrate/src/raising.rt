@@ -1,0 +1,121 @@
+// The journal of an image is raised into format 2.
+ghost use Rattle.std.specs.Prelude.{◌≡◌, ◌≢◌, ◌⊎◌, ◌+◌, ◌≤◌, ℕ, List, true, false, length, Some, IfOk, IfErr, OnOk, OnErr, IsErrOf};
+ghost use Rattle.opfs_outside.specs.Faults.{Rose};
+ghost use Rattle.opfs_outside.specs.Moments.{Elapses};
+ghost use Rattle.opfs_journal.specs.Format.{records_of};
+ghost use Rattle.opfs_journal.specs.Clauses.{Outside, After, OneOf};
+ghost use Rattle.opfs_journal.specs.Seen.{kept, one_record};
+ghost use Rattle.opfs_journal.specs.Walking.{OnlyRead};
+ghost use Rattle.opfs_machine.specs.Openings.{Map};
+ghost use Rattle.opfs_image.specs.Filling.{Stands, StandsOld};
+ghost use Rattle.opfs_image.specs.Superblock.{areas_of, area_bytes, image_size, is_in_range};
+ghost use Rattle.opfs_migrate.specs.Migrating.{IsPlanned, Moved};
+
+use crate::MigrateRefusal;
+use crate::planning::Plan;
+use opfs_image::{Geometry, ReadRefusal};
+use opfs_journal::{Areas, Journal, JournalRefusal};
+use opfs_outside::Disk;
+use std::alloc::Global;
+
+// Where the areas of an image lie.
+fn areas_of(geometry: Geometry) -> Areas
+    ensures { result ≡ areas_of geometry }
+{
+    Areas {
+        first: 4096,
+        bytes: 4096 * u64::from(geometry.areas),
+    }
+}
+
+// Puts one record of format 2, which has room, in the place of all.
+fn write_over<D: Disk>(journal: &mut Journal<D>, body: &[u8]) -> Result<(), MigrateRefusal>
+    requires format { journal.old.format ≡ 1 }
+    requires settled { journal.old.in_doubt ≡ false }
+    requires spare { length body.now ≤ journal.old.spare }
+    requires fits { length body.now + 7 ≤ journal.old.areas.bytes }
+    ensures length { D.size journal.new.disk ≡ D.size journal.old.disk }
+    ensures time { D.tells → Elapses D.moment D.since journal.old.disk journal.new.disk }
+    ensures moments { D.tells → (c : List ℕ) → D.since journal.new.disk (D.moment journal.old.disk) c
+        → OneOf (records_of journal.old.areas) (D.since journal.old.disk (D.moment journal.old.disk)) (Outside journal.old.areas) (kept journal.old) (one_record 2 body.now) (D.content journal.old.disk) c }
+    ensures durable { OnOk result (D.tells → (c : List ℕ) → D.since journal.new.disk (D.moment journal.new.disk) c
+        → After (records_of journal.old.areas) (one_record 2 body.now) (D.content journal.old.disk) (Outside journal.old.areas) c) }
+    ensures refused { IfErr result (λ e. e ≡ MigrateRefusal.DiskFault) }
+    ensures later { D.faults journal.old.disk ≤ D.faults journal.new.disk }
+    ensures cause { OnErr result (Rose (D.faults journal.old.disk) (D.faults journal.new.disk)) }
+{
+    match journal.raise(body) {
+        Ok(()) => Ok(()),
+        Err(JournalRefusal::NoRoom) => unreachable!(),
+        Err(JournalRefusal::DiskFault) => Err(MigrateRefusal::DiskFault),
+    }
+}
+
+// Puts the record in the place of all, in format 2.
+fn rule<D: Disk>(journal: &mut Journal<D>, plan: &Plan) -> Result<(), MigrateRefusal>
+    requires areas { journal.old.areas ≡ areas_of plan.now.geometry }
+    requires settled { journal.old.in_doubt ≡ false }
+    requires fits { length plan.now.body.items + 7 ≤ area_bytes plan.now.geometry }
+    requires planned { D.tells → IsPlanned plan.now.geometry plan.now.files plan.now.body.items (D.content journal.old.disk) }
+    requires records { D.tells → records_of (areas_of plan.now.geometry) (D.content journal.old.disk) ≡ Some (kept journal.old) }
+    requires one_image { D.tells → (c : List ℕ) → D.since journal.old.disk (D.moment journal.old.disk) c → c ≡ D.content journal.old.disk }
+    ensures moved { Moved D.tells D.size D.content D.moment D.since D.faults journal.old.disk journal.new.disk }
+    ensures durable { OnOk result (D.tells → (m : Map) → StandsOld (D.content journal.old.disk) m → (c : List ℕ) → D.since journal.new.disk (D.moment journal.new.disk) c → Stands c m) }
+    ensures untold { IfErr result (λ e. (e ≡ MigrateRefusal.DiskFault) ⊎ (e ≡ MigrateRefusal.NoMemory) ⊎ (D.tells → ⊥)) }
+    ensures same { IfErr result (λ e. (e ≡ MigrateRefusal.DiskFault) ⊎ (journal.new.disk ≡ journal.old.disk)) }
+    ensures cause { IsErrOf result MigrateRefusal.DiskFault → Rose (D.faults journal.old.disk) (D.faults journal.new.disk) }
+{
+    if journal.format() != 1 {
+        return Err(MigrateRefusal::NotOld);
+    }
+    journal.reserve(plan.body.len() as u64)?;
+    write_over(journal, &plan.body)
+}
+
+// Raises the journal, and gives its disk back with the number of files.
+fn raise_over<D: Disk>(journal: Journal<D>, plan: Plan) -> Result<(D, u64), (D, MigrateRefusal)>
+    requires areas { journal.areas ≡ areas_of plan.geometry }
+    requires settled { journal.in_doubt ≡ false }
+    requires fits { length plan.body.items + 7 ≤ area_bytes plan.geometry }
+    requires planned { D.tells → IsPlanned plan.geometry plan.files plan.body.items (D.content journal.disk) }
+    requires records { D.tells → records_of (areas_of plan.geometry) (D.content journal.disk) ≡ Some (kept journal) }
+    requires one_image { D.tells → (c : List ℕ) → D.since journal.disk (D.moment journal.disk) c → c ≡ D.content journal.disk }
+    ensures moved { IfOk result (λ done. Moved D.tells D.size D.content D.moment D.since D.faults journal.disk done.0) }
+    ensures durable { IfOk result (λ done. D.tells → (m : Map) → StandsOld (D.content journal.disk) m → (c : List ℕ) → D.since done.0 (D.moment done.0) c → Stands c m) }
+    ensures files { IfOk result (λ done. done.1 ≡ plan.files) }
+    ensures moved_err { IfErr result (λ err. Moved D.tells D.size D.content D.moment D.since D.faults journal.disk err.0) }
+    ensures untold { IfErr result (λ err. (err.1 ≡ MigrateRefusal.DiskFault) ⊎ (err.1 ≡ MigrateRefusal.NoMemory) ⊎ (D.tells → ⊥)) }
+    ensures same { IfErr result (λ err. (err.1 ≡ MigrateRefusal.DiskFault) ⊎ (err.0 ≡ journal.disk)) }
+    ensures cause { IfErr result (λ err. err.1 ≡ MigrateRefusal.DiskFault → Rose (D.faults journal.disk) (D.faults err.0)) }
+{
+    let mut journal = journal;
+    match rule(&mut journal, &plan) {
+        Ok(()) => Ok((journal.give_back(), plan.files)),
+        Err(refusal) => Err((journal.give_back(), refusal)),
+    }
+}
+
+/// Puts what was planned in the place of all that an image's journal has.
+pub(crate) fn raise_image<D: Disk>(
+    alloc: Global,
+    disk: D,
+    plan: Plan,
+) -> Result<(D, u64), (D, MigrateRefusal)>
+    requires range { is_in_range plan.geometry ≡ true }
+    requires length { image_size plan.geometry ≤ D.size disk }
+    requires fits { length plan.body.items + 7 ≤ area_bytes plan.geometry }
+    requires planned { D.tells → IsPlanned plan.geometry plan.files plan.body.items (D.content disk) }
+    ensures moved { IfOk result (λ done. Moved D.tells D.size D.content D.moment D.since D.faults disk done.0) }
+    ensures durable { IfOk result (λ done. D.tells → (m : Map) → StandsOld (D.content disk) m → (c : List ℕ) → D.since done.0 (D.moment done.0) c → Stands c m) }
+    ensures files { IfOk result (λ done. done.1 ≡ plan.files) }
+    ensures moved_err { IfErr result (λ err. Moved D.tells D.size D.content D.moment D.since D.faults disk err.0) }
+    ensures untold { IfErr result (λ err. (err.1 ≡ MigrateRefusal.DiskFault) ⊎ (err.1 ≡ MigrateRefusal.NoMemory) ⊎ (D.tells → ⊥)) }
+    ensures only_read_err { IfErr result (λ err. (err.1 ≡ MigrateRefusal.DiskFault) ⊎ OnlyRead D.tells D.size D.content D.moment D.since D.faults disk err.0) }
+    ensures cause { IfErr result (λ err. err.1 ≡ MigrateRefusal.DiskFault → Rose (D.faults disk) (D.faults err.0)) }
+{
+    let areas = areas_of(plan.geometry);
+    match Journal::begin(alloc, disk, areas) {
+        Ok(journal) => raise_over(journal, plan),
+        Err((disk, refusal)) => Err((disk, ReadRefusal::from(refusal).into())),
+    }
+}
