@@ -1,5 +1,5 @@
 -- The bytes are no more than the charge.
-use Rattle.std.proofs.Common.{◌+◌, ◌*◌, ◌≤◌, ◌==◌, ◌++◌, ℕ, Bool, true, false, List, [], ◌∷◌, length, sum_by, arith}
+use Rattle.std.proofs.Common.{◌≡◌, refl, ◌+◌, ◌*◌, ◌≤◌, ◌==◌, ◌++◌, ℕ, Bool, true, false, List, [], ◌∷◌, length, sum_by, arith}
 use Rattle.std.specs.Prelude.{if◌then◌else◌}
 use Rattle.std.specs.List.{AllByRecursion}
 use Rattle.std.proofs.lemmas.List.{length-append}
@@ -28,7 +28,8 @@ content_below : (unit : Text) (path : List Text) (f : FileRow) (n : ℕ) → len
 unfolding content_by
 content_below unit path f n le = elim (f.length == 0) as (λ t. length (content_by t unit path f) ≤ n) [ true ↦ omega arith | false ↦ le ]
 
-row_below : (size : ℕ) (place : Place) (r : Row) → IsSoundRow size r → length (row_bytes place r) ≤ row_charge New place r
+-- A row's bytes.
+pub row_below : (size : ℕ) (place : Place) (r : Row) → IsSoundRow size r → length (row_bytes place r) ≤ row_charge New place r
 unfolding spelled
 row_below size (unit, []) row.Dir sound = omega (arith, length_spelling (MakeRoot unit))
 row_below size (unit, name ∷ names) row.Dir sound = omega (arith, length_spelling (MakeDir unit (name ∷ names)))
@@ -37,16 +38,30 @@ row_below size (unit, path) (row.File f) sound =
     let content : length (spelling New (Content unit path f.stamp f.length f.extents)) ≤ 23 + unit_bytes unit + path_bytes path + 8 * blocks f.length = omega (arith, length_spelling (Content unit path f.stamp f.length f.extents), few, sound.whole) in
     omega (arith, length-append (spelling New (MakeFile unit path f.stamp)) (content_bytes unit path f), length_spelling (MakeFile unit path f.stamp), content_below unit path f _ content)
 
-rows_below : (size : ℕ) (rows : Rows) → AllByRecursion (λ e. IsSoundRow size e.1) rows → length (rows_bytes rows) ≤ sum_by (λ e. row_charge New e.0 e.1) rows
+pub rows_below : (size : ℕ) (rows : Rows) → AllByRecursion (λ e. IsSoundRow size e.1) rows → length (rows_bytes rows) ≤ sum_by (λ e. row_charge New e.0 e.1) rows
 rows_below size [] sound = omega arith
 rows_below size (e ∷ es) sound =
     omega (arith, length-append (row_bytes e.0 e.1) (rows_bytes es), row_below size e.0 e.1 sound.0, rows_below size es sound.1, sum_by-cons (λ (x : Place × Row). row_charge New x.0 x.1) e es)
+
+-- How long the making of a file and of a persistent unit is.
+pub file_len : (unit : Text) (path : List Text) (stamp : ℕ) → length (spelling New (MakeFile unit path stamp)) ≡ 11 + unit_bytes unit + path_bytes path
+unfolding spelled
+file_len unit path stamp = length_spelling (MakeFile unit path stamp)
+
+pub persist_len : (unit : Text) → length (spelling New (Persist unit)) ≡ 3 + unit_bytes unit
+unfolding spelled
+persist_len unit = length_spelling (Persist unit)
 
 units_below : (units : List Text) → length (units_bytes units) ≤ sum_by (λ unit. 3 + key_bytes New unit) units
 unfolding spelled
 units_below [] = omega arith
 units_below (u ∷ us) =
     omega (arith, length-append (spelling New (Persist u)) (units_bytes us), length_spelling (Persist u), units_below us, sum_by-cons (λ (x : Text). 3 + key_bytes New x) u us)
+
+-- The charge is that of the rows and that of the units.
+pub charge_parts : (rows : Rows) (units : List Text) → charge_of New (record { rows = rows; persistent = units }) ≡ sum_by (λ e. row_charge New e.0 e.1) rows + sum_by (λ unit. 3 + key_bytes New unit) units
+unfolding charge_of
+charge_parts rows units = refl
 
 -- What is written for sound rows and for units is no longer than their charge.
 pub written_below : (size : ℕ) (rows : Rows) (units : List Text) → AllByRecursion (λ e. IsSoundRow size e.1) rows → length (rows_bytes rows ++ units_bytes units) ≤ charge_of New (record { rows = rows; persistent = units })

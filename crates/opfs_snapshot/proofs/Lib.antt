@@ -3,6 +3,7 @@ pub mod Charging
 pub mod Holding
 pub mod Keys
 pub mod Last
+pub mod Left
 pub mod Making
 pub mod Ordered
 pub mod Persisting

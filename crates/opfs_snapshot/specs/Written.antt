@@ -1,6 +1,6 @@
 -- The bytes that build rows and persistent units from nothing, row by row and then unit by unit. This project's own.
 use Rattle.std.specs.Prelude.{ℕ, ◌<◌, ◌≤◌, ◌^◌, ◌==◌, if◌then◌else◌, List, [], ◌∷◌, ◌++◌, length}
-use Rattle.std.specs.List.{flat_map}
+use Rattle.std.specs.List.{flat_map, AllByRecursion}
 use Rattle.opfs_base.specs.Texts.{Text}
 use Rattle.opfs_base.specs.Places.{Place}
 use Rattle.opfs_codec.specs.Spelling.{spelling, IsKey, IsPath, AreExtents}
@@ -44,3 +44,7 @@ IsWritableFile path f = (0 < length path) × (f.stamp < 2 ^ 64) × (f.length < 2
 abbrev pub IsWritableRow : Place → Row → Type 0
 IsWritableRow place row.Dir = IsWritablePlace place
 IsWritableRow place (row.File f) = IsWritablePlace place × IsWritableFile place.1 f
+
+-- What can be written: each row and each persistent unit has a spelling that is read.
+abbrev pub AreWritable : Rows → List Text → Type 0
+AreWritable rows units = AllByRecursion (λ e. IsWritableRow e.0 e.1) rows × AllByRecursion (IsKey New) units

@@ -1,6 +1,6 @@
 //! Whether rows and units have a spelling that is read. Those of an image have, so none of these tests fails there.
 
-ghost use Rattle.std.specs.Prelude.{◌≡◌, ◌<◌, ◌≤◌, ◌^◌, true, false, length, IsTrue};
+ghost use Rattle.std.specs.Prelude.{◌≡◌, ◌↔◌, ◌<◌, ◌≤◌, ◌^◌, true, false, length, IsTrue};
 ghost use Rattle.std.specs.List.{AllByRecursion};
 ghost use Rattle.opfs_base.specs.Texts.{same_text};
 ghost use Rattle.opfs_base.specs.Units.{is_bucket_name, default_bucket};
@@ -13,7 +13,7 @@ use opfs_tree::{FileRow, Row};
 
 /// Whether a unit has an origin of 1 to 255 bytes and a bucket's name, and is the unit of the two.
 pub(crate) fn is_key(unit: &Key) -> bool
-    ensures { IsTrue result → IsKey New unit.now }
+    ensures { IsTrue result ↔ IsKey New unit.now }
 {
     let unit = unit.as_bytes();
     let end = origin_of(unit).len();
@@ -25,7 +25,7 @@ pub(crate) fn is_key(unit: &Key) -> bool
 
 /// Whether a row has a spelling that is read.
 pub(crate) fn is_writable(unit: &Key, path: &Path, row: &Row) -> bool
-    ensures { IsTrue result → IsWritableRow (unit.now, path.now) row.now }
+    ensures { IsTrue result ↔ IsWritableRow (unit.now, path.now) row.now }
 {
     match row {
         Row::Dir => is_place(unit, path),
@@ -35,7 +35,7 @@ pub(crate) fn is_writable(unit: &Key, path: &Path, row: &Row) -> bool
 
 // Whether bytes are a text of 1 to 255 bytes.
 fn is_origin(bytes: &[u8]) -> bool
-    ensures { IsTrue result → IsText is_key_text bytes.now }
+    ensures { IsTrue result ↔ IsText is_key_text bytes.now }
 {
     match str::from_utf8(bytes) {
         Ok(text) => is_key_text(text),
@@ -52,7 +52,7 @@ fn is_key_text(text: &str) -> bool
 
 // Whether bytes are the name of a bucket that is not the default one.
 fn is_named_bucket(bytes: &[u8]) -> bool
-    ensures { IsTrue result → IsText is_bucket_name bytes.now × (same_text bytes.now default_bucket ≡ false) }
+    ensures { IsTrue result ↔ (IsText is_bucket_name bytes.now × (same_text bytes.now default_bucket ≡ false)) }
 {
     match str::from_utf8(bytes) {
         Ok(text) => is_bucket_name(text) && text != "default",
@@ -62,7 +62,7 @@ fn is_named_bucket(bytes: &[u8]) -> bool
 
 // Whether a place has a spelling that is read.
 fn is_place(unit: &Key, path: &Path) -> bool
-    ensures { IsTrue result → IsWritablePlace (unit.now, path.now) }
+    ensures { IsTrue result ↔ IsWritablePlace (unit.now, path.now) }
 {
     let names = path.names();
     is_key(unit) && names.len() <= 32 && are_names(names)
@@ -70,7 +70,7 @@ fn is_place(unit: &Key, path: &Path) -> bool
 
 // Whether all names are short enough.
 fn are_names(names: &[Name]) -> bool
-    ensures { IsTrue result → AllByRecursion IsName names.now }
+    ensures { IsTrue result ↔ AllByRecursion IsName names.now }
 {
     for name in names {
         if !is_name(name) {
@@ -82,14 +82,14 @@ fn are_names(names: &[Name]) -> bool
 
 // Whether a name is short enough.
 fn is_name(name: &Name) -> bool
-    ensures { IsTrue result → IsName name.now }
+    ensures { IsTrue result ↔ IsName name.now }
 {
     name.as_str().len() <= 255
 }
 
-// Whether a file is no root, and has few enough extents.
+// Whether a file is no root, and has few enough extents. Its stamp and length are words of 64 bits, as their types say.
 fn is_file(path: &Path, file: &FileRow) -> bool
-    ensures { IsTrue result → IsWritableFile path.now file.now }
+    ensures { IsTrue result ↔ IsWritableFile path.now file.now }
 {
     let _stamp = file.stamp;
     let _length = file.length;
@@ -98,7 +98,7 @@ fn is_file(path: &Path, file: &FileRow) -> bool
 
 // Whether there are few enough extents.
 fn are_extents(extents: &[Extent]) -> bool
-    ensures { IsTrue result → AreExtents extents.now }
+    ensures { IsTrue result ↔ AreExtents extents.now }
 {
     for extent in extents {
         has_words(extent);
@@ -106,7 +106,7 @@ fn are_extents(extents: &[Extent]) -> bool
     extents.len() as u64 <= 4_294_967_295
 }
 
-// The numbers of an extent are words of 32 bits.
+// The numbers of an extent are words of 32 bits, as their types say.
 fn has_words(extent: &Extent)
     ensures { IsExtent extent.now }
 {

@@ -1,8 +1,14 @@
 //! The rows of a tree are written.
 
-ghost use Rattle.std.specs.Prelude.{◌≡◌, ◌++◌, OnOk, [], length};
+ghost use Rattle.std.specs.Prelude.{◌≡◌, ◌≤◌, ◌+◌, ◌*◌, ◌++◌, ℕ, OnOk, [], length, sum_by, vec_len, vec_capacity, is_ok, IsTrue};
 ghost use Rattle.std.specs.List.{AllByRecursion};
 ghost use Rattle.opfs_snapshot.specs.Written.{dir_bytes, content_bytes, file_bytes, row_bytes, rows_bytes, IsWritablePlace, IsWritableFile, IsWritableRow};
+ghost use Rattle.opfs_base.specs.Blocks.{blocks};
+ghost use Rattle.opfs_codec.specs.Charges.{unit_bytes, path_bytes};
+ghost use Rattle.opfs_codec.specs.declared.change.Format.TheVariants.{New};
+ghost use Rattle.opfs_replay.specs.Built.{IsSoundRow};
+ghost use Rattle.opfs_replay.specs.Sums.{row_charge};
+ghost use Rattle.opfs_tree.specs.declared.row.Row.TheVariants as row;
 ghost use Rattle.opfs_tree.specs.Rows.{IsInOrder, IsClosed};
 
 use crate::checks::is_writable;
@@ -15,6 +21,8 @@ use std::alloc::AllocError;
 pub(crate) fn write_rows(tree: &Tree, into: &mut Vec<u8>) -> Result<(), AllocError>
     ensures written { OnOk result (into.new.items ≡ into.old.items ++ rows_bytes tree.now) }
     ensures writable { OnOk result (AllByRecursion (λ e. IsWritableRow e.0 e.1) tree.now) }
+    ensures capacity { vec_capacity into.old ≤ vec_capacity into.new }
+    ensures room { (size : ℕ) → AllByRecursion (λ e. IsSoundRow size e.1) tree.now → AllByRecursion (λ e. IsWritableRow e.0 e.1) tree.now → vec_len into.old + sum_by (λ e. row_charge New e.0 e.1) tree.now ≤ vec_capacity into.old → IsTrue (is_ok result) }
 {
     let mut walk = Walk::make();
     while let Some(row) = tree.step(&mut walk) {
@@ -38,6 +46,8 @@ pub(crate) fn in_directories(tree: &Tree)
 fn write_row(unit: &Key, path: &Path, row: &Row, into: &mut Vec<u8>) -> Result<(), AllocError>
     ensures written { OnOk result (into.new.items ≡ into.old.items ++ row_bytes (unit.now, path.now) row.now) }
     ensures writable { OnOk result (IsWritableRow (unit.now, path.now) row.now) }
+    ensures capacity { vec_capacity into.old ≤ vec_capacity into.new }
+    ensures room { (size : ℕ) → IsSoundRow size row.now → IsWritableRow (unit.now, path.now) row.now → vec_len into.old + row_charge New (unit.now, path.now) row.now ≤ vec_capacity into.old → IsTrue (is_ok result) }
 {
     if !is_writable(unit, path, row) {
         return Err(AllocError);
@@ -50,10 +60,12 @@ fn write_row(unit: &Key, path: &Path, row: &Row, into: &mut Vec<u8>) -> Result<(
 }
 
 // Appends the change that makes a directory.
-#[tactic(auto, unfolding(opfs_codec::specs::Fields::plain, opfs_codec::specs::Fields::Fits))]
+#[tactic(auto, unfolding(opfs_codec::specs::Fields::plain, opfs_codec::specs::Fields::Fits, opfs_codec::specs::Fields::HasFewExtents, opfs_codec::specs::Charges::charge))]
 fn write_dir(unit: &Key, path: &Path, into: &mut Vec<u8>) -> Result<(), AllocError>
     requires { IsWritablePlace (unit.now, path.now) }
-    ensures { OnOk result (into.new.items ≡ into.old.items ++ dir_bytes unit.now path.now) }
+    ensures written { OnOk result (into.new.items ≡ into.old.items ++ dir_bytes unit.now path.now) }
+    ensures capacity { vec_capacity into.old ≤ vec_capacity into.new }
+    ensures room { vec_len into.old + row_charge New (unit.now, path.now) row.Dir ≤ vec_capacity into.old → IsTrue (is_ok result) }
 {
     if path.names().is_empty() {
         write(&ChangeRef::MakeRoot(unit), into)?;
@@ -64,11 +76,13 @@ fn write_dir(unit: &Key, path: &Path, into: &mut Vec<u8>) -> Result<(), AllocErr
 }
 
 // Appends the changes that make a file and its content.
-#[tactic(auto, unfolding(opfs_codec::specs::Fields::plain, opfs_codec::specs::Fields::Fits))]
+#[tactic(auto, unfolding(opfs_codec::specs::Fields::plain, opfs_codec::specs::Fields::Fits, opfs_codec::specs::Fields::HasFewExtents, opfs_codec::specs::Charges::charge))]
 fn write_file(unit: &Key, path: &Path, file: &FileRow, into: &mut Vec<u8>) -> Result<(), AllocError>
     requires place { IsWritablePlace (unit.now, path.now) }
     requires file { IsWritableFile path.now file.now }
-    ensures { OnOk result (into.new.items ≡ into.old.items ++ file_bytes unit.now path.now file.now) }
+    ensures written { OnOk result (into.new.items ≡ into.old.items ++ file_bytes unit.now path.now file.now) }
+    ensures capacity { vec_capacity into.old ≤ vec_capacity into.new }
+    ensures room { length file.now.extents ≤ blocks file.now.length → vec_len into.old + row_charge New (unit.now, path.now) (row.File file.now) ≤ vec_capacity into.old → IsTrue (is_ok result) }
 {
     write(&ChangeRef::MakeFile(unit, path, file.stamp), into)?;
     write_content(unit, path, file, into)?;
@@ -76,7 +90,7 @@ fn write_file(unit: &Key, path: &Path, file: &FileRow, into: &mut Vec<u8>) -> Re
 }
 
 // Appends the change that gives a file its content, where it has bytes.
-#[tactic(auto, unfolding(opfs_codec::specs::Fields::plain, opfs_codec::specs::Fields::Fits))]
+#[tactic(auto, unfolding(opfs_codec::specs::Fields::plain, opfs_codec::specs::Fields::Fits, opfs_codec::specs::Fields::HasFewExtents, opfs_codec::specs::Charges::charge))]
 fn write_content(
     unit: &Key,
     path: &Path,
@@ -85,7 +99,9 @@ fn write_content(
 ) -> Result<(), AllocError>
     requires place { IsWritablePlace (unit.now, path.now) }
     requires file { IsWritableFile path.now file.now }
-    ensures { OnOk result (into.new.items ≡ into.old.items ++ content_bytes unit.now path.now file.now) }
+    ensures written { OnOk result (into.new.items ≡ into.old.items ++ content_bytes unit.now path.now file.now) }
+    ensures capacity { vec_capacity into.old ≤ vec_capacity into.new }
+    ensures room { length file.now.extents ≤ blocks file.now.length → vec_len into.old + (23 + unit_bytes unit.now + path_bytes path.now + 8 * blocks file.now.length) ≤ vec_capacity into.old → IsTrue (is_ok result) }
 {
     if file.length == 0 {
         return Ok(());

@@ -1,4 +1,6 @@
-use Rattle.std.proofs.Common.{◌≡◌, ◌≤◌, ◌++◌, [], List, ℕ, length, refl, sym, ap, subst, ◌∙◌}
+use Rattle.std.proofs.Common.{arith, ◌≡◌, ◌≤◌, ◌++◌, [], List, ℕ, length, refl, sym, ap, subst, ◌∙◌}
+use Rattle.std.proofs.lemmas.Bool.{false≢true}
+use Rattle.std.proofs.lemmas.List.{length-append}
 use Rattle.opfs_base.specs.Texts.{Text}
 use Rattle.opfs_replay.specs.Built.{nothing_built}
 use Rattle.opfs_replay.specs.Sums.{persistent_in, charge_of}
@@ -6,7 +8,7 @@ use Rattle.opfs_codec.specs.declared.change.Format.TheVariants.{New}
 use Rattle.opfs_tree.specs.Rows.{Rows}
 use Rattle.opfs_snapshot.specs.Written.{rows_bytes, units_bytes}
 use Rattle.opfs_snapshot.proofs.Building.{one_record, builds_both, builds_same}
-use Rattle.opfs_snapshot.proofs.Charging.{written_below}
+use Rattle.opfs_snapshot.proofs.Charging.{written_below, rows_below, charge_parts}
 use Rattle.opfs_snapshot.proofs.Making.{rows_built, builds_rows}
 use Rattle.opfs_snapshot.proofs.Persisting.{builds_units}
 use Rattle.opfs_snapshot.proofs.body.write_all.Goals as goal
@@ -31,3 +33,15 @@ returns-clause-fits c size sound =
     let units = persistent_in c.args.shed.now.buckets in
     let bytes = both_parts _ _ c.write_units.new.into.items rows units c.requires c.in_ok-write_rows.ensures.written c.in_ok-write_units.ensures.written in
     subst (λ (xs : List ℕ). length xs ≤ charge_of New (record { rows = rows; persistent = units })) bytes (written_below size rows units sound.files)
+
+pub returns-in_err-write_rows-clause-room : goal.returns-in_err-write_rows-clause-room
+returns-in_err-write_rows-clause-room c size sound good le =
+    let sums = charge_parts c.args.tree.now (persistent_in c.args.shed.now.buckets) in
+    absurd (false≢true (c.in_err-write_rows.ensures.room size sound.files good.0 (omega (arith, le, sums, c.args.into.now.ok.0, ap length c.requires))))
+
+pub returns-in_err-write_units-clause-room : goal.returns-in_err-write_units-clause-room
+returns-in_err-write_units-clause-room c size sound good le =
+    let sums = charge_parts c.args.tree.now (persistent_in c.args.shed.now.buckets) in
+    let bytes = ap length c.in_ok-write_rows.ensures.written ∙ length-append c.args.into.now.items (rows_bytes c.args.tree.now) in
+    absurd (false≢true (c.in_err-write_units.ensures.room good.1
+    (omega (arith, le, sums, c.write_rows.new.into.ok.0, bytes, ap length c.requires, rows_below size c.args.tree.now sound.files, c.in_ok-write_rows.ensures.capacity))))

@@ -1,18 +1,14 @@
-use Rattle.std.proofs.Common.{◌≡◌, ◌++◌, ◌∷◌, List, ℕ, length, sym, ap, subst, ◌∙◌, append_assoc, arith}
+use Rattle.std.proofs.Common.{◌++◌, length, sym, ap, subst, ◌∙◌, arith}
 use Rattle.std.proofs.lemmas.List.{append-nil}
 use Rattle.std.specs.List.{AllByRecursion}
 use Rattle.std.specs.Option.{option_copied}
-use Rattle.opfs_base.specs.Texts.{Text}
-use Rattle.opfs_codec.specs.Spelling.{spelling, IsKey}
+use Rattle.opfs_codec.specs.Spelling.{IsKey}
 use Rattle.opfs_codec.specs.declared.change.Format.TheVariants.{New}
-use Rattle.opfs_codec.specs.declared.change.Change.TheVariants.{Persist}
 use Rattle.opfs_snapshot.specs.Written.{units_bytes}
+use Rattle.std.proofs.lemmas.Bool.{false≢true}
+use Rattle.opfs_snapshot.proofs.Left.{unit_written, unit_room}
 use Rattle.opfs_snapshot.proofs.Ordered.{behind_next, behind_none, persistent_sorted}
 use Rattle.opfs_snapshot.proofs.units.write_units.Goals as goal
-
-joined : (old now whole : List ℕ) (rest all : List Text) (u : Text) → now ≡ old ++ spelling New (Persist u) → all ≡ u ∷ rest → old ++ units_bytes all ≡ whole → now ++ units_bytes rest ≡ whole
-joined old now whole rest all u written next so_far =
-    ap (λ (xs : List ℕ). xs ++ units_bytes rest) written ∙ append_assoc old (spelling New (Persist u)) (units_bytes rest) ∙ ap (λ us. old ++ units_bytes us) (sym next) ∙ so_far
 
 pub loop-unit-smaller : goal.loop-unit-smaller
 loop-unit-smaller c =
@@ -22,10 +18,19 @@ loop-unit-smaller c =
 pub loop-unit-preserved : goal.loop-unit-preserved
 loop-unit-preserved c =
     let next = behind_next (option_copied c.loop-unit.last) c.in-Some.unit.now c.args.shed.now.buckets c.in-Some.ensures.ordered (sym c.in-Some.ensures.first) in
-    record {
-      written = joined c.loop-unit.into.items _ _ _ _ c.in-Some.unit.now c.in_ok-write_unit.ensures.written next c.loop-unit.invariant.written;
-      writable = λ all. c.loop-unit.invariant.writable (subst (AllByRecursion (IsKey New)) (sym next) (c.in_ok-write_unit.ensures.writable, all));
-    }
+    unit_written _ _ _ c.in-Some.unit.now _ _ _ _ c.loop-unit.invariant next _ _ c.in_ok-write_unit.ensures.written c.in_ok-write_unit.ensures.writable c.in_ok-write_unit.ensures.capacity
+
+pub returns-in_err-write_unit-clause-capacity : goal.returns-in_err-write_unit-clause-capacity
+returns-in_err-write_unit-clause-capacity c = omega (arith, c.loop-unit.invariant.capacity, c.in_err-write_unit.ensures.capacity)
+
+pub returns-in_err-write_unit-clause-room : goal.returns-in_err-write_unit-clause-room
+returns-in_err-write_unit-clause-room c good le =
+    let next = behind_next (option_copied c.loop-unit.last) c.in-Some.unit.now c.args.shed.now.buckets c.in-Some.ensures.ordered (sym c.in-Some.ensures.first) in
+    let room = unit_room _ _ _ c.in-Some.unit.now _ _ _ _ c.loop-unit.invariant next good (omega (arith, le, c.args.into.now.ok.0)) in
+    absurd (false≢true (c.in_err-write_unit.ensures.room room.0 (omega (arith, room.1, c.loop-unit.into.ok.0))))
+
+pub returns-clause-capacity : goal.returns-clause-capacity
+returns-clause-capacity c = c.loop-unit.invariant.capacity
 
 pub returns-clause-written : goal.returns-clause-written
 returns-clause-written c =
