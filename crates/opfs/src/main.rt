@@ -1,9 +1,10 @@
-//! The program `opfs`: the one call, over the process's words, standard input and standard output.
+//! The program `opfs`: the one call, over the process's words, files, standard input and standard output.
 #![tactic(auto)]
 
 mod streams;
 
 use opfs_base::{Bytes, Words};
+use opfs_files::DirHost;
 use opfs_top::{Status, opfs};
 use std::alloc::AllocError;
 use std::env::{self, Env};
@@ -30,10 +31,11 @@ fn words_of<R: Env + AllocGlobal>(rt: &R) -> Result<Words, AllocError> {
 }
 
 fn main(rt: HostRuntime) -> ExitCode {
+    let mut host = DirHost::make(&rt);
     let mut source = StdinSource::make(rt.stdin());
     let mut sink = StdoutSink::make(rt.stdout());
     let status = match words_of(&rt) {
-        Ok(words) => opfs(rt.alloc(), &words, &mut source, &mut sink),
+        Ok(words) => opfs(rt.alloc(), &words, &mut host, &mut source, &mut sink),
         Err(_) => Status::Memory,
     };
     ExitCode::from(status.number())

@@ -29,6 +29,13 @@ both_true false y e = absurd (cc)
 between : (least most n : ℕ) → is_between least most n ≡ true → (least ≤ n) × (n ≤ most)
 between least most n e = let b = both_true (nat_le least n) (nat_le n most) e in (search (arith, b.0), search (arith, b.1))
 
+-- numbers in range are small
+pub range_parts : (g : Geometry) → is_in_range g ≡ true → (g.areas ≤ 4096) × (g.blocks ≤ 65536) × (g.quota ≤ 65536)
+range_parts g range =
+    let b = both_true (is_between 1 4096 g.areas && is_between 1 65536 g.blocks) (is_between 1 65536 g.quota) range in
+    let d = both_true (is_between 1 4096 g.areas) (is_between 1 65536 g.blocks) b.0 in
+    ((between 1 4096 g.areas d.0).1, (between 1 65536 g.blocks d.1).1, (between 1 65536 g.quota b.1).1)
+
 chosen_empty : (a : Areas) (o0 o1 : Bool) (l0 g0 l1 g1 : ℕ) → o0 ≡ true → l0 ≡ 1 → g0 ≡ 16 → o1 ≡ false → nat_lt a.bytes 6 ≡ false → chosen a o0 l0 g0 o1 l1 g1 ≡ Ok false
 chosen_empty a o0 o1 l0 g0 l1 g1 e0 e1 e2 e3 t = rw (e0, e1, e2, e3, t) refl
 

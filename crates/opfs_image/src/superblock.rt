@@ -31,7 +31,8 @@ fn is_between(least: u32, most: u32, n: u32) -> bool
 }
 
 impl Geometry {
-    fn is_in_range(self) -> bool
+    /// Whether each number is in its range.
+    pub fn is_in_range(self) -> bool
         ensures { result ≡ is_in_range self }
     {
         is_between(1, 4096, self.areas)

@@ -1,5 +1,5 @@
 -- How the command `try` ends, and what it puts out. This project's own.
-use Rattle.std.specs.Prelude.{◌≡◌, ◌⊎◌, ℕ, ◌<◌, ◌≤◌, Bool, false, List, [], ◌∷◌, ◌++◌, length, Option, Some, None, Ok, Err, codes, IsTrue}
+use Rattle.std.specs.Prelude.{◌≡◌, ◌≢◌, ◌⊎◌, ℕ, ◌<◌, ◌≤◌, Bool, false, List, [], ◌∷◌, ◌++◌, length, Option, Some, None, Ok, Err, codes, IsTrue}
 use Rattle.opfs_base.specs.Texts.{Text, same_text}
 use Rattle.opfs_hist.specs.declared.entry.Entry.{Entry}
 use Rattle.opfs_outside.specs.Faults.{Rose}
@@ -12,6 +12,10 @@ use Rattle.opfs_script.specs.declared.refusal.ScriptRefusal.{ScriptRefusal}
 use Rattle.opfs_script.specs.declared.refusal.ScriptRefusal.TheVariants as refused
 use Rattle.opfs_script.specs.Reading.{reads}
 use Rattle.opfs_script.specs.Scripts.{Asked}
+use Rattle.opfs_commands.specs.Asking.{IsCommand}
+use Rattle.opfs_commands.specs.declared.answers.ToolEnd.{ToolEnd}
+use Rattle.opfs_commands.specs.declared.answers.ToolEnd.TheVariants as tool_end
+use Rattle.opfs_commands.specs.declared.words.Action.{Action}
 use Rattle.opfs_trial.specs.Trials.{IsTrial}
 use Rattle.opfs_top.specs.declared.status.Status.{Status}
 use Rattle.opfs_top.specs.declared.status.Status.TheVariants as status
@@ -88,9 +92,14 @@ pub record IsDone (words : List Text) (tells : Type 0) (before after text : Text
   pub whole : IsReadWhole tells before after bytes
   pub ran : IsTranscript bytes text
 
+-- The words are no command on an image.
+abbrev pub NoCommand : List Text → Type 0
+NoCommand words = (path : Text) (action : Action) → IsCommand words path action → ⊥
+
 -- The words ask for nothing.
 pub record IsUsage (words : List Text) (text : Text) : Type 0 where
   pub asked : is_try words ≡ false
+  pub none : NoCommand words
   pub line : text ≡ status_text end.Usage
 
 -- The script was read to its end and is refused.
@@ -121,13 +130,38 @@ Outcome bytes status.Done text = IsTranscript bytes text
 Outcome bytes status.Script text = IsRefused bytes text
 Outcome bytes s text = ⊥
 
--- What is to be put out at each end, by its cause: before and after are what the source holds, old and new its count.
-abbrev pub Output : List Text → Type 0 → Text → Text → ℕ → ℕ → Status → Text → Type 0
-Output words tells before after old new status.Done text = IsDone words tells before after text
-Output words tells before after old new status.Usage text = IsUsage words text
-Output words tells before after old new status.Script text = IsBadScript words tells before after text
-Output words tells before after old new status.Source text = IsBadSource words old new text
-Output words tells before after old new s text = ⊥
+-- What is to be put out at each end, by its cause: before and after are what the source holds, old and new its count. What
+-- a command on an image puts out is told apart.
+abbrev pub Output : List Text → Type 0 → Text → Text → ℕ → ℕ → (ToolEnd → Text → Type 0) → Status → Text → Type 0
+Output words tells before after old new Tool status.Done text = IsDone words tells before after text ⊎ Tool tool_end.Done text
+Output words tells before after old new Tool status.Usage text = IsUsage words text
+Output words tells before after old new Tool status.Script text = IsBadScript words tells before after text
+Output words tells before after old new Tool status.Image text = Tool tool_end.Image text
+Output words tells before after old new Tool status.Host text = Tool tool_end.Host text
+Output words tells before after old new Tool status.Source text = IsBadSource words old new text
+Output words tells before after old new Tool s text = ⊥
+
+-- What a command on an image is to put out at each end.
+pub record IsNoCommand (words : List Text) (text : Text) : Type 0 where
+  pub none : NoCommand words
+  pub line : text ≡ status_text end.Usage
+
+abbrev pub ToolOutput : List Text → (ToolEnd → Text → Type 0) → Status → Text → Type 0
+ToolOutput words Tool status.Done text = Tool tool_end.Done text
+ToolOutput words Tool status.Usage text = IsNoCommand words text
+ToolOutput words Tool status.Image text = Tool tool_end.Image text
+ToolOutput words Tool status.Host text = Tool tool_end.Host text
+ToolOutput words Tool s text = ⊥
+
+-- The status of a command on an image.
+abbrev pub status_of : ToolEnd → Status
+status_of tool_end.Done = status.Done
+status_of tool_end.Image = status.Image
+status_of tool_end.Host = status.Host
+
+-- A path is that of no command of the words.
+abbrev pub IsOther : List Text → Text → Type 0
+IsOther words p = (path : Text) (action : Action) → IsCommand words path action → p ≢ path
 
 -- A front of what was to be put out.
 pub record IsCutShort (ToPut : Status → Text → Type 0) (text : Text) : Type 0 where

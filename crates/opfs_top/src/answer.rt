@@ -3,7 +3,7 @@
 ghost use Rattle.std.specs.Prelude.{◌≡◌, true, false, IsTrue, IfOk, flat_map};
 ghost use Rattle.opfs_print.specs.Lines.{text_of};
 ghost use Rattle.opfs_print.specs.Status.{status_text};
-ghost use Rattle.opfs_top.specs.Endings.{is_try, IsRefusal, IsTrialText, Outcome, Output};
+ghost use Rattle.opfs_top.specs.Endings.{is_try, IsRefusal, IsTrialText, NoCommand, Outcome, Output};
 
 use crate::input::{Input, read_all};
 use crate::status::Status;
@@ -33,7 +33,7 @@ pub fn is_try(words: &Words) -> bool
 }
 
 /// A status line.
-fn line_of(alloc: Global, end: End) -> Result<Bytes, AllocError>
+pub fn line_of(alloc: Global, end: End) -> Result<Bytes, AllocError>
     ensures { IfOk result (λ text. text ≡ status_text end) }
 {
     let mut text = Vec::new(alloc);
@@ -99,13 +99,14 @@ fn run(alloc: Global, bytes: &Bytes) -> Result<Answer, AllocError>
     }
 }
 
-/// How a command ends, and what it is to put out.
+/// How a command that names no image ends, and what it is to put out.
 pub fn answer_to<S: Source>(
     alloc: Global,
     words: &Words,
     source: &mut S,
 ) -> Result<Answer, AllocError>
-    ensures { IfOk result (λ answer. Output words.now S.tells (S.rest source.old) (S.rest source.new) (S.faults source.old) (S.faults source.new) answer.status answer.text) }
+    requires { NoCommand words.now }
+    ensures { IfOk result (λ answer. Output words.now S.tells (S.rest source.old) (S.rest source.new) (S.faults source.old) (S.faults source.new) (λ end text. ⊥) answer.status answer.text) }
 {
     if !is_try(words) {
         let text = line_of(alloc, End::Usage)?;

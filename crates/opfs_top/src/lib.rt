@@ -6,6 +6,7 @@ pub mod command;
 mod input;
 mod output;
 pub mod status;
+mod tool;
 
-pub use command::opfs;
+pub use command::{opfs, opfs_tool};
 pub use status::Status;

@@ -1,8 +1,8 @@
-//! A command over a source and a sink in memory.
+//! A command over a host, a source and a sink in memory.
 
 use opfs_base::{Bytes, Words};
-use opfs_memory::{MemSink, MemSource};
-use opfs_top::{Status, opfs};
+use opfs_memory::{MemHost, MemSink, MemSource};
+use opfs_top::{Status, opfs, opfs_tool};
 use std::alloc::{AllocError, Global};
 
 // The words of a command line.
@@ -21,6 +21,35 @@ pub fn bytes_of(alloc: Global, text: &str) -> Result<Vec<u8>, AllocError> {
     Ok(bytes)
 }
 
+// A host without images, whose calls of these numbers fail.
+pub fn host(alloc: Global, fails: Vec<u64>) -> Result<MemHost, AllocError> {
+    MemHost::make(
+        alloc,
+        Vec::new(alloc),
+        fails,
+        Vec::new(alloc),
+        None,
+        64,
+        65_536,
+    )
+}
+
+// How a command on an image ends over a host, and what it wrote.
+pub fn answered_at(
+    alloc: Global,
+    words: &[&str],
+    host: &mut MemHost,
+) -> Result<(Status, String), AllocError> {
+    let words = words_of(alloc, words)?;
+    let mut sink = MemSink::make(alloc, 65_536, Vec::new(alloc))?;
+    let status = opfs_tool(alloc, &words, host, &mut sink);
+    let text = match str::from_utf8(sink.written()) {
+        Ok(text) => String::from_str(alloc, text)?,
+        Err(_) => String::from_str(alloc, "no text")?,
+    };
+    Ok((status, text))
+}
+
 // How a command ends over these objects, and what it wrote.
 pub fn answered_over(
     alloc: Global,
@@ -29,7 +58,8 @@ pub fn answered_over(
     mut sink: MemSink,
 ) -> Result<(Status, String), AllocError> {
     let words = words_of(alloc, words)?;
-    let status = opfs(alloc, &words, &mut source, &mut sink);
+    let mut host = host(alloc, Vec::new(alloc))?;
+    let status = opfs(alloc, &words, &mut host, &mut source, &mut sink);
     let text = match str::from_utf8(sink.written()) {
         Ok(text) => String::from_str(alloc, text)?,
         Err(_) => String::from_str(alloc, "no text")?,

@@ -1,0 +1,12 @@
+use Rattle.std.proofs.Common.{inl}
+use Rattle.opfs_commands.proofs.Hosting.{rose_later, host_rose, later_by, given_back}
+use Rattle.opfs_commands.proofs.hosts.format_at.Goals as goal
+
+pub returns-clause-answer : goal.returns-clause-answer
+returns-clause-answer g c =
+    let laws = g.met.H.D.Disk g.world.𝓛 g.world.𝓜 g.world.𝓡 ((λ s x. x), (λ x. x), (λ x. x), λ x. x) in
+    given_back g.H.Host.tells g.H.D.Disk.tells g.met.H.Host.disk_tells _ _ _ _ _ _ _
+    (λ told there t is. record { image = _; there = there; kind = is })
+    (λ told t is. is)
+    (λ rose. host_rose _ _ _ _ _ _ _ c.in-Ok.ensures.fresh (later_by _ _ _ c.fetch.ensures.later) c.give_back.ensures.later (g.met.H.Host.counted _) (g.met.H.Host.counted _) (laws.counted _) rose)
+    c.give_back.result c.format_disk-disk.result.1 _ (λ rose. inl (rose_later _ _ _ c.fetch.ensures.own_later rose)) c.format_disk-disk.ensures.answer c.give_back.ensures.kept

@@ -1,0 +1,57 @@
+// What commands answer.
+ghost use Rattle.std.specs.Prelude.{◌≡◌, ◌++◌, [], Some, IfOk, IfSome};
+ghost use Rattle.std.specs.Option.{IfNone};
+ghost use Rattle.opfs_print.specs.Status.{status_text};
+ghost use Rattle.opfs_print.specs.declared.end.End.TheVariants as end;
+
+use opfs_base::Bytes;
+use opfs_print::{End, status_line};
+use std::alloc::{AllocError, Global};
+
+/// How a command on an image ends.
+#[derive(Clone, Copy, Debug, PartialEq, Eq)]
+pub enum ToolEnd {
+    /// All was done.
+    Done,
+    /// The image is refused.
+    Image,
+    /// The file or the host failed.
+    Host,
+}
+
+/// A tool that only reads an image.
+#[derive(Clone, Copy, Debug, PartialEq, Eq)]
+pub enum ReadTool {
+    /// Lists the units and rows.
+    List,
+    /// Reads the files, and tells their digests.
+    Check,
+}
+
+/// How a command on an image ends, and what it is to put out.
+#[derive(Debug, Drop)]
+pub struct ToolAnswer {
+    pub end: ToolEnd,
+    pub text: Bytes,
+}
+
+/// An answer with a status line.
+pub fn line_answer(alloc: Global, end: ToolEnd, line: End) -> Result<ToolAnswer, AllocError>
+    ensures end { IfOk result (λ answer. answer.end ≡ end) }
+    ensures text { IfOk result (λ answer. answer.text ≡ status_text line) }
+{
+    let mut text = Vec::new(alloc);
+    status_line(alloc, &line, &mut text)?;
+    Ok(ToolAnswer {
+        end,
+        text: Bytes::from_vec(text),
+    })
+}
+
+/// The answer after a fault of the file or the host.
+pub fn host_answer(alloc: Global) -> Result<ToolAnswer, AllocError>
+    ensures end { IfOk result (λ answer. answer.end ≡ ToolEnd.Host) }
+    ensures text { IfOk result (λ answer. answer.text ≡ status_text end.Host) }
+{
+    line_answer(alloc, ToolEnd::Host, End::Host)
+}

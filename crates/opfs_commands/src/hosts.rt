@@ -1,0 +1,94 @@
+// Commands on the image at a path of a host.
+ghost use Rattle.std.specs.Prelude.{◌≡◌, ◌≢◌, ◌⊎◌, ◌+◌, ◌-◌, ◌≤◌, ℕ, true, List, Some, None, Ok, Err, IfOk, OnOk, OnErr};
+ghost use Rattle.opfs_base.specs.Texts.{Text};
+ghost use Rattle.opfs_outside.specs.Faults.{Rose, RoseBy};
+ghost use Rattle.opfs_print.specs.Status.{status_text};
+ghost use Rattle.opfs_print.specs.declared.end.End.TheVariants as end;
+ghost use Rattle.opfs_image.specs.Superblock.{is_in_range};
+ghost use Rattle.opfs_commands.specs.Telling.{IsTold, IsRefusedLine, IsOfImage, IsFormatted, IsMigrated, IsNotMigrated, IsAnswer, HostRose};
+
+use crate::answers::{ReadTool, ToolAnswer, ToolEnd, host_answer};
+use crate::disks::read_disk;
+use crate::makers::{format_disk, migrate_disk};
+use opfs_image::Geometry;
+use opfs_outside::{Host, HostStop};
+use std::alloc::{AllocError, Global};
+
+// Gives a disk back, and then the answer, or that of a fault.
+fn give_back<H: Host>(
+    alloc: Global,
+    host: &mut H,
+    path: &str,
+    disk: H::D,
+    answer: Result<ToolAnswer, AllocError>,
+) -> Result<ToolAnswer, AllocError>
+    ensures kept { IfOk result (λ a. ((answer ≡ Ok a) × (H.tells → H.image host.new path.now ≡ Some (H.D.content disk))) ⊎ (Rose (H.own_faults host.old) (H.own_faults host.new) × (a.end ≡ ToolEnd.Host) × (a.text ≡ status_text end.Host))) }
+    ensures image { H.tells → (Rose (H.own_faults host.old) (H.own_faults host.new) → ⊥) → H.image host.new path.now ≡ Some (H.D.content disk) }
+    ensures others { H.tells → (Rose (H.own_faults host.old) (H.own_faults host.new) → ⊥) → (p : Text) → p ≢ path.now → H.image host.new p ≡ H.image host.old p }
+    ensures own_later { H.own_faults host.old ≤ H.own_faults host.new }
+    ensures later { RoseBy (H.D.faults disk) (H.faults host.old) (H.faults host.new) }
+{
+    let back = host.give_back(path, disk);
+    let answer = answer?;
+    match back {
+        Ok(()) => Ok(answer),
+        Err(_) => host_answer(alloc),
+    }
+}
+
+/// Lets a tool tell the image at a path of a host.
+pub fn read_at<H: Host>(
+    alloc: Global,
+    host: &mut H,
+    path: &str,
+    tool: ReadTool,
+) -> Result<ToolAnswer, AllocError>
+    ensures answer { IfOk result (λ answer. IsAnswer H.tells (IsOfImage (IsTold tool) (H.image host.old path.now)) (IsOfImage IsRefusedLine (H.image host.old path.now)) (HostRose (H.own_faults host.old) (H.own_faults host.new) (H.faults host.old) (H.faults host.new)) answer.end answer.text) }
+    ensures paths { H.tells → (Rose (H.own_faults host.old) (H.own_faults host.new) → ⊥) → (p : Text) → H.image host.new p ≡ H.image host.old p }
+{
+    let disk = match host.fetch(path, None) {
+        Ok(disk) => disk,
+        Err(HostStop::Failed) => return host_answer(alloc),
+        Err(HostStop::NoMemory) => return Err(AllocError),
+    };
+    let (disk, answer) = read_disk(alloc, disk, tool);
+    give_back(alloc, host, path, disk, answer)
+}
+
+/// Makes the image at a path of a host anew, of these sizes, so that it holds nothing.
+pub fn format_at<H: Host>(
+    alloc: Global,
+    host: &mut H,
+    path: &str,
+    geometry: Geometry,
+) -> Result<ToolAnswer, AllocError>
+    requires { is_in_range geometry ≡ true }
+    ensures answer { IfOk result (λ answer. IsAnswer H.tells (IsOfImage (IsFormatted geometry) (H.image host.new path.now)) (λ text. ⊥) (HostRose (H.own_faults host.old) (H.own_faults host.new) (H.faults host.old) (H.faults host.new)) answer.end answer.text) }
+    ensures others { H.tells → (Rose (H.own_faults host.old) (H.own_faults host.new) → ⊥) → (p : Text) → p ≢ path.now → H.image host.new p ≡ H.image host.old p }
+{
+    let disk = match host.fetch(path, Some(geometry.image_size())) {
+        Ok(disk) => disk,
+        Err(HostStop::Failed) => return host_answer(alloc),
+        Err(HostStop::NoMemory) => return Err(AllocError),
+    };
+    let (disk, answer) = format_disk(alloc, disk, geometry);
+    give_back(alloc, host, path, disk, answer)
+}
+
+/// Brings the image at a path of a host from format 1 into format 2.
+pub fn migrate_at<H: Host>(
+    alloc: Global,
+    host: &mut H,
+    path: &str,
+) -> Result<ToolAnswer, AllocError>
+    ensures answer { IfOk result (λ answer. IsAnswer H.tells (IsMigrated (H.image host.old path.now) (H.image host.new path.now)) (IsOfImage IsNotMigrated (H.image host.old path.now)) (HostRose (H.own_faults host.old) (H.own_faults host.new) (H.faults host.old) (H.faults host.new)) answer.end answer.text) }
+    ensures others { H.tells → (Rose (H.own_faults host.old) (H.own_faults host.new) → ⊥) → (p : Text) → p ≢ path.now → H.image host.new p ≡ H.image host.old p }
+{
+    let disk = match host.fetch(path, None) {
+        Ok(disk) => disk,
+        Err(HostStop::Failed) => return host_answer(alloc),
+        Err(HostStop::NoMemory) => return Err(AllocError),
+    };
+    let (disk, answer) = migrate_disk(alloc, disk);
+    give_back(alloc, host, path, disk, answer)
+}

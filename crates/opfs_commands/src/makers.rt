@@ -1,0 +1,103 @@
+// Commands that write the disk of an image.
+ghost use Rattle.std.specs.Prelude.{◌≡◌, ◌≢◌, ◌⊎◌, ◌≤◌, ◌++◌, [], ℕ, List, Some, None, true, Result, string_bytes, Ok, Err, IfOk, IfErr, OnOk, OnErr};
+ghost use Rattle.opfs_outside.specs.Faults.{Rose};
+ghost use Rattle.opfs_print.specs.Status.{status_text};
+ghost use Rattle.opfs_print.specs.declared.end.End.TheVariants as end;
+ghost use Rattle.opfs_image.specs.Superblock.{image_size, is_in_range};
+ghost use Rattle.opfs_commands.specs.Telling.{formatted_line, migrated_line, told_of, IsFormatted, AreMigrated, IsNotMigrated, IsNoMigration, IsAnswer};
+
+use crate::answers::{ToolAnswer, ToolEnd, host_answer, line_answer};
+use opfs_base::Bytes;
+use opfs_image::{Geometry, format};
+use opfs_migrate::{MigrateRefusal, migrate};
+use opfs_outside::Disk;
+use opfs_print::{BadImage, End};
+use std::alloc::{AllocError, Global};
+
+// An answer that all was done, with a text.
+fn done(text: String) -> ToolAnswer
+    ensures end { result.end ≡ ToolEnd.Done }
+    ensures text { result.text ≡ string_bytes text }
+{
+    ToolAnswer {
+        end: ToolEnd::Done,
+        text: Bytes::from_vec(text.into_bytes()),
+    }
+}
+
+// The line of an image that was made.
+fn formatted(alloc: Global, geometry: Geometry) -> Result<ToolAnswer, AllocError>
+    ensures end { IfOk result (λ answer. answer.end ≡ ToolEnd.Done) }
+    ensures text { IfOk result (λ answer. answer.text ≡ formatted_line geometry) }
+{
+    let (blocks, areas, quota) = (geometry.blocks, geometry.areas, geometry.quota);
+    let text = format!(in alloc; "formatted {blocks} {areas} {quota}\n")?;
+    Ok(done(text))
+}
+
+/// Makes a disk an image of these sizes that holds nothing.
+pub fn format_disk<D: Disk>(
+    alloc: Global,
+    disk: D,
+    geometry: Geometry,
+) -> (D, Result<ToolAnswer, AllocError>)
+    requires range { is_in_range geometry ≡ true }
+    requires fits { image_size geometry ≤ D.size disk }
+    ensures answer { IfOk result.1 (λ answer. IsAnswer D.tells (IsFormatted geometry (D.content result.0)) (λ text. ⊥) (Rose (D.faults disk) (D.faults result.0)) answer.end answer.text) }
+{
+    let mut disk = disk;
+    match format(&mut disk, geometry) {
+        Ok(()) => (disk, formatted(alloc, geometry)),
+        Err(_) => (disk, host_answer(alloc)),
+    }
+}
+
+// Why an image is not migrated, as the status line says it; None for a fault and for want of memory.
+fn told(refusal: MigrateRefusal) -> Option<BadImage>
+    ensures { result ≡ told_of refusal }
+{
+    match refusal {
+        MigrateRefusal::Short => Some(BadImage::Short),
+        MigrateRefusal::Magic => Some(BadImage::Magic),
+        MigrateRefusal::Geometry => Some(BadImage::Geometry),
+        MigrateRefusal::NoArea => Some(BadImage::NoArea),
+        MigrateRefusal::BadRecord(place) => Some(BadImage::BadRecord(place)),
+        MigrateRefusal::NotOld => Some(BadImage::NotOld),
+        MigrateRefusal::Overfull(charge, area) => Some(BadImage::Overfull(charge, area)),
+        MigrateRefusal::DiskFault | MigrateRefusal::NoMemory => None,
+    }
+}
+
+// The answer to an image that is not migrated.
+fn refuse(alloc: Global, refusal: MigrateRefusal) -> Result<ToolAnswer, AllocError>
+    ensures fault { refusal ≡ MigrateRefusal.DiskFault → IfOk result (λ answer. (answer.end ≡ ToolEnd.Host) × (answer.text ≡ status_text end.Host)) }
+    ensures memory { refusal ≡ MigrateRefusal.NoMemory → IfOk result (λ answer. ⊥) }
+    ensures image { refusal ≢ MigrateRefusal.DiskFault → IfOk result (λ answer. (answer.end ≡ ToolEnd.Image) × IsNoMigration refusal answer.text) }
+{
+    if refusal == MigrateRefusal::DiskFault {
+        return host_answer(alloc);
+    }
+    match told(refusal) {
+        Some(why) => line_answer(alloc, ToolEnd::Image, End::Image(why)),
+        None => Err(AllocError),
+    }
+}
+
+// The line of an image that was migrated.
+fn migrated(alloc: Global, files: u64) -> Result<ToolAnswer, AllocError>
+    ensures end { IfOk result (λ answer. answer.end ≡ ToolEnd.Done) }
+    ensures text { IfOk result (λ answer. answer.text ≡ migrated_line files) }
+{
+    let text = format!(in alloc; "migrated {files}\n")?;
+    Ok(done(text))
+}
+
+/// Brings the image on a disk from format 1 into format 2.
+pub fn migrate_disk<D: Disk>(alloc: Global, disk: D) -> (D, Result<ToolAnswer, AllocError>)
+    ensures answer { IfOk result.1 (λ answer. IsAnswer (D.tells × D.crashes) (AreMigrated (D.content disk) (D.content result.0)) (IsNotMigrated (D.content disk)) (Rose (D.faults disk) (D.faults result.0)) answer.end answer.text) }
+{
+    match migrate(alloc, disk) {
+        Ok((disk, files)) => (disk, migrated(alloc, files)),
+        Err((disk, refusal)) => (disk, refuse(alloc, refusal)),
+    }
+}

@@ -1,0 +1,34 @@
+// A command on an image.
+ghost use Rattle.std.specs.Prelude.{◌≡◌, ◌≢◌, IfOk};
+ghost use Rattle.opfs_base.specs.Texts.{Text};
+ghost use Rattle.opfs_outside.specs.Faults.{Rose};
+ghost use Rattle.opfs_commands.specs.Asking.{InRange};
+ghost use Rattle.opfs_commands.specs.Kinds.{DoneKind, RefusedKind, IsReading};
+ghost use Rattle.opfs_commands.specs.Telling.{IsAnswer, HostRose};
+
+use crate::answers::{ReadTool, ToolAnswer};
+use crate::hosts::{format_at, migrate_at, read_at};
+use crate::words::Action;
+use opfs_outside::Host;
+use std::alloc::{AllocError, Global};
+
+/// Does what is asked of the image at a path. Where no call of the host failed, every other path is as before; and
+/// so is that path, where the command only reads.
+pub fn run_command<H: Host>(
+    alloc: Global,
+    host: &mut H,
+    image: &str,
+    action: Action,
+) -> Result<ToolAnswer, AllocError>
+    requires { InRange action }
+    ensures answer { IfOk result (λ answer. IsAnswer H.tells (DoneKind action (H.image host.old image.now) (H.image host.new image.now)) (RefusedKind action (H.image host.old image.now)) (HostRose (H.own_faults host.old) (H.own_faults host.new) (H.faults host.old) (H.faults host.new)) answer.end answer.text) }
+    ensures others { H.tells → (Rose (H.own_faults host.old) (H.own_faults host.new) → ⊥) → (p : Text) → p ≢ image.now → H.image host.new p ≡ H.image host.old p }
+    ensures reads { H.tells → (Rose (H.own_faults host.old) (H.own_faults host.new) → ⊥) → IsReading action → H.image host.new image.now ≡ H.image host.old image.now }
+{
+    match action {
+        Action::Format(geometry) => format_at(alloc, host, image, geometry),
+        Action::List => read_at(alloc, host, image, ReadTool::List),
+        Action::Check => read_at(alloc, host, image, ReadTool::Check),
+        Action::Migrate => migrate_at(alloc, host, image),
+    }
+}

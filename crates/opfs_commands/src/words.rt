@@ -1,0 +1,153 @@
+//! What the words of a command ask.
+ghost use Rattle.std.specs.Prelude.{◌≡◌, ◌≢◌, ◌<◌, ◌^◌, [], ◌∷◌, ℕ, List, true, decimal, IfSome};
+ghost use Rattle.std.specs.Option.{IfNone};
+ghost use Rattle.opfs_base.specs.Texts.{Text};
+ghost use Rattle.std.specs.Str.{IsUtf8};
+ghost use Rattle.opfs_image.specs.declared.geometry.Geometry.{Geometry as AGeometry};
+ghost use Rattle.opfs_commands.specs.Sizes.{AreSizes};
+ghost use Rattle.opfs_commands.specs.declared.words.Action.{Action as AnAction};
+ghost use Rattle.opfs_commands.specs.Asking.{plain_action, IsCommand};
+
+use itoa::Buffer;
+use opfs_base::{Bytes, Words};
+use opfs_image::Geometry;
+use std::str;
+
+/// What is asked of an image.
+#[derive(Clone, Copy, Debug, PartialEq, Eq)]
+pub enum Action {
+    /// To make it anew, of these sizes.
+    Format(Geometry),
+    /// To list its units and rows.
+    List,
+    /// To read its files, and tell their digests.
+    Check,
+    /// To bring it from format 1 into format 2.
+    Migrate,
+}
+
+/// A command on an image.
+#[derive(Clone, Copy, Debug)]
+pub struct Command<'a> {
+    /// The path of the image.
+    pub image: &'a str,
+    /// What is asked of it.
+    pub action: Action,
+}
+
+// The number that a word is, written as it prints.
+fn number(word: &[u8]) -> Option<u32>
+    ensures some { IfSome result (λ n. word.now ≡ decimal n) }
+    ensures none { IfNone result ((n : ℕ) → n < 2 ^ 32 → word.now ≡ decimal n → ⊥) }
+{
+    let Ok(text) = str::from_utf8(word) else {
+        return None;
+    };
+    let Ok(number) = text.parse::<u32>() else {
+        return None;
+    };
+    let mut buffer = Buffer::new();
+    if buffer.format(number).as_bytes() != word {
+        return None;
+    }
+    Some(number)
+}
+
+// The path that a word is: any text that is not empty.
+fn image_of(word: &[u8]) -> Option<&str>
+    ensures some { IfSome result (λ path. (path.now ≡ word.now) × (path.now ≢ [])) }
+    ensures none { IfNone result (IsUtf8 word.now → word.now ≢ [] → ⊥) }
+{
+    let Ok(path) = str::from_utf8(word) else {
+        return None;
+    };
+    if path.is_empty() {
+        return None;
+    }
+    Some(path)
+}
+
+// The sizes that three words are.
+fn sizes(blocks: &[u8], areas: &[u8], quota: &[u8]) -> Option<Geometry>
+    ensures some { IfSome result (λ g. AreSizes g blocks.now areas.now quota.now) }
+    ensures none { IfNone result ((g : AGeometry) → AreSizes g blocks.now areas.now quota.now → ⊥) }
+{
+    let blocks = number(blocks)?;
+    let areas = number(areas)?;
+    let quota = number(quota)?;
+    let geometry = Geometry {
+        areas,
+        blocks,
+        quota,
+    };
+    if !geometry.is_in_range() {
+        return None;
+    }
+    Some(geometry)
+}
+
+// What a word asks that names an image alone.
+fn action_of(word: &[u8]) -> Option<Action>
+    ensures { result ≡ plain_action word.now }
+{
+    if word == b"list".as_slice() {
+        return Some(Action::List);
+    }
+    if word == b"check".as_slice() {
+        return Some(Action::Check);
+    }
+    if word == b"migrate".as_slice() {
+        return Some(Action::Migrate);
+    }
+    None
+}
+
+// The command that two words are.
+fn read_two<'a>(word: &[u8], image: &'a [u8]) -> Option<Command<'a>>
+    ensures some { IfSome result (λ command. IsCommand (word.now ∷ image.now ∷ []) command.image.now command.action) }
+    ensures none { IfNone result ((path : Text) (action : AnAction) → IsCommand (word.now ∷ image.now ∷ []) path action → ⊥) }
+{
+    let image = image_of(image)?;
+    let action = action_of(word)?;
+    Some(Command { image, action })
+}
+
+// The command that five words are.
+fn read_five<'a>(
+    word: &[u8],
+    image: &'a [u8],
+    blocks: &[u8],
+    areas: &[u8],
+    quota: &[u8],
+) -> Option<Command<'a>>
+    ensures some { IfSome result (λ command. IsCommand (word.now ∷ image.now ∷ blocks.now ∷ areas.now ∷ quota.now ∷ []) command.image.now command.action) }
+    ensures none { IfNone result ((path : Text) (action : AnAction) → IsCommand (word.now ∷ image.now ∷ blocks.now ∷ areas.now ∷ quota.now ∷ []) path action → ⊥) }
+{
+    if word != b"format".as_slice() {
+        return None;
+    }
+    let image = image_of(image)?;
+    let geometry = sizes(blocks, areas, quota)?;
+    Some(Command {
+        image,
+        action: Action::Format(geometry),
+    })
+}
+
+/// The command on an image that words are; None where they are none.
+pub fn read_command(words: &Words) -> Option<Command<'_>>
+    ensures some { IfSome result (λ command. IsCommand words.now command.image.now command.action) }
+    ensures none { IfNone result ((path : Text) (action : AnAction) → IsCommand words.now path action → ⊥) }
+{
+    match words.as_slice() {
+        [word, image] => read_two(word.as_slice(), image.as_slice()),
+        [word, image, blocks, areas, quota] => read_five(
+            word.as_slice(),
+            image.as_slice(),
+            blocks.as_slice(),
+            areas.as_slice(),
+            quota.as_slice(),
+        ),
+        _ => None,
+    }
+}
