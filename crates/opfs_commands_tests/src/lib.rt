@@ -1,0 +1,15 @@
+//! Tests of the commands on an image, over a host in memory.
+#![tactic(auto)]
+
+#[cfg(test)]
+mod asking;
+#[cfg(test)]
+mod damaged;
+#[cfg(test)]
+mod faults;
+#[cfg(test)]
+mod images;
+#[cfg(test)]
+mod spelled;
+#[cfg(test)]
+mod texts;

@@ -1,0 +1,61 @@
+//! Which words are a command.
+
+use crate::asking::words_of;
+use opfs_commands::{Action, read_command};
+use opfs_image::Geometry;
+use std::alloc::{AllocError, Global};
+use std::test::Fail;
+
+// What these words ask of the image `I`.
+fn asked(alloc: Global, words: &[&str]) -> Result<Option<Action>, AllocError> {
+    let words = words_of(alloc, words)?;
+    match read_command(&words) {
+        Some(command) => if command.image == "I" {
+            Ok(Some(command.action))
+        } else {
+            Ok(None)
+        },
+        None => Ok(None),
+    }
+}
+
+#[test]
+fn words_that_ask_for_nothing(rt: HostRuntime) -> Result<(), Fail> {
+    let rows: [&[&str]; 10] = [
+        &[],
+        &["list"],
+        &["list", ""],
+        &["list", "I", "I"],
+        &["run", "I"],
+        &["format", "I", "0", "4", "8"],
+        &["format", "I", "16", "4", "08"],
+        &["format", "I", "16", "4097", "8"],
+        &["format", "I", "16", "4"],
+        &["format", "I", "16", "4", "8", "8"],
+    ];
+    for words in rows {
+        let words = words_of(rt.alloc(), words)?;
+        assert!(rt; read_command(&words).is_none());
+    }
+    Ok(())
+}
+
+#[test]
+fn words_that_ask_for_something(rt: HostRuntime) -> Result<(), Fail> {
+    let alloc = rt.alloc();
+    let sizes = Geometry {
+        areas: 4,
+        blocks: 16,
+        quota: 8,
+    };
+    let rows: [(&[&str], Action); 4] = [
+        (&["format", "I", "16", "4", "8"], Action::Format(sizes)),
+        (&["list", "I"], Action::List),
+        (&["check", "I"], Action::Check),
+        (&["migrate", "I"], Action::Migrate),
+    ];
+    for (words, action) in rows {
+        assert_eq!(rt; asked(alloc, words)?, Some(action));
+    }
+    Ok(())
+}
