@@ -1,6 +1,6 @@
 -- A disk that was fetched, read and given back.
 use Rattle.std.proofs.Common.{◌≡◌, ◌≢◌, ℕ, ◌-◌, ◌^◌, ◌≤◌, [], ◌∷◌, inl, inr, refl, sym, ◌∙◌, ap, subst, arith}
-use Rattle.std.specs.Prelude.{◌⊎◌, Option, Some, Result, Ok, IfOk}
+use Rattle.std.specs.Prelude.{◌⊎◌, Option, Some, None, Result, Ok, IfOk}
 use Rattle.std.proofs.lemmas.Bool.Decides.{eqb_tells}
 use Rattle.std.proofs.lemmas.Result.{IfOk-weaker}
 use Rattle.std.specs.declared.alloc.AllocError.{AllocError}
@@ -8,7 +8,10 @@ use Rattle.opfs_base.specs.Texts.{Text}
 use Rattle.opfs_outside.specs.Faults.{Rose, RoseBy}
 use Rattle.opfs_print.specs.Status.{status_text}
 use Rattle.opfs_print.specs.declared.end.End.TheVariants as end
-use Rattle.opfs_commands.specs.Telling.{IsAnswer, HostRose}
+use Rattle.opfs_machine.specs.Openings.{Map}
+use Rattle.opfs_image.specs.Filling.{StandsOld}
+use Rattle.opfs_migrate.specs.Migrating.{StandsEither}
+use Rattle.opfs_commands.specs.Telling.{IsAnswer, IsStoodFor, HostRose}
 use Rattle.opfs_commands.specs.declared.answers.ToolAnswer.{ToolAnswer}
 use Rattle.opfs_commands.specs.declared.answers.ToolEnd.{ToolEnd}
 use Rattle.opfs_commands.specs.declared.answers.ToolEnd.TheVariants as tool_end
@@ -71,3 +74,22 @@ module _ (tells dtells : Type 0) (to : tells → dtells) (There : Type 0) (Done 
     | inl same ↦ answer_at same.1 a.end a.text (subst (λ x. IfOk x (λ a. IsAnswer dtells Done Refused Cause a.end a.text)) same.0 answer)
     | inr fault ↦ subst (λ e. IsAnswer tells Done' Refused' Cause' e a.text) (sym fault.1) (fault_cause fault.0, fault.2)
   ]) kept
+
+-- the image that was fetched stands for the map
+image_in : Text → Option Text → Text
+image_in other None = other
+image_in other (Some image) = image
+
+pub stood_for : (content : Text) (m : Map) (found mid : Option Text) → mid ≡ Some content → mid ≡ found → IsStoodFor m found → StandsOld content m
+unfolding image_in
+stood_for content m found mid fetched same is =
+    let e : is.image ≡ content = ap (image_in content) (sym is.there ∙ sym same ∙ fetched) in
+    subst (λ c. StandsOld c m) e is.stands
+
+-- each image since a disk was fetched, where it had one image
+pub since_fetched : (m : Map) (content : Text) (moment : ℕ) (since0 since1 : ℕ → Text → Type 0) → moment ≡ 0 → ((c : Text) → since0 0 c → c ≡ content) → StandsOld content m
+    → ((c : Text) → since1 moment c → since0 moment c ⊎ StandsEither m c) → (c : Text) → since1 0 c → StandsEither m c
+since_fetched m content moment since0 since1 first one stands moves c left = elim (moves c (subst (λ t. since1 t c) (sym first) left)) [
+  | inl was ↦ inl (subst (λ x. StandsOld x m) (sym (one c (subst (λ t. since0 t c) first was))) stands)
+  | inr is ↦ is
+]

@@ -30,6 +30,13 @@ IsReading List = Unit {0}
 IsReading Check = Unit {0}
 IsReading Migrate = ⊥
 
+-- The command brings an image into the format of now.
+abbrev pub IsMigration : Action → Type 0
+IsMigration (Format g) = ⊥
+IsMigration List = ⊥
+IsMigration Check = ⊥
+IsMigration Migrate = Unit {0}
+
 -- The words are a command, and it ended like this: before and after are the host's images by path, and its counts of its own
 -- faults and of all.
 pub record IsToolText (tells : Type 0) (before after : Text → Option Text) (own_old own_new old new : ℕ) (words : Items Text) (end : ToolEnd) (text : Text) : Type 0 where

@@ -89,6 +89,12 @@ pub record IsMigrated (old new : Option Text) (text : Text) : Type 0 where
   pub is : new ≡ Some after
   pub kept : AreMigrated before after text
 
+-- A host has an image of format 1 at a path, and it stands for this map.
+pub record IsStoodFor (m : Map) (found : Option Text) : Type 0 where
+  pub image : Text
+  pub there : found ≡ Some image
+  pub stands : StandsOld image m
+
 -- Why an image is not migrated, as the status line says it.
 abbrev pub told_of : MigrateRefusal → Option BadImage
 told_of migrated.Short = Some bad.Short

@@ -4,8 +4,10 @@ ghost use Rattle.opfs_base.specs.Texts.{Text};
 ghost use Rattle.opfs_outside.specs.Faults.{Rose, RoseBy};
 ghost use Rattle.opfs_print.specs.Status.{status_text};
 ghost use Rattle.opfs_print.specs.declared.end.End.TheVariants as end;
+ghost use Rattle.opfs_machine.specs.Openings.{Map};
+ghost use Rattle.opfs_migrate.specs.Migrating.{StandsEither};
 ghost use Rattle.opfs_image.specs.Superblock.{is_in_range};
-ghost use Rattle.opfs_commands.specs.Telling.{IsTold, IsRefusedLine, IsOfImage, IsFormatted, IsMigrated, IsNotMigrated, IsAnswer, HostRose};
+ghost use Rattle.opfs_commands.specs.Telling.{IsTold, IsRefusedLine, IsOfImage, IsFormatted, IsMigrated, IsNotMigrated, IsStoodFor, IsAnswer, HostRose};
 
 use crate::answers::{ReadTool, ToolAnswer, ToolEnd, host_answer};
 use crate::disks::read_disk;
@@ -25,6 +27,7 @@ fn give_back<H: Host>(
     ensures kept { IfOk result (λ a. ((answer ≡ Ok a) × (H.tells → H.image host.new path.now ≡ Some (H.D.content disk))) ⊎ (Rose (H.own_faults host.old) (H.own_faults host.new) × (a.end ≡ ToolEnd.Host) × (a.text ≡ status_text end.Host))) }
     ensures image { H.tells → (Rose (H.own_faults host.old) (H.own_faults host.new) → ⊥) → H.image host.new path.now ≡ Some (H.D.content disk) }
     ensures others { H.tells → (Rose (H.own_faults host.old) (H.own_faults host.new) → ⊥) → (p : Text) → p ≢ path.now → H.image host.new p ≡ H.image host.old p }
+    ensures trail { H.tells → (Rose (H.own_faults host.old) (H.own_faults host.new) → ⊥) → (c : Text) → H.trail host.new path.now c → H.trail host.old path.now c ⊎ H.D.since disk 0 c }
     ensures own_later { H.own_faults host.old ≤ H.own_faults host.new }
     ensures later { RoseBy (H.D.faults disk) (H.faults host.old) (H.faults host.new) }
 {
@@ -75,7 +78,7 @@ pub fn format_at<H: Host>(
     give_back(alloc, host, path, disk, answer)
 }
 
-/// Brings the image at a path of a host from format 1 into format 2.
+/// Brings the image at a path of a host from format 1 into format 2. A stop leaves the old image or the new one.
 pub fn migrate_at<H: Host>(
     alloc: Global,
     host: &mut H,
@@ -83,6 +86,7 @@ pub fn migrate_at<H: Host>(
 ) -> Result<ToolAnswer, AllocError>
     ensures answer { IfOk result (λ answer. IsAnswer H.tells (IsMigrated (H.image host.old path.now) (H.image host.new path.now)) (IsOfImage IsNotMigrated (H.image host.old path.now)) (HostRose (H.own_faults host.old) (H.own_faults host.new) (H.faults host.old) (H.faults host.new)) answer.end answer.text) }
     ensures others { H.tells → (Rose (H.own_faults host.old) (H.own_faults host.new) → ⊥) → (p : Text) → p ≢ path.now → H.image host.new p ≡ H.image host.old p }
+    ensures trail { H.tells → (Rose (H.own_faults host.old) (H.own_faults host.new) → ⊥) → (m : Map) → IsStoodFor m (H.image host.old path.now) → (c : Text) → H.trail host.new path.now c → H.trail host.old path.now c ⊎ StandsEither m c }
 {
     let disk = match host.fetch(path, None) {
         Ok(disk) => disk,

@@ -3,6 +3,9 @@ ghost use Rattle.std.specs.Prelude.{◌≡◌, ◌≢◌, ◌⊎◌, ◌≤◌, 
 ghost use Rattle.opfs_outside.specs.Faults.{Rose};
 ghost use Rattle.opfs_print.specs.Status.{status_text};
 ghost use Rattle.opfs_print.specs.declared.end.End.TheVariants as end;
+ghost use Rattle.opfs_machine.specs.Openings.{Map};
+ghost use Rattle.opfs_migrate.specs.Migrating.{StandsEither};
+ghost use Rattle.opfs_image.specs.Filling.{StandsOld};
 ghost use Rattle.opfs_image.specs.Superblock.{image_size, is_in_range};
 ghost use Rattle.opfs_commands.specs.Telling.{formatted_line, migrated_line, told_of, IsFormatted, AreMigrated, IsNotMigrated, IsNoMigration, IsAnswer};
 
@@ -95,6 +98,7 @@ fn migrated(alloc: Global, files: u64) -> Result<ToolAnswer, AllocError>
 /// Brings the image on a disk from format 1 into format 2.
 pub fn migrate_disk<D: Disk>(alloc: Global, disk: D) -> (D, Result<ToolAnswer, AllocError>)
     ensures answer { IfOk result.1 (λ answer. IsAnswer (D.tells × D.crashes) (AreMigrated (D.content disk) (D.content result.0)) (IsNotMigrated (D.content disk)) (Rose (D.faults disk) (D.faults result.0)) answer.end answer.text) }
+    ensures moments { D.tells → (m : Map) → StandsOld (D.content disk) m → (c : List ℕ) → D.since result.0 (D.moment disk) c → D.since disk (D.moment disk) c ⊎ StandsEither m c }
 {
     match migrate(alloc, disk) {
         Ok((disk, files)) => (disk, migrated(alloc, files)),

@@ -1,10 +1,12 @@
 // A command on an image.
-ghost use Rattle.std.specs.Prelude.{◌≡◌, ◌≢◌, IfOk};
+ghost use Rattle.std.specs.Prelude.{◌≡◌, ◌≢◌, ◌⊎◌, IfOk};
 ghost use Rattle.opfs_base.specs.Texts.{Text};
 ghost use Rattle.opfs_outside.specs.Faults.{Rose};
+ghost use Rattle.opfs_machine.specs.Openings.{Map};
+ghost use Rattle.opfs_migrate.specs.Migrating.{StandsEither};
 ghost use Rattle.opfs_commands.specs.Asking.{InRange};
-ghost use Rattle.opfs_commands.specs.Kinds.{DoneKind, RefusedKind, IsReading};
-ghost use Rattle.opfs_commands.specs.Telling.{IsAnswer, HostRose};
+ghost use Rattle.opfs_commands.specs.Kinds.{DoneKind, RefusedKind, IsReading, IsMigration};
+ghost use Rattle.opfs_commands.specs.Telling.{IsStoodFor, IsAnswer, HostRose};
 
 use crate::answers::{ReadTool, ToolAnswer};
 use crate::hosts::{format_at, migrate_at, read_at};
@@ -14,6 +16,7 @@ use std::alloc::{AllocError, Global};
 
 /// Does what is asked of the image at a path. Where no call of the host failed, every other path is as before; and
 /// so is that path, where the command only reads.
+/// A stop within a migration leaves the old image or the new one.
 pub fn run_command<H: Host>(
     alloc: Global,
     host: &mut H,
@@ -24,6 +27,7 @@ pub fn run_command<H: Host>(
     ensures answer { IfOk result (λ answer. IsAnswer H.tells (DoneKind action (H.image host.old image.now) (H.image host.new image.now)) (RefusedKind action (H.image host.old image.now)) (HostRose (H.own_faults host.old) (H.own_faults host.new) (H.faults host.old) (H.faults host.new)) answer.end answer.text) }
     ensures others { H.tells → (Rose (H.own_faults host.old) (H.own_faults host.new) → ⊥) → (p : Text) → p ≢ image.now → H.image host.new p ≡ H.image host.old p }
     ensures reads { H.tells → (Rose (H.own_faults host.old) (H.own_faults host.new) → ⊥) → IsReading action → H.image host.new image.now ≡ H.image host.old image.now }
+    ensures trail { IsMigration action → H.tells → (Rose (H.own_faults host.old) (H.own_faults host.new) → ⊥) → (m : Map) → IsStoodFor m (H.image host.old image.now) → (c : Text) → H.trail host.new image.now c → H.trail host.old image.now c ⊎ StandsEither m c }
 {
     match action {
         Action::Format(geometry) => format_at(alloc, host, image, geometry),

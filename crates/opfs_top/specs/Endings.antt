@@ -16,6 +16,9 @@ use Rattle.opfs_commands.specs.Asking.{IsCommand}
 use Rattle.opfs_commands.specs.declared.answers.ToolEnd.{ToolEnd}
 use Rattle.opfs_commands.specs.declared.answers.ToolEnd.TheVariants as tool_end
 use Rattle.opfs_commands.specs.declared.words.Action.{Action}
+use Rattle.opfs_commands.specs.declared.words.Action.TheVariants as action
+use Rattle.opfs_commands.specs.Telling.{IsStoodFor}
+use Rattle.opfs_machine.specs.Openings.{Map}
 use Rattle.opfs_trial.specs.Trials.{IsTrial}
 use Rattle.opfs_top.specs.declared.status.Status.{Status}
 use Rattle.opfs_top.specs.declared.status.Status.TheVariants as status
@@ -158,6 +161,11 @@ abbrev pub status_of : ToolEnd → Status
 status_of tool_end.Done = status.Done
 status_of tool_end.Image = status.Image
 status_of tool_end.Host = status.Host
+
+-- The words bring the image at a path into the format of now, and that image stands for a map.
+pub record IsMigrating (words : List Text) (path : Text) (m : Map) (found : Option Text) : Type 0 where
+  pub asked : IsCommand words path action.Migrate
+  pub before : IsStoodFor m found
 
 -- A path is that of no command of the words.
 abbrev pub IsOther : List Text → Text → Type 0

@@ -2,10 +2,12 @@
 
 ghost use Rattle.std.specs.Prelude.{◌≡◌, ◌≢◌, ◌⊎◌, []};
 ghost use Rattle.opfs_base.specs.Texts.{Text};
+ghost use Rattle.opfs_machine.specs.Openings.{Map};
+ghost use Rattle.opfs_migrate.specs.Migrating.{StandsEither};
 ghost use Rattle.opfs_outside.specs.Faults.{Rose};
 ghost use Rattle.opfs_commands.specs.declared.answers.ToolEnd.TheVariants as tool_end;
 ghost use Rattle.opfs_commands.specs.Kinds.{IsToolText};
-ghost use Rattle.opfs_top.specs.Endings.{IsPut, IsDone, IsUsage, IsNoCommand, IsBadScript, IsBadSource, IsCutShort, IsOther, NoCommand, Output, ToolOutput};
+ghost use Rattle.opfs_top.specs.Endings.{IsPut, IsDone, IsUsage, IsNoCommand, IsBadScript, IsBadSource, IsCutShort, IsOther, IsMigrating, NoCommand, Output, ToolOutput};
 
 use crate::answer::{Answer, answer_to};
 use crate::output::put_all;
@@ -17,7 +19,8 @@ use opfs_outside::{Failed, Host, Sink, Source};
 use std::alloc::Global;
 
 /// Does what a command on an image asks: `format`, `list`, `check` or `migrate`. Each status says what was put out, and why.
-/// Where no call of the host failed, every path but that of the image is as before.
+/// Where no call of the host failed, every path but that of the image is as before, and a stop within a migration leaves the
+/// old image or the new one.
 pub fn opfs_tool<H: Host, K: Sink>(
     alloc: Global,
     words: &Words,
@@ -34,6 +37,7 @@ pub fn opfs_tool<H: Host, K: Sink>(
     ensures no_script { result ≢ Status.Script }
     ensures no_source { result ≢ Status.Source }
     ensures others { H.tells → (Rose (H.own_faults host.old) (H.own_faults host.new) → ⊥) → (p : Text) → IsOther words.now p → H.image host.new p ≡ H.image host.old p }
+    ensures trail { H.tells → (Rose (H.own_faults host.old) (H.own_faults host.new) → ⊥) → (path : Text) (m : Map) → IsMigrating words.now path m (H.image host.old path) → (c : Text) → H.trail host.new path c → H.trail host.old path c ⊎ StandsEither m c }
 {
     let Ok(Answer { status, text }) = answer_tool(alloc, words, host) else {
         return Status::Memory;
@@ -99,6 +103,7 @@ pub fn opfs<H: Host, S: Source, K: Sink>(
     ensures sink_cause { result ≡ Status.Sink → Rose (K.faults sink.old) (K.faults sink.new) }
     ensures memory { result ≡ Status.Memory → K.tells → K.written sink.new ≡ K.written sink.old }
     ensures others { H.tells → (Rose (H.own_faults host.old) (H.own_faults host.new) → ⊥) → (p : Text) → IsOther words.now p → H.image host.new p ≡ H.image host.old p }
+    ensures trail { H.tells → (Rose (H.own_faults host.old) (H.own_faults host.new) → ⊥) → (path : Text) (m : Map) → IsMigrating words.now path m (H.image host.old path) → (c : Text) → H.trail host.new path c → H.trail host.old path c ⊎ StandsEither m c }
 {
     if read_command(words).is_some() {
         return opfs_tool(alloc, words, host, sink);

@@ -1,6 +1,7 @@
-use Rattle.std.proofs.Common.{◌≡◌, inl, refl, sym, ◌∙◌}
+use Rattle.std.proofs.Common.{◌≡◌, inl, inr, refl, sym, ◌∙◌}
 use Rattle.std.specs.Prelude.{Some}
-use Rattle.opfs_commands.proofs.Hosting.{rose_later, host_rose, later_by, given_back}
+use Rattle.opfs_outside.specs.Faults.{Rose}
+use Rattle.opfs_commands.proofs.Hosting.{stood_for, since_fetched, rose_later, host_rose, later_by, given_back}
 use Rattle.opfs_commands.proofs.hosts.migrate_at.Goals as goal
 
 pub returns-clause-answer : goal.returns-clause-answer
@@ -12,3 +13,13 @@ returns-clause-answer g c =
     (λ told t is. record { image = _; there = was told; kind = is })
     (λ rose. host_rose _ _ _ _ _ _ _ c.in-Ok.ensures.fresh (later_by _ _ _ c.fetch.ensures.later) c.give_back.ensures.later (g.met.H.Host.counted _) (g.met.H.Host.counted _) (laws.counted _) rose)
     c.give_back.result c.migrate_disk-disk.result.1 _ (λ rose. inl (rose_later _ _ _ c.fetch.ensures.own_later rose)) c.migrate_disk-disk.ensures.answer c.give_back.ensures.kept
+
+pub returns-clause-trail : goal.returns-clause-trail
+returns-clause-trail g c = λ told quiet m is c' left.
+    let dtold = g.met.H.Host.disk_tells told in
+    let calm : Rose (g.H.Host.own_faults c.fetch.new.self) (g.H.Host.own_faults c.give_back.new.host) → ⊥ = λ rose. quiet (rose_later _ _ _ c.fetch.ensures.own_later rose) in
+    let stands = stood_for (g.H.D.Disk.content c.in-Ok.disk) m (g.H.Host.image c.args.host.now c.args.path.now) (g.H.Host.image c.fetch.new.self c.args.path.now) (c.in-Ok.ensures.content told) (c.fetch.ensures.images_stay told refl c.args.path.now) is in
+    elim (c.give_back.ensures.trail told calm c' left) [
+      | inl was ↦ inl ((c.fetch.ensures.trails_stay told refl c.args.path.now c').0 was)
+      | inr since ↦ inr (since_fetched m (g.H.D.Disk.content c.in-Ok.disk) (g.H.D.Disk.moment c.in-Ok.disk) (g.H.D.Disk.since c.in-Ok.disk) (g.H.D.Disk.since c.migrate_disk-disk.result.0) c.in-Ok.ensures.first (c.in-Ok.ensures.one_image dtold) stands (c.migrate_disk-disk.ensures.moments dtold m stands) c' since)
+    ]
