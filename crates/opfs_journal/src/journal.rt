@@ -335,9 +335,10 @@ impl<D: Disk> Journal<D> {
         Ok(())
     }
 
-    /// Gives the disk back.
+    /// Gives the disk back. Without a gate in doubt it holds the records.
     pub fn give_back(self) -> D
-        ensures { result ≡ self.disk }
+        ensures disk { result ≡ self.disk }
+        ensures records { D.tells → self.in_doubt ≡ false → records_of self.areas (D.content result) ≡ Some (kept self) }
     {
         let Journal { disk, .. } = self;
         disk

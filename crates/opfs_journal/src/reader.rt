@@ -165,38 +165,6 @@ fn read_ruling<D: Disk>(
     })
 }
 
-/// Syncs, and finds the area that rules.
-pub fn find<D: Disk>(disk: &mut D, areas: Areas) -> Result<Found, OpenRefusal>
-    requires lies { areas.first + 2 * areas.bytes ≤ D.size disk.old }
-    requires fits { areas.first + 2 * areas.bytes < 2 ^ 64 }
-    requires least { 7 ≤ areas.bytes }
-    ensures only { OnlyRead D.tells D.size D.content D.moment D.since D.faults disk.old disk.new }
-    ensures within { IfOk result (λ found. found.tail < areas.bytes) }
-    ensures known { IfOk result (λ found. is_generation found.generation ≡ true) }
-    ensures told { IfOk result (λ found. D.tells → Told areas found.second found.generation found.tail found.closed None (D.content disk.new) (D.since disk.new (D.moment disk.new))) }
-    ensures durable { OnOk result (D.tells → (c : List ℕ) → D.since disk.new (D.moment disk.new) c → c ≡ D.content disk.new) }
-    ensures refused { IfErr result (λ refusal. (refusal ≡ OpenRefusal.DiskFault) ⊎ (D.tells → read_areas areas (D.content disk.old) ≡ Err refusal)) }
-    ensures cause { IsErrOf result OpenRefusal.DiskFault → Rose (D.faults disk.old) (D.faults disk.new) }
-{
-    disk.sync()?;
-    let first = First::read(disk, areas.first)?;
-    let second = First::read(disk, areas.first + areas.bytes)?;
-    if choose(areas, first, second)? {
-        read_ruling(disk, areas, true, second, first)
-    } else {
-        read_ruling(disk, areas, false, first, second)
-    }
-}
-
-/// An area that rules by the first gates of both: which one, and its generation byte.
-#[derive(Clone, Copy, Debug, PartialEq, Eq)]
-pub struct Ruling {
-    /// Area 1 rules.
-    pub second: bool,
-    /// The generation byte of its first record.
-    pub generation: u8,
-}
-
 // The first gates of both areas.
 fn read_heads<D: Disk>(disk: &mut D, areas: Areas) -> Result<(First, First), Failed>
     requires lies { areas.first + 2 * areas.bytes ≤ D.size disk.old }
@@ -211,6 +179,37 @@ fn read_heads<D: Disk>(disk: &mut D, areas: Areas) -> Result<(First, First), Fai
     let first = First::read(disk, areas.first)?;
     let second = First::read(disk, areas.first + areas.bytes)?;
     Ok((first, second))
+}
+
+/// Syncs, and finds the area that rules.
+pub fn find<D: Disk>(disk: &mut D, areas: Areas) -> Result<Found, OpenRefusal>
+    requires lies { areas.first + 2 * areas.bytes ≤ D.size disk.old }
+    requires fits { areas.first + 2 * areas.bytes < 2 ^ 64 }
+    requires least { 7 ≤ areas.bytes }
+    ensures only { OnlyRead D.tells D.size D.content D.moment D.since D.faults disk.old disk.new }
+    ensures within { IfOk result (λ found. found.tail < areas.bytes) }
+    ensures known { IfOk result (λ found. is_generation found.generation ≡ true) }
+    ensures told { IfOk result (λ found. D.tells → Told areas found.second found.generation found.tail found.closed None (D.content disk.new) (D.since disk.new (D.moment disk.new))) }
+    ensures durable { OnOk result (D.tells → (c : List ℕ) → D.since disk.new (D.moment disk.new) c → c ≡ D.content disk.new) }
+    ensures refused { IfErr result (λ refusal. (refusal ≡ OpenRefusal.DiskFault) ⊎ (D.tells → read_areas areas (D.content disk.old) ≡ Err refusal)) }
+    ensures cause { IsErrOf result OpenRefusal.DiskFault → Rose (D.faults disk.old) (D.faults disk.new) }
+{
+    disk.sync()?;
+    let (first, second) = read_heads(disk, areas)?;
+    if choose(areas, first, second)? {
+        read_ruling(disk, areas, true, second, first)
+    } else {
+        read_ruling(disk, areas, false, first, second)
+    }
+}
+
+/// An area that rules by the first gates of both: which one, and its generation byte.
+#[derive(Clone, Copy, Debug, PartialEq, Eq)]
+pub struct Ruling {
+    /// Area 1 rules.
+    pub second: bool,
+    /// The generation byte of its first record.
+    pub generation: u8,
 }
 
 /// Finds the area that rules, by the first gates alone. The records behind them may be bad.

@@ -63,6 +63,11 @@ module _ {D : Type 0} (size : D → ℕ) (content : D → List ℕ) (moment : D 
         → KeptSince content moment since k.disk new
     kept_since time moments = record { time = time; images = λ m stands c left. inr (either m stands c (same_length (moment k.disk) c left) (moments c left)) }
 
+    -- and so does the content, where the disk holds the one record
+    pub content_new : Same (Outside k.areas) (content new) (content k.disk) → records_of k.areas (content new) ≡ Some (one_record 2 body)
+        → (m : Map) → StandsOld (content k.disk) m → Stands (content new) m
+    content_new outside stored m stands = after m stands (content new) (full new ∙ len ∙ sym (full k.disk)) (record { stored = stored; bytes = outside })
+
     pub all_new : ((c : List ℕ) → since new (moment new) c → After (records_of k.areas) (one_record 2 body) (content k.disk) (Outside k.areas) c)
         → (m : Map) → StandsOld (content k.disk) m → (c : List ℕ) → since new (moment new) c → Stands c m
     all_new durable m stands c left = after m stands c (same_length (moment new) c left) (durable c left)

@@ -20,7 +20,7 @@ use std::alloc::Global;
 /// comes, in the order in which `MigrateRefusal` lists them but for `Short`, which also stands for a length that the
 /// superblock asks for.
 pub fn migrate<D: Disk>(alloc: Global, disk: D) -> Result<(D, u64), (D, MigrateRefusal)>
-    ensures stands { IfOk result (λ done. D.tells → D.crashes → (m : Map) → StandsOld (D.content disk) m → Stands (D.content done.0) m) }
+    ensures stands { IfOk result (λ done. D.tells → (m : Map) → StandsOld (D.content disk) m → Stands (D.content done.0) m) }
     ensures durable { IfOk result (λ done. D.tells → (m : Map) → StandsOld (D.content disk) m → (c : List ℕ) → D.since done.0 (D.moment done.0) c → Stands c m) }
     ensures files { IfOk result (λ done. D.tells → (m : Map) → StandsOld (D.content disk) m → done.1 ≡ file_count m) }
     ensures moments { IfOk result (λ done. D.tells → (m : Map) → StandsOld (D.content disk) m → (c : List ℕ) → D.since done.0 (D.moment disk) c → D.since disk (D.moment disk) c ⊎ StandsEither m c) }

@@ -1,5 +1,6 @@
 // The journal of an image is raised into format 2.
 ghost use Rattle.std.specs.Prelude.{◌≡◌, ◌≢◌, ◌⊎◌, ◌+◌, ◌≤◌, ℕ, List, true, false, length, Some, IfOk, IfErr, OnOk, OnErr, IsErrOf};
+ghost use Rattle.opfs_outside.specs.Bytes.{Same};
 ghost use Rattle.opfs_outside.specs.Faults.{Rose};
 ghost use Rattle.opfs_outside.specs.Moments.{Elapses};
 ghost use Rattle.opfs_journal.specs.Format.{records_of};
@@ -35,6 +36,10 @@ fn write_over<D: Disk>(journal: &mut Journal<D>, body: &[u8]) -> Result<(), Migr
     requires spare { length body.now ≤ journal.old.spare }
     requires fits { length body.now + 7 ≤ journal.old.areas.bytes }
     ensures length { D.size journal.new.disk ≡ D.size journal.old.disk }
+    ensures areas { journal.new.areas ≡ journal.old.areas }
+    ensures sure { OnOk result (journal.new.in_doubt ≡ false) }
+    ensures kept { OnOk result (D.tells → kept journal.new ≡ one_record 2 body.now) }
+    ensures outside { D.tells → Same (Outside journal.old.areas) (D.content journal.new.disk) (D.content journal.old.disk) }
     ensures time { D.tells → Elapses D.moment D.since journal.old.disk journal.new.disk }
     ensures moments { D.tells → (c : List ℕ) → D.since journal.new.disk (D.moment journal.old.disk) c
         → OneOf (records_of journal.old.areas) (D.since journal.old.disk (D.moment journal.old.disk)) (Outside journal.old.areas) (kept journal.old) (one_record 2 body.now) (D.content journal.old.disk) c }
@@ -60,6 +65,10 @@ fn rule<D: Disk>(journal: &mut Journal<D>, plan: &Plan) -> Result<(), MigrateRef
     requires records { D.tells → records_of (areas_of plan.now.geometry) (D.content journal.old.disk) ≡ Some (kept journal.old) }
     requires one_image { D.tells → (c : List ℕ) → D.since journal.old.disk (D.moment journal.old.disk) c → c ≡ D.content journal.old.disk }
     ensures moved { Moved D.tells D.size D.content D.moment D.since D.faults journal.old.disk journal.new.disk }
+    ensures areas_stay { journal.new.areas ≡ journal.old.areas }
+    ensures sure { OnOk result (journal.new.in_doubt ≡ false) }
+    ensures kept { OnOk result (D.tells → kept journal.new ≡ one_record 2 plan.now.body.items) }
+    ensures outside { D.tells → Same (Outside journal.old.areas) (D.content journal.new.disk) (D.content journal.old.disk) }
     ensures durable { OnOk result (D.tells → (m : Map) → StandsOld (D.content journal.old.disk) m → (c : List ℕ) → D.since journal.new.disk (D.moment journal.new.disk) c → Stands c m) }
     ensures untold { IfErr result (λ e. (e ≡ MigrateRefusal.DiskFault) ⊎ (e ≡ MigrateRefusal.NoMemory) ⊎ (D.tells → ⊥)) }
     ensures same { IfErr result (λ e. (e ≡ MigrateRefusal.DiskFault) ⊎ (journal.new.disk ≡ journal.old.disk)) }
@@ -81,6 +90,7 @@ fn raise_over<D: Disk>(journal: Journal<D>, plan: Plan) -> Result<(D, u64), (D, 
     requires records { D.tells → records_of (areas_of plan.geometry) (D.content journal.disk) ≡ Some (kept journal) }
     requires one_image { D.tells → (c : List ℕ) → D.since journal.disk (D.moment journal.disk) c → c ≡ D.content journal.disk }
     ensures moved { IfOk result (λ done. Moved D.tells D.size D.content D.moment D.since D.faults journal.disk done.0) }
+    ensures stands { IfOk result (λ done. D.tells → (m : Map) → StandsOld (D.content journal.disk) m → Stands (D.content done.0) m) }
     ensures durable { IfOk result (λ done. D.tells → (m : Map) → StandsOld (D.content journal.disk) m → (c : List ℕ) → D.since done.0 (D.moment done.0) c → Stands c m) }
     ensures files { IfOk result (λ done. done.1 ≡ plan.files) }
     ensures moved_err { IfErr result (λ err. Moved D.tells D.size D.content D.moment D.since D.faults journal.disk err.0) }
@@ -106,6 +116,7 @@ pub(crate) fn raise_image<D: Disk>(
     requires fits { length plan.body.items + 7 ≤ area_bytes plan.geometry }
     requires planned { D.tells → IsPlanned plan.geometry plan.files plan.body.items (D.content disk) }
     ensures moved { IfOk result (λ done. Moved D.tells D.size D.content D.moment D.since D.faults disk done.0) }
+    ensures stands { IfOk result (λ done. D.tells → (m : Map) → StandsOld (D.content disk) m → Stands (D.content done.0) m) }
     ensures durable { IfOk result (λ done. D.tells → (m : Map) → StandsOld (D.content disk) m → (c : List ℕ) → D.since done.0 (D.moment done.0) c → Stands c m) }
     ensures files { IfOk result (λ done. done.1 ≡ plan.files) }
     ensures moved_err { IfErr result (λ err. Moved D.tells D.size D.content D.moment D.since D.faults disk err.0) }

@@ -8,7 +8,7 @@ pub returns-clause-answer : goal.returns-clause-answer
 returns-clause-answer g c =
     let laws = g.met.H.D.Disk g.world.𝓛 g.world.𝓜 g.world.𝓡 ((λ s x. x), (λ x. x), (λ x. x), λ x. x) in
     let was : g.H.Host.tells → g.H.Host.image c.args.host.now c.args.path.now ≡ Some (g.H.D.Disk.content c.in-Ok.disk) = λ told. sym (c.fetch.ensures.images_stay told refl c.args.path.now) ∙ c.in-Ok.ensures.content told in
-    given_back g.H.Host.tells (g.H.D.Disk.tells × g.H.D.Disk.crashes) (λ told. (g.met.H.Host.disk_tells told, g.met.H.Host.disk_crashes told)) _ _ _ _ _ _ _
+    given_back g.H.Host.tells g.H.D.Disk.tells g.met.H.Host.disk_tells _ _ _ _ _ _ _
     (λ told there t is. record { before = _; after = _; was = was told; is = there; kept = is })
     (λ told t is. record { image = _; there = was told; kind = is })
     (λ rose. host_rose _ _ _ _ _ _ _ c.in-Ok.ensures.fresh (later_by _ _ _ c.fetch.ensures.later) c.give_back.ensures.later (g.met.H.Host.counted _) (g.met.H.Host.counted _) (laws.counted _) rose)

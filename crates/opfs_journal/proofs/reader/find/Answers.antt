@@ -10,50 +10,36 @@ use Rattle.opfs_journal.proofs.Views.{on_ok}
 use Rattle.opfs_journal.proofs.Walks.{only_more, still_durable}
 use Rattle.opfs_journal.proofs.reader.find.Goals as goal
 
-pub returns-in_err-second-clause-only : goal.returns-in_err-second-clause-only
-returns-in_err-second-clause-only g c =
-    let laws = g.met.D.Disk g.world.𝓛 g.world.𝓜 g.world.𝓡 ((λ s x. x), (λ x. x), (λ x. x), λ x. x) in
-    let synced : OnlyRead g.D.Disk.tells g.D.Disk.size g.D.Disk.content g.D.Disk.moment g.D.Disk.since g.D.Disk.faults c.args.disk.now c.sync.new.self =
-    record { length = c.sync.ensures.size; later = c.sync.ensures.later; told = λ told. record { same = c.sync.ensures.same told; time = c.sync.ensures.time told; moments = c.sync.ensures.moments told } } in
-    let first = only_more g.D.Disk.tells g.D.Disk.size g.D.Disk.content g.D.Disk.moment g.D.Disk.since g.D.Disk.faults laws.falls c.args.disk.now c.sync.new.self c.read.new.disk synced c.read.ensures.only in
-    let both = only_more g.D.Disk.tells g.D.Disk.size g.D.Disk.content g.D.Disk.moment g.D.Disk.since g.D.Disk.faults laws.falls c.args.disk.now c.read.new.disk c.read-2.new.disk first c.read-2.ensures.only in
-    both
-
 pub returns-in_err-choose-clause-only : goal.returns-in_err-choose-clause-only
 returns-in_err-choose-clause-only g c =
     let laws = g.met.D.Disk g.world.𝓛 g.world.𝓜 g.world.𝓡 ((λ s x. x), (λ x. x), (λ x. x), λ x. x) in
     let synced : OnlyRead g.D.Disk.tells g.D.Disk.size g.D.Disk.content g.D.Disk.moment g.D.Disk.since g.D.Disk.faults c.args.disk.now c.sync.new.self =
     record { length = c.sync.ensures.size; later = c.sync.ensures.later; told = λ told. record { same = c.sync.ensures.same told; time = c.sync.ensures.time told; moments = c.sync.ensures.moments told } } in
-    let first = only_more g.D.Disk.tells g.D.Disk.size g.D.Disk.content g.D.Disk.moment g.D.Disk.since g.D.Disk.faults laws.falls c.args.disk.now c.sync.new.self c.read.new.disk synced c.read.ensures.only in
-    let both = only_more g.D.Disk.tells g.D.Disk.size g.D.Disk.content g.D.Disk.moment g.D.Disk.since g.D.Disk.faults laws.falls c.args.disk.now c.read.new.disk c.read-2.new.disk first c.read-2.ensures.only in
+    let both = only_more g.D.Disk.tells g.D.Disk.size g.D.Disk.content g.D.Disk.moment g.D.Disk.since g.D.Disk.faults laws.falls c.args.disk.now c.sync.new.self c.read_heads.new.disk synced c.read_heads.ensures.only in
     both
 
 pub read_ruling-requires-clause-durable : goal.read_ruling-requires-clause-durable
 read_ruling-requires-clause-durable g c =
     let laws = g.met.D.Disk g.world.𝓛 g.world.𝓜 g.world.𝓡 ((λ s x. x), (λ x. x), (λ x. x), λ x. x) in
-    let reads = only_more g.D.Disk.tells g.D.Disk.size g.D.Disk.content g.D.Disk.moment g.D.Disk.since g.D.Disk.faults laws.falls c.sync.new.self c.read.new.disk c.read-2.new.disk c.read.ensures.only c.read-2.ensures.only in
-    λ _ _ told. still_durable g.D.Disk.tells g.D.Disk.size g.D.Disk.content g.D.Disk.moment g.D.Disk.since g.D.Disk.faults laws.falls c.sync.new.self c.read-2.new.disk reads told (c.in_ok-sync.ensures.durable told)
+    λ _ _ told. still_durable g.D.Disk.tells g.D.Disk.size g.D.Disk.content g.D.Disk.moment g.D.Disk.since g.D.Disk.faults laws.falls c.sync.new.self c.read_heads.new.disk c.read_heads.ensures.only told (c.in_ok-sync.ensures.durable told)
 
 pub read_ruling-requires-else-branch-clause-durable : goal.read_ruling-requires-else-branch-clause-durable
 read_ruling-requires-else-branch-clause-durable g c =
     let laws = g.met.D.Disk g.world.𝓛 g.world.𝓜 g.world.𝓡 ((λ s x. x), (λ x. x), (λ x. x), λ x. x) in
-    let reads = only_more g.D.Disk.tells g.D.Disk.size g.D.Disk.content g.D.Disk.moment g.D.Disk.since g.D.Disk.faults laws.falls c.sync.new.self c.read.new.disk c.read-2.new.disk c.read.ensures.only c.read-2.ensures.only in
-    λ _ _ told. still_durable g.D.Disk.tells g.D.Disk.size g.D.Disk.content g.D.Disk.moment g.D.Disk.since g.D.Disk.faults laws.falls c.sync.new.self c.read-2.new.disk reads told (c.in_ok-sync.ensures.durable told)
+    λ _ _ told. still_durable g.D.Disk.tells g.D.Disk.size g.D.Disk.content g.D.Disk.moment g.D.Disk.since g.D.Disk.faults laws.falls c.sync.new.self c.read_heads.new.disk c.read_heads.ensures.only told (c.in_ok-sync.ensures.durable told)
 
 pub returns-then-branch-clause-only : goal.returns-then-branch-clause-only
 returns-then-branch-clause-only g c =
     let laws = g.met.D.Disk g.world.𝓛 g.world.𝓜 g.world.𝓡 ((λ s x. x), (λ x. x), (λ x. x), λ x. x) in
     let synced : OnlyRead g.D.Disk.tells g.D.Disk.size g.D.Disk.content g.D.Disk.moment g.D.Disk.since g.D.Disk.faults c.args.disk.now c.sync.new.self =
     record { length = c.sync.ensures.size; later = c.sync.ensures.later; told = λ told. record { same = c.sync.ensures.same told; time = c.sync.ensures.time told; moments = c.sync.ensures.moments told } } in
-    let first = only_more g.D.Disk.tells g.D.Disk.size g.D.Disk.content g.D.Disk.moment g.D.Disk.since g.D.Disk.faults laws.falls c.args.disk.now c.sync.new.self c.read.new.disk synced c.read.ensures.only in
-    let both = only_more g.D.Disk.tells g.D.Disk.size g.D.Disk.content g.D.Disk.moment g.D.Disk.since g.D.Disk.faults laws.falls c.args.disk.now c.read.new.disk c.read-2.new.disk first c.read-2.ensures.only in
-    only_more g.D.Disk.tells g.D.Disk.size g.D.Disk.content g.D.Disk.moment g.D.Disk.since g.D.Disk.faults laws.falls c.args.disk.now c.read-2.new.disk c.read_ruling.new.disk both c.read_ruling.ensures.only
+    let both = only_more g.D.Disk.tells g.D.Disk.size g.D.Disk.content g.D.Disk.moment g.D.Disk.since g.D.Disk.faults laws.falls c.args.disk.now c.sync.new.self c.read_heads.new.disk synced c.read_heads.ensures.only in
+    only_more g.D.Disk.tells g.D.Disk.size g.D.Disk.content g.D.Disk.moment g.D.Disk.since g.D.Disk.faults laws.falls c.args.disk.now c.read_heads.new.disk c.read_ruling.new.disk both c.read_ruling.ensures.only
 
 pub returns-then-branch-clause-durable : goal.returns-then-branch-clause-durable
 returns-then-branch-clause-durable g c =
     let laws = g.met.D.Disk g.world.𝓛 g.world.𝓜 g.world.𝓡 ((λ s x. x), (λ x. x), (λ x. x), λ x. x) in
-    let reads = only_more g.D.Disk.tells g.D.Disk.size g.D.Disk.content g.D.Disk.moment g.D.Disk.since g.D.Disk.faults laws.falls c.sync.new.self c.read.new.disk c.read-2.new.disk c.read.ensures.only c.read-2.ensures.only in
-    let all = only_more g.D.Disk.tells g.D.Disk.size g.D.Disk.content g.D.Disk.moment g.D.Disk.since g.D.Disk.faults laws.falls c.sync.new.self c.read-2.new.disk c.read_ruling.new.disk reads c.read_ruling.ensures.only in
+    let all = only_more g.D.Disk.tells g.D.Disk.size g.D.Disk.content g.D.Disk.moment g.D.Disk.since g.D.Disk.faults laws.falls c.sync.new.self c.read_heads.new.disk c.read_ruling.new.disk c.read_heads.ensures.only c.read_ruling.ensures.only in
     on_ok c.read_ruling.result (λ told. still_durable g.D.Disk.tells g.D.Disk.size g.D.Disk.content g.D.Disk.moment g.D.Disk.since g.D.Disk.faults laws.falls c.sync.new.self c.read_ruling.new.disk all told (c.in_ok-sync.ensures.durable told))
 
 pub returns-then-branch-clause-refused : goal.returns-then-branch-clause-refused
@@ -61,20 +47,18 @@ returns-then-branch-clause-refused g c =
     let laws = g.met.D.Disk g.world.𝓛 g.world.𝓜 g.world.𝓡 ((λ s x. x), (λ x. x), (λ x. x), λ x. x) in
     let synced : OnlyRead g.D.Disk.tells g.D.Disk.size g.D.Disk.content g.D.Disk.moment g.D.Disk.since g.D.Disk.faults c.args.disk.now c.sync.new.self =
     record { length = c.sync.ensures.size; later = c.sync.ensures.later; told = λ told. record { same = c.sync.ensures.same told; time = c.sync.ensures.time told; moments = c.sync.ensures.moments told } } in
-    let first = only_more g.D.Disk.tells g.D.Disk.size g.D.Disk.content g.D.Disk.moment g.D.Disk.since g.D.Disk.faults laws.falls c.args.disk.now c.sync.new.self c.read.new.disk synced c.read.ensures.only in
-    let both = only_more g.D.Disk.tells g.D.Disk.size g.D.Disk.content g.D.Disk.moment g.D.Disk.since g.D.Disk.faults laws.falls c.args.disk.now c.read.new.disk c.read-2.new.disk first c.read-2.ensures.only in
+    let both = only_more g.D.Disk.tells g.D.Disk.size g.D.Disk.content g.D.Disk.moment g.D.Disk.since g.D.Disk.faults laws.falls c.args.disk.now c.sync.new.self c.read_heads.new.disk synced c.read_heads.ensures.only in
     let ok = c.in_ok-choose.ensures in
-    let weaken : (refusal : OpenRefusal) → (refusal ≡ DiskFault) ⊎ ((gate : ℕ) × (refusal ≡ BadRecord gate) × (g.D.Disk.tells → chain c.args.areas.bytes (g.D.Disk.content c.read-2.new.disk) (begin_of c.args.areas true) (begin_of c.args.areas true + c.args.areas.bytes) ≡ Err gate))
+    let weaken : (refusal : OpenRefusal) → (refusal ≡ DiskFault) ⊎ ((gate : ℕ) × (refusal ≡ BadRecord gate) × (g.D.Disk.tells → chain c.args.areas.bytes (g.D.Disk.content c.read_heads.new.disk) (begin_of c.args.areas true) (begin_of c.args.areas true + c.args.areas.bytes) ≡ Err gate))
     → (refusal ≡ DiskFault) ⊎ (g.D.Disk.tells → read_areas c.args.areas (g.D.Disk.content c.args.disk.now) ≡ Err refusal) = λ refusal h. elim h [
       | inl fault ↦ inl fault
       | inr bad ↦ inr (λ told.
           let content = g.D.Disk.content c.args.disk.now in
           let same0 = c.sync.ensures.same told in
-          let same1 = (first.told told).same in
           let same2 = (both.told told).same in
           let f0 = subst (λ c'. IsFirst c' c.args.areas.first c.in_ok-first.first.open c.in_ok-first.first.len c.in_ok-first.first.generation) same0 (c.in_ok-first.ensures.first told) in
-          let f1 = subst (λ c'. IsFirst c' (c.args.areas.first + c.args.areas.bytes) c.in_ok-second.second.open c.in_ok-second.second.len c.in_ok-second.second.generation) same1 (c.in_ok-second.ensures.first told) in
-          let choice : chosen_in c.args.areas content ≡ Ok true = sym (chosen_same c.args.areas content c.in_ok-first.first.open c.in_ok-first.first.len c.in_ok-first.first.generation c.in_ok-second.second.open c.in_ok-second.second.len c.in_ok-second.second.generation f0 f1) ∙ sym ok ∙ ap (λ (x : Bool). Ok x) c.if-branch.true in
+          let f1 = subst (λ c'. IsFirst c' (c.args.areas.first + c.args.areas.bytes) c.in_ok-first.second.open c.in_ok-first.second.len c.in_ok-first.second.generation) same0 (c.in_ok-first.ensures.second told) in
+          let choice : chosen_in c.args.areas content ≡ Ok true = sym (chosen_same c.args.areas content c.in_ok-first.first.open c.in_ok-first.first.len c.in_ok-first.first.generation c.in_ok-first.second.open c.in_ok-first.second.len c.in_ok-first.second.generation f0 f1) ∙ sym ok ∙ ap (λ (x : Bool). Ok x) c.if-branch.true in
           ap (λ (x : Result Bool OpenRefusal). read_chosen c.args.areas content x) choice
           ∙ ap (λ x. opened true x) (ap (λ c'. chain c.args.areas.bytes c' (begin_of c.args.areas true) (begin_of c.args.areas true + c.args.areas.bytes)) (sym same2) ∙ bad.2 told)
           ∙ ap (λ (x : OpenRefusal). Err x) (sym bad.1))
@@ -86,15 +70,13 @@ returns-else-branch-clause-only g c =
     let laws = g.met.D.Disk g.world.𝓛 g.world.𝓜 g.world.𝓡 ((λ s x. x), (λ x. x), (λ x. x), λ x. x) in
     let synced : OnlyRead g.D.Disk.tells g.D.Disk.size g.D.Disk.content g.D.Disk.moment g.D.Disk.since g.D.Disk.faults c.args.disk.now c.sync.new.self =
     record { length = c.sync.ensures.size; later = c.sync.ensures.later; told = λ told. record { same = c.sync.ensures.same told; time = c.sync.ensures.time told; moments = c.sync.ensures.moments told } } in
-    let first = only_more g.D.Disk.tells g.D.Disk.size g.D.Disk.content g.D.Disk.moment g.D.Disk.since g.D.Disk.faults laws.falls c.args.disk.now c.sync.new.self c.read.new.disk synced c.read.ensures.only in
-    let both = only_more g.D.Disk.tells g.D.Disk.size g.D.Disk.content g.D.Disk.moment g.D.Disk.since g.D.Disk.faults laws.falls c.args.disk.now c.read.new.disk c.read-2.new.disk first c.read-2.ensures.only in
-    only_more g.D.Disk.tells g.D.Disk.size g.D.Disk.content g.D.Disk.moment g.D.Disk.since g.D.Disk.faults laws.falls c.args.disk.now c.read-2.new.disk c.read_ruling-else-branch.new.disk both c.read_ruling-else-branch.ensures.only
+    let both = only_more g.D.Disk.tells g.D.Disk.size g.D.Disk.content g.D.Disk.moment g.D.Disk.since g.D.Disk.faults laws.falls c.args.disk.now c.sync.new.self c.read_heads.new.disk synced c.read_heads.ensures.only in
+    only_more g.D.Disk.tells g.D.Disk.size g.D.Disk.content g.D.Disk.moment g.D.Disk.since g.D.Disk.faults laws.falls c.args.disk.now c.read_heads.new.disk c.read_ruling-else-branch.new.disk both c.read_ruling-else-branch.ensures.only
 
 pub returns-else-branch-clause-durable : goal.returns-else-branch-clause-durable
 returns-else-branch-clause-durable g c =
     let laws = g.met.D.Disk g.world.𝓛 g.world.𝓜 g.world.𝓡 ((λ s x. x), (λ x. x), (λ x. x), λ x. x) in
-    let reads = only_more g.D.Disk.tells g.D.Disk.size g.D.Disk.content g.D.Disk.moment g.D.Disk.since g.D.Disk.faults laws.falls c.sync.new.self c.read.new.disk c.read-2.new.disk c.read.ensures.only c.read-2.ensures.only in
-    let all = only_more g.D.Disk.tells g.D.Disk.size g.D.Disk.content g.D.Disk.moment g.D.Disk.since g.D.Disk.faults laws.falls c.sync.new.self c.read-2.new.disk c.read_ruling-else-branch.new.disk reads c.read_ruling-else-branch.ensures.only in
+    let all = only_more g.D.Disk.tells g.D.Disk.size g.D.Disk.content g.D.Disk.moment g.D.Disk.since g.D.Disk.faults laws.falls c.sync.new.self c.read_heads.new.disk c.read_ruling-else-branch.new.disk c.read_heads.ensures.only c.read_ruling-else-branch.ensures.only in
     on_ok c.read_ruling-else-branch.result (λ told. still_durable g.D.Disk.tells g.D.Disk.size g.D.Disk.content g.D.Disk.moment g.D.Disk.since g.D.Disk.faults laws.falls c.sync.new.self c.read_ruling-else-branch.new.disk all told (c.in_ok-sync.ensures.durable told))
 
 pub returns-else-branch-clause-refused : goal.returns-else-branch-clause-refused
@@ -102,20 +84,18 @@ returns-else-branch-clause-refused g c =
     let laws = g.met.D.Disk g.world.𝓛 g.world.𝓜 g.world.𝓡 ((λ s x. x), (λ x. x), (λ x. x), λ x. x) in
     let synced : OnlyRead g.D.Disk.tells g.D.Disk.size g.D.Disk.content g.D.Disk.moment g.D.Disk.since g.D.Disk.faults c.args.disk.now c.sync.new.self =
     record { length = c.sync.ensures.size; later = c.sync.ensures.later; told = λ told. record { same = c.sync.ensures.same told; time = c.sync.ensures.time told; moments = c.sync.ensures.moments told } } in
-    let first = only_more g.D.Disk.tells g.D.Disk.size g.D.Disk.content g.D.Disk.moment g.D.Disk.since g.D.Disk.faults laws.falls c.args.disk.now c.sync.new.self c.read.new.disk synced c.read.ensures.only in
-    let both = only_more g.D.Disk.tells g.D.Disk.size g.D.Disk.content g.D.Disk.moment g.D.Disk.since g.D.Disk.faults laws.falls c.args.disk.now c.read.new.disk c.read-2.new.disk first c.read-2.ensures.only in
+    let both = only_more g.D.Disk.tells g.D.Disk.size g.D.Disk.content g.D.Disk.moment g.D.Disk.since g.D.Disk.faults laws.falls c.args.disk.now c.sync.new.self c.read_heads.new.disk synced c.read_heads.ensures.only in
     let ok = c.in_ok-choose.ensures in
-    let weaken : (refusal : OpenRefusal) → (refusal ≡ DiskFault) ⊎ ((gate : ℕ) × (refusal ≡ BadRecord gate) × (g.D.Disk.tells → chain c.args.areas.bytes (g.D.Disk.content c.read-2.new.disk) (begin_of c.args.areas false) (begin_of c.args.areas false + c.args.areas.bytes) ≡ Err gate))
+    let weaken : (refusal : OpenRefusal) → (refusal ≡ DiskFault) ⊎ ((gate : ℕ) × (refusal ≡ BadRecord gate) × (g.D.Disk.tells → chain c.args.areas.bytes (g.D.Disk.content c.read_heads.new.disk) (begin_of c.args.areas false) (begin_of c.args.areas false + c.args.areas.bytes) ≡ Err gate))
     → (refusal ≡ DiskFault) ⊎ (g.D.Disk.tells → read_areas c.args.areas (g.D.Disk.content c.args.disk.now) ≡ Err refusal) = λ refusal h. elim h [
       | inl fault ↦ inl fault
       | inr bad ↦ inr (λ told.
           let content = g.D.Disk.content c.args.disk.now in
           let same0 = c.sync.ensures.same told in
-          let same1 = (first.told told).same in
           let same2 = (both.told told).same in
           let f0 = subst (λ c'. IsFirst c' c.args.areas.first c.in_ok-first.first.open c.in_ok-first.first.len c.in_ok-first.first.generation) same0 (c.in_ok-first.ensures.first told) in
-          let f1 = subst (λ c'. IsFirst c' (c.args.areas.first + c.args.areas.bytes) c.in_ok-second.second.open c.in_ok-second.second.len c.in_ok-second.second.generation) same1 (c.in_ok-second.ensures.first told) in
-          let choice : chosen_in c.args.areas content ≡ Ok false = sym (chosen_same c.args.areas content c.in_ok-first.first.open c.in_ok-first.first.len c.in_ok-first.first.generation c.in_ok-second.second.open c.in_ok-second.second.len c.in_ok-second.second.generation f0 f1) ∙ sym ok ∙ ap (λ (x : Bool). Ok x) c.if-branch.false in
+          let f1 = subst (λ c'. IsFirst c' (c.args.areas.first + c.args.areas.bytes) c.in_ok-first.second.open c.in_ok-first.second.len c.in_ok-first.second.generation) same0 (c.in_ok-first.ensures.second told) in
+          let choice : chosen_in c.args.areas content ≡ Ok false = sym (chosen_same c.args.areas content c.in_ok-first.first.open c.in_ok-first.first.len c.in_ok-first.first.generation c.in_ok-first.second.open c.in_ok-first.second.len c.in_ok-first.second.generation f0 f1) ∙ sym ok ∙ ap (λ (x : Bool). Ok x) c.if-branch.false in
           ap (λ (x : Result Bool OpenRefusal). read_chosen c.args.areas content x) choice
           ∙ ap (λ x. opened false x) (ap (λ c'. chain c.args.areas.bytes c' (begin_of c.args.areas false) (begin_of c.args.areas false + c.args.areas.bytes)) (sym same2) ∙ bad.2 told)
           ∙ ap (λ (x : OpenRefusal). Err x) (sym bad.1))

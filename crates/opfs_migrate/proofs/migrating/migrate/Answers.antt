@@ -8,8 +8,7 @@ use Rattle.opfs_migrate.proofs.migrating.migrate.Goals as goal
 
 pub returns-in-Ok-clause-stands : goal.returns-in-Ok-clause-stands
 returns-in-Ok-clause-stands g c =
-    let laws = g.met.D.Disk g.world.𝓛 g.world.𝓜 g.world.𝓡 ((λ s x. x), (λ x. x), (λ x. x), λ x. x) in
-    IfOk-weaker c.raise_image.result _ _ (λ done is told may m stands. is told m (subst (λ d. StandsOld d m) (sym (c.read_plan.ensures.only.told told).same) stands) (g.D.Disk.content done.0) (laws.reads may done.0)) c.raise_image.ensures.durable
+    IfOk-weaker c.raise_image.result _ _ (λ done is told m stands. is told m (subst (λ d. StandsOld d m) (sym (c.read_plan.ensures.only.told told).same) stands)) c.raise_image.ensures.stands
 
 pub returns-in-Ok-clause-durable : goal.returns-in-Ok-clause-durable
 returns-in-Ok-clause-durable g c =

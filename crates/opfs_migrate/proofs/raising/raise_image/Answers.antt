@@ -20,6 +20,10 @@ returns-in-Ok-clause-moved g c =
     let laws = g.met.D.Disk g.world.𝓛 g.world.𝓜 g.world.𝓡 ((λ s x. x), (λ x. x), (λ x. x), λ x. x) in
     IfOk-weaker c.raise_over.result _ _ (λ done is. moved_more g.D.Disk.tells g.D.Disk.size g.D.Disk.content g.D.Disk.moment g.D.Disk.since g.D.Disk.faults laws.falls c.args.disk c.in-Ok.journal.disk done.0 c.in-Ok.ensures.only_read is) c.raise_over.ensures.moved
 
+pub returns-in-Ok-clause-stands : goal.returns-in-Ok-clause-stands
+returns-in-Ok-clause-stands g c =
+    IfOk-weaker c.raise_over.result _ _ (λ done is told m stands. is told m (subst (λ d. StandsOld d m) (sym (c.in-Ok.ensures.only_read.told told).same) stands)) c.raise_over.ensures.stands
+
 pub returns-in-Ok-clause-durable : goal.returns-in-Ok-clause-durable
 returns-in-Ok-clause-durable g c =
     IfOk-weaker c.raise_over.result _ _ (λ done is told m stands. is told m (subst (λ d. StandsOld d m) (sym (c.in-Ok.ensures.only_read.told told).same) stands)) c.raise_over.ensures.durable
