@@ -1,11 +1,13 @@
 -- An image as it is formatted.
-use Rattle.std.proofs.Common.{◌≡◌, ℕ, ◌+◌, ◌*◌, ◌<◌, ◌≤◌, Bool, true, false, List, [], length, refl, sym, ◌∙◌, ap, arith}
+use Rattle.std.proofs.Common.{◌≡◌, ℕ, ◌+◌, ◌-◌, ◌*◌, ◌<◌, ◌≤◌, Bool, true, false, List, [], length, replicate, refl, sym, ◌∙◌, ap, arith}
 use Rattle.std.specs.Prelude.{Some, Ok, drop, slice_index, nat_lt, nat_le, ◌&&◌, ◌==◌}
+use Rattle.std.proofs.lemmas.List.{get_or-replicate}
 use Rattle.std.specs.Int.{w32, to_le_bytes}
 use Rattle.std.proofs.lemmas.Nat.{from_le_bytes-to_le_bytes_4}
 use Rattle.opfs_codec.specs.declared.change.Format.TheVariants.{New}
 use Rattle.opfs_machine.specs.Openings.{empty_map}
 use Rattle.opfs_outside.specs.Bytes.{window, Same}
+use Rattle.opfs_outside.specs.Windows.{slice_index-window}
 use Rattle.opfs_journal.specs.Format.{is_open, number_at, chosen, chosen_in, format_of}
 use Rattle.opfs_journal.specs.declared.areas.Areas.{Areas}
 use Rattle.opfs_journal.proofs.Frames.{number_of}
@@ -52,6 +54,13 @@ judged_by head g len m v e range long =
     let r : is_in_range (geometry_in head) ≡ true = ap is_in_range e ∙ range in
     let s : nat_lt len (image_size (geometry_in head)) ≡ false = ap (λ x. nat_lt len (image_size x)) e ∙ long in
     rw (m, v, r, s) (ap (λ x. Ok x) e)
+
+-- zeros that were written behind the head of a superblock
+pub zeros_behind : (c bytes : List ℕ) (n : ℕ) → bytes ≡ replicate n 0 → length bytes ≡ n → window c 24 (length bytes) ≡ bytes → (i : ℕ) → 24 ≤ i → i < 24 + n → slice_index c i ≡ 0
+zeros_behind c bytes n zeros len written i least most =
+    let place : 24 + (i - 24) ≡ i = omega (arith, least) in
+    ap (λ k. slice_index c k) (sym place) ∙ sym (slice_index-window c 24 (length bytes) (i - 24) (omega (arith, least, most, len)))
+    ∙ ap (λ xs. slice_index xs (i - 24)) (written ∙ zeros) ∙ get_or-replicate n (i - 24) 0 0 (omega (arith, least, most))
 
 -- the areas lie behind the superblock
 pub still_empty : (c d : List ℕ) (a : Areas) → 4096 ≤ a.first → Same (λ i. 4096 ≤ i) d c → IsEmptyJournal a c → IsEmptyJournal a d

@@ -4,4 +4,5 @@ pub mod Heads
 pub mod Images
 pub mod Layering
 pub mod Named
+pub mod Standing
 pub mod Yielding

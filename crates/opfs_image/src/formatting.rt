@@ -1,5 +1,5 @@
 // Images that are made anew.
-ghost use Rattle.std.specs.Prelude.{◌≡◌, ◌+◌, ◌*◌, ◌^◌, ◌<◌, ◌≤◌, ◌++◌, ℕ, List, true, Ok, length, drop, OnOk, OnErr};
+ghost use Rattle.std.specs.Prelude.{◌≡◌, ◌+◌, ◌*◌, ◌^◌, ◌<◌, ◌≤◌, ◌++◌, ℕ, List, true, Ok, length, drop, slice_index, OnOk, OnErr};
 ghost use Rattle.opfs_codec.specs.declared.change.Format.TheVariants.{New};
 ghost use Rattle.opfs_machine.specs.Openings.{empty_map};
 ghost use Rattle.opfs_outside.specs.Faults.{Rose};
@@ -56,6 +56,7 @@ fn write_superblock<D: Disk>(disk: &mut D, geometry: Geometry) -> Result<(), Fai
     requires { 4096 ≤ D.size disk.old }
     ensures size { D.size disk.new ≡ D.size disk.old }
     ensures head { OnOk result (D.tells → window (D.content disk.new) 0 24 ≡ head_bytes geometry) }
+    ensures zeros { OnOk result (D.tells → (i : ℕ) → 24 ≤ i → i < 4096 → slice_index (D.content disk.new) i ≡ 0) }
     ensures behind { D.tells → Same (λ i. 4096 ≤ i) (D.content disk.new) (D.content disk.old) }
     ensures durable { OnOk result (D.tells → (c : List ℕ) → D.since disk.new (D.moment disk.new) c → c ≡ D.content disk.new) }
     ensures later { D.faults disk.old ≤ D.faults disk.new }
@@ -67,13 +68,16 @@ fn write_superblock<D: Disk>(disk: &mut D, geometry: Geometry) -> Result<(), Fai
     Ok(())
 }
 
-/// Makes a disk an image of these sizes that holds nothing, and syncs. A stop within it may leave no image.
+/// Makes a disk an image of these sizes that holds nothing, and syncs. Its superblock has version 2, and zeros behind
+/// the sizes. A stop within it may leave no image.
 pub fn format<D: Disk>(disk: &mut D, geometry: Geometry) -> Result<(), DiskFault>
     requires range { is_in_range geometry ≡ true }
     requires fits { image_size geometry ≤ D.size disk.old }
     ensures size { D.size disk.new ≡ D.size disk.old }
     ensures image { OnOk result (D.tells → read_as New New (D.content disk.new) ≡ Ok (record { geometry = geometry; built = nothing_built })) }
     ensures stands { OnOk result (D.tells → Stands (D.content disk.new) empty_map) }
+    ensures head { OnOk result (D.tells → window (D.content disk.new) 0 24 ≡ head_bytes geometry) }
+    ensures zeros { OnOk result (D.tells → (i : ℕ) → 24 ≤ i → i < 4096 → slice_index (D.content disk.new) i ≡ 0) }
     ensures durable { OnOk result (D.tells → (c : List ℕ) → D.since disk.new (D.moment disk.new) c → c ≡ D.content disk.new) }
     ensures later { D.faults disk.old ≤ D.faults disk.new }
     ensures cause { OnErr result (Rose (D.faults disk.old) (D.faults disk.new)) }

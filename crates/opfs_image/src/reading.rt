@@ -14,7 +14,7 @@ use crate::records::replay_records;
 use crate::superblock::{BLOCK, read_geometry};
 use crate::{Geometry, ReadRefusal};
 use opfs_codec::Format;
-use opfs_journal::{Areas, Ruling, find_ruling};
+use opfs_journal::{Ruling, find_ruling};
 use opfs_outside::Disk;
 use opfs_replay::{Rebuilt, Replay};
 use std::alloc::Global;
@@ -26,18 +26,6 @@ pub struct ReadImage {
     pub geometry: Geometry,
     /// What its records build.
     pub parts: Rebuilt,
-}
-
-impl Geometry {
-    /// Where the areas of the journal lie.
-    pub(crate) fn journal_areas(self) -> Areas
-        ensures { result ≡ areas_of self }
-    {
-        Areas {
-            first: BLOCK,
-            bytes: BLOCK * u64::from(self.areas),
-        }
-    }
 }
 
 // Whether an area is of a format.

@@ -1,13 +1,14 @@
 // The superblock of an image.
-ghost use Rattle.std.specs.Prelude.{◌≡◌, ◌⊎◌, ◌+◌, ◌≤◌, ◌&&◌, true, length, take, drop, Ok, Err, IfOk, IfErr, OnErr, IsErrOf};
+ghost use Rattle.std.specs.Prelude.{◌≡◌, ◌⊎◌, ◌+◌, ◌^◌, ◌<◌, ◌≤◌, ◌&&◌, true, length, take, drop, Ok, Err, IfOk, IfErr, OnErr, IsErrOf};
 ghost use Rattle.opfs_base.specs.Texts.{same_text};
 ghost use Rattle.opfs_outside.specs.Faults.{Rose};
 ghost use Rattle.opfs_outside.specs.Bytes.{window};
 ghost use Rattle.opfs_journal.specs.Format.{number_at};
 ghost use Rattle.opfs_journal.specs.Walking.{OnlyRead};
-ghost use Rattle.opfs_image.specs.Superblock.{has_magic, has_version, geometry_in, geometry_by, geometry_of, is_in_range, is_between, image_size};
+ghost use Rattle.opfs_image.specs.Superblock.{has_magic, has_version, geometry_in, geometry_by, geometry_of, is_in_range, is_between, image_size, areas_of, data_base};
 
 use crate::{Geometry, ReadRefusal};
+use opfs_journal::Areas;
 use opfs_outside::{Disk, Failed};
 
 /// The bytes of a block, and of the superblock.
@@ -45,6 +46,24 @@ impl Geometry {
         ensures { result ≡ image_size self }
     {
         BLOCK * (1 + 2 * u64::from(self.areas) + u64::from(self.blocks))
+    }
+
+    /// Where the areas of the journal lie.
+    pub fn journal_areas(self) -> Areas
+        ensures { result ≡ areas_of self }
+    {
+        Areas {
+            first: BLOCK,
+            bytes: BLOCK * u64::from(self.areas),
+        }
+    }
+
+    /// The byte where the first data block begins.
+    pub fn data_base(self) -> u64
+        ensures same { result ≡ data_base self }
+        ensures small { result < 2 ^ 63 }
+    {
+        BLOCK * (1 + 2 * u64::from(self.areas))
     }
 }
 

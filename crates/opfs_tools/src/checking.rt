@@ -14,20 +14,12 @@ ghost use Rattle.opfs_tools.specs.Sights.{sights_in};
 use crate::counts::counts_line;
 use crate::digests::digests_text;
 use opfs_data::DataRefusal;
-use opfs_image::{Geometry, Recovered};
+use opfs_image::Recovered;
 use opfs_journal::Journal;
 use opfs_outside::Disk;
 use opfs_shed::Shed;
 use opfs_tree::Tree;
 use std::alloc::Global;
-
-// The place of the first data block.
-fn data_base(geometry: Geometry) -> u64
-    ensures same { result ≡ data_base geometry }
-    ensures small { result < 2 ^ 63 }
-{
-    4096 * (1 + 2 * u64::from(geometry.areas))
-}
 
 // The text of rows and persistent units.
 fn check_text<D: Disk>(
@@ -70,7 +62,7 @@ pub fn check<D: Disk>(
     ensures charge { from.new.charge ≡ from.old.charge }
     ensures cause { IsErrOf result DataRefusal.DiskFault → Rose (D.faults from.old.journal.disk) (D.faults from.new.journal.disk) }
 {
-    let base = data_base(from.geometry);
+    let base = from.geometry.data_base();
     let text = check_text(
         alloc,
         &mut from.journal,
