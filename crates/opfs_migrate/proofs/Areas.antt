@@ -23,6 +23,7 @@ use Rattle.opfs_image.specs.declared.refusal.ReadRefusal.TheVariants as refusal
 use Rattle.opfs_image.proofs.Layering.{layered, unlayered}
 use Rattle.opfs_image.proofs.Named.{same_filled}
 use Rattle.opfs_migrate.specs.Migrating.{file_count, IsPlanned}
+use Rattle.opfs_migrate.proofs.Charges.{old_charge}
 use Rattle.opfs_migrate.proofs.Counted.{same_count}
 
 -- ---- the superblock and the data part lie outside of the areas
@@ -69,6 +70,26 @@ same_image first_charge second_charge c x y a b =
     let built : x.built ≡ y.built = some_is (sym a.built ∙ (λ i. rows_of Old ((g i).blocks) ((stored i).records)) ∙ b.built) in
     λ i. record { geometry = g i; built = built i }
 
+-- what was planned for stands for a map
+abbrev pub planned_map : (c0 : List ℕ) (g : Geometry) (files : ℕ) (body : List ℕ) → IsPlanned g files body c0 → Map
+planned_map c0 g files body plan = filled (data_base g) c0 plan.built
+
+pub planned_stands : (c0 : List ℕ) (g : Geometry) (files : ℕ) (body : List ℕ) (plan : IsPlanned g files body c0) → StandsOld c0 (planned_map c0 g files body plan)
+planned_stands c0 g files body plan =
+    let image : Image = record { geometry = g; built = plan.built } in
+    let is = layered Old New c0 image plan.reads in
+    ap (map_of c0) (unlayered Old Old c0 image (record {
+      geometry = is.geometry;
+      stored = is.stored;
+      records = is.records;
+      format = is.format;
+      built = is.built;
+      fits = omega (arith, old_charge plan.built, is.fits);
+    }))
+
+pub planned_files : (c0 : List ℕ) (g : Geometry) (files : ℕ) (body : List ℕ) (plan : IsPlanned g files body c0) → files ≡ file_count (planned_map c0 g files body plan)
+planned_files c0 g files body plan = plan.counted ∙ sym (same_count (data_base g) c0 plan.built.rows)
+
 module _ (c0 : List ℕ) (g : Geometry) (files : ℕ) (body : List ℕ) (plan : IsPlanned g files body c0) (m : Map) (stands : StandsOld c0 m) where
   abbrev image : Image
   image = record { geometry = g; built = plan.built }
@@ -87,10 +108,6 @@ module _ (c0 : List ℕ) (g : Geometry) (files : ℕ) (body : List ℕ) (plan : 
 
   map_is : filled (data_base g) c0 plan.built ≡ m
   map_is = ap (λ x. filled (data_base x.geometry) c0 x.built) (sym same) ∙ was.is
-
-  -- so many files
-  pub files_are : files ≡ file_count m
-  files_are = plan.counted ∙ sym (same_count (data_base g) c0 plan.built.rows) ∙ ap (λ x. file_count x) map_is
 
   module _ (c : List ℕ) (len : length c ≡ length c0) (beside : Same (Outside (areas_of g)) c c0) where
     geometry_is : geometry_of c ≡ Ok g

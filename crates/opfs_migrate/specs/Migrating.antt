@@ -22,6 +22,13 @@ is_document (document bytes stamp) = true
 abbrev pub file_count : Map → ℕ
 file_count m = count_by (λ e. is_document e.1) m.rows
 
+-- The image before stands for a map in format 1, and the one after for the same in format 2; it has so many files.
+pub record AreMigrated (files : ℕ) (before after : List ℕ) : Type 0 where
+  pub map : Map
+  pub was : StandsOld before map
+  pub is : Stands after map
+  pub counted : files ≡ file_count map
+
 -- the image stands for the map, in one format or the other
 abbrev pub StandsEither : Map → List ℕ → Type 0
 StandsEither m c = StandsOld c m ⊎ Stands c m

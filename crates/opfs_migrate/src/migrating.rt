@@ -6,7 +6,7 @@ ghost use Rattle.opfs_journal.specs.Walking.{OnlyRead};
 ghost use Rattle.opfs_machine.specs.Openings.{Map};
 ghost use Rattle.opfs_image.specs.Filling.{Stands, StandsOld};
 ghost use Rattle.opfs_image.specs.Reading.{read_as};
-ghost use Rattle.opfs_migrate.specs.Migrating.{IsRefusedAs, StandsEither, file_count};
+ghost use Rattle.opfs_migrate.specs.Migrating.{AreMigrated, IsRefusedAs, StandsEither};
 
 use crate::MigrateRefusal;
 use crate::planning::read_plan;
@@ -20,9 +20,8 @@ use std::alloc::Global;
 /// comes, in the order in which `MigrateRefusal` lists them but for `Short`, which also stands for a length that the
 /// superblock asks for.
 pub fn migrate<D: Disk>(alloc: Global, disk: D) -> Result<(D, u64), (D, MigrateRefusal)>
-    ensures stands { IfOk result (λ done. D.tells → (m : Map) → StandsOld (D.content disk) m → Stands (D.content done.0) m) }
+    ensures stands { IfOk result (λ done. D.tells → AreMigrated done.1 (D.content disk) (D.content done.0)) }
     ensures durable { IfOk result (λ done. D.tells → (m : Map) → StandsOld (D.content disk) m → (c : List ℕ) → D.since done.0 (D.moment done.0) c → Stands c m) }
-    ensures files { IfOk result (λ done. D.tells → (m : Map) → StandsOld (D.content disk) m → done.1 ≡ file_count m) }
     ensures moments { IfOk result (λ done. D.tells → (m : Map) → StandsOld (D.content disk) m → (c : List ℕ) → D.since done.0 (D.moment disk) c → D.since disk (D.moment disk) c ⊎ StandsEither m c) }
     ensures moments_err { IfErr result (λ err. D.tells → (m : Map) → StandsOld (D.content disk) m → (c : List ℕ) → D.since err.0 (D.moment disk) c → D.since disk (D.moment disk) c ⊎ StandsEither m c) }
     ensures refused { IfErr result (λ err. err.1 ≢ MigrateRefusal.DiskFault → err.1 ≢ MigrateRefusal.NoMemory → D.tells → IsRefusedAs (read_as Old New (D.content disk)) err.1) }

@@ -10,24 +10,14 @@ ghost use Rattle.opfs_journal.specs.Walking.{OnlyRead};
 ghost use Rattle.opfs_machine.specs.Openings.{Map};
 ghost use Rattle.opfs_image.specs.Filling.{Stands, StandsOld};
 ghost use Rattle.opfs_image.specs.Superblock.{areas_of, area_bytes, image_size, is_in_range};
-ghost use Rattle.opfs_migrate.specs.Migrating.{IsPlanned, Moved};
+ghost use Rattle.opfs_migrate.specs.Migrating.{AreMigrated, IsPlanned, Moved};
 
 use crate::MigrateRefusal;
 use crate::planning::Plan;
-use opfs_image::{Geometry, ReadRefusal};
-use opfs_journal::{Areas, Journal, JournalRefusal};
+use opfs_image::ReadRefusal;
+use opfs_journal::{Journal, JournalRefusal};
 use opfs_outside::Disk;
 use std::alloc::Global;
-
-// Where the areas of an image lie.
-fn areas_of(geometry: Geometry) -> Areas
-    ensures { result ≡ areas_of geometry }
-{
-    Areas {
-        first: 4096,
-        bytes: 4096 * u64::from(geometry.areas),
-    }
-}
 
 // Puts one record of format 2, which has room, in the place of all.
 fn write_over<D: Disk>(journal: &mut Journal<D>, body: &[u8]) -> Result<(), MigrateRefusal>
@@ -90,9 +80,8 @@ fn raise_over<D: Disk>(journal: Journal<D>, plan: Plan) -> Result<(D, u64), (D, 
     requires records { D.tells → records_of (areas_of plan.geometry) (D.content journal.disk) ≡ Some (kept journal) }
     requires one_image { D.tells → (c : List ℕ) → D.since journal.disk (D.moment journal.disk) c → c ≡ D.content journal.disk }
     ensures moved { IfOk result (λ done. Moved D.tells D.size D.content D.moment D.since D.faults journal.disk done.0) }
-    ensures stands { IfOk result (λ done. D.tells → (m : Map) → StandsOld (D.content journal.disk) m → Stands (D.content done.0) m) }
+    ensures stands { IfOk result (λ done. D.tells → AreMigrated done.1 (D.content journal.disk) (D.content done.0)) }
     ensures durable { IfOk result (λ done. D.tells → (m : Map) → StandsOld (D.content journal.disk) m → (c : List ℕ) → D.since done.0 (D.moment done.0) c → Stands c m) }
-    ensures files { IfOk result (λ done. done.1 ≡ plan.files) }
     ensures moved_err { IfErr result (λ err. Moved D.tells D.size D.content D.moment D.since D.faults journal.disk err.0) }
     ensures untold { IfErr result (λ err. (err.1 ≡ MigrateRefusal.DiskFault) ⊎ (err.1 ≡ MigrateRefusal.NoMemory) ⊎ (D.tells → ⊥)) }
     ensures same { IfErr result (λ err. (err.1 ≡ MigrateRefusal.DiskFault) ⊎ (err.0 ≡ journal.disk)) }
@@ -116,15 +105,14 @@ pub(crate) fn raise_image<D: Disk>(
     requires fits { length plan.body.items + 7 ≤ area_bytes plan.geometry }
     requires planned { D.tells → IsPlanned plan.geometry plan.files plan.body.items (D.content disk) }
     ensures moved { IfOk result (λ done. Moved D.tells D.size D.content D.moment D.since D.faults disk done.0) }
-    ensures stands { IfOk result (λ done. D.tells → (m : Map) → StandsOld (D.content disk) m → Stands (D.content done.0) m) }
+    ensures stands { IfOk result (λ done. D.tells → AreMigrated done.1 (D.content disk) (D.content done.0)) }
     ensures durable { IfOk result (λ done. D.tells → (m : Map) → StandsOld (D.content disk) m → (c : List ℕ) → D.since done.0 (D.moment done.0) c → Stands c m) }
-    ensures files { IfOk result (λ done. done.1 ≡ plan.files) }
     ensures moved_err { IfErr result (λ err. Moved D.tells D.size D.content D.moment D.since D.faults disk err.0) }
     ensures untold { IfErr result (λ err. (err.1 ≡ MigrateRefusal.DiskFault) ⊎ (err.1 ≡ MigrateRefusal.NoMemory) ⊎ (D.tells → ⊥)) }
     ensures only_read_err { IfErr result (λ err. (err.1 ≡ MigrateRefusal.DiskFault) ⊎ OnlyRead D.tells D.size D.content D.moment D.since D.faults disk err.0) }
     ensures cause { IfErr result (λ err. err.1 ≡ MigrateRefusal.DiskFault → Rose (D.faults disk) (D.faults err.0)) }
 {
-    let areas = areas_of(plan.geometry);
+    let areas = plan.geometry.journal_areas();
     match Journal::begin(alloc, disk, areas) {
         Ok(journal) => raise_over(journal, plan),
         Err((disk, refusal)) => Err((disk, ReadRefusal::from(refusal).into())),

@@ -1,22 +1,18 @@
-use Rattle.std.proofs.Common.{inl, inr, sym, ◌∙◌, subst}
+use Rattle.std.proofs.Common.{inl, inr, sym, subst}
 use Rattle.std.proofs.lemmas.Result.{IfOk-weaker, IfErr-weaker}
 use Rattle.opfs_journal.proofs.Walks.{only_more}
 use Rattle.opfs_image.specs.Filling.{StandsOld}
-use Rattle.opfs_migrate.proofs.Areas.{files_are}
+use Rattle.opfs_migrate.specs.Migrating.{AreMigrated}
 use Rattle.opfs_migrate.proofs.Moves.{moved_more}
 use Rattle.opfs_migrate.proofs.migrating.migrate.Goals as goal
 
 pub returns-in-Ok-clause-stands : goal.returns-in-Ok-clause-stands
 returns-in-Ok-clause-stands g c =
-    IfOk-weaker c.raise_image.result _ _ (λ done is told m stands. is told m (subst (λ d. StandsOld d m) (sym (c.read_plan.ensures.only.told told).same) stands)) c.raise_image.ensures.stands
+    IfOk-weaker c.raise_image.result _ _ (λ done is told. subst (λ d. AreMigrated done.1 d (g.D.Disk.content done.0)) (c.read_plan.ensures.only.told told).same (is told)) c.raise_image.ensures.stands
 
 pub returns-in-Ok-clause-durable : goal.returns-in-Ok-clause-durable
 returns-in-Ok-clause-durable g c =
     IfOk-weaker c.raise_image.result _ _ (λ done is told m stands. is told m (subst (λ d. StandsOld d m) (sym (c.read_plan.ensures.only.told told).same) stands)) c.raise_image.ensures.durable
-
-pub returns-in-Ok-clause-files : goal.returns-in-Ok-clause-files
-returns-in-Ok-clause-files g c =
-    IfOk-weaker c.raise_image.result _ _ (λ done is told m stands. is ∙ files_are (g.D.Disk.content c.args.disk) c.in-Ok.plan.geometry c.in-Ok.plan.files c.in-Ok.plan.body.items (c.in-Ok.ensures.planned told) m stands) c.raise_image.ensures.files
 
 pub returns-in-Ok-clause-moments : goal.returns-in-Ok-clause-moments
 returns-in-Ok-clause-moments g c =

@@ -4,14 +4,14 @@ use Rattle.opfs_journal.specs.Format.{records_of}
 use Rattle.opfs_image.specs.Filling.{StandsOld}
 use Rattle.opfs_codec.specs.declared.change.Format.TheVariants.{Old, New}
 use Rattle.opfs_image.proofs.Layering.{no_refusal}
-use Rattle.opfs_migrate.specs.Migrating.{answer_of}
+use Rattle.opfs_migrate.specs.Migrating.{AreMigrated, answer_of}
 use Rattle.opfs_migrate.proofs.Moves.{only_moved, moved_more}
 use Rattle.opfs_migrate.proofs.Refused.{begun}
 use Rattle.opfs_migrate.proofs.raising.raise_image.Goals as goal
 
 pub raise_over-requires-clause-records : goal.raise_over-requires-clause-records
 raise_over-requires-clause-records g c κs within = λ told.
-    let areas = c.areas_of-areas.ensures in
+    let areas = c.journal_areas-areas.ensures in
     let same = (c.in-Ok.ensures.only_read.told told).same in
     sym (λ i. records_of (areas i) ((sym same) i)) ∙ c.in-Ok.ensures.records told
 
@@ -22,7 +22,7 @@ returns-in-Ok-clause-moved g c =
 
 pub returns-in-Ok-clause-stands : goal.returns-in-Ok-clause-stands
 returns-in-Ok-clause-stands g c =
-    IfOk-weaker c.raise_over.result _ _ (λ done is told m stands. is told m (subst (λ d. StandsOld d m) (sym (c.in-Ok.ensures.only_read.told told).same) stands)) c.raise_over.ensures.stands
+    IfOk-weaker c.raise_over.result _ _ (λ done is told. subst (λ d. AreMigrated done.1 d (g.D.Disk.content done.0)) (c.in-Ok.ensures.only_read.told told).same (is told)) c.raise_over.ensures.stands
 
 pub returns-in-Ok-clause-durable : goal.returns-in-Ok-clause-durable
 returns-in-Ok-clause-durable g c =
@@ -42,5 +42,5 @@ pub returns-in-Err-clause-untold : goal.returns-in-Err-clause-untold
 returns-in-Err-clause-untold g c =
     begun g.D.Disk.tells c.in-Err.refusal c.into.result (c.into.ensures ∙ ap answer_of c.from.ensures) (λ no_fault no_want told.
     let plan = c.requires.planned told in
-    no_refusal Old New (g.D.Disk.content c.args.disk) (record { geometry = c.args.plan.geometry; built = plan.built }) c.areas_of-areas.result c.in-Err.refusal plan.reads c.areas_of-areas.ensures
+    no_refusal Old New (g.D.Disk.content c.args.disk) (record { geometry = c.args.plan.geometry; built = plan.built }) c.journal_areas-areas.result c.in-Err.refusal plan.reads c.journal_areas-areas.ensures
     (c.in-Err.ensures.refused no_fault no_want told))
