@@ -1,7 +1,6 @@
 -- A disk that was fetched, read and given back.
-use Rattle.std.proofs.Common.{◌≡◌, ◌≢◌, ℕ, ◌-◌, ◌^◌, ◌≤◌, [], ◌∷◌, inl, inr, refl, sym, ◌∙◌, ap, subst, arith}
+use Rattle.std.proofs.Common.{◌≡◌, ◌↔◌, ℕ, ◌-◌, ◌^◌, ◌≤◌, inl, inr, sym, ◌∙◌, ap, subst, arith}
 use Rattle.std.specs.Prelude.{◌⊎◌, Option, Some, None, Result, Ok, IfOk}
-use Rattle.std.proofs.lemmas.Bool.Decides.{eqb_tells}
 use Rattle.std.proofs.lemmas.Result.{IfOk-weaker}
 use Rattle.std.specs.declared.alloc.AllocError.{AllocError}
 use Rattle.opfs_base.specs.Texts.{Text}
@@ -11,43 +10,71 @@ use Rattle.opfs_print.specs.declared.end.End.TheVariants as end
 use Rattle.opfs_machine.specs.Openings.{Map}
 use Rattle.opfs_image.specs.Filling.{StandsOld}
 use Rattle.opfs_migrate.specs.Migrating.{StandsEither}
+use Rattle.opfs_commands.specs.Hosts.{IsAsBefore, IsGivenBack, IsOnlyRead, NoneFailed, OthersStay}
 use Rattle.opfs_commands.specs.Telling.{IsAnswer, IsStoodFor, HostRose}
 use Rattle.opfs_commands.specs.declared.answers.ToolAnswer.{ToolAnswer}
 use Rattle.opfs_commands.specs.declared.answers.ToolEnd.{ToolEnd}
 use Rattle.opfs_commands.specs.declared.answers.ToolEnd.TheVariants as tool_end
-
--- two texts are the same or not
-abbrev head_of : ℕ → Text → ℕ
-head_of other [] = other
-head_of other (x ∷ xs) = x
-
-abbrev rest_of : Text → Text
-rest_of [] = []
-rest_of (x ∷ xs) = xs
-
-pub same_or_not : (a b : Text) → (a ≡ b) ⊎ (a ≢ b)
-same_or_not [] [] = inl refl
-same_or_not [] (y ∷ ys) = inr (λ e. absurd (cc e))
-same_or_not (x ∷ xs) [] = inr (λ e. absurd (cc e))
-same_or_not (x ∷ xs) (y ∷ ys) = elim (eqb_tells x y) [
-  | inl h ↦ elim (same_or_not xs ys) [
-    | inl t ↦ inl (λ i. h.1 i ∷ t i)
-    | inr n ↦ inr (λ e. n (ap rest_of e))
-  ]
-  | inr h ↦ inr (λ e. h.1 (ap (head_of x) e))
-]
 
 -- an earlier moment of a count
 pub rose_later : (old mid new : ℕ) → old ≤ mid → Rose mid new → Rose old new
 rose_later old mid new le (inl h) = inl (omega (arith, le, h))
 rose_later old mid new le (inr h) = inr h
 
--- all paths are as before
-pub paths_stay : (path : Text) (old mid new : Text → Option Text) (content : Text) → ((p : Text) → mid p ≡ old p) → mid path ≡ Some content → new path ≡ Some content → ((p : Text) → p ≢ path → new p ≡ mid p) → (p : Text) → new p ≡ old p
-paths_stay path old mid new content first there again others p = elim (same_or_not p path) [
-  | inl same ↦ subst (λ q. new q ≡ old q) (sym same) (again ∙ sym there ∙ first path)
-  | inr other ↦ others p other ∙ first p
+-- a host that failed is told
+pub failed : (old new : ℕ) (r : Result ToolAnswer AllocError) → Rose old new → IfOk r (λ a. a.end ≡ tool_end.Host) → NoneFailed old new r → ⊥
+failed old new r rose fault none = elim none [
+  | inl quiet ↦ quiet rose
+  | inr is ↦ is.2 (subst (λ x. IfOk x (λ a. a.end ≡ tool_end.Host)) is.1 fault)
 ]
+
+-- where no call failed, the disk was given back
+pub was_given : (tells Back : Type 0) (old mid new : ℕ) (r first : Result ToolAnswer AllocError) → tells → old ≤ mid → (tells → (Rose mid new → ⊥) → Back)
+    → IfOk r (λ a. ((first ≡ Ok a) × (tells → Back)) ⊎ (Rose mid new × (a.end ≡ tool_end.Host) × (a.text ≡ status_text end.Host))) → NoneFailed old new r → Back
+was_given tells Back old mid new r first told le back kept none = elim none [
+  | inl quiet ↦ back told (λ rose. quiet (rose_later old mid new le rose))
+  | inr is ↦ elim (subst (λ x. IfOk x (λ a. ((first ≡ Ok a) × (tells → Back)) ⊎ (Rose mid new × (a.end ≡ tool_end.Host) × (a.text ≡ status_text end.Host)))) is.1 kept) [
+    | inl given ↦ given.1 told
+    | inr fault ↦ absurd (is.2 fault.1)
+  ]
+]
+
+-- where the image was refused, the disk was given back
+pub refused_back : (tells Back Read P : Type 0) (mid new : ℕ) (r first : Result ToolAnswer AllocError) → (tells → Back → Read → P) → IfOk first (λ a. a.end ≡ tool_end.Image → Read)
+    → IfOk r (λ a. ((first ≡ Ok a) × (tells → Back)) ⊎ (Rose mid new × (a.end ≡ tool_end.Host) × (a.text ≡ status_text end.Host))) → IfOk r (λ a. a.end ≡ tool_end.Image → tells → P)
+refused_back tells Back Read P mid new r first to refused kept = IfOk-weaker r _ _ (λ a is same told. elim is [
+  | inl given ↦ to told (given.1 told) (subst (λ x. IfOk x (λ a'. a'.end ≡ tool_end.Image → Read)) given.0 refused same)
+  | inr fault ↦ let e : tool_end.Image ≡ tool_end.Host = sym same ∙ fault.1 in absurd (cc e)
+]) kept
+
+-- the paths of a host, where a disk was fetched and given back
+module _ (old mid new : Text → Option Text) (old_trail mid_trail new_trail : Text → Text → Type 0) (path : Text) where
+  pub others_stay : OthersStay old mid old_trail mid_trail path → OthersStay mid new mid_trail new_trail path → OthersStay old new old_trail new_trail path
+  others_stay first second p other = record {
+    image = (second p other).image ∙ (first p other).image;
+    trail = λ c. (λ x. ((first p other).trail c).0 (((second p other).trail c).0 x), λ x. ((second p other).trail c).1 (((first p other).trail c).1 x));
+  }
+
+  pub only_read : (content back : Text) (left : Text → Type 0) → ((p : Text) → mid p ≡ old p) → ((p c : Text) → mid_trail p c ↔ old_trail p c) → mid path ≡ Some content → back ≡ content → ((c : Text) → left c → c ≡ content)
+      → IsGivenBack mid new mid_trail new_trail path back left → IsOnlyRead old new old_trail new_trail path
+  only_read content back left images trails there same only given = record {
+    image = given.image ∙ ap (λ (x : Text). Some x) same ∙ sym there ∙ images path;
+    trail = λ c x. elim ((given.trail c).0 x) [
+      | inl was ↦ inl ((trails path c).0 was)
+      | inr l ↦ inr (sym (images path) ∙ there ∙ ap (λ (t : Text). Some t) (sym (only c l)))
+    ];
+  }
+
+-- where all paths are as before, so is each one
+pub all_stay : (old new : Text → Option Text) (old_trail new_trail : Text → Text → Type 0) → ((p : Text) → new p ≡ old p) → ((p c : Text) → new_trail p c ↔ old_trail p c) → (p : Text) → IsAsBefore old new old_trail new_trail p
+all_stay old new old_trail new_trail images trails p = record { image = images p; trail = trails p }
+
+pub still_read : (old new : Text → Option Text) (old_trail new_trail : Text → Text → Type 0) (p : Text) → IsAsBefore old new old_trail new_trail p → IsOnlyRead old new old_trail new_trail p
+still_read old new old_trail new_trail p is = record { image = is.image; trail = λ c x. inl ((is.trail c).0 x) }
+
+-- each image since a disk was fetched that had one image, where it was only read
+pub one_since : (content : Text) (moment : ℕ) (since0 since1 : ℕ → Text → Type 0) → moment ≡ 0 → ((c : Text) → since0 0 c → c ≡ content) → ((c : Text) → since1 moment c → since0 moment c) → (c : Text) → since1 0 c → c ≡ content
+one_since content moment since0 since1 first one moves c left = one c (subst (λ t. since0 t c) first (moves c (subst (λ t. since1 t c) (sym first) left)))
 
 -- the faults of a disk are those of its host
 pub host_rose : (own_old own_new old mid new f0 f1 : ℕ) → f0 ≡ 0 → old ≤ mid ⊎ (mid ≡ 2 ^ 64 - 1) → RoseBy f1 mid new → mid ≤ 2 ^ 64 - 1 → new ≤ 2 ^ 64 - 1 → f1 ≤ 2 ^ 64 - 1 → Rose f0 f1 → HostRose own_old own_new old new

@@ -1,6 +1,6 @@
--- What a recovered image stands for.
-use Rattle.std.proofs.Common.{◌≡◌, ◌≢◌, ℕ, List, refl, sym, ap, subst}
-use Rattle.std.specs.Prelude.{Ok, Result, IfOk}
+-- Answers to refusals.
+use Rattle.std.proofs.Common.{◌≡◌, ◌≢◌, ℕ, List, refl, sym, subst}
+use Rattle.std.specs.Prelude.{Result, IfOk}
 use Rattle.std.proofs.lemmas.Result.{IfOk-weaker}
 use Rattle.std.specs.declared.alloc.AllocError.{AllocError}
 use Rattle.opfs_outside.specs.Faults.{Rose}
@@ -13,14 +13,7 @@ use Rattle.opfs_commands.specs.Telling.{IsLineOf, IsImageLine, IsAnswer}
 use Rattle.opfs_commands.specs.declared.answers.ToolAnswer.{ToolAnswer}
 use Rattle.opfs_commands.specs.declared.answers.ToolEnd.TheVariants as tool_end
 use Rattle.opfs_codec.specs.declared.change.Format.TheVariants.{New}
-use Rattle.opfs_image.specs.Filling.{Stands, filled, map_of}
 use Rattle.opfs_image.specs.Reading.{read_as}
-use Rattle.opfs_image.specs.Superblock.{data_base}
-use Rattle.opfs_image.specs.declared.geometry.Geometry.{Geometry}
-use Rattle.opfs_replay.specs.Built.{Built}
-
-pub stands_filled : (c : List ℕ) (g : Geometry) (b : Built) → read_as New New c ≡ Ok (record { geometry = g; built = b }) → Stands c (filled (data_base g) c b)
-stands_filled c g b read = ap (map_of c) read
 
 -- an answer to a refusal
 module _ (tells : Type 0) (Done : List ℕ → Type 0) (c : List ℕ) (r : Result ToolAnswer AllocError) (old new : ℕ) where

@@ -1,4 +1,5 @@
 pub mod Asking
+pub mod Hosts
 pub mod Kinds
 pub mod Sizes
 pub mod Telling

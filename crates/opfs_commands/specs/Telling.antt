@@ -17,7 +17,7 @@ use Rattle.opfs_image.specs.declared.refusal.ImageRefusal.{ImageRefusal}
 use Rattle.opfs_image.specs.declared.refusal.ImageRefusal.TheVariants as image
 use Rattle.opfs_image.specs.declared.refusal.ReadRefusal.{ReadRefusal}
 use Rattle.opfs_replay.specs.Built.{nothing_built}
-use Rattle.opfs_migrate.specs.Migrating.{file_count}
+use Rattle.opfs_migrate.specs.Migrating.{AreMigrated}
 use Rattle.opfs_migrate.specs.Migrating.{IsRefusedAs as IsMigrateRefusal}
 use Rattle.opfs_migrate.specs.declared.refusal.MigrateRefusal.{MigrateRefusal}
 use Rattle.opfs_migrate.specs.declared.refusal.MigrateRefusal.TheVariants as migrated
@@ -77,17 +77,20 @@ pub record IsFormatted (g : Geometry) (c text : Text) : Type 0 where
 abbrev pub migrated_line : ℕ → Text
 migrated_line files = joined (codes "migrated " ∷ decimal files ∷ codes "\n" ∷ [])
 
--- The image that is there now stands for what the one before stood for in format 1.
-pub record AreMigrated (before after text : Text) : Type 0 where
-  pub stands : (m : Map) → StandsOld before m → Stands after m
-  pub printed : (m : Map) → StandsOld before m → text ≡ migrated_line (file_count m)
+-- The image after stands in format 2 for what the one before stood for in format 1, and the text is the line with the number
+-- of its files.
+pub record IsMigratedText (before after text : Text) : Type 0 where
+  pub files : ℕ
+  pub migrated : AreMigrated files before after
+  pub printed : text ≡ migrated_line files
 
+-- These are the images at a path before and after a migration, and this is its text.
 pub record IsMigrated (old new : Option Text) (text : Text) : Type 0 where
   pub before : Text
   pub after : Text
   pub was : old ≡ Some before
   pub is : new ≡ Some after
-  pub kept : AreMigrated before after text
+  pub told : IsMigratedText before after text
 
 -- A host has an image of format 1 at a path, and it stands for this map.
 pub record IsStoodFor (m : Map) (found : Option Text) : Type 0 where

@@ -1,5 +1,6 @@
 // Commands that write the disk of an image.
 ghost use Rattle.std.specs.Prelude.{◌≡◌, ◌≢◌, ◌⊎◌, ◌≤◌, ◌++◌, [], ℕ, List, Some, None, true, Result, string_bytes, Ok, Err, IfOk, IfErr, OnOk, OnErr};
+ghost use Rattle.opfs_journal.specs.Walking.{OnlyRead};
 ghost use Rattle.opfs_outside.specs.Faults.{Rose};
 ghost use Rattle.opfs_print.specs.Status.{status_text};
 ghost use Rattle.opfs_print.specs.declared.end.End.TheVariants as end;
@@ -7,7 +8,7 @@ ghost use Rattle.opfs_machine.specs.Openings.{Map};
 ghost use Rattle.opfs_migrate.specs.Migrating.{StandsEither};
 ghost use Rattle.opfs_image.specs.Filling.{StandsOld};
 ghost use Rattle.opfs_image.specs.Superblock.{image_size, is_in_range};
-ghost use Rattle.opfs_commands.specs.Telling.{formatted_line, migrated_line, told_of, IsFormatted, AreMigrated, IsNotMigrated, IsNoMigration, IsAnswer};
+ghost use Rattle.opfs_commands.specs.Telling.{formatted_line, migrated_line, told_of, IsFormatted, IsMigratedText, IsNotMigrated, IsNoMigration, IsAnswer};
 
 use crate::answers::{ToolAnswer, ToolEnd, host_answer, line_answer};
 use opfs_base::Bytes;
@@ -95,9 +96,10 @@ fn migrated(alloc: Global, files: u64) -> Result<ToolAnswer, AllocError>
     Ok(done(text))
 }
 
-/// Brings the image on a disk from format 1 into format 2.
+/// Brings the image on a disk from format 1 into format 2. Where it is refused the disk is only read.
 pub fn migrate_disk<D: Disk>(alloc: Global, disk: D) -> (D, Result<ToolAnswer, AllocError>)
-    ensures answer { IfOk result.1 (λ answer. IsAnswer D.tells (AreMigrated (D.content disk) (D.content result.0)) (IsNotMigrated (D.content disk)) (Rose (D.faults disk) (D.faults result.0)) answer.end answer.text) }
+    ensures answer { IfOk result.1 (λ answer. IsAnswer D.tells (IsMigratedText (D.content disk) (D.content result.0)) (IsNotMigrated (D.content disk)) (Rose (D.faults disk) (D.faults result.0)) answer.end answer.text) }
+    ensures refused { IfOk result.1 (λ answer. answer.end ≡ ToolEnd.Image → OnlyRead D.tells D.size D.content D.moment D.since D.faults disk result.0) }
     ensures moments { D.tells → (m : Map) → StandsOld (D.content disk) m → (c : List ℕ) → D.since result.0 (D.moment disk) c → D.since disk (D.moment disk) c ⊎ StandsEither m c }
 {
     match migrate(alloc, disk) {

@@ -5,18 +5,19 @@ ghost use Rattle.opfs_outside.specs.Faults.{Rose};
 ghost use Rattle.opfs_machine.specs.Openings.{Map};
 ghost use Rattle.opfs_migrate.specs.Migrating.{StandsEither};
 ghost use Rattle.opfs_commands.specs.Asking.{InRange};
+ghost use Rattle.opfs_commands.specs.Hosts.{IsOnlyRead, NoneFailed, OthersStay};
 ghost use Rattle.opfs_commands.specs.Kinds.{DoneKind, RefusedKind, IsReading, IsMigration};
 ghost use Rattle.opfs_commands.specs.Telling.{IsStoodFor, IsAnswer, HostRose};
 
-use crate::answers::{ReadTool, ToolAnswer};
+use crate::answers::{ReadTool, ToolAnswer, ToolEnd};
 use crate::hosts::{format_at, migrate_at, read_at};
 use crate::words::Action;
 use opfs_outside::Host;
 use std::alloc::{AllocError, Global};
 
-/// Does what is asked of the image at a path. Where no call of the host failed, every other path is as before; and
-/// so is that path, where the command only reads.
-/// A stop within a migration leaves the old image or the new one.
+/// Does what is asked of the image at a path. Where no call of the host failed, every other path is as before; and a path
+/// whose image is refused, or of which the command only tells, has its image still. A stop within a migration leaves the old
+/// image or the new one.
 pub fn run_command<H: Host>(
     alloc: Global,
     host: &mut H,
@@ -25,9 +26,10 @@ pub fn run_command<H: Host>(
 ) -> Result<ToolAnswer, AllocError>
     requires { InRange action }
     ensures answer { IfOk result (λ answer. IsAnswer H.tells (DoneKind action (H.image host.old image.now) (H.image host.new image.now)) (RefusedKind action (H.image host.old image.now)) (HostRose (H.own_faults host.old) (H.own_faults host.new) (H.faults host.old) (H.faults host.new)) answer.end answer.text) }
-    ensures others { H.tells → (Rose (H.own_faults host.old) (H.own_faults host.new) → ⊥) → (p : Text) → p ≢ image.now → H.image host.new p ≡ H.image host.old p }
-    ensures reads { H.tells → (Rose (H.own_faults host.old) (H.own_faults host.new) → ⊥) → IsReading action → H.image host.new image.now ≡ H.image host.old image.now }
-    ensures trail { IsMigration action → H.tells → (Rose (H.own_faults host.old) (H.own_faults host.new) → ⊥) → (m : Map) → IsStoodFor m (H.image host.old image.now) → (c : Text) → H.trail host.new image.now c → H.trail host.old image.now c ⊎ StandsEither m c }
+    ensures others { H.tells → NoneFailed (H.own_faults host.old) (H.own_faults host.new) result → OthersStay (H.image host.old) (H.image host.new) (H.trail host.old) (H.trail host.new) image.now }
+    ensures reads { IsReading action → H.tells → NoneFailed (H.own_faults host.old) (H.own_faults host.new) result → IsOnlyRead (H.image host.old) (H.image host.new) (H.trail host.old) (H.trail host.new) image.now }
+    ensures refused { IfOk result (λ answer. answer.end ≡ ToolEnd.Image → H.tells → IsOnlyRead (H.image host.old) (H.image host.new) (H.trail host.old) (H.trail host.new) image.now) }
+    ensures trail { IsMigration action → H.tells → NoneFailed (H.own_faults host.old) (H.own_faults host.new) result → (m : Map) → IsStoodFor m (H.image host.old image.now) → (c : Text) → H.trail host.new image.now c → H.trail host.old image.now c ⊎ StandsEither m c }
 {
     match action {
         Action::Format(geometry) => format_at(alloc, host, image, geometry),

@@ -1,2 +1,3 @@
-pub mod Putting
+pub mod Hosts
 pub mod Migrations
+pub mod Putting

@@ -6,11 +6,11 @@ use Rattle.opfs_commands.specs.Kinds.{IsMigration}
 use Rattle.opfs_commands.specs.declared.words.Action.{Action}
 use Rattle.opfs_commands.specs.declared.words.Action.TheVariants as action
 
-abbrev first_size : List Text → ℕ
+abbrev pub first_size : List Text → ℕ
 first_size [] = 0
 first_size (word ∷ more) = length word
 
-abbrev second_of : List Text → Text
+abbrev pub second_of : List Text → Text
 second_of [] = []
 second_of (word ∷ []) = []
 second_of (word ∷ second ∷ more) = second

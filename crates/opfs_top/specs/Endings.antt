@@ -1,5 +1,6 @@
 -- How the command `try` ends, and what it puts out. This project's own.
-use Rattle.std.specs.Prelude.{◌≡◌, ◌≢◌, ◌⊎◌, ℕ, ◌<◌, ◌≤◌, Bool, false, List, [], ◌∷◌, ◌++◌, length, Option, Some, None, Ok, Err, codes, IsTrue}
+use Rattle.std.specs.Prelude.{◌≡◌, ◌≢◌, ◌⊎◌, ℕ, ◌<◌, ◌≤◌, Bool, false, List, [], ◌∷◌, ◌++◌, length, Option, Some, None, Result, Ok, Err, codes, IsTrue}
+use Rattle.std.specs.declared.alloc.AllocError.{AllocError}
 use Rattle.opfs_base.specs.Texts.{Text, same_text}
 use Rattle.opfs_hist.specs.declared.entry.Entry.{Entry}
 use Rattle.opfs_outside.specs.Faults.{Rose}
@@ -17,9 +18,11 @@ use Rattle.opfs_commands.specs.declared.answers.ToolEnd.{ToolEnd}
 use Rattle.opfs_commands.specs.declared.answers.ToolEnd.TheVariants as tool_end
 use Rattle.opfs_commands.specs.declared.words.Action.{Action}
 use Rattle.opfs_commands.specs.declared.words.Action.TheVariants as action
+use Rattle.opfs_commands.specs.Kinds.{IsReading}
 use Rattle.opfs_commands.specs.Telling.{IsStoodFor}
 use Rattle.opfs_machine.specs.Openings.{Map}
 use Rattle.opfs_trial.specs.Trials.{IsTrial}
+use Rattle.opfs_top.specs.declared.answer.Answer.{Answer}
 use Rattle.opfs_top.specs.declared.status.Status.{Status}
 use Rattle.opfs_top.specs.declared.status.Status.TheVariants as status
 
@@ -166,6 +169,20 @@ status_of tool_end.Host = status.Host
 pub record IsMigrating (words : List Text) (path : Text) (m : Map) (found : Option Text) : Type 0 where
   pub asked : IsCommand words path action.Migrate
   pub before : IsStoodFor m found
+
+-- The words only ask what the image at a path holds: `list` or `check`.
+pub record IsTelling (words : List Text) (path : Text) : Type 0 where
+  pub action : Action
+  pub asked : IsCommand words path action
+  pub reading : IsReading action
+
+-- No call of the host failed: its own count did not rise, or the command was answered without a fault.
+abbrev pub NoCallFailed : ℕ → ℕ → Status → Type 0
+NoCallFailed old new s = (Rose old new → ⊥) ⊎ (s ≡ status.Done) ⊎ (s ≡ status.Image)
+
+-- The same of a command on an image whose text is not yet put out.
+abbrev pub NoneFailedBy : ℕ → ℕ → Result Answer AllocError → Type 0
+NoneFailedBy old new result = (Rose old new → ⊥) ⊎ ((answer : Answer) × (result ≡ Ok answer) × (answer.status ≢ status.Host))
 
 -- A path is that of no command of the words.
 abbrev pub IsOther : List Text → Text → Type 0

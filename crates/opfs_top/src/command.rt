@@ -1,13 +1,16 @@
 //! The program's calls.
 
-ghost use Rattle.std.specs.Prelude.{◌≡◌, ◌≢◌, ◌⊎◌, []};
+ghost use Rattle.std.specs.Prelude.{◌≡◌, ◌≢◌, ◌⊎◌, [], IsTrue};
 ghost use Rattle.opfs_base.specs.Texts.{Text};
 ghost use Rattle.opfs_machine.specs.Openings.{Map};
 ghost use Rattle.opfs_migrate.specs.Migrating.{StandsEither};
 ghost use Rattle.opfs_outside.specs.Faults.{Rose};
 ghost use Rattle.opfs_commands.specs.declared.answers.ToolEnd.TheVariants as tool_end;
+ghost use Rattle.opfs_commands.specs.declared.words.Action.{Action as AnAction};
+ghost use Rattle.opfs_commands.specs.Asking.{IsCommand};
+ghost use Rattle.opfs_commands.specs.Hosts.{IsAsBefore, IsOnlyRead};
 ghost use Rattle.opfs_commands.specs.Kinds.{IsToolText};
-ghost use Rattle.opfs_top.specs.Endings.{IsPut, IsDone, IsUsage, IsNoCommand, IsBadScript, IsBadSource, IsCutShort, IsOther, IsMigrating, NoCommand, Output, ToolOutput};
+ghost use Rattle.opfs_top.specs.Endings.{IsPut, IsDone, IsUsage, IsNoCommand, IsBadScript, IsBadSource, IsCutShort, IsOther, IsTelling, IsMigrating, NoCallFailed, NoCommand, is_try, Output, ToolOutput};
 
 use crate::answer::{Answer, answer_to};
 use crate::output::put_all;
@@ -19,8 +22,8 @@ use opfs_outside::{Failed, Host, Sink, Source};
 use std::alloc::Global;
 
 /// Does what a command on an image asks: `format`, `list`, `check` or `migrate`. Each status says what was put out, and why.
-/// Where no call of the host failed, every path but that of the image is as before, and a stop within a migration leaves the
-/// old image or the new one.
+/// Where no call of the host failed, every path but that of the image is as before; a path whose image is refused, or is
+/// only listed or checked, has its image still; and a stop within a migration leaves the old image or the new one.
 pub fn opfs_tool<H: Host, K: Sink>(
     alloc: Global,
     words: &Words,
@@ -36,8 +39,11 @@ pub fn opfs_tool<H: Host, K: Sink>(
     ensures memory { result ≡ Status.Memory → K.tells → K.written sink.new ≡ K.written sink.old }
     ensures no_script { result ≢ Status.Script }
     ensures no_source { result ≢ Status.Source }
-    ensures others { H.tells → (Rose (H.own_faults host.old) (H.own_faults host.new) → ⊥) → (p : Text) → IsOther words.now p → H.image host.new p ≡ H.image host.old p }
-    ensures trail { H.tells → (Rose (H.own_faults host.old) (H.own_faults host.new) → ⊥) → (path : Text) (m : Map) → IsMigrating words.now path m (H.image host.old path) → (c : Text) → H.trail host.new path c → H.trail host.old path c ⊎ StandsEither m c }
+    ensures others { H.tells → NoCallFailed (H.own_faults host.old) (H.own_faults host.new) result → (p : Text) → IsOther words.now p → IsAsBefore (H.image host.old) (H.image host.new) (H.trail host.old) (H.trail host.new) p }
+    ensures reads { H.tells → NoCallFailed (H.own_faults host.old) (H.own_faults host.new) result → (p : Text) → IsTelling words.now p → IsOnlyRead (H.image host.old) (H.image host.new) (H.trail host.old) (H.trail host.new) p }
+    ensures refused { result ≡ Status.Image → H.tells → (p : Text) (asked : AnAction) → IsCommand words.now p asked → IsOnlyRead (H.image host.old) (H.image host.new) (H.trail host.old) (H.trail host.new) p }
+    ensures trail { H.tells → NoCallFailed (H.own_faults host.old) (H.own_faults host.new) result → (path : Text) (m : Map) → IsMigrating words.now path m (H.image host.old path) → (c : Text) → H.trail host.new path c → H.trail host.old path c ⊎ StandsEither m c }
+    ensures none { NoCommand words.now → host.new ≡ host.old }
 {
     let Ok(Answer { status, text }) = answer_tool(alloc, words, host) else {
         return Status::Memory;
@@ -83,7 +89,7 @@ fn opfs_try<S: Source, K: Sink>(
 
 /// Does what the words of a command line ask. `try` reads a script from the source to its end, runs its agents one after
 /// another over an empty store, and puts out the transcript. `format`, `list`, `check` and `migrate` work on the image at a
-/// path of the host. Each status says what was put out, and why.
+/// path of the host; other words leave the host as it is. Each status says what was put out, and why.
 pub fn opfs<H: Host, S: Source, K: Sink>(
     alloc: Global,
     words: &Words,
@@ -102,8 +108,11 @@ pub fn opfs<H: Host, S: Source, K: Sink>(
         (IsToolText H.tells (H.image host.old) (H.image host.new) (H.own_faults host.old) (H.own_faults host.new) (H.faults host.old) (H.faults host.new) words.now))) }
     ensures sink_cause { result ≡ Status.Sink → Rose (K.faults sink.old) (K.faults sink.new) }
     ensures memory { result ≡ Status.Memory → K.tells → K.written sink.new ≡ K.written sink.old }
-    ensures others { H.tells → (Rose (H.own_faults host.old) (H.own_faults host.new) → ⊥) → (p : Text) → IsOther words.now p → H.image host.new p ≡ H.image host.old p }
-    ensures trail { H.tells → (Rose (H.own_faults host.old) (H.own_faults host.new) → ⊥) → (path : Text) (m : Map) → IsMigrating words.now path m (H.image host.old path) → (c : Text) → H.trail host.new path c → H.trail host.old path c ⊎ StandsEither m c }
+    ensures others { H.tells → NoCallFailed (H.own_faults host.old) (H.own_faults host.new) result → (p : Text) → IsOther words.now p → IsAsBefore (H.image host.old) (H.image host.new) (H.trail host.old) (H.trail host.new) p }
+    ensures reads { H.tells → NoCallFailed (H.own_faults host.old) (H.own_faults host.new) result → (p : Text) → IsTelling words.now p → IsOnlyRead (H.image host.old) (H.image host.new) (H.trail host.old) (H.trail host.new) p }
+    ensures refused { result ≡ Status.Image → H.tells → (p : Text) (asked : AnAction) → IsCommand words.now p asked → IsOnlyRead (H.image host.old) (H.image host.new) (H.trail host.old) (H.trail host.new) p }
+    ensures trail { H.tells → NoCallFailed (H.own_faults host.old) (H.own_faults host.new) result → (path : Text) (m : Map) → IsMigrating words.now path m (H.image host.old path) → (c : Text) → H.trail host.new path c → H.trail host.old path c ⊎ StandsEither m c }
+    ensures none { IsTrue (is_try words.now) ⊎ NoCommand words.now → host.new ≡ host.old }
 {
     if read_command(words).is_some() {
         return opfs_tool(alloc, words, host, sink);

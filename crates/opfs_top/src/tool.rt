@@ -4,9 +4,11 @@ ghost use Rattle.std.specs.Prelude.{◌≡◌, ◌≢◌, ◌⊎◌, IfOk};
 ghost use Rattle.opfs_base.specs.Texts.{Text};
 ghost use Rattle.opfs_machine.specs.Openings.{Map};
 ghost use Rattle.opfs_migrate.specs.Migrating.{StandsEither};
-ghost use Rattle.opfs_outside.specs.Faults.{Rose};
+ghost use Rattle.opfs_commands.specs.Asking.{IsCommand};
+ghost use Rattle.opfs_commands.specs.Hosts.{IsAsBefore, IsOnlyRead};
 ghost use Rattle.opfs_commands.specs.Kinds.{IsToolText};
-ghost use Rattle.opfs_top.specs.Endings.{status_of, ToolOutput, IsOther, IsMigrating};
+ghost use Rattle.opfs_commands.specs.declared.words.Action.{Action as AnAction};
+ghost use Rattle.opfs_top.specs.Endings.{status_of, ToolOutput, IsOther, IsTelling, IsMigrating, NoCommand, NoneFailedBy};
 
 use crate::answer::{Answer, line_of};
 use crate::status::Status;
@@ -34,8 +36,11 @@ pub fn answer_tool<H: Host>(
     host: &mut H,
 ) -> Result<Answer, AllocError>
     ensures answer { IfOk result (λ answer. ToolOutput words.now (IsToolText H.tells (H.image host.old) (H.image host.new) (H.own_faults host.old) (H.own_faults host.new) (H.faults host.old) (H.faults host.new) words.now) answer.status answer.text) }
-    ensures others { H.tells → (Rose (H.own_faults host.old) (H.own_faults host.new) → ⊥) → (p : Text) → IsOther words.now p → H.image host.new p ≡ H.image host.old p }
-    ensures trail { H.tells → (Rose (H.own_faults host.old) (H.own_faults host.new) → ⊥) → (path : Text) (m : Map) → IsMigrating words.now path m (H.image host.old path) → (c : Text) → H.trail host.new path c → H.trail host.old path c ⊎ StandsEither m c }
+    ensures others { H.tells → NoneFailedBy (H.own_faults host.old) (H.own_faults host.new) result → (p : Text) → IsOther words.now p → IsAsBefore (H.image host.old) (H.image host.new) (H.trail host.old) (H.trail host.new) p }
+    ensures reads { H.tells → NoneFailedBy (H.own_faults host.old) (H.own_faults host.new) result → (p : Text) → IsTelling words.now p → IsOnlyRead (H.image host.old) (H.image host.new) (H.trail host.old) (H.trail host.new) p }
+    ensures refused { IfOk result (λ answer. answer.status ≡ Status.Image → H.tells → (p : Text) (asked : AnAction) → IsCommand words.now p asked → IsOnlyRead (H.image host.old) (H.image host.new) (H.trail host.old) (H.trail host.new) p) }
+    ensures trail { H.tells → NoneFailedBy (H.own_faults host.old) (H.own_faults host.new) result → (path : Text) (m : Map) → IsMigrating words.now path m (H.image host.old path) → (c : Text) → H.trail host.new path c → H.trail host.old path c ⊎ StandsEither m c }
+    ensures none { NoCommand words.now → host.new ≡ host.old }
 {
     let Some(command) = read_command(words) else {
         let text = line_of(alloc, End::Usage)?;

@@ -3,7 +3,7 @@ use Rattle.opfs_image.specs.Agreeing.{built_in}
 use Rattle.opfs_image.specs.Filling.{filled}
 use Rattle.opfs_image.specs.Superblock.{data_base}
 use Rattle.opfs_tools.specs.Checking.{check_text}
-use Rattle.opfs_commands.proofs.Standing.{stands_filled}
+use Rattle.opfs_image.proofs.Standing.{stands_filled}
 use Rattle.opfs_commands.proofs.disks.print_check.Goals as goal
 
 pub returns-clause-text : goal.returns-clause-text

@@ -3,7 +3,7 @@ use Rattle.opfs_image.specs.Agreeing.{built_in}
 use Rattle.opfs_image.specs.Filling.{filled}
 use Rattle.opfs_image.specs.Superblock.{data_base}
 use Rattle.opfs_tools.specs.Listing.{list_text}
-use Rattle.opfs_commands.proofs.Standing.{stands_filled}
+use Rattle.opfs_image.proofs.Standing.{stands_filled}
 use Rattle.opfs_commands.proofs.disks.print_list.Goals as goal
 
 pub returns : goal.returns
