@@ -1,16 +1,13 @@
 //! The program `opfs`: the one call, over the process's words, files, standard input and standard output.
 #![tactic(auto)]
 
-mod streams;
-
 use opfs_base::{Bytes, Words};
-use opfs_files::DirHost;
+use opfs_files::{DirHost, StdinSource, StdoutSink};
 use opfs_top::{Status, opfs};
 use std::alloc::AllocError;
 use std::env::{self, Env};
 use std::io::ErrorKind;
 use std::process::ExitCode;
-use streams::{StdinSource, StdoutSink};
 
 /// The words of the command line behind the program's name. Where one is no UTF-8 there are none.
 fn words_of<R: Env + AllocGlobal>(rt: &R) -> Result<Words, AllocError> {

@@ -1,7 +1,9 @@
--- What disks over files and the host of files show. This project's own.
+-- What disks over files, the host of files and the standard streams show. This project's own.
 use Rattle.std.specs.Prelude.{ℕ, ◌-◌, ◌^◌, min}
 use Rattle.opfs_files.specs.declared.file_disk.FileDisk.{FileDisk}
 use Rattle.opfs_files.specs.declared.dir_host.DirHost.{DirHost}
+use Rattle.opfs_files.specs.declared.streams.StdinSource.{StdinSource}
+use Rattle.opfs_files.specs.declared.streams.StdoutSink.{StdoutSink}
 
 -- the length in bytes of a disk
 abbrev pub disk_size : {F : Type 0} → FileDisk F → ℕ
@@ -18,3 +20,10 @@ host_faults host = min host.faults (2 ^ 64 - 1)
 -- how often a host has failed itself, as far as 64 bits count
 abbrev pub host_own_faults : {R : Type 0} → DirHost R → ℕ
 host_own_faults host = min host.own_faults (2 ^ 64 - 1)
+
+-- how many calls of a source or a sink failed, as far as 64 bits count
+abbrev pub source_faults : {R : Type 0} → StdinSource R → ℕ
+source_faults source = min source.faults (2 ^ 64 - 1)
+
+abbrev pub sink_faults : {W : Type 0} → StdoutSink W → ℕ
+sink_faults sink = min sink.faults (2 ^ 64 - 1)

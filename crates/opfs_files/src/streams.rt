@@ -1,6 +1,6 @@
-//! Standard input as a source and standard output as a sink. They tell no content, and count their errors.
-
-ghost use Rattle.std.specs.Prelude.{◌≤◌, ◌<◌, length, IfOk};
+// Standard input as a source and standard output as a sink. They tell no content, and count their errors.
+ghost use Rattle.std.specs.Prelude.{◌≡◌, ◌+◌, ◌-◌, ◌^◌, ◌≤◌, ◌<◌, length, min, IfOk};
+ghost use Rattle.opfs_files.specs.Shown.{source_faults, sink_faults};
 
 use opfs_outside::{Failed, Sink, Source};
 use std::io::{Read, Write};
@@ -14,31 +14,43 @@ pub struct StdinSource<R> {
 
 impl<R> StdinSource<R> {
     /// The source that a reader is.
-    pub fn make(reader: R) -> StdinSource<R> {
+    pub fn make(reader: R) -> StdinSource<R>
+        ensures { source_faults result ≡ 0 }
+    {
         StdinSource { reader, faults: 0 }
+    }
+
+    /// How many calls failed. At 2^64 - 1 it stands still.
+    pub fn faults(&self) -> u64
+        ensures { result ≡ source_faults self.now }
+    {
+        self.faults
+    }
+
+    fn fail(&mut self) -> Failed
+        ensures { source_faults self.new ≡ min (source_faults self.old + 1) (2 ^ 64 - 1) }
+    {
+        self.faults = self.faults.saturating_add(1);
+        Failed
     }
 }
 
 impl<R: Read> Source for StdinSource<R> {
-    ghost use Rattle.std.specs.Prelude.{[], ◌-◌, ◌^◌, min};
+    ghost use Rattle.std.specs.Prelude.{[]};
+    ghost use Rattle.opfs_files.specs.Counts.{capped};
 
     ghost tells = { ⊥ };
 
     ghost rest = { λ _. [] };
 
-    ghost faults = { λ source. min source.faults (2 ^ 64 - 1) };
-
-    ghost use Rattle.opfs.specs.Counts.{capped};
+    ghost faults = { source_faults };
 
     ghost counted = { λ source. capped source.faults };
 
     fn read(&mut self, buf: &mut [u8]) -> Result<usize, Failed> {
         match self.reader.read(buf) {
             Ok(count) => Ok(count),
-            Err(_) => {
-                self.faults = self.faults.saturating_add(1);
-                Err(Failed)
-            }
+            Err(_) => Err(self.fail()),
         }
     }
 }
@@ -52,31 +64,43 @@ pub struct StdoutSink<W> {
 
 impl<W> StdoutSink<W> {
     /// The sink that a writer is.
-    pub fn make(writer: W) -> StdoutSink<W> {
+    pub fn make(writer: W) -> StdoutSink<W>
+        ensures { sink_faults result ≡ 0 }
+    {
         StdoutSink { writer, faults: 0 }
+    }
+
+    /// How many calls failed. At 2^64 - 1 it stands still.
+    pub fn faults(&self) -> u64
+        ensures { result ≡ sink_faults self.now }
+    {
+        self.faults
+    }
+
+    fn fail(&mut self) -> Failed
+        ensures { sink_faults self.new ≡ min (sink_faults self.old + 1) (2 ^ 64 - 1) }
+    {
+        self.faults = self.faults.saturating_add(1);
+        Failed
     }
 }
 
 impl<W: Write> Sink for StdoutSink<W> {
-    ghost use Rattle.std.specs.Prelude.{[], ◌-◌, ◌^◌, min};
+    ghost use Rattle.std.specs.Prelude.{[]};
+    ghost use Rattle.opfs_files.specs.Counts.{capped};
 
     ghost tells = { ⊥ };
 
     ghost written = { λ _. [] };
 
-    ghost faults = { λ sink. min sink.faults (2 ^ 64 - 1) };
-
-    ghost use Rattle.opfs.specs.Counts.{capped};
+    ghost faults = { sink_faults };
 
     ghost counted = { λ sink. capped sink.faults };
 
     fn write(&mut self, bytes: &[u8]) -> Result<usize, Failed> {
         match self.writer.write(bytes) {
             Ok(count) if count > 0 || bytes.is_empty() => Ok(count),
-            _ => {
-                self.faults = self.faults.saturating_add(1);
-                Err(Failed)
-            }
+            _ => Err(self.fail()),
         }
     }
 }

@@ -1,4 +1,4 @@
-//! Tests of disks over real files and of the host of the folder that a test runs in.
+//! Tests of disks over real files, of the host of the folder that a test runs in, and of streams.
 #![tactic(auto)]
 
 #[cfg(test)]
@@ -7,3 +7,5 @@ mod disks;
 mod faulty;
 #[cfg(test)]
 mod hosts;
+#[cfg(test)]
+mod streams;
