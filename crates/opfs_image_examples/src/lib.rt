@@ -1,0 +1,36 @@
+//! Worked examples of images: what small images stand for, byte by byte, and why others are refused. Each is the contract
+//! of a function that does nothing.
+#![tactic(auto)]
+
+ghost use Rattle.std.specs.Prelude.{◌≡◌, List, ℕ, Some, Err};
+ghost use Rattle.opfs_codec.specs.declared.change.Format.TheVariants.{New};
+ghost use Rattle.opfs_image.specs.Filling.{Stands};
+ghost use Rattle.opfs_image.specs.Reading.{read_as};
+ghost use Rattle.opfs_image.specs.declared.refusal.ReadRefusal.TheVariants as refusal;
+ghost use Rattle.opfs_replay.specs.Applying.{built_by};
+ghost use Rattle.opfs_replay.specs.Built.{nothing_built};
+ghost use Rattle.opfs_replay.specs.Sums.{charge_of};
+ghost use Rattle.opfs_image_examples.specs.Notes.{changes, note_built, note_image, note_map};
+ghost use Rattle.opfs_image_examples.specs.Refused.{cut_image, other_image, old_image, shut_image, bad_image, cut_record_image};
+
+/// The record of 132 bytes that makes a root, makes a file and stores its bytes builds just these, with the charge 132.
+pub fn a_record_builds_a_note()
+    ensures built { built_by New 1 changes nothing_built ≡ Some note_built }
+    ensures charge { charge_of New note_built ≡ 132 }
+{}
+
+/// An image with that record stands for the file `note` with the bytes `hello` of its block.
+pub fn an_image_with_a_note_stands_for_it()
+    ensures { Stands note_image note_map }
+{}
+
+/// Images are refused: one that is cut below a superblock; one that begins otherwise; one whose area rules in format 1; one
+/// without an open first gate; one whose second record is none; and one whose first record has no length.
+pub fn damaged_images_are_refused()
+    ensures short { read_as New New cut_image ≡ Err refusal.Short }
+    ensures magic { read_as New New other_image ≡ Err refusal.Magic }
+    ensures old { read_as New New old_image ≡ Err refusal.OtherFormat }
+    ensures no_area { read_as New New shut_image ≡ Err refusal.NoArea }
+    ensures bad { read_as New New bad_image ≡ Err (refusal.BadRecord 4102) }
+    ensures cut { read_as New New cut_record_image ≡ Err (refusal.BadRecord 4096) }
+{}
