@@ -1,8 +1,10 @@
--- An image of one block with one file, and what it stands for. This project's own.
+-- An image of one block with one file, in both formats, and what it stands for. This project's own.
 use Rattle.std.specs.Prelude.{ℕ, List, [], ◌∷◌, ◌++◌, ◌-◌, codes, length, replicate}
 use Rattle.opfs_base.specs.Texts.{Text}
 use Rattle.opfs_codec.specs.declared.change.Change.{Change}
 use Rattle.opfs_codec.specs.declared.change.Change.TheVariants.{MakeRoot, MakeFile, Content}
+use Rattle.opfs_codec.specs.declared.change.Format.{Format}
+use Rattle.opfs_codec.specs.declared.change.Format.TheVariants.{Old, New}
 use Rattle.opfs_locks.specs.Taking.{open_lock}
 use Rattle.opfs_machine.specs.Openings.{Map, folder, document}
 use Rattle.opfs_tree.specs.declared.row.Row.{Row}
@@ -26,23 +28,34 @@ image_of first second stored = block_of (head_bytes small) ++ block_of first ++ 
 abbrev pub a_key : Text
 a_key = codes "https://a.example"
 
--- The bytes of the unit, and of the file's place.
-abbrev pub unit_field : List ℕ
-unit_field = 17 ∷ 0 ∷ a_key ++ 7 ∷ codes "default"
+-- The bytes of the unit: in format 2 its bucket stands behind its key.
+abbrev pub unit_field : Format → List ℕ
+unit_field Old = 17 ∷ 0 ∷ a_key
+unit_field New = 17 ∷ 0 ∷ a_key ++ 7 ∷ codes "default"
 
-abbrev pub place_field : List ℕ
-place_field = unit_field ++ 1 ∷ 4 ∷ codes "note"
+-- The bytes of the file's place.
+abbrev pub place_field : Format → List ℕ
+place_field f = unit_field f ++ 1 ∷ 4 ∷ codes "note"
 
 -- A root is made; the file is made, with the stamp 0; and its 5 bytes are stored, in 1 run of 1 block from block 0.
-abbrev pub changes : List ℕ
-changes =
-    1 ∷ unit_field
-    ++ 3 ∷ place_field ++ replicate 8 0
-    ++ 5 ∷ place_field ++ replicate 8 0 ++ 5 ∷ replicate 7 0 ++ 1 ∷ replicate 7 0 ++ 1 ∷ replicate 3 0
+abbrev pub changes : Format → List ℕ
+changes f =
+    1 ∷ unit_field f
+    ++ 3 ∷ place_field f ++ replicate 8 0
+    ++ 5 ∷ place_field f ++ replicate 8 0 ++ 5 ∷ replicate 7 0 ++ 1 ∷ replicate 7 0 ++ 1 ∷ replicate 3 0
 
--- A first record of generation 0 without changes, one with these, and a closed gate.
-abbrev pub note_image : List ℕ
-note_image = image_of (165 ∷ 1 ∷ 0 ∷ 0 ∷ 0 ∷ 16 ∷ 165 ∷ 132 ∷ 0 ∷ 0 ∷ 0 ∷ changes) [] (codes "hello")
+-- How many bytes these are, and the byte of generation 0.
+abbrev pub changes_size : Format → ℕ
+changes_size Old = 108
+changes_size New = 132
+
+abbrev pub first_generation : Format → ℕ
+first_generation Old = 0
+first_generation New = 16
+
+-- A first record without changes, one with these, and a closed gate; and the bytes of the file in block 0.
+abbrev pub note_image : Format → List ℕ
+note_image f = image_of (165 ∷ 1 ∷ 0 ∷ 0 ∷ 0 ∷ first_generation f ∷ 165 ∷ changes_size f ∷ 0 ∷ 0 ∷ 0 ∷ changes f) [] (codes "hello")
 
 -- What it stands for.
 abbrev pub note_map : Map
@@ -61,15 +74,14 @@ file_change = MakeFile a_key (codes "note" ∷ []) 0
 abbrev pub note_change : Change
 note_change = Content a_key (codes "note" ∷ []) 0 5 (record { start = 0; count = 1 } ∷ [])
 
-abbrev pub built_of : List Row → Built
-built_of [] = record { rows = ((a_key, []), row.Dir) ∷ []; persistent = [] }
-built_of (note ∷ more) = record { rows = ((a_key, []), row.Dir) ∷ ((a_key, codes "note" ∷ []), note) ∷ []; persistent = [] }
-
 abbrev pub made_root : Built
-made_root = built_of []
+made_root = record { rows = ((a_key, []), row.Dir) ∷ []; persistent = [] }
+
+abbrev pub with_note : Row → Built
+with_note note = record { rows = ((a_key, []), row.Dir) ∷ ((a_key, codes "note" ∷ []), note) ∷ []; persistent = [] }
 
 abbrev pub made_file : Built
-made_file = built_of (row.File (record { length = 0; stamp = 0; extents = []; lock = open_lock }) ∷ [])
+made_file = with_note (row.File (record { length = 0; stamp = 0; extents = []; lock = open_lock }))
 
 abbrev pub note_built : Built
-note_built = built_of (row.File (record { length = 5; stamp = 0; extents = record { start = 0; count = 1 } ∷ []; lock = open_lock }) ∷ [])
+note_built = with_note (row.File (record { length = 5; stamp = 0; extents = record { start = 0; count = 1 } ∷ []; lock = open_lock }))

@@ -1,14 +1,15 @@
 -- Images that are refused. This project's own.
 use Rattle.std.specs.Prelude.{ℕ, List, [], ◌∷◌, drop, take}
+use Rattle.opfs_codec.specs.declared.change.Format.TheVariants.{New}
 use Rattle.opfs_image_examples.specs.Notes.{image_of, note_image}
 
 -- 4,095 bytes of an image.
 abbrev pub cut_image : List ℕ
-cut_image = take 4095 note_image
+cut_image = take 4095 (note_image New)
 
 -- Its first byte is an `X`.
 abbrev pub other_image : List ℕ
-other_image = 88 ∷ drop 1 note_image
+other_image = 88 ∷ drop 1 (note_image New)
 
 -- Area 0 has a first record of generation 0 in format 1.
 abbrev pub old_image : List ℕ

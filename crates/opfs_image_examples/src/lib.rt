@@ -3,8 +3,9 @@
 #![tactic(auto)]
 
 ghost use Rattle.std.specs.Prelude.{◌≡◌, List, ℕ, Some, Err};
-ghost use Rattle.opfs_codec.specs.declared.change.Format.TheVariants.{New};
-ghost use Rattle.opfs_image.specs.Filling.{Stands};
+ghost use Rattle.opfs_codec.specs.declared.change.Format.{Format};
+ghost use Rattle.opfs_codec.specs.declared.change.Format.TheVariants.{Old, New};
+ghost use Rattle.opfs_image.specs.Filling.{Stands, StandsOld};
 ghost use Rattle.opfs_image.specs.Reading.{read_as};
 ghost use Rattle.opfs_image.specs.declared.refusal.ReadRefusal.TheVariants as refusal;
 ghost use Rattle.opfs_replay.specs.Applying.{built_by};
@@ -13,15 +14,18 @@ ghost use Rattle.opfs_replay.specs.Sums.{charge_of};
 ghost use Rattle.opfs_image_examples.specs.Notes.{changes, note_built, note_image, note_map};
 ghost use Rattle.opfs_image_examples.specs.Refused.{cut_image, other_image, old_image, shut_image, bad_image, cut_record_image};
 
-/// The record of 132 bytes that makes a root, makes a file and stores its bytes builds just these, with the charge 132.
+/// A record that makes a root, makes a file and stores its 5 bytes builds just these, in both formats. The charge is 108
+/// in format 1 and 132 in format 2.
 pub fn a_record_builds_a_note()
-    ensures built { built_by New 1 changes nothing_built ≡ Some note_built }
+    ensures built { (f : Format) → built_by f 1 (changes f) nothing_built ≡ Some note_built }
+    ensures old_charge { charge_of Old note_built ≡ 108 }
     ensures charge { charge_of New note_built ≡ 132 }
 {}
 
-/// An image with that record stands for the file `note` with the bytes `hello` of its block.
+/// An image with that record stands for the file `note` with the bytes `hello` of its block, in both formats.
 pub fn an_image_with_a_note_stands_for_it()
-    ensures { Stands note_image note_map }
+    ensures old { StandsOld (note_image Old) note_map }
+    ensures new { Stands (note_image New) note_map }
 {}
 
 /// Images are refused: one that is cut below a superblock; one that begins otherwise; one whose area rules in format 1; one
