@@ -1,4 +1,4 @@
--- What the tests know of a swap of one row, the row 1 of agent 1, and of its journal. This project's own.
+-- What the tests know of a swap of one row, the first of agent 1, and of its journal. This project's own.
 use Rattle.std.specs.Prelude.{◌≡◌, ℕ, Some, None, false, true, is_some, length, []}
 use Rattle.opfs_journal.specs.Seen.{Seen}
 use Rattle.opfs_memory.specs.Drives.{Drive}

@@ -11,7 +11,7 @@ use opfs_memory::MemDisk;
 use std::alloc::{AllocError, Global};
 use std::test::Fail;
 
-// A swap with the row 1 of agent 1, which has no pages.
+// A swap with the first row of agent 1, which has no pages.
 fn one_row(alloc: Global) -> Result<Swap, AllocError>
     ensures { IfOk result (λ swap. HasNone swap) }
 {
