@@ -55,3 +55,23 @@ fn an_old_image_is_migrated(rt: HostRuntime) -> Result<(), Fail> {
     assert_eq!(rt; begin.as_slice(), b"\xa5\x85\x00\x00\x00\x11".as_slice());
     Ok(())
 }
+
+// How many calls of its disk a command makes of an image.
+fn calls_of(alloc: Global, image: &[u8], word: &str) -> Result<u64, AllocError> {
+    let mut host = host_of(alloc, image, &[], None)?;
+    ask(alloc, &mut host, &[word, "I"])?;
+    match host.given("I") {
+        Some(disk) => Ok(disk.calls()),
+        None => Ok(0),
+    }
+}
+
+#[test]
+fn only_a_check_reads_the_one_block_of_a_file(rt: HostRuntime) -> Result<(), Fail> {
+    let alloc = rt.alloc();
+    let image = note_image(alloc)?;
+    let list = calls_of(alloc, &image, "list")?;
+    let check = calls_of(alloc, &image, "check")?;
+    assert_eq!(rt; list.checked_add(1), Some(check));
+    Ok(())
+}

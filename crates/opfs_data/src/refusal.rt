@@ -3,28 +3,18 @@ ghost use Rattle.opfs_data.specs.declared.refusal.DataRefusal.TheVariants.{DiskF
 
 use opfs_journal::DiskFault;
 use std::alloc::AllocError;
-use std::error::Error;
-use std::fmt;
+use thiserror::Error;
 
 /// Why no bytes were read.
-#[derive(Clone, Copy, Debug, PartialEq, Eq)]
+#[derive(Clone, Copy, Debug, PartialEq, Eq, Error)]
 pub enum DataRefusal {
     /// The disk failed: its count has risen.
+    #[error("the disk failed")]
     DiskFault,
     /// No memory was found.
+    #[error("out of memory")]
     NoMemory,
 }
-
-impl fmt::Display for DataRefusal {
-    fn fmt<W: fmt::Write>(&self, f: &mut fmt::Formatter<W>) -> fmt::Result {
-        match self {
-            DataRefusal::DiskFault => write!(f, "the disk failed"),
-            DataRefusal::NoMemory => write!(f, "out of memory"),
-        }
-    }
-}
-
-impl Error for DataRefusal {}
 
 impl From<DiskFault> for DataRefusal {
     ghost from_gives = { λ _ refusal. refusal ≡ Fault };

@@ -15,7 +15,7 @@ use opfs_outside::Disk;
 use opfs_replay::Replay;
 use std::alloc::Global;
 
-// Reads a record's body into the buffer.
+// Reads a record's body into the buffer, in the place of what it had.
 fn read_body<D: Disk>(
     disk: &mut D,
     at: u64,
@@ -28,7 +28,6 @@ fn read_body<D: Disk>(
     ensures refused { IfErr result (λ e. (e ≡ ReadRefusal.DiskFault) ⊎ (e ≡ ReadRefusal.NoMemory)) }
     ensures cause { IsErrOf result ReadRefusal.DiskFault → Rose (D.faults disk.old) (D.faults disk.new) }
 {
-    buffer.clear();
     buffer.resize(len as usize, 0)?;
     disk.read(at, buffer)?;
     Ok(())

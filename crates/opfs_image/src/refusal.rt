@@ -6,52 +6,69 @@ ghost use Rattle.opfs_image.specs.Answers.{refused_first, answer_of};
 use opfs_journal::OpenRefusal;
 use opfs_outside::Failed;
 use std::alloc::AllocError;
-use std::error::Error;
-use std::fmt;
+use thiserror::Error;
 
 /// Why an image can't be read in one of the two formats. Places are bytes of the image.
-#[derive(Clone, Copy, Debug, PartialEq, Eq)]
+#[derive(Clone, Copy, Debug, PartialEq, Eq, Error)]
 pub enum ReadRefusal {
     /// It has fewer bytes than a superblock, or than its superblock says.
+    #[error("the image is short")]
     Short,
     /// It doesn't begin with `OPFSIMG1`.
+    #[error("the file is no image")]
     Magic,
     /// Its version is unknown, or a number of its superblock is out of range.
+    #[error("the image has an unknown version or size")]
     Geometry,
     /// Neither area's first gate is open.
+    #[error("no area begins with an open gate")]
     NoArea,
     /// The gate at this place is open, and its record is none.
+    #[error("a bad record at byte {0}")]
     BadRecord(u64),
     /// The area that rules is of the other format.
+    #[error("the image is of the other format")]
     OtherFormat,
     /// What it holds has this charge, which with a record's 7 bytes passes the bytes of an area.
+    #[error("a charge of {0} passes an area of {1} bytes")]
     Overfull(u64, u64),
     /// The disk failed: its count has risen.
+    #[error("the disk failed")]
     DiskFault,
     /// No memory was found.
+    #[error("out of memory")]
     NoMemory,
 }
 
 /// Why an image is refused. Places are bytes of the image.
-#[derive(Clone, Copy, Debug, PartialEq, Eq)]
+#[derive(Clone, Copy, Debug, PartialEq, Eq, Error)]
 pub enum ImageRefusal {
     /// It has fewer bytes than a superblock, or than its superblock says.
+    #[error("the image is short")]
     Short,
     /// It doesn't begin with `OPFSIMG1`.
+    #[error("the file is no image")]
     Magic,
     /// Its version is unknown, or a number of its superblock is out of range.
+    #[error("the image has an unknown version or size")]
     Geometry,
     /// Neither area's first gate is open.
+    #[error("no area begins with an open gate")]
     NoArea,
     /// The gate at this place is open, and its record is none.
+    #[error("a bad record at byte {0}")]
     BadRecord(u64),
     /// The area that rules is of format 1.
+    #[error("the image is of format 1")]
     Old,
     /// What it holds has this charge, which with a record's 7 bytes passes the bytes of an area.
+    #[error("a charge of {0} passes an area of {1} bytes")]
     Overfull(u64, u64),
     /// The disk failed: its count has risen.
+    #[error("the disk failed")]
     DiskFault,
     /// No memory was found.
+    #[error("out of memory")]
     NoMemory,
 }
 
@@ -101,23 +118,3 @@ impl From<ReadRefusal> for ImageRefusal {
         }
     }
 }
-
-impl fmt::Display for ImageRefusal {
-    fn fmt<W: fmt::Write>(&self, f: &mut fmt::Formatter<W>) -> fmt::Result {
-        match self {
-            ImageRefusal::Short => write!(f, "the image is short"),
-            ImageRefusal::Magic => write!(f, "the file is no image"),
-            ImageRefusal::Geometry => write!(f, "the image has an unknown version or size"),
-            ImageRefusal::NoArea => write!(f, "no area begins with an open gate"),
-            ImageRefusal::BadRecord(place) => write!(f, "a bad record at byte {place}"),
-            ImageRefusal::Old => write!(f, "the image is of format 1"),
-            ImageRefusal::Overfull(charge, area) => {
-                write!(f, "a charge of {charge} passes an area of {area} bytes")
-            }
-            ImageRefusal::DiskFault => write!(f, "the disk failed"),
-            ImageRefusal::NoMemory => write!(f, "out of memory"),
-        }
-    }
-}
-
-impl Error for ImageRefusal {}

@@ -5,29 +5,37 @@ ghost use Rattle.opfs_migrate.specs.declared.refusal.MigrateRefusal.TheVariants.
 
 use opfs_image::ReadRefusal;
 use std::alloc::AllocError;
-use std::error::Error;
-use std::fmt;
+use thiserror::Error;
 
 /// Why an image is not migrated. Places are bytes of the image.
-#[derive(Clone, Copy, Debug, PartialEq, Eq)]
+#[derive(Clone, Copy, Debug, PartialEq, Eq, Error)]
 pub enum MigrateRefusal {
     /// It has fewer bytes than a superblock, or than its superblock says.
+    #[error("the image is short")]
     Short,
     /// It doesn't begin with `OPFSIMG1`.
+    #[error("the file is no image")]
     Magic,
     /// Its version is unknown, or a number of its superblock is out of range.
+    #[error("the image has an unknown version or size")]
     Geometry,
     /// Neither area's first gate is open.
+    #[error("no area begins with an open gate")]
     NoArea,
     /// The gate at this place is open, and its record is none.
+    #[error("a bad record at byte {0}")]
     BadRecord(u64),
     /// The area that rules is of format 2.
+    #[error("the image is of format 2")]
     NotOld,
     /// What it holds has this charge in format 2, which with a record's 7 bytes passes the bytes of an area.
+    #[error("a charge of {0} passes an area of {1} bytes")]
     Overfull(u64, u64),
     /// The disk failed: its count has risen.
+    #[error("the disk failed")]
     DiskFault,
     /// No memory was found.
+    #[error("out of memory")]
     NoMemory,
 }
 
@@ -56,23 +64,3 @@ impl From<ReadRefusal> for MigrateRefusal {
         }
     }
 }
-
-impl fmt::Display for MigrateRefusal {
-    fn fmt<W: fmt::Write>(&self, f: &mut fmt::Formatter<W>) -> fmt::Result {
-        match self {
-            MigrateRefusal::Short => write!(f, "the image is short"),
-            MigrateRefusal::Magic => write!(f, "the file is no image"),
-            MigrateRefusal::Geometry => write!(f, "the image has an unknown version or size"),
-            MigrateRefusal::NoArea => write!(f, "no area begins with an open gate"),
-            MigrateRefusal::BadRecord(place) => write!(f, "a bad record at byte {place}"),
-            MigrateRefusal::NotOld => write!(f, "the image is of format 2"),
-            MigrateRefusal::Overfull(charge, area) => {
-                write!(f, "a charge of {charge} passes an area of {area} bytes")
-            }
-            MigrateRefusal::DiskFault => write!(f, "the disk failed"),
-            MigrateRefusal::NoMemory => write!(f, "out of memory"),
-        }
-    }
-}
-
-impl Error for MigrateRefusal {}
