@@ -3,59 +3,46 @@ ghost use Rattle.opfs_journal.specs.declared.refusal.JournalRefusal.TheVariants.
 ghost use Rattle.opfs_journal.specs.declared.refusal.OpenRefusal.TheVariants.{DiskFault as OpenFault};
 
 use opfs_outside::Failed;
-use std::error::Error;
-use std::fmt;
+use thiserror::Error;
 
 /// The disk failed: its count has risen.
-#[derive(Clone, Copy, Debug, PartialEq, Eq)]
+#[derive(Clone, Copy, Debug, PartialEq, Eq, Error)]
+#[error("the disk failed")]
 pub struct DiskFault;
 
 /// Why a journal took no record.
-#[derive(Clone, Copy, Debug, PartialEq, Eq)]
+#[derive(Clone, Copy, Debug, PartialEq, Eq, Error)]
 pub enum JournalRefusal {
     /// The record with the next gate passes the area's end.
+    #[error("the record has no room")]
     NoRoom,
     /// The disk failed: its count has risen.
+    #[error("the disk failed")]
     DiskFault,
 }
 
 /// Why a disk's areas are no journal.
-#[derive(Clone, Copy, Debug, PartialEq, Eq)]
+#[derive(Clone, Copy, Debug, PartialEq, Eq, Error)]
 pub enum OpenRefusal {
     /// Both first gates are not open.
+    #[error("no area begins with an open gate")]
     NoArea,
     /// The gate at this byte of the disk is bad, and no earlier one.
+    #[error("a bad record at byte {0}")]
     BadRecord(u64),
     /// The disk failed: its count has risen.
+    #[error("the disk failed")]
     DiskFault,
     /// No memory was found.
+    #[error("out of memory")]
     NoMemory,
 }
-
-impl fmt::Display for DiskFault {
-    fn fmt<W: fmt::Write>(&self, f: &mut fmt::Formatter<W>) -> fmt::Result {
-        write!(f, "the disk failed")
-    }
-}
-
-impl Error for DiskFault {}
 
 impl From<Failed> for DiskFault {
     fn from(_failed: Failed) -> DiskFault {
         DiskFault
     }
 }
-
-impl fmt::Display for JournalRefusal {
-    fn fmt<W: fmt::Write>(&self, f: &mut fmt::Formatter<W>) -> fmt::Result {
-        match self {
-            JournalRefusal::NoRoom => write!(f, "the record has no room"),
-            JournalRefusal::DiskFault => write!(f, "the disk failed"),
-        }
-    }
-}
-
-impl Error for JournalRefusal {}
 
 impl From<Failed> for JournalRefusal {
     ghost from_gives = { λ _ refusal. refusal ≡ DiskFault };
@@ -64,19 +51,6 @@ impl From<Failed> for JournalRefusal {
         JournalRefusal::DiskFault
     }
 }
-
-impl fmt::Display for OpenRefusal {
-    fn fmt<W: fmt::Write>(&self, f: &mut fmt::Formatter<W>) -> fmt::Result {
-        match self {
-            OpenRefusal::NoArea => write!(f, "no area begins with an open gate"),
-            OpenRefusal::BadRecord(place) => write!(f, "a bad record at byte {place}"),
-            OpenRefusal::DiskFault => write!(f, "the disk failed"),
-            OpenRefusal::NoMemory => write!(f, "out of memory"),
-        }
-    }
-}
-
-impl Error for OpenRefusal {}
 
 impl From<Failed> for OpenRefusal {
     ghost from_gives = { λ _ refusal. refusal ≡ OpenFault };

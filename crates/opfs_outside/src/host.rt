@@ -3,28 +3,18 @@ ghost use Rattle.std.specs.Prelude.{◌≡◌, ◌≢◌, ◌⊎◌, ◌↔◌, 
 ghost use Rattle.opfs_outside.specs.Faults.{Rose, RoseBy};
 
 use crate::{Disk, Failed};
-use std::error::Error;
-use std::fmt;
+use thiserror::Error;
 
 /// Why a host gave no disk.
-#[derive(Clone, Copy, Debug, PartialEq, Eq)]
+#[derive(Clone, Copy, Debug, PartialEq, Eq, Error)]
 pub enum HostStop {
     /// The host failed: its own count has risen.
+    #[error("the host failed")]
     Failed,
     /// No memory was found.
+    #[error("out of memory")]
     NoMemory,
 }
-
-impl fmt::Display for HostStop {
-    fn fmt<W: fmt::Write>(&self, f: &mut fmt::Formatter<W>) -> fmt::Result {
-        match self {
-            HostStop::Failed => write!(f, "the host failed"),
-            HostStop::NoMemory => write!(f, "out of memory"),
-        }
-    }
-}
-
-impl Error for HostStop {}
 
 /// Disks by path. It counts its own faults, and beside them all faults, which also has those of the disks that
 /// were given back.

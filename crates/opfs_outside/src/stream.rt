@@ -2,20 +2,12 @@
 ghost use Rattle.std.specs.Prelude.{◌≡◌, ◌++◌, ◌-◌, ◌^◌, ◌<◌, ◌≤◌, ℕ, List, [], length, take, IfOk, OnErr};
 ghost use Rattle.opfs_outside.specs.Faults.{Rose};
 
-use std::error::Error;
-use std::fmt;
+use thiserror::Error;
 
 /// A call of the outside failed. The count of the object that was asked has risen.
-#[derive(Clone, Copy, Debug, PartialEq, Eq)]
+#[derive(Clone, Copy, Debug, PartialEq, Eq, Error)]
+#[error("a call of the outside failed")]
 pub struct Failed;
-
-impl fmt::Display for Failed {
-    fn fmt<W: fmt::Write>(&self, f: &mut fmt::Formatter<W>) -> fmt::Result {
-        write!(f, "a call of the outside failed")
-    }
-}
-
-impl Error for Failed {}
 
 /// Bytes that come in. Where the source tells, `rest` is what is still to come.
 pub trait Source {
