@@ -17,14 +17,27 @@ pub struct DirHost<R> {
     own_faults: u64,
 }
 
-/// Opens the file at a path for reading and writing. With `make` it is there and empty after that.
+/// Whether a file may only be read.
+fn is_read_only(kind: ErrorKind) -> bool {
+    matches!(
+        kind,
+        ErrorKind::PermissionDenied | ErrorKind::ReadOnlyFilesystem
+    )
+}
+
+/// Opens the file at a path for reading and writing. With `make` it is there and empty after that. Without, a file that may
+/// only be read is opened for reading, and each write to it fails.
 fn open_file<R: Files<File = File>>(files: &R, path: &str, make: bool) -> io::Result<File> {
-    File::options()
+    let opened = File::options()
         .read(true)
         .write(true)
         .create(make)
         .truncate(make)
-        .open(files, path)
+        .open(files, path);
+    match opened {
+        Err(error) if !make && is_read_only(error.kind()) => File::open(files, path),
+        opened => opened,
+    }
 }
 
 /// Syncs the folder that names a path, so that a crash leaves the name.

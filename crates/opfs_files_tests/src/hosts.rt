@@ -1,9 +1,12 @@
 use opfs_files::DirHost;
 use opfs_outside::{Disk, Failed, Host, HostStop};
-use std::fs;
+use std::fs::{self, File, OpenFile, Permissions};
+use std::os::unix::fs::PermissionsExt;
 use std::test::Fail;
 
 const IMAGE: &str = "opfs_files_host.image";
+
+const IMAGE_TO_READ: &str = "opfs_files_read_only.image";
 
 /// All bytes of a disk of three.
 fn bytes_of<D: Disk>(disk: &mut D) -> Result<[u8; 3], Failed> {
@@ -45,5 +48,26 @@ fn a_host_keeps_files_and_counts_those_that_are_missing(rt: HostRuntime) -> Resu
     assert!(rt; matches!(&too_long, Err(HostStop::Failed)));
     assert_eq!(rt; (host.faults(), host.own_faults()), (3, 3));
     fs::remove_file(&rt, IMAGE)?;
+    Ok(())
+}
+
+/// Fetches a file that may only be read, and gives its first bytes.
+fn read_only<H: Host>(host: &mut H) -> Result<[u8; 3], HostStop> {
+    let mut disk = host.fetch(IMAGE_TO_READ, None)?;
+    let bytes = bytes_of(&mut disk);
+    host.give_back(IMAGE_TO_READ, disk)
+        .map_err(|_| HostStop::Failed)?;
+    bytes.map_err(|_| HostStop::Failed)
+}
+
+#[test]
+fn a_file_that_may_only_be_read_is_fetched(rt: HostRuntime) -> Result<(), Fail> {
+    let mut host = DirHost::make(&rt);
+    fs::write(&rt, IMAGE_TO_READ, b"abc")?;
+    let file = File::open(&rt, IMAGE_TO_READ)?;
+    file.set_permissions(Permissions::from_mode(0o444))?;
+    assert_eq!(rt; read_only(&mut host)?, *b"abc");
+    assert_eq!(rt; (host.faults(), host.own_faults()), (0, 0));
+    fs::remove_file(&rt, IMAGE_TO_READ)?;
     Ok(())
 }
