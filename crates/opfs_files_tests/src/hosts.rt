@@ -51,13 +51,13 @@ fn a_host_keeps_files_and_counts_those_that_are_missing(rt: HostRuntime) -> Resu
     Ok(())
 }
 
-/// Fetches a file that may only be read, and gives its first bytes.
+/// Fetches a file that may only be read, reads and syncs it, and gives its bytes.
 fn read_only<H: Host>(host: &mut H) -> Result<[u8; 3], HostStop> {
     let mut disk = host.fetch(IMAGE_TO_READ, None)?;
     let bytes = bytes_of(&mut disk);
-    host.give_back(IMAGE_TO_READ, disk)
-        .map_err(|_| HostStop::Failed)?;
-    bytes.map_err(|_| HostStop::Failed)
+    let synced = disk.sync();
+    let given = host.give_back(IMAGE_TO_READ, disk);
+    synced.and(given).and(bytes).map_err(|_| HostStop::Failed)
 }
 
 #[test]
