@@ -10,8 +10,10 @@ use Rattle.opfs_print.specs.declared.end.End.TheVariants as end
 use Rattle.opfs_machine.specs.Openings.{Map}
 use Rattle.opfs_image.specs.Filling.{StandsOld}
 use Rattle.opfs_migrate.specs.Migrating.{StandsEither}
-use Rattle.opfs_commands.specs.Hosts.{IsAsBefore, IsGivenBack, IsOnlyRead, NoneFailed, OthersStay}
-use Rattle.opfs_commands.specs.Telling.{IsAnswer, IsStoodFor, HostRose}
+use Rattle.opfs_outside.specs.declared.host.Host.{Ghosts as HostWords}
+use Rattle.opfs_outside.specs.Turns.{of_host, AsBefore, GivenBack, HostTurn, HostServed, ImageStays, OthersAsBefore}
+use Rattle.opfs_commands.specs.Kinds.{NoneFailed}
+use Rattle.opfs_commands.specs.Telling.{IsAnswer, IsStoodFor}
 use Rattle.opfs_commands.specs.declared.answers.ToolAnswer.{ToolAnswer}
 use Rattle.opfs_commands.specs.declared.answers.ToolEnd.{ToolEnd}
 use Rattle.opfs_commands.specs.declared.answers.ToolEnd.TheVariants as tool_end
@@ -21,42 +23,35 @@ pub rose_later : (old mid new : ℕ) → old ≤ mid → Rose mid new → Rose o
 rose_later old mid new le (inl h) = inl (omega (arith, le, h))
 rose_later old mid new le (inr h) = inr h
 
--- a host that failed is told
-pub failed : (old new : ℕ) (r : Result ToolAnswer AllocError) → Rose old new → IfOk r (λ a. a.end ≡ tool_end.Host) → NoneFailed old new r → ⊥
-failed old new r rose fault none = elim none [
-  | inl quiet ↦ quiet rose
-  | inr is ↦ is.2 (subst (λ x. IfOk x (λ a. a.end ≡ tool_end.Host)) is.1 fault)
-]
-
 -- where no call failed, the disk was given back
-pub was_given : (tells Back : Type 0) (old mid new : ℕ) (r first : Result ToolAnswer AllocError) → tells → old ≤ mid → (tells → (Rose mid new → ⊥) → Back)
-    → IfOk r (λ a. ((first ≡ Ok a) × (tells → Back)) ⊎ (Rose mid new × (a.end ≡ tool_end.Host) × (a.text ≡ status_text end.Host))) → NoneFailed old new r → Back
-was_given tells Back old mid new r first told le back kept none = elim none [
-  | inl quiet ↦ back told (λ rose. quiet (rose_later old mid new le rose))
-  | inr is ↦ elim (subst (λ x. IfOk x (λ a. ((first ≡ Ok a) × (tells → Back)) ⊎ (Rose mid new × (a.end ≡ tool_end.Host) × (a.text ≡ status_text end.Host)))) is.1 kept) [
+pub was_given : (h : HostTurn) (tells Back : Type 0) (mid : ℕ) (r first : Result ToolAnswer AllocError) → tells → h.own ≤ mid → (tells → (Rose mid h.own_after → ⊥) → Back)
+    → IfOk r (λ a. ((first ≡ Ok a) × (tells → Back)) ⊎ (Rose mid h.own_after × (a.end ≡ tool_end.Host) × (a.text ≡ status_text end.Host))) → NoneFailed h r → Back
+was_given h tells Back mid r first told le back kept none = elim none [
+  | inl quiet ↦ back told (λ rose. quiet (rose_later h.own mid h.own_after le rose))
+  | inr is ↦ elim (subst (λ x. IfOk x (λ a. ((first ≡ Ok a) × (tells → Back)) ⊎ (Rose mid h.own_after × (a.end ≡ tool_end.Host) × (a.text ≡ status_text end.Host)))) is.1 kept) [
     | inl given ↦ given.1 told
     | inr fault ↦ absurd (is.2 fault.1)
   ]
 ]
 
 -- where the image was refused, the disk was given back
-pub refused_back : (tells Back Read P : Type 0) (mid new : ℕ) (r first : Result ToolAnswer AllocError) → (tells → Back → Read → P) → IfOk first (λ a. a.end ≡ tool_end.Image → Read)
+pub refused_back : (tells Back Stays P : Type 0) (mid new : ℕ) (r first : Result ToolAnswer AllocError) → (tells → Back → Stays → P) → IfOk first (λ a. a.end ≡ tool_end.Image → Stays)
     → IfOk r (λ a. ((first ≡ Ok a) × (tells → Back)) ⊎ (Rose mid new × (a.end ≡ tool_end.Host) × (a.text ≡ status_text end.Host))) → IfOk r (λ a. a.end ≡ tool_end.Image → tells → P)
-refused_back tells Back Read P mid new r first to refused kept = IfOk-weaker r _ _ (λ a is same told. elim is [
-  | inl given ↦ to told (given.1 told) (subst (λ x. IfOk x (λ a'. a'.end ≡ tool_end.Image → Read)) given.0 refused same)
+refused_back tells Back Stays P mid new r first to refused kept = IfOk-weaker r _ _ (λ a is same told. elim is [
+  | inl given ↦ to told (given.1 told) (subst (λ x. IfOk x (λ a'. a'.end ≡ tool_end.Image → Stays)) given.0 refused same)
   | inr fault ↦ let e : tool_end.Image ≡ tool_end.Host = sym same ∙ fault.1 in absurd (cc e)
 ]) kept
 
 -- the paths of a host, where a disk was fetched and given back
-module _ (old mid new : Text → Option Text) (old_trail mid_trail new_trail : Text → Text → Type 0) (path : Text) where
-  pub others_stay : OthersStay old mid old_trail mid_trail path → OthersStay mid new mid_trail new_trail path → OthersStay old new old_trail new_trail path
+module _ {H D : Type 0} (w : HostWords H D) (old mid new : H) (path : Text) where
+  pub others_stay : OthersAsBefore (of_host w old mid) path → OthersAsBefore (of_host w mid new) path → OthersAsBefore (of_host w old new) path
   others_stay first second p other = record {
     image = (second p other).image ∙ (first p other).image;
     trail = λ c. (λ x. ((first p other).trail c).0 (((second p other).trail c).0 x), λ x. ((second p other).trail c).1 (((first p other).trail c).1 x));
   }
 
-  pub only_read : (content back : Text) (left : Text → Type 0) → ((p : Text) → mid p ≡ old p) → ((p c : Text) → mid_trail p c ↔ old_trail p c) → mid path ≡ Some content → back ≡ content → ((c : Text) → left c → c ≡ content)
-      → IsGivenBack mid new mid_trail new_trail path back left → IsOnlyRead old new old_trail new_trail path
+  pub only_read : (content back : Text) (left : Text → Type 0) → ((p : Text) → w.image mid p ≡ w.image old p) → ((p c : Text) → w.trail mid p c ↔ w.trail old p c) → w.image mid path ≡ Some content → back ≡ content → ((c : Text) → left c → c ≡ content)
+      → GivenBack (of_host w mid new) path back left → ImageStays (of_host w old new) path
   only_read content back left images trails there same only given = record {
     image = given.image ∙ ap (λ (x : Text). Some x) same ∙ sym there ∙ images path;
     trail = λ c x. elim ((given.trail c).0 x) [
@@ -65,23 +60,16 @@ module _ (old mid new : Text → Option Text) (old_trail mid_trail new_trail : T
     ];
   }
 
--- where all paths are as before, so is each one
-pub all_stay : (old new : Text → Option Text) (old_trail new_trail : Text → Text → Type 0) → ((p : Text) → new p ≡ old p) → ((p c : Text) → new_trail p c ↔ old_trail p c) → (p : Text) → IsAsBefore old new old_trail new_trail p
-all_stay old new old_trail new_trail images trails p = record { image = images p; trail = trails p }
-
-pub still_read : (old new : Text → Option Text) (old_trail new_trail : Text → Text → Type 0) (p : Text) → IsAsBefore old new old_trail new_trail p → IsOnlyRead old new old_trail new_trail p
-still_read old new old_trail new_trail p is = record { image = is.image; trail = λ c x. inl ((is.trail c).0 x) }
-
 -- each image since a disk was fetched that had one image, where it was only read
 pub one_since : (content : Text) (moment : ℕ) (since0 since1 : ℕ → Text → Type 0) → moment ≡ 0 → ((c : Text) → since0 0 c → c ≡ content) → ((c : Text) → since1 moment c → since0 moment c) → (c : Text) → since1 0 c → c ≡ content
 one_since content moment since0 since1 first one moves c left = one c (subst (λ t. since0 t c) first (moves c (subst (λ t. since1 t c) (sym first) left)))
 
 -- the faults of a disk are those of its host
-pub host_rose : (own_old own_new old mid new f0 f1 : ℕ) → f0 ≡ 0 → old ≤ mid ⊎ (mid ≡ 2 ^ 64 - 1) → RoseBy f1 mid new → mid ≤ 2 ^ 64 - 1 → new ≤ 2 ^ 64 - 1 → f1 ≤ 2 ^ 64 - 1 → Rose f0 f1 → HostRose own_old own_new old new
-host_rose own_old own_new old mid new f0 f1 fresh later (inr top) a b d rose = inr (inr top)
-host_rose own_old own_new old mid new f0 f1 fresh (inl le) (inl more) a b d (inl up) = inr (inl (omega (arith, fresh, le, more, up)))
-host_rose own_old own_new old mid new f0 f1 fresh (inl le) (inl more) a b d (inr top) = inr (inr (omega (arith, top, more, b)))
-host_rose own_old own_new old mid new f0 f1 fresh (inr full) (inl more) a b d rose = inr (inr (omega (arith, full, more, b)))
+pub host_rose : (own_rose : Type 0) (old mid new f0 f1 : ℕ) → f0 ≡ 0 → old ≤ mid ⊎ (mid ≡ 2 ^ 64 - 1) → RoseBy f1 mid new → mid ≤ 2 ^ 64 - 1 → new ≤ 2 ^ 64 - 1 → f1 ≤ 2 ^ 64 - 1 → Rose f0 f1 → own_rose ⊎ Rose old new
+host_rose own_rose old mid new f0 f1 fresh later (inr top) a b d rose = inr (inr top)
+host_rose own_rose old mid new f0 f1 fresh (inl le) (inl more) a b d (inl up) = inr (inl (omega (arith, fresh, le, more, up)))
+host_rose own_rose old mid new f0 f1 fresh (inl le) (inl more) a b d (inr top) = inr (inr (omega (arith, top, more, b)))
+host_rose own_rose old mid new f0 f1 fresh (inr full) (inl more) a b d rose = inr (inr (omega (arith, full, more, b)))
 
 pub later_by : (n old new : ℕ) → RoseBy n old new → old ≤ new ⊎ (new ≡ 2 ^ 64 - 1)
 later_by n old new (inl h) = inl (omega (arith, h))

@@ -1,3 +1,4 @@
 pub mod Hosting
 pub mod Numbers
+pub mod Spelled
 pub mod Standing

@@ -1,11 +1,12 @@
--- What a command on an image tells, by what was asked. This project's own.
-use Rattle.std.specs.Prelude.{ℕ, Option}
-use Rattle.std.specs.Prelude.{List as Items}
+-- What a command on an image tells, and what it leaves of its path, by what was asked. This project's own.
+use Rattle.std.specs.Prelude.{◌≡◌, ◌≢◌, ◌⊎◌, Option, Result, Ok}
+use Rattle.std.specs.declared.alloc.AllocError.{AllocError}
 use Rattle.opfs_base.specs.Texts.{Text}
-use Rattle.opfs_commands.specs.Asking.{IsCommand}
-use Rattle.opfs_commands.specs.Telling.{IsTold, IsRefusedLine, IsFormatted, IsMigrated, IsNotMigrated, IsOfImage, IsAnswer, HostRose}
+use Rattle.opfs_outside.specs.Turns.{HostTurn, HostServed}
+use Rattle.opfs_commands.specs.Telling.{IsTold, IsRefusedLine, IsFormatted, IsMigrated, IsNotMigrated, IsOfImage}
 use Rattle.opfs_commands.specs.declared.answers.ReadTool.TheVariants as tool
-use Rattle.opfs_commands.specs.declared.answers.ToolEnd.{ToolEnd}
+use Rattle.opfs_commands.specs.declared.answers.ToolAnswer.{ToolAnswer}
+use Rattle.opfs_commands.specs.declared.answers.ToolEnd.TheVariants as tool_end
 use Rattle.opfs_commands.specs.declared.words.Action.{Action}
 use Rattle.opfs_commands.specs.declared.words.Action.TheVariants.{Format, List, Check, Migrate}
 
@@ -37,10 +38,6 @@ IsMigration List = ⊥
 IsMigration Check = ⊥
 IsMigration Migrate = Unit {0}
 
--- The words are a command, and it ended like this: before and after are the host's images by path, and its counts of its own
--- faults and of all.
-pub record IsToolText (tells : Type 0) (before after : Text → Option Text) (own_old own_new old new : ℕ) (words : Items Text) (end : ToolEnd) (text : Text) : Type 0 where
-  pub path : Text
-  pub action : Action
-  pub asked : IsCommand words path action
-  pub answer : IsAnswer tells (DoneKind action (before path) (after path)) (RefusedKind action (before path)) (HostRose own_old own_new old new) end text
+-- No call of the host failed: its own count did not rise, or the command was answered, and not with a fault.
+abbrev pub NoneFailed : HostTurn → Result ToolAnswer AllocError → Type 0
+NoneFailed h result = HostServed h ⊎ ((answer : ToolAnswer) × (result ≡ Ok answer) × (answer.end ≢ tool_end.Host))

@@ -1,5 +1,4 @@
-pub mod Asking
-pub mod Hosts
+pub mod Commands
 pub mod Kinds
 pub mod Sizes
 pub mod Telling

@@ -1,8 +1,7 @@
 -- What a command on an image puts out, and how it ends. This project's own.
-use Rattle.std.specs.Prelude.{◌≡◌, ◌⊎◌, ℕ, [], ◌∷◌, codes, decimal, Option, Some, None, Result, Ok}
+use Rattle.std.specs.Prelude.{◌≡◌, ℕ, [], ◌∷◌, codes, decimal, Option, Some, None, Result, Ok, Err}
 use Rattle.opfs_base.specs.Texts.{Text}
 use Rattle.opfs_machine.specs.Openings.{Map, empty_map}
-use Rattle.opfs_outside.specs.Faults.{Rose}
 use Rattle.opfs_print.specs.declared.end.BadImage.{BadImage}
 use Rattle.opfs_print.specs.declared.end.BadImage.TheVariants as bad
 use Rattle.opfs_print.specs.declared.end.End.TheVariants as end
@@ -11,16 +10,11 @@ use Rattle.opfs_print.specs.Status.{status_text}
 use Rattle.opfs_image.specs.Filling.{Stands, StandsOld}
 use Rattle.opfs_codec.specs.declared.change.Format.TheVariants.{Old, New}
 use Rattle.opfs_image.specs.Reading.{Image, read_as}
-use Rattle.opfs_image.specs.Refusals.{IsRefusedAs}
 use Rattle.opfs_image.specs.declared.geometry.Geometry.{Geometry}
 use Rattle.opfs_image.specs.declared.refusal.ImageRefusal.{ImageRefusal}
 use Rattle.opfs_image.specs.declared.refusal.ImageRefusal.TheVariants as image
-use Rattle.opfs_image.specs.declared.refusal.ReadRefusal.{ReadRefusal}
 use Rattle.opfs_replay.specs.Built.{nothing_built}
 use Rattle.opfs_migrate.specs.Migrating.{AreMigrated}
-use Rattle.opfs_migrate.specs.Migrating.{IsRefusedAs as IsMigrateRefusal}
-use Rattle.opfs_migrate.specs.declared.refusal.MigrateRefusal.{MigrateRefusal}
-use Rattle.opfs_migrate.specs.declared.refusal.MigrateRefusal.TheVariants as migrated
 use Rattle.opfs_tools.specs.Listing.{list_text}
 use Rattle.opfs_tools.specs.Checking.{check_text}
 use Rattle.opfs_commands.specs.declared.answers.ToolEnd.{ToolEnd}
@@ -51,6 +45,7 @@ told_as image.Geometry = Some bad.Geometry
 told_as image.NoArea = Some bad.NoArea
 told_as (image.BadRecord place) = Some (bad.BadRecord place)
 told_as image.Old = Some bad.Old
+told_as image.NotOld = Some bad.NotOld
 told_as (image.Overfull charge area) = Some (bad.Overfull charge area)
 told_as image.DiskFault = None
 told_as image.NoMemory = None
@@ -62,9 +57,9 @@ pub record IsLineOf (why : ImageRefusal) (text : Text) : Type 0 where
   pub line : text ≡ status_text (end.Image told)
 
 -- The text is the line that says why what was read is refused.
-pub record IsImageLine (read : Result Image ReadRefusal) (text : Text) : Type 0 where
+pub record IsImageLine (read : Result Image ImageRefusal) (text : Text) : Type 0 where
   pub why : ImageRefusal
-  pub refused : IsRefusedAs read why
+  pub refused : read ≡ Err why
   pub line : IsLineOf why text
 
 -- The image was made, of these sizes: it holds nothing.
@@ -98,28 +93,9 @@ pub record IsStoodFor (m : Map) (found : Option Text) : Type 0 where
   pub there : found ≡ Some image
   pub stands : StandsOld image m
 
--- Why an image is not migrated, as the status line says it.
-abbrev pub told_of : MigrateRefusal → Option BadImage
-told_of migrated.Short = Some bad.Short
-told_of migrated.Magic = Some bad.Magic
-told_of migrated.Geometry = Some bad.Geometry
-told_of migrated.NoArea = Some bad.NoArea
-told_of (migrated.BadRecord place) = Some (bad.BadRecord place)
-told_of migrated.NotOld = Some bad.NotOld
-told_of (migrated.Overfull charge area) = Some (bad.Overfull charge area)
-told_of migrated.DiskFault = None
-told_of migrated.NoMemory = None
-
-pub record IsNoMigration (why : MigrateRefusal) (text : Text) : Type 0 where
-  pub told : BadImage
-  pub same : told_of why ≡ Some told
-  pub line : text ≡ status_text (end.Image told)
-
 -- The text says why the image is not migrated.
-pub record IsNotMigrated (c text : Text) : Type 0 where
-  pub why : MigrateRefusal
-  pub refused : IsMigrateRefusal (read_as Old New c) why
-  pub line : IsNoMigration why text
+abbrev pub IsNotMigrated : Text → Text → Type 0
+IsNotMigrated c text = IsImageLine (read_as Old New c) text
 
 -- How a command ended that was asked of an image: done, with a text of one kind; with the image refused, and a line of
 -- another; or with a fault, which has a cause.
@@ -127,10 +103,6 @@ abbrev pub IsAnswer : Type 0 → (Text → Type 0) → (Text → Type 0) → Typ
 IsAnswer tells Done Refused Cause tool_end.Done text = tells → Done text
 IsAnswer tells Done Refused Cause tool_end.Image text = tells → Refused text
 IsAnswer tells Done Refused Cause tool_end.Host text = Cause × (text ≡ status_text end.Host)
-
--- A count of a host rose: that of its own faults, or that of all, which has those of its disks.
-abbrev pub HostRose : ℕ → ℕ → ℕ → ℕ → Type 0
-HostRose own_old own_new old new = Rose own_old own_new ⊎ Rose old new
 
 -- A host has an image at a path, and the text is of this kind for it.
 pub record IsOfImage (Kind : Text → Text → Type 0) (found : Option Text) (text : Text) : Type 0 where

@@ -1,38 +1,18 @@
-// Commands on the disk of an image.
-ghost use Rattle.std.specs.Prelude.{◌≡◌, ◌≢◌, ◌⊎◌, ◌≤◌, ◌++◌, [], ℕ, List, Some, None, true, Result, Ok, Err, IfOk, IfErr, OnOk, OnErr};
+//! Commands on the disk of an image.
+ghost use Rattle.std.specs.Prelude.{◌≡◌, ◌⊎◌, ◌≤◌, ◌++◌, [], ℕ, List, Result, Ok, Err, IfOk, IfErr, OnOk, OnErr};
 ghost use Rattle.opfs_codec.specs.declared.change.Format.TheVariants.{New};
 ghost use Rattle.opfs_journal.specs.Walking.{OnlyRead};
 ghost use Rattle.opfs_outside.specs.Faults.{Rose};
-ghost use Rattle.opfs_print.specs.Status.{status_text};
-ghost use Rattle.opfs_print.specs.declared.end.End.TheVariants as end;
 ghost use Rattle.opfs_image.specs.Reading.{read_as};
-ghost use Rattle.opfs_image.specs.Refusals.{IsRefusedAs};
-ghost use Rattle.opfs_commands.specs.Telling.{told_as, IsLineOf, IsTold, IsImageLine, IsAnswer};
+ghost use Rattle.opfs_commands.specs.Telling.{IsTold, IsImageLine, IsAnswer};
 
-use crate::answers::{ReadTool, ToolAnswer, ToolEnd, host_answer, line_answer};
+use crate::answers::{ReadTool, ToolAnswer, ToolEnd, host_answer, refused_answer};
 use opfs_base::Bytes;
 use opfs_data::DataRefusal;
-use opfs_image::{ImageRefusal, Recovered, recover};
+use opfs_image::{Recovered, recover};
 use opfs_outside::Disk;
-use opfs_print::{BadImage, End};
 use opfs_tools::{check, list};
 use std::alloc::{AllocError, Global};
-
-// Why an image is refused, as the status line says it; None for a fault and for want of memory.
-fn told(refusal: ImageRefusal) -> Option<BadImage>
-    ensures { result ≡ told_as refusal }
-{
-    match refusal {
-        ImageRefusal::Short => Some(BadImage::Short),
-        ImageRefusal::Magic => Some(BadImage::Magic),
-        ImageRefusal::Geometry => Some(BadImage::Geometry),
-        ImageRefusal::NoArea => Some(BadImage::NoArea),
-        ImageRefusal::BadRecord(place) => Some(BadImage::BadRecord(place)),
-        ImageRefusal::Old => Some(BadImage::Old),
-        ImageRefusal::Overfull(charge, area) => Some(BadImage::Overfull(charge, area)),
-        ImageRefusal::DiskFault | ImageRefusal::NoMemory => None,
-    }
-}
 
 // The list of an image.
 fn print_list<D: Disk>(alloc: Global, image: &Recovered<D>) -> Result<Vec<u8>, AllocError>
@@ -99,21 +79,6 @@ fn tell<D: Disk>(
     }
 }
 
-// The answer to an image that is refused.
-fn refuse(alloc: Global, refusal: ImageRefusal) -> Result<ToolAnswer, AllocError>
-    ensures fault { refusal ≡ ImageRefusal.DiskFault → IfOk result (λ answer. (answer.end ≡ ToolEnd.Host) × (answer.text ≡ status_text end.Host)) }
-    ensures memory { refusal ≡ ImageRefusal.NoMemory → IfOk result (λ answer. ⊥) }
-    ensures image { refusal ≢ ImageRefusal.DiskFault → IfOk result (λ answer. (answer.end ≡ ToolEnd.Image) × IsLineOf refusal answer.text) }
-{
-    if refusal == ImageRefusal::DiskFault {
-        return host_answer(alloc);
-    }
-    match told(refusal) {
-        Some(why) => line_answer(alloc, ToolEnd::Image, End::Image(why)),
-        None => Err(AllocError),
-    }
-}
-
 /// Lets a tool tell the image that a disk holds. The disk is only read.
 pub fn read_disk<D: Disk>(
     alloc: Global,
@@ -125,6 +90,6 @@ pub fn read_disk<D: Disk>(
 {
     match recover(alloc, disk) {
         Ok(image) => tell(alloc, image, tool),
-        Err((disk, refusal)) => (disk, refuse(alloc, refusal)),
+        Err((disk, refusal)) => (disk, refused_answer(alloc, refusal)),
     }
 }

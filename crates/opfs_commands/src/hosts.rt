@@ -1,4 +1,4 @@
-// Commands on the image at a path of a host.
+//! Commands on the image at a path of a host.
 ghost use Rattle.std.specs.Prelude.{◌≡◌, ◌≢◌, ◌⊎◌, ◌+◌, ◌-◌, ◌≤◌, ℕ, true, List, Some, None, Ok, Err, IfOk, OnOk, OnErr};
 ghost use Rattle.opfs_base.specs.Texts.{Text};
 ghost use Rattle.opfs_outside.specs.Faults.{Rose, RoseBy};
@@ -7,8 +7,9 @@ ghost use Rattle.opfs_print.specs.declared.end.End.TheVariants as end;
 ghost use Rattle.opfs_machine.specs.Openings.{Map};
 ghost use Rattle.opfs_migrate.specs.Migrating.{StandsEither};
 ghost use Rattle.opfs_image.specs.Superblock.{is_in_range};
-ghost use Rattle.opfs_commands.specs.Hosts.{IsGivenBack, IsOnlyRead, NoneFailed, OthersStay};
-ghost use Rattle.opfs_commands.specs.Telling.{IsTold, IsRefusedLine, IsOfImage, IsFormatted, IsMigrated, IsNotMigrated, IsStoodFor, IsAnswer, HostRose};
+ghost use Rattle.opfs_outside.specs.Turns.{of_host, GivenBack, HostFailed, HostServed, ImageStays, OthersAsBefore};
+ghost use Rattle.opfs_commands.specs.Kinds.{NoneFailed};
+ghost use Rattle.opfs_commands.specs.Telling.{IsTold, IsRefusedLine, IsOfImage, IsFormatted, IsMigrated, IsNotMigrated, IsStoodFor, IsAnswer};
 
 use crate::answers::{ReadTool, ToolAnswer, ToolEnd, host_answer};
 use crate::disks::read_disk;
@@ -25,8 +26,8 @@ fn give_back<H: Host>(
     disk: H::D,
     answer: Result<ToolAnswer, AllocError>,
 ) -> Result<ToolAnswer, AllocError>
-    ensures kept { IfOk result (λ a. ((answer ≡ Ok a) × (H.tells → IsGivenBack (H.image host.old) (H.image host.new) (H.trail host.old) (H.trail host.new) path.now (H.D.content disk) (H.D.since disk 0))) ⊎ (Rose (H.own_faults host.old) (H.own_faults host.new) × (a.end ≡ ToolEnd.Host) × (a.text ≡ status_text end.Host))) }
-    ensures back { H.tells → (Rose (H.own_faults host.old) (H.own_faults host.new) → ⊥) → IsGivenBack (H.image host.old) (H.image host.new) (H.trail host.old) (H.trail host.new) path.now (H.D.content disk) (H.D.since disk 0) }
+    ensures kept { IfOk result (λ a. ((answer ≡ Ok a) × (H.tells → GivenBack (of_host H.Host host.old host.new) path.now (H.D.content disk) (H.D.since disk 0))) ⊎ (Rose (H.own_faults host.old) (H.own_faults host.new) × (a.end ≡ ToolEnd.Host) × (a.text ≡ status_text end.Host))) }
+    ensures back { H.tells → HostServed (of_host H.Host host.old host.new) → GivenBack (of_host H.Host host.old host.new) path.now (H.D.content disk) (H.D.since disk 0) }
     ensures own_later { H.own_faults host.old ≤ H.own_faults host.new }
     ensures later { RoseBy (H.D.faults disk) (H.faults host.old) (H.faults host.new) }
 {
@@ -45,9 +46,9 @@ pub fn read_at<H: Host>(
     path: &str,
     tool: ReadTool,
 ) -> Result<ToolAnswer, AllocError>
-    ensures answer { IfOk result (λ answer. IsAnswer H.tells (IsOfImage (IsTold tool) (H.image host.old path.now)) (IsOfImage IsRefusedLine (H.image host.old path.now)) (HostRose (H.own_faults host.old) (H.own_faults host.new) (H.faults host.old) (H.faults host.new)) answer.end answer.text) }
-    ensures others { H.tells → NoneFailed (H.own_faults host.old) (H.own_faults host.new) result → OthersStay (H.image host.old) (H.image host.new) (H.trail host.old) (H.trail host.new) path.now }
-    ensures reads { H.tells → NoneFailed (H.own_faults host.old) (H.own_faults host.new) result → IsOnlyRead (H.image host.old) (H.image host.new) (H.trail host.old) (H.trail host.new) path.now }
+    ensures answer { IfOk result (λ answer. IsAnswer H.tells (IsOfImage (IsTold tool) (H.image host.old path.now)) (IsOfImage IsRefusedLine (H.image host.old path.now)) (HostFailed (of_host H.Host host.old host.new)) answer.end answer.text) }
+    ensures others { H.tells → NoneFailed (of_host H.Host host.old host.new) result → OthersAsBefore (of_host H.Host host.old host.new) path.now }
+    ensures reads { H.tells → NoneFailed (of_host H.Host host.old host.new) result → ImageStays (of_host H.Host host.old host.new) path.now }
 {
     let disk = match host.fetch(path, None) {
         Ok(disk) => disk,
@@ -66,8 +67,8 @@ pub fn format_at<H: Host>(
     geometry: Geometry,
 ) -> Result<ToolAnswer, AllocError>
     requires { is_in_range geometry ≡ true }
-    ensures answer { IfOk result (λ answer. IsAnswer H.tells (IsOfImage (IsFormatted geometry) (H.image host.new path.now)) (λ text. ⊥) (HostRose (H.own_faults host.old) (H.own_faults host.new) (H.faults host.old) (H.faults host.new)) answer.end answer.text) }
-    ensures others { H.tells → NoneFailed (H.own_faults host.old) (H.own_faults host.new) result → OthersStay (H.image host.old) (H.image host.new) (H.trail host.old) (H.trail host.new) path.now }
+    ensures answer { IfOk result (λ answer. IsAnswer H.tells (IsOfImage (IsFormatted geometry) (H.image host.new path.now)) (λ text. ⊥) (HostFailed (of_host H.Host host.old host.new)) answer.end answer.text) }
+    ensures others { H.tells → NoneFailed (of_host H.Host host.old host.new) result → OthersAsBefore (of_host H.Host host.old host.new) path.now }
 {
     let disk = match host.fetch(path, Some(geometry.image_size())) {
         Ok(disk) => disk,
@@ -84,10 +85,10 @@ pub fn migrate_at<H: Host>(
     host: &mut H,
     path: &str,
 ) -> Result<ToolAnswer, AllocError>
-    ensures answer { IfOk result (λ answer. IsAnswer H.tells (IsMigrated (H.image host.old path.now) (H.image host.new path.now)) (IsOfImage IsNotMigrated (H.image host.old path.now)) (HostRose (H.own_faults host.old) (H.own_faults host.new) (H.faults host.old) (H.faults host.new)) answer.end answer.text) }
-    ensures others { H.tells → NoneFailed (H.own_faults host.old) (H.own_faults host.new) result → OthersStay (H.image host.old) (H.image host.new) (H.trail host.old) (H.trail host.new) path.now }
-    ensures refused { IfOk result (λ answer. answer.end ≡ ToolEnd.Image → H.tells → IsOnlyRead (H.image host.old) (H.image host.new) (H.trail host.old) (H.trail host.new) path.now) }
-    ensures trail { H.tells → NoneFailed (H.own_faults host.old) (H.own_faults host.new) result → (m : Map) → IsStoodFor m (H.image host.old path.now) → (c : Text) → H.trail host.new path.now c → H.trail host.old path.now c ⊎ StandsEither m c }
+    ensures answer { IfOk result (λ answer. IsAnswer H.tells (IsMigrated (H.image host.old path.now) (H.image host.new path.now)) (IsOfImage IsNotMigrated (H.image host.old path.now)) (HostFailed (of_host H.Host host.old host.new)) answer.end answer.text) }
+    ensures others { H.tells → NoneFailed (of_host H.Host host.old host.new) result → OthersAsBefore (of_host H.Host host.old host.new) path.now }
+    ensures refused { IfOk result (λ answer. answer.end ≡ ToolEnd.Image → H.tells → ImageStays (of_host H.Host host.old host.new) path.now) }
+    ensures trail { H.tells → NoneFailed (of_host H.Host host.old host.new) result → (m : Map) → IsStoodFor m (H.image host.old path.now) → (c : Text) → H.trail host.new path.now c → H.trail host.old path.now c ⊎ StandsEither m c }
 {
     let disk = match host.fetch(path, None) {
         Ok(disk) => disk,

@@ -1,21 +1,18 @@
-// Commands that write the disk of an image.
+//! Commands that write the disk of an image.
 ghost use Rattle.std.specs.Prelude.{◌≡◌, ◌≢◌, ◌⊎◌, ◌≤◌, ◌++◌, [], ℕ, List, Some, None, true, Result, string_bytes, Ok, Err, IfOk, IfErr, OnOk, OnErr};
 ghost use Rattle.opfs_journal.specs.Walking.{OnlyRead};
 ghost use Rattle.opfs_outside.specs.Faults.{Rose};
-ghost use Rattle.opfs_print.specs.Status.{status_text};
-ghost use Rattle.opfs_print.specs.declared.end.End.TheVariants as end;
 ghost use Rattle.opfs_machine.specs.Openings.{Map};
 ghost use Rattle.opfs_migrate.specs.Migrating.{StandsEither};
 ghost use Rattle.opfs_image.specs.Filling.{StandsOld};
 ghost use Rattle.opfs_image.specs.Superblock.{image_size, is_in_range};
-ghost use Rattle.opfs_commands.specs.Telling.{formatted_line, migrated_line, told_of, IsFormatted, IsMigratedText, IsNotMigrated, IsNoMigration, IsAnswer};
+ghost use Rattle.opfs_commands.specs.Telling.{formatted_line, migrated_line, IsFormatted, IsMigratedText, IsNotMigrated, IsAnswer};
 
-use crate::answers::{ToolAnswer, ToolEnd, host_answer, line_answer};
+use crate::answers::{ToolAnswer, ToolEnd, host_answer, refused_answer};
 use opfs_base::Bytes;
 use opfs_image::{Geometry, format};
-use opfs_migrate::{MigrateRefusal, migrate};
+use opfs_migrate::migrate;
 use opfs_outside::Disk;
-use opfs_print::{BadImage, End};
 use std::alloc::{AllocError, Global};
 
 // An answer that all was done, with a text.
@@ -56,37 +53,6 @@ pub fn format_disk<D: Disk>(
     }
 }
 
-// Why an image is not migrated, as the status line says it; None for a fault and for want of memory.
-fn told(refusal: MigrateRefusal) -> Option<BadImage>
-    ensures { result ≡ told_of refusal }
-{
-    match refusal {
-        MigrateRefusal::Short => Some(BadImage::Short),
-        MigrateRefusal::Magic => Some(BadImage::Magic),
-        MigrateRefusal::Geometry => Some(BadImage::Geometry),
-        MigrateRefusal::NoArea => Some(BadImage::NoArea),
-        MigrateRefusal::BadRecord(place) => Some(BadImage::BadRecord(place)),
-        MigrateRefusal::NotOld => Some(BadImage::NotOld),
-        MigrateRefusal::Overfull(charge, area) => Some(BadImage::Overfull(charge, area)),
-        MigrateRefusal::DiskFault | MigrateRefusal::NoMemory => None,
-    }
-}
-
-// The answer to an image that is not migrated.
-fn refuse(alloc: Global, refusal: MigrateRefusal) -> Result<ToolAnswer, AllocError>
-    ensures fault { refusal ≡ MigrateRefusal.DiskFault → IfOk result (λ answer. (answer.end ≡ ToolEnd.Host) × (answer.text ≡ status_text end.Host)) }
-    ensures memory { refusal ≡ MigrateRefusal.NoMemory → IfOk result (λ answer. ⊥) }
-    ensures image { refusal ≢ MigrateRefusal.DiskFault → IfOk result (λ answer. (answer.end ≡ ToolEnd.Image) × IsNoMigration refusal answer.text) }
-{
-    if refusal == MigrateRefusal::DiskFault {
-        return host_answer(alloc);
-    }
-    match told(refusal) {
-        Some(why) => line_answer(alloc, ToolEnd::Image, End::Image(why)),
-        None => Err(AllocError),
-    }
-}
-
 // The line of an image that was migrated.
 fn migrated(alloc: Global, files: u64) -> Result<ToolAnswer, AllocError>
     ensures end { IfOk result (λ answer. answer.end ≡ ToolEnd.Done) }
@@ -104,6 +70,6 @@ pub fn migrate_disk<D: Disk>(alloc: Global, disk: D) -> (D, Result<ToolAnswer, A
 {
     match migrate(alloc, disk) {
         Ok((disk, files)) => (disk, migrated(alloc, files)),
-        Err((disk, refusal)) => (disk, refuse(alloc, refusal)),
+        Err((disk, refusal)) => (disk, refused_answer(alloc, refusal)),
     }
 }

@@ -1,13 +1,12 @@
-// A command on an image.
+//! A command on an image.
 ghost use Rattle.std.specs.Prelude.{◌≡◌, ◌≢◌, ◌⊎◌, IfOk};
 ghost use Rattle.opfs_base.specs.Texts.{Text};
-ghost use Rattle.opfs_outside.specs.Faults.{Rose};
 ghost use Rattle.opfs_machine.specs.Openings.{Map};
 ghost use Rattle.opfs_migrate.specs.Migrating.{StandsEither};
-ghost use Rattle.opfs_commands.specs.Asking.{InRange};
-ghost use Rattle.opfs_commands.specs.Hosts.{IsOnlyRead, NoneFailed, OthersStay};
-ghost use Rattle.opfs_commands.specs.Kinds.{DoneKind, RefusedKind, IsReading, IsMigration};
-ghost use Rattle.opfs_commands.specs.Telling.{IsStoodFor, IsAnswer, HostRose};
+ghost use Rattle.opfs_outside.specs.Turns.{of_host, HostFailed, ImageStays, OthersAsBefore};
+ghost use Rattle.opfs_commands.specs.Commands.{InRange};
+ghost use Rattle.opfs_commands.specs.Kinds.{DoneKind, RefusedKind, IsReading, IsMigration, NoneFailed};
+ghost use Rattle.opfs_commands.specs.Telling.{IsStoodFor, IsAnswer};
 
 use crate::answers::{ReadTool, ToolAnswer, ToolEnd};
 use crate::hosts::{format_at, migrate_at, read_at};
@@ -25,11 +24,11 @@ pub fn run_command<H: Host>(
     action: Action,
 ) -> Result<ToolAnswer, AllocError>
     requires { InRange action }
-    ensures answer { IfOk result (λ answer. IsAnswer H.tells (DoneKind action (H.image host.old image.now) (H.image host.new image.now)) (RefusedKind action (H.image host.old image.now)) (HostRose (H.own_faults host.old) (H.own_faults host.new) (H.faults host.old) (H.faults host.new)) answer.end answer.text) }
-    ensures others { H.tells → NoneFailed (H.own_faults host.old) (H.own_faults host.new) result → OthersStay (H.image host.old) (H.image host.new) (H.trail host.old) (H.trail host.new) image.now }
-    ensures reads { IsReading action → H.tells → NoneFailed (H.own_faults host.old) (H.own_faults host.new) result → IsOnlyRead (H.image host.old) (H.image host.new) (H.trail host.old) (H.trail host.new) image.now }
-    ensures refused { IfOk result (λ answer. answer.end ≡ ToolEnd.Image → H.tells → IsOnlyRead (H.image host.old) (H.image host.new) (H.trail host.old) (H.trail host.new) image.now) }
-    ensures trail { IsMigration action → H.tells → NoneFailed (H.own_faults host.old) (H.own_faults host.new) result → (m : Map) → IsStoodFor m (H.image host.old image.now) → (c : Text) → H.trail host.new image.now c → H.trail host.old image.now c ⊎ StandsEither m c }
+    ensures answer { IfOk result (λ answer. IsAnswer H.tells (DoneKind action (H.image host.old image.now) (H.image host.new image.now)) (RefusedKind action (H.image host.old image.now)) (HostFailed (of_host H.Host host.old host.new)) answer.end answer.text) }
+    ensures others { H.tells → NoneFailed (of_host H.Host host.old host.new) result → OthersAsBefore (of_host H.Host host.old host.new) image.now }
+    ensures reads { IsReading action → H.tells → NoneFailed (of_host H.Host host.old host.new) result → ImageStays (of_host H.Host host.old host.new) image.now }
+    ensures refused { IfOk result (λ answer. answer.end ≡ ToolEnd.Image → H.tells → ImageStays (of_host H.Host host.old host.new) image.now) }
+    ensures trail { IsMigration action → H.tells → NoneFailed (of_host H.Host host.old host.new) result → (m : Map) → IsStoodFor m (H.image host.old image.now) → (c : Text) → H.trail host.new image.now c → H.trail host.old image.now c ⊎ StandsEither m c }
 {
     match action {
         Action::Format(geometry) => format_at(alloc, host, image, geometry),

@@ -1,12 +1,9 @@
 //! What the words of a command ask.
-ghost use Rattle.std.specs.Prelude.{◌≡◌, ◌≢◌, ◌<◌, ◌^◌, [], ◌∷◌, ℕ, List, true, decimal, IfSome};
+ghost use Rattle.std.specs.Prelude.{◌≡◌, ◌<◌, ◌^◌, [], ◌∷◌, ℕ, true, decimal, IfSome};
 ghost use Rattle.std.specs.Option.{IfNone};
-ghost use Rattle.opfs_base.specs.Texts.{Text};
-ghost use Rattle.std.specs.Str.{IsUtf8};
 ghost use Rattle.opfs_image.specs.declared.geometry.Geometry.{Geometry as AGeometry};
 ghost use Rattle.opfs_commands.specs.Sizes.{AreSizes};
-ghost use Rattle.opfs_commands.specs.declared.words.Action.{Action as AnAction};
-ghost use Rattle.opfs_commands.specs.Asking.{plain_action, IsCommand};
+ghost use Rattle.opfs_commands.specs.Commands.{plain_action, meant, AsksNothing, IsAsked, IsPath};
 
 use itoa::Buffer;
 use opfs_base::{Bytes, Words};
@@ -26,13 +23,13 @@ pub enum Action {
     Migrate,
 }
 
-/// A command on an image.
+/// What the words of a command line ask.
 #[derive(Clone, Copy, Debug)]
-pub struct Command<'a> {
-    /// The path of the image.
-    pub image: &'a str,
-    /// What is asked of it.
-    pub action: Action,
+pub enum Command<'a> {
+    /// To run a script over an empty store.
+    Try,
+    /// To do something with the image at a path.
+    OnImage(&'a str, Action),
 }
 
 // The number that a word is, written as it prints.
@@ -54,9 +51,10 @@ fn number(word: &[u8]) -> Option<u32>
 }
 
 // The path that a word is: any text that is not empty.
-fn image_of(word: &[u8]) -> Option<&str>
-    ensures some { IfSome result (λ path. (path.now ≡ word.now) × (path.now ≢ [])) }
-    ensures none { IfNone result (IsUtf8 word.now → word.now ≢ [] → ⊥) }
+fn path_of(word: &[u8]) -> Option<&str>
+    ensures same { IfSome result (λ path. path.now ≡ word.now) }
+    ensures some { IfSome result (λ path. IsPath path.now) }
+    ensures none { IfNone result (IsPath word.now → ⊥) }
 {
     let Ok(path) = str::from_utf8(word) else {
         return None;
@@ -102,48 +100,57 @@ fn action_of(word: &[u8]) -> Option<Action>
     None
 }
 
-// The command that two words are.
-fn read_two<'a>(word: &[u8], image: &'a [u8]) -> Option<Command<'a>>
-    ensures some { IfSome result (λ command. IsCommand (word.now ∷ image.now ∷ []) command.image.now command.action) }
-    ensures none { IfNone result ((path : Text) (action : AnAction) → IsCommand (word.now ∷ image.now ∷ []) path action → ⊥) }
+// The command that one word is.
+fn read_one<'a>(word: &[u8]) -> Option<Command<'a>>
+    ensures some { IfSome result (λ command. IsAsked (word.now ∷ []) (meant command)) }
+    ensures none { IfNone result (AsksNothing (word.now ∷ [])) }
 {
-    let image = image_of(image)?;
+    if word == b"try".as_slice() {
+        return Some(Command::Try);
+    }
+    None
+}
+
+// The command that two words are.
+fn read_two<'a>(word: &[u8], path: &'a [u8]) -> Option<Command<'a>>
+    ensures some { IfSome result (λ command. IsAsked (word.now ∷ path.now ∷ []) (meant command)) }
+    ensures none { IfNone result (AsksNothing (word.now ∷ path.now ∷ [])) }
+{
+    let path = path_of(path)?;
     let action = action_of(word)?;
-    Some(Command { image, action })
+    Some(Command::OnImage(path, action))
 }
 
 // The command that five words are.
 fn read_five<'a>(
     word: &[u8],
-    image: &'a [u8],
+    path: &'a [u8],
     blocks: &[u8],
     areas: &[u8],
     quota: &[u8],
 ) -> Option<Command<'a>>
-    ensures some { IfSome result (λ command. IsCommand (word.now ∷ image.now ∷ blocks.now ∷ areas.now ∷ quota.now ∷ []) command.image.now command.action) }
-    ensures none { IfNone result ((path : Text) (action : AnAction) → IsCommand (word.now ∷ image.now ∷ blocks.now ∷ areas.now ∷ quota.now ∷ []) path action → ⊥) }
+    ensures some { IfSome result (λ command. IsAsked (word.now ∷ path.now ∷ blocks.now ∷ areas.now ∷ quota.now ∷ []) (meant command)) }
+    ensures none { IfNone result (AsksNothing (word.now ∷ path.now ∷ blocks.now ∷ areas.now ∷ quota.now ∷ [])) }
 {
     if word != b"format".as_slice() {
         return None;
     }
-    let image = image_of(image)?;
+    let path = path_of(path)?;
     let geometry = sizes(blocks, areas, quota)?;
-    Some(Command {
-        image,
-        action: Action::Format(geometry),
-    })
+    Some(Command::OnImage(path, Action::Format(geometry)))
 }
 
-/// The command on an image that words are; None where they are none.
+/// The command that words ask for; None where they ask for nothing.
 pub fn read_command(words: &Words) -> Option<Command<'_>>
-    ensures some { IfSome result (λ command. IsCommand words.now command.image.now command.action) }
-    ensures none { IfNone result ((path : Text) (action : AnAction) → IsCommand words.now path action → ⊥) }
+    ensures some { IfSome result (λ command. IsAsked words.now (meant command)) }
+    ensures none { IfNone result (AsksNothing words.now) }
 {
     match words.as_slice() {
-        [word, image] => read_two(word.as_slice(), image.as_slice()),
-        [word, image, blocks, areas, quota] => read_five(
+        [word] => read_one(word.as_slice()),
+        [word, path] => read_two(word.as_slice(), path.as_slice()),
+        [word, path, blocks, areas, quota] => read_five(
             word.as_slice(),
-            image.as_slice(),
+            path.as_slice(),
             blocks.as_slice(),
             areas.as_slice(),
             quota.as_slice(),

@@ -7,12 +7,12 @@ use Rattle.opfs_journal.specs.Format.{chosen_in}
 use Rattle.opfs_replay.specs.Built.{Built}
 use Rattle.opfs_replay.specs.Sums.{charge_of}
 use Rattle.opfs_image.specs.Reading.{area_built, area_format, format_number, read_as, unless_overfull, image_of}
-use Rattle.opfs_image.specs.Answers.{refused_first}
+use Rattle.opfs_image.specs.Answers.{refused_first, not_of}
 use Rattle.opfs_image.specs.Superblock.{areas_of, area_bytes, geometry_of}
 use Rattle.opfs_journal.specs.declared.refusal.OpenRefusal.{OpenRefusal}
 use Rattle.opfs_image.specs.Walking.{IsFound}
 use Rattle.opfs_image.specs.declared.geometry.Geometry.{Geometry}
-use Rattle.opfs_image.specs.declared.refusal.ReadRefusal.TheVariants as refusal
+use Rattle.opfs_image.specs.declared.refusal.ImageRefusal.TheVariants as refusal
 
 format_same : (n : ℕ) (wanted : Format) → n ≡ format_number wanted → (n == format_number wanted) ≡ true
 format_same n Old e = rw e refl
@@ -40,7 +40,7 @@ module _ (wanted counted : Format) (c : List ℕ) (g : Geometry) (geometry : geo
   pub ruling_bad : (first : OpenRefusal) → chosen_in (areas_of g) c ≡ Err first → read_as wanted counted c ≡ Err (refused_first first)
   ruling_bad first bad = rw (geometry, bad) refl
 
-  pub format_other : (second : Bool) → chosen_in (areas_of g) c ≡ Ok second → (area_format c (areas_of g) second == format_number wanted) ≡ false → read_as wanted counted c ≡ Err refusal.OtherFormat
+  pub format_other : (second : Bool) → chosen_in (areas_of g) c ≡ Ok second → (area_format c (areas_of g) second == format_number wanted) ≡ false → read_as wanted counted c ≡ Err (not_of wanted)
   format_other second chosen other = rw (geometry, chosen, other) refl
 
 -- a test of equality that holds

@@ -16,8 +16,9 @@ use Rattle.opfs_image.specs.Layers.{IsLayered}
 use Rattle.opfs_image.specs.Reading.{Image, area_built, area_format, format_number, read_as, read_from, built_in_area, unless_overfull, image_of}
 use Rattle.opfs_image.specs.Superblock.{geometry_of, areas_of, area_bytes}
 use Rattle.opfs_image.specs.declared.geometry.Geometry.{Geometry}
-use Rattle.opfs_image.specs.declared.refusal.ReadRefusal.{ReadRefusal}
-use Rattle.opfs_image.specs.declared.refusal.ReadRefusal.TheVariants as refusal
+use Rattle.opfs_image.specs.Answers.{not_of}
+use Rattle.opfs_image.specs.declared.refusal.ImageRefusal.{ImageRefusal}
+use Rattle.opfs_image.specs.declared.refusal.ImageRefusal.TheVariants as refusal
 use Rattle.opfs_image.proofs.Chained.{cut, to_chain, from_chain, first_body}
 use Rattle.opfs_image.proofs.Images.{image_read, same_number}
 
@@ -86,11 +87,11 @@ module _ (wanted counted : Format) (c : List ℕ) (image : Image) where
         fits = is.fits;
       }
 
-abbrev read_in : Image → Result Image ReadRefusal → Image
+abbrev read_in : Image → Result Image ImageRefusal → Image
 read_in other (Ok x) = x
 read_in other (Err refused) = other
 
-ok_is : (x image : Image) (r : Result Image ReadRefusal) → r ≡ Ok x → r ≡ Ok image → x ≡ image
+ok_is : (x image : Image) (r : Result Image ImageRefusal) → r ≡ Ok x → r ≡ Ok image → x ≡ image
 ok_is x image r first second = ap (read_in image) (sym first ∙ second)
 
 module _ (wanted counted : Format) (c : List ℕ) (image : Image) (g : Geometry) (geometry : geometry_of c ≡ Ok g) where
@@ -107,7 +108,7 @@ module _ (wanted counted : Format) (c : List ℕ) (image : Image) (g : Geometry)
     when_built (Ok b) e h = when_fits b (nat_lt (area_bytes g) (charge_of counted b + 7)) e refl h
 
   when_format : (second : Bool) (is : Bool) → chosen_in (areas_of g) c ≡ Ok second → (area_format c (areas_of g) second == format_number wanted) ≡ is
-      → image_of g (if is then unless_overfull counted (area_bytes g) (area_built wanted g.blocks c (areas_of g) second) else Err refusal.OtherFormat) ≡ Ok image → IsBuilt wanted counted c image
+      → image_of g (if is then unless_overfull counted (area_bytes g) (area_built wanted g.blocks c (areas_of g) second) else Err (not_of wanted)) ≡ Ok image → IsBuilt wanted counted c image
   when_format second false chosen e h = absurd (cc)
   when_format second true chosen e h = when_built second chosen (same_number _ _ e) (area_built wanted g.blocks c (areas_of g) second) refl h
 
@@ -115,7 +116,7 @@ module _ (wanted counted : Format) (c : List ℕ) (image : Image) (g : Geometry)
   when_chosen (Err first) e h = absurd (cc)
   when_chosen (Ok second) e h = when_format second (area_format c (areas_of g) second == format_number wanted) e refl h
 
-when_read : (wanted counted : Format) (c : List ℕ) (image : Image) (x : Result Geometry ReadRefusal) → geometry_of c ≡ x → read_from wanted counted c x ≡ Ok image → IsBuilt wanted counted c image
+when_read : (wanted counted : Format) (c : List ℕ) (image : Image) (x : Result Geometry ImageRefusal) → geometry_of c ≡ x → read_from wanted counted c x ≡ Ok image → IsBuilt wanted counted c image
 when_read wanted counted c image (Err refused) e h = absurd (cc)
 when_read wanted counted c image (Ok g) e h = when_chosen wanted counted c image g e (chosen_in (areas_of g) c) refl h
 

@@ -1,3 +1,4 @@
+pub mod Beside
 pub mod Chained
 pub mod Formatted
 pub mod Heads

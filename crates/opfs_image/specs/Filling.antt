@@ -11,7 +11,7 @@ use Rattle.opfs_tree.specs.declared.row.Row.TheVariants as row
 use Rattle.opfs_replay.specs.Built.{Built, all_extents}
 use Rattle.opfs_image.specs.Superblock.{data_base}
 use Rattle.opfs_image.specs.Reading.{Image, read_as}
-use Rattle.opfs_image.specs.declared.refusal.ReadRefusal.{ReadRefusal}
+use Rattle.opfs_image.specs.declared.refusal.ImageRefusal.{ImageRefusal}
 
 -- a row with the bytes of its file: those of its blocks, cut to its length
 abbrev pub filled_row : ℕ → List ℕ → Row → Stored
@@ -34,7 +34,7 @@ AreIn base (e ∷ more) i = IsIn base e i ⊎ AreIn base more i
 abbrev pub Names : ℕ → Built → ℕ → Type 0
 Names base b i = AreIn base (all_extents b.rows) i
 
-abbrev pub map_of : List ℕ → Result Image ReadRefusal → Option Map
+abbrev pub map_of : List ℕ → Result Image ImageRefusal → Option Map
 map_of c (Err refused) = None
 map_of c (Ok image) = Some (filled (data_base image.geometry) c image.built)
 

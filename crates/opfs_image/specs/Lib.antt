@@ -5,6 +5,5 @@ pub mod Filling
 pub mod Layers
 pub mod Props
 pub mod Reading
-pub mod Refusals
 pub mod Superblock
 pub mod Walking

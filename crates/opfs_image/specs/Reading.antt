@@ -9,11 +9,11 @@ use Rattle.opfs_journal.specs.declared.refusal.OpenRefusal.{OpenRefusal}
 use Rattle.opfs_replay.specs.Built.{Built, nothing_built}
 use Rattle.opfs_replay.specs.Applying.{built_by}
 use Rattle.opfs_replay.specs.Sums.{charge_of}
-use Rattle.opfs_image.specs.Answers.{refused_first}
+use Rattle.opfs_image.specs.Answers.{refused_first, not_of}
 use Rattle.opfs_image.specs.Superblock.{geometry_of, area_bytes, areas_of}
 use Rattle.opfs_image.specs.declared.geometry.Geometry.{Geometry}
-use Rattle.opfs_image.specs.declared.refusal.ReadRefusal.{ReadRefusal}
-use Rattle.opfs_image.specs.declared.refusal.ReadRefusal.TheVariants as refusal
+use Rattle.opfs_image.specs.declared.refusal.ImageRefusal.{ImageRefusal}
+use Rattle.opfs_image.specs.declared.refusal.ImageRefusal.TheVariants as refusal
 
 -- the number of a format
 abbrev pub format_number : Format → ℕ
@@ -51,31 +51,31 @@ abbrev pub area_format : List ℕ → Areas → Bool → ℕ
 area_format c a second = format_of (slice_index c (begin_of a second + 5))
 
 -- What was built, unless its charge with a record's 7 bytes passes the area.
-abbrev pub unless_overfull : Format → ℕ → Result Built ℕ → Result Built ReadRefusal
+abbrev pub unless_overfull : Format → ℕ → Result Built ℕ → Result Built ImageRefusal
 unless_overfull counted area (Err bad) = Err (refusal.BadRecord bad)
 unless_overfull counted area (Ok b) =
     if nat_lt area (charge_of counted b + 7) then Err (refusal.Overfull (charge_of counted b) area) else Ok b
 
-abbrev pub built_in_area : Format → Format → Geometry → List ℕ → Result Bool OpenRefusal → Result Built ReadRefusal
+abbrev pub built_in_area : Format → Format → Geometry → List ℕ → Result Bool OpenRefusal → Result Built ImageRefusal
 built_in_area wanted counted g c (Err first) = Err (refused_first first)
 built_in_area wanted counted g c (Ok second) =
     if area_format c (areas_of g) second == format_number wanted then
     unless_overfull counted (area_bytes g) (area_built wanted g.blocks c (areas_of g) second)
-    else Err refusal.OtherFormat
+    else Err (not_of wanted)
 
 -- An image: its geometry, and what its records build.
 pub record Image : Type 0 where
   pub geometry : Geometry
   pub built : Built
 
-abbrev pub image_of : Geometry → Result Built ReadRefusal → Result Image ReadRefusal
+abbrev pub image_of : Geometry → Result Built ImageRefusal → Result Image ImageRefusal
 image_of g (Err refused) = Err refused
 image_of g (Ok b) = Ok (record { geometry = g; built = b })
 
-abbrev pub read_from : Format → Format → List ℕ → Result Geometry ReadRefusal → Result Image ReadRefusal
+abbrev pub read_from : Format → Format → List ℕ → Result Geometry ImageRefusal → Result Image ImageRefusal
 read_from wanted counted c (Err refused) = Err refused
 read_from wanted counted c (Ok g) = image_of g (built_in_area wanted counted g c (chosen_in (areas_of g) c))
 
 -- What an image of one format is read as, its charge counted as in another.
-abbrev pub read_as : Format → Format → List ℕ → Result Image ReadRefusal
+abbrev pub read_as : Format → Format → List ℕ → Result Image ImageRefusal
 read_as wanted counted c = read_from wanted counted c (geometry_of c)

@@ -9,8 +9,8 @@ use Rattle.opfs_outside.specs.Bytes.{window}
 use Rattle.opfs_journal.specs.Format.{number_at}
 use Rattle.opfs_journal.specs.declared.areas.Areas.{Areas}
 use Rattle.opfs_image.specs.declared.geometry.Geometry.{Geometry}
-use Rattle.opfs_image.specs.declared.refusal.ReadRefusal.{ReadRefusal}
-use Rattle.opfs_image.specs.declared.refusal.ReadRefusal.TheVariants as refusal
+use Rattle.opfs_image.specs.declared.refusal.ImageRefusal.{ImageRefusal}
+use Rattle.opfs_image.specs.declared.refusal.ImageRefusal.TheVariants as refusal
 
 abbrev pub has_magic : List ℕ → Bool
 has_magic c = same_text (window c 0 8) (codes "OPFSIMG1")
@@ -42,7 +42,7 @@ abbrev pub image_size : Geometry → ℕ
 image_size g = 4096 * (1 + 2 * g.areas + g.blocks)
 
 -- The geometry that a superblock gives an image of a length, or the first of its refusals that holds.
-abbrev pub geometry_by : List ℕ → ℕ → Result Geometry ReadRefusal
+abbrev pub geometry_by : List ℕ → ℕ → Result Geometry ImageRefusal
 geometry_by head len =
     if not (has_magic head) then Err refusal.Magic
     else (if not (has_version head && is_in_range (geometry_in head)) then Err refusal.Geometry
@@ -50,5 +50,5 @@ geometry_by head len =
     else Ok (geometry_in head)))
 
 -- The geometry of an image, or why its superblock is refused.
-abbrev pub geometry_of : List ℕ → Result Geometry ReadRefusal
+abbrev pub geometry_of : List ℕ → Result Geometry ImageRefusal
 geometry_of c = if nat_lt (length c) 4096 then Err refusal.Short else geometry_by c (length c)

@@ -17,4 +17,4 @@ pub use laws::{an_image_is_what_its_records_build, only_named_blocks_matter};
 pub use reading::{ReadImage, read_image};
 pub use recovered::Recovered;
 pub use recovering::recover;
-pub use refusal::{ImageRefusal, ReadRefusal};
+pub use refusal::ImageRefusal;

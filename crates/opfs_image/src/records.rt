@@ -8,7 +8,7 @@ ghost use Rattle.opfs_journal.specs.Walking.{OnlyRead};
 ghost use Rattle.opfs_image.specs.Walking.{Yields, IsRecord, IsTooLong};
 ghost use Rattle.opfs_replay.specs.Applying.{built_by};
 
-use crate::ReadRefusal;
+use crate::ImageRefusal;
 use opfs_codec::Format;
 use opfs_journal::read_gate;
 use opfs_outside::Disk;
@@ -21,12 +21,12 @@ fn read_body<D: Disk>(
     at: u64,
     len: u64,
     buffer: &mut Vec<u8>,
-) -> Result<(), ReadRefusal>
+) -> Result<(), ImageRefusal>
     requires { at + len ≤ D.size disk.old }
     ensures only { OnlyRead D.tells D.size D.content D.moment D.since D.faults disk.old disk.new }
     ensures bytes { IfOk result (λ _. D.tells → buffer.new.items ≡ window (D.content disk.old) at len) }
-    ensures refused { IfErr result (λ e. (e ≡ ReadRefusal.DiskFault) ⊎ (e ≡ ReadRefusal.NoMemory)) }
-    ensures cause { IsErrOf result ReadRefusal.DiskFault → Rose (D.faults disk.old) (D.faults disk.new) }
+    ensures refused { IfErr result (λ e. (e ≡ ImageRefusal.DiskFault) ⊎ (e ≡ ImageRefusal.NoMemory)) }
+    ensures cause { IsErrOf result ImageRefusal.DiskFault → Rose (D.faults disk.old) (D.faults disk.new) }
 {
     buffer.resize(len as usize, 0)?;
     disk.read(at, buffer)?;
@@ -47,21 +47,21 @@ fn read_record<D: Disk>(
     gate: u64,
     stop: u64,
     buffer: &mut Vec<u8>,
-) -> Result<Option<u64>, ReadRefusal>
+) -> Result<Option<u64>, ImageRefusal>
     requires inside { gate < stop }
     requires lies { stop ≤ D.size disk.old }
     ensures only { OnlyRead D.tells D.size D.content D.moment D.since D.faults disk.old disk.new }
     ensures shut { IfOk result (λ found. D.tells → IfNone found (is_open (D.content disk.old) gate ≡ false)) }
     ensures fits { IfOk result (λ found. IfSome found (λ len. gate + 6 + len ≤ stop)) }
     ensures record { IfOk result (λ found. D.tells → IfSome found (λ len. IsRecord (D.content disk.old) gate len buffer.new.items)) }
-    ensures refused { IfErr result (λ e. (e ≡ ReadRefusal.DiskFault) ⊎ (e ≡ ReadRefusal.NoMemory) ⊎ ((e ≡ ReadRefusal.BadRecord gate) × (D.tells → IsTooLong (D.content disk.old) gate stop))) }
-    ensures cause { IsErrOf result ReadRefusal.DiskFault → Rose (D.faults disk.old) (D.faults disk.new) }
+    ensures refused { IfErr result (λ e. (e ≡ ImageRefusal.DiskFault) ⊎ (e ≡ ImageRefusal.NoMemory) ⊎ ((e ≡ ImageRefusal.BadRecord gate) × (D.tells → IsTooLong (D.content disk.old) gate stop))) }
+    ensures cause { IsErrOf result ImageRefusal.DiskFault → Rose (D.faults disk.old) (D.faults disk.new) }
 {
     let Some(len) = read_gate(disk, gate, stop)? else {
         return Ok(None);
     };
     if stop - gate < 6 + len {
-        return Err(ReadRefusal::BadRecord(gate));
+        return Err(ImageRefusal::BadRecord(gate));
     }
     read_body(disk, gate + 5, len, buffer)?;
     Ok(Some(len))
@@ -74,15 +74,15 @@ fn add_body(
     format: Format,
     bytes: &[u8],
     gate: u64,
-) -> Result<Replay, ReadRefusal>
+) -> Result<Replay, ImageRefusal>
     ensures built { IfOk result (λ next. built_by format replay.size bytes.now replay.built ≡ Some next.built) }
     ensures same { IfOk result (λ next. (next.size ≡ replay.size) × (next.quota ≡ replay.quota)) }
-    ensures refused { IfErr result (λ e. (e ≡ ReadRefusal.NoMemory) ⊎ ((e ≡ ReadRefusal.BadRecord gate) × (built_by format replay.size bytes.now replay.built ≡ None))) }
+    ensures refused { IfErr result (λ e. (e ≡ ImageRefusal.NoMemory) ⊎ ((e ≡ ImageRefusal.BadRecord gate) × (built_by format replay.size bytes.now replay.built ≡ None))) }
 {
     match replay.body(alloc, format, bytes) {
         Ok(Some(next)) => Ok(next),
-        Ok(None) => Err(ReadRefusal::BadRecord(gate)),
-        Err(_) => Err(ReadRefusal::NoMemory),
+        Ok(None) => Err(ImageRefusal::BadRecord(gate)),
+        Err(_) => Err(ImageRefusal::NoMemory),
     }
 }
 
@@ -95,15 +95,15 @@ pub fn replay_records<D: Disk>(
     begin: u64,
     stop: u64,
     replay: Replay,
-) -> Result<Replay, ReadRefusal>
+) -> Result<Replay, ImageRefusal>
     requires inside { begin < stop }
     requires lies { stop ≤ D.size disk.old }
     ensures only { OnlyRead D.tells D.size D.content D.moment D.since D.faults disk.old disk.new }
     ensures built { IfOk result (λ all. D.tells → Yields format replay.size (D.content disk.old) stop 1 begin replay.built (Ok all.built)) }
     ensures same { IfOk result (λ all. (all.size ≡ replay.size) × (all.quota ≡ replay.quota)) }
-    ensures refused { IfErr result (λ e. (e ≡ ReadRefusal.DiskFault) ⊎ (e ≡ ReadRefusal.NoMemory)
-        ⊎ ((gate : ℕ) × (e ≡ ReadRefusal.BadRecord gate) × (D.tells → Yields format replay.size (D.content disk.old) stop 1 begin replay.built (Err gate)))) }
-    ensures cause { IsErrOf result ReadRefusal.DiskFault → Rose (D.faults disk.old) (D.faults disk.new) }
+    ensures refused { IfErr result (λ e. (e ≡ ImageRefusal.DiskFault) ⊎ (e ≡ ImageRefusal.NoMemory)
+        ⊎ ((gate : ℕ) × (e ≡ ImageRefusal.BadRecord gate) × (D.tells → Yields format replay.size (D.content disk.old) stop 1 begin replay.built (Err gate)))) }
+    ensures cause { IsErrOf result ImageRefusal.DiskFault → Rose (D.faults disk.old) (D.faults disk.new) }
 {
     let mut buffer = Vec::new(alloc);
     let mut replay = replay;

@@ -6,10 +6,9 @@ ghost use Rattle.opfs_journal.specs.Walking.{OnlyRead};
 ghost use Rattle.opfs_image.specs.Agreeing.{built_in, Agrees};
 ghost use Rattle.opfs_image.specs.Filling.{Stands, filled};
 ghost use Rattle.opfs_image.specs.Reading.{read_as};
-ghost use Rattle.opfs_image.specs.Refusals.{IsRefusedAs};
 ghost use Rattle.opfs_image.specs.Superblock.{data_base, image_size};
 
-use crate::{ImageRefusal, ReadImage, ReadRefusal, Recovered, read_image};
+use crate::{ImageRefusal, ReadImage, Recovered, read_image};
 use opfs_codec::Format;
 use opfs_journal::Journal;
 use opfs_outside::Disk;
@@ -26,7 +25,7 @@ fn begin<D: Disk>(
     requires image { D.tells → read_as New New (D.content disk) ≡ Ok (record { geometry = image.geometry; built = built_in image.parts.tree image.parts.shed }) }
     ensures stands { IfOk result (λ all. D.tells → Stands (D.content disk) (filled (data_base all.geometry) (D.content disk) (built_in all.tree all.shed))) }
     ensures only_read { IfOk result (λ all. OnlyRead D.tells D.size D.content D.moment D.since D.faults disk all.journal.disk) }
-    ensures refused { IfErr result (λ err. err.1 ≢ ImageRefusal.DiskFault → err.1 ≢ ImageRefusal.NoMemory → D.tells → IsRefusedAs (read_as New New (D.content disk)) err.1) }
+    ensures refused { IfErr result (λ err. err.1 ≢ ImageRefusal.DiskFault → err.1 ≢ ImageRefusal.NoMemory → D.tells → read_as New New (D.content disk) ≡ Err err.1) }
     ensures only_read_err { IfErr result (λ err. OnlyRead D.tells D.size D.content D.moment D.since D.faults disk err.0) }
     ensures cause { IfErr result (λ err. err.1 ≡ ImageRefusal.DiskFault → Rose (D.faults disk) (D.faults err.0)) }
 {
@@ -41,7 +40,7 @@ fn begin<D: Disk>(
             map: parts.map,
             charge: parts.charge,
         }),
-        Err((disk, refusal)) => Err((disk, ReadRefusal::from(refusal).into())),
+        Err((disk, refusal)) => Err((disk, ImageRefusal::from(refusal))),
     }
 }
 
@@ -52,13 +51,13 @@ fn begin<D: Disk>(
 pub fn recover<D: Disk>(alloc: Global, disk: D) -> Result<Recovered<D>, (D, ImageRefusal)>
     ensures stands { IfOk result (λ image. D.tells → Stands (D.content disk) (filled (data_base image.geometry) (D.content disk) (built_in image.tree image.shed))) }
     ensures only_read { IfOk result (λ image. OnlyRead D.tells D.size D.content D.moment D.since D.faults disk image.journal.disk) }
-    ensures refused { IfErr result (λ err. err.1 ≢ ImageRefusal.DiskFault → err.1 ≢ ImageRefusal.NoMemory → D.tells → IsRefusedAs (read_as New New (D.content disk)) err.1) }
+    ensures refused { IfErr result (λ err. err.1 ≢ ImageRefusal.DiskFault → err.1 ≢ ImageRefusal.NoMemory → D.tells → read_as New New (D.content disk) ≡ Err err.1) }
     ensures only_read_err { IfErr result (λ err. OnlyRead D.tells D.size D.content D.moment D.since D.faults disk err.0) }
     ensures cause { IfErr result (λ err. err.1 ≡ ImageRefusal.DiskFault → Rose (D.faults disk) (D.faults err.0)) }
 {
     let mut disk = disk;
     match read_image(alloc, &mut disk, Format::New) {
         Ok(image) => begin(alloc, disk, image),
-        Err(refusal) => Err((disk, refusal.into())),
+        Err(refusal) => Err((disk, refusal)),
     }
 }

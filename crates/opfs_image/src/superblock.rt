@@ -7,7 +7,7 @@ ghost use Rattle.opfs_journal.specs.Format.{number_at};
 ghost use Rattle.opfs_journal.specs.Walking.{OnlyRead};
 ghost use Rattle.opfs_image.specs.Superblock.{has_magic, has_version, geometry_in, geometry_by, geometry_of, is_in_range, is_between, image_size, areas_of, data_base};
 
-use crate::{Geometry, ReadRefusal};
+use crate::{Geometry, ImageRefusal};
 use opfs_journal::Areas;
 use opfs_outside::{Disk, Failed};
 
@@ -81,13 +81,13 @@ fn has_version(head: &[u8; 24]) -> bool
 }
 
 // The geometry that a superblock gives an image of this length.
-fn judge(head: &[u8; 24], len: u64) -> Result<Geometry, ReadRefusal>
+fn judge(head: &[u8; 24], len: u64) -> Result<Geometry, ImageRefusal>
     ensures judged { result ≡ geometry_by head.now len }
     ensures range { IfOk result (λ g. is_in_range g ≡ true) }
     ensures fits { IfOk result (λ g. image_size g ≤ len) }
 {
     if !has_magic(head) {
-        return Err(ReadRefusal::Magic);
+        return Err(ImageRefusal::Magic);
     }
     let geometry = Geometry {
         areas: number(head, 12),
@@ -95,10 +95,10 @@ fn judge(head: &[u8; 24], len: u64) -> Result<Geometry, ReadRefusal>
         quota: number(head, 20),
     };
     if !has_version(head) || !geometry.is_in_range() {
-        return Err(ReadRefusal::Geometry);
+        return Err(ImageRefusal::Geometry);
     }
     if len < geometry.image_size() {
-        return Err(ReadRefusal::Short);
+        return Err(ImageRefusal::Short);
     }
     Ok(geometry)
 }
@@ -115,17 +115,17 @@ fn read_head<D: Disk>(disk: &mut D) -> Result<[u8; 24], Failed>
 }
 
 /// Reads the geometry from an image's superblock.
-pub fn read_geometry<D: Disk>(disk: &mut D) -> Result<Geometry, ReadRefusal>
+pub fn read_geometry<D: Disk>(disk: &mut D) -> Result<Geometry, ImageRefusal>
     ensures only { OnlyRead D.tells D.size D.content D.moment D.since D.faults disk.old disk.new }
     ensures range { IfOk result (λ g. is_in_range g ≡ true) }
     ensures fits { IfOk result (λ g. image_size g ≤ D.size disk.old) }
     ensures geometry { IfOk result (λ g. D.tells → geometry_of (D.content disk.old) ≡ Ok g) }
-    ensures refused { IfErr result (λ e. (e ≡ ReadRefusal.DiskFault) ⊎ (D.tells → geometry_of (D.content disk.old) ≡ Err e)) }
-    ensures cause { IsErrOf result ReadRefusal.DiskFault → Rose (D.faults disk.old) (D.faults disk.new) }
+    ensures refused { IfErr result (λ e. (e ≡ ImageRefusal.DiskFault) ⊎ (D.tells → geometry_of (D.content disk.old) ≡ Err e)) }
+    ensures cause { IsErrOf result ImageRefusal.DiskFault → Rose (D.faults disk.old) (D.faults disk.new) }
 {
     let len = disk.len();
     if len < BLOCK {
-        return Err(ReadRefusal::Short);
+        return Err(ImageRefusal::Short);
     }
     let head = read_head(disk)?;
     judge(&head, len)

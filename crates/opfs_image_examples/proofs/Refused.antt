@@ -11,7 +11,7 @@ use Rattle.opfs_replay.specs.Built.{nothing_built}
 use Rattle.opfs_image.specs.Reading.{read_as, read_from, area_built, area_format, format_number}
 use Rattle.opfs_image.specs.Superblock.{geometry_of, areas_of}
 use Rattle.opfs_image.specs.Walking.{Yields}
-use Rattle.opfs_image.specs.declared.refusal.ReadRefusal.TheVariants as refusal
+use Rattle.opfs_image.specs.declared.refusal.ImageRefusal.TheVariants as refusal
 use Rattle.opfs_image.proofs.Images.{image_bad, ruling_bad, format_other}
 use Rattle.opfs_image.proofs.Yielding.{yields_bad, yields_more, area_is}
 use Rattle.opfs_image_examples.specs.Notes.{small}
@@ -38,7 +38,7 @@ old_chosen = refl
 old_format : (area_format old_image (areas_of small) false == format_number New) ≡ false
 old_format = refl
 
-pub old : read_as New New old_image ≡ Err refusal.OtherFormat
+pub old : read_as New New old_image ≡ Err refusal.Old
 old = format_other New New old_image small old_geometry false old_chosen old_format
 
 shut_geometry : geometry_of shut_image ≡ Ok small

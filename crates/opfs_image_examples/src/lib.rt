@@ -7,7 +7,7 @@ ghost use Rattle.opfs_codec.specs.declared.change.Format.{Format};
 ghost use Rattle.opfs_codec.specs.declared.change.Format.TheVariants.{Old, New};
 ghost use Rattle.opfs_image.specs.Filling.{Stands, StandsOld};
 ghost use Rattle.opfs_image.specs.Reading.{read_as};
-ghost use Rattle.opfs_image.specs.declared.refusal.ReadRefusal.TheVariants as refusal;
+ghost use Rattle.opfs_image.specs.declared.refusal.ImageRefusal.TheVariants as refusal;
 ghost use Rattle.opfs_replay.specs.Applying.{built_by};
 ghost use Rattle.opfs_replay.specs.Built.{nothing_built};
 ghost use Rattle.opfs_replay.specs.Sums.{charge_of};
@@ -33,7 +33,7 @@ pub fn an_image_with_a_note_stands_for_it()
 pub fn damaged_images_are_refused()
     ensures short { read_as New New cut_image ≡ Err refusal.Short }
     ensures magic { read_as New New other_image ≡ Err refusal.Magic }
-    ensures old { read_as New New old_image ≡ Err refusal.OtherFormat }
+    ensures old { read_as New New old_image ≡ Err refusal.Old }
     ensures no_area { read_as New New shut_image ≡ Err refusal.NoArea }
     ensures bad { read_as New New bad_image ≡ Err (refusal.BadRecord 4102) }
     ensures cut { read_as New New cut_record_image ≡ Err (refusal.BadRecord 4096) }

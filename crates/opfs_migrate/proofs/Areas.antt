@@ -18,32 +18,14 @@ use Rattle.opfs_image.specs.Layers.{IsLayered}
 use Rattle.opfs_image.specs.Reading.{Image, read_as}
 use Rattle.opfs_image.specs.Superblock.{geometry_by, geometry_of, areas_of, area_bytes, data_base}
 use Rattle.opfs_image.specs.declared.geometry.Geometry.{Geometry}
-use Rattle.opfs_image.specs.declared.refusal.ReadRefusal.{ReadRefusal}
-use Rattle.opfs_image.specs.declared.refusal.ReadRefusal.TheVariants as refusal
+use Rattle.opfs_image.specs.declared.refusal.ImageRefusal.{ImageRefusal}
+use Rattle.opfs_image.specs.declared.refusal.ImageRefusal.TheVariants as refusal
 use Rattle.opfs_image.proofs.Layering.{layered, unlayered}
+use Rattle.opfs_image.proofs.Beside.{same_geometry, in_data}
 use Rattle.opfs_image.proofs.Named.{same_filled}
 use Rattle.opfs_migrate.specs.Migrating.{file_count, IsPlanned}
 use Rattle.opfs_migrate.proofs.Charges.{old_charge}
 use Rattle.opfs_migrate.proofs.Counted.{same_count}
-
--- ---- the superblock and the data part lie outside of the areas
-
-abbrev judged : Result Geometry ReadRefusal → ℕ → Result Geometry ReadRefusal
-judged found n = if nat_lt n 4096 then Err refusal.Short else found
-
-head_only : (c : List ℕ) (n : ℕ) → geometry_by (window c 0 24) n ≡ geometry_by c n
-head_only c n = refl
-
-same_geometry : (c d : List ℕ) → length c ≡ length d → Same (λ i. i < 24) c d → geometry_of c ≡ geometry_of d
-same_geometry c d len same =
-    let head : window c 0 24 ≡ window d 0 24 = same_window c d 0 24 (λ k h. same (0 + k) (omega (arith, h))) in
-    let found : geometry_by c (length c) ≡ geometry_by d (length d) = sym (head_only c (length c)) ∙ ap (λ h. geometry_by h (length c)) head ∙ head_only d (length c) ∙ ap (λ n. geometry_by d n) len in
-    λ i. judged (found i) (len i)
-
-in_data : (base : ℕ) (es : List Extent) (i : ℕ) → AreIn base es i → base ≤ i
-in_data base [] i h = elim h [ ]
-in_data base (e ∷ es) i (inl h) = omega (arith, h.0)
-in_data base (e ∷ es) i (inr h) = in_data base es i h
 
 -- ---- what an image that stands is read as
 
@@ -58,7 +40,7 @@ pub record IsRead (f : Format) (c : List ℕ) (m : Map) : Type 0 where
   pub reads : read_as f f c ≡ Ok image
   pub is : filled (data_base image.geometry) c image.built ≡ m
 
-read_by : (f : Format) (c : List ℕ) (m : Map) (r : Result Image ReadRefusal) → read_as f f c ≡ r → map_of c r ≡ Some m → IsRead f c m
+read_by : (f : Format) (c : List ℕ) (m : Map) (r : Result Image ImageRefusal) → read_as f f c ≡ r → map_of c r ≡ Some m → IsRead f c m
 read_by f c m (Err refused) e h = absurd (cc)
 read_by f c m (Ok image) e h = record { image = image; reads = e; is = some_is h }
 

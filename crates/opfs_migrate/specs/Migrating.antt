@@ -1,5 +1,5 @@
 -- What a migration keeps, and why it is refused. This project's own.
-use Rattle.std.specs.Prelude.{◌≡◌, ◌≤◌, ℕ, ◌⊎◌, Bool, true, false, List, [], ◌∷◌, count_by, is_some, Some, Result, Ok, Err}
+use Rattle.std.specs.Prelude.{◌≡◌, ◌≤◌, ℕ, ◌⊎◌, Bool, true, false, List, [], ◌∷◌, count_by, is_some, Some, Ok}
 use Rattle.opfs_codec.specs.declared.change.Format.TheVariants.{Old, New}
 use Rattle.opfs_machine.specs.Openings.{Map, Stored, folder, document}
 use Rattle.opfs_outside.specs.Moments.{Elapses}
@@ -9,10 +9,6 @@ use Rattle.opfs_tree.specs.Rows.{file_in}
 use Rattle.opfs_image.specs.Filling.{Stands, StandsOld}
 use Rattle.opfs_image.specs.Reading.{Image, read_as}
 use Rattle.opfs_image.specs.declared.geometry.Geometry.{Geometry}
-use Rattle.opfs_image.specs.declared.refusal.ReadRefusal.{ReadRefusal}
-use Rattle.opfs_image.specs.declared.refusal.ReadRefusal.TheVariants as refusal
-use Rattle.opfs_migrate.specs.declared.refusal.MigrateRefusal.{MigrateRefusal}
-use Rattle.opfs_migrate.specs.declared.refusal.MigrateRefusal.TheVariants as answer
 
 -- the files of a map
 abbrev pub is_document : Stored → Bool
@@ -32,22 +28,6 @@ pub record AreMigrated (files : ℕ) (before after : List ℕ) : Type 0 where
 -- the image stands for the map, in one format or the other
 abbrev pub StandsEither : Map → List ℕ → Type 0
 StandsEither m c = StandsOld c m ⊎ Stands c m
-
--- the answer for an image that is not read as one of format 1
-abbrev pub answer_of : ReadRefusal → MigrateRefusal
-answer_of refusal.Short = answer.Short
-answer_of refusal.Magic = answer.Magic
-answer_of refusal.Geometry = answer.Geometry
-answer_of refusal.NoArea = answer.NoArea
-answer_of (refusal.BadRecord place) = answer.BadRecord place
-answer_of refusal.OtherFormat = answer.NotOld
-answer_of (refusal.Overfull charge area) = answer.Overfull charge area
-answer_of refusal.DiskFault = answer.DiskFault
-answer_of refusal.NoMemory = answer.NoMemory
-
--- what was read is refused, and this is the answer
-abbrev pub IsRefusedAs : Result Image ReadRefusal → MigrateRefusal → Type 0
-IsRefusedAs read answer = (refused : ReadRefusal) × (read ≡ Err refused) × (answer_of refused ≡ answer)
 
 -- the image is read as one of format 1 with this geometry and so many files, and this one record builds the same
 pub record IsPlanned (g : Geometry) (files : ℕ) (body : List ℕ) (c : List ℕ) : Type 0 where

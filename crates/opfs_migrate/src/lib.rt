@@ -5,7 +5,5 @@ mod counting;
 mod migrating;
 mod planning;
 mod raising;
-mod refusal;
 
 pub use migrating::migrate;
-pub use refusal::MigrateRefusal;

@@ -1,16 +1,15 @@
 // What a migration writes.
-ghost use Rattle.std.specs.Prelude.{◌≡◌, ◌⊎◌, ◌+◌, ◌≤◌, true, length, IfOk, IfErr, IsErrOf};
+ghost use Rattle.std.specs.Prelude.{◌≡◌, ◌⊎◌, ◌+◌, ◌≤◌, true, length, Err, IfOk, IfErr, IsErrOf};
 ghost use Rattle.opfs_codec.specs.declared.change.Format.TheVariants.{Old, New};
 ghost use Rattle.opfs_outside.specs.Faults.{Rose};
 ghost use Rattle.opfs_image.specs.Reading.{read_as};
 ghost use Rattle.opfs_image.specs.Superblock.{area_bytes, image_size, is_in_range};
 ghost use Rattle.opfs_journal.specs.Walking.{OnlyRead};
-ghost use Rattle.opfs_migrate.specs.Migrating.{IsPlanned, IsRefusedAs};
+ghost use Rattle.opfs_migrate.specs.Migrating.{IsPlanned};
 
-use crate::MigrateRefusal;
 use crate::counting::count_files;
 use opfs_codec::Format;
-use opfs_image::{Geometry, read_image};
+use opfs_image::{Geometry, ImageRefusal, read_image};
 use opfs_outside::Disk;
 use opfs_snapshot::snapshot;
 use std::alloc::Global;
@@ -27,14 +26,14 @@ pub struct Plan {
 }
 
 /// Reads an image of format 1, and writes one record of format 2 that builds the same.
-pub(crate) fn read_plan<D: Disk>(alloc: Global, disk: &mut D) -> Result<Plan, MigrateRefusal>
+pub(crate) fn read_plan<D: Disk>(alloc: Global, disk: &mut D) -> Result<Plan, ImageRefusal>
     ensures only { OnlyRead D.tells D.size D.content D.moment D.since D.faults disk.old disk.new }
     ensures range { IfOk result (λ plan. is_in_range plan.geometry ≡ true) }
     ensures length { IfOk result (λ plan. image_size plan.geometry ≤ D.size disk.old) }
     ensures fits { IfOk result (λ plan. length plan.body.items + 7 ≤ area_bytes plan.geometry) }
     ensures planned { IfOk result (λ plan. D.tells → IsPlanned plan.geometry plan.files plan.body.items (D.content disk.old)) }
-    ensures refused { IfErr result (λ e. (e ≡ MigrateRefusal.DiskFault) ⊎ (e ≡ MigrateRefusal.NoMemory) ⊎ (D.tells → IsRefusedAs (read_as Old New (D.content disk.old)) e)) }
-    ensures cause { IsErrOf result MigrateRefusal.DiskFault → Rose (D.faults disk.old) (D.faults disk.new) }
+    ensures refused { IfErr result (λ e. (e ≡ ImageRefusal.DiskFault) ⊎ (e ≡ ImageRefusal.NoMemory) ⊎ (D.tells → read_as Old New (D.content disk.old) ≡ Err e)) }
+    ensures cause { IsErrOf result ImageRefusal.DiskFault → Rose (D.faults disk.old) (D.faults disk.new) }
 {
     let image = read_image(alloc, disk, Format::Old)?;
     let files = count_files(&image.parts.tree)?;

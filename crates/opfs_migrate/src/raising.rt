@@ -12,15 +12,14 @@ ghost use Rattle.opfs_image.specs.Filling.{Stands, StandsOld};
 ghost use Rattle.opfs_image.specs.Superblock.{areas_of, area_bytes, image_size, is_in_range};
 ghost use Rattle.opfs_migrate.specs.Migrating.{AreMigrated, IsPlanned, Moved};
 
-use crate::MigrateRefusal;
 use crate::planning::Plan;
-use opfs_image::ReadRefusal;
+use opfs_image::ImageRefusal;
 use opfs_journal::{Journal, JournalRefusal};
 use opfs_outside::Disk;
 use std::alloc::Global;
 
 // Puts one record of format 2, which has room, in the place of all.
-fn write_over<D: Disk>(journal: &mut Journal<D>, body: &[u8]) -> Result<(), MigrateRefusal>
+fn write_over<D: Disk>(journal: &mut Journal<D>, body: &[u8]) -> Result<(), ImageRefusal>
     requires format { journal.old.format ≡ 1 }
     requires settled { journal.old.in_doubt ≡ false }
     requires spare { length body.now ≤ journal.old.spare }
@@ -35,19 +34,19 @@ fn write_over<D: Disk>(journal: &mut Journal<D>, body: &[u8]) -> Result<(), Migr
         → OneOf (records_of journal.old.areas) (D.since journal.old.disk (D.moment journal.old.disk)) (Outside journal.old.areas) (kept journal.old) (one_record 2 body.now) (D.content journal.old.disk) c }
     ensures durable { OnOk result (D.tells → (c : List ℕ) → D.since journal.new.disk (D.moment journal.new.disk) c
         → After (records_of journal.old.areas) (one_record 2 body.now) (D.content journal.old.disk) (Outside journal.old.areas) c) }
-    ensures refused { IfErr result (λ e. e ≡ MigrateRefusal.DiskFault) }
+    ensures refused { IfErr result (λ e. e ≡ ImageRefusal.DiskFault) }
     ensures later { D.faults journal.old.disk ≤ D.faults journal.new.disk }
     ensures cause { OnErr result (Rose (D.faults journal.old.disk) (D.faults journal.new.disk)) }
 {
     match journal.raise(body) {
         Ok(()) => Ok(()),
         Err(JournalRefusal::NoRoom) => unreachable!(),
-        Err(JournalRefusal::DiskFault) => Err(MigrateRefusal::DiskFault),
+        Err(JournalRefusal::DiskFault) => Err(ImageRefusal::DiskFault),
     }
 }
 
 // Puts the record in the place of all, in format 2.
-fn rule<D: Disk>(journal: &mut Journal<D>, plan: &Plan) -> Result<(), MigrateRefusal>
+fn rule<D: Disk>(journal: &mut Journal<D>, plan: &Plan) -> Result<(), ImageRefusal>
     requires areas { journal.old.areas ≡ areas_of plan.now.geometry }
     requires settled { journal.old.in_doubt ≡ false }
     requires fits { length plan.now.body.items + 7 ≤ area_bytes plan.now.geometry }
@@ -60,19 +59,19 @@ fn rule<D: Disk>(journal: &mut Journal<D>, plan: &Plan) -> Result<(), MigrateRef
     ensures kept { OnOk result (D.tells → kept journal.new ≡ one_record 2 plan.now.body.items) }
     ensures outside { D.tells → Same (Outside journal.old.areas) (D.content journal.new.disk) (D.content journal.old.disk) }
     ensures durable { OnOk result (D.tells → (m : Map) → StandsOld (D.content journal.old.disk) m → (c : List ℕ) → D.since journal.new.disk (D.moment journal.new.disk) c → Stands c m) }
-    ensures untold { IfErr result (λ e. (e ≡ MigrateRefusal.DiskFault) ⊎ (e ≡ MigrateRefusal.NoMemory) ⊎ (D.tells → ⊥)) }
-    ensures same { IfErr result (λ e. (e ≡ MigrateRefusal.DiskFault) ⊎ (journal.new.disk ≡ journal.old.disk)) }
-    ensures cause { IsErrOf result MigrateRefusal.DiskFault → Rose (D.faults journal.old.disk) (D.faults journal.new.disk) }
+    ensures untold { IfErr result (λ e. (e ≡ ImageRefusal.DiskFault) ⊎ (e ≡ ImageRefusal.NoMemory) ⊎ (D.tells → ⊥)) }
+    ensures same { IfErr result (λ e. (e ≡ ImageRefusal.DiskFault) ⊎ (journal.new.disk ≡ journal.old.disk)) }
+    ensures cause { IsErrOf result ImageRefusal.DiskFault → Rose (D.faults journal.old.disk) (D.faults journal.new.disk) }
 {
     if journal.format() != 1 {
-        return Err(MigrateRefusal::NotOld);
+        return Err(ImageRefusal::NotOld);
     }
     journal.reserve(plan.body.len() as u64)?;
     write_over(journal, &plan.body)
 }
 
 // Raises the journal, and gives its disk back with the number of files.
-fn raise_over<D: Disk>(journal: Journal<D>, plan: Plan) -> Result<(D, u64), (D, MigrateRefusal)>
+fn raise_over<D: Disk>(journal: Journal<D>, plan: Plan) -> Result<(D, u64), (D, ImageRefusal)>
     requires areas { journal.areas ≡ areas_of plan.geometry }
     requires settled { journal.in_doubt ≡ false }
     requires fits { length plan.body.items + 7 ≤ area_bytes plan.geometry }
@@ -83,9 +82,9 @@ fn raise_over<D: Disk>(journal: Journal<D>, plan: Plan) -> Result<(D, u64), (D, 
     ensures stands { IfOk result (λ done. D.tells → AreMigrated done.1 (D.content journal.disk) (D.content done.0)) }
     ensures durable { IfOk result (λ done. D.tells → (m : Map) → StandsOld (D.content journal.disk) m → (c : List ℕ) → D.since done.0 (D.moment done.0) c → Stands c m) }
     ensures moved_err { IfErr result (λ err. Moved D.tells D.size D.content D.moment D.since D.faults journal.disk err.0) }
-    ensures untold { IfErr result (λ err. (err.1 ≡ MigrateRefusal.DiskFault) ⊎ (err.1 ≡ MigrateRefusal.NoMemory) ⊎ (D.tells → ⊥)) }
-    ensures same { IfErr result (λ err. (err.1 ≡ MigrateRefusal.DiskFault) ⊎ (err.0 ≡ journal.disk)) }
-    ensures cause { IfErr result (λ err. err.1 ≡ MigrateRefusal.DiskFault → Rose (D.faults journal.disk) (D.faults err.0)) }
+    ensures untold { IfErr result (λ err. (err.1 ≡ ImageRefusal.DiskFault) ⊎ (err.1 ≡ ImageRefusal.NoMemory) ⊎ (D.tells → ⊥)) }
+    ensures same { IfErr result (λ err. (err.1 ≡ ImageRefusal.DiskFault) ⊎ (err.0 ≡ journal.disk)) }
+    ensures cause { IfErr result (λ err. err.1 ≡ ImageRefusal.DiskFault → Rose (D.faults journal.disk) (D.faults err.0)) }
 {
     let mut journal = journal;
     match rule(&mut journal, &plan) {
@@ -99,7 +98,7 @@ pub(crate) fn raise_image<D: Disk>(
     alloc: Global,
     disk: D,
     plan: Plan,
-) -> Result<(D, u64), (D, MigrateRefusal)>
+) -> Result<(D, u64), (D, ImageRefusal)>
     requires range { is_in_range plan.geometry ≡ true }
     requires length { image_size plan.geometry ≤ D.size disk }
     requires fits { length plan.body.items + 7 ≤ area_bytes plan.geometry }
@@ -108,13 +107,13 @@ pub(crate) fn raise_image<D: Disk>(
     ensures stands { IfOk result (λ done. D.tells → AreMigrated done.1 (D.content disk) (D.content done.0)) }
     ensures durable { IfOk result (λ done. D.tells → (m : Map) → StandsOld (D.content disk) m → (c : List ℕ) → D.since done.0 (D.moment done.0) c → Stands c m) }
     ensures moved_err { IfErr result (λ err. Moved D.tells D.size D.content D.moment D.since D.faults disk err.0) }
-    ensures untold { IfErr result (λ err. (err.1 ≡ MigrateRefusal.DiskFault) ⊎ (err.1 ≡ MigrateRefusal.NoMemory) ⊎ (D.tells → ⊥)) }
-    ensures only_read_err { IfErr result (λ err. (err.1 ≡ MigrateRefusal.DiskFault) ⊎ OnlyRead D.tells D.size D.content D.moment D.since D.faults disk err.0) }
-    ensures cause { IfErr result (λ err. err.1 ≡ MigrateRefusal.DiskFault → Rose (D.faults disk) (D.faults err.0)) }
+    ensures untold { IfErr result (λ err. (err.1 ≡ ImageRefusal.DiskFault) ⊎ (err.1 ≡ ImageRefusal.NoMemory) ⊎ (D.tells → ⊥)) }
+    ensures only_read_err { IfErr result (λ err. (err.1 ≡ ImageRefusal.DiskFault) ⊎ OnlyRead D.tells D.size D.content D.moment D.since D.faults disk err.0) }
+    ensures cause { IfErr result (λ err. err.1 ≡ ImageRefusal.DiskFault → Rose (D.faults disk) (D.faults err.0)) }
 {
     let areas = plan.geometry.journal_areas();
     match Journal::begin(alloc, disk, areas) {
         Ok(journal) => raise_over(journal, plan),
-        Err((disk, refusal)) => Err((disk, ReadRefusal::from(refusal).into())),
+        Err((disk, refusal)) => Err((disk, ImageRefusal::from(refusal))),
     }
 }

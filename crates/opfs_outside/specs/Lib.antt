@@ -1,4 +1,5 @@
 pub mod Bytes
 pub mod Faults
 pub mod Moments
+pub mod Turns
 pub mod Windows

@@ -1,72 +1,156 @@
--- What is told of a host, whichever words were asked.
-use Rattle.std.proofs.Common.{◌≡◌, ℕ, List, length, inl, inr, refl, sym, ◌∙◌, ap, arith}
-use Rattle.std.specs.Prelude.{Result, Ok, Err, IsErr, is_err, true, false}
+-- What a command leaves of a host, as its words ask.
+use Rattle.std.proofs.Common.{◌≡◌, ◌≢◌, ◌⊎◌, ℕ, inl, inr, refl, sym, ◌∙◌, ap, subst}
+use Rattle.std.specs.Prelude.{List, Result, Ok, Err, IsErr, is_err, true, false}
 use Rattle.std.specs.declared.alloc.AllocError.{AllocError}
 use Rattle.opfs_base.specs.Texts.{Text}
-use Rattle.opfs_commands.specs.Asking.{IsCommand, spelled}
-use Rattle.opfs_commands.specs.Hosts.{NoneFailed}
-use Rattle.opfs_commands.specs.Kinds.{IsReading}
+use Rattle.opfs_commands.specs.Commands.{Command, trial, on_image, Asks, AsksNothing, IsAsked}
+use Rattle.opfs_commands.specs.Kinds.{IsReading, IsMigration}
+use Rattle.opfs_commands.specs.Kinds.{NoneFailed as ToolNoneFailed}
+use Rattle.opfs_commands.specs.Telling.{IsAnswer}
+use Rattle.opfs_commands.specs.Kinds.{DoneKind, RefusedKind}
 use Rattle.opfs_commands.specs.declared.answers.ToolAnswer.{ToolAnswer}
+use Rattle.opfs_commands.specs.declared.answers.ToolEnd.{ToolEnd}
+use Rattle.opfs_commands.specs.declared.answers.ToolEnd.TheVariants as tool_end
 use Rattle.opfs_commands.specs.declared.words.Action.{Action}
-use Rattle.opfs_commands.specs.declared.words.Action.TheVariants as action
-use Rattle.opfs_top.specs.Endings.{NoCallFailed, NoneFailedBy, status_of}
+use Rattle.opfs_commands.proofs.Spelled.{named}
+use Rattle.opfs_outside.specs.declared.host.Host.{Ghosts as HostWords}
+use Rattle.opfs_outside.specs.Turns.{of_host, AsBefore, HostFailed, HostTurn, ImageStays, OthersAsBefore, SourceTurn}
+use Rattle.opfs_print.specs.declared.end.End.TheVariants as end
+use Rattle.opfs_print.specs.Status.{status_text}
+use Rattle.opfs_top.specs.Answers.{ImageEnded, NoneFailedBy}
+use Rattle.opfs_top.specs.Doing.{Ended, IsNoTool, IsUsage, Migrates, Names, NoneFailed, TakesImage, Tells, ToolEnded, TrialEnded}
+use Rattle.opfs_top.specs.Statuses.{status_of}
 use Rattle.opfs_top.specs.declared.answer.Answer.{Answer}
 use Rattle.opfs_top.specs.declared.status.Status.{Status}
 use Rattle.opfs_top.specs.declared.status.Status.TheVariants as status
-use Rattle.opfs_top.proofs.Migrations.{first_size, second_of}
 
--- words ask of one image alone
-second_is : (image : Text) (a : Action) → second_of (spelled image a) ≡ image
-second_is image (action.Format g) = refl
-second_is image action.List = refl
-second_is image action.Check = refl
-second_is image action.Migrate = refl
+-- ---- the ends of one command
 
-pub one_image : (words : List Text) (p q : Text) (a b : Action) → IsCommand words p a → IsCommand words q b → p ≡ q
-one_image words p q a b is other = sym (second_is p a) ∙ ap second_of (sym is.asked ∙ other.asked) ∙ second_is q b
+pub image_ended : (h : HostTurn) (path : Text) (action : Action) (e : ToolEnd) (text : Text)
+    → IsAnswer h.tells (DoneKind action (h.image path) (h.image_after path)) (RefusedKind action (h.image path)) (HostFailed h) e text → ImageEnded h path action (status_of e) text
+image_ended h path action tool_end.Done text is = is
+image_ended h path action tool_end.Image text is = is
+image_ended h path action tool_end.Host text is = is
 
--- and they tell of it or they do not
-pub one_reading : (words : List Text) (p q : Text) (a b : Action) → IsCommand words p a → IsCommand words q b → IsReading a → IsReading b
-one_reading words p q (action.Format g) b is other reading = absurd reading
-one_reading words p q action.Migrate b is other reading = absurd reading
-one_reading words p q action.List (action.Format g) is other reading = let e : 2 ≡ 5 = ap length (sym is.asked ∙ other.asked) in absurd (omega (arith, e))
-one_reading words p q action.List action.List is other reading = tt
-one_reading words p q action.List action.Check is other reading = tt
-one_reading words p q action.List action.Migrate is other reading = let e : 4 ≡ 7 = ap first_size (sym is.asked ∙ other.asked) in absurd (omega (arith, e))
-one_reading words p q action.Check (action.Format g) is other reading = let e : 2 ≡ 5 = ap length (sym is.asked ∙ other.asked) in absurd (omega (arith, e))
-one_reading words p q action.Check action.List is other reading = tt
-one_reading words p q action.Check action.Check is other reading = tt
-one_reading words p q action.Check action.Migrate is other reading = let e : 5 ≡ 7 = ap first_size (sym is.asked ∙ other.asked) in absurd (omega (arith, e))
+pub image_ends : (words : List Text) (s : SourceTurn) (h : HostTurn) (path : Text) (action : Action) → IsAsked words (on_image path action)
+    → (ended : Status) (text : Text) → ImageEnded h path action ended text → Ended words s h ended text
+image_ends words s h path action asked status.Done text is = record { command = on_image path action; asked = asked; holds = is }
+image_ends words s h path action asked status.Usage text is = absurd is
+image_ends words s h path action asked status.Script text is = absurd is
+image_ends words s h path action asked status.Image text is = record { command = on_image path action; asked = asked; holds = is }
+image_ends words s h path action asked status.Host text is = record { asked = record { command = on_image path action; asked = asked; holds = tt }; failed = is.0; line = is.1 }
+image_ends words s h path action asked status.Source text is = absurd is
+image_ends words s h path action asked status.Sink text is = absurd is
+image_ends words s h path action asked status.Memory text is = absurd is
 
--- no call failed, told from above
+pub tool_ends : (words : List Text) (h : HostTurn) (path : Text) (action : Action) → IsAsked words (on_image path action)
+    → (ended : Status) (text : Text) → ImageEnded h path action ended text → ToolEnded words h ended text
+tool_ends words h path action asked status.Done text is = record { command = on_image path action; asked = asked; holds = is }
+tool_ends words h path action asked status.Usage text is = absurd is
+tool_ends words h path action asked status.Script text is = absurd is
+tool_ends words h path action asked status.Image text is = record { command = on_image path action; asked = asked; holds = is }
+tool_ends words h path action asked status.Host text is = record { asked = record { command = on_image path action; asked = asked; holds = tt }; failed = is.0; line = is.1 }
+tool_ends words h path action asked status.Source text is = absurd is
+tool_ends words h path action asked status.Sink text is = absurd is
+tool_ends words h path action asked status.Memory text is = absurd is
+
+pub trial_ends : (words : List Text) (s : SourceTurn) (h : HostTurn) → IsAsked words trial → (ended : Status) (text : Text) → TrialEnded s ended text → Ended words s h ended text
+trial_ends words s h asked status.Done text is = record { command = trial; asked = asked; holds = is }
+trial_ends words s h asked status.Usage text is = absurd is
+trial_ends words s h asked status.Script text is = record { command = trial; asked = asked; holds = is }
+trial_ends words s h asked status.Image text is = absurd is
+trial_ends words s h asked status.Host text is = absurd is
+trial_ends words s h asked status.Source text is = record { asked = record { command = trial; asked = asked; holds = tt }; failed = is.0; line = is.1 }
+trial_ends words s h asked status.Sink text is = absurd is
+trial_ends words s h asked status.Memory text is = absurd is
+
+pub nothing_ends : (words : List Text) (s : SourceTurn) (h : HostTurn) → AsksNothing words → (ended : Status) (text : Text) → ended ≡ status.Usage → text ≡ status_text end.Usage → Ended words s h ended text
+nothing_ends words s h nothing ended text is line = subst (λ e. Ended words s h e text) (sym is) (record { nothing = nothing; line = line })
+
+pub no_tool_ends : (words : List Text) (h : HostTurn) → (Asks words TakesImage → ⊥) → (ended : Status) (text : Text) → ended ≡ status.Usage → text ≡ status_text end.Usage → ToolEnded words h ended text
+no_tool_ends words h none ended text is line = subst (λ e. ToolEnded words h e text) (sym is) (record { none = none; line = line })
+
+-- ---- words that ask for a trial, or for nothing, name no image
+
+pub no_image_of_trial : (words : List Text) → IsAsked words trial → Asks words TakesImage → ⊥
+no_image_of_trial words asked is = named words trial TakesImage asked is
+
+pub no_image_of_nothing : (words : List Text) → AsksNothing words → Asks words TakesImage → ⊥
+no_image_of_nothing words nothing is = nothing is.command is.asked
+
+named_takes : (path : Text) (c : Command) → Names path c → TakesImage c
+named_takes path trial is = is
+named_takes path (on_image image action) is = tt
+
+told_takes : (path : Text) (c : Command) → Tells path c → TakesImage c
+told_takes path trial is = is
+told_takes path (on_image image action) is = tt
+
+migrated_takes : (path : Text) (c : Command) → Migrates path c → TakesImage c
+migrated_takes path trial is = is
+migrated_takes path (on_image image action) is = tt
+
+pub none_named : (words : List Text) (path : Text) → (Asks words TakesImage → ⊥) → Asks words (Names path) → ⊥
+none_named words path none is = none (record { command = is.command; asked = is.asked; holds = named_takes path is.command is.holds })
+
+pub none_told : (words : List Text) (path : Text) → (Asks words TakesImage → ⊥) → Asks words (Tells path) → ⊥
+none_told words path none is = none (record { command = is.command; asked = is.asked; holds = told_takes path is.command is.holds })
+
+pub none_migrated : (words : List Text) (path : Text) → (Asks words TakesImage → ⊥) → Asks words (Migrates path) → ⊥
+none_migrated words path none is = none (record { command = is.command; asked = is.asked; holds = migrated_takes path is.command is.holds })
+
+-- a host that was not asked
+pub untouched : {H D : Type 0} (w : HostWords H D) (host : H) (path : Text) → AsBefore (of_host w host host) path
+untouched w host path = record { image = refl; trail = λ c. (λ x. x, λ x. x) }
+
+-- ---- a command on the image at a path
+
+module _ (words : List Text) (image : Text) (action : Action) (asked : IsAsked words (on_image image action)) where
+  pub image_named : (path : Text) → Asks words (Names path) → path ≡ image
+  image_named path is = named words (on_image image action) (Names path) asked is
+
+  pub image_told : (path : Text) → Asks words (Tells path) → (path ≡ image) × IsReading action
+  image_told path is = named words (on_image image action) (Tells path) asked is
+
+  pub image_migrated : (path : Text) → Asks words (Migrates path) → (path ≡ image) × IsMigration action
+  image_migrated path is = named words (on_image image action) (Migrates path) asked is
+
+  pub takes_image : Asks words TakesImage
+  takes_image = record { command = on_image image action; asked = asked; holds = tt }
+
+  pub not_named : (path : Text) → (Asks words (Names path) → ⊥) → path ≢ image
+  not_named path none same = none (record { command = on_image image action; asked = asked; holds = same })
+
+-- ---- no call failed, told from above
+
 status_in : Status → Result Answer AllocError → Status
 status_in other (Ok a) = a.status
 status_in other (Err e) = other
 
-pub by_run : (old new : ℕ) (r : Result ToolAnswer AllocError) (a : ToolAnswer) (result : Result Answer AllocError) (b : Answer) → r ≡ Ok a → result ≡ Ok b → b.status ≡ status_of a.end → NoneFailedBy old new result → NoneFailed old new r
+pub by_run : (h : HostTurn) (r : Result ToolAnswer AllocError) (a : ToolAnswer) (result : Result Answer AllocError) (b : Answer) → r ≡ Ok a → result ≡ Ok b → b.status ≡ status_of a.end → NoneFailedBy h result → ToolNoneFailed h r
 unfolding status_in
-by_run old new r a result b is same told none = elim none [
+by_run h r a result b is same told none = elim none [
   | inl quiet ↦ inl quiet
   | inr found ↦ inr (a, is, λ fault. found.2 (ap (status_in status.Host) (sym found.1 ∙ same) ∙ told ∙ ap status_of fault))
 ]
 
-pub by_error : (old new : ℕ) (r : Result ToolAnswer AllocError) (result : Result Answer AllocError) → IsErr result → NoneFailedBy old new result → NoneFailed old new r
-by_error old new r result err none = elim none [
+pub by_error : (h : HostTurn) (r : Result ToolAnswer AllocError) (result : Result Answer AllocError) → IsErr result → NoneFailedBy h result → ToolNoneFailed h r
+by_error h r result err none = elim none [
   | inl quiet ↦ inl quiet
   | inr found ↦ let never : true ≡ false = sym err ∙ ap (λ x. is_err x) found.1 in absurd (cc never)
 ]
 
-pub by_memory : (old new : ℕ) (r : Result Answer AllocError) → NoCallFailed old new status.Memory → NoneFailedBy old new r
-by_memory old new r (inl quiet) = inl quiet
-by_memory old new r (inr (inl done)) = absurd (cc done)
-by_memory old new r (inr (inr image)) = absurd (cc image)
+pub by_memory : (h : HostTurn) (r : Result Answer AllocError) → NoneFailed h status.Memory → NoneFailedBy h r
+by_memory h r (inl quiet) = inl quiet
+by_memory h r (inr (inl done)) = absurd (cc done)
+by_memory h r (inr (inr image)) = absurd (cc image)
 
-pub by_sink : (old new : ℕ) (r : Result Answer AllocError) → NoCallFailed old new status.Sink → NoneFailedBy old new r
-by_sink old new r (inl quiet) = inl quiet
-by_sink old new r (inr (inl done)) = absurd (cc done)
-by_sink old new r (inr (inr image)) = absurd (cc image)
+pub by_sink : (h : HostTurn) (r : Result Answer AllocError) → NoneFailed h status.Sink → NoneFailedBy h r
+by_sink h r (inl quiet) = inl quiet
+by_sink h r (inr (inl done)) = absurd (cc done)
+by_sink h r (inr (inr image)) = absurd (cc image)
 
-pub by_status : (old new : ℕ) (r : Result Answer AllocError) (a : Answer) → r ≡ Ok a → NoCallFailed old new a.status → NoneFailedBy old new r
-by_status old new r a is (inl quiet) = inl quiet
-by_status old new r a is (inr (inl done)) = inr (a, is, λ host. let e : status.Done ≡ status.Host = sym done ∙ host in absurd (cc e))
-by_status old new r a is (inr (inr image)) = inr (a, is, λ host. let e : status.Image ≡ status.Host = sym image ∙ host in absurd (cc e))
+pub by_status : (h : HostTurn) (r : Result Answer AllocError) (a : Answer) → r ≡ Ok a → NoneFailed h a.status → NoneFailedBy h r
+by_status h r a is (inl quiet) = inl quiet
+by_status h r a is (inr (inl done)) = inr (a, is, λ host. let e : status.Done ≡ status.Host = sym done ∙ host in absurd (cc e))
+by_status h r a is (inr (inr image)) = inr (a, is, λ host. let e : status.Image ≡ status.Host = sym image ∙ host in absurd (cc e))

@@ -1,2 +1,4 @@
-pub mod Endings
+pub mod Answers
+pub mod Doing
 pub mod Inputs
+pub mod Statuses

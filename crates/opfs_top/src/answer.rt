@@ -1,13 +1,16 @@
 //! What a command puts out, and how it ends.
 
-ghost use Rattle.std.specs.Prelude.{◌≡◌, true, false, IsTrue, IfOk, flat_map};
+ghost use Rattle.std.specs.Prelude.{◌≡◌, IfOk, flat_map};
+ghost use Rattle.opfs_outside.specs.Turns.{of_source};
 ghost use Rattle.opfs_print.specs.Lines.{text_of};
 ghost use Rattle.opfs_print.specs.Status.{status_text};
-ghost use Rattle.opfs_top.specs.Endings.{is_try, IsRefusal, IsTrialText, NoCommand, Outcome, Output};
+ghost use Rattle.opfs_print.specs.declared.end.End.TheVariants as end;
+ghost use Rattle.opfs_top.specs.Answers.{Outcome};
+ghost use Rattle.opfs_top.specs.Doing.{IsRefusal, IsTrialText, TrialEnded};
 
 use crate::input::{Input, read_all};
 use crate::status::Status;
-use opfs_base::{Bytes, Words};
+use opfs_base::Bytes;
 use opfs_hist::Entry;
 use opfs_outside::Source;
 use opfs_print::{BadScript, End, line, status_line};
@@ -20,16 +23,6 @@ use std::alloc::{AllocError, Global};
 pub struct Answer {
     pub status: Status,
     pub text: Bytes,
-}
-
-/// Whether the words ask for a trial.
-pub fn is_try(words: &Words) -> bool
-    ensures { result ≡ is_try words.now }
-{
-    match words.as_slice() {
-        [word] => word.as_slice() == b"try".as_slice(),
-        _ => false,
-    }
 }
 
 /// A status line.
@@ -99,22 +92,10 @@ fn run(alloc: Global, bytes: &Bytes) -> Result<Answer, AllocError>
     }
 }
 
-/// How a command that names no image ends, and what it is to put out.
-pub fn answer_to<S: Source>(
-    alloc: Global,
-    words: &Words,
-    source: &mut S,
-) -> Result<Answer, AllocError>
-    requires { NoCommand words.now }
-    ensures { IfOk result (λ answer. Output words.now S.tells (S.rest source.old) (S.rest source.new) (S.faults source.old) (S.faults source.new) (λ end text. ⊥) answer.status answer.text) }
+/// How a trial ends whose script the source gives, and what it is to put out.
+pub fn answer_trial<S: Source>(alloc: Global, source: &mut S) -> Result<Answer, AllocError>
+    ensures { IfOk result (λ answer. TrialEnded (of_source S.Source source.old source.new) answer.status answer.text) }
 {
-    if !is_try(words) {
-        let text = line_of(alloc, End::Usage)?;
-        return Ok(Answer {
-            status: Status::Usage,
-            text,
-        });
-    }
     let (status, end) = match read_all(alloc, source) {
         Input::Whole(bytes) => return run(alloc, &bytes),
         Input::TooFar => (Status::Script, End::Script(BadScript::TooMany)),
@@ -123,4 +104,16 @@ pub fn answer_to<S: Source>(
     };
     let text = line_of(alloc, end)?;
     Ok(Answer { status, text })
+}
+
+/// The answer to words that ask for nothing.
+pub fn answer_nothing(alloc: Global) -> Result<Answer, AllocError>
+    ensures status { IfOk result (λ answer. answer.status ≡ Status.Usage) }
+    ensures text { IfOk result (λ answer. answer.text ≡ status_text end.Usage) }
+{
+    let text = line_of(alloc, End::Usage)?;
+    Ok(Answer {
+        status: Status::Usage,
+        text,
+    })
 }

@@ -1,7 +1,7 @@
 //! Reading a source to its end.
 
-ghost use Rattle.std.specs.Prelude.{◌≡◌, ◌<◌, ◌≤◌, ◌++◌, [], length, true, false, IfOk, IfErr, OnOk, OnErr};
-ghost use Rattle.opfs_outside.specs.Faults.{Rose};
+ghost use Rattle.std.specs.Prelude.{◌≡◌, ◌<◌, ◌≤◌, [], length, true, false, IfOk, IfErr};
+ghost use Rattle.opfs_outside.specs.Turns.{of_source, SourceFailed};
 ghost use Rattle.opfs_top.specs.Inputs.{IsInput, IsMore, IsEnd};
 
 use opfs_base::Bytes;
@@ -41,11 +41,11 @@ fn read_piece<S: Source>(
     bytes: &mut Vec<u8>,
 ) -> Result<bool, Stop>
     requires { 0 < length buffer.old }
-    ensures more { IfOk result (λ more. more ≡ true → IsMore S.tells (S.rest source.old) (S.rest source.new) bytes.old.items bytes.new.items) }
-    ensures end { IfOk result (λ more. more ≡ false → IsEnd S.tells (S.rest source.old) (S.rest source.new) bytes.old.items bytes.new.items) }
+    ensures more { IfOk result (λ more. more ≡ true → IsMore (of_source S.Source source.old source.new) bytes.old.items bytes.new.items) }
+    ensures end { IfOk result (λ more. more ≡ false → IsEnd (of_source S.Source source.old source.new) bytes.old.items bytes.new.items) }
     ensures buffer { length buffer.new ≡ length buffer.old }
     ensures later { S.faults source.old ≤ S.faults source.new }
-    ensures cause { IfErr result (λ stop. stop ≡ Stop.Failed → Rose (S.faults source.old) (S.faults source.new)) }
+    ensures cause { IfErr result (λ stop. stop ≡ Stop.Failed → SourceFailed (of_source S.Source source.old source.new)) }
 {
     let count = match source.read(buffer) {
         Ok(count) => count,
@@ -73,7 +73,7 @@ fn buffer(alloc: Global) -> Result<Vec<u8>, AllocError>
 fn read_into<S: Source>(source: &mut S, buffer: &mut [u8], mut bytes: Vec<u8>) -> Input
     requires buffer { 0 < length buffer.old }
     requires empty { bytes.items ≡ [] }
-    ensures { IsInput S.tells (S.rest source.old) (S.rest source.new) (S.faults source.old) (S.faults source.new) result }
+    ensures { IsInput (of_source S.Source source.old source.new) result }
 {
     for turn in 0..MOST_BYTES + 1 {
         match read_piece(source, buffer, &mut bytes) {
@@ -91,7 +91,7 @@ fn read_into<S: Source>(source: &mut S, buffer: &mut [u8], mut bytes: Vec<u8>) -
 
 /// All bytes of a source.
 pub fn read_all<S: Source>(alloc: Global, source: &mut S) -> Input
-    ensures { IsInput S.tells (S.rest source.old) (S.rest source.new) (S.faults source.old) (S.faults source.new) result }
+    ensures { IsInput (of_source S.Source source.old source.new) result }
 {
     match buffer(alloc) {
         Ok(mut buffer) => read_into(source, &mut buffer, Vec::new(alloc)),

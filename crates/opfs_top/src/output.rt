@@ -1,16 +1,15 @@
 //! Putting a text out.
 
-ghost use Rattle.std.specs.Prelude.{◌≡◌, ◌≤◌, ◌++◌, length, OnOk, OnErr};
-ghost use Rattle.opfs_outside.specs.Faults.{Rose};
-ghost use Rattle.opfs_top.specs.Inputs.{IsFrontPut};
+ghost use Rattle.std.specs.Prelude.{◌≡◌, OnOk, OnErr, List, ℕ};
+ghost use Rattle.opfs_outside.specs.Turns.{of_sink, SinkFailed, Took, TookFront};
 
 use opfs_outside::{Failed, Sink};
 
 /// Puts all bytes out, or a front of them where the sink fails.
 pub fn put_all<K: Sink>(sink: &mut K, bytes: &[u8]) -> Result<(), Failed>
-    ensures ok { OnOk result (K.tells → K.written sink.new ≡ K.written sink.old ++ bytes.now) }
-    ensures err { OnErr result (IsFrontPut K.tells (K.written sink.old) (K.written sink.new) bytes.now) }
-    ensures cause { OnErr result (Rose (K.faults sink.old) (K.faults sink.new)) }
+    ensures ok { OnOk result (Took (of_sink K.Sink sink.old sink.new) bytes.now) }
+    ensures err { OnErr result ((rest : List ℕ) × TookFront (of_sink K.Sink sink.old sink.new) bytes.now rest) }
+    ensures cause { OnErr result (SinkFailed (of_sink K.Sink sink.old sink.new)) }
 {
     let mut rest = bytes;
     while !rest.is_empty() {

@@ -1,7 +1,7 @@
 //! How a command ends.
 
 ghost use Rattle.std.specs.Prelude.{◌≡◌};
-ghost use Rattle.opfs_top.specs.Endings.{number_of};
+ghost use Rattle.opfs_top.specs.Statuses.{number_of};
 
 /// How a command ends.
 #[derive(Clone, Copy, Debug, PartialEq, Eq)]

@@ -1,21 +1,22 @@
-//! Commands on an image.
+//! Which command words ask for, and how it ends.
 
 ghost use Rattle.std.specs.Prelude.{◌≡◌, ◌≢◌, ◌⊎◌, IfOk};
 ghost use Rattle.opfs_base.specs.Texts.{Text};
+ghost use Rattle.opfs_commands.specs.Commands.{AsksNothing, Asks, InRange};
+ghost use Rattle.opfs_commands.specs.Kinds.{IsReading, IsMigration};
+ghost use Rattle.opfs_commands.specs.Telling.{IsStoodFor};
 ghost use Rattle.opfs_machine.specs.Openings.{Map};
 ghost use Rattle.opfs_migrate.specs.Migrating.{StandsEither};
-ghost use Rattle.opfs_commands.specs.Asking.{IsCommand};
-ghost use Rattle.opfs_commands.specs.Hosts.{IsAsBefore, IsOnlyRead};
-ghost use Rattle.opfs_commands.specs.Kinds.{IsToolText};
-ghost use Rattle.opfs_commands.specs.declared.words.Action.{Action as AnAction};
-ghost use Rattle.opfs_top.specs.Endings.{status_of, ToolOutput, IsOther, IsTelling, IsMigrating, NoCommand, NoneFailedBy};
+ghost use Rattle.opfs_outside.specs.Turns.{of_host, of_source, AsBefore, ImageStays, OthersAsBefore};
+ghost use Rattle.opfs_top.specs.Answers.{ImageEnded, NoneFailedBy};
+ghost use Rattle.opfs_top.specs.Doing.{Ended, Migrates, Names, TakesImage, Tells, ToolEnded};
+ghost use Rattle.opfs_top.specs.Statuses.{status_of};
 
-use crate::answer::{Answer, line_of};
+use crate::answer::{Answer, answer_nothing, answer_trial};
 use crate::status::Status;
 use opfs_base::Words;
-use opfs_commands::{ToolEnd, read_command, run_command};
-use opfs_outside::Host;
-use opfs_print::End;
+use opfs_commands::{Action, Command, ToolEnd, read_command, run_command};
+use opfs_outside::{Host, Source};
 use std::alloc::{AllocError, Global};
 
 // The status of a command on an image.
@@ -29,29 +30,64 @@ fn status_of(end: ToolEnd) -> Status
     }
 }
 
-/// How a command on an image ends, and what it is to put out.
+// How a command on the image at a path ends, and what it is to put out.
+fn answer_image<H: Host>(
+    alloc: Global,
+    host: &mut H,
+    path: &str,
+    action: Action,
+) -> Result<Answer, AllocError>
+    requires { InRange action }
+    ensures ended { IfOk result (λ answer. ImageEnded (of_host H.Host host.old host.new) path.now action answer.status answer.text) }
+    ensures others { H.tells → NoneFailedBy (of_host H.Host host.old host.new) result → OthersAsBefore (of_host H.Host host.old host.new) path.now }
+    ensures reads { IsReading action → H.tells → NoneFailedBy (of_host H.Host host.old host.new) result → ImageStays (of_host H.Host host.old host.new) path.now }
+    ensures refused { IfOk result (λ answer. answer.status ≡ Status.Image → H.tells → ImageStays (of_host H.Host host.old host.new) path.now) }
+    ensures trail { IsMigration action → H.tells → NoneFailedBy (of_host H.Host host.old host.new) result → (m : Map) → IsStoodFor m (H.image host.old path.now) → (c : Text) → H.trail host.new path.now c → H.trail host.old path.now c ⊎ StandsEither m c }
+{
+    let answer = run_command(alloc, host, path, action)?;
+    Ok(Answer {
+        status: status_of(answer.end),
+        text: answer.text,
+    })
+}
+
+/// How the command on an image ends that words ask for, and what it is to put out.
 pub fn answer_tool<H: Host>(
     alloc: Global,
     words: &Words,
     host: &mut H,
 ) -> Result<Answer, AllocError>
-    ensures answer { IfOk result (λ answer. ToolOutput words.now (IsToolText H.tells (H.image host.old) (H.image host.new) (H.own_faults host.old) (H.own_faults host.new) (H.faults host.old) (H.faults host.new) words.now) answer.status answer.text) }
-    ensures others { H.tells → NoneFailedBy (H.own_faults host.old) (H.own_faults host.new) result → (p : Text) → IsOther words.now p → IsAsBefore (H.image host.old) (H.image host.new) (H.trail host.old) (H.trail host.new) p }
-    ensures reads { H.tells → NoneFailedBy (H.own_faults host.old) (H.own_faults host.new) result → (p : Text) → IsTelling words.now p → IsOnlyRead (H.image host.old) (H.image host.new) (H.trail host.old) (H.trail host.new) p }
-    ensures refused { IfOk result (λ answer. answer.status ≡ Status.Image → H.tells → (p : Text) (asked : AnAction) → IsCommand words.now p asked → IsOnlyRead (H.image host.old) (H.image host.new) (H.trail host.old) (H.trail host.new) p) }
-    ensures trail { H.tells → NoneFailedBy (H.own_faults host.old) (H.own_faults host.new) result → (path : Text) (m : Map) → IsMigrating words.now path m (H.image host.old path) → (c : Text) → H.trail host.new path c → H.trail host.old path c ⊎ StandsEither m c }
-    ensures none { NoCommand words.now → host.new ≡ host.old }
+    ensures ended { IfOk result (λ answer. ToolEnded words.now (of_host H.Host host.old host.new) answer.status answer.text) }
+    ensures others { H.tells → NoneFailedBy (of_host H.Host host.old host.new) result → (path : Text) → (Asks words.now (Names path) → ⊥) → AsBefore (of_host H.Host host.old host.new) path }
+    ensures reads { H.tells → NoneFailedBy (of_host H.Host host.old host.new) result → (path : Text) → Asks words.now (Tells path) → ImageStays (of_host H.Host host.old host.new) path }
+    ensures refused { IfOk result (λ answer. answer.status ≡ Status.Image → H.tells → (path : Text) → Asks words.now (Names path) → ImageStays (of_host H.Host host.old host.new) path) }
+    ensures trail { H.tells → NoneFailedBy (of_host H.Host host.old host.new) result → (path : Text) → Asks words.now (Migrates path) → (m : Map) → IsStoodFor m (H.image host.old path) → (c : Text) → H.trail host.new path c → H.trail host.old path c ⊎ StandsEither m c }
+    ensures none { (Asks words.now TakesImage → ⊥) → host.new ≡ host.old }
 {
-    let Some(command) = read_command(words) else {
-        let text = line_of(alloc, End::Usage)?;
-        return Ok(Answer {
-            status: Status::Usage,
-            text,
-        });
-    };
-    let answer = run_command(alloc, host, command.image, command.action)?;
-    Ok(Answer {
-        status: status_of(answer.end),
-        text: answer.text,
-    })
+    match read_command(words) {
+        Some(Command::OnImage(path, action)) => answer_image(alloc, host, path, action),
+        Some(Command::Try) => answer_nothing(alloc),
+        None => answer_nothing(alloc),
+    }
+}
+
+/// How the command ends that words ask for, and what it is to put out.
+pub fn answer_to<H: Host, S: Source>(
+    alloc: Global,
+    words: &Words,
+    host: &mut H,
+    source: &mut S,
+) -> Result<Answer, AllocError>
+    ensures ended { IfOk result (λ answer. Ended words.now (of_source S.Source source.old source.new) (of_host H.Host host.old host.new) answer.status answer.text) }
+    ensures others { H.tells → NoneFailedBy (of_host H.Host host.old host.new) result → (path : Text) → (Asks words.now (Names path) → ⊥) → AsBefore (of_host H.Host host.old host.new) path }
+    ensures reads { H.tells → NoneFailedBy (of_host H.Host host.old host.new) result → (path : Text) → Asks words.now (Tells path) → ImageStays (of_host H.Host host.old host.new) path }
+    ensures refused { IfOk result (λ answer. answer.status ≡ Status.Image → H.tells → (path : Text) → Asks words.now (Names path) → ImageStays (of_host H.Host host.old host.new) path) }
+    ensures trail { H.tells → NoneFailedBy (of_host H.Host host.old host.new) result → (path : Text) → Asks words.now (Migrates path) → (m : Map) → IsStoodFor m (H.image host.old path) → (c : Text) → H.trail host.new path c → H.trail host.old path c ⊎ StandsEither m c }
+    ensures none { (Asks words.now TakesImage → ⊥) → host.new ≡ host.old }
+{
+    match read_command(words) {
+        Some(Command::OnImage(path, action)) => answer_image(alloc, host, path, action),
+        Some(Command::Try) => answer_trial(alloc, source),
+        None => answer_nothing(alloc),
+    }
 }

@@ -1,4 +1,5 @@
 use Rattle.std.proofs.Common.{inl}
+use Rattle.opfs_outside.specs.Turns.{of_host}
 use Rattle.opfs_commands.proofs.Hosting.{rose_later, host_rose, later_by, given_back, was_given, others_stay}
 use Rattle.opfs_commands.proofs.hosts.format_at.Goals as goal
 
@@ -8,12 +9,12 @@ returns-clause-answer g c =
     given_back g.H.Host.tells g.H.D.Disk.tells g.met.H.Host.disk_tells _ _ _ _ _ _ _
     (λ told there t is. record { image = _; there = there.image; kind = is })
     (λ told t is. is)
-    (λ rose. host_rose _ _ _ _ _ _ _ c.in-Ok.ensures.fresh (later_by _ _ _ c.fetch.ensures.later) c.give_back.ensures.later (g.met.H.Host.counted _) (g.met.H.Host.counted _) (laws.counted _) rose)
+    (λ rose. host_rose _ _ _ _ _ _ c.in-Ok.ensures.fresh (later_by _ _ _ c.fetch.ensures.later) c.give_back.ensures.later (g.met.H.Host.counted _) (g.met.H.Host.counted _) (laws.counted _) rose)
     c.give_back.result c.format_disk-disk.result.1 _ (λ rose. inl (rose_later _ _ _ c.fetch.ensures.own_later rose)) c.format_disk-disk.ensures.answer c.give_back.ensures.kept
 
 pub returns-clause-others : goal.returns-clause-others
 returns-clause-others g c = λ told none.
-    let back = was_given g.H.Host.tells _ (g.H.Host.own_faults c.args.host.now) (g.H.Host.own_faults c.fetch.new.self) (g.H.Host.own_faults c.give_back.new.host)
+    let back = was_given (of_host g.H.Host c.args.host.now c.give_back.new.host) g.H.Host.tells _ (g.H.Host.own_faults c.fetch.new.self)
     c.give_back.result c.format_disk-disk.result.1 told c.fetch.ensures.own_later c.give_back.ensures.back c.give_back.ensures.kept none in
-    others_stay (g.H.Host.image c.args.host.now) (g.H.Host.image c.fetch.new.self) (g.H.Host.image c.give_back.new.host) (g.H.Host.trail c.args.host.now) (g.H.Host.trail c.fetch.new.self) (g.H.Host.trail c.give_back.new.host) c.args.path.now
+    others_stay g.H.Host c.args.host.now c.fetch.new.self c.give_back.new.host c.args.path.now
     (λ p other. record { image = c.in-Ok.ensures.other_images told p other; trail = λ d. c.in-Ok.ensures.other_trails told p d other }) back.others

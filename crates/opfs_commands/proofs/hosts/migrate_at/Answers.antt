@@ -1,5 +1,6 @@
 use Rattle.std.proofs.Common.{◌≡◌, inl, inr, refl, sym, ◌∙◌}
 use Rattle.std.specs.Prelude.{Some}
+use Rattle.opfs_outside.specs.Turns.{of_host}
 use Rattle.opfs_commands.proofs.Hosting.{stood_for, since_fetched, one_since, rose_later, host_rose, later_by, given_back, was_given, refused_back, others_stay, only_read}
 use Rattle.opfs_commands.proofs.hosts.migrate_at.Goals as goal
 
@@ -10,14 +11,14 @@ returns-clause-answer g c =
     given_back g.H.Host.tells g.H.D.Disk.tells g.met.H.Host.disk_tells _ _ _ _ _ _ _
     (λ told there t is. record { before = _; after = _; was = was told; is = there.image; told = is })
     (λ told t is. record { image = _; there = was told; kind = is })
-    (λ rose. host_rose _ _ _ _ _ _ _ c.in-Ok.ensures.fresh (later_by _ _ _ c.fetch.ensures.later) c.give_back.ensures.later (g.met.H.Host.counted _) (g.met.H.Host.counted _) (laws.counted _) rose)
+    (λ rose. host_rose _ _ _ _ _ _ c.in-Ok.ensures.fresh (later_by _ _ _ c.fetch.ensures.later) c.give_back.ensures.later (g.met.H.Host.counted _) (g.met.H.Host.counted _) (laws.counted _) rose)
     c.give_back.result c.migrate_disk-disk.result.1 _ (λ rose. inl (rose_later _ _ _ c.fetch.ensures.own_later rose)) c.migrate_disk-disk.ensures.answer c.give_back.ensures.kept
 
 pub returns-clause-others : goal.returns-clause-others
 returns-clause-others g c = λ told none.
-    let back = was_given g.H.Host.tells _ (g.H.Host.own_faults c.args.host.now) (g.H.Host.own_faults c.fetch.new.self) (g.H.Host.own_faults c.give_back.new.host)
+    let back = was_given (of_host g.H.Host c.args.host.now c.give_back.new.host) g.H.Host.tells _ (g.H.Host.own_faults c.fetch.new.self)
     c.give_back.result c.migrate_disk-disk.result.1 told c.fetch.ensures.own_later c.give_back.ensures.back c.give_back.ensures.kept none in
-    others_stay (g.H.Host.image c.args.host.now) (g.H.Host.image c.fetch.new.self) (g.H.Host.image c.give_back.new.host) (g.H.Host.trail c.args.host.now) (g.H.Host.trail c.fetch.new.self) (g.H.Host.trail c.give_back.new.host) c.args.path.now
+    others_stay g.H.Host c.args.host.now c.fetch.new.self c.give_back.new.host c.args.path.now
     (λ p other. record { image = c.fetch.ensures.images_stay told refl p; trail = c.fetch.ensures.trails_stay told refl p }) back.others
 
 pub returns-clause-refused : goal.returns-clause-refused
@@ -26,7 +27,7 @@ returns-clause-refused g c =
     (λ told back only.
     let dtold = g.met.H.Host.disk_tells told in
     let read = only.told dtold in
-    only_read (g.H.Host.image c.args.host.now) (g.H.Host.image c.fetch.new.self) (g.H.Host.image c.give_back.new.host) (g.H.Host.trail c.args.host.now) (g.H.Host.trail c.fetch.new.self) (g.H.Host.trail c.give_back.new.host) c.args.path.now (g.H.D.Disk.content c.in-Ok.disk) (g.H.D.Disk.content c.migrate_disk-disk.result.0) (g.H.D.Disk.since c.migrate_disk-disk.result.0 0)
+    only_read g.H.Host c.args.host.now c.fetch.new.self c.give_back.new.host c.args.path.now (g.H.D.Disk.content c.in-Ok.disk) (g.H.D.Disk.content c.migrate_disk-disk.result.0) (g.H.D.Disk.since c.migrate_disk-disk.result.0 0)
     (c.fetch.ensures.images_stay told refl) (c.fetch.ensures.trails_stay told refl) (c.in-Ok.ensures.content told) read.same
     (one_since (g.H.D.Disk.content c.in-Ok.disk) (g.H.D.Disk.moment c.in-Ok.disk) (g.H.D.Disk.since c.in-Ok.disk) (g.H.D.Disk.since c.migrate_disk-disk.result.0) c.in-Ok.ensures.first (c.in-Ok.ensures.one_image dtold) read.moments) back)
     c.migrate_disk-disk.ensures.refused c.give_back.ensures.kept
@@ -34,7 +35,7 @@ returns-clause-refused g c =
 pub returns-clause-trail : goal.returns-clause-trail
 returns-clause-trail g c = λ told none m is c' left.
     let dtold = g.met.H.Host.disk_tells told in
-    let back = was_given g.H.Host.tells _ (g.H.Host.own_faults c.args.host.now) (g.H.Host.own_faults c.fetch.new.self) (g.H.Host.own_faults c.give_back.new.host)
+    let back = was_given (of_host g.H.Host c.args.host.now c.give_back.new.host) g.H.Host.tells _ (g.H.Host.own_faults c.fetch.new.self)
     c.give_back.result c.migrate_disk-disk.result.1 told c.fetch.ensures.own_later c.give_back.ensures.back c.give_back.ensures.kept none in
     let stands = stood_for (g.H.D.Disk.content c.in-Ok.disk) m (g.H.Host.image c.args.host.now c.args.path.now) (g.H.Host.image c.fetch.new.self c.args.path.now) (c.in-Ok.ensures.content told) (c.fetch.ensures.images_stay told refl c.args.path.now) is in
     elim ((back.trail c').0 left) [

@@ -1,5 +1,5 @@
 use Rattle.std.proofs.Common.{◌+◌, inl, inr, sym, ◌∙◌, ap}
-use Rattle.std.specs.Prelude.{◌==◌, slice_index}
+use Rattle.std.specs.Prelude.{◌==◌, slice_index, Err}
 use Rattle.std.proofs.lemmas.Result.{err_from_is_err_and}
 use Rattle.opfs_codec.specs.declared.change.Format.TheVariants.{New}
 use Rattle.opfs_journal.specs.Format.{chosen_in, begin_of, format_of}
@@ -37,7 +37,8 @@ returns-then-not-is_of_format-clause-refused g c = inr (inr (λ told.
     let byte = c.in_ok-ruling.ensures.generation told ∙ (λ i. slice_index (same i) (begin_of (areas i) c.in_ok-ruling.ruling.second + 5)) in
     format_other c.args.wanted New (g.D.Disk.content c.args.disk.now) c.in_ok-geometry.geometry (c.in_ok-geometry.ensures.geometry told) c.in_ok-ruling.ruling.second
     (sym (λ i. chosen_in (areas i) (same i)) ∙ c.in_ok-ruling.ensures.rules told)
-    (sym (ap (λ b. format_of b == format_number c.args.wanted) byte) ∙ sym c.is_of_format.ensures ∙ c.if-not-is_of_format.true)))
+    (sym (ap (λ b. format_of b == format_number c.args.wanted) byte) ∙ sym c.is_of_format.ensures ∙ c.if-not-is_of_format.true)
+    ∙ ap (λ e. Err e) (sym c.not_of.ensures)))
 
 pub returns-clause-only : goal.returns-clause-only
 returns-clause-only g c =

@@ -3,7 +3,7 @@ use Rattle.std.specs.Prelude.{Err}
 use Rattle.opfs_codec.specs.declared.change.Format.TheVariants.{New}
 use Rattle.opfs_journal.proofs.Walks.{only_more}
 use Rattle.opfs_image.specs.Agreeing.{built_in}
-use Rattle.opfs_image.specs.declared.refusal.ReadRefusal.TheVariants as refusal
+use Rattle.opfs_image.specs.declared.refusal.ImageRefusal.TheVariants as refusal
 use Rattle.opfs_image.proofs.Images.{built_same, image_read, image_overfull}
 use Rattle.opfs_image.proofs.reading.read_image.Goals as goal
 

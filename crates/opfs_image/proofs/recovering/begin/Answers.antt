@@ -2,7 +2,7 @@ use Rattle.std.proofs.Common.{sym, ◌∙◌, ap, arith}
 use Rattle.opfs_codec.specs.declared.change.Format.TheVariants.{New}
 use Rattle.opfs_journal.specs.Format.{records_of}
 use Rattle.opfs_image.specs.Agreeing.{built_in}
-use Rattle.opfs_image.specs.Answers.{answer_of, refused_first}
+use Rattle.opfs_image.specs.Answers.{refused_first}
 use Rattle.opfs_image.specs.Reading.{read_as}
 use Rattle.opfs_image.proofs.Layering.{no_refusal}
 use Rattle.opfs_image.proofs.recovering.begin.Goals as goal
@@ -28,6 +28,5 @@ invariant_of-result g c =
 
 pub returns-in-Err-clause-refused : goal.returns-in-Err-clause-refused
 returns-in-Err-clause-refused g c = λ no_fault no_want told.
-    let answer = c.into.ensures ∙ ap answer_of c.from.ensures in
     absurd (no_refusal New New (g.D.Disk.content c.args.disk) (record { geometry = c.args.image.geometry; built = built_in c.args.image.parts.tree c.args.image.parts.shed }) c.journal_areas-areas.result c.in-Err.refusal (c.requires.image told) c.journal_areas-areas.ensures
-    (c.in-Err.ensures.refused (λ e. no_fault (answer ∙ ap (λ r. answer_of (refused_first r)) e)) (λ e. no_want (answer ∙ ap (λ r. answer_of (refused_first r)) e)) told))
+    (c.in-Err.ensures.refused (λ e. no_fault (c.from.ensures ∙ ap refused_first e)) (λ e. no_want (c.from.ensures ∙ ap refused_first e)) told))

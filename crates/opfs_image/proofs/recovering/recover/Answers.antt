@@ -1,9 +1,9 @@
-use Rattle.std.proofs.Common.{subst}
+use Rattle.std.proofs.Common.{◌≡◌, subst}
+use Rattle.std.specs.Prelude.{Err}
 use Rattle.std.proofs.lemmas.Result.{IfOk-weaker, IfErr-weaker}
 use Rattle.opfs_codec.specs.declared.change.Format.TheVariants.{New}
 use Rattle.opfs_journal.proofs.Walks.{only_more}
 use Rattle.opfs_image.specs.Reading.{read_as}
-use Rattle.opfs_image.specs.Refusals.{IsRefusedAs}
 use Rattle.opfs_image.proofs.recovering.recover.Goals as goal
 
 pub returns-in-Ok-clause-only_read : goal.returns-in-Ok-clause-only_read
@@ -13,7 +13,7 @@ returns-in-Ok-clause-only_read g c =
 
 pub returns-in-Ok-clause-refused : goal.returns-in-Ok-clause-refused
 returns-in-Ok-clause-refused g c =
-    IfErr-weaker c.begin.result _ _ (λ err is no_fault no_want told. subst (λ d. IsRefusedAs (read_as New New d) err.1) (c.read_image.ensures.only.told told).same (is no_fault no_want told)) c.begin.ensures.refused
+    IfErr-weaker c.begin.result _ _ (λ err is no_fault no_want told. subst (λ d. read_as New New d ≡ Err err.1) (c.read_image.ensures.only.told told).same (is no_fault no_want told)) c.begin.ensures.refused
 
 pub returns-in-Ok-clause-only_read_err : goal.returns-in-Ok-clause-only_read_err
 returns-in-Ok-clause-only_read_err g c =

@@ -1,10 +1,10 @@
-use Rattle.std.proofs.Common.{sym, ◌∙◌, ap, subst}
+use Rattle.std.proofs.Common.{sym, ◌∙◌, subst}
 use Rattle.std.proofs.lemmas.Result.{IfOk-weaker, IfErr-weaker}
 use Rattle.opfs_journal.specs.Format.{records_of}
 use Rattle.opfs_image.specs.Filling.{StandsOld}
 use Rattle.opfs_codec.specs.declared.change.Format.TheVariants.{Old, New}
 use Rattle.opfs_image.proofs.Layering.{no_refusal}
-use Rattle.opfs_migrate.specs.Migrating.{AreMigrated, answer_of}
+use Rattle.opfs_migrate.specs.Migrating.{AreMigrated}
 use Rattle.opfs_migrate.proofs.Moves.{only_moved, moved_more}
 use Rattle.opfs_migrate.proofs.Refused.{begun}
 use Rattle.opfs_migrate.proofs.raising.raise_image.Goals as goal
@@ -40,7 +40,7 @@ returns-in-Err-clause-moved_err g c =
 
 pub returns-in-Err-clause-untold : goal.returns-in-Err-clause-untold
 returns-in-Err-clause-untold g c =
-    begun g.D.Disk.tells c.in-Err.refusal c.into.result (c.into.ensures ∙ ap answer_of c.from.ensures) (λ no_fault no_want told.
+    begun g.D.Disk.tells c.in-Err.refusal c.from.result c.from.ensures (λ no_fault no_want told.
     let plan = c.requires.planned told in
     no_refusal Old New (g.D.Disk.content c.args.disk) (record { geometry = c.args.plan.geometry; built = plan.built }) c.journal_areas-areas.result c.in-Err.refusal plan.reads c.journal_areas-areas.ensures
     (c.in-Err.ensures.refused no_fault no_want told))

@@ -4,6 +4,6 @@ use Rattle.opfs_top.proofs.output.put_all.Goals as goal
 
 pub loop-rest-preserved : goal.loop-rest-preserved
 loop-rest-preserved g c = record {
-  so_far = more_put _ _ _ _ _ _ c.in-Ok.count _ refl c.loop-rest.invariant.so_far c.in-Ok.ensures.taken;
+  so_far = more_put g.K.Sink c.args.sink.now c.loop-rest.sink c.write.new.self _ _ c.in-Ok.count _ refl c.loop-rest.invariant.so_far c.in-Ok.ensures.taken;
   later = omega (arith, c.loop-rest.invariant.later, c.write.ensures.later);
 }

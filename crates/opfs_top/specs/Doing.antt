@@ -1,0 +1,188 @@
+-- What each command puts out and what it leaves of the host. This project's own.
+--
+-- A source, a sink and a host stand here as they are before the call and after it (`SourceTurn`, `SinkTurn`, `HostTurn`).
+use Rattle.std.specs.Prelude.{◌≡◌, ◌≢◌, ◌⊎◌, ℕ, List, Option, Some, None, Ok, Err}
+use Rattle.opfs_base.specs.Texts.{Text}
+use Rattle.opfs_commands.specs.Commands.{Command, trial, on_image, Asks, AsksNothing}
+use Rattle.opfs_commands.specs.Kinds.{DoneKind, RefusedKind, IsReading, IsMigration}
+use Rattle.opfs_hist.specs.declared.entry.Entry.{Entry}
+use Rattle.opfs_outside.specs.Turns.{HostTurn, SourceTurn, HostFailed, HostServed, SourceFailed, ReadWhole, ReadTooFar}
+use Rattle.opfs_print.specs.declared.end.BadScript.{BadScript}
+use Rattle.opfs_print.specs.declared.end.BadScript.TheVariants as bad
+use Rattle.opfs_print.specs.declared.end.End.TheVariants as end
+use Rattle.opfs_print.specs.Lines.{text_of}
+use Rattle.opfs_print.specs.Status.{status_text}
+use Rattle.opfs_script.specs.declared.refusal.ScriptRefusal.{ScriptRefusal}
+use Rattle.opfs_script.specs.declared.refusal.ScriptRefusal.TheVariants as refused
+use Rattle.opfs_script.specs.Reading.{reads}
+use Rattle.opfs_script.specs.Scripts.{Asked}
+use Rattle.opfs_trial.specs.Trials.{IsTrial}
+use Rattle.opfs_top.specs.declared.status.Status.{Status}
+use Rattle.opfs_top.specs.declared.status.Status.TheVariants as status
+
+-- The most bytes that a script may have.
+abbrev pub most_bytes : ℕ
+most_bytes = 16777216
+
+-- ---- what is put out
+
+-- The text is the transcript of one history of a trial of the script.
+pub record IsTrialText (script : List Asked) (text : Text) : Type 0 where
+  pub history : List Entry
+  pub trial : IsTrial script history
+  pub lines : text ≡ text_of history
+
+-- Bytes read as a script, and the text is the transcript of one history of a trial of it.
+pub record IsTranscript (bytes text : Text) : Type 0 where
+  pub script : List Asked
+  pub read : reads bytes ≡ Ok script
+  pub ran : IsTrialText script text
+
+-- Why a script is refused, as the status line says it.
+abbrev pub told_as : ScriptRefusal → Option BadScript
+told_as refused.NotJson = Some bad.NotJson
+told_as (refused.BadShape agent step) = Some (bad.BadShape agent step)
+told_as (refused.UnknownStep agent step) = Some (bad.UnknownStep agent step)
+told_as (refused.BadOrigin agent) = Some (bad.BadOrigin agent)
+told_as refused.TooMany = Some bad.TooMany
+told_as refused.NoMemory = None
+
+-- The text is the line that says why a script is refused.
+pub record IsRefusal (why : ScriptRefusal) (text : Text) : Type 0 where
+  pub told : BadScript
+  pub same : told_as why ≡ Some told
+  pub line : text ≡ status_text (end.Script told)
+
+-- Bytes are refused as a script, and the text is the line that says why.
+pub record IsRefused (bytes text : Text) : Type 0 where
+  pub why : ScriptRefusal
+  pub refused : reads bytes ≡ Err why
+  pub line : IsRefusal why text
+
+-- The source was read to its end, and its bytes give this text.
+pub record OfSource (s : SourceTurn) (Kind : Text → Text → Type 0) (text : Text) : Type 0 where
+  pub bytes : Text
+  pub whole : ReadWhole s most_bytes bytes
+  pub kind : Kind bytes text
+
+-- More bytes were read than a script may have, and the text is the line that says so.
+pub record IsTooLong (s : SourceTurn) (text : Text) : Type 0 where
+  pub far : ReadTooFar s most_bytes
+  pub line : text ≡ status_text (end.Script bad.TooMany)
+
+-- What a command puts out that was done: a trial its transcript; a command on an image what is told of the image before, or
+-- of the one that it made.
+abbrev pub Did : Command → SourceTurn → HostTurn → Text → Type 0
+Did trial s h text = OfSource s IsTranscript text
+Did (on_image path action) s h text = h.tells → DoneKind action (h.image path) (h.image_after path) text
+
+-- The same of a command on an image alone.
+abbrev pub DidWithImage : Command → HostTurn → Text → Type 0
+DidWithImage trial h text = ⊥
+DidWithImage (on_image path action) h text = h.tells → DoneKind action (h.image path) (h.image_after path) text
+
+-- The command takes a script, which is refused.
+abbrev pub RefusedScript : Command → SourceTurn → Text → Type 0
+RefusedScript trial s text = OfSource s IsRefused text ⊎ IsTooLong s text
+RefusedScript (on_image path action) s text = ⊥
+
+-- The command takes an image, which is refused.
+abbrev pub RefusedImage : Command → HostTurn → Text → Type 0
+RefusedImage trial h text = ⊥
+RefusedImage (on_image path action) h text = h.tells → RefusedKind action (h.image path) text
+
+-- The command takes a script, or an image.
+abbrev pub TakesScript : Command → Type 0
+TakesScript trial = Unit {0}
+TakesScript (on_image path action) = ⊥
+
+abbrev pub TakesImage : Command → Type 0
+TakesImage trial = ⊥
+TakesImage (on_image path action) = Unit {0}
+
+-- ---- the ends, each with its cause
+
+abbrev pub IsDone : List Text → SourceTurn → HostTurn → Text → Type 0
+IsDone words s h text = Asks words (λ command. Did command s h text)
+
+pub record IsUsage (words : List Text) (text : Text) : Type 0 where
+  pub nothing : AsksNothing words
+  pub line : text ≡ status_text end.Usage
+
+-- The words ask for no command on an image.
+pub record IsNoTool (words : List Text) (text : Text) : Type 0 where
+  pub none : Asks words TakesImage → ⊥
+  pub line : text ≡ status_text end.Usage
+
+abbrev pub IsBadScript : List Text → SourceTurn → Text → Type 0
+IsBadScript words s text = Asks words (λ command. RefusedScript command s text)
+
+abbrev pub IsBadImage : List Text → HostTurn → Text → Type 0
+IsBadImage words h text = Asks words (λ command. RefusedImage command h text)
+
+pub record IsHostFault (words : List Text) (h : HostTurn) (text : Text) : Type 0 where
+  pub asked : Asks words TakesImage
+  pub failed : HostFailed h
+  pub line : text ≡ status_text end.Host
+
+pub record IsSourceFault (words : List Text) (s : SourceTurn) (text : Text) : Type 0 where
+  pub asked : Asks words TakesScript
+  pub failed : SourceFailed s
+  pub line : text ≡ status_text end.Source
+
+-- What is to be put out at each end, with its cause.
+abbrev pub Ended : List Text → SourceTurn → HostTurn → Status → Text → Type 0
+Ended words s h status.Done text = IsDone words s h text
+Ended words s h status.Usage text = IsUsage words text
+Ended words s h status.Script text = IsBadScript words s text
+Ended words s h status.Image text = IsBadImage words h text
+Ended words s h status.Host text = IsHostFault words h text
+Ended words s h status.Source text = IsSourceFault words s text
+Ended words s h ended text = ⊥
+
+-- A text that is put out at some end.
+pub record IsSomeEnd (words : List Text) (s : SourceTurn) (h : HostTurn) (text : Text) : Type 0 where
+  pub status : Status
+  pub ended : Ended words s h status text
+
+-- The same of a command on an image alone.
+abbrev pub ToolEnded : List Text → HostTurn → Status → Text → Type 0
+ToolEnded words h status.Done text = Asks words (λ command. DidWithImage command h text)
+ToolEnded words h status.Usage text = IsNoTool words text
+ToolEnded words h status.Image text = IsBadImage words h text
+ToolEnded words h status.Host text = IsHostFault words h text
+ToolEnded words h ended text = ⊥
+
+pub record IsSomeToolEnd (words : List Text) (h : HostTurn) (text : Text) : Type 0 where
+  pub status : Status
+  pub ended : ToolEnded words h status text
+
+-- ---- what is left of the host
+
+-- The command works on the image at a path.
+abbrev pub Names : Text → Command → Type 0
+Names path trial = ⊥
+Names path (on_image image action) = path ≡ image
+
+-- It only tells what that image holds: `list` or `check`.
+abbrev pub Tells : Text → Command → Type 0
+Tells path trial = ⊥
+Tells path (on_image image action) = (path ≡ image) × IsReading action
+
+-- It brings that image into the format of now.
+abbrev pub Migrates : Text → Command → Type 0
+Migrates path trial = ⊥
+Migrates path (on_image image action) = (path ≡ image) × IsMigration action
+
+-- No call of the host failed: its own count did not rise, or the command was answered without a fault.
+abbrev pub NoneFailed : HostTurn → Status → Type 0
+NoneFailed h ended = HostServed h ⊎ (ended ≡ status.Done) ⊎ (ended ≡ status.Image)
+
+-- ---- one command
+
+-- What a trial puts out at each end.
+abbrev pub TrialEnded : SourceTurn → Status → Text → Type 0
+TrialEnded s status.Done text = OfSource s IsTranscript text
+TrialEnded s status.Script text = OfSource s IsRefused text ⊎ IsTooLong s text
+TrialEnded s status.Source text = SourceFailed s × (text ≡ status_text end.Source)
+TrialEnded s ended text = ⊥
