@@ -160,7 +160,7 @@ flush-most s k n r p number is holds locks covered =
     elim (file_at s p) as (λ o. file_at s p ≡ o → stored_in (option_map flushed o) ≤ stored_in o + kept_by r) [
       | None ↦ λ there. omega arith
       | Some f ↦ λ there. elim (covered p f there) as (λ c. stored_in (option_map flushed (Some f)) ≤ stored_in (Some f) + kept_by r) [
-        | inl even ↦ let same : blocks (length f.present) ≡ blocks (length f.durable) = ap (λ b. blocks (length b)) even in omega (arith, same)
+        | inl even ↦ let same : blocks (length f.present) ≡ blocks (length f.durable) = ap (λ (c : Text × ℕ). blocks (length c.0)) even in omega (arith, same)
         | inr more ↦ let only = only-reserve s k n r p number is holds locks in omega (arith, more.1, only)
       ]
     ] refl
