@@ -1,4 +1,5 @@
 pub mod Accepted
+pub mod Acting
 pub mod Alike
 pub mod Allowed
 pub mod Apart
@@ -12,6 +13,7 @@ pub mod Gone
 pub mod Growing
 pub mod Growth
 pub mod Held
+pub mod Left
 pub mod Local
 pub mod LockCauses
 pub mod LocksEffect
@@ -19,6 +21,7 @@ pub mod LocksKept
 pub mod Maps
 pub mod Modes
 pub mod Needs
+pub mod Moved
 pub mod Numbers
 pub mod Others
 pub mod OwnFiles

@@ -1,7 +1,9 @@
 pub mod Builds
+pub mod Counting
 pub mod Covered
 pub mod GoingOn
 pub mod Holders
+pub mod Leaving
 pub mod LockRefusals
 pub mod OwnRowsLaw
 pub mod Whole
