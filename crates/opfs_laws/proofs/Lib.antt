@@ -5,6 +5,7 @@ pub mod Allowed
 pub mod Apart
 pub mod Bounded
 pub mod Building
+pub mod CountsUp
 pub mod CoveredBegun
 pub mod CoveredKept
 pub mod Durables
@@ -22,6 +23,7 @@ pub mod Maps
 pub mod Modes
 pub mod Needs
 pub mod Moved
+pub mod NeverFaults
 pub mod Numbers
 pub mod Others
 pub mod OwnFiles
@@ -35,4 +37,5 @@ pub mod RowSums
 pub mod RowsEffect
 pub mod Splices
 pub mod Spots
+pub mod Storing
 pub mod Wholes

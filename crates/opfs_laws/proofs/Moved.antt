@@ -274,7 +274,7 @@ module _ (s : State Text Own) (k : ℕ) (number : IsNumber s k) where
   refused-moves (op.Await tag) = waits-moved (op.Await tag) None refl
   refused-moves o = record { key = refl; grant = refl; live = λ g. refl; waits = λ g nobody. refl; rows = λ m r apart h. h; more = inl refl }
 
-  changed-moves : (o : Op) (told : Reply) → IsMoved a o (agent_of (changed_by s k o told) k)
+  pub changed-moves : (o : Op) (told : Reply) → IsMoved a o (agent_of (changed_by s k o told) k)
   changed-moves o told =
       elim (is_refusal told) as (λ b. IsMoved a o (agent_of (elim b as (λ x. State Text Own) [ true ↦ refused s k o | false ↦ effect in_bytes s (sizes_of s k o) k o ]) k)) [
         | true ↦ refused-moves o

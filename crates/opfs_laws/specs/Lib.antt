@@ -1,6 +1,8 @@
 pub mod Builds
+pub mod Contents
 pub mod Counting
 pub mod Covered
+pub mod Faults
 pub mod GoingOn
 pub mod Holders
 pub mod Leaving
