@@ -1,7 +1,3 @@
-pub mod Here
-pub mod UnitBytes
-pub mod AgentSums
-pub mod Cleared
-pub mod Roots
+pub mod AtPlace
 pub mod Kept
 pub mod NeverFaults
