@@ -29,4 +29,3 @@ at_here place rows i e h is same below = record {
       ∙ sym (set_split rows i (e.0, changed_row change e.1) h)
       ∙ ap (λ x. slice_set rows i (x.0, changed_row change x.1)) (one_here rows i e d h is too));
 }
-

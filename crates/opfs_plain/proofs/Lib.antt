@@ -1,3 +1,4 @@
 pub mod AtPlace
+pub mod Fills
 pub mod Kept
 pub mod NeverFaults

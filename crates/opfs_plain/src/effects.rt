@@ -108,16 +108,7 @@ fn write_handle(
     let size = size_written(sizes, at, bytes)?;
     let start = at.unwrap_or(sizes.position);
     let cursor = plus(start, bytes.len())?;
-    write_file(
-        alloc,
-        state,
-        number,
-        row,
-        start,
-        bytes,
-        cursor,
-        size,
-    )
+    write_file(alloc, state, number, row, start, bytes, cursor, size)
 }
 
 /// truncate of an access handle.

@@ -1,9 +1,8 @@
 //! Bytes by position.
 
-ghost use Rattle.std.specs.Prelude.{◌≡◌, ◌+◌, ◌≤◌, ◌<◌, length, replicate, IfOk};
+ghost use Rattle.std.specs.Prelude.{◌≡◌, ◌+◌, ◌≤◌, ◌<◌, ◌++◌, length, replicate, IfOk};
 ghost use Rattle.std.specs.Prelude.{vec_len};
 ghost use Rattle.std.specs.Vec.{vec_capacity};
-ghost use Rattle.opfs_base.specs.Data.{told_bytes};
 ghost use Rattle.opfs_splice.specs.Splicing.{splice, resize};
 
 use opfs_base::{Bytes, Data, Told, plus};
@@ -19,16 +18,16 @@ pub fn spliced(old: Bytes, position: u64, new: &Data) -> Result<Bytes, AllocErro
     if end > buffer.capacity() {
         buffer.reserve(end - buffer.len())?;
     }
-    write_told(&mut buffer, position, new.told());
+    write_told(&mut buffer, position, new);
     Ok(Bytes::from_vec(buffer))
 }
 
 /// Writes bytes at a position, as they are told.
-fn write_told(old: &mut Vec<u8>, position: u64, new: Told<'_>)
-    requires { position + length (told_bytes new) ≤ vec_capacity old.old }
-    ensures { old.new.items ≡ splice old.old.items position (told_bytes new) }
+fn write_told(old: &mut Vec<u8>, position: u64, new: &Data)
+    requires { position + length new.now ≤ vec_capacity old.old }
+    ensures { old.new.items ≡ splice old.old.items position new.now }
 {
-    match new {
+    match new.told() {
         Told::Given(bytes) => patch(old, position, bytes),
         Told::Fill(byte, count) => fill(old, position as usize, byte, count as usize),
     }
@@ -57,14 +56,35 @@ fn fill_past(old: &mut Vec<u8>, position: usize, byte: u8, count: usize)
 }
 
 /// Writes a byte from a position in the bytes on, and past their end where it comes more often.
+#[tactic(auto, using(crate::proofs::Fills::fill_beyond))]
 fn fill_over(old: &mut Vec<u8>, position: usize, byte: u8, count: usize)
     requires within { position ≤ vec_len old.old }
     requires fits { position + count ≤ vec_capacity old.old }
     ensures { old.new.items ≡ splice old.old.items position (replicate count byte) }
 {
-    let over = count.min(old.len() - position);
-    old[position..position + over].fill(byte);
-    let end = old.len() + (count - over);
+    let room = old.len() - position;
+    if count <= room {
+        fill_inside(old.as_mut_slice(), position, byte, count);
+        return;
+    }
+    fill_inside(old.as_mut_slice(), position, byte, room);
+    fill_behind(old, byte, count - room);
+}
+
+/// Writes a byte so many times over others.
+fn fill_inside(bytes: &mut [u8], position: usize, byte: u8, count: usize)
+    requires { position + count ≤ length bytes.old }
+    ensures { bytes.new ≡ splice bytes.old position (replicate count byte) }
+{
+    bytes[position..position + count].fill(byte);
+}
+
+/// Appends a byte so many times.
+fn fill_behind(old: &mut Vec<u8>, byte: u8, count: usize)
+    requires { vec_len old.old + count ≤ vec_capacity old.old }
+    ensures { old.new.items ≡ old.old.items ++ replicate count byte }
+{
+    let end = old.len() + count;
     old.resize(end, byte).unwrap();
 }
 

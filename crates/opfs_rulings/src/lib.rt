@@ -3,6 +3,7 @@
 
 pub mod agents;
 mod bucket_rulings;
+pub mod disk;
 pub mod handle_rulings;
 pub mod judging;
 pub mod ordered;
@@ -15,6 +16,7 @@ pub mod standing;
 pub mod sums;
 
 pub use agents::{agent, is_agent, own_row, party_of};
+pub use disk::is_disk_op;
 pub use handle_rulings::{open_handle, want_of};
 pub use judging::{judge, row_named, size_written};
 pub use ordered::{insert, put};

@@ -1,5 +1,6 @@
 -- Entries that are told one by one are those of a front of a script's run.
 use Rattle.std.proofs.Common.{◌≡◌, ℕ, zero, suc, ◌+◌, Bool, true, false, List, [], ◌∷◌, ◌++◌, length, refl, sym, ap, ◌∙◌, subst, arith, append_assoc}
+use Rattle.std.proofs.lemmas.Bool.{false≢true}
 use Rattle.opfs_hist.specs.declared.entry.Entry.{Entry}
 use Rattle.opfs_hist.specs.declared.op.Op.{Op}
 use Rattle.opfs_script.specs.declared.step.Step.{Step}
@@ -35,42 +36,42 @@ step_cut h n waited left s steps e es plain is rest =
 -- What begins to wait for a step.
 waiting : (h : Hand) (n : ℕ) (s : Step) (e : Entry) → IsWait h n s e → is_wait e.op ≡ true
 waiting h n (step.Await tag) e wait = ap is_wait wait.1
-waiting h n (step.GetDirectory bucket bind) e ()
-waiting h n (step.GetDirectoryHandle dir name create bind) e ()
-waiting h n (step.GetFileHandle dir name create bind) e ()
-waiting h n (step.RemoveEntry dir name recursive) e ()
-waiting h n (step.Values dir bind) e ()
-waiting h n (step.Next from bind) e ()
-waiting h n (step.Resolve dir entry) e ()
-waiting h n (step.IsSameEntry entry other) e ()
-waiting h n (step.GetFile file bind) e ()
-waiting h n (step.Slice snapshot at len) e ()
-waiting h n (step.CreateWritable file keep bind) e ()
-waiting h n (step.Write stream bytes position) e ()
-waiting h n (step.Seek stream position) e ()
-waiting h n (step.Truncate stream size) e ()
-waiting h n (step.Close stream) e ()
-waiting h n (step.Abort stream) e ()
-waiting h n (step.CreateSyncAccessHandle file read_only bind) e ()
-waiting h n (step.SyncRead sync len at) e ()
-waiting h n (step.SyncWrite sync bytes at) e ()
-waiting h n (step.SyncTruncate sync size) e ()
-waiting h n (step.SyncGetSize sync) e ()
-waiting h n (step.SyncFlush sync) e ()
-waiting h n (step.SyncClose sync) e ()
-waiting h n (step.Persist bucket) e ()
-waiting h n (step.Persisted bucket) e ()
-waiting h n step.Estimate e ()
-waiting h n (step.Moment ms) e ()
-waiting h n (step.Post tag) e ()
+waiting h n (step.GetDirectory bucket bind) e wait = elim wait [ ]
+waiting h n (step.GetDirectoryHandle dir name create bind) e wait = elim wait [ ]
+waiting h n (step.GetFileHandle dir name create bind) e wait = elim wait [ ]
+waiting h n (step.RemoveEntry dir name recursive) e wait = elim wait [ ]
+waiting h n (step.Values dir bind) e wait = elim wait [ ]
+waiting h n (step.Next from bind) e wait = elim wait [ ]
+waiting h n (step.Resolve dir entry) e wait = elim wait [ ]
+waiting h n (step.IsSameEntry entry other) e wait = elim wait [ ]
+waiting h n (step.GetFile file bind) e wait = elim wait [ ]
+waiting h n (step.Slice snapshot at len) e wait = elim wait [ ]
+waiting h n (step.CreateWritable file keep bind) e wait = elim wait [ ]
+waiting h n (step.Write stream bytes position) e wait = elim wait [ ]
+waiting h n (step.Seek stream position) e wait = elim wait [ ]
+waiting h n (step.Truncate stream size) e wait = elim wait [ ]
+waiting h n (step.Close stream) e wait = elim wait [ ]
+waiting h n (step.Abort stream) e wait = elim wait [ ]
+waiting h n (step.CreateSyncAccessHandle file read_only bind) e wait = elim wait [ ]
+waiting h n (step.SyncRead sync len at) e wait = elim wait [ ]
+waiting h n (step.SyncWrite sync bytes at) e wait = elim wait [ ]
+waiting h n (step.SyncTruncate sync size) e wait = elim wait [ ]
+waiting h n (step.SyncGetSize sync) e wait = elim wait [ ]
+waiting h n (step.SyncFlush sync) e wait = elim wait [ ]
+waiting h n (step.SyncClose sync) e wait = elim wait [ ]
+waiting h n (step.Persist bucket) e wait = elim wait [ ]
+waiting h n (step.Persisted bucket) e wait = elim wait [ ]
+waiting h n step.Estimate e wait = elim wait [ ]
+waiting h n (step.Moment ms) e wait = elim wait [ ]
+waiting h n (step.Post tag) e wait = elim wait [ ]
 
 -- Where a wait stands already and no step more is run, the end is what is left.
 end_by : (h : Hand) (n : ℕ) (s : Step) (e : Entry) (es : List Entry) (test : Bool) → EndBy h n true s e es test → IsEnd n h.opened (e ∷ es)
-end_by h n s e es true cut = absurd (cc)
+end_by h n s e es true cut = absurd (false≢true (sym cut.0))
 end_by h n s e es false cut = cut
 
 end_left : (h : Hand) (n : ℕ) (s : Step) (steps : List Step) (es : List Entry) → IsCutFrom h n true zero (s ∷ steps) es → IsEnd n h.opened es
-end_left h n s steps [] ()
+end_left h n s steps [] cut = elim cut [ ]
 end_left h n s steps (e ∷ es) cut = end_by h n s e es (is_wait e.op) cut
 
 -- A wait, in front of the rest of a cut.
@@ -89,8 +90,8 @@ ending_waits (opened.Stream n) = refl
 ending_waits (opened.Handle n) = refl
 
 end_waits : (n : ℕ) (rows : List Open) (e : Entry) (es : List Entry) → IsEnd n rows (e ∷ es) → is_wait e.op ≡ false
-end_waits n [] e es end = ap is_wait end.1.0
-end_waits n (row ∷ rows) e es end = ap is_wait end.1.0 ∙ ending_waits row
+end_waits n [] e es end = ap is_wait end.1
+end_waits n (row ∷ rows) e es end = ap is_wait end.1 ∙ ending_waits row
 
 no_end : (n : ℕ) (rows : List Open) → IsEnd n rows [] → ⊥
 no_end n [] end = end
@@ -105,7 +106,9 @@ end_cut h n waited (s ∷ steps) (e ∷ es) end =
 
 -- Before the first step.
 pub cuts_begin : (asked : Asked) → Cuts asked [] (empty_hand asked.key) 1 false 0 asked.steps
-cuts_begin asked left rest cut = cut
+cuts_begin asked left rest cut =
+    let count : left ≡ 0 + left = omega arith in
+    subst (λ t. IsCutFrom (empty_hand asked.key) 1 false t asked.steps rest) count cut
 
 -- A step's entry more.
 pub cuts_more : (asked : Asked) (so_far now : List Entry) (h new : Hand) (n : ℕ) (waited : Bool) (done : ℕ) (s : Step) (steps : List Step) (e : Entry)
@@ -141,7 +144,7 @@ cut_by : (h : Hand) (n : ℕ) (waited : Bool) (s : Step) (steps : List Step) (e 
     → (IsCutFrom h n true (length (s ∷ steps)) (s ∷ steps) es → IsRunFrom h n true (s ∷ steps) es)
     → (IsCutFrom (hand_then h s e.op e.reply) (n + 1) false (length steps) steps es → IsRunFrom (hand_then h s e.op e.reply) (n + 1) false steps es)
     → (test : Bool) → CutBy h n waited (length steps) s steps e es test → RunBy h n waited s steps e es test
-cut_by h n waited s steps e es waits goes true cut = (cut.0, cut.1.0, waits cut.1.1)
+cut_by h n waited s steps e es waits goes true cut = (cut.0, cut.1, waits cut.2)
 cut_by h n waited s steps e es waits goes false cut = (cut.0, goes cut.1)
 
 pub cut_run : (h : Hand) (n : ℕ) (waited : Bool) (steps : List Step) (es : List Entry)
@@ -156,7 +159,7 @@ run_by : (h : Hand) (n : ℕ) (waited : Bool) (s : Step) (steps : List Step) (e 
     → (IsRunFrom h n true (s ∷ steps) es → IsCutFrom h n true (length (s ∷ steps)) (s ∷ steps) es)
     → (IsRunFrom (hand_then h s e.op e.reply) (n + 1) false steps es → IsCutFrom (hand_then h s e.op e.reply) (n + 1) false (length steps) steps es)
     → (test : Bool) → RunBy h n waited s steps e es test → CutBy h n waited (length steps) s steps e es test
-run_by h n waited s steps e es waits goes true run = (run.0, run.1.0, waits run.1.1)
+run_by h n waited s steps e es waits goes true run = (run.0, run.1, waits run.2)
 run_by h n waited s steps e es waits goes false run = (run.0, goes run.1)
 
 -- A run is a cut of all steps.

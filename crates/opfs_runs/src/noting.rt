@@ -28,12 +28,7 @@ fn bind_name(step: &Step) -> &str
 }
 
 /// The locator of a child. A text that is no valid file name, which no accepted call has, counts as want of memory.
-fn named_child(
-    alloc: Global,
-    dir: &Locator,
-    name: &Text,
-    kind: Kind,
-) -> Result<Locator, AllocError>
+fn named_child(alloc: Global, dir: &Locator, name: &Text, kind: Kind) -> Result<Locator, AllocError>
     ensures { IfOk result (λ at. at ≡ child_of dir.now name.now kind) }
 {
     if !is_valid_name(name.as_str()) {
