@@ -2,11 +2,12 @@
 -- next. This project's own.
 use Rattle.std.specs.Prelude.{◌≡◌, ℕ, ◌<◌, zero, suc, true, false, List, [], ◌∷◌, ◌++◌, drop, fold, length, Option, Some, None}
 use Rattle.opfs_base.specs.Texts.{Text}
+use Rattle.opfs_hist.specs.Faults.{is_disk_fault}
 use Rattle.opfs_hist.specs.declared.entry.Entry.{Entry}
 use Rattle.opfs_machine.specs.declared.own.Own.{Own}
 use Rattle.opfs_machine.specs.declared.state.State.{State}
 use Rattle.opfs_machine.specs.Changes.{Change, evict, stored_by}
-use Rattle.opfs_machine.specs.Histories.{evicted_by, is_fault}
+use Rattle.opfs_machine.specs.Histories.{evicted_by}
 use Rattle.opfs_machine.specs.Openings.{Opening, begun}
 use Rattle.opfs_machine.specs.Steps.{evicted, after_reply, step}
 use Rattle.opfs_histories.specs.Opened.{IsOpenAt, MayEnd}
@@ -19,7 +20,7 @@ next_stored (unit ∷ units) stored = evict unit ∷ []
 -- What a call that met a disk fault leaves in doubt, after these evictions: the eviction of its next victim, or what it
 -- would have stored.
 abbrev pub faulted : State Text Own → List Text → Entry → List Change
-faulted s gone e = elim (is_fault e.reply) [
+faulted s gone e = elim (is_disk_fault e.reply) [
   | true ↦ next_stored (drop (length gone) (step s e.agent e.op).victims) (stored_by (fold evicted s gone) e.agent e.op)
   | false ↦ []
 ]

@@ -20,7 +20,8 @@ use Rattle.opfs_machine.specs.Contents.{in_bytes, outline_of}
 use Rattle.opfs_machine.specs.Effects.{made, with_changed, flushed, unlocked}
 use Rattle.opfs_machine.specs.Rows.{row_at, file_at, with_row, with_file, without}
 use Rattle.opfs_machine.specs.Rulings.{making, lock_in}
-use Rattle.opfs_machine.specs.Sums.{place_charge, row_charge, mode_charge, reserve_of, all_own, pool}
+use Rattle.opfs_machine.specs.Sums.{row_charge, reserve_of, all_own, pool}
+use Rattle.opfs_base.specs.Measures.{place_charge, mode_charge}
 use Rattle.opfs_laws.specs.Covered.{writer_reserve, reserve_at, AreCovered}
 use Rattle.opfs_laws.specs.Holders.{hold_of, counts, holders, IsLockOf, AreLocksOfHolders}
 use Rattle.opfs_laws.proofs.LocksKept.{counts-here}

@@ -25,7 +25,8 @@ use Rattle.opfs_machine.specs.Effects.{effect, refused, new_row, moment_of, open
 use Rattle.opfs_machine.specs.Replies.{sizes_of}
 use Rattle.opfs_machine.specs.Rows.{row_at, file_at, with_file, children_of}
 use Rattle.opfs_machine.specs.Rulings.{size_written, reserve_for, want_of, first_reserve, making, persisting}
-use Rattle.opfs_machine.specs.Sums.{no_need, charges, mode_charge, is_persistent, reserve_of}
+use Rattle.opfs_machine.specs.Sums.{no_need, charges, is_persistent, reserve_of}
+use Rattle.opfs_base.specs.Measures.{mode_charge}
 use Rattle.opfs_laws.specs.Covered.{AreCovered}
 use Rattle.opfs_laws.specs.Holders.{hold_of, AreLocksOfHolders}
 use Rattle.opfs_laws.specs.Whole.{is_rising}

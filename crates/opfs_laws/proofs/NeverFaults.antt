@@ -5,13 +5,13 @@ use Rattle.opfs_base.specs.Texts.{Text}
 use Rattle.opfs_base.specs.declared.locator.Kind.{Kind}
 use Rattle.opfs_base.specs.declared.locator.Locator.{Locator}
 use Rattle.opfs_base.specs.Places.{Place}
+use Rattle.opfs_hist.specs.Faults.{is_disk_refusal, is_disk_fault}
 use Rattle.opfs_hist.specs.declared.entry.Entry.{Entry}
 use Rattle.opfs_hist.specs.declared.op.Mode.{Mode}
 use Rattle.opfs_hist.specs.declared.op.Op.{Op}
 use Rattle.opfs_hist.specs.declared.op.Op.TheVariants as op
 use Rattle.opfs_hist.specs.declared.reply.Refusal.{Refusal}
 use Rattle.opfs_hist.specs.declared.reply.Refusal.TheVariants as refusal
-use Rattle.opfs_hist.specs.declared.reply.Reply.TheVariants as reply
 use Rattle.opfs_locks.specs.Taking.{Lock}
 use Rattle.opfs_machine.specs.declared.own.Own.{Own}
 use Rattle.opfs_machine.specs.declared.state.Need.{Need}
@@ -35,19 +35,10 @@ use Rattle.opfs_machine.specs.Replies.{answer, child_reply, path_reply, file_rep
 use Rattle.opfs_machine.specs.Ruled.{Ruled, ◌>>=◌, ◌>>◌, unless, some_or}
 use Rattle.opfs_machine.specs.Rulings.{get_directory_ruling, get_handle_ruling, child_ruling, remove_entry_ruling, none_locked, located_ruling, create_writable_ruling, grow_stream_ruling, stream_ruling, create_sync_ruling, grow_handle_ruling, handle_ruling, persist_ruling, persisted_ruling, estimate_ruling, await_ruling, ruling, locked_by, lock_in, want_of, is_read_write, size_written}
 use Rattle.opfs_machine.specs.Runs.{Call, eviction, entry_of, group_of}
-use Rattle.opfs_machine.specs.Histories.{is_fault, after_entry}
+use Rattle.opfs_machine.specs.Histories.{after_entry}
 use Rattle.opfs_laws.specs.Faults.{TheMachineNeverFaults}
 use Rattle.opfs_laws.specs.GoingOn.{ArePending}
 use Rattle.opfs_machine.specs.Steps.{room_for, judged, outcome_of, step}
-
--- Whether a refusal is a disk fault.
-abbrev is_disk_refusal : Refusal → Bool
-is_disk_refusal refusal.DiskFault = true
-is_disk_refusal r = false
-
-refusal-told : (r : Refusal) → is_disk_refusal r ≡ false → is_fault (reply.No r) ≡ false
-refusal-told refusal.DiskFault h = h
-refusal-told r h = refl
 
 -- What is not refused for the disk.
 data Sound {A : Type 0} : Ruled A → Type 0 where
@@ -206,51 +197,51 @@ judged_sound : (s : State Text Own) (k : ℕ) (o : Op) → Sound (judged s k o)
 unfolding judged
 judged_sound s k o = bind_sound (ruling_sound s (sizes_of s k o) k o) (λ need. room_sound s (agent_of s k).key need)
 
-child_answer : (s : State Text Own) (dir : Place) (name : Option Text) → is_fault (child_reply s dir name) ≡ false
+child_answer : (s : State Text Own) (dir : Place) (name : Option Text) → is_disk_fault (child_reply s dir name) ≡ false
 child_answer s dir None = refl
 child_answer s dir (Some name) = refl
 
-path_answer : (names : Option (List Text)) → is_fault (path_reply names) ≡ false
+path_answer : (names : Option (List Text)) → is_disk_fault (path_reply names) ≡ false
 path_answer None = refl
 path_answer (Some names) = refl
 
-file_answer : (f : Option (FileRow Text)) → is_fault (file_reply f) ≡ false
+file_answer : (f : Option (FileRow Text)) → is_disk_fault (file_reply f) ≡ false
 file_answer None = refl
 file_answer (Some f) = refl
 
-answer_sound : (s : State Text Own) (z : Sizes) (k : ℕ) (o : Op) → is_fault (answer s z k o) ≡ false
+answer_sound : (s : State Text Own) (z : Sizes) (k : ℕ) (o : Op) → is_disk_fault (answer s z k o) ≡ false
 unfolding answer
 answer_sound s z k (op.Next n dir) = child_answer s (place_of dir) (next_of (given_in (own_of (agent_of s k) n)) (children_of s (place_of dir)))
 answer_sound s z k (op.Resolve dir entry) = path_answer (resolved dir entry)
 answer_sound s z k (op.GetFile at) = file_answer (file_at s (place_of at))
 answer_sound s z k o = refl
 
-outcome_sound : (s : State Text Own) (k : ℕ) (o : Op) (ruled : Ruled (List Text)) → Sound ruled → is_fault (outcome_of s k o ruled).answered ≡ false
+outcome_sound : (s : State Text Own) (k : ℕ) (o : Op) (ruled : Ruled (List Text)) → Sound ruled → is_disk_fault (outcome_of s k o ruled).answered ≡ false
 unfolding outcome_of
 outcome_sound s k o (Ok units) sound = answer_sound s (sizes_of s k o) k o
-outcome_sound s k o (Err r) (other r2 h) = refusal-told r h
+outcome_sound s k o (Err r) (other r2 h) = h
 
 -- The machine's own answer is no disk fault.
-pub step_sound : (s : State Text Own) (k : ℕ) (o : Op) → is_fault (step s k o).answered ≡ false
+pub step_sound : (s : State Text Own) (k : ℕ) (o : Op) → is_disk_fault (step s k o).answered ≡ false
 unfolding step
 step_sound s k o = outcome_sound s k o (judged s k o) (judged_sound s k o)
 
-evictions_sound : (units : List Text) → All (λ e. is_fault e.reply ≡ false) (map eviction units)
-evictions_sound [] = All-nil (λ e. is_fault e.reply ≡ false)
-evictions_sound (unit ∷ units) = All-cons (λ e. is_fault e.reply ≡ false) (eviction unit) (map eviction units) refl (evictions_sound units)
+evictions_sound : (units : List Text) → All (λ e. is_disk_fault e.reply ≡ false) (map eviction units)
+evictions_sound [] = All-nil (λ e. is_disk_fault e.reply ≡ false)
+evictions_sound (unit ∷ units) = All-cons (λ e. is_disk_fault e.reply ≡ false) (eviction unit) (map eviction units) refl (evictions_sound units)
 
 -- Nor is the reply of any entry of a call's group.
-pub group_sound : (s : State Text Own) (c : Call) → All (λ e. is_fault e.reply ≡ false) (group_of s c (step s c.agent c.op))
+pub group_sound : (s : State Text Own) (c : Call) → All (λ e. is_disk_fault e.reply ≡ false) (group_of s c (step s c.agent c.op))
 group_sound s c =
     let done = step s c.agent c.op in
-    All-append (λ e. is_fault e.reply ≡ false) (map eviction done.victims) (entry_of s c done ∷ []) (evictions_sound done.victims)
-    (All-cons (λ e. is_fault e.reply ≡ false) (entry_of s c done) [] (step_sound s c.agent c.op) (All-nil (λ e. is_fault e.reply ≡ false)))
+    All-append (λ e. is_disk_fault e.reply ≡ false) (map eviction done.victims) (entry_of s c done ∷ []) (evictions_sound done.victims)
+    (All-cons (λ e. is_disk_fault e.reply ≡ false) (entry_of s c done) [] (step_sound s c.agent c.op) (All-nil (λ e. is_disk_fault e.reply ≡ false)))
 
 -- Nor that of any pending call.
-pub pending_sound : (s : State Text Own) (k : ℕ) (es : List Entry) → ArePending s k es → All (λ e. is_fault e.reply ≡ false) es
-pending_sound s k [] h = All-nil (λ e. is_fault e.reply ≡ false)
+pub pending_sound : (s : State Text Own) (k : ℕ) (es : List Entry) → ArePending s k es → All (λ e. is_disk_fault e.reply ≡ false) es
+pending_sound s k [] h = All-nil (λ e. is_disk_fault e.reply ≡ false)
 pending_sound s k (e ∷ es) h =
-    All-cons (λ x. is_fault x.reply ≡ false) e es (ap is_fault h.0.answered ∙ step_sound s e.agent e.op) (pending_sound (after_entry s e) k es h.1)
+    All-cons (λ x. is_disk_fault x.reply ≡ false) e es (ap is_disk_fault h.0.answered ∙ step_sound s e.agent e.op) (pending_sound (after_entry s e) k es h.1)
 
 pub never-faults : TheMachineNeverFaults
 never-faults = record { call = step_sound; group = group_sound; pending = pending_sound }

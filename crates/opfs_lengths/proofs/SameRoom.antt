@@ -17,7 +17,8 @@ use Rattle.opfs_machine.specs.Replies.{origin_in}
 use Rattle.opfs_machine.specs.Rows.{Rows, without}
 use Rattle.opfs_machine.specs.Ruled.{◌>>◌, unless, some_or}
 use Rattle.opfs_machine.specs.Steps.{room_for, evicted}
-use Rattle.opfs_machine.specs.Sums.{usage, pool, charge, row_charge, mode_charge, block_charge, present_blocks, durable_blocks, row_reserve, stream_reserve, reserve_of, all_own, is_persistent, fits_pool}
+use Rattle.opfs_machine.specs.Sums.{usage, pool, charge, row_charge, present_blocks, durable_blocks, row_reserve, stream_reserve, reserve_of, all_own, is_persistent, fits_pool}
+use Rattle.opfs_base.specs.Measures.{mode_charge, block_charge}
 use Rattle.opfs_machine.specs.Victims.{root_unit, root_units, none_taken, is_callers, is_candidate, use_cmp, candidates, cleared, shortest_front, victims}
 use Rattle.std.specs.Prelude.{is_none}
 use Rattle.opfs_lengths.specs.Outlines.{on_row, on_entry, on_agent, on_state}

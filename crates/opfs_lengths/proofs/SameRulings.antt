@@ -20,7 +20,8 @@ use Rattle.opfs_machine.specs.Contents.{Contents}
 use Rattle.opfs_machine.specs.Rows.{row_at, file_at, rows_within, first_locked}
 use Rattle.opfs_machine.specs.Ruled.{◌>>=◌, ◌>>◌, unless, some_or}
 use Rattle.opfs_machine.specs.Rulings.{get_directory_ruling, get_handle_ruling, child_ruling, remove_entry_ruling, none_locked, located_ruling, create_writable_ruling, grow_stream_ruling, stream_ruling, create_sync_ruling, grow_handle_ruling, handle_ruling, persist_ruling, persisted_ruling, estimate_ruling, await_ruling, ruling, locked_by, size_in, takes_lock, want_of, is_read_write, first_reserve, size_written, making, reserve_for, persisting}
-use Rattle.opfs_machine.specs.Sums.{no_need, keeps_blocks, block_charge}
+use Rattle.opfs_machine.specs.Sums.{no_need, keeps_blocks}
+use Rattle.opfs_base.specs.Measures.{block_charge}
 use Rattle.opfs_lengths.specs.Outlines.{on_row, on_state}
 use Rattle.opfs_lengths.proofs.Readers.{Fits, kind-on, first-on, agent-on, key-on, row-on, file-on, located-on, has-on, within-on, lock-at-on, posted-on, size-on, stream-on, handle-on}
 

@@ -126,11 +126,6 @@ evicted_by op = None
 abbrev pub IsFront : List Text → List Text → Type 0
 IsFront front whole = (rest : List Text) × (whole ≡ front ++ rest)
 
--- Whether a reply is a disk fault.
-abbrev pub is_fault : Reply → Bool
-is_fault (reply.No refusal.DiskFault) = true
-is_fault r = false
-
 -- A disk fault in the place of what the call would have answered: it was not refused, and it may need the disk. The
 -- evictions are a front of its victims.
 pub record IsFault (s : State Text Own) (gone : List Text) (k : ℕ) (op : Op) (answered : Reply) (done : Outcome) : Type 0 where

@@ -4,7 +4,8 @@ use Rattle.std.specs.List.{filter_map, cons_option}
 use Rattle.opfs_base.specs.Places.{Place}
 use Rattle.opfs_base.specs.Texts.{Text}
 use Rattle.opfs_machine.specs.declared.state.Row.{Row}
-use Rattle.opfs_machine.specs.Rows.{Rows, is_root}
+use Rattle.opfs_machine.specs.Rows.{Rows}
+use Rattle.opfs_base.specs.Measures.{is_root}
 use Rattle.opfs_machine.specs.Victims.{root_unit}
 use Rattle.opfs_rulings.proofs.Here.{drop_here}
 

@@ -10,7 +10,8 @@ ghost use Rattle.opfs_machine.specs.Contents.{in_bytes};
 ghost use Rattle.opfs_machine.specs.Replies.{origin_in};
 ghost use Rattle.opfs_machine.specs.Ruled.{some_or};
 ghost use Rattle.opfs_machine.specs.Steps.{room_for};
-ghost use Rattle.opfs_machine.specs.Rows.{is_root, taken_lock};
+ghost use Rattle.opfs_machine.specs.Rows.{taken_lock};
+ghost use Rattle.opfs_base.specs.Measures.{is_root};
 ghost use Rattle.opfs_machine.specs.Sums.{pool, charge, fits_quota, fits_area, fits_pool};
 ghost use Rattle.opfs_machine.specs.Victims.{cleared, is_callers, none_taken, is_candidate, candidates, shortest_front, victims};
 

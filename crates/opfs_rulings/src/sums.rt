@@ -7,7 +7,8 @@ ghost use Rattle.opfs_base.specs.Units.{origin_of};
 ghost use Rattle.opfs_rulings.specs.Known.{IsAgent, is_left};
 ghost use Rattle.opfs_machine.specs.Agents.{agent_of, own_of};
 ghost use Rattle.opfs_machine.specs.Contents.{in_bytes, outline_of};
-ghost use Rattle.opfs_machine.specs.Sums.{usage, pool, charge, present_blocks, durable_blocks, row_reserve, reserve_of, row_charge, mode_charge};
+ghost use Rattle.opfs_machine.specs.Sums.{usage, pool, charge, present_blocks, durable_blocks, row_reserve, reserve_of, row_charge};
+ghost use Rattle.opfs_base.specs.Measures.{mode_charge};
 ghost use Rattle.opfs_machine.specs.declared.own.Own.{Own};
 ghost use Rattle.opfs_machine.specs.declared.state.Agent.{Agent};
 

@@ -9,7 +9,8 @@ use Rattle.opfs_machine.specs.declared.state.Party.{Party}
 use Rattle.opfs_machine.specs.declared.state.Row.{Row}
 use Rattle.opfs_machine.specs.declared.state.State.{State}
 use Rattle.opfs_machine.specs.Alone.{is_partys}
-use Rattle.opfs_machine.specs.Rows.{taken_lock, is_root}
+use Rattle.opfs_machine.specs.Rows.{taken_lock}
+use Rattle.opfs_base.specs.Measures.{is_root}
 use Rattle.opfs_machine.specs.Steps.{evicted}
 use Rattle.opfs_machine.specs.Sums.{is_persistent}
 use Rattle.opfs_machine.specs.Victims.{root_unit, root_units, none_taken, is_callers}

@@ -33,7 +33,8 @@ use Rattle.opfs_machine.specs.Replies.{sizes_of, sizes_in, row_named, bytes_in}
 use Rattle.opfs_machine.specs.Rows.{row_at, wants, holds_kind, file_of, first_locked}
 use Rattle.opfs_machine.specs.Ruled.{Ruled, ◌>>=◌, ◌>>◌, unless, some_or}
 use Rattle.opfs_machine.specs.Rulings.{get_directory_ruling, get_handle_ruling, child_ruling, remove_entry_ruling, none_locked, located_ruling, create_writable_ruling, grow_stream_ruling, stream_ruling, create_sync_ruling, grow_handle_ruling, handle_ruling, persist_ruling, persisted_ruling, estimate_ruling, await_ruling, ruling, locked_by, lock_in, takes_lock, want_of, is_read_write, size_in, size_written, making, reserve_for}
-use Rattle.opfs_machine.specs.Sums.{no_need, keeps_blocks, charges, mode_charge, block_charge}
+use Rattle.opfs_machine.specs.Sums.{no_need, keeps_blocks, charges}
+use Rattle.opfs_base.specs.Measures.{mode_charge, block_charge}
 use Rattle.opfs_machine.specs.Victims.{is_callers}
 use Rattle.opfs_separation.proofs.Follows.{IsPlain, open-handle-file}
 use Rattle.opfs_laws.proofs.OwnFiles.{OwnFiles, HasOwnFile, callers-own}

@@ -1,5 +1,5 @@
 use Rattle.std.proofs.Common.{◌≡◌, ◌+◌, sum_by, drop}
-use Rattle.opfs_machine.specs.Sums.{mode_charge}
+use Rattle.opfs_base.specs.Measures.{mode_charge}
 use Rattle.opfs_rulings.proofs.sums.mode_charges.Given as goal
 
 abbrev pub invariant-loop-unit : goal.invariant-loop-unit
