@@ -184,12 +184,12 @@ holder-counts s j m p w holder =
     one_itself want.Shared = refl
     one_itself want.ReadOnly = refl
 
-no-handle-stream : (s : State Text Own) (k j m : ℕ) (p : Place) → AreLocksOfHolders s → IsHolder (own_of (agent_of s j) m) p want.Shared → NoHandle s k p
+pub no-handle-stream : (s : State Text Own) (k j m : ℕ) (p : Place) → AreLocksOfHolders s → IsHolder (own_of (agent_of s j) m) p want.Shared → NoHandle s k p
 no-handle-stream s k j m p locks holder n h is same =
     stream-alone (lock_in (file_at s p)) (holders s p) (locks p) (holder-counts s j m p want.Shared holder)
     (subst (λ q. 1 ≤ holders s q want.Exclusive + holders s q want.ReadOnly) (sym same) (handle-sum s k n h is))
 
-no-handle-writer : (s : State Text Own) (k j m : ℕ) (p : Place) → AreLocksOfHolders s → k ≢ j → IsHolder (own_of (agent_of s j) m) p want.Exclusive → NoHandle s k p
+pub no-handle-writer : (s : State Text Own) (k j m : ℕ) (p : Place) → AreLocksOfHolders s → k ≢ j → IsHolder (own_of (agent_of s j) m) p want.Exclusive → NoHandle s k p
 no-handle-writer s k j m p locks apart holder n h is same =
     let one = holder-counts s j m p want.Exclusive holder in
     writer-alone (lock_in (file_at s p)) (holders s p) (locks p) one (of_mode h.mode refl)

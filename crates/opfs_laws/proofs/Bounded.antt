@@ -24,7 +24,8 @@ use Rattle.opfs_machine.specs.Replies.{sizes_of, sizes_in, row_named, bytes_in, 
 use Rattle.opfs_machine.specs.Rows.{Rows, row_at, file_of}
 use Rattle.opfs_machine.specs.Rulings.{size_in, reserve_for, size_written}
 use Rattle.opfs_machine.specs.Steps.{room_for, evicted, changed_by, is_refusal}
-use Rattle.opfs_machine.specs.Sums.{pool, charge, block_charge, fits_area, fits_pool, keeps_blocks}
+use Rattle.opfs_machine.specs.Sums.{pool, charge, fits_area, fits_pool, keeps_blocks}
+use Rattle.opfs_base.specs.Measures.{block_charge}
 use Rattle.opfs_machine.specs.Victims.{victims, shortest_front, candidates, cleared, is_candidate, is_callers}
 use Rattle.opfs_laws.specs.Covered.{AreCovered}
 use Rattle.opfs_laws.specs.Holders.{AreLocksOfHolders}

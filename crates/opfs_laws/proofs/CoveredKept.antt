@@ -34,7 +34,7 @@ use Rattle.opfs_machine.specs.Rulings.{start_of, size_written, reserve_for, want
 use Rattle.opfs_machine.specs.Steps.{evicted, changed_by, is_refusal}
 use Rattle.opfs_machine.specs.Sums.{reserve_of}
 use Rattle.opfs_splice.specs.Splicing.{splice, resize}
-use Rattle.opfs_laws.specs.Covered.{writer_reserve, reserve_at, IsCovered, AreCovered}
+use Rattle.opfs_laws.specs.Covered.{now_of, stored_of, writer_reserve, reserve_at, IsCovered, AreCovered}
 use Rattle.opfs_laws.specs.Holders.{hold_of, same_want, counts, holders}
 use Rattle.opfs_laws.proofs.LocksEffect.{IsHolder, stream-holder, handle-holder, number-after, call-allowed}
 use Rattle.opfs_laws.proofs.LocksKept.{counts-here, counts-there}
@@ -56,7 +56,7 @@ covered-more s t q f more kept (inr h) = inr (omega (arith, h.0, more), omega (a
 
 -- The same files, and rows that keep as much or files that are stored.
 abbrev IsEven : State Text Own → Place → Type 0
-IsEven s q = (f : FileRow Text) → file_at s q ≡ Some f → f.present ≡ f.durable
+IsEven s q = (f : FileRow Text) → file_at s q ≡ Some f → now_of f ≡ stored_of f
 
 abbrev KeepsAt : State Text Own → State Text Own → Place → Type 0
 KeepsAt s t q = ((holders s q want.Exclusive ≤ holders t q want.Exclusive) × (reserve_at s q ≤ reserve_at t q)) ⊎ IsEven s q
@@ -112,7 +112,7 @@ option-file change None f h = absurd (none_some h)
 option-file change (Some g) f h = (g, refl, sym (some-file h))
 
 -- A file whose bytes stay, now and for good.
-covered-kept : (s : State Text Own) (p : Place) (change : FileRow Text → FileRow Text) → ((f : FileRow Text) → ((change f).present ≡ f.present) × ((change f).durable ≡ f.durable))
+covered-kept : (s : State Text Own) (p : Place) (change : FileRow Text → FileRow Text) → ((f : FileRow Text) → (now_of (change f) ≡ now_of f) × (stored_of (change f) ≡ stored_of f))
     → AreCovered s → AreCovered (with_file s p change)
 covered-kept s p change keeps h q f is =
     elim (same_or_apart p q) as (λ c. IsCovered s q f) [
@@ -120,37 +120,37 @@ covered-kept s p change keeps h q f is =
           let old = option-file change (file_at s q) f (sym (subst (λ x. file_at (with_file s p change) x ≡ option_map change (file_at s x)) same (file-changed s p change)) ∙ is) in
           subst (IsCovered s q) (sym old.2) (elim (h q old.0 old.1) as (λ x. IsCovered s q (change old.0)) [
             | inl even ↦ inl ((keeps old.0).0 ∙ even ∙ sym (keeps old.0).1)
-            | inr more ↦ inr (more.0, subst (λ b. blocks (length b) ≤ reserve_at s q) (sym (keeps old.0).0) more.1)
+            | inr more ↦ inr (more.0, subst (λ b. blocks (length b) ≤ reserve_at s q) (sym (ap (λ (c : Text × ℕ). c.0) (keeps old.0).0)) more.1)
           ])
       | inr apart ↦ h q f (sym (file-other s p q change apart) ∙ is)
     ]
 
 -- A file whose bytes are all stored.
-covered-even : (s : State Text Own) (p : Place) (change : FileRow Text → FileRow Text) → ((f : FileRow Text) → (change f).present ≡ (change f).durable)
+covered-even : (s : State Text Own) (p : Place) (change : FileRow Text → FileRow Text) → ((f : FileRow Text) → now_of (change f) ≡ stored_of (change f))
     → AreCovered s → AreCovered (with_file s p change)
 covered-even s p change even h q f is =
     elim (same_or_apart p q) as (λ c. IsCovered s q f) [
       | inl same ↦
           let old = option-file change (file_at s q) f (sym (subst (λ x. file_at (with_file s p change) x ≡ option_map change (file_at s x)) same (file-changed s p change)) ∙ is) in
-          inl (subst (λ x. x.present ≡ x.durable) (sym old.2) (even old.0))
+          inl (subst (λ x. now_of x ≡ stored_of x) (sym old.2) (even old.0))
       | inr apart ↦ h q f (sym (file-other s p q change apart) ∙ is)
     ]
 
-even-changed : (s : State Text Own) (p : Place) (change : FileRow Text → FileRow Text) → ((f : FileRow Text) → (change f).present ≡ (change f).durable) → IsEven (with_file s p change) p
-even-changed s p change even f is = let old = option-file change (file_at s p) f (sym (file-changed s p change) ∙ is) in subst (λ x. x.present ≡ x.durable) (sym old.2) (even old.0)
+even-changed : (s : State Text Own) (p : Place) (change : FileRow Text → FileRow Text) → ((f : FileRow Text) → now_of (change f) ≡ stored_of (change f)) → IsEven (with_file s p change) p
+even-changed s p change even f is = let old = option-file change (file_at s p) f (sym (file-changed s p change) ∙ is) in subst (λ x. now_of x ≡ stored_of x) (sym old.2) (even old.0)
 
-even-kept : (s : State Text Own) (p : Place) (change : FileRow Text → FileRow Text) → ((f : FileRow Text) → ((change f).present ≡ f.present) × ((change f).durable ≡ f.durable))
+even-kept : (s : State Text Own) (p : Place) (change : FileRow Text → FileRow Text) → ((f : FileRow Text) → (now_of (change f) ≡ now_of f) × (stored_of (change f) ≡ stored_of f))
     → IsEven s p → IsEven (with_file s p change) p
 even-kept s p change keeps even f is =
     let old = option-file change (file_at s p) f (sym (file-changed s p change) ∙ is) in
-    subst (λ x. x.present ≡ x.durable) (sym old.2) ((keeps old.0).0 ∙ even old.0 old.1 ∙ sym (keeps old.0).1)
+    subst (λ x. now_of x ≡ stored_of x) (sym old.2) ((keeps old.0).0 ∙ even old.0 old.1 ∙ sym (keeps old.0).1)
 
-put-even : (r : Row Text) (old : Option (Row Text)) (b : Bool) (f : FileRow Text) → file_of (cond b (Some r) old) ≡ Some f → ((g : FileRow Text) → file_of (Some r) ≡ Some g → g.present ≡ g.durable)
-    → (f.present ≡ f.durable) ⊎ (file_of old ≡ Some f)
+put-even : (r : Row Text) (old : Option (Row Text)) (b : Bool) (f : FileRow Text) → file_of (cond b (Some r) old) ≡ Some f → ((g : FileRow Text) → file_of (Some r) ≡ Some g → now_of g ≡ stored_of g)
+    → (now_of f ≡ stored_of f) ⊎ (file_of old ≡ Some f)
 put-even r old true f is even = inl (even f is)
 put-even r old false f is even = inr is
 
-covered-made : (s : State Text Own) (p : Place) (r : Row Text) → ((g : FileRow Text) → file_of (Some r) ≡ Some g → g.present ≡ g.durable) → AreCovered s → AreCovered (made s p r)
+covered-made : (s : State Text Own) (p : Place) (r : Row Text) → ((g : FileRow Text) → file_of (Some r) ≡ Some g → now_of g ≡ stored_of g) → AreCovered s → AreCovered (made s p r)
 covered-made s p r even h =
     elim (row_at s p) as (λ o. AreCovered (elim o as (λ x. State Text Own) [ Some old ↦ s | None ↦ with_row s p r ])) [
       | Some old ↦ h
@@ -273,7 +273,7 @@ goes-kept s o p q mode.ReadWrite new h even =
     ]
 
 abbrev IsChange : (FileRow Text → FileRow Text) → Type 0
-IsChange change = (f : FileRow Text) → (change f).present ≡ (change f).durable
+IsChange change = (f : FileRow Text) → now_of (change f) ≡ stored_of (change f)
 
 covered-written : (s : State Text Own) (m : Mode) (p : Place) (change : FileRow Text → FileRow Text) → IsChange change → AreCovered s → AreCovered (with_written s m p change)
 covered-written s mode.ReadWrite p change even h = covered-even s p change even h
@@ -430,9 +430,9 @@ effect-covered s k (op.GetDirectoryHandle dir name create) number may h = covere
     none_some : {g : FileRow Text} → None ≡ Some g → ⊥
     none_some e = cc
 effect-covered s k (op.GetFileHandle dir name create) number may h =
-    covered-made s (child (place_of dir) name) (new_row in_bytes kind.File (moment_of s k)) (λ g is. let same = some-file is in ap (λ x. x.present) (sym same) ∙ ap (λ x. x.durable) same) h
+    covered-made s (child (place_of dir) name) (new_row in_bytes kind.File (moment_of s k)) (λ g is. let same = some-file is in ap now_of (sym same) ∙ ap stored_of same) h
 effect-covered s k (op.RemoveEntry dir name recursive) number may h = covered-without s (child (place_of dir) name) h
-effect-covered s k (op.Values dir) number may h = covered-adds s k (own.Iterator (record { dir = place_of dir; given = [] })) number h
+effect-covered s k (op.Values dir) number may h = covered-adds s k (own.Iterator (record { dir = dir; given = [] })) number h
 effect-covered s k (op.Next n dir) number may h =
     covered-changed s k n (λ r. advanced_row r (children_of s (place_of dir))) number (λ r is q. inl (advanced-kept q (children_of s (place_of dir)) r)) h
 effect-covered s k (op.GetFile at) number may h = snapshot-covered s k (file_at s (place_of at)) number h

@@ -20,7 +20,8 @@ use Rattle.opfs_machine.specs.Contents.{in_bytes, outline_of}
 use Rattle.opfs_machine.specs.Effects.{made, with_changed, flushed, unlocked}
 use Rattle.opfs_machine.specs.Rows.{row_at, file_at, with_row, with_file, without}
 use Rattle.opfs_machine.specs.Rulings.{making, lock_in}
-use Rattle.opfs_machine.specs.Sums.{place_charge, row_charge, mode_charge, reserve_of, all_own, pool}
+use Rattle.opfs_machine.specs.Sums.{row_charge, reserve_of, all_own, pool}
+use Rattle.opfs_base.specs.Measures.{place_charge, mode_charge}
 use Rattle.opfs_laws.specs.Covered.{writer_reserve, reserve_at, AreCovered}
 use Rattle.opfs_laws.specs.Holders.{hold_of, counts, holders, IsLockOf, AreLocksOfHolders}
 use Rattle.opfs_laws.proofs.LocksKept.{counts-here}
@@ -160,7 +161,7 @@ flush-most s k n r p number is holds locks covered =
     elim (file_at s p) as (λ o. file_at s p ≡ o → stored_in (option_map flushed o) ≤ stored_in o + kept_by r) [
       | None ↦ λ there. omega arith
       | Some f ↦ λ there. elim (covered p f there) as (λ c. stored_in (option_map flushed (Some f)) ≤ stored_in (Some f) + kept_by r) [
-        | inl even ↦ let same : blocks (length f.present) ≡ blocks (length f.durable) = ap (λ b. blocks (length b)) even in omega (arith, same)
+        | inl even ↦ let same : blocks (length f.present) ≡ blocks (length f.durable) = ap (λ (c : Text × ℕ). blocks (length c.0)) even in omega (arith, same)
         | inr more ↦ let only = only-reserve s k n r p number is holds locks in omega (arith, more.1, only)
       ]
     ] refl

@@ -25,7 +25,8 @@ use Rattle.opfs_machine.specs.Effects.{effect, refused, new_row, moment_of, open
 use Rattle.opfs_machine.specs.Replies.{sizes_of}
 use Rattle.opfs_machine.specs.Rows.{row_at, file_at, with_file, children_of}
 use Rattle.opfs_machine.specs.Rulings.{size_written, reserve_for, want_of, first_reserve, making, persisting}
-use Rattle.opfs_machine.specs.Sums.{no_need, charges, mode_charge, is_persistent, reserve_of}
+use Rattle.opfs_machine.specs.Sums.{no_need, charges, is_persistent, reserve_of}
+use Rattle.opfs_base.specs.Measures.{mode_charge}
 use Rattle.opfs_laws.specs.Covered.{AreCovered}
 use Rattle.opfs_laws.specs.Holders.{hold_of, AreLocksOfHolders}
 use Rattle.opfs_laws.specs.Whole.{is_rising}
@@ -270,7 +271,7 @@ effect-within s k (op.GetFileHandle dir name create) need number locks covered f
     of-charge s _ need (making kind.File (child (place_of dir) name) (row_at s (child (place_of dir) name))) n (making-none kind.File (child (place_of dir) name) (row_at s (child (place_of dir) name)))
     (grows-made s (child (place_of dir) name) (new_row in_bytes kind.File (moment_of s k)) kind.File refl refl)
 effect-within s k (op.RemoveEntry dir name recursive) need number locks covered fits rising n = of-none s _ need n (grows-without s (child (place_of dir) name))
-effect-within s k (op.Values dir) need number locks covered fits rising n = of-none s _ need n (grows-adds s k (own.Iterator (record { dir = place_of dir; given = [] })) number)
+effect-within s k (op.Values dir) need number locks covered fits rising n = of-none s _ need n (grows-adds s k (own.Iterator (record { dir = dir; given = [] })) number)
 effect-within s k (op.Next i dir) need number locks covered fits rising n =
     of-none s _ need n (grows-changed s k i (λ r. advanced_row r (children_of s (place_of dir))) 0 number (λ r is. advanced-same (children_of s (place_of dir)) r))
 effect-within s k (op.GetFile at) need number locks covered fits rising n = of-none s _ need n (snapshot-grows s k number (file_at s (place_of at)))

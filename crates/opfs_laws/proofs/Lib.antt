@@ -1,9 +1,11 @@
 pub mod Accepted
+pub mod Acting
 pub mod Alike
 pub mod Allowed
 pub mod Apart
 pub mod Bounded
 pub mod Building
+pub mod CountsUp
 pub mod CoveredBegun
 pub mod CoveredKept
 pub mod Durables
@@ -12,6 +14,7 @@ pub mod Gone
 pub mod Growing
 pub mod Growth
 pub mod Held
+pub mod Left
 pub mod Local
 pub mod LockCauses
 pub mod LocksEffect
@@ -19,6 +22,8 @@ pub mod LocksKept
 pub mod Maps
 pub mod Modes
 pub mod Needs
+pub mod Moved
+pub mod NeverFaults
 pub mod Numbers
 pub mod Others
 pub mod OwnFiles
@@ -32,4 +37,5 @@ pub mod RowSums
 pub mod RowsEffect
 pub mod Splices
 pub mod Spots
+pub mod Storing
 pub mod Wholes

@@ -23,7 +23,8 @@ use Rattle.opfs_machine.specs.Rows.{file_at}
 use Rattle.opfs_machine.specs.Ruled.{Ruled, ◌>>=◌, ◌>>◌, unless, some_or}
 use Rattle.opfs_machine.specs.Rulings.{grow_stream_ruling, stream_ruling, grow_handle_ruling, handle_ruling, ruling, reserve_for, size_written, locked_by, lock_in, is_read_write}
 use Rattle.opfs_machine.specs.Steps.{judged, outcome_of, room_for, step}
-use Rattle.opfs_machine.specs.Sums.{no_need, keeps_blocks, pool, block_charge}
+use Rattle.opfs_machine.specs.Sums.{no_need, keeps_blocks, pool}
+use Rattle.opfs_base.specs.Measures.{block_charge}
 use Rattle.opfs_machine.specs.Victims.{shortest_front, candidates}
 use Rattle.opfs_laws.specs.GoingOn.{ArePending}
 use Rattle.opfs_laws.proofs.Going.{NextFrom, not_evict}

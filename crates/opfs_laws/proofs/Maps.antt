@@ -21,48 +21,48 @@ tell : (b : Bool) → T b → b ≡ true
 tell true h = refl
 tell false h = absurd h
 
-pub order-put : (p : Place) (r : Row Text) (rows : Rows Text) → IsInOrder rows → IsInOrder (put place_cmp p r rows)
+pub order-put : {F : Type 0} (p : Place) (r : Row F) (rows : Rows F) → IsInOrder rows → IsInOrder (put place_cmp p r rows)
 order-put p r rows h = tell _ (is_sorted-put place_cmp place_total p r rows (told _ h))
 
-pub order-without : (p : Place) (rows : Rows Text) → IsInOrder rows → IsInOrder (filter (λ e. not (is_within p e.0)) rows)
+pub order-without : {F : Type 0} (p : Place) (rows : Rows F) → IsInOrder rows → IsInOrder (filter (λ e. not (is_within p e.0)) rows)
 order-without p rows h = tell _ (is_sorted-where_key place_cmp (λ x. not (is_within p x)) rows (told _ h))
 
-module _ (p : Place) (change : FileRow Text → FileRow Text) where
-  below-change : (x : Place) (rows : Rows Text) → below_all place_cmp x (change_at p change rows) ≡ below_all place_cmp x rows
+module _ {F : Type 0} (p : Place) (change : FileRow F → FileRow F) where
+  below-change : (x : Place) (rows : Rows F) → below_all place_cmp x (change_at p change rows) ≡ below_all place_cmp x rows
   below-change x [] = refl
   below-change x (e ∷ es) =
-      elim (is_eq (place_cmp p e.0)) as (λ b. below_all place_cmp x (elim b as (λ y. Rows Text) [ true ↦ (e.0, changed_row change e.1) ∷ es | false ↦ e ∷ change_at p change es ]) ≡ (is_lt (place_cmp x e.0) && below_all place_cmp x es)) [
+      elim (is_eq (place_cmp p e.0)) as (λ b. below_all place_cmp x (elim b as (λ y. Rows F) [ true ↦ (e.0, changed_row change e.1) ∷ es | false ↦ e ∷ change_at p change es ]) ≡ (is_lt (place_cmp x e.0) && below_all place_cmp x es)) [
         | true ↦ refl
         | false ↦ ap (λ b. is_lt (place_cmp x e.0) && b) (below-change x es)
       ]
 
-  order-same : (rows : Rows Text) → is_sorted place_cmp (change_at p change rows) ≡ is_sorted place_cmp rows
+  order-same : (rows : Rows F) → is_sorted place_cmp (change_at p change rows) ≡ is_sorted place_cmp rows
   order-same [] = refl
   order-same (e ∷ es) =
-      elim (is_eq (place_cmp p e.0)) as (λ b. is_sorted place_cmp (elim b as (λ y. Rows Text) [ true ↦ (e.0, changed_row change e.1) ∷ es | false ↦ e ∷ change_at p change es ]) ≡ (below_all place_cmp e.0 es && is_sorted place_cmp es)) [
+      elim (is_eq (place_cmp p e.0)) as (λ b. is_sorted place_cmp (elim b as (λ y. Rows F) [ true ↦ (e.0, changed_row change e.1) ∷ es | false ↦ e ∷ change_at p change es ]) ≡ (below_all place_cmp e.0 es && is_sorted place_cmp es)) [
         | true ↦ refl
         | false ↦ (λ i. below-change e.0 es i && order-same es i)
       ]
 
-  pub order-change : (rows : Rows Text) → IsInOrder rows → IsInOrder (change_at p change rows)
+  pub order-change : (rows : Rows F) → IsInOrder rows → IsInOrder (change_at p change rows)
   order-change rows h = order-same rows ∙ h
 
-  option-some : (o : Option (Row Text)) (r : Row Text) → option_map (changed_row change) o ≡ Some r → (x : Row Text) × (o ≡ Some x)
+  option-some : (o : Option (Row F)) (r : Row F) → option_map (changed_row change) o ≡ Some r → (x : Row F) × (o ≡ Some x)
   option-some None r h = absurd (none_some h)
     where
       none_some : None ≡ Some r → ⊥
       none_some e = cc
   option-some (Some x) r h = (x, refl)
 
-  change-some : (x : Place) (rows : Rows Text) (r : Row Text) → find place_cmp x (change_at p change rows) ≡ Some r → (y : Row Text) × (find place_cmp x rows ≡ Some y)
+  change-some : (x : Place) (rows : Rows F) (r : Row F) → find place_cmp x (change_at p change rows) ≡ Some r → (y : Row F) × (find place_cmp x rows ≡ Some y)
   change-some x rows r h =
-      elim (same_or_apart p x) as (λ c. (y : Row Text) × (find place_cmp x rows ≡ Some y)) [
-        | inl same ↦ subst (λ q. (y : Row Text) × (find place_cmp q rows ≡ Some y)) same
+      elim (same_or_apart p x) as (λ c. (y : Row F) × (find place_cmp x rows ≡ Some y)) [
+        | inl same ↦ subst (λ q. (y : Row F) × (find place_cmp q rows ≡ Some y)) same
             (option-some (find place_cmp p rows) r (sym (find-changed change p rows) ∙ subst (λ q. find place_cmp q (change_at p change rows) ≡ Some r) (sym same) h))
         | inr apart ↦ (r, sym (find-other change p x rows apart) ∙ h)
       ]
 
-  change-directory : (x : Place) (rows : Rows Text) → find place_cmp x rows ≡ Some row.Directory → find place_cmp x (change_at p change rows) ≡ Some row.Directory
+  change-directory : (x : Place) (rows : Rows F) → find place_cmp x rows ≡ Some row.Directory → find place_cmp x (change_at p change rows) ≡ Some row.Directory
   change-directory x rows h =
       elim (same_or_apart p x) as (λ c. find place_cmp x (change_at p change rows) ≡ Some row.Directory) [
         | inl same ↦ subst (λ q. find place_cmp q (change_at p change rows) ≡ Some row.Directory) same
@@ -70,14 +70,14 @@ module _ (p : Place) (change : FileRow Text → FileRow Text) where
         | inr apart ↦ find-other change p x rows apart ∙ h
       ]
 
-  pub closed-change : (rows : Rows Text) → IsClosed rows → IsClosed (change_at p change rows)
+  pub closed-change : (rows : Rows F) → IsClosed rows → IsClosed (change_at p change rows)
   closed-change rows h dir name r is = let old = change-some (child dir name) rows r is in change-directory dir rows (h dir name old.0 old.1)
 
 -- The directory of a place that is not a root.
-abbrev pub HasParent : Place → Rows Text → Type 0
+abbrev pub HasParent : {F : Type 0} → Place → Rows F → Type 0
 HasParent p rows = (dir : Place) (name : Text) → p ≡ child dir name → find place_cmp dir rows ≡ Some row.Directory
 
-module _ (p : Place) (r : Row Text) (rows : Rows Text) (free : find place_cmp p rows ≡ None) where
+module _ {F : Type 0} (p : Place) (r : Row F) (rows : Rows F) (free : find place_cmp p rows ≡ None) where
   put-directory : (dir : Place) → find place_cmp dir rows ≡ Some row.Directory → find place_cmp dir (put place_cmp p r rows) ≡ Some row.Directory
   put-directory dir h =
       find-put place_cmp place_total dir p r rows
@@ -86,7 +86,7 @@ module _ (p : Place) (r : Row Text) (rows : Rows Text) (free : find place_cmp p 
         | false ↦ λ is. h
       ] refl)
     where
-      none_some : ◌≡◌ {A = Option (Row Text)} None (Some row.Directory) → ⊥
+      none_some : ◌≡◌ {A = Option (Row F)} None (Some row.Directory) → ⊥
       none_some e = cc
 
   pub closed-put : HasParent p rows → IsClosed rows → IsClosed (put place_cmp p r rows)
@@ -112,7 +112,7 @@ within-child a dir name h =
       | false ↦ λ g. g
     ] h
 
-module _ (a : Place) (rows : Rows Text) where
+module _ {F : Type 0} (a : Place) (rows : Rows F) where
   row-left : (x : Place) → find place_cmp x (filter (λ e. not (is_within a e.0)) rows) ≡ cond (not (is_within a x)) (find place_cmp x rows) None
   row-left x = find-where_key place_cmp (λ y. not (is_within a y)) x (λ y ties. ap (λ z. not (is_within a z)) (sym (exact_places x y ties))) rows
 
@@ -129,5 +129,5 @@ module _ (a : Place) (rows : Rows Text) where
             ] refl)
       ] refl (sym (row-left (child dir name)) ∙ is)
     where
-      none_some : ◌≡◌ {A = Option (Row Text)} None (Some r) → ⊥
+      none_some : ◌≡◌ {A = Option (Row F)} None (Some r) → ⊥
       none_some e = cc

@@ -22,7 +22,8 @@ use Rattle.opfs_machine.specs.Contents.{in_bytes}
 use Rattle.opfs_machine.specs.Rows.{row_at}
 use Rattle.opfs_machine.specs.Ruled.{Ruled}
 use Rattle.opfs_machine.specs.Rulings.{get_directory_ruling, get_handle_ruling, child_ruling, remove_entry_ruling, located_ruling, create_writable_ruling, grow_stream_ruling, stream_ruling, create_sync_ruling, grow_handle_ruling, handle_ruling, persist_ruling, persisted_ruling, estimate_ruling, await_ruling, ruling, making, persisting, first_reserve, reserve_for, size_written}
-use Rattle.opfs_machine.specs.Sums.{no_need, keeps_blocks, block_charge}
+use Rattle.opfs_machine.specs.Sums.{no_need, keeps_blocks}
+use Rattle.opfs_base.specs.Measures.{block_charge}
 use Rattle.opfs_laws.proofs.Gone.{then-gave, bind-gave, some-gave}
 
 abbrev Grown : State Text Own → ℕ → ℕ → ℕ → Need → Type 0

@@ -5,19 +5,17 @@ use Rattle.std.specs.List.{filter_map, cons_option}
 use Rattle.std.proofs.lemmas.Grind.{get_or-set_at}
 use Rattle.std.proofs.lemmas.List.{get_or-set_other}
 use Rattle.std.proofs.lemmas.Option.{unwrap_or-slice_get, slice_get_within}
-use Rattle.opfs_base.specs.Texts.{Text}
-use Rattle.opfs_machine.specs.declared.own.Own.{Own}
 use Rattle.opfs_machine.specs.declared.state.Agent.{Agent}
 use Rattle.opfs_machine.specs.declared.state.State.{State}
 use Rattle.opfs_machine.specs.Agents.{agent_of, nobody, with_agent}
 
 -- There is an agent of this number.
-pub record IsNumber (s : State Text Own) (k : ℕ) : Type 0 where
+pub record IsNumber {F R : Type 0} (s : State F R) (k : ℕ) : Type 0 where
   pub index : ℕ
   pub is : k ≡ suc index
   pub within : index < length s.agents
 
-pub number-of : (s : State Text Own) (k : ℕ) → IsTrue (agent_of s k).live → IsNumber s k
+pub number-of : {F R : Type 0} (s : State F R) (k : ℕ) → IsTrue (agent_of s k).live → IsNumber s k
 number-of s zero live = cc
 number-of s (suc i) live =
     elim (slice_get s.agents i) as (λ o. slice_get s.agents i ≡ o → (unwrap_or o nobody).live ≡ true → IsNumber s (suc i)) [
@@ -25,14 +23,14 @@ number-of s (suc i) live =
       | None ↦ λ is live. cc
     ] refl live
 
-pub agent-set : (s : State Text Own) (k : ℕ) (a : Agent Own) → IsNumber s k → agent_of (with_agent s k a) k ≡ a
+pub agent-set : {F R : Type 0} (s : State F R) (k : ℕ) (a : Agent R) → IsNumber s k → agent_of (with_agent s k a) k ≡ a
 agent-set s zero a h = absurd (omega (arith, h.is))
 agent-set s (suc i) a h =
     let same : i ≡ suc i - 1 = omega arith in
     let at : suc i - 1 < length s.agents = omega (arith, h.is, h.within) in
     unwrap_or-slice_get (slice_set s.agents (suc i - 1) a) i nobody ∙ get_or-set_at s.agents (suc i - 1) i a nobody same at
 
-pub agent-other : (s : State Text Own) (k j : ℕ) (a : Agent Own) → IsNumber s k → j ≢ k → agent_of (with_agent s k a) j ≡ agent_of s j
+pub agent-other : {F R : Type 0} (s : State F R) (k j : ℕ) (a : Agent R) → IsNumber s k → j ≢ k → agent_of (with_agent s k a) j ≡ agent_of s j
 agent-other s k zero a h apart = refl
 agent-other s k (suc i) a h apart =
     let other : i ≢ k - 1 = λ e. apart (omega (arith, h.is)) in

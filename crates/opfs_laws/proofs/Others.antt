@@ -1,5 +1,5 @@
 -- What is an agent's own, over a legal history.
-use Rattle.std.proofs.Common.{◌≡◌, ◌≢◌, ℕ, zero, suc, All, List, [], ◌∷◌, ◌++◌, fold, Option, Some, None, refl, sym, ap, ◌∙◌, subst}
+use Rattle.std.proofs.Common.{◌≡◌, ◌≢◌, ℕ, All, List, [], ◌∷◌, ◌++◌, fold, Option, Some, None, refl, sym, ap, ◌∙◌, subst, append_assoc, append-nil}
 use Rattle.std.proofs.lemmas.List.Elements.{All-nil, All-cons, All-head, All-tail}
 use Rattle.std.proofs.lemmas.List.Sums.{fold-append}
 use Rattle.opfs_base.specs.Texts.{Text}
@@ -12,7 +12,8 @@ use Rattle.opfs_machine.specs.Openings.{Opening, begun}
 use Rattle.opfs_machine.specs.OwnRows.{mine}
 use Rattle.opfs_machine.specs.Steps.{evicted, after_reply, changed_by}
 use Rattle.opfs_laws.specs.Holders.{AreLocksOfHolders}
-use Rattle.opfs_laws.proofs.Apart.{mine-apart, apart-evicted, changed-apart}
+use Rattle.opfs_laws.specs.Leaving.{seen_by}
+use Rattle.opfs_laws.proofs.Apart.{IsApart, mine-apart, apart-evicted, changed-apart}
 use Rattle.opfs_laws.proofs.Going.{NextFrom}
 use Rattle.opfs_laws.proofs.LocksEffect.{Untaken, untaken-stays, locks-fold, gone-untaken, number-after, call-allowed, locks-kept, locks-begun}
 
@@ -40,28 +41,31 @@ untaken-fold : (gone : List Text) (s : State Text Own) (unit : Text) → Untaken
 untaken-fold [] s unit h = h
 untaken-fold (first ∷ units) s unit h = untaken-fold units (evicted s first) unit (untaken-stays s unit first h)
 
-counted-mine : (s : State Text Own) (j k : ℕ) → mine (counted s j) k ≡ mine s k
-counted-mine s j zero = refl
-counted-mine s j (suc i) = refl
+-- All that is an agent's own is the same in two states that are apart from it.
+seen-apart : (s t : State Text Own) (k : ℕ) → IsApart s t k → seen_by t k ≡ seen_by s k
+seen-apart s t k h = λ i. (h.agent i, mine-apart s t k h i)
+
+counted-seen : (s : State Text Own) (j k : ℕ) → seen_by (counted s j) k ≡ seen_by s k
+counted-seen s j k = refl
 
 abbrev SameOn : State Text Own → ℕ → Entry → Option Text → Type 0
-SameOn t k e told = mine (after_op t e told) k ≡ mine t k
+SameOn t k e told = seen_by (after_op t e told) k ≡ seen_by t k
 
 -- One entry.
 call-same : (s : State Text Own) (gone : List Text) (e : Entry) (k : ℕ) → AreLocksOfHolders s → k ≢ e.agent → IsCall s gone e
-    → mine (after_reply (fold evicted s gone) e.agent e.op e.reply) k ≡ mine (fold evicted s gone) k
+    → seen_by (after_reply (fold evicted s gone) e.agent e.op e.reply) k ≡ seen_by (fold evicted s gone) k
 call-same s gone e k locks apart call =
     let t = fold evicted s gone in
-    counted-mine (changed_by t e.agent e.op e.reply) e.agent k
-    ∙ mine-apart t (changed_by t e.agent e.op e.reply) k
+    counted-seen (changed_by t e.agent e.op e.reply) e.agent k
+    ∙ seen-apart t (changed_by t e.agent e.op e.reply) k
     (changed-apart t e.agent k (number-after s gone e.agent call.live) apart (locks-fold gone s (gone-untaken s gone e call) locks) e.op e.reply (call-allowed s gone e call))
 
 eviction-same : (s : State Text Own) (gone : List Text) (unit : Text) (k : ℕ) → AreLocksOfHolders s → All (Untaken s) (gone ++ unit ∷ [])
-    → mine (evicted (fold evicted s gone) unit) k ≡ mine (fold evicted s gone) k
+    → seen_by (evicted (fold evicted s gone) unit) k ≡ seen_by (fold evicted s gone) k
 eviction-same s gone unit k locks all =
     let t = fold evicted s gone in
     let last = All-head (Untaken s) unit [] (all-back (Untaken s) gone (unit ∷ []) all) in
-    mine-apart t (evicted t unit) k
+    seen-apart t (evicted t unit) k
     (apart-evicted t k unit (untaken-fold gone s unit last) (locks-fold gone s (all-front (Untaken s) gone (unit ∷ []) all) locks))
 
 abbrev LastOn : State Text Own → List Text → Entry → List Entry → ℕ → Option Text → Type 0
@@ -70,11 +74,11 @@ LastOn s gone e rest k told = NextFrom s gone e rest told → SameOn (fold evict
 abbrev FrontOn : State Text Own → List Text → Entry → List Entry → Entry → List Entry → ℕ → Option Text → Type 0
 FrontOn s gone d front e rest k told =
     NextFrom s gone d (front ++ e ∷ rest) told
-    → mine (after_entry (fold after_entry (after_op (fold evicted s gone) d told) front) e) k ≡ mine (fold after_entry (after_op (fold evicted s gone) d told) front) k
+    → seen_by (after_entry (fold after_entry (after_op (fold evicted s gone) d told) front) e) k ≡ seen_by (fold after_entry (after_op (fold evicted s gone) d told) front) k
 
 entry-same : (s : State Text Own) (gone : List Text) (front : List Entry) (e : Entry) (rest : List Entry) (k : ℕ) → AreLocksOfHolders s → k ≢ e.agent
     → LegalFrom s gone (front ++ e ∷ rest)
-    → mine (after_entry (fold after_entry (fold evicted s gone) front) e) k ≡ mine (fold after_entry (fold evicted s gone) front) k
+    → seen_by (after_entry (fold after_entry (fold evicted s gone) front) e) k ≡ seen_by (fold after_entry (fold evicted s gone) front) k
 entry-same s gone [] e rest k locks apart legal =
     elim (evicted_by e.op) as (LastOn s gone e rest k) [
       | Some unit ↦ λ next. eviction-same s gone unit k locks (legal-untaken s (gone ++ unit ∷ []) rest next.1)
@@ -83,12 +87,30 @@ entry-same s gone [] e rest k locks apart legal =
 entry-same s gone (d ∷ front) e rest k locks apart legal =
     elim (evicted_by d.op) as (FrontOn s gone d front e rest k) [
       | Some unit ↦ λ next.
-          subst (λ t. mine (after_entry (fold after_entry t front) e) k ≡ mine (fold after_entry t front) k) (fold-append evicted s gone (unit ∷ []))
+          subst (λ t. seen_by (after_entry (fold after_entry t front) e) k ≡ seen_by (fold after_entry t front) k) (fold-append evicted s gone (unit ∷ []))
           (entry-same s (gone ++ unit ∷ []) front e rest k locks apart next.1)
       | None ↦ λ next. entry-same (after_reply (fold evicted s gone) d.agent d.op d.reply) [] front e rest k (locks-kept s gone d next.0 locks) apart next.1
     ] legal
 
+-- One entry in a legal history.
+pub others-seen : (o : Opening) (front : List Entry) (e : Entry) (rest : List Entry) (k : ℕ) → Legal o (front ++ e ∷ rest) → k ≢ e.agent
+    → seen_by (state_after o (front ++ e ∷ [])) k ≡ seen_by (state_after o front) k
+others-seen o front e rest k legal apart =
+    ap (λ t. seen_by t k) (fold-append after_entry (begun o) front (e ∷ [])) ∙ entry-same (begun o) [] front e rest k (locks-begun o) apart legal
+
 pub others-same : (o : Opening) (front : List Entry) (e : Entry) (rest : List Entry) (k : ℕ) → Legal o (front ++ e ∷ rest) → k ≢ e.agent
     → mine (state_after o (front ++ e ∷ [])) k ≡ mine (state_after o front) k
-others-same o front e rest k legal apart =
-    ap (λ t. mine t k) (fold-append after_entry (begun o) front (e ∷ [])) ∙ entry-same (begun o) [] front e rest k (locks-begun o) apart legal
+others-same o front e rest k legal apart = ap (λ x. x.1) (others-seen o front e rest k legal apart)
+
+-- Several.
+pub others-left : (o : Opening) (h more rest : List Entry) (k : ℕ) → Legal o ((h ++ more) ++ rest) → All (λ e. e.agent ≢ k) more
+    → seen_by (state_after o (h ++ more)) k ≡ seen_by (state_after o h) k
+others-left o h [] rest k legal all = ap (λ xs. seen_by (state_after o xs) k) (append-nil h)
+others-left o h (e ∷ more) rest k legal all =
+    let joined : h ++ e ∷ more ≡ (h ++ e ∷ []) ++ more = sym (append_assoc h (e ∷ []) more) in
+    let whole : (h ++ e ∷ more) ++ rest ≡ h ++ e ∷ (more ++ rest) = append_assoc h (e ∷ more) rest in
+    let first = All-head (λ x. x.agent ≢ k) e more all in
+    let legal_more : Legal o (((h ++ e ∷ []) ++ more) ++ rest) = subst (λ xs. Legal o (xs ++ rest)) joined legal in
+    ap (λ xs. seen_by (state_after o xs) k) joined
+    ∙ others-left o (h ++ e ∷ []) more rest k legal_more (All-tail (λ x. x.agent ≢ k) e more all)
+    ∙ others-seen o h e (more ++ rest) k (subst (Legal o) whole legal) (λ same. first (sym same))

@@ -3,21 +3,19 @@ use Rattle.std.proofs.Common.{◌≡◌, ◌≢◌, ℕ, ◌+◌, ◌-◌, ◌<�
 use Rattle.std.specs.Prelude.{slice_get}
 use Rattle.std.proofs.lemmas.List.Sums.{sum_by-append, sum_by-cons, sum_by-set}
 use Rattle.std.proofs.lemmas.Option.{unwrap_or-slice_get, slice_get_within, get_or_from_slice_get}
-use Rattle.opfs_base.specs.Texts.{Text}
-use Rattle.opfs_machine.specs.declared.own.Own.{Own}
 use Rattle.opfs_machine.specs.declared.state.Agent.{Agent}
 use Rattle.opfs_machine.specs.declared.state.State.{State}
 use Rattle.opfs_machine.specs.Agents.{agent_of, own_of, nobody, with_agent, with_own, adds_own}
 use Rattle.opfs_machine.specs.Sums.{all_own}
 use Rattle.opfs_laws.proofs.Numbers.{IsNumber}
 
-abbrev pub own_sum : (Own → ℕ) → State Text Own → ℕ
+abbrev pub own_sum : {F R : Type 0} → (R → ℕ) → State F R → ℕ
 own_sum f s = sum_by f (all_own s)
 
-abbrev rows_sum : (Own → ℕ) → Agent Own → ℕ
+abbrev rows_sum : {R : Type 0} → (R → ℕ) → Agent R → ℕ
 rows_sum f a = sum_by f a.own
 
-sum_by-flat : (f : Own → ℕ) (agents : List (Agent Own)) → sum_by f (flat_map (λ a. a.own) agents) ≡ sum_by (rows_sum f) agents
+sum_by-flat : {R : Type 0} (f : R → ℕ) (agents : List (Agent R)) → sum_by f (flat_map (λ a. a.own) agents) ≡ sum_by (rows_sum f) agents
 sum_by-flat f [] = refl
 sum_by-flat f (a ∷ agents) =
     sum_by-append f a.own (flat_map (λ a. a.own) agents) ∙ ap (λ n. sum_by f a.own + n) (sum_by-flat f agents) ∙ sym (sum_by-cons (rows_sum f) a agents)
@@ -25,8 +23,8 @@ sum_by-flat f (a ∷ agents) =
 one_same : {X : Type 0} {x y : X} → Some x ≡ Some y → x ≡ y
 one_same h = cc
 
-module _ (f : Own → ℕ) where
-  pub sum-agent : (s : State Text Own) (k : ℕ) (a : Agent Own) → IsNumber s k
+module _ {R : Type 0} (f : R → ℕ) where
+  pub sum-agent : {F : Type 0} (s : State F R) (k : ℕ) (a : Agent R) → IsNumber s k
       → own_sum f (with_agent s k a) + sum_by f (agent_of s k).own ≡ own_sum f s + sum_by f a.own
   sum-agent s zero a h = absurd (omega (arith, h.is))
   sum-agent s (suc i) a h =
@@ -38,14 +36,14 @@ module _ (f : Own → ℕ) where
       let here : rows_sum f (agent_of s (suc i)) ≡ rows_sum f (get_or s.agents i nobody) = ap (rows_sum f) (unwrap_or-slice_get s.agents i nobody) in
       omega (arith, new, old, set, here)
 
-  pub sum-adds : (s : State Text Own) (k : ℕ) (r : Own) → IsNumber s k → own_sum f (adds_own s k r) ≡ own_sum f s + f r
+  pub sum-adds : {F : Type 0} (s : State F R) (k : ℕ) (r : R) → IsNumber s k → own_sum f (adds_own s k r) ≡ own_sum f s + f r
   sum-adds s k r h =
       let a = record (agent_of s k) { own = (agent_of s k).own ++ r ∷ [] } in
       let whole = sum-agent s k a h in
       let more = sum_by-append f (agent_of s k).own (r ∷ []) in
       omega (arith, whole, more)
 
-  pub sum-sets : (s : State Text Own) (k n : ℕ) (r new : Own) → IsNumber s k → own_of (agent_of s k) n ≡ Some r → own_sum f (with_own s k n new) + f r ≡ own_sum f s + f new
+  pub sum-sets : {F : Type 0} (s : State F R) (k n : ℕ) (r new : R) → IsNumber s k → own_of (agent_of s k) n ≡ Some r → own_sum f (with_own s k n new) + f r ≡ own_sum f s + f new
   sum-sets s k zero r new h is = cc
   sum-sets s k (suc n) r new h is =
       let rows = (agent_of s k).own in
@@ -57,7 +55,7 @@ module _ (f : Own → ℕ) where
       let here : f (get_or rows n r) ≡ f r = ap f (get_or_from_slice_get rows n r r is) in
       omega (arith, whole, same, set, here)
 
-  pub sum-same : (s : State Text Own) (k : ℕ) (a : Agent Own) → IsNumber s k → a.own ≡ (agent_of s k).own → own_sum f (with_agent s k a) ≡ own_sum f s
+  pub sum-same : {F : Type 0} (s : State F R) (k : ℕ) (a : Agent R) → IsNumber s k → a.own ≡ (agent_of s k).own → own_sum f (with_agent s k a) ≡ own_sum f s
   sum-same s k a h same =
       let whole = sum-agent s k a h in
       let rows : sum_by f a.own ≡ sum_by f (agent_of s k).own = ap (sum_by f) same in
@@ -79,23 +77,23 @@ parts_of f (z ∷ xs) (suc n) zero x y is too apart =
 parts_of f (z ∷ xs) (suc n) (suc m) x y is too apart =
     let rest = parts_of f xs n m x y is too (λ e. apart (ap suc e)) in let whole = sum_by-cons f z xs in omega (arith, rest, whole)
 
-agent-get : (s : State Text Own) (i n : ℕ) (r : Own) → own_of (agent_of s (suc i)) n ≡ Some r → slice_get s.agents i ≡ Some (agent_of s (suc i))
-agent-get s i n r is =
+pub agent-get : {F R : Type 0} (s : State F R) (i n : ℕ) (r : R) → own_of (agent_of s (suc i)) n ≡ Some r → slice_get s.agents i ≡ Some (agent_of s (suc i))
+agent-get {F} {R} s i n r is =
     elim (slice_get s.agents i) as (λ o. own_of (unwrap_or o nobody) n ≡ Some r → o ≡ Some (unwrap_or o nobody)) [
       | Some a ↦ λ h. refl
       | None ↦ λ h. absurd (nobody_none n h)
     ] is
   where
-    nobody_none : (n : ℕ) → own_of nobody n ≡ Some r → ⊥
+    nobody_none : (n : ℕ) → own_of {R = R} nobody n ≡ Some r → ⊥
     nobody_none zero h = cc
     nobody_none (suc m) h = cc
 
-own-part : (f : Own → ℕ) (a : Agent Own) (n : ℕ) (r : Own) → own_of a n ≡ Some r → f r ≤ rows_sum f a
+own-part : {R : Type 0} (f : R → ℕ) (a : Agent R) (n : ℕ) (r : R) → own_of a n ≡ Some r → f r ≤ rows_sum f a
 own-part f a zero r is = cc
 own-part f a (suc n) r is = part_of f a.own n r is
 
 -- A row's part of a sum over all own rows.
-pub row-part : (f : Own → ℕ) (s : State Text Own) (k n : ℕ) (r : Own) → own_of (agent_of s k) n ≡ Some r → f r ≤ own_sum f s
+pub row-part : {F R : Type 0} (f : R → ℕ) (s : State F R) (k n : ℕ) (r : R) → own_of (agent_of s k) n ≡ Some r → f r ≤ own_sum f s
 row-part f s zero zero r is = cc
 row-part f s zero (suc n) r is = cc
 row-part f s (suc i) n r is =
@@ -104,7 +102,7 @@ row-part f s (suc i) n r is =
     omega (arith, row, whole, sum_by-flat f s.agents)
 
 -- The rows of two agents.
-pub two-parts : (f : Own → ℕ) (s : State Text Own) (k j n m : ℕ) (r q : Own) → own_of (agent_of s k) n ≡ Some r → own_of (agent_of s j) m ≡ Some q → k ≢ j → f r + f q ≤ own_sum f s
+pub two-parts : {F R : Type 0} (f : R → ℕ) (s : State F R) (k j n m : ℕ) (r q : R) → own_of (agent_of s k) n ≡ Some r → own_of (agent_of s j) m ≡ Some q → k ≢ j → f r + f q ≤ own_sum f s
 two-parts f s zero j zero m r q is too apart = cc
 two-parts f s zero j (suc n) m r q is too apart = cc
 two-parts f s (suc i) zero n zero r q is too apart = cc

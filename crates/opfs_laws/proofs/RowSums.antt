@@ -1,5 +1,6 @@
 -- Sums over the rows.
-use Rattle.std.proofs.Common.{◌≡◌, ℕ, ◌+◌, ◌≤◌, Bool, true, false, cond, List, [], ◌∷◌, filter, length, sum_by, Option, Some, None, option_map, refl, ◌∙◌, arith}
+use Rattle.std.proofs.Common.{◌≡◌, ℕ, ◌+◌, ◌≤◌, Bool, true, false, cond, not, List, [], ◌∷◌, filter, length, sum_by, Option, Some, None, option_map, refl, sym, ap, ◌∙◌, arith}
+use Rattle.opfs_laws.proofs.Spots.{same_place}
 use Rattle.std.proofs.lemmas.List.Sums.{sum_by-cons}
 use Rattle.std.specs.FinMap.Entries.{put, find, by_order}
 use Rattle.std.specs.Ordering.{is_eq, eq_by_cmp}
@@ -25,8 +26,8 @@ module _ {X : Type 0} (g : X → ℕ) where
         | false ↦ omega (arith, rest, whole)
       ]
 
-module _ (g : Place × Row Text → ℕ) where
-  pub sum-put : (p : Place) (r : Row Text) (rows : Rows Text) → find place_cmp p rows ≡ None → sum_by g (put place_cmp p r rows) ≡ sum_by g rows + g (p, r)
+module _ {F : Type 0} (g : Place × Row F → ℕ) where
+  pub sum-put : (p : Place) (r : Row F) (rows : Rows F) → find place_cmp p rows ≡ None → sum_by g (put place_cmp p r rows) ≡ sum_by g rows + g (p, r)
   sum-put p r [] free = sum_by-cons g (p, r) [] ∙ omega arith
   sum-put p r (e ∷ es) free =
       elim (place_cmp p e.0) as (λ o. cond (is_eq o) (Some e.1) (find place_cmp p es) ≡ None
@@ -38,6 +39,60 @@ module _ (g : Place × Row Text → ℕ) where
     where
       some_none : Some e.1 ≡ None → ⊥
       some_none h = cc
+
+-- What a weight gives of the row at a place; nothing where none is there.
+abbrev pub weight_at : {F : Type 0} → (Place × Row F → ℕ) → Place → Option (Row F) → ℕ
+weight_at g p None = 0
+weight_at g p (Some r) = g (p, r)
+
+module _ {F : Type 0} (g : Place × Row F → ℕ) (p : Place) (change : FileRow F → FileRow F) where
+  weight-here : (e : Place × Row F) (r : Row F) → eq_by_cmp place_cmp p e.0 ≡ true → g (e.0, r) ≡ g (p, r)
+  weight-here e r is = ap (λ (q : Place). g (q, r)) (sym (same_place p e.0 is))
+
+  -- A file that is changed, in a sum of any weight.
+  pub sum-changed : (rows : Rows F)
+      → sum_by g (change_at p change rows) + weight_at g p (find place_cmp p rows) ≡ sum_by g rows + weight_at g p (option_map (changed_row change) (find place_cmp p rows))
+  sum-changed [] = refl
+  sum-changed (e ∷ es) =
+      let old = sum_by-cons g e es in
+      elim (eq_by_cmp place_cmp p e.0) as (λ b. eq_by_cmp place_cmp p e.0 ≡ b →
+      sum_by g (elim b as (λ y. Rows F) [ true ↦ (e.0, changed_row change e.1) ∷ es | false ↦ e ∷ change_at p change es ]) + weight_at g p (cond b (Some e.1) (find place_cmp p es))
+      ≡ sum_by g (e ∷ es) + weight_at g p (option_map (changed_row change) (cond b (Some e.1) (find place_cmp p es)))) [
+        | true ↦ λ is.
+            let whole = sum_by-cons g (e.0, changed_row change e.1) es in
+            let was = weight-here e e.1 is in
+            let now = weight-here e (changed_row change e.1) is in
+            omega (arith, whole, old, was, now)
+        | false ↦ λ is. let whole = sum_by-cons g e (change_at p change es) in let rest = sum-changed es in omega (arith, whole, old, rest)
+      ] refl
+
+module _ {F : Type 0} (g : Place × Row F → ℕ) where
+  -- A sum of the rows that pass a test and of those that do not.
+  pub sum-split : (test : Place × Row F → Bool) (rows : Rows F) → sum_by g (filter test rows) + sum_by g (filter (λ e. not (test e)) rows) ≡ sum_by g rows
+  sum-split test [] = refl
+  sum-split test (e ∷ es) =
+      let rest = sum-split test es in
+      let whole = sum_by-cons g e es in
+      elim (test e) as (λ b. sum_by g (cond b (e ∷ filter test es) (filter test es)) + sum_by g (cond (not b) (e ∷ filter (λ x. not (test x)) es) (filter (λ x. not (test x)) es)) ≡ sum_by g (e ∷ es)) [
+        | true ↦ let part = sum_by-cons g e (filter test es) in omega (arith, rest, whole, part)
+        | false ↦ let part = sum_by-cons g e (filter (λ x. not (test x)) es) in omega (arith, rest, whole, part)
+      ]
+
+  -- Weights that are the same of each row.
+  pub sum-alike : (h : Place × Row F → ℕ) → ((e : Place × Row F) → g e ≡ h e) → (rows : Rows F) → sum_by g rows ≡ sum_by h rows
+  sum-alike h same [] = refl
+  sum-alike h same (e ∷ es) = sum_by-cons g e es ∙ (λ i. same e i + sum-alike h same es i) ∙ sym (sum_by-cons h e es)
+
+  -- A sum over the rows that pass a test, as a sum over all rows.
+  pub sum-filter : (test : Place × Row F → Bool) (rows : Rows F) → sum_by g (filter test rows) ≡ sum_by (λ e. cond (test e) (g e) 0) rows
+  sum-filter test [] = refl
+  sum-filter test (e ∷ es) =
+      let rest = sum-filter test es in
+      let whole = sum_by-cons (λ x. cond (test x) (g x) 0) e es in
+      elim (test e) as (λ b. sum_by (λ x. cond (test x) (g x) 0) (e ∷ es) ≡ cond b (g e) 0 + sum_by (λ x. cond (test x) (g x) 0) es → sum_by g (cond b (e ∷ filter test es) (filter test es)) ≡ sum_by (λ x. cond (test x) (g x) 0) (e ∷ es)) [
+        | true ↦ λ w. let part = sum_by-cons g e (filter test es) in omega (arith, rest, w, part)
+        | false ↦ λ w. omega (arith, rest, w)
+      ] whole
 
 abbrev pub stored_in : Option (FileRow Text) → ℕ
 stored_in None = 0
@@ -71,16 +126,17 @@ module _ (p : Place) (change : FileRow Text → FileRow Text) where
         | false ↦ let whole = sum_by-cons row_stored e (change_at p change es) in let rest = sum-change es in omega (arith, whole, old, rest)
       ]
 
-  charge-row : (e : Place × Row Text) → row_charge (e.0, changed_row change e.1) ≡ row_charge e
+module _ {F : Type 0} (p : Place) (change : FileRow F → FileRow F) where
+  charge-row : (e : Place × Row F) → row_charge (e.0, changed_row change e.1) ≡ row_charge e
   charge-row (q, row.Directory) = refl
   charge-row (q, row.File f) = refl
 
-  pub charge-change : (rows : Rows Text) → sum_by row_charge (change_at p change rows) ≡ sum_by row_charge rows
+  pub charge-change : (rows : Rows F) → sum_by row_charge (change_at p change rows) ≡ sum_by row_charge rows
   charge-change [] = refl
   charge-change (e ∷ es) =
       let old = sum_by-cons row_charge e es in
       elim (is_eq (place_cmp p e.0)) as (λ b.
-      sum_by row_charge (elim b as (λ y. Rows Text) [ true ↦ (e.0, changed_row change e.1) ∷ es | false ↦ e ∷ change_at p change es ]) ≡ sum_by row_charge (e ∷ es)) [
+      sum_by row_charge (elim b as (λ y. Rows F) [ true ↦ (e.0, changed_row change e.1) ∷ es | false ↦ e ∷ change_at p change es ]) ≡ sum_by row_charge (e ∷ es)) [
         | true ↦ let whole = sum_by-cons row_charge (e.0, changed_row change e.1) es in let same = charge-row e in omega (arith, whole, old, same)
         | false ↦ let whole = sum_by-cons row_charge e (change_at p change es) in let rest = charge-change es in omega (arith, whole, old, rest)
       ]

@@ -10,8 +10,6 @@ use Rattle.std.specs.Ordering.{nat_cmp}
 use Rattle.std.specs.FinMap.{slice_cmp-IsAntisymmetric, nat_cmp-IsAntisymmetric}
 use Rattle.std.proofs.lemmas.Bool.{cases_Bool, false≢true}
 use Rattle.opfs_base.specs.Places.{Place, place_cmp, is_within}
-use Rattle.opfs_base.specs.Texts.{Text}
-use Rattle.opfs_machine.specs.declared.own.Own.{Own}
 use Rattle.opfs_machine.specs.declared.state.FileRow.{FileRow}
 use Rattle.opfs_machine.specs.declared.state.Row.{Row}
 use Rattle.opfs_machine.specs.declared.state.Row.TheVariants as row
@@ -83,15 +81,15 @@ file_of-changed change None = refl
 file_of-changed change (Some row.Directory) = refl
 file_of-changed change (Some (row.File f)) = refl
 
-pub file-changed : (s : State Text Own) (p : Place) (change : FileRow Text → FileRow Text) → file_at (with_file s p change) p ≡ option_map change (file_at s p)
+pub file-changed : {F R : Type 0} (s : State F R) (p : Place) (change : FileRow F → FileRow F) → file_at (with_file s p change) p ≡ option_map change (file_at s p)
 file-changed s p change = ap file_of (find-changed change p s.rows) ∙ file_of-changed change (row_at s p)
 
-pub file-other : (s : State Text Own) (p q : Place) (change : FileRow Text → FileRow Text) → p ≢ q → file_at (with_file s p change) q ≡ file_at s q
+pub file-other : {F R : Type 0} (s : State F R) (p q : Place) (change : FileRow F → FileRow F) → p ≢ q → file_at (with_file s p change) q ≡ file_at s q
 file-other s p q change apart = ap file_of (find-other change p q s.rows apart)
 
 -- A row that is put.
-pub row-put : (s : State Text Own) (p q : Place) (r : Row Text) → row_at (with_row s p r) q ≡ cond (eq_by_cmp place_cmp q p) (Some r) (row_at s q)
+pub row-put : {F R : Type 0} (s : State F R) (p q : Place) (r : Row F) → row_at (with_row s p r) q ≡ cond (eq_by_cmp place_cmp q p) (Some r) (row_at s q)
 row-put s p q r = find-put place_cmp place_total q p r s.rows
 
-pub row-without : (s : State Text Own) (p q : Place) → row_at (without s p) q ≡ cond (not (is_within p q)) (row_at s q) None
+pub row-without : {F R : Type 0} (s : State F R) (p q : Place) → row_at (without s p) q ≡ cond (not (is_within p q)) (row_at s q) None
 row-without s p q = find-where_key place_cmp (λ x. not (is_within p x)) q (λ x e. ap (λ y. not (is_within p y)) (sym (exact_places q x e))) s.rows

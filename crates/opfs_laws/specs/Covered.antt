@@ -20,9 +20,17 @@ writer_reserve place r = counts place Exclusive (hold_of r) * reserve_of (outlin
 abbrev pub reserve_at : State Text Own → Place → ℕ
 reserve_at s place = sum_by (writer_reserve place) (all_own s)
 
--- A file's bytes are stored for good, or an access handle that may write the file keeps blocks enough for them.
+-- What a read gives of a file, and what was last stored for good: the content, and its time stamp.
+abbrev pub now_of : {F : Type 0} → FileRow F → F × ℕ
+now_of f = (f.present, f.stamp)
+
+abbrev pub stored_of : {F : Type 0} → FileRow F → F × ℕ
+stored_of f = (f.durable, f.durable_stamp)
+
+-- A file's bytes and their time stamp are stored for good, or an access handle that may write the file keeps blocks
+-- enough for them.
 abbrev pub IsCovered : State Text Own → Place → FileRow Text → Type 0
-IsCovered s place f = (f.present ≡ f.durable) ⊎ ((1 ≤ holders s place Exclusive) × (blocks (length f.present) ≤ reserve_at s place))
+IsCovered s place f = (now_of f ≡ stored_of f) ⊎ ((1 ≤ holders s place Exclusive) × (blocks (length f.present) ≤ reserve_at s place))
 
 abbrev pub AreCovered : State Text Own → Type 0
 AreCovered s = (place : Place) (f : FileRow Text) → file_at s place ≡ Some f → IsCovered s place f

@@ -1,7 +1,11 @@
 pub mod Builds
+pub mod Contents
+pub mod Counting
 pub mod Covered
+pub mod Faults
 pub mod GoingOn
 pub mod Holders
+pub mod Leaving
 pub mod LockRefusals
 pub mod OwnRowsLaw
 pub mod Whole

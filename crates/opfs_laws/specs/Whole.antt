@@ -27,12 +27,12 @@ use Rattle.opfs_laws.specs.Covered.{AreCovered}
 use Rattle.opfs_laws.specs.Holders.{hold_of, AreLocksOfHolders}
 
 -- The rows stand in the order of their places, one at each.
-abbrev pub IsInOrder : Rows Text → Type 0
+abbrev pub IsInOrder : {F : Type 0} → Rows F → Type 0
 IsInOrder rows = IsTrue (is_sorted place_cmp rows)
 
 -- What stands below a root stands in a directory.
-abbrev pub IsClosed : Rows Text → Type 0
-IsClosed rows = (dir : Place) (name : Text) (r : Row Text) → find place_cmp (child dir name) rows ≡ Some r → find place_cmp dir rows ≡ Some row.Directory
+abbrev pub IsClosed : {F : Type 0} → Rows F → Type 0
+IsClosed {F} rows = (dir : Place) (name : Text) (r : Row F) → find place_cmp (child dir name) rows ≡ Some r → find place_cmp dir rows ≡ Some row.Directory
 
 -- The texts stand in order, each once.
 abbrev pub is_below : Text → List Text → Bool
@@ -45,7 +45,8 @@ is_rising (x ∷ xs) = is_below x xs && is_rising xs
 
 -- What is kept of the state: its rows are a map in order and closed under parents; each lock tells its holders; the
 -- file of each open row is there; a stream's reserve covers its buffer; an access handle that may not write keeps none;
--- and a file's bytes are stored for good, or an access handle that may write it keeps blocks enough for them.
+-- and a file's bytes and time stamp are stored for good, or an access handle that may write it keeps blocks enough for
+-- them.
 -- The pool is within the data blocks, and the charge with a record of no changes within the area.
 pub record IsWhole (s : State Text Own) : Type 0 where
   pub order : IsInOrder s.rows

@@ -2,6 +2,7 @@
 //! function that does nothing.
 #![tactic(auto)]
 
+pub mod counted;
 pub mod going_on;
 pub mod locked;
 pub mod owned;

@@ -25,10 +25,6 @@ row_at s place = find place_cmp place s.rows
 abbrev pub with_row : {F R : Type 0} → State F R → Place → Row F → State F R
 with_row s place r = record s { rows = put place_cmp place r s.rows }
 
-abbrev pub is_root : Place → Bool
-is_root (unit, []) = true
-is_root (unit, name ∷ path) = false
-
 abbrev pub is_file : {F : Type 0} → Row F → Bool
 is_file row.Directory = false
 is_file (row.File f) = true

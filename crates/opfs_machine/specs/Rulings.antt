@@ -27,7 +27,8 @@ use Rattle.opfs_machine.specs.Agents.{agent_of, open_stream, open_handle, party_
 use Rattle.opfs_machine.specs.Contents.{Contents}
 use Rattle.opfs_machine.specs.Rows.{row_at, is_located, is_of_kind, rows_within, has_children, first_locked, file_at}
 use Rattle.opfs_machine.specs.Ruled.{Ruled, ◌>>=◌, ◌>>◌, unless, some_or}
-use Rattle.opfs_machine.specs.Sums.{no_need, keeps_blocks, charges, block_charge, place_charge, mode_charge, is_persistent}
+use Rattle.opfs_machine.specs.Sums.{no_need, keeps_blocks, charges, is_persistent}
+use Rattle.opfs_base.specs.Measures.{block_charge, place_charge, mode_charge}
 
 -- Where a write or read begins: at its position, or else where the last one ended.
 abbrev pub start_of : Sizes → Option ℕ → ℕ

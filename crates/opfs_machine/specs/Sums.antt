@@ -1,12 +1,12 @@
 -- What is counted in blocks and bytes. All of this is this project's own; the Storage Standard leaves usage and quota
 -- implementation-defined.
-use Rattle.std.specs.Prelude.{ℕ, ◌+◌, ◌*◌, nat_le, if◌then◌else◌, Bool, true, false, ◌||◌, List, length, sum_by, flat_map, filter, Option, Some, None}
+use Rattle.std.specs.Prelude.{ℕ, ◌+◌, ◌*◌, nat_le, if◌then◌else◌, Bool, ◌||◌, List, sum_by, flat_map, filter, Option, Some, None}
 use Rattle.std.specs.List.{list_any}
 use Rattle.opfs_base.specs.Blocks.{blocks}
 use Rattle.opfs_base.specs.Texts.{Text, same_text}
 use Rattle.opfs_base.specs.Places.{Place}
-use Rattle.opfs_base.specs.Units.{origin_of, bucket_of}
-use Rattle.opfs_base.specs.declared.locator.Kind.{Kind}
+use Rattle.opfs_base.specs.Measures.{block_charge, place_charge, mode_charge}
+use Rattle.opfs_base.specs.Units.{origin_of}
 use Rattle.opfs_base.specs.declared.locator.Kind.TheVariants as kind
 use Rattle.opfs_machine.specs.declared.own.Outline.{Outline}
 use Rattle.opfs_machine.specs.declared.own.Outline.TheVariants as outline
@@ -17,15 +17,10 @@ use Rattle.opfs_machine.specs.declared.state.Row.TheVariants as row
 use Rattle.opfs_machine.specs.declared.state.State.{State}
 use Rattle.opfs_machine.specs.Agents.{stream_in}
 use Rattle.opfs_machine.specs.Contents.{Contents}
-use Rattle.opfs_machine.specs.Rows.{is_root}
 
 -- What asks for nothing.
 abbrev pub no_need : Need
 no_need = record { quota = 0; pool = 0; charge = 0 }
-
--- What each block of the pool adds to the charge, in bytes.
-abbrev pub block_charge : ℕ
-block_charge = 8
 
 -- The need of keeping so many blocks more.
 abbrev pub keeps_blocks : ℕ → Need
@@ -34,32 +29,7 @@ keeps_blocks more = record { quota = more; pool = more; charge = block_charge * 
 abbrev pub charges : ℕ → Need
 charges more = record { quota = 0; pool = 0; charge = more }
 
--- The bytes of a unit in a change: its origin's key, a length, and its bucket's name.
-abbrev pub unit_bytes : Text → ℕ
-unit_bytes unit = length (origin_of unit) + 1 + length (bucket_of unit)
-
--- The bytes of a path in a change.
-abbrev pub path_bytes : List Text → ℕ
-path_bytes path = 1 + sum_by (λ name. 1 + length name) path
-
--- The charge of a root, of another directory, of a file, and of a unit's mode.
-abbrev pub root_charge : Text → ℕ
-root_charge unit = 3 + unit_bytes unit
-
-abbrev pub directory_charge : Place → ℕ
-directory_charge place = 3 + unit_bytes place.0 + path_bytes place.1
-
-abbrev pub file_charge : Place → ℕ
-file_charge place = 34 + 2 * (unit_bytes place.0 + path_bytes place.1)
-
-abbrev pub mode_charge : Text → ℕ
-mode_charge unit = 3 + unit_bytes unit
-
--- The charge of a row that is made at a place.
-abbrev pub place_charge : Kind → Place → ℕ
-place_charge kind.File place = file_charge place
-place_charge kind.Directory place = elim (is_root place) [ true ↦ root_charge place.0 | false ↦ directory_charge place ]
-
+-- The charge of a row.
 abbrev pub row_charge : {F : Type 0} → Place × Row F → ℕ
 row_charge (place, row.Directory) = place_charge kind.Directory place
 row_charge (place, row.File f) = place_charge kind.File place

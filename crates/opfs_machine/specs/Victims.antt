@@ -12,7 +12,8 @@ use Rattle.opfs_machine.specs.declared.state.State.{State}
 use Rattle.opfs_machine.specs.Agents.{last_use}
 use Rattle.opfs_machine.specs.Contents.{Contents}
 use Rattle.opfs_machine.specs.Ordered.{insert_by}
-use Rattle.opfs_machine.specs.Rows.{without, taken_lock, is_root}
+use Rattle.opfs_machine.specs.Rows.{without, taken_lock}
+use Rattle.opfs_base.specs.Measures.{is_root}
 use Rattle.opfs_machine.specs.Sums.{is_persistent, fits_pool}
 use Rattle.std.specs.Prelude.{is_none}
 

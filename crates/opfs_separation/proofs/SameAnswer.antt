@@ -28,7 +28,8 @@ use Rattle.opfs_machine.specs.Replies.{answer, child_reply, file_reply, kind_in,
 use Rattle.opfs_machine.specs.Rows.{row_at, is_located, is_of_kind, file_at, file_of, has_children, rows_within, first_locked, children_of}
 use Rattle.opfs_machine.specs.Ruled.{Ruled, ◌>>=◌, ◌>>◌, unless, some_or}
 use Rattle.opfs_machine.specs.Rulings.{get_directory_ruling, get_handle_ruling, child_ruling, remove_entry_ruling, none_locked, located_ruling, grow_stream_ruling, stream_ruling, create_sync_ruling, grow_handle_ruling, handle_ruling, persist_ruling, persisted_ruling, persisting, estimate_ruling, await_ruling, ruling, locked_by, lock_in, want_of, size_written, start_of, making}
-use Rattle.opfs_machine.specs.Sums.{is_persistent, usage, no_need, charges, mode_charge}
+use Rattle.opfs_machine.specs.Sums.{is_persistent, usage, no_need, charges}
+use Rattle.opfs_base.specs.Measures.{mode_charge}
 use Rattle.opfs_machine.specs.Victims.{is_callers}
 use Rattle.opfs_separation.proofs.Follows.{IsPlain, open-handle-file, open-stream-file}
 use Rattle.opfs_separation.proofs.Lists.{from_false}
@@ -239,5 +240,5 @@ module _ (k : ℕ) (s t : State Text Own) (r : Reads k s t) where
   answer-same plain files z op.Estimate need may ok =
       let there = estimate-there need ok in
       let used = usage-at there.0 there.1 in
-      λ i. reply.Estimate (block_bytes * used i) (block_bytes * (r.limits i).quota)
+      λ i. reply.Estimate (block_bytes * used i) (block_bytes * r.quota i)
   answer-same plain files z o need may ok = refl

@@ -1,0 +1,11 @@
+pub mod Adding
+pub mod Instance
+pub mod Judged
+pub mod Keeping
+pub mod Lists
+pub mod LocalCalls
+pub mod Readers
+pub mod SameEffects
+pub mod SameRoom
+pub mod SameRulings
+pub mod Using
