@@ -1,14 +1,15 @@
-// The files of the system as a host of disks. It tells no image, and counts its errors.
+//! The files of the system as a host of disks. It tells no image, and counts its errors.
 ghost use Rattle.std.specs.Prelude.{◌≡◌, ◌+◌, ◌-◌, ◌^◌, ℕ, min, Some, IfOk};
 ghost use Rattle.opfs_files.specs.Shown.{disk_size, disk_faults, host_faults, host_own_faults};
 
 use crate::FileDisk;
 use opfs_outside::{Failed, Host, HostStop};
-use std::fs::{File, Files};
+use std::fs::{File, Files, OpenFile};
 use std::io::{self, ErrorKind};
 use std::path::Path;
 
-/// The files of the system by path, where a path is relative to the folder that the process runs in. It counts its own
+/// The files of the system by path, where a path is relative to the folder that the process runs in. A file that is out as a
+/// disk, of this host or of another process, is not given a second time. It counts its own
 /// errors, and beside them all errors, also those of the disks that were given back.
 #[derive(Drop)]
 pub struct DirHost<R> {
@@ -25,19 +26,31 @@ fn is_read_only(kind: ErrorKind) -> bool {
     )
 }
 
-/// Opens the file at a path for reading and writing. With `make` it is there and empty after that. Without, a file that may
-/// only be read is opened for reading, and each write to it fails.
+/// Opens the file at a path for reading and writing, and with `make` makes a missing one. Without, a file that may only be
+/// read is opened for reading, and each write to it fails.
 fn open_file<R: Files<File = File>>(files: &R, path: &str, make: bool) -> io::Result<File> {
     let opened = File::options()
         .read(true)
         .write(true)
         .create(make)
-        .truncate(make)
         .open(files, path);
     match opened {
         Err(error) if !make && is_read_only(error.kind()) => File::open(files, path),
         opened => opened,
     }
+}
+
+/// Opens the file at a path, which nobody else has open as a disk: it is locked before it is cut or written. With `make` it is
+/// there and empty after that.
+fn take_file<R: Files<File = File>>(files: &R, path: &str, make: bool) -> io::Result<File> {
+    let file = open_file(files, path, make)?;
+    if file.try_lock().is_err() {
+        return Err(io::Error::from(ErrorKind::WouldBlock));
+    }
+    if make {
+        file.set_len(0)?;
+    }
+    Ok(file)
 }
 
 /// Syncs the folder that names a path, so that a crash leaves the name.
@@ -74,7 +87,7 @@ fn open_disk<R: Files<File = File>>(
     ensures fresh { IfOk result (λ disk. disk_faults disk ≡ 0) }
     ensures made { IfOk result (λ disk. (n : ℕ) → make ≡ Some n → disk_size disk ≡ n) }
 {
-    match open_file(files, path, make.is_some()) {
+    match take_file(files, path, make.is_some()) {
         Ok(file) => settle(files, file, path, make).map_err(|_| HostStop::Failed),
         Err(error) if error.kind() == ErrorKind::OutOfMemory => Err(HostStop::NoMemory),
         Err(_) => Err(HostStop::Failed),

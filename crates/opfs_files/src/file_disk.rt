@@ -1,4 +1,4 @@
-// An open file as a disk. It tells no content, and counts its errors.
+//! An open file as a disk. It tells no content, and counts its errors.
 ghost use Rattle.std.specs.Prelude.{◌≡◌, ◌+◌, ◌-◌, ◌^◌, ℕ, min, Some, IfOk};
 ghost use Rattle.opfs_files.specs.Shown.{disk_size, disk_faults};
 
@@ -6,6 +6,19 @@ use opfs_outside::{Disk, Failed};
 use std::fs::OpenFile;
 use std::io;
 use std::os::unix::fs::FileExt;
+
+/// How many zeros are written at once.
+const PIECE: u64 = 65_536;
+
+/// Writes zeros over all bytes, so that a full disk shows now, and a later write finds its blocks there.
+fn fill<F: FileExt>(file: &F, size: u64) -> io::Result<()> {
+    let zeros = [0; PIECE as usize];
+    for piece in 0..size / PIECE {
+        file.write_all_at(&zeros, piece * PIECE)?;
+    }
+    let rest = size % PIECE;
+    file.write_all_at(&zeros[..rest as usize], size - rest)
+}
 
 /// An open file of the length that it had when it became a disk. It counts each error; a read that ends early, since
 /// the file was cut, is one. Where a sync fails the system may let go of what was written: each later sync fails too.
@@ -19,7 +32,7 @@ pub struct FileDisk<F> {
 
 impl<F: FileExt + OpenFile> FileDisk<F> {
     /// The file as a disk, synced, so that a crash leaves what a read gives. With `make`, for a file that is empty, it
-    /// first gets so many zeros.
+    /// first gets so many zeros, which are written once the length is accepted.
     pub fn of(file: F, make: Option<u64>) -> io::Result<FileDisk<F>>
     where
         F: Drop,
@@ -29,6 +42,7 @@ impl<F: FileExt + OpenFile> FileDisk<F> {
         let size = match make {
             Some(size) => {
                 file.set_len(size)?;
+                fill(&file, size)?;
                 size
             }
             None => file.metadata()?.len(),

@@ -1,9 +1,23 @@
-// Standard input as a source and standard output as a sink. They tell no content, and count their errors.
+//! Standard input as a source and standard output as a sink. They tell no content, and count their errors.
 ghost use Rattle.std.specs.Prelude.{◌≡◌, ◌+◌, ◌-◌, ◌^◌, ◌≤◌, ◌<◌, length, min, IfOk};
 ghost use Rattle.opfs_files.specs.Shown.{source_faults, sink_faults};
 
 use opfs_outside::{Failed, Sink, Source};
-use std::io::{Read, Write};
+use std::io::{self, ErrorKind, Read, Write};
+
+/// Reads, and again where the read was interrupted.
+fn read_again<R: Read>(reader: &mut R, buf: &mut [u8]) -> io::Result<usize>
+    ensures bound { IfOk result (λ count. count ≤ length buf.new) }
+    ensures same { length buf.new ≡ length buf.old }
+{
+    for _ in 0..u64::MAX {
+        match reader.read(buf) {
+            Err(error) if error.kind() == ErrorKind::Interrupted => {}
+            done => return done,
+        }
+    }
+    Err(io::Error::from(ErrorKind::Interrupted))
+}
 
 /// A reader as a source. Its count rises at each error.
 #[derive(Drop)]
@@ -48,7 +62,7 @@ impl<R: Read> Source for StdinSource<R> {
     ghost counted = { λ source. capped source.faults };
 
     fn read(&mut self, buf: &mut [u8]) -> Result<usize, Failed> {
-        match self.reader.read(buf) {
+        match read_again(&mut self.reader, buf) {
             Ok(count) => Ok(count),
             Err(_) => Err(self.fail()),
         }
