@@ -27,25 +27,16 @@ fn charges(alloc: Global, unit: &str, names: &[&str]) -> Result<[u64; 3], AllocE
 
 #[test]
 fn rows_are_charged_by_their_bytes(rt: HostRuntime) -> Result<(), AllocError> {
-    // The unit has 25 bytes in a change, `a` 2 of a path, `bc` 3.
-    let none: [&str; 0] = [];
-    assert_eq!(rt;
-        charges(rt.alloc(), "https://a.example", &none)?,
-        [28, 28, 86]
-    );
-    assert_eq!(rt;
-        charges(rt.alloc(), "https://a.example", &["a"])?,
-        [28, 31, 90]
-    );
-    assert_eq!(rt;
-        charges(rt.alloc(), "https://a.example", &["a", "bc"])?,
-        [28, 34, 96]
-    );
-    // A bucket of six letters has 24.
-    assert_eq!(rt;
-        charges(rt.alloc(), "https://a.example#drafts", &["a"])?,
-        [27, 30, 88]
-    );
+    // The unit has 25 bytes in a change, that of a bucket of six letters 24; `a` has 2 of a path, `bc` 3.
+    let cases: [(&str, &[&str], [u64; 3]); 4] = [
+        ("https://a.example", &[], [28, 28, 86]),
+        ("https://a.example", &["a"], [28, 31, 90]),
+        ("https://a.example", &["a", "bc"], [28, 34, 96]),
+        ("https://a.example#drafts", &["a"], [27, 30, 88]),
+    ];
+    for (unit, names, wanted) in cases {
+        assert_eq!(rt; charges(rt.alloc(), unit, names)?, wanted, "{unit}");
+    }
     Ok(())
 }
 
@@ -76,17 +67,19 @@ fn standing(alloc: Global, unit: &str, names: &[&str]) -> Result<String, AllocEr
 
 #[test]
 fn children_stand_one_name_below(rt: HostRuntime) -> Result<(), AllocError> {
-    let a = "https://a.example";
-    assert_eq!(rt; standing(rt.alloc(), a, &["a"])?.as_str(), "true none");
-    assert_eq!(rt; standing(rt.alloc(), a, &["a", "b"])?.as_str(), "true b");
-    assert_eq!(rt;
-        standing(rt.alloc(), a, &["a", "b", "c"])?.as_str(),
-        "true none"
-    );
-    assert_eq!(rt; standing(rt.alloc(), a, &["ab"])?.as_str(), "false none");
-    assert_eq!(rt;
-        standing(rt.alloc(), "https://b.example", &["a", "b"])?.as_str(),
-        "false none"
-    );
+    let cases: [(&str, &[&str], &str); 5] = [
+        ("https://a.example", &["a"], "true none"),
+        ("https://a.example", &["a", "b"], "true b"),
+        ("https://a.example", &["a", "b", "c"], "true none"),
+        ("https://a.example", &["ab"], "false none"),
+        ("https://b.example", &["a", "b"], "false none"),
+    ];
+    for (unit, names, wanted) in cases {
+        assert_eq!(rt;
+            standing(rt.alloc(), unit, names)?.as_str(),
+            wanted,
+            "{unit}"
+        );
+    }
     Ok(())
 }
