@@ -1,5 +1,6 @@
 pub mod Changes
 pub mod Closed
+pub mod Counts
 pub mod Maps
 pub mod Orders
 pub mod Places

@@ -1,6 +1,7 @@
 //! The rows of the store as a tree: a finite map from places to directories and files, closed under parents.
 #![tactic(auto)]
 
+mod counted;
 mod given;
 mod paths;
 mod row;

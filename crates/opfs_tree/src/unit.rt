@@ -7,8 +7,8 @@ ghost use Rattle.std.specs.FinMap.Entries.{find, put};
 ghost use Rattle.std.specs.List.Sorted.{IsStrictlySortedBy};
 ghost use Rattle.opfs_locks.specs.Taking.{taken};
 ghost use Rattle.opfs_locks.specs.Holding.{IsTakenAs};
-ghost use Rattle.opfs_tree.specs.Rows.{kind_of, file_of, extents_of, first_taken, least_not_in, stored, locked, unlocked};
-ghost use Rattle.opfs_tree.specs.Units.{path_cmp, below, beside, from, front, values, children_in, has_children_in, above, change_in, first_key};
+ghost use Rattle.opfs_tree.specs.Rows.{kind_of, file_of, extents_of, first_taken, least_not_in, stored, written, locked, unlocked};
+ghost use Rattle.opfs_tree.specs.Units.{path_cmp, below, beside, from, front, values, children_in, has_children_in, above, change_in, first_key, taken_in, holds_at};
 
 use crate::given::{first_not_below, is_given};
 use crate::paths::{is_within, name_below};
@@ -58,6 +58,24 @@ impl Unit {
         ensures { result ≡ (length self.now == 0) }
     {
         self.rows.len() == 0
+    }
+
+    /// How many rows there are.
+    pub(crate) fn len(&self) -> usize
+        ensures count { result ≡ length self.now }
+        ensures taken { taken_in self.now ≤ result }
+    {
+        self.rows.len()
+    }
+
+    /// How many of the files at a path have a taken lock: one or none.
+    pub(crate) fn holds_at(&self, path: &Path) -> u64
+        ensures { result ≡ holds_at path.now self.now }
+    {
+        match self.row(path) {
+            Some(row) => row.holds(),
+            None => 0,
+        }
     }
 
     /// The row at a path.
@@ -120,6 +138,21 @@ impl Unit {
             }
         }
         None
+    }
+
+    /// How many of the files at a path and below it have a taken lock.
+    pub(crate) fn taken_below(&self, top: &Path) -> u64
+        requires { taken_in (below top.now self.now) < 2 ^ 64 }
+        ensures { result ≡ taken_in (below top.now self.now) }
+    {
+        let mut count = 0;
+        for (path, row) in self.from(top) {
+            if !is_within(top, path) {
+                break;
+            }
+            count += row.holds();
+        }
+        count
     }
 
     /// How many extents the row at a path and all below it have.
@@ -197,6 +230,16 @@ impl Unit {
             .range((Bound::Excluded(path), Bound::Unbounded))
             .next()?;
         Some((path, row))
+    }
+
+    /// Says what a read of the file at a path gives now.
+    pub(crate) fn set_present(&mut self, path: &Path, length: u64, stamp: u64)
+        ensures { self.new ≡ change_in path.now (written length stamp) self.old }
+    {
+        let Some(row) = self.rows.get_mut(path) else {
+            return;
+        };
+        row.set_present(length, stamp);
     }
 
     /// Gives the file at a path another content, and gives back its blocks.
