@@ -7,5 +7,6 @@ pub mod Places
 pub mod Ranges
 pub mod Removals
 pub mod Steps
+pub mod UnitSums
 pub mod Whole
 pub mod Writes

@@ -5,10 +5,12 @@ mod counted;
 mod given;
 mod paths;
 mod row;
+mod sums;
 mod tree;
 mod unit;
 mod walk;
 
 pub use row::{FileRow, Row};
+pub use sums::Sums;
 pub use tree::Tree;
 pub use walk::Walk;

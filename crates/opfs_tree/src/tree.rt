@@ -1,12 +1,13 @@
 //! The rows of all units.
 
-ghost use Rattle.std.specs.Prelude.{◌≡◌, ◌<◌, ◌^◌, ◌≤◌, ◌++◌, ◌==◌, Some, None, [], ◌∷◌, length, is_some, option_map, unwrap_or, IsSome, IfSome, IfNone, IsSomeAnd, IsTrue, slice_get, IfOk, OnOk, OnErr, vec_capacity};
+ghost use Rattle.std.specs.Prelude.{◌≡◌, ◌<◌, ◌^◌, ◌≤◌, ◌++◌, ◌==◌, Some, None, [], ◌∷◌, length, sum_by, is_some, option_map, unwrap_or, IsSome, IfSome, IfNone, IsSomeAnd, IsTrue, slice_get, IfOk, OnOk, OnErr, vec_capacity};
 ghost use Rattle.std.specs.Option.{option_copied};
 ghost use Rattle.std.specs.FinMap.Entries.{put};
 ghost use Rattle.opfs_base.specs.Places.{place_cmp};
 ghost use Rattle.opfs_locks.specs.Taking.{taken};
 ghost use Rattle.opfs_locks.specs.Holding.{IsTakenAs};
-ghost use Rattle.opfs_tree.specs.Rows.{row_at, kind_of, file_at, rows_within, extents_within, without, first_taken, children_of, has_children, least_not_in, rows_above, change_at, locked, unlocked, stored, written, none_taken, HasParent, IsClosed, IsInOrder};
+ghost use Rattle.opfs_tree.specs.Rows.{row_at, kind_of, file_at, rows_within, extents_within, without, first_taken, children_of, has_children, least_not_in, rows_above, change_at, locked, unlocked, stored, written, none_taken, present_blocks, durable_blocks, HasParent, IsClosed, IsInOrder};
+ghost use Rattle.opfs_tree.specs.Sums.{row_charge, entries_within};
 ghost use Rattle.std.specs.List.Sorted.{IsStrictlySortedBy};
 ghost use Rattle.std.specs.Map.{keys_of, lookup};
 ghost use Rattle.std.specs.BTreeMap.{insert_entry, is_at};
@@ -14,6 +15,7 @@ ghost use Rattle.opfs_tree.specs.Units.{text_cmp, path_cmp, unit_rows, all_rows,
 
 use crate::counted::CountedUnit;
 use crate::row::{FileRow, Row};
+use crate::sums::{Sums, unit_bytes};
 use crate::unit::Unit;
 use crate::walk::Walk;
 use opfs_base::{Extent, Extents, Key, Kind, Name, Path};
@@ -124,6 +126,25 @@ impl Tree {
         match self.unit(key) {
             Some(unit) => unit.extents_below(path),
             None => 0,
+        }
+    }
+
+    /// What the row at a place and all below it have.
+    pub fn sums_below(&self, key: &Key, path: &Path) -> Sums
+        requires present { sum_by present_blocks (rows_within (key.now, path.now) self.now) < 2 ^ 64 }
+        requires durable { sum_by durable_blocks (rows_within (key.now, path.now) self.now) < 2 ^ 64 }
+        requires charge { sum_by row_charge (entries_within (key.now, path.now) self.now) < 2 ^ 64 }
+        ensures present { result.present ≡ sum_by present_blocks (rows_within (key.now, path.now) self.now) }
+        ensures durable { result.durable ≡ sum_by durable_blocks (rows_within (key.now, path.now) self.now) }
+        ensures charge { result.charge ≡ sum_by row_charge (entries_within (key.now, path.now) self.now) }
+    {
+        match self.unit(key) {
+            Some(unit) => unit.sums_below(unit_bytes(key), path),
+            None => Sums {
+                present: 0,
+                durable: 0,
+                charge: 0,
+            },
         }
     }
 
