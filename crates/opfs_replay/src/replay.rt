@@ -418,6 +418,8 @@ fn empty_file(alloc: Global, stamp: u64) -> Row
     Row::File(FileRow {
         length: 0,
         stamp,
+        present: 0,
+        present_stamp: stamp,
         extents: Extents::none(alloc),
         lock: FileLock::make(),
     })
