@@ -5,8 +5,8 @@ use Rattle.std.proofs.lemmas.Bool.{cases_lt, cases_eq, eqb-true, eq-eqb}
 use Rattle.std.proofs.lemmas.List.{get_or-take, get_or-drop, length-take, length-drop}
 use Rattle.std.proofs.lemmas.List.Sums.{sum_by-cons}
 use Rattle.opfs_base.specs.Blocks.{blocks}
-use Rattle.opfs_work.specs.declared.table.Page.{Page}
-use Rattle.opfs_work.specs.Pages.{Table, page_at, byte_at, near_count, one_near, is_near, is_far, absent, added, pages_in, CoversFar}
+use Rattle.opfs_work.specs.declared.pages.Page.{Page}
+use Rattle.opfs_work.specs.Pages.{Table, page_at, byte_at, near_count, one_near, is_changed, is_far, absent, added, pages_in, CoversFar}
 use Rattle.opfs_work.proofs.Counts.{one_near-le}
 
 -- The pages below one were written, the others are as before.
@@ -16,7 +16,7 @@ pub record IsCopied (old now : Table) (at : ℕ) (bytes : List ℕ) (page : ℕ)
   pub inside : (far : ℕ → ℕ) (i : ℕ) → at ≤ i → i < at + length bytes → i < 4096 * page → byte_at far now.pages i ≡ slice_index bytes (i - at)
   pub before : (far : ℕ → ℕ) (i : ℕ) → i < at → byte_at far now.pages i ≡ byte_at far old.pages i
   pub behind : (far : ℕ → ℕ) (i : ℕ) → at + length bytes ≤ i → byte_at far now.pages i ≡ byte_at far old.pages i
-  pub near : (k : ℕ) → at / 4096 ≤ k → k < page → is_near (page_at now.pages k) ≡ true
+  pub changed : (k : ℕ) → at / 4096 ≤ k → k < page → is_changed (page_at now.pages k) ≡ true
   pub early : (k : ℕ) → k < at / 4096 → page_at now.pages k ≡ page_at old.pages k
   pub late : (k : ℕ) → page ≤ k → page_at now.pages k ≡ page_at old.pages k
   pub count : near_count now.pages + absent old.pages page (blocks (at + length bytes) - page) ≡ near_count old.pages + absent old.pages (at / 4096) (blocks (at + length bytes) - at / 4096)
@@ -28,7 +28,7 @@ copied_none old at bytes = record {
   inside = λ far i from below early. absurd (omega arith);
   before = λ far i below. refl;
   behind = λ far i past. refl;
-  near = λ k from below. absurd (omega arith);
+  changed = λ k from below. absurd (omega arith);
   early = λ k below. refl;
   late = λ k past. refl;
   count = refl;
@@ -39,6 +39,10 @@ less n = omega arith
 
 pub true_false : true ≡ false → ⊥
 true_false e = cc
+
+pub not_true : (t : Bool) → (t ≡ true → ⊥) → t ≡ false
+not_true true no_true = absurd (no_true refl)
+not_true false no_true = refl
 
 pub absent-none : (pages : List Page) (first : ℕ) → absent pages first 0 ≡ 0
 unfolding absent
@@ -79,7 +83,7 @@ pub record WritesPart (now new : Table) (place : ℕ) (chunk : List ℕ) : Type 
   pub inside : (far : ℕ → ℕ) (i : ℕ) → place ≤ i → i < place + length chunk → byte_at far new.pages i ≡ slice_index chunk (i - place)
   pub before : (far : ℕ → ℕ) (i : ℕ) → i < place → byte_at far new.pages i ≡ byte_at far now.pages i
   pub behind : (far : ℕ → ℕ) (i : ℕ) → place + length chunk ≤ i → byte_at far new.pages i ≡ byte_at far now.pages i
-  pub near : is_near (page_at new.pages (place / 4096)) ≡ true
+  pub changed : is_changed (page_at new.pages (place / 4096)) ≡ true
   pub others : (k : ℕ) → (k ≡ place / 4096 → ⊥) → page_at new.pages k ≡ page_at now.pages k
   pub count : near_count new.pages + one_near (page_at now.pages (place / 4096)) ≡ near_count now.pages + 1
 
@@ -109,10 +113,10 @@ copied_more old now new at page from to bytes chunk is part wrote =
           ];
       before = λ far i below. wrote.before far i (omega (arith, part.begins)) ∙ is.before far i below;
       behind = λ far i past. wrote.behind far i (omega (arith, part.begins, part.ends, part.size, part.touched, part.reached)) ∙ is.behind far i past;
-      near = λ k from_first below.
+      changed = λ k from_first below.
           elim (cases_eq k page) [
-            | inl same ↦ ap (λ (n : ℕ). is_near (page_at new.pages n)) (same ∙ sym here) ∙ wrote.near
-            | inr apart ↦ ap is_near (wrote.others k (λ e. apart (e ∙ here))) ∙ is.near k from_first (omega arith)
+            | inl same ↦ ap (λ (n : ℕ). is_changed (page_at new.pages n)) (same ∙ sym here) ∙ wrote.changed
+            | inr apart ↦ ap is_changed (wrote.others k (λ e. apart (e ∙ here))) ∙ is.changed k from_first (omega arith)
           ];
       early = λ k below. wrote.others k (omega (arith, part.touched)) ∙ is.early k below;
       late = λ k past. wrote.others k (omega arith) ∙ is.late k (omega arith);

@@ -3,14 +3,15 @@ use Rattle.std.proofs.Common.{◌≡◌, ℕ, ◌+◌, ◌-◌, ◌≤◌, ◌<�
 use Rattle.std.proofs.lemmas.Bool.{cases_lt}
 use Rattle.std.proofs.lemmas.List.{set-set, length-set, get_or_past}
 use Rattle.std.proofs.lemmas.List.Sums.{sum_by-set, sum_by-append, sum_by-cons}
-use Rattle.opfs_work.specs.declared.table.Page.{Page}
-use Rattle.opfs_work.specs.declared.table.Page.TheVariants.{Zero, Near, Far}
+use Rattle.opfs_work.specs.declared.pages.Page.{Page}
+use Rattle.opfs_work.specs.declared.pages.Page.TheVariants.{Zero, Near, Clean, Far}
 use Rattle.opfs_work.specs.Pages.{one_near, near_count, page_at, is_far}
 use Rattle.opfs_work.specs.Kept.{IsKept}
 
 pub one_near-le : (page : Page) → one_near page ≤ 1
 one_near-le Zero = omega arith
 one_near-le (Near bytes) = omega arith
+one_near-le (Clean bytes) = omega arith
 one_near-le Far = omega arith
 
 pub near_count-none : near_count [] ≡ 0
@@ -73,6 +74,10 @@ kept_drop pages front last near room places spare spare' kept kept' is parts mor
       returned = omega (arith, is.returned, counted);
     }
 
+-- a page is one of those that are counted
+pub near_one : (pages : List Page) (k near room places spare kept : ℕ) → IsKept pages near room places spare kept → k < length pages → one_near (page_at pages k) ≤ near
+near_one pages k near room places spare kept is there = omega (arith, is.counted, near_count-set pages k Far there)
+
 -- one page was put in the place of another
 pub kept_put : (pages pages' : List Page) (k : ℕ) (page : Page) (near near' room places places' spare spare' kept kept' : ℕ) → IsKept pages near room places spare kept
     → k < length pages → pages' ≡ set pages k page → near' + one_near (page_at pages k) ≡ near + one_near page → near' ≤ 256
@@ -109,7 +114,7 @@ pub one_spare : (pages : List Page) (k near room places spare kept : ℕ) → Is
 one_spare pages k near room places spare kept is there few =
     omega (arith, is.counted, is.buffers, is.within, one_near-le (page_at pages k), near_count-set pages k (Near []) there, near_count-le (set pages k (Near [])), length-set pages k (Near []))
 
-false_true : false ≡ true → ⊥
+pub false_true : false ≡ true → ⊥
 false_true e = cc
 
 -- a Far page is in the table, and not Near
@@ -123,6 +128,7 @@ far_there pages k far =
 pub far_away : (page : Page) → is_far page ≡ true → one_near page ≡ 0
 far_away Zero far = absurd cc
 far_away (Near bytes) far = absurd cc
+far_away (Clean bytes) far = absurd cc
 far_away Far far = refl
 
 -- a buffer is there for a page that comes

@@ -1,25 +1,25 @@
 -- What a working copy keeps, and what its calls say of its bytes.
-use Rattle.std.proofs.Common.{◌≡◌, ◌==◌, ℕ, zero, suc, cond, ◌+◌, ◌-◌, ◌/◌, ◌%◌, ◌^◌, ◌≤◌, ◌<◌, Bool, true, false, min, max, List, [], ◌∷◌, map, take, length, set, slice_index, Option, Some, None, IfSome, sum_by, refl, sym, ap, ◌∙◌, inl, inr, arith}
+use Rattle.std.proofs.Common.{◌≡◌, ◌==◌, ℕ, zero, suc, cond, ◌+◌, ◌-◌, ◌/◌, ◌%◌, ◌^◌, ◌≤◌, ◌<◌, true, false, min, max, List, [], ◌∷◌, map, take, length, set, slice_index, Option, Some, None, IfSome, sum_by, refl, sym, ap, ◌∙◌, inl, inr, arith}
 use Rattle.std.specs.List.{range_with_len}
 use Rattle.std.proofs.lemmas.Bool.{cases_lt, cases_eq}
 use Rattle.std.proofs.lemmas.List.{get_or_past, get_or-set_same, get_or-set_other, length-set, length-take, get_or-take}
 use Rattle.std.proofs.lemmas.List.FromFn.{length-map-range_with_len}
 use Rattle.opfs_base.specs.Blocks.{blocks}
 use Rattle.opfs_splice.specs.Splicing.{splice, resize, window}
-use Rattle.opfs_work.specs.declared.table.Page.{Page}
-use Rattle.opfs_work.specs.declared.table.Page.TheVariants.{Zero, Near, Far}
-use Rattle.opfs_work.specs.Pages.{Table, page_at, byte_at, bytes_of, is_near, is_far, near_count, one_near, absent, added, pages_in, CoversFar, IsNearBetween}
+use Rattle.opfs_work.specs.declared.pages.Page.{Page}
+use Rattle.opfs_work.specs.declared.pages.Page.TheVariants.{Zero, Near, Clean, Far}
+use Rattle.opfs_work.specs.Pages.{Table, page_at, byte_at, bytes_of, bytes_near, is_near, is_far, near_count, one_near, absent, added, pages_in, CoversFar, IsNearBetween}
 use Rattle.opfs_work.specs.Works.{WorkingCopy, IsWork, IsNearWrite}
-use Rattle.opfs_work.proofs.Places.{byte_of, byte_apart}
+use Rattle.opfs_work.proofs.Places.{byte_of, byte_apart, near_bytes}
 use Rattle.opfs_work.proofs.Counts.{far_there, near_count-none}
-use Rattle.opfs_work.proofs.Copying.{absent-none, absent-cons}
+use Rattle.opfs_work.proofs.Copying.{absent-none, absent-cons, not_true}
 use Rattle.opfs_work.proofs.Reading.{zero_byte, near_byte, near_byte_between}
 use Rattle.opfs_work.proofs.Laws.{told_splice, told_resize, told_window, splice_nothing}
 use Rattle.std.proofs.lemmas.List.Sums.{sum_by-cons}
 
 -- ---- making
 
-past_all : (pages : List Page) (i : ℕ) → length pages ≤ i / 4096 → byte_at (λ _. 0) pages i ≡ 0
+pub past_all : (pages : List Page) (i : ℕ) → length pages ≤ i / 4096 → byte_at (λ _. 0) pages i ≡ 0
 past_all pages i past = zero_byte pages i (ap is_near (get_or_past pages (i / 4096) Zero past))
 
 pub work_fresh : (table : Table) → table ≡ record { pages = []; room = 0 } → IsWork table.pages table.room 0 0
@@ -28,6 +28,7 @@ work_fresh table is = rw is (record { pages_are = refl; tail = λ i from. past_a
 far_away : (page : Page) → is_far page ≡ true → is_near page ≡ false
 far_away Zero far = refl
 far_away (Near bytes) far = absurd cc
+far_away (Clean bytes) far = absurd cc
 far_away Far far = refl
 
 pub work_far : (pages : List Page) (room length' reserve : ℕ) → length pages ≡ blocks length' → reserve ≤ room → ((k : ℕ) → k < blocks length' → is_far (page_at pages k) ≡ true) → IsWork pages room length' reserve
@@ -43,26 +44,26 @@ work_far pages room length' reserve pages_are reserved far = record {
 
 -- ---- a page that comes
 
-pub work_brought : (old new : List Page) (room length' reserve page : ℕ) (bytes : List ℕ) → IsWork old room length' reserve → is_far (page_at old page) ≡ true → new ≡ set old page (Near bytes)
+pub work_brought : (old new : List Page) (room length' reserve page : ℕ) (bytes : List ℕ) → IsWork old room length' reserve → is_far (page_at old page) ≡ true → new ≡ set old page (Clean bytes)
     → ((i : ℕ) → length' ≤ i → i / 4096 ≡ page → slice_index bytes (i % 4096) ≡ 0) → IsWork new room length' reserve
 work_brought old new room length' reserve page bytes is far new_is tail =
     let there = far_there old page far in
     record {
-      pages_are = ap length new_is ∙ length-set old page (Near bytes) ∙ is.pages_are;
+      pages_are = ap length new_is ∙ length-set old page (Clean bytes) ∙ is.pages_are;
       tail = λ i from.
           elim (cases_eq (i / 4096) page) [
             | inl here ↦
-                byte_of (λ _. 0) new i (Near bytes) (ap (page_at new) here ∙ ap (λ (ps : List Page). page_at ps page) new_is ∙ get_or-set_same old page (Near bytes) Zero there) ∙ tail i from here
+                byte_of (λ _. 0) new i (Clean bytes) (ap (page_at new) here ∙ ap (λ (ps : List Page). page_at ps page) new_is ∙ get_or-set_same old page (Clean bytes) Zero there) ∙ tail i from here
             | inr apart ↦
-                byte_apart (λ _. 0) old new i (ap (λ (ps : List Page). page_at ps (i / 4096)) new_is ∙ get_or-set_other old page (i / 4096) (Near bytes) Zero apart) ∙ is.tail i from
+                byte_apart (λ _. 0) old new i (ap (λ (ps : List Page). page_at ps (i / 4096)) new_is ∙ get_or-set_other old page (i / 4096) (Clean bytes) Zero apart) ∙ is.tail i from
           ];
       reserved = is.reserved;
     }
 
 -- a Near page is 0 behind the last byte
-pub near_tail : (pages : List Page) (room length' reserve page i : ℕ) (bytes : List ℕ) → IsWork pages room length' reserve → page_at pages page ≡ Near bytes → length' ≤ i → i / 4096 ≡ page
+pub near_tail : (pages : List Page) (room length' reserve page i : ℕ) (bytes : List ℕ) → IsWork pages room length' reserve → bytes_near (page_at pages page) ≡ Some bytes → length' ≤ i → i / 4096 ≡ page
     → slice_index bytes (i % 4096) ≡ 0
-near_tail pages room length' reserve page i bytes is near from here = sym (byte_of (λ _. 0) pages i (Near bytes) (ap (page_at pages) here ∙ near)) ∙ is.tail i from
+near_tail pages room length' reserve page i bytes is near from here = sym (near_bytes (λ _. 0) pages i bytes (ap (λ (k : ℕ). bytes_near (page_at pages k)) here ∙ near)) ∙ is.tail i from
 
 -- ---- reading
 
@@ -91,7 +92,7 @@ work_stretched old new room room' length' size reserve is more room_is pages sam
   reserved = omega (arith, is.reserved);
 }
 
-pub near_tail_some : {X : Type 0} (now : X → List ℕ) (found : Option X) (pages : List Page) (room length' reserve page : ℕ) → IsWork pages room length' reserve → IfSome found (λ x. page_at pages page ≡ Near (now x))
+pub near_tail_some : {X : Type 0} (now : X → List ℕ) (found : Option X) (pages : List Page) (room length' reserve page : ℕ) → IsWork pages room length' reserve → IfSome found (λ x. bytes_near (page_at pages page) ≡ Some (now x))
     → IfSome found (λ x. (i : ℕ) → length' ≤ i → i / 4096 ≡ page → slice_index (now x) (i % 4096) ≡ 0)
 near_tail_some now None pages room length' reserve page is near = tt
 near_tail_some now (Some x) pages room length' reserve page is near = λ i from here. near_tail pages room length' reserve page i (now x) is near from here
@@ -100,10 +101,6 @@ near_tail_some now (Some x) pages room length' reserve page is near = λ i from 
 
 false_true : false ≡ true → ⊥
 false_true e = cc
-
-not_true : (t : Bool) → (t ≡ true → ⊥) → t ≡ false
-not_true true no_true = absurd (no_true refl)
-not_true false no_true = refl
 
 -- a page that is filled behind the last byte is not Far
 pub gap_near : (pages : List Page) (length' end i : ℕ) → length pages ≡ blocks length' → CoversFar pages length' end → length' ≤ i → i < end → is_far (page_at pages (i / 4096)) ≡ false
@@ -150,11 +147,11 @@ sum_same : (f g : ℕ → ℕ) → ((k : ℕ) → f k ≡ g k) → (ks : List �
 sum_same f g same [] = refl
 sum_same f g same (k ∷ ks) = omega (arith, sum_by-cons f k ks, sum_by-cons g k ks, same k, sum_same f g same ks)
 
-absent_same : (old new : List Page) (first count : ℕ) → ((k : ℕ) → page_at new k ≡ page_at old k) → absent new first count ≡ absent old first count
+absent_same : (old new : List Page) (first count : ℕ) → ((k : ℕ) → one_near (page_at new k) ≡ one_near (page_at old k)) → absent new first count ≡ absent old first count
 unfolding absent
-absent_same old new first count same = sum_same (λ k. 1 - one_near (page_at new k)) (λ k. 1 - one_near (page_at old k)) (λ k. ap (λ (page : Page). 1 - one_near page) (same k)) (range_with_len first count)
+absent_same old new first count same = sum_same (λ k. 1 - one_near (page_at new k)) (λ k. 1 - one_near (page_at old k)) (λ k. ap (λ (n : ℕ). 1 - n) (same k)) (range_with_len first count)
 
-pub added_same : (old new : List Page) (at len : ℕ) → ((k : ℕ) → page_at new k ≡ page_at old k) → added new at len ≡ added old at len
+pub added_same : (old new : List Page) (at len : ℕ) → ((k : ℕ) → one_near (page_at new k) ≡ one_near (page_at old k)) → added new at len ≡ added old at len
 added_same old new at len same = absent_same old new (at / 4096) (pages_in at len) same
 
 pub work_copied : (old new : List Page) (room room' length' reserve end : ℕ) → IsWork old room length' reserve → room' ≡ room → length new ≡ length old → end ≤ length'
@@ -167,12 +164,12 @@ work_copied old new room room' length' reserve end is room_is lengths within beh
 
 -- ---- a new size
 
-pub size_law : (far : ℕ → ℕ) (old new : List Page) (room length' reserve size : ℕ) → IsWork old room length' reserve → CoversFar old length' size → ((k : ℕ) → page_at new k ≡ page_at old k)
+pub size_law : (far : ℕ → ℕ) (old new : List Page) (room length' reserve size : ℕ) → IsWork old room length' reserve → CoversFar old length' size → ((i : ℕ) → byte_at far new i ≡ byte_at far old i)
     → bytes_of far new size ≡ resize (bytes_of far old length') size
 unfolding bytes_of
 size_law far old new room length' reserve size is covers same =
-    told_resize (byte_at far old) (byte_at far new) length' size (λ i below there. byte_apart far old new i (same (i / 4096)))
-    (λ i below past. byte_apart far old new i (same (i / 4096)) ∙ gap_zero far old room length' reserve size i is covers past below)
+    told_resize (byte_at far old) (byte_at far new) length' size (λ i below there. same i)
+    (λ i below past. same i ∙ gap_zero far old room length' reserve size i is covers past below)
 
 pub cut_law : (far : ℕ → ℕ) (old new : List Page) (length' size : ℕ) → size ≤ length' → ((i : ℕ) → i < size → byte_at far new i ≡ byte_at far old i)
     → bytes_of far new size ≡ resize (bytes_of far old length') size

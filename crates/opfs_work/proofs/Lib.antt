@@ -4,4 +4,7 @@ pub mod Stretched
 pub mod Copying
 pub mod Laws
 pub mod Reading
+pub mod OnePage
 pub mod Holding
+pub mod Changing
+pub mod Writing

@@ -1,10 +1,10 @@
 -- The byte at a position, as one page changes.
-use Rattle.std.proofs.Common.{◌≡◌, ℕ, ◌+◌, ◌-◌, ◌/◌, ◌%◌, ◌≤◌, ◌<◌, true, false, List, length, set, refl, sym, ap, ◌∙◌, inl, inr, arith, slice_index}
+use Rattle.std.proofs.Common.{◌≡◌, ℕ, ◌+◌, ◌-◌, ◌/◌, ◌%◌, ◌≤◌, ◌<◌, true, false, Option, Some, unwrap_or, List, [], length, set, refl, sym, ap, ◌∙◌, inl, inr, arith, slice_index}
 use Rattle.std.proofs.lemmas.Bool.{cases_eq}
 use Rattle.std.proofs.lemmas.List.{get_or-set_same, get_or-set_other, set-set}
-use Rattle.opfs_work.specs.declared.table.Page.{Page}
-use Rattle.opfs_work.specs.declared.table.Page.TheVariants.{Zero, Near}
-use Rattle.opfs_work.specs.Pages.{page_at, page_byte, byte_at, is_far}
+use Rattle.opfs_work.specs.declared.pages.Page.{Page}
+use Rattle.opfs_work.specs.declared.pages.Page.TheVariants.{Zero, Near, Clean, Far}
+use Rattle.opfs_work.specs.Pages.{Table, page_at, page_byte, byte_at, bytes_near, is_far}
 
 -- the byte at a position, by its page
 pub byte_in : (far : ℕ → ℕ) (pages : List Page) (i : ℕ) → byte_at far pages i ≡ page_byte (far i) (page_at pages (i / 4096)) (i % 4096)
@@ -18,17 +18,30 @@ byte_of far pages i page is = byte_in far pages i ∙ ap (λ (p : Page). page_by
 pub byte_apart : (far : ℕ → ℕ) (old new : List Page) (i : ℕ) → page_at new (i / 4096) ≡ page_at old (i / 4096) → byte_at far new i ≡ byte_at far old i
 byte_apart far old new i same = byte_of far new i (page_at old (i / 4096)) same ∙ sym (byte_in far old i)
 
-both_set : (old between new : List Page) (k : ℕ) (gone page : Page) → between ≡ set old k gone → new ≡ set between k page → new ≡ set old k page
+-- the bytes of a page that is in memory
+page_bytes : (far place : ℕ) (page : Page) (bytes : List ℕ) → bytes_near page ≡ Some bytes → page_byte far page place ≡ slice_index bytes place
+page_bytes far place Zero bytes is = absurd cc
+page_bytes far place (Near own) bytes is = ap (λ (o : Option (List ℕ)). slice_index (unwrap_or o []) place) is
+page_bytes far place (Clean own) bytes is = ap (λ (o : Option (List ℕ)). slice_index (unwrap_or o []) place) is
+page_bytes far place Far bytes is = absurd cc
+
+pub near_bytes : (far : ℕ → ℕ) (pages : List Page) (i : ℕ) (bytes : List ℕ) → bytes_near (page_at pages (i / 4096)) ≡ Some bytes → byte_at far pages i ≡ slice_index bytes (i % 4096)
+near_bytes far pages i bytes is = byte_in far pages i ∙ page_bytes (far i) (i % 4096) (page_at pages (i / 4096)) bytes is
+
+pub both_set : (old between new : List Page) (k : ℕ) (gone page : Page) → between ≡ set old k gone → new ≡ set between k page → new ≡ set old k page
 both_set old between new k gone page first second = second ∙ ap (λ (ps : List Page). set ps k page) first ∙ set-set old k gone page
 
-page_here : (old new : List Page) (k : ℕ) (page : Page) → k < length old → new ≡ set old k page → page_at new k ≡ page
+abbrev pub with_pages : ℕ → List Page → Table
+with_pages room pages = record { pages = pages; room = room }
+
+pub page_here : (old new : List Page) (k : ℕ) (page : Page) → k < length old → new ≡ set old k page → page_at new k ≡ page
 page_here old new k page there is = ap (λ (ps : List Page). page_at ps k) is ∙ get_or-set_same old k page Zero there
 
-page_there : (old new : List Page) (k j : ℕ) (page : Page) → (j ≡ k → ⊥) → new ≡ set old k page → page_at new j ≡ page_at old j
+pub page_there : (old new : List Page) (k j : ℕ) (page : Page) → (j ≡ k → ⊥) → new ≡ set old k page → page_at new j ≡ page_at old j
 page_there old new k j page apart is = ap (λ (ps : List Page). page_at ps j) is ∙ get_or-set_other old k j page Zero apart
 
 -- a page was changed, and a position in it still has its byte
-stays : (far : ℕ → ℕ) (old new : List Page) (k i : ℕ) (page : Page) → k < length old → new ≡ set old k page
+pub stays : (far : ℕ → ℕ) (old new : List Page) (k i : ℕ) (page : Page) → k < length old → new ≡ set old k page
     → (i / 4096 ≡ k → page_byte (far i) page (i % 4096) ≡ page_byte (far i) (page_at old k) (i % 4096)) → byte_at far new i ≡ byte_at far old i
 stays far old new k i page there is same =
     elim (cases_eq (i / 4096) k) [
@@ -61,22 +74,22 @@ own_byte old own f j near owns =
 pub written-before : (far : ℕ → ℕ) (old between new : List Page) (gone : Page) (place i : ℕ) (chunk own bytes : List ℕ) → place / 4096 < length old
     → between ≡ set old (place / 4096) gone → new ≡ set between (place / 4096) (Near bytes) → place % 4096 + length chunk ≤ 4096
     → (is_far (page_at old (place / 4096)) ≡ true → length chunk ≡ 4096)
-    → (is_far (page_at old (place / 4096)) ≡ false → (f j : ℕ) → slice_index own j ≡ page_byte f (page_at old (place / 4096)) j)
+    → ((length chunk ≡ 4096 → ⊥) → is_far (page_at old (place / 4096)) ≡ false → (f j : ℕ) → slice_index own j ≡ page_byte f (page_at old (place / 4096)) j)
     → ((j : ℕ) → j < place % 4096 → slice_index bytes j ≡ slice_index own j)
     → i < place → byte_at far new i ≡ byte_at far old i
 written-before far old between new gone place i chunk own bytes there first second within whole owns before below =
     stays far old new (place / 4096) i (Near bytes) there (both_set old between new _ gone _ first second)
-    (λ here. before (i % 4096) (omega arith) ∙ own_byte (page_at old (place / 4096)) own (far i) (i % 4096) (λ is. omega (arith, whole is)) owns)
+    (λ here. before (i % 4096) (omega arith) ∙ own_byte (page_at old (place / 4096)) own (far i) (i % 4096) (λ is. omega (arith, whole is)) (owns (λ all. omega arith)))
 
 pub written-behind : (far : ℕ → ℕ) (old between new : List Page) (gone : Page) (place i : ℕ) (chunk own bytes : List ℕ) → place / 4096 < length old
     → between ≡ set old (place / 4096) gone → new ≡ set between (place / 4096) (Near bytes) → place % 4096 + length chunk ≤ 4096
     → (is_far (page_at old (place / 4096)) ≡ true → length chunk ≡ 4096)
-    → (is_far (page_at old (place / 4096)) ≡ false → (f j : ℕ) → slice_index own j ≡ page_byte f (page_at old (place / 4096)) j)
+    → ((length chunk ≡ 4096 → ⊥) → is_far (page_at old (place / 4096)) ≡ false → (f j : ℕ) → slice_index own j ≡ page_byte f (page_at old (place / 4096)) j)
     → ((j : ℕ) → place % 4096 + length chunk ≤ j → slice_index bytes j ≡ slice_index own j)
     → place + length chunk ≤ i → byte_at far new i ≡ byte_at far old i
 written-behind far old between new gone place i chunk own bytes there first second within whole owns behind past =
     stays far old new (place / 4096) i (Near bytes) there (both_set old between new _ gone _ first second)
-    (λ here. behind (i % 4096) (omega arith) ∙ own_byte (page_at old (place / 4096)) own (far i) (i % 4096) (λ is. omega (arith, whole is)) owns)
+    (λ here. behind (i % 4096) (omega arith) ∙ own_byte (page_at old (place / 4096)) own (far i) (i % 4096) (λ is. omega (arith, whole is)) (owns (λ all. omega arith)))
 
 -- ---- a page that is 0 from a position on
 

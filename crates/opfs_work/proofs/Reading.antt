@@ -1,14 +1,14 @@
 -- Bytes that are read, page by page.
-use Rattle.std.proofs.Common.{◌≡◌, ℕ, zero, suc, ◌+◌, ◌-◌, ◌/◌, ◌%◌, ◌≤◌, ◌<◌, false, List, ◌∷◌, ◌++◌, map, length, take, drop, replicate, slice_index, refl, sym, ap, ◌∙◌, arith}
+use Rattle.std.proofs.Common.{◌≡◌, ℕ, zero, suc, ◌+◌, ◌-◌, ◌/◌, ◌%◌, ◌≤◌, ◌<◌, false, List, ◌∷◌, ◌++◌, Some, map, length, take, drop, replicate, slice_index, refl, sym, ap, ◌∙◌, arith}
 use Rattle.std.specs.List.{range_with_len, slice_range}
 use Rattle.std.proofs.lemmas.Grind.{same_number_lists}
 use Rattle.std.proofs.lemmas.List.{get_or-take, get_or-drop, length-take, length-drop, get_or-replicate, length-replicate, take_all}
 use Rattle.std.proofs.lemmas.List.FromFn.{length-map-range_with_len, get_or-map-range_with_len}
 use Rattle.opfs_base.specs.Blocks.{blocks}
-use Rattle.opfs_work.specs.declared.table.Page.{Page}
-use Rattle.opfs_work.specs.declared.table.Page.TheVariants.{Zero, Near, Far}
-use Rattle.opfs_work.specs.Pages.{page_at, page_byte, byte_at, is_near, is_far, IsNearBetween}
-use Rattle.opfs_work.proofs.Places.{byte_of, byte_in}
+use Rattle.opfs_work.specs.declared.pages.Page.{Page}
+use Rattle.opfs_work.specs.declared.pages.Page.TheVariants.{Zero, Near, Clean, Far}
+use Rattle.opfs_work.specs.Pages.{page_at, page_byte, byte_at, bytes_near, is_near, is_far, IsNearBetween}
+use Rattle.opfs_work.proofs.Places.{byte_in, near_bytes}
 
 pub near_none : (pages : List Page) (from to : ℕ) → to ≤ from → IsNearBetween pages from to
 unfolding IsNearBetween
@@ -26,6 +26,7 @@ near_all pages from to each = λ k some touched reached. each k (omega arith) (o
 same_page : (far place : ℕ) (page : Page) → is_far page ≡ false → page_byte far page place ≡ page_byte 0 page place
 same_page far place Zero near = refl
 same_page far place (Near bytes) near = refl
+same_page far place (Clean bytes) near = refl
 same_page far place Far near = absurd cc
 
 pub near_byte : (far : ℕ → ℕ) (pages : List Page) (i : ℕ) → is_far (page_at pages (i / 4096)) ≡ false → byte_at far pages i ≡ byte_at (λ _. 0) pages i
@@ -37,6 +38,7 @@ near_byte_between far pages from to i near first last = near_byte far pages i (n
 zero_page : (place : ℕ) (page : Page) → is_near page ≡ false → page_byte 0 page place ≡ 0
 zero_page place Zero away = refl
 zero_page place (Near bytes) away = absurd cc
+zero_page place (Clean bytes) away = absurd cc
 zero_page place Far away = refl
 
 -- a page that is not Near counts as zeros
@@ -51,7 +53,7 @@ same_number place j part within below = omega arith
 at_place : (place j part : ℕ) → place % 4096 + part ≤ 4096 → j < part → (place + j) % 4096 ≡ place % 4096 + j
 at_place place j part within below = omega arith
 
-pub near_part : (pages : List Page) (place part : ℕ) (bytes : List ℕ) → page_at pages (place / 4096) ≡ Near bytes → length bytes ≡ 4096 → place % 4096 + part ≤ 4096
+pub near_part : (pages : List Page) (place part : ℕ) (bytes : List ℕ) → bytes_near (page_at pages (place / 4096)) ≡ Some bytes → length bytes ≡ 4096 → place % 4096 + part ≤ 4096
     → slice_range bytes (place % 4096) (place % 4096 + part) ≡ map (byte_at (λ _. 0) pages) (range_with_len place part)
 near_part pages place part bytes is whole within =
     let count = (place % 4096 + part) - place % 4096 in
@@ -63,7 +65,7 @@ near_part pages place part bytes is whole within =
     let inside : j < part = omega arith in
     get_or-take count (drop (place % 4096) bytes) j 0 (omega arith) ∙ get_or-drop (place % 4096) bytes j 0
     ∙ sym (get_or-map-range_with_len (byte_at (λ _. 0) pages) place part j (place + j) 0 (omega arith) refl
-    ∙ byte_of (λ _. 0) pages (place + j) (Near bytes) (ap (page_at pages) (same_number place j part within inside) ∙ is) ∙ ap (slice_index bytes) (at_place place j part within inside)))
+    ∙ near_bytes (λ _. 0) pages (place + j) bytes (ap (λ (k : ℕ). bytes_near (page_at pages k)) (same_number place j part within inside) ∙ is) ∙ ap (slice_index bytes) (at_place place j part within inside)))
 
 pub zero_part : (pages : List Page) (place part nought : ℕ) → nought ≡ 0 → is_near (page_at pages (place / 4096)) ≡ false → place % 4096 + part ≤ 4096
     → replicate part nought ≡ map (byte_at (λ _. 0) pages) (range_with_len place part)

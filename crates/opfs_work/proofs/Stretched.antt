@@ -3,8 +3,8 @@ use Rattle.std.proofs.Common.{◌≡◌, ℕ, ◌≤◌, ◌<◌, max, true, Lis
 use Rattle.std.proofs.lemmas.Bool.{cases_lt, cases_eq}
 use Rattle.std.proofs.lemmas.List.{get_or_append_left, get_or_past}
 use Rattle.std.proofs.Math.Seq.{get_or-append_seam}
-use Rattle.opfs_work.specs.declared.table.Page.{Page}
-use Rattle.opfs_work.specs.declared.table.Page.TheVariants.{Zero, Far}
+use Rattle.opfs_work.specs.declared.pages.Page.{Page}
+use Rattle.opfs_work.specs.declared.pages.Page.TheVariants.{Zero, Far}
 use Rattle.opfs_work.specs.Pages.{Table, page_at, near_count, is_far}
 use Rattle.opfs_work.proofs.Counts.{near_count-end}
 
@@ -47,6 +47,7 @@ pub record IsFilled (old now : Table) (count : ℕ) : Type 0 where
   pub within : length now.pages ≤ max (length old.pages) count
   pub room : now.room ≡ old.room
   pub far : (k : ℕ) → length old.pages ≤ k → k < length now.pages → is_far (page_at now.pages k) ≡ true
+  pub same : (k : ℕ) → k < length old.pages → page_at now.pages k ≡ page_at old.pages k
   pub near : near_count now.pages ≡ near_count old.pages
 
 pub filled_more : (old now new : Table) (count : ℕ) → IsFilled old now count → length now.pages < count → new ≡ record now { pages = now.pages ++ Far ∷ [] } → IsFilled old new count
@@ -61,6 +62,7 @@ filled_more old now new count is less new_is =
             | inl inside ↦ ap is_far (get_or_append_left now.pages (Far ∷ []) Zero k inside) ∙ is.far k from inside
             | inr past ↦ ap is_far (page_at-end now.pages Far k (omega (arith, length-append now.pages (Far ∷ []))))
           ];
+      same = λ k below. get_or_append_left now.pages (Far ∷ []) Zero k (omega (arith, is.longer)) ∙ is.same k below;
       near = omega (arith, near_count-end now.pages Far, is.near);
     }
 

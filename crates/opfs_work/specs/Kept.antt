@@ -1,9 +1,9 @@
 -- What a table keeps so that its calls take no memory. This project's own.
 use Rattle.std.specs.Prelude.{◌≡◌, ℕ, ◌+◌, ◌≤◌, ◌<◌, ◌^◌, min, List, length}
-use Rattle.opfs_work.specs.declared.table.Page.{Page}
+use Rattle.opfs_work.specs.declared.pages.Page.{Page}
 use Rattle.opfs_work.specs.Pages.{near_count}
 
--- The count of Near pages, the room, the places of the table, the spare buffers and the places for them.
+-- The count of the pages in memory, the room, the places of the table, the spare buffers and the places for them.
 pub record IsKept (pages : List Page) (near room places spare kept : ℕ) : Type 0 where
   pub counted : near ≡ near_count pages
   pub few : near ≤ 256

@@ -2,10 +2,12 @@
 #![tactic(auto)]
 
 pub mod buffer;
+pub mod pages;
 pub mod sizes;
+pub mod span;
 pub mod spares;
 pub mod table;
 pub mod work;
 
-pub use table::Page;
+pub use pages::Page;
 pub use work::Work;

@@ -5,7 +5,7 @@ ghost use Rattle.std.specs.Vec.{vec_capacity};
 ghost use Rattle.opfs_work.specs.Pages.{is_far, page_byte, one_near};
 
 use crate::buffer::Buffer;
-use crate::table::Page;
+use crate::pages::Page;
 use std::alloc::{AllocError, Global};
 
 /// Adds buffers until there are so many, with places for them and for more.
@@ -27,7 +27,7 @@ pub fn fill_spare(
     Ok(())
 }
 
-/// Puts the buffer of a Near page with the spare ones.
+/// Puts the buffer of a page in memory with the spare ones.
 pub fn give_back(spare: &mut Vec<Buffer>, page: Page)
     requires { vec_len spare.old + one_near page ≤ vec_capacity spare.old }
     ensures spare { vec_len spare.new ≡ vec_len spare.old + one_near page }
@@ -35,33 +35,48 @@ pub fn give_back(spare: &mut Vec<Buffer>, page: Page)
 {
     match page {
         Page::Near(buffer) => spare.push(buffer).unwrap(),
+        Page::Clean(buffer) => spare.push(buffer).unwrap(),
         Page::Zero => {}
         Page::Far => {}
     }
 }
 
-/// A buffer with a page's bytes: its own, or a spare one of zeros.
-pub fn taken(spare: &mut Vec<Buffer>, page: Page) -> Buffer
+/// A buffer for a page that is written: its own, or a spare one. It has the page's bytes, but of a page that is Far or is
+/// written whole.
+pub fn taken(spare: &mut Vec<Buffer>, page: Page, whole: bool) -> Buffer
     requires { 1 ≤ vec_len spare.old + one_near page }
-    ensures bytes { is_far page ≡ false → (far : ℕ) (place : ℕ) → slice_index result place ≡ page_byte far page place }
+    ensures bytes { whole ≡ false → is_far page ≡ false → (far : ℕ) (place : ℕ) → slice_index result place ≡ page_byte far page place }
     ensures spare { vec_len spare.new + 1 ≡ vec_len spare.old + one_near page }
     ensures kept { vec_capacity spare.new ≡ vec_capacity spare.old }
 {
     match page {
         Page::Near(buffer) => buffer,
-        Page::Zero => blank(spare),
-        Page::Far => blank(spare),
+        Page::Clean(buffer) => buffer,
+        Page::Zero => blank(spare, whole),
+        Page::Far => spare_buffer(spare),
     }
 }
 
-/// A buffer of zeros out of the spare ones.
-pub fn blank(spare: &mut Vec<Buffer>) -> Buffer
+// A spare buffer, of zeros where the page is not written whole.
+fn blank(spare: &mut Vec<Buffer>, whole: bool) -> Buffer
     requires { 0 < vec_len spare.old }
-    ensures zeros { (k : ℕ) → slice_index result k ≡ 0 }
+    ensures zeros { whole ≡ false → (k : ℕ) → slice_index result k ≡ 0 }
     ensures taken { vec_len spare.new + 1 ≡ vec_len spare.old }
     ensures kept { vec_capacity spare.new ≡ vec_capacity spare.old }
 {
-    let mut buffer = spare.pop().unwrap();
+    let mut buffer = spare_buffer(spare);
+    if whole {
+        return buffer;
+    }
     buffer.wipe(0);
     buffer
+}
+
+/// A spare buffer, with whatever bytes it has.
+pub fn spare_buffer(spare: &mut Vec<Buffer>) -> Buffer
+    requires { 0 < vec_len spare.old }
+    ensures taken { vec_len spare.new + 1 ≡ vec_len spare.old }
+    ensures kept { vec_capacity spare.new ≡ vec_capacity spare.old }
+{
+    spare.pop().unwrap()
 }

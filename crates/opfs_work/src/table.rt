@@ -1,62 +1,19 @@
 //! A table of pages.
 
-ghost use Rattle.std.specs.Prelude.{◌≡◌, ℕ, ◌+◌, ◌-◌, ◌*◌, ◌/◌, ◌%◌, ◌^◌, ◌<◌, ◌≤◌, ◌++◌, ◌∷◌, [], true, false, ◌↔◌, if◌then◌else◌, length, take, min, max, replicate, IsTrue, IfOk, OnOk, OnErr, is_some, IfSome, slice_index, slice_set, vec_len, map};
+ghost use Rattle.std.specs.Prelude.{◌≡◌, ℕ, ◌+◌, ◌-◌, ◌*◌, ◌/◌, ◌%◌, ◌^◌, ◌<◌, ◌≤◌, ◌++◌, ◌∷◌, [], true, false, ◌↔◌, if◌then◌else◌, length, take, min, max, replicate, IsTrue, IfOk, OnOk, OnErr, is_some, Some, IfSome, slice_index, slice_set, vec_len, map};
 ghost use Rattle.std.specs.List.{range_with_len};
 ghost use Rattle.std.specs.Vec.{vec_capacity};
-ghost use Rattle.opfs_work.specs.Pages.{is_zero, is_near, is_far, page_at, page_byte, byte_at, one_near, near_count, added, pages_in, CoversFar, IsNearBetween};
-ghost use Rattle.opfs_work.specs.declared.table.Page.{Page};
+ghost use Rattle.opfs_work.specs.Pages.{is_zero, is_near, is_far, is_changed, is_held, bytes_near, as_kept, as_changed, page_at, page_byte, byte_at, one_near, near_count, added, pages_in, CoversFar, IsNearBetween, IsSettled};
+ghost use Rattle.opfs_work.specs.declared.pages.Page.{Page};
 
 use crate::buffer::Buffer;
+use crate::pages::{Page, kept, one_near, put, touched, wiped};
 use crate::sizes::blocks;
-use crate::spares::{blank, fill_spare, give_back, taken};
+use crate::spares::{fill_spare, give_back, spare_buffer, taken};
 use std::alloc::{AllocError, Global};
 use std::marker::Model;
-use std::mem;
 
-/// A page of 4,096 bytes.
-#[derive(Debug, Drop)]
-pub enum Page {
-    /// All bytes are 0.
-    Zero,
-    /// The bytes are in memory.
-    Near(Buffer),
-    /// The bytes are elsewhere.
-    Far,
-}
-
-impl Page {
-    /// Whether all bytes are 0 without being stored.
-    pub fn is_zero(&self) -> bool
-        ensures { result ≡ is_zero self.now }
-    {
-        match self {
-            Page::Zero => true,
-            Page::Near(_) | Page::Far => false,
-        }
-    }
-
-    /// Whether the bytes are in memory.
-    pub fn is_near(&self) -> bool
-        ensures { result ≡ is_near self.now }
-    {
-        match self {
-            Page::Near(_) => true,
-            Page::Zero | Page::Far => false,
-        }
-    }
-
-    /// Whether the bytes are elsewhere.
-    pub fn is_far(&self) -> bool
-        ensures { result ≡ is_far self.now }
-    {
-        match self {
-            Page::Far => true,
-            Page::Zero | Page::Near(_) => false,
-        }
-    }
-}
-
-/// Pages, of which at most 256 are Near, with the memory for as many as there is room for.
+/// Pages, of which at most 256 are in memory, with the memory for as many as there is room for.
 #[derive(Drop)]
 pub struct Table {
     pages: Vec<Page>,
@@ -109,7 +66,7 @@ impl Table {
         self.room
     }
 
-    /// How many pages are Near.
+    /// How many pages are in memory.
     pub fn near(&self) -> u64
         ensures near { result ≡ near_count self.now.pages }
         ensures few { result ≤ 256 }
@@ -127,12 +84,22 @@ impl Table {
         }
     }
 
-    /// Whether a page is Near.
+    /// Whether a page is in memory.
     pub fn is_near(&self, page: u64) -> bool
         ensures { result ≡ is_near (page_at self.now.pages page) }
     {
         match self.pages.get(page as usize) {
             Some(page) => page.is_near(),
+            None => false,
+        }
+    }
+
+    /// Whether a page is in memory and changed.
+    pub fn is_changed(&self, page: u64) -> bool
+        ensures { result ≡ is_changed (page_at self.now.pages page) }
+    {
+        match self.pages.get(page as usize) {
+            Some(page) => page.is_changed(),
             None => false,
         }
     }
@@ -147,19 +114,19 @@ impl Table {
         }
     }
 
-    /// The bytes of a Near page.
+    /// The bytes of a page in memory.
     pub fn near_page(&self, page: u64) -> Option<&[u8]>
         ensures near { is_some result ≡ is_near (page_at self.now.pages page) }
-        ensures bytes { IfSome result (λ bytes. page_at self.now.pages page ≡ Page.Near bytes.now) }
+        ensures bytes { IfSome result (λ bytes. bytes_near (page_at self.now.pages page) ≡ Some bytes.now) }
         ensures length { IfSome result (λ bytes. length bytes.now ≡ 4096) }
     {
         match self.pages.get(page as usize) {
-            Some(Page::Near(buffer)) => Some(buffer.as_slice()),
-            Some(Page::Zero | Page::Far) | None => None,
+            Some(page) => page.near(),
+            None => None,
         }
     }
 
-    // Adds a page that is not Near. Takes no memory.
+    // Adds a page that is not in memory. Takes no memory.
     fn push(&mut self, page: Page)
         requires away { one_near page ≡ 0 }
         requires room { length self.old.pages < self.old.room }
@@ -204,12 +171,13 @@ impl Table {
         Ok(table)
     }
 
-    // Adds Far pages until there are so many. Takes no memory.
-    fn fill_far(&mut self, count: u64)
+    /// Adds Far pages until there are so many. Takes no memory.
+    pub fn fill_far(&mut self, count: u64)
         requires { count ≤ self.old.room }
         ensures length { length self.new.pages ≡ max (length self.old.pages) count }
         ensures room { self.new.room ≡ self.old.room }
         ensures far { (k : ℕ) → length self.old.pages ≤ k → k < count → is_far (page_at self.new.pages k) ≡ true }
+        ensures same { (k : ℕ) → k < length self.old.pages → page_at self.new.pages k ≡ page_at self.old.pages k }
         ensures near { near_count self.new.pages ≡ near_count self.old.pages }
     {
         while self.len() < count {
@@ -259,7 +227,7 @@ impl Table {
         ensures inside { (far : ℕ → ℕ) (i : ℕ) → place ≤ i → i < place + length chunk.now → byte_at far self.new.pages i ≡ slice_index chunk.now (i - place) }
         ensures before { (far : ℕ → ℕ) (i : ℕ) → i < place → byte_at far self.new.pages i ≡ byte_at far self.old.pages i }
         ensures behind { (far : ℕ → ℕ) (i : ℕ) → place + length chunk.now ≤ i → byte_at far self.new.pages i ≡ byte_at far self.old.pages i }
-        ensures near { is_near (page_at self.new.pages (place / 4096)) ≡ true }
+        ensures changed { is_changed (page_at self.new.pages (place / 4096)) ≡ true }
         ensures others { (k : ℕ) → (k ≡ place / 4096 → ⊥) → page_at self.new.pages k ≡ page_at self.old.pages k }
         ensures count { near_count self.new.pages + one_near (page_at self.old.pages (place / 4096)) ≡ near_count self.old.pages + 1 }
     {
@@ -267,7 +235,7 @@ impl Table {
         let offset = (place % 4096) as usize;
         let old = put(&mut self.pages, page, Page::Zero);
         self.near = self.near + 1 - one_near(&old);
-        let mut buffer = taken(&mut self.spare, old);
+        let mut buffer = taken(&mut self.spare, old, chunk.len() == 4096);
         buffer.write(offset, chunk);
         let _zero = put(&mut self.pages, page, Page::Near(buffer));
     }
@@ -297,7 +265,7 @@ impl Table {
         !self.is_far(page) || (from <= 4096 * page && 4096 * page + 4096 <= to)
     }
 
-    // One for a page that is not Near.
+    // One for a page that is not in memory.
     fn absent(&self, page: u64) -> u64
         ensures { result ≡ 1 - one_near (page_at self.now.pages page) }
     {
@@ -307,7 +275,7 @@ impl Table {
         }
     }
 
-    /// How many pages a write at a position makes Near.
+    /// How many pages a write at a position brings into memory.
     pub fn added(&self, at: u64, len: u64) -> u64
         requires { at + len < 2 ^ 64 }
         ensures added { result ≡ added self.now.pages at len }
@@ -333,7 +301,7 @@ impl Table {
         ensures inside { (far : ℕ → ℕ) (i : ℕ) → at ≤ i → i < at + length bytes.now → byte_at far self.new.pages i ≡ slice_index bytes.now (i - at) }
         ensures before { (far : ℕ → ℕ) (i : ℕ) → i < at → byte_at far self.new.pages i ≡ byte_at far self.old.pages i }
         ensures behind { (far : ℕ → ℕ) (i : ℕ) → at + length bytes.now ≤ i → byte_at far self.new.pages i ≡ byte_at far self.old.pages i }
-        ensures near { (k : ℕ) → at / 4096 ≤ k → k < at / 4096 + pages_in at (length bytes.now) → is_near (page_at self.new.pages k) ≡ true }
+        ensures changed { (k : ℕ) → at / 4096 ≤ k → k < at / 4096 + pages_in at (length bytes.now) → is_changed (page_at self.new.pages k) ≡ true }
         ensures early { (k : ℕ) → k < at / 4096 → page_at self.new.pages k ≡ page_at self.old.pages k }
         ensures late { (k : ℕ) → at / 4096 + pages_in at (length bytes.now) ≤ k → page_at self.new.pages k ≡ page_at self.old.pages k }
         ensures count { near_count self.new.pages ≡ near_count self.old.pages + added self.old.pages at (length bytes.now) }
@@ -351,17 +319,45 @@ impl Table {
         }
     }
 
-    /// Gives a Far page its bytes. Takes no memory.
+    /// Gives a Far page the bytes that a store has of it. Takes no memory.
     pub fn load(&mut self, page: u64, bytes: &[u8])
         requires far { is_far (page_at self.old.pages page) ≡ true }
         requires few { near_count self.old.pages < 256 }
         requires page { length bytes.now ≡ 4096 }
-        ensures { self.new ≡ record self.old { pages = slice_set self.old.pages page (Page.Near bytes.now) } }
+        ensures { self.new ≡ record self.old { pages = slice_set self.old.pages page (Page.Clean bytes.now) } }
     {
-        let mut buffer = blank(&mut self.spare);
+        let mut buffer = spare_buffer(&mut self.spare);
         buffer.load(bytes);
         self.near += 1;
-        let _far = put(&mut self.pages, page as usize, Page::Near(buffer));
+        let _far = put(&mut self.pages, page as usize, Page::Clean(buffer));
+    }
+
+    /// Sends a page far; its buffer serves another page then. Takes no memory.
+    pub fn let_go(&mut self, page: u64)
+        requires { page < length self.old.pages }
+        ensures { self.new ≡ record self.old { pages = slice_set self.old.pages page Page.Far } }
+    {
+        let old = put(&mut self.pages, page as usize, Page::Far);
+        self.near -= one_near(&old);
+        give_back(&mut self.spare, old);
+    }
+
+    /// A store has the page now. Takes no memory.
+    pub fn keep(&mut self, page: u64)
+        requires { page < length self.old.pages }
+        ensures { self.new ≡ record self.old { pages = slice_set self.old.pages page (as_kept (page_at self.old.pages page)) } }
+    {
+        let old = put(&mut self.pages, page as usize, Page::Zero);
+        let _zero = put(&mut self.pages, page as usize, kept(old));
+    }
+
+    /// A store does not have the page's bytes any more. Takes no memory.
+    pub fn touch(&mut self, page: u64)
+        requires { page < length self.old.pages }
+        ensures { self.new ≡ record self.old { pages = slice_set self.old.pages page (as_changed (page_at self.old.pages page)) } }
+    {
+        let old = put(&mut self.pages, page as usize, Page::Zero);
+        let _zero = put(&mut self.pages, page as usize, touched(old));
     }
 
     /// Whether no page that holds a byte between two positions is Far.
@@ -409,7 +405,7 @@ impl Table {
         Ok(())
     }
 
-    /// Makes a Near page 0 from a position on. Takes no memory.
+    /// Makes a page in memory 0 from a position on. Takes no memory.
     pub fn wipe(&mut self, place: u64)
         requires there { place / 4096 < length self.old.pages }
         ensures length { length self.new.pages ≡ length self.old.pages }
@@ -418,12 +414,59 @@ impl Table {
         ensures behind { (i : ℕ) → place ≤ i → i / 4096 ≡ place / 4096 → byte_at (λ _. 0) self.new.pages i ≡ 0 }
         ensures others { (k : ℕ) → (k ≡ place / 4096 → ⊥) → page_at self.new.pages k ≡ page_at self.old.pages k }
         ensures far { is_far (page_at self.new.pages (place / 4096)) ≡ is_far (page_at self.old.pages (place / 4096)) }
+        ensures changed { is_changed (page_at self.new.pages (place / 4096)) ≡ is_changed (page_at self.old.pages (place / 4096)) }
+        ensures held { is_held (page_at self.new.pages (place / 4096)) ≡ is_held (page_at self.old.pages (place / 4096)) }
         ensures count { near_count self.new.pages ≡ near_count self.old.pages }
     {
         let page = (place / 4096) as usize;
         let offset = (place % 4096) as usize;
         let old = put(&mut self.pages, page, Page::Zero);
         let _zero = put(&mut self.pages, page, wiped(old, offset));
+    }
+
+    /// Sends the pages of a run far. Takes no memory.
+    pub fn forget(&mut self, from: u64, to: u64)
+        requires { to ≤ length self.old.pages }
+        ensures length { length self.new.pages ≡ length self.old.pages }
+        ensures room { self.new.room ≡ self.old.room }
+        ensures far { (k : ℕ) → from ≤ k → k < to → is_far (page_at self.new.pages k) ≡ true }
+        ensures others { (k : ℕ) → (from ≤ k → k < to → ⊥) → page_at self.new.pages k ≡ page_at self.old.pages k }
+    {
+        for page in from..to {
+            self.let_go(page);
+        }
+    }
+
+    /// A store has the changed pages of a run now. They stay in memory while no more than 128 pages are there, so that as many
+    /// more can be written; else they go far. Takes no memory.
+    pub fn settle(&mut self, from: u64, to: u64)
+        requires { to ≤ length self.old.pages }
+        ensures length { length self.new.pages ≡ length self.old.pages }
+        ensures room { self.new.room ≡ self.old.room }
+        ensures settled { (k : ℕ) → from ≤ k → k < to → IsSettled (page_at self.old.pages k) (page_at self.new.pages k) }
+        ensures others { (k : ℕ) → (from ≤ k → k < to → ⊥) → page_at self.new.pages k ≡ page_at self.old.pages k }
+    {
+        for page in from..to {
+            self.settle_page(page);
+        }
+    }
+
+    // A store has a page now.
+    fn settle_page(&mut self, page: u64)
+        requires { page < length self.old.pages }
+        ensures length { length self.new.pages ≡ length self.old.pages }
+        ensures room { self.new.room ≡ self.old.room }
+        ensures settled { IsSettled (page_at self.old.pages page) (page_at self.new.pages page) }
+        ensures others { (k : ℕ) → (k ≡ page → ⊥) → page_at self.new.pages k ≡ page_at self.old.pages k }
+    {
+        if !self.is_changed(page) {
+            return;
+        }
+        if self.near > 128 {
+            self.let_go(page);
+            return;
+        }
+        self.keep(page);
     }
 }
 
@@ -436,44 +479,4 @@ fn append_zeros(bytes: &mut Vec<u8>, count: usize) -> Result<(), AllocError>
     };
     bytes.resize(size, 0)?;
     Ok(())
-}
-
-// One for a Near page.
-fn one_near(page: &Page) -> u64
-    ensures { result ≡ one_near page.now }
-{
-    match page {
-        Page::Near(_) => 1,
-        Page::Zero => 0,
-        Page::Far => 0,
-    }
-}
-
-// Puts a page in the place of another.
-fn put(pages: &mut Vec<Page>, k: usize, page: Page) -> Page
-    requires { k < vec_len pages.old }
-    ensures was { result ≡ page_at pages.old.items k }
-    ensures after { pages.new.items ≡ slice_set pages.old.items k page }
-    ensures places { vec_capacity pages.new ≡ vec_capacity pages.old }
-{
-    mem::replace(&mut pages[k], page)
-}
-
-// A page that is 0 from an offset on, where it is Near.
-fn wiped(page: Page, offset: usize) -> Page
-    requires { offset ≤ 4096 }
-    ensures before { (far : ℕ) (place : ℕ) → place < offset → page_byte far result place ≡ page_byte far page place }
-    ensures behind { (place : ℕ) → offset ≤ place → page_byte 0 result place ≡ 0 }
-    ensures near { is_near result ≡ is_near page }
-    ensures far { is_far result ≡ is_far page }
-    ensures one { one_near result ≡ one_near page }
-{
-    match page {
-        Page::Near(mut buffer) => {
-            buffer.wipe(offset);
-            Page::Near(buffer)
-        }
-        Page::Zero => Page::Zero,
-        Page::Far => Page::Far,
-    }
 }

@@ -35,7 +35,7 @@ loop-page-preserved c =
       inside = c.write.ensures.inside;
       before = c.write.ensures.before;
       behind = c.write.ensures.behind;
-      near = c.write.ensures.near;
+      changed = c.write.ensures.changed;
       others = c.write.ensures.others;
       count = c.write.ensures.count;
     }

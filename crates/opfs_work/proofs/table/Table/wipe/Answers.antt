@@ -1,5 +1,5 @@
 use Rattle.std.proofs.Common.{◌≡◌, ◌∙◌, ◌<◌, ◌/◌, length, arith, ap}
-use Rattle.opfs_work.specs.declared.table.Page.TheVariants.{Zero}
+use Rattle.opfs_work.specs.declared.pages.Page.TheVariants.{Zero}
 use Rattle.opfs_work.specs.Pages.{page_at, one_near}
 use Rattle.opfs_work.proofs.Counts.{kept_set, near_count-changed}
 use Rattle.opfs_work.proofs.Places.{wiped-before, wiped-behind}

@@ -1,7 +1,9 @@
 use Rattle.std.proofs.Common.{◌≡◌, ◌∙◌, ◌+◌, ◌<◌, ◌/◌, length, arith, ap, false, ℕ, slice_index}
-use Rattle.opfs_work.specs.declared.table.Page.TheVariants.{Zero, Near}
+use Rattle.opfs_work.specs.declared.pages.Page.TheVariants.{Zero, Near}
 use Rattle.opfs_work.specs.Pages.{page_at, page_byte, one_near, near_count, is_far}
 use Rattle.opfs_work.proofs.Counts.{kept_set, near_count-changed, one_spare, one_near-le}
+use Rattle.std.proofs.lemmas.Bool.{eqb-true}
+use Rattle.opfs_work.proofs.Copying.{not_true}
 use Rattle.opfs_work.proofs.Places.{written-inside, written-before, written-behind}
 use Rattle.opfs_work.proofs.table.Table.write.Goals as goal
 
@@ -26,16 +28,16 @@ returns-clause-inside c = λ far i from below.
 
 pub returns-clause-before : goal.returns-clause-before
 returns-clause-before c = λ far i below.
-    let owns : is_far (page_at c.self.inside.pages.items (c.args.place / 4096)) ≡ false → (f j : ℕ) → slice_index c.taken-buffer.result j ≡ page_byte f (page_at c.self.inside.pages.items (c.args.place / 4096)) j =
-    rw (← c.put-old.ensures.was) c.taken-buffer.ensures.bytes in
+    let owns : (length c.args.chunk.now ≡ 4096 → ⊥) → is_far (page_at c.self.inside.pages.items (c.args.place / 4096)) ≡ false → (f j : ℕ) → slice_index c.taken-buffer.result j ≡ page_byte f (page_at c.self.inside.pages.items (c.args.place / 4096)) j =
+    λ part. rw (← c.put-old.ensures.was) (c.taken-buffer.ensures.bytes (not_true _ (λ is. part (eqb-true _ _ is)))) in
     rw (← c.self.view_is)
     (written-before far c.self.inside.pages.items c.put-old.new.pages.items c.put-zero.new.pages.items Zero c.args.place i c.args.chunk.now c.taken-buffer.result c.write.new.self
     (rw (← c.self.view_is) at c.requires.there) c.put-old.ensures.after c.put-zero.ensures.after c.requires.within (rw (← c.self.view_is) at c.requires.whole) owns c.write.ensures.before below)
 
 pub returns-clause-behind : goal.returns-clause-behind
 returns-clause-behind c = λ far i past.
-    let owns : is_far (page_at c.self.inside.pages.items (c.args.place / 4096)) ≡ false → (f j : ℕ) → slice_index c.taken-buffer.result j ≡ page_byte f (page_at c.self.inside.pages.items (c.args.place / 4096)) j =
-    rw (← c.put-old.ensures.was) c.taken-buffer.ensures.bytes in
+    let owns : (length c.args.chunk.now ≡ 4096 → ⊥) → is_far (page_at c.self.inside.pages.items (c.args.place / 4096)) ≡ false → (f j : ℕ) → slice_index c.taken-buffer.result j ≡ page_byte f (page_at c.self.inside.pages.items (c.args.place / 4096)) j =
+    λ part. rw (← c.put-old.ensures.was) (c.taken-buffer.ensures.bytes (not_true _ (λ is. part (eqb-true _ _ is)))) in
     rw (← c.self.view_is)
     (written-behind far c.self.inside.pages.items c.put-old.new.pages.items c.put-zero.new.pages.items Zero c.args.place i c.args.chunk.now c.taken-buffer.result c.write.new.self
     (rw (← c.self.view_is) at c.requires.there) c.put-old.ensures.after c.put-zero.ensures.after c.requires.within (rw (← c.self.view_is) at c.requires.whole) owns c.write.ensures.behind past)

@@ -4,7 +4,7 @@ use Rattle.opfs_work.proofs.work.Work.read.Goals as goal
 
 pub copy_out-requires : goal.copy_out-requires
 copy_out-requires c =
-    let small = length_small c.self.inside.length c.len-len.result c.room-room.result (c.len-len.ensures.len ∙ c.self.invariant.pages_are) (omega (arith, c.len-len.ensures.within, c.room-room.ensures.room)) c.room-room.ensures.small in
+    let small = length_small c.self.inside.length c.len-len.result c.room-room.result (c.len-len.ensures.len ∙ c.self.invariant.0.pages_are) (omega (arith, c.len-len.ensures.within, c.room-room.ensures.room)) c.room-room.ensures.small in
     omega (arith, c.min-start.ensures, c.min-len.ensures)
 
 pub returns-clause-bytes : goal.returns-clause-bytes

@@ -1,31 +1,86 @@
-use Rattle.std.proofs.Common.{◌≡◌, ◌+◌, ℕ, length, max, arith}
-use Rattle.opfs_work.specs.Pages.{page_at, near_count}
-use Rattle.opfs_work.proofs.Holding.{covers_copy, added_same, write_law}
+use Rattle.std.proofs.Common.{◌≡◌, ℕ, ◌+◌, min, List, length, unwrap_or, arith, ap, sym, ◌∙◌}
+use Rattle.opfs_base.specs.Blocks.{blocks}
+use Rattle.opfs_splice.specs.Splicing.{splice}
+use Rattle.opfs_work.specs.Works.{WorkingCopy, IsNearWrite, place_in}
+use Rattle.opfs_work.proofs.Changing.{IsOver, untouched}
+use Rattle.opfs_work.proofs.Writing.{IsMarked, IsWoken, IsReady, wake_marked, ready, ready_near, ready_added, ready_marked, ready_over, ready_stored, ready_bytes}
 use Rattle.opfs_work.proofs.work.Work.write_within.Goals as goal
 
-pub copy-requires-clause-whole : goal.copy-requires-clause-whole
-copy-requires-clause-whole c =
-    let same : (k : ℕ) → page_at c.self-2.inside.table.pages k ≡ page_at c.self.inside.table.pages k = rw (← c.self-2.view_is, ← c.self.view_is) at c.stretch.ensures.same in
-    covers_copy c.self.inside.table.pages c.self-2.inside.table.pages _ _ _ c.unwrap_or-at.result _ c.self.invariant (rw (← c.self.view_is, ← c.unwrap_or-at.ensures) at c.requires.whole) same
+pub wake-requires : goal.wake-requires
+wake-requires c =
+    let from : c.min.result ≡ min c.args.self.now.length c.unwrap_or-at.result = c.min.ensures ∙ ap (λ (w : WorkingCopy). min w.length c.unwrap_or-at.result) c.mark.view_is in
+    let marked : IsMarked c.args.self.now c.mark-2.new.self c.min.result (c.unwrap_or-at.result + length c.args.bytes.now) = record { kept = c.mark-2.ensures.kept; added = c.mark-2.ensures.added; rest = c.mark-2.ensures.rest } in
+    wake_marked c.args.self.now c.mark-2.new.self c.min.result _ c.unwrap_or-at.result marked from (omega arith)
 
-pub copy-requires-clause-few : goal.copy-requires-clause-few
-copy-requires-clause-few c =
-    let same : (k : ℕ) → page_at c.self-2.inside.table.pages k ≡ page_at c.self.inside.table.pages k = rw (← c.self-2.view_is, ← c.self.view_is) at c.stretch.ensures.same in
-    let near : near_count c.self-2.inside.table.pages ≡ near_count c.self.inside.table.pages = rw (← c.self-2.view_is, ← c.self.view_is) at c.stretch.ensures.near in
-    let few = rw (← c.self.view_is, ← c.unwrap_or-at.ensures) at c.requires.few in
-    omega (arith, few, added_same c.self.inside.table.pages c.self-2.inside.table.pages c.unwrap_or-at.result (length c.args.bytes.now) same)
+pub write_over-requires-clause-near : goal.write_over-requires-clause-near
+write_over-requires-clause-near c =
+    let from : c.min.result ≡ min c.args.self.now.length c.unwrap_or-at.result = c.min.ensures ∙ ap (λ (w : WorkingCopy). min w.length c.unwrap_or-at.result) c.mark.view_is in
+    let marked : IsMarked c.args.self.now c.mark-2.new.self c.min.result (c.unwrap_or-at.result + length c.args.bytes.now) = record { kept = c.mark-2.ensures.kept; added = c.mark-2.ensures.added; rest = c.mark-2.ensures.rest } in
+    let woken : IsWoken c.mark-2.new.self c.wake.new.self c.unwrap_or-at.result =
+    record { bytes = c.wake.ensures.bytes; alike = c.wake.ensures.alike; others = c.wake.ensures.others; awake = c.wake.ensures.awake; near = c.wake.ensures.near; rest = c.wake.ensures.rest } in
+    let r : IsReady c.args.self.now c.wake.new.self (min c.args.self.now.length c.unwrap_or-at.result) c.unwrap_or-at.result (c.unwrap_or-at.result + length c.args.bytes.now) =
+    rw from at (ready c.args.self.now c.mark-2.new.self c.wake.new.self c.min.result c.unwrap_or-at.result (c.unwrap_or-at.result + length c.args.bytes.now) marked woken) in
+    let place : place_in c.args.self.now c.args.position ≡ c.unwrap_or-at.result = sym (c.unwrap_or-at.ensures ∙ ap (λ (w : WorkingCopy). unwrap_or c.args.position w.position) c.self.view_is) in
+    let is : IsNearWrite c.args.self.now (place_in c.args.self.now c.args.position) (length c.args.bytes.now) = record { fits = c.requires.fits; whole = c.requires.whole; few = c.requires.few } in
+    ready_near c.args.self.now c.wake.new.self c.unwrap_or-at.result (length c.args.bytes.now) _ r (rw place at is)
+
+pub write_over-requires-clause-marked : goal.write_over-requires-clause-marked
+write_over-requires-clause-marked c = λ k above below.
+    let from : c.min.result ≡ min c.args.self.now.length c.unwrap_or-at.result = c.min.ensures ∙ ap (λ (w : WorkingCopy). min w.length c.unwrap_or-at.result) c.mark.view_is in
+    let marked : IsMarked c.args.self.now c.mark-2.new.self c.min.result (c.unwrap_or-at.result + length c.args.bytes.now) = record { kept = c.mark-2.ensures.kept; added = c.mark-2.ensures.added; rest = c.mark-2.ensures.rest } in
+    let woken : IsWoken c.mark-2.new.self c.wake.new.self c.unwrap_or-at.result =
+    record { bytes = c.wake.ensures.bytes; alike = c.wake.ensures.alike; others = c.wake.ensures.others; awake = c.wake.ensures.awake; near = c.wake.ensures.near; rest = c.wake.ensures.rest } in
+    let r : IsReady c.args.self.now c.wake.new.self (min c.args.self.now.length c.unwrap_or-at.result) c.unwrap_or-at.result (c.unwrap_or-at.result + length c.args.bytes.now) =
+    rw from at (ready c.args.self.now c.mark-2.new.self c.wake.new.self c.min.result c.unwrap_or-at.result (c.unwrap_or-at.result + length c.args.bytes.now) marked woken) in
+    ready_marked c.args.self.now c.wake.new.self c.unwrap_or-at.result (length c.args.bytes.now) k r above below
 
 pub returns-clause-bytes : goal.returns-clause-bytes
 returns-clause-bytes c = λ far.
-    let same : (k : ℕ) → page_at c.self-2.inside.table.pages k ≡ page_at c.self.inside.table.pages k = rw (← c.self-2.view_is, ← c.self.view_is) at c.stretch.ensures.same in
-    let size : c.self-2.inside.length ≡ max c.self.inside.length (c.unwrap_or-at.result + length c.args.bytes.now) = rw (← c.self-2.view_is, ← c.self.view_is) at c.stretch.ensures.length in
-    rw (← c.self.view_is, ← c.unwrap_or-at.ensures)
-    (write_law far c.self.inside.table.pages c.self-2.inside.table.pages c.copy.new.self.pages _ c.self.inside.length _ c.self-2.inside.length c.unwrap_or-at.result c.args.bytes.now c.self.invariant size
-    (rw (← c.self.view_is, ← c.unwrap_or-at.ensures) at c.requires.whole) same (c.copy.ensures.inside far) (c.copy.ensures.before far) (c.copy.ensures.behind far))
+    let from : c.min.result ≡ min c.args.self.now.length c.unwrap_or-at.result = c.min.ensures ∙ ap (λ (w : WorkingCopy). min w.length c.unwrap_or-at.result) c.mark.view_is in
+    let marked : IsMarked c.args.self.now c.mark-2.new.self c.min.result (c.unwrap_or-at.result + length c.args.bytes.now) = record { kept = c.mark-2.ensures.kept; added = c.mark-2.ensures.added; rest = c.mark-2.ensures.rest } in
+    let woken : IsWoken c.mark-2.new.self c.wake.new.self c.unwrap_or-at.result =
+    record { bytes = c.wake.ensures.bytes; alike = c.wake.ensures.alike; others = c.wake.ensures.others; awake = c.wake.ensures.awake; near = c.wake.ensures.near; rest = c.wake.ensures.rest } in
+    let r : IsReady c.args.self.now c.wake.new.self (min c.args.self.now.length c.unwrap_or-at.result) c.unwrap_or-at.result (c.unwrap_or-at.result + length c.args.bytes.now) =
+    rw from at (ready c.args.self.now c.mark-2.new.self c.wake.new.self c.min.result c.unwrap_or-at.result (c.unwrap_or-at.result + length c.args.bytes.now) marked woken) in
+    let place : place_in c.args.self.now c.args.position ≡ c.unwrap_or-at.result = sym (c.unwrap_or-at.ensures ∙ ap (λ (w : WorkingCopy). unwrap_or c.args.position w.position) c.self.view_is) in
+    rw place (c.write_over.ensures.bytes far ∙ ap (λ (xs : List ℕ). splice xs c.unwrap_or-at.result c.args.bytes.now) (ready_bytes far c.args.self.now c.wake.new.self _ _ _ r))
+
+pub returns-clause-untouched : goal.returns-clause-untouched
+returns-clause-untouched c = λ k apart.
+    let from : c.min.result ≡ min c.args.self.now.length c.unwrap_or-at.result = c.min.ensures ∙ ap (λ (w : WorkingCopy). min w.length c.unwrap_or-at.result) c.mark.view_is in
+    let marked : IsMarked c.args.self.now c.mark-2.new.self c.min.result (c.unwrap_or-at.result + length c.args.bytes.now) = record { kept = c.mark-2.ensures.kept; added = c.mark-2.ensures.added; rest = c.mark-2.ensures.rest } in
+    let woken : IsWoken c.mark-2.new.self c.wake.new.self c.unwrap_or-at.result =
+    record { bytes = c.wake.ensures.bytes; alike = c.wake.ensures.alike; others = c.wake.ensures.others; awake = c.wake.ensures.awake; near = c.wake.ensures.near; rest = c.wake.ensures.rest } in
+    let r : IsReady c.args.self.now c.wake.new.self (min c.args.self.now.length c.unwrap_or-at.result) c.unwrap_or-at.result (c.unwrap_or-at.result + length c.args.bytes.now) =
+    rw from at (ready c.args.self.now c.mark-2.new.self c.wake.new.self c.min.result c.unwrap_or-at.result (c.unwrap_or-at.result + length c.args.bytes.now) marked woken) in
+    let place : place_in c.args.self.now c.args.position ≡ c.unwrap_or-at.result = sym (c.unwrap_or-at.ensures ∙ ap (λ (w : WorkingCopy). unwrap_or c.args.position w.position) c.self.view_is) in
+    let over : IsOver c.args.self.now.pages c.wake.new.self.pages c.write_over.new.self.pages c.args.self.now.length c.unwrap_or-at.result (length c.args.bytes.now) =
+    ready_over c.args.self.now c.wake.new.self c.write_over.new.self.pages c.unwrap_or-at.result (length c.args.bytes.now) r c.write_over.ensures.early c.write_over.ensures.late c.write_over.ensures.changed in
+    untouched c.args.self.now.pages c.wake.new.self.pages c.write_over.new.self.pages c.args.self.now.length c.unwrap_or-at.result (length c.args.bytes.now) k over (rw place at apart)
+
+pub returns-clause-stored : goal.returns-clause-stored
+returns-clause-stored c = λ k stored.
+    let from : c.min.result ≡ min c.args.self.now.length c.unwrap_or-at.result = c.min.ensures ∙ ap (λ (w : WorkingCopy). min w.length c.unwrap_or-at.result) c.mark.view_is in
+    let marked : IsMarked c.args.self.now c.mark-2.new.self c.min.result (c.unwrap_or-at.result + length c.args.bytes.now) = record { kept = c.mark-2.ensures.kept; added = c.mark-2.ensures.added; rest = c.mark-2.ensures.rest } in
+    let woken : IsWoken c.mark-2.new.self c.wake.new.self c.unwrap_or-at.result =
+    record { bytes = c.wake.ensures.bytes; alike = c.wake.ensures.alike; others = c.wake.ensures.others; awake = c.wake.ensures.awake; near = c.wake.ensures.near; rest = c.wake.ensures.rest } in
+    let r : IsReady c.args.self.now c.wake.new.self (min c.args.self.now.length c.unwrap_or-at.result) c.unwrap_or-at.result (c.unwrap_or-at.result + length c.args.bytes.now) =
+    rw from at (ready c.args.self.now c.mark-2.new.self c.wake.new.self c.min.result c.unwrap_or-at.result (c.unwrap_or-at.result + length c.args.bytes.now) marked woken) in
+    let place : place_in c.args.self.now c.args.position ≡ c.unwrap_or-at.result = sym (c.unwrap_or-at.ensures ∙ ap (λ (w : WorkingCopy). unwrap_or c.args.position w.position) c.self.view_is) in
+    let over : IsOver c.args.self.now.pages c.wake.new.self.pages c.write_over.new.self.pages c.args.self.now.length c.unwrap_or-at.result (length c.args.bytes.now) =
+    ready_over c.args.self.now c.wake.new.self c.write_over.new.self.pages c.unwrap_or-at.result (length c.args.bytes.now) r c.write_over.ensures.early c.write_over.ensures.late c.write_over.ensures.changed in
+    let pages : length c.args.self.now.pages ≡ blocks c.args.self.now.length = rw (← c.self.view_is) c.self.invariant.0.pages_are in
+    rw place
+    (ready_stored c.args.self.now c.wake.new.self c.write_over.new.self c.unwrap_or-at.result (length c.args.bytes.now) k r over pages (rw place at c.requires.whole)
+    (ap (λ (w : WorkingCopy). w.changed_from) c.write_over.ensures.rest) (ap (λ (w : WorkingCopy). w.changed_to) c.write_over.ensures.rest) stored)
 
 pub returns-clause-count : goal.returns-clause-count
 returns-clause-count c =
-    let same : (k : ℕ) → page_at c.self-2.inside.table.pages k ≡ page_at c.self.inside.table.pages k = rw (← c.self-2.view_is, ← c.self.view_is) at c.stretch.ensures.same in
-    let near : near_count c.self-2.inside.table.pages ≡ near_count c.self.inside.table.pages = rw (← c.self-2.view_is, ← c.self.view_is) at c.stretch.ensures.near in
-    rw (← c.self.view_is, ← c.unwrap_or-at.ensures)
-    (omega (arith, c.copy.ensures.count, added_same c.self.inside.table.pages c.self-2.inside.table.pages c.unwrap_or-at.result (length c.args.bytes.now) same))
+    let from : c.min.result ≡ min c.args.self.now.length c.unwrap_or-at.result = c.min.ensures ∙ ap (λ (w : WorkingCopy). min w.length c.unwrap_or-at.result) c.mark.view_is in
+    let marked : IsMarked c.args.self.now c.mark-2.new.self c.min.result (c.unwrap_or-at.result + length c.args.bytes.now) = record { kept = c.mark-2.ensures.kept; added = c.mark-2.ensures.added; rest = c.mark-2.ensures.rest } in
+    let woken : IsWoken c.mark-2.new.self c.wake.new.self c.unwrap_or-at.result =
+    record { bytes = c.wake.ensures.bytes; alike = c.wake.ensures.alike; others = c.wake.ensures.others; awake = c.wake.ensures.awake; near = c.wake.ensures.near; rest = c.wake.ensures.rest } in
+    let r : IsReady c.args.self.now c.wake.new.self (min c.args.self.now.length c.unwrap_or-at.result) c.unwrap_or-at.result (c.unwrap_or-at.result + length c.args.bytes.now) =
+    rw from at (ready c.args.self.now c.mark-2.new.self c.wake.new.self c.min.result c.unwrap_or-at.result (c.unwrap_or-at.result + length c.args.bytes.now) marked woken) in
+    let place : place_in c.args.self.now c.args.position ≡ c.unwrap_or-at.result = sym (c.unwrap_or-at.ensures ∙ ap (λ (w : WorkingCopy). unwrap_or c.args.position w.position) c.self.view_is) in
+    rw place (omega (arith, c.write_over.ensures.count, r.near, ready_added c.args.self.now c.wake.new.self c.unwrap_or-at.result (length c.args.bytes.now) _ r))
