@@ -1,12 +1,11 @@
 //! With what a trial begins.
 
 ghost use Rattle.std.specs.Prelude.{◌≡◌, [], All, map, IfOk, OnOk, IsTrue};
-ghost use Rattle.std.specs.Option.{option_copied};
 ghost use Rattle.opfs_machine.specs.Openings.{agent_begun, begun};
 ghost use Rattle.opfs_script.specs.Limits.{is_origin_key};
-ghost use Rattle.opfs_trial.specs.Trials.{who_of, trial_opening};
+ghost use Rattle.opfs_stage.specs.Openings.{who_of, trial_opening};
 
-use opfs_base::{Bytes, Key};
+use opfs_base::copy_key;
 use opfs_machine::{Agent, Limits, Many, Own, State};
 use opfs_plain::Plain;
 use opfs_script::{AgentScript, Script};
@@ -18,16 +17,6 @@ fn none<T>(alloc: Global) -> Many<T>
 {
     Many {
         items: Vec::new(alloc),
-    }
-}
-
-/// A copy of a key that may be there.
-pub fn copy_key(alloc: Global, key: Option<&Key>) -> Result<Option<Key>, AllocError>
-    ensures { IfOk result (λ copy. copy ≡ option_copied key.entry) }
-{
-    match key {
-        None => Ok(None),
-        Some(key) => Ok(Some(key.copy(alloc)?)),
     }
 }
 
