@@ -10,7 +10,9 @@ use Rattle.opfs_base.proofs.UnitLemmas.{origin_of-plain}
 use Rattle.opfs_tree.specs.declared.row.Row.{Row}
 use Rattle.opfs_tree.specs.Rows.{Rows, rows_within}
 use Rattle.opfs_tree.specs.Units.{UnitRows, unit_rows, below, values}
-use Rattle.opfs_tree.specs.Sums.{unit_bytes, charge_in, row_charge, entries_within}
+use Rattle.opfs_base.specs.Measures.{unit_bytes}
+use Rattle.opfs_tree.specs.declared.row.Row.TheVariants as row
+use Rattle.opfs_tree.specs.Sums.{charge_in, row_charge, entries_within}
 use Rattle.opfs_tree.proofs.Orders.{tied_texts}
 use Rattle.opfs_tree.proofs.Places.{rows_in_unit}
 
@@ -53,6 +55,12 @@ bytes_none unit le = omega (arith, ap length (bucket_none unit le))
 
 -- ---- the rows of one unit with their places
 
+charge_is : (u : Text) (p : List Text) (r : Row) → row_charge ((u, p), r) ≡ charge_in (unit_bytes u) p r
+charge_is u [] row.Dir = refl
+charge_is u (name ∷ names) row.Dir = refl
+charge_is u [] (row.File f) = refl
+charge_is u (name ∷ names) (row.File f) = refl
+
 module _ (k : Text) (p : List Text) where
   charge_within : (rows : Rows) → sum_by row_charge (entries_within (k, p) rows) ≡ sum_by (λ (e : List Text × Row). charge_in (unit_bytes k) e.0 e.1) (below p (unit_rows k rows))
   charge_within [] = refl
@@ -65,7 +73,7 @@ module _ (k : Text) (p : List Text) where
         | true ↦ λ is. elim (begins_with p e.0.1) as (λ b. sum_by row_charge (cond b (e ∷ inside) inside) ≡ sum_by (cost k) (cond b ((e.0.1, e.1) ∷ own) own)) [
           | true ↦
               let same : e.0.0 ≡ k = sym (tied_texts k e.0.0 is) in
-              sum_by-cons row_charge e inside ∙ (ap (λ n. row_charge e + n) (charge_within es) ∙ (ap (λ u. cost u (e.0.1, e.1) + sum_by (cost k) own) same ∙ sym (sum_by-cons (cost k) (e.0.1, e.1) own)))
+              sum_by-cons row_charge e inside ∙ (ap (λ n. row_charge e + n) (charge_within es) ∙ (ap (λ n. n + sum_by (cost k) own) (charge_is e.0.0 e.0.1 e.1) ∙ (ap (λ u. cost u (e.0.1, e.1) + sum_by (cost k) own) same ∙ sym (sum_by-cons (cost k) (e.0.1, e.1) own))))
           | false ↦ charge_within es
         ]
         | false ↦ λ is. charge_within es

@@ -1,7 +1,8 @@
 //! What rows add to the sums of the store: blocks, and bytes of the charge.
 
 ghost use Rattle.std.specs.Prelude.{◌≡◌, ◌+◌, ◌<◌, ◌^◌};
-ghost use Rattle.opfs_tree.specs.Sums.{unit_bytes, path_bytes, charge_in};
+ghost use Rattle.opfs_base.specs.Measures.{unit_bytes, path_bytes};
+ghost use Rattle.opfs_tree.specs.Sums.{charge_in};
 
 use crate::row::Row;
 use opfs_base::{Key, Path, origin_of};

@@ -1,5 +1,5 @@
 use Rattle.std.proofs.Common.{◌≡◌, ◌+◌, length, drop, sum_by}
-use Rattle.opfs_tree.specs.Sums.{path_bytes}
+use Rattle.opfs_base.specs.Measures.{path_bytes}
 use Rattle.opfs_tree.proofs.sums.path_bytes.Given as goal
 
 abbrev pub invariant-loop-name : goal.invariant-loop-name
