@@ -1,5 +1,5 @@
 -- Working copies of open rows.
-use Rattle.std.proofs.Common.{◌≡◌, ℕ, ◌+◌, ◌*◌, ◌/◌, ◌%◌, ◌<◌, nat_lt, true, List, [], ◌∷◌, ◌++◌, map, length, get_or, slice_index, fold, Some, refl, sym, ap, ◌∙◌, subst, arith}
+use Rattle.std.proofs.Common.{◌≡◌, ◌≢◌, All, ℕ, ◌+◌, ◌*◌, ◌/◌, ◌%◌, ◌<◌, nat_lt, true, List, [], ◌∷◌, ◌++◌, map, length, get_or, slice_index, fold, Some, refl, sym, ap, ◌∙◌, subst, arith}
 use Rattle.std.specs.Prelude.{⊤}
 use Rattle.std.proofs.lemmas.Bool.Decides.{nat_tests}
 use Rattle.std.proofs.lemmas.List.FromFn.{length-map-range_with_len, get_or-map-range_with_len}
@@ -13,12 +13,14 @@ use Rattle.opfs_machine.specs.declared.own.Own.{Own}
 use Rattle.opfs_machine.specs.declared.own.Own.TheVariants as own
 use Rattle.opfs_machine.specs.declared.state.State.{State}
 use Rattle.opfs_machine.specs.Agents.{agent_of, own_of}
-use Rattle.opfs_machine.specs.Histories.{after_entry, state_after}
+use Rattle.opfs_machine.specs.Histories.{Legal, after_entry, state_after}
 use Rattle.opfs_machine.specs.Openings.{Opening, begun}
 use Rattle.opfs_machine.specs.Replies.{block_bytes, sizes_in}
 use Rattle.opfs_steady.specs.Settling.{BytesStay}
 use Rattle.opfs_steady.specs.Steady.{open_bytes, row_bytes, has_page, settles}
+use Rattle.opfs_laws.proofs.Others.{others-left}
 use Rattle.opfs_steady.proofs.GoingOn.{steady-settled, steady-kept}
+use Rattle.opfs_steady.proofs.Others.{others-stay}
 use Rattle.opfs_work.specs.declared.pages.Page.{Page}
 use Rattle.opfs_work.specs.declared.pages.Page.TheVariants.{Zero, Near, Clean, Far}
 use Rattle.opfs_work.specs.Pages.{page_at, page_byte, byte_at, bytes_of}
@@ -105,5 +107,10 @@ stands-kept tells o h more k n work stands stay same =
       held = λ i within is. steady-kept o h more k n i stay (stands.held i within is);
     }
 
+pub stands-others : (tells : Type 0) (o : Opening) (h more rest : List Entry) (k n : ℕ) (work : WorkingCopy) → StandsFor tells o h k n work → Legal o ((h ++ more) ++ rest)
+    → All (λ e. e.agent ≢ k) more → StandsFor tells o (h ++ more) k n work
+stands-others tells o h more rest k n work stands legal all =
+    stands-kept tells o h more k n work stands (others-stay o h more rest k n legal all).0 (ap (λ x. own_of x.0 n) (others-left o h more rest k legal all))
+
 pub copies-stand : ACopyStandsForItsRow
-copies-stand = record { own = contents-own; settled = stands-settled ⊤; kept = stands-kept ⊤ }
+copies-stand = record { own = contents-own; settled = stands-settled ⊤; kept = stands-kept ⊤; others = stands-others ⊤ }

@@ -1,10 +1,10 @@
 -- How long a working copy stands for a row. This project's own.
-use Rattle.std.specs.Prelude.{◌≡◌, ℕ, ⊤, true, List, [], ◌∷◌, ◌++◌, Some, slice_index}
+use Rattle.std.specs.Prelude.{◌≡◌, ◌≢◌, ℕ, ⊤, All, true, List, [], ◌∷◌, ◌++◌, Some, slice_index}
 use Rattle.opfs_base.specs.Texts.{Text}
 use Rattle.opfs_hist.specs.declared.entry.Entry.{Entry}
 use Rattle.opfs_machine.specs.declared.own.Own.{Own}
 use Rattle.opfs_machine.specs.Agents.{agent_of, own_of}
-use Rattle.opfs_machine.specs.Histories.{state_after}
+use Rattle.opfs_machine.specs.Histories.{Legal, state_after}
 use Rattle.opfs_machine.specs.Openings.{Opening}
 use Rattle.opfs_steady.specs.Settling.{BytesStay}
 use Rattle.opfs_steady.specs.Steady.{settles}
@@ -20,3 +20,6 @@ pub record ACopyStandsForItsRow : Type 0 where
   -- It still stands after entries that change neither the row nor its bytes.
   pub kept : (o : Opening) (h more : List Entry) (k n : ℕ) (work : WorkingCopy) → StandsFor ⊤ o h k n work → BytesStay (state_after o h) k n more
       → own_of (agent_of (state_after o (h ++ more)) k) n ≡ own_of (agent_of (state_after o h) k) n → StandsFor ⊤ o (h ++ more) k n work
+  -- So it does after entries of other agents, and evictions.
+  pub others : (o : Opening) (h more rest : List Entry) (k n : ℕ) (work : WorkingCopy) → StandsFor ⊤ o h k n work → Legal o ((h ++ more) ++ rest)
+      → All (λ e. e.agent ≢ k) more → StandsFor ⊤ o (h ++ more) k n work

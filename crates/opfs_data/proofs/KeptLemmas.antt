@@ -9,7 +9,7 @@ use Rattle.std.proofs.lemmas.Cmp.{then_total, on_total, nat_cmp_total}
 use Rattle.std.proofs.lemmas.Map.Entries.{sum_by-set_value, sum_by-insert_entry, sum_by-remove_entry}
 use Rattle.opfs_base.specs.declared.extents.Extent.{Extent}
 use Rattle.opfs_data.specs.declared.page.Page.{Page}
-use Rattle.opfs_data.specs.declared.page.PageWrite.{PageWrite}
+use Rattle.opfs_data.specs.Writes.{PageWrite}
 use Rattle.opfs_data.specs.Pages.{RowSeen, pages_in, resized, with_writes}
 use Rattle.opfs_data.specs.Rows.{Rows, row_cmp, row_of, row_at, no_row, kept_in, kept_count}
 use Rattle.opfs_data.proofs.PlacedLemmas.{kept_less, kept_open}

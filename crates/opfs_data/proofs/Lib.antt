@@ -6,3 +6,4 @@ pub mod RowLemmas
 pub mod RunLemmas
 pub mod SwapLemmas
 pub mod WriteLemmas
+pub mod PlacingLemmas

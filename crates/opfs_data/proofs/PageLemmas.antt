@@ -6,7 +6,7 @@ use Rattle.opfs_outside.specs.Bytes.{Same, window, Beside}
 use Rattle.opfs_outside.specs.Windows.{same_window}
 use Rattle.opfs_data.specs.Places.{run_room, run_place, Aside, AllLie}
 use Rattle.opfs_data.specs.declared.page.Page.{Page}
-use Rattle.opfs_data.specs.declared.page.PageWrite.{PageWrite}
+use Rattle.opfs_data.specs.Writes.{PageWrite}
 use Rattle.opfs_data.specs.Pages.{block_bytes, zeros, bytes_by, page_of, NamesBlock, AreOnce, runs_of, IsApart}
 use Rattle.opfs_data.proofs.RunLemmas.{all_at}
 

@@ -1,17 +1,19 @@
 -- Pages that got their blocks, and how many are kept.
 use Rattle.std.proofs.Common.{◌≡◌, ℕ, zero, suc, ◌+◌, ◌-◌, ◌*◌, ◌<◌, ◌≤◌, ◌++◌, cond, Some, None, is_some, List, [], ◌∷◌, length, get_or, set, take, drop, replicate, inl, inr, refl, sym, ap, subst, ◌∙◌, arith, Result, Ok, Err, OnOk, is_err, false}
-use Rattle.std.specs.List.{sum_by, count_by}
+use Rattle.std.specs.List.{sum_by, count_by, AllByRecursion}
 use Rattle.std.proofs.lemmas.Bool.{cases_lt, false≢true}
-use Rattle.std.proofs.lemmas.List.{length-set, length-append, length-take, length-replicate, get_or-set_same, get_or-set_other, get_or-take, get_or_append_left, take-append-drop}
+use Rattle.std.proofs.lemmas.List.{length-set, length-append, length-take, length-replicate, get_or-set_same, get_or-set_other, get_or-take, get_or_append_left, get_or-append_right, get_or-replicate, take-append-drop}
 use Rattle.std.proofs.lemmas.List.Sums.{sum_by-append, sum_by-set}
 use Rattle.std.proofs.lemmas.List.Folds.{sum_by-replicate}
 use Rattle.opfs_base.specs.declared.extents.Extent.{Extent}
 use Rattle.opfs_outside.specs.Bytes.{Same}
 use Rattle.opfs_data.specs.Places.{Aside}
 use Rattle.opfs_data.specs.declared.page.Page.{Page}
-use Rattle.opfs_data.specs.declared.page.PageWrite.{PageWrite}
+use Rattle.opfs_data.specs.Writes.{PageWrite, Run, run_pages, run_writes, writes_of, source_bytes}
 use Rattle.opfs_data.specs.Pages.{block_bytes, page_of, blank, runs_of, resized, with_writes, pages_from, pages_in, NamesPage, AreOnce, AreOwn}
 use Rattle.opfs_data.proofs.PageLemmas.{page_stays}
+use Rattle.opfs_data.proofs.RunLemmas.{all_at}
+use Rattle.opfs_data.proofs.WriteLemmas.{all_append, all_left, all_right}
 
 -- what holds of an Ok holds where there was no error
 pub ok_holds : {X E : Type 0} (result : Result X E) (P : Type 0) → false ≡ is_err result → OnOk result P → P
@@ -56,6 +58,32 @@ written_reads c base n old new ws k d is once lt below bytes =
     ∙ ap (λ (p : Page). page_of c base p) (with_writes_at ws (resized n old) k d once lt (omega (arith, below, length-resized n old)))
     ∙ bytes
 
+-- whether pages are below a number does not depend on their bytes
+pages_below : (n : ℕ) (bytes other : List ℕ) (page block from count : ℕ) → AllByRecursion (λ w. w.page < n) (run_pages bytes page block from count) → AllByRecursion (λ w. w.page < n) (run_pages other page block from count)
+pages_below n bytes other page block from zero all = tt
+pages_below n bytes other page block from (suc count) all = (all.0, pages_below n bytes other (page + 1) (block + 1) (from + 4096) count all.1)
+
+runs_below : (n : ℕ) (own given : List ℕ) (runs : List Run) → AllByRecursion (λ w. w.page < n) (writes_of own given runs) → AllByRecursion (λ w. w.page < n) (writes_of [] [] runs)
+runs_below n own given [] all = tt
+runs_below n own given (r ∷ runs) all =
+    all_append (λ w. w.page < n) (run_writes [] [] r) (writes_of [] [] runs)
+    (pages_below n (source_bytes own given r.source) (source_bytes [] [] r.source) r.page r.block r.from r.count (all_left (λ w. w.page < n) (run_writes own given r) (writes_of own given runs) all))
+    (runs_below n own given runs (all_right (λ w. w.page < n) (run_writes own given r) (writes_of own given runs) all))
+
+pub below_all : (n : ℕ) (pages : List Page) (own given : List ℕ) (runs : List Run) → AllByRecursion (λ w. w.page < n) (writes_of own given runs) → AllByRecursion (λ w. w.page < length (resized n pages)) (writes_of [] [] runs)
+below_all n pages own given runs all = rw (length-resized n pages) (runs_below n own given runs all)
+
+all_from : (P : PageWrite → Type 0) (ws : List PageWrite) → ((k : ℕ) (d : PageWrite) → k < length ws → P (get_or ws k d)) → AllByRecursion P ws
+all_from P [] each = tt
+all_from P (w ∷ ws) each = (each 0 w (omega arith), all_from P ws (λ k d lt. each (suc k) d (omega arith)))
+
+-- the pages that were written have their bytes
+pub given_reads : (c : List ℕ) (base n : ℕ) (old new : List Page) (ws : List PageWrite) → new ≡ with_writes ws (resized n old) → AreOnce ws → AllByRecursion (λ w. w.page < n) ws
+    → AllByRecursion (λ w. block_bytes c base w.block ≡ w.bytes) ws → AllByRecursion (λ w. page_of c base (get_or new w.page blank) ≡ w.bytes) ws
+given_reads c base n old new ws is once below bytes =
+    all_from (λ w. page_of c base (get_or new w.page blank) ≡ w.bytes) ws
+    (λ k d lt. written_reads c base n old new ws k d is once lt (all_at (λ (w : PageWrite). w.page < n) ws k d lt below) (all_at (λ (w : PageWrite). block_bytes c base w.block ≡ w.bytes) ws k d lt bytes))
+
 -- a page that is not written reads as before
 pub rest_reads : (c c' : List ℕ) (base n : ℕ) (old new : List Page) (ws : List PageWrite) (j : ℕ) → new ≡ with_writes ws (resized n old) → AreOwn old ws → Same (Aside base (runs_of ws)) c' c
     → j < n → j < length old → (NamesPage ws j → ⊥) → page_of c' base (get_or new j blank) ≡ page_of c base (get_or old j blank)
@@ -63,6 +91,21 @@ rest_reads c c' base n old new ws j is own same below there none =
     ap (λ (ps : List Page). page_of c' base (get_or ps j blank)) is
     ∙ ap (λ (p : Page). page_of c' base p) (with_writes_other ws (resized n old) j none ∙ resized_at n old j below there)
     ∙ page_stays c c' base ws (get_or old j blank) same (λ k d within kept block. none (subst (NamesPage ws) (sym (own k j d within there block)) (names_page ws k d within)))
+
+length-with_writes : (ws : List PageWrite) (pages : List Page) → length (with_writes ws pages) ≡ length pages
+length-with_writes [] pages = refl
+length-with_writes (w ∷ ws) pages = length-with_writes ws (set pages w.page (page_in w)) ∙ length-set pages w.page (page_in w)
+
+-- after a write there are so many pages, and new ones that were not written have nothing
+pub written_size : (n : ℕ) (old new : List Page) (ws : List PageWrite) → new ≡ with_writes ws (resized n old) → length new ≡ n
+written_size n old new ws is = ap (length {A = Page}) is ∙ length-with_writes ws (resized n old) ∙ length-resized n old
+
+pub written_fresh : (n : ℕ) (old new : List Page) (ws : List PageWrite) (j : ℕ) → new ≡ with_writes ws (resized n old) → length old ≤ j → j < n → (NamesPage ws j → ⊥) → get_or new j blank ≡ blank
+written_fresh n old new ws j is past below none =
+    ap (λ (ps : List Page). get_or ps j blank) is
+    ∙ with_writes_other ws (resized n old) j none
+    ∙ get_or-append_right (take n old) (replicate (n - length old) blank) (length old) j blank (omega (arith, length-take n old)) past
+    ∙ get_or-replicate (n - length old) (j - length old) blank blank (omega arith)
 
 -- ---- kept pages
 

@@ -1,15 +1,16 @@
 -- The pages of a row.
-use Rattle.std.proofs.Common.{◌≡◌, ℕ, zero, suc, ◌+◌, ◌<◌, Some, None, List, [], ◌∷◌, ◌++◌, ◌⊎◌, length, get_or, set, inl, inr, refl, sym, ap, subst, ◌∙◌, arith}
+use Rattle.std.proofs.Common.{◌≡◌, ℕ, zero, suc, ◌+◌, ◌<◌, Some, None, List, [], ◌∷◌, ◌++◌, ◌⊎◌, length, get_or, set, inl, inr, refl, sym, ap, subst, ◌∙◌, append_assoc, arith}
 use Rattle.std.specs.List.{AllByRecursion}
-use Rattle.std.proofs.lemmas.Bool.{cases_eq, cases_lt}
+use Rattle.std.proofs.lemmas.Bool.{cases_eq}
 use Rattle.std.proofs.lemmas.List.{length-set, get_or-set_same, get_or-set_other}
 use Rattle.opfs_data.specs.declared.page.Page.{Page}
-use Rattle.opfs_data.specs.declared.page.PageWrite.{PageWrite}
+use Rattle.opfs_data.specs.Writes.{PageWrite}
 use Rattle.opfs_data.specs.declared.page.SavedPage.{SavedPage}
 use Rattle.opfs_outside.specs.Bytes.{Same}
 use Rattle.opfs_data.specs.Places.{Aside}
-use Rattle.opfs_data.specs.Pages.{page_of, blank, keep_at, with_kept, runs_of, IsAgain, IsSaved, AreSavedOf, AreSaved, AreNow, AreOwn, pages_from}
-use Rattle.opfs_data.proofs.PageLemmas.{page_stays, page_kept, item_is}
+use Rattle.opfs_data.specs.Pages.{page_of, blank, keep_at, with_kept, runs_of, IsAgain, HasAgain, IsSaved, AreSaved, AreNow, AreOwn, pages_from}
+use Rattle.opfs_data.proofs.PageLemmas.{page_stays, page_kept}
+use Rattle.opfs_data.proofs.RunLemmas.{all_at}
 
 all_front : {X : Type 0} (P : X → Type 0) (xs ys : List X) → AllByRecursion P (xs ++ ys) → AllByRecursion P xs
 all_front P [] ys all = tt
@@ -86,7 +87,7 @@ left_all c c' base saved pages ws now all own same j lt = elim (kept_at c base s
       ap (λ (v : Page). page_of c' base v) was.0
       ∙ page_stays c c' base ws (get_or pages j blank) same (λ k e within kept block.
       let at_page : j ≡ (get_or ws k e).page = own k j e within lt block in
-      was.1 (subst (IsSaved saved) (sym at_page) (all.all k e within (omega (arith, at_page), ap (λ (n : ℕ). (get_or pages n blank).block) (sym at_page) ∙ block))))
+      was.1 (subst (IsSaved saved) (sym at_page) (all_at (λ (w : PageWrite). IsAgain pages w → IsSaved saved w.page) ws k e within all.all (omega (arith, at_page), ap (λ (n : ℕ). (get_or pages n blank).block) (sym at_page) ∙ block))))
   | inr kept ↦ page_kept c' base (get_or (with_kept saved pages) j blank) kept.bytes kept.kept ∙ kept.same
 ]
 
@@ -107,40 +108,58 @@ saved_split (x ∷ xs) s page there = elim there [
   | inr more ↦ elim (saved_split xs s page more) [ inl left ↦ inl (inr left) | inr is ↦ inr is ]
 ]
 
+append_end : {X : Type 0} (xs : List X) → xs ++ [] ≡ xs
+append_end {X = X} [] = refl
+append_end {X = X} (x ∷ xs) = ap (λ (l : List X). x ∷ l) (append_end xs)
+
 all_push : {X : Type 0} (P : X → Type 0) (xs : List X) (x : X) → AllByRecursion P xs → P x → AllByRecursion P (xs ++ x ∷ [])
 all_push P [] x all here = (here, tt)
 all_push P (y ∷ xs) x all here = (all.0, all_push P xs x all.1 here)
 
-pub saved_skip : (n : ℕ) (saved : List SavedPage) (pages : List Page) (ws : List PageWrite) (w : PageWrite) → w ≡ get_or ws n w → n < length ws → (IsAgain pages w → ⊥)
-    → AreSavedOf n saved pages ws → AreSavedOf (n + 1) saved pages ws
-saved_skip n saved pages ws w is lt never before = record {
-  all = λ k d below again. elim (cases_lt k n) [
-    | inl less ↦ before.all k d less again
-    | inr not_less ↦ absurd (never (subst (IsAgain pages) (item_is ws k n d w (omega arith) is lt) again))
-  ];
+again_left : (pages : List Page) (ws : List PageWrite) (w : PageWrite) (page : ℕ) → HasAgain pages ws page → HasAgain pages (ws ++ w ∷ []) page
+again_left pages [] w page there = absurd there
+again_left pages (v ∷ ws) w page there = elim there [ inl is ↦ inl is | inr more ↦ inr (again_left pages ws w page more) ]
+
+again_last : (pages : List Page) (ws : List PageWrite) (w : PageWrite) → IsAgain pages w → HasAgain pages (ws ++ w ∷ []) w.page
+again_last pages [] w again = inl (refl, again)
+again_last pages (v ∷ ws) w again = inr (again_last pages ws w again)
+
+all_change : {X : Type 0} (P Q : X → Type 0) → ((x : X) → P x → Q x) → (xs : List X) → AllByRecursion P xs → AllByRecursion Q xs
+all_change P Q f [] all = tt
+all_change P Q f (x ∷ xs) all = (f x all.0, all_change P Q f xs all.1)
+
+pub saved_none : (pages : List Page) → AreSaved [] pages []
+saved_none pages = record { all = tt; inside = tt; only = tt }
+
+pub saved_skip : (saved : List SavedPage) (pages : List Page) (ws : List PageWrite) (w : PageWrite) → (IsAgain pages w → ⊥) → AreSaved saved pages ws → AreSaved saved pages (ws ++ w ∷ [])
+saved_skip saved pages ws w never before = record {
+  all = all_push (λ (v : PageWrite). IsAgain pages v → IsSaved saved v.page) ws w before.all (λ again. absurd (never again));
   inside = before.inside;
-  only = λ page there. let found = before.only page there in (found.0, omega (arith, found.1), found.2);
+  only = all_change (λ (s : SavedPage). HasAgain pages ws s.page) (λ (s : SavedPage). HasAgain pages (ws ++ w ∷ []) s.page) (λ s there. again_left pages ws w s.page there) saved before.only;
 }
 
-pub saved_push : (n : ℕ) (saved : List SavedPage) (pages : List Page) (ws : List PageWrite) (w : PageWrite) (s : SavedPage) → w ≡ get_or ws n w → n < length ws → IsAgain pages w → s.page ≡ w.page
-    → AreSavedOf n saved pages ws → AreSavedOf (n + 1) (saved ++ s ∷ []) pages ws
-saved_push n saved pages ws w s is lt again at_page before = record {
-  all = λ k d below again'. elim (cases_lt k n) [
-    | inl less ↦ saved_left saved s (get_or ws k d).page (before.all k d less again')
-    | inr not_less ↦ subst (IsSaved (saved ++ s ∷ [])) (at_page ∙ ap (λ (v : PageWrite). v.page) (sym (item_is ws k n d w (omega arith) is lt))) (saved_last saved s)
-  ];
+pub saved_push : (saved : List SavedPage) (pages : List Page) (ws : List PageWrite) (w : PageWrite) (s : SavedPage) → IsAgain pages w → s.page ≡ w.page
+    → AreSaved saved pages ws → AreSaved (saved ++ s ∷ []) pages (ws ++ w ∷ [])
+saved_push saved pages ws w s again at_page before = record {
+  all = all_push (λ (v : PageWrite). IsAgain pages v → IsSaved (saved ++ s ∷ []) v.page) ws w
+      (all_change (λ (v : PageWrite). IsAgain pages v → IsSaved saved v.page) (λ (v : PageWrite). IsAgain pages v → IsSaved (saved ++ s ∷ []) v.page) (λ v there again'. saved_left saved s v.page (there again')) ws before.all)
+      (λ _. subst (IsSaved (saved ++ s ∷ [])) at_page (saved_last saved s));
   inside = all_push (λ (t : SavedPage). t.page < length pages) saved s before.inside (omega (arith, again.0, at_page));
-  only = λ page there. elim (saved_split saved s page there) [
-    | inl left ↦ let found = before.only page left in (found.0, omega (arith, found.1), found.2)
-    | inr here ↦ (
-      n,
-      omega arith,
-      λ d.
-          let item : w ≡ get_or ws n d = sym (item_is ws n n d w refl is lt) in
-          (ap (λ (v : PageWrite). v.page) (sym item) ∙ sym at_page ∙ here, subst (IsAgain pages) item again),
-    )
-  ];
+  only = all_push (λ (t : SavedPage). HasAgain pages (ws ++ w ∷ []) t.page) saved s
+      (all_change (λ (t : SavedPage). HasAgain pages ws t.page) (λ (t : SavedPage). HasAgain pages (ws ++ w ∷ []) t.page) (λ t there. again_left pages ws w t.page there) saved before.only)
+      (subst (HasAgain pages (ws ++ w ∷ [])) (sym at_page) (again_last pages ws w again));
 }
+
+-- more pages, none of which is written again in its own block
+pub saved_more : (saved : List SavedPage) (pages : List Page) (ws more : List PageWrite) → AllByRecursion (λ w. IsAgain pages w → ⊥) more → AreSaved saved pages ws → AreSaved saved pages (ws ++ more)
+saved_more saved pages ws [] never before = subst (AreSaved saved pages) (sym (append_end ws)) before
+saved_more saved pages ws (w ∷ more) never before =
+    subst (AreSaved saved pages) (append_assoc ws (w ∷ []) more) (saved_more saved pages (ws ++ w ∷ []) more never.1 (saved_skip saved pages ws w never.0 before))
+
+-- a page that is not written again in its own block is not saved
+pub saved_again : (saved : List SavedPage) (pages : List Page) (ws : List PageWrite) (page : ℕ) → AllByRecursion (λ s. HasAgain pages ws s.page) saved → IsSaved saved page → HasAgain pages ws page
+saved_again [] pages ws page only there = absurd there
+saved_again (s ∷ saved) pages ws page only there = elim there [ inl is ↦ subst (HasAgain pages ws) is only.0 | inr more ↦ saved_again saved pages ws page only.1 more ]
 
 pub now_push : (c : List ℕ) (base : ℕ) (pages : List Page) (saved : List SavedPage) (s : SavedPage) (p : Page) → AreNow c base pages saved → p ≡ get_or pages s.page p → s.page < length pages → s.bytes ≡ page_of c base p
     → AreNow c base pages (saved ++ s ∷ [])

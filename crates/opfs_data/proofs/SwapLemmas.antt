@@ -11,7 +11,7 @@ use Rattle.std.proofs.lemmas.Bool.{false_from_ne_true, cases_eq}
 use Rattle.std.proofs.lemmas.Map.Lookups.{exact_pairs, exact_unsigned}
 use Rattle.opfs_data.specs.declared.page.Page.{Page}
 use Rattle.opfs_data.specs.Pages.{RowSeen, blank, page_of, IsApart}
-use Rattle.opfs_data.specs.declared.page.PageWrite.{PageWrite}
+use Rattle.opfs_data.specs.Writes.{PageWrite}
 use Rattle.opfs_data.specs.Rows.{Rows, AreFree, row_cmp, row_of, row_at, pages_at, page_at, no_row, kept_in, IsOther, OthersStay}
 
 equal : (o : Ordering) → is_eq o ≡ true → o ≡ Equal

@@ -1,10 +1,11 @@
 -- Pages of working copies in blocks. A page has 4,096 bytes. This project's own.
-use Rattle.std.specs.Prelude.{◌≡◌, ℕ, ◌+◌, ◌-◌, ◌*◌, ◌<◌, ◌++◌, length, take, slice_set, slice_index_or, ◌==◌, ◌≤◌, ◌⊎◌, Bool, true, false, Option, Some, None, List, [], ◌∷◌, map, replicate}
+use Rattle.std.specs.Prelude.{◌≡◌, ℕ, ◌+◌, ◌-◌, ◌*◌, ◌^◌, ◌<◌, ◌++◌, length, take, slice_set, slice_index_or, ◌≤◌, ◌⊎◌, Option, Some, None, List, [], ◌∷◌, map, replicate}
 use Rattle.std.specs.List.{AllByRecursion, flat_map, range_with_len}
 use Rattle.opfs_base.specs.declared.extents.Extent.{Extent}
 use Rattle.opfs_outside.specs.Bytes.{window}
+use Rattle.opfs_journal.specs.declared.areas.Areas.{Areas}
 use Rattle.opfs_data.specs.declared.page.Page.{Page}
-use Rattle.opfs_data.specs.declared.page.PageWrite.{PageWrite}
+use Rattle.opfs_data.specs.Writes.{PageWrite}
 use Rattle.opfs_data.specs.declared.page.SavedPage.{SavedPage}
 
 -- the bytes of a block, and 4,096 zeros
@@ -36,15 +37,6 @@ NamesBlock (w ∷ more) block = (w.block ≡ block) ⊎ NamesBlock more block
 abbrev pub AreOnce : List PageWrite → Type 0
 AreOnce [] = Unit {0}
 AreOnce (w ∷ more) = (NamesPage more w.page → ⊥) × (NamesBlock more w.block → ⊥) × AreOnce more
-
--- the list with another block of this page
-abbrev pub placed_if : Bool → PageWrite → ℕ → List PageWrite → List PageWrite → List PageWrite
-placed_if true w block more rest = record w { block = block } ∷ more
-placed_if false w block more rest = w ∷ rest
-
-abbrev pub placed : List PageWrite → ℕ → ℕ → List PageWrite
-placed [] page block = []
-placed (w ∷ more) page block = placed_if (w.page == page) w block more (placed more page block)
 
 -- the runs that the list writes into, each of one block
 abbrev pub runs_of : List PageWrite → List Extent
@@ -87,14 +79,16 @@ abbrev pub IsSaved : List SavedPage → ℕ → Type 0
 IsSaved [] page = ⊥
 IsSaved (s ∷ more) page = (s.page ≡ page) ⊎ IsSaved more page
 
--- Of the first n of the list, just the pages that are to be written again in their own block are saved.
-pub record AreSavedOf (n : ℕ) (saved : List SavedPage) (pages : List Page) (writes : List PageWrite) : Type 0 where
-  pub all : (k : ℕ) (d : PageWrite) → k < n → IsAgain pages (slice_index_or writes k d) → IsSaved saved (slice_index_or writes k d).page
-  pub inside : AllByRecursion (λ s. s.page < length pages) saved
-  pub only : (page : ℕ) → IsSaved saved page → (k : ℕ) × (k < n) × ((d : PageWrite) → ((slice_index_or writes k d).page ≡ page) × IsAgain pages (slice_index_or writes k d))
+-- a page of the list that is to be written again in its own block has this number
+abbrev pub HasAgain : List Page → List PageWrite → ℕ → Type 0
+HasAgain pages [] page = ⊥
+HasAgain pages (w ∷ more) page = ((w.page ≡ page) × IsAgain pages w) ⊎ HasAgain pages more page
 
-abbrev pub AreSaved : List SavedPage → List Page → List PageWrite → Type 0
-AreSaved saved pages writes = AreSavedOf (length writes) saved pages writes
+-- Just the pages of the list that are to be written again in their own block are saved.
+pub record AreSaved (saved : List SavedPage) (pages : List Page) (writes : List PageWrite) : Type 0 where
+  pub all : AllByRecursion (λ w. IsAgain pages w → IsSaved saved w.page) writes
+  pub inside : AllByRecursion (λ s. s.page < length pages) saved
+  pub only : AllByRecursion (λ s. HasAgain pages writes s.page) saved
 
 -- what is saved are the pages as they are
 abbrev pub AreNow : List ℕ → ℕ → List Page → List SavedPage → Type 0
@@ -120,3 +114,8 @@ pub record RowSeen : Type 0 where
   pub pages : List Page
   pub room : ℕ
   pub saved : Option (List SavedPage)
+
+-- The data part begins at a byte of the disk: behind the areas, and before 2^63.
+pub record IsDataPart (areas : Areas) (base : ℕ) : Type 0 where
+  pub behind : areas.first + 2 * areas.bytes ≤ base
+  pub small : base < 2 ^ 63

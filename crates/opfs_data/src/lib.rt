@@ -2,8 +2,10 @@
 #![tactic(auto)]
 
 mod page;
+mod page_run;
 mod paged_row;
 mod pages;
+mod places;
 mod placing;
 mod refusal;
 mod row;
@@ -11,7 +13,8 @@ mod runs;
 mod swap;
 mod writes;
 
-pub use page::{Page, PageBytes, PageWrite, SavedPage};
+pub use page::{Page, PageBytes, SavedPage};
+pub use page_run::{PageRun, Source};
 pub use paged_row::PagedRow;
 pub use refusal::DataRefusal;
 pub use runs::{load, store};

@@ -59,17 +59,6 @@ pub struct Page {
     pub kept: Option<PageBytes>,
 }
 
-/// A page that is to be written into a block.
-#[derive(Debug, Drop)]
-pub struct PageWrite {
-    /// The page's number in its row.
-    pub page: u64,
-    /// The block's number.
-    pub block: u32,
-    /// The bytes that the page gets.
-    pub bytes: PageBytes,
-}
-
 /// A page with bytes that were saved of it.
 #[derive(Debug, Drop)]
 pub struct SavedPage {

@@ -6,8 +6,8 @@ ghost use Rattle.opfs_outside.specs.Faults.{Rose};
 ghost use Rattle.opfs_data.specs.Calls.{Reads, Writes};
 ghost use Rattle.opfs_data.specs.Places.{AllLie};
 ghost use Rattle.opfs_data.specs.declared.page.Page.{Page};
-ghost use Rattle.opfs_data.specs.declared.page.PageWrite.{PageWrite};
-ghost use Rattle.opfs_data.specs.Pages.{block_bytes, page_of, blank, runs_of, resized, with_writes, pages_in, NamesPage, IsAgain, AreSaved, AreNow, AreOwn, IsApart, LiesIn};
+ghost use Rattle.opfs_data.specs.Writes.{page_writes, AreWithin};
+ghost use Rattle.opfs_data.specs.Pages.{block_bytes, page_of, blank, runs_of, resized, with_writes, pages_in, NamesPage, HasAgain, AreOnce, AreSaved, AreNow, AreOwn, IsApart, LiesIn, IsDataPart};
 
 use crate::page::{Page, SavedPage};
 use crate::pages::read_page;
@@ -110,8 +110,7 @@ impl PagedRow {
         requires there { page < length self.now.pages }
         requires whole { length into.old ≡ 4096 }
         requires lies { LiesIn base (D.size journal.old.disk) (slice_index_or self.now.pages page blank).block }
-        requires behind { journal.old.areas.first + 2 * journal.old.areas.bytes ≤ base }
-        requires small { base < 2 ^ 63 }
+        requires part { IsDataPart journal.old.areas base }
         ensures reads { Reads D.tells D.size D.content D.moment D.since D.faults journal.old journal.new }
         ensures read { OnOk result (D.tells → into.new ≡ page_of (D.content journal.old.disk) base (slice_index_or self.now.pages page blank)) }
         ensures cause { OnErr result (Rose (D.faults journal.old.disk) (D.faults journal.new.disk)) }
@@ -131,18 +130,17 @@ impl PagedRow {
         writes: &PageWrites,
     ) -> Result<(), DataRefusal>
         requires lies { AllByRecursion (λ page. LiesIn base (D.size journal.old.disk) page.block) self.old.pages }
-        requires behind { journal.old.areas.first + 2 * journal.old.areas.bytes ≤ base }
-        requires small { base < 2 ^ 63 }
+        requires part { IsDataPart journal.old.areas base }
         ensures same { self.new.pages ≡ self.old.pages }
         ensures room { OnOk result (pages ≤ self.new.room) }
-        ensures saved { OnOk result (MatchOption self.new.saved ⊥ (λ saved. AreSaved saved self.new.pages writes.now)) }
+        ensures saved { OnOk result (MatchOption self.new.saved ⊥ (λ saved. (given : List ℕ) → AreSaved saved self.new.pages (page_writes writes.now given))) }
         ensures now { OnOk result (D.tells → MatchOption self.new.saved ⊥ (λ saved. AreNow (D.content journal.new.disk) base self.new.pages saved)) }
         ensures reads { Reads D.tells D.size D.content D.moment D.since D.faults journal.old journal.new }
         ensures cause { IsErrOf result DataRefusal.DiskFault → Rose (D.faults journal.old.disk) (D.faults journal.new.disk) }
     {
         let missing = (pages as usize).saturating_sub(self.pages.len());
         self.pages.reserve(missing)?;
-        let saved = save_pages(alloc, journal, base, &self.pages, writes.as_slice())?;
+        let saved = save_pages(alloc, journal, base, &self.pages, writes.runs())?;
         self.saved = Some(saved);
         Ok(())
     }
@@ -155,40 +153,41 @@ impl PagedRow {
         base: u64,
         pages: u64,
         writes: &PageWrites,
+        given: &[u8],
     ) -> Result<(), DiskFault>
         requires settled { journal.old.in_doubt ≡ false }
-        requires lies { AllLie base (D.size journal.old.disk) (runs_of writes.now) }
-        requires behind { journal.old.areas.first + 2 * journal.old.areas.bytes ≤ base }
-        requires small { base < 2 ^ 63 }
-        requires inside { (k : ℕ) (d : PageWrite) → k < length writes.now → (slice_index_or writes.now k d).page < pages }
+        requires lies { AllLie base (D.size journal.old.disk) (runs_of (page_writes writes.now given.now)) }
+        requires part { IsDataPart journal.old.areas base }
+        requires within { AreWithin writes.now.own given.now writes.now.runs }
+        requires once { AreOnce (page_writes writes.now given.now) }
+        requires inside { AllByRecursion (λ w. w.page < pages) (page_writes writes.now given.now) }
         requires room { pages ≤ self.old.room }
-        requires saved { MatchOption self.old.saved ⊥ (λ saved. AreSaved saved self.old.pages writes.now) }
+        requires saved { MatchOption self.old.saved ⊥ (λ saved. AreSaved saved self.old.pages (page_writes writes.now given.now)) }
         requires now { D.tells → MatchOption self.old.saved ⊥ (λ saved. AreNow (D.content journal.old.disk) base self.old.pages saved) }
-        requires own { AreOwn self.old.pages writes.now }
+        requires own { AreOwn self.old.pages (page_writes writes.now given.now) }
         ensures none { self.new.saved ≡ None }
-        ensures pages { OnOk result (self.new.pages ≡ with_writes writes.now (resized pages self.old.pages)) }
-        ensures bytes { OnOk result (D.tells → (k : ℕ) (d : PageWrite) → k < length writes.now
-            → block_bytes (D.content journal.new.disk) base (slice_index_or writes.now k d).block ≡ (slice_index_or writes.now k d).bytes) }
-        ensures given { OnOk result (D.tells → (k : ℕ) (d : PageWrite) → k < length writes.now
-            → page_of (D.content journal.new.disk) base (slice_index_or self.new.pages (slice_index_or writes.now k d).page blank) ≡ (slice_index_or writes.now k d).bytes) }
-        ensures rest { OnOk result (D.tells → (j : ℕ) → j < pages → j < length self.old.pages → (NamesPage writes.now j → ⊥)
+        ensures pages { OnOk result (self.new.pages ≡ with_writes (page_writes writes.now given.now) (resized pages self.old.pages)) }
+        ensures size { OnOk result (length self.new.pages ≡ pages) }
+        ensures fresh { OnOk result ((j : ℕ) → length self.old.pages ≤ j → j < pages → (NamesPage (page_writes writes.now given.now) j → ⊥) → slice_index_or self.new.pages j blank ≡ blank) }
+        ensures bytes { OnOk result (D.tells → AllByRecursion (λ w. block_bytes (D.content journal.new.disk) base w.block ≡ w.bytes) (page_writes writes.now given.now)) }
+        ensures given { OnOk result (D.tells → AllByRecursion (λ w. page_of (D.content journal.new.disk) base (slice_index_or self.new.pages w.page blank) ≡ w.bytes) (page_writes writes.now given.now)) }
+        ensures rest { OnOk result (D.tells → (j : ℕ) → j < pages → j < length self.old.pages → (NamesPage (page_writes writes.now given.now) j → ⊥)
             → page_of (D.content journal.new.disk) base (slice_index_or self.new.pages j blank) ≡ page_of (D.content journal.old.disk) base (slice_index_or self.old.pages j blank)) }
         ensures left { OnErr result (D.tells → (j : ℕ) → j < length self.old.pages
             → page_of (D.content journal.new.disk) base (slice_index_or self.new.pages j blank) ≡ page_of (D.content journal.old.disk) base (slice_index_or self.old.pages j blank)) }
         ensures len { OnErr result (length self.new.pages ≡ length self.old.pages) }
         ensures blocks { OnErr result ((j : ℕ) → (slice_index_or self.new.pages j blank).block ≡ (slice_index_or self.old.pages j blank).block) }
-        ensures newly { OnErr result ((j : ℕ) → ((k : ℕ) (d : PageWrite) → k < length writes.now → (slice_index_or writes.now k d).page ≡ j → IsAgain self.old.pages (slice_index_or writes.now k d) → ⊥)
+        ensures newly { OnErr result ((j : ℕ) → (HasAgain self.old.pages (page_writes writes.now given.now) j → ⊥)
             → slice_index_or self.new.pages j blank ≡ slice_index_or self.old.pages j blank) }
-        ensures apart { D.tells → (page : Page) → IsApart page writes.now → page_of (D.content journal.new.disk) base page ≡ page_of (D.content journal.old.disk) base page }
-        ensures writes { Writes D.tells D.size D.content D.moment D.since D.faults base (runs_of writes.now) journal.old journal.new }
+        ensures apart { D.tells → (page : Page) → IsApart page (page_writes writes.now given.now) → page_of (D.content journal.new.disk) base page ≡ page_of (D.content journal.old.disk) base page }
+        ensures writes { Writes D.tells D.size D.content D.moment D.since D.faults base (runs_of (page_writes writes.now given.now)) journal.old journal.new }
         ensures cause { OnErr result (Rose (D.faults journal.old.disk) (D.faults journal.new.disk)) }
     {
         let Some(saved) = self.saved.take() else {
             unreachable!();
         };
-        let writes = writes.as_slice();
         let count = pages as usize;
-        if write_row(journal, base, &mut self.pages, saved, count, writes).is_err() {
+        if write_row(journal, base, &mut self.pages, saved, count, writes, given).is_err() {
             self.kept = count_kept(&self.pages);
             return Err(DiskFault);
         }

@@ -1,12 +1,14 @@
 // Pages read from their blocks, and written into them.
 ghost use Rattle.std.specs.Prelude.{◌≡◌, ◌+◌, ◌*◌, ◌^◌, ◌<◌, ◌≤◌, ℕ, List, Some, None, false, length, slice_index_or, OnOk, OnErr};
+ghost use Rattle.std.specs.List.{AllByRecursion};
 ghost use Rattle.opfs_outside.specs.Faults.{Rose};
 ghost use Rattle.opfs_data.specs.Calls.{Reads, Writes};
 ghost use Rattle.opfs_data.specs.Places.{AllLie};
-ghost use Rattle.opfs_data.specs.declared.page.PageWrite.{PageWrite};
-ghost use Rattle.opfs_data.specs.Pages.{block_bytes, page_of, runs_of, AreOnce, LiesIn};
+ghost use Rattle.opfs_data.specs.Writes.{writes_of, AreWithin};
+ghost use Rattle.opfs_data.specs.Pages.{block_bytes, page_of, runs_of, AreOnce, LiesIn, IsDataPart};
 
-use crate::page::{Page, PageWrite};
+use crate::page::Page;
+use crate::page_run::PageRun;
 use opfs_journal::{DiskFault, Journal};
 use opfs_outside::Disk;
 
@@ -30,8 +32,7 @@ pub fn read_page<D: Disk>(
 ) -> Result<(), DiskFault>
     requires whole { length into.old ≡ 4096 }
     requires lies { LiesIn base (D.size journal.old.disk) page.now.block }
-    requires behind { journal.old.areas.first + 2 * journal.old.areas.bytes ≤ base }
-    requires small { base < 2 ^ 63 }
+    requires part { IsDataPart journal.old.areas base }
     ensures reads { Reads D.tells D.size D.content D.moment D.since D.faults journal.old journal.new }
     ensures read { OnOk result (D.tells → into.new ≡ page_of (D.content journal.old.disk) base page.now) }
     ensures cause { OnErr result (Rose (D.faults journal.old.disk) (D.faults journal.new.disk)) }
@@ -48,26 +49,27 @@ pub fn read_page<D: Disk>(
     Ok(())
 }
 
-/// Writes the pages of a list into their blocks.
+/// Writes the pages of runs into their blocks, by one put for each run.
 pub fn put_pages<D: Disk>(
     journal: &mut Journal<D>,
     base: u64,
-    writes: &[PageWrite],
+    runs: &[PageRun],
+    own: &[u8],
+    given: &[u8],
 ) -> Result<(), DiskFault>
     requires settled { journal.old.in_doubt ≡ false }
-    requires lies { AllLie base (D.size journal.old.disk) (runs_of writes.now) }
-    requires behind { journal.old.areas.first + 2 * journal.old.areas.bytes ≤ base }
-    requires small { base < 2 ^ 63 }
-    requires once { AreOnce writes.now }
-    ensures writes { Writes D.tells D.size D.content D.moment D.since D.faults base (runs_of writes.now) journal.old journal.new }
-    ensures written { OnOk result (D.tells → (k : ℕ) (d : PageWrite) → k < length writes.now
-        → block_bytes (D.content journal.new.disk) base (slice_index_or writes.now k d).block ≡ (slice_index_or writes.now k d).bytes) }
+    requires lies { AllLie base (D.size journal.old.disk) (runs_of (writes_of own.now given.now runs.now)) }
+    requires part { IsDataPart journal.old.areas base }
+    requires once { AreOnce (writes_of own.now given.now runs.now) }
+    requires within { AreWithin own.now given.now runs.now }
+    ensures writes { Writes D.tells D.size D.content D.moment D.since D.faults base (runs_of (writes_of own.now given.now runs.now)) journal.old journal.new }
+    ensures written { OnOk result (D.tells → AllByRecursion (λ w. block_bytes (D.content journal.new.disk) base w.block ≡ w.bytes) (writes_of own.now given.now runs.now)) }
     ensures cause { OnErr result (Rose (D.faults journal.old.disk) (D.faults journal.new.disk)) }
 {
     // No gate is in doubt, so this calls no disk.
     journal.settle()?;
-    for write in writes {
-        journal.put(place_of(base, write.block), write.bytes.as_slice())?;
+    for run in runs {
+        journal.put(place_of(base, run.block()), run.bytes(own, given))?;
     }
     Ok(())
 }

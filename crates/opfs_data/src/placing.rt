@@ -1,11 +1,12 @@
 // Changes of a row's pages that take no memory.
-ghost use Rattle.std.specs.Prelude.{◌≡◌, ◌+◌, ◌-◌, ◌^◌, ◌<◌, ◌≤◌, ◌++◌, ℕ, length, slice_index_or, replicate, IfOk, OnOk};
+ghost use Rattle.std.specs.Prelude.{◌≡◌, ◌+◌, ◌-◌, ◌^◌, ◌<◌, ◌≤◌, ◌++◌, [], ℕ, List, length, slice_index_or, replicate, IfOk, OnOk};
 ghost use Rattle.std.specs.List.{AllByRecursion};
 ghost use Rattle.std.specs.Vec.{vec_capacity};
-ghost use Rattle.opfs_data.specs.declared.page.PageWrite.{PageWrite};
+ghost use Rattle.opfs_data.specs.Writes.{writes_of, run_writes};
 ghost use Rattle.opfs_data.specs.Pages.{with_kept, with_writes, resized, blank, pages_from, pages_in};
 
-use crate::page::{Page, PageWrite, SavedPage};
+use crate::page::{Page, SavedPage};
+use crate::page_run::PageRun;
 use opfs_base::Extent;
 use std::alloc::{AllocError, Global};
 
@@ -39,14 +40,27 @@ pub fn resize(pages: &mut Vec<Page>, count: usize)
     }
 }
 
-/// Gives the pages of a list their blocks, with nothing kept of them.
-pub fn place_writes(pages: &mut Vec<Page>, writes: &[PageWrite])
-    requires { (k : ℕ) (d : PageWrite) → k < length writes.now → (slice_index_or writes.now k d).page < length pages.old.items }
-    ensures { pages.new.items ≡ with_writes writes.now pages.old.items }
+/// Gives the pages of runs their blocks, with nothing kept of them.
+pub fn place_writes(pages: &mut Vec<Page>, runs: &[PageRun])
+    requires { AllByRecursion (λ w. w.page < length pages.old.items) (writes_of [] [] runs.now) }
+    ensures { (own given : List ℕ) → pages.new.items ≡ with_writes (writes_of own given runs.now) pages.old.items }
 {
-    for write in writes {
-        pages[write.page as usize] = Page {
-            block: Some(write.block),
+    for run in runs {
+        place_pages(pages, run);
+    }
+}
+
+// The same for one run.
+fn place_pages(pages: &mut Vec<Page>, run: &PageRun)
+    requires { AllByRecursion (λ w. w.page < length pages.old.items) (run_writes [] [] run.now) }
+    ensures written { (own given : List ℕ) → pages.new.items ≡ with_writes (run_writes own given run.now) pages.old.items }
+    ensures length { length pages.new.items ≡ length pages.old.items }
+{
+    let first = run.page() as usize;
+    let start = run.block();
+    for k in 0..run.count() {
+        pages[first + k as usize] = Page {
+            block: Some(start + k),
             kept: None,
         };
     }

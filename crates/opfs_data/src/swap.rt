@@ -1,13 +1,13 @@
 //! The pages of all open rows, in blocks.
 
-ghost use Rattle.std.specs.Prelude.{◌≡◌, ◌+◌, ◌*◌, ◌-◌, ◌^◌, ◌<◌, ◌≤◌, ℕ, [], None, Some, true, false, length, min, is_some, slice_index_or, IfOk, OnOk, OnErr, IsErrOf, IfSome, MatchOption};
+ghost use Rattle.std.specs.Prelude.{◌≡◌, ◌+◌, ◌*◌, ◌-◌, ◌^◌, ◌<◌, ◌≤◌, ℕ, List, [], None, Some, true, false, length, min, is_some, slice_index_or, IfOk, OnOk, OnErr, IsErrOf, IfSome, MatchOption};
 ghost use Rattle.std.specs.List.{AllByRecursion};
 ghost use Rattle.opfs_outside.specs.Faults.{Rose};
 ghost use Rattle.opfs_data.specs.Calls.{Reads, Writes};
 ghost use Rattle.opfs_data.specs.Places.{AllLie};
 ghost use Rattle.opfs_data.specs.declared.page.Page.{Page};
-ghost use Rattle.opfs_data.specs.declared.page.PageWrite.{PageWrite};
-ghost use Rattle.opfs_data.specs.Pages.{block_bytes, page_of, blank, runs_of, resized, with_writes, pages_in, NamesPage, IsAgain, AreSaved, AreNow, AreOwn, IsApart, LiesIn};
+ghost use Rattle.opfs_data.specs.Writes.{page_writes, AreWithin};
+ghost use Rattle.opfs_data.specs.Pages.{block_bytes, page_of, blank, runs_of, resized, with_writes, pages_in, NamesPage, HasAgain, AreOnce, AreSaved, AreNow, AreOwn, IsApart, LiesIn, IsDataPart};
 ghost use Rattle.opfs_data.specs.Rows.{row_of, row_at, pages_at, page_at, kept_in, kept_count, IsOther, OthersStay, AreFree};
 
 use crate::{DataRefusal, PageWrites, PagedRow};
@@ -101,8 +101,7 @@ impl Swap {
         requires there { page < length (pages_at agent row self.now) }
         requires whole { length into.old ≡ 4096 }
         requires lies { LiesIn base (D.size journal.old.disk) (page_at agent row page self.now).block }
-        requires behind { journal.old.areas.first + 2 * journal.old.areas.bytes ≤ base }
-        requires small { base < 2 ^ 63 }
+        requires part { IsDataPart journal.old.areas base }
         ensures reads { Reads D.tells D.size D.content D.moment D.since D.faults journal.old journal.new }
         ensures read { OnOk result (D.tells → into.new ≡ page_of (D.content journal.old.disk) base (page_at agent row page self.now)) }
         ensures cause { OnErr result (Rose (D.faults journal.old.disk) (D.faults journal.new.disk)) }
@@ -128,14 +127,13 @@ impl Swap {
     ) -> Result<(), DataRefusal>
         requires there { is_some (row_of agent row self.old) ≡ true }
         requires lies { AllByRecursion (λ page. LiesIn base (D.size journal.old.disk) page.block) (pages_at agent row self.old) }
-        requires behind { journal.old.areas.first + 2 * journal.old.areas.bytes ≤ base }
-        requires small { base < 2 ^ 63 }
+        requires part { IsDataPart journal.old.areas base }
         ensures there { is_some (row_of agent row self.new) ≡ true }
         ensures same { pages_at agent row self.new ≡ pages_at agent row self.old }
         ensures others { OthersStay agent row self.old self.new }
         ensures kept { kept_count self.new ≡ kept_count self.old }
         ensures room { OnOk result (pages ≤ (row_at agent row self.new).room) }
-        ensures saved { OnOk result (MatchOption (row_at agent row self.new).saved ⊥ (λ saved. AreSaved saved (pages_at agent row self.new) writes.now)) }
+        ensures saved { OnOk result (MatchOption (row_at agent row self.new).saved ⊥ (λ saved. (given : List ℕ) → AreSaved saved (pages_at agent row self.new) (page_writes writes.now given))) }
         ensures now { OnOk result (D.tells → MatchOption (row_at agent row self.new).saved ⊥ (λ saved. AreNow (D.content journal.new.disk) base (pages_at agent row self.new) saved)) }
         ensures reads { Reads D.tells D.size D.content D.moment D.since D.faults journal.old journal.new }
         ensures cause { IsErrOf result DataRefusal.DiskFault → Rose (D.faults journal.old.disk) (D.faults journal.new.disk) }
@@ -158,45 +156,47 @@ impl Swap {
         row: u32,
         pages: u64,
         writes: &PageWrites,
+        given: &[u8],
     ) -> Result<(), DiskFault>
         requires settled { journal.old.in_doubt ≡ false }
-        requires lies { AllLie base (D.size journal.old.disk) (runs_of writes.now) }
-        requires behind { journal.old.areas.first + 2 * journal.old.areas.bytes ≤ base }
-        requires small { base < 2 ^ 63 }
-        requires inside { (k : ℕ) (d : PageWrite) → k < length writes.now → (slice_index_or writes.now k d).page < pages }
+        requires lies { AllLie base (D.size journal.old.disk) (runs_of (page_writes writes.now given.now)) }
+        requires part { IsDataPart journal.old.areas base }
+        requires within { AreWithin writes.now.own given.now writes.now.runs }
+        requires once { AreOnce (page_writes writes.now given.now) }
+        requires inside { AllByRecursion (λ w. w.page < pages) (page_writes writes.now given.now) }
         requires room { pages ≤ (row_at agent row self.old).room }
-        requires saved { MatchOption (row_at agent row self.old).saved ⊥ (λ saved. AreSaved saved (pages_at agent row self.old) writes.now) }
+        requires saved { MatchOption (row_at agent row self.old).saved ⊥ (λ saved. AreSaved saved (pages_at agent row self.old) (page_writes writes.now given.now)) }
         requires now { D.tells → MatchOption (row_at agent row self.old).saved ⊥ (λ saved. AreNow (D.content journal.old.disk) base (pages_at agent row self.old) saved) }
-        requires own { AreOwn (pages_at agent row self.old) writes.now }
-        requires free { AreFree agent row self.old writes.now }
+        requires own { AreOwn (pages_at agent row self.old) (page_writes writes.now given.now) }
+        requires free { AreFree agent row self.old (page_writes writes.now given.now) }
         ensures there { is_some (row_of agent row self.new) ≡ true }
         ensures none { (row_at agent row self.new).saved ≡ None }
         ensures others { OthersStay agent row self.old self.new }
         ensures count { kept_count self.new + kept_in (row_at agent row self.old) ≡ kept_count self.old + kept_in (row_at agent row self.new) }
         ensures fewer { OnOk result (kept_count self.new ≤ kept_count self.old) }
-        ensures pages { OnOk result (pages_at agent row self.new ≡ with_writes writes.now (resized pages (pages_at agent row self.old))) }
-        ensures bytes { OnOk result (D.tells → (k : ℕ) (d : PageWrite) → k < length writes.now
-            → block_bytes (D.content journal.new.disk) base (slice_index_or writes.now k d).block ≡ (slice_index_or writes.now k d).bytes) }
-        ensures given { OnOk result (D.tells → (k : ℕ) (d : PageWrite) → k < length writes.now
-            → page_of (D.content journal.new.disk) base (page_at agent row (slice_index_or writes.now k d).page self.new) ≡ (slice_index_or writes.now k d).bytes) }
-        ensures rest { OnOk result (D.tells → (j : ℕ) → j < pages → j < length (pages_at agent row self.old) → (NamesPage writes.now j → ⊥)
+        ensures pages { OnOk result (pages_at agent row self.new ≡ with_writes (page_writes writes.now given.now) (resized pages (pages_at agent row self.old))) }
+        ensures size { OnOk result (length (pages_at agent row self.new) ≡ pages) }
+        ensures fresh { OnOk result ((j : ℕ) → length (pages_at agent row self.old) ≤ j → j < pages → (NamesPage (page_writes writes.now given.now) j → ⊥) → page_at agent row j self.new ≡ blank) }
+        ensures bytes { OnOk result (D.tells → AllByRecursion (λ w. block_bytes (D.content journal.new.disk) base w.block ≡ w.bytes) (page_writes writes.now given.now)) }
+        ensures given { OnOk result (D.tells → AllByRecursion (λ w. page_of (D.content journal.new.disk) base (page_at agent row w.page self.new) ≡ w.bytes) (page_writes writes.now given.now)) }
+        ensures rest { OnOk result (D.tells → (j : ℕ) → j < pages → j < length (pages_at agent row self.old) → (NamesPage (page_writes writes.now given.now) j → ⊥)
             → page_of (D.content journal.new.disk) base (page_at agent row j self.new) ≡ page_of (D.content journal.old.disk) base (page_at agent row j self.old)) }
         ensures left { OnErr result (D.tells → (a r j : ℕ) → j < length (pages_at a r self.old)
             → page_of (D.content journal.new.disk) base (page_at a r j self.new) ≡ page_of (D.content journal.old.disk) base (page_at a r j self.old)) }
         ensures len { OnErr result (length (pages_at agent row self.new) ≡ length (pages_at agent row self.old)) }
         ensures blocks { OnErr result ((j : ℕ) → (page_at agent row j self.new).block ≡ (page_at agent row j self.old).block) }
-        ensures newly { OnErr result ((j : ℕ) → ((k : ℕ) (d : PageWrite) → k < length writes.now → (slice_index_or writes.now k d).page ≡ j → IsAgain (pages_at agent row self.old) (slice_index_or writes.now k d) → ⊥)
+        ensures newly { OnErr result ((j : ℕ) → (HasAgain (pages_at agent row self.old) (page_writes writes.now given.now) j → ⊥)
             → page_at agent row j self.new ≡ page_at agent row j self.old) }
         ensures others_read { D.tells → (a r : ℕ) → IsOther agent row a r → (j : ℕ) → j < length (pages_at a r self.old)
             → page_of (D.content journal.new.disk) base (page_at a r j self.new) ≡ page_of (D.content journal.old.disk) base (page_at a r j self.old) }
-        ensures apart { D.tells → (page : Page) → IsApart page writes.now → page_of (D.content journal.new.disk) base page ≡ page_of (D.content journal.old.disk) base page }
-        ensures writes { Writes D.tells D.size D.content D.moment D.since D.faults base (runs_of writes.now) journal.old journal.new }
+        ensures apart { D.tells → (page : Page) → IsApart page (page_writes writes.now given.now) → page_of (D.content journal.new.disk) base page ≡ page_of (D.content journal.old.disk) base page }
+        ensures writes { Writes D.tells D.size D.content D.moment D.since D.faults base (runs_of (page_writes writes.now given.now)) journal.old journal.new }
         ensures cause { OnErr result (Rose (D.faults journal.old.disk) (D.faults journal.new.disk)) }
     {
         let Some(found) = self.rows.get_mut(&(agent, row)) else {
             unreachable!();
         };
-        found.write(journal, base, pages, writes)?;
+        found.write(journal, base, pages, writes, given)?;
         Ok(())
     }
 

@@ -2,7 +2,7 @@
 use Rattle.std.proofs.Common.{◌≡◌, ℕ, true, false, is_some, is_err, Some, None, List, [], ◌∷◌, length, get_or, set, refl, sym, ap, ◌∙◌, arith, Result, Ok, Err, OnOk, OnErr}
 use Rattle.std.proofs.lemmas.Bool.{false≢true}
 use Rattle.opfs_data.specs.declared.page.Page.{Page}
-use Rattle.opfs_data.specs.declared.page.PageWrite.{PageWrite}
+use Rattle.opfs_data.specs.Writes.{PageWrite}
 use Rattle.opfs_data.specs.Pages.{resized, with_writes, blank}
 use Rattle.opfs_data.specs.Rows.{Rows, OthersStay, row_of, pages_at, page_at}
 use Rattle.opfs_data_tests.specs.OneRow.{IsAlone, HasOne}

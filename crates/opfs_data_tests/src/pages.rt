@@ -1,5 +1,6 @@
 // Pages in blocks, and a write that fails.
-ghost use Rattle.std.specs.Prelude.{◌≡◌, [], ◌∷◌, length, IfOk};
+ghost use Rattle.std.specs.Prelude.{◌≡◌, [], ◌∷◌, ℕ, List, length, IfOk};
+ghost use Rattle.opfs_data.specs.Writes.{page_writes, AreWithin};
 
 use crate::disks::{BASE, begun};
 use opfs_base::Extent;
@@ -10,10 +11,11 @@ use std::test::Fail;
 // One page that goes into block 0.
 pub fn one_page(alloc: Global, bytes: &[u8]) -> Result<PageWrites, AllocError>
     requires { length bytes.now ≡ 4096 }
-    ensures { IfOk result (λ writes. writes ≡ (record { page = 0; block = 0; bytes = bytes.now }) ∷ []) }
+    ensures pages { IfOk result (λ writes. (given : List ℕ) → page_writes writes given ≡ (record { page = 0; block = 0; bytes = bytes.now }) ∷ []) }
+    ensures bytes { IfOk result (λ writes. (given : List ℕ) → AreWithin writes.own given writes.runs) }
 {
     let mut writes = PageWrites::make(alloc);
-    writes.add(0, 0, bytes)?;
+    writes.add_own(0, 0, bytes)?;
     Ok(writes)
 }
 
@@ -25,7 +27,7 @@ fn a_page_is_written_and_read(rt: HostRuntime) -> Result<(), Fail> {
     let bytes = vec![in alloc; 65u8; 4096]?;
     let writes = one_page(alloc, &bytes)?;
     row.prepare(alloc, &mut journal, BASE, 1, &writes)?;
-    row.write(&mut journal, BASE, 1, &writes)?;
+    row.write(&mut journal, BASE, 1, &writes, &[])?;
     let mut into = [0; 4096];
     row.read(&mut journal, BASE, 0, &mut into)?;
     assert!(rt; into[0] == 65 && into[4095] == 65);

@@ -35,7 +35,7 @@ fn put_first(
     let bytes = vec![in alloc; byte; 4096]?;
     let writes = one_page(alloc, &bytes)?;
     swap.prepare(alloc, journal, BASE, 1, 1, 1, &writes)?;
-    swap.write(journal, BASE, 1, 1, 1, &writes)?;
+    swap.write(journal, BASE, 1, 1, 1, &writes, &[])?;
     Ok(())
 }
 
@@ -54,7 +54,7 @@ fn put_again(
     let bytes = vec![in alloc; byte; 4096]?;
     let writes = one_page(alloc, &bytes)?;
     swap.prepare(alloc, journal, BASE, 1, 1, 1, &writes)?;
-    if swap.write(journal, BASE, 1, 1, 1, &writes).is_err() {
+    if swap.write(journal, BASE, 1, 1, 1, &writes, &[]).is_err() {
         return Ok(false);
     }
     Ok(true)

@@ -121,7 +121,7 @@ text_same h = cc
 
 -- Two agents whose own rows are alike.
 module _ (s t : State Text Own) (k : ℕ) (same : mine s k ≡ mine t k) where
-  own-alike : (n : ℕ) → own_of (agent_of s k) n ≡ own_of (agent_of t k) n
+  pub own-alike : (n : ℕ) → own_of (agent_of s k) n ≡ own_of (agent_of t k) n
   own-alike n = own_of-row (agent_of s k) n ∙ ap (λ m. row_in m.rows n) same ∙ sym (own_of-row (agent_of t k) n)
 
   stream-alike : (n : ℕ) → open_stream in_bytes s k n ≡ open_stream in_bytes t k n
@@ -130,7 +130,7 @@ module _ (s t : State Text Own) (k : ℕ) (same : mine s k ≡ mine t k) where
   handle-alike : (n : ℕ) → open_handle in_bytes s k n ≡ open_handle in_bytes t k n
   handle-alike n = ap (of_row (λ r. handle_in (outline_of r))) (own-alike n)
 
-  row-files : (n : ℕ) (r : Own) → own_of (agent_of s k) n ≡ Some r → handle_file s r ≡ handle_file t r
+  pub row-files : (n : ℕ) (r : Own) → own_of (agent_of s k) n ≡ Some r → handle_file s r ≡ handle_file t r
   row-files zero r is = cc
   row-files (suc n) r is =
       files-alike s t (agent_of s k).own n (ap (λ m. m.files) same ∙ ap (λ m. filter_map (handle_file t) m.rows) (sym same)) r is
@@ -143,7 +143,7 @@ module _ (s t : State Text Own) (k : ℕ) (same : mine s k ≡ mine t k) where
   row-sizes : (n : ℕ) → sizes_in s (own_of (agent_of s k) n) ≡ sizes_in t (own_of (agent_of t k) n)
   row-sizes n = sizes-in (own_of (agent_of s k) n) (λ r is. row-files n r is) ∙ ap (sizes_in t) (own-alike n)
 
-  sizes-alike : (o : Op) → sizes_of s k o ≡ sizes_of t k o
+  pub sizes-alike : (o : Op) → sizes_of s k o ≡ sizes_of t k o
   sizes-alike o = row-sizes (row_named o)
 
   bytes-in : (o : Option Own) → ((r : Own) → o ≡ Some r → handle_file s r ≡ handle_file t r)

@@ -1,2 +1,3 @@
 pub mod Changing
+pub mod Faults
 pub mod Keeping

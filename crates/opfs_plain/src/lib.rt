@@ -4,6 +4,7 @@
 
 mod effects;
 mod entries;
+pub mod faults;
 mod files;
 mod handles;
 pub mod machine;
@@ -14,5 +15,6 @@ mod rows;
 mod splicing;
 mod streams;
 
+pub use faults::fault;
 pub use machine::enter;
 pub use plain::Plain;

@@ -69,7 +69,7 @@ fn evict(alloc: Global, state: &mut State<Bytes, Own>, unit: &Key) -> Result<(),
 }
 
 /// Clears units, each with an entry.
-fn evict_all(
+pub fn evict_all(
     alloc: Global,
     state: &mut State<Bytes, Own>,
     entries: &mut Vec<Entry>,
@@ -94,7 +94,7 @@ fn evict_all(
 }
 
 /// A refused call.
-fn enter_refused(
+pub fn enter_refused(
     alloc: Global,
     state: &mut State<Bytes, Own>,
     entries: &mut Vec<Entry>,

@@ -1,36 +1,36 @@
 //! Hands that go through scripts.
 
 use opfs_base::{Key, Text};
-use opfs_hist::{Entry, Op, Refusal, Reply, Word};
+use opfs_hist::{Op, Refusal, Reply, Word};
 use opfs_runs::{Hand, Named, Open};
 use opfs_script::{Script, Step, read_script};
 use std::alloc::{AllocError, Global};
 
 // Steps of one agent that bind each kind of variable, and of another that name each.
-const STEPS: &[u8] = b"{\"agents\":[{\"origin\":\"https://a.example\",\"steps\":[\
-{\"do\":\"getDirectory\",\"bucket\":\"drafts\",\"as\":\"d\"},\
-{\"do\":\"getFileHandle\",\"dir\":\"d\",\"name\":\"n\",\"create\":true,\"as\":\"f\"},\
-{\"do\":\"createWritable\",\"file\":\"f\",\"as\":\"w\"},\
-{\"do\":\"createSyncAccessHandle\",\"file\":\"f\",\"as\":\"h\"},\
-{\"do\":\"getFile\",\"file\":\"f\",\"as\":\"s\"},\
-{\"do\":\"values\",\"dir\":\"d\",\"as\":\"i\"}]},\
-{\"origin\":\"https://a.example\",\"steps\":[\
-{\"do\":\"getDirectoryHandle\",\"dir\":\"d\",\"name\":\"n\",\"as\":\"x\"},\
-{\"do\":\"removeEntry\",\"dir\":\"d\",\"name\":\"n\"},\
-{\"do\":\"next\",\"iterator\":\"i\",\"as\":\"x\"},\
-{\"do\":\"resolve\",\"dir\":\"d\",\"entry\":\"f\"},\
-{\"do\":\"isSameEntry\",\"entry\":\"f\",\"other\":\"d\"},\
-{\"do\":\"slice\",\"snapshot\":\"s\",\"at\":0,\"len\":1},\
-{\"do\":\"write\",\"stream\":\"w\",\"data\":\"x\"},\
-{\"do\":\"seek\",\"stream\":\"w\",\"position\":1},\
-{\"do\":\"truncate\",\"stream\":\"w\",\"size\":1},\
-{\"do\":\"abort\",\"stream\":\"w\"},\
-{\"do\":\"syncRead\",\"sync\":\"h\",\"len\":1},\
-{\"do\":\"syncWrite\",\"sync\":\"h\",\"data\":\"x\"},\
-{\"do\":\"syncTruncate\",\"sync\":\"h\",\"size\":1},\
-{\"do\":\"syncGetSize\",\"sync\":\"h\"},\
-{\"do\":\"syncFlush\",\"sync\":\"h\"},\
-{\"do\":\"syncClose\",\"sync\":\"h\"}]}]}";
+const STEPS: &str = r#"{"agents":[{"origin":"https://a.example","steps":[
+{"do":"getDirectory","bucket":"drafts","as":"d"},
+{"do":"getFileHandle","dir":"d","name":"n","create":true,"as":"f"},
+{"do":"createWritable","file":"f","as":"w"},
+{"do":"createSyncAccessHandle","file":"f","as":"h"},
+{"do":"getFile","file":"f","as":"s"},
+{"do":"values","dir":"d","as":"i"}]},
+{"origin":"https://a.example","steps":[
+{"do":"getDirectoryHandle","dir":"d","name":"n","as":"x"},
+{"do":"removeEntry","dir":"d","name":"n"},
+{"do":"next","iterator":"i","as":"x"},
+{"do":"resolve","dir":"d","entry":"f"},
+{"do":"isSameEntry","entry":"f","other":"d"},
+{"do":"slice","snapshot":"s","at":0,"len":1},
+{"do":"write","stream":"w","data":"x"},
+{"do":"seek","stream":"w","position":1},
+{"do":"truncate","stream":"w","size":1},
+{"do":"abort","stream":"w"},
+{"do":"syncRead","sync":"h","len":1},
+{"do":"syncWrite","sync":"h","data":"x"},
+{"do":"syncTruncate","sync":"h","size":1},
+{"do":"syncGetSize","sync":"h"},
+{"do":"syncFlush","sync":"h"},
+{"do":"syncClose","sync":"h"}]}]}"#;
 
 // What the second agent's steps ask after the first's: the word, and the row.
 const ASKED: [Option<(Word, u32)>; 16] = [
@@ -54,7 +54,7 @@ const ASKED: [Option<(Word, u32)>; 16] = [
 
 // The script of these steps.
 fn script(alloc: Global) -> Result<Script, AllocError> {
-    match read_script(alloc, STEPS) {
+    match read_script(alloc, STEPS.as_bytes()) {
         Ok(script) => Ok(script),
         Err(_) => Err(AllocError),
     }
@@ -116,28 +116,29 @@ fn all_asked(
     Ok(all)
 }
 
-// The entry of a call that is answered so.
-fn entry(op: Op, reply: Reply) -> Entry {
-    Entry {
-        agent: 1,
-        number: 1,
-        op,
-        reply,
-        turn: true,
-    }
+// Takes note of a step that is answered so.
+fn note(
+    alloc: Global,
+    hand: &mut Hand,
+    step: &Step,
+    op: &Op,
+    reply: Reply,
+) -> Result<(), AllocError> {
+    let noted = hand.then(alloc, step, op, &reply);
+    drop(reply);
+    noted
 }
 
 // Plays a step that is accepted, or refused.
 fn play(alloc: Global, hand: &mut Hand, step: &Step, accepted: bool) -> Result<(), AllocError> {
     match hand.op_of(alloc, step) {
         Ok(op) => {
-            let entry = if accepted {
-                entry(op, Reply::Done)
+            let noted = if accepted {
+                note(alloc, hand, step, &op, Reply::Done)
             } else {
-                entry(op, Reply::No(Refusal::NotFoundError))
+                note(alloc, hand, step, &op, Reply::No(Refusal::NotFoundError))
             };
-            let noted = hand.then(alloc, step, &entry);
-            drop(entry);
+            drop(op);
             noted
         }
         Err(error) => Err(error),

@@ -1,2 +1,3 @@
 pub mod GoingOn
 pub mod Leaving
+pub mod Others

@@ -1,11 +1,12 @@
 -- How steady pages go on. This project's own.
-use Rattle.std.specs.Prelude.{◌≡◌, ◌≢◌, ℕ, true, false, List, [], ◌∷◌, ◌++◌, map, IsTrue}
+use Rattle.std.specs.Prelude.{◌≡◌, ◌≢◌, ℕ, true, false, List, [], ◌∷◌, ◌++◌, All, map, IsTrue}
 use Rattle.opfs_base.specs.Texts.{Text}
 use Rattle.opfs_hist.specs.declared.entry.Entry.{Entry}
 use Rattle.opfs_machine.specs.declared.own.Own.{Own}
 use Rattle.opfs_machine.specs.declared.state.State.{State}
-use Rattle.opfs_machine.specs.Histories.{after_entry, state_after}
+use Rattle.opfs_machine.specs.Histories.{Legal, after_entry, state_after}
 use Rattle.opfs_machine.specs.Openings.{Opening}
+use Rattle.opfs_machine.specs.OwnRows.{mine}
 use Rattle.opfs_machine.specs.Runs.{eviction}
 use Rattle.opfs_machine.specs.Steps.{is_refusal}
 use Rattle.opfs_laws.specs.GoingOn.{ArePending}
@@ -34,6 +35,12 @@ pub record SteadyPagesGoOn : Type 0 where
       → BeginsAs (row_bytes (state_after o h) k n) i page → BeginsAs (row_bytes (state_after o (h ++ more)) k n) i page
   -- Where the row's bytes stay, so does what is steady.
   pub kept : (o : Opening) (h more : List Entry) (k n i : ℕ) → BytesStay (state_after o h) k n more → is_steady o h k n i ≡ true → is_steady o (h ++ more) k n i ≡ true
+
+-- In states that are alike to the agent, its rows have the same bytes. So entries of others leave them, and settle none.
+pub record OthersLeaveARow : Type 0 where
+  pub alike : (s t : State Text Own) (k n : ℕ) → mine s k ≡ mine t k → row_bytes s k n ≡ row_bytes t k n
+  pub stay : (o : Opening) (h more rest : List Entry) (k n : ℕ) → Legal o ((h ++ more) ++ rest) → All (λ e. e.agent ≢ k) more
+      → BytesStay (state_after o h) k n more × NoneSettles (state_after o h) k n more
 
 pub record OnlyItsOwnCallsSettleARow : Type 0 where
   -- Local calls that are not entered yet had no turn.

@@ -4,11 +4,15 @@
 #[cfg(test)]
 mod bytes;
 #[cfg(test)]
+mod data;
+#[cfg(test)]
 mod keys;
 #[cfg(test)]
 mod lines;
 #[cfg(test)]
 mod locks;
+#[cfg(test)]
+mod measures;
 #[cfg(test)]
 mod names;
 #[cfg(test)]

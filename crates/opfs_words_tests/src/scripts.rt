@@ -1,5 +1,6 @@
 //! Scripts.
 
+use opfs_base::{Data, Told};
 use opfs_script::{Script, ScriptRefusal, Step, read_script};
 use std::alloc::{AllocError, Global};
 
@@ -228,6 +229,14 @@ fn too_much_is_refused_last(rt: HostRuntime) -> Result<(), AllocError> {
     Ok(())
 }
 
+// Bytes as they are told.
+fn bytes_text(alloc: Global, bytes: &Data) -> Result<String, AllocError> {
+    match bytes.told() {
+        Told::Given(given) => format!(in alloc; "{given:?}"),
+        Told::Fill(byte, count) => format!(in alloc; "{count} x {byte}"),
+    }
+}
+
 // What a script of two agents says: per agent its key, its grant and its number of steps, and the bytes that are written.
 fn told(alloc: Global, script: &Script) -> Result<String, AllocError> {
     let mut text = String::new(alloc);
@@ -241,12 +250,12 @@ fn told(alloc: Global, script: &Script) -> Result<String, AllocError> {
                     bytes,
                     position,
                 } => {
-                    let bytes = bytes.to_bytes(alloc)?;
+                    let bytes = bytes_text(alloc, bytes)?;
                     let place = position.unwrap_or(99);
                     let written = format!(in alloc;
-                        " {} {:?} {place}",
+                        " {} {} {place}",
                         stream.as_str(),
-                        bytes.as_slice()
+                        bytes.as_str()
                     )?;
                     text.push_str(written.as_str())?;
                 }
@@ -269,7 +278,7 @@ fn scripts_keep_what_they_say(rt: HostRuntime) -> Result<(), AllocError> {
     match read_script(rt.alloc(), text.as_bytes()) {
         Ok(script) => {
             let wanted =
-                "https://a.example granted w [104, 195, 169] 99 v [10, 255] 7 v [65, 65] 99\nnone plain other\n";
+                "https://a.example granted w [104, 195, 169] 99 v [10, 255] 7 v 2 x 65 99\nnone plain other\n";
             assert_eq!(rt; told(rt.alloc(), &script)?.as_str(), wanted);
         }
         Err(refusal) => assert!(rt; false, "{refusal:?}"),

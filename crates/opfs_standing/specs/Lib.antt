@@ -1,0 +1,5 @@
+pub mod Beside
+pub mod Seen
+pub mod Sums
+pub mod Tied
+pub mod Moves

@@ -1,0 +1,79 @@
+//! The shared store.
+
+ghost use Rattle.std.specs.Prelude.{◌≡◌, ◌<◌, option_map, IsSome, IfSome, not, ◌&&◌, is_some, true, OnOk, IsTrue};
+ghost use Rattle.opfs_locks.specs.Taking.{taken};
+ghost use Rattle.opfs_locks.specs.Holding.{IsTakenAs};
+ghost use Rattle.opfs_machine.specs.Effects.{with_lock, unlocked};
+ghost use Rattle.opfs_machine.specs.Rows.{with_file};
+ghost use Rattle.opfs_pool.specs.Shares.{has_share, share_at, changed};
+ghost use Rattle.opfs_shed.specs.Buckets.{bucket_at};
+ghost use Rattle.opfs_tree.specs.Rows.{row_at, file_at, change_at, locked, none_taken};
+ghost use Rattle.opfs_tree.specs.Rows.{unlocked as unlocked_row};
+
+use crate::beside::Beside;
+use opfs_base::{Key, Path};
+use opfs_locks::{Held, Want};
+use opfs_pool::Pool;
+use opfs_shed::Shed;
+use opfs_tree::Tree;
+use std::marker::Model;
+
+/// The shared store, seen as the machine in lengths, and as the rows of its tree with their blocks.
+pub struct Standing {
+    pub(crate) tree: Tree,
+    pub(crate) shed: Shed,
+    pub(crate) pool: Pool,
+    pub(crate) beside: Beside,
+    // The charge of rows and modes, without that of blocks.
+    pub(crate) fixed: u64,
+    // The path of each root.
+    pub(crate) root: Path,
+}
+
+impl Model for Standing {
+    ghost use Rattle.opfs_standing.specs.Seen.{Seen, machine_of};
+    ghost use Rattle.opfs_standing.specs.Tied.{IsTied};
+
+    ghost Value = { Seen };
+
+    ghost view = { λ s. record { machine = machine_of s.tree s.shed.buckets s.beside; tree = s.tree } };
+
+    ghost invariant = { λ s. IsTied (machine_of s.tree s.shed.buckets s.beside) s.shed s.pool s.fixed s.root };
+}
+
+impl Standing {
+    /// Takes the lock of the file at a place (File System: take a lock); None, and nothing changes, where that fails.
+    pub fn take(&mut self, unit: &Key, path: &Path, want: Want) -> Option<Held>
+        requires there { IsSome (file_at (unit.now, path.now) self.old.tree) }
+        requires room { IfSome (file_at (unit.now, path.now) self.old.tree) (λ f. f.lock.1 < 4294967295) }
+        ensures machine { self.new.machine ≡ with_file self.old.machine (unit.now, path.now) (with_lock want) }
+        ensures tree { self.new.tree ≡ change_at (unit.now, path.now) (locked want) self.old.tree }
+        ensures given { IfSome (file_at (unit.now, path.now) self.old.tree) (λ f. result ≡ option_map (λ _. want) (taken want f.lock)) }
+    {
+        let held = self.tree.take_lock(unit, path, want);
+        mark(&mut self.pool, &self.tree, &self.shed, &self.root, unit);
+        held
+    }
+
+    /// Gives back the lock of the file at a place (File System: release the lock).
+    pub fn unlock(&mut self, unit: &Key, path: &Path, held: Held)
+        requires there { IsSome (file_at (unit.now, path.now) self.old.tree) }
+        requires taken { IfSome (file_at (unit.now, path.now) self.old.tree) (λ f. IsTakenAs held f.lock) }
+        ensures machine { self.new.machine ≡ with_file self.old.machine (unit.now, path.now) unlocked }
+        ensures tree { self.new.tree ≡ change_at (unit.now, path.now) unlocked_row self.old.tree }
+    {
+        self.tree.release_lock(unit, path, held);
+        mark(&mut self.pool, &self.tree, &self.shed, &self.root, unit);
+    }
+}
+
+// Says anew whether a unit may be cleared: where it has a root, is best-effort and has no taken lock.
+fn mark(pool: &mut Pool, tree: &Tree, shed: &Shed, root: &Path, unit: &Key)
+    requires { IsTrue (has_share pool.old.shares unit.now) }
+    ensures { pool.new ≡ changed pool.old unit.now (record (share_at pool.old.shares unit.now) { candidate = is_some (row_at (unit.now, root.now) tree.now) && not (bucket_at shed.now.buckets unit.now).persistent && none_taken unit.now tree.now }) }
+{
+    let candidate = tree.kind(unit, root).is_some()
+        && !shed.is_persistent(unit)
+        && tree.none_taken(unit);
+    pool.mark(unit, candidate);
+}
