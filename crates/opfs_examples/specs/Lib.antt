@@ -1,3 +1,4 @@
+pub mod Alone
 pub mod Buckets
 pub mod Charged
 pub mod Clearing
@@ -6,6 +7,7 @@ pub mod Directories
 pub mod Faults
 pub mod Handles
 pub mod Judging
+pub mod Kinds
 pub mod Locks
 pub mod Names
 pub mod Nobody

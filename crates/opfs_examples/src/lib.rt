@@ -2,6 +2,7 @@
 //! contract of a function that does nothing.
 #![tactic(auto)]
 
+pub mod alone;
 pub mod buckets;
 pub mod charges;
 pub mod clearing;
@@ -10,6 +11,7 @@ pub mod directories;
 pub mod faults;
 pub mod handles;
 pub mod judging;
+pub mod kinds;
 pub mod locks;
 pub mod names;
 pub mod nobody;
