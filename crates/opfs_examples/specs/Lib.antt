@@ -14,6 +14,7 @@ pub mod Nobody
 pub mod Parties
 pub mod Positions
 pub mod Room
+pub mod Stored
 pub mod Streams
 pub mod Tags
 pub mod Times

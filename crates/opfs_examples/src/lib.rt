@@ -18,6 +18,7 @@ pub mod nobody;
 pub mod parties;
 pub mod positions;
 pub mod room;
+pub mod stored;
 pub mod streams;
 pub mod tags;
 pub mod times;
