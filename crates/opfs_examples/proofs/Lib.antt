@@ -1,3 +1,4 @@
 pub mod Agentless
+pub mod Answered
 pub mod Made
 pub mod Runs

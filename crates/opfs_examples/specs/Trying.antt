@@ -82,6 +82,27 @@ without_entry n [] = []
 without_entry zero (e ∷ es) = es
 without_entry (suc n) (e ∷ es) = e ∷ without_entry n es
 
+-- The answer in one place, counted from 0.
+abbrev pub reply_at : ℕ → List Entry → Reply
+reply_at n [] = reply.Done
+reply_at zero (e ∷ es) = e.reply
+reply_at (suc n) (e ∷ es) = reply_at n es
+
+-- A store that holds nothing yet, of so many bytes of an area, data blocks, and blocks of quota.
+abbrev pub room_for : ℕ → ℕ → ℕ → List Who → Opening
+room_for area blocks quota whos = record {
+  stored = empty_map;
+  agents = whos;
+  limits = record { area = area; blocks = blocks; quota = quota };
+}
+
+-- The root of a unit, and a file in it.
+abbrev pub directory_of : Text → Locator
+directory_of unit = record { key = unit; path = []; kind = kind.Directory }
+
+abbrev pub file_in : Text → List Text → Locator
+file_in unit path = record { key = unit; path = path; kind = kind.File }
+
 -- What a file holds after a history: its present bytes, and those that are stored for good.
 abbrev pub kept_at : Opening → List Entry → Locator → Option (Text × Text)
 kept_at o es at = option_map (λ f. (f.present, f.durable)) (file_at (state_after o es) (place_of at))
@@ -90,4 +111,9 @@ kept_at o es at = option_map (λ f. (f.present, f.durable)) (file_at (state_afte
 pub record IsExample (o : Opening) (es : List Entry) (told : List Text) (place : ℕ) (wrong : Reply) : Type 0 where
   pub legal : Legal o es
   pub text : text_of es ≡ lines told
+  pub strict : Legal o (with_reply place wrong es) → ⊥
+
+-- The history is legal, and with that other answer in that place it is not.
+pub record IsAnswered (o : Opening) (es : List Entry) (place : ℕ) (wrong : Reply) : Type 0 where
+  pub legal : Legal o es
   pub strict : Legal o (with_reply place wrong es) → ⊥
