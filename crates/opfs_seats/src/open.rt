@@ -1,6 +1,9 @@
 //! What an agent has open, with the lock that it holds.
 
-ghost use Rattle.std.specs.Prelude.{◌≡◌};
+ghost use Rattle.std.specs.Prelude.{◌≡◌, Some, IsSome};
+ghost use Rattle.std.specs.Option.{option_copied};
+ghost use Rattle.opfs_machine.specs.Agents.{stream_in, handle_in};
+ghost use Rattle.opfs_seats.specs.Slots.{outline_in, keeping};
 ghost use Rattle.opfs_locks.specs.declared.Want.TheVariants as want;
 ghost use Rattle.opfs_machine.specs.Rulings.{want_of};
 
@@ -62,6 +65,75 @@ pub enum Slot {
     Snapshot,
     /// An iterator over a directory.
     Iterator,
+}
+
+impl Slot {
+    /// The open stream that it is.
+    pub(crate) fn stream(&self) -> Option<&StreamOutline>
+        ensures { option_copied result ≡ stream_in (outline_in self.now) }
+    {
+        match self {
+            Slot::Stream(stream) => Some(stream.outline()),
+            _ => None,
+        }
+    }
+
+    /// The open access handle that it is.
+    pub(crate) fn handle(&self) -> Option<&HandleOutline>
+        ensures { option_copied result ≡ handle_in (outline_in self.now) }
+    {
+        match self {
+            Slot::Handle(handle) => Some(handle.outline()),
+            _ => None,
+        }
+    }
+
+    /// Keeps so many blocks for an open row.
+    pub(crate) fn set_reserve(&mut self, reserve: u64)
+        ensures { outline_in self.new ≡ keeping reserve (outline_in self.old) }
+    {
+        match self {
+            Slot::Stream(stream) => stream.set_reserve(reserve),
+            Slot::Handle(handle) => handle.set_reserve(reserve),
+            _ => (),
+        }
+    }
+
+    /// The open stream that it is.
+    pub(crate) fn into_stream(self) -> OpenStream
+        requires { IsSome (stream_in (outline_in self)) }
+        ensures { Some result ≡ stream_in (outline_in self) }
+    {
+        match self {
+            Slot::Stream(stream) => stream,
+            Slot::Handle(handle) => {
+                let (_outline, held) = handle.into_parts();
+                held.end();
+                unreachable!()
+            }
+            Slot::ClosedStream | Slot::ClosedHandle | Slot::Snapshot | Slot::Iterator => {
+                unreachable!()
+            }
+        }
+    }
+
+    /// The open access handle that it is.
+    pub(crate) fn into_handle(self) -> OpenHandle
+        requires { IsSome (handle_in (outline_in self)) }
+        ensures { Some result ≡ handle_in (outline_in self) }
+    {
+        match self {
+            Slot::Handle(handle) => handle,
+            Slot::Stream(stream) => {
+                let (_outline, held) = stream.into_parts();
+                held.end();
+                unreachable!()
+            }
+            Slot::ClosedStream | Slot::ClosedHandle | Slot::Snapshot | Slot::Iterator => {
+                unreachable!()
+            }
+        }
+    }
 }
 
 impl OpenStream {

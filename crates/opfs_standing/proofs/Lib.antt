@@ -1,8 +1,12 @@
+pub mod Counted
 pub mod FileMoves
 pub mod Lines
 pub mod Locked
 pub mod Places
+pub mod Reserved
 pub mod RowSums
+pub mod SlotMoves
 pub mod Stores
+pub mod Streams
 pub mod TiedMoved
 pub mod Units

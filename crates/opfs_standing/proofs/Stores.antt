@@ -1,6 +1,6 @@
 -- What the calls of the shed and the pool do, as moves of one unit.
-use Rattle.std.proofs.Common.{◌≡◌, ℕ, ◌+◌, ◌-◌, ◌≤◌, Bool, true, false, cond, Option, Some, None, is_some, unwrap_or, option_map, refl, sym, ap, ◌∙◌, arith}
-use Rattle.std.specs.Map.{lookup}
+use Rattle.std.proofs.Common.{◌≡◌, ℕ, ◌+◌, ◌-◌, ◌≤◌, Bool, true, false, cond, List, [], ◌∷◌, filter, subst, Option, Some, None, is_some, unwrap_or, option_map, refl, sym, ap, ◌∙◌, arith}
+use Rattle.std.specs.Map.{lookup, keys_of, set_value}
 use Rattle.std.specs.Cmp.Lexicographic.{texts_ties}
 use Rattle.opfs_base.specs.Texts.{Text, same_text}
 use Rattle.opfs_pool.specs.declared.pool.Share.{Share}
@@ -11,6 +11,7 @@ use Rattle.opfs_shed.proofs.Values.{lookup-set_same, lookup-set_other, is_some-s
 use Rattle.opfs_shed.specs.declared.shed.Bucket.{Bucket}
 use Rattle.opfs_shed.specs.Buckets as shed_words
 use Rattle.opfs_shed.specs.Buckets.{Storage, Buckets, has_unit, bucket_at, with_bucket, usage_of, part_of}
+use Rattle.opfs_standing.specs.Seen.{persistent_in}
 use Rattle.opfs_standing.specs.Moves.{ShedMoves, PoolMoves}
 use Rattle.opfs_standing.specs.Sums.{of_origin}
 use Rattle.opfs_standing.proofs.Units.{same_unit, apart_back}
@@ -159,3 +160,65 @@ module _ (pool new : Blocks) (unit : Text) (mark : Bool) (has : has_share pool.s
 
   pub marked-here : (share_at new.shares unit).candidate ≡ mark
   marked-here = mark-here pool new unit (record (share_at pool.shares unit) { candidate = mark }) 0 0 has is refl
+
+-- ---- the same moves with more on both sides
+
+lifted : (t : Bool) (a b x y k more less : ℕ) → a + cond t x 0 ≡ b + cond t y 0 → less ≡ k + x → more ≡ k + y → a + cond t less 0 ≡ b + cond t more 0
+lifted true a b x y k more less e p q = omega arith
+lifted false a b x y k more less e p q = omega arith
+
+pub shed-lift : (a b : Storage) (unit : Text) (x y k less more : ℕ) → less ≡ k + x → more ≡ k + y → ShedMoves a b unit x y → ShedMoves a b unit less more
+shed-lift a b unit x y k less more p q moves = record {
+  quota = moves.quota;
+  kept = moves.kept;
+  usage = λ u. lifted (same_text u unit) _ _ x y k more less (moves.usage u) p q;
+  usages = λ origin. lifted (of_origin origin unit) _ _ x y k more less (moves.usages origin) p q;
+}
+
+pub pool-lift : (a b : Blocks) (unit : Text) (x y k less more : ℕ) → less ≡ k + x → more ≡ k + y → PoolMoves a b unit x y → PoolMoves a b unit less more
+pool-lift a b unit x y k less more p q moves = record {
+  size = moves.size;
+  kept = moves.kept;
+  blocks = λ u. lifted (same_text u unit) _ _ x y k more less (moves.blocks u) p q;
+  held = omega (arith, moves.held);
+  marks = moves.marks;
+}
+
+pub pool-raised : (pool new : Blocks) (unit : Text) (n : ℕ) → has_share pool.shares unit ≡ true → new ≡ changed pool unit (record (share_at pool.shares unit) { blocks = (share_at pool.shares unit).blocks + n })
+    → held new.shares ≡ held pool.shares + n → PoolMoves pool new unit 0 n
+pool-raised pool new unit n has is all = pool-moved pool new unit (record (share_at pool.shares unit) { blocks = (share_at pool.shares unit).blocks + n }) 0 n has is (omega arith) (omega (arith, all))
+
+pub pool-lowered : (pool new : Blocks) (unit : Text) (n : ℕ) → has_share pool.shares unit ≡ true → n ≤ (share_at pool.shares unit).blocks → new ≡ changed pool unit (record (share_at pool.shares unit) { blocks = (share_at pool.shares unit).blocks - n })
+    → held new.shares + n ≡ held pool.shares → PoolMoves pool new unit n 0
+pool-lowered pool new unit n has le is all = pool-moved pool new unit (record (share_at pool.shares unit) { blocks = (share_at pool.shares unit).blocks - n }) n 0 has is (omega arith) (omega (arith, all))
+
+-- The mark stays where blocks alone change.
+pub mark-kept : (pool new : Blocks) (unit : Text) (v : Share) → has_share pool.shares unit ≡ true → new ≡ changed pool unit v → v.candidate ≡ (share_at pool.shares unit).candidate
+    → (share_at new.shares unit).candidate ≡ (share_at pool.shares unit).candidate
+mark-kept pool new unit v has is same = ap (λ (b : Blocks). (share_at b.shares unit).candidate) is ∙ (ap (λ (x : Share). x.candidate) (share-same pool.shares unit v has) ∙ same)
+
+-- Modes stay where usage alone changes.
+filter-same : (f g : Text → Bool) → ((u : Text) → f u ≡ g u) → (us : List Text) → filter f us ≡ filter g us
+filter-same f g same [] = refl
+filter-same f g same (u ∷ us) =
+    ap (λ t. cond t (u ∷ filter f us) (filter f us)) (same u) ∙ ap (λ xs. cond (g u) (u ∷ xs) xs) (filter-same f g same us)
+
+keys-kept : (test : Text → Bool) (es : Buckets) (b : Bucket) → keys_of (set_value test es b) ≡ keys_of es
+keys-kept test [] b = refl
+keys-kept test (e ∷ es) b =
+    elim (test e.0) as (λ t. keys_of (cond t ((e.0, b) ∷ es) (e ∷ set_value test es b)) ≡ e.0 ∷ keys_of es) [
+      | true ↦ refl
+      | false ↦ ap (λ xs. e.0 ∷ xs) (keys-kept test es b)
+    ]
+
+pub modes-kept : (es : Buckets) (unit : Text) (b : Bucket) → has_unit es unit ≡ true → b.persistent ≡ (bucket_at es unit).persistent → persistent_in (with_bucket es unit b) ≡ persistent_in es
+modes-kept es unit b has same =
+    let mode = λ (x : Buckets) (u : Text). (bucket_at x u).persistent in
+    let each : (u : Text) → mode (with_bucket es unit b) u ≡ mode es u = λ u.
+    elim (same_text unit u) as (λ t. same_text unit u ≡ t → mode (with_bucket es unit b) u ≡ mode es u) [
+      | true ↦ λ told.
+          let at : unit ≡ u = same_unit unit u told in
+          subst (λ (x : Text). mode (with_bucket es unit b) x ≡ mode es x) at (ap (λ (x : Bucket). x.persistent) (bucket-same es unit b has) ∙ same)
+      | false ↦ λ told. ap (λ (x : Bucket). x.persistent) (bucket-other es unit b u told)
+    ] refl in
+    ap (filter (mode (with_bucket es unit b))) (keys-kept (shed_words.is_unit unit) es b) ∙ filter-same (mode (with_bucket es unit b)) (mode es) each (keys_of es)

@@ -1,4 +1,5 @@
 pub mod Beside
+pub mod Open
 pub mod Seen
 pub mod Sums
 pub mod Tied

@@ -4,6 +4,8 @@ use Rattle.std.specs.Prelude.{◌≡◌, ℕ, ◌+◌, Bool, true, false, cond, 
 use Rattle.opfs_base.specs.Places.{Place}
 use Rattle.opfs_base.specs.Texts.{Text, same_text}
 use Rattle.opfs_machine.specs.Rows.{row_at}
+use Rattle.opfs_machine.specs.declared.own.Outline.{Outline}
+use Rattle.opfs_machine.specs.declared.own.Outline.TheVariants as outline
 use Rattle.opfs_pool.specs.Shares.{Blocks, has_share, share_at, held}
 use Rattle.opfs_shed.specs.Buckets.{Storage, has_unit, bucket_at, usage_of}
 use Rattle.opfs_standing.specs.Seen.{Machine}
@@ -41,3 +43,9 @@ pub record PoolMoves (pool new : Blocks) (unit : Text) (less more : ℕ) : Type 
   pub blocks : (u : Text) → (share_at new.shares u).blocks + cond (same_text u unit) less 0 ≡ (share_at pool.shares u).blocks + cond (same_text u unit) more 0
   pub held : held new.shares + less ≡ held pool.shares + more
   pub marks : (u : Text) → same_text unit u ≡ false → (share_at new.shares u).candidate ≡ (share_at pool.shares u).candidate
+
+-- What an own row keeps: a stream of the quota and of the pool, an access handle of the pool alone.
+abbrev pub kept_amounts : Outline → Amounts
+kept_amounts (outline.Stream w) = record { usage = w.reserve; blocks = w.reserve; charge = 0 }
+kept_amounts (outline.Handle h) = record { usage = 0; blocks = h.reserve; charge = 0 }
+kept_amounts r = record { usage = 0; blocks = 0; charge = 0 }

@@ -1,13 +1,13 @@
 -- The shared store as the machine in lengths, read from its tree, its buckets and its agents. This project's own.
-use Rattle.std.specs.Prelude.{ℕ, List, map, filter, Option, None, Some, slice_get, slice_set}
+use Rattle.std.specs.Prelude.{ℕ, List, map, filter}
 use Rattle.std.specs.Map.{keys_of}
 use Rattle.opfs_base.specs.Texts.{Text}
 use Rattle.opfs_machine.specs.declared.own.Outline.{Outline}
-use Rattle.opfs_machine.specs.declared.state.Agent.{Agent}
 use Rattle.opfs_machine.specs.declared.state.Row.TheVariants as line
 use Rattle.opfs_machine.specs.declared.state.Row.{Row as Line}
 use Rattle.opfs_machine.specs.declared.state.State.{State}
 use Rattle.opfs_machine.specs.Rows.{Rows as Lines}
+use Rattle.opfs_seats.specs.Slots.{with_slot}
 use Rattle.opfs_shed.specs.Buckets.{Buckets, bucket_at}
 use Rattle.opfs_standing.specs.Beside.{Rest}
 use Rattle.opfs_tree.specs.Rows.{Rows}
@@ -45,18 +45,6 @@ pub record Seen : Type 0 where
   pub machine : Machine
   pub tree : Rows
 
--- The own row at a place of an agent at a place, both counted from 0.
-abbrev pub slot_of : Option (Agent Outline) → ℕ → Option Outline
-slot_of None n = None
-slot_of (Some a) n = slice_get a.own n
-
-abbrev pub slot_in : List (Agent Outline) → ℕ → ℕ → Option Outline
-slot_in agents at n = slot_of (slice_get agents at) n
-
--- The agents with an own row changed.
-abbrev pub slot_set : List (Agent Outline) → ℕ → ℕ → Outline → Option (Agent Outline) → List (Agent Outline)
-slot_set agents at n r None = agents
-slot_set agents at n r (Some a) = slice_set agents at (record a { own = slice_set a.own n r })
-
-abbrev pub with_slot : Machine → ℕ → ℕ → Outline → Machine
-with_slot m at n r = record m { agents = slot_set m.agents at n r (slice_get m.agents at) }
+-- The machine with an own row changed, of an agent at a place, both counted from 0.
+abbrev pub with_slot_at : Machine → ℕ → ℕ → Outline → Machine
+with_slot_at m at n r = record m { agents = with_slot m.agents at n r }

@@ -1,12 +1,20 @@
 //! The shared store.
 
-ghost use Rattle.std.specs.Prelude.{◌≡◌, ◌<◌, option_map, IsSome, IfSome, not, ◌&&◌, is_some, true, OnOk, IsTrue};
+ghost use Rattle.std.specs.Prelude.{◌≡◌, ◌+◌, ◌^◌, ◌≤◌, Some, ◌<◌, option_map, IsSome, IfSome, not, ◌&&◌, is_some, true, OnOk, IsTrue};
 ghost use Rattle.opfs_locks.specs.Taking.{taken};
 ghost use Rattle.opfs_locks.specs.Holding.{IsTakenAs};
 ghost use Rattle.opfs_machine.specs.Effects.{with_lock, unlocked};
 ghost use Rattle.opfs_machine.specs.Rows.{with_file};
 ghost use Rattle.opfs_pool.specs.Shares.{has_share, share_at, changed};
+ghost use Rattle.opfs_base.specs.Units.{origin_of};
+ghost use Rattle.opfs_machine.specs.Contents.{in_lengths};
+ghost use Rattle.opfs_machine.specs.Sums.{usage, pool};
+ghost use Rattle.opfs_machine.specs.declared.own.Outline.TheVariants as outline;
+ghost use Rattle.opfs_machine.specs.declared.own.StreamOutline.{StreamOutline};
+ghost use Rattle.opfs_seats.specs.Slots.{stream_at};
 ghost use Rattle.opfs_shed.specs.Buckets.{bucket_at};
+ghost use Rattle.opfs_standing.specs.Open.{IsStreamAt};
+ghost use Rattle.opfs_standing.specs.Seen.{with_slot_at};
 ghost use Rattle.opfs_tree.specs.Rows.{row_at, file_at, change_at, locked, none_taken};
 ghost use Rattle.opfs_tree.specs.Rows.{unlocked as unlocked_row};
 
@@ -14,6 +22,7 @@ use crate::beside::Beside;
 use opfs_base::{Key, Path};
 use opfs_locks::{Held, Want};
 use opfs_pool::Pool;
+use opfs_seats::OpenStream;
 use opfs_shed::Shed;
 use opfs_tree::Tree;
 use std::marker::Model;
@@ -64,6 +73,52 @@ impl Standing {
     {
         self.tree.release_lock(unit, path, held);
         mark(&mut self.pool, &self.tree, &self.shed, &self.root, unit);
+    }
+
+    /// The blocks that the origin of a unit uses.
+    pub fn usage(&self, unit: &Key) -> u64
+        ensures { result ≡ usage in_lengths self.now.machine (origin_of unit.now) }
+    {
+        self.shed.usage(unit)
+    }
+
+    /// The blocks that are kept for durable bytes and for open rows.
+    pub fn held(&self) -> u64
+        ensures held { result ≡ pool in_lengths self.now.machine }
+        ensures within { result ≤ self.now.machine.limits.blocks }
+    {
+        self.pool.count()
+    }
+
+    /// Keeps so many blocks more for an open stream, whose file is there.
+    pub fn grow_stream(&mut self, at: usize, n: usize, more: u64)
+        requires stream { IsStreamAt self.old.machine at n }
+        requires quota { (w : StreamOutline) → stream_at self.old.machine.agents at n ≡ Some w → usage in_lengths self.old.machine (origin_of w.file.0) + more < 2 ^ 64 }
+        requires room { pool in_lengths self.old.machine + more ≤ self.old.machine.limits.blocks }
+        ensures machine { (w : StreamOutline) → stream_at self.old.machine.agents at n ≡ Some w → self.new.machine ≡ with_slot_at self.old.machine at n (outline.Stream (record w { reserve = w.reserve + more })) }
+        ensures tree { self.new.tree ≡ self.old.tree }
+    {
+        let Some(stream) = self.beside.stream(at, n) else {
+            unreachable!();
+        };
+        let reserve = stream.reserve + more;
+        self.shed.add(&stream.file.0, more);
+        self.pool.raise(&stream.file.0, more);
+        self.beside.set_reserve(at, n, reserve);
+    }
+
+    /// Closes an open stream, whose file is there, and gives it.
+    pub fn close_stream(&mut self, at: usize, n: usize) -> OpenStream
+        requires stream { IsStreamAt self.old.machine at n }
+        ensures machine { self.new.machine ≡ with_slot_at self.old.machine at n outline.ClosedStream }
+        ensures tree { self.new.tree ≡ self.old.tree }
+        ensures stream { stream_at self.old.machine.agents at n ≡ Some result }
+    {
+        let stream = self.beside.close_stream(at, n);
+        let reserve = stream.outline().reserve;
+        self.shed.free(&stream.outline().file.0, reserve);
+        self.pool.lower(&stream.outline().file.0, reserve);
+        stream
     }
 }
 
