@@ -13,7 +13,6 @@ ghost use Rattle.opfs_replay.specs.Built.{nothing_built, used_by, IsSound, IsSou
 ghost use Rattle.opfs_replay.specs.Kept.{Applies};
 ghost use Rattle.opfs_replay.specs.Sums.{charge_of, AreShared};
 
-
 use crate::places::{free_place, is_taken, is_unit_in};
 use crate::stores::{remove, store};
 use crate::usages::fill;
