@@ -51,6 +51,33 @@ fn a_host_keeps_files_and_counts_those_that_are_missing(rt: HostRuntime) -> Resu
     Ok(())
 }
 
+const IMAGE_THAT_IS_OUT: &str = "opfs_files_out.image";
+
+/// Whether a path can be fetched; what is fetched is given back.
+fn is_free<H: Host>(host: &mut H, path: &str) -> bool {
+    match host.fetch(path, None) {
+        Ok(disk) => host.give_back(path, disk).is_ok(),
+        Err(_) => false,
+    }
+}
+
+#[test]
+fn a_file_that_is_out_is_not_given_again(rt: HostRuntime) -> Result<(), Fail> {
+    let mut host = DirHost::make(&rt);
+    let mut other = DirHost::make(&rt);
+    fs::write(&rt, IMAGE_THAT_IS_OUT, b"abc")?;
+    let mut disk = host.fetch(IMAGE_THAT_IS_OUT, None)?;
+    assert!(rt; !is_free(&mut other, IMAGE_THAT_IS_OUT));
+    let anew = other.fetch(IMAGE_THAT_IS_OUT, Some(3));
+    assert!(rt; matches!(&anew, Err(HostStop::Failed)));
+    assert_eq!(rt; bytes_of(&mut disk)?, *b"abc");
+    assert_eq!(rt; (other.faults(), other.own_faults()), (2, 2));
+    host.give_back(IMAGE_THAT_IS_OUT, disk)?;
+    assert!(rt; is_free(&mut other, IMAGE_THAT_IS_OUT));
+    fs::remove_file(&rt, IMAGE_THAT_IS_OUT)?;
+    Ok(())
+}
+
 /// Fetches a file that may only be read, reads and syncs it, and gives its bytes.
 fn read_only<H: Host>(host: &mut H) -> Result<[u8; 3], HostStop> {
     let mut disk = host.fetch(IMAGE_TO_READ, None)?;

@@ -25,6 +25,30 @@ impl Write for BrokenStream {
     }
 }
 
+// A stream whose first read is interrupted, and which then is at its end.
+#[derive(Drop)]
+struct InterruptedStream {
+    interrupted: bool,
+}
+
+impl Read for InterruptedStream {
+    fn read(&mut self, _buf: &mut [u8]) -> io::Result<usize> {
+        if self.interrupted {
+            return Ok(0);
+        }
+        self.interrupted = true;
+        Err(io::Error::from(ErrorKind::Interrupted))
+    }
+}
+
+#[test]
+fn a_read_that_was_interrupted_is_tried_again(rt: HostRuntime) -> Result<(), Fail> {
+    let mut source = StdinSource::make(InterruptedStream { interrupted: false });
+    let mut bytes = [0; 2];
+    assert_eq!(rt; (source.read(&mut bytes), source.faults()), (Ok(0), 0));
+    Ok(())
+}
+
 #[test]
 fn a_reader_is_read_to_its_end_and_counts_where_it_fails(rt: HostRuntime) -> Result<(), Fail> {
     let mut source = StdinSource::make(b"abc".as_slice());
