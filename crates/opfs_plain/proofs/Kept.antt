@@ -10,7 +10,7 @@ use Rattle.opfs_machine.specs.Agents.{agent_of}
 use Rattle.opfs_machine.specs.Histories.{may_enter, LegalFrom, after_entry}
 use Rattle.opfs_machine.specs.Runs.{Call, group_of}
 use Rattle.opfs_machine.specs.Steps.{step, outcome_of, judged}
-use Rattle.opfs_plain.proofs.NeverFaults.{group_sound}
+use Rattle.opfs_laws.proofs.NeverFaults.{group_sound}
 use Rattle.opfs_machine.proofs.GoOn.{group-after, legal-group}
 use Rattle.opfs_hist.specs.Faults.{is_disk_fault}
 use Rattle.opfs_plain.specs.Keeping.{IsKept, IsEntered}

@@ -2,4 +2,3 @@ pub mod AtPlace
 pub mod Faulted
 pub mod Fills
 pub mod Kept
-pub mod NeverFaults
