@@ -1,5 +1,6 @@
 pub mod Counted
 pub mod FileMoves
+pub mod Handles
 pub mod Lines
 pub mod Locked
 pub mod Places

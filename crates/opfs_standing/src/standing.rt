@@ -10,10 +10,11 @@ ghost use Rattle.opfs_base.specs.Units.{origin_of};
 ghost use Rattle.opfs_machine.specs.Contents.{in_lengths};
 ghost use Rattle.opfs_machine.specs.Sums.{usage, pool};
 ghost use Rattle.opfs_machine.specs.declared.own.Outline.TheVariants as outline;
+ghost use Rattle.opfs_machine.specs.declared.own.HandleOutline.{HandleOutline};
 ghost use Rattle.opfs_machine.specs.declared.own.StreamOutline.{StreamOutline};
-ghost use Rattle.opfs_seats.specs.Slots.{stream_at};
+ghost use Rattle.opfs_seats.specs.Slots.{stream_at, handle_at};
 ghost use Rattle.opfs_shed.specs.Buckets.{bucket_at};
-ghost use Rattle.opfs_standing.specs.Open.{IsStreamAt};
+ghost use Rattle.opfs_standing.specs.Open.{IsStreamAt, IsHandleAt};
 ghost use Rattle.opfs_standing.specs.Seen.{with_slot_at};
 ghost use Rattle.opfs_tree.specs.Rows.{row_at, file_at, change_at, locked, none_taken};
 ghost use Rattle.opfs_tree.specs.Rows.{unlocked as unlocked_row};
@@ -22,7 +23,7 @@ use crate::beside::Beside;
 use opfs_base::{Key, Path};
 use opfs_locks::{Held, Want};
 use opfs_pool::Pool;
-use opfs_seats::OpenStream;
+use opfs_seats::{OpenHandle, OpenStream};
 use opfs_shed::Shed;
 use opfs_tree::Tree;
 use std::marker::Model;
@@ -119,6 +120,49 @@ impl Standing {
         self.shed.free(&stream.outline().file.0, reserve);
         self.pool.lower(&stream.outline().file.0, reserve);
         stream
+    }
+
+    /// Keeps so many blocks more for an open access handle, whose file is there.
+    pub fn grow_handle(&mut self, at: usize, n: usize, more: u64)
+        requires handle { IsHandleAt self.old.machine at n }
+        requires room { pool in_lengths self.old.machine + more ≤ self.old.machine.limits.blocks }
+        ensures machine { (h : HandleOutline) → handle_at self.old.machine.agents at n ≡ Some h → self.new.machine ≡ with_slot_at self.old.machine at n (outline.Handle (record h { reserve = h.reserve + more })) }
+        ensures tree { self.new.tree ≡ self.old.tree }
+    {
+        let Some(handle) = self.beside.handle(at, n) else {
+            unreachable!();
+        };
+        self.pool.raise(&handle.file.0, more);
+        // What is kept is a count of 64 bits, and the handle's is a part of it.
+        let _kept = self.pool.count();
+        let reserve = handle.reserve + more;
+        self.beside.set_reserve(at, n, reserve);
+    }
+
+    /// Keeps no block for an open access handle, whose file is there.
+    pub fn free_handle(&mut self, at: usize, n: usize)
+        requires handle { IsHandleAt self.old.machine at n }
+        ensures machine { (h : HandleOutline) → handle_at self.old.machine.agents at n ≡ Some h → self.new.machine ≡ with_slot_at self.old.machine at n (outline.Handle (record h { reserve = 0 })) }
+        ensures tree { self.new.tree ≡ self.old.tree }
+    {
+        let Some(handle) = self.beside.handle(at, n) else {
+            unreachable!();
+        };
+        self.pool.lower(&handle.file.0, handle.reserve);
+        self.beside.set_reserve(at, n, 0);
+    }
+
+    /// Closes an open access handle, whose file is there, and gives it.
+    pub fn close_handle(&mut self, at: usize, n: usize) -> OpenHandle
+        requires handle { IsHandleAt self.old.machine at n }
+        ensures machine { self.new.machine ≡ with_slot_at self.old.machine at n outline.ClosedHandle }
+        ensures tree { self.new.tree ≡ self.old.tree }
+        ensures handle { handle_at self.old.machine.agents at n ≡ Some result }
+    {
+        let handle = self.beside.close_handle(at, n);
+        let reserve = handle.outline().reserve;
+        self.pool.lower(&handle.outline().file.0, reserve);
+        handle
     }
 }
 
