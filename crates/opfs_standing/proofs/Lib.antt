@@ -1,5 +1,7 @@
 pub mod Counted
 pub mod FileMoves
+pub mod Gone
+pub mod GoneMoves
 pub mod Handles
 pub mod Lines
 pub mod Locked

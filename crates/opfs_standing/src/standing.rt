@@ -1,10 +1,12 @@
 //! The shared store.
 
-ghost use Rattle.std.specs.Prelude.{◌≡◌, ◌+◌, ◌^◌, ◌≤◌, Some, ◌<◌, option_map, IsSome, IfSome, not, ◌&&◌, is_some, true, OnOk, IsTrue};
+ghost use Rattle.std.specs.Prelude.{◌++◌, length, vec_capacity, ◌≡◌, ◌+◌, ◌^◌, ◌≤◌, Some, ◌<◌, option_map, IsSome, IfSome, not, ◌&&◌, is_some, true, OnOk, IsTrue};
 ghost use Rattle.opfs_locks.specs.Taking.{taken};
 ghost use Rattle.opfs_locks.specs.Holding.{IsTakenAs};
 ghost use Rattle.opfs_machine.specs.Effects.{with_lock, unlocked};
-ghost use Rattle.opfs_machine.specs.Rows.{with_file};
+ghost use Rattle.opfs_machine.specs.Rows.{with_file, without};
+ghost use Rattle.opfs_tree.specs.Rows.{extents_within};
+ghost use Rattle.opfs_tree.specs.Rows.{without as without_rows};
 ghost use Rattle.opfs_pool.specs.Shares.{has_share, share_at, changed};
 ghost use Rattle.opfs_base.specs.Units.{origin_of};
 ghost use Rattle.opfs_machine.specs.Contents.{in_lengths};
@@ -20,7 +22,7 @@ ghost use Rattle.opfs_tree.specs.Rows.{row_at, file_at, change_at, locked, none_
 ghost use Rattle.opfs_tree.specs.Rows.{unlocked as unlocked_row};
 
 use crate::beside::Beside;
-use opfs_base::{Key, Path};
+use opfs_base::{Extent, Key, Path};
 use opfs_locks::{Held, Want};
 use opfs_pool::Pool;
 use opfs_seats::{OpenHandle, OpenStream};
@@ -163,6 +165,26 @@ impl Standing {
         let reserve = handle.outline().reserve;
         self.pool.lower(&handle.outline().file.0, reserve);
         handle
+    }
+
+    /// Takes out the row at a place and all below it, and appends their extents to those freed. Takes no memory.
+    pub fn remove(&mut self, unit: &Key, path: &Path, freed: &mut Vec<Extent>)
+        requires there { IsSome (row_at (unit.now, path.now) self.old.tree) }
+        requires room { length (freed.old.items ++ extents_within (unit.now, path.now) self.old.tree) ≤ vec_capacity freed.old }
+        ensures machine { self.new.machine ≡ without self.old.machine (unit.now, path.now) }
+        ensures tree { self.new.tree ≡ without_rows (unit.now, path.now) self.old.tree }
+        ensures freed { freed.new.items ≡ freed.old.items ++ extents_within (unit.now, path.now) self.old.tree }
+        ensures capacity { vec_capacity freed.old ≤ vec_capacity freed.new }
+    {
+        // What is used and kept are counts of 64 bits, and what goes is a part of them.
+        let _used = self.shed.usage(unit);
+        let _kept = self.pool.count();
+        let gone = self.tree.sums_below(unit, path);
+        self.tree.remove(unit, path, freed);
+        self.shed.free(unit, gone.present);
+        self.pool.lower(unit, gone.durable);
+        self.fixed -= gone.charge;
+        mark(&mut self.pool, &self.tree, &self.shed, &self.root, unit);
     }
 }
 
