@@ -1,3 +1,4 @@
+pub mod Content
 pub mod Counted
 pub mod FileMoves
 pub mod Gone

@@ -3,7 +3,10 @@
 ghost use Rattle.std.specs.Prelude.{◌++◌, length, vec_capacity, ◌≡◌, ◌+◌, ◌^◌, ◌≤◌, Some, ◌<◌, option_map, IsSome, IfSome, not, ◌&&◌, is_some, true, OnOk, IsTrue};
 ghost use Rattle.opfs_locks.specs.Taking.{taken};
 ghost use Rattle.opfs_locks.specs.Holding.{IsTakenAs};
-ghost use Rattle.opfs_machine.specs.Effects.{with_lock, unlocked};
+ghost use Rattle.opfs_machine.specs.Effects.{with_lock, unlocked, replaced};
+ghost use Rattle.opfs_base.specs.Blocks.{blocks};
+ghost use Rattle.opfs_standing.specs.Contents.{showing};
+ghost use Rattle.opfs_tree.specs.Rows.{written, stored};
 ghost use Rattle.opfs_machine.specs.Rows.{with_file, without};
 ghost use Rattle.opfs_tree.specs.Rows.{extents_within};
 ghost use Rattle.opfs_tree.specs.Rows.{without as without_rows};
@@ -22,7 +25,7 @@ ghost use Rattle.opfs_tree.specs.Rows.{row_at, file_at, change_at, locked, none_
 ghost use Rattle.opfs_tree.specs.Rows.{unlocked as unlocked_row};
 
 use crate::beside::Beside;
-use opfs_base::{Extent, Key, Path};
+use opfs_base::{Extent, Extents, Key, Path, blocks};
 use opfs_locks::{Held, Want};
 use opfs_pool::Pool;
 use opfs_seats::{OpenHandle, OpenStream};
@@ -185,6 +188,49 @@ impl Standing {
         self.pool.lower(unit, gone.durable);
         self.fixed -= gone.charge;
         mark(&mut self.pool, &self.tree, &self.shed, &self.root, unit);
+    }
+
+    /// Says what a read of the file at a place gives now: so many bytes, with a time stamp. Its unit uses their blocks in
+    /// place of those that it used for it.
+    pub fn set_present(&mut self, unit: &Key, path: &Path, length: u64, stamp: u64)
+        requires there { IsSome (file_at (unit.now, path.now) self.old.tree) }
+        requires quota { usage in_lengths self.old.machine (origin_of unit.now) + blocks length < 2 ^ 64 }
+        ensures machine { self.new.machine ≡ with_file self.old.machine (unit.now, path.now) (showing length stamp) }
+        ensures tree { self.new.tree ≡ change_at (unit.now, path.now) (written length stamp) self.old.tree }
+    {
+        let Some(file) = self.tree.file(unit, path) else {
+            unreachable!();
+        };
+        self.shed.free(unit, blocks(file.present));
+        self.shed.add(unit, blocks(length));
+        self.tree.set_present(unit, path, length, stamp);
+    }
+
+    /// Stores so many bytes of a file for good, with a time stamp and their blocks, and gives the blocks that the file had.
+    /// A read gives them now.
+    pub fn store(
+        &mut self,
+        unit: &Key,
+        path: &Path,
+        length: u64,
+        stamp: u64,
+        extents: Extents,
+    ) -> Extents
+        requires there { IsSome (file_at (unit.now, path.now) self.old.tree) }
+        requires quota { usage in_lengths self.old.machine (origin_of unit.now) + blocks length < 2 ^ 64 }
+        requires room { pool in_lengths self.old.machine + blocks length ≤ self.old.machine.limits.blocks }
+        ensures machine { self.new.machine ≡ with_file self.old.machine (unit.now, path.now) (replaced length stamp) }
+        ensures tree { self.new.tree ≡ change_at (unit.now, path.now) (stored length stamp extents) self.old.tree }
+        ensures old { IfSome (file_at (unit.now, path.now) self.old.tree) (λ f. result ≡ f.extents) }
+    {
+        let Some(file) = self.tree.file(unit, path) else {
+            unreachable!();
+        };
+        self.shed.free(unit, blocks(file.present));
+        self.shed.add(unit, blocks(length));
+        self.pool.lower(unit, blocks(file.length));
+        self.pool.raise(unit, blocks(length));
+        self.tree.set_file(unit, path, length, stamp, extents)
     }
 }
 
