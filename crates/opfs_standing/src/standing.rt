@@ -1,13 +1,20 @@
 //! The shared store.
 
-ghost use Rattle.std.specs.Prelude.{◌++◌, length, vec_capacity, ◌≡◌, ◌+◌, ◌^◌, ◌≤◌, Some, ◌<◌, option_map, IsSome, IfSome, not, ◌&&◌, is_some, true, OnOk, IsTrue};
+ghost use Rattle.std.specs.Prelude.{None, [], OnErr, ◌++◌, length, vec_capacity, ◌≡◌, ◌+◌, ◌^◌, ◌≤◌, Some, ◌<◌, option_map, IsSome, IfSome, not, ◌&&◌, is_some, true, OnOk, IsTrue};
 ghost use Rattle.opfs_locks.specs.Taking.{taken};
 ghost use Rattle.opfs_locks.specs.Holding.{IsTakenAs};
 ghost use Rattle.opfs_machine.specs.Effects.{with_lock, unlocked, replaced};
 ghost use Rattle.opfs_base.specs.Blocks.{blocks};
 ghost use Rattle.opfs_standing.specs.Contents.{showing};
 ghost use Rattle.opfs_tree.specs.Rows.{written, stored};
-ghost use Rattle.opfs_machine.specs.Rows.{with_file, without};
+ghost use Rattle.std.specs.FinMap.Entries.{put};
+ghost use Rattle.opfs_base.specs.Places.{place_cmp};
+ghost use Rattle.opfs_machine.specs.Rows.{with_file, with_row, without};
+ghost use Rattle.opfs_machine.specs.Sums.{row_charge};
+ghost use Rattle.opfs_machine.specs.Sums.{charge as charge_of};
+ghost use Rattle.opfs_standing.specs.Contents.{IsBare};
+ghost use Rattle.opfs_standing.specs.Seen.{line_of};
+ghost use Rattle.opfs_tree.specs.Rows.{HasParent};
 ghost use Rattle.opfs_tree.specs.Rows.{extents_within};
 ghost use Rattle.opfs_tree.specs.Rows.{without as without_rows};
 ghost use Rattle.opfs_pool.specs.Shares.{has_share, share_at, changed};
@@ -30,7 +37,8 @@ use opfs_locks::{Held, Want};
 use opfs_pool::Pool;
 use opfs_seats::{OpenHandle, OpenStream};
 use opfs_shed::Shed;
-use opfs_tree::Tree;
+use opfs_tree::{Row, Tree};
+use std::alloc::{AllocError, Global};
 use std::marker::Model;
 
 /// The shared store, seen as the machine in lengths, and as the rows of its tree with their blocks.
@@ -231,6 +239,31 @@ impl Standing {
         self.pool.lower(unit, blocks(file.length));
         self.pool.raise(unit, blocks(length));
         self.tree.set_file(unit, path, length, stamp, extents)
+    }
+
+    /// Makes a row without bytes in a unit that has a root, or leaves all as it was. It adds so much to the charge.
+    pub fn make(
+        &mut self,
+        alloc: Global,
+        unit: &Key,
+        path: &Path,
+        row: Row,
+        charge: u64,
+    ) -> Result<(), AllocError>
+        requires root { IsSome (row_at (unit.now, []) self.old.tree) }
+        requires free { row_at (unit.now, path.now) self.old.tree ≡ None }
+        requires parent { HasParent (unit.now, path.now) self.old.tree }
+        requires bare { IsBare (line_of row) }
+        requires charge { charge ≡ row_charge ((unit.now, path.now), line_of row) }
+        requires area { charge_of in_lengths self.old.machine + charge < 2 ^ 64 }
+        ensures machine { OnOk result (self.new.machine ≡ with_row self.old.machine (unit.now, path.now) (line_of row)) }
+        ensures tree { OnOk result (self.new.tree ≡ put place_cmp (unit.now, path.now) row self.old.tree) }
+        ensures err { OnErr result (self.new ≡ self.old) }
+    {
+        self.tree.add(alloc, unit, path, row)?;
+        self.fixed += charge;
+        mark(&mut self.pool, &self.tree, &self.shed, &self.root, unit);
+        Ok(())
     }
 }
 
