@@ -1,9 +1,15 @@
+pub mod Content
 pub mod Counted
 pub mod FileMoves
+pub mod Gone
+pub mod GoneMoves
+pub mod Handles
 pub mod Lines
 pub mod Locked
+pub mod Made
 pub mod Places
 pub mod Reserved
+pub mod RowMoves
 pub mod RowSums
 pub mod SlotMoves
 pub mod Stores

@@ -3,4 +3,5 @@ pub mod Open
 pub mod Seen
 pub mod Sums
 pub mod Tied
+pub mod Contents
 pub mod Moves
