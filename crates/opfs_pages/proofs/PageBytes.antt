@@ -1,17 +1,18 @@
 -- A page's bytes by place, under a write and a cut, and as a working copy has them.
-use Rattle.std.proofs.Common.{◌≡◌, ℕ, ◌+◌, ◌-◌, ◌*◌, ◌/◌, ◌%◌, ◌<◌, ◌≤◌, min, max, Bool, true, false, not, List, Option, Some, length, slice_index, drop, replicate, refl, sym, ap, ◌∙◌, inl, inr, arith}
-use Rattle.std.specs.List.{range_with_len, slice_range}
+use Rattle.std.proofs.Common.{◌≡◌, ℕ, ◌+◌, ◌-◌, ◌*◌, ◌/◌, ◌%◌, ◌<◌, ◌≤◌, min, max, Bool, true, false, not, List, Some, length, slice_index, drop, replicate, refl, sym, ap, ◌∙◌, inl, inr, arith}
+use Rattle.std.specs.List.{slice_range}
 use Rattle.std.proofs.lemmas.Bool.{cases_lt}
 use Rattle.std.proofs.lemmas.List.{get_or_past, length-take, length-drop, get_or-take, get_or-drop, get_or-replicate, length-replicate}
 use Rattle.std.proofs.lemmas.List.FromFn.{length-map-range_with_len, get_or-map-range_with_len}
+use Rattle.opfs_base.specs.Blocks.{blocks}
 use Rattle.opfs_splice.specs.Splicing.{splice, resize}
 use Rattle.opfs_work.specs.declared.pages.Page.{Page}
 use Rattle.opfs_work.specs.declared.pages.Page.TheVariants.{Zero, Near, Clean, Far}
 use Rattle.opfs_work.specs.Pages.{page_at, byte_at, page_byte, bytes_of, bytes_near, is_zero, is_far, is_near}
-use Rattle.opfs_work.specs.Works.{WorkingCopy}
-use Rattle.opfs_work.proofs.Laws.{splice_before, splice_inside, splice_behind, length-resize, resize_at}
+use Rattle.opfs_work.specs.Works.{WorkingCopy, IsTouched}
+use Rattle.opfs_work.proofs.Laws.{splice_before, splice_inside, splice_behind, length-splice, length-resize, resize_at}
 use Rattle.opfs_work.proofs.Places.{near_bytes, byte_in}
-use Rattle.opfs_pages.specs.Copies.{IsPageOf, IsBegun, IsCopy, IsHeld}
+use Rattle.opfs_pages.specs.Copies.{IsPageOf, IsBegun, IsCopy}
 
 -- ---- a write
 
@@ -152,3 +153,44 @@ zeros_at n k = elim (cases_lt k n) [
 pub not_near : (t : Bool) → true ≡ not t → t ≡ false
 not_near true is = is
 not_near false is = refl
+
+-- past a row's last page all is 0
+pub past_whole : (bytes zeros : List ℕ) (work : WorkingCopy) (page : ℕ) → IsCopy bytes work → blocks work.length ≤ page → length zeros ≡ 4096 → ((k : ℕ) → slice_index zeros k ≡ 0) → IsPageOf bytes page zeros
+past_whole bytes zeros work page is past size all = record {
+  size = size;
+  at = λ k below. all k ∙ sym (get_or_past bytes (4096 * page + k) 0 (omega (arith, copied_length bytes work is)));
+}
+
+-- ---- the store's pages
+
+pub begun_written : (old given page : List ℕ) (i at : ℕ) → (IsTouched (length old) at (length given) i → ⊥) → IsBegun old i page → IsBegun (splice old at given) i page
+begun_written old given page i at apart is = record {
+  size = is.size;
+  at = λ k below there.
+      let whole = length-splice old at given in
+      let place : ℕ = 4096 * i + k in
+      elim (cases_lt place (length old)) [
+        | inl inside ↦
+            is.at k below inside
+            ∙ sym (elim (cases_lt place at) [
+              | inl before ↦ splice_before old at given place before
+              | inr past ↦ elim (cases_lt place (at + length given)) [
+                | inl in_it ↦ absurd (apart (record { some = omega arith; begins = omega arith; ends = omega arith }))
+                | inr behind ↦ splice_behind old at given place behind
+              ]
+            ])
+        | inr over ↦ absurd (apart (record { some = omega arith; begins = omega arith; ends = omega arith }))
+      ];
+}
+
+pub begun_resized : (old page : List ℕ) (i size : ℕ) → (IsTouched (length old) size 0 i → ⊥) → IsBegun old i page → IsBegun (resize old size) i page
+begun_resized old page i size apart is = record {
+  size = is.size;
+  at = λ k below there.
+      let whole = length-resize old size in
+      let place : ℕ = 4096 * i + k in
+      elim (cases_lt place (length old)) [
+        | inl inside ↦ is.at k below inside ∙ sym (resize_at old size place (omega arith))
+        | inr over ↦ absurd (apart (record { some = omega arith; begins = omega arith; ends = omega arith }))
+      ];
+}

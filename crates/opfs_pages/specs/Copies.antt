@@ -1,9 +1,9 @@
 -- What a working copy and the pages that the store has of it say of a row's bytes. This project's own.
-use Rattle.std.specs.Prelude.{◌≡◌, ◌⊎◌, ℕ, ◌+◌, ◌*◌, ◌<◌, ◌≤◌, true, List, length, slice_index, slice_index_or, ◌++◌}
+use Rattle.std.specs.Prelude.{◌≡◌, ◌⊎◌, ℕ, ◌+◌, ◌*◌, ◌<◌, true, List, length, slice_index, slice_index_or}
 use Rattle.std.specs.List.{AllByRecursion}
 use Rattle.opfs_data.specs.declared.page.Page.{Page}
-use Rattle.opfs_data.specs.Writes.{PageWrite}
-use Rattle.opfs_data.specs.Pages.{page_of, blank, LiesIn}
+use Rattle.opfs_data.specs.Writes.{PageWrite, WriteList, page_writes, page_moves}
+use Rattle.opfs_data.specs.Pages.{page_of, blank, LiesIn, NamesPage}
 use Rattle.opfs_work.specs.Pages.{page_at, is_far}
 use Rattle.opfs_work.specs.Works.{WorkingCopy, contents, IsStored}
 
@@ -34,6 +34,15 @@ pub record HasFar (work : WorkingCopy) (base end : ℕ) (pages : List Page) : Ty
   pub there : (i : ℕ) → is_far (page_at work.pages i) ≡ true → i < length pages
   pub lies : (i : ℕ) → is_far (page_at work.pages i) ≡ true → LiesIn base end (slice_index_or pages i blank).block
 
+-- the page is one of those that are to be written, in its block or in one that it gets later
+abbrev pub IsNamed : WriteList → List ℕ → ℕ → Type 0
+IsNamed w given page = NamesPage (page_writes w given) page ⊎ NamesPage (page_moves w given) page
+
 -- each page that is to be written has the row's bytes
 abbrev pub AreRight : List ℕ → List PageWrite → Type 0
 AreRight bytes writes = AllByRecursion (λ w. IsPageOf bytes w.page w.bytes) writes
+
+-- Each page of the list, also one that gets its block later, has the row's bytes.
+pub record IsRight (bytes : List ℕ) (w : WriteList) (given : List ℕ) : Type 0 where
+  pub writes : AreRight bytes (page_writes w given)
+  pub moves : AreRight bytes (page_moves w given)

@@ -1,4 +1,4 @@
-use Rattle.std.proofs.Common.{arith, ◌∙◌}
+use Rattle.std.proofs.Common.{arith}
 use Rattle.opfs_pages.proofs.PageBytes.{cut_bytes, filled_bytes}
 use Rattle.opfs_pages.proofs.bytes.cut_page.Goals as goal
 

@@ -1,6 +1,5 @@
-use Rattle.std.proofs.Common.{◌≡◌, ◌+◌, ◌-◌, ℕ, ◌<◌, length, take, drop, slice_index, arith, ◌∙◌, ap}
+use Rattle.std.proofs.Common.{◌-◌, arith}
 use Rattle.std.specs.List.{slice_range}
-use Rattle.std.proofs.lemmas.List.{length-take, length-drop, get_or-take, get_or-drop}
 use Rattle.opfs_pages.proofs.PageBytes.{not_reached, written_over, range_bytes, range_length}
 use Rattle.opfs_pages.proofs.bytes.overlay.Goals as goal
 

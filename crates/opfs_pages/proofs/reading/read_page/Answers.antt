@@ -1,7 +1,7 @@
-use Rattle.std.proofs.Common.{◌≡◌, ℕ, true, false, Bor, List, Option, None, is_none, not, Bool, length, replicate, slice_index, refl, sym, ap, ◌∙◌, arith}
+use Rattle.std.proofs.Common.{◌≡◌, true, length, replicate, sym, ◌∙◌, arith}
 use Rattle.std.proofs.lemmas.List.{length-replicate}
-use Rattle.opfs_work.specs.Pages.{page_at, is_near, is_zero, is_far}
-use Rattle.opfs_pages.specs.Copies.{IsPageOf, IsBegun}
+use Rattle.opfs_work.specs.Pages.{page_at, is_near, is_far}
+use Rattle.opfs_pages.specs.Copies.{IsBegun}
 use Rattle.opfs_pages.proofs.PageBytes.{near_whole, zero_whole, copied_length, is_elsewhere, zeros_at, not_near}
 use Rattle.opfs_pages.proofs.reading.read_page.Goals as goal
 
