@@ -1,3 +1,3 @@
 pub mod KeyLemmas
-pub mod PlaceLemmas
+pub mod UnitBytes
 pub mod UnitLemmas

@@ -35,3 +35,7 @@ key_of text = elim (parse_url None text) [ Ok url ↦ key_of_parts url | Err err
 -- Whether a key is an origin's, which names no bucket.
 abbrev pub is_origin : Text → Bool
 is_origin key = not (list_any (λ byte. byte == hash_sign) key)
+
+-- Whether a key stands on one line, so that a line of a transcript can tell it.
+abbrev pub is_one_line : Text → Bool
+is_one_line key = not (list_any (λ byte. byte == 10) key)

@@ -1,5 +1,8 @@
 pub mod Blocks
+pub mod Data
+pub mod Forms
 pub mod Keys
+pub mod Measures
 pub mod Names
 pub mod Places
 pub mod Texts

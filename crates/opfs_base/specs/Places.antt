@@ -51,6 +51,10 @@ child_name dir place = elim (same_text dir.0 place.0) [ true ↦ only_name (rest
 abbrev pub place_of : Locator → Place
 place_of at = (at.key, at.path)
 
+-- The locator of a child.
+abbrev pub child_of : Locator → Text → Kind → Locator
+child_of dir name kind = record { key = dir.key; path = dir.path ++ name ∷ []; kind = kind }
+
 -- Whether two kinds are the same.
 abbrev pub same_kind : Kind → Kind → Bool
 same_kind File File = true

@@ -2,7 +2,7 @@
 
 ghost use Rattle.std.specs.Prelude.{◌≡◌, ◌==◌, ◌⊎◌, true, false, IsTrue, IfOk, IfErr, OnOk, string_bytes};
 ghost use Rattle.std.specs.List.{list_all, position};
-ghost use Rattle.opfs_base.specs.Keys.{has_tuple_origin, origin_text, key_of, is_origin};
+ghost use Rattle.opfs_base.specs.Keys.{has_tuple_origin, origin_text, key_of, is_origin, is_one_line};
 ghost use Rattle.opfs_base.specs.Units.{hash_sign, is_letter_or_digit, is_bucket_byte, is_bucket_name, unit_of, origin_of, bucket_of, same_origin};
 
 use crate::bytes::Bytes;
@@ -65,6 +65,7 @@ impl Key {
     pub fn of_url(alloc: Global, text: &str) -> Result<Key, KeyRefusal>
         ensures key { IfOk result (λ key. key_of text.now ≡ Ok key) }
         ensures origin { IfOk result (λ key. IsTrue (is_origin key)) }
+        ensures line { IfOk result (λ key. IsTrue (is_one_line key)) }
         ensures refused { IfErr result (λ e. (key_of text.now ≡ Err e) ⊎ (e ≡ KeyRefusal.NoMemory)) }
     {
         let url = match Url::parse(alloc, text) {

@@ -1,7 +1,6 @@
 //! Paths: lists of names.
 
 ghost use Rattle.std.specs.Prelude.{◌≡◌, [], ◌∷◌, ◌++◌, IfOk};
-ghost use Rattle.std.specs.Option.{option_copied};
 ghost use Rattle.opfs_base.specs.Places.{rest_below};
 ghost use Rattle.std.specs.Cmp.{partial_order_from_agreeing_total};
 ghost use Rattle.std.specs.Cmp.Lexicographic.{slice_cmp, pointwise, lists_total, lists_ties, nat_list_cmp_total, texts_ties};
@@ -11,6 +10,7 @@ ghost use Rattle.std.specs.Prelude.{nat_eq, Some};
 ghost use Rattle.std.specs.Ordering.{nat_cmp};
 
 use crate::name::Name;
+use crate::places::rest_below;
 use std::alloc::{AllocError, Global};
 use std::cmp::Ordering;
 use std::marker::Model;
@@ -138,14 +138,4 @@ fn copy_of(alloc: Global, names: &[Name], more: usize) -> Result<Vec<Name>, Allo
         copy.push(name.copy(alloc)?)?;
     }
     Ok(copy)
-}
-
-// What follows the names above, or None where the names do not begin with them.
-fn rest_below<'a>(above: &[Name], names: &'a [Name]) -> Option<&'a [Name]>
-    ensures { option_copied result ≡ rest_below above.now names.now }
-{
-    match names.strip_prefix(above) {
-        Some(rest) => Some(rest),
-        None => None,
-    }
 }

@@ -137,3 +137,8 @@ pub made : (items before : List ℕ) (n len size : ℕ) → items ≡ take n bef
 made items before n len size e none nought =
     let zeros : items ≡ replicate n 0 = e ∙ ap (λ (xs : List ℕ). take n xs ++ replicate (n - len) 0) none ∙ nothing n (n - len) 0 (omega arith) in
     ap (λ (xs : List ℕ). flags_of xs size) zeros ∙ flags-none n size
+
+-- words that were all cleared
+pub cleared : (words : List ℕ) (size : ℕ) (flags : List Bool) (n : ℕ) (after : List ℕ) → flags_of words size ≡ flags → after ≡ replicate n 0 → flags_of after size ≡ replicate (length flags) false
+cleared words size flags n after e zeros =
+    ap (λ (xs : List ℕ). flags_of xs size) zeros ∙ flags-none n size ∙ ap (λ (k : ℕ). replicate k false) (size_is words size flags e)

@@ -61,6 +61,13 @@ impl Bits {
         }
     }
 
+    /// Makes all flags false.
+    pub fn clear(&mut self)
+        ensures { self.new ≡ replicate (length self.old) false }
+    {
+        clear_words(&mut self.words);
+    }
+
     /// The first block from a place on whose flag is false, or the number of flags.
     pub fn first_clear(&self, from: u32) -> u32
         requires { from ≤ length self.now }
@@ -97,6 +104,15 @@ fn clear_bit(words: &mut [u64], block: u32)
     ensures other { (k : ℕ) → (k ≡ block → ⊥) → bit_of words.new k ≡ bit_of words.old k }
 {
     words[(block / 64) as usize] &= !(1 << (block % 64));
+}
+
+// Clears the bits of all words.
+fn clear_words(words: &mut [u64])
+    ensures { words.new ≡ replicate (length words.old) 0 }
+{
+    for i in 0..words.len() {
+        words[i] = 0;
+    }
 }
 
 // The first block of a range whose bit is clear, or the range's end. A word whose bits are all set is passed at once.

@@ -1,12 +1,12 @@
 //! The set of used blocks.
 
-ghost use Rattle.std.specs.Prelude.{◌≡◌, ◌↔◌, ◌≤◌, [], IsTrue, IfOk, false, true, length, take, replicate};
+ghost use Rattle.std.specs.Prelude.{◌≡◌, ◌↔◌, ◌≤◌, ◌<◌, [], IsTrue, IfOk, false, true, length, take, replicate, slice_set};
 ghost use Rattle.std.specs.Bool.{OnTrue, OnFalse};
 ghost use Rattle.std.specs.Vec.{vec_capacity};
-ghost use Rattle.opfs_blocks.specs.Sets.{free_blocks, marked, blocks_of, AreBelow, AreJoined, CanAdopt};
+ghost use Rattle.opfs_blocks.specs.Sets.{free_blocks, is_used, marked, blocks_of, AreBelow, AreJoined, CanAdopt};
 
 use crate::bits::Bits;
-use crate::runs::{adopt_all, clear_all, has_clear, take_clear};
+use crate::runs::{adopt_all, has_clear, mark_all, take_clear};
 use opfs_base::Extent;
 use std::alloc::{AllocError, Global};
 use std::marker::Model;
@@ -65,8 +65,42 @@ impl BlockMap {
         ensures free { self.new ≡ marked false (blocks_of extents.now) self.old }
         ensures size { length self.new ≡ length self.old }
     {
-        let lowest = clear_all(&mut self.bits, extents);
+        let lowest = mark_all(&mut self.bits, extents, false);
         self.place = self.place.min(lowest);
+    }
+
+    /// Whether a block is used. One at or past the size is.
+    pub fn is_used(&self, block: u32) -> bool
+        ensures { result ≡ is_used self.now block }
+    {
+        block >= self.bits.len() || self.bits.get(block)
+    }
+
+    /// Makes one block used or free.
+    pub fn put(&mut self, block: u32, used: bool)
+        requires { block < length self.old }
+        ensures put { self.new ≡ slice_set self.old block used }
+        ensures size { length self.new ≡ length self.old }
+    {
+        self.bits.set(block, used);
+        self.place = self.place.min(block);
+    }
+
+    /// Makes the blocks of extents used, whether they were used already or not.
+    pub fn mark(&mut self, extents: &[Extent])
+        requires { AreBelow (length self.old) (blocks_of extents.now) }
+        ensures used { self.new ≡ marked true (blocks_of extents.now) self.old }
+        ensures size { length self.new ≡ length self.old }
+    {
+        let _lowest = mark_all(&mut self.bits, extents, true);
+    }
+
+    /// Makes all blocks free. Takes no memory.
+    pub fn clear(&mut self)
+        ensures { self.new ≡ replicate (length self.old) false }
+    {
+        self.bits.clear();
+        self.place = 0;
     }
 
     /// Makes the blocks of extents used; false, with nothing changed, where one is used already, named twice or not

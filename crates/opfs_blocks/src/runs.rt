@@ -34,15 +34,15 @@ fn are_clear(bits: &Bits, extent: Extent) -> bool
     true
 }
 
-/// Frees the blocks of extents, and gives a place below which nothing changed.
-pub fn clear_all(bits: &mut Bits, extents: &[Extent]) -> u32
+/// Makes the blocks of extents used or free, and gives a place below which nothing changed.
+pub fn mark_all(bits: &mut Bits, extents: &[Extent], used: bool) -> u32
     requires { AreBelow (length bits.old) (blocks_of extents.now) }
-    ensures clear { bits.new ≡ marked false (blocks_of extents.now) bits.old }
+    ensures marked { bits.new ≡ marked used (blocks_of extents.now) bits.old }
     ensures below { (k : ℕ) → k < result → slice_index_or bits.new k true ≡ slice_index_or bits.old k true }
 {
     let mut lowest = u32::MAX;
     for extent in extents {
-        mark_run(bits, *extent, false);
+        mark_run(bits, *extent, used);
         lowest = lowest.min(extent.start);
     }
     lowest
@@ -56,7 +56,7 @@ pub fn adopt_all(bits: &mut Bits, extents: &[Extent]) -> bool
 {
     for (i, extent) in extents.iter().enumerate() {
         if !are_clear(bits, *extent) {
-            let _lowest = clear_all(bits, &extents[..i]);
+            let _lowest = mark_all(bits, &extents[..i], false);
             return false;
         }
         mark_run(bits, *extent, true);

@@ -1,18 +1,9 @@
 -- What a change adds to the charge. This project's own.
-use Rattle.std.specs.Prelude.{ℕ, ◌+◌, ◌*◌, List, length, sum_by}
+use Rattle.std.specs.Prelude.{ℕ, ◌+◌, ◌*◌, length}
 use Rattle.opfs_base.specs.Blocks.{blocks}
-use Rattle.opfs_base.specs.Texts.{Text}
-use Rattle.opfs_base.specs.Units.{origin_of, bucket_of}
+pub use Rattle.opfs_base.specs.Measures.{unit_bytes, path_bytes}
 use Rattle.opfs_codec.specs.declared.change.Change.{Change}
 use Rattle.opfs_codec.specs.declared.change.Change.TheVariants.{MakeRoot, MakeDir, MakeFile, Remove, Content, Persist, Evict}
-
--- The bytes of a unit: its origin's key, a length, and its bucket's name.
-abbrev pub unit_bytes : Text → ℕ
-unit_bytes unit = length (origin_of unit) + 1 + length (bucket_of unit)
-
--- The bytes of a path.
-abbrev pub path_bytes : List Text → ℕ
-path_bytes path = 1 + sum_by (λ name. 1 + length name) path
 
 unfoldable pub charge : Change → ℕ
 charge (MakeRoot unit) = 3 + unit_bytes unit

@@ -1,6 +1,6 @@
 //! What an agent asks.
 
-use opfs_base::{Bytes, Key, Locator, Text};
+use opfs_base::{Data, Key, Locator, Text};
 
 /// How an access handle uses its file.
 #[derive(Clone, Copy, Debug, PartialEq, Eq)]
@@ -96,7 +96,7 @@ pub enum Op {
     },
     Write {
         row: u32,
-        bytes: Bytes,
+        bytes: Data,
         position: Option<u64>,
     },
     Seek {
@@ -124,7 +124,7 @@ pub enum Op {
     },
     SyncWrite {
         row: u32,
-        bytes: Bytes,
+        bytes: Data,
         at: Option<u64>,
     },
     SyncTruncate {

@@ -3,7 +3,6 @@ use Rattle.std.proofs.Common.{◌≡◌, ℕ, ◌-◌, zero, suc, true, false, L
 use Rattle.std.specs.Prelude.{slice_get}
 use Rattle.std.specs.List.{filter_map, cons_option}
 use Rattle.std.proofs.lemmas.List.Elements.{filter_map-append}
-use Rattle.opfs_base.specs.Places.{place_of}
 use Rattle.opfs_base.specs.Texts.{Text}
 use Rattle.opfs_hist.specs.declared.op.Op.{Op}
 use Rattle.opfs_hist.specs.declared.op.Op.TheVariants as op
@@ -262,7 +261,7 @@ module _ (s t : State Text Own) (k : ℕ) (same : mine s k ≡ mine t k) where
       → mine (effect in_bytes s (sizes_of s k o) k o) k ≡ mine (effect in_bytes t (sizes_of t k o) k o) k
   unfolding effect is_local
   effect-alike (op.Values dir) h ns nt =
-      let r = own.Iterator (record { dir = place_of dir; given = [] }) in
+      let r = own.Iterator (record { dir = dir; given = [] }) in
       mine-adds s k r ns refl ∙ ap (λ m. with_rows m (m.rows ++ r ∷ [])) same ∙ sym (mine-adds t k r nt refl)
   effect-alike (op.Resolve dir entry) h ns nt = same
   effect-alike (op.IsSameEntry entry to) h ns nt = same

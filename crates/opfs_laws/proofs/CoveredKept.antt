@@ -432,7 +432,7 @@ effect-covered s k (op.GetDirectoryHandle dir name create) number may h = covere
 effect-covered s k (op.GetFileHandle dir name create) number may h =
     covered-made s (child (place_of dir) name) (new_row in_bytes kind.File (moment_of s k)) (λ g is. let same = some-file is in ap (λ x. x.present) (sym same) ∙ ap (λ x. x.durable) same) h
 effect-covered s k (op.RemoveEntry dir name recursive) number may h = covered-without s (child (place_of dir) name) h
-effect-covered s k (op.Values dir) number may h = covered-adds s k (own.Iterator (record { dir = place_of dir; given = [] })) number h
+effect-covered s k (op.Values dir) number may h = covered-adds s k (own.Iterator (record { dir = dir; given = [] })) number h
 effect-covered s k (op.Next n dir) number may h =
     covered-changed s k n (λ r. advanced_row r (children_of s (place_of dir))) number (λ r is q. inl (advanced-kept q (children_of s (place_of dir)) r)) h
 effect-covered s k (op.GetFile at) number may h = snapshot-covered s k (file_at s (place_of at)) number h

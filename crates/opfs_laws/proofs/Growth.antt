@@ -270,7 +270,7 @@ effect-within s k (op.GetFileHandle dir name create) need number locks covered f
     of-charge s _ need (making kind.File (child (place_of dir) name) (row_at s (child (place_of dir) name))) n (making-none kind.File (child (place_of dir) name) (row_at s (child (place_of dir) name)))
     (grows-made s (child (place_of dir) name) (new_row in_bytes kind.File (moment_of s k)) kind.File refl refl)
 effect-within s k (op.RemoveEntry dir name recursive) need number locks covered fits rising n = of-none s _ need n (grows-without s (child (place_of dir) name))
-effect-within s k (op.Values dir) need number locks covered fits rising n = of-none s _ need n (grows-adds s k (own.Iterator (record { dir = place_of dir; given = [] })) number)
+effect-within s k (op.Values dir) need number locks covered fits rising n = of-none s _ need n (grows-adds s k (own.Iterator (record { dir = dir; given = [] })) number)
 effect-within s k (op.Next i dir) need number locks covered fits rising n =
     of-none s _ need n (grows-changed s k i (λ r. advanced_row r (children_of s (place_of dir))) 0 number (λ r is. advanced-same (children_of s (place_of dir)) r))
 effect-within s k (op.GetFile at) need number locks covered fits rising n = of-none s _ need n (snapshot-grows s k number (file_at s (place_of at)))

@@ -32,7 +32,7 @@ use Rattle.opfs_machine.specs.Agents.{agent_of, own_of, open_stream, open_handle
 use Rattle.opfs_machine.specs.Contents.{in_bytes, outline_of, written_row, truncated_row, sought_row, moved_row, advanced_row}
 use Rattle.opfs_machine.specs.Effects.{effect, refused, made, new_row, moment_of, opens_bucket, opens_stream, takes_snapshot, closes_stream, aborts_stream, changes_file, flushes, closes_handle, discards, persists, with_written, flushed, unlocked, undone, replaced, content_of, cursor_after_read}
 use Rattle.opfs_machine.specs.Histories.{IsCall}
-use Rattle.opfs_machine.specs.Openings.{Opening, Stored, Who, folder, document, row_of, agent_in, begun}
+use Rattle.opfs_machine.specs.Openings.{Opening, Stored, Who, folder, document, row_of, agent_begun, begun}
 use Rattle.opfs_machine.specs.Replies.{sizes_of}
 use Rattle.opfs_machine.specs.Rows.{Rows, taken_lock, file_at, file_of, with_file, without, children_of}
 use Rattle.opfs_machine.specs.Rulings.{start_of, size_written, reserve_for, want_of, first_reserve, lock_in}
@@ -182,7 +182,7 @@ effect-locks s z k (op.GetDirectoryHandle dir name create) number may h = made-l
 effect-locks s z k (op.GetFileHandle dir name create) number may h = made-locks s (child (place_of dir) name) (new_row in_bytes kind.File (moment_of s k)) refl h
 effect-locks s z k (op.RemoveEntry dir name recursive) number may h =
     locks-alike s (without s (child (place_of dir) name)) (alike-without s (child (place_of dir) name) may h) h
-effect-locks s z k (op.Values dir) number may h = locks-adds s k (own.Iterator (record { dir = place_of dir; given = [] })) number refl h
+effect-locks s z k (op.Values dir) number may h = locks-adds s k (own.Iterator (record { dir = dir; given = [] })) number refl h
 effect-locks s z k (op.Next n dir) number may h =
     locks-changed s k n (λ r. advanced_row r (children_of s (place_of dir))) number (λ r. advanced-holds (children_of s (place_of dir)) r) h
 effect-locks s z k (op.GetFile at) number may h = snapshot-locks s k (file_at s (place_of at)) number h
@@ -286,7 +286,7 @@ begun-open p (e ∷ es) =
       | false ↦ begun-open p es
     ]
 
-begun-none : (agents : List Who) (f : Own → ℕ) → sum_by f (flat_map (λ a. a.own) (map agent_in agents)) ≡ 0
+begun-none : (agents : List Who) (f : Own → ℕ) → sum_by f (flat_map (λ a. a.own) (map agent_begun agents)) ≡ 0
 begun-none [] f = refl
 begun-none (a ∷ agents) f = begun-none agents f
 

@@ -23,7 +23,7 @@ use Rattle.opfs_machine.specs.Agents.{agent_of, own_of, open_stream, open_handle
 use Rattle.opfs_machine.specs.Contents.{in_bytes, outline_of, written_row, truncated_row, sought_row, moved_row, advanced_row}
 use Rattle.opfs_machine.specs.Effects.{effect, refused, made, new_row, moment_of, opens_bucket, opens_stream, takes_snapshot, closes_stream, aborts_stream, changes_file, flushes, closes_handle, discards, persists, with_written, with_lock, flushed, unlocked, undone, replaced, content_of, cursor_after_read}
 use Rattle.opfs_machine.specs.Histories.{may_enter, is_own, is_of_origin}
-use Rattle.opfs_machine.specs.Openings.{Opening, begun, agent_in}
+use Rattle.opfs_machine.specs.Openings.{Opening, begun, agent_begun}
 use Rattle.opfs_machine.specs.Replies.{sizes_of}
 use Rattle.opfs_machine.specs.Rows.{file_at, with_file, children_of}
 use Rattle.opfs_machine.specs.Rulings.{start_of, size_written, reserve_for, want_of, is_read_write, first_reserve}
@@ -141,7 +141,7 @@ unfolding effect may_enter
 effect-keeps s z k (op.GetDirectory bucket) may h = bucket-keeps s bucket (agent_of s k).key h
 effect-keeps s z k (op.GetDirectoryHandle dir name create) may h = made-keeps s (child (place_of dir) name) row.Directory h
 effect-keeps s z k (op.GetFileHandle dir name create) may h = made-keeps s (child (place_of dir) name) (new_row in_bytes kind.File (moment_of s k)) h
-effect-keeps s z k (op.Values dir) may h = keeps-adds HasOwnFile s k (own.Iterator (record { dir = place_of dir; given = [] })) h refl
+effect-keeps s z k (op.Values dir) may h = keeps-adds HasOwnFile s k (own.Iterator (record { dir = dir; given = [] })) h refl
 effect-keeps s z k (op.Next n dir) may h =
     keeps-changed HasOwnFile s k n (λ r. advanced_row r (children_of s (place_of dir))) h (λ r is old. advanced (agent_of s k).key (children_of s (place_of dir)) r old)
 effect-keeps s z k (op.GetFile at) may h = snapshot-keeps s k (file_at s (place_of at)) h
@@ -200,4 +200,4 @@ own_files-kept s gone e call h =
     changed-keeps (fold evicted s gone) e.agent e.op e.reply (may-after gone s e.agent e.op ∙ call.fitting) (subst AgentsKeep (sym (evicted-agents gone s)) h)
 
 pub own_files-begun : (o : Opening) → OwnFiles (begun o)
-own_files-begun o = All-map (AgentKeeps HasOwnFile) agent_in o.agents (λ i d within. All-nil (HasOwnFile _))
+own_files-begun o = All-map (AgentKeeps HasOwnFile) agent_begun o.agents (λ i d within. All-nil (HasOwnFile _))

@@ -26,7 +26,7 @@ use Rattle.opfs_machine.specs.declared.state.State.{State}
 use Rattle.opfs_machine.specs.Agents.{agent_of, own_of, open_stream, open_handle, of_row, handle_in, with_agent}
 use Rattle.opfs_machine.specs.Contents.{in_bytes, outline_of, written_row, truncated_row, sought_row, moved_row, advanced_row}
 use Rattle.opfs_machine.specs.Effects.{effect, refused, made, new_row, moment_of, opens_bucket, opens_stream, takes_snapshot, closes_stream, aborts_stream, changes_file, flushes, closes_handle, discards, persists, with_written, with_lock, flushed, unlocked, undone, replaced, content_of, cursor_after_read}
-use Rattle.opfs_machine.specs.Openings.{Opening, begun, agent_in}
+use Rattle.opfs_machine.specs.Openings.{Opening, begun, agent_begun}
 use Rattle.opfs_machine.specs.Replies.{sizes_of, sizes_in}
 use Rattle.opfs_machine.specs.Rows.{file_at, with_file, children_of}
 use Rattle.opfs_machine.specs.Rulings.{start_of, size_written, reserve_for, want_of, is_read_write, first_reserve, size_in}
@@ -178,7 +178,7 @@ unfolding effect
 effect-fits s k (op.GetDirectory bucket) may h = bucket-keeps s bucket (agent_of s k).key h
 effect-fits s k (op.GetDirectoryHandle dir name create) may h = made-keeps s (child (place_of dir) name) row.Directory h
 effect-fits s k (op.GetFileHandle dir name create) may h = made-keeps s (child (place_of dir) name) (new_row in_bytes kind.File (moment_of s k)) h
-effect-fits s k (op.Values dir) may h = keeps-adds Fits s k (own.Iterator (record { dir = place_of dir; given = [] })) h tt
+effect-fits s k (op.Values dir) may h = keeps-adds Fits s k (own.Iterator (record { dir = dir; given = [] })) h tt
 effect-fits s k (op.Next n dir) may h =
     keeps-changed Fits s k n (λ r. advanced_row r (children_of s (place_of dir))) h (λ r is old. advanced (agent_of s k).key (children_of s (place_of dir)) r old)
 effect-fits s k (op.GetFile at) may h = snapshot-keeps s k (file_at s (place_of at)) h
@@ -223,4 +223,4 @@ fits-kept s gone e call h =
     changed-fits (fold evicted s gone) e.agent e.op e.reply (call-allowed s gone e call) (subst AgentsFit (sym (evicted-agents gone s)) h)
 
 pub fits-begun : (o : Opening) → OwnFits (begun o)
-fits-begun o = All-map (AgentKeeps Fits) agent_in o.agents (λ i d within. All-nil (Fits (get_or o.agents i d).key))
+fits-begun o = All-map (AgentKeeps Fits) agent_begun o.agents (λ i d within. All-nil (Fits (get_or o.agents i d).key))

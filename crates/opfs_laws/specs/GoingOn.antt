@@ -1,5 +1,5 @@
 -- How a legal history goes on, and where it may be cut. This project's own.
-use Rattle.std.specs.Prelude.{◌≡◌, ℕ, Bool, true, List, [], ◌∷◌, ◌++◌, map, fold, is_none, IsTrue}
+use Rattle.std.specs.Prelude.{◌≡◌, ℕ, Bool, true, false, List, [], ◌∷◌, ◌++◌, map, fold, is_none, IsTrue}
 use Rattle.opfs_base.specs.Texts.{Text}
 use Rattle.opfs_hist.specs.declared.entry.Entry.{Entry}
 use Rattle.opfs_machine.specs.declared.own.Own.{Own}
@@ -22,13 +22,14 @@ pub record IsCallable (s : State Text Own) (c : Call) : Type 0 where
   pub live : IsTrue (agent_of s c.agent).live
   pub fitting : IsTrue (may_enter s c.agent c.op)
 
--- A local call of the agent of a number, with the machine's own answer.
+-- A local call of the agent of a number, with the machine's own answer, that had no turn of the shared store.
 pub record IsPending (s : State Text Own) (k : ℕ) (e : Entry) : Type 0 where
   pub agent : e.agent ≡ k
   pub live : IsTrue (agent_of s e.agent).live
   pub fitting : IsTrue (may_enter s e.agent e.op)
   pub local : IsTrue (is_local s e.agent e.op)
   pub answered : e.reply ≡ (step s e.agent e.op).answered
+  pub turn : e.turn ≡ false
 
 -- Such calls, one after another.
 abbrev pub ArePending : State Text Own → ℕ → List Entry → Type 0

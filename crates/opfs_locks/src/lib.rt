@@ -127,4 +127,9 @@ impl Held {
     {
         self.want
     }
+
+    /// Ends a hold whose lock is no more, or is kept no longer, without giving the lock back.
+    pub fn end(self) {
+        let Held { want: _ } = self;
+    }
 }

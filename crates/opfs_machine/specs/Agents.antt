@@ -19,10 +19,14 @@ use Rattle.opfs_machine.specs.Contents.{Contents}
 abbrev pub nobody : {R : Type 0} → Agent R
 nobody = record { key = None; grant = false; live = false; moment = 0; waits = None; own = [] }
 
+-- The agent of a number among all agents: the first has the number 1.
+abbrev pub agent_in : {R : Type 0} → List (Agent R) → ℕ → Agent R
+agent_in agents zero = nobody
+agent_in agents (suc k) = unwrap_or (slice_get agents k) nobody
+
 -- The agent of a number.
 abbrev pub agent_of : {F R : Type 0} → State F R → ℕ → Agent R
-agent_of s zero = nobody
-agent_of s (suc k) = unwrap_or (slice_get s.agents k) nobody
+agent_of s k = agent_in s.agents k
 
 -- The state with an agent changed.
 abbrev pub with_agent : {F R : Type 0} → State F R → ℕ → Agent R → State F R

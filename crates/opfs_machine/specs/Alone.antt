@@ -15,7 +15,7 @@ use Rattle.opfs_machine.specs.declared.state.Party.{Party}
 use Rattle.opfs_machine.specs.declared.state.Party.TheVariants.{Origin, Alone}
 use Rattle.opfs_machine.specs.declared.state.Need.{Need}
 use Rattle.opfs_machine.specs.declared.state.State.{State}
-use Rattle.opfs_machine.specs.Agents.{agent_of, party_with, same_party}
+use Rattle.opfs_machine.specs.Agents.{agent_of, nobody, party_with, same_party}
 use Rattle.opfs_machine.specs.Contents.{in_bytes}
 use Rattle.opfs_machine.specs.Histories.{may_enter, is_disk_op, evicted_by, IsEviction}
 use Rattle.opfs_machine.specs.Openings.{Opening, begun}
@@ -43,18 +43,18 @@ is_partys_entry o party e None = is_member o party e.agent
 abbrev pub project : Opening → Party → List Entry → List Entry
 project o party es = filter (λ e. is_partys_entry o party e (evicted_by e.op)) es
 
+-- An agent of the party; nobody for another.
 abbrev pub kept_agent : Party → ℕ × Agent Own → Agent Own
-kept_agent party numbered = elim (same_party party (party_with numbered.1.key numbered.0)) [
-  | true ↦ numbered.1
-  | false ↦ record numbered.1 { live = false }
-]
+kept_agent party numbered = elim (same_party party (party_with numbered.1.key numbered.0)) [ true ↦ numbered.1 | false ↦ nobody ]
 
--- The state in which the party begins alone: with its rows and modes, and its agents alone live.
+-- The state in which the party begins alone: with its own rows, modes and agents, and with the quota. Nobody stands at
+-- the numbers of other agents, and of the shared room nothing is told.
 abbrev pub begun_alone : Opening → Party → State Text Own
 begun_alone o party = record (begun o) {
   rows = filter (λ e. is_partys party e.0.0) (begun o).rows;
   persistent = filter (is_partys party) (begun o).persistent;
   agents = map (kept_agent party) (enumerate_from 1 (begun o).agents);
+  limits = record { area = 0; blocks = 0; quota = o.limits.quota };
 }
 
 -- The need of a call that the party's own machine does not refuse: it judges the quota, and no shared room.

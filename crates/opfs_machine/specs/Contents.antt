@@ -4,6 +4,7 @@ use Rattle.std.specs.Prelude.{ℕ, ◌+◌, min, max, List, [], ◌∷◌, ◌++
 use Rattle.std.specs.List.{list_any}
 use Rattle.opfs_base.specs.Texts.{Text, same_text}
 use Rattle.opfs_base.specs.Places.{Place}
+use Rattle.opfs_base.specs.declared.locator.Locator.{Locator}
 use Rattle.opfs_hist.specs.declared.op.Mode.{Mode}
 use Rattle.opfs_machine.specs.declared.own.Own.{Own}
 use Rattle.opfs_machine.specs.declared.own.Own.TheVariants as own
@@ -41,7 +42,7 @@ pub record Contents (F R : Type 0) : Type 0 where
   -- a snapshot of a content
   pub snapshot : F → R
   -- an iterator over a directory
-  pub iterator : Place → R
+  pub iterator : Locator → R
   -- an iterator that has given the next of these children
   pub advanced : R → List Text → R
 
@@ -109,10 +110,15 @@ in_bytes = record {
   advanced = advanced_row;
 }
 
-abbrev pub with_reserve : Outline → ℕ → Outline
-with_reserve (outline.Stream w) reserve = outline.Stream (record w { reserve = reserve })
-with_reserve (outline.Handle h) reserve = outline.Handle (record h { reserve = reserve })
-with_reserve r reserve = r
+-- An open stream with this reserve; any other row as it is.
+abbrev pub stream_with : Outline → ℕ → Outline
+stream_with (outline.Stream w) reserve = outline.Stream (record w { reserve = reserve })
+stream_with r reserve = r
+
+-- An open access handle with this reserve; any other row as it is.
+abbrev pub handle_with : Outline → ℕ → Outline
+handle_with (outline.Handle h) reserve = outline.Handle (record h { reserve = reserve })
+handle_with r reserve = r
 
 -- What the shared store knows: lengths, and own rows without buffers, offsets and cursors.
 abbrev pub in_lengths : Contents ℕ Outline
@@ -123,13 +129,13 @@ in_lengths = record {
   cut = λ n size. size;
   outline = λ r. r;
   stream = λ file n reserve. outline.Stream (record { file = file; reserve = reserve });
-  written = λ r position new reserve. with_reserve r reserve;
-  truncated = λ r size reserve. with_reserve r reserve;
+  written = λ r position new reserve. stream_with r reserve;
+  truncated = λ r size reserve. stream_with r reserve;
   sought = λ r offset. r;
   stored = λ r size. size;
   closed_stream = outline.ClosedStream;
   handle = λ file mode. outline.Handle (record { file = file; mode = mode; reserve = 0 });
-  moved = λ r cursor reserve. with_reserve r reserve;
+  moved = λ r cursor reserve. handle_with r reserve;
   closed_handle = outline.ClosedHandle;
   snapshot = λ n. outline.Snapshot;
   iterator = λ dir. outline.Iterator;

@@ -1,7 +1,7 @@
 -- Which histories are legal. A history is a list of entries in groups: evictions, often none, and then one call.
 use Rattle.std.specs.Prelude.{◌≡◌, ◌⊎◌, ℕ, Bool, true, false, not, ◌&&◌, ◌||◌, List, [], ◌∷◌, ◌++◌, fold, Option, Some, None, IsTrue}
-use Rattle.opfs_base.specs.Texts.{Text, same_text, same_texts}
-use Rattle.opfs_base.specs.Places.{Place, place_of}
+use Rattle.opfs_base.specs.Texts.{Text, same_text}
+use Rattle.opfs_base.specs.Places.{same_locator}
 use Rattle.opfs_base.specs.Units.{origin_of}
 use Rattle.opfs_base.specs.declared.locator.Locator.{Locator}
 use Rattle.opfs_hist.specs.declared.entry.Entry.{Entry}
@@ -46,8 +46,10 @@ abbrev pub is_snapshot : Option Own → Bool
 is_snapshot (Some (own.Snapshot bytes)) = true
 is_snapshot r = false
 
-abbrev pub is_iterator_of : Place → Option Own → Bool
-is_iterator_of dir (Some (own.Iterator i)) = same_text i.dir.0 dir.0 && same_texts i.dir.1 dir.1
+-- Whether an own row is an iterator over the directory of a locator. Two locators are the same only with the same kind
+-- (File System: the same locator as).
+abbrev pub is_iterator_of : Locator → Option Own → Bool
+is_iterator_of dir (Some (own.Iterator i)) = same_locator i.dir dir
 is_iterator_of dir r = false
 
 -- Whether a call may have an entry at all: its locators are of the agent's origin, resolve and isSameEntry aside, the
@@ -58,7 +60,7 @@ may_enter s k (GetDirectoryHandle dir name create) = is_own s k dir
 may_enter s k (GetFileHandle dir name create) = is_own s k dir
 may_enter s k (RemoveEntry dir name recursive) = is_own s k dir
 may_enter s k (Values dir) = is_own s k dir
-may_enter s k (Next n dir) = is_own s k dir && is_iterator_of (place_of dir) (own_of (agent_of s k) n)
+may_enter s k (Next n dir) = is_own s k dir && is_iterator_of dir (own_of (agent_of s k) n)
 may_enter s k (GetFile at) = is_own s k at
 may_enter s k (Slice n at len) = is_snapshot (own_of (agent_of s k) n)
 may_enter s k (CreateWritable at keep) = is_own s k at
@@ -81,6 +83,12 @@ may_enter s k (Wait tag) =
 may_enter s k End = not (has_open_row in_bytes s k)
 may_enter s k (Evict unit) = false
 may_enter s k op = true
+
+-- Whether a call asks which other agents are stuck: await and wait.
+abbrev pub asks_stuck : Op → Bool
+asks_stuck (Await tag) = true
+asks_stuck (Wait tag) = true
+asks_stuck op = false
 
 abbrev pub writes_in : Option HandleOutline → Bool
 writes_in None = false
@@ -117,6 +125,11 @@ evicted_by op = None
 -- Whether the first list is a front of the second.
 abbrev pub IsFront : List Text → List Text → Type 0
 IsFront front whole = (rest : List Text) × (whole ≡ front ++ rest)
+
+-- Whether a reply is a disk fault.
+abbrev pub is_fault : Reply → Bool
+is_fault (reply.No refusal.DiskFault) = true
+is_fault r = false
 
 -- A disk fault in the place of what the call would have answered: it was not refused, and it may need the disk. The
 -- evictions are a front of its victims.

@@ -38,8 +38,8 @@ abbrev pub row_of : Stored → Row Text
 row_of folder = row.Directory
 row_of (document bytes stamp) = new_file bytes stamp
 
-abbrev pub agent_in : Who → Agent Own
-agent_in w = record { key = w.key; grant = w.grant; live = true; moment = 0; waits = None; own = [] }
+abbrev pub agent_begun : Who → Agent Own
+agent_begun w = record { key = w.key; grant = w.grant; live = true; moment = 0; waits = None; own = [] }
 
 -- The state in which a run begins: nothing is open, no tag is posted, and every agent is live.
 abbrev pub begun : Opening → State Text Own
@@ -47,7 +47,7 @@ begun o = record {
   rows = map (λ e. (e.0, row_of e.1)) o.stored.rows;
   persistent = o.stored.persistent;
   posted = [];
-  agents = map agent_in o.agents;
+  agents = map agent_begun o.agents;
   entries = 0;
   used = [];
   limits = o.limits;

@@ -2,7 +2,7 @@
 
 use crate::many::Many;
 use crate::state::Place;
-use opfs_base::{Bytes, Name};
+use opfs_base::{Bytes, Locator, Name};
 use opfs_hist::Mode;
 
 /// An open writable stream (File System: FileSystemWritableFileStream).
@@ -34,8 +34,8 @@ pub struct HandleRow {
 /// An iterator over a directory's children.
 #[derive(Debug, Drop)]
 pub struct IteratorRow {
-    /// Where its directory stands.
-    pub dir: Place,
+    /// The directory's locator, kind and all.
+    pub dir: Locator,
     /// The names that it has given.
     pub given: Many<Name>,
 }

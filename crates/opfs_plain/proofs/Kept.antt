@@ -12,7 +12,8 @@ use Rattle.opfs_machine.specs.Runs.{Call, group_of}
 use Rattle.opfs_machine.specs.Steps.{step, outcome_of, judged}
 use Rattle.opfs_plain.proofs.NeverFaults.{group_sound}
 use Rattle.opfs_machine.proofs.GoOn.{group-after, legal-group}
-use Rattle.opfs_plain.specs.Keeping.{IsKept, IsEntered, is_disk_fault}
+use Rattle.opfs_hist.specs.Faults.{is_disk_fault}
+use Rattle.opfs_plain.specs.Keeping.{IsKept, IsEntered}
 use Rattle.opfs_plain.specs.declared.plain.Plain.{Plain}
 
 step-after : (s : State Text Own) (c : Call) → may_enter s c.agent c.op ≡ true

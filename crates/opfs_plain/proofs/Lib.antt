@@ -1,7 +1,4 @@
-pub mod Here
-pub mod UnitBytes
-pub mod AgentSums
-pub mod Cleared
-pub mod Roots
+pub mod AtPlace
+pub mod Fills
 pub mod Kept
 pub mod NeverFaults

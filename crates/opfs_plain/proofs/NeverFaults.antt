@@ -36,7 +36,7 @@ use Rattle.opfs_machine.specs.Replies.{answer, child_reply, path_reply, file_rep
 use Rattle.opfs_machine.specs.Ruled.{Ruled, ◌>>=◌, ◌>>◌, unless, some_or}
 use Rattle.opfs_machine.specs.Rulings.{get_directory_ruling, get_handle_ruling, child_ruling, remove_entry_ruling, none_locked, located_ruling, create_writable_ruling, grow_stream_ruling, stream_ruling, create_sync_ruling, grow_handle_ruling, handle_ruling, persist_ruling, persisted_ruling, estimate_ruling, await_ruling, ruling, locked_by, lock_in, want_of, is_read_write, size_written}
 use Rattle.opfs_machine.specs.Runs.{Call, eviction, entry_of, group_of}
-use Rattle.opfs_plain.specs.Keeping.{is_disk_refusal, is_disk_fault}
+use Rattle.opfs_hist.specs.Faults.{is_disk_refusal, is_disk_fault}
 use Rattle.opfs_machine.specs.Steps.{room_for, judged, outcome_of, step}
 
 -- What is not refused for the disk.

@@ -1,26 +1,15 @@
 -- What the entries so far are to the state that they leave.
-use Rattle.std.specs.Prelude.{◌≡◌, ℕ, List, [], ◌∷◌, ◌++◌, fold, map, true, false, Bool, All}
+use Rattle.std.specs.Prelude.{◌≡◌, ℕ, List, [], ◌∷◌, ◌++◌, fold, map, true, false, All}
 use Rattle.opfs_base.specs.Texts.{Text}
 use Rattle.opfs_hist.specs.declared.entry.Entry.{Entry}
 use Rattle.opfs_hist.specs.declared.op.Op.{Op}
-use Rattle.opfs_hist.specs.declared.reply.Refusal.{Refusal}
-use Rattle.opfs_hist.specs.declared.reply.Refusal.TheVariants as refusal
 use Rattle.opfs_hist.specs.declared.reply.Reply.{Reply}
-use Rattle.opfs_hist.specs.declared.reply.Reply.TheVariants as reply
+use Rattle.opfs_hist.specs.Faults.{is_disk_fault}
 use Rattle.opfs_machine.specs.declared.own.Own.{Own}
 use Rattle.opfs_machine.specs.declared.state.State.{State}
 use Rattle.opfs_machine.specs.Histories.{LegalFrom, after_entry}
 use Rattle.opfs_machine.specs.Runs.{eviction}
 use Rattle.opfs_plain.specs.declared.plain.Plain.{Plain}
-
--- Whether a refusal, or a reply, says that the disk failed.
-abbrev pub is_disk_refusal : Refusal → Bool
-is_disk_refusal refusal.DiskFault = true
-is_disk_refusal r = false
-
-abbrev pub is_disk_fault : Reply → Bool
-is_disk_fault (reply.No r) = is_disk_refusal r
-is_disk_fault r = false
 
 -- From a start, the entries are a legal history, none with a disk fault, and the state is what they leave.
 pub record IsKept (start : State Text Own) (plain : Plain) : Type 0 where

@@ -5,7 +5,8 @@ ghost use Rattle.std.specs.Prelude.{◌≡◌, ◌+◌, OnOk, IfOk, min, length}
 ghost use Rattle.opfs_machine.specs.Contents.{in_bytes};
 ghost use Rattle.opfs_machine.specs.Effects.{effect, cursor_after_read};
 ghost use Rattle.opfs_machine.specs.Rulings.{start_of};
-ghost use Rattle.opfs_plain.specs.Known.{IsAgent, IsOwn, IsFitting};
+ghost use Rattle.opfs_rulings.specs.Known.{IsAgent, IsOwn};
+ghost use Rattle.opfs_plain.specs.Changing.{IsFitting};
 ghost use Rattle.opfs_machine.specs.Agents.{agent_of};
 ghost use Rattle.opfs_hist.specs.declared.op.Op.TheVariants.{Write, Truncate, SyncRead, SyncWrite, SyncTruncate, Wait};
 
@@ -13,15 +14,12 @@ use crate::entries::{add_iterator, advance, make_child, open_bucket, remove_chil
 use crate::handles::{
     close_handle, create_sync, cut_file, discard_handle, flush_handle, move_handle, write_file,
 };
-use crate::judging::size_written;
 use crate::marks::{end, persist, post, set_moment, set_waiting};
-use crate::numbers::plus;
-use crate::rulings::blocks;
 use crate::streams::{abort_stream, close_stream, open_stream, seek, truncate, write};
-use crate::sums::reserve_at;
-use opfs_base::{Bytes, Kind, Text};
+use opfs_base::{Bytes, Data, Kind, Text, blocks, plus};
 use opfs_hist::Op;
 use opfs_machine::{Own, Sizes, State};
+use opfs_rulings::{reserve_at, size_written};
 use std::alloc::{AllocError, Global};
 
 /// Where a read of an access handle leaves the cursor.
@@ -39,7 +37,7 @@ fn write_stream(
     sizes: Sizes,
     number: u32,
     row: u32,
-    bytes: &Bytes,
+    bytes: &Data,
     position: Option<u64>,
 ) -> Result<(), AllocError>
     requires agent { IsAgent state.old number }
@@ -53,7 +51,7 @@ fn write_stream(
         number,
         row,
         position.unwrap_or(sizes.position),
-        bytes.as_slice(),
+        bytes,
         reserve,
     )
 }
@@ -100,7 +98,7 @@ fn write_handle(
     sizes: Sizes,
     number: u32,
     row: u32,
-    bytes: &Bytes,
+    bytes: &Data,
     at: Option<u64>,
 ) -> Result<(), AllocError>
     requires agent { IsAgent state.old number }
@@ -109,17 +107,8 @@ fn write_handle(
 {
     let size = size_written(sizes, at, bytes)?;
     let start = at.unwrap_or(sizes.position);
-    let cursor = plus(start, bytes.len() as u64)?;
-    write_file(
-        alloc,
-        state,
-        number,
-        row,
-        start,
-        bytes.as_slice(),
-        cursor,
-        size,
-    )
+    let cursor = plus(start, bytes.len())?;
+    write_file(alloc, state, number, row, start, bytes, cursor, size)
 }
 
 /// truncate of an access handle.
@@ -156,7 +145,7 @@ fn wait(
 }
 
 /// What a call changes where it is not refused, its own count aside.
-#[tactic(auto, unfolding(opfs_machine::specs::Machine::machine, crate::specs::Known::IsFittingFor))]
+#[tactic(auto, unfolding(opfs_machine::specs::Machine::machine, crate::specs::Changing::IsFittingFor))]
 pub fn apply(
     alloc: Global,
     state: &mut State<Bytes, Own>,

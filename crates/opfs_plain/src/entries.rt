@@ -9,17 +9,15 @@ ghost use Rattle.opfs_machine.specs.Agents.{agent_of, adds_own};
 ghost use Rattle.opfs_machine.specs.Contents.{in_bytes, advanced_row};
 ghost use Rattle.opfs_machine.specs.Effects.{made, opens_bucket, new_row, moment_of, takes_snapshot, with_changed};
 ghost use Rattle.opfs_machine.specs.Rows.{row_at, without, file_at, children_of};
-ghost use Rattle.opfs_plain.specs.Known.{IsAgent, IsOwn, given_row};
+ghost use Rattle.opfs_rulings.specs.Known.{IsAgent, IsOwn};
+ghost use Rattle.opfs_plain.specs.Changing.{given_row};
 
-use crate::agents::{add_own, agent};
-use crate::ordered::put;
-use crate::replies::next_given;
-use crate::rows::{remove_within, row_at};
-use crate::rulings::{child_place, file_at, root_of};
-use crate::streams::place_of;
+use crate::own_rows::add_own;
+use crate::rows::remove_within;
 use opfs_base::{Bytes, Kind, Locator, Name, Text};
 use opfs_locks::LockValue;
 use opfs_machine::{FileRow, IteratorRow, Many, Own, Place, Row, State};
+use opfs_rulings::{agent, child_place, file_at, next_given, place_of, put, root_of, row_at};
 use std::alloc::{AllocError, Global};
 
 /// Makes a row, where none is there.
@@ -124,9 +122,9 @@ pub fn add_iterator(
     dir: &Locator,
 ) -> Result<(), AllocError>
     requires { IsAgent state.old number }
-    ensures { OnOk result (state.new ≡ adds_own state.old number (in_bytes.iterator (place_of dir.now))) }
+    ensures { OnOk result (state.new ≡ adds_own state.old number (in_bytes.iterator dir.now)) }
 {
-    let dir = place_of(alloc, dir)?;
+    let dir = dir.copy(alloc)?;
     let given = Many {
         items: Vec::new(alloc),
     };

@@ -5,11 +5,11 @@ ghost use Rattle.opfs_machine.specs.Effects.{with_lock, unlocked, replaced, flus
 ghost use Rattle.opfs_locks.specs.Taking.{released};
 ghost use Rattle.opfs_machine.specs.Rows.{change_at, changed_row, with_file};
 
-use crate::rows::{PlacedRow, index_of};
-use crate::rulings::taken;
+use crate::rows::index_of;
 use opfs_base::Bytes;
 use opfs_locks::{LockValue, Want};
 use opfs_machine::{Own, Place, Row, State};
+use opfs_rulings::{PlacedRow, taken};
 use std::alloc::{AllocError, Global};
 
 /// The lock after one holder released it.

@@ -8,18 +8,17 @@ ghost use Rattle.opfs_machine.specs.Effects.{with_lock, with_changed, with_writt
 ghost use Rattle.opfs_machine.specs.Rows.{changed_row, change_at, with_file};
 ghost use Rattle.opfs_machine.specs.Rulings.{want_of};
 ghost use Rattle.opfs_machine.specs.declared.state.Sizes.{Sizes};
-ghost use Rattle.opfs_plain.specs.Known.{IsAgent, IsOwn};
+ghost use Rattle.opfs_rulings.specs.Known.{IsAgent, IsOwn};
 ghost use Rattle.opfs_splice.specs.Splicing.{splice, resize};
 
-use crate::agents::{add_own, agent, set_own};
 use crate::files::{flush, lock, undo, unlock};
-use crate::handle_rulings::{open_handle, want_of};
-use crate::rows::{PlacedRow, index_of};
-use crate::rulings::blocks;
-use crate::streams::{copy_place, place_of, resized, spliced};
-use opfs_base::{Bytes, Locator};
+use crate::own_rows::{add_own, set_own};
+use crate::rows::index_of;
+use crate::splicing::{resized, spliced};
+use opfs_base::{Bytes, Data, Locator, blocks, copy_place};
 use opfs_hist::Mode;
 use opfs_machine::{HandleRow, Own, Place, Row, Sizes, State};
+use opfs_rulings::{PlacedRow, agent, open_handle, place_of, want_of};
 use std::alloc::{AllocError, Global};
 use std::mem;
 
@@ -74,7 +73,7 @@ fn overwrite_row(
     row: &mut Row<Bytes>,
     empty: Bytes,
     position: u64,
-    bytes: &[u8],
+    bytes: &Data,
     stamp: u64,
 ) -> Result<(), AllocError>
     ensures { OnOk result (row.new ≡ changed_row (λ f. record f { present = splice f.present position bytes.now; stamp = stamp }) row.old) }
@@ -92,7 +91,7 @@ fn overwrite_at(
     place: &Place,
     empty: Bytes,
     position: u64,
-    bytes: &[u8],
+    bytes: &Data,
     stamp: u64,
 ) -> Result<(), AllocError>
     ensures { OnOk result (rows.new ≡ change_at place.now (λ f. record f { present = splice f.present position bytes.now; stamp = stamp }) rows.old) }
@@ -136,7 +135,7 @@ fn overwrite(
     place: &Place,
     empty: Bytes,
     position: u64,
-    bytes: &[u8],
+    bytes: &Data,
     stamp: u64,
 ) -> Result<(), AllocError>
     ensures { OnOk result (state.new ≡ with_file state.old place.now (λ f. record f { present = splice f.present position bytes.now; stamp = stamp })) }
@@ -172,7 +171,7 @@ pub fn write_file(
     number: u32,
     row: u32,
     position: u64,
-    bytes: &[u8],
+    bytes: &Data,
     cursor: u64,
     size: u64,
 ) -> Result<(), AllocError>
@@ -183,7 +182,7 @@ pub fn write_file(
     let Some(handle) = open_handle(state, number, row) else {
         return Ok(());
     };
-    let place = copy_place(alloc, &handle.file)?;
+    let place = copy_place(alloc, &handle.file.0, &handle.file.1)?;
     let reserve = handle.reserve.max(blocks(size));
     let stamp = agent(state, number).moment;
     overwrite(
@@ -215,7 +214,7 @@ pub fn cut_file(
     let Some(handle) = open_handle(state, number, row) else {
         return Ok(());
     };
-    let place = copy_place(alloc, &handle.file)?;
+    let place = copy_place(alloc, &handle.file.0, &handle.file.1)?;
     let reserve = handle.reserve.max(blocks(size));
     let stamp = agent(state, number).moment;
     cut(state, &place, Bytes::from_vec(Vec::new(alloc)), size, stamp)?;
@@ -269,7 +268,7 @@ pub fn flush_handle(
         return Ok(());
     };
     let mode = handle.mode;
-    let place = copy_place(alloc, &handle.file)?;
+    let place = copy_place(alloc, &handle.file.0, &handle.file.1)?;
     flush_written(alloc, state, mode, &place)?;
     move_handle(state, number, row, sizes.position, 0);
     Ok(())
@@ -290,7 +289,7 @@ pub fn close_handle(
         return Ok(());
     };
     let mode = handle.mode;
-    let place = copy_place(alloc, &handle.file)?;
+    let place = copy_place(alloc, &handle.file.0, &handle.file.1)?;
     flush_written(alloc, state, mode, &place)?;
     unlock(state, &place);
     set_own(state, number, row, Own::ClosedHandle);
@@ -312,7 +311,7 @@ pub fn discard_handle(
         return Ok(());
     };
     let mode = handle.mode;
-    let place = copy_place(alloc, &handle.file)?;
+    let place = copy_place(alloc, &handle.file.0, &handle.file.1)?;
     undo_written(alloc, state, mode, &place)?;
     unlock(state, &place);
     set_own(state, number, row, Own::ClosedHandle);

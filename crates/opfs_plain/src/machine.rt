@@ -10,57 +10,17 @@ ghost use Rattle.opfs_machine.specs.Replies.{row_named, sizes_of};
 ghost use Rattle.opfs_machine.specs.Runs.{eviction, group_of, entry_of};
 ghost use Rattle.opfs_machine.specs.Steps.{judged, evicted, step, outcome_of, after_reply};
 ghost use Rattle.opfs_machine.specs.Victims.{cleared};
-ghost use Rattle.opfs_plain.specs.Known.{IsAgent, IsOwn, IsFitting};
+ghost use Rattle.opfs_rulings.specs.Known.{IsAgent, IsOwn};
+ghost use Rattle.opfs_plain.specs.Changing.{IsFitting};
 
-use crate::agents::agent;
 use crate::effects::apply;
-use crate::judging::ruling;
 use crate::marks::set_waiting;
-use crate::numbers::plus;
-use crate::ordered::put;
-use crate::replies::{answer, sizes_of};
-use crate::room::room_for;
 use crate::rows::remove_within;
-use crate::rulings::Ruled;
-use opfs_base::{Bytes, Key, Path, is_valid_name};
+use opfs_base::{Bytes, Key, Path, copy_key, is_valid_name, plus};
 use opfs_hist::{Entry, Op, Refusal, Reply};
 use opfs_machine::{Many, Own, State};
+use opfs_rulings::{agent, answer, is_agent, judge, put, row_named, sizes_of};
 use std::alloc::{AllocError, Global};
-
-/// The number of the stream or access handle that a call names; 0 where it names none.
-fn row_named(op: &Op) -> u32
-    ensures { result ≡ row_named op.now }
-{
-    match op {
-        Op::Write { row, .. }
-        | Op::Seek { row, .. }
-        | Op::Truncate { row, .. }
-        | Op::Close { row }
-        | Op::Abort { row }
-        | Op::SyncRead { row, .. }
-        | Op::SyncWrite { row, .. }
-        | Op::SyncTruncate { row, .. }
-        | Op::SyncGetSize { row }
-        | Op::SyncFlush { row }
-        | Op::SyncClose { row }
-        | Op::Discard { row } => *row,
-        _ => 0,
-    }
-}
-
-/// The refusal of a call, or the units that are cleared for it.
-#[tactic(auto, unfolding(opfs_machine::specs::Ruled::binding, opfs_machine::specs::Steps::judged))]
-fn judge(alloc: Global, state: &State<Bytes, Own>, number: u32, op: &Op) -> Ruled<Many<Key>>
-    requires { IsAgent state.now number }
-    ensures { IfOk result (λ ruled. ruled ≡ judged state.now number op.now) }
-{
-    let sizes = sizes_of(state, number, row_named(op));
-    let need = match ruling(alloc, state, sizes, number, op)? {
-        Ok(need) => need,
-        Err(refusal) => return Ok(Err(refusal)),
-    };
-    room_for(alloc, state, agent(state, number).key.as_ref(), need)
-}
 
 /// The key of an agent's origin; None for an opaque one, and where there is no such agent.
 fn key_of(alloc: Global, state: &State<Bytes, Own>, number: u32) -> Result<Option<Key>, AllocError>
@@ -72,16 +32,6 @@ fn key_of(alloc: Global, state: &State<Bytes, Own>, number: u32) -> Result<Optio
     match state.agents.items.get(number as usize - 1) {
         None => Ok(None),
         Some(agent) => copy_key(alloc, agent.key.as_ref()),
-    }
-}
-
-/// A copy of a key that may be there.
-fn copy_key(alloc: Global, key: Option<&Key>) -> Result<Option<Key>, AllocError>
-    ensures { IfOk result (λ copy. copy ≡ option_copied key.entry) }
-{
-    match key {
-        None => Ok(None),
-        Some(key) => Ok(Some(key.copy(alloc)?)),
     }
 }
 
@@ -186,13 +136,6 @@ fn perform(
     Ok(())
 }
 
-/// Whether there is an agent of a number.
-pub fn is_agent(state: &State<Bytes, Own>, number: u32) -> bool
-    ensures { IsTrue result → IsAgent state.now number }
-{
-    number > 0 && number as usize <= state.agents.items.len()
-}
-
 /// Whether an agent has an own row of a number.
 fn has_row(state: &State<Bytes, Own>, number: u32, row: u32) -> bool
     requires { IsAgent state.now number }
@@ -202,7 +145,7 @@ fn has_row(state: &State<Bytes, Own>, number: u32, row: u32) -> bool
 }
 
 /// Whether a call's name is valid where it makes or removes a child, and its row is there where it changes one.
-#[tactic(auto, unfolding(crate::specs::Known::IsFittingFor))]
+#[tactic(auto, unfolding(crate::specs::Changing::IsFittingFor))]
 fn is_fitting(state: &State<Bytes, Own>, number: u32, op: &Op) -> bool
     requires { IsAgent state.now number }
     ensures { IsTrue result → IsFitting state.now number op.now }

@@ -1,15 +1,13 @@
 //! What calls change of agents, tags and bucket modes.
 
-ghost use Rattle.std.specs.Prelude.{◌≡◌, ◌++◌, ◌∷◌, [], None, false, OnOk, IfOk};
+ghost use Rattle.std.specs.Prelude.{◌≡◌, ◌++◌, ◌∷◌, [], None, false, OnOk};
 ghost use Rattle.opfs_machine.specs.Agents.{agent_of, with_agent, party_of};
 ghost use Rattle.opfs_machine.specs.Effects.{persists, with_waiting};
-ghost use Rattle.opfs_plain.specs.Known.{IsAgent};
+ghost use Rattle.opfs_rulings.specs.Known.{IsAgent};
 
-use crate::agents::agent;
-use crate::ordered::insert;
-use crate::rulings::unit_of;
-use opfs_base::{Bytes, Text};
-use opfs_machine::{Own, Party, Posted, State};
+use opfs_base::{Bytes, Text, unit_of};
+use opfs_machine::{Own, Posted, State};
+use opfs_rulings::{agent, insert, party_of};
 use std::alloc::{AllocError, Global};
 
 /// Sets an agent's clock, in milliseconds.
@@ -38,17 +36,6 @@ pub fn end(state: &mut State<Bytes, Own>, number: u32)
     let agent = &mut state.agents.items[number as usize - 1];
     agent.live = false;
     agent.waits = None;
-}
-
-/// The party of an agent.
-pub fn party_of(alloc: Global, state: &State<Bytes, Own>, number: u32) -> Result<Party, AllocError>
-    requires { IsAgent state.now number }
-    ensures { IfOk result (λ party. party ≡ party_of state.now number) }
-{
-    match &agent(state, number).key {
-        Some(key) => Ok(Party::Origin(key.copy(alloc)?)),
-        None => Ok(Party::Alone(number)),
-    }
 }
 
 /// post.
@@ -84,7 +71,7 @@ pub fn persist(
     if !agent.grant {
         return Ok(());
     }
-    let unit = unit_of(alloc, origin, bucket)?;
+    let unit = unit_of(alloc, origin, bucket.as_str())?;
     insert(&mut state.persistent.items, unit)?;
     Ok(())
 }

@@ -7,14 +7,13 @@ ghost use Rattle.opfs_machine.specs.declared.state.State.{State};
 ghost use Rattle.opfs_machine.specs.Agents.{agent_of};
 ghost use Rattle.opfs_machine.specs.Histories.{may_enter};
 ghost use Rattle.opfs_plain.specs.Keeping.{IsKept, IsEntered};
-ghost use Rattle.opfs_plain.specs.Known.{IsAgent};
+ghost use Rattle.opfs_rulings.specs.Known.{IsAgent};
 
-use crate::agents::agent;
-use crate::machine::{enter, is_agent};
-use crate::standing::may_enter;
+use crate::machine::enter;
 use opfs_base::Bytes;
 use opfs_hist::{Entry, Op};
 use opfs_machine::{Many, Own, State};
+use opfs_rulings::{agent, is_agent, may_enter};
 use std::alloc::{AllocError, Global};
 
 /// Whether an agent is live, and may make a call.

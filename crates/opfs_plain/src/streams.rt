@@ -6,28 +6,19 @@ ghost use Rattle.opfs_machine.specs.Contents.{in_bytes, written_row, truncated_r
 ghost use Rattle.opfs_machine.specs.Effects.{opens_stream, with_changed, closes_stream, aborts_stream};
 ghost use Rattle.opfs_machine.specs.Rows.{file_at};
 ghost use Rattle.opfs_machine.specs.Rulings.{first_reserve};
-ghost use Rattle.opfs_plain.specs.Known.{IsAgent, IsOwn};
+ghost use Rattle.opfs_rulings.specs.Known.{IsAgent, IsOwn};
 ghost use Rattle.opfs_machine.specs.Agents.{agent_of, open_stream};
 ghost use Rattle.opfs_machine.specs.declared.state.Sizes.{Sizes};
-ghost use Rattle.opfs_splice.specs.Splicing.{splice, resize};
 
-use crate::agents::{add_own, agent, own_row, set_own};
 use crate::files::{lock, replace, unlock};
-use crate::numbers::plus;
-use crate::rulings::{file_at, first_reserve};
-use opfs_base::{Bytes, Locator};
+use crate::own_rows::{add_own, set_own};
+use crate::splicing::{resized, spliced};
+use opfs_base::{Bytes, Data, Locator, copy_place, plus};
 use opfs_locks::Want;
-use opfs_machine::{Own, Place, State, StreamRow};
-use opfs_splice::{patch, resize};
+use opfs_machine::{Own, State, StreamRow};
+use opfs_rulings::{agent, file_at, first_reserve, own_row, place_of};
 use std::alloc::{AllocError, Global};
 use std::mem;
-
-/// Where a locator's entry stands.
-pub fn place_of(alloc: Global, at: &Locator) -> Result<Place, AllocError>
-    ensures { IfOk result (λ place. place ≡ place_of at.now) }
-{
-    Ok((at.key.copy(alloc)?, at.path.copy(alloc)?))
-}
 
 /// createWritable.
 pub fn open_stream(
@@ -64,34 +55,8 @@ pub fn open_stream(
     )
 }
 
-/// The bytes with others written at a position.
-pub fn spliced(old: Bytes, position: u64, new: &[u8]) -> Result<Bytes, AllocError>
-    ensures { IfOk result (λ bytes. bytes ≡ splice old position new.now) }
-{
-    let mut buffer = old.into_vec();
-    let end = plus(position, new.len() as u64)? as usize;
-    if end > buffer.capacity() {
-        buffer.reserve(end - buffer.len())?;
-    }
-    patch(&mut buffer, position, new);
-    Ok(Bytes::from_vec(buffer))
-}
-
-/// The bytes cut or extended to a size.
-pub fn resized(old: Bytes, size: u64) -> Result<Bytes, AllocError>
-    ensures { IfOk result (λ bytes. bytes ≡ resize old size) }
-{
-    let mut buffer = old.into_vec();
-    let wanted = size as usize;
-    if wanted > buffer.capacity() {
-        buffer.reserve(wanted - buffer.len())?;
-    }
-    resize(&mut buffer, size);
-    Ok(Bytes::from_vec(buffer))
-}
-
 /// A write of a stream.
-fn write_row(row: Own, position: u64, bytes: &[u8], reserve: u64) -> Result<Own, AllocError>
+fn write_row(row: Own, position: u64, bytes: &Data, reserve: u64) -> Result<Own, AllocError>
     ensures { IfOk result (λ after. after ≡ written_row row position bytes.now reserve) }
 {
     let Own::Stream(stream) = row else {
@@ -104,7 +69,7 @@ fn write_row(row: Own, position: u64, bytes: &[u8], reserve: u64) -> Result<Own,
         reserve: _,
     } = stream;
     let buffer = spliced(buffer, position, bytes)?;
-    let offset = plus(position, bytes.len() as u64)?;
+    let offset = plus(position, bytes.len())?;
     Ok(Own::Stream(StreamRow {
         file,
         buffer,
@@ -120,7 +85,7 @@ pub fn write(
     number: u32,
     row: u32,
     position: u64,
-    bytes: &[u8],
+    bytes: &Data,
     reserve: u64,
 ) -> Result<(), AllocError>
     requires agent { IsAgent state.old number }
@@ -196,13 +161,6 @@ pub fn seek(state: &mut State<Bytes, Own>, number: u32, row: u32, offset: u64)
     seek_row(&mut agent.own.items[row as usize - 1], offset);
 }
 
-/// A copy of a place.
-pub fn copy_place(alloc: Global, place: &Place) -> Result<Place, AllocError>
-    ensures { IfOk result (λ copy. copy ≡ place.now) }
-{
-    Ok((place.0.copy(alloc)?, place.1.copy(alloc)?))
-}
-
 /// close of a stream: its file has the buffer, for good.
 pub fn close_stream(
     alloc: Global,
@@ -219,7 +177,7 @@ pub fn close_stream(
     };
     let present = stream.buffer.copy(alloc)?;
     let durable = stream.buffer.copy(alloc)?;
-    let place = copy_place(alloc, &stream.file)?;
+    let place = copy_place(alloc, &stream.file.0, &stream.file.1)?;
     let stamp = agent(state, number).moment;
     replace(state, &place, present, durable, stamp);
     unlock(state, &place);
@@ -241,7 +199,7 @@ pub fn abort_stream(
     let Some(Own::Stream(stream)) = own_row(state, number, row) else {
         return Ok(());
     };
-    let place = copy_place(alloc, &stream.file)?;
+    let place = copy_place(alloc, &stream.file.0, &stream.file.1)?;
     unlock(state, &place);
     set_own(state, number, row, Own::ClosedStream);
     Ok(())

@@ -50,13 +50,13 @@ pub held_lower : (es : Shares) (unit : Text) (n : ℕ) → n ≤ (share_at es un
 held_lower es unit n enough =
     omega (arith, held_change es unit (record (share_at es unit) { blocks = (share_at es unit).blocks - n }) (λ absent. let none : (share_at es unit).blocks ≡ 0 = ap blocks_of (absent_share es unit absent) in omega arith))
 
-pub held_clear : (es : Shares) (unit : Text) → held (with_share es unit (record (share_at es unit) { candidate = false; blocks = 0 })) + (share_at es unit).blocks ≡ held es
-held_clear es unit = omega (arith, held_change es unit (record (share_at es unit) { candidate = false; blocks = 0 }) (λ absent. refl))
+pub held_clear : (es : Shares) (unit : Text) → held (with_share es unit first_share) + (share_at es unit).blocks ≡ held es
+held_clear es unit = omega (arith, held_change es unit first_share (λ absent. refl))
 
-pub held_mark : (es : Shares) (unit : Text) (candidate : Bool) (last : ℕ) → has_share es unit ≡ true
-    → held (with_share es unit (record (share_at es unit) { candidate = candidate; last = last })) ≡ held es
-held_mark es unit candidate last there =
-    omega (arith, held_change es unit (record (share_at es unit) { candidate = candidate; last = last }) (λ absent. absurd cc))
+pub held_mark : (es : Shares) (unit : Text) (candidate : Bool) → has_share es unit ≡ true
+    → held (with_share es unit (record (share_at es unit) { candidate = candidate })) ≡ held es
+held_mark es unit candidate there =
+    omega (arith, held_change es unit (record (share_at es unit) { candidate = candidate }) (λ absent. absurd cc))
 
 pub held_touch : (es : Shares) (unit : Text) → IsStrictlySortedBy text_cmp (keys_of es) → has_share es unit ≡ false → held (insert_entry text_cmp es unit first_share) ≡ held es
 held_touch es unit ordered absent =

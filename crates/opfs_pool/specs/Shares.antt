@@ -24,9 +24,9 @@ is_unit unit = is_at (text_cmp unit)
 abbrev pub has_share : Shares → Text → Bool
 has_share shares unit = is_some (lookup (is_unit unit) shares)
 
--- A share as it first is: of no blocks, of a unit that was never used and is no candidate.
+-- A share as it first is: of no blocks, of a unit that is no candidate.
 abbrev pub first_share : Share
-first_share = record { candidate = false; last = 0; blocks = 0 }
+first_share = record { candidate = false; blocks = 0 }
 
 -- The share of a unit, as it first is where it has none.
 abbrev pub share_at : Shares → Text → Share

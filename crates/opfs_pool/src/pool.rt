@@ -1,7 +1,9 @@
 //! The pool of data blocks.
 
 ghost use Rattle.std.specs.Prelude.{◌≡◌, ◌+◌, ◌-◌, ◌<◌, ◌≤◌, ◌↔◌, [], true, false, IsTrue, IsNone, IfOk, OnOk, OnErr};
-ghost use Rattle.opfs_pool.specs.Shares.{has_share, share_at, held, touched, changed};
+ghost use Rattle.std.specs.List.Sorted.{IsStrictlySortedBy};
+ghost use Rattle.std.specs.Map.{keys_of};
+ghost use Rattle.opfs_pool.specs.Shares.{text_cmp, has_share, first_share, share_at, held, touched, changed};
 ghost use Rattle.opfs_pool.specs.Victims.{victims, clearable};
 
 use crate::shares::{set_share, share_at};
@@ -10,22 +12,20 @@ use opfs_base::Key;
 use std::alloc::{AllocError, Global};
 use std::collections::BTreeMap;
 use std::marker::Model;
+use std::ops::Bound;
 
 /// What a unit keeps of the pool.
 #[derive(Clone, Copy, Debug, PartialEq, Eq)]
 pub struct Share {
     /// Whether the unit may be cleared: it is best-effort, has a root and no taken lock.
     pub candidate: bool,
-    /// The last use of the unit's origin, as a position in the history.
-    pub last: u64,
     /// The blocks that are kept for the unit's files and open rows.
     pub blocks: u64,
 }
 
-/// A share as it first is: of no blocks, of a unit that was never used and is no candidate.
+/// A share as it first is: of no blocks, of a unit that is no candidate.
 pub const FIRST: Share = Share {
     candidate: false,
-    last: 0,
     blocks: 0,
 };
 
@@ -78,7 +78,7 @@ impl Pool {
         need <= self.size - self.count
     }
 
-    /// Gives a unit a share, where it has none one of no blocks, never used and no candidate. Where there is no memory the
+    /// Gives a unit a share, where it has none one of no blocks and no candidate. Where there is no memory the
     /// pool is as before.
     pub fn touch(&mut self, key: &Key) -> Result<(), AllocError>
         ensures there { OnOk result (IsTrue (has_share self.new.shares key.now)) }
@@ -101,20 +101,9 @@ impl Pool {
         ensures share { self.new ≡ changed self.old key.now (record (share_at self.old.shares key.now) { blocks = (share_at self.old.shares key.now).blocks + n }) }
         ensures held { held self.new.shares ≡ held self.old.shares + n }
     {
-        let Share {
-            candidate,
-            last,
-            blocks,
-        } = share_at(&self.shares, key);
+        let Share { candidate, blocks } = share_at(&self.shares, key);
         let blocks = blocks + n;
-        self.put(
-            key,
-            Share {
-                candidate,
-                last,
-                blocks,
-            },
-        );
+        self.put(key, Share { candidate, blocks });
     }
 
     /// Keeps so many blocks less for a unit. Takes no memory.
@@ -123,67 +112,60 @@ impl Pool {
         ensures share { self.new ≡ changed self.old key.now (record (share_at self.old.shares key.now) { blocks = (share_at self.old.shares key.now).blocks - n }) }
         ensures held { held self.new.shares + n ≡ held self.old.shares }
     {
-        let Share {
-            candidate,
-            last,
-            blocks,
-        } = share_at(&self.shares, key);
+        let Share { candidate, blocks } = share_at(&self.shares, key);
         let blocks = blocks - n;
-        self.put(
-            key,
-            Share {
-                candidate,
-                last,
-                blocks,
-            },
-        );
+        self.put(key, Share { candidate, blocks });
     }
 
     /// Keeps no block for a unit, which is no candidate then. Takes no memory.
     pub fn clear(&mut self, key: &Key)
-        ensures share { self.new ≡ changed self.old key.now (record (share_at self.old.shares key.now) { candidate = false; blocks = 0 }) }
+        ensures share { self.new ≡ changed self.old key.now first_share }
         ensures held { held self.new.shares + (share_at self.old.shares key.now).blocks ≡ held self.old.shares }
     {
-        let Share { last, .. } = share_at(&self.shares, key);
+        // No more blocks are kept than there are.
+        let _kept = self.count();
         let candidate = false;
         let blocks = 0;
-        self.put(
-            key,
-            Share {
-                candidate,
-                last,
-                blocks,
-            },
-        );
+        self.put(key, Share { candidate, blocks });
     }
 
-    /// Sets whether a unit may be cleared, and its origin's last use. Takes no memory.
-    pub fn mark(&mut self, key: &Key, candidate: bool, last: u64)
+    /// Sets whether a unit may be cleared. Takes no memory.
+    pub fn mark(&mut self, key: &Key, candidate: bool)
         requires { IsTrue (has_share self.old.shares key.now) }
-        ensures share { self.new ≡ changed self.old key.now (record (share_at self.old.shares key.now) { candidate = candidate; last = last }) }
+        ensures share { self.new ≡ changed self.old key.now (record (share_at self.old.shares key.now) { candidate = candidate }) }
         ensures held { held self.new.shares ≡ held self.old.shares }
     {
         let Share { blocks, .. } = share_at(&self.shares, key);
-        self.put(
-            key,
-            Share {
-                candidate,
-                last,
-                blocks,
-            },
-        );
+        self.put(key, Share { candidate, blocks });
     }
 
     /// The units that are cleared so that so many blocks more find room: the shortest front of the candidates that are not
-    /// of the caller's origin, by last use and then by text. None where all together are not enough.
-    pub fn victims(&self, caller: &Key, need: u64) -> Result<Option<Keys>, AllocError>
-        ensures units { IfOk result (λ units. units ≡ victims self.now caller.now need) }
-        ensures none { IfOk result (λ units. IsNone units ↔ (self.now.size + clearable caller.now self.now.shares < held self.now.shares + need)) }
+    /// of the caller's origin, by the last use of their origin, as it is told, and then by text. None where all together
+    /// are not enough. Where there is room it answers at once, with no unit, and takes no memory.
+    pub fn victims(
+        &self,
+        caller: &Key,
+        need: u64,
+        uses: &[(Key, u64)],
+    ) -> Result<Option<Keys>, AllocError>
+        ensures units { IfOk result (λ units. units ≡ victims self.now caller.now need uses.now) }
+        ensures none { IfOk result (λ units. IsNone units ↔ (self.now.size + clearable caller.now uses.now self.now.shares < held self.now.shares + need)) }
     {
+        if self.room(need) {
+            return Ok(Some(Keys::from_vec(Vec::new(self.alloc))));
+        }
         let lacking = need.saturating_sub(self.size - self.count);
-        let sorted = candidates(self.alloc, caller, &self.shares)?;
+        let sorted = candidates(self.alloc, caller, uses, &self.shares)?;
         let units = shortest_front(self.alloc, lacking, &sorted)?;
         Ok(units)
+    }
+
+    /// The shares stand in the order of their units' texts, one for each. Says so, and does next to nothing.
+    pub fn in_order(&self)
+        ensures { IsStrictlySortedBy text_cmp (keys_of self.now.shares) }
+    {
+        let all: (Bound<&Key>, Bound<&Key>) = (Bound::Unbounded, Bound::Unbounded);
+        let _shares = self.shares.range(all);
     }
 
     // Changes the share of a unit that has one; none is changed to no blocks alone.

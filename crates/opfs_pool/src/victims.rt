@@ -1,10 +1,11 @@
 //! Which units are cleared.
 
 ghost use Rattle.std.specs.Prelude.{◌≡◌, ◌-◌, IfOk};
-ghost use Rattle.opfs_pool.specs.Victims.{is_candidate, candidates, shortest_front};
+ghost use Rattle.opfs_pool.specs.Victims.{is_candidate, last_in, candidates, shortest_front};
+ghost use Rattle.opfs_base.specs.Units.{origin_of};
 
 use crate::pool::Share;
-use opfs_base::{Key, same_origin};
+use opfs_base::{Key, origin_of, same_origin};
 use std::alloc::{AllocError, Global};
 use std::collections::BTreeMap;
 use std::marker::Model;
@@ -46,18 +47,33 @@ fn is_candidate(caller: &Key, unit: &Key, share: &Share) -> bool
     share.candidate && !same_origin(caller, unit)
 }
 
+// The last use of a unit's origin among those that are told; 0 where it is not among them.
+fn last_use(uses: &[(Key, u64)], unit: &Key) -> u64
+    ensures { result ≡ last_in uses.now (origin_of unit.now) }
+{
+    let origin = origin_of(unit.as_bytes());
+    for (used, last) in uses {
+        if origin == used.as_bytes() {
+            return *last;
+        }
+    }
+    0
+}
+
 /// The units that may be cleared for a caller and their blocks, the one that was used longest ago first.
 pub fn candidates(
     alloc: Global,
     caller: &Key,
+    uses: &[(Key, u64)],
     shares: &BTreeMap<Key, Share>,
 ) -> Result<BTreeMap<(u64, Key), u64>, AllocError>
-    ensures { IfOk result (λ sorted. sorted.entries ≡ candidates caller.now shares.now.entries) }
+    ensures { IfOk result (λ sorted. sorted.entries ≡ candidates caller.now uses.now shares.now.entries) }
 {
     let mut sorted = BTreeMap::new(alloc);
     for (unit, share) in shares.iter() {
         if is_candidate(caller, unit, share) {
-            sorted.insert((share.last, unit.copy(alloc)?), share.blocks)?;
+            let last = last_use(uses, unit);
+            sorted.insert((last, unit.copy(alloc)?), share.blocks)?;
         }
     }
     Ok(sorted)

@@ -1,5 +1,5 @@
 -- What a replay keeps, as changes of rows are applied.
-use Rattle.std.proofs.Common.{◌≡◌, ℕ, ◌+◌, ◌<◌, ◌≤◌, Bool, true, ◌&&◌, List, [], length, None, sym, subst, ◌∙◌, arith}
+use Rattle.std.proofs.Common.{refl, ◌≡◌, ℕ, ◌+◌, ◌<◌, ◌≤◌, Bool, true, ◌&&◌, List, [], length, None, sym, subst, ◌∙◌, arith}
 use Rattle.std.specs.Prelude.{nat_lt, nat_le}
 use Rattle.std.specs.List.{AllByRecursion}
 use Rattle.std.specs.FinMap.Entries.{put}
@@ -53,7 +53,7 @@ module _ (rows : Rows) (used : Used) (buckets : Buckets) (most charge : ℕ) whe
       let below : AllByRecursion (λ (e : Extent). e.start + e.count ≤ length used) extents = all_more (λ e. is_within_size (length used) e ≡ true) (λ (e : Extent). e.start + e.count ≤ length used) (λ e t. leb-true (e.start + e.count) (length used) (and_parts (nat_lt 0 e.count) (nat_le (e.start + e.count) (length used)) t).1) extents (all_of (is_within_size (length used)) extents all.within) in
       record {
         files = subst (λ (n : ℕ). AllByRecursion (λ (e : Place × Row). IsSoundRow n e.1) (change_at place (stored len stamp extents) rows)) (sym same)
-            (all_change (IsSoundRow (length used)) place (stored len stamp extents) rows (λ f sound. record { some = some; whole = all.sum; below = below; unlocked = sound.unlocked }) kept.files);
+            (all_change (IsSoundRow (length used)) place (stored len stamp extents) rows (λ f sound. record { some = some; whole = all.sum; below = below; present = refl; present_stamp = refl; unlocked = sound.unlocked }) kept.files);
         marked = marked;
         few = omega (arith, few, is, kept.few);
         modes = kept.modes;

@@ -75,7 +75,7 @@ can_apply f size b (Evict unit) = is_unit_in f unit && is_some (row_at (unit, []
 
 -- A file as it is made: without bytes.
 abbrev pub empty_file : ℕ → Row
-empty_file stamp = row.File (record { length = 0; stamp = stamp; extents = []; lock = open_lock })
+empty_file stamp = row.File (record { length = 0; stamp = stamp; present = 0; present_stamp = stamp; extents = []; lock = open_lock })
 
 abbrev pub with_row : Built → Place → Row → Built
 with_row b place r = record b { rows = put place_cmp place r b.rows }

@@ -45,11 +45,14 @@ abbrev pub is_once : List ℕ → Bool
 is_once [] = true
 is_once (block ∷ more) = not (has_block more block) && is_once more
 
--- A file has the blocks that its length takes, all below the size, in extents that have a block each; its lock is open.
+-- A file has the blocks that its length takes, all below the size, in extents that have a block each; a
+-- read gives what is stored, and its lock is open.
 pub record IsSoundFile (size : ℕ) (f : FileRow) : Type 0 where
   pub some : AllByRecursion (λ e. 0 < e.count) f.extents
   pub whole : block_count f.extents ≡ blocks f.length
   pub below : AllByRecursion (λ e. e.start + e.count ≤ size) f.extents
+  pub present : f.present ≡ f.length
+  pub present_stamp : f.present_stamp ≡ f.stamp
   pub unlocked : f.lock ≡ open_lock
 
 abbrev pub IsSoundRow : ℕ → Row → Type 0

@@ -13,11 +13,11 @@ ghost use Rattle.opfs_replay.specs.Built.{nothing_built, used_by, IsSound, IsSou
 ghost use Rattle.opfs_replay.specs.Kept.{Applies};
 ghost use Rattle.opfs_replay.specs.Sums.{charge_of, AreShared};
 
-use crate::charges::{plus, unit_charge};
+
 use crate::places::{free_place, is_taken, is_unit_in};
 use crate::stores::{remove, store};
 use crate::usages::fill;
-use opfs_base::{Extents, Key, Path};
+use opfs_base::{Extents, Key, Path, plus, unit_bytes};
 use opfs_blocks::BlockMap;
 use opfs_codec::{Change, Format, read, read_old};
 use opfs_locks::FileLock;
@@ -380,7 +380,7 @@ impl Replay {
             most,
             charge,
         } = self;
-        let bytes = unit_charge(unit)?;
+        let bytes = unit_bytes(unit)?;
         let more = plus(3, bytes)?;
         let charge = plus(charge, more)?;
         shed.touch(unit)?;
@@ -418,6 +418,8 @@ fn empty_file(alloc: Global, stamp: u64) -> Row
     Row::File(FileRow {
         length: 0,
         stamp,
+        present: 0,
+        present_stamp: stamp,
         extents: Extents::none(alloc),
         lock: FileLock::make(),
     })

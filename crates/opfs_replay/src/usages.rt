@@ -7,8 +7,8 @@ ghost use Rattle.opfs_replay.specs.Kept.{share};
 ghost use Rattle.opfs_replay.specs.Sums.{row_blocks, usage_in, row_charge, persistent_in};
 ghost use Rattle.opfs_shed.specs.Buckets.{bucket_at, whole_usage};
 
-use crate::charges::{plus, row_charge};
-use opfs_base::Key;
+use crate::charges::row_charge;
+use opfs_base::{Key, plus};
 use opfs_shed::Shed;
 use opfs_tree::{Row, Tree, Walk};
 use std::alloc::AllocError;

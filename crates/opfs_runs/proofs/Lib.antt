@@ -1,2 +1,4 @@
+pub mod Cuts
 pub mod Defaults
 pub mod Ordered
+pub mod Waits

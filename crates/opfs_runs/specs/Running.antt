@@ -4,6 +4,7 @@ use Rattle.std.specs.FinMap.Entries.{put, find}
 use Rattle.std.specs.Ordering.{nat_cmp}
 use Rattle.std.specs.Cmp.Lexicographic.{slice_cmp}
 use Rattle.opfs_base.specs.Texts.{Text}
+use Rattle.opfs_base.specs.Places.{child_of}
 use Rattle.opfs_base.specs.Units.{unit_of}
 use Rattle.opfs_base.specs.declared.locator.Kind.{Kind}
 use Rattle.opfs_base.specs.declared.locator.Kind.TheVariants as kind
@@ -135,9 +136,6 @@ is_row n (opened.Handle m) = n == m
 -- The hand with a row no longer open.
 abbrev pub closes_row : Hand → ℕ → Hand
 closes_row h n = record h { opened = filter (λ o. not (is_row n o)) h.opened }
-
-abbrev pub child_of : Locator → Text → Kind → Locator
-child_of dir name k = record { key = dir.key; path = dir.path ++ name ∷ []; kind = k }
 
 -- What a bucket's root is bound as.
 abbrev pub binds_root : Hand → Text → Text → Option Text → Hand

@@ -48,7 +48,7 @@ fn handle_op(alloc: Global, hand: &Hand, step: &Step) -> Result<Op, AllocError>
 {
     match step {
         Step::SyncRead { sync, len, at } => Ok(sync_read(hand, sync, *len, *at)),
-        Step::SyncWrite { sync, bytes, at } => sync_write(alloc, hand, sync, bytes, *at),
+        Step::SyncWrite { sync, bytes, at } => sync_write(hand, sync, bytes, *at),
         Step::SyncTruncate { sync, size } => Ok(sync_truncate(hand, sync, *size)),
         Step::SyncGetSize { sync } => Ok(sync_get_size(hand, sync)),
         Step::SyncFlush { sync } => Ok(sync_flush(hand, sync)),
@@ -67,7 +67,7 @@ fn row_op(alloc: Global, hand: &Hand, step: &Step) -> Result<Op, AllocError>
             stream,
             bytes,
             position,
-        } => write(alloc, hand, stream, bytes, *position),
+        } => write(hand, stream, bytes, *position),
         Step::Seek { stream, position } => Ok(seek(hand, stream, *position)),
         Step::Truncate { stream, size } => Ok(truncate(hand, stream, *size)),
         Step::Close { stream } => Ok(close(hand, stream)),

@@ -1,12 +1,12 @@
 //! What a run takes note of: a call that was not refused binds, opens or closes what it does.
 
 ghost use Rattle.std.specs.Prelude.{◌≡◌, ◌+◌, [], ◌∷◌, ◌++◌, IfOk, OnOk, OnErr};
-ghost use Rattle.opfs_base.specs.Units.{unit_of};
-ghost use Rattle.opfs_runs.specs.Running.{binds, makes_row, opens_row, closes_row, child_of, binds_root, handle_named, binds_child, bind_name, hand_after, hand_then};
+ghost use Rattle.opfs_base.specs.Places.{child_of};
+ghost use Rattle.opfs_runs.specs.Running.{binds, makes_row, opens_row, closes_row, binds_root, handle_named, binds_child, bind_name, hand_after, hand_then};
 
 use crate::hand::{Hand, Named, Open};
-use opfs_base::{Key, Kind, Locator, Name, Path, Text, is_valid_name};
-use opfs_hist::{Entry, Op, Reply};
+use opfs_base::{Kind, Locator, Name, Path, Text, child_of, is_valid_name, unit_of};
+use opfs_hist::{Op, Reply};
 use opfs_script::Step;
 use std::alloc::{AllocError, Global};
 
@@ -27,38 +27,15 @@ fn bind_name(step: &Step) -> &str
     }
 }
 
-/// The unit of a bucket of an origin.
-fn unit_of(alloc: Global, origin: &Key, bucket: &Text) -> Result<Key, AllocError>
-    ensures { IfOk result (λ unit. unit ≡ unit_of origin.now bucket.now) }
-{
-    if bucket.as_str() == "default" {
-        origin.copy(alloc)
-    } else {
-        let text = format!(in alloc; "{}#{}", origin.as_str(), bucket.as_str())?;
-        Key::of_text(alloc, text.as_str())
-    }
-}
-
 /// The locator of a child. A text that is no valid file name, which no accepted call has, counts as want of memory.
-fn child_of(alloc: Global, dir: &Locator, name: &Text, kind: Kind) -> Result<Locator, AllocError>
+fn named_child(alloc: Global, dir: &Locator, name: &Text, kind: Kind) -> Result<Locator, AllocError>
     ensures { IfOk result (λ at. at ≡ child_of dir.now name.now kind) }
 {
     if !is_valid_name(name.as_str()) {
         return Err(AllocError);
     }
     let name = Name::read(alloc, name.as_str())?;
-    let key = dir.key.copy(alloc)?;
-    let path = dir.path.child(alloc, &name)?;
-    Ok(Locator { key, path, kind })
-}
-
-/// The locator of a child that an iterator gave.
-fn given_child(alloc: Global, dir: &Locator, name: &Name, kind: Kind) -> Result<Locator, AllocError>
-    ensures { IfOk result (λ at. at ≡ child_of dir.now name.now kind) }
-{
-    let key = dir.key.copy(alloc)?;
-    let path = dir.path.child(alloc, name)?;
-    Ok(Locator { key, path, kind })
+    child_of(alloc, dir, &name, kind)
 }
 
 /// What a handle of a kind is bound as.
@@ -105,7 +82,7 @@ fn bind_root(
         return Ok(());
     };
     let root = Locator {
-        key: unit_of(alloc, origin, bucket)?,
+        key: unit_of(alloc, origin, bucket.as_str())?,
         path: Path::root(alloc),
         kind: Kind::Directory,
     };
@@ -124,7 +101,7 @@ fn bind_handle(
     ensures ok { OnOk result (hand.new ≡ binds hand.old variable.now (handle_named kind (child_of dir.now name.now kind))) }
     ensures err { OnErr result (hand.new ≡ hand.old) }
 {
-    let at = child_of(alloc, dir, name, kind)?;
+    let at = named_child(alloc, dir, name, kind)?;
     bind(alloc, hand, variable, handle_named(kind, at))
 }
 
@@ -142,7 +119,7 @@ fn bind_child(
     let Reply::Child(kind, name) = reply else {
         return Ok(());
     };
-    let at = given_child(alloc, dir, name, *kind)?;
+    let at = child_of(alloc, dir, name, *kind)?;
     bind(alloc, hand, variable, handle_named(*kind, at))
 }
 
@@ -249,16 +226,22 @@ fn note(
 }
 
 impl Hand {
-    /// Takes note of a step's entry: a call that was not refused binds, opens or closes what it does. On want of memory
-    /// the hand is as it was. An entry that the machine never makes, an accepted call on what is no valid file name,
-    /// is answered as want of memory.
-    pub fn then(&mut self, alloc: Global, step: &Step, entry: &Entry) -> Result<(), AllocError>
-        ensures then { OnOk result (self.new ≡ hand_then self.old step.now entry.now.op entry.now.reply) }
+    /// Takes note of what a step asked and was answered: a call that was not refused binds, opens or closes what it
+    /// does. On want of memory the hand is as it was. What the machine never answers, an accepted call on what is no
+    /// valid file name, is answered as want of memory.
+    pub fn then(
+        &mut self,
+        alloc: Global,
+        step: &Step,
+        op: &Op,
+        reply: &Reply,
+    ) -> Result<(), AllocError>
+        ensures then { OnOk result (self.new ≡ hand_then self.old step.now op.now reply.now) }
         ensures err { OnErr result (self.new ≡ self.old) }
     {
-        if let Reply::No(_) = &entry.reply {
+        if let Reply::No(_) = reply {
             return Ok(());
         }
-        note(alloc, self, bind_name(step), &entry.op, &entry.reply)
+        note(alloc, self, bind_name(step), op, reply)
     }
 }

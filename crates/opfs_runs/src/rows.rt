@@ -5,10 +5,9 @@ ghost use Rattle.opfs_runs.specs.Running.{named_by, a_stream, a_handle, a_snapsh
 
 use crate::hand::Hand;
 use crate::kinds::{handle, snapshot, stream};
-use opfs_base::Text;
+use opfs_base::{Data, Text};
 use opfs_hist::{Op, Word};
-use opfs_script::Data;
-use std::alloc::{AllocError, Global};
+use std::alloc::AllocError;
 
 /// slice.
 pub fn slice(hand: &Hand, variable: &Text, at: u64, len: u64) -> Op
@@ -22,7 +21,6 @@ pub fn slice(hand: &Hand, variable: &Text, at: u64, len: u64) -> Op
 
 /// write.
 pub fn write(
-    alloc: Global,
     hand: &Hand,
     variable: &Text,
     bytes: &Data,
@@ -33,7 +31,7 @@ pub fn write(
     let Some(row) = stream(hand, variable) else {
         return Ok(Op::Unbound { word: Word::Write });
     };
-    let bytes = bytes.to_bytes(alloc)?;
+    let bytes = bytes.share()?;
     Ok(Op::Write {
         row,
         bytes,
@@ -97,7 +95,6 @@ pub fn sync_read(hand: &Hand, variable: &Text, len: u64, at: Option<u64>) -> Op
 
 /// write of an access handle.
 pub fn sync_write(
-    alloc: Global,
     hand: &Hand,
     variable: &Text,
     bytes: &Data,
@@ -110,7 +107,7 @@ pub fn sync_write(
             word: Word::SyncWrite,
         });
     };
-    let bytes = bytes.to_bytes(alloc)?;
+    let bytes = bytes.share()?;
     Ok(Op::SyncWrite { row, bytes, at })
 }
 

@@ -1,6 +1,5 @@
 pub mod Answers
 pub mod Faults
-pub mod Forms
 pub mod Heads
 pub mod Limits
 pub mod Members

@@ -2,7 +2,7 @@
 use Rattle.std.specs.Prelude.{ℕ, nat_le, Bool, true, ◌&&◌, List, length, sum_by, Option, Some, None}
 use Rattle.std.specs.List.{list_all}
 use Rattle.opfs_base.specs.Texts.{Text}
-use Rattle.opfs_base.specs.Keys.{is_origin}
+use Rattle.opfs_base.specs.Keys.{is_origin, is_one_line}
 use Rattle.opfs_script.specs.declared.step.Step.{Step}
 use Rattle.opfs_script.specs.declared.step.Step.TheVariants as step
 use Rattle.opfs_script.specs.Scripts.{Asked}
@@ -85,10 +85,10 @@ abbrev pub fits_limits : List Asked → Bool
 fits_limits agents =
     nat_le (length agents) 64 && nat_le (steps_of_all agents) 20000 && nat_le (bytes_of_all agents) 67108864
 
--- Whether a key, if there is one, is an origin's.
+-- Whether a key, if there is one, is an origin's and stands on one line.
 abbrev pub is_origin_key : Option Text → Bool
 is_origin_key None = true
-is_origin_key (Some key) = is_origin key
+is_origin_key (Some key) = is_origin key && is_one_line key
 
 -- Whether what an agent asks is of the right form: its key is an origin's, and its steps keep their bounds.
 abbrev pub is_formed : Asked → Bool

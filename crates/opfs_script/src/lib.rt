@@ -2,7 +2,6 @@
 #![tactic(auto)]
 
 mod agents;
-pub mod data;
 mod draft;
 mod fault;
 mod head;
@@ -17,7 +16,6 @@ mod steps;
 mod telling;
 mod words;
 
-pub use data::Data;
 pub use reader::read_script;
 pub use refusal::ScriptRefusal;
 pub use script::{AgentScript, Script};

@@ -3,9 +3,8 @@
 ghost use Rattle.std.specs.Prelude.{◌≡◌};
 ghost use Rattle.opfs_script.specs.Limits.{is_variable, is_number, is_optional_number, is_read_length, is_write, keeps_bounds, bytes_asked};
 
-use crate::data::Data;
 use crate::step::Step;
-use opfs_base::Text;
+use opfs_base::{Data, Text};
 
 /// Whether a step's members keep their bounds.
 pub fn keeps_bounds(step: &Step) -> bool

@@ -1,7 +1,6 @@
 //! The steps of a script.
 
-use crate::data::Data;
-use opfs_base::Text;
+use opfs_base::{Data, Text};
 
 /// A step: its word and its members. The members that name
 /// a variable are those that say what they want (`dir`, `file`, `stream`, `sync`, `snapshot`, `iterator`, `entry`, `other`),

@@ -5,11 +5,10 @@ ghost use Rattle.serde_json.specs.View.{view};
 ghost use Rattle.opfs_script.specs.Members.{hex_bytes, filled, told_bytes, bytes_of, bytes};
 ghost use Rattle.opfs_script.specs.Faults.{Reads};
 
-use crate::data::Data;
 use crate::fault::Fault;
 use crate::members::{has_only, number, text_of};
 use hex::FromHexError;
-use opfs_base::Bytes;
+use opfs_base::{Bytes, Data};
 use serde_json::Value;
 use std::alloc::Global;
 
@@ -38,7 +37,17 @@ fn given(alloc: Global, bytes: &[u8]) -> Result<Data, Fault>
     ensures { Reads result (Some bytes.now) }
 {
     match Bytes::copy_of(alloc, bytes) {
-        Ok(copy) => Ok(Data::given(copy)),
+        Ok(copy) => shared(alloc, copy),
+        Err(_) => Err(Fault::Memory),
+    }
+}
+
+// Bytes that can be shared.
+fn shared(alloc: Global, bytes: Bytes) -> Result<Data, Fault>
+    ensures { Reads result (Some bytes) }
+{
+    match Data::given(alloc, bytes) {
+        Ok(made) => Ok(made),
         Err(_) => Err(Fault::Memory),
     }
 }
@@ -66,7 +75,7 @@ fn hex_bytes(alloc: Global, digits: &str) -> Result<Data, Fault>
     ensures { Reads result (hex_bytes digits.now) }
 {
     match hex::decode(alloc, digits) {
-        Ok(bytes) => Ok(Data::given(Bytes::from_vec(bytes))),
+        Ok(bytes) => shared(alloc, Bytes::from_vec(bytes)),
         Err(FromHexError::OutOfMemory) => Err(Fault::Memory),
         Err(_) => Err(Fault::Shape),
     }

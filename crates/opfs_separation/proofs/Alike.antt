@@ -16,7 +16,7 @@ use Rattle.opfs_machine.specs.Alone.{is_partys}
 use Rattle.opfs_machine.specs.Rows.{Rows, row_at, children_of, has_children, rows_within}
 use Rattle.opfs_machine.specs.Sums.{is_persistent}
 use Rattle.opfs_separation.proofs.Lists.{filter-within, any-within, map-within}
-use Rattle.opfs_separation.proofs.Numbered.{agent_at, seen_from, is_ours, key-at, ours-at}
+use Rattle.opfs_separation.proofs.Numbered.{agent_at, seen_from, is_ours, ours-at}
 use Rattle.opfs_separation.proofs.OwnRows.{own_rows, find-mine}
 
 abbrev pub is_partys_tag : Party → Posted → Bool
@@ -27,10 +27,10 @@ pub record Alike (p : Party) (s t : State Text Own) : Type 0 where
   pub modes : (unit : Text) → is_partys p unit ≡ true → is_persistent s unit ≡ is_persistent t unit
   pub tags : filter (is_partys_tag p) s.posted ≡ filter (is_partys_tag p) t.posted
   pub agents : seen_from p 1 s.agents ≡ seen_from p 1 t.agents
-  pub limits : s.limits ≡ t.limits
+  pub quota : s.limits.quota ≡ t.limits.quota
 
 pub alike-same : (p : Party) (s : State Text Own) → Alike p s s
-alike-same p s = record { rows = refl; modes = λ unit own. refl; tags = refl; agents = refl; limits = refl }
+alike-same p s = record { rows = refl; modes = λ unit own. refl; tags = refl; agents = refl; quota = refl }
 
 pub alike-then : (p : Party) (s t u : State Text Own) → Alike p s t → Alike p t u → Alike p s u
 alike-then p s t u a b = record {
@@ -38,7 +38,7 @@ alike-then p s t u a b = record {
   modes = λ unit own. a.modes unit own ∙ b.modes unit own;
   tags = a.tags ∙ b.tags;
   agents = a.agents ∙ b.agents;
-  limits = a.limits ∙ b.limits;
+  quota = a.quota ∙ b.quota;
 }
 
 pub alike-back : (p : Party) (s t : State Text Own) → Alike p s t → Alike p t s
@@ -47,7 +47,7 @@ alike-back p s t a = record {
   modes = λ unit own. sym (a.modes unit own);
   tags = sym a.tags;
   agents = sym a.agents;
-  limits = sym a.limits;
+  quota = sym a.quota;
 }
 
 -- A unit that is the same as one of the party's.
@@ -108,15 +108,11 @@ module _ (p : Party) (s t : State Text Own) (a : Alike p s t) where
       ∙ ap (list_any (λ q. same_party p q.party && same_text tag q.tag)) a.tags
       ∙ any-within (is_partys_tag p) (λ q. same_party p q.party && same_text tag q.tag) own t.posted
 
-  -- Keys are seen of all agents.
-  pub key-alike : (k : ℕ) → (agent_of s k).key ≡ (agent_of t k).key
-  key-alike zero = refl
-  key-alike (suc i) =
-      sym (key-at p 1 i s.agents) ∙ ap (λ agents. (agent_at agents i).key) a.agents ∙ key-at p 1 i t.agents
-
-  pub agent-alike : (k : ℕ) → same_party p (party_with (agent_of s k).key k) ≡ true → agent_of s k ≡ agent_of t k
-  agent-alike zero is = refl
-  agent-alike (suc i) is =
+  -- An agent that is the party's in both.
+  pub agent-alike : (k : ℕ) → same_party p (party_with (agent_of s k).key k) ≡ true → same_party p (party_with (agent_of t k).key k) ≡ true
+      → agent_of s k ≡ agent_of t k
+  agent-alike zero is also = refl
+  agent-alike (suc i) is also =
       let left : is_ours p (1 + i) (agent_at s.agents i).key ≡ true = ap (λ k. is_ours p k (agent_at s.agents i).key) (one_more i) ∙ is in
-      let right : is_ours p (1 + i) (agent_at t.agents i).key ≡ true = ap (is_ours p (1 + i)) (sym (key-alike (suc i))) ∙ left in
+      let right : is_ours p (1 + i) (agent_at t.agents i).key ≡ true = ap (λ k. is_ours p k (agent_at t.agents i).key) (one_more i) ∙ also in
       sym (ours-at p 1 i s.agents left) ∙ ap (λ agents. agent_at agents i) a.agents ∙ ours-at p 1 i t.agents right

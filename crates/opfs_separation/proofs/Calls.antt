@@ -14,7 +14,7 @@ use Rattle.opfs_machine.specs.Effects.{effect, refused}
 use Rattle.opfs_machine.specs.Histories.{may_enter}
 use Rattle.opfs_machine.specs.Replies.{sizes_of}
 use Rattle.opfs_machine.specs.Steps.{evicted, changed_by, after_reply, is_refusal}
-use Rattle.opfs_separation.proofs.Alike.{Alike, alike-same, key-alike}
+use Rattle.opfs_separation.proofs.Alike.{Alike, alike-same}
 use Rattle.opfs_separation.proofs.Clearing.{evicted-ordered}
 use Rattle.opfs_separation.proofs.Follows.{Pair, Follows, IsPlain, effect-follows, refused-follows}
 use Rattle.opfs_laws.proofs.OwnFiles.{OwnFiles, changed-keeps}
@@ -80,7 +80,7 @@ pub call-apart : (p : Party) (keys : ℕ → Option Text) (s : State Text Own) (
     → Others p (keys k) k s (changed_by s k o answered) (changed_by s k o answered)
 call-apart p keys s k o answered above plain stranger may h =
     changed-follows (keys k) k (Others p (keys k) k s) (others-at p (keys k) k s above stranger) plain s s o answered may h.files refl
-    (record { same = refl; alike = alike-same p s; order = h.order; keyed = h.keyed k })
+    (record { same = refl; alike = alike-same p s; order = h.order; keyed = h.keyed k; keys = λ j. refl })
 
 -- A call keeps what holds of each state.
 pub kept-after : (keys : ℕ → Option Text) (s : State Text Own) (k : ℕ) (o : Op) (answered : Reply)
@@ -90,7 +90,7 @@ kept-after keys s k o answered above plain may h =
     record {
       files = changed-keeps s k o answered may h.files;
       order = q.order;
-      keyed = λ j. key-alike (Alone 0) (changed_by s k o answered) s q.alike j ∙ h.keyed j;
+      keyed = λ j. q.keys j ∙ h.keyed j;
     }
 
 pub after-apart : (p : Party) (keys : ℕ → Option Text) (s : State Text Own) (k : ℕ) (o : Op) (answered : Reply)
@@ -98,7 +98,7 @@ pub after-apart : (p : Party) (keys : ℕ → Option Text) (s : State Text Own) 
     → Alike p (after_reply s k o answered) s
 after-apart p keys s k o answered above plain stranger may h =
     let a = (call-apart p keys s k o answered above plain stranger may h).alike in
-    record { rows = a.rows; modes = a.modes; tags = a.tags; agents = a.agents; limits = a.limits }
+    record { rows = a.rows; modes = a.modes; tags = a.tags; agents = a.agents; quota = a.quota }
 
 -- A call of the party's agent, in two states that are the same to it.
 pub after-both : (p : Party) (key : Option Text) (s t : State Text Own) (k : ℕ) (o : Op) (answered : Reply)
@@ -108,8 +108,9 @@ after-both p key s t k o answered above plain member may files sizes q =
     let b = changed-follows key k (Ours p key k) (ours-at p key k above member) plain s t o answered may files sizes q in
     let a = b.alike in
     record {
-      alike = record { rows = a.rows; modes = a.modes; tags = a.tags; agents = a.agents; limits = a.limits };
+      alike = record { rows = a.rows; modes = a.modes; tags = a.tags; agents = a.agents; quota = a.quota };
       left = b.left;
       right = b.right;
       keyed = b.keyed;
+      beside = b.beside;
     }

@@ -148,12 +148,12 @@ module _ (p : Party) (s t : State Text Own) (a : Alike p s t) where
   pub evicted-both : (unit : Text) → Alike p (evicted s unit) (evicted t unit)
   evicted-both unit =
       let b = without-both p s t a (unit, []) in
-      record { rows = b.rows; modes = b.modes; tags = b.tags; agents = b.agents; limits = b.limits }
+      record { rows = b.rows; modes = b.modes; tags = b.tags; agents = b.agents; quota = b.quota }
 
 pub evicted-apart : (p : Party) (s : State Text Own) (unit : Text) → is_partys p unit ≡ false → Alike p (evicted s unit) s
 evicted-apart p s unit out =
     let b = without-apart p s (unit, []) out in
-    record { rows = b.rows; modes = b.modes; tags = b.tags; agents = b.agents; limits = b.limits }
+    record { rows = b.rows; modes = b.modes; tags = b.tags; agents = b.agents; quota = b.quota }
 
 pub evicted-ordered : (s : State Text Own) (unit : Text) → InOrder s → InOrder (evicted s unit)
 evicted-ordered s unit h = without-ordered s (unit, []) h

@@ -292,7 +292,7 @@ module _ (key : Option Text) (k : ℕ) (Q : Pair) (f : Follows key k Q) where
       subst (λ a. Q (made s (child (place_of dir) name) (new_row in_bytes kind.File (moment_of s k))) (made t (child (place_of dir) name) (new_row in_bytes kind.File a.moment))) (f.agent s t q)
       (makes s t (child (place_of dir) name) (new_row in_bytes kind.File (moment_of s k)) (own-at s t dir may q) q)
   effect-follows plain s t z (op.RemoveEntry dir name recursive) may files q = f.remove s t (child (place_of dir) name) (own-at s t dir may q) q
-  effect-follows plain s t z (op.Values dir) may files q = adds s t (own.Iterator (record { dir = place_of dir; given = [] })) q
+  effect-follows plain s t z (op.Values dir) may files q = adds s t (own.Iterator (record { dir = dir; given = [] })) q
   effect-follows plain s t z (op.Next n dir) may files q =
       subst (λ names. Q (with_changed s k n (λ r. advanced_row r (children_of s (place_of dir)))) (with_changed t k n (λ r. advanced_row r names)))
       (f.children s t (place_of dir) (own-at s t dir (first_so _ _ may) q) q)

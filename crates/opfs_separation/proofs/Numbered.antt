@@ -8,19 +8,15 @@ use Rattle.opfs_machine.specs.declared.state.Agent.{Agent}
 use Rattle.opfs_machine.specs.declared.state.Party.{Party}
 use Rattle.opfs_machine.specs.Agents.{nobody, party_with, same_party}
 
--- An agent of another party: its key alone.
-abbrev pub stranger : Option Text → Agent Own
-stranger key = record { key = key; grant = false; live = false; moment = 0; waits = None; own = [] }
-
--- An agent as its party sees it among all.
+-- An agent as a party sees it among all: nobody where it is another party's.
 abbrev pub seen_by : Bool → Agent Own → Agent Own
 seen_by true a = a
-seen_by false a = stranger a.key
+seen_by false a = nobody
 
-plus_zero : (n : ℕ) → n + 0 ≡ n
+pub plus_zero : (n : ℕ) → n + 0 ≡ n
 plus_zero n = omega arith
 
-plus_suc : (n i : ℕ) → n + 1 + i ≡ n + suc i
+pub plus_suc : (n i : ℕ) → n + 1 + i ≡ n + suc i
 plus_suc n i = omega arith
 
 abbrev pub agent_at : List (Agent Own) → ℕ → Agent Own
@@ -36,14 +32,6 @@ module _ (p : Party) where
   abbrev pub seen_from : ℕ → List (Agent Own) → List (Agent Own)
   seen_from n [] = []
   seen_from n (a ∷ agents) = seen n a ∷ seen_from (n + 1) agents
-
-  seen-key : (n : ℕ) (a : Agent Own) → (seen n a).key ≡ a.key
-  seen-key n a = elim (is_ours n a.key) as (λ b. (seen_by b a).key ≡ a.key) [ true ↦ refl | false ↦ refl ]
-
-  pub key-at : (n i : ℕ) (agents : List (Agent Own)) → (agent_at (seen_from n agents) i).key ≡ (agent_at agents i).key
-  key-at n i [] = refl
-  key-at n zero (a ∷ agents) = seen-key n a
-  key-at n (suc i) (a ∷ agents) = key-at (n + 1) i agents
 
   pub ours-at : (n i : ℕ) (agents : List (Agent Own)) → is_ours (n + i) (agent_at agents i).key ≡ true → agent_at (seen_from n agents) i ≡ agent_at agents i
   ours-at n i [] is = refl
@@ -64,7 +52,7 @@ module _ (p : Party) where
   other-set n zero (b ∷ agents) a is same =
       let out : is_ours n b.key ≡ false = ap (λ k. is_ours k b.key) (sym (plus_zero n)) ∙ is in
       ap (λ x. x ∷ seen_from (n + 1) agents)
-      (ap (λ t. seen_by t a) (ap (is_ours n) same ∙ out) ∙ ap stranger same ∙ sym (ap (λ t. seen_by t b) out))
+      (ap (λ t. seen_by t a) (ap (is_ours n) same ∙ out) ∙ sym (ap (λ t. seen_by t b) out))
   other-set n (suc i) (b ∷ agents) a is same =
       ap (λ xs. seen n b ∷ xs) (other-set (n + 1) i agents a (ap (λ k. is_ours k (agent_at agents i).key) (plus_suc n i) ∙ is) same)
 
@@ -91,7 +79,7 @@ module _ (p : Party) where
     no_help-seen n a =
         elim (is_ours n a.key) as (λ b. is_ours n a.key ≡ b → no_help (n, seen_by b a) ≡ no_help_by b n a) [
           | true ↦ λ is. ap (λ b. no_help_by b n a) is
-          | false ↦ λ is. no_help-dead n (is_ours n a.key) (posted None) ∙ sym (no_help-other n a.live (posted a.waits))
+          | false ↦ λ is. no_help-dead n (is_ours n None) (posted None) ∙ sym (no_help-other n a.live (posted a.waits))
         ] refl
 
     pub stuck-seen : (n : ℕ) (agents : List (Agent Own)) → list_all no_help (enumerate_from n (seen_from n agents)) ≡ list_all no_help (enumerate_from n agents)

@@ -33,9 +33,8 @@ pub record Reads (k : ℕ) (s t : State Text Own) : Type 0 where
   pub within : (place : Place) → is_callers (agent_of s k).key place.0 ≡ true → rows_within s place ≡ rows_within t place
   pub mode : (unit : Text) → is_callers (agent_of s k).key unit ≡ true → is_persistent s unit ≡ is_persistent t unit
   pub posted : (tag : Text) → is_posted s (party_of s k) tag ≡ is_posted t (party_of t k) tag
-  pub stuck : others_stuck s k ≡ others_stuck t k
   pub usage : (origin : Text) → (agent_of s k).key ≡ Some origin → usage in_bytes s origin ≡ usage in_bytes t origin
-  pub limits : s.limits ≡ t.limits
+  pub quota : s.limits.quota ≡ t.limits.quota
 
 -- Parties that are the same.
 pub one-party : (p q : Party) → same_party p q ≡ true → p ≡ q
@@ -104,7 +103,7 @@ origin-is p key k o member is = one-party p (party_with key k) member ∙ ap (λ
 pub ours-reads : (p : Party) (key : Option Text) (k : ℕ) (s t : State Text Own) → same_party p (party_with key k) ≡ true → Ours p key k s t → OwnFiles s → OwnFiles t → Reads k s t
 ours-reads p key k s t member q left right =
     let here : same_party p (party_with (agent_of s k).key k) ≡ true = ap (λ x. same_party p (party_with x k)) q.keyed ∙ member in
-    let agent : agent_of s k ≡ agent_of t k = agent-alike p s t q.alike k here in
+    let agent : agent_of s k ≡ agent_of t k = agent-alike p s t q.alike k here (ap (λ x. same_party p (party_with x k)) q.beside ∙ member) in
     let mine = λ (unit : Text) (is : is_callers (agent_of s k).key unit ≡ true). partys-own p (agent_of s k).key k unit here ∙ is in
     let there : p ≡ party_of s k = one-party p (party_of s k) here in
     let beside : p ≡ party_of t k = there ∙ ap (λ a. party_with a.key k) agent in
@@ -116,10 +115,15 @@ ours-reads p key k s t member q left right =
       within = λ place is. within-alike p s t q.alike place (mine place.0 is);
       mode = λ unit is. q.alike.modes unit (mine unit is);
       posted = λ tag. ap (λ x. is_posted s x tag) (sym there) ∙ posted-alike p s t q.alike tag ∙ ap (λ x. is_posted t x tag) beside;
-      stuck =
-          ap (λ x. list_all (is_no_help s k x) (enumerate_from 1 s.agents)) (sym there)
-          ∙ stuck-alike p s t k q.alike
-          ∙ ap (λ x. list_all (is_no_help t k x) (enumerate_from 1 t.agents)) beside;
       usage = λ o is. usage-alike o s t (subst (λ x. Alike x s t) (origin-is p (agent_of s k).key k o here is) q.alike) left right;
-      limits = q.alike.limits;
+      quota = q.alike.quota;
     }
+
+-- Whether all others are stuck is the same to the party's agent.
+pub ours-stuck : (p : Party) (key : Option Text) (k : ℕ) (s t : State Text Own) → same_party p (party_with key k) ≡ true → Ours p key k s t → others_stuck s k ≡ others_stuck t k
+ours-stuck p key k s t member q =
+    let there : p ≡ party_of s k = one-party p (party_of s k) (ap (λ x. same_party p (party_with x k)) q.keyed ∙ member) in
+    let beside : p ≡ party_of t k = one-party p (party_of t k) (ap (λ x. same_party p (party_with x k)) q.beside ∙ member) in
+    ap (λ x. list_all (is_no_help s k x) (enumerate_from 1 s.agents)) (sym there)
+    ∙ stuck-alike p s t k q.alike
+    ∙ ap (λ x. list_all (is_no_help t k x) (enumerate_from 1 t.agents)) beside

@@ -239,5 +239,5 @@ module _ (k : ℕ) (s t : State Text Own) (r : Reads k s t) where
   answer-same plain files z op.Estimate need may ok =
       let there = estimate-there need ok in
       let used = usage-at there.0 there.1 in
-      λ i. reply.Estimate (block_bytes * used i) (block_bytes * (r.limits i).quota)
+      λ i. reply.Estimate (block_bytes * used i) (block_bytes * r.quota i)
   answer-same plain files z o need may ok = refl

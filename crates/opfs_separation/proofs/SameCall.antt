@@ -15,10 +15,10 @@ use Rattle.opfs_machine.specs.declared.state.FileRow.{FileRow}
 use Rattle.opfs_machine.specs.declared.state.Need.{Need}
 use Rattle.opfs_machine.specs.declared.state.Sizes.{Sizes}
 use Rattle.opfs_machine.specs.declared.state.State.{State}
-use Rattle.opfs_machine.specs.Agents.{agent_of, own_of}
+use Rattle.opfs_machine.specs.Agents.{agent_of, own_of, others_stuck}
 use Rattle.opfs_machine.specs.Alone.{judged_alone, AcceptedAlone, AgreesAlone, IsCallAlone}
 use Rattle.opfs_machine.specs.Contents.{in_bytes, next_of}
-use Rattle.opfs_machine.specs.Histories.{may_enter, Agrees, IsCall}
+use Rattle.opfs_machine.specs.Histories.{may_enter, asks_stuck, Agrees, IsCall}
 use Rattle.opfs_machine.specs.Replies.{answer, sizes_of, origin_in, child_reply, path_reply, file_reply, given_in}
 use Rattle.opfs_machine.specs.Rows.{children_of, file_at}
 use Rattle.opfs_machine.specs.Ruled.{Ruled, ◌>>=◌, ◌>>◌, unless, some_or}
@@ -98,7 +98,7 @@ module _ (k : ℕ) (s t : State Text Own) (r : Reads k s t) where
             free-quota s need free ∙ sym (free-quota t need free)
         | Some x ↦ λ is.
             let used = usage-at k s t r x is in
-            λ i. unless (nat_le need.quota 0 || nat_le (used i + need.quota) (r.limits i).quota) (refusal.QuotaExceededError (used i) need.quota (r.limits i).quota) >> Ok need
+            λ i. unless (nat_le need.quota 0 || nat_le (used i + need.quota) (r.quota i)) (refusal.QuotaExceededError (used i) need.quota (r.quota i)) >> Ok need
       ] refl
 
   module _ (gone : List Text) (o : Op) (answered : Reply) where
@@ -170,9 +170,10 @@ module _ (k : ℕ) (s t : State Text Own) (r : Reads k s t) where
         (by-ruling plain files may (ruling in_bytes s (sizes_of s k o) k o) refl agrees)
 
 -- A call of the party's agent.
-pub call-alone : (s t : State Text Own) (gone : List Text) (e : Entry) → Reads e.agent s t → IsPlain (agent_of s e.agent).key → OwnFiles s → IsCall s gone e → IsCallAlone t e
-call-alone s t gone e r plain files call = record {
+pub call-alone : (s t : State Text Own) (gone : List Text) (e : Entry) → Reads e.agent s t → (asks_stuck e.op ≡ true → others_stuck s e.agent ≡ others_stuck t e.agent)
+    → IsPlain (agent_of s e.agent).key → OwnFiles s → IsCall s gone e → IsCallAlone t e
+call-alone s t gone e r stuck plain files call = record {
   live = ap (λ a. a.live) (sym r.agent) ∙ call.live;
-  fitting = sym (may-same e.agent s t r e.op) ∙ call.fitting;
+  fitting = sym (may-same e.agent s t r e.op stuck) ∙ call.fitting;
   agrees = agrees-alone e.agent s t r gone e.op e.reply plain files call.fitting call.agrees;
 }

@@ -26,9 +26,9 @@ use Rattle.opfs_machine.specs.declared.state.Need.{Need}
 use Rattle.opfs_machine.specs.declared.state.Row.{Row}
 use Rattle.opfs_machine.specs.declared.state.Sizes.{Sizes}
 use Rattle.opfs_machine.specs.declared.state.State.{State}
-use Rattle.opfs_machine.specs.Agents.{agent_of, own_of, open_handle, stream_in, handle_in, of_row, is_open_row, waits_for}
+use Rattle.opfs_machine.specs.Agents.{agent_of, own_of, open_handle, stream_in, handle_in, of_row, is_open_row, others_stuck, waits_for}
 use Rattle.opfs_machine.specs.Contents.{in_bytes, outline_of}
-use Rattle.opfs_machine.specs.Histories.{may_enter, is_disk_op, is_own, is_of_origin, is_iterator_of, is_snapshot, is_stream, is_handle, is_open_handle, writes_in}
+use Rattle.opfs_machine.specs.Histories.{may_enter, asks_stuck, is_disk_op, is_own, is_of_origin, is_iterator_of, is_snapshot, is_stream, is_handle, is_open_handle, writes_in}
 use Rattle.opfs_machine.specs.Replies.{sizes_of, sizes_in, row_named, bytes_in}
 use Rattle.opfs_machine.specs.Rows.{row_at, wants, holds_kind, file_of, first_locked}
 use Rattle.opfs_machine.specs.Ruled.{Ruled, ◌>>=◌, ◌>>◌, unless, some_or}
@@ -202,42 +202,42 @@ module _ (k : ℕ) (s t : State Text Own) (r : Reads k s t) where
       sizes-one (own_of (agent_of s k) (row_named o)) (λ y is. keeps-row HasOwnFile s k (row_named o) y files is)
       ∙ ap (λ a. sizes_in t (own_of a (row_named o))) r.agent
 
-  pub may-same : (o : Op) → may_enter s k o ≡ may_enter t k o
+  pub may-same : (o : Op) → (asks_stuck o ≡ true → others_stuck s k ≡ others_stuck t k) → may_enter s k o ≡ may_enter t k o
   unfolding may_enter
-  may-same (op.GetDirectoryHandle dir name create) = ap (λ a. is_of_origin a.key dir) r.agent
-  may-same (op.GetFileHandle dir name create) = ap (λ a. is_of_origin a.key dir) r.agent
-  may-same (op.RemoveEntry dir name recursive) = ap (λ a. is_of_origin a.key dir) r.agent
-  may-same (op.Values dir) = ap (λ a. is_of_origin a.key dir) r.agent
-  may-same (op.Next n dir) = ap (λ a. is_of_origin a.key dir && is_iterator_of (place_of dir) (own_of a n)) r.agent
-  may-same (op.GetFile at) = ap (λ a. is_of_origin a.key at) r.agent
-  may-same (op.Slice n at len) = ap (λ a. is_snapshot (own_of a n)) r.agent
-  may-same (op.CreateWritable at keep) = ap (λ a. is_of_origin a.key at) r.agent
-  may-same (op.Write n bytes position) = ap (λ a. is_stream (own_of a n)) r.agent
-  may-same (op.Seek n position) = ap (λ a. is_stream (own_of a n)) r.agent
-  may-same (op.Truncate n size) = ap (λ a. is_stream (own_of a n)) r.agent
-  may-same (op.Close n) = ap (λ a. is_stream (own_of a n)) r.agent
-  may-same (op.Abort n) = ap (λ a. is_stream (own_of a n)) r.agent
-  may-same (op.CreateSyncAccessHandle at m) = ap (λ a. is_of_origin a.key at) r.agent
-  may-same (op.SyncRead n len at) = ap (λ a. is_handle (own_of a n)) r.agent
-  may-same (op.SyncWrite n bytes at) = ap (λ a. is_handle (own_of a n)) r.agent
-  may-same (op.SyncTruncate n size) = ap (λ a. is_handle (own_of a n)) r.agent
-  may-same (op.SyncGetSize n) = ap (λ a. is_handle (own_of a n)) r.agent
-  may-same (op.SyncFlush n) = ap (λ a. is_handle (own_of a n)) r.agent
-  may-same (op.SyncClose n) = ap (λ a. is_handle (own_of a n)) r.agent
-  may-same (op.Discard n) = ap (λ a. is_open_handle (own_of a n)) r.agent
-  may-same (op.Await tag) = λ i. r.posted tag i || r.stuck i
-  may-same (op.Wait tag) = λ i. not (r.posted tag i) && not (r.stuck i) && not (waits_for (r.agent i).waits tag)
-  may-same op.End = ap (λ a. not (list_any (λ x. is_open_row (outline_of x)) a.own)) r.agent
-  may-same (op.Evict unit) = refl
-  may-same (op.GetDirectory bucket) = refl
-  may-same (op.Resolve dir entry) = refl
-  may-same (op.IsSameEntry entry to) = refl
-  may-same (op.Persist bucket) = refl
-  may-same (op.Persisted bucket) = refl
-  may-same op.Estimate = refl
-  may-same (op.Moment ms) = refl
-  may-same (op.Post tag) = refl
-  may-same (op.Unbound word) = refl
+  may-same (op.GetDirectoryHandle dir name create) stuck = ap (λ a. is_of_origin a.key dir) r.agent
+  may-same (op.GetFileHandle dir name create) stuck = ap (λ a. is_of_origin a.key dir) r.agent
+  may-same (op.RemoveEntry dir name recursive) stuck = ap (λ a. is_of_origin a.key dir) r.agent
+  may-same (op.Values dir) stuck = ap (λ a. is_of_origin a.key dir) r.agent
+  may-same (op.Next n dir) stuck = ap (λ a. is_of_origin a.key dir && is_iterator_of dir (own_of a n)) r.agent
+  may-same (op.GetFile at) stuck = ap (λ a. is_of_origin a.key at) r.agent
+  may-same (op.Slice n at len) stuck = ap (λ a. is_snapshot (own_of a n)) r.agent
+  may-same (op.CreateWritable at keep) stuck = ap (λ a. is_of_origin a.key at) r.agent
+  may-same (op.Write n bytes position) stuck = ap (λ a. is_stream (own_of a n)) r.agent
+  may-same (op.Seek n position) stuck = ap (λ a. is_stream (own_of a n)) r.agent
+  may-same (op.Truncate n size) stuck = ap (λ a. is_stream (own_of a n)) r.agent
+  may-same (op.Close n) stuck = ap (λ a. is_stream (own_of a n)) r.agent
+  may-same (op.Abort n) stuck = ap (λ a. is_stream (own_of a n)) r.agent
+  may-same (op.CreateSyncAccessHandle at m) stuck = ap (λ a. is_of_origin a.key at) r.agent
+  may-same (op.SyncRead n len at) stuck = ap (λ a. is_handle (own_of a n)) r.agent
+  may-same (op.SyncWrite n bytes at) stuck = ap (λ a. is_handle (own_of a n)) r.agent
+  may-same (op.SyncTruncate n size) stuck = ap (λ a. is_handle (own_of a n)) r.agent
+  may-same (op.SyncGetSize n) stuck = ap (λ a. is_handle (own_of a n)) r.agent
+  may-same (op.SyncFlush n) stuck = ap (λ a. is_handle (own_of a n)) r.agent
+  may-same (op.SyncClose n) stuck = ap (λ a. is_handle (own_of a n)) r.agent
+  may-same (op.Discard n) stuck = ap (λ a. is_open_handle (own_of a n)) r.agent
+  may-same (op.Await tag) stuck = λ i. r.posted tag i || stuck refl i
+  may-same (op.Wait tag) stuck = λ i. not (r.posted tag i) && not (stuck refl i) && not (waits_for (r.agent i).waits tag)
+  may-same op.End stuck = ap (λ a. not (list_any (λ x. is_open_row (outline_of x)) a.own)) r.agent
+  may-same (op.Evict unit) stuck = refl
+  may-same (op.GetDirectory bucket) stuck = refl
+  may-same (op.Resolve dir entry) stuck = refl
+  may-same (op.IsSameEntry entry to) stuck = refl
+  may-same (op.Persist bucket) stuck = refl
+  may-same (op.Persisted bucket) stuck = refl
+  may-same op.Estimate stuck = refl
+  may-same (op.Moment ms) stuck = refl
+  may-same (op.Post tag) stuck = refl
+  may-same (op.Unbound word) stuck = refl
 
   writer : (n : ℕ) → writes_in (open_handle in_bytes s k n) ≡ writes_in (open_handle in_bytes t k n)
   writer n = ap (λ a. writes_in (handle_of n a)) r.agent

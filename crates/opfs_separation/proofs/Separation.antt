@@ -20,25 +20,24 @@ use Rattle.opfs_machine.specs.declared.state.State.{State}
 use Rattle.opfs_machine.specs.Agents.{agent_of, nobody, party_with, same_party}
 use Rattle.opfs_machine.specs.Alone.{is_partys, is_member, is_partys_entry, project, kept_agent, begun_alone, IsCallAlone, IsEvictionAlone, AloneFrom}
 use Rattle.opfs_machine.specs.Histories.{may_enter, evicted_by, IsEviction, IsCall, IsFront, LegalFrom}
-use Rattle.opfs_machine.specs.Openings.{Opening, Stored, Who, begun, row_of, agent_in}
+use Rattle.opfs_machine.specs.Openings.{Opening, Stored, Who, begun, row_of, agent_begun}
 use Rattle.opfs_machine.specs.Steps.{evicted, after_reply}
 use Rattle.opfs_machine.specs.Victims.{candidates, is_callers}
 use Rattle.opfs_separation.specs.Apart.{has_origin_key, IsInOrder, EachPartyRunsAlone}
 use Rattle.opfs_separation.proofs.Alike.{Alike, alike-same, alike-then, alike-back}
 use Rattle.opfs_separation.proofs.Calls.{IsAbove, live-above, Kept, kept-evicted, kept-after, after-apart, after-both}
-use Rattle.opfs_separation.proofs.Clearing.{may-evict, may-others, evictable-after, evictable-alike, evicted-both, evicted-apart, evicted-ordered, first_out, second_out}
+use Rattle.opfs_separation.proofs.Clearing.{may-evict, may-others, evictable-after, evictable-alike, evicted-both, evicted-apart, first_out, second_out}
 use Rattle.opfs_separation.proofs.Follows.{IsPlain}
 use Rattle.opfs_separation.proofs.Fronts.{front-fine, call-front}
-use Rattle.opfs_separation.proofs.Numbered.{seen, seen_by, seen_from, is_ours}
-use Rattle.opfs_laws.proofs.OwnFiles.{OwnFiles, HasOwnFile, changed-keeps, own_files-begun, may-after}
+use Rattle.opfs_separation.proofs.Numbered.{agent_at, seen, seen_by, seen_from, is_ours, plus_zero, plus_suc}
+use Rattle.opfs_laws.proofs.OwnFiles.{HasOwnFile, own_files-begun, may-after}
 use Rattle.opfs_laws.proofs.OwnKept.{AgentKeeps}
 use Rattle.opfs_separation.proofs.Lists.{filter-within, any-within}
 use Rattle.opfs_separation.proofs.Parties.{partys-own}
-use Rattle.opfs_separation.proofs.Reading.{ours-reads}
+use Rattle.opfs_separation.proofs.Reading.{ours-reads, ours-stuck}
 use Rattle.opfs_separation.proofs.SameCall.{call-alone}
 use Rattle.opfs_separation.proofs.SameRuling.{may-same, sizes-same}
 use Rattle.opfs_separation.proofs.Sides.{Ours}
-use Rattle.opfs_separation.proofs.Small.{InOrder}
 
 -- A legal history from an entry on, whose eviction is told.
 abbrev NextFrom : State Text Own → List Text → Entry → List Entry → Option Text → Type 0
@@ -92,15 +91,65 @@ above_zero k i is = grind (arith, nat_tests)
 not_none : (key : Option Text) (k : ℕ) (p : Party) → IsAbove k → (same_party p (party_with key k) && not (k == 0)) ≡ false → same_party p (party_with key k) ≡ false
 not_none key k p above h = strip (same_party p (party_with key k)) (k == 0) (above_zero k above.0 above.1) h
 
+true_test : (b : Bool) → b ≡ true → T b
+true_test b h = subst T (sym h) tt
+
+key-plain_of : (key : Option Text) → has_origin_key key ≡ true → IsPlain key
+key-plain_of None h = λ origin bucket is. cc
+key-plain_of (Some key) h = λ origin bucket is.
+    let same : origin_of (unit_of key bucket) ≡ key = origin_of-unit_of key bucket (plain-from_is_origin key h) in
+    let at : is_callers (Some key) (unit_of key bucket) ≡ true = ap (same_text key) same ∙ nat_list_eq_equiv.refl key in
+    ap (λ o. is_callers (Some key) (unit_of o bucket)) (inside key origin is) ∙ at
+  where
+    inside : (a b : Text) → Some a ≡ Some b → b ≡ a
+    inside a b e = cc
+
+-- The agents of a party, where it begins alone.
+module _ (p : Party) where
+  abbrev kept_by : Bool → Agent Own → Agent Own
+  kept_by b a = elim b [ true ↦ a | false ↦ nobody ]
+
+  kept-nobody : (n : ℕ) → nobody ≡ kept_agent p (n, nobody)
+  kept-nobody n = elim (is_ours p n None) as (λ b. nobody ≡ kept_by b nobody) [ true ↦ refl | false ↦ refl ]
+
+  kept-at : (n i : ℕ) (agents : List (Agent Own)) → agent_at (map (kept_agent p) (enumerate_from n agents)) i ≡ kept_agent p (n + i, agent_at agents i)
+  kept-at n i [] = kept-nobody (n + i)
+  kept-at n zero (a ∷ agents) = ap (λ k. kept_agent p (k, a)) (sym (plus_zero n))
+  kept-at n (suc i) (a ∷ agents) = kept-at (n + 1) i agents ∙ ap (λ k. kept_agent p (k, agent_at agents i)) (plus_suc n i)
+
+  -- Who stands at a number: the agent, where it is the party's, and else nobody.
+  alone-at : (o : Opening) (i : ℕ) → agent_of (begun_alone o p) (suc i) ≡ kept_agent p (1 + i, agent_of (begun o) (suc i))
+  alone-at o i = kept-at 1 i (begun o).agents
+
+  kept-plain : (n : ℕ) (a : Agent Own) → IsPlain a.key → IsPlain (kept_agent p (n, a)).key
+  kept-plain n a h = elim (is_ours p n a.key) as (λ b. IsPlain (kept_by b a).key) [ true ↦ h | false ↦ key-plain_of None refl ]
+
+  alone-plain : (o : Opening) → ((k : ℕ) → IsPlain (agent_of (begun o) k).key) → (k : ℕ) → IsPlain (agent_of (begun_alone o p) k).key
+  alone-plain o plain zero = key-plain_of None refl
+  alone-plain o plain (suc i) =
+      subst (λ a. IsPlain a.key) (sym (alone-at o i)) (kept-plain (1 + i) (agent_of (begun o) (suc i)) (plain (suc i)))
+
+  one_more : (i : ℕ) → 1 + i ≡ suc i
+  one_more i = omega arith
+
+  alone-own : (o : Opening) (k : ℕ) → same_party p (party_with (agent_of (begun o) k).key k) ≡ true → (agent_of (begun_alone o p) k).key ≡ (agent_of (begun o) k).key
+  alone-own o zero member = refl
+  alone-own o (suc i) member =
+      let a = agent_of (begun o) (suc i) in
+      let is : is_ours p (1 + i) a.key ≡ true = ap (λ k. is_ours p k a.key) (one_more i) ∙ member in
+      ap (λ x. x.key) (alone-at o i) ∙ ap (λ b. (kept_by b a).key) is
+
 module _ (o : Opening) (p : Party) (plain : (k : ℕ) → IsPlain (agent_of (begun o) k).key) where
   abbrev keys : ℕ → Option Text
   keys k = (agent_of (begun o) k).key
 
+  abbrev alone_keys : ℕ → Option Text
+  alone_keys k = (agent_of (begun_alone o p) k).key
+
   -- What is known of the party's own state.
   record Beside (s t : State Text Own) : Type 0 where
     alike : Alike p s t
-    order : InOrder t
-    files : OwnFiles t
+    kept : Kept alone_keys t
 
   key-plain : (s : State Text Own) → Kept keys s → (k : ℕ) → IsPlain (agent_of s k).key
   key-plain s h k = subst IsPlain (sym (h.keyed k)) (plain k)
@@ -128,15 +177,13 @@ module _ (o : Opening) (p : Party) (plain : (k : ℕ) → IsPlain (agent_of (beg
                   let seen = evictable-alike p now t beside.alike unit own may in
                   let rest = alone-from s (gone ++ unit ∷ []) (evicted t unit) es next.1 kept (record {
                     alike = subst (λ x. Alike p x (evicted t unit)) (sym more) (evicted-both p now t beside.alike unit);
-                    order = evicted-ordered t unit beside.order;
-                    files = beside.files;
+                    kept = kept-evicted alone_keys (unit ∷ []) t beside.kept;
                   }) in
                   enters t e (project o p es) (Some unit) is (record { entry = next.0; root = seen.root; best_effort = seen.best_effort; unlocked = seen.unlocked }, rest)
               | false ↦ λ out.
                   alone-from s (gone ++ unit ∷ []) t es next.1 kept (record {
                     alike = subst (λ x. Alike p x t) (sym more) (alike-then p (evicted now unit) now t (evicted-apart p now unit out) beside.alike);
-                    order = beside.order;
-                    files = beside.files;
+                    kept = beside.kept;
                   })
             ] refl
         | None ↦ λ is next.
@@ -149,30 +196,31 @@ module _ (o : Opening) (p : Party) (plain : (k : ℕ) → IsPlain (agent_of (beg
             elim (is_member o p k) as (λ b. is_member o p k ≡ b → AloneFrom t (cond b (e ∷ project o p es) (project o p es))) [
               | true ↦ λ inside.
                   let member : same_party p (party_with (keys k) k) ≡ true = first_so (same_party p (party_with (keys k) k)) (not (k == 0)) inside in
+                  let keyed : (agent_of t k).key ≡ keys k = beside.kept.keyed k ∙ alone-own p o k member in
                   let own : same_party p (party_with (agent_of s k).key k) ≡ true = ap (λ x. same_party p (party_with x k)) (kept.keyed k) ∙ member in
                   let same = fold-apart p gone s (no-own p s k own [] gone (call-front s gone e call)) in
                   let here : Ours p (keys k) k s t = record {
                     alike = alike-then p s now t (alike-back p now s same) beside.alike;
                     left = kept.order;
-                    right = beside.order;
+                    right = beside.kept.order;
                     keyed = kept.keyed k;
+                    beside = keyed;
                   } in
-                  let there : Ours p (keys k) k now t = record { alike = beside.alike; left = before.order; right = beside.order; keyed = before.keyed k } in
-                  let reads = ours-reads p (keys k) k s t member here kept.files beside.files in
-                  let reads_now = ours-reads p (keys k) k now t member there before.files beside.files in
+                  let there : Ours p (keys k) k now t = record { alike = beside.alike; left = before.order; right = beside.kept.order; keyed = before.keyed k; beside = keyed } in
+                  let reads = ours-reads p (keys k) k s t member here kept.files beside.kept.files in
+                  let reads_now = ours-reads p (keys k) k now t member there before.files beside.kept.files in
+                  let may_too : may_enter t k e.op ≡ true = sym (may-same k now t reads_now e.op (λ asks. ours-stuck p (keys k) k now t member there)) ∙ may in
                   let both = after-both p (keys k) now t k e.op e.reply above (plain k) member may before.files (sizes-same k now t reads_now before.files e.op) there in
                   let rest = alone-from (after_reply now k e.op e.reply) [] (after_reply t k e.op e.reply) es next.1 after (record {
                     alike = both.alike;
-                    order = both.right;
-                    files = changed-keeps t k e.op e.reply (sym (may-same k now t reads_now e.op) ∙ may) beside.files;
+                    kept = kept-after alone_keys t k e.op e.reply above (alone-plain p o plain k) may_too beside.kept;
                   }) in
-                  enters t e (project o p es) None is (call-alone s t gone e reads (key-plain s kept k) kept.files call, rest)
+                  enters t e (project o p es) None is (call-alone s t gone e reads (λ asks. ours-stuck p (keys k) k s t member here) (key-plain s kept k) kept.files call, rest)
               | false ↦ λ outside.
                   let stranger = not_none (keys k) k p above outside in
                   alone-from (after_reply now k e.op e.reply) [] t es next.1 after (record {
                     alike = alike-then p (after_reply now k e.op e.reply) now t (after-apart p keys now k e.op e.reply above (plain k) stranger may before) beside.alike;
-                    order = beside.order;
-                    files = beside.files;
+                    kept = beside.kept;
                   })
             ] refl
       ] refl legal
@@ -186,37 +234,24 @@ order-begun : (rows : List (Place × Stored)) → is_sorted place_cmp (map (λ e
 order-begun [] = refl
 order-begun (e ∷ es) = λ i. rows-begun e.0 es i && order-begun es i
 
-true_test : (b : Bool) → b ≡ true → T b
-true_test b h = subst T (sym h) tt
-
-key-plain_of : (key : Option Text) → has_origin_key key ≡ true → IsPlain key
-key-plain_of None h = λ origin bucket is. cc
-key-plain_of (Some key) h = λ origin bucket is.
-    let same : origin_of (unit_of key bucket) ≡ key = origin_of-unit_of key bucket (plain-from_is_origin key h) in
-    let at : is_callers (Some key) (unit_of key bucket) ≡ true = ap (same_text key) same ∙ nat_list_eq_equiv.refl key in
-    ap (λ o. is_callers (Some key) (unit_of o bucket)) (inside key origin is) ∙ at
-  where
-    inside : (a b : Text) → Some a ≡ Some b → b ≡ a
-    inside a b e = cc
-
-key-at_begun : (agents : List Who) (i : ℕ) → All (λ who. IsTrue (has_origin_key who.key)) agents → has_origin_key (unwrap_or (slice_get (map agent_in agents) i) nobody).key ≡ true
+key-at_begun : (agents : List Who) (i : ℕ) → All (λ who. IsTrue (has_origin_key who.key)) agents → has_origin_key (unwrap_or (slice_get (map agent_begun agents) i) nobody).key ≡ true
 key-at_begun [] i h = refl
 key-at_begun (w ∷ agents) zero h = All-head (λ who. IsTrue (has_origin_key who.key)) w agents h
 key-at_begun (w ∷ agents) (suc i) h = key-at_begun agents i (All-tail (λ who. IsTrue (has_origin_key who.key)) w agents h)
 
-keys-plain : (o : Opening) → IsInOrder o → (k : ℕ) → IsPlain (agent_of (begun o) k).key
+pub keys-plain : (o : Opening) → IsInOrder o → (k : ℕ) → IsPlain (agent_of (begun o) k).key
 keys-plain o h zero = key-plain_of None refl
 keys-plain o h (suc i) = key-plain_of (agent_of (begun o) (suc i)).key (key-at_begun o.agents i h.keys)
 
 module _ (p : Party) where
-  abbrev kept_by : Bool → Agent Own → Agent Own
-  kept_by b a = elim b [ true ↦ a | false ↦ record a { live = false } ]
+  seen-nobody : (n : ℕ) → seen p n nobody ≡ nobody
+  seen-nobody n = elim (is_ours p n None) as (λ b. seen_by b nobody ≡ nobody) [ true ↦ refl | false ↦ refl ]
 
   kept-seen : (n : ℕ) (a : Agent Own) → seen p n a ≡ seen p n (kept_agent p (n, a))
   kept-seen n a =
-      elim (is_ours p n a.key) as (λ b. is_ours p n a.key ≡ b → seen p n a ≡ seen p n (kept_by b a)) [
+      elim (is_ours p n a.key) as (λ b. is_ours p n a.key ≡ b → seen p n a ≡ seen p n (kept_by p b a)) [
         | true ↦ λ is. refl
-        | false ↦ λ is. ap (λ b. seen_by b a) is ∙ sym (ap (λ b. seen_by b (record a { live = false })) is)
+        | false ↦ λ is. ap (λ b. seen_by b a) is ∙ sym (seen-nobody n)
       ] refl
 
   agents-kept : (n : ℕ) (agents : List (Agent Own)) → seen_from p n agents ≡ seen_from p n (map (kept_agent p) (enumerate_from n agents))
@@ -224,7 +259,7 @@ module _ (p : Party) where
   agents-kept n (a ∷ agents) = λ i. kept-seen n a i ∷ agents-kept (n + 1) agents i
 
   files-kept_one : (n : ℕ) (a : Agent Own) → AgentKeeps HasOwnFile a → AgentKeeps HasOwnFile (kept_agent p (n, a))
-  files-kept_one n a h = elim (is_ours p n a.key) as (λ b. AgentKeeps HasOwnFile (kept_by b a)) [ true ↦ h | false ↦ h ]
+  files-kept_one n a h = elim (is_ours p n a.key) as (λ b. AgentKeeps HasOwnFile (kept_by p b a)) [ true ↦ h | false ↦ All-nil (HasOwnFile None) ]
 
   files-kept : (n : ℕ) (agents : List (Agent Own)) → All (AgentKeeps HasOwnFile) agents → All (AgentKeeps HasOwnFile) (map (kept_agent p) (enumerate_from n agents))
   files-kept n [] h = All-nil (AgentKeeps HasOwnFile)
@@ -239,17 +274,26 @@ module _ (p : Party) where
     modes = λ unit own. sym (any-within (is_partys p) (same_text unit) (λ x same. ap (is_partys p) (sym (equal_texts unit x (sym same))) ∙ own) (begun o).persistent);
     tags = refl;
     agents = agents-kept 1 (begun o).agents;
-    limits = refl;
+    quota = refl;
   }
+
+-- What holds where a run begins.
+pub begun-kept : (o : Opening) → IsInOrder o → Kept (λ k. (agent_of (begun o) k).key) (begun o)
+begun-kept o order = record {
+  files = own_files-begun o;
+  order = true_test _ (order-begun o.stored.rows ∙ order.rows);
+  keyed = λ k. refl;
+}
 
 -- Separation of origins.
 pub each-alone : EachPartyRunsAlone
 each-alone o p es order legal =
-    let rise : InOrder (begun o) = true_test _ (order-begun o.stored.rows ∙ order.rows) in
-    alone-from o p (keys-plain o order) (begun o) [] (begun_alone o p) es legal
-    (record { files = own_files-begun o; order = rise; keyed = λ k. refl })
+    alone-from o p (keys-plain o order) (begun o) [] (begun_alone o p) es legal (begun-kept o order)
     (record {
       alike = alike-begun p o;
-      order = is_sorted-where_key place_cmp (λ x. is_partys p x.0) (begun o).rows rise;
-      files = files-kept p 1 (begun o).agents (own_files-begun o);
+      kept = record {
+        files = files-kept p 1 (begun o).agents (own_files-begun o);
+        order = is_sorted-where_key place_cmp (λ x. is_partys p x.0) (begun o).rows (begun-kept o order).order;
+        keyed = λ k. refl;
+      };
     })

@@ -80,7 +80,7 @@ module _ (p : Party) (s t : State Text Own) (a : Alike p s t) where
     modes = a.modes;
     tags = a.tags;
     agents = a.agents;
-    limits = a.limits;
+    quota = a.quota;
   }
 
   pub file-both : (place : Place) (change : FileRow Text → FileRow Text) → is_partys p place.0 ≡ true → Alike p (with_file s place change) (with_file t place change)
@@ -92,7 +92,7 @@ module _ (p : Party) (s t : State Text Own) (a : Alike p s t) where
     modes = a.modes;
     tags = a.tags;
     agents = a.agents;
-    limits = a.limits;
+    quota = a.quota;
   }
 
   pub without-both : (place : Place) → Alike p (without s place) (without t place)
@@ -104,7 +104,7 @@ module _ (p : Party) (s t : State Text Own) (a : Alike p s t) where
     modes = a.modes;
     tags = a.tags;
     agents = a.agents;
-    limits = a.limits;
+    quota = a.quota;
   }
 
   pub agent-both : (k : ℕ) (x : Agent Own) → Alike p (with_agent s k x) (with_agent t k x)
@@ -116,7 +116,7 @@ module _ (p : Party) (s t : State Text Own) (a : Alike p s t) where
         ours-set p 1 (k - 1) s.agents x
         ∙ ap (λ xs. slice_set xs (k - 1) (seen p (1 + (k - 1)) x)) a.agents
         ∙ sym (ours-set p 1 (k - 1) t.agents x);
-    limits = a.limits;
+    quota = a.quota;
   }
 
   pub mode-both : (unit : Text) → Alike p (with_mode s unit) (with_mode t unit)
@@ -125,7 +125,7 @@ module _ (p : Party) (s t : State Text Own) (a : Alike p s t) where
     modes = λ u own. any-insert u unit s.persistent ∙ ap (λ b. same_text u unit || b) (a.modes u own) ∙ sym (any-insert u unit t.persistent);
     tags = a.tags;
     agents = a.agents;
-    limits = a.limits;
+    quota = a.quota;
   }
 
   pub tag-both : (party : Party) (tag : Text) → Alike p (with_tag s party tag) (with_tag t party tag)
@@ -137,7 +137,7 @@ module _ (p : Party) (s t : State Text Own) (a : Alike p s t) where
         ∙ ap (λ xs. xs ++ filter (is_partys_tag p) (record { party = party; tag = tag } ∷ [])) a.tags
         ∙ sym (filter-append (is_partys_tag p) t.posted (record { party = party; tag = tag } ∷ []));
     agents = a.agents;
-    limits = a.limits;
+    quota = a.quota;
   }
 
 -- A change elsewhere.
@@ -148,7 +148,7 @@ module _ (p : Party) (s : State Text Own) where
     modes = λ u own. refl;
     tags = refl;
     agents = refl;
-    limits = refl;
+    quota = refl;
   }
 
   pub file-apart : (place : Place) (change : FileRow Text → FileRow Text) → is_partys p place.0 ≡ false → Alike p (with_file s place change) s
@@ -157,7 +157,7 @@ module _ (p : Party) (s : State Text Own) where
     modes = λ u own. refl;
     tags = refl;
     agents = refl;
-    limits = refl;
+    quota = refl;
   }
 
   not_within : (place : Place) (unit : Text) (path : List Text) → is_partys p place.0 ≡ false → is_partys p unit ≡ true → not (is_within place (unit, path)) ≡ true
@@ -173,7 +173,7 @@ module _ (p : Party) (s : State Text Own) where
     modes = λ u own. refl;
     tags = refl;
     agents = refl;
-    limits = refl;
+    quota = refl;
   }
 
   pub mode-apart : (unit : Text) → is_partys p unit ≡ false → Alike p (with_mode s unit) s
@@ -182,7 +182,7 @@ module _ (p : Party) (s : State Text Own) where
     modes = λ u own. any-insert u unit s.persistent ∙ ap (λ b. b || is_persistent s u) (other u own);
     tags = refl;
     agents = refl;
-    limits = refl;
+    quota = refl;
   }
     where
       other : (u : Text) → is_partys p u ≡ true → same_text u unit ≡ false
@@ -201,7 +201,7 @@ module _ (p : Party) (s : State Text Own) where
         ∙ ap (λ b. filter (is_partys_tag p) s.posted ++ cond b (record { party = party; tag = tag } ∷ []) []) is
         ∙ append-nil (filter (is_partys_tag p) s.posted);
     agents = refl;
-    limits = refl;
+    quota = refl;
   }
 
 sub_one : (i : ℕ) → suc i - 1 ≡ i
@@ -219,13 +219,25 @@ agent-apart p s i x is same = record {
   agents =
       ap (λ j. seen_from p 1 (slice_set s.agents j x)) (sub_one i)
       ∙ other-set p 1 i s.agents x (ap (λ j. is_ours p j (agent_at s.agents i).key) (one_more i) ∙ is) same;
-  limits = refl;
+  quota = refl;
 }
 
 key_set : (agents : List (Agent Own)) (i : ℕ) (x : Agent Own) (key : Option Text) → x.key ≡ key → (agent_at agents i).key ≡ key → (agent_at (slice_set agents i x) i).key ≡ key
 key_set [] i x key new old = old
 key_set (a ∷ agents) zero x key new old = new
 key_set (a ∷ agents) (suc i) x key new old = key_set agents i x key new old
+
+key_sets : (agents : List (Agent Own)) (i j : ℕ) (x : Agent Own) → x.key ≡ (agent_at agents i).key → (agent_at (slice_set agents i x) j).key ≡ (agent_at agents j).key
+key_sets [] i j x same = refl
+key_sets (a ∷ agents) zero zero x same = same
+key_sets (a ∷ agents) zero (suc j) x same = refl
+key_sets (a ∷ agents) (suc i) zero x same = refl
+key_sets (a ∷ agents) (suc i) (suc j) x same = key_sets agents i j x same
+
+-- Every agent keeps its key where one is changed that keeps its own.
+pub keys-act : (s : State Text Own) (i : ℕ) (x : Agent Own) → x.key ≡ (agent_of s (suc i)).key → (j : ℕ) → (agent_of (with_agent s (suc i) x) j).key ≡ (agent_of s j).key
+keys-act s i x same zero = refl
+keys-act s i x same (suc j) = ap (λ n. (agent_at (slice_set s.agents n x) j).key) (sub_one i) ∙ key_sets s.agents i j x same
 
 -- An agent keeps its key.
 pub key-acts : (s : State Text Own) (i : ℕ) (x : Agent Own) (key : Option Text) → x.key ≡ key → (agent_of s (suc i)).key ≡ key → (agent_of (with_agent s (suc i) x) (suc i)).key ≡ key

@@ -50,8 +50,9 @@ AreAskedAlike (e ∷ es) (f ∷ fs) = IsAskedAlike e f × AreAskedAlike es fs
 abbrev pub replies : List Entry → List Reply
 replies es = map (λ e. e.reply) es
 
--- Two openings in order with the same agents, limits, and rows and modes of a party, and a legal history from each in
--- which the party asks the same, loses the same units, and is told the same of what is shared.
+-- Two openings in order with the same quota, as many agents, and the same agents, rows and modes of a party, and a
+-- legal history from each in which the party asks the same, loses the same units, and is told the same of what is
+-- shared. Of other agents they may have other keys and grants, and the area and the blocks may be other ones.
 pub record AreSameToParty (party : Party) (o q : Opening) (es fs : List Entry) : Type 0 where
   pub order : IsInOrder o
   pub other_order : IsInOrder q

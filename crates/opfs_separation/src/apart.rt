@@ -12,9 +12,10 @@ pub fn each_party_runs_alone()
     ensures { EachPartyRunsAlone }
 {}
 
-/// In two histories with the same agents and limits, in which a party begins with the same rows and modes, asks the
-/// same, loses the same units by eviction, and is told the same refusals of shared room and disk faults, each of its
-/// calls is answered the same. What other origins hold, and all that their agents do, may differ.
+/// In two histories with the same quota and as many agents, in which a party begins with the same agents, rows and
+/// modes, asks the same, loses the same units by eviction, and is told the same refusals of shared room and disk faults,
+/// each of its calls is answered the same. Which other agents there are, what their origins hold, all that they do, the
+/// size of an area and the number of blocks may differ.
 pub fn others_leave_no_trace()
     ensures { OthersLeaveNoTrace }
 {}

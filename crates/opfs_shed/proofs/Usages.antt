@@ -3,7 +3,7 @@ use Rattle.std.proofs.Common.{◌≡◌, ℕ, ◌+◌, ◌-◌, ◌^◌, ◌<◌
 use Rattle.std.proofs.lemmas.List.Sums.{sum_by-cons}
 use Rattle.std.proofs.lemmas.Bool.{cases_lt}
 use Rattle.std.specs.Map.{lookup, set_value}
-use Rattle.std.specs.Prelude.{Vec}
+use Rattle.std.specs.Prelude.{Vec, if◌then◌else◌}
 use Rattle.std.specs.declared.alloc.Global.{Global}
 use Rattle.std.specs.Ordering.{is_eq, match_ordering}
 use Rattle.std.specs.BTreeMap.{insert_entry}
@@ -13,9 +13,9 @@ use Rattle.std.specs.Cmp.Lexicographic.{same_text as equal_texts, texts_ties, by
 use Rattle.opfs_base.specs.Texts.{Text, same_text}
 use Rattle.opfs_base.specs.Units.{origin_of}
 use Rattle.opfs_shed.specs.declared.shed.Bucket.{Bucket}
-use Rattle.opfs_shed.specs.Buckets.{Buckets, text_cmp, is_unit, first_bucket, bucket_at, with_bucket, usage_of, whole_usage}
+use Rattle.opfs_shed.specs.Buckets.{Buckets, text_cmp, is_unit, first_bucket, bucket_at, has_unit, with_bucket, usage_of, part_of, whole_usage}
 use Rattle.opfs_shed.specs.Tied.{Totals, is_origin, total_in, IsTied}
-use Rattle.opfs_shed.proofs.Values.{lookup-set_same, lookup-set_other, is_some-set_value}
+use Rattle.opfs_shed.proofs.Values.{lookup-set_same, lookup-set_other, is_some-set_value, set_value-none}
 
 -- What a unit's bucket adds to the usage of an origin.
 abbrev pub part : Text → Text → Bucket → ℕ
@@ -241,12 +241,12 @@ tied_put totals totals' es es' unit origin v b total is_tied is found sum new_to
     rw new_totals (rw new_es (rw is (tied_after totals es unit v b total is_tied found (omega (arith, least)))))
 
 -- the sums that a greater bucket asks for
-pub room_to_add : (es : Buckets) (unit : Text) (need : ℕ) → whole_usage es + need < 2 ^ 64
+pub room_to_add : (es : Buckets) (unit : Text) (need : ℕ) → usage_of (origin_of unit) es + need < 2 ^ 64
     → usage_of (origin_of unit) es + ((bucket_at es unit).usage + need) < 2 ^ 64 + (bucket_at es unit).usage
-room_to_add es unit need fits = omega (arith, usage_of-le (origin_of unit) es)
+room_to_add es unit need fits = omega arith
 
-pub room_in_bucket : (es : Buckets) (unit : Text) (need : ℕ) → whole_usage es + need < 2 ^ 64 → (bucket_at es unit).usage + need < 2 ^ 64
-room_in_bucket es unit need fits = omega (arith, usage_of-le (origin_of unit) es, bucket_at-le unit es)
+pub room_in_bucket : (es : Buckets) (unit : Text) (need : ℕ) → usage_of (origin_of unit) es + need < 2 ^ 64 → (bucket_at es unit).usage + need < 2 ^ 64
+room_in_bucket es unit need fits = omega (arith, bucket_at-le unit es)
 
 -- a sum that fits where the bucket does not grow, or where the whole has room for it
 pub room_put : (totals : Totals) (es : Buckets) (unit origin : Text) (v : Bucket) (b : ℕ) → IsTied totals es → origin ≡ origin_of unit → lookup (is_unit unit) es ≡ Some v
@@ -262,3 +262,60 @@ room_put totals es unit origin v b is_tied is found small room fits =
 pub none_from : {X : Type 0} (o : Option X) → is_some o ≡ false → o ≡ None
 none_from None is_none = refl
 none_from (Some x) is_none = absurd cc
+
+-- ---- the usage of each origin after a unit's bucket changed
+
+part_is : (origin unit : Text) (b : Bucket) → part origin unit b ≡ part_of origin unit b.usage
+part_is origin unit b = refl
+
+-- What is left and what came, beside what was there.
+moved : (origin unit : Text) (es : Buckets) (b : Bucket) → has_unit es unit ≡ true
+    → usage_of origin (with_bucket es unit b) + part_of origin unit (bucket_at es unit).usage ≡ usage_of origin es + part_of origin unit b.usage
+moved origin unit es b has =
+    elim (lookup (is_unit unit) es) as (λ o. lookup (is_unit unit) es ≡ o → is_some o ≡ true
+    → usage_of origin (with_bucket es unit b) + part_of origin unit (unwrap_or o first_bucket).usage ≡ usage_of origin es + part_of origin unit b.usage) [
+      | None ↦ λ told some. cc
+      | Some v ↦ λ told some. usage_of-with_bucket origin unit v b es told
+    ] refl has
+
+-- A bucket that is changed in a map that does not have it.
+unmoved : (unit : Text) (es : Buckets) (b : Bucket) → has_unit es unit ≡ false → (with_bucket es unit b ≡ es) × ((bucket_at es unit).usage ≡ 0)
+unmoved unit es b has = let none = none_from (lookup (is_unit unit) es) has in (set_value-none (is_unit unit) es b none, ap (λ (o : Option Bucket). (unwrap_or o first_bucket).usage) none)
+
+sum_part : (origin unit : Text) (a b : ℕ) → part_of origin unit (a + b) ≡ part_of origin unit a + part_of origin unit b
+sum_part origin unit a b = elim (same_text origin (origin_of unit)) as (λ t. (if t then (a + b) else 0) ≡ (if t then a else 0) + (if t then b else 0)) [ true ↦ refl | false ↦ omega arith ]
+
+none_part : (origin unit : Text) → part_of origin unit 0 ≡ 0
+none_part origin unit = elim (same_text origin (origin_of unit)) as (λ t. ◌≡◌ {A = ℕ} (if t then 0 else 0) 0) [ true ↦ refl | false ↦ refl ]
+
+module _ (unit : Text) (es new : Buckets) where
+  pub usage_added : (need : ℕ) → has_unit es unit ≡ true → new ≡ with_bucket es unit (record (bucket_at es unit) { usage = (bucket_at es unit).usage + need })
+      → (origin : Text) → usage_of origin new ≡ usage_of origin es + part_of origin unit need
+  usage_added need has is origin =
+      omega (arith, ap (usage_of origin) is, moved origin unit es (record (bucket_at es unit) { usage = (bucket_at es unit).usage + need }) has, sum_part origin unit (bucket_at es unit).usage need)
+
+  pub usage_freed : (n : ℕ) → n ≤ (bucket_at es unit).usage → new ≡ with_bucket es unit (record (bucket_at es unit) { usage = (bucket_at es unit).usage - n })
+      → (origin : Text) → usage_of origin new + part_of origin unit n ≡ usage_of origin es
+  usage_freed n le is origin =
+      let b : Bucket = record (bucket_at es unit) { usage = (bucket_at es unit).usage - n } in
+      elim (has_unit es unit) as (λ t. has_unit es unit ≡ t → usage_of origin new + part_of origin unit n ≡ usage_of origin es) [
+        | true ↦ λ has.
+            let whole : (bucket_at es unit).usage ≡ ((bucket_at es unit).usage - n) + n = omega arith in
+            omega (arith, ap (usage_of origin) is, moved origin unit es b has, ap (part_of origin unit) whole, sum_part origin unit ((bucket_at es unit).usage - n) n)
+        | false ↦ λ has.
+            let kept = unmoved unit es b has in
+            let nought : n ≡ 0 = omega (arith, kept.1) in
+            omega (arith, ap (usage_of origin) (is ∙ kept.0), ap (part_of origin unit) nought, none_part origin unit)
+      ] refl
+
+  pub usage_cleared : new ≡ with_bucket es unit first_bucket → (origin : Text) → usage_of origin new + part_of origin unit (bucket_at es unit).usage ≡ usage_of origin es
+  usage_cleared is origin =
+      elim (has_unit es unit) as (λ t. has_unit es unit ≡ t → usage_of origin new + part_of origin unit (bucket_at es unit).usage ≡ usage_of origin es) [
+        | true ↦ λ has. omega (arith, ap (usage_of origin) is, moved origin unit es first_bucket has, none_part origin unit)
+        | false ↦ λ has.
+            let kept = unmoved unit es first_bucket has in
+            omega (arith, ap (usage_of origin) (is ∙ kept.0), ap (part_of origin unit) kept.1, none_part origin unit)
+      ] refl
+
+  pub usage_same : has_unit es unit ≡ true → new ≡ with_bucket es unit (record (bucket_at es unit) { persistent = true }) → (origin : Text) → usage_of origin new ≡ usage_of origin es
+  usage_same has is origin = omega (arith, ap (usage_of origin) is, moved origin unit es (record (bucket_at es unit) { persistent = true }) has)

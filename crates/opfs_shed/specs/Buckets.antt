@@ -1,6 +1,6 @@
 -- Buckets and their usage (Storage: storage bucket, bucket mode; storage usage, storage quota). Counts in blocks, units
 -- and the test of the quota are this project's own.
-use Rattle.std.specs.Prelude.{ℕ, Bool, true, false, ◌&&◌, List, Option, None, Some, option_map, sum_by, filter, find, unwrap_or, is_some}
+use Rattle.std.specs.Prelude.{ℕ, Bool, true, false, ◌&&◌, List, Option, None, Some, option_map, sum_by, filter, find, unwrap_or, is_some, if◌then◌else◌}
 use Rattle.std.specs.Map.{lookup, set_value}
 use Rattle.std.specs.BTreeMap.{is_at, insert_entry}
 use Rattle.std.specs.Ordering.{nat_cmp, is_lt}
@@ -45,6 +45,10 @@ usage_of origin buckets = sum_by (λ e. e.1.usage) (filter (λ e. same_text orig
 -- The blocks that all units use together.
 abbrev pub whole_usage : Buckets → ℕ
 whole_usage buckets = sum_by (λ e. e.1.usage) buckets
+
+-- What so many blocks of a unit are for an origin: all of them for the unit's own, none for another.
+abbrev pub part_of : Text → Text → ℕ → ℕ
+part_of origin unit blocks = if same_text origin (origin_of unit) then blocks else 0
 
 -- The quota of each origin, and the buckets.
 pub record Storage : Type 0 where

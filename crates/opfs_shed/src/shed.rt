@@ -5,7 +5,7 @@ ghost use Rattle.std.specs.List.Sorted.{IsStrictlySortedBy};
 ghost use Rattle.std.specs.Option.{option_copied};
 ghost use Rattle.opfs_base.specs.Texts.{Text};
 ghost use Rattle.opfs_base.specs.Units.{origin_of};
-ghost use Rattle.opfs_shed.specs.Buckets.{text_cmp, bucket_at, has_unit, usage_of, whole_usage, first_bucket, changed, with_unit, persistent_past};
+ghost use Rattle.opfs_shed.specs.Buckets.{text_cmp, bucket_at, has_unit, usage_of, part_of, first_bucket, changed, with_unit, persistent_past};
 
 use crate::totals::{add_total, bucket_at, set_bucket, set_total, total_of};
 use opfs_base::{Key, origin_of};
@@ -123,8 +123,9 @@ impl Shed {
     /// Lets a unit use so many blocks more. Takes no memory.
     pub fn add(&mut self, key: &Key, need: u64)
         requires there { IsTrue (has_unit self.old.buckets key.now) }
-        requires fits { whole_usage self.old.buckets + need < 2 ^ 64 }
-        ensures { self.new ≡ changed self.old key.now (record (bucket_at self.old.buckets key.now) { usage = (bucket_at self.old.buckets key.now).usage + need }) }
+        requires fits { usage_of (origin_of key.now) self.old.buckets + need < 2 ^ 64 }
+        ensures bucket { self.new ≡ changed self.old key.now (record (bucket_at self.old.buckets key.now) { usage = (bucket_at self.old.buckets key.now).usage + need }) }
+        ensures usage { (origin : Text) → usage_of origin self.new.buckets ≡ usage_of origin self.old.buckets + part_of origin key.now need }
     {
         let Bucket { persistent, usage } = bucket_at(&self.buckets, key);
         let usage = usage + need;
@@ -134,7 +135,8 @@ impl Shed {
     /// Takes so many blocks off what a unit uses. Takes no memory.
     pub fn free(&mut self, key: &Key, n: u64)
         requires { n ≤ (bucket_at self.old.buckets key.now).usage }
-        ensures { self.new ≡ changed self.old key.now (record (bucket_at self.old.buckets key.now) { usage = (bucket_at self.old.buckets key.now).usage - n }) }
+        ensures bucket { self.new ≡ changed self.old key.now (record (bucket_at self.old.buckets key.now) { usage = (bucket_at self.old.buckets key.now).usage - n }) }
+        ensures usage { (origin : Text) → usage_of origin self.new.buckets + part_of origin key.now n ≡ usage_of origin self.old.buckets }
     {
         let Bucket { persistent, usage } = bucket_at(&self.buckets, key);
         let usage = usage - n;
@@ -143,7 +145,8 @@ impl Shed {
 
     /// Makes a unit's bucket as it first is: best-effort, of no blocks. Takes no memory.
     pub fn clear(&mut self, key: &Key)
-        ensures { self.new ≡ changed self.old key.now first_bucket }
+        ensures bucket { self.new ≡ changed self.old key.now first_bucket }
+        ensures usage { (origin : Text) → usage_of origin self.new.buckets + part_of origin key.now (bucket_at self.old.buckets key.now).usage ≡ usage_of origin self.old.buckets }
     {
         self.put(key, FIRST);
     }
@@ -151,11 +154,22 @@ impl Shed {
     /// Makes a unit's mode persistent. Takes no memory.
     pub fn set_persistent(&mut self, key: &Key)
         requires { IsTrue (has_unit self.old.buckets key.now) }
-        ensures { self.new ≡ changed self.old key.now (record (bucket_at self.old.buckets key.now) { persistent = true }) }
+        ensures bucket { self.new ≡ changed self.old key.now (record (bucket_at self.old.buckets key.now) { persistent = true }) }
+        ensures usage { (origin : Text) → usage_of origin self.new.buckets ≡ usage_of origin self.old.buckets }
+        ensures ordered { IsStrictlySortedBy text_cmp (map (λ bucket. bucket.0) self.old.buckets) }
     {
+        self.in_order();
         let Bucket { usage, .. } = bucket_at(&self.buckets, key);
         let persistent = true;
         self.put(key, Bucket { persistent, usage });
+    }
+
+    /// The buckets stand in the order of their units' texts, one for each. Says so, and does next to nothing.
+    pub fn in_order(&self)
+        ensures { IsStrictlySortedBy text_cmp (map (λ bucket. bucket.0) self.now.buckets) }
+    {
+        let all: (Bound<&Key>, Bound<&Key>) = (Bound::Unbounded, Bound::Unbounded);
+        let _buckets = self.buckets.range(all);
     }
 
     /// The least persistent unit above a given one, or the least of all; None where there is none.

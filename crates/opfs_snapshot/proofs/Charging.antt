@@ -18,7 +18,7 @@ use Rattle.opfs_tree.specs.declared.row.Row.{Row}
 use Rattle.opfs_tree.specs.declared.row.Row.TheVariants as row
 use Rattle.opfs_replay.specs.Built.{IsSoundRow}
 use Rattle.opfs_replay.specs.Sums.{row_charge, key_bytes, charge_of}
-use Rattle.opfs_snapshot.specs.Written.{content_bytes, row_bytes, rows_bytes, units_bytes}
+use Rattle.opfs_snapshot.specs.Written.{content_bytes, row_bytes, rows_bytes, units_bytes, stored_row}
 use Rattle.opfs_snapshot.proofs.Holding.{few_extents}
 
 content_by : Bool → Text → List Text → FileRow → List ℕ
@@ -29,7 +29,7 @@ unfolding content_by
 content_below unit path f n le = elim (f.length == 0) as (λ t. length (content_by t unit path f) ≤ n) [ true ↦ omega arith | false ↦ le ]
 
 -- A row's bytes.
-pub row_below : (size : ℕ) (place : Place) (r : Row) → IsSoundRow size r → length (row_bytes place r) ≤ row_charge New place r
+pub row_below : (size : ℕ) (place : Place) (r : Row) → IsSoundRow size (stored_row r) → length (row_bytes place r) ≤ row_charge New place r
 unfolding spelled
 row_below size (unit, []) row.Dir sound = omega (arith, length_spelling (MakeRoot unit))
 row_below size (unit, name ∷ names) row.Dir sound = omega (arith, length_spelling (MakeDir unit (name ∷ names)))
@@ -38,7 +38,7 @@ row_below size (unit, path) (row.File f) sound =
     let content : length (spelling New (Content unit path f.stamp f.length f.extents)) ≤ 23 + unit_bytes unit + path_bytes path + 8 * blocks f.length = omega (arith, length_spelling (Content unit path f.stamp f.length f.extents), few, sound.whole) in
     omega (arith, length-append (spelling New (MakeFile unit path f.stamp)) (content_bytes unit path f), length_spelling (MakeFile unit path f.stamp), content_below unit path f _ content)
 
-pub rows_below : (size : ℕ) (rows : Rows) → AllByRecursion (λ e. IsSoundRow size e.1) rows → length (rows_bytes rows) ≤ sum_by (λ e. row_charge New e.0 e.1) rows
+pub rows_below : (size : ℕ) (rows : Rows) → AllByRecursion (λ e. IsSoundRow size (stored_row e.1)) rows → length (rows_bytes rows) ≤ sum_by (λ e. row_charge New e.0 e.1) rows
 rows_below size [] sound = omega arith
 rows_below size (e ∷ es) sound =
     omega (arith, length-append (row_bytes e.0 e.1) (rows_bytes es), row_below size e.0 e.1 sound.0, rows_below size es sound.1, sum_by-cons (λ (x : Place × Row). row_charge New x.0 x.1) e es)
@@ -64,6 +64,6 @@ unfolding charge_of
 charge_parts rows units = refl
 
 -- What is written for sound rows and for units is no longer than their charge.
-pub written_below : (size : ℕ) (rows : Rows) (units : List Text) → AllByRecursion (λ e. IsSoundRow size e.1) rows → length (rows_bytes rows ++ units_bytes units) ≤ charge_of New (record { rows = rows; persistent = units })
+pub written_below : (size : ℕ) (rows : Rows) (units : List Text) → AllByRecursion (λ e. IsSoundRow size (stored_row e.1)) rows → length (rows_bytes rows ++ units_bytes units) ≤ charge_of New (record { rows = rows; persistent = units })
 unfolding charge_of
 written_below size rows units sound = omega (arith, length-append (rows_bytes rows) (units_bytes units), rows_below size rows sound, units_below units)

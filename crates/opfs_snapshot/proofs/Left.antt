@@ -14,11 +14,11 @@ use Rattle.opfs_tree.specs.Rows.{Rows, rows_above}
 use Rattle.opfs_tree.specs.declared.row.Row.{Row}
 use Rattle.opfs_replay.specs.Built.{IsSoundRow}
 use Rattle.opfs_replay.specs.Sums.{row_charge}
-use Rattle.opfs_snapshot.specs.Written.{row_bytes, rows_bytes, units_bytes, IsWritableRow}
+use Rattle.opfs_snapshot.specs.Written.{row_bytes, rows_bytes, units_bytes, stored_row, IsWritableRow}
 use Rattle.opfs_snapshot.proofs.Charging.{row_below, persist_len}
 
 abbrev pub AllSound : ℕ → Rows → Type 0
-AllSound size rows = AllByRecursion (λ e. IsSoundRow size e.1) rows
+AllSound size rows = AllByRecursion (λ e. IsSoundRow size (stored_row e.1)) rows
 
 abbrev pub AllWritable : Rows → Type 0
 AllWritable rows = AllByRecursion (λ e. IsWritableRow e.0 e.1) rows
@@ -50,7 +50,7 @@ module _ (rows rest next : Rows) (place : Place) (r : Row) (start now : List ℕ
   }
 
   -- Where there is room for the charge of all, there is for the next row's.
-  pub room_next : (size : ℕ) → AllSound size rows → AllWritable rows → length start + charge_rows rows ≤ room → IsSoundRow size r × IsWritableRow place r × (length now + row_charge New place r ≤ room_now)
+  pub room_next : (size : ℕ) → AllSound size rows → AllWritable rows → length start + charge_rows rows ≤ room → IsSoundRow size (stored_row r) × IsWritableRow place r × (length now + row_charge New place r ≤ room_now)
   room_next size sound good le =
       let before = so_far.fits size sound in
       let cost : charge_rows rest ≡ row_charge New place r + charge_rows next = ap charge_rows is ∙ sum_by-cons (λ (e : Place × Row). row_charge New e.0 e.1) (place, r) next in

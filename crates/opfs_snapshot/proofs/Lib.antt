@@ -7,3 +7,5 @@ pub mod Left
 pub mod Making
 pub mod Ordered
 pub mod Persisting
+pub mod StoredRows
+pub mod Whole

@@ -111,7 +111,7 @@ module _ (size : ℕ) (done : Rows) (unit : Text) (es : Rows) where
     stays_empty : f.length ≡ 0 → empty_file f.stamp ≡ row.File f
     stays_empty none =
         let no_blocks = no_extents f.extents sound.some (sound.whole ∙ ap blocks none) in
-        λ i. row.File (record { length = sym none i; stamp = f.stamp; extents = sym no_blocks i; lock = sym sound.unlocked i })
+        λ i. row.File (record { length = sym none i; stamp = f.stamp; present = sym (sound.present ∙ none) i; present_stamp = sym sound.present_stamp i; extents = sym no_blocks i; lock = sym sound.unlocked i })
 
     gets_content : is_once (named (done ++ ((unit, path), row.File f) ∷ es)) ≡ true
         → tried New size (rows_built (done ++ ((unit, path), empty_file f.stamp) ∷ [])) (Content unit path f.stamp f.length f.extents) ≡ Some (rows_built (done ++ ((unit, path), row.File f) ∷ []))
@@ -122,7 +122,7 @@ module _ (size : ℕ) (done : Rows) (unit : Text) (es : Rows) where
         let there = ap (λ o. is_some (file_of o)) (find_here place old done [] before) in
         let room : can_hold size (named done) f.length f.extents ≡ true = holds size f (named done) (named es) sound (ap is_once (sym (named_split done (place, row.File f) es)) ∙ once) in
         let beside = ap (λ rows. can_hold size (named rows) f.length f.extents) (beside_last place old done before) ∙ room in
-        let whole : row.File (record { length = f.length; stamp = f.stamp; extents = f.extents; lock = open_lock }) ≡ row.File f = λ i. row.File (record { length = f.length; stamp = f.stamp; extents = f.extents; lock = sym sound.unlocked i }) in
+        let whole : row.File (record { length = f.length; stamp = f.stamp; present = f.length; present_stamp = f.stamp; extents = f.extents; lock = open_lock }) ≡ row.File f = λ i. row.File (record { length = f.length; stamp = f.stamp; present = sym sound.present i; present_stamp = sym sound.present_stamp i; extents = f.extents; lock = sym sound.unlocked i }) in
         found size (rows_built (done ++ (place, old) ∷ [])) _ (Content unit path f.stamp f.length f.extents) (and_from _ _ there beside)
         (ap rows_built (change_last place old (stored f.length f.stamp f.extents) done before) ∙ ap (λ (x : Row). rows_built (done ++ (place, x) ∷ [])) whole)
 

@@ -1,15 +1,28 @@
 -- The bytes that build rows and persistent units from nothing, row by row and then unit by unit. This project's own.
-use Rattle.std.specs.Prelude.{ℕ, ◌<◌, ◌≤◌, ◌^◌, ◌==◌, if◌then◌else◌, List, [], ◌∷◌, ◌++◌, length}
+use Rattle.std.specs.Prelude.{ℕ, ◌<◌, ◌≤◌, ◌^◌, ◌==◌, if◌then◌else◌, List, [], ◌∷◌, ◌++◌, length, map}
 use Rattle.std.specs.List.{flat_map, AllByRecursion}
 use Rattle.opfs_base.specs.Texts.{Text}
 use Rattle.opfs_base.specs.Places.{Place}
 use Rattle.opfs_codec.specs.Spelling.{spelling, IsKey, IsPath, AreExtents}
 use Rattle.opfs_codec.specs.declared.change.Format.TheVariants.{New}
 use Rattle.opfs_codec.specs.declared.change.Change.TheVariants.{MakeRoot, MakeDir, MakeFile, Content, Persist}
+use Rattle.opfs_locks.specs.Taking.{open_lock}
+use Rattle.opfs_replay.specs.Built.{Built}
 use Rattle.opfs_tree.specs.Rows.{Rows}
 use Rattle.opfs_tree.specs.declared.row.FileRow.{FileRow}
 use Rattle.opfs_tree.specs.declared.row.Row.{Row}
 use Rattle.opfs_tree.specs.declared.row.Row.TheVariants as row
+
+-- The rows as they are stored: a read gives what was last stored for good, and all locks are open.
+abbrev pub stored_file : FileRow → FileRow
+stored_file f = record f { present = f.length; present_stamp = f.stamp; lock = open_lock }
+
+abbrev pub stored_row : Row → Row
+stored_row row.Dir = row.Dir
+stored_row (row.File f) = row.File (stored_file f)
+
+abbrev pub stored_rows : Rows → Rows
+stored_rows rows = map (λ e. (e.0, stored_row e.1)) rows
 
 -- A directory is made as a root or in a directory.
 abbrev pub dir_bytes : Text → List Text → List ℕ
@@ -32,6 +45,11 @@ rows_bytes rows = flat_map (λ e. row_bytes e.0 e.1) rows
 
 abbrev pub units_bytes : List Text → List ℕ
 units_bytes units = flat_map (λ unit. spelling New (Persist unit)) units
+
+-- The whole: the rows in the order of their places, a file's making and then its content, and then the persistent units
+-- in the order of their texts.
+abbrev pub built_bytes : Built → List ℕ
+built_bytes b = rows_bytes b.rows ++ units_bytes b.persistent
 
 -- A place of a row has a spelling that is read, and its path is no longer than a path may be.
 abbrev pub IsWritablePlace : Place → Type 0

@@ -5,7 +5,7 @@ ghost use Rattle.opfs_codec.specs.declared.change.Format.TheVariants.{New};
 ghost use Rattle.opfs_replay.specs.Applying.{rows_of};
 ghost use Rattle.opfs_replay.specs.Built.{IsSound};
 ghost use Rattle.opfs_replay.specs.Sums.{charge_of, persistent_in};
-ghost use Rattle.opfs_snapshot.specs.Written.{AreWritable};
+ghost use Rattle.opfs_snapshot.specs.Written.{AreWritable, built_bytes, stored_rows};
 
 use crate::rows::{in_directories, write_rows};
 use crate::units::write_units;
@@ -14,17 +14,19 @@ use opfs_tree::Tree;
 use std::alloc::AllocError;
 
 /// Writes the body of a checkpoint's one record in place of what the buffer holds: a list of changes in format 2 that
-/// builds, from nothing, the rows of a tree and the persistent units of a shed. It is no longer than their charge in
+/// builds, from nothing, the rows of a tree as they are stored, whatever their locks are and a read gives now, and the
+/// persistent units of a shed. It is no longer than their charge in
 /// bytes. Takes memory only as the buffer grows, and none where it has room for the charge; where there is no memory,
 /// the buffer is left empty.
 ///
 /// A row or a unit that no list of changes can spell is answered as want of memory too. An image has none.
 pub fn snapshot(tree: &Tree, shed: &Shed, into: &mut Vec<u8>) -> Result<(), AllocError>
-    ensures builds { OnOk result ((size : ℕ) → IsSound size tree.now → rows_of New size (into.new.items ∷ []) ≡ Some (record { rows = tree.now; persistent = persistent_in shed.now.buckets })) }
-    ensures fits { OnOk result ((size : ℕ) → IsSound size tree.now → length into.new.items ≤ charge_of New (record { rows = tree.now; persistent = persistent_in shed.now.buckets })) }
+    ensures bytes { OnOk result (into.new.items ≡ built_bytes (record { rows = tree.now; persistent = persistent_in shed.now.buckets })) }
+    ensures builds { OnOk result ((size : ℕ) → IsSound size (stored_rows tree.now) → rows_of New size (into.new.items ∷ []) ≡ Some (record { rows = stored_rows tree.now; persistent = persistent_in shed.now.buckets })) }
+    ensures fits { OnOk result ((size : ℕ) → IsSound size (stored_rows tree.now) → length into.new.items ≤ charge_of New (record { rows = stored_rows tree.now; persistent = persistent_in shed.now.buckets })) }
     ensures err { OnErr result (into.new.items ≡ []) }
     ensures capacity { vec_capacity into.old ≤ vec_capacity into.new }
-    ensures room { (size : ℕ) → IsSound size tree.now → AreWritable tree.now (persistent_in shed.now.buckets) → charge_of New (record { rows = tree.now; persistent = persistent_in shed.now.buckets }) ≤ vec_capacity into.old → IsTrue (is_ok result) }
+    ensures room { (size : ℕ) → IsSound size (stored_rows tree.now) → AreWritable tree.now (persistent_in shed.now.buckets) → charge_of New (record { rows = stored_rows tree.now; persistent = persistent_in shed.now.buckets }) ≤ vec_capacity into.old → IsTrue (is_ok result) }
 {
     into.clear();
     match write_all(tree, shed, into) {
@@ -39,10 +41,11 @@ pub fn snapshot(tree: &Tree, shed: &Shed, into: &mut Vec<u8>) -> Result<(), Allo
 // Writes the body into an empty buffer.
 fn write_all(tree: &Tree, shed: &Shed, into: &mut Vec<u8>) -> Result<(), AllocError>
     requires { into.old.items ≡ [] }
-    ensures builds { OnOk result ((size : ℕ) → IsSound size tree.now → rows_of New size (into.new.items ∷ []) ≡ Some (record { rows = tree.now; persistent = persistent_in shed.now.buckets })) }
-    ensures fits { OnOk result ((size : ℕ) → IsSound size tree.now → length into.new.items ≤ charge_of New (record { rows = tree.now; persistent = persistent_in shed.now.buckets })) }
+    ensures bytes { OnOk result (into.new.items ≡ built_bytes (record { rows = tree.now; persistent = persistent_in shed.now.buckets })) }
+    ensures builds { OnOk result ((size : ℕ) → IsSound size (stored_rows tree.now) → rows_of New size (into.new.items ∷ []) ≡ Some (record { rows = stored_rows tree.now; persistent = persistent_in shed.now.buckets })) }
+    ensures fits { OnOk result ((size : ℕ) → IsSound size (stored_rows tree.now) → length into.new.items ≤ charge_of New (record { rows = stored_rows tree.now; persistent = persistent_in shed.now.buckets })) }
     ensures capacity { vec_capacity into.old ≤ vec_capacity into.new }
-    ensures room { (size : ℕ) → IsSound size tree.now → AreWritable tree.now (persistent_in shed.now.buckets) → charge_of New (record { rows = tree.now; persistent = persistent_in shed.now.buckets }) ≤ vec_capacity into.old → IsTrue (is_ok result) }
+    ensures room { (size : ℕ) → IsSound size (stored_rows tree.now) → AreWritable tree.now (persistent_in shed.now.buckets) → charge_of New (record { rows = stored_rows tree.now; persistent = persistent_in shed.now.buckets }) ≤ vec_capacity into.old → IsTrue (is_ok result) }
 {
     in_directories(tree);
     write_rows(tree, into)?;

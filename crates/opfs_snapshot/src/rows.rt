@@ -2,7 +2,7 @@
 
 ghost use Rattle.std.specs.Prelude.{◌≡◌, ◌≤◌, ◌+◌, ◌*◌, ◌++◌, ℕ, OnOk, [], length, sum_by, vec_len, vec_capacity, is_ok, IsTrue};
 ghost use Rattle.std.specs.List.{AllByRecursion};
-ghost use Rattle.opfs_snapshot.specs.Written.{dir_bytes, content_bytes, file_bytes, row_bytes, rows_bytes, IsWritablePlace, IsWritableFile, IsWritableRow};
+ghost use Rattle.opfs_snapshot.specs.Written.{dir_bytes, content_bytes, file_bytes, row_bytes, rows_bytes, IsWritablePlace, IsWritableFile, IsWritableRow, stored_row};
 ghost use Rattle.opfs_base.specs.Blocks.{blocks};
 ghost use Rattle.opfs_codec.specs.Charges.{unit_bytes, path_bytes};
 ghost use Rattle.opfs_codec.specs.declared.change.Format.TheVariants.{New};
@@ -22,7 +22,7 @@ pub(crate) fn write_rows(tree: &Tree, into: &mut Vec<u8>) -> Result<(), AllocErr
     ensures written { OnOk result (into.new.items ≡ into.old.items ++ rows_bytes tree.now) }
     ensures writable { OnOk result (AllByRecursion (λ e. IsWritableRow e.0 e.1) tree.now) }
     ensures capacity { vec_capacity into.old ≤ vec_capacity into.new }
-    ensures room { (size : ℕ) → AllByRecursion (λ e. IsSoundRow size e.1) tree.now → AllByRecursion (λ e. IsWritableRow e.0 e.1) tree.now → vec_len into.old + sum_by (λ e. row_charge New e.0 e.1) tree.now ≤ vec_capacity into.old → IsTrue (is_ok result) }
+    ensures room { (size : ℕ) → AllByRecursion (λ e. IsSoundRow size (stored_row e.1)) tree.now → AllByRecursion (λ e. IsWritableRow e.0 e.1) tree.now → vec_len into.old + sum_by (λ e. row_charge New e.0 e.1) tree.now ≤ vec_capacity into.old → IsTrue (is_ok result) }
 {
     let mut walk = Walk::make();
     while let Some(row) = tree.step(&mut walk) {
@@ -47,7 +47,7 @@ fn write_row(unit: &Key, path: &Path, row: &Row, into: &mut Vec<u8>) -> Result<(
     ensures written { OnOk result (into.new.items ≡ into.old.items ++ row_bytes (unit.now, path.now) row.now) }
     ensures writable { OnOk result (IsWritableRow (unit.now, path.now) row.now) }
     ensures capacity { vec_capacity into.old ≤ vec_capacity into.new }
-    ensures room { (size : ℕ) → IsSoundRow size row.now → IsWritableRow (unit.now, path.now) row.now → vec_len into.old + row_charge New (unit.now, path.now) row.now ≤ vec_capacity into.old → IsTrue (is_ok result) }
+    ensures room { (size : ℕ) → IsSoundRow size (stored_row row.now) → IsWritableRow (unit.now, path.now) row.now → vec_len into.old + row_charge New (unit.now, path.now) row.now ≤ vec_capacity into.old → IsTrue (is_ok result) }
 {
     if !is_writable(unit, path, row) {
         return Err(AllocError);

@@ -48,6 +48,8 @@ pub fn empty_file(alloc: Global) -> Row {
     Row::File(FileRow {
         length: 0,
         stamp: 7,
+        present: 0,
+        present_stamp: 7,
         extents: Extents::none(alloc),
         lock: FileLock::make(),
     })
@@ -60,6 +62,8 @@ pub fn short_file(alloc: Global) -> Result<Row, AllocError> {
     Ok(Row::File(FileRow {
         length: 5,
         stamp: 8,
+        present: 5,
+        present_stamp: 8,
         extents: Extents::from_vec(extents),
         lock: FileLock::make(),
     }))

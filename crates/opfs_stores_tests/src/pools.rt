@@ -25,11 +25,11 @@ fn blocks_are_kept_and_given_back(rt: HostRuntime) -> Result<(), Fail> {
 fn shared(alloc: Global, first: &Key, second: &Key, caller: &Key) -> Result<Pool, AllocError> {
     let mut pool = Pool::make(alloc, 4);
     pool.touch(first)?;
-    pool.mark(first, true, 9);
+    pool.mark(first, true);
     pool.touch(second)?;
-    pool.mark(second, true, 5);
+    pool.mark(second, true);
     pool.touch(caller)?;
-    pool.mark(caller, true, 1);
+    pool.mark(caller, true);
     Ok(pool)
 }
 
@@ -66,15 +66,32 @@ fn filled(alloc: Global, first: &Key, second: &Key, third: &Key) -> Result<Pool,
     Ok(pool)
 }
 
+// The last uses of three origins: `b` before `a`, and `c` before both.
+fn uses(alloc: Global) -> Result<Vec<(Key, u64)>, AllocError> {
+    let mut uses = Vec::new(alloc);
+    uses.push((Key::of_text(alloc, "a")?, 9))?;
+    uses.push((Key::of_text(alloc, "b")?, 5))?;
+    uses.push((Key::of_text(alloc, "c")?, 1))?;
+    Ok(uses)
+}
+
 // Whether the victims of a need have these texts.
-fn gives(pool: &Pool, caller: &Key, need: u64, texts: &[&str]) -> Result<bool, AllocError> {
-    let victims = pool.victims(caller, need)?;
+fn gives(
+    alloc: Global,
+    pool: &Pool,
+    caller: &Key,
+    need: u64,
+    texts: &[&str],
+) -> Result<bool, AllocError> {
+    let uses = uses(alloc)?;
+    let victims = pool.victims(caller, need, &uses)?;
     Ok(are(victims, texts))
 }
 
 // Whether a need has no victims.
-fn gives_none(pool: &Pool, caller: &Key, need: u64) -> Result<bool, AllocError> {
-    let victims = pool.victims(caller, need)?;
+fn gives_none(alloc: Global, pool: &Pool, caller: &Key, need: u64) -> Result<bool, AllocError> {
+    let uses = uses(alloc)?;
+    let victims = pool.victims(caller, need, &uses)?;
     Ok(victims.is_none())
 }
 
@@ -90,7 +107,8 @@ fn three(alloc: Global) -> Result<Pool, AllocError> {
 fn victims_go_by_last_use(rt: HostRuntime) -> Result<(), Fail> {
     let pool = three(rt.alloc())?;
     let caller = Key::of_text(rt.alloc(), "c")?;
-    assert!(rt; gives(&pool, &caller, 3, &["b", "a"])?);
-    assert!(rt; gives_none(&pool, &caller, 4)?);
+    assert!(rt; gives(rt.alloc(), &pool, &caller, 1, &[])?);
+    assert!(rt; gives(rt.alloc(), &pool, &caller, 3, &["b", "a"])?);
+    assert!(rt; gives_none(rt.alloc(), &pool, &caller, 4)?);
     Ok(())
 }

@@ -5,6 +5,7 @@ use opfs_shed::{QuotaHit, Shed};
 use std::test::Fail;
 
 #[test]
+#[tactic(auto, unfolding(opfs_shed::specs::Buckets::usage_of))]
 fn the_quota_counts_what_is_used(rt: HostRuntime) -> Result<(), Fail> {
     let key = Key::of_text(rt.alloc(), "https://a.example")?;
     let mut shed = Shed::make(rt.alloc(), 2);
@@ -26,6 +27,7 @@ fn the_quota_counts_what_is_used(rt: HostRuntime) -> Result<(), Fail> {
 }
 
 #[test]
+#[tactic(auto, unfolding(opfs_shed::specs::Buckets::usage_of))]
 fn an_origin_uses_what_its_units_use(rt: HostRuntime) -> Result<(), Fail> {
     let origin = Key::of_text(rt.alloc(), "https://a.example")?;
     let bucket = Key::of_text(rt.alloc(), "https://a.example#inbox")?;

@@ -1,10 +1,12 @@
 pub mod Changes
 pub mod Closed
+pub mod Counts
 pub mod Maps
 pub mod Orders
 pub mod Places
 pub mod Ranges
 pub mod Removals
 pub mod Steps
+pub mod UnitSums
 pub mod Whole
 pub mod Writes

@@ -1,10 +1,11 @@
 -- The rows of the store: a finite map from places, as the list in their order. This project's own; what the words serve
 -- is said at each.
-use Rattle.std.specs.Prelude.{◌≡◌, ℕ, Bool, true, false, not, List, [], ◌∷◌, map, filter, Option, Some, None, IsSome, option_map, is_some, unwrap_or, IsTrue}
-use Rattle.std.specs.List.{list_any, filter_map, flat_map, find}
+use Rattle.std.specs.Prelude.{◌≡◌, ℕ, Bool, true, false, not, ◌||◌, List, [], ◌∷◌, map, filter, Option, Some, None, IsSome, option_map, is_some, is_none, unwrap_or, IsTrue}
+use Rattle.std.specs.List.{list_any, list_all, filter_map, flat_map, find}
 use Rattle.std.specs.Ordering.{is_eq, is_lt}
 use Rattle.std.specs.FinMap.Entries.{is_sorted}
 use Rattle.std.specs.FinMap.Entries as map
+use Rattle.opfs_base.specs.Blocks.{blocks}
 use Rattle.opfs_base.specs.Texts.{Text, same_text}
 use Rattle.opfs_base.specs.Places.{Place, place_cmp, is_within, child, child_name}
 use Rattle.opfs_base.specs.declared.extents.Extent.{Extent}
@@ -105,7 +106,28 @@ unlocked f = record f { lock = released f.lock }
 
 -- The file with another content.
 abbrev pub stored : ℕ → ℕ → List Extent → FileRow → FileRow
-stored length stamp extents f = record f { length = length; stamp = stamp; extents = extents }
+stored length stamp extents f = record f { length = length; stamp = stamp; present = length; present_stamp = stamp; extents = extents }
+
+-- The file with other bytes that a read gives now.
+abbrev pub written : ℕ → ℕ → FileRow → FileRow
+written length stamp f = record f { present = length; present_stamp = stamp }
+
+-- How many of a row's files have a taken lock: one or none.
+abbrev pub holds : Row → ℕ
+holds r = elim (taken_lock r) [ Some lock ↦ 1 | None ↦ 0 ]
+
+-- Whether no file of a unit has a taken lock.
+abbrev pub none_taken : Text → Rows → Bool
+none_taken unit rows = list_all (λ e. not (same_text unit e.0.0) || is_none (taken_lock e.1)) rows
+
+-- The blocks of a row's bytes: of those that a read gives now, and of those that were last stored for good.
+abbrev pub present_blocks : Row → ℕ
+present_blocks row.Dir = 0
+present_blocks (row.File f) = blocks f.present
+
+abbrev pub durable_blocks : Row → ℕ
+durable_blocks row.Dir = 0
+durable_blocks (row.File f) = blocks f.length
 
 -- Whatever directory this place is a child of is there.
 abbrev pub HasParent : Place → Rows → Type 0

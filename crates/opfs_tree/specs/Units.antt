@@ -1,8 +1,9 @@
 -- The rows of one unit, by their paths, and the rows of all units.
-use Rattle.std.specs.Prelude.{◌≡◌, ◌&&◌, Bool, true, false, not, List, [], ◌∷◌, ◌++◌, map, filter, Option, Some, None, option_map, is_some}
+use Rattle.std.specs.Prelude.{◌≡◌, ℕ, ◌+◌, ◌&&◌, Bool, true, false, not, List, [], ◌∷◌, ◌++◌, map, filter, Option, Some, None, option_map, is_some}
 use Rattle.std.specs.List.{list_any, filter_map}
 use Rattle.std.specs.List.Sorted.{IsStrictlySortedBy}
 use Rattle.std.specs.Map.{keys_of}
+use Rattle.std.specs.FinMap.Entries.{find}
 use Rattle.std.specs.Ordering.{is_eq, is_le, is_lt, nat_cmp}
 use Rattle.std.specs.declared.cmp.Ordering.{Ordering}
 use Rattle.std.specs.Cmp.Lexicographic.{slice_cmp}
@@ -11,7 +12,7 @@ use Rattle.opfs_base.specs.Places.{begins_with, rest_below, only_name}
 use Rattle.opfs_base.specs.declared.locator.Kind.{Kind}
 use Rattle.opfs_tree.specs.declared.row.FileRow.{FileRow}
 use Rattle.opfs_tree.specs.declared.row.Row.{Row}
-use Rattle.opfs_tree.specs.Rows.{Rows, IsInOrder, IsClosed, kind_of, changed_row}
+use Rattle.opfs_tree.specs.Rows.{Rows, IsInOrder, IsClosed, kind_of, changed_row, holds}
 
 -- The orders of texts and of paths.
 abbrev pub text_cmp : Text → Text → Ordering
@@ -96,6 +97,18 @@ change_in path change (e ∷ es) = elim (is_eq (path_cmp path e.0)) [
   | true ↦ (e.0, changed_row change e.1) ∷ es
   | false ↦ e ∷ change_in path change es
 ]
+
+-- How many of the files have a taken lock, of all rows and of that at a path.
+abbrev pub taken_in : UnitRows → ℕ
+taken_in [] = 0
+taken_in (e ∷ es) = holds e.1 + taken_in es
+
+abbrev pub holds_of : Option Row → ℕ
+holds_of None = 0
+holds_of (Some r) = holds r
+
+abbrev pub holds_at : List Text → UnitRows → ℕ
+holds_at path es = holds_of (find path_cmp path es)
 
 -- What each tree keeps: its units in order, its rows in order and closed under parents.
 pub record IsWhole (us : List (Text × UnitRows)) : Type 0 where

@@ -1,13 +1,16 @@
 //! The rows of the store as a tree: a finite map from places to directories and files, closed under parents.
 #![tactic(auto)]
 
+mod counted;
 mod given;
 mod paths;
 mod row;
+mod sums;
 mod tree;
 mod unit;
 mod walk;
 
 pub use row::{FileRow, Row};
+pub use sums::Sums;
 pub use tree::Tree;
 pub use walk::Walk;

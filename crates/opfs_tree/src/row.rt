@@ -4,7 +4,7 @@ ghost use Rattle.std.specs.Prelude.{◌≡◌, ◌<◌, true, false, option_map,
 ghost use Rattle.std.specs.Option.{option_copied};
 ghost use Rattle.opfs_locks.specs.Taking.{taken, is_open};
 ghost use Rattle.opfs_locks.specs.Holding.{IsTakenAs};
-ghost use Rattle.opfs_tree.specs.Rows.{kind_of, file_in, taken_lock, extents_of, changed_row, stored, locked, unlocked};
+ghost use Rattle.opfs_tree.specs.Rows.{kind_of, file_in, taken_lock, extents_of, changed_row, stored, written, locked, unlocked, holds, present_blocks, durable_blocks};
 
 use opfs_base::{Extent, Extents, Kind};
 use opfs_locks::{FileLock, Held, LockValue, Want};
@@ -13,11 +13,15 @@ use std::mem::replace;
 /// A file.
 #[derive(Debug, Drop)]
 pub struct FileRow {
-    /// How many bytes it has.
+    /// How many bytes were last stored for good.
     pub length: u64,
-    /// Its time stamp, in milliseconds.
+    /// The time stamp of that, in milliseconds.
     pub stamp: u64,
-    /// The blocks that hold its bytes.
+    /// How many bytes a read gives now.
+    pub present: u64,
+    /// The time stamp of that, in milliseconds.
+    pub present_stamp: u64,
+    /// The blocks that hold the stored bytes.
     pub extents: Extents,
     /// Its lock.
     pub lock: FileLock,
@@ -33,6 +37,14 @@ pub enum Row {
 }
 
 impl FileRow {
+    // Says what a read gives now.
+    fn set_present(&mut self, length: u64, stamp: u64)
+        ensures { self.new ≡ written length stamp self.old }
+    {
+        self.present = length;
+        self.present_stamp = stamp;
+    }
+
     // Gives the file another content, and gives back its blocks.
     fn store(&mut self, length: u64, stamp: u64, extents: Extents) -> Extents
         ensures row { self.new ≡ stored length stamp extents self.old }
@@ -40,6 +52,8 @@ impl FileRow {
     {
         self.length = length;
         self.stamp = stamp;
+        self.present = length;
+        self.present_stamp = stamp;
         replace(&mut self.extents, extents)
     }
 }
@@ -82,6 +96,46 @@ impl Row {
         match self {
             Row::Dir => None,
             Row::File(file) => taken(file.lock),
+        }
+    }
+
+    /// How many of the row's files have a taken lock: one or none.
+    pub(crate) fn holds(&self) -> u64
+        ensures { result ≡ holds self.now }
+    {
+        match self.taken_lock() {
+            Some(_) => 1,
+            None => 0,
+        }
+    }
+
+    /// How many blocks the bytes take that a read gives now; none for a directory.
+    pub(crate) fn present_blocks(&self) -> u64
+        ensures { result ≡ present_blocks self.now }
+    {
+        match self {
+            Row::Dir => 0,
+            Row::File(file) => file.present.div_ceil(4096),
+        }
+    }
+
+    /// How many blocks the stored bytes take; none for a directory.
+    pub(crate) fn durable_blocks(&self) -> u64
+        ensures { result ≡ durable_blocks self.now }
+    {
+        match self {
+            Row::Dir => 0,
+            Row::File(file) => file.length.div_ceil(4096),
+        }
+    }
+
+    /// Says what a read of the file gives now.
+    pub(crate) fn set_present(&mut self, length: u64, stamp: u64)
+        ensures { self.new ≡ changed_row (written length stamp) self.old }
+    {
+        match self {
+            Row::Dir => (),
+            Row::File(file) => file.set_present(length, stamp),
         }
     }
 

@@ -1,18 +1,21 @@
 //! The rows of all units.
 
-ghost use Rattle.std.specs.Prelude.{◌≡◌, ◌<◌, ◌^◌, ◌≤◌, ◌++◌, ◌==◌, Some, None, [], ◌∷◌, length, is_some, option_map, unwrap_or, IsSome, IfSome, IfNone, IsSomeAnd, IsTrue, slice_get, IfOk, OnOk, OnErr, vec_capacity};
+ghost use Rattle.std.specs.Prelude.{◌≡◌, ◌<◌, ◌^◌, ◌≤◌, ◌++◌, ◌==◌, Some, None, [], ◌∷◌, length, sum_by, is_some, option_map, unwrap_or, IsSome, IfSome, IfNone, IsSomeAnd, IsTrue, slice_get, IfOk, OnOk, OnErr, vec_capacity};
 ghost use Rattle.std.specs.Option.{option_copied};
 ghost use Rattle.std.specs.FinMap.Entries.{put};
 ghost use Rattle.opfs_base.specs.Places.{place_cmp};
 ghost use Rattle.opfs_locks.specs.Taking.{taken};
 ghost use Rattle.opfs_locks.specs.Holding.{IsTakenAs};
-ghost use Rattle.opfs_tree.specs.Rows.{row_at, kind_of, file_at, rows_within, extents_within, without, first_taken, children_of, has_children, least_not_in, rows_above, change_at, locked, unlocked, stored, HasParent, IsClosed, IsInOrder};
+ghost use Rattle.opfs_tree.specs.Rows.{row_at, kind_of, file_at, rows_within, extents_within, without, first_taken, children_of, has_children, least_not_in, rows_above, change_at, locked, unlocked, stored, written, none_taken, present_blocks, durable_blocks, HasParent, IsClosed, IsInOrder};
+ghost use Rattle.opfs_tree.specs.Sums.{row_charge, entries_within};
 ghost use Rattle.std.specs.List.Sorted.{IsStrictlySortedBy};
 ghost use Rattle.std.specs.Map.{keys_of, lookup};
 ghost use Rattle.std.specs.BTreeMap.{insert_entry, is_at};
 ghost use Rattle.opfs_tree.specs.Units.{text_cmp, path_cmp, unit_rows, all_rows, above, behind};
 
+use crate::counted::CountedUnit;
 use crate::row::{FileRow, Row};
+use crate::sums::{Sums, unit_bytes};
 use crate::unit::Unit;
 use crate::walk::Walk;
 use opfs_base::{Extent, Extents, Key, Kind, Name, Path};
@@ -26,7 +29,7 @@ use std::ops::Bound;
 /// before what is below it. At each place stands one row, and every row but a root stands in a directory.
 #[derive(Drop)]
 pub struct Tree {
-    units: BTreeMap<Key, Unit>,
+    units: BTreeMap<Key, CountedUnit>,
 }
 
 impl Model for Tree {
@@ -54,7 +57,10 @@ impl Tree {
     fn unit(&self, key: &Key) -> Option<&Unit>
         ensures { unwrap_or (option_copied result) [] ≡ unit_rows key.now self.now }
     {
-        self.units.get(key)
+        match self.units.get(key) {
+            Some(unit) => Some(unit.rows()),
+            None => None,
+        }
     }
 
     // The row at a place.
@@ -94,6 +100,16 @@ impl Tree {
         }
     }
 
+    /// Whether no file of a unit has a taken lock.
+    pub fn none_taken(&self, key: &Key) -> bool
+        ensures { result ≡ none_taken key.now self.now }
+    {
+        match self.units.get(key) {
+            Some(unit) => unit.none_taken(),
+            None => true,
+        }
+    }
+
     /// The first lock at a place or below it, in the order of paths, that is not open, with the number of its holders;
     /// None where all are open.
     pub fn first_locked(&self, key: &Key, path: &Path) -> Option<(LockValue, u32)>
@@ -110,6 +126,25 @@ impl Tree {
         match self.unit(key) {
             Some(unit) => unit.extents_below(path),
             None => 0,
+        }
+    }
+
+    /// What the row at a place and all below it have.
+    pub fn sums_below(&self, key: &Key, path: &Path) -> Sums
+        requires present { sum_by present_blocks (rows_within (key.now, path.now) self.now) < 2 ^ 64 }
+        requires durable { sum_by durable_blocks (rows_within (key.now, path.now) self.now) < 2 ^ 64 }
+        requires charge { sum_by row_charge (entries_within (key.now, path.now) self.now) < 2 ^ 64 }
+        ensures present { result.present ≡ sum_by present_blocks (rows_within (key.now, path.now) self.now) }
+        ensures durable { result.durable ≡ sum_by durable_blocks (rows_within (key.now, path.now) self.now) }
+        ensures charge { result.charge ≡ sum_by row_charge (entries_within (key.now, path.now) self.now) }
+    {
+        match self.unit(key) {
+            Some(unit) => unit.sums_below(unit_bytes(key), path),
+            None => Sums {
+                present: 0,
+                durable: 0,
+                charge: 0,
+            },
         }
     }
 
@@ -213,6 +248,16 @@ impl Tree {
         self.units.get_mut(key)?.store(path, length, stamp, extents)
     }
 
+    /// Says what a read of the file at a place gives now. Where no file is there, nothing changes. Takes no memory.
+    pub fn set_present(&mut self, key: &Key, path: &Path, length: u64, stamp: u64)
+        ensures { self.new ≡ change_at (key.now, path.now) (written length stamp) self.old }
+    {
+        let Some(unit) = self.units.get_mut(key) else {
+            return;
+        };
+        unit.set_present(path, length, stamp);
+    }
+
     /// Takes the lock of the file at a place (File System: take a lock); None, and nothing changes, where that fails.
     /// Takes no memory.
     pub fn take_lock(&mut self, key: &Key, path: &Path, want: Want) -> Option<Held>
@@ -288,7 +333,7 @@ impl Tree {
 }
 
 // The first row of all.
-fn first_of(units: &BTreeMap<Key, Unit>) -> Option<(&Key, &Path, &Row)>
+fn first_of(units: &BTreeMap<Key, CountedUnit>) -> Option<(&Key, &Path, &Row)>
     ensures { option_map (λ e. ((e.0.now, e.1.now), e.2.now)) result ≡ slice_get (all_rows units.now.entries) 0 }
 {
     for (key, unit) in units {
@@ -301,7 +346,7 @@ fn first_of(units: &BTreeMap<Key, Unit>) -> Option<(&Key, &Path, &Row)>
 
 // The first row of the units behind one.
 fn first_behind<'a>(
-    units: &'a BTreeMap<Key, Unit>,
+    units: &'a BTreeMap<Key, CountedUnit>,
     key: &Key,
 ) -> Option<(&'a Key, &'a Path, &'a Row)>
     ensures { option_map (λ e. ((e.0.now, e.1.now), e.2.now)) result ≡ slice_get (all_rows (behind key.now units.now.entries)) 0 }
@@ -317,7 +362,7 @@ fn first_behind<'a>(
 // Adds a unit with one row, or leaves all as it was.
 fn add_unit(
     alloc: Global,
-    units: &mut BTreeMap<Key, Unit>,
+    units: &mut BTreeMap<Key, CountedUnit>,
     key: &Key,
     path: Path,
     row: Row,
@@ -326,7 +371,7 @@ fn add_unit(
     ensures err { OnErr result (units.new.entries ≡ units.old.entries) }
     ensures ordered { OnOk result (IsStrictlySortedBy text_cmp (keys_of units.new.entries)) }
 {
-    let mut unit = Unit::make(alloc);
+    let mut unit = CountedUnit::make(alloc);
     unit.add(alloc, path, row)?;
     let key = key.copy(alloc)?;
     units.insert(key, unit)?;
@@ -334,7 +379,7 @@ fn add_unit(
 }
 
 // Drops a unit that has no rows.
-fn drop_empty(units: &mut BTreeMap<Key, Unit>, key: &Key)
+fn drop_empty(units: &mut BTreeMap<Key, CountedUnit>, key: &Key)
     ensures rows { all_rows units.new.entries ≡ all_rows units.old.entries }
     ensures ordered { IsStrictlySortedBy text_cmp (keys_of units.old.entries) → IsStrictlySortedBy text_cmp (keys_of units.new.entries) }
 {
@@ -344,7 +389,7 @@ fn drop_empty(units: &mut BTreeMap<Key, Unit>, key: &Key)
 }
 
 // Whether a unit is there that has no rows.
-fn has_no_rows(units: &BTreeMap<Key, Unit>, key: &Key) -> bool
+fn has_no_rows(units: &BTreeMap<Key, CountedUnit>, key: &Key) -> bool
     ensures { IsTrue result → Some [] ≡ lookup (is_at (text_cmp key.now)) units.now.entries }
 {
     match units.get(key) {

@@ -1,18 +1,20 @@
 //! The rows of one unit.
 
-ghost use Rattle.std.specs.Prelude.{◌≡◌, ◌<◌, ◌^◌, ◌≤◌, ◌++◌, ◌==◌, Some, None, [], ◌∷◌, length, is_some, option_map, IsSome, IfSome, OnOk, OnErr, IfNone, vec_capacity};
+ghost use Rattle.std.specs.Prelude.{◌≡◌, ◌<◌, ◌^◌, ◌≤◌, ◌++◌, ◌==◌, Some, None, [], ◌∷◌, length, sum_by, is_some, option_map, IsSome, IfSome, OnOk, OnErr, IfNone, vec_capacity};
 ghost use Rattle.std.specs.List.{flat_map, slice_get};
 ghost use Rattle.std.specs.Option.{option_copied, option_to_list};
 ghost use Rattle.std.specs.FinMap.Entries.{find, put};
 ghost use Rattle.std.specs.List.Sorted.{IsStrictlySortedBy};
 ghost use Rattle.opfs_locks.specs.Taking.{taken};
 ghost use Rattle.opfs_locks.specs.Holding.{IsTakenAs};
-ghost use Rattle.opfs_tree.specs.Rows.{kind_of, file_of, extents_of, first_taken, least_not_in, stored, locked, unlocked};
-ghost use Rattle.opfs_tree.specs.Units.{path_cmp, below, beside, from, front, values, children_in, has_children_in, above, change_in, first_key};
+ghost use Rattle.opfs_tree.specs.Rows.{kind_of, file_of, extents_of, first_taken, least_not_in, stored, written, locked, unlocked, present_blocks, durable_blocks};
+ghost use Rattle.opfs_tree.specs.Sums.{charge_in};
+ghost use Rattle.opfs_tree.specs.Units.{path_cmp, below, beside, from, front, values, children_in, has_children_in, above, change_in, first_key, taken_in, holds_at};
 
 use crate::given::{first_not_below, is_given};
 use crate::paths::{is_within, name_below};
 use crate::row::Row;
+use crate::sums::{Sums, row_charge};
 use opfs_base::{Extent, Extents, Kind, Name, Path};
 use opfs_locks::{Held, LockValue, Want};
 use std::alloc::{AllocError, Global};
@@ -37,6 +39,7 @@ impl Model for Unit {
 
     ghost view = { λ unit. unit.rows.entries };
 
+    ghost use Rattle.opfs_tree.specs.Sums.{charge_in};
     ghost use Rattle.opfs_tree.specs.Units.{AreKeys};
 
     ghost invariant = { λ unit. AreKeys unit.paths.keys unit.rows.entries };
@@ -58,6 +61,24 @@ impl Unit {
         ensures { result ≡ (length self.now == 0) }
     {
         self.rows.len() == 0
+    }
+
+    /// How many rows there are.
+    pub(crate) fn len(&self) -> usize
+        ensures count { result ≡ length self.now }
+        ensures taken { taken_in self.now ≤ result }
+    {
+        self.rows.len()
+    }
+
+    /// How many of the files at a path have a taken lock: one or none.
+    pub(crate) fn holds_at(&self, path: &Path) -> u64
+        ensures { result ≡ holds_at path.now self.now }
+    {
+        match self.row(path) {
+            Some(row) => row.holds(),
+            None => 0,
+        }
     }
 
     /// The row at a path.
@@ -122,6 +143,21 @@ impl Unit {
         None
     }
 
+    /// How many of the files at a path and below it have a taken lock.
+    pub(crate) fn taken_below(&self, top: &Path) -> u64
+        requires { taken_in (below top.now self.now) < 2 ^ 64 }
+        ensures { result ≡ taken_in (below top.now self.now) }
+    {
+        let mut count = 0;
+        for (path, row) in self.from(top) {
+            if !is_within(top, path) {
+                break;
+            }
+            count += row.holds();
+        }
+        count
+    }
+
     /// How many extents the row at a path and all below it have.
     pub(crate) fn extents_below(&self, top: &Path) -> u64
         requires { length (flat_map extents_of (values (below top.now self.now))) < 2 ^ 64 }
@@ -135,6 +171,33 @@ impl Unit {
             count += row.extents().len() as u64;
         }
         count
+    }
+
+    /// What the row at a path and all below it have, in a unit that takes so many bytes.
+    pub(crate) fn sums_below(&self, unit: u64, top: &Path) -> Sums
+        requires present { sum_by present_blocks (values (below top.now self.now)) < 2 ^ 64 }
+        requires durable { sum_by durable_blocks (values (below top.now self.now)) < 2 ^ 64 }
+        requires charge { sum_by (λ e. charge_in unit e.0 e.1) (below top.now self.now) < 2 ^ 64 }
+        ensures present { result.present ≡ sum_by present_blocks (values (below top.now self.now)) }
+        ensures durable { result.durable ≡ sum_by durable_blocks (values (below top.now self.now)) }
+        ensures charge { result.charge ≡ sum_by (λ e. charge_in unit e.0 e.1) (below top.now self.now) }
+    {
+        let mut present = 0;
+        let mut durable = 0;
+        let mut charge = 0;
+        for (path, row) in self.from(top) {
+            if !is_within(top, path) {
+                break;
+            }
+            present += row.present_blocks();
+            durable += row.durable_blocks();
+            charge += row_charge(unit, path, row);
+        }
+        Sums {
+            present,
+            durable,
+            charge,
+        }
     }
 
     /// The first child of a path whose name is not among those given, in whatever order they are. Where they are in
@@ -197,6 +260,16 @@ impl Unit {
             .range((Bound::Excluded(path), Bound::Unbounded))
             .next()?;
         Some((path, row))
+    }
+
+    /// Says what a read of the file at a path gives now.
+    pub(crate) fn set_present(&mut self, path: &Path, length: u64, stamp: u64)
+        ensures { self.new ≡ change_in path.now (written length stamp) self.old }
+    {
+        let Some(row) = self.rows.get_mut(path) else {
+            return;
+        };
+        row.set_present(length, stamp);
     }
 
     /// Gives the file at a path another content, and gives back its blocks.

@@ -54,6 +54,8 @@ pub fn empty_file(alloc: Global) -> Row
     Row::File(FileRow {
         length: 0,
         stamp: 7,
+        present: 0,
+        present_stamp: 7,
         extents: Extents::none(alloc),
         lock: FileLock::make(),
     })

@@ -1,14 +1,17 @@
 -- What one call more does to the entries of each agent.
 use Rattle.std.proofs.Common.{◌≡◌, ℕ, zero, suc, ◌+◌, ◌-◌, ◌<◌, ◌≤◌, ◌==◌, true, false, List, [], ◌∷◌, ◌++◌, map, length, All, Option, Some, slice_get, refl, sym, ap, ◌∙◌, subst, append_assoc, append-nil, length-append, arith, inl, inr, unwrap_or, IsTrue, None, take, get_or}
+use Rattle.std.proofs.lemmas.Bool.{and_parts}
 use Rattle.std.proofs.lemmas.Grind.{take_at_read}
 use Rattle.std.proofs.lemmas.Option.{slice_get_within}
 use Rattle.std.proofs.Math.Nat.{eq-or-lt_of_le}
 use Rattle.std.proofs.lemmas.List.Elements.{filter-append, All-append, All-cons, All-nil, All-head, All-tail, All-map}
+use Rattle.opfs_base.specs.Keys.{is_origin, is_one_line}
 use Rattle.opfs_base.specs.Texts.{Text}
 use Rattle.opfs_hist.specs.declared.entry.Entry.{Entry}
 use Rattle.opfs_hist.specs.declared.op.Op.{Op}
 use Rattle.opfs_machine.specs.Runs.{eviction}
-use Rattle.opfs_plain.specs.Keeping.{IsEntered, IsKept, is_disk_fault}
+use Rattle.opfs_hist.specs.Faults.{is_disk_fault}
+use Rattle.opfs_plain.specs.Keeping.{IsEntered, IsKept}
 use Rattle.opfs_runs.specs.Running.{IsRun, entries_of}
 use Rattle.opfs_script.specs.Scripts.{Asked}
 use Rattle.opfs_machine.specs.declared.own.Own.{Own}
@@ -17,7 +20,9 @@ use Rattle.opfs_machine.specs.Openings.{begun}
 use Rattle.opfs_plain.specs.declared.plain.Plain.{Plain}
 use Rattle.opfs_script.specs.Limits.{is_origin_key}
 use Rattle.opfs_separation.specs.Apart.{EachPartyRunsAlone, IsInOrder, has_origin_key}
-use Rattle.opfs_trial.specs.Trials.{EachRuns, IsTrial, trial_opening, who_of}
+use Rattle.opfs_stage.specs.Openings.{trial_opening, who_of}
+use Rattle.opfs_stage.specs.Runs.{EachRuns}
+use Rattle.opfs_trial.specs.Trials.{IsTrial}
 use Rattle.opfs_trial.specs.Stepping.{IsBeside}
 
 pub same : (n : ℕ) → (n == n) ≡ true
@@ -162,7 +167,7 @@ within_next n (e ∷ es) h =
 
 same_key : (key : Option Text) → IsTrue (is_origin_key key) → IsTrue (has_origin_key key)
 same_key None h = h
-same_key (Some key) h = h
+same_key (Some key) h = (and_parts (is_origin key) (is_one_line key) h).0
 
 same_keys : (script : List Asked) → All (λ a. IsTrue (is_origin_key a.key)) script → All (λ a. IsTrue (has_origin_key (who_of a).key)) script
 same_keys [] h = All-nil (λ a. IsTrue (has_origin_key (who_of a).key))

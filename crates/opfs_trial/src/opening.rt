@@ -1,12 +1,11 @@
 //! With what a trial begins.
 
 ghost use Rattle.std.specs.Prelude.{◌≡◌, [], All, map, IfOk, OnOk, IsTrue};
-ghost use Rattle.std.specs.Option.{option_copied};
-ghost use Rattle.opfs_machine.specs.Openings.{agent_in, begun};
+ghost use Rattle.opfs_machine.specs.Openings.{agent_begun, begun};
 ghost use Rattle.opfs_script.specs.Limits.{is_origin_key};
-ghost use Rattle.opfs_trial.specs.Trials.{who_of, trial_opening};
+ghost use Rattle.opfs_stage.specs.Openings.{who_of, trial_opening};
 
-use opfs_base::{Bytes, Key};
+use opfs_base::copy_key;
 use opfs_machine::{Agent, Limits, Many, Own, State};
 use opfs_plain::Plain;
 use opfs_script::{AgentScript, Script};
@@ -21,19 +20,9 @@ fn none<T>(alloc: Global) -> Many<T>
     }
 }
 
-/// A copy of a key that may be there.
-pub fn copy_key(alloc: Global, key: Option<&Key>) -> Result<Option<Key>, AllocError>
-    ensures { IfOk result (λ copy. copy ≡ option_copied key.entry) }
-{
-    match key {
-        None => Ok(None),
-        Some(key) => Ok(Some(key.copy(alloc)?)),
-    }
-}
-
 /// An agent of a script, before its first step.
 fn agent_of(alloc: Global, script: &AgentScript) -> Result<Agent<Own>, AllocError>
-    ensures agent { IfOk result (λ agent. agent ≡ agent_in (who_of script.now)) }
+    ensures agent { IfOk result (λ agent. agent ≡ agent_begun (who_of script.now)) }
     ensures key { IsTrue (is_origin_key script.now.key) }
 {
     Ok(Agent {
@@ -48,7 +37,7 @@ fn agent_of(alloc: Global, script: &AgentScript) -> Result<Agent<Own>, AllocErro
 
 /// The agents of a script, before their first steps.
 fn agents_of(alloc: Global, scripts: &[AgentScript]) -> Result<Many<Agent<Own>>, AllocError>
-    ensures agents { IfOk result (λ agents. agents ≡ map agent_in (map who_of scripts.now)) }
+    ensures agents { IfOk result (λ agents. agents ≡ map agent_begun (map who_of scripts.now)) }
     ensures keys { OnOk result (All (λ a. IsTrue (is_origin_key a.key)) scripts.now) }
 {
     let mut agents = Vec::new(alloc);

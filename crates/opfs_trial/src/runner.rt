@@ -11,7 +11,7 @@ ghost use Rattle.opfs_script.specs.Scripts.{Asked};
 ghost use Rattle.opfs_trial.specs.Stepping.{IsBeside, IsStepped, Begins};
 
 use crate::numbers::next;
-use crate::opening::copy_key;
+use opfs_base::copy_key;
 use opfs_hist::{Entry, Op};
 use opfs_plain::Plain;
 use opfs_runs::Hand;
@@ -23,7 +23,7 @@ fn note(alloc: Global, entries: &[Entry], hand: &mut Hand, step: &Step) -> Resul
     ensures { OnOk result ((e : Entry) → slice_get entries.now (length entries.now - 1) ≡ Some e → hand.new ≡ hand_then hand.old step.now e.op e.reply) }
 {
     match entries.last() {
-        Some(entry) => hand.then(alloc, step, entry),
+        Some(entry) => hand.then(alloc, step, &entry.op, &entry.reply),
         None => Err(AllocError),
     }
 }

@@ -5,7 +5,8 @@ ghost use Rattle.opfs_base.specs.Texts.{Text};
 ghost use Rattle.opfs_machine.specs.declared.own.Own.{Own};
 ghost use Rattle.opfs_machine.specs.declared.state.State.{State};
 ghost use Rattle.opfs_plain.specs.Keeping.{IsKept};
-ghost use Rattle.opfs_trial.specs.Trials.{IsTrial, EachRuns, trial_opening};
+ghost use Rattle.opfs_stage.specs.Runs.{EachRuns};
+ghost use Rattle.opfs_trial.specs.Trials.{IsTrial};
 
 use crate::numbers::next;
 use crate::opening::begin;

@@ -5,8 +5,8 @@ use Rattle.opfs_blocks.specs.Steps.{can_adopt}
 use Rattle.opfs_blocks.proofs.SetLemmas.{take_next, length-marked, marked-append, restored, adopts, adopted_below, refused_all, can_adopt-append}
 use Rattle.opfs_blocks.proofs.runs.adopt_all.Goals as goal
 
-pub clear_all-lowest-requires : goal.clear_all-lowest-requires
-clear_all-lowest-requires c =
+pub mark_all-lowest-requires : goal.mark_all-lowest-requires
+mark_all-lowest-requires c =
     let front = blocks_of (take c.loop-i.i c.args.extents.now) in
     subst (λ (n : ℕ). AreBelow n front) (sym (ap length c.loop-i.invariant.0 ∙ length-marked true front c.args.bits.now)) (adopted_below c.args.bits.now front c.loop-i.invariant.1)
 
@@ -19,7 +19,7 @@ returns-then-not-are_clear-clause-exact c =
 pub returns-then-not-are_clear-clause-refused : goal.returns-then-not-are_clear-clause-refused
 returns-then-not-are_clear-clause-refused c =
     let front = blocks_of (take c.loop-i.i c.args.extents.now) in
-    c.clear_all-lowest.ensures.clear ∙ ap (marked false front) c.loop-i.invariant.0 ∙ restored c.args.bits.now front (adopts c.args.bits.now front c.loop-i.invariant.1).0
+    c.mark_all-lowest.ensures.marked ∙ ap (marked false front) c.loop-i.invariant.0 ∙ restored c.args.bits.now front (adopts c.args.bits.now front c.loop-i.invariant.1).0
 
 pub mark_run-requires : goal.mark_run-requires
 mark_run-requires c =

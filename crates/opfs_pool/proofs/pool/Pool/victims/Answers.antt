@@ -1,7 +1,13 @@
-use Rattle.std.proofs.Common.{sum_by, ap, arith}
-use Rattle.opfs_pool.specs.Victims.{Candidates}
-use Rattle.opfs_pool.proofs.Fronts.{lacks, is_none-lacks}
+use Rattle.std.proofs.Common.{◌+◌, ◌≤◌, ℕ, List, Some, sum_by, sym, ap, ◌∙◌, arith}
+use Rattle.opfs_pool.specs.Shares.{held}
+use Rattle.opfs_pool.specs.Victims.{Candidates, candidates}
+use Rattle.opfs_pool.proofs.Fronts.{lacks, is_none-lacks, none_lacking}
 use Rattle.opfs_pool.proofs.pool.Pool.victims.Goals as goal
+
+pub returns-then-room-clause-units : goal.returns-then-room-clause-units
+returns-then-room-clause-units c =
+    let fits : held c.args.self.now.shares + c.args.need ≤ c.args.self.now.size = c.room.ensures.0 c.if-room.true in
+    ap (λ (units : List (List ℕ)). Some units) (c.from_vec.ensures ∙ c.new.ensures.items) ∙ sym (none_lacking _ (omega (arith, fits)) (candidates c.args.caller.now c.args.uses.now c.args.self.now.shares))
 
 pub returns-clause-none : goal.returns-clause-none
 returns-clause-none c =

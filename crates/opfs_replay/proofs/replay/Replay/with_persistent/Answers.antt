@@ -19,7 +19,7 @@ invariant_of-result c =
     let none : lookup (is_unit unit) es ≡ None = none_at unit es kept.modes (ap (λ (r : Replayed). is_persistent r.built unit) c.self.view_is ∙ c.requires) in
     let touched = c.in_ok-touch.ensures.touched in
     let now : c.set_persistent.new.self.buckets ≡ put text_cmp unit persistent_bucket es =
-    persisted unit es c.set_persistent.new.self.buckets _ none refl (ap (λ (s : Storage). s.buckets) (rw touched at c.set_persistent.ensures)) in
+    persisted unit es c.set_persistent.new.self.buckets _ none refl (ap (λ (s : Storage). s.buckets) (rw touched at c.set_persistent.ensures.bucket)) in
     let cost : ℕ = 3 + key_bytes New unit in
     let charge : c.in_ok-charge.charge ≡ (3 + key_bytes New unit) + c.self.inside.charge = omega arith in
     rw now (record {
@@ -39,5 +39,5 @@ returns-clause-rows c =
     let none : lookup (is_unit unit) es ≡ None = none_at unit es kept.modes (ap (λ (r : Replayed). is_persistent r.built unit) c.self.view_is ∙ c.requires) in
     let touched = c.in_ok-touch.ensures.touched in
     let now : c.set_persistent.new.self.buckets ≡ put text_cmp unit persistent_bucket es =
-    persisted unit es c.set_persistent.new.self.buckets _ none refl (ap (λ (s : Storage). s.buckets) (rw touched at c.set_persistent.ensures)) in
+    persisted unit es c.set_persistent.new.self.buckets _ none refl (ap (λ (s : Storage). s.buckets) (rw touched at c.set_persistent.ensures.bucket)) in
     rw (← c.self.view_is, now) (ap (λ (us : List Text). record { rows = c.self.inside.tree; persistent = us }) (persistent_put unit es kept.modes))

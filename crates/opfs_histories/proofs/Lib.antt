@@ -1,0 +1,4 @@
+pub mod Adding
+pub mod Doubting
+pub mod Opening
+pub mod Reading

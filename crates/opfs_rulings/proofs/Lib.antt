@@ -1,0 +1,5 @@
+pub mod AgentSums
+pub mod Cleared
+pub mod Fronts
+pub mod Here
+pub mod Roots

@@ -1,0 +1,54 @@
+-- What the plain machine's parts say of lists of rows and of agents.
+use Rattle.std.specs.Prelude.{◌≡◌, ℕ, ◌<◌, ◌≤◌, Bool, true, not, List, [], ◌∷◌, length, Option, None, Some, Ok, Err, IsTrue, slice_set}
+use Rattle.std.proofs.Common.{get_or}
+use Rattle.std.specs.Ordering.{is_gt}
+use Rattle.std.specs.declared.cmp.Ordering.{Ordering}
+use Rattle.std.specs.List.{list_any}
+use Rattle.opfs_base.specs.Texts.{Text, same_text}
+use Rattle.opfs_base.specs.Places.{Place}
+use Rattle.opfs_machine.specs.declared.own.Own.{Own}
+use Rattle.opfs_machine.specs.declared.state.Agent.{Agent}
+use Rattle.opfs_machine.specs.declared.state.FileRow.{FileRow}
+use Rattle.opfs_machine.specs.declared.state.Row.{Row}
+use Rattle.opfs_machine.specs.declared.state.State.{State}
+use Rattle.opfs_base.specs.Names.{is_valid_name}
+use Rattle.opfs_hist.specs.declared.op.Op.{Op}
+use Rattle.opfs_hist.specs.declared.op.Op.TheVariants.{GetDirectoryHandle, GetFileHandle, RemoveEntry, Next, Write, Seek, Truncate, Close, Abort, SyncRead, SyncWrite, SyncTruncate, SyncFlush, SyncClose, Discard}
+use Rattle.opfs_locks.specs.Taking.{Lock}
+use Rattle.opfs_machine.specs.declared.own.Own.TheVariants as own
+use Rattle.opfs_machine.specs.Agents.{agent_of}
+use Rattle.opfs_machine.specs.Contents.{and_given}
+use Rattle.opfs_machine.specs.declared.state.Need.{Need}
+use Rattle.opfs_machine.specs.Ruled.{Ruled}
+use Rattle.opfs_machine.specs.Rulings.{locked_by}
+use Rattle.opfs_machine.specs.Sums.{no_need}
+use Rattle.opfs_machine.specs.Rows.{Rows, change_at, changed_row}
+
+-- There is an agent of this number.
+pub record IsAgent (s : State Text Own) (k : ℕ) : Type 0 where
+  pub above : 0 < k
+  pub within : k ≤ length s.agents
+
+-- There is an own row of this number.
+pub record IsOwn (a : Agent Own) (row : ℕ) : Type 0 where
+  pub above : 0 < row
+  pub within : row ≤ length a.own
+
+-- What is refused where a lock is not open.
+abbrev pub lock_ruling : Option Lock → Ruled Need
+lock_ruling None = Ok no_need
+lock_ruling (Some lock) = Err (locked_by lock)
+
+-- Whether a list begins with no item below another.
+abbrev pub begins_from : {A : Type 0} → (A → A → Ordering) → A → List A → Bool
+begins_from R x [] = true
+begins_from R x (y ∷ ys) = not (is_gt (R x y))
+
+-- Whether a list of entries begins with no key below another.
+abbrev pub keys_from : {K X : Type 0} → (K → K → Ordering) → K → List (K × X) → Bool
+keys_from R k [] = true
+keys_from R k (e ∷ es) = not (is_gt (R k e.0))
+
+-- Whether a unit is not among some.
+unfoldable pub is_left : List Text → Text → Bool
+is_left gone unit = not (list_any (λ u. same_text u unit) gone)

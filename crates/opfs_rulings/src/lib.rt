@@ -1,0 +1,27 @@
+//! What each call refuses, asks for and answers, judged over a list of rows, with all sums added up anew at each call.
+#![tactic(auto)]
+
+pub mod agents;
+mod bucket_rulings;
+pub mod disk;
+pub mod handle_rulings;
+pub mod judging;
+pub mod ordered;
+mod removals;
+pub mod replies;
+mod room;
+pub mod rows;
+pub mod rulings;
+pub mod standing;
+pub mod sums;
+
+pub use agents::{agent, is_agent, own_row, party_of};
+pub use disk::is_disk_op;
+pub use handle_rulings::{open_handle, want_of};
+pub use judging::{judge, row_named, size_written};
+pub use ordered::{insert, put};
+pub use replies::{answer, next_given, sizes_of};
+pub use rows::{PlacedRow, place_of, row_at};
+pub use rulings::{Ruled, child_place, file_at, first_reserve, root_of, taken};
+pub use standing::may_enter;
+pub use sums::reserve_at;

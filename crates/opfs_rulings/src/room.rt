@@ -1,0 +1,276 @@
+//! Whether there is room for a need, and which units are cleared for it.
+
+ghost use Rattle.std.specs.Prelude.{◌≡◌, ◌&&◌, if◌then◌else◌, IfOk, OnOk, fold, map, is_none};
+ghost use Rattle.std.specs.Option.{option_copied};
+ghost use Rattle.opfs_base.specs.Units.{origin_of};
+ghost use Rattle.opfs_machine.specs.Ordered.{insert_by};
+ghost use Rattle.opfs_machine.specs.Victims.{use_cmp};
+ghost use Rattle.opfs_machine.specs.Agents.{last_use};
+ghost use Rattle.opfs_machine.specs.Contents.{in_bytes};
+ghost use Rattle.opfs_machine.specs.Replies.{origin_in};
+ghost use Rattle.opfs_machine.specs.Ruled.{some_or};
+ghost use Rattle.opfs_machine.specs.Steps.{room_for};
+ghost use Rattle.opfs_machine.specs.Rows.{is_root, taken_lock};
+ghost use Rattle.opfs_machine.specs.Sums.{pool, charge, fits_quota, fits_area, fits_pool};
+ghost use Rattle.opfs_machine.specs.Victims.{cleared, is_callers, none_taken, is_candidate, candidates, shortest_front, victims};
+
+use crate::bucket_rulings::is_persistent;
+use crate::ordered::insert;
+use crate::rows::PlacedRow;
+use crate::rulings::Ruled;
+use crate::sums::{is_of, mode_charges, reserves, row_charges, row_pool, usage};
+use opfs_base::{Bytes, Key, origin_of, plus, times};
+use opfs_hist::Refusal;
+use opfs_locks::LockValue;
+use opfs_machine::{Many, Need, Own, Place, Row, State};
+use std::alloc::{AllocError, Global};
+
+/// The pool once some units are cleared.
+#[tactic(auto, using(crate::proofs::Cleared::pool_fold))]
+fn pool_without(state: &State<Bytes, Own>, gone: &[Key]) -> Result<u64, AllocError>
+    ensures { IfOk result (λ total. total ≡ pool in_bytes (fold cleared state.now gone.now)) }
+{
+    let files = row_pool(state.rows.items.as_slice(), gone)?;
+    let rows = reserves(state.agents.items.as_slice())?;
+    let total = plus(files, rows)?;
+    Ok(total)
+}
+
+/// The charge.
+fn charge(alloc: Global, state: &State<Bytes, Own>) -> Result<u64, AllocError>
+    ensures { IfOk result (λ total. total ≡ charge in_bytes state.now) }
+{
+    let rows = row_charges(state.rows.items.as_slice())?;
+    let modes = mode_charges(state.persistent.items.as_slice())?;
+    let none: Vec<Key> = Vec::new(alloc);
+    let blocks = times(8, pool_without(state, none.as_slice())?)?;
+    let metadata = plus(rows, modes)?;
+    let total = plus(metadata, blocks)?;
+    Ok(total)
+}
+
+/// Whether the pool has room for a need once some units are cleared.
+#[tactic(auto, using(crate::proofs::Cleared::limits_fold))]
+fn fits_without(state: &State<Bytes, Own>, gone: &[Key], need: u64) -> Result<bool, AllocError>
+    ensures { IfOk result (λ fits. fits ≡ fits_pool in_bytes (fold cleared state.now gone.now) need) }
+{
+    if need == 0 {
+        return Ok(true);
+    }
+    let after = plus(pool_without(state, gone)?, need)?;
+    let fits = after <= state.limits.blocks;
+    Ok(fits)
+}
+
+/// When an origin was last used: the number of its last entry, 0 where there is none.
+fn last_use(state: &State<Bytes, Own>, origin: &[u8]) -> u64
+    ensures { result ≡ last_use state.now origin.now }
+{
+    for entry in &state.used.items {
+        if origin.cmp(entry.0.as_bytes()).is_eq() {
+            return entry.1;
+        }
+    }
+    0
+}
+
+/// Whether no file of a unit has a taken lock.
+fn none_taken(state: &State<Bytes, Own>, unit: &Key) -> bool
+    ensures { result ≡ none_taken state.now unit.now }
+{
+    state
+        .rows
+        .items
+        .iter()
+        .all(|entry| *unit != entry.0.0 || is_untaken(&entry.1))
+}
+
+/// Whether a row has no taken lock.
+fn is_untaken(row: &Row<Bytes>) -> bool
+    ensures { result ≡ is_none (taken_lock row.now) }
+{
+    match row {
+        Row::Directory => true,
+        Row::File(file) => file.lock.0 == LockValue::Free,
+    }
+}
+
+/// Whether a unit with a root may be cleared for a call.
+fn is_candidate(state: &State<Bytes, Own>, caller: Option<&Key>, unit: &Key) -> bool
+    ensures { result ≡ is_candidate state.now (option_copied caller.entry) unit.now }
+{
+    !is_persistent(state, unit) && !is_callers(caller, unit) && none_taken(state, unit)
+}
+
+/// Whether a unit is of the caller's origin.
+fn is_callers(caller: Option<&Key>, unit: &Key) -> bool
+    ensures { result ≡ is_callers (option_copied caller.entry) unit.now }
+{
+    match caller {
+        None => false,
+        Some(origin) => is_of(origin.as_bytes(), unit),
+    }
+}
+
+/// Whether a place is a unit's root.
+fn is_root(place: &Place) -> bool
+    ensures { result ≡ is_root place.now }
+{
+    place.1.names().is_empty()
+}
+
+/// Whether a row is the root of a unit that may be cleared.
+fn is_root_candidate(state: &State<Bytes, Own>, caller: Option<&Key>, entry: &PlacedRow) -> bool
+    ensures { result ≡ (is_root entry.now.0 && is_candidate state.now (option_copied caller.entry) entry.now.0.0) }
+{
+    is_root(&entry.0) && is_candidate(state, caller, &entry.0.0)
+}
+
+/// Adds a candidate in its place, where a row is the root of one.
+fn add_candidate(
+    alloc: Global,
+    state: &State<Bytes, Own>,
+    caller: Option<&Key>,
+    sorted: &mut Vec<(u64, Key)>,
+    entry: &PlacedRow,
+) -> Result<(), AllocError>
+    ensures { OnOk result (sorted.new.items ≡ (if is_root entry.now.0 && is_candidate state.now (option_copied caller.entry) entry.now.0.0
+        then insert_by use_cmp (last_use state.now (origin_of entry.now.0.0), entry.now.0.0) sorted.old.items else sorted.old.items)) }
+{
+    if is_root_candidate(state, caller, entry) {
+        let unit = &entry.0.0;
+        let used = last_use(state, origin_of(unit.as_bytes()));
+        insert(sorted, (used, unit.copy(alloc)?))?;
+    }
+    Ok(())
+}
+
+/// The candidates for a call, each with its origin's last use, the one that was used longest ago first.
+fn candidates(
+    alloc: Global,
+    state: &State<Bytes, Own>,
+    caller: Option<&Key>,
+) -> Result<Vec<(u64, Key)>, AllocError>
+    ensures { IfOk result (λ sorted. map (λ e. e.1) sorted.items ≡ candidates state.now (option_copied caller.entry)) }
+{
+    let mut sorted = Vec::new(alloc);
+    for entry in state.rows.items.as_slice() {
+        add_candidate(alloc, state, caller, &mut sorted, entry)?;
+    }
+    Ok(sorted)
+}
+
+/// The shortest front of the units after whose clearing the need fits.
+fn shortest_front(
+    alloc: Global,
+    state: &State<Bytes, Own>,
+    need: u64,
+    units: &[(u64, Key)],
+) -> Result<Option<Many<Key>>, AllocError>
+    ensures { IfOk result (λ front. front ≡ shortest_front in_bytes state.now need (map (λ e. e.1) units.now)) }
+{
+    let mut gone: Vec<Key> = Vec::new(alloc);
+    for unit in units {
+        if fits_without(state, gone.as_slice(), need)? {
+            return Ok(Some(Many { items: gone }));
+        }
+        gone.push(unit.1.copy(alloc)?)?;
+    }
+    if fits_without(state, gone.as_slice(), need)? {
+        return Ok(Some(Many { items: gone }));
+    }
+    Ok(None)
+}
+
+/// Whether a need is within the quota of its origin.
+fn fits_quota(state: &State<Bytes, Own>, origin: &[u8], need: u64) -> Result<bool, AllocError>
+    ensures { IfOk result (λ fits. fits ≡ fits_quota in_bytes state.now origin.now need) }
+{
+    if need == 0 {
+        return Ok(true);
+    }
+    let after = plus(usage(state, origin)?, need)?;
+    let fits = after <= state.limits.quota;
+    Ok(fits)
+}
+
+/// Whether a growth of the charge is within the area.
+fn fits_area(alloc: Global, state: &State<Bytes, Own>, growth: u64) -> Result<bool, AllocError>
+    ensures { IfOk result (λ fits. fits ≡ fits_area in_bytes state.now growth) }
+{
+    if growth == 0 {
+        return Ok(true);
+    }
+    let after = plus(plus(charge(alloc, state)?, growth)?, 7)?;
+    let fits = after <= state.limits.area;
+    Ok(fits)
+}
+
+/// The text of the caller's origin; no text for an opaque one.
+fn origin_in(caller: Option<&Key>) -> &[u8]
+    ensures { result.now ≡ origin_in (option_copied caller.entry) }
+{
+    match caller {
+        None => &[],
+        Some(origin) => origin.as_bytes(),
+    }
+}
+
+/// The units that are cleared for a call that needs so many blocks of the pool: none where they fit as it is.
+#[tactic(auto, using(crate::proofs::Fronts::front_at_once))]
+fn victims(
+    alloc: Global,
+    state: &State<Bytes, Own>,
+    caller: Option<&Key>,
+    need: u64,
+) -> Result<Option<Many<Key>>, AllocError>
+    ensures { IfOk result (λ units. units ≡ victims in_bytes state.now (option_copied caller.entry) need) }
+{
+    let none: Vec<Key> = Vec::new(alloc);
+    if fits_without(state, none.as_slice(), need)? {
+        return Ok(Some(Many { items: none }));
+    }
+    let sorted = candidates(alloc, state, caller)?;
+    shortest_front(alloc, state, need, sorted.as_slice())
+}
+
+/// The units that are cleared for a need, judged in this order: the quota, the area, the pool.
+#[tactic(auto, unfolding(opfs_machine::specs::Machine::machine))]
+pub fn room_for(
+    alloc: Global,
+    state: &State<Bytes, Own>,
+    caller: Option<&Key>,
+    need: Need,
+) -> Ruled<Many<Key>>
+    ensures { IfOk result (λ ruled. ruled ≡ room_for in_bytes state.now (option_copied caller.entry) need) }
+{
+    let origin = origin_in(caller);
+    if !fits_quota(state, origin, need.quota)? {
+        let used = usage(state, origin)?;
+        return Ok(Err(Refusal::QuotaExceededError(used, need.quota, state.limits.quota)));
+    }
+    if !fits_area(alloc, state, need.charge)? {
+        let charge = charge(alloc, state)?;
+        return Ok(Err(Refusal::MetaFull(charge, need.charge, state.limits.area)));
+    }
+    pool_room(alloc, state, caller, need.pool)
+}
+
+/// The units that are cleared for a need of the pool.
+fn pool_room(
+    alloc: Global,
+    state: &State<Bytes, Own>,
+    caller: Option<&Key>,
+    need: u64,
+) -> Ruled<Many<Key>>
+    ensures { IfOk result (λ ruled. ruled ≡ some_or (victims in_bytes state.now (option_copied caller.entry) need) (Refusal.DataFull (pool in_bytes state.now) need state.now.limits.blocks)) }
+{
+    match victims(alloc, state, caller, need)? {
+        Some(units) => Ok(Ok(units)),
+        None => {
+            let none: Vec<Key> = Vec::new(alloc);
+            let pool = pool_without(state, none.as_slice())?;
+            Ok(Err(Refusal::DataFull(pool, need, state.limits.blocks)))
+        }
+    }
+}

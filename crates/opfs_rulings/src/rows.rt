@@ -1,0 +1,33 @@
+//! The list of rows, read.
+
+ghost use Rattle.std.specs.Prelude.{◌≡◌, IfOk};
+ghost use Rattle.std.specs.Option.{option_copied};
+ghost use Rattle.std.specs.FinMap.Entries.{find};
+ghost use Rattle.opfs_base.specs.Places.{place_cmp, place_of};
+
+use opfs_base::{Bytes, Key, Locator, Path, compare_places, copy_place};
+use opfs_machine::{Place, Row};
+use std::alloc::{AllocError, Global};
+
+/// A row and where it stands.
+pub type PlacedRow = (Place, Row<Bytes>);
+
+/// The row at a place.
+pub fn row_at<'a>(rows: &'a [PlacedRow], key: &Key, path: &Path) -> Option<&'a Row<Bytes>>
+    ensures { option_copied result ≡ find place_cmp (key.now, path.now) rows.now }
+{
+    for entry in rows {
+        if compare_places(key, path, &entry.0).is_eq() {
+            return Some(&entry.1);
+        }
+    }
+    None
+}
+
+/// Where a locator's entry stands.
+pub fn place_of(alloc: Global, at: &Locator) -> Result<Place, AllocError>
+    ensures { IfOk result (λ place. place ≡ place_of at.now) }
+{
+    let place = copy_place(alloc, &at.key, &at.path)?;
+    Ok(place)
+}

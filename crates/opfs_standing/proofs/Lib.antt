@@ -1,0 +1,15 @@
+pub mod Counted
+pub mod FileMoves
+pub mod Gone
+pub mod GoneMoves
+pub mod Handles
+pub mod Lines
+pub mod Locked
+pub mod Places
+pub mod Reserved
+pub mod RowSums
+pub mod SlotMoves
+pub mod Stores
+pub mod Streams
+pub mod TiedMoved
+pub mod Units

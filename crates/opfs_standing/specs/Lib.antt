@@ -1,0 +1,6 @@
+pub mod Beside
+pub mod Open
+pub mod Seen
+pub mod Sums
+pub mod Tied
+pub mod Moves
