@@ -4,5 +4,5 @@
 mod laws;
 mod space;
 
-pub use laws::covered_blocks_leave_room;
+pub use laws::{a_sweep_finds_what_is_used, covered_blocks_leave_room};
 pub use space::Space;

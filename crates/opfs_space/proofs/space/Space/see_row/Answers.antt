@@ -1,4 +1,4 @@
-use Rattle.std.proofs.Common.{◌≡◌, ◌∙◌, arith, refl, length}
+use Rattle.std.proofs.Common.{◌∙◌, arith, length}
 use Rattle.opfs_data.specs.Rows.{pages_at}
 use Rattle.opfs_space.proofs.Seeing.{seen_next, seen_all, page_below}
 use Rattle.opfs_space.proofs.space.Space.see_row.Goals as goal
