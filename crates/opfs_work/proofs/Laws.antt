@@ -35,7 +35,7 @@ length-front old at =
     let whole = length-append old (replicate (at - length old) nought) in
     omega (arith, length-take at (old ++ replicate (at - length old) nought), length-replicate (at - length old) nought)
 
-length-splice : (old : List ℕ) (at : ℕ) (new : List ℕ) → length (splice old at new) ≡ max (length old) (at + length new)
+pub length-splice : (old : List ℕ) (at : ℕ) (new : List ℕ) → length (splice old at new) ≡ max (length old) (at + length new)
 length-splice old at new =
     let front = take at (old ++ replicate (at - length old) nought) in
     let one = length-append front new in
@@ -43,7 +43,7 @@ length-splice old at new =
     let behind = length-drop (at + length new) old in
     omega (arith, length-front old at)
 
-splice_before : (old : List ℕ) (at : ℕ) (new : List ℕ) (i : ℕ) → i < at → get_or (splice old at new) i 0 ≡ get_or old i 0
+pub splice_before : (old : List ℕ) (at : ℕ) (new : List ℕ) (i : ℕ) → i < at → get_or (splice old at new) i 0 ≡ get_or old i 0
 splice_before old at new i below =
     let front = take at (old ++ replicate (at - length old) nought) in
     let one = length-append front new in
@@ -51,7 +51,7 @@ splice_before old at new i below =
     ∙ get_or_append_left front new 0 i (omega (arith, length-front old at))
     ∙ get_or-take at (old ++ replicate (at - length old) nought) i 0 below ∙ padded_at old (at - length old) i
 
-splice_inside : (old : List ℕ) (at : ℕ) (new : List ℕ) (i : ℕ) → at ≤ i → i < at + length new → get_or (splice old at new) i 0 ≡ get_or new (i - at) 0
+pub splice_inside : (old : List ℕ) (at : ℕ) (new : List ℕ) (i : ℕ) → at ≤ i → i < at + length new → get_or (splice old at new) i 0 ≡ get_or new (i - at) 0
 splice_inside old at new i from below =
     let front = take at (old ++ replicate (at - length old) nought) in
     let one = length-append front new in
@@ -61,7 +61,7 @@ splice_inside old at new i from below =
 back : (a b i : ℕ) → a ≤ i → a ≡ b → b + (i - a) ≡ i
 back a b i le is = omega arith
 
-splice_behind : (old : List ℕ) (at : ℕ) (new : List ℕ) (i : ℕ) → at + length new ≤ i → get_or (splice old at new) i 0 ≡ get_or old i 0
+pub splice_behind : (old : List ℕ) (at : ℕ) (new : List ℕ) (i : ℕ) → at + length new ≤ i → get_or (splice old at new) i 0 ≡ get_or old i 0
 splice_behind old at new i past =
     let front = take at (old ++ replicate (at - length old) nought) in
     let one = length-append front new in
@@ -102,11 +102,11 @@ told_splice f g n m at new size inside before gap behind =
 
 -- ---- resize
 
-length-resize : (old : List ℕ) (size : ℕ) → length (resize old size) ≡ size
+pub length-resize : (old : List ℕ) (size : ℕ) → length (resize old size) ≡ size
 length-resize old size =
     omega (arith, length-append (take size old) (replicate (size - length old) nought), length-take size old, length-replicate (size - length old) nought)
 
-resize_at : (old : List ℕ) (size i : ℕ) → i < size → get_or (resize old size) i 0 ≡ get_or old i 0
+pub resize_at : (old : List ℕ) (size i : ℕ) → i < size → get_or (resize old size) i 0 ≡ get_or old i 0
 resize_at old size i below = padded_at (take size old) (size - length old) i ∙ get_or-take size old i 0 below
 
 pub told_resize : (f g : ℕ → ℕ) (n m : ℕ) → ((i : ℕ) → i < m → i < n → g i ≡ f i) → ((i : ℕ) → i < m → n ≤ i → g i ≡ 0)

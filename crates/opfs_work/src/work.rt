@@ -154,14 +154,14 @@ impl Work {
         self.table.is_changed(page)
     }
 
-    /// The first page of those outside which a store has each page.
+    /// Before this page a store has each.
     pub fn changed_from(&self) -> u64
         ensures { result ≡ self.now.changed_from }
     {
         self.changed.from
     }
 
-    /// The page behind the last of those outside which a store has each page.
+    /// From this page on a store has each.
     pub fn changed_to(&self) -> u64
         ensures { result ≡ self.now.changed_to }
     {
@@ -304,7 +304,6 @@ impl Work {
         ensures near { near_count self.new.pages ≡ near_count self.old.pages }
         ensures rest { self.new ≡ record self.old { pages = self.new.pages; length = self.new.length } }
     {
-        let _ = &self.length;
         if self.length < size {
             self.table.stretch(blocks(size));
             self.length = size;
@@ -443,7 +442,7 @@ impl Work {
         self.stretch(size);
     }
 
-    /// Sends a page far. The caller knows that a store has its bytes, or that they are of no use any more. Takes no memory.
+    /// Sends a page far, whose bytes a store has or nobody needs. Takes no memory.
     pub fn let_go(&mut self, page: u64)
         requires { page < length self.old.pages }
         ensures { self.new ≡ record self.old { pages = slice_set self.old.pages page Page.Far } }
@@ -464,16 +463,17 @@ impl Work {
         requires { to ≤ length self.old.pages }
         ensures far { (k : ℕ) → from ≤ k → k < to → is_far (page_at self.new.pages k) ≡ true }
         ensures others { (k : ℕ) → (from ≤ k → k < to → ⊥) → page_at self.new.pages k ≡ page_at self.old.pages k }
+        ensures size { length self.new.pages ≡ length self.old.pages }
         ensures rest { self.new ≡ record self.old { pages = self.new.pages } }
     {
         self.table.forget(from, to);
     }
 
-    /// A store has each page now. The changed ones stay in memory while no more than 128 pages are there, and else go far.
-    /// Takes no memory.
+    /// A store has each page now. Changed ones stay in memory while at most 128 are there. Takes no memory.
     pub fn settle(&mut self)
         ensures pages { (k : ℕ) → IsSettled (page_at self.old.pages k) (page_at self.new.pages k) }
         ensures stored { (k : ℕ) → IsStored self.new k }
+        ensures size { length self.new.pages ≡ length self.old.pages }
         ensures rest { self.new ≡ record self.old { pages = self.new.pages; changed_from = 0; changed_to = 0 } }
     {
         let to = self.changed.to.min(self.table.len());

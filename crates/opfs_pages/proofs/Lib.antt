@@ -1,0 +1,3 @@
+pub mod PageBytes
+pub mod Named
+pub mod Left

@@ -1,0 +1,51 @@
+// A page of an open row, wherever it is.
+ghost use Rattle.std.specs.Prelude.{◌≡◌, ℕ, ◌+◌, ◌*◌, ◌<◌, ◌≤◌, true, List, length, OnOk, OnErr};
+ghost use Rattle.opfs_outside.specs.Faults.{Rose};
+ghost use Rattle.opfs_data.specs.Calls.{Reads};
+ghost use Rattle.opfs_data.specs.Pages.{page_of, LiesIn, IsDataPart};
+ghost use Rattle.opfs_data.specs.Rows.{pages_at, page_at as swap_page};
+ghost use Rattle.opfs_work.specs.Pages.{page_at, is_far};
+ghost use Rattle.opfs_pages.specs.Copies.{IsPageOf, IsCopy, IsHeld};
+
+use crate::bytes::cut_page;
+use opfs_data::Swap;
+use opfs_journal::{DiskFault, Journal};
+use opfs_outside::Disk;
+use opfs_work::Work;
+
+/// Reads a page of an open row, filled up with 0: from its working copy, or from the store. Block 0 begins at byte `base` of
+/// the disk. Takes no memory.
+pub fn read_page<D: Disk>(
+    work: &Work,
+    swap: &Swap,
+    journal: &mut Journal<D>,
+    base: u64,
+    agent: u32,
+    row: u32,
+    page: u64,
+    into: &mut [u8],
+) -> Result<(), DiskFault>
+    requires there { page < length work.now.pages }
+    requires whole { length into.old ≡ 4096 }
+    requires held { is_far (page_at work.now.pages page) ≡ true → page < length (pages_at agent row swap.now) }
+    requires lies { is_far (page_at work.now.pages page) ≡ true → LiesIn base (D.size journal.old.disk) (swap_page agent row page swap.now).block }
+    requires part { IsDataPart journal.old.areas base }
+    ensures reads { Reads D.tells D.size D.content D.moment D.since D.faults journal.old journal.new }
+    ensures read { OnOk result (D.tells → (bytes : List ℕ) → IsCopy bytes work.now
+        → IsHeld bytes work.now page (page_of (D.content journal.old.disk) base (swap_page agent row page swap.now)) → IsPageOf bytes page into.new) }
+    ensures whole { length into.new ≡ 4096 }
+    ensures cause { OnErr result (Rose (D.faults journal.old.disk) (D.faults journal.new.disk)) }
+{
+    let _pages = work.pages();
+    if let Some(near) = work.near_page(page) {
+        into.copy_from_slice(near);
+        return Ok(());
+    }
+    if work.is_zero(page) {
+        into.fill(0);
+        return Ok(());
+    }
+    swap.read(journal, base, agent, row, page, into)?;
+    cut_page(into, page, work.size());
+    Ok(())
+}

@@ -1,0 +1,134 @@
+// Pages of a row as a write leaves them, with all memory and reads before anything changes.
+ghost use Rattle.std.specs.Prelude.{◌≡◌, ◌⊎◌, ℕ, ◌+◌, ◌*◌, ◌^◌, ◌<◌, ◌≤◌, true, Some, List, length, OnOk, OnErr, IsErrOf};
+ghost use Rattle.opfs_outside.specs.Faults.{Rose};
+ghost use Rattle.opfs_splice.specs.Splicing.{splice};
+ghost use Rattle.opfs_data.specs.Calls.{Reads};
+ghost use Rattle.opfs_data.specs.Pages.{page_of, LiesIn, IsDataPart};
+ghost use Rattle.opfs_data.specs.Rows.{pages_at, page_at as swap_page};
+ghost use Rattle.opfs_data.specs.Writes.{HasBytes};
+ghost use Rattle.opfs_work.specs.Pages.{page_at, is_far};
+ghost use Rattle.opfs_pages.specs.Copies.{IsPageOf, IsCopy, IsHeld, IsNamed, IsRight};
+
+use crate::bytes::overlay;
+use crate::reading::read_page;
+use opfs_data::{DataRefusal, PageWrites, Swap};
+use opfs_journal::{DiskFault, Journal};
+use opfs_outside::Disk;
+use opfs_work::Work;
+use std::alloc::AllocError;
+
+// The bytes of a page.
+const PAGE: u64 = 4096;
+
+/// Adds a page of a row, as a write at a position leaves it, to those that are to be written: into a block, or into one that
+/// it gets later. The page's bytes are put together in a buffer. All memory and all reads come before the list changes.
+pub fn stage_page<D: Disk>(
+    work: &Work,
+    swap: &Swap,
+    journal: &mut Journal<D>,
+    base: u64,
+    agent: u32,
+    row: u32,
+    page: u64,
+    at: u64,
+    given: &[u8],
+    block: Option<u32>,
+    buffer: &mut [u8],
+    writes: &mut PageWrites,
+) -> Result<(), DataRefusal>
+    requires buffer { length buffer.old ≡ 4096 }
+    requires page { page < 2 ^ 51 }
+    requires end { at + length given.now < 2 ^ 63 }
+    requires held { is_far (page_at work.now.pages page) ≡ true → page < length (pages_at agent row swap.now) }
+    requires lies { is_far (page_at work.now.pages page) ≡ true → LiesIn base (D.size journal.old.disk) (swap_page agent row page swap.now).block }
+    requires part { IsDataPart journal.old.areas base }
+    ensures reads { Reads D.tells D.size D.content D.moment D.since D.faults journal.old journal.new }
+    ensures right { OnOk result (D.tells → (bytes : List ℕ) → IsCopy bytes work.now
+        → IsHeld bytes work.now page (page_of (D.content journal.old.disk) base (swap_page agent row page swap.now))
+        → IsRight (splice bytes at given.now) writes.old given.now → IsRight (splice bytes at given.now) writes.new given.now) }
+    ensures named { OnOk result ((p : ℕ) → (p ≡ page) ⊎ IsNamed writes.old given.now p → IsNamed writes.new given.now p) }
+    ensures bytes { OnOk result (HasBytes writes.old given.now → HasBytes writes.new given.now) }
+    ensures buffer { length buffer.new ≡ 4096 }
+    ensures cause { IsErrOf result DataRefusal.DiskFault → Rose (D.faults journal.old.disk) (D.faults journal.new.disk) }
+{
+    fill_page(work, swap, journal, base, agent, row, page, buffer)?;
+    overlay(buffer, page, at, given);
+    add_page(writes, page, block, buffer)?;
+    Ok(())
+}
+
+// A page of a row, and zeros past its last one.
+fn fill_page<D: Disk>(
+    work: &Work,
+    swap: &Swap,
+    journal: &mut Journal<D>,
+    base: u64,
+    agent: u32,
+    row: u32,
+    page: u64,
+    buffer: &mut [u8],
+) -> Result<(), DiskFault>
+    requires buffer { length buffer.old ≡ 4096 }
+    requires held { is_far (page_at work.now.pages page) ≡ true → page < length (pages_at agent row swap.now) }
+    requires lies { is_far (page_at work.now.pages page) ≡ true → LiesIn base (D.size journal.old.disk) (swap_page agent row page swap.now).block }
+    requires part { IsDataPart journal.old.areas base }
+    ensures reads { Reads D.tells D.size D.content D.moment D.since D.faults journal.old journal.new }
+    ensures read { OnOk result (D.tells → (bytes : List ℕ) → IsCopy bytes work.now
+        → IsHeld bytes work.now page (page_of (D.content journal.old.disk) base (swap_page agent row page swap.now)) → IsPageOf bytes page buffer.new) }
+    ensures buffer { length buffer.new ≡ 4096 }
+    ensures cause { OnErr result (Rose (D.faults journal.old.disk) (D.faults journal.new.disk)) }
+{
+    if page >= work.pages() {
+        buffer.fill(0);
+        return Ok(());
+    }
+    read_page(work, swap, journal, base, agent, row, page, buffer)?;
+    Ok(())
+}
+
+// Adds a page with its bytes.
+fn add_page(
+    writes: &mut PageWrites,
+    page: u64,
+    block: Option<u32>,
+    bytes: &[u8],
+) -> Result<(), AllocError>
+    requires whole { length bytes.now ≡ 4096 }
+    requires small { page + 1 < 2 ^ 63 }
+    ensures right { OnOk result ((row given : List ℕ) → IsPageOf row page bytes.now → IsRight row writes.old given → IsRight row writes.new given) }
+    ensures named { OnOk result ((given : List ℕ) (p : ℕ) → (p ≡ page) ⊎ IsNamed writes.old given p → IsNamed writes.new given p) }
+    ensures bytes { OnOk result ((given : List ℕ) → HasBytes writes.old given → HasBytes writes.new given) }
+{
+    match block {
+        Some(block) => writes.add_own(page, block, bytes)?,
+        None => writes.add_own_move(page, bytes)?,
+    }
+    Ok(())
+}
+
+/// Adds pages that a write covers whole, with the bytes of the call themselves: no read and no copy. They go into blocks from
+/// one on, or into ones that they get later.
+pub fn stage_whole(
+    page: u64,
+    count: u32,
+    at: u64,
+    given: &[u8],
+    block: Option<u32>,
+    writes: &mut PageWrites,
+) -> Result<(), AllocError>
+    requires some { 0 < count }
+    requires begins { at ≤ 4096 * page }
+    requires ends { 4096 * (page + count) ≤ at + length given.now }
+    requires end { at + length given.now < 2 ^ 63 }
+    requires blocks { (b : ℕ) → block ≡ Some b → b + count ≤ 2 ^ 32 }
+    ensures right { OnOk result ((old : List ℕ) → IsRight (splice old at given.now) writes.old given.now → IsRight (splice old at given.now) writes.new given.now) }
+    ensures named { OnOk result ((p : ℕ) → ((page ≤ p) × (p < page + count)) ⊎ IsNamed writes.old given.now p → IsNamed writes.new given.now p) }
+    ensures bytes { OnOk result (HasBytes writes.old given.now → HasBytes writes.new given.now) }
+{
+    let from = page * PAGE - at;
+    match block {
+        Some(block) => writes.add(page, count, block, from)?,
+        None => writes.add_move(page, count, from)?,
+    }
+    Ok(())
+}
