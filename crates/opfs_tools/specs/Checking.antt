@@ -6,7 +6,7 @@ use Rattle.sha2.specs.Sha256.{sha256}
 use Rattle.opfs_base.specs.Blocks.{blocks}
 use Rattle.opfs_base.specs.Texts.{Text}
 use Rattle.opfs_base.specs.Places.{Place}
-use Rattle.opfs_codec.specs.Charges.{unit_bytes, path_bytes}
+use Rattle.opfs_base.specs.Measures.{block_charge, root_charge, directory_charge, file_charge, mode_charge}
 use Rattle.opfs_machine.specs.Openings.{Map, Stored, folder, document}
 use Rattle.opfs_print.specs.Lines.{joined, names_text}
 use Rattle.opfs_tools.specs.Sights.{Sights, sights_of, used_blocks}
@@ -36,13 +36,13 @@ count_of test rows = length (filter test rows)
 
 -- What a row adds to the charge: as a root, as another directory, or as a file.
 abbrev pub row_charge : Place × Sight → ℕ
-row_charge ((unit, []), sight.Directory) = 3 + unit_bytes unit
-row_charge ((unit, name ∷ names), sight.Directory) = 3 + unit_bytes unit + path_bytes (name ∷ names)
-row_charge ((unit, path), sight.File size stamp) = 34 + 2 * (unit_bytes unit + path_bytes path) + 8 * blocks size
+row_charge ((unit, []), sight.Directory) = root_charge unit
+row_charge ((unit, name ∷ names), sight.Directory) = directory_charge (unit, name ∷ names)
+row_charge ((unit, path), sight.File size stamp) = file_charge (unit, path) + block_charge * blocks size
 
 -- The charge of rows and persistent units.
 unfoldable pub whole_charge : Sights → List Text → ℕ
-whole_charge rows persistent = sum_by row_charge rows + sum_by (λ unit. 3 + unit_bytes unit) persistent
+whole_charge rows persistent = sum_by row_charge rows + sum_by mode_charge persistent
 
 -- The last line: how many units `list` prints, the directories, the files, the used data blocks, and the charge.
 abbrev pub ok_line : ℕ → ℕ → ℕ → ℕ → ℕ → Text
