@@ -81,7 +81,7 @@ abbrev pub with_note : Row → Built
 with_note note = record { rows = ((a_key, []), row.Dir) ∷ ((a_key, codes "note" ∷ []), note) ∷ []; persistent = [] }
 
 abbrev pub made_file : Built
-made_file = with_note (row.File (record { length = 0; stamp = 0; extents = []; lock = open_lock }))
+made_file = with_note (row.File (record { length = 0; stamp = 0; present = 0; present_stamp = 0; extents = []; lock = open_lock }))
 
 abbrev pub note_built : Built
-note_built = with_note (row.File (record { length = 5; stamp = 0; extents = record { start = 0; count = 1 } ∷ []; lock = open_lock }))
+note_built = with_note (row.File (record { length = 5; stamp = 0; present = 5; present_stamp = 0; extents = record { start = 0; count = 1 } ∷ []; lock = open_lock }))

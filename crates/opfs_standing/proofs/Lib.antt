@@ -8,6 +8,7 @@ pub mod Lines
 pub mod Locked
 pub mod Made
 pub mod Places
+pub mod ReadLines
 pub mod Reserved
 pub mod RowMoves
 pub mod RowSums

@@ -3,6 +3,7 @@
 #![tactic(auto)]
 
 mod beside;
+mod readers;
 mod standing;
 
 pub use standing::Standing;
