@@ -1,7 +1,7 @@
 //! Which words are a command.
 
 use crate::asking::words_of;
-use opfs_commands::{Action, read_command};
+use opfs_commands::{Action, Command, read_command};
 use opfs_image::Geometry;
 use std::alloc::{AllocError, Global};
 use std::test::Fail;
@@ -10,11 +10,12 @@ use std::test::Fail;
 fn asked(alloc: Global, words: &[&str]) -> Result<Option<Action>, AllocError> {
     let words = words_of(alloc, words)?;
     match read_command(&words) {
-        Some(command) => if command.image == "I" {
-            Ok(Some(command.action))
+        Some(Command::OnImage(path, action)) => if path == "I" {
+            Ok(Some(action))
         } else {
             Ok(None)
         },
+        Some(Command::Try) => Ok(None),
         None => Ok(None),
     }
 }
@@ -57,5 +58,14 @@ fn words_that_ask_for_something(rt: HostRuntime) -> Result<(), Fail> {
     for (words, action) in rows {
         assert_eq!(rt; asked(alloc, words)?, Some(action));
     }
+    Ok(())
+}
+
+#[test]
+fn the_one_word_try_asks_for_a_trial(rt: HostRuntime) -> Result<(), Fail> {
+    let words = words_of(rt.alloc(), &["try"])?;
+    assert!(rt; matches!(read_command(&words), Some(Command::Try)));
+    let more = words_of(rt.alloc(), &["try", "I"])?;
+    assert!(rt; read_command(&more).is_none());
     Ok(())
 }
