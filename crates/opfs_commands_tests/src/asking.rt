@@ -1,7 +1,7 @@
 //! Commands over a host in memory.
 
 use opfs_base::{Bytes, Words};
-use opfs_commands::{ToolAnswer, ToolEnd, read_command, run_command};
+use opfs_commands::{Command, ToolAnswer, ToolEnd, read_command, run_command};
 use opfs_memory::MemHost;
 use std::alloc::{AllocError, Global};
 use std::str;
@@ -81,11 +81,14 @@ fn told(alloc: Global, answer: &ToolAnswer) -> Result<String, AllocError> {
 /// How the command of these words ends, and then its text.
 pub fn ask(alloc: Global, host: &mut MemHost, words: &[&str]) -> Result<String, AllocError> {
     let words = words_of(alloc, words)?;
-    let Some(command) = read_command(&words) else {
-        return String::from_str(alloc, "no command");
-    };
-    let answer = run_command(alloc, host, command.image, command.action)?;
-    told(alloc, &answer)
+    match read_command(&words) {
+        Some(Command::OnImage(path, action)) => {
+            let answer = run_command(alloc, host, path, action)?;
+            told(alloc, &answer)
+        }
+        Some(Command::Try) => String::from_str(alloc, "no command on an image"),
+        None => String::from_str(alloc, "no command"),
+    }
 }
 
 /// What a command of one word tells of an image.
