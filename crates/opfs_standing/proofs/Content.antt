@@ -21,7 +21,7 @@ use Rattle.opfs_shed.specs.Buckets as shed_words
 use Rattle.opfs_tree.specs.declared.row.FileRow.{FileRow}
 use Rattle.opfs_tree.specs.declared.row.Row.{Row}
 use Rattle.opfs_tree.specs.Rows as tree
-use Rattle.opfs_standing.specs.Beside.{Rest}
+use Rattle.opfs_seats.specs.Registers.{Registered}
 use Rattle.opfs_standing.specs.Seen.{Machine, machine_of, lines_of, persistent_in}
 use Rattle.opfs_standing.specs.Sums.{clearable}
 use Rattle.opfs_standing.specs.Tied.{IsKnown, IsTied}
@@ -59,7 +59,7 @@ some_row : (o : Option Row) (f : FileRow) → tree.file_of o ≡ Some f → is_s
 some_row None f h = cc
 some_row (Some r) f h = refl
 
-module _ (rows : tree.Rows) (shed : Storage) (pool : Blocks) (rest : Rest) (cost : ℕ) (top : List Text) (unit : Text) (path : List Text) (f : FileRow)
+module _ (rows : tree.Rows) (shed : Storage) (pool : Blocks) (rest : Registered) (cost : ℕ) (top : List Text) (unit : Text) (path : List Text) (f : FileRow)
     (tied : IsTied (machine_of rows shed.buckets rest) shed pool cost top) (found : tree.file_at (unit, path) rows ≡ Some f) where
   pub content-known : IsKnown shed pool unit
   content-known = tied.known (unit, path) (there-at (unit, path) rows ∙ some_row (tree.row_at (unit, path) rows) f found)

@@ -12,7 +12,7 @@ use Rattle.opfs_pool.specs.Shares.{Blocks, share_at, changed, held}
 use Rattle.opfs_seats.specs.Slots.{slot_in, handle_at, with_slot, keeping}
 use Rattle.opfs_shed.specs.Buckets.{Storage}
 use Rattle.opfs_tree.specs.Rows as tree
-use Rattle.opfs_standing.specs.Beside.{Rest}
+use Rattle.opfs_seats.specs.Registers.{Registered}
 use Rattle.opfs_standing.specs.Seen.{Machine, machine_of, with_slot_at}
 use Rattle.opfs_standing.specs.Sums.{reserve_where}
 use Rattle.opfs_standing.specs.Tied.{IsKnown, IsTied}
@@ -41,7 +41,7 @@ slot-is-handle agents at n w h = of_slot (slot_in agents at n) h
     of_slot None e = cc
     of_slot (Some r) e = ap Some (in_row r e)
 
-module _ (rows : tree.Rows) (shed : Storage) (blocks : Blocks) (rest : Rest) (cost : ℕ) (top : List Text) (at n : ℕ) (w : HandleOutline)
+module _ (rows : tree.Rows) (shed : Storage) (blocks : Blocks) (rest : Registered) (cost : ℕ) (top : List Text) (at n : ℕ) (w : HandleOutline)
     (tied : IsTied (machine_of rows shed.buckets rest) shed blocks cost top) (found : handle_at rest.agents at n ≡ Some w) (there : is_some (row_at (machine_of rows shed.buckets rest) w.file) ≡ true) where
   abbrev pub m : Machine
   m = machine_of rows shed.buckets rest
@@ -62,7 +62,7 @@ module _ (rows : tree.Rows) (shed : Storage) (blocks : Blocks) (rest : Rest) (co
   pub handle-held : held blocks.shares ≡ pool in_lengths m
   handle-held = tied.held ∙ sym (pool-is m)
 
-  module _ (blocks_after : Blocks) (rest_after : Rest) where
+  module _ (blocks_after : Blocks) (rest_after : Registered) where
     -- It keeps more.
     module _ (more : ℕ) (set : (r : Outline) → slot_in rest.agents at n ≡ Some r → rest_after ≡ record rest { agents = with_slot rest.agents at n (keeping (w.reserve + more) r) }) where
       abbrev grown : Outline

@@ -11,7 +11,7 @@ use Rattle.opfs_pool.specs.Shares.{Blocks, share_at, changed}
 use Rattle.opfs_shed.specs.Buckets.{Storage, bucket_at}
 use Rattle.opfs_tree.specs.declared.row.Row.{Row}
 use Rattle.opfs_tree.specs.Rows as tree
-use Rattle.opfs_standing.specs.Beside.{Rest}
+use Rattle.opfs_seats.specs.Registers.{Registered}
 use Rattle.opfs_standing.specs.Seen.{Machine, machine_of, line_of, lines_of}
 use Rattle.opfs_standing.specs.Sums.{clearable}
 use Rattle.opfs_standing.specs.Tied.{IsKnown, IsTied}
@@ -21,7 +21,7 @@ use Rattle.opfs_standing.proofs.RowMoves.{lines-put, comes, nothing_left, row-mo
 use Rattle.opfs_standing.proofs.Stores.{shed-kept, pool-marked, marked-here}
 use Rattle.opfs_standing.proofs.TiedMoved.{tied_moved}
 
-module _ (rows new : tree.Rows) (shed : Storage) (pool : Blocks) (rest : Rest) (cost : ℕ) (top : List Text) (unit : Text) (path : List Text) (r : Row)
+module _ (rows new : tree.Rows) (shed : Storage) (pool : Blocks) (rest : Registered) (cost : ℕ) (top : List Text) (unit : Text) (path : List Text) (r : Row)
     (is : new ≡ put place_cmp (unit, path) r rows) where
   abbrev pub place : Place
   place = (unit, path)

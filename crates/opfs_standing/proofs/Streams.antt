@@ -13,7 +13,7 @@ use Rattle.opfs_seats.specs.Slots.{slot_in, stream_at, with_slot, keeping}
 use Rattle.opfs_shed.specs.Buckets.{Storage, has_unit, bucket_at, usage_of, part_of}
 use Rattle.opfs_shed.specs.Buckets as shed_words
 use Rattle.opfs_tree.specs.Rows as tree
-use Rattle.opfs_standing.specs.Beside.{Rest}
+use Rattle.opfs_seats.specs.Registers.{Registered}
 use Rattle.opfs_standing.specs.Seen.{Machine, machine_of, with_slot_at, persistent_in}
 use Rattle.opfs_standing.specs.Sums.{stream_where, reserve_where, of_origin}
 use Rattle.opfs_standing.specs.Tied.{IsKnown, IsTied}
@@ -26,7 +26,7 @@ use Rattle.opfs_standing.proofs.Units.{unit_itself}
 pub one_stream : {x y : StreamOutline} → Some x ≡ Some y → x ≡ y
 one_stream h = cc
 
-module _ (rows : tree.Rows) (shed : Storage) (blocks : Blocks) (rest : Rest) (cost : ℕ) (top : List Text) (at n : ℕ) (w : StreamOutline)
+module _ (rows : tree.Rows) (shed : Storage) (blocks : Blocks) (rest : Registered) (cost : ℕ) (top : List Text) (at n : ℕ) (w : StreamOutline)
     (tied : IsTied (machine_of rows shed.buckets rest) shed blocks cost top) (found : stream_at rest.agents at n ≡ Some w) (there : is_some (row_at (machine_of rows shed.buckets rest) w.file) ≡ true) where
   abbrev pub m : Machine
   m = machine_of rows shed.buckets rest
@@ -65,7 +65,7 @@ module _ (rows : tree.Rows) (shed : Storage) (blocks : Blocks) (rest : Rest) (co
   pub held-known : held blocks.shares ≡ pool in_lengths m
   held-known = tied.held ∙ sym (pool-is m)
 
-  module _ (shed_after : Storage) (blocks_after : Blocks) (rest_after : Rest) where
+  module _ (shed_after : Storage) (blocks_after : Blocks) (rest_after : Registered) where
     module _ (more : ℕ) (added : shed_after ≡ shed_words.changed shed w.file.0 (record (bucket_at shed.buckets w.file.0) { usage = (bucket_at shed.buckets w.file.0).usage + more }))
         (set : (r : Outline) → slot_in rest.agents at n ≡ Some r → rest_after ≡ record rest { agents = with_slot rest.agents at n (keeping (w.reserve + more) r) }) where
       abbrev grown : Outline

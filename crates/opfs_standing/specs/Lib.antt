@@ -1,4 +1,3 @@
-pub mod Beside
 pub mod Open
 pub mod Seen
 pub mod Sums

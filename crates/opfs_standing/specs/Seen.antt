@@ -9,7 +9,7 @@ use Rattle.opfs_machine.specs.declared.state.State.{State}
 use Rattle.opfs_machine.specs.Rows.{Rows as Lines}
 use Rattle.opfs_seats.specs.Slots.{with_slot}
 use Rattle.opfs_shed.specs.Buckets.{Buckets, bucket_at}
-use Rattle.opfs_standing.specs.Beside.{Rest}
+use Rattle.opfs_seats.specs.Registers.{Registered}
 use Rattle.opfs_tree.specs.Rows.{Rows}
 use Rattle.opfs_tree.specs.declared.row.Row.{Row}
 use Rattle.opfs_tree.specs.declared.row.Row.TheVariants as row
@@ -30,15 +30,15 @@ lines_of rows = map (λ e. (e.0, line_of e.1)) rows
 abbrev pub persistent_in : Buckets → List Text
 persistent_in buckets = filter (λ unit. (bucket_at buckets unit).persistent) (keys_of buckets)
 
-abbrev pub machine_of : Rows → Buckets → Rest → Machine
-machine_of rows buckets beside = record {
+abbrev pub machine_of : Rows → Buckets → Registered → Machine
+machine_of rows buckets register = record {
   rows = lines_of rows;
   persistent = persistent_in buckets;
-  posted = beside.posted;
-  agents = beside.agents;
-  entries = beside.entries;
-  used = beside.used;
-  limits = beside.limits;
+  posted = register.posted;
+  agents = register.agents;
+  entries = register.entries;
+  used = register.used;
+  limits = register.limits;
 }
 
 pub record Seen : Type 0 where

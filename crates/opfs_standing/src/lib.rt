@@ -2,7 +2,6 @@
 //! ask for.
 #![tactic(auto)]
 
-mod beside;
 mod readers;
 mod standing;
 

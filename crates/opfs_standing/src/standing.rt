@@ -31,11 +31,10 @@ ghost use Rattle.opfs_standing.specs.Seen.{with_slot_at};
 ghost use Rattle.opfs_tree.specs.Rows.{row_at, file_at, change_at, locked, none_taken};
 ghost use Rattle.opfs_tree.specs.Rows.{unlocked as unlocked_row};
 
-use crate::beside::Beside;
 use opfs_base::{Extent, Extents, Key, Path, blocks};
 use opfs_locks::{Held, Want};
 use opfs_pool::Pool;
-use opfs_seats::{OpenHandle, OpenStream};
+use opfs_seats::{OpenHandle, OpenStream, Register};
 use opfs_shed::Shed;
 use opfs_tree::{Row, Tree};
 use std::alloc::{AllocError, Global};
@@ -46,7 +45,7 @@ pub struct Standing {
     pub(crate) tree: Tree,
     pub(crate) shed: Shed,
     pub(crate) pool: Pool,
-    pub(crate) beside: Beside,
+    pub(crate) register: Register,
     // The charge of rows and modes, without that of blocks.
     pub(crate) fixed: u64,
     // The path of each root.
@@ -59,9 +58,9 @@ impl Model for Standing {
 
     ghost Value = { Seen };
 
-    ghost view = { λ s. record { machine = machine_of s.tree s.shed.buckets s.beside; tree = s.tree } };
+    ghost view = { λ s. record { machine = machine_of s.tree s.shed.buckets s.register; tree = s.tree } };
 
-    ghost invariant = { λ s. IsTied (machine_of s.tree s.shed.buckets s.beside) s.shed s.pool s.fixed s.root };
+    ghost invariant = { λ s. IsTied (machine_of s.tree s.shed.buckets s.register) s.shed s.pool s.fixed s.root };
 }
 
 impl Standing {
@@ -112,13 +111,13 @@ impl Standing {
         ensures machine { (w : StreamOutline) → stream_at self.old.machine.agents at n ≡ Some w → self.new.machine ≡ with_slot_at self.old.machine at n (outline.Stream (record w { reserve = w.reserve + more })) }
         ensures tree { self.new.tree ≡ self.old.tree }
     {
-        let Some(stream) = self.beside.stream(at, n) else {
+        let Some(stream) = self.register.stream(at, n) else {
             unreachable!();
         };
         let reserve = stream.reserve + more;
         self.shed.add(&stream.file.0, more);
         self.pool.raise(&stream.file.0, more);
-        self.beside.set_reserve(at, n, reserve);
+        self.register.set_reserve(at, n, reserve);
     }
 
     /// Closes an open stream, whose file is there, and gives it.
@@ -128,7 +127,7 @@ impl Standing {
         ensures tree { self.new.tree ≡ self.old.tree }
         ensures stream { stream_at self.old.machine.agents at n ≡ Some result }
     {
-        let stream = self.beside.close_stream(at, n);
+        let stream = self.register.close_stream(at, n);
         let reserve = stream.outline().reserve;
         self.shed.free(&stream.outline().file.0, reserve);
         self.pool.lower(&stream.outline().file.0, reserve);
@@ -142,14 +141,14 @@ impl Standing {
         ensures machine { (h : HandleOutline) → handle_at self.old.machine.agents at n ≡ Some h → self.new.machine ≡ with_slot_at self.old.machine at n (outline.Handle (record h { reserve = h.reserve + more })) }
         ensures tree { self.new.tree ≡ self.old.tree }
     {
-        let Some(handle) = self.beside.handle(at, n) else {
+        let Some(handle) = self.register.handle(at, n) else {
             unreachable!();
         };
         self.pool.raise(&handle.file.0, more);
         // What is kept is a count of 64 bits, and the handle's is a part of it.
         let _kept = self.pool.count();
         let reserve = handle.reserve + more;
-        self.beside.set_reserve(at, n, reserve);
+        self.register.set_reserve(at, n, reserve);
     }
 
     /// Keeps no block for an open access handle, whose file is there.
@@ -158,11 +157,11 @@ impl Standing {
         ensures machine { (h : HandleOutline) → handle_at self.old.machine.agents at n ≡ Some h → self.new.machine ≡ with_slot_at self.old.machine at n (outline.Handle (record h { reserve = 0 })) }
         ensures tree { self.new.tree ≡ self.old.tree }
     {
-        let Some(handle) = self.beside.handle(at, n) else {
+        let Some(handle) = self.register.handle(at, n) else {
             unreachable!();
         };
         self.pool.lower(&handle.file.0, handle.reserve);
-        self.beside.set_reserve(at, n, 0);
+        self.register.set_reserve(at, n, 0);
     }
 
     /// Closes an open access handle, whose file is there, and gives it.
@@ -172,7 +171,7 @@ impl Standing {
         ensures tree { self.new.tree ≡ self.old.tree }
         ensures handle { handle_at self.old.machine.agents at n ≡ Some result }
     {
-        let handle = self.beside.close_handle(at, n);
+        let handle = self.register.close_handle(at, n);
         let reserve = handle.outline().reserve;
         self.pool.lower(&handle.outline().file.0, reserve);
         handle

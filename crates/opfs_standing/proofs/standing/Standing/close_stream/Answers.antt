@@ -8,31 +8,31 @@ use Rattle.opfs_standing.proofs.standing.Standing.close_stream.Goals as goal
 pub free-requires : goal.free-requires
 free-requires c =
     let w = c.close_stream-stream.result in
-    let at : IsStreamAt (machine_of c.self.inside.tree c.self.inside.shed.buckets c.self.inside.beside) c.args.at c.args.n = subst (λ (s : Seen). IsStreamAt s.machine c.args.at c.args.n) (sym c.self.view_is) c.requires.stream in
+    let at : IsStreamAt (machine_of c.self.inside.tree c.self.inside.shed.buckets c.self.inside.register) c.args.at c.args.n = subst (λ (s : Seen). IsStreamAt s.machine c.args.at c.args.n) (sym c.self.view_is) c.requires.stream in
     rw (c.outline.ensures, c.outline-2.ensures)
-    (stream-usage c.self.inside.tree c.self.inside.shed c.self.inside.pool c.self.inside.beside c.self.inside.fixed c.self.inside.root c.args.at c.args.n w c.self.invariant c.close_stream-stream.ensures.stream
+    (stream-usage c.self.inside.tree c.self.inside.shed c.self.inside.pool c.self.inside.register c.self.inside.fixed c.self.inside.root c.args.at c.args.n w c.self.invariant c.close_stream-stream.ensures.stream
     (at.there w c.close_stream-stream.ensures.stream))
 
 pub lower-requires : goal.lower-requires
 lower-requires c =
     let w = c.close_stream-stream.result in
-    let at : IsStreamAt (machine_of c.self.inside.tree c.self.inside.shed.buckets c.self.inside.beside) c.args.at c.args.n = subst (λ (s : Seen). IsStreamAt s.machine c.args.at c.args.n) (sym c.self.view_is) c.requires.stream in
+    let at : IsStreamAt (machine_of c.self.inside.tree c.self.inside.shed.buckets c.self.inside.register) c.args.at c.args.n = subst (λ (s : Seen). IsStreamAt s.machine c.args.at c.args.n) (sym c.self.view_is) c.requires.stream in
     rw (c.outline.ensures, c.outline-3.ensures)
-    (stream-blocks c.self.inside.tree c.self.inside.shed c.self.inside.pool c.self.inside.beside c.self.inside.fixed c.self.inside.root c.args.at c.args.n w c.self.invariant c.close_stream-stream.ensures.stream
+    (stream-blocks c.self.inside.tree c.self.inside.shed c.self.inside.pool c.self.inside.register c.self.inside.fixed c.self.inside.root c.args.at c.args.n w c.self.invariant c.close_stream-stream.ensures.stream
     (at.there w c.close_stream-stream.ensures.stream))
 
 pub invariant_of-self : goal.invariant_of-self
 invariant_of-self c =
     let w = c.close_stream-stream.result in
-    let at : IsStreamAt (machine_of c.self.inside.tree c.self.inside.shed.buckets c.self.inside.beside) c.args.at c.args.n = subst (λ (s : Seen). IsStreamAt s.machine c.args.at c.args.n) (sym c.self.view_is) c.requires.stream in
-    closed-tied c.self.inside.tree c.self.inside.shed c.self.inside.pool c.self.inside.beside c.self.inside.fixed c.self.inside.root c.args.at c.args.n w c.self.invariant c.close_stream-stream.ensures.stream
+    let at : IsStreamAt (machine_of c.self.inside.tree c.self.inside.shed.buckets c.self.inside.register) c.args.at c.args.n = subst (λ (s : Seen). IsStreamAt s.machine c.args.at c.args.n) (sym c.self.view_is) c.requires.stream in
+    closed-tied c.self.inside.tree c.self.inside.shed c.self.inside.pool c.self.inside.register c.self.inside.fixed c.self.inside.root c.args.at c.args.n w c.self.invariant c.close_stream-stream.ensures.stream
     (at.there w c.close_stream-stream.ensures.stream) c.free.new.self c.lower.new.self c.close_stream-stream.new.self (rw (c.outline.ensures, c.outline-2.ensures) at c.free.ensures.bucket) c.close_stream-stream.ensures.rest
     (rw (c.outline.ensures, c.outline-2.ensures) at c.free.ensures.usage) (rw (c.outline.ensures, c.outline-3.ensures) at c.lower.ensures.share) (rw c.outline.ensures at c.lower.ensures.held)
 
 pub returns-clause-machine : goal.returns-clause-machine
 returns-clause-machine c =
     let w = c.close_stream-stream.result in
-    let at : IsStreamAt (machine_of c.self.inside.tree c.self.inside.shed.buckets c.self.inside.beside) c.args.at c.args.n = subst (λ (s : Seen). IsStreamAt s.machine c.args.at c.args.n) (sym c.self.view_is) c.requires.stream in
-    closed-machine c.self.inside.tree c.self.inside.shed c.self.inside.pool c.self.inside.beside c.self.inside.fixed c.self.inside.root c.args.at c.args.n w c.self.invariant c.close_stream-stream.ensures.stream
+    let at : IsStreamAt (machine_of c.self.inside.tree c.self.inside.shed.buckets c.self.inside.register) c.args.at c.args.n = subst (λ (s : Seen). IsStreamAt s.machine c.args.at c.args.n) (sym c.self.view_is) c.requires.stream in
+    closed-machine c.self.inside.tree c.self.inside.shed c.self.inside.pool c.self.inside.register c.self.inside.fixed c.self.inside.root c.args.at c.args.n w c.self.invariant c.close_stream-stream.ensures.stream
     (at.there w c.close_stream-stream.ensures.stream) c.free.new.self c.lower.new.self c.close_stream-stream.new.self (rw (c.outline.ensures, c.outline-2.ensures) at c.free.ensures.bucket) c.close_stream-stream.ensures.rest
     ∙ ap (λ (s : Seen). with_slot_at s.machine c.args.at c.args.n outline.ClosedStream) c.self.view_is

@@ -13,35 +13,35 @@ use Rattle.opfs_standing.proofs.standing.Standing.grow_stream.Goals as goal
 pub overflow_add-reserve : goal.overflow_add-reserve
 overflow_add-reserve c =
     let w = c.in-Some.stream.now in
-    let found : stream_at c.self.inside.beside.agents c.args.at c.args.n ≡ Some w = sym c.in-Some.ensures in
-    let at : IsStreamAt (machine_of c.self.inside.tree c.self.inside.shed.buckets c.self.inside.beside) c.args.at c.args.n = subst (λ (s : Seen). IsStreamAt s.machine c.args.at c.args.n) (sym c.self.view_is) c.requires.stream in
-    let quota : usage in_lengths (machine_of c.self.inside.tree c.self.inside.shed.buckets c.self.inside.beside) (origin_of w.file.0) + c.args.more < 2 ^ 64 =
+    let found : stream_at c.self.inside.register.agents c.args.at c.args.n ≡ Some w = sym c.in-Some.ensures in
+    let at : IsStreamAt (machine_of c.self.inside.tree c.self.inside.shed.buckets c.self.inside.register) c.args.at c.args.n = subst (λ (s : Seen). IsStreamAt s.machine c.args.at c.args.n) (sym c.self.view_is) c.requires.stream in
+    let quota : usage in_lengths (machine_of c.self.inside.tree c.self.inside.shed.buckets c.self.inside.register) (origin_of w.file.0) + c.args.more < 2 ^ 64 =
     (rw (← c.self.view_is) at c.requires.quota) w found in
-    omega (arith, quota, stream-in-usage c.self.inside.tree c.self.inside.shed c.self.inside.pool c.self.inside.beside c.self.inside.fixed c.self.inside.root c.args.at c.args.n w c.self.invariant found (at.there w found))
+    omega (arith, quota, stream-in-usage c.self.inside.tree c.self.inside.shed c.self.inside.pool c.self.inside.register c.self.inside.fixed c.self.inside.root c.args.at c.args.n w c.self.invariant found (at.there w found))
 
 pub add-requires-clause-fits : goal.add-requires-clause-fits
 add-requires-clause-fits c =
     let w = c.in-Some.stream.now in
-    let found : stream_at c.self.inside.beside.agents c.args.at c.args.n ≡ Some w = sym c.in-Some.ensures in
-    let at : IsStreamAt (machine_of c.self.inside.tree c.self.inside.shed.buckets c.self.inside.beside) c.args.at c.args.n = subst (λ (s : Seen). IsStreamAt s.machine c.args.at c.args.n) (sym c.self.view_is) c.requires.stream in
-    let quota : usage in_lengths (machine_of c.self.inside.tree c.self.inside.shed.buckets c.self.inside.beside) (origin_of w.file.0) + c.args.more < 2 ^ 64 =
+    let found : stream_at c.self.inside.register.agents c.args.at c.args.n ≡ Some w = sym c.in-Some.ensures in
+    let at : IsStreamAt (machine_of c.self.inside.tree c.self.inside.shed.buckets c.self.inside.register) c.args.at c.args.n = subst (λ (s : Seen). IsStreamAt s.machine c.args.at c.args.n) (sym c.self.view_is) c.requires.stream in
+    let quota : usage in_lengths (machine_of c.self.inside.tree c.self.inside.shed.buckets c.self.inside.register) (origin_of w.file.0) + c.args.more < 2 ^ 64 =
     (rw (← c.self.view_is) at c.requires.quota) w found in
-    omega (arith, quota, usage-known c.self.inside.tree c.self.inside.shed c.self.inside.pool c.self.inside.beside c.self.inside.fixed c.self.inside.root c.args.at c.args.n w c.self.invariant found (at.there w found))
+    omega (arith, quota, usage-known c.self.inside.tree c.self.inside.shed c.self.inside.pool c.self.inside.register c.self.inside.fixed c.self.inside.root c.args.at c.args.n w c.self.invariant found (at.there w found))
 
 pub invariant_of-self : goal.invariant_of-self
 invariant_of-self c =
     let w = c.in-Some.stream.now in
-    let found : stream_at c.self.inside.beside.agents c.args.at c.args.n ≡ Some w = sym c.in-Some.ensures in
-    let at : IsStreamAt (machine_of c.self.inside.tree c.self.inside.shed.buckets c.self.inside.beside) c.args.at c.args.n = subst (λ (s : Seen). IsStreamAt s.machine c.args.at c.args.n) (sym c.self.view_is) c.requires.stream in
-    grown-tied c.self.inside.tree c.self.inside.shed c.self.inside.pool c.self.inside.beside c.self.inside.fixed c.self.inside.root c.args.at c.args.n w c.self.invariant found (at.there w found)
+    let found : stream_at c.self.inside.register.agents c.args.at c.args.n ≡ Some w = sym c.in-Some.ensures in
+    let at : IsStreamAt (machine_of c.self.inside.tree c.self.inside.shed.buckets c.self.inside.register) c.args.at c.args.n = subst (λ (s : Seen). IsStreamAt s.machine c.args.at c.args.n) (sym c.self.view_is) c.requires.stream in
+    grown-tied c.self.inside.tree c.self.inside.shed c.self.inside.pool c.self.inside.register c.self.inside.fixed c.self.inside.root c.args.at c.args.n w c.self.invariant found (at.there w found)
     c.add.new.self c.raise.new.self c.set_reserve.new.self c.args.more c.add.ensures.bucket c.set_reserve.ensures c.add.ensures.usage c.raise.ensures.share c.raise.ensures.held
 
 pub returns-clause-machine : goal.returns-clause-machine
 returns-clause-machine c =
     let w = c.in-Some.stream.now in
-    let found : stream_at c.self.inside.beside.agents c.args.at c.args.n ≡ Some w = sym c.in-Some.ensures in
-    let at : IsStreamAt (machine_of c.self.inside.tree c.self.inside.shed.buckets c.self.inside.beside) c.args.at c.args.n = subst (λ (s : Seen). IsStreamAt s.machine c.args.at c.args.n) (sym c.self.view_is) c.requires.stream in
+    let found : stream_at c.self.inside.register.agents c.args.at c.args.n ≡ Some w = sym c.in-Some.ensures in
+    let at : IsStreamAt (machine_of c.self.inside.tree c.self.inside.shed.buckets c.self.inside.register) c.args.at c.args.n = subst (λ (s : Seen). IsStreamAt s.machine c.args.at c.args.n) (sym c.self.view_is) c.requires.stream in
     rw (← c.self.view_is) (λ v told.
-    grown-machine c.self.inside.tree c.self.inside.shed c.self.inside.pool c.self.inside.beside c.self.inside.fixed c.self.inside.root c.args.at c.args.n w c.self.invariant found (at.there w found)
+    grown-machine c.self.inside.tree c.self.inside.shed c.self.inside.pool c.self.inside.register c.self.inside.fixed c.self.inside.root c.args.at c.args.n w c.self.invariant found (at.there w found)
     c.add.new.self c.raise.new.self c.set_reserve.new.self c.args.more c.add.ensures.bucket c.set_reserve.ensures
-    ∙ ap (λ (x : StreamOutline). with_slot_at (machine_of c.self.inside.tree c.self.inside.shed.buckets c.self.inside.beside) c.args.at c.args.n (outline.Stream (record x { reserve = x.reserve + c.args.more }))) (one_stream (sym found ∙ told)))
+    ∙ ap (λ (x : StreamOutline). with_slot_at (machine_of c.self.inside.tree c.self.inside.shed.buckets c.self.inside.register) c.args.at c.args.n (outline.Stream (record x { reserve = x.reserve + c.args.more }))) (one_stream (sym found ∙ told)))

@@ -6,7 +6,7 @@ use Rattle.opfs_machine.specs.declared.state.Agent.{Agent}
 use Rattle.opfs_machine.specs.declared.state.Limits.{Limits}
 use Rattle.opfs_machine.specs.declared.state.Posted.{Posted}
 
-pub record Rest : Type 0 where
+pub record Registered : Type 0 where
   pub posted : List Posted
   pub agents : List (Agent Outline)
   pub entries : ℕ
