@@ -4,3 +4,4 @@ pub mod Sums
 pub mod Tied
 pub mod Contents
 pub mod Moves
+pub mod Pooled

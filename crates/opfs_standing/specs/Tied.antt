@@ -1,4 +1,4 @@
--- What the shared store keeps register its rows: counts alone. This project's own.
+-- What the shared store keeps beside its rows: counts alone. This project's own.
 use Rattle.std.specs.Prelude.{◌≡◌, ℕ, true, is_some, List, []}
 use Rattle.opfs_base.specs.Places.{Place}
 use Rattle.opfs_base.specs.Texts.{Text, same_text}

@@ -4,10 +4,13 @@ ghost use Rattle.std.specs.Prelude.{◌≡◌, ◌<◌, ◌^◌, option_map};
 ghost use Rattle.opfs_machine.specs.Contents.{in_lengths};
 ghost use Rattle.opfs_machine.specs.Rows.{row_at, file_at, kind_of, rows_within, has_children, first_locked};
 ghost use Rattle.opfs_machine.specs.Sums.{is_persistent, charge};
+ghost use Rattle.opfs_standing.specs.Pooled.{IsPooled, registered};
 
 use crate::standing::Standing;
 use opfs_base::{BLOCK_CHARGE, Key, Kind, Path};
 use opfs_locks::LockValue;
+use opfs_pool::Pool;
+use opfs_seats::Register;
 
 impl Standing {
     /// Whether a directory or a file is at a place; None where neither is.
@@ -54,5 +57,20 @@ impl Standing {
         ensures { result ≡ charge in_lengths self.now.machine }
     {
         self.fixed + BLOCK_CHARGE * self.pool.count()
+    }
+
+    /// The pool: the blocks that each unit keeps, and whether it may be cleared.
+    pub fn pool(&self) -> &Pool
+        ensures { IsPooled self.now.machine result.now }
+    {
+        self.pool.in_order();
+        &self.pool
+    }
+
+    /// The agents with their own rows, the posted tags, the number of entries, the last uses and the limits.
+    pub fn register(&self) -> &Register
+        ensures { result.now ≡ registered self.now.machine }
+    {
+        &self.register
     }
 }
