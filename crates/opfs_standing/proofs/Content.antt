@@ -111,7 +111,7 @@ module _ (rows : tree.Rows) (shed : Storage) (pool : Blocks) (rest : Registered)
     moved_less = shed-freed shed freed unit (blocks f.present) content-known.bucket content-usage less usages
 
     pub content-there : shed_words.has_unit freed.buckets unit ≡ true
-    content-there = moved_less.kept unit content-known.bucket
+    content-there = moved_less.kept unit ∙ content-known.bucket
 
     pub content-fits : usage in_lengths m (origin_of unit) + more < 2 ^ 64 → usage_of (origin_of unit) freed.buckets + more < 2 ^ 64
     content-fits fits = omega (arith, fits, usages (origin_of unit), content-quota)

@@ -1,9 +1,10 @@
 //! What is read of the shared store, in the machine's words.
 
-ghost use Rattle.std.specs.Prelude.{◌≡◌, ◌<◌, ◌^◌, option_map};
+ghost use Rattle.std.specs.Prelude.{◌≡◌, ◌<◌, ◌≤◌, ◌^◌, None, option_map};
 ghost use Rattle.opfs_machine.specs.Contents.{in_lengths};
 ghost use Rattle.opfs_machine.specs.Rows.{row_at, file_at, kind_of, rows_within, has_children, first_locked};
-ghost use Rattle.opfs_machine.specs.Sums.{is_persistent, charge};
+ghost use Rattle.opfs_machine.specs.Sums.{is_persistent, usage, pool, charge};
+ghost use Rattle.opfs_base.specs.Units.{origin_of};
 ghost use Rattle.opfs_standing.specs.Pooled.{IsPooled, registered};
 
 use crate::standing::Standing;
@@ -30,8 +31,9 @@ impl Standing {
         }
     }
 
-    /// Whether a place has children.
+    /// Whether a place has children, where no place stands ready.
     pub fn has_children(&self, unit: &Key, path: &Path) -> bool
+        requires { self.now.prepared.place ≡ None }
         ensures { result ≡ has_children self.now.machine (unit.now, path.now) }
     {
         self.tree.has_children(unit, path)
@@ -72,5 +74,20 @@ impl Standing {
         ensures { result.now ≡ registered self.now.machine }
     {
         &self.register
+    }
+
+    /// The blocks that the origin of a unit uses.
+    pub fn usage(&self, unit: &Key) -> u64
+        ensures { result ≡ usage in_lengths self.now.machine (origin_of unit.now) }
+    {
+        self.shed.usage(unit)
+    }
+
+    /// The blocks that are kept for durable bytes and for open rows.
+    pub fn held(&self) -> u64
+        ensures held { result ≡ pool in_lengths self.now.machine }
+        ensures within { result ≤ self.now.machine.limits.blocks }
+    {
+        self.pool.count()
     }
 }
