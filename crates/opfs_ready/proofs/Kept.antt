@@ -208,3 +208,7 @@ prepared p k ready later rows new old r none seen order closed free row is stand
 
 pub kept-at : (p : Place) (k : Kind) (ready : Ready) (rows : Rows) → ready ≡ Some (p, k) → IsKept ready rows → IsSpare p k rows
 kept-at p k ready rows is kept = subst (λ (x : Ready). IsKept x rows) is kept
+
+-- The place was free.
+pub spare-free : (ready : Ready) (rows : Rows) (p : Place) (k : Kind) → IsKept ready rows → ready ≡ Some (p, k) → row_at p (shown ready rows) ≡ None
+spare-free ready rows p k kept is = row-shown ready rows p kept ∙ ap (λ b. cond b None (row_at p rows)) (ap (is_ready p) is ∙ place_itself p)

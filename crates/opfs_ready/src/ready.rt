@@ -73,6 +73,7 @@ impl ReadyTree {
 
     /// The row comes for which a place stands ready, with a time stamp if it is a file. Takes no memory.
     pub fn fill(&mut self, stamp: u64)
+        ensures free { (place : Place) (kind : Kind) → self.old.ready ≡ Some (place, kind) → row_at place self.old.rows ≡ None }
         ensures rows { (place : Place) (kind : Kind) → self.old.ready ≡ Some (place, kind) → self.new.rows ≡ put place_cmp place (new_row kind stamp) self.old.rows }
         ensures ready { self.new.ready ≡ None }
     {

@@ -17,3 +17,6 @@ pub mod Stores
 pub mod OpenStreams
 pub mod TiedMoved
 pub mod Units
+pub mod Inserted
+pub mod Persisted
+pub mod Touched

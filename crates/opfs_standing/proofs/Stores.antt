@@ -211,7 +211,7 @@ pub mark-kept : (pool new : Blocks) (unit : Text) (v : Share) → has_share pool
 mark-kept pool new unit v has is same = ap (λ (b : Blocks). (share_at b.shares unit).candidate) is ∙ (ap (λ (x : Share). x.candidate) (share-same pool.shares unit v has) ∙ same)
 
 -- Modes stay where usage alone changes.
-filter-same : (f g : Text → Bool) → ((u : Text) → f u ≡ g u) → (us : List Text) → filter f us ≡ filter g us
+pub filter-same : (f g : Text → Bool) → ((u : Text) → f u ≡ g u) → (us : List Text) → filter f us ≡ filter g us
 filter-same f g same [] = refl
 filter-same f g same (u ∷ us) =
     ap (λ t. cond t (u ∷ filter f us) (filter f us)) (same u) ∙ ap (λ xs. cond (g u) (u ∷ xs) xs) (filter-same f g same us)

@@ -5,3 +5,4 @@ pub mod Tied
 pub mod Contents
 pub mod Moves
 pub mod Pooled
+pub mod Coming
