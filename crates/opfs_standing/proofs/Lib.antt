@@ -20,3 +20,4 @@ pub mod Units
 pub mod Inserted
 pub mod Persisted
 pub mod Touched
+pub mod Flushed

@@ -1,9 +1,13 @@
-use Rattle.std.proofs.Common.{refl, sym, ap, ◌∙◌}
+use Rattle.opfs_base.specs.Units.{origin_of}
+use Rattle.opfs_machine.specs.Contents.{in_lengths}
+use Rattle.opfs_machine.specs.Sums.{usage}
+use Rattle.opfs_tree.specs.declared.row.FileRow.{FileRow}
+use Rattle.std.proofs.Common.{◌+◌, ◌<◌, ◌^◌, Option, IfSome, subst, refl, sym, ap, ◌∙◌}
 use Rattle.opfs_base.specs.Blocks.{blocks}
 use Rattle.opfs_machine.specs.Rows.{with_file}
 use Rattle.opfs_tree.specs.Rows.{written}
 use Rattle.opfs_standing.specs.Contents.{showing}
-use Rattle.opfs_standing.specs.Seen.{Seen}
+use Rattle.opfs_standing.specs.Seen.{Seen, machine_of}
 use Rattle.opfs_standing.proofs.Content.{content-usage, content-there, content-fits, content-modes, content-shed, content-machine, content-tied}
 use Rattle.opfs_standing.proofs.Stores.{pool-kept, units-kept, prepared-same}
 use Rattle.std.specs.Map.{keys_of}
@@ -17,7 +21,7 @@ add-requires-clause-there c = content-there c.self.inside.tree.rows c.self.insid
 
 pub add-requires-clause-fits : goal.add-requires-clause-fits
 add-requires-clause-fits c =
-    rw c.blocks-3.ensures (content-fits c.self.inside.tree.rows c.self.inside.shed c.self.inside.pool c.self.inside.register c.self.inside.fixed c.self.inside.root c.args.unit.now c.args.path.now c.in-Some.file.now c.self.invariant (sym c.in-Some.ensures) c.free.new.self c.free.new.self (blocks c.args.length) (rw c.blocks-2.ensures at c.free.ensures.bucket) (rw c.blocks-2.ensures at c.free.ensures.usage) (rw (← c.self.view_is) at c.requires.quota))
+    rw c.blocks-3.ensures (content-fits c.self.inside.tree.rows c.self.inside.shed c.self.inside.pool c.self.inside.register c.self.inside.fixed c.self.inside.root c.args.unit.now c.args.path.now c.in-Some.file.now c.self.invariant (sym c.in-Some.ensures) c.free.new.self c.free.new.self (blocks c.args.length) (rw c.blocks-2.ensures at c.free.ensures.bucket) (rw c.blocks-2.ensures at c.free.ensures.usage) (subst (λ (o : Option FileRow). IfSome o (λ f. usage in_lengths (machine_of c.self.inside.tree.rows c.self.inside.shed.buckets c.self.inside.register) (origin_of c.args.unit.now) + blocks c.args.length < 2 ^ 64 + blocks f.present)) (sym c.in-Some.ensures) (rw (← c.self.view_is) at c.requires.quota)))
 
 pub invariant_of-self : goal.invariant_of-self
 invariant_of-self c =
