@@ -111,10 +111,13 @@ module _ (rows : tree.Rows) (shed : Storage) (pool : Blocks) (rest : Registered)
     moved_less = shed-freed shed freed unit (blocks f.present) content-known.bucket content-usage less usages
 
     pub content-there : shed_words.has_unit freed.buckets unit ≡ true
-    content-there = moved_less.kept unit content-known.bucket
+    content-there = moved_less.kept unit ∙ content-known.bucket
 
-    pub content-fits : usage in_lengths m (origin_of unit) + more < 2 ^ 64 → usage_of (origin_of unit) freed.buckets + more < 2 ^ 64
-    content-fits fits = omega (arith, fits, usages (origin_of unit), content-quota)
+    own_part : part_of (origin_of unit) unit (blocks f.present) ≡ blocks f.present
+    own_part = ap (λ t. cond t (blocks f.present) 0) (unit_itself (origin_of unit) (origin_of unit) refl)
+
+    pub content-fits : usage in_lengths m (origin_of unit) + more < 2 ^ 64 + blocks f.present → usage_of (origin_of unit) freed.buckets + more < 2 ^ 64
+    content-fits fits = omega (arith, fits, usages (origin_of unit), content-quota, own_part)
 
     module _ (back : added ≡ shed_words.changed freed unit (record (bucket_at freed.buckets unit) { usage = (bucket_at freed.buckets unit).usage + more })) where
       pub content-modes : persistent_in added.buckets ≡ persistent_in shed.buckets

@@ -4,3 +4,5 @@ pub mod Sums
 pub mod Tied
 pub mod Contents
 pub mod Moves
+pub mod Pooled
+pub mod Coming

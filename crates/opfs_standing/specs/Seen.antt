@@ -1,12 +1,14 @@
 -- The shared store as the machine in lengths, read from its tree, its buckets and its agents. This project's own.
-use Rattle.std.specs.Prelude.{ℕ, List, map, filter}
+use Rattle.std.specs.Prelude.{ℕ, Bool, List, map, filter}
+use Rattle.std.specs.List.{list_any}
 use Rattle.std.specs.Map.{keys_of}
-use Rattle.opfs_base.specs.Texts.{Text}
+use Rattle.opfs_base.specs.Texts.{Text, same_text}
 use Rattle.opfs_machine.specs.declared.own.Outline.{Outline}
 use Rattle.opfs_machine.specs.declared.state.Row.TheVariants as line
 use Rattle.opfs_machine.specs.declared.state.Row.{Row as Line}
 use Rattle.opfs_machine.specs.declared.state.State.{State}
 use Rattle.opfs_machine.specs.Rows.{Rows as Lines}
+use Rattle.opfs_ready.specs.Ready.{Ready}
 use Rattle.opfs_seats.specs.Slots.{with_slot}
 use Rattle.opfs_shed.specs.Buckets.{Buckets, bucket_at}
 use Rattle.opfs_seats.specs.Registers.{Registered}
@@ -41,9 +43,18 @@ machine_of rows buckets register = record {
   limits = register.limits;
 }
 
+-- What changes need no memory for: the place that stands ready for a row, and the units that are known.
+pub record Prepared : Type 0 where
+  pub place : Ready
+  pub units : List Text
+
+abbrev pub is_known : Text → Prepared → Bool
+is_known unit prepared = list_any (same_text unit) prepared.units
+
 pub record Seen : Type 0 where
   pub machine : Machine
   pub tree : Rows
+  pub prepared : Prepared
 
 -- The machine with an own row changed, of an agent at a place, both counted from 0.
 abbrev pub with_slot_at : Machine → ℕ → ℕ → Outline → Machine

@@ -1,4 +1,4 @@
--- What the shared store keeps register its rows: counts alone. This project's own.
+-- What the shared store keeps beside its rows: counts alone. This project's own.
 use Rattle.std.specs.Prelude.{◌≡◌, ℕ, true, is_some, List, []}
 use Rattle.opfs_base.specs.Places.{Place}
 use Rattle.opfs_base.specs.Texts.{Text, same_text}
@@ -18,6 +18,7 @@ pub record IsTied (m : Machine) (shed : Storage) (pool : Blocks) (cost : ℕ) (t
   pub root : top ≡ []
   pub quota : shed.quota ≡ m.limits.quota
   pub size : pool.size ≡ m.limits.blocks
+  pub shared : (unit : Text) → has_unit shed.buckets unit ≡ true → has_share pool.shares unit ≡ true
   pub known : (place : Place) → is_some (row_at m place) ≡ true → IsKnown shed pool place.0
   pub usage : (unit : Text) → (bucket_at shed.buckets unit).usage ≡ usage_where (same_text unit) m
   pub usages : (origin : Text) → usage_of origin shed.buckets ≡ usage_where (of_origin origin) m
