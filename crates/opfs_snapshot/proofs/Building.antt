@@ -10,6 +10,7 @@ use Rattle.opfs_codec.specs.declared.change.Change.TheVariants.{MakeRoot, MakeDi
 use Rattle.opfs_codec.proofs.ChangeLemmas.{change_again}
 use Rattle.opfs_codec.proofs.FieldLemmas.{bind_some}
 use Rattle.opfs_replay.specs.Built.{Built, nothing_built}
+pub use Rattle.opfs_snapshot.specs.Building.{Builds}
 use Rattle.opfs_replay.specs.Applying.{tried, built_within, built_by, built_by_all, rows_of}
 
 abbrev applied_then : ℕ → ℕ → List ℕ → Option Built → Option Built
@@ -48,10 +49,6 @@ some_bytes (Remove u p) = omega arith
 some_bytes (Content u p stamp size es) = omega arith
 some_bytes (Persist u) = omega arith
 some_bytes (Evict u) = omega arith
-
--- The bytes build one thing from another, whatever follows them.
-pub record Builds (size : ℕ) (bytes : List ℕ) (before after : Built) : Type 0 where
-  pub goes_on : (most more : ℕ) (rest : List ℕ) (out : Built) → length bytes + most ≤ more → built_within most New size rest after ≡ Some out → built_within more New size (bytes ++ rest) before ≡ Some out
 
 pub builds_nothing : (size : ℕ) (b : Built) → Builds size [] b b
 builds_nothing size b = record { goes_on = λ most more rest out le h. more_changes size most more rest b out (omega (arith, le)) h }
