@@ -23,6 +23,10 @@ use Rattle.opfs_machine.specs.Openings.{Opening, Map}
 use Rattle.opfs_outside.specs.Bytes.{Same}
 use Rattle.opfs_replay.specs.Built.{Built, all_extents}
 
+aside_below : (g : Geometry) (es : List Extent) (i : ℕ) → i < data_base g → Aside (data_base g) es i
+aside_below g [] i lt = tt
+aside_below g (e ∷ es) i lt = (inl (omega (arith, lt)), aside_below g es i lt)
+
 module _ (g : Geometry) (b : Built) (m : Map) (c d : List ℕ) (len : length c ≡ length d) (h : Holds g b m d) where
   -- an image with the same head and the same bytes in the blocks that are named holds the same
   pub holds_by : Same (λ i. i < 24) c d → Same (Names (data_base g) b) c d → Holds g b m c
@@ -35,15 +39,15 @@ module _ (g : Geometry) (b : Built) (m : Map) (c d : List ℕ) (len : length c �
   pub same_holds : Same (Outside (areas_of g)) c d → Holds g b m c
   same_holds same = holds_by (λ i lt. same i (inl (omega (arith, lt)))) (λ i named. same i (inr (omega (arith, in_data (data_base g) (all_extents b.rows) i named))))
 
+  -- and one that is the same aside of runs which lie aside of the blocks that are named
+  pub same_aside : (extents : List Extent) → ((i : ℕ) → Names (data_base g) b i → Aside (data_base g) extents i) → Same (Aside (data_base g) extents) c d → Holds g b m c
+  same_aside extents aside same = holds_by (λ i lt. same i (aside_below g extents i (omega (arith, lt)))) (λ i named. same i (aside i named))
+
   -- and one that is so outside of runs that lie aside of the blocks that are named
   pub same_beside : (extents : List Extent) → ((i : ℕ) → Names (data_base g) b i → Aside (data_base g) extents i) → Same (OutsideRuns (areas_of g) (data_base g) extents) c d → Holds g b m c
   same_beside extents aside same =
-      holds_by (λ i lt. same i (inl (omega (arith, lt)), aside_below extents i (omega (arith, lt))))
+      holds_by (λ i lt. same i (inl (omega (arith, lt)), aside_below g extents i (omega (arith, lt))))
       (λ i named. same i (inr (omega (arith, in_data (data_base g) (all_extents b.rows) i named)), aside i named))
-    where
-      aside_below : (es : List Extent) (i : ℕ) → i < data_base g → Aside (data_base g) es i
-      aside_below [] i lt = tt
-      aside_below (e ∷ es) i lt = (inl (omega (arith, lt)), aside_below es i lt)
 
 -- An image with the records that build the rows stands for what they hold.
 pub stands_by : (g : Geometry) (s : Stored) (b : Built) (m : Map) (c : List ℕ) → IsReadAs g s b → Holds g b m c → records_of (areas_of g) c ≡ Some s → Stands c m

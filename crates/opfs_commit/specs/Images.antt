@@ -61,3 +61,7 @@ doubting a own = record a { doubted = own }
 -- One change more is kept back.
 abbrev pub keeping : Account → Change → Built → Account
 keeping a change built = record a { told = a.told ++ change ∷ []; rows = built }
+
+-- No gate is in doubt any more.
+abbrev pub sure : Account → Account
+sure a = record a { doubted = [] }

@@ -1,5 +1,6 @@
 -- What the commits of a journal are seen as. This project's own.
 use Rattle.std.specs.Prelude.{ℕ, ◌+◌, ◌++◌, Bool, true, false, not, ◌&&◌, nat_le, if◌then◌else◌, List, [], length}
+use Rattle.opfs_codec.specs.Charges.{spelled}
 use Rattle.opfs_codec.specs.Spelling.{spelling}
 use Rattle.opfs_codec.specs.declared.change.Format.TheVariants.{New}
 use Rattle.opfs_codec.specs.declared.change.Change.{Change}
@@ -21,9 +22,9 @@ has_room k more = not k.long && nat_le (length k.bytes + more) k.room
 -- One change more is kept back; where there is no room, none is spelled from now on.
 abbrev pub with_kept : {D : Type 0} → Committing D → Change → Committing D
 with_kept k change = record k {
-  bytes = if has_room k (length (spelling New change)) then k.bytes ++ spelling New change else [];
+  bytes = if has_room k (spelled change) then k.bytes ++ spelling New change else [];
   count = k.count + 1;
-  long = not (has_room k (length (spelling New change)));
+  long = not (has_room k (spelled change));
 }
 
 -- Nothing is kept back.
