@@ -6,14 +6,14 @@ use Rattle.opfs_blocks.specs.Sets.{Used, is_used, marked}
 use Rattle.opfs_data.specs.declared.page.Page.{Page}
 use Rattle.opfs_space.specs.Spaces.{SpaceSeen, is_own, block_seen, pages_seen, with_block, page_blocks, times, files_seen, IsSwept}
 
-not_true : (t : Bool) → (t ≡ true → ⊥) → t ≡ false
+pub not_true : (t : Bool) → (t ≡ true → ⊥) → t ≡ false
 not_true true never = absurd (never refl)
 not_true false never = refl
 
-one_time : (x b : ℕ) (xs : List ℕ) → x ≡ b → times (x ∷ xs) b ≡ 1 + times xs b
+pub one_time : (x b : ℕ) (xs : List ℕ) → x ≡ b → times (x ∷ xs) b ≡ 1 + times xs b
 one_time x b xs same = ap (λ (t : Bool). cond t 1 0 + times xs b) (eq-eqb x b same)
 
-no_time : (x b : ℕ) (xs : List ℕ) → (x ≡ b → ⊥) → times (x ∷ xs) b ≡ times xs b
+pub no_time : (x b : ℕ) (xs : List ℕ) → (x ≡ b → ⊥) → times (x ∷ xs) b ≡ times xs b
 no_time x b xs apart =
     let e : 0 + times xs b ≡ times xs b = omega arith in
     ap (λ (t : Bool). cond t 1 0 + times xs b) (not_true (nat_eq x b) (λ t. apart (eqb-true x b t))) ∙ e
