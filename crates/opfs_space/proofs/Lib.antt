@@ -3,5 +3,10 @@ pub mod Keeping
 pub mod Storing
 pub mod Taking
 pub mod Placing
+pub mod Paged
+pub mod Rest
+pub mod Others
+pub mod Enough
+pub mod Looking
 pub mod Seeing
 pub mod Sweeping

@@ -65,7 +65,7 @@ one_page (p ∷ ps) b one = elim (adds p.block (page_blocks ps) b) [
 -- ---- the pages of all rows
 
 times_append : (xs ys : List ℕ) (b : ℕ) → times (xs ++ ys) b ≡ times xs b + times ys b
-times_append [] ys b = refl
+times_append [] ys b = omega arith
 times_append (x ∷ xs) ys b = omega (arith, times_append xs ys b)
 
 blocks_append : (ps qs : List Page) → page_blocks (ps ++ qs) ≡ page_blocks ps ++ page_blocks qs
@@ -238,8 +238,12 @@ module _ (size : ℕ) (files : List ℕ) (swap : Rows) (space : SpaceSeen) (orde
   ]
 
   alone_one : (k n i b : ℕ) → HasPage swap k n i b → IsAlone swap k n i b → count_in (all_pages swap) b ≡ 1
-  alone_one k n i b has alone = omega (arith, paged_counts swap k n i b has, at_most_one swap b order (λ k' n' i' l m j is' also.
-      let p = alone k' n' i' is' in let q = alone l m j also in (p.0 ∙ sym q.0, p.1 ∙ sym q.1, p.2 ∙ sym q.2)))
+  alone_one k n i b has alone = omega (
+    arith,
+    paged_counts swap k n i b has,
+    at_most_one swap b order (λ k' n' i' l m j is' also.
+        let p = alone k' n' i' is' in let q = alone l m j also in (p.0 ∙ sym q.0, p.1 ∙ sym q.1, p.2 ∙ sym q.2)),
+  )
 
   pub are_swept : AreSwept size (has_block files) swap space.seen space.own
   are_swept = record {

@@ -51,11 +51,11 @@ resized_at : (count : ℕ) (pages : List Page) (i b : ℕ) → HasAt (resized co
 resized_at count pages i b has = fill_at count (count - length pages) pages i b has
 
 -- which row it is
-data Which (agent row k n : ℕ) : Type 0 where
+pub data Which (agent row k n : ℕ) : Type 0 where
   Same : k ≡ agent → n ≡ row → Which agent row k n
   Apart : IsOther agent row k n → Which agent row k n
 
-which : (agent row k n : ℕ) → Which agent row k n
+pub which : (agent row k n : ℕ) → Which agent row k n
 which agent row k n = elim (cases_eq k agent) [
   | inr apart ↦ Apart (λ q. apart q.0)
   | inl agent_is ↦ elim (cases_eq n row) [
@@ -64,7 +64,7 @@ which agent row k n = elim (cases_eq k agent) [
   ]
 ]
 
-at_row : (swap : Rows) (agent row k n i b : ℕ) → k ≡ agent → n ≡ row → HasPage swap k n i b → HasPage swap agent row i b
+pub at_row : (swap : Rows) (agent row k n i b : ℕ) → k ≡ agent → n ≡ row → HasPage swap k n i b → HasPage swap agent row i b
 at_row swap agent row k n i b agent_is row_is has = subst (λ (x : ℕ). HasPage swap agent x i b) row_is (subst (λ (x : ℕ). HasPage swap x n i b) agent_is has)
 
 other_page : (old new : Rows) (agent row k n i b : ℕ) → OthersStay agent row old new → IsOther agent row k n → HasPage new k n i b → HasPage old k n i b

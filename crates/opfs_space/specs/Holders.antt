@@ -137,6 +137,10 @@ pub record IsFirst (h : Holders) (used : Used) : Type 0 where
 abbrev pub all_pages : Rows → List Page
 all_pages swap = flat_map (λ e. e.1.pages) swap
 
+-- each block of a page is below a size
+abbrev pub AreAllBelow : ℕ → Rows → Type 0
+AreAllBelow size swap = (k n i b : ℕ) → HasPage swap k n i b → b < size
+
 -- no other page has the block
 abbrev pub IsAlone : Rows → ℕ → ℕ → ℕ → ℕ → Type 0
 IsAlone swap k n i b = (l m j : ℕ) → HasPage swap l m j b → (l ≡ k) × (m ≡ n) × (j ≡ i)

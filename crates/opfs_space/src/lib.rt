@@ -2,10 +2,12 @@
 #![tactic(auto)]
 
 mod laws;
+mod room;
 mod space;
 mod staying;
 
 pub use laws::{a_sweep_finds_what_is_used, covered_blocks_leave_room};
+pub use room::{a_look_knows_own_blocks, a_sweep_leaves_blocks_enough};
 pub use space::Space;
 pub use staying::{
     fewer_files_keep_blocks_right, fewer_pages_keep_blocks_right, first_blocks_are_right,
