@@ -1,14 +1,14 @@
 //! The pages of all open rows, in blocks.
 
-ghost use Rattle.std.specs.Prelude.{◌≡◌, ◌+◌, ◌*◌, ◌-◌, ◌^◌, ◌<◌, ◌≤◌, ℕ, List, [], None, Some, true, false, length, min, is_some, slice_index_or, IfOk, OnOk, OnErr, IsErrOf, IfSome, MatchOption};
-ghost use Rattle.std.specs.List.{AllByRecursion};
+ghost use Rattle.std.specs.Prelude.{◌≡◌, ◌+◌, ◌*◌, ◌-◌, ◌^◌, ◌<◌, ◌≤◌, ℕ, List, [], ◌∷◌, None, Some, true, false, length, min, is_some, slice_index_or, IfOk, OnOk, OnErr, IsErrOf, IfSome, IfNone, MatchOption, option_map};
+ghost use Rattle.std.specs.List.{AllByRecursion, slice_get};
 ghost use Rattle.opfs_outside.specs.Faults.{Rose};
 ghost use Rattle.opfs_data.specs.Calls.{Reads, Writes};
 ghost use Rattle.opfs_data.specs.Places.{AllLie};
 ghost use Rattle.opfs_data.specs.declared.page.Page.{Page};
 ghost use Rattle.opfs_data.specs.Writes.{page_writes, AreWithin};
 ghost use Rattle.opfs_data.specs.Pages.{block_bytes, page_of, blank, runs_of, resized, with_writes, pages_in, NamesPage, HasAgain, AreOnce, AreSaved, AreNow, AreOwn, IsApart, LiesIn, IsDataPart};
-ghost use Rattle.opfs_data.specs.Rows.{row_of, row_at, pages_at, page_at, kept_in, kept_count, IsOther, OthersStay, AreFree};
+ghost use Rattle.opfs_data.specs.Rows.{row_of, row_at, pages_at, page_at, kept_in, kept_count, IsOther, OthersStay, AreFree, AreInOrder, rows_behind};
 
 use crate::{DataRefusal, PageWrites, PagedRow};
 use opfs_base::Extent;
@@ -17,6 +17,7 @@ use opfs_outside::Disk;
 use std::alloc::{AllocError, Global};
 use std::collections::BTreeMap;
 use std::marker::Model;
+use std::ops::Bound;
 
 /// The pages of all open rows, seen as the list of the rows, each under its agent and its number.
 #[derive(Drop)]
@@ -61,6 +62,42 @@ impl Swap {
         match self.rows.get(&(agent, row)) {
             Some(found) => found.block(page),
             None => unreachable!(),
+        }
+    }
+
+    /// The least open row behind one of them, or the least of all, and how many pages it has; None where there is none. Takes
+    /// no memory.
+    pub fn next_row(&self, after: Option<(u32, u32)>) -> Option<(u32, u32, u64)>
+        ensures end { IfNone result (rows_behind after self.now ≡ []) }
+        ensures next { IfSome result (λ r. rows_behind after self.now ≡ ((r.0, r.1), row_at r.0 r.1 self.now) ∷ rows_behind (Some (r.0, r.1)) self.now) }
+        ensures pages { IfSome result (λ r. r.2 ≡ length (pages_at r.0 r.1 self.now)) }
+        ensures order { AreInOrder self.now }
+    {
+        let (key, row) = self.first_behind(after)?;
+        let (agent, number) = *key;
+        let pages = row.len();
+        Some((agent, number, pages))
+    }
+
+    // The first row behind one of them.
+    fn first_behind(&self, after: Option<(u32, u32)>) -> Option<(&(u32, u32), &PagedRow)>
+        ensures first { option_map (λ e. (e.0.now, e.1.now)) result ≡ slice_get (rows_behind after self.now) 0 }
+        ensures order { AreInOrder self.now }
+    {
+        match after {
+            None => {
+                // That the map is in order.
+                let all: (Bound<&(u32, u32)>, Bound<&(u32, u32)>) = (
+                    Bound::Unbounded,
+                    Bound::Unbounded,
+                );
+                let _rows = self.rows.range(all);
+                self.rows.first_key_value()
+            }
+            Some(key) => self
+                .rows
+                .range((Bound::Excluded(&key), Bound::Unbounded))
+                .next(),
         }
     }
 
