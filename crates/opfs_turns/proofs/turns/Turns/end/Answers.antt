@@ -1,6 +1,6 @@
 use Rattle.opfs_turns.specs.Agents.{seen}
 use Rattle.opfs_turns.proofs.Beginning.{may-end}
-use Rattle.opfs_turns.proofs.agent.Agent.end.Goals as goal
+use Rattle.opfs_turns.proofs.turns.Turns.end.Goals as goal
 
 pub in_turn-requires-clause-may : goal.in_turn-requires-clause-may
 in_turn-requires-clause-may g c =

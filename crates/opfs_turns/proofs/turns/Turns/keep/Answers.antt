@@ -3,7 +3,7 @@ use Rattle.opfs_hist.specs.declared.entry.Entry.{Entry}
 use Rattle.opfs_turns.specs.Agents.{IsAgent, seen}
 use Rattle.opfs_turns.proofs.Keeping.{kept-agent, pending-few}
 use Rattle.opfs_turns.proofs.Turning.{number-small}
-use Rattle.opfs_turns.proofs.agent.Agent.keep.Goals as goal
+use Rattle.opfs_turns.proofs.turns.Turns.keep.Goals as goal
 
 pub add-requires : goal.add-requires
 add-requires g c = omega (arith, pending-few g.S.Store.tells (seen g.S.Store.opened c.self.inside.pass c.self.inside.notes) c.self.invariant (rw (← c.self.view_is) at c.requires.room))

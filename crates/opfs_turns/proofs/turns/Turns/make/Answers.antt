@@ -3,7 +3,7 @@ use Rattle.opfs_hist.specs.declared.entry.Entry.{Entry}
 use Rattle.opfs_turns.specs.Agents.{IsAgent}
 use Rattle.opfs_turns.specs.Calls.{new_agent}
 use Rattle.opfs_turns.proofs.Beginning.{new-is}
-use Rattle.opfs_turns.proofs.agent.Agent.make.Goals as goal
+use Rattle.opfs_turns.proofs.turns.Turns.make.Goals as goal
 
 pub invariant_of-result : goal.invariant_of-result
 invariant_of-result g c =

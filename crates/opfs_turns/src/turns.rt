@@ -1,11 +1,12 @@
-//! An agent, between its turns and in them.
+//! An agent's turns, and what it keeps between them.
 
 ghost use Rattle.std.specs.Prelude.{◌≡◌, ◌≤◌, false, true, IfOk, IfErr, OnErr, is_ok, IsTrue};
+ghost use Rattle.std.specs.Option.{option_copied};
 ghost use Rattle.opfs_hist.specs.declared.op.Op.TheVariants as op;
 ghost use Rattle.opfs_machine.specs.Histories.{may_enter};
 ghost use Rattle.opfs_laws.specs.Leaving.{is_end};
 ghost use Rattle.opfs_acts.specs.Acting.{IsLeft, IsSameCopy, always_acts};
-ghost use Rattle.opfs_turns.specs.Agents.{state_of};
+ghost use Rattle.opfs_turns.specs.Agents.{state_of, IsAgent};
 ghost use Rattle.opfs_turns.specs.Calls.{HasRoom, MayAsk, call_of, IsEntered, HasLooked, IsLocal, IsKept, new_agent, MayBegin, HasEnded};
 
 use crate::notes::Notes;
@@ -19,9 +20,9 @@ use std::alloc::{AllocError, Global};
 use std::marker::Model;
 use std::sync::Wait;
 
-/// An agent that makes calls of a store. What it asks and is answered is said of the state after the entries that it knows:
-/// those that it has seen, and its own local calls that are not entered yet.
-pub struct Agent<S: Store> {
+/// An agent that makes calls of a store, one turn after another. What it asks and is answered is said of the state after the
+/// entries that it knows: those that it has seen, and its own local calls that are not entered yet.
+pub struct Turns<S: Store> {
     pass: Pass<S>,
     notes: Notes,
     // The place of its end's entry.
@@ -29,7 +30,7 @@ pub struct Agent<S: Store> {
     alloc: Global,
 }
 
-impl<S: Store> Model for Agent<S> {
+impl<S: Store> Model for Turns<S> {
     ghost use Rattle.opfs_turns.specs.Agents.{AgentSeen, IsAgent, seen};
 
     ghost Value = { AgentSeen S.Opening };
@@ -39,11 +40,11 @@ impl<S: Store> Model for Agent<S> {
     ghost invariant = { λ a. IsAgent S.tells (seen S.opened a.pass a.notes) };
 }
 
-impl<S: Store> Agent<S> {
-    /// An agent of this key, with a pass of the store's hall. It gives the pass back where memory is short.
-    pub fn make(alloc: Global, pass: Pass<S>, key: Option<Key>) -> Result<Agent<S>, Pass<S>>
+impl<S: Store> Turns<S> {
+    /// The turns of an agent of this key, with a pass of the store's hall. It gives the pass back where memory is short.
+    pub fn make(alloc: Global, pass: Pass<S>, key: Option<Key>) -> Result<Turns<S>, Pass<S>>
         requires { MayBegin S.opened pass key }
-        ensures made { IfOk result (λ agent. agent ≡ new_agent S.opened pass key) }
+        ensures made { IfOk result (λ turns. turns ≡ new_agent S.opened pass key) }
         ensures err { IfErr result (λ back. back ≡ pass) }
     {
         let Ok(room) = Room::make(alloc) else {
@@ -57,12 +58,33 @@ impl<S: Store> Agent<S> {
             rows: 0,
             waiting: None,
         };
-        Ok(Agent {
+        Ok(Turns {
             pass,
             notes,
             room,
             alloc,
         })
+    }
+
+    /// What the type keeps.
+    pub fn kept(&self)
+        ensures { IsAgent S.tells self.now }
+    {
+        let _ = &self.notes;
+    }
+
+    /// How many streams, access handles, snapshots and iterators the agent has made.
+    pub fn rows(&self) -> u32
+        ensures { result ≡ self.now.rows }
+    {
+        self.notes.rows
+    }
+
+    /// The key of the agent.
+    pub fn key(&self) -> Option<&Key>
+        ensures { option_copied result ≡ self.now.key }
+    {
+        self.notes.key.as_ref()
     }
 
     /// Makes a shared call: takes the turn, has the call entered, and hands the turn on. Where there is no memory nothing is
@@ -125,7 +147,7 @@ impl<S: Store> Agent<S> {
         requires none { IsTrue (may_enter (state_of self) self.pass.agent op.End) }
         ensures { HasEnded S.tells self result }
     {
-        let Agent {
+        let Turns {
             mut pass,
             mut notes,
             room,
