@@ -19,7 +19,7 @@ use Rattle.opfs_laws.specs.GoingOn.{ArePending}
 use Rattle.opfs_histories.specs.Opened.{IsOpen}
 use Rattle.opfs_histories.specs.Unread.{unread, unread_entry, IsTold, IsToldOpen, ArePendingFor, ArePendingTold, ReadsLeaveTheState}
 
-refuses-same : (r : Reply) → is_refusal (unread r) ≡ is_refusal r
+pub refuses-same : (r : Reply) → is_refusal (unread r) ≡ is_refusal r
 refuses-same (reply.Read bytes) = refl
 refuses-same r = refl
 

@@ -121,7 +121,7 @@ module _ (owner : Entry → ℕ) (owned : (e : Entry) → owner e ≡ e.agent) (
       → ArePendingFor tells (state_after o list) k pending
       → IfOk r (λ a. IsActed tells o list pending (record { agent = k; number = number; op = called }) (reply_of a) new) → OnErr r P → (P → new ≡ list)
       → Adds owner k list new
-  adds tells o list number called pending new reply_of (Ok a) local acted unacted same =
+  adds tells o list number called pending new reply_of (Ok a) local acted unacted stays =
       let is = acted in
       (added pending is.gone (told_entry (record { agent = k; number = number; op = called }) (reply_of a)), is.grown, added-own pending is.gone (told_entry (record { agent = k; number = number; op = called }) (reply_of a)) (pending-own tells (state_after o list) k pending local) refl)
-  adds tells o list number called pending new reply_of (Err e) local acted unacted same = ([], same unacted ∙ sym (append-nil list), All-nil Mine)
+  adds tells o list number called pending new reply_of (Err e) local acted unacted stays = ([], stays unacted ∙ sym (append-nil list), All-nil Mine)

@@ -1,0 +1,10 @@
+use Rattle.std.proofs.Common.{sym, ap, ◌∙◌}
+use Rattle.std.proofs.lemmas.Bool.{true≢false}
+use Rattle.opfs_base.specs.Names.{is_valid_name}
+use Rattle.opfs_agent.proofs.Answered.{named-directory, none-there}
+use Rattle.opfs_agent.proofs.agent.Agent.get_directory_handle.Goals as goal
+
+pub unreachable-requires : goal.unreachable-requires
+unreachable-requires g c =
+    let named = named-directory g.S.Store.tells c.args.self.now c.ask_done.new.self c.in-Ok-place.dir c.in-Ok-place.name c.args.create _ _ c.in_ok-ask_done.ensures in
+    true≢false (sym (ap is_valid_name (sym c.in-Ok-place.ensures.1) ∙ named) ∙ none-there c.in-Ok.child _ _ c.in-Ok.ensures c.in_default-child.is)
