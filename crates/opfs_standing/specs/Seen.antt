@@ -8,6 +8,7 @@ use Rattle.opfs_machine.specs.declared.state.Row.TheVariants as line
 use Rattle.opfs_machine.specs.declared.state.Row.{Row as Line}
 use Rattle.opfs_machine.specs.declared.state.State.{State}
 use Rattle.opfs_machine.specs.Rows.{Rows as Lines}
+use Rattle.opfs_pool.specs.Shares.{Shares}
 use Rattle.opfs_ready.specs.Ready.{Ready}
 use Rattle.opfs_seats.specs.Slots.{with_slot}
 use Rattle.opfs_shed.specs.Buckets.{Buckets, bucket_at}
@@ -47,6 +48,9 @@ machine_of rows buckets register = record {
 pub record Prepared : Type 0 where
   pub place : Ready
   pub units : List Text
+
+abbrev pub prepared_of : Ready → Shares → Registered → Prepared
+prepared_of place shares register = record { place = place; units = keys_of shares }
 
 abbrev pub is_known : Text → Prepared → Bool
 is_known unit prepared = list_any (same_text unit) prepared.units
