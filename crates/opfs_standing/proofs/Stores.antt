@@ -234,14 +234,15 @@ units-kept pool new unit v is = ap (λ (b : Blocks). keys_of b.shares) is ∙ ke
 
 -- What is prepared for agents stays.
 pub record Stands (register after : Registered) : Type 0 where
-  pub limits : after.limits ≡ register.limits
+  pub room : after.room ≡ register.room
+  pub ready : after.ready ≡ register.ready
 
 pub same-register : (register : Registered) → Stands register register
-same-register register = record { limits = refl }
+same-register register = record { room = refl; ready = refl }
 
 pub agents-stand : (register after : Registered) (agents : List (Agent Outline)) → after ≡ record register { agents = agents } → Stands register after
-agents-stand register after agents is = record { limits = ap (λ (r : Registered). r.limits) is }
+agents-stand register after agents is = record { room = ap (λ (r : Registered). r.room) is; ready = ap (λ (r : Registered). r.ready) is }
 
 pub prepared-same : (place later : Ready) (shares more : Shares) (register after : Registered) → later ≡ place → keys_of more ≡ keys_of shares → Stands register after
     → ◌≡◌ {A = Prepared} (prepared_of later more after) (prepared_of place shares register)
-prepared-same place later shares more register after a b rest i = record { place = a i; units = b i }
+prepared-same place later shares more register after a b rest i = record { place = a i; units = b i; room = rest.room i; tag = rest.ready i }
