@@ -1,15 +1,15 @@
 //! What is read of the rows: the place that stands ready is not seen.
 
-ghost use Rattle.std.specs.Prelude.{◌≡◌, ◌<◌, ◌^◌, false, None, IfOk, length, option_map, sum_by};
+ghost use Rattle.std.specs.Prelude.{◌≡◌, ◌<◌, ◌^◌, ◌∷◌, [], false, None, Some, IfOk, IfNone, IfSome, IsSomeAnd, length, option_map, sum_by};
 ghost use Rattle.std.specs.Option.{option_copied};
-ghost use Rattle.opfs_tree.specs.Rows.{row_at, file_at, kind_of, rows_within, extents_within, first_taken, none_taken, has_children, children_of, least_not_in, present_blocks, durable_blocks};
+ghost use Rattle.opfs_tree.specs.Rows.{row_at, file_at, kind_of, rows_within, extents_within, first_taken, none_taken, has_children, children_of, least_not_in, present_blocks, durable_blocks, rows_above, IsInOrder};
 ghost use Rattle.opfs_tree.specs.Sums.{row_charge, entries_within};
 ghost use Rattle.opfs_ready.specs.Ready.{ready_within};
 
 use crate::ready::{ReadyTree, is_ready};
 use opfs_base::{Key, Kind, Name, Path};
 use opfs_locks::LockValue;
-use opfs_tree::{FileRow, Sums};
+use opfs_tree::{FileRow, Row, Sums, Walk};
 use std::alloc::{AllocError, Global};
 
 impl ReadyTree {
@@ -90,5 +90,19 @@ impl ReadyTree {
         ensures { IfOk result (λ child. child ≡ least_not_in past.now (children_of (key.now, path.now) self.now.rows)) }
     {
         self.tree.least_not_in(alloc, key, path, past)
+    }
+
+    /// Moves a walk on to the least place above its own where a row is, and gives that row; None where there is none.
+    /// Takes no memory.
+    pub fn step<'a>(&'a self, walk: &mut Walk<'a>) -> Option<&'a Row>
+        ensures end { IfNone result (rows_above walk.old self.now.rows ≡ []) }
+        ensures next { IfSome result (λ row. IsSomeAnd walk.new (λ place. rows_above walk.old self.now.rows ≡ (place, row.now) ∷ rows_above (Some place) self.now.rows)) }
+        ensures order { IsInOrder self.now.rows }
+    {
+        let row = self.tree.step(walk)?;
+        if is_ready(&self.ready, walk.key(), walk.path()) {
+            return self.tree.step(walk);
+        }
+        Some(row)
     }
 }

@@ -1,12 +1,20 @@
-//! The agents of the shared store by their place, with the open rows of each and the locks that these hold.
+//! The agents of the shared store by their place, with the open rows of each and the locks that these hold, the posted
+//! tags, and the last use of each origin.
 #![tactic(auto)]
 
+mod circles;
+mod kind;
 mod open;
+mod posts;
 mod register;
+mod rows;
 mod seat;
 mod seats;
+mod tag_set;
+mod tags;
+mod uses;
 
+pub use kind::RowKind;
 pub use open::{OpenHandle, OpenStream, Slot};
 pub use register::Register;
-pub use seat::Seat;
-pub use seats::Seats;
+pub use seat::Who;

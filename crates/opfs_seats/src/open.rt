@@ -2,11 +2,12 @@
 
 ghost use Rattle.std.specs.Prelude.{◌≡◌, Some, IsSome};
 ghost use Rattle.std.specs.Option.{option_copied};
-ghost use Rattle.opfs_machine.specs.Agents.{stream_in, handle_in};
-ghost use Rattle.opfs_seats.specs.Slots.{outline_in, keeping};
+ghost use Rattle.opfs_machine.specs.Agents.{stream_in, handle_in, is_open_row};
+ghost use Rattle.opfs_seats.specs.Slots.{outline_in, kind_of_row, keeping};
 ghost use Rattle.opfs_locks.specs.declared.Want.TheVariants as want;
 ghost use Rattle.opfs_machine.specs.Rulings.{want_of};
 
+use crate::kind::RowKind;
 use opfs_hist::Mode;
 use opfs_locks::Held;
 use opfs_machine::{HandleOutline, Place, StreamOutline};
@@ -63,8 +64,6 @@ pub enum Slot {
     ClosedHandle,
     /// The bytes that a file had.
     Snapshot,
-    /// An iterator over a directory.
-    Iterator,
 }
 
 impl Slot {
@@ -85,6 +84,41 @@ impl Slot {
         match self {
             Slot::Handle(handle) => Some(handle.outline()),
             _ => None,
+        }
+    }
+
+    /// What kind of row it is.
+    pub(crate) fn kind(&self) -> RowKind
+        ensures { result ≡ kind_of_row (outline_in self.now) }
+    {
+        match self {
+            Slot::Stream(_) => RowKind::Stream,
+            Slot::ClosedStream => RowKind::ClosedStream,
+            Slot::Handle(_) => RowKind::Handle,
+            Slot::ClosedHandle => RowKind::ClosedHandle,
+            Slot::Snapshot => RowKind::Snapshot,
+        }
+    }
+
+    /// Whether it is an open stream or access handle.
+    pub(crate) fn is_open(&self) -> bool
+        ensures { result ≡ is_open_row (outline_in self.now) }
+    {
+        matches!(self, Slot::Stream(_) | Slot::Handle(_))
+    }
+
+    /// Ends what it holds, without giving any lock back.
+    pub(crate) fn end(self) {
+        match self {
+            Slot::Stream(stream) => {
+                let (_outline, held) = stream.into_parts();
+                held.end();
+            }
+            Slot::Handle(handle) => {
+                let (_outline, held) = handle.into_parts();
+                held.end();
+            }
+            Slot::ClosedStream | Slot::ClosedHandle | Slot::Snapshot => (),
         }
     }
 
@@ -111,9 +145,7 @@ impl Slot {
                 held.end();
                 unreachable!()
             }
-            Slot::ClosedStream | Slot::ClosedHandle | Slot::Snapshot | Slot::Iterator => {
-                unreachable!()
-            }
+            Slot::ClosedStream | Slot::ClosedHandle | Slot::Snapshot => { unreachable!() }
         }
     }
 
@@ -129,9 +161,7 @@ impl Slot {
                 held.end();
                 unreachable!()
             }
-            Slot::ClosedStream | Slot::ClosedHandle | Slot::Snapshot | Slot::Iterator => {
-                unreachable!()
-            }
+            Slot::ClosedStream | Slot::ClosedHandle | Slot::Snapshot => { unreachable!() }
         }
     }
 }

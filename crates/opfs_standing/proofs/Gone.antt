@@ -60,7 +60,7 @@ module _ (rows : tree.Rows) (shed : Storage) (pool : Blocks) (rest : Registered)
       lower = pool-lowered pool lowered unit away.blocks gone-known.share gone-blocks less all
 
       pub removed-share : has_share lowered.shares unit ≡ true
-      removed-share = lower.kept unit gone-known.share
+      removed-share = lower.kept unit ∙ gone-known.share
 
       pub removed-tied : ((origin : Text) → usage_of origin shed_after.buckets + part_of origin unit away.usage ≡ usage_of origin shed.buckets)
           → marked ≡ changed lowered unit (record (share_at lowered.shares unit) { candidate = is_some (tree.row_at (unit, top) new) && not (bucket_at shed_after.buckets unit).persistent && tree.none_taken unit new })

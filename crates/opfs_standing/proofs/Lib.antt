@@ -21,3 +21,4 @@ pub mod Inserted
 pub mod Persisted
 pub mod Touched
 pub mod Flushed
+pub mod AgentMoves

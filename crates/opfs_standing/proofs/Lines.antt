@@ -98,7 +98,7 @@ any-filter u f (k ∷ keys) =
     ] refl
 
 -- A unit without a bucket is best-effort.
-pub known_key : (u : Text) (buckets : Buckets) → list_any (same_text u) (keys_of buckets) ≡ is_some (lookup (is_unit u) buckets)
+pub known_key : {X : Type 0} (u : Text) (es : List (Text × X)) → list_any (same_text u) (keys_of es) ≡ is_some (lookup (is_unit u) es)
 known_key u [] = refl
 known_key u (e ∷ es) =
     ap (λ t. t || list_any (same_text u) (keys_of es)) (texts_ties u e.0)

@@ -18,7 +18,7 @@ use Rattle.opfs_standing.proofs.Lines.{file_line, file-at, lines-changed, there-
 use Rattle.opfs_standing.proofs.Stores.{shed-kept, pool-marked, marked-here}
 use Rattle.opfs_standing.proofs.TiedMoved.{tied_moved}
 
-some_there : {X : Type 0} (o : Option X) → is_some o ≡ true → (x : X) × (o ≡ Some x)
+pub some_there : {X : Type 0} (o : Option X) → is_some o ≡ true → (x : X) × (o ≡ Some x)
 some_there None h = cc
 some_there (Some x) h = (x, refl)
 

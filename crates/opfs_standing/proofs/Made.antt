@@ -69,5 +69,5 @@ pub bare-new : (k : Kind) (stamp : ℕ) → (present_blocks in_lengths (line_of 
 bare-new kind.File stamp = (refl, refl)
 bare-new kind.Directory stamp = (refl, refl)
 
-pub known-unit : (shed : Storage) (pool : Blocks) (unit : Text) → ((u : Text) → has_unit shed.buckets u ≡ true → has_share pool.shares u ≡ true) → list_any (same_text unit) (keys_of shed.buckets) ≡ true → IsKnown shed pool unit
-known-unit shed pool unit shared known = let has = sym (known_key unit shed.buckets) ∙ known in record { bucket = has; share = shared unit has }
+pub known-unit : (shed : Storage) (pool : Blocks) (unit : Text) → ((u : Text) → has_share pool.shares u ≡ true → has_unit shed.buckets u ≡ true) → list_any (same_text unit) (keys_of pool.shares) ≡ true → IsKnown shed pool unit
+known-unit shed pool unit shared known = let has = sym (known_key unit pool.shares) ∙ known in record { bucket = shared unit has; share = has }

@@ -9,7 +9,7 @@ use Rattle.opfs_machine.specs.Ordered.{insert_by}
 use Rattle.opfs_machine.specs.Rows.{row_at}
 use Rattle.opfs_machine.specs.Sums.{is_persistent}
 use Rattle.opfs_machine.specs.Victims.{none_taken}
-use Rattle.opfs_pool.specs.Shares.{Blocks, share_at, changed}
+use Rattle.opfs_pool.specs.Shares.{Blocks, has_share, share_at, changed}
 use Rattle.opfs_seats.specs.Registers.{Registered}
 use Rattle.opfs_shed.specs.declared.shed.Bucket.{Bucket}
 use Rattle.opfs_shed.specs.Buckets.{Storage, text_cmp, has_unit, bucket_at, with_bucket, is_unit, usage_of}
@@ -56,9 +56,9 @@ module _ (rows : tree.Rows) (shed new : Storage) (rest : Registered) (unit : Tex
   pub persisted-machine : machine_of rows new.buckets rest ≡ record m { persistent = insert_by text_cmp unit m.persistent }
   persisted-machine = ap (λ (us : List Text). record m { persistent = us }) (modes_are ∙ filter-inserted unit before after now other (keys_of shed.buckets) sorted there)
 
-  module _ (pool marked : Blocks) (cost charge : ℕ) (top : List Text) (tied : IsTied (machine_of rows shed.buckets rest) shed pool cost top) (more : charge ≡ cond (is_persistent (machine_of rows shed.buckets rest) unit) 0 (mode_charge unit)) where
+  module _ (pool marked : Blocks) (cost charge : ℕ) (top : List Text) (tied : IsTied (machine_of rows shed.buckets rest) shed pool cost top) (share : has_share pool.shares unit ≡ true) (more : charge ≡ cond (is_persistent (machine_of rows shed.buckets rest) unit) 0 (mode_charge unit)) where
     pub persisted-known : IsKnown shed pool unit
-    persisted-known = record { bucket = has; share = tied.shared unit has }
+    persisted-known = record { bucket = has; share = share }
 
     modes_charge : sum_by mode_charge (persistent_in new.buckets) ≡ sum_by mode_charge (persistent_in shed.buckets) + charge
     modes_charge =

@@ -15,7 +15,7 @@ use Rattle.opfs_standing.specs.Sums.{stream_where, reserve_where}
 use Rattle.opfs_standing.specs.Moves.{Moves, kept_amounts}
 
 module _ (f : Outline → ℕ) where
-  sum-flat : (agents : List (Agent Outline)) → sum_by f (flat_map (λ a. a.own) agents) ≡ sum_by (λ (a : Agent Outline). sum_by f a.own) agents
+  pub sum-flat : (agents : List (Agent Outline)) → sum_by f (flat_map (λ a. a.own) agents) ≡ sum_by (λ (a : Agent Outline). sum_by f a.own) agents
   sum-flat [] = refl
   sum-flat (a ∷ agents) =
       sum_by-append f a.own (flat_map (λ a. a.own) agents) ∙ ap (λ n. sum_by f a.own + n) (sum-flat agents) ∙ sym (sum_by-cons (λ (a : Agent Outline). sum_by f a.own) a agents)

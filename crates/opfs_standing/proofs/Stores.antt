@@ -12,7 +12,10 @@ use Rattle.opfs_shed.specs.declared.shed.Bucket.{Bucket}
 use Rattle.opfs_shed.specs.Buckets as shed_words
 use Rattle.opfs_shed.specs.Buckets.{Storage, Buckets, has_unit, bucket_at, with_bucket, usage_of, part_of}
 use Rattle.opfs_ready.specs.Ready.{Ready}
-use Rattle.opfs_standing.specs.Seen.{Prepared, persistent_in}
+use Rattle.opfs_machine.specs.declared.own.Outline.{Outline}
+use Rattle.opfs_machine.specs.declared.state.Agent.{Agent}
+use Rattle.opfs_seats.specs.Registers.{Registered}
+use Rattle.opfs_standing.specs.Seen.{Prepared, prepared_of, persistent_in}
 use Rattle.opfs_standing.specs.Moves.{ShedMoves, PoolMoves}
 use Rattle.opfs_standing.specs.Sums.{of_origin}
 use Rattle.opfs_standing.proofs.Units.{same_unit, apart_back}
@@ -30,7 +33,7 @@ found_new (Some x) w d h = refl
 -- ---- buckets
 
 -- The units stay.
-pub keys-kept : (test : Text → Bool) (es : Buckets) (b : Bucket) → keys_of (set_value test es b) ≡ keys_of es
+pub keys-kept : {X : Type 0} (test : Text → Bool) (es : List (Text × X)) (b : X) → keys_of (set_value test es b) ≡ keys_of es
 keys-kept test [] b = refl
 keys-kept test (e ∷ es) b =
     elim (test e.0) as (λ t. keys_of (cond t ((e.0, b) ∷ es) (e ∷ set_value test es b)) ≡ e.0 ∷ keys_of es) [
@@ -67,14 +70,13 @@ module _ (shed new : Storage) (unit : Text) (b : Bucket) (less more : ℕ) (has 
   pub shed-moved : new.quota ≡ shed.quota → ((origin : Text) → usage_of origin new.buckets + cond (of_origin origin unit) less 0 ≡ usage_of origin shed.buckets + cond (of_origin origin unit) more 0) → ShedMoves shed new unit less more
   shed-moved quota usages = record {
     quota = quota;
-    units = ap keys_of is ∙ keys-kept (shed_words.is_unit unit) shed.buckets b;
     kept = λ u. ap (λ es. has_unit es u) is ∙ bucket-kept shed.buckets unit b u;
     usage = usage_at;
     usages = usages;
   }
 
 pub shed-kept : (shed : Storage) (unit : Text) (n : ℕ) → ShedMoves shed shed unit n n
-shed-kept shed unit n = record { quota = refl; units = refl; kept = λ u. refl; usage = λ u. refl; usages = λ origin. refl }
+shed-kept shed unit n = record { quota = refl; kept = λ u. refl; usage = λ u. refl; usages = λ origin. refl }
 
 -- More blocks of a unit.
 pub shed-added : (shed new : Storage) (unit : Text) (need : ℕ) → has_unit shed.buckets unit ≡ true
@@ -103,7 +105,6 @@ shed-freed shed new unit n has le is usages =
 pub shed-then : (a b c : Storage) (unit : Text) (x y z : ℕ) → ShedMoves a b unit x y → ShedMoves b c unit y z → ShedMoves a c unit x z
 shed-then a b c unit x y z first second = record {
   quota = second.quota ∙ first.quota;
-  units = second.units ∙ first.units;
   kept = λ u. second.kept u ∙ first.kept u;
   usage = λ u. omega (arith, first.usage u, second.usage u);
   usages = λ origin. omega (arith, first.usages origin, second.usages origin);
@@ -118,8 +119,8 @@ module _ (es : Shares) (unit : Text) (v : Share) where
   pub share-other : (u : Text) → same_text unit u ≡ false → share_at (with_share es unit v) u ≡ share_at es u
   share-other u apart = ap (λ o. unwrap_or o pool_words.first_share) (lookup-set_other (pool_words.is_unit unit) (pool_words.is_unit u) es v (keys_apart unit u apart))
 
-  pub share-kept : (u : Text) → has_share es u ≡ true → has_share (with_share es unit v) u ≡ true
-  share-kept u has = is_some-set_value (pool_words.is_unit unit) (pool_words.is_unit u) es v ∙ has
+  pub share-kept : (u : Text) → has_share (with_share es unit v) u ≡ has_share es u
+  share-kept u = is_some-set_value (pool_words.is_unit unit) (pool_words.is_unit u) es v
 
 module _ (pool new : Blocks) (unit : Text) (v : Share) (less more : ℕ) (has : has_share pool.shares unit ≡ true) (is : new ≡ changed pool unit v)
     (sum : v.blocks + less ≡ (share_at pool.shares unit).blocks + more) where
@@ -142,7 +143,7 @@ module _ (pool new : Blocks) (unit : Text) (v : Share) (less more : ℕ) (has : 
   pub pool-moved : held new.shares + less ≡ held pool.shares + more → PoolMoves pool new unit less more
   pool-moved all = record {
     size = ap (λ (b : Blocks). b.size) is;
-    kept = λ u known. ap (λ es. has_share es u) shares_are ∙ share-kept pool.shares unit v u known;
+    kept = λ u. ap (λ es. has_share es u) shares_are ∙ share-kept pool.shares unit v u;
     blocks = blocks_at;
     held = all;
     marks = λ u apart. ap (λ es. (share_at es u).candidate) shares_are ∙ ap (λ (x : Share). x.candidate) (share-other pool.shares unit v u apart);
@@ -152,12 +153,12 @@ module _ (pool new : Blocks) (unit : Text) (v : Share) (less more : ℕ) (has : 
   mark-here = ap (λ es. (share_at es unit).candidate) shares_are ∙ ap (λ (x : Share). x.candidate) (share-same pool.shares unit v has)
 
 pub pool-kept : (pool : Blocks) (unit : Text) (n : ℕ) → PoolMoves pool pool unit n n
-pool-kept pool unit n = record { size = refl; kept = λ u known. known; blocks = λ u. refl; held = refl; marks = λ u apart. refl }
+pool-kept pool unit n = record { size = refl; kept = λ u. refl; blocks = λ u. refl; held = refl; marks = λ u apart. refl }
 
 pub pool-then : (a b c : Blocks) (unit : Text) (x y z : ℕ) → PoolMoves a b unit x y → PoolMoves b c unit y z → PoolMoves a c unit x z
 pool-then a b c unit x y z first second = record {
   size = second.size ∙ first.size;
-  kept = λ u known. second.kept u (first.kept u known);
+  kept = λ u. second.kept u ∙ first.kept u;
   blocks = λ u. omega (arith, first.blocks u, second.blocks u);
   held = omega (arith, first.held, second.held);
   marks = λ u apart. second.marks u apart ∙ first.marks u apart;
@@ -182,7 +183,6 @@ lifted false a b x y k more less e p q = omega arith
 pub shed-lift : (a b : Storage) (unit : Text) (x y k less more : ℕ) → less ≡ k + x → more ≡ k + y → ShedMoves a b unit x y → ShedMoves a b unit less more
 shed-lift a b unit x y k less more p q moves = record {
   quota = moves.quota;
-  units = moves.units;
   kept = moves.kept;
   usage = λ u. lifted (same_text u unit) _ _ x y k more less (moves.usage u) p q;
   usages = λ origin. lifted (of_origin origin unit) _ _ x y k more less (moves.usages origin) p q;
@@ -228,9 +228,21 @@ modes-kept es unit b has same =
     ] refl in
     ap (filter (mode (with_bucket es unit b))) (keys-kept (shed_words.is_unit unit) es b) ∙ filter-same (mode (with_bucket es unit b)) (mode es) each (keys_of es)
 
--- What is prepared stays where the place that stands ready does, and each unit has another bucket at most.
-pub units-kept : (shed new : Storage) (unit : Text) (b : Bucket) → new ≡ shed_words.changed shed unit b → keys_of new.buckets ≡ keys_of shed.buckets
-units-kept shed new unit b is = ap (λ (s : Storage). keys_of s.buckets) is ∙ keys-kept (shed_words.is_unit unit) shed.buckets b
+-- The units that are known stay where each has another share at most.
+pub units-kept : (pool new : Blocks) (unit : Text) (v : Share) → new ≡ changed pool unit v → keys_of new.shares ≡ keys_of pool.shares
+units-kept pool new unit v is = ap (λ (b : Blocks). keys_of b.shares) is ∙ keys-kept (pool_words.is_unit unit) pool.shares v
 
-pub prepared-same : (place later : Ready) (units more : List Text) → later ≡ place → more ≡ units → ◌≡◌ {A = Prepared} (record { place = later; units = more }) (record { place = place; units = units })
-prepared-same place later units more a b i = record { place = a i; units = b i }
+-- What is prepared for agents stays.
+pub record Stands (register after : Registered) : Type 0 where
+  pub room : after.room ≡ register.room
+  pub ready : after.ready ≡ register.ready
+
+pub same-register : (register : Registered) → Stands register register
+same-register register = record { room = refl; ready = refl }
+
+pub agents-stand : (register after : Registered) (agents : List (Agent Outline)) → after ≡ record register { agents = agents } → Stands register after
+agents-stand register after agents is = record { room = ap (λ (r : Registered). r.room) is; ready = ap (λ (r : Registered). r.ready) is }
+
+pub prepared-same : (place later : Ready) (shares more : Shares) (register after : Registered) → later ≡ place → keys_of more ≡ keys_of shares → Stands register after
+    → ◌≡◌ {A = Prepared} (prepared_of later more after) (prepared_of place shares register)
+prepared-same place later shares more register after a b rest i = record { place = a i; units = b i; room = rest.room i; tag = rest.ready i }

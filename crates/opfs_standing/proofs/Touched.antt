@@ -1,5 +1,5 @@
 -- A unit gets a bucket and a share: nothing of the machine changes.
-use Rattle.std.proofs.Common.{◌≡◌, ℕ, Bool, true, false, cond, ◌||◌, List, filter, Option, Some, None, is_some, unwrap_or, refl, sym, ap, subst, ◌∙◌}
+use Rattle.std.proofs.Common.{Result, Ok, Err, OnErr, ◌≡◌, ℕ, Bool, true, false, cond, ◌||◌, List, filter, Option, Some, None, is_some, unwrap_or, refl, sym, ap, subst, ◌∙◌}
 use Rattle.std.specs.List.{list_any}
 use Rattle.std.specs.Map.{keys_of, lookup}
 use Rattle.std.specs.BTreeMap.{is_at, insert_entry}
@@ -62,34 +62,14 @@ module _ {X : Type 0} (k : Text) (d : X) where
         | false ↦ λ has. keys-inserted k d f (out has) es (none_of (at es k) has)
       ] refl
 
+-- What holds anyway holds of an error.
+pub on-err : {T E : Type 0} (r : Result T E) {P : Type 0} → P → OnErr r P
+on-err (Ok x) p = tt
+on-err (Err e) p = p
+
 or_right : (a b : Bool) → b ≡ true → (a || b) ≡ true
 or_right true b h = refl
 or_right false b h = h
-
--- ---- shares
-
-module _ (m : Machine) (shed : Storage) (pool new : Blocks) (cost : ℕ) (top : List Text) (unit : Text) (tied : IsTied m shed pool cost top)
-    (is : new ≡ record pool { shares = touched pool.shares unit }) where
-  share_same : (u : Text) → share_at new.shares u ≡ share_at pool.shares u
-  share_same u = ap (λ (b : Blocks). share_at b.shares u) is ∙ touched-at unit first_share pool.shares u
-
-  share_kept : (u : Text) → has_share pool.shares u ≡ true → has_share new.shares u ≡ true
-  share_kept u has = ap (λ (b : Blocks). has_share b.shares u) is ∙ (touched-there unit first_share pool.shares u ∙ or_right (is_at (text_cmp u) unit) (has_share pool.shares u) has)
-
-  pub pool-touched : held new.shares ≡ held pool.shares → IsTied m shed new cost top
-  pool-touched all = record {
-    root = tied.root;
-    quota = tied.quota;
-    size = ap (λ (b : Blocks). b.size) is ∙ tied.size;
-    shared = λ u has. share_kept u (tied.shared u has);
-    known = λ place there. record { bucket = (tied.known place there).bucket; share = share_kept place.0 (tied.known place there).share };
-    usage = tied.usage;
-    usages = tied.usages;
-    blocks = λ u. ap (λ (v : Share). v.blocks) (share_same u) ∙ tied.blocks u;
-    held = all ∙ tied.held;
-    marks = λ u. ap (λ (v : Share). v.candidate) (share_same u) ∙ tied.marks u;
-    fixed = tied.fixed;
-  }
 
 -- ---- buckets
 
@@ -97,8 +77,8 @@ module _ (shed new : Storage) (unit : Text) (is : new ≡ record shed { buckets 
   bucket_same : (u : Text) → bucket_at new.buckets u ≡ bucket_at shed.buckets u
   bucket_same u = ap (λ (s : Storage). bucket_at s.buckets u) is ∙ touched-at unit first_bucket shed.buckets u
 
-  unit_there : (u : Text) → has_unit new.buckets u ≡ (is_at (text_cmp u) unit || has_unit shed.buckets u)
-  unit_there u = ap (λ (s : Storage). has_unit s.buckets u) is ∙ touched-there unit first_bucket shed.buckets u
+  unit_kept : (u : Text) → has_unit shed.buckets u ≡ true → has_unit new.buckets u ≡ true
+  unit_kept u has = ap (λ (s : Storage). has_unit s.buckets u) is ∙ (touched-there unit first_bucket shed.buckets u ∙ or_right (is_at (text_cmp u) unit) (has_unit shed.buckets u) has)
 
   pub touched-modes : persistent_in new.buckets ≡ persistent_in shed.buckets
   touched-modes =
@@ -107,44 +87,68 @@ module _ (shed new : Storage) (unit : Text) (is : new ≡ record shed { buckets 
       ∙ touched-keys unit first_bucket (λ u. (bucket_at shed.buckets u).persistent) shed.buckets
       (λ absent. ap (λ o. (unwrap_or o first_bucket).persistent) (none_of (lookup (is_at (text_cmp unit)) shed.buckets) absent)))
 
+  pub touched-machine : (rows : tree.Rows) (rest : Registered) → machine_of rows new.buckets rest ≡ machine_of rows shed.buckets rest
+  touched-machine rows rest = ap (λ (us : List Text). record (machine_of rows shed.buckets rest) { persistent = us }) touched-modes
+
+  pub shed-touched : (rows : tree.Rows) (rest : Registered) (pool : Blocks) (cost : ℕ) (top : List Text) → IsTied (machine_of rows shed.buckets rest) shed pool cost top
+      → ((origin : Text) → usage_of origin new.buckets ≡ usage_of origin shed.buckets) → IsTied (machine_of rows new.buckets rest) new pool cost top
+  shed-touched rows rest pool cost top tied usages =
+      subst (λ (x : Machine). IsTied x new pool cost top) (sym (touched-machine rows rest))
+      (record {
+        root = tied.root;
+        quota = ap (λ (s : Storage). s.quota) is ∙ tied.quota;
+        size = tied.size;
+        shared = λ u has. unit_kept u (tied.shared u has);
+        known = λ place there. record { bucket = unit_kept place.0 (tied.known place there).bucket; share = (tied.known place there).share };
+        usage = λ u. ap (λ (b : Bucket). b.usage) (bucket_same u) ∙ tied.usage u;
+        usages = λ origin. usages origin ∙ tied.usages origin;
+        blocks = tied.blocks;
+        held = tied.held;
+        marks = tied.marks;
+        fixed = tied.fixed;
+      })
+
+-- ---- shares
+
+module _ (pool new : Blocks) (unit : Text) (is : new ≡ record pool { shares = touched pool.shares unit }) where
+  share_same : (u : Text) → share_at new.shares u ≡ share_at pool.shares u
+  share_same u = ap (λ (b : Blocks). share_at b.shares u) is ∙ touched-at unit first_share pool.shares u
+
+  share_there : (u : Text) → has_share new.shares u ≡ (is_at (text_cmp u) unit || has_share pool.shares u)
+  share_there u = ap (λ (b : Blocks). has_share b.shares u) is ∙ touched-there unit first_share pool.shares u
+
+  share_kept : (u : Text) → has_share pool.shares u ≡ true → has_share new.shares u ≡ true
+  share_kept u has = share_there u ∙ or_right (is_at (text_cmp u) unit) (has_share pool.shares u) has
+
   -- The units that are known stay so, and this one is.
-  pub touched-known : (u : Text) → list_any (same_text u) (keys_of new.buckets) ≡ (is_at (text_cmp u) unit || list_any (same_text u) (keys_of shed.buckets))
-  touched-known u = known_key u new.buckets ∙ (unit_there u ∙ ap (λ t. is_at (text_cmp u) unit || t) (sym (known_key u shed.buckets)))
+  touched_known : (u : Text) → list_any (same_text u) (keys_of new.shares) ≡ (is_at (text_cmp u) unit || list_any (same_text u) (keys_of pool.shares))
+  touched_known u = known_key u new.shares ∙ (share_there u ∙ ap (λ t. is_at (text_cmp u) unit || t) (sym (known_key u pool.shares)))
 
-  pub known-kept : (u : Text) → list_any (same_text u) (keys_of shed.buckets) ≡ true → list_any (same_text u) (keys_of new.buckets) ≡ true
-  known-kept u was = touched-known u ∙ or_right (is_at (text_cmp u) unit) (list_any (same_text u) (keys_of shed.buckets)) was
+  pub known-kept : (u : Text) → list_any (same_text u) (keys_of pool.shares) ≡ true → list_any (same_text u) (keys_of new.shares) ≡ true
+  known-kept u was = touched_known u ∙ or_right (is_at (text_cmp u) unit) (list_any (same_text u) (keys_of pool.shares)) was
 
-  pub known-here : list_any (same_text unit) (keys_of new.buckets) ≡ true
-  known-here = touched-known unit ∙ ap (λ t. t || list_any (same_text unit) (keys_of shed.buckets)) (sym (texts_ties unit unit) ∙ unit_itself unit unit refl)
+  pub known-here : list_any (same_text unit) (keys_of new.shares) ≡ true
+  known-here = touched_known unit ∙ ap (λ t. t || list_any (same_text unit) (keys_of pool.shares)) (sym (texts_ties unit unit) ∙ unit_itself unit unit refl)
 
-  module _ (rows : tree.Rows) (rest : Registered) (pool : Blocks) (cost : ℕ) (top : List Text) (tied : IsTied (machine_of rows shed.buckets rest) shed pool cost top) (share : has_share pool.shares unit ≡ true) where
-    pub touched-machine : machine_of rows new.buckets rest ≡ machine_of rows shed.buckets rest
-    touched-machine = ap (λ (us : List Text). record (machine_of rows shed.buckets rest) { persistent = us }) touched-modes
-
-    shared : (u : Text) → has_unit new.buckets u ≡ true → has_share pool.shares u ≡ true
+  module _ (m : Machine) (shed : Storage) (cost : ℕ) (top : List Text) (tied : IsTied m shed pool cost top) (bucket : has_unit shed.buckets unit ≡ true) where
+    shared : (u : Text) → has_share new.shares u ≡ true → has_unit shed.buckets u ≡ true
     shared u has =
-        elim (is_at (text_cmp u) unit) as (λ b. is_at (text_cmp u) unit ≡ b → (b || has_unit shed.buckets u) ≡ true → has_share pool.shares u ≡ true) [
-          | true ↦ λ here h. ap (has_share pool.shares) (same_unit u unit (texts_ties u unit ∙ here)) ∙ share
+        elim (is_at (text_cmp u) unit) as (λ b. is_at (text_cmp u) unit ≡ b → (b || has_share pool.shares u) ≡ true → has_unit shed.buckets u ≡ true) [
+          | true ↦ λ here h. ap (has_unit shed.buckets) (same_unit u unit (texts_ties u unit ∙ here)) ∙ bucket
           | false ↦ λ here h. tied.shared u h
-        ] refl (sym (unit_there u) ∙ has)
+        ] refl (sym (share_there u) ∙ has)
 
-    pub shed-touched : ((origin : Text) → usage_of origin new.buckets ≡ usage_of origin shed.buckets) → IsTied (machine_of rows new.buckets rest) new pool cost top
-    shed-touched usages =
-        subst (λ (x : Machine). IsTied x new pool cost top) (sym touched-machine)
-        (record {
-          root = tied.root;
-          quota = ap (λ (s : Storage). s.quota) is ∙ tied.quota;
-          size = tied.size;
-          shared = shared;
-          known = λ place there.
-              record {
-                bucket = unit_there place.0 ∙ or_right (is_at (text_cmp place.0) unit) (has_unit shed.buckets place.0) (tied.known place there).bucket;
-                share = (tied.known place there).share;
-              };
-          usage = λ u. ap (λ (b : Bucket). b.usage) (bucket_same u) ∙ tied.usage u;
-          usages = λ origin. usages origin ∙ tied.usages origin;
-          blocks = tied.blocks;
-          held = tied.held;
-          marks = tied.marks;
-          fixed = tied.fixed;
-        })
+    pub pool-touched : held new.shares ≡ held pool.shares → IsTied m shed new cost top
+    pool-touched all = record {
+      root = tied.root;
+      quota = tied.quota;
+      size = ap (λ (b : Blocks). b.size) is ∙ tied.size;
+      shared = shared;
+      known = λ place there. record { bucket = (tied.known place there).bucket; share = share_kept place.0 (tied.known place there).share };
+      usage = tied.usage;
+      usages = tied.usages;
+      blocks = λ u. ap (λ (v : Share). v.blocks) (share_same u) ∙ tied.blocks u;
+      held = all ∙ tied.held;
+      marks = λ u. ap (λ (v : Share). v.candidate) (share_same u) ∙ tied.marks u;
+      fixed = tied.fixed;
+    }

@@ -6,3 +6,4 @@ pub mod Contents
 pub mod Moves
 pub mod Pooled
 pub mod Coming
+pub mod Noted

@@ -1,7 +1,6 @@
 -- A change of one unit: what leaves the sums of the machine, of the buckets and of the shares, and what comes. This
 -- project's own.
 use Rattle.std.specs.Prelude.{◌≡◌, ℕ, ◌+◌, Bool, true, false, cond, is_some}
-use Rattle.std.specs.Map.{keys_of}
 use Rattle.opfs_base.specs.Places.{Place}
 use Rattle.opfs_base.specs.Texts.{Text, same_text}
 use Rattle.opfs_machine.specs.Rows.{row_at}
@@ -33,7 +32,6 @@ pub record Moves (m new : Machine) (unit : Text) (less more : Amounts) : Type 0 
 -- The buckets.
 pub record ShedMoves (shed new : Storage) (unit : Text) (less more : ℕ) : Type 0 where
   pub quota : new.quota ≡ shed.quota
-  pub units : keys_of new.buckets ≡ keys_of shed.buckets
   pub kept : (u : Text) → has_unit new.buckets u ≡ has_unit shed.buckets u
   pub usage : (u : Text) → (bucket_at new.buckets u).usage + cond (same_text u unit) less 0 ≡ (bucket_at shed.buckets u).usage + cond (same_text u unit) more 0
   pub usages : (origin : Text) → usage_of origin new.buckets + cond (of_origin origin unit) less 0 ≡ usage_of origin shed.buckets + cond (of_origin origin unit) more 0
@@ -41,7 +39,7 @@ pub record ShedMoves (shed new : Storage) (unit : Text) (less more : ℕ) : Type
 -- The shares.
 pub record PoolMoves (pool new : Blocks) (unit : Text) (less more : ℕ) : Type 0 where
   pub size : new.size ≡ pool.size
-  pub kept : (u : Text) → has_share pool.shares u ≡ true → has_share new.shares u ≡ true
+  pub kept : (u : Text) → has_share new.shares u ≡ has_share pool.shares u
   pub blocks : (u : Text) → (share_at new.shares u).blocks + cond (same_text u unit) less 0 ≡ (share_at pool.shares u).blocks + cond (same_text u unit) more 0
   pub held : held new.shares + less ≡ held pool.shares + more
   pub marks : (u : Text) → same_text unit u ≡ false → (share_at new.shares u).candidate ≡ (share_at pool.shares u).candidate

@@ -7,7 +7,7 @@ use Rattle.opfs_machine.specs.Contents.{in_lengths}
 use Rattle.opfs_machine.specs.Sums as machine
 use Rattle.opfs_pool.specs.Shares.{Blocks, text_cmp, share_at, held}
 use Rattle.opfs_seats.specs.Registers.{Registered}
-use Rattle.opfs_standing.specs.Seen.{Machine}
+use Rattle.opfs_standing.specs.Seen.{Machine, Seen}
 use Rattle.opfs_standing.specs.Sums.{blocks_where, clearable}
 
 -- The shares stand in the order of their units. Each has the blocks of its unit, and tells whether the unit may be
@@ -19,6 +19,14 @@ pub record IsPooled (m : Machine) (pool : Blocks) : Type 0 where
   pub held : held pool.shares ≡ machine.pool in_lengths m
   pub marks : (unit : Text) → (share_at pool.shares unit).candidate ≡ clearable m unit
 
--- What the machine has beside its rows and modes.
-abbrev pub registered : Machine → Registered
-registered m = record { posted = m.posted; agents = m.agents; entries = m.entries; used = m.used; limits = m.limits }
+-- What the machine has beside its rows and modes, with what is prepared for agents.
+abbrev pub registered : Seen → Registered
+registered s = record {
+  posted = s.machine.posted;
+  agents = s.machine.agents;
+  entries = s.machine.entries;
+  used = s.machine.used;
+  limits = s.machine.limits;
+  room = s.prepared.room;
+  ready = s.prepared.tag;
+}

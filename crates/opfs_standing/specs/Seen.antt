@@ -1,13 +1,15 @@
 -- The shared store as the machine in lengths, read from its tree, its buckets and its agents. This project's own.
-use Rattle.std.specs.Prelude.{ℕ, Bool, List, map, filter}
+use Rattle.std.specs.Prelude.{ℕ, Bool, List, map, filter, Option}
 use Rattle.std.specs.List.{list_any}
 use Rattle.std.specs.Map.{keys_of}
 use Rattle.opfs_base.specs.Texts.{Text, same_text}
 use Rattle.opfs_machine.specs.declared.own.Outline.{Outline}
+use Rattle.opfs_machine.specs.declared.state.Posted.{Posted}
 use Rattle.opfs_machine.specs.declared.state.Row.TheVariants as line
 use Rattle.opfs_machine.specs.declared.state.Row.{Row as Line}
 use Rattle.opfs_machine.specs.declared.state.State.{State}
 use Rattle.opfs_machine.specs.Rows.{Rows as Lines}
+use Rattle.opfs_pool.specs.Shares.{Shares}
 use Rattle.opfs_ready.specs.Ready.{Ready}
 use Rattle.opfs_seats.specs.Slots.{with_slot}
 use Rattle.opfs_shed.specs.Buckets.{Buckets, bucket_at}
@@ -43,10 +45,16 @@ machine_of rows buckets register = record {
   limits = register.limits;
 }
 
--- What changes need no memory for: the place that stands ready for a row, and the units that are known.
+-- What changes need no memory for: the place that stands ready for a row, the units that are known, the agent that has
+-- room for one row more, and the tag that is ready to be posted or waited for.
 pub record Prepared : Type 0 where
   pub place : Ready
   pub units : List Text
+  pub room : Option ℕ
+  pub tag : Option Posted
+
+abbrev pub prepared_of : Ready → Shares → Registered → Prepared
+prepared_of place shares register = record { place = place; units = keys_of shares; room = register.room; tag = register.ready }
 
 abbrev pub is_known : Text → Prepared → Bool
 is_known unit prepared = list_any (same_text unit) prepared.units

@@ -2,6 +2,7 @@
 //! ask for.
 #![tactic(auto)]
 
+mod agents;
 mod files;
 mod handles;
 mod locks;

@@ -69,9 +69,10 @@ impl Standing {
         &self.pool
     }
 
-    /// The agents with their own rows, the posted tags, the number of entries, the last uses and the limits.
+    /// The agents with their own rows, the posted tags, the number of entries, the last uses and the limits, with what is
+    /// prepared of these.
     pub fn register(&self) -> &Register
-        ensures { result.now ≡ registered self.now.machine }
+        ensures { result.now ≡ registered self.now }
     {
         &self.register
     }

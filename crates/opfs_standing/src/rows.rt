@@ -36,8 +36,8 @@ impl Standing {
         ensures kept { (other : Text) → is_known other self.old.prepared ≡ true → is_known other self.new.prepared ≡ true }
         ensures err { OnErr result (self.new ≡ self.old) }
     {
-        self.pool.touch(unit)?;
         self.shed.touch(unit)?;
+        self.pool.touch(unit)?;
         Ok(())
     }
 

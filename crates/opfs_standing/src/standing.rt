@@ -25,13 +25,12 @@ pub struct Standing {
 }
 
 impl Model for Standing {
-    ghost use Rattle.std.specs.Map.{keys_of};
-    ghost use Rattle.opfs_standing.specs.Seen.{Seen, machine_of};
+    ghost use Rattle.opfs_standing.specs.Seen.{Seen, machine_of, prepared_of};
     ghost use Rattle.opfs_standing.specs.Tied.{IsTied};
 
     ghost Value = { Seen };
 
-    ghost view = { λ s. record { machine = machine_of s.tree.rows s.shed.buckets s.register; tree = s.tree.rows; prepared = record { place = s.tree.ready; units = keys_of s.shed.buckets } } };
+    ghost view = { λ s. record { machine = machine_of s.tree.rows s.shed.buckets s.register; tree = s.tree.rows; prepared = prepared_of s.tree.ready s.pool.shares s.register } };
 
     ghost invariant = { λ s. IsTied (machine_of s.tree.rows s.shed.buckets s.register) s.shed s.pool s.fixed s.root };
 }

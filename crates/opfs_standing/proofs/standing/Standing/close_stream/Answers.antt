@@ -3,8 +3,7 @@ use Rattle.opfs_machine.specs.declared.own.Outline.TheVariants as outline
 use Rattle.opfs_standing.specs.Open.{IsStreamAt}
 use Rattle.opfs_standing.specs.Seen.{Seen, machine_of, with_slot_at}
 use Rattle.opfs_standing.proofs.OpenStreams.{stream-usage, stream-blocks, closed-machine, closed-tied}
-use Rattle.std.specs.Map.{keys_of}
-use Rattle.opfs_standing.proofs.Stores.{units-kept, prepared-same}
+use Rattle.opfs_standing.proofs.Stores.{units-kept, prepared-same, agents-stand}
 use Rattle.opfs_standing.proofs.standing.Standing.close_stream.Goals as goal
 
 pub free-requires : goal.free-requires
@@ -41,6 +40,7 @@ returns-clause-machine c =
 
 pub returns-clause-prepared : goal.returns-clause-prepared
 returns-clause-prepared c =
-    prepared-same c.self.inside.tree.ready c.self.inside.tree.ready (keys_of c.self.inside.shed.buckets) (keys_of c.free.new.self.buckets) refl
-    (units-kept c.self.inside.shed c.free.new.self _ _ c.free.ensures.bucket)
+    prepared-same c.self.inside.tree.ready c.self.inside.tree.ready c.self.inside.pool.shares c.lower.new.self.shares c.self.inside.register c.close_stream-stream.new.self refl
+    (units-kept c.self.inside.pool c.lower.new.self _ _ c.lower.ensures.share)
+    (agents-stand c.self.inside.register c.close_stream-stream.new.self _ c.close_stream-stream.ensures.rest)
     ∙ ap (λ (s : Seen). s.prepared) c.self.view_is

@@ -1,4 +1,4 @@
-use Rattle.std.proofs.Common.{◌≡◌, ℕ, ◌+◌, Some, sym, ap, subst, ◌∙◌}
+use Rattle.std.proofs.Common.{None, ◌≡◌, ℕ, ◌+◌, Some, sym, ap, subst, ◌∙◌}
 use Rattle.opfs_machine.specs.declared.state.Row.{Row as Line}
 use Rattle.opfs_machine.specs.Contents.{in_lengths}
 use Rattle.opfs_machine.specs.Effects.{new_row as machine_row}
@@ -7,6 +7,7 @@ use Rattle.opfs_ready.specs.Ready.{new_row}
 use Rattle.opfs_standing.specs.Seen.{Seen, machine_of, is_known}
 use Rattle.opfs_standing.specs.Tied.{IsTied}
 use Rattle.opfs_standing.proofs.Made.{made-machine, made-tied, line-new, charge-new, bare-new, known-unit}
+use Rattle.opfs_standing.proofs.Stores.{units-kept, prepared-same, same-register}
 use Rattle.opfs_standing.proofs.standing.Standing.fill.Goals as goal
 
 pub mark-requires : goal.mark-requires
@@ -28,3 +29,9 @@ returns-clause-machine c = λ kind is.
     made-machine c.self.inside.tree.rows c.fill.new.self.rows c.self.inside.shed c.self.inside.pool c.self.inside.register c.self.inside.fixed c.self.inside.root c.args.unit.now c.args.path.now (new_row kind c.args.stamp) (c.fill.ensures.rows (c.args.unit.now, c.args.path.now) kind stands)
     ∙ (ap (λ (r : Line ℕ). with_row (machine_of c.self.inside.tree.rows c.self.inside.shed.buckets c.self.inside.register) (c.args.unit.now, c.args.path.now) r) (line-new kind c.args.stamp)
     ∙ ap (λ (s : Seen). with_row s.machine (c.args.unit.now, c.args.path.now) (machine_row in_lengths kind c.args.stamp)) c.self.view_is)
+
+pub returns-clause-prepared : goal.returns-clause-prepared
+returns-clause-prepared c =
+    prepared-same None c.fill.new.self.ready c.self.inside.pool.shares c.mark.new.pool.shares c.self.inside.register c.self.inside.register c.fill.ensures.ready
+    (units-kept c.self.inside.pool c.mark.new.pool _ _ c.mark.ensures) (same-register c.self.inside.register)
+    ∙ ap (λ (s : Seen). record s.prepared { place = None }) c.self.view_is

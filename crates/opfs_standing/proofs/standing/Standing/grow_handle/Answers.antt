@@ -1,11 +1,12 @@
-use Rattle.std.proofs.Common.{◌≡◌, ◌+◌, Some, sym, ap, subst, ◌∙◌, arith}
+use Rattle.std.proofs.Common.{◌≡◌, ◌+◌, Some, sym, ap, subst, ◌∙◌, arith, refl}
 use Rattle.opfs_machine.specs.declared.own.HandleOutline.{HandleOutline}
 use Rattle.opfs_machine.specs.declared.own.Outline.TheVariants as outline
 use Rattle.opfs_pool.proofs.Sums.{share_at-le}
 use Rattle.opfs_seats.specs.Slots.{handle_at}
 use Rattle.opfs_standing.specs.Open.{IsHandleAt}
 use Rattle.opfs_standing.specs.Seen.{Seen, machine_of, with_slot_at}
-use Rattle.opfs_standing.proofs.OpenHandles.{one_handle, handle-blocks, handle-grown-machine, handle-grown-tied}
+use Rattle.opfs_standing.proofs.OpenHandles.{one_handle, handle-blocks, handle-grown-machine, handle-grown-tied, slot-is-handle}
+use Rattle.opfs_standing.proofs.Stores.{units-kept, prepared-same, agents-stand}
 use Rattle.opfs_standing.proofs.standing.Standing.grow_handle.Goals as goal
 
 pub overflow_add-reserve : goal.overflow_add-reserve
@@ -30,3 +31,10 @@ returns-clause-machine c =
     rw (← c.self.view_is) (λ v told.
     handle-grown-machine c.self.inside.tree.rows c.self.inside.shed c.self.inside.pool c.self.inside.register c.self.inside.fixed c.self.inside.root c.args.at c.args.n w c.self.invariant found (at.there w found) c.raise.new.self c.set_reserve.new.self c.args.more c.set_reserve.ensures
     ∙ ap (λ (x : HandleOutline). with_slot_at (machine_of c.self.inside.tree.rows c.self.inside.shed.buckets c.self.inside.register) c.args.at c.args.n (outline.Handle (record x { reserve = x.reserve + c.args.more }))) (one_handle (sym found ∙ told)))
+
+pub returns-clause-prepared : goal.returns-clause-prepared
+returns-clause-prepared c =
+    prepared-same c.self.inside.tree.ready c.self.inside.tree.ready c.self.inside.pool.shares c.raise.new.self.shares c.self.inside.register c.set_reserve.new.self refl
+    (units-kept c.self.inside.pool c.raise.new.self _ _ c.raise.ensures.share)
+    (agents-stand c.self.inside.register c.set_reserve.new.self _ (c.set_reserve.ensures _ (slot-is-handle c.self.inside.register.agents c.args.at c.args.n c.in-Some.handle.now (sym c.in-Some.ensures))))
+    ∙ ap (λ (s : Seen). s.prepared) c.self.view_is

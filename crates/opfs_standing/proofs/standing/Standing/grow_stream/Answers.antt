@@ -8,8 +8,8 @@ use Rattle.opfs_seats.specs.Slots.{stream_at}
 use Rattle.opfs_standing.specs.Open.{IsStreamAt}
 use Rattle.opfs_standing.specs.Seen.{Seen, machine_of, with_slot_at}
 use Rattle.opfs_standing.proofs.OpenStreams.{stream-in-usage, usage-known, one_stream, grown-machine, grown-tied}
-use Rattle.std.specs.Map.{keys_of}
-use Rattle.opfs_standing.proofs.Stores.{units-kept, prepared-same}
+use Rattle.opfs_standing.proofs.Stores.{units-kept, prepared-same, agents-stand}
+use Rattle.opfs_standing.proofs.Reserved.{slot-is-stream}
 use Rattle.opfs_standing.proofs.standing.Standing.grow_stream.Goals as goal
 
 pub overflow_add-reserve : goal.overflow_add-reserve
@@ -50,6 +50,7 @@ returns-clause-machine c =
 
 pub returns-clause-prepared : goal.returns-clause-prepared
 returns-clause-prepared c =
-    prepared-same c.self.inside.tree.ready c.self.inside.tree.ready (keys_of c.self.inside.shed.buckets) (keys_of c.add.new.self.buckets) refl
-    (units-kept c.self.inside.shed c.add.new.self _ _ c.add.ensures.bucket)
+    prepared-same c.self.inside.tree.ready c.self.inside.tree.ready c.self.inside.pool.shares c.raise.new.self.shares c.self.inside.register c.set_reserve.new.self refl
+    (units-kept c.self.inside.pool c.raise.new.self _ _ c.raise.ensures.share)
+    (agents-stand c.self.inside.register c.set_reserve.new.self _ (c.set_reserve.ensures _ (slot-is-stream c.self.inside.register.agents c.args.at c.args.n c.in-Some.stream.now (sym c.in-Some.ensures))))
     ∙ ap (λ (s : Seen). s.prepared) c.self.view_is

@@ -1,29 +1,32 @@
 use Rattle.std.proofs.Common.{sym, ap, subst, ◌∙◌}
-use Rattle.opfs_shed.specs.Buckets.{Storage}
-use Rattle.opfs_standing.specs.Seen.{Seen, machine_of, is_known}
+use Rattle.opfs_pool.specs.Shares.{Blocks}
+use Rattle.opfs_standing.specs.Seen.{Seen, machine_of, is_known, prepared_of}
 use Rattle.opfs_standing.specs.Tied.{IsTied}
-use Rattle.opfs_standing.proofs.Touched.{pool-touched, touched-machine, shed-touched, known-here, known-kept}
+use Rattle.opfs_standing.proofs.Touched.{on-err, pool-touched, touched-machine, shed-touched, known-here, known-kept}
 use Rattle.opfs_standing.proofs.standing.Standing.prepare_unit.Goals as goal
 
 pub invariant_of-self-in_err-touch-2 : goal.invariant_of-self-in_err-touch-2
-invariant_of-self-in_err-touch-2 c =
-    let tied = pool-touched (machine_of c.self.inside.tree.rows c.self.inside.shed.buckets c.self.inside.register) c.self.inside.shed c.self.inside.pool c.touch.new.self c.self.inside.fixed c.self.inside.root c.args.unit.now c.self.invariant c.in_ok-touch.ensures.touched c.touch.ensures.held in
-    subst (λ (s : Storage). IsTied (machine_of c.self.inside.tree.rows s.buckets c.self.inside.register) s c.touch.new.self c.self.inside.fixed c.self.inside.root) (sym c.in_err-touch-2.ensures.err) tied
+invariant_of-self-in_err-touch-2 c = subst (λ (p : Blocks). IsTied (machine_of c.self.inside.tree.rows c.touch.new.self.buckets c.self.inside.register) c.touch.new.self p c.self.inside.fixed c.self.inside.root) (sym c.in_err-touch-2.ensures.err) (shed-touched c.self.inside.shed c.touch.new.self c.args.unit.now c.in_ok-touch.ensures.touched c.self.inside.tree.rows c.self.inside.register c.self.inside.pool c.self.inside.fixed c.self.inside.root c.self.invariant c.touch.ensures.usage)
 
 pub invariant_of-self-2 : goal.invariant_of-self-2
 invariant_of-self-2 c =
-    let tied = pool-touched (machine_of c.self.inside.tree.rows c.self.inside.shed.buckets c.self.inside.register) c.self.inside.shed c.self.inside.pool c.touch.new.self c.self.inside.fixed c.self.inside.root c.args.unit.now c.self.invariant c.in_ok-touch.ensures.touched c.touch.ensures.held in
-    shed-touched c.self.inside.shed c.touch-2.new.self c.args.unit.now c.in_ok-touch-2.ensures.touched c.self.inside.tree.rows c.self.inside.register c.touch.new.self c.self.inside.fixed c.self.inside.root tied c.in_ok-touch.ensures.there c.touch-2.ensures.usage
+    pool-touched c.self.inside.pool c.touch-2.new.self c.args.unit.now c.in_ok-touch-2.ensures.touched (machine_of c.self.inside.tree.rows c.touch.new.self.buckets c.self.inside.register) c.touch.new.self c.self.inside.fixed c.self.inside.root
+    (shed-touched c.self.inside.shed c.touch.new.self c.args.unit.now c.in_ok-touch.ensures.touched c.self.inside.tree.rows c.self.inside.register c.self.inside.pool c.self.inside.fixed c.self.inside.root c.self.invariant c.touch.ensures.usage) c.in_ok-touch.ensures.there c.touch-2.ensures.held
 
 pub returns-clause-machine : goal.returns-clause-machine
-returns-clause-machine c =
-    let tied = pool-touched (machine_of c.self.inside.tree.rows c.self.inside.shed.buckets c.self.inside.register) c.self.inside.shed c.self.inside.pool c.touch.new.self c.self.inside.fixed c.self.inside.root c.args.unit.now c.self.invariant c.in_ok-touch.ensures.touched c.touch.ensures.held in
-    touched-machine c.self.inside.shed c.touch-2.new.self c.args.unit.now c.in_ok-touch-2.ensures.touched c.self.inside.tree.rows c.self.inside.register c.touch.new.self c.self.inside.fixed c.self.inside.root tied c.in_ok-touch.ensures.there
-    ∙ ap (λ (s : Seen). s.machine) c.self.view_is
+returns-clause-machine c = touched-machine c.self.inside.shed c.touch.new.self c.args.unit.now c.in_ok-touch.ensures.touched c.self.inside.tree.rows c.self.inside.register ∙ ap (λ (s : Seen). s.machine) c.self.view_is
+
+pub returns-in_err-touch-2-clause-machine : goal.returns-in_err-touch-2-clause-machine
+returns-in_err-touch-2-clause-machine c = touched-machine c.self.inside.shed c.touch.new.self c.args.unit.now c.in_ok-touch.ensures.touched c.self.inside.tree.rows c.self.inside.register ∙ ap (λ (s : Seen). s.machine) c.self.view_is
+
+pub returns-in_err-touch-2-clause-err : goal.returns-in_err-touch-2-clause-err
+returns-in_err-touch-2-clause-err c =
+    let machine = touched-machine c.self.inside.shed c.touch.new.self c.args.unit.now c.in_ok-touch.ensures.touched c.self.inside.tree.rows c.self.inside.register in
+    on-err c.from_residual-in_err-touch-2.result
+    ((λ i. record { machine = machine i; tree = c.self.inside.tree.rows; prepared = prepared_of c.self.inside.tree.ready (c.in_err-touch-2.ensures.err i).shares c.self.inside.register }) ∙ c.self.view_is)
 
 pub returns-clause-known : goal.returns-clause-known
-returns-clause-known c = known-here c.self.inside.shed c.touch-2.new.self c.args.unit.now c.in_ok-touch-2.ensures.touched
+returns-clause-known c = known-here c.self.inside.pool c.touch-2.new.self c.args.unit.now c.in_ok-touch-2.ensures.touched
 
 pub returns-clause-kept : goal.returns-clause-kept
-returns-clause-kept c = λ other was.
-    known-kept c.self.inside.shed c.touch-2.new.self c.args.unit.now c.in_ok-touch-2.ensures.touched other (ap (λ (s : Seen). is_known other s.prepared) c.self.view_is ∙ was)
+returns-clause-kept c = λ other was. known-kept c.self.inside.pool c.touch-2.new.self c.args.unit.now c.in_ok-touch-2.ensures.touched other (ap (λ (s : Seen). is_known other s.prepared) c.self.view_is ∙ was)

@@ -9,8 +9,7 @@ use Rattle.opfs_tree.specs.Rows.{row_at}
 use Rattle.opfs_standing.specs.Seen.{Seen, machine_of}
 use Rattle.opfs_standing.specs.Tied.{IsTied}
 use Rattle.opfs_standing.proofs.Gone.{gone-usage, gone-blocks, gone-charge, removed-machine, removed-share, removed-tied}
-use Rattle.std.specs.Map.{keys_of}
-use Rattle.opfs_standing.proofs.Stores.{units-kept, prepared-same}
+use Rattle.opfs_standing.proofs.Stores.{units-kept, prepared-same, same-register}
 use Rattle.opfs_standing.proofs.standing.Standing.remove.Goals as goal
 
 pub sums_below-gone-requires-clause-present : goal.sums_below-gone-requires-clause-present
@@ -68,6 +67,7 @@ returns-clause-machine c =
 
 pub returns-clause-prepared : goal.returns-clause-prepared
 returns-clause-prepared c =
-    prepared-same c.self.inside.tree.ready c.remove.new.self.ready (keys_of c.self.inside.shed.buckets) (keys_of c.free.new.self.buckets) c.remove.ensures.ready
-    (units-kept c.self.inside.shed c.free.new.self _ _ c.free.ensures.bucket)
+    prepared-same c.self.inside.tree.ready c.remove.new.self.ready c.self.inside.pool.shares c.mark.new.pool.shares c.self.inside.register c.self.inside.register c.remove.ensures.ready
+    (units-kept c.lower.new.self c.mark.new.pool _ _ c.mark.ensures ∙ units-kept c.self.inside.pool c.lower.new.self _ _ c.lower.ensures.share)
+    (same-register c.self.inside.register)
     ∙ ap (λ (s : Seen). s.prepared) c.self.view_is

@@ -9,8 +9,7 @@ use Rattle.opfs_tree.specs.Rows.{written}
 use Rattle.opfs_standing.specs.Contents.{showing}
 use Rattle.opfs_standing.specs.Seen.{Seen, machine_of}
 use Rattle.opfs_standing.proofs.Content.{content-usage, content-there, content-fits, content-modes, content-shed, content-machine, content-tied}
-use Rattle.opfs_standing.proofs.Stores.{pool-kept, units-kept, prepared-same}
-use Rattle.std.specs.Map.{keys_of}
+use Rattle.opfs_standing.proofs.Stores.{pool-kept, prepared-same, same-register}
 use Rattle.opfs_standing.proofs.standing.Standing.set_present.Goals as goal
 
 pub free-requires : goal.free-requires
@@ -38,6 +37,7 @@ returns-clause-machine c =
 
 pub returns-clause-prepared : goal.returns-clause-prepared
 returns-clause-prepared c =
-    prepared-same c.self.inside.tree.ready c.set_present.new.self.ready (keys_of c.self.inside.shed.buckets) (keys_of c.add.new.self.buckets) c.set_present.ensures.ready
-    (units-kept c.free.new.self c.add.new.self _ _ c.add.ensures.bucket ∙ units-kept c.self.inside.shed c.free.new.self _ _ c.free.ensures.bucket)
+    prepared-same c.self.inside.tree.ready c.set_present.new.self.ready c.self.inside.pool.shares c.self.inside.pool.shares c.self.inside.register c.self.inside.register c.set_present.ensures.ready
+    (refl)
+    (same-register c.self.inside.register)
     ∙ ap (λ (s : Seen). s.prepared) c.self.view_is

@@ -9,8 +9,7 @@ use Rattle.opfs_machine.specs.Rows.{with_file}
 use Rattle.opfs_tree.specs.Rows.{stored}
 use Rattle.opfs_standing.specs.Seen.{Seen, machine_of}
 use Rattle.opfs_standing.proofs.Content.{content-known, content-usage, content-blocks, content-there, content-fits, content-modes, content-shed, content-machine, content-tied}
-use Rattle.opfs_standing.proofs.Stores.{pool-lowered, pool-raised, pool-then, mark-kept, units-kept, prepared-same}
-use Rattle.std.specs.Map.{keys_of}
+use Rattle.opfs_standing.proofs.Stores.{pool-lowered, pool-raised, pool-then, mark-kept, units-kept, prepared-same, same-register}
 use Rattle.opfs_standing.proofs.standing.Standing.store.Goals as goal
 
 pub free-requires : goal.free-requires
@@ -27,12 +26,12 @@ pub lower-requires : goal.lower-requires
 lower-requires c = rw c.blocks-4.ensures (content-blocks c.self.inside.tree.rows c.self.inside.shed c.self.inside.pool c.self.inside.register c.self.inside.fixed c.self.inside.root c.args.unit.now c.args.path.now c.in-Some.file.now c.self.invariant (sym c.in-Some.ensures))
 
 pub raise-requires-clause-there : goal.raise-requires-clause-there
-raise-requires-clause-there c = (pool-lowered c.self.inside.pool c.lower.new.self c.args.unit.now (blocks c.in-Some.file.now.length) (content-known c.self.inside.tree.rows c.self.inside.shed c.self.inside.pool c.self.inside.register c.self.inside.fixed c.self.inside.root c.args.unit.now c.args.path.now c.in-Some.file.now c.self.invariant (sym c.in-Some.ensures)).share (content-blocks c.self.inside.tree.rows c.self.inside.shed c.self.inside.pool c.self.inside.register c.self.inside.fixed c.self.inside.root c.args.unit.now c.args.path.now c.in-Some.file.now c.self.invariant (sym c.in-Some.ensures)) (rw c.blocks-4.ensures at c.lower.ensures.share) (rw c.blocks-4.ensures at c.lower.ensures.held)).kept c.args.unit.now (content-known c.self.inside.tree.rows c.self.inside.shed c.self.inside.pool c.self.inside.register c.self.inside.fixed c.self.inside.root c.args.unit.now c.args.path.now c.in-Some.file.now c.self.invariant (sym c.in-Some.ensures)).share
+raise-requires-clause-there c = (pool-lowered c.self.inside.pool c.lower.new.self c.args.unit.now (blocks c.in-Some.file.now.length) (content-known c.self.inside.tree.rows c.self.inside.shed c.self.inside.pool c.self.inside.register c.self.inside.fixed c.self.inside.root c.args.unit.now c.args.path.now c.in-Some.file.now c.self.invariant (sym c.in-Some.ensures)).share (content-blocks c.self.inside.tree.rows c.self.inside.shed c.self.inside.pool c.self.inside.register c.self.inside.fixed c.self.inside.root c.args.unit.now c.args.path.now c.in-Some.file.now c.self.invariant (sym c.in-Some.ensures)) (rw c.blocks-4.ensures at c.lower.ensures.share) (rw c.blocks-4.ensures at c.lower.ensures.held)).kept c.args.unit.now ∙ (content-known c.self.inside.tree.rows c.self.inside.shed c.self.inside.pool c.self.inside.register c.self.inside.fixed c.self.inside.root c.args.unit.now c.args.path.now c.in-Some.file.now c.self.invariant (sym c.in-Some.ensures)).share
 
 pub invariant_of-self : goal.invariant_of-self
 invariant_of-self c =
     let lower = (pool-lowered c.self.inside.pool c.lower.new.self c.args.unit.now (blocks c.in-Some.file.now.length) (content-known c.self.inside.tree.rows c.self.inside.shed c.self.inside.pool c.self.inside.register c.self.inside.fixed c.self.inside.root c.args.unit.now c.args.path.now c.in-Some.file.now c.self.invariant (sym c.in-Some.ensures)).share (content-blocks c.self.inside.tree.rows c.self.inside.shed c.self.inside.pool c.self.inside.register c.self.inside.fixed c.self.inside.root c.args.unit.now c.args.path.now c.in-Some.file.now c.self.invariant (sym c.in-Some.ensures)) (rw c.blocks-4.ensures at c.lower.ensures.share) (rw c.blocks-4.ensures at c.lower.ensures.held)) in
-    let known = lower.kept c.args.unit.now (content-known c.self.inside.tree.rows c.self.inside.shed c.self.inside.pool c.self.inside.register c.self.inside.fixed c.self.inside.root c.args.unit.now c.args.path.now c.in-Some.file.now c.self.invariant (sym c.in-Some.ensures)).share in
+    let known = lower.kept c.args.unit.now ∙ (content-known c.self.inside.tree.rows c.self.inside.shed c.self.inside.pool c.self.inside.register c.self.inside.fixed c.self.inside.root c.args.unit.now c.args.path.now c.in-Some.file.now c.self.invariant (sym c.in-Some.ensures)).share in
     let raise = pool-raised c.lower.new.self c.raise.new.self c.args.unit.now (blocks c.args.length) known (rw c.blocks-5.ensures at c.raise.ensures.share) (rw c.blocks-5.ensures at c.raise.ensures.held) in
     content-tied c.self.inside.tree.rows c.self.inside.shed c.self.inside.pool c.self.inside.register c.self.inside.fixed c.self.inside.root c.args.unit.now c.args.path.now c.in-Some.file.now c.self.invariant (sym c.in-Some.ensures) c.set_file.new.self.rows c.add.new.self c.raise.new.self (stored c.args.length c.args.stamp c.args.extents) (replaced c.args.length c.args.stamp) (λ f. refl) c.set_file.ensures.rows
     (content-modes c.self.inside.tree.rows c.self.inside.shed c.self.inside.pool c.self.inside.register c.self.inside.fixed c.self.inside.root c.args.unit.now c.args.path.now c.in-Some.file.now c.self.invariant (sym c.in-Some.ensures) c.free.new.self c.add.new.self (blocks c.args.length) (rw c.blocks-2.ensures at c.free.ensures.bucket) (rw c.blocks-2.ensures at c.free.ensures.usage) (rw c.blocks-3.ensures at c.add.ensures.bucket)) (λ f. refl)
@@ -48,6 +47,7 @@ returns-clause-machine c =
 
 pub returns-clause-prepared : goal.returns-clause-prepared
 returns-clause-prepared c =
-    prepared-same c.self.inside.tree.ready c.set_file.new.self.ready (keys_of c.self.inside.shed.buckets) (keys_of c.add.new.self.buckets) c.set_file.ensures.ready
-    (units-kept c.free.new.self c.add.new.self _ _ c.add.ensures.bucket ∙ units-kept c.self.inside.shed c.free.new.self _ _ c.free.ensures.bucket)
+    prepared-same c.self.inside.tree.ready c.set_file.new.self.ready c.self.inside.pool.shares c.raise.new.self.shares c.self.inside.register c.self.inside.register c.set_file.ensures.ready
+    (units-kept c.lower.new.self c.raise.new.self _ _ c.raise.ensures.share ∙ units-kept c.self.inside.pool c.lower.new.self _ _ c.lower.ensures.share)
+    (same-register c.self.inside.register)
     ∙ ap (λ (s : Seen). s.prepared) c.self.view_is

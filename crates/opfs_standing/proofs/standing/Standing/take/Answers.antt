@@ -4,6 +4,7 @@ use Rattle.opfs_machine.specs.Rows.{with_file}
 use Rattle.opfs_tree.specs.Rows.{file_at, locked}
 use Rattle.opfs_standing.specs.Seen.{Seen}
 use Rattle.opfs_standing.proofs.Locked.{locked-machine, locked-tied, file-known}
+use Rattle.opfs_standing.proofs.Stores.{units-kept, prepared-same, same-register}
 use Rattle.opfs_standing.proofs.standing.Standing.take.Goals as goal
 
 pub mark-requires : goal.mark-requires
@@ -22,3 +23,10 @@ pub returns-clause-machine : goal.returns-clause-machine
 returns-clause-machine c =
     locked-machine c.self.inside.tree.rows c.take_lock-held.new.self.rows c.self.inside.shed c.self.inside.register c.args.unit.now c.args.path.now (locked c.args.want) (with_lock {F = ℕ} c.args.want) (λ f. refl) c.take_lock-held.ensures.rows
     ∙ ap (λ (s : Seen). with_file s.machine (c.args.unit.now, c.args.path.now) (with_lock {F = ℕ} c.args.want)) c.self.view_is
+
+pub returns-clause-prepared : goal.returns-clause-prepared
+returns-clause-prepared c =
+    prepared-same c.self.inside.tree.ready c.take_lock-held.new.self.ready c.self.inside.pool.shares c.mark.new.pool.shares c.self.inside.register c.self.inside.register c.take_lock-held.ensures.ready
+    (units-kept c.self.inside.pool c.mark.new.pool _ _ c.mark.ensures)
+    (same-register c.self.inside.register)
+    ∙ ap (λ (s : Seen). s.prepared) c.self.view_is
