@@ -6,7 +6,7 @@ use Rattle.std.proofs.lemmas.List.Sums.{fold-append}
 use Rattle.std.proofs.lemmas.Bool.{true≢false, false≢true, and_parts}
 use Rattle.opfs_codec.specs.Spelling.{spelling, IsChange}
 use Rattle.opfs_codec.specs.declared.change.Format.TheVariants.{New}
-use Rattle.opfs_codec.specs.Charges.{spelled as spelled_bytes}
+use Rattle.opfs_codec.specs.Charges.{charge}
 use Rattle.opfs_codec.specs.declared.change.Change.{Change as Spelled}
 use Rattle.opfs_commit.specs.Images.{Account, MayBe, IsDoubt, AreImages, keeping}
 use Rattle.opfs_commit.specs.Keeping.{AreKeptBack}
@@ -43,10 +43,10 @@ module _ {D : Type 0} (w : DiskWords D) (a : Account) (k : Committing D) (images
 
   -- one change more is kept back
   module _ (spelled : Spelled) (change : Change) (built : Built) (is : IsKept a spelled change built) where
-    builds_by : (t : Bool) → has_room k (spelled_bytes spelled) ≡ t → not t ≡ false → Builds g.blocks (if t then k.bytes ++ spelling New spelled else []) a.recorded built
+    builds_by : (t : Bool) → has_room k (charge spelled) ≡ t → not t ≡ false → Builds g.blocks (if t then k.bytes ++ spelling New spelled else []) a.recorded built
     builds_by false room long = absurd (true≢false long)
     builds_by true room long =
-        let parts = and_parts (not k.long) (nat_le (length k.bytes + spelled_bytes spelled) k.room) room in
+        let parts = and_parts (not k.long) (nat_le (length k.bytes + charge spelled) k.room) room in
         builds_both g.blocks k.bytes (spelling New spelled) a.recorded a.rows built (images.kept_back.builds (not_long k.long parts.0)) (builds_one g.blocks spelled a.rows built is.again is.found)
       where
         not_long : (b : Bool) → not b ≡ true → b ≡ false
@@ -61,7 +61,7 @@ module _ {D : Type 0} (w : DiskWords D) (a : Account) (k : Committing D) (images
       areas = images.areas;
       reads = images.reads;
       kept_back = record {
-        builds = builds_by (has_room k (spelled_bytes spelled)) refl;
+        builds = builds_by (has_room k (charge spelled)) refl;
         makes = λ base c. is.makes base c ∙ ap (λ m. changed m change) (images.kept_back.makes base c) ∙ sym (fold-append changed (filled base c a.recorded) images.later (change ∷ []));
         quiet = quiet_more images.later change images.kept_back.quiet is.quiet;
       };

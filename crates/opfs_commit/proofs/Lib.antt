@@ -2,5 +2,6 @@ pub mod Holding
 pub mod Keeping
 pub mod Resting
 pub mod Settling
+pub mod Spelling
 pub mod Touching
 pub mod Writing

@@ -1,8 +1,11 @@
 //! Changes that are committed to a journal.
 #![tactic(auto)]
 
+mod commits;
 mod laws;
+mod records;
 
+pub use commits::Commits;
 pub use laws::{
     a_change_is_kept_back, a_doubt_ends, a_doubt_stays, a_record_is_durable,
     a_record_is_to_be_stored, a_record_may_be_in_doubt, a_record_shows_a_front,
