@@ -1,3 +1,4 @@
+pub mod Behind
 pub mod CallLemmas
 pub mod KeptLemmas
 pub mod PageLemmas

@@ -1,8 +1,9 @@
 -- Open rows by their agents and numbers. This project's own.
-use Rattle.std.specs.Prelude.{◌≡◌, ℕ, ◌<◌, length, slice_index_or, is_some, count_by, sum_by, unwrap_or, Option, Some, None, List, []}
-use Rattle.std.specs.Ordering.{nat_cmp, ordering_then}
+use Rattle.std.specs.Prelude.{◌≡◌, ℕ, ◌<◌, length, filter, slice_index_or, is_some, count_by, sum_by, unwrap_or, Option, Some, None, List, []}
+use Rattle.std.specs.List.Sorted.{IsStrictlySortedBy}
+use Rattle.std.specs.Ordering.{nat_cmp, ordering_then, is_lt}
 use Rattle.std.specs.declared.cmp.Ordering.{Ordering}
-use Rattle.std.specs.Map.{lookup, values_of}
+use Rattle.std.specs.Map.{lookup, values_of, keys_of}
 use Rattle.std.specs.BTreeMap.{is_at}
 use Rattle.opfs_data.specs.declared.page.Page.{Page}
 use Rattle.opfs_data.specs.Writes.{PageWrite}
@@ -51,3 +52,12 @@ kept_in row = count_by (λ page. is_some page.kept) row.pages
 
 abbrev pub kept_count : Rows → ℕ
 kept_count rows = sum_by kept_in (values_of rows)
+
+-- the rows stand in the order of their agents and numbers, one at each
+abbrev pub AreInOrder : Rows → Type 0
+AreInOrder rows = IsStrictlySortedBy row_cmp (keys_of rows)
+
+-- the rows behind one of them in this order, or all of them
+abbrev pub rows_behind : Option (ℕ × ℕ) → Rows → Rows
+rows_behind None rows = rows
+rows_behind (Some key) rows = filter (λ e. is_lt (row_cmp key e.0)) rows

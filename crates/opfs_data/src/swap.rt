@@ -1,14 +1,14 @@
 //! The pages of all open rows, in blocks.
 
-ghost use Rattle.std.specs.Prelude.{◌≡◌, ◌+◌, ◌*◌, ◌-◌, ◌^◌, ◌<◌, ◌≤◌, ℕ, List, [], None, Some, true, false, length, min, is_some, slice_index_or, IfOk, OnOk, OnErr, IsErrOf, IfSome, MatchOption};
-ghost use Rattle.std.specs.List.{AllByRecursion};
+ghost use Rattle.std.specs.Prelude.{◌≡◌, ◌+◌, ◌*◌, ◌-◌, ◌^◌, ◌<◌, ◌≤◌, ℕ, List, [], ◌∷◌, None, Some, true, false, length, min, is_some, slice_index_or, IfOk, OnOk, OnErr, IsErrOf, IfSome, IfNone, MatchOption, option_map};
+ghost use Rattle.std.specs.List.{AllByRecursion, slice_get};
 ghost use Rattle.opfs_outside.specs.Faults.{Rose};
 ghost use Rattle.opfs_data.specs.Calls.{Reads, Writes};
 ghost use Rattle.opfs_data.specs.Places.{AllLie};
 ghost use Rattle.opfs_data.specs.declared.page.Page.{Page};
 ghost use Rattle.opfs_data.specs.Writes.{page_writes, AreWithin};
 ghost use Rattle.opfs_data.specs.Pages.{block_bytes, page_of, blank, runs_of, resized, with_writes, pages_in, NamesPage, HasAgain, AreOnce, AreSaved, AreNow, AreOwn, IsApart, LiesIn, IsDataPart};
-ghost use Rattle.opfs_data.specs.Rows.{row_of, row_at, pages_at, page_at, kept_in, kept_count, IsOther, OthersStay, AreFree};
+ghost use Rattle.opfs_data.specs.Rows.{row_of, row_at, pages_at, page_at, kept_in, kept_count, IsOther, OthersStay, AreFree, AreInOrder, rows_behind};
 
 use crate::{DataRefusal, PageWrites, PagedRow};
 use opfs_base::Extent;
@@ -17,6 +17,7 @@ use opfs_outside::Disk;
 use std::alloc::{AllocError, Global};
 use std::collections::BTreeMap;
 use std::marker::Model;
+use std::ops::Bound;
 
 /// The pages of all open rows, seen as the list of the rows, each under its agent and its number.
 #[derive(Drop)]
@@ -64,6 +65,42 @@ impl Swap {
         }
     }
 
+    /// The least open row behind one of them, or the least of all, and how many pages it has; None where there is none. Takes
+    /// no memory.
+    pub fn next_row(&self, after: Option<(u32, u32)>) -> Option<(u32, u32, u64)>
+        ensures end { IfNone result (rows_behind after self.now ≡ []) }
+        ensures next { IfSome result (λ r. rows_behind after self.now ≡ ((r.0, r.1), row_at r.0 r.1 self.now) ∷ rows_behind (Some (r.0, r.1)) self.now) }
+        ensures pages { IfSome result (λ r. r.2 ≡ length (pages_at r.0 r.1 self.now)) }
+        ensures order { AreInOrder self.now }
+    {
+        let (key, row) = self.first_behind(after)?;
+        let (agent, number) = *key;
+        let pages = row.len();
+        Some((agent, number, pages))
+    }
+
+    // The first row behind one of them.
+    fn first_behind(&self, after: Option<(u32, u32)>) -> Option<(&(u32, u32), &PagedRow)>
+        ensures first { option_map (λ e. (e.0.now, e.1.now)) result ≡ slice_get (rows_behind after self.now) 0 }
+        ensures order { AreInOrder self.now }
+    {
+        match after {
+            None => {
+                // That the map is in order.
+                let all: (Bound<&(u32, u32)>, Bound<&(u32, u32)>) = (
+                    Bound::Unbounded,
+                    Bound::Unbounded,
+                );
+                let _rows = self.rows.range(all);
+                self.rows.first_key_value()
+            }
+            Some(key) => self
+                .rows
+                .range((Bound::Excluded(&key), Bound::Unbounded))
+                .next(),
+        }
+    }
+
     /// Adds a row whose pages have the blocks of runs in order, and nothing is kept of them. Where there is no memory all
     /// is as before.
     pub fn open(
@@ -102,7 +139,7 @@ impl Swap {
         requires whole { length into.old ≡ 4096 }
         requires lies { LiesIn base (D.size journal.old.disk) (page_at agent row page self.now).block }
         requires part { IsDataPart journal.old.areas base }
-        ensures reads { Reads D.tells D.size D.content D.moment D.since D.faults journal.old journal.new }
+        ensures reads { Reads D.Disk journal.old journal.new }
         ensures read { OnOk result (D.tells → into.new ≡ page_of (D.content journal.old.disk) base (page_at agent row page self.now)) }
         ensures cause { OnErr result (Rose (D.faults journal.old.disk) (D.faults journal.new.disk)) }
     {
@@ -135,7 +172,7 @@ impl Swap {
         ensures room { OnOk result (pages ≤ (row_at agent row self.new).room) }
         ensures saved { OnOk result (MatchOption (row_at agent row self.new).saved ⊥ (λ saved. (given : List ℕ) → AreSaved saved (pages_at agent row self.new) (page_writes writes.now given))) }
         ensures now { OnOk result (D.tells → MatchOption (row_at agent row self.new).saved ⊥ (λ saved. AreNow (D.content journal.new.disk) base (pages_at agent row self.new) saved)) }
-        ensures reads { Reads D.tells D.size D.content D.moment D.since D.faults journal.old journal.new }
+        ensures reads { Reads D.Disk journal.old journal.new }
         ensures cause { IsErrOf result DataRefusal.DiskFault → Rose (D.faults journal.old.disk) (D.faults journal.new.disk) }
     {
         let Some(found) = self.rows.get_mut(&(agent, row)) else {
@@ -190,7 +227,7 @@ impl Swap {
         ensures others_read { D.tells → (a r : ℕ) → IsOther agent row a r → (j : ℕ) → j < length (pages_at a r self.old)
             → page_of (D.content journal.new.disk) base (page_at a r j self.new) ≡ page_of (D.content journal.old.disk) base (page_at a r j self.old) }
         ensures apart { D.tells → (page : Page) → IsApart page (page_writes writes.now given.now) → page_of (D.content journal.new.disk) base page ≡ page_of (D.content journal.old.disk) base page }
-        ensures writes { Writes D.tells D.size D.content D.moment D.since D.faults base (runs_of (page_writes writes.now given.now)) journal.old journal.new }
+        ensures writes { Writes D.Disk base (runs_of (page_writes writes.now given.now)) journal.old journal.new }
         ensures cause { OnErr result (Rose (D.faults journal.old.disk) (D.faults journal.new.disk)) }
     {
         let Some(found) = self.rows.get_mut(&(agent, row)) else {

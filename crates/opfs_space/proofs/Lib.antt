@@ -1,3 +1,12 @@
 pub mod Counting
+pub mod Keeping
+pub mod Storing
+pub mod Taking
+pub mod Placing
+pub mod Paged
+pub mod Rest
+pub mod Others
+pub mod Enough
+pub mod Looking
 pub mod Seeing
 pub mod Sweeping

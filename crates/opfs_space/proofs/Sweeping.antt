@@ -6,14 +6,14 @@ use Rattle.opfs_blocks.specs.Sets.{Used, is_used, marked}
 use Rattle.opfs_data.specs.declared.page.Page.{Page}
 use Rattle.opfs_space.specs.Spaces.{SpaceSeen, is_own, block_seen, pages_seen, with_block, page_blocks, times, files_seen, IsSwept}
 
-not_true : (t : Bool) → (t ≡ true → ⊥) → t ≡ false
+pub not_true : (t : Bool) → (t ≡ true → ⊥) → t ≡ false
 not_true true never = absurd (never refl)
 not_true false never = refl
 
-one_time : (x b : ℕ) (xs : List ℕ) → x ≡ b → times (x ∷ xs) b ≡ 1 + times xs b
+pub one_time : (x b : ℕ) (xs : List ℕ) → x ≡ b → times (x ∷ xs) b ≡ 1 + times xs b
 one_time x b xs same = ap (λ (t : Bool). cond t 1 0 + times xs b) (eq-eqb x b same)
 
-no_time : (x b : ℕ) (xs : List ℕ) → (x ≡ b → ⊥) → times (x ∷ xs) b ≡ times xs b
+pub no_time : (x b : ℕ) (xs : List ℕ) → (x ≡ b → ⊥) → times (x ∷ xs) b ≡ times xs b
 no_time x b xs apart =
     let e : 0 + times xs b ≡ times xs b = omega arith in
     ap (λ (t : Bool). cond t 1 0 + times xs b) (not_true (nat_eq x b) (λ t. apart (eqb-true x b t))) ∙ e
@@ -26,7 +26,7 @@ set_there used x b t d apart = get_or-set_other used x b t d (λ same. apart (sy
 
 -- ---- files
 
-marked_length : (xs : List ℕ) (used : Used) → length (marked true xs used) ≡ length used
+pub marked_length : (xs : List ℕ) (used : Used) → length (marked true xs used) ≡ length used
 marked_length [] used = refl
 marked_length (x ∷ xs) used = marked_length xs (set used x true) ∙ length-set used x true
 
@@ -90,11 +90,11 @@ found_next (Some x) rest b space new own seen is =
           (found_there b (times rest b) space mid new (set_there space.seen x b true true apart) (set_there space.own x b (not (is_used space.seen x)) false apart) is)
     ]
 
-own_length : (block : Option ℕ) (space : SpaceSeen) → length (block_seen block space).own ≡ length space.own
+pub own_length : (block : Option ℕ) (space : SpaceSeen) → length (block_seen block space).own ≡ length space.own
 own_length None space = refl
 own_length (Some x) space = length-set space.own x (not (is_used space.seen x))
 
-seen_length : (block : Option ℕ) (space : SpaceSeen) → length (block_seen block space).seen ≡ length space.seen
+pub seen_length : (block : Option ℕ) (space : SpaceSeen) → length (block_seen block space).seen ≡ length space.seen
 seen_length None space = refl
 seen_length (Some x) space = length-set space.seen x true
 

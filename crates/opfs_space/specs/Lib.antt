@@ -1,1 +1,3 @@
 pub mod Spaces
+pub mod Holders
+pub mod Room

@@ -1,6 +1,6 @@
 -- Free data blocks: which ones are used, and which one page alone has. This project's own.
 use Rattle.std.specs.Prelude.{◌≡◌, ℕ, ◌+◌, ◌<◌, ◌≤◌, ◌++◌, not, nat_eq, cond, replicate, Bool, true, false, Option, Some, None, List, [], ◌∷◌, slice_index_or, slice_set, length}
-use Rattle.std.specs.Set.{is_member}
+use Rattle.opfs_replay.specs.Built.{has_block}
 use Rattle.opfs_blocks.specs.Sets.{Used, is_used, marked}
 use Rattle.opfs_data.specs.declared.page.Page.{Page}
 
@@ -52,10 +52,6 @@ files_seen size files space = record space { own = replicate size false; seen = 
 -- Each block of the pages is below a size.
 abbrev pub IsBelow : ℕ → Option ℕ → Type 0
 IsBelow size block = (b : ℕ) → block ≡ Some b → b < size
-
--- the block is in the list
-abbrev pub has_block : List ℕ → ℕ → Bool
-has_block list b = is_member nat_eq list b
 
 -- What a call needs: its moves and the pages that have their own blocks are as many as the row's reserve at most, for which
 -- the blocks of files and of other rows leave room; and each used block is one of these.

@@ -2,7 +2,15 @@
 #![tactic(auto)]
 
 mod laws;
+mod room;
 mod space;
+mod staying;
 
 pub use laws::{a_sweep_finds_what_is_used, covered_blocks_leave_room};
+pub use room::{a_look_knows_own_blocks, a_sweep_leaves_blocks_enough};
 pub use space::Space;
+pub use staying::{
+    fewer_files_keep_blocks_right, fewer_pages_keep_blocks_right, first_blocks_are_right,
+    opened_rows_keep_blocks_right, stored_contents_keep_blocks_right, sweeps_keep_blocks_right,
+    taken_blocks_are_right, written_pages_keep_blocks_right,
+};

@@ -4,12 +4,15 @@ ghost use Rattle.std.specs.Bool.{OnTrue, OnFalse};
 ghost use Rattle.std.specs.List.{AllByRecursion};
 ghost use Rattle.std.specs.Vec.{vec_capacity};
 ghost use Rattle.opfs_blocks.specs.Sets.{free_blocks, marked, blocks_of, AreBelow};
-ghost use Rattle.opfs_data.specs.Rows.{pages_at};
+ghost use Rattle.opfs_data.specs.Rows.{pages_at, AreInOrder};
+ghost use Rattle.opfs_replay.specs.Built.{named, has_block};
 ghost use Rattle.opfs_space.specs.Spaces.{is_own, block_seen, pages_seen, IsBelow};
+ghost use Rattle.opfs_space.specs.Holders.{AreAllBelow, AreSwept, all_pages};
 
 use opfs_base::Extent;
 use opfs_blocks::BlockMap;
 use opfs_data::Swap;
+use opfs_tree::{Tree, Walk};
 use std::alloc::{AllocError, Global};
 use std::marker::Model;
 use std::mem;
@@ -108,6 +111,54 @@ impl Space {
         for page in 0..pages {
             self.see_block(swap.block(agent, row, page));
         }
+    }
+
+    /// Sees the files of all rows, before all pages. Takes no memory.
+    pub fn see_tree(&mut self, tree: &Tree)
+        requires { AreBelow (length self.old.used) (named tree.now) }
+        ensures { self.new ≡ record self.old { seen = marked true (named tree.now) self.old.seen } }
+    {
+        let mut walk = Walk::make();
+        while let Some(row) = tree.step(&mut walk) {
+            self.see_file(row.extents());
+        }
+    }
+
+    /// Sees the pages of all open rows. Takes no memory.
+    pub fn see_rows(&mut self, swap: &Swap)
+        requires { AreAllBelow (length self.old.used) swap.now }
+        ensures seen { self.new ≡ pages_seen (all_pages swap.now) self.old }
+        ensures order { AreInOrder swap.now }
+    {
+        let mut next = swap.next_row(None);
+        while let Some((agent, row, pages)) = next {
+            self.see_row(swap, agent, row, pages);
+            next = swap.next_row(Some((agent, row)));
+        }
+    }
+
+    /// Finds anew which blocks one page alone has, and no file. Takes no memory.
+    pub fn look(&mut self, tree: &Tree, swap: &Swap)
+        requires files { AreBelow (length self.old.used) (named tree.now) }
+        requires pages { AreAllBelow (length self.old.used) swap.now }
+        ensures used { self.new.used ≡ self.old.used }
+        ensures found { AreSwept (length self.old.used) (has_block (named tree.now)) swap.now self.new.seen self.new.own }
+    {
+        self.begin();
+        self.see_tree(tree);
+        self.see_rows(swap);
+    }
+
+    /// Finds anew which blocks are used: those of files, and those of pages, of which one page alone may have some. All
+    /// others are free. Takes no memory.
+    pub fn sweep(&mut self, tree: &Tree, swap: &Swap)
+        requires files { AreBelow (length self.old.used) (named tree.now) }
+        requires pages { AreAllBelow (length self.old.used) swap.now }
+        ensures found { AreSwept (length self.old.used) (has_block (named tree.now)) swap.now self.new.used self.new.own }
+        ensures size { length self.new.used ≡ length self.old.used }
+    {
+        self.look(tree, swap);
+        self.end();
     }
 
     // Sees a page's block.

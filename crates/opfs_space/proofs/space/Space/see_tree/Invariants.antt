@@ -1,0 +1,16 @@
+use Rattle.std.proofs.Common.{◌≡◌, length, true}
+use Rattle.opfs_blocks.specs.Sets.{marked, AreBelow}
+use Rattle.opfs_tree.specs.Rows.{rows_above}
+use Rattle.opfs_replay.specs.Built.{named}
+use Rattle.opfs_space.proofs.space.Space.see_tree.Given as goal
+
+abbrev pub invariant-loop-row : goal.invariant-loop-row
+invariant-loop-row l = record {
+  seen : marked true (named (rows_above l.walk l.tree)) l.self.seen ≡ marked true (named l.tree) l.fn.self.seen;
+  used : l.self.used ≡ l.fn.self.used;
+  own : l.self.own ≡ l.fn.self.own;
+  below : AreBelow (length l.self.used) (named (rows_above l.walk l.tree));
+}
+
+abbrev pub decreases-loop-row : goal.decreases-loop-row
+decreases-loop-row l = length (rows_above l.walk l.tree)
