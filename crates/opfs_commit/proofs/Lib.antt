@@ -4,4 +4,5 @@ pub mod Resting
 pub mod Settling
 pub mod Spelling
 pub mod Touching
+pub mod Trailing
 pub mod Writing

@@ -1,5 +1,5 @@
 -- Spellings that have room.
-use Rattle.std.proofs.Common.{◌≡◌, ℕ, ◌+◌, ◌<◌, ◌≤◌, ◌++◌, ◌&&◌, Bool, true, false, not, List, length, refl, sym, ap, ◌∙◌, arith}
+use Rattle.std.proofs.Common.{◌≡◌, ℕ, ◌+◌, ◌≤◌, ◌++◌, Bool, true, false, not, List, length, refl, sym, ap, ◌∙◌, arith}
 use Rattle.std.specs.Prelude.{nat_le}
 use Rattle.std.proofs.lemmas.Bool.{and_parts, leb-true, false≢true, true≢false}
 use Rattle.std.proofs.lemmas.List.{length-append}
@@ -10,7 +10,7 @@ use Rattle.opfs_codec.specs.declared.change.Format.TheVariants.{New}
 use Rattle.opfs_codec.specs.declared.change.Change.{Change}
 use Rattle.opfs_codec.specs.declared.change.Change.TheVariants.{MakeRoot, MakeDir, MakeFile, Remove, Content, Persist, Evict}
 use Rattle.opfs_codec.proofs.WritingLemmas.{spelling_below}
-use Rattle.opfs_commit.specs.Seen.{Committing, has_room, IsQuiet}
+use Rattle.opfs_commit.specs.Seen.{KeptBack, has_room, IsQuiet}
 
 pub quiet_few : (change : Change) → IsQuiet change → HasFewExtents change
 unfolding IsQuiet HasFewExtents
@@ -23,7 +23,7 @@ quiet_few (Persist unit) h = tt
 quiet_few (Evict unit) h = tt
 
 -- What has room is not too long.
-pub room_is : {D : Type 0} (k : Committing D) (n : ℕ) → has_room k n ≡ true → (k.long ≡ false) × (length k.bytes + n ≤ k.room)
+pub room_is : (k : KeptBack) (n : ℕ) → has_room k n ≡ true → (k.long ≡ false) × (length k.bytes + n ≤ k.room)
 room_is k n h =
     let parts = and_parts (not k.long) (nat_le (length k.bytes + n) k.room) h in
     (not_long k.long parts.0, leb-true (length k.bytes + n) k.room parts.1)
@@ -33,7 +33,7 @@ room_is k n h =
     not_long false h = refl
 
 -- So does its spelling.
-pub spelled_room : {D : Type 0} (k : Committing D) (change : Change) (new : List ℕ) → has_room k (charge change) ≡ true → HasFewExtents change → new ≡ k.bytes ++ spelling New change → length new ≤ k.room
+pub spelled_room : (k : KeptBack) (change : Change) (new : List ℕ) → has_room k (charge change) ≡ true → HasFewExtents change → new ≡ k.bytes ++ spelling New change → length new ≤ k.room
 spelled_room k change new room few is =
     omega (arith, (room_is k (charge change) room).1, spelling_below change few, ap length is, length-append k.bytes (spelling New change))
 

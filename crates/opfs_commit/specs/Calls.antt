@@ -1,7 +1,7 @@
 -- What the calls that write a record leave of the journal and of what is kept back. This project's own.
 use Rattle.std.specs.Prelude.{◌≡◌, ℕ, ◌≤◌, true, false, List, [], ◌∷◌, Some}
 use Rattle.opfs_commit.specs.Images.{MayBe}
-use Rattle.opfs_commit.specs.Seen.{Committing, with_none}
+use Rattle.opfs_commit.specs.Seen.{Committing, emptied}
 use Rattle.opfs_codec.specs.Spelling.{IsChange}
 use Rattle.opfs_codec.specs.declared.change.Change.{Change}
 use Rattle.opfs_codec.specs.declared.change.Format.TheVariants.{New}
@@ -57,12 +57,12 @@ pub record IsStopped {D : Type 0} (w : DiskWords D) (next : Stored) (old new : S
 -- The records were written, with all that was kept back.
 pub record IsCommitted {D : Type 0} (w : DiskWords D) (next : Stored) (old new : Committing D) : Type 0 where
   pub journal : IsStored w next old.journal new.journal
-  pub none : new ≡ with_none old new.journal
+  pub none : new.back ≡ emptied old.back
 
 -- The disk failed in that, and what was kept back still is.
 pub record IsHalted {D : Type 0} (w : DiskWords D) (next : Stored) (old new : Committing D) : Type 0 where
   pub journal : IsStopped w next old.journal new.journal
-  pub same : new ≡ record old { journal = new.journal }
+  pub same : new.back ≡ old.back
 
 -- What a call that ends a doubt leaves where there was one: each image since the start has the records of before over the
 -- bytes of an image of then, or those in doubt over the bytes of the content.

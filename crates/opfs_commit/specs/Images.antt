@@ -42,8 +42,8 @@ pub record AreImages {D : Type 0} (w : DiskWords D) (a : Account) (k : Committin
   pub split : acked ++ later ≡ a.told
   pub areas : k.journal.areas ≡ areas_of a.geometry
   pub reads : IsReadAs a.geometry (kept k.journal) a.recorded
-  pub kept_back : AreKeptBack a.geometry.blocks k.bytes k.long later a.recorded a.rows
-  pub count : length later ≡ k.count
+  pub kept_back : AreKeptBack a.geometry.blocks k.back.bytes k.back.long later a.recorded a.rows
+  pub count : length later ≡ k.back.count
   pub here : Holds a.geometry a.recorded (durable a.opening acked) (w.content k.journal.disk)
   pub holds : (c : List ℕ) → MayBe w k.journal c → Holds a.geometry a.recorded (durable a.opening acked) c
   pub one_of : (c : List ℕ) → MayBe w k.journal c

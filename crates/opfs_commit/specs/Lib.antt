@@ -4,3 +4,4 @@ pub mod Keeping
 pub mod Making
 pub mod Seen
 pub mod Shown
+pub mod Trail

@@ -5,15 +5,14 @@ ghost use Rattle.opfs_codec.specs.Charges.{charge};
 ghost use Rattle.opfs_codec.specs.Fields.{plain, Fits, HasFewExtents};
 ghost use Rattle.opfs_codec.specs.Spelling.{spelling};
 ghost use Rattle.opfs_codec.specs.declared.change.Format.TheVariants.{New};
-ghost use Rattle.opfs_commit.specs.Calls.{IsCommitted, IsHalted, IsReplaced, IsNotReplaced, IsSettled, IsUnsettled, BuildsAfter, BuildsAll, stored_in, HasRoomAfter, HasRoomFor};
-ghost use Rattle.opfs_commit.specs.Seen.{Committing, has_room, with_kept, with_none, IsQuiet};
-ghost use Rattle.opfs_journal.specs.Format.{records_of};
+ghost use Rattle.opfs_commit.specs.Calls.{IsCommitted, IsHalted, IsReplaced, IsNotReplaced, BuildsAfter, BuildsAll, stored_in, HasRoomAfter, HasRoomFor};
+ghost use Rattle.opfs_commit.specs.Seen.{KeptBack, committing, emptied, has_room, with_kept, IsQuiet};
 ghost use Rattle.opfs_journal.specs.Seen.{kept, with_record};
 ghost use Rattle.opfs_outside.specs.Faults.{Rose};
 
 use crate::records::{add_record, put_record};
 use opfs_codec::{ChangeRef, charge, write};
-use opfs_journal::{DiskFault, Journal, JournalRefusal};
+use opfs_journal::{Journal, JournalRefusal};
 use opfs_outside::Disk;
 use opfs_shed::Shed;
 use opfs_snapshot::{snapshot, snapshot_after};
@@ -21,11 +20,10 @@ use opfs_tree::Tree;
 use std::alloc::{AllocError, Global};
 use std::marker::Model;
 
-/// A journal with changes that are kept back: the next record has them, and then the change that is committed. Takes no
+/// Changes that are kept back beside a journal: its next record has them, and then the change that is committed. Takes no
 /// memory once it is made.
 #[derive(Drop)]
-pub struct Commits<D: Disk> {
-    journal: Journal<D>,
+pub struct Commits {
     // The spellings of the changes that are kept back, one behind the other; none where they are too long.
     bytes: Vec<u8>,
     // How many they are.
@@ -38,42 +36,34 @@ pub struct Commits<D: Disk> {
     room: u64,
 }
 
-impl<D: Disk> Model for Commits<D> {
+impl Model for Commits {
     ghost use Rattle.std.specs.Prelude.{◌≤◌, length};
     ghost use Rattle.std.specs.Vec.{vec_capacity};
-    ghost use Rattle.opfs_commit.specs.Seen.{Committing};
+    ghost use Rattle.opfs_commit.specs.Seen.{KeptBack};
 
-    ghost Value = { Committing D };
+    ghost Value = { KeptBack };
 
-    ghost view = { λ c. record { journal = c.journal; bytes = c.bytes.items; count = c.count; long = c.long; room = c.room } };
+    ghost view = { λ c. record { bytes = c.bytes.items; count = c.count; long = c.long; room = c.room } };
 
-    ghost invariant = { λ c. (c.room ≤ c.journal.spare) × (c.room ≤ vec_capacity c.bytes) × (c.room ≤ vec_capacity c.alone) × (length c.bytes.items ≤ c.room) };
+    ghost invariant = { λ c. (c.room ≤ vec_capacity c.bytes) × (c.room ≤ vec_capacity c.alone) × (length c.bytes.items ≤ c.room) };
 }
 
-impl<D: Disk> Commits<D> {
-    /// Makes room for records of so many bytes, which is best the size of an area. Where there is no memory, the journal is
-    /// given back.
-    pub fn make(
+impl Commits {
+    /// Makes room for records of so many bytes, which is best the size of an area, in a journal too.
+    pub fn make<D: Disk>(
         alloc: Global,
-        journal: Journal<D>,
+        journal: &mut Journal<D>,
         room: u64,
-    ) -> Result<Commits<D>, (Journal<D>, AllocError)>
-        ensures journal { IfOk result (λ commits. commits.journal ≡ record journal { spare = commits.journal.spare }) }
-        ensures nothing { IfOk result (λ commits. commits ≡ record { journal = commits.journal; bytes = []; count = 0; long = false; room = room }) }
-        ensures err { IfErr result (λ err. err.0 ≡ record journal { spare = err.0.spare }) }
+    ) -> Result<Commits, AllocError>
+        ensures nothing { IfOk result (λ commits. commits ≡ record { bytes = []; count = 0; long = false; room = room }) }
+        ensures spare { OnOk result (room ≤ journal.new.spare) }
+        ensures journal { journal.new ≡ record journal.old { spare = journal.new.spare } }
+        ensures no_less { journal.old.spare ≤ journal.new.spare }
     {
-        let mut journal = journal;
-        if let Err(e) = journal.reserve(room) {
-            return Err((journal, e));
-        }
-        let Ok(bytes) = Vec::with_capacity(alloc, room as usize) else {
-            return Err((journal, AllocError));
-        };
-        let Ok(alone) = Vec::with_capacity(alloc, room as usize) else {
-            return Err((journal, AllocError));
-        };
+        journal.reserve(room)?;
+        let bytes = Vec::with_capacity(alloc, room as usize)?;
+        let alone = Vec::with_capacity(alloc, room as usize)?;
         Ok(Commits {
-            journal,
             bytes,
             count: 0,
             long: false,
@@ -87,17 +77,6 @@ impl<D: Disk> Commits<D> {
         ensures { result ≡ self.now.count }
     {
         self.count
-    }
-
-    /// Ends the doubt, if there is one. Without doubt it calls no disk.
-    pub fn settle(&mut self) -> Result<(), DiskFault>
-        ensures same { self.new ≡ record self.old { journal = self.new.journal } }
-        ensures settled { OnOk result (IsSettled D.Disk self.old.journal self.new.journal) }
-        ensures unsettled { OnErr result (IsUnsettled D.Disk self.old.journal self.new.journal) }
-        ensures cause { OnErr result (Rose (D.faults self.old.journal.disk) (D.faults self.new.journal.disk)) }
-    {
-        self.journal.settle()?;
-        Ok(())
     }
 
     /// Keeps a change back that is no content. Calls no disk.
@@ -116,21 +95,26 @@ impl<D: Disk> Commits<D> {
         self.count += 1;
     }
 
-    /// Writes a record of what is kept back with one change more, or of what is kept back alone. It has no room where what
-    /// is kept back is too long, or with the charge of the change longer than there is room for, or where the record with
-    /// the next gate passes the area's end.
-    pub fn add(&mut self, own: &ChangeRef<'_>) -> Result<(), JournalRefusal>
-        requires settled { self.old.journal.in_doubt ≡ false }
+    /// Writes a record of what is kept back with one change more. It has no room where what is kept back is too long, or
+    /// with the charge of the change longer than there is room for, or where the record with the next gate passes the
+    /// area's end.
+    pub fn add<D: Disk>(
+        &mut self,
+        journal: &mut Journal<D>,
+        own: &ChangeRef<'_>,
+    ) -> Result<(), JournalRefusal>
+        requires settled { journal.old.in_doubt ≡ false }
+        requires spare { self.old.room ≤ journal.old.spare }
         requires fits { Fits (plain own.now) }
-        ensures committed { OnOk result (IsCommitted D.Disk (with_record (kept self.old.journal) (self.old.bytes ++ spelling New (plain own.now))) self.old self.new) }
-        ensures halted { IsErrOf result JournalRefusal.DiskFault → IsHalted D.Disk (with_record (kept self.old.journal) (self.old.bytes ++ spelling New (plain own.now))) self.old self.new }
-        ensures unchanged { IsErrOf result JournalRefusal.NoRoom → self.new ≡ self.old }
-        ensures no_room { IsErrOf result JournalRefusal.NoRoom → HasFewExtents (plain own.now) → (has_room self.old (charge (plain own.now)) ≡ false) ⊎ (self.old.journal.areas.bytes < self.old.journal.tail + length (self.old.bytes ++ spelling New (plain own.now)) + 6) }
-        ensures cause { IsErrOf result JournalRefusal.DiskFault → Rose (D.faults self.old.journal.disk) (D.faults self.new.journal.disk) }
+        ensures committed { OnOk result (IsCommitted D.Disk (with_record (kept journal.old) (self.old.bytes ++ spelling New (plain own.now))) (committing journal.old self.old) (committing journal.new self.new)) }
+        ensures halted { IsErrOf result JournalRefusal.DiskFault → IsHalted D.Disk (with_record (kept journal.old) (self.old.bytes ++ spelling New (plain own.now))) (committing journal.old self.old) (committing journal.new self.new) }
+        ensures unchanged { IsErrOf result JournalRefusal.NoRoom → (journal.new ≡ journal.old) × (self.new ≡ self.old) }
+        ensures no_room { IsErrOf result JournalRefusal.NoRoom → HasFewExtents (plain own.now) → (has_room self.old (charge (plain own.now)) ≡ false) ⊎ (journal.old.areas.bytes < journal.old.tail + length (self.old.bytes ++ spelling New (plain own.now)) + 6) }
+        ensures cause { IsErrOf result JournalRefusal.DiskFault → Rose (D.faults journal.old.disk) (D.faults journal.new.disk) }
     {
         let kept = self.bytes.len();
         self.spell_own(own)?;
-        match add_record(&mut self.journal, &self.bytes) {
+        match add_record(journal, &self.bytes) {
             Ok(()) => {
                 self.forget();
                 Ok(())
@@ -139,6 +123,89 @@ impl<D: Disk> Commits<D> {
                 self.bytes.truncate(kept);
                 Err(refusal)
             }
+        }
+    }
+
+    /// Writes a record of what is kept back alone. It has no room where that is too long, or where the record with the next
+    /// gate passes the area's end.
+    pub fn add_kept<D: Disk>(&mut self, journal: &mut Journal<D>) -> Result<(), JournalRefusal>
+        requires settled { journal.old.in_doubt ≡ false }
+        requires spare { self.old.room ≤ journal.old.spare }
+        ensures committed { OnOk result (IsCommitted D.Disk (with_record (kept journal.old) self.old.bytes) (committing journal.old self.old) (committing journal.new self.new)) }
+        ensures halted { IsErrOf result JournalRefusal.DiskFault → IsHalted D.Disk (with_record (kept journal.old) self.old.bytes) (committing journal.old self.old) (committing journal.new self.new) }
+        ensures short { OnOk result (self.old.long ≡ false) }
+        ensures unchanged { IsErrOf result JournalRefusal.NoRoom → (journal.new ≡ journal.old) × (self.new ≡ self.old) }
+        ensures no_room { IsErrOf result JournalRefusal.NoRoom → (self.old.long ≡ true) ⊎ (journal.old.areas.bytes < journal.old.tail + length self.old.bytes + 6) }
+        ensures cause { IsErrOf result JournalRefusal.DiskFault → Rose (D.faults journal.old.disk) (D.faults journal.new.disk) }
+    {
+        if self.long {
+            return Err(JournalRefusal::NoRoom);
+        }
+        add_record(journal, &self.bytes)?;
+        self.forget();
+        Ok(())
+    }
+
+    /// Writes a snapshot of what a tree and a shed store after one change more in the place of all records. The tree and
+    /// the shed have what is kept back. It has no room where the charge of what is built, with a record's 7 bytes, passes
+    /// the room or the area, or where something has no spelling.
+    pub fn replace<D: Disk>(
+        &mut self,
+        journal: &mut Journal<D>,
+        tree: &Tree,
+        shed: &Shed,
+        own: &ChangeRef<'_>,
+    ) -> Result<(), JournalRefusal>
+        requires settled { journal.old.in_doubt ≡ false }
+        requires spare { self.old.room ≤ journal.old.spare }
+        ensures replaced { OnOk result (IsReplaced D.Disk (BuildsAfter (stored_in tree.now shed.now) (plain own.now)) (committing journal.old self.old) (committing journal.new self.new)) }
+        ensures halted { IsErrOf result JournalRefusal.DiskFault → IsNotReplaced D.Disk (BuildsAfter (stored_in tree.now shed.now) (plain own.now)) (committing journal.old self.old) (committing journal.new self.new) }
+        ensures unchanged { IsErrOf result JournalRefusal.NoRoom → (journal.new ≡ journal.old) × (self.new ≡ self.old) }
+        ensures no_room { IsErrOf result JournalRefusal.NoRoom → (size most : ℕ) → HasRoomAfter size most tree.now shed.now (plain own.now) → (self.old.room < most) ⊎ (journal.old.areas.bytes < most + 7) }
+        ensures cause { IsErrOf result JournalRefusal.DiskFault → Rose (D.faults journal.old.disk) (D.faults journal.new.disk) }
+    {
+        let Ok(()) = snapshot_after(tree, shed, own, &mut self.alone) else {
+            return Err(JournalRefusal::NoRoom);
+        };
+        if self.alone.len() as u64 > self.room {
+            return Err(JournalRefusal::NoRoom);
+        }
+        match put_record(journal, &self.alone) {
+            Ok(()) => {
+                self.forget();
+                Ok(())
+            }
+            Err(refusal) => Err(refusal),
+        }
+    }
+
+    /// Writes a snapshot of what a tree and a shed store in the place of all records. They have what is kept back.
+    pub fn replace_kept<D: Disk>(
+        &mut self,
+        journal: &mut Journal<D>,
+        tree: &Tree,
+        shed: &Shed,
+    ) -> Result<(), JournalRefusal>
+        requires settled { journal.old.in_doubt ≡ false }
+        requires spare { self.old.room ≤ journal.old.spare }
+        ensures replaced { OnOk result (IsReplaced D.Disk (BuildsAll (stored_in tree.now shed.now)) (committing journal.old self.old) (committing journal.new self.new)) }
+        ensures halted { IsErrOf result JournalRefusal.DiskFault → IsNotReplaced D.Disk (BuildsAll (stored_in tree.now shed.now)) (committing journal.old self.old) (committing journal.new self.new) }
+        ensures unchanged { IsErrOf result JournalRefusal.NoRoom → (journal.new ≡ journal.old) × (self.new ≡ self.old) }
+        ensures no_room { IsErrOf result JournalRefusal.NoRoom → (size most : ℕ) → HasRoomFor size most tree.now shed.now → (self.old.room < most) ⊎ (journal.old.areas.bytes < most + 7) }
+        ensures cause { IsErrOf result JournalRefusal.DiskFault → Rose (D.faults journal.old.disk) (D.faults journal.new.disk) }
+    {
+        let Ok(()) = snapshot(tree, shed, &mut self.alone) else {
+            return Err(JournalRefusal::NoRoom);
+        };
+        if self.alone.len() as u64 > self.room {
+            return Err(JournalRefusal::NoRoom);
+        }
+        match put_record(journal, &self.alone) {
+            Ok(()) => {
+                self.forget();
+                Ok(())
+            }
+            Err(refusal) => Err(refusal),
         }
     }
 
@@ -166,7 +233,7 @@ impl<D: Disk> Commits<D> {
 
     // Nothing is kept back any more.
     fn forget(&mut self)
-        ensures { self.new ≡ with_none self.old self.old.journal }
+        ensures { self.new ≡ emptied self.old }
     {
         self.bytes.clear();
         self.count = 0;
@@ -186,21 +253,12 @@ impl<D: Disk> Commits<D> {
         }
     }
 
-    // Whether a change has room behind those that are kept back.
+    // Whether the charge of a change has room behind what is kept back.
     fn has_room(&self, change: &ChangeRef<'_>) -> bool
         requires fits { Fits (plain change.now) }
         ensures { result ≡ has_room self.now (charge (plain change.now)) }
     {
         let len = self.bytes.len() as u64;
         !self.long && len.saturating_add(charge(change)) <= self.room
-    }
-
-    /// Gives the disk back. Without a gate in doubt it holds the journal's records, and nothing of what is kept back.
-    pub fn give_back(self) -> D
-        ensures disk { result ≡ self.journal.disk }
-        ensures records { D.tells → self.journal.in_doubt ≡ false → records_of self.journal.areas (D.content result) ≡ Some (kept self.journal) }
-    {
-        let Commits { journal, .. } = self;
-        journal.give_back()
     }
 }

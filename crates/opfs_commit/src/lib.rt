@@ -12,3 +12,4 @@ pub use laws::{
     a_run_begins_with_its_image, an_end_of_a_doubt_shows_a_front, an_image_shows_a_front,
     the_rows_hold_what_was_told,
 };
+pub use records::settle;

@@ -1,11 +1,11 @@
 //! One record of a journal.
 
-ghost use Rattle.std.specs.Prelude.{◌≡◌, ◌+◌, ◌<◌, ◌≤◌, ◌↔◌, false, length, OnOk, IsErrOf};
-ghost use Rattle.opfs_commit.specs.Calls.{IsStored, IsStopped};
+ghost use Rattle.std.specs.Prelude.{◌≡◌, ◌+◌, ◌<◌, ◌≤◌, ◌↔◌, false, length, OnOk, OnErr, IsErrOf};
+ghost use Rattle.opfs_commit.specs.Calls.{IsStored, IsStopped, IsSettled, IsUnsettled};
 ghost use Rattle.opfs_journal.specs.Seen.{kept, one_record, with_record};
 ghost use Rattle.opfs_outside.specs.Faults.{Rose};
 
-use opfs_journal::{Journal, JournalRefusal};
+use opfs_journal::{DiskFault, Journal, JournalRefusal};
 use opfs_outside::Disk;
 
 /// Adds a record.
@@ -39,5 +39,15 @@ pub(crate) fn put_record<D: Disk>(
     ensures cause { IsErrOf result JournalRefusal.DiskFault → Rose (D.faults journal.old.disk) (D.faults journal.new.disk) }
 {
     journal.checkpoint(body)?;
+    Ok(())
+}
+
+/// Ends the doubt of a journal, if there is one. Without doubt it calls no disk.
+pub fn settle<D: Disk>(journal: &mut Journal<D>) -> Result<(), DiskFault>
+    ensures settled { OnOk result (IsSettled D.Disk journal.old journal.new) }
+    ensures unsettled { OnErr result (IsUnsettled D.Disk journal.old journal.new) }
+    ensures cause { OnErr result (Rose (D.faults journal.old.disk) (D.faults journal.new.disk)) }
+{
+    journal.settle()?;
     Ok(())
 }

@@ -1,5 +1,4 @@
 use Rattle.opfs_commit.proofs.Resting.{at_rest}
-use Rattle.opfs_commit.proofs.Writing.{kept_none}
 use Rattle.opfs_commit.proofs.laws.an_image_shows_a_front.Goals as goal
 
 pub returns : goal.returns

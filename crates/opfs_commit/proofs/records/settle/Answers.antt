@@ -1,13 +1,13 @@
-use Rattle.std.proofs.Common.{◌≡◌, Bool, true, false, ap}
+use Rattle.std.proofs.Common.{◌≡◌, true, ap}
 use Rattle.opfs_journal.specs.Seen.{Seen}
 use Rattle.opfs_tree.proofs.Whole.{on_err}
 use Rattle.opfs_commit.specs.Calls.{IsUnsettled}
 use Rattle.opfs_commit.proofs.Spelling.{unsure_before}
-use Rattle.opfs_commit.proofs.commits.Commits.settle.Goals as goal
+use Rattle.opfs_commit.proofs.records.settle.Goals as goal
 
 pub returns-clause-settled : goal.returns-clause-settled
 returns-clause-settled g c =
-    rw (← c.self.view_is) (record {
+    (record {
       stays = c.settle.ensures.stays;
       tail = c.settle.ensures.tail;
       format = c.settle.ensures.format;
@@ -23,8 +23,8 @@ returns-clause-settled g c =
 
 pub returns-in_err-settle-clause-unsettled : goal.returns-in_err-settle-clause-unsettled
 returns-in_err-settle-clause-unsettled g c =
-    let was : c.self.inside.journal.in_doubt ≡ true = unsure_before c.self.inside.journal.in_doubt c.settle.new.self.in_doubt (λ settled. ap (λ (k : Seen g.row.D.Denot). k.in_doubt) (c.settle.ensures.none settled)) c.in_err-settle.ensures.in_doubt in
-    let is : IsUnsettled g.D.Disk c.self.inside.journal c.settle.new.self = record {
+    let was : c.args.journal.now.in_doubt ≡ true = unsure_before c.args.journal.now.in_doubt c.settle.new.self.in_doubt (λ settled. ap (λ (k : Seen g.row.D.Denot). k.in_doubt) (c.settle.ensures.none settled)) c.in_err-settle.ensures.in_doubt in
+    let is : IsUnsettled g.D.Disk c.args.journal.now c.settle.new.self = record {
       stays = c.settle.ensures.stays;
       tail = c.settle.ensures.tail;
       format = c.settle.ensures.format;
@@ -38,4 +38,4 @@ returns-in_err-settle-clause-unsettled g c =
       doubt = λ told. c.in_err-settle.ensures.doubt told;
       behind = λ told. c.in_err-settle.ensures.behind told;
     } in
-    rw (← c.self.view_is) (on_err _ _ is)
+    on_err _ _ is
