@@ -27,6 +27,14 @@ shows_both w falls o least later all more old mid new first second le was is =
     each_of_both w.moment w.since falls old mid new (IsShown o least (all ++ more)) first second
     (λ c left. shown_more o least all more c (was c left)) (λ c left. shown_least o later least (all ++ more) c le (is c left))
 
+longer : (told : List Change) (change : Change) (n : ℕ) → n < length told → take (n + 1) (told ++ change ∷ []) ≡ take (n + 1) told
+longer told change n lt = take-append-le (n + 1) told (change ∷ []) (omega (arith, lt))
+
+content_last : (told : List Change) (change : Change) (n : ℕ) → IsContentAt (told ++ change ∷ []) n → length told ≤ n → is_content change ≡ true
+content_last told change n at le =
+    let same : n ≡ length told = omega (arith, at.0, length-append told (change ∷ []), le) in
+    sym (ap is_content (ap (λ i. slice_index_or (told ++ change ∷ []) i (evict [])) same ∙ get_or-append_seam told change [] (evict []))) ∙ at.1
+
 module _ {D : Type 0} (w : DiskWords D) (falls : Falls w) (o : Opening) (told : List Change) (begun old new : D) (trail : IsTrail w o told begun old) (time : Elapses w.moment w.since old new) where
   still_left : (n : ℕ) → IsLeftAt w o told n begun old → IsLeftAt w o told n begun new
   still_left n at = record { image = at.image; left = time.keeps (w.moment begun) at.image trail.later at.left; stands = at.stands }
@@ -49,20 +57,12 @@ module _ {D : Type 0} (w : DiskWords D) (falls : Falls w) (o : Opening) (told : 
     abbrev more : List Change
     more = told ++ change ∷ []
 
-    longer : (n : ℕ) → n < length told → take (n + 1) more ≡ take (n + 1) told
-    longer n lt = take-append-le (n + 1) told (change ∷ []) (omega (arith, lt))
-
     last_whole : (n : ℕ) → IsContentAt more n → (n < length told → ⊥) → take (n + 1) more ≡ more
     last_whole n at le = take_all (n + 1) more (omega (arith, length-append told (change ∷ []), le_from (cases_lt n (length told)) le))
       where
         le_from : (n < length told) ⊎ (length told ≤ n) → (n < length told → ⊥) → length told ≤ n
         le_from (inl lt) no_lt = absurd (no_lt lt)
         le_from (inr le) no_lt = le
-
-    content_last : (n : ℕ) → IsContentAt more n → length told ≤ n → is_content change ≡ true
-    content_last n at le =
-        let same : n ≡ length told = omega (arith, at.0, length-append told (change ∷ []), le) in
-        sym (ap is_content (ap (λ i. slice_index_or more i (evict [])) same ∙ get_or-append_seam told change [] (evict []))) ∙ at.1
 
     -- One change more was told; where it is a content, an image stands for what is stored with it.
     pub trail_more : (least : ℕ) → ShowsSince w o least more old new → (w.crashes → is_content change ≡ true → (c : List ℕ) × (w.since new (w.moment new) c × Stands c (durable o more))) → IsTrail w o more begun new
@@ -75,9 +75,9 @@ module _ {D : Type 0} (w : DiskWords D) (falls : Falls w) (o : Opening) (told : 
       each = λ crashes n at. elim (cases_lt n (length told)) [
         | inl lt ↦
             let was = still_left n (trail.each crashes n (lt, sym (ap is_content (get_or_append_left told (change ∷ []) (evict []) n lt)) ∙ at.1)) in
-            record { image = was.image; left = was.left; stands = subst (λ (xs : List Change). Stands was.image (durable o xs)) (sym (longer n lt)) was.stands }
+            record { image = was.image; left = was.left; stands = subst (λ (xs : List Change). Stands was.image (durable o xs)) (sym (longer told change n lt)) was.stands }
         | inr le ↦
-            let now = last crashes (content_last n at le) in
+            let now = last crashes (content_last told change n at le) in
             record {
               image = now.0;
               left = falls new (w.moment begun) (w.moment new) now.0 later_now now.1.0;
@@ -88,6 +88,20 @@ module _ {D : Type 0} (w : DiskWords D) (falls : Falls w) (o : Opening) (told : 
       where
         not_both : (n : ℕ) → n < length told → length told ≤ n → ⊥
         not_both n lt le = absurd (omega (arith, lt, le))
+
+-- ---- a change that is kept back
+
+pub trail_kept : {D : Type 0} (w : DiskWords D) (o : Opening) (told : List Change) (change : Change) (begun now : D) → IsTrail w o told begun now → is_content change ≡ false → IsTrail w o (told ++ change ∷ []) begun now
+trail_kept w o told change begun now trail quiet = record {
+  later = trail.later;
+  fronts = λ c left. shown_more o 0 told (change ∷ []) c (trail.fronts c left);
+  each = λ crashes n at. elim (cases_lt n (length told)) [
+    | inl lt ↦
+        let was = trail.each crashes n (lt, sym (ap is_content (get_or_append_left told (change ∷ []) (evict []) n lt)) ∙ at.1) in
+        record { image = was.image; left = was.left; stands = subst (λ (xs : List Change). Stands was.image (durable o xs)) (sym (longer told change n lt)) was.stands }
+    | inr le ↦ absurd (true≢false (sym (content_last told change n at le) ∙ quiet))
+  ];
+}
 
 -- ---- how it begins, and what a commit shows
 

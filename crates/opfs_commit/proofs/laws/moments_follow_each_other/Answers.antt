@@ -1,0 +1,8 @@
+use Rattle.opfs_outside.specs.Moments.{elapses-trans}
+use Rattle.opfs_commit.proofs.Trailing.{shows_both}
+use Rattle.opfs_commit.proofs.laws.moments_follow_each_other.Goals as goal
+
+pub returns : goal.returns
+returns g s told o least later all more old mid new first second le was is =
+    let laws = g.met.D.Disk g.world.𝓛 g.world.𝓜 g.world.𝓡 ((λ s x. x), (λ x. x), (λ x. x), λ x. x) in
+    (elapses-trans g.D.Disk.moment g.D.Disk.since (laws.falls told) old mid new first second, shows_both g.D.Disk (laws.falls told) o least later all more old mid new first second le was is)
