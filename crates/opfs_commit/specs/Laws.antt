@@ -1,13 +1,13 @@
 -- The laws of images that a crash may leave while changes are committed. This project's own.
 use Rattle.std.specs.Prelude.{◌≡◌, ℕ, ◌+◌, ◌≤◌, ◌++◌, false, List, [], ◌∷◌, Some}
 use Rattle.opfs_base.specs.declared.extents.Extent.{Extent}
-use Rattle.opfs_codec.specs.Spelling.{spelling}
+use Rattle.opfs_codec.specs.Spelling.{spelling, IsChange}
 use Rattle.opfs_codec.specs.declared.change.Change.{Change as Spelled}
 use Rattle.opfs_codec.specs.declared.change.Format.TheVariants.{New}
 use Rattle.opfs_commit.specs.Calls.{IsOneOf, IsCommitted, IsHalted, IsSettled, IsUnsettled}
 use Rattle.opfs_commit.specs.Images.{Account, AreImages, committed, doubting, keeping, sure}
-use Rattle.opfs_commit.specs.Making.{IsToStore, IsKept, IsReadyFor, IsOwn, IsWhole, IsBegun, AreBeside, begun_with}
-use Rattle.opfs_commit.specs.Seen.{KeptBack, Committing, committing, with_kept}
+use Rattle.opfs_commit.specs.Making.{IsToStore, IsKept, IsReadyFor, IsOwn, IsWhole, IsBegun, AreBeside, begun_with, told_as, new_bytes}
+use Rattle.opfs_commit.specs.Seen.{KeptBack, Committing, committing, with_kept, IsQuiet}
 use Rattle.opfs_commit.specs.Shown.{ShowsSince}
 use Rattle.opfs_commit.specs.Trail.{IsTrail}
 use Rattle.opfs_data.specs.Calls.{Reads}
@@ -16,12 +16,14 @@ use Rattle.opfs_image.specs.Superblock.{area_bytes, areas_of, data_base}
 use Rattle.opfs_image.specs.declared.geometry.Geometry.{Geometry}
 use Rattle.opfs_journal.specs.Format.{Stored, records_of}
 use Rattle.opfs_journal.specs.Seen.{Seen, Stays, kept, with_record, one_record}
-use Rattle.opfs_machine.specs.Changes.{Change, durable, is_content, floor}
+use Rattle.opfs_machine.specs.Changes.{Change, changed, durable, is_content, floor}
 use Rattle.opfs_machine.specs.Openings.{Opening}
 use Rattle.opfs_outside.specs.Moments.{Elapses}
 use Rattle.opfs_outside.specs.declared.disk.Disk.{Ghosts as DiskWords}
+use Rattle.opfs_replay.specs.Applying.{tried}
 use Rattle.opfs_replay.specs.Built.{Built}
 use Rattle.opfs_replay.specs.Sums.{charge_of}
+use Rattle.opfs_tree.specs.Rows.{IsInOrder}
 
 -- Each image that a crash may leave now shows a front of what was told, with what is in doubt, at least up to the last
 -- content.
@@ -137,3 +139,13 @@ TrailsGrowCommitted {D} w =
     (a : Account) (change : Change) (built : Built) (least : ℕ) (begun old : D) (new : Committing D) → IsTrail w a.opening a.told begun old → Elapses w.moment w.since old new.journal.disk
     → ShowsSince w a.opening least (a.told ++ change ∷ []) old new.journal.disk → AreImages w (committed a (change ∷ []) built) new → new.back.count ≡ 0 → new.journal.in_doubt ≡ false
     → IsTrail w a.opening (a.told ++ change ∷ []) begun new.journal.disk
+
+-- What a change makes of rows in order, it makes of what they hold in any image, with the bytes that the image has in the
+-- blocks of a content. So one that is no content may be kept back.
+abbrev pub ChangesGoThroughFilling : Type 0
+ChangesGoThroughFilling =
+    (size base : ℕ) (c : List ℕ) (b next : Built) (change : Spelled) → IsInOrder b.rows → tried New size b change ≡ Some next → filled base c next ≡ changed (filled base c b) (told_as (new_bytes base c change) change)
+
+abbrev pub QuietChangesMayBeKept : Type 0
+QuietChangesMayBeKept =
+    (a : Account) (change : Spelled) (next : Built) → IsInOrder a.rows.rows → IsQuiet change → IsChange New change → tried New a.geometry.blocks a.rows change ≡ Some next → IsKept a change (told_as [] change) next

@@ -1,21 +1,23 @@
 -- What records that are to be written make of the map, and what else a call may do to the disk. This project's own.
 use Rattle.std.specs.Prelude.{◌≡◌, ℕ, ◌+◌, ◌≤◌, false, List, [], ◌∷◌, ◌++◌, fold, Some}
+use Rattle.opfs_base.specs.Texts.{Text}
 use Rattle.opfs_base.specs.declared.extents.Extent.{Extent}
 use Rattle.opfs_codec.specs.Spelling.{IsChange}
 use Rattle.opfs_codec.specs.declared.change.Format.TheVariants.{New}
 use Rattle.opfs_codec.specs.declared.change.Change.{Change as Spelled}
+use Rattle.opfs_codec.specs.declared.change.Change.TheVariants.{MakeRoot, MakeDir, MakeFile, Remove, Content, Persist, Evict}
 use Rattle.opfs_commit.specs.Images.{Account, AreImages}
 use Rattle.opfs_commit.specs.Seen.{Committing, emptied}
 use Rattle.opfs_commit.specs.Shown.{IsReadAs}
 use Rattle.opfs_data.specs.Calls.{Writes}
-use Rattle.opfs_data.specs.Places.{Aside}
+use Rattle.opfs_data.specs.Places.{Aside, bytes_of}
 use Rattle.opfs_image.specs.Agreeing.{IsJournalOf, IsImageOf}
 use Rattle.opfs_image.specs.Filling.{Names, filled}
 use Rattle.opfs_image.specs.Superblock.{area_bytes, data_base}
 use Rattle.opfs_image.specs.declared.geometry.Geometry.{Geometry}
 use Rattle.opfs_journal.specs.Format.{Stored}
 use Rattle.opfs_journal.specs.Seen.{Seen}
-use Rattle.opfs_machine.specs.Changes.{Change, changed, durable, is_content}
+use Rattle.opfs_machine.specs.Changes.{Change, make_root, make_directory, make_file, remove, content, persist, evict, changed, durable, is_content}
 use Rattle.opfs_machine.specs.Openings.{Opening}
 use Rattle.opfs_outside.specs.declared.disk.Disk.{Ghosts as DiskWords}
 use Rattle.opfs_replay.specs.Applying.{tried, rows_of}
@@ -71,3 +73,17 @@ pub record AreBeside {D : Type 0} (w : DiskWords D) (a : Account) (extents : Lis
   pub aside : (i : ℕ) → Names (data_base a.geometry) a.recorded i → Aside (data_base a.geometry) extents i
   pub settled : old.in_doubt ≡ false
   pub writes : Writes w (data_base a.geometry) extents old new
+
+-- A change as it is told, with these bytes where it is a content; and the bytes that an image has in a content's blocks.
+unfoldable pub told_as : Text → Spelled → Change
+told_as bytes (MakeRoot unit) = make_root unit
+told_as bytes (MakeDir unit path) = make_directory (unit, path)
+told_as bytes (MakeFile unit path stamp) = make_file (unit, path) stamp
+told_as bytes (Remove unit path) = remove (unit, path)
+told_as bytes (Content unit path stamp len extents) = content (unit, path) stamp bytes
+told_as bytes (Persist unit) = persist unit
+told_as bytes (Evict unit) = evict unit
+
+unfoldable pub new_bytes : ℕ → List ℕ → Spelled → Text
+new_bytes base c (Content unit path stamp len extents) = bytes_of c base extents len
+new_bytes base c change = []

@@ -220,12 +220,12 @@ impl Commits {
         if !self.has_room(own) {
             return Err(JournalRefusal::NoRoom);
         }
-        let kept = self.bytes.len();
+        let before = self.bytes.len();
         let Ok(()) = write(own, &mut self.bytes) else {
             return Err(JournalRefusal::NoRoom);
         };
         if self.bytes.len() as u64 > self.room {
-            self.bytes.truncate(kept);
+            self.bytes.truncate(before);
             return Err(JournalRefusal::NoRoom);
         }
         Ok(())

@@ -2,7 +2,7 @@
 
 ghost use Rattle.opfs_commit.specs.Laws.{ImagesShowFronts, RecordsAreDurable, RecordsMayBeInDoubt, RecordsShowFronts, DoubtsEnd, DoubtsMayStay, EndsShowFronts, FailedEndsShowFronts};
 ghost use Rattle.opfs_commit.specs.Laws.{ChangesAreKeptBack, OwnIsToStore, KeptIsToStore, WholeIsToStore, RunsBeginWithTheirImage, RowsHoldWhatWasTold, ContentsStand};
-ghost use Rattle.opfs_commit.specs.Laws.{ReadsLeaveImages, ReadsShowFronts, PagesBesideLeaveImages, PagesBesideShowFronts, MomentsFollow, TrailsBegin, TrailsGoOn, TrailsGrowKept, TrailsGrowCommitted};
+ghost use Rattle.opfs_commit.specs.Laws.{ReadsLeaveImages, ReadsShowFronts, PagesBesideLeaveImages, PagesBesideShowFronts, MomentsFollow, TrailsBegin, TrailsGoOn, TrailsGrowKept, TrailsGrowCommitted, ChangesGoThroughFilling, QuietChangesMayBeKept};
 
 use opfs_outside::Disk;
 
@@ -68,4 +68,10 @@ pub fn a_trail_grows<D: Disk>()
     ensures goes_on { D.tells → TrailsGoOn D.Disk }
     ensures kept { D.tells → TrailsGrowKept D.Disk }
     ensures committed { D.tells → TrailsGrowCommitted D.Disk }
+{}
+
+/// What changes make of what rows hold.
+pub fn changes_go_through_filling()
+    ensures filled { ChangesGoThroughFilling }
+    ensures kept { QuietChangesMayBeKept }
 {}
