@@ -6,7 +6,7 @@ use Rattle.std.proofs.lemmas.List.{length-append, get_or_append_left, take-appen
 use Rattle.std.proofs.Math.Seq.{get_or-append_seam}
 use Rattle.opfs_commit.specs.Images.{Account, AreImages}
 use Rattle.opfs_commit.specs.Seen.{Committing}
-use Rattle.opfs_commit.specs.Shown.{IsShown, ShowsSince}
+use Rattle.opfs_commit.specs.Shown.{IsShown, ShowsSince, ShowsEither}
 use Rattle.opfs_commit.specs.Trail.{IsContentAt, IsLeftAt, IsTrail}
 use Rattle.opfs_commit.proofs.Holding.{shown_more, shown_least}
 use Rattle.opfs_commit.proofs.Resting.{finished}
@@ -26,6 +26,17 @@ pub shows_both : {D : Type 0} (w : DiskWords D) (falls : Falls w) (o : Opening) 
 shows_both w falls o least later all more old mid new first second le was is =
     each_of_both w.moment w.since falls old mid new (IsShown o least (all ++ more)) first second
     (λ c left. shown_more o least all more c (was c left)) (λ c left. shown_least o later least (all ++ more) c le (is c left))
+
+module _ {D : Type 0} (w : DiskWords D) (falls : Falls w) (o : Opening) (least later : ℕ) (all others : List Change) (old mid new : D) (first : Elapses w.moment w.since old mid) (second : Elapses w.moment w.since mid new) (le : least ≤ later) where
+  pub shows_behind : ShowsSince w o least others old mid → ShowsSince w o later all mid new → ShowsEither w o least all others old new
+  shows_behind was is =
+      each_of_both w.moment w.since falls old mid new (λ c. IsShown o least all c ⊎ IsShown o least others c) first second
+      (λ c left. inr (was c left)) (λ c left. inl (shown_least o later least all c le (is c left)))
+
+  pub shows_on : (more : List Change) → ShowsEither w o least all others old mid → ShowsSince w o later (all ++ more) mid new → ShowsEither w o least (all ++ more) others old new
+  shows_on more was is =
+      each_of_both w.moment w.since falls old mid new (λ c. IsShown o least (all ++ more) c ⊎ IsShown o least others c) first second
+      (λ c left. elim (was c left) [ inl s ↦ inl (shown_more o least all more c s) | inr s ↦ inr s ]) (λ c left. inl (shown_least o later least (all ++ more) c le (is c left)))
 
 longer : (told : List Change) (change : Change) (n : ℕ) → n < length told → take (n + 1) (told ++ change ∷ []) ≡ take (n + 1) told
 longer told change n lt = take-append-le (n + 1) told (change ∷ []) (omega (arith, lt))

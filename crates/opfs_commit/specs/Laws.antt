@@ -8,7 +8,7 @@ use Rattle.opfs_commit.specs.Calls.{IsOneOf, IsCommitted, IsHalted, IsSettled, I
 use Rattle.opfs_commit.specs.Images.{Account, AreImages, committed, doubting, keeping, sure}
 use Rattle.opfs_commit.specs.Making.{IsToStore, IsKept, IsReadyFor, IsOwn, IsWhole, IsBegun, AreBeside, begun_with, told_as, new_bytes}
 use Rattle.opfs_commit.specs.Seen.{KeptBack, Committing, committing, with_kept, IsQuiet}
-use Rattle.opfs_commit.specs.Shown.{ShowsSince}
+use Rattle.opfs_commit.specs.Shown.{ShowsSince, ShowsEither}
 use Rattle.opfs_commit.specs.Trail.{IsTrail}
 use Rattle.opfs_data.specs.Calls.{Reads}
 use Rattle.opfs_image.specs.Filling.{Stands, filled}
@@ -121,6 +121,17 @@ abbrev pub MomentsFollow : {D : Type 0} → DiskWords D → Type 0
 MomentsFollow {D} w =
     (o : Opening) (least later : ℕ) (all more : List Change) (old mid new : D) → Elapses w.moment w.since old mid → Elapses w.moment w.since mid new → least ≤ later
     → ShowsSince w o least all old mid → ShowsSince w o later (all ++ more) mid new → Elapses w.moment w.since old new × ShowsSince w o least (all ++ more) old new
+
+-- So it is where the first of them ends a doubt, whose changes no other has.
+abbrev pub MomentsFollowADoubt : {D : Type 0} → DiskWords D → Type 0
+MomentsFollowADoubt {D} w =
+    (o : Opening) (least later : ℕ) (all others : List Change) (old mid new : D) → Elapses w.moment w.since old mid → Elapses w.moment w.since mid new → least ≤ later
+    → ShowsSince w o least others old mid → ShowsSince w o later all mid new → ShowsEither w o least all others old new
+
+abbrev pub MomentsGoOn : {D : Type 0} → DiskWords D → Type 0
+MomentsGoOn {D} w =
+    (o : Opening) (least later : ℕ) (all more others : List Change) (old mid new : D) → Elapses w.moment w.since old mid → Elapses w.moment w.since mid new → least ≤ later
+    → ShowsEither w o least all others old mid → ShowsSince w o later (all ++ more) mid new → ShowsEither w o least (all ++ more) others old new
 
 -- The trail of a run begins with the run, goes on with a call that tells nothing more, and grows with one that keeps a change
 -- back or commits one.

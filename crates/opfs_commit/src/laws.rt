@@ -2,7 +2,7 @@
 
 ghost use Rattle.opfs_commit.specs.Laws.{ImagesShowFronts, RecordsAreDurable, RecordsMayBeInDoubt, RecordsShowFronts, DoubtsEnd, DoubtsMayStay, EndsShowFronts, FailedEndsShowFronts};
 ghost use Rattle.opfs_commit.specs.Laws.{ChangesAreKeptBack, OwnIsToStore, KeptIsToStore, WholeIsToStore, RunsBeginWithTheirImage, RowsHoldWhatWasTold, ContentsStand};
-ghost use Rattle.opfs_commit.specs.Laws.{ReadsLeaveImages, ReadsShowFronts, PagesBesideLeaveImages, PagesBesideShowFronts, MomentsFollow, TrailsBegin, TrailsGoOn, TrailsGrowKept, TrailsGrowCommitted, ChangesGoThroughFilling, QuietChangesMayBeKept};
+ghost use Rattle.opfs_commit.specs.Laws.{ReadsLeaveImages, ReadsShowFronts, PagesBesideLeaveImages, PagesBesideShowFronts, MomentsFollow, MomentsFollowADoubt, MomentsGoOn, TrailsBegin, TrailsGoOn, TrailsGrowKept, TrailsGrowCommitted, ChangesGoThroughFilling, QuietChangesMayBeKept};
 
 use opfs_outside::Disk;
 
@@ -59,7 +59,9 @@ pub fn other_calls_leave_the_images<D: Disk>()
 
 /// What is shown in several calls, one after the other.
 pub fn moments_follow_each_other<D: Disk>()
-    ensures { D.tells → MomentsFollow D.Disk }
+    ensures both { D.tells → MomentsFollow D.Disk }
+    ensures behind_a_doubt { D.tells → MomentsFollowADoubt D.Disk }
+    ensures go_on { D.tells → MomentsGoOn D.Disk }
 {}
 
 /// How the trail of a run grows.
