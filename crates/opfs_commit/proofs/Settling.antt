@@ -1,8 +1,8 @@
 -- What a call that ends a doubt leaves of the images.
-use Rattle.std.proofs.Common.{◌≡◌, ℕ, Bool, true, false, List, ◌++◌, length, Some, inl, inr, refl, sym, ap, subst, ◌∙◌}
+use Rattle.std.proofs.Common.{◌≡◌, ℕ, Bool, true, false, List, [], ◌++◌, length, Some, inl, inr, refl, sym, ap, subst, ◌∙◌}
 use Rattle.std.proofs.lemmas.Bool.{true≢false}
 use Rattle.opfs_commit.specs.Calls.{IsShut}
-use Rattle.opfs_commit.specs.Images.{Account, MayBe, IsDoubt, AreImages, sure}
+use Rattle.opfs_commit.specs.Images.{Account, MayBe, IsDoubt, AreImages, doubting, sure}
 use Rattle.opfs_commit.specs.Keeping.{AreKeptBack}
 use Rattle.opfs_commit.specs.Seen.{KeptBack, Committing}
 use Rattle.opfs_commit.specs.Shown.{IsReadAs, ShowsSince}
@@ -13,13 +13,13 @@ use Rattle.opfs_journal.specs.Clauses.{Outside}
 use Rattle.opfs_journal.specs.Format.{Stored, records_of}
 use Rattle.opfs_journal.specs.Seen.{Seen, kept}
 use Rattle.opfs_journal.specs.declared.areas.Areas.{Areas}
-use Rattle.opfs_machine.specs.Changes.{durable, floor}
+use Rattle.opfs_machine.specs.Changes.{Change, durable, floor}
 use Rattle.opfs_outside.specs.Bytes.{Same}
 use Rattle.opfs_outside.specs.declared.disk.Disk.{Ghosts as DiskWords}
 
 -- where no gate is in doubt, nothing is
-pub none_doubted : {D : Type 0} (w : DiskWords D) (a : Account) (k : Committing D) → AreImages w a k → k.journal.in_doubt ≡ false → AreImages w (sure a) k
-none_doubted w a k images settled = record {
+pub none_doubted : {D : Type 0} (w : DiskWords D) (a : Account) (own : List Change) (k : Committing D) → AreImages w a k → k.journal.in_doubt ≡ false → AreImages w (doubting a own) k
+none_doubted w a own k images settled = record {
   acked = images.acked;
   later = images.later;
   split = images.split;
@@ -110,7 +110,7 @@ module _ {D : Type 0} (w : DiskWords D) (full : IsFull w) (whole : IsWhole w) (f
 
   settled_by : (t : Bool) → j.in_doubt ≡ t → (j.in_doubt ≡ false → new.journal ≡ j) → (j.in_doubt ≡ true → IsShut w j new.journal) → new.journal.in_doubt ≡ false
       → ((c : List ℕ) → MayBe w new.journal c → records_of j.areas c ≡ Some (kept j)) → AreImages w (sure a) new
-  settled_by false is none shut now_sure durable_now = subst (λ (k : Committing D). AreImages w (sure a) k) (sym (whole_same (none is))) (none_doubted w a old images is)
+  settled_by false is none shut now_sure durable_now = subst (λ (k : Committing D). AreImages w (sure a) k) (sym (whole_same (none is))) (none_doubted w a [] old images is)
   settled_by true is none shut now_sure durable_now = shut_done is (shut is) now_sure durable_now
 
   -- At its end nothing is in doubt.

@@ -62,6 +62,6 @@ doubting a own = record a { doubted = own }
 abbrev pub keeping : Account → Change → Built → Account
 keeping a change built = record a { told = a.told ++ change ∷ []; rows = built }
 
--- No gate is in doubt any more.
+-- Nothing is in doubt.
 abbrev pub sure : Account → Account
-sure a = record a { doubted = [] }
+sure a = doubting a []

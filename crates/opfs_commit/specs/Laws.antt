@@ -51,6 +51,10 @@ RecordsShowFronts {D} w =
 abbrev pub DoubtsEnd : {D : Type 0} → DiskWords D → Type 0
 DoubtsEnd {D} w = (a : Account) (back : KeptBack) (old new : Seen D) → AreImages w a (committing old back) → IsSettled w old new → AreImages w (sure a) (committing new back)
 
+-- Without a gate in doubt it does not matter what would be.
+abbrev pub DoubtsNeedAGate : {D : Type 0} → DiskWords D → Type 0
+DoubtsNeedAGate {D} w = (a : Account) (own : List Change) (k : Committing D) → AreImages w a k → k.journal.in_doubt ≡ false → AreImages w (doubting a own) k
+
 abbrev pub DoubtsMayStay : {D : Type 0} → DiskWords D → Type 0
 DoubtsMayStay {D} w = (a : Account) (back : KeptBack) (old new : Seen D) → AreImages w a (committing old back) → IsUnsettled w old new → AreImages w a (committing new back)
 

@@ -20,8 +20,8 @@ use opfs_tree::Tree;
 use std::alloc::{AllocError, Global};
 use std::marker::Model;
 
-/// Changes that are kept back beside a journal: its next record has them, and then the change that is committed. Takes no
-/// memory once it is made.
+/// Changes that are kept back beside a journal: its next record has them, and then the change that is committed. Once it is
+/// made, a record that has room takes no memory.
 #[derive(Drop)]
 pub struct Commits {
     // The spellings of the changes that are kept back, one behind the other; none where they are too long.

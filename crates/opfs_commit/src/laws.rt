@@ -1,6 +1,6 @@
 //! Laws of the images that a crash may leave while changes are committed.
 
-ghost use Rattle.opfs_commit.specs.Laws.{ImagesShowFronts, RecordsAreDurable, RecordsMayBeInDoubt, RecordsShowFronts, DoubtsEnd, DoubtsMayStay, EndsShowFronts, FailedEndsShowFronts};
+ghost use Rattle.opfs_commit.specs.Laws.{ImagesShowFronts, RecordsAreDurable, RecordsMayBeInDoubt, RecordsShowFronts, DoubtsEnd, DoubtsMayStay, DoubtsNeedAGate, EndsShowFronts, FailedEndsShowFronts};
 ghost use Rattle.opfs_commit.specs.Laws.{ChangesAreKeptBack, OwnIsToStore, KeptIsToStore, WholeIsToStore, RunsBeginWithTheirImage, RowsHoldWhatWasTold, ContentsStand};
 ghost use Rattle.opfs_commit.specs.Laws.{ReadsLeaveImages, ReadsShowFronts, PagesBesideLeaveImages, PagesBesideShowFronts, MomentsFollow, MomentsFollowADoubt, MomentsGoOn, TrailsBegin, TrailsGoOn, TrailsGrowKept, TrailsGrowCommitted, ChangesGoThroughFilling, QuietChangesMayBeKept};
 
@@ -27,6 +27,7 @@ pub fn records_are_written<D: Disk>()
 pub fn a_doubt_ends<D: Disk>()
     ensures ends { D.tells → DoubtsEnd D.Disk }
     ensures stays { D.tells → DoubtsMayStay D.Disk }
+    ensures none { D.tells → DoubtsNeedAGate D.Disk }
     ensures shown { D.tells → EndsShowFronts D.Disk }
     ensures shown_still { D.tells → FailedEndsShowFronts D.Disk }
 {}

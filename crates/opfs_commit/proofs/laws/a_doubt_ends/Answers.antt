@@ -1,7 +1,7 @@
 use Rattle.std.proofs.Common.{refl, sym, ◌∙◌}
 use Rattle.std.proofs.lemmas.Bool.{true≢false}
 use Rattle.opfs_commit.specs.Seen.{committing}
-use Rattle.opfs_commit.proofs.Settling.{settle_done, shut_stopped, settle_moments}
+use Rattle.opfs_commit.proofs.Settling.{none_doubted, settle_done, shut_stopped, settle_moments}
 use Rattle.opfs_commit.proofs.laws.a_doubt_ends.Goals as goal
 
 pub returns-clause-ends : goal.returns-clause-ends
@@ -23,3 +23,6 @@ pub returns-clause-shown_still : goal.returns-clause-shown_still
 returns-clause-shown_still g s told a back old new images is =
     let laws = g.met.D.Disk g.world.𝓛 g.world.𝓜 g.world.𝓡 ((λ s x. x), (λ x. x), (λ x. x), λ x. x) in
     settle_moments g.D.Disk (laws.full told) (laws.whole told) (laws.falls told) a (committing old back) (committing new back) images is.stays.length is.stays.areas refl (λ settled. absurd (true≢false (sym is.was ∙ settled))) (λ _. is.told told)
+
+pub returns-clause-none : goal.returns-clause-none
+returns-clause-none g s told a own k images settled = none_doubted g.D.Disk a own k images settled
