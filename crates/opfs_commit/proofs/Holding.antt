@@ -1,5 +1,5 @@
 -- What an image holds, and what it shows.
-use Rattle.std.proofs.Common.{◌≡◌, ◌⊎◌, ℕ, ◌+◌, ◌*◌, ◌<◌, ◌≤◌, Bool, true, false, List, [], ◌∷◌, ◌++◌, length, fold, Some, inl, inr, refl, sym, ap, subst, ◌∙◌, arith}
+use Rattle.std.proofs.Common.{◌≡◌, ℕ, ◌+◌, ◌<◌, ◌≤◌, true, false, List, [], ◌∷◌, ◌++◌, length, fold, Some, inl, inr, refl, sym, ap, subst, ◌∙◌, arith}
 use Rattle.std.proofs.Common.{append_assoc}
 use Rattle.std.proofs.lemmas.List.{append-nil}
 use Rattle.std.proofs.lemmas.List.Sums.{fold-append}
@@ -9,7 +9,7 @@ use Rattle.opfs_codec.specs.declared.change.Format.TheVariants.{New}
 use Rattle.opfs_commit.specs.Shown.{IsShown, IsReadAs, Holds}
 use Rattle.opfs_data.specs.Calls.{OutsideRuns}
 use Rattle.opfs_data.specs.Places.{Aside}
-use Rattle.opfs_image.specs.Filling.{Names, Stands, filled}
+use Rattle.opfs_image.specs.Filling.{Names, Stands}
 use Rattle.opfs_image.specs.Superblock.{areas_of, data_base}
 use Rattle.opfs_image.specs.declared.geometry.Geometry.{Geometry}
 use Rattle.opfs_image.proofs.Beside.{same_geometry, in_data}

@@ -1,7 +1,6 @@
 -- What the images show now.
-use Rattle.std.proofs.Common.{◌≡◌, ◌⊎◌, ℕ, ◌≤◌, true, false, List, [], ◌∷◌, ◌++◌, length, fold, Some, inl, inr, refl, sym, ap, subst, ◌∙◌, append_assoc, arith}
+use Rattle.std.proofs.Common.{◌≡◌, ℕ, List, [], ◌∷◌, ◌++◌, length, fold, Some, inl, inr, refl, sym, ap, subst, ◌∙◌, append_assoc, arith}
 use Rattle.std.proofs.lemmas.List.{append-nil, length-append}
-use Rattle.std.proofs.lemmas.Bool.{false≢true}
 use Rattle.opfs_commit.specs.Images.{Account, MayBe, IsDoubt, AreImages}
 use Rattle.opfs_commit.specs.Seen.{Committing}
 use Rattle.opfs_commit.specs.Shown.{IsShown, Holds}
@@ -9,7 +8,7 @@ use Rattle.opfs_commit.proofs.Holding.{stands_by, floor_kept, floor_most, durabl
 use Rattle.opfs_image.specs.Filling.{Stands, filled}
 use Rattle.opfs_image.specs.Superblock.{areas_of, data_base}
 use Rattle.opfs_journal.specs.Format.{records_of}
-use Rattle.opfs_journal.specs.Seen.{Seen, kept}
+use Rattle.opfs_journal.specs.Seen.{kept}
 use Rattle.opfs_machine.specs.Changes.{Change, durable, changed, floor}
 use Rattle.opfs_outside.specs.declared.disk.Disk.{Ghosts as DiskWords}
 
@@ -65,7 +64,7 @@ module _ {D : Type 0} (w : DiskWords D) (a : Account) (k : Committing D) (images
       ∙ ap (durable a.opening) images.split
 
   -- With nothing kept back, a content that has the journal's records stands for all that was told.
-  pub finished : k.count ≡ 0 → records_of (areas_of a.geometry) (w.content k.journal.disk) ≡ Some (kept k.journal) → Stands (w.content k.journal.disk) (durable a.opening a.told)
+  pub finished : k.back.count ≡ 0 → records_of (areas_of a.geometry) (w.content k.journal.disk) ≡ Some (kept k.journal) → Stands (w.content k.journal.disk) (durable a.opening a.told)
   finished none records =
       let empty : images.later ≡ [] = none_left images.later (images.count ∙ none) in
       let all : images.acked ≡ a.told = sym (append-nil images.acked) ∙ ap (λ xs. images.acked ++ xs) (sym empty) ∙ images.split in

@@ -1,26 +1,25 @@
 -- What a call that ends a doubt leaves of the images.
-use Rattle.std.proofs.Common.{◌≡◌, ◌⊎◌, ℕ, ◌≤◌, Bool, true, false, List, [], ◌++◌, length, Some, inl, inr, refl, sym, ap, subst, ◌∙◌}
+use Rattle.std.proofs.Common.{◌≡◌, ℕ, Bool, true, false, List, [], ◌++◌, length, Some, inl, inr, refl, sym, ap, subst, ◌∙◌}
 use Rattle.std.proofs.lemmas.Bool.{true≢false}
-use Rattle.opfs_commit.specs.Calls.{IsOneOf, IsShut, IsSettled, IsUnsettled}
-use Rattle.opfs_commit.specs.Images.{Account, MayBe, IsDoubt, AreImages, sure}
+use Rattle.opfs_commit.specs.Calls.{IsShut}
+use Rattle.opfs_commit.specs.Images.{Account, MayBe, IsDoubt, AreImages, doubting, sure}
 use Rattle.opfs_commit.specs.Keeping.{AreKeptBack}
-use Rattle.opfs_commit.specs.Seen.{Committing}
-use Rattle.opfs_commit.specs.Shown.{IsShown, IsReadAs, Holds, ShowsSince}
+use Rattle.opfs_commit.specs.Seen.{KeptBack, Committing}
+use Rattle.opfs_commit.specs.Shown.{IsReadAs, ShowsSince}
 use Rattle.opfs_commit.proofs.Holding.{same_holds, shown_more}
 use Rattle.opfs_commit.proofs.Resting.{shown_kept, shown_doubt, at_rest}
 use Rattle.opfs_commit.proofs.Writing.{IsFull, IsWhole, Falls, from_before, from_content, still_here, still_held, same_records}
-use Rattle.opfs_image.specs.Superblock.{areas_of}
 use Rattle.opfs_journal.specs.Clauses.{Outside}
 use Rattle.opfs_journal.specs.Format.{Stored, records_of}
 use Rattle.opfs_journal.specs.Seen.{Seen, kept}
 use Rattle.opfs_journal.specs.declared.areas.Areas.{Areas}
-use Rattle.opfs_machine.specs.Changes.{durable, floor}
+use Rattle.opfs_machine.specs.Changes.{Change, durable, floor}
 use Rattle.opfs_outside.specs.Bytes.{Same}
 use Rattle.opfs_outside.specs.declared.disk.Disk.{Ghosts as DiskWords}
 
 -- where no gate is in doubt, nothing is
-pub none_doubted : {D : Type 0} (w : DiskWords D) (a : Account) (k : Committing D) → AreImages w a k → k.journal.in_doubt ≡ false → AreImages w (sure a) k
-none_doubted w a k images settled = record {
+pub none_doubted : {D : Type 0} (w : DiskWords D) (a : Account) (own : List Change) (k : Committing D) → AreImages w a k → k.journal.in_doubt ≡ false → AreImages w (doubting a own) k
+none_doubted w a own k images settled = record {
   acked = images.acked;
   later = images.later;
   split = images.split;
@@ -35,15 +34,15 @@ none_doubted w a k images settled = record {
 }
 
 module _ {D : Type 0} (w : DiskWords D) (full : IsFull w) (whole : IsWhole w) (falls : Falls w) (a : Account) (old new : Committing D) (images : AreImages w a old)
-    (len : w.size new.journal.disk ≡ w.size old.journal.disk) (areas : new.journal.areas ≡ old.journal.areas) (same : new ≡ record old { journal = new.journal }) where
+    (len : w.size new.journal.disk ≡ w.size old.journal.disk) (areas : new.journal.areas ≡ old.journal.areas) (same : new.back ≡ old.back) where
   abbrev j : Seen D
   j = old.journal
 
-  kept_still : AreKeptBack a.geometry.blocks new.bytes new.long images.later a.recorded a.rows
-  kept_still = subst (λ (k : Committing D). AreKeptBack a.geometry.blocks k.bytes k.long images.later a.recorded a.rows) (sym same) images.kept_back
+  kept_still : AreKeptBack a.geometry.blocks new.back.bytes new.back.long images.later a.recorded a.rows
+  kept_still = subst (λ (b : KeptBack). AreKeptBack a.geometry.blocks b.bytes b.long images.later a.recorded a.rows) (sym same) images.kept_back
 
-  count_still : length images.later ≡ new.count
-  count_still = images.count ∙ sym (ap (λ (k : Committing D). k.count) same)
+  count_still : length images.later ≡ new.back.count
+  count_still = images.count ∙ sym (ap (λ (b : KeptBack). b.count) same)
 
   module _ (unsure : j.in_doubt ≡ true) (shut : IsShut w j new.journal) where
     shut_moments : ShowsSince w a.opening (floor a.told) (a.told ++ a.doubted) j.disk new.journal.disk
@@ -107,11 +106,11 @@ module _ {D : Type 0} (w : DiskWords D) (full : IsFull w) (whole : IsWhole w) (f
 
   -- Where no gate was in doubt, nothing changed.
   whole_same : new.journal ≡ j → new ≡ old
-  whole_same is = same ∙ ap (λ (x : Seen D). record old { journal = x }) is
+  whole_same is = λ i. record { journal = is i; back = same i }
 
   settled_by : (t : Bool) → j.in_doubt ≡ t → (j.in_doubt ≡ false → new.journal ≡ j) → (j.in_doubt ≡ true → IsShut w j new.journal) → new.journal.in_doubt ≡ false
       → ((c : List ℕ) → MayBe w new.journal c → records_of j.areas c ≡ Some (kept j)) → AreImages w (sure a) new
-  settled_by false is none shut now_sure durable_now = subst (λ (k : Committing D). AreImages w (sure a) k) (sym (whole_same (none is))) (none_doubted w a old images is)
+  settled_by false is none shut now_sure durable_now = subst (λ (k : Committing D). AreImages w (sure a) k) (sym (whole_same (none is))) (none_doubted w a [] old images is)
   settled_by true is none shut now_sure durable_now = shut_done is (shut is) now_sure durable_now
 
   -- At its end nothing is in doubt.

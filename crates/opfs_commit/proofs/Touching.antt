@@ -1,12 +1,12 @@
 -- What calls that only read the disk, or write pages beside what the records name, leave of the images.
-use Rattle.std.proofs.Common.{◌≡◌, ◌⊎◌, ℕ, ◌≤◌, Bool, true, false, List, [], ◌++◌, length, Some, inl, inr, refl, sym, ap, subst, ◌∙◌}
+use Rattle.std.proofs.Common.{◌≡◌, ◌⊎◌, ℕ, true, false, List, ◌++◌, Some, inl, inr, sym, ap, subst, ◌∙◌}
 use Rattle.std.proofs.lemmas.Bool.{true≢false}
 use Rattle.opfs_base.specs.declared.extents.Extent.{Extent}
 use Rattle.opfs_commit.specs.Images.{Account, MayBe, IsDoubt, AreImages}
 use Rattle.opfs_commit.specs.Keeping.{AreKeptBack}
-use Rattle.opfs_commit.specs.Seen.{Committing}
-use Rattle.opfs_commit.specs.Shown.{IsShown, IsReadAs, Holds, ShowsSince}
-use Rattle.opfs_commit.proofs.Holding.{same_beside, same_aside, shown_more}
+use Rattle.opfs_commit.specs.Seen.{KeptBack, Committing}
+use Rattle.opfs_commit.specs.Shown.{IsReadAs, Holds, ShowsSince}
+use Rattle.opfs_commit.proofs.Holding.{same_beside, same_aside}
 use Rattle.opfs_commit.proofs.Resting.{shown_kept, at_rest}
 use Rattle.opfs_commit.proofs.Writing.{IsFull, IsWhole, Falls}
 use Rattle.opfs_data.specs.Calls.{OutsideRuns}
@@ -23,12 +23,12 @@ use Rattle.opfs_outside.specs.Moments.{Elapses}
 use Rattle.opfs_outside.specs.declared.disk.Disk.{Ghosts as DiskWords}
 
 module _ {D : Type 0} (w : DiskWords D) (falls : Falls w) (a : Account) (old new : Committing D) (images : AreImages w a old)
-    (areas : new.journal.areas ≡ old.journal.areas) (records : kept new.journal ≡ kept old.journal) (same : new ≡ record old { journal = new.journal }) (time : Elapses w.moment w.since old.journal.disk new.journal.disk) where
+    (areas : new.journal.areas ≡ old.journal.areas) (records : kept new.journal ≡ kept old.journal) (same : new.back ≡ old.back) (time : Elapses w.moment w.since old.journal.disk new.journal.disk) where
   abbrev j : Seen D
   j = old.journal
 
-  kept_still : AreKeptBack a.geometry.blocks new.bytes new.long images.later a.recorded a.rows
-  kept_still = subst (λ (k : Committing D). AreKeptBack a.geometry.blocks k.bytes k.long images.later a.recorded a.rows) (sym same) images.kept_back
+  kept_still : AreKeptBack a.geometry.blocks new.back.bytes new.back.long images.later a.recorded a.rows
+  kept_still = subst (λ (b : KeptBack). AreKeptBack a.geometry.blocks b.bytes b.long images.later a.recorded a.rows) (sym same) images.kept_back
 
   reads_still : IsReadAs a.geometry (kept new.journal) a.recorded
   reads_still = subst (λ (s : Stored). IsReadAs a.geometry s a.recorded) (sym records) images.reads
@@ -64,7 +64,7 @@ module _ {D : Type 0} (w : DiskWords D) (falls : Falls w) (a : Account) (old new
       areas = areas ∙ images.areas;
       reads = reads_still;
       kept_back = kept_still;
-      count = images.count ∙ sym (ap (λ (k : Committing D). k.count) same);
+      count = images.count ∙ sym (ap (λ (b : KeptBack). b.count) same);
       here = subst (Holds a.geometry a.recorded (durable a.opening images.acked)) (sym content) images.here;
       holds = λ c now. images.holds c (was c now);
       one_of = read_one_of;
@@ -95,7 +95,7 @@ module _ {D : Type 0} (w : DiskWords D) (falls : Falls w) (a : Account) (old new
       areas = areas ∙ images.areas;
       reads = reads_still;
       kept_back = kept_still;
-      count = images.count ∙ sym (ap (λ (k : Committing D). k.count) same);
+      count = images.count ∙ sym (ap (λ (b : KeptBack). b.count) same);
       here = same_aside a.geometry a.recorded (durable a.opening images.acked) (w.content new.journal.disk) (w.content j.disk) (full new.journal.disk ∙ len ∙ sym (full j.disk)) images.here extents aside elsewhere;
       holds = λ c now. put_holds (w.moment new.journal.disk) c now (moments c (falls new.journal.disk (w.moment j.disk) (w.moment new.journal.disk) c time.later now));
       one_of = λ c now. inl (put_records c (moments c (falls new.journal.disk (w.moment j.disk) (w.moment new.journal.disk) c time.later now)) ∙ ap (λ (s : Stored). Some s) (sym records));

@@ -1,16 +1,16 @@
 -- What a record that is written leaves of the images.
-use Rattle.std.proofs.Common.{◌≡◌, ◌⊎◌, ℕ, ◌≤◌, Bool, true, false, List, [], ◌∷◌, ◌++◌, length, fold, Some, inl, inr, refl, sym, ap, subst, ◌∙◌, arith}
+use Rattle.std.proofs.Common.{◌≡◌, ◌⊎◌, ℕ, ◌≤◌, Bool, true, false, List, [], ◌++◌, length, Some, inl, inr, refl, sym, ap, subst, ◌∙◌, arith}
 use Rattle.std.proofs.lemmas.List.{append-nil, length-append}
-use Rattle.std.proofs.lemmas.Bool.{false≢true, true≢false}
-use Rattle.opfs_commit.specs.Calls.{IsOneOf, IsDurable, IsTorn, IsStored, IsStopped, IsCommitted, IsHalted}
+use Rattle.std.proofs.lemmas.Bool.{true≢false}
+use Rattle.opfs_commit.specs.Calls.{IsOneOf, IsDurable, IsTorn}
 use Rattle.opfs_commit.specs.Images.{Account, MayBe, IsDoubt, AreImages, committed, doubting}
 use Rattle.opfs_commit.specs.Keeping.{AreKeptBack}
 use Rattle.opfs_commit.specs.Making.{IsToStore}
-use Rattle.opfs_commit.specs.Seen.{Committing, with_none}
+use Rattle.opfs_commit.specs.Seen.{KeptBack, Committing, emptied}
 use Rattle.opfs_commit.specs.Shown.{IsShown, IsReadAs, Holds}
 use Rattle.opfs_commit.proofs.Holding.{same_holds, stands_by, floor_most, shown_more}
 use Rattle.opfs_commit.proofs.Resting.{shown_kept}
-use Rattle.opfs_journal.specs.Clauses.{Outside, Before, After, OneOf}
+use Rattle.opfs_journal.specs.Clauses.{Outside, Before}
 use Rattle.opfs_journal.specs.Format.{Stored, records_of}
 use Rattle.opfs_journal.specs.Seen.{Seen, kept}
 use Rattle.opfs_journal.specs.declared.areas.Areas.{Areas}
@@ -101,7 +101,7 @@ module _ {D : Type 0} (w : DiskWords D) (full : IsFull w) (whole : IsWhole w) (f
         ]
 
   -- At its end with success each image shows all of it.
-  pub record_done : (durable_now : IsDurable w next j new.journal) → new.journal.areas ≡ j.areas → new.journal.in_doubt ≡ false → new ≡ with_none old new.journal → AreImages w (committed a own built) new
+  pub record_done : (durable_now : IsDurable w next j new.journal) → new.journal.areas ≡ j.areas → new.journal.in_doubt ≡ false → new.back ≡ emptied old.back → AreImages w (committed a own built) new
   record_done is areas sure none =
       let one = is.written in
       record {
@@ -110,8 +110,8 @@ module _ {D : Type 0} (w : DiskWords D) (full : IsFull w) (whole : IsWhole w) (f
         split = append-nil (a.told ++ own);
         areas = areas ∙ images.areas;
         reads = subst (λ (s : Stored). IsReadAs a.geometry s built) (sym is.records) to_store.reads;
-        kept_back = subst (λ (k : Committing D). AreKeptBack a.geometry.blocks k.bytes k.long [] built built) (sym none) (kept_none a.geometry.blocks built);
-        count = sym (ap (λ (k : Committing D). k.count) none);
+        kept_back = subst (λ (b : KeptBack). AreKeptBack a.geometry.blocks b.bytes b.long [] built built) (sym none) (kept_none a.geometry.blocks built);
+        count = sym (ap (λ (b : KeptBack). b.count) none);
         here = still_here w full whole a j new.journal len images.areas next one built (durable a.opening (a.told ++ own)) stored_here;
         holds = λ c now. from_content w full whole a j new.journal len images.areas next one built (durable a.opening (a.told ++ own)) stored_here (w.moment new.journal.disk) c now (is.durable c now).bytes;
         one_of = λ c now. inl (same_records w full whole a j new.journal len images.areas c next (is.durable c now).stored ∙ ap (λ (s : Stored). Some s) (sym is.records));
@@ -142,15 +142,15 @@ module _ {D : Type 0} (w : DiskWords D) (full : IsFull w) (whole : IsWhole w) (f
         }
 
     -- After a disk fault they are as before, and what was to be stored may be in doubt.
-    pub record_stopped : new ≡ record old { journal = new.journal } → AreImages w (doubting a own) new
+    pub record_stopped : new.back ≡ old.back → AreImages w (doubting a own) new
     record_stopped same = record {
       acked = images.acked;
       later = images.later;
       split = images.split;
       areas = areas ∙ images.areas;
       reads = subst (λ (s : Stored). IsReadAs a.geometry s a.recorded) (sym torn.records) images.reads;
-      kept_back = subst (λ (k : Committing D). AreKeptBack a.geometry.blocks k.bytes k.long images.later a.recorded a.rows) (sym same) images.kept_back;
-      count = images.count ∙ sym (ap (λ (k : Committing D). k.count) same);
+      kept_back = subst (λ (b : KeptBack). AreKeptBack a.geometry.blocks b.bytes b.long images.later a.recorded a.rows) (sym same) images.kept_back;
+      count = images.count ∙ sym (ap (λ (b : KeptBack). b.count) same);
       here = still_here w full whole a j new.journal len images.areas next torn.written a.recorded (durable a.opening images.acked) images.here;
       holds = still_held w full whole a j new.journal len images.areas next torn.written falls a.recorded (durable a.opening images.acked) images.holds images.here;
       one_of = torn_one_of new.journal.in_doubt refl;

@@ -1,13 +1,23 @@
 -- What the calls that write a record leave of the journal and of what is kept back. This project's own.
-use Rattle.std.specs.Prelude.{◌≡◌, ℕ, ◌≤◌, true, false, List, [], Some}
+use Rattle.std.specs.Prelude.{◌≡◌, ℕ, ◌≤◌, true, false, List, [], ◌∷◌, Some}
 use Rattle.opfs_commit.specs.Images.{MayBe}
-use Rattle.opfs_commit.specs.Seen.{Committing, with_none}
+use Rattle.opfs_commit.specs.Seen.{Committing, emptied}
+use Rattle.opfs_codec.specs.Spelling.{IsChange}
+use Rattle.opfs_codec.specs.declared.change.Change.{Change}
+use Rattle.opfs_codec.specs.declared.change.Format.TheVariants.{New}
+use Rattle.opfs_image.specs.Agreeing.{built_in}
 use Rattle.opfs_journal.specs.Clauses.{Outside, After, OneOf}
 use Rattle.opfs_journal.specs.Format.{Stored, records_of}
-use Rattle.opfs_journal.specs.Seen.{Seen, Stays, kept}
+use Rattle.opfs_journal.specs.Seen.{Seen, Stays, kept, one_record}
 use Rattle.opfs_outside.specs.Bytes.{Same}
 use Rattle.opfs_outside.specs.Moments.{Elapses}
 use Rattle.opfs_outside.specs.declared.disk.Disk.{Ghosts as DiskWords}
+use Rattle.opfs_replay.specs.Applying.{tried, rows_of}
+use Rattle.opfs_replay.specs.Built.{Built, IsSound}
+use Rattle.opfs_replay.specs.Sums.{charge_of, persistent_in}
+use Rattle.opfs_shed.specs.Buckets.{Storage}
+use Rattle.opfs_snapshot.specs.Written.{AreWritable, stored_rows}
+use Rattle.opfs_tree.specs.Rows.{Rows}
 
 -- Each image since the start has the records of before, or these in their place over the bytes of the content.
 pub record IsOneOf {D : Type 0} (w : DiskWords D) (next : Stored) (old new : Seen D) : Type 0 where
@@ -47,12 +57,12 @@ pub record IsStopped {D : Type 0} (w : DiskWords D) (next : Stored) (old new : S
 -- The records were written, with all that was kept back.
 pub record IsCommitted {D : Type 0} (w : DiskWords D) (next : Stored) (old new : Committing D) : Type 0 where
   pub journal : IsStored w next old.journal new.journal
-  pub none : new ≡ with_none old new.journal
+  pub none : new.back ≡ emptied old.back
 
 -- The disk failed in that, and what was kept back still is.
 pub record IsHalted {D : Type 0} (w : DiskWords D) (next : Stored) (old new : Committing D) : Type 0 where
   pub journal : IsStopped w next old.journal new.journal
-  pub same : new ≡ record old { journal = new.journal }
+  pub same : new.back ≡ old.back
 
 -- What a call that ends a doubt leaves where there was one: each image since the start has the records of before over the
 -- bytes of an image of then, or those in doubt over the bytes of the content.
@@ -82,3 +92,42 @@ pub record IsUnsettled {D : Type 0} (w : DiskWords D) (old new : Seen D) : Type 
   pub told : w.tells → IsShut w old new
   pub doubt : w.tells → new.doubt ≡ old.doubt
   pub behind : w.tells → (c : List ℕ) → MayBe w new c → Same (Outside old.areas) c (w.content new.disk)
+
+-- A record that a body of this kind makes alone was written in the place of all.
+pub record IsReplaced {D : Type 0} (w : DiskWords D) (Kind : List ℕ → Type 0) (old new : Committing D) : Type 0 where
+  pub body : List ℕ
+  pub kind : Kind body
+  pub committed : IsCommitted w (one_record old.journal.format body) old new
+
+-- The disk failed in that.
+pub record IsNotReplaced {D : Type 0} (w : DiskWords D) (Kind : List ℕ → Type 0) (old new : Committing D) : Type 0 where
+  pub body : List ℕ
+  pub kind : Kind body
+  pub halted : IsHalted w (one_record old.journal.format body) old new
+
+-- A body builds from nothing what a change makes of these rows as they are stored and of these persistent units.
+abbrev pub BuildsAfter : Built → Change → List ℕ → Type 0
+BuildsAfter b own body = (size : ℕ) (next : Built) → IsSound size b.rows → tried New size b own ≡ Some next → rows_of New size (body ∷ []) ≡ Some next
+
+-- A body builds these rows from nothing, and these persistent units.
+abbrev pub BuildsAll : Built → List ℕ → Type 0
+BuildsAll b body = (size : ℕ) → IsSound size b.rows → rows_of New size (body ∷ []) ≡ Some b
+
+-- A tree's rows as they are stored, and the persistent units of a shed.
+abbrev pub stored_in : Rows → Storage → Built
+stored_in rows shed = built_in (stored_rows rows) shed
+
+-- Rows and units whose snapshot after a change has room: they have spellings that are read, and so has the change; and the
+-- charge of what is built fits so many bytes.
+pub record HasRoomAfter (size most : ℕ) (rows : Rows) (shed : Storage) (own : Change) : Type 0 where
+  pub next : Built
+  pub sound : IsSound size (stored_rows rows)
+  pub found : tried New size (stored_in rows shed) own ≡ Some next
+  pub writable : AreWritable rows (persistent_in shed.buckets)
+  pub again : IsChange New own
+  pub fits : charge_of New next ≤ most
+
+pub record HasRoomFor (size most : ℕ) (rows : Rows) (shed : Storage) : Type 0 where
+  pub sound : IsSound size (stored_rows rows)
+  pub writable : AreWritable rows (persistent_in shed.buckets)
+  pub fits : charge_of New (stored_in rows shed) ≤ most

@@ -42,8 +42,8 @@ pub record AreImages {D : Type 0} (w : DiskWords D) (a : Account) (k : Committin
   pub split : acked ++ later ≡ a.told
   pub areas : k.journal.areas ≡ areas_of a.geometry
   pub reads : IsReadAs a.geometry (kept k.journal) a.recorded
-  pub kept_back : AreKeptBack a.geometry.blocks k.bytes k.long later a.recorded a.rows
-  pub count : length later ≡ k.count
+  pub kept_back : AreKeptBack a.geometry.blocks k.back.bytes k.back.long later a.recorded a.rows
+  pub count : length later ≡ k.back.count
   pub here : Holds a.geometry a.recorded (durable a.opening acked) (w.content k.journal.disk)
   pub holds : (c : List ℕ) → MayBe w k.journal c → Holds a.geometry a.recorded (durable a.opening acked) c
   pub one_of : (c : List ℕ) → MayBe w k.journal c
@@ -62,6 +62,6 @@ doubting a own = record a { doubted = own }
 abbrev pub keeping : Account → Change → Built → Account
 keeping a change built = record a { told = a.told ++ change ∷ []; rows = built }
 
--- No gate is in doubt any more.
+-- Nothing is in doubt.
 abbrev pub sure : Account → Account
-sure a = record a { doubted = [] }
+sure a = doubting a []

@@ -1,5 +1,5 @@
 -- The changes that are kept back. This project's own.
-use Rattle.std.specs.Prelude.{◌≡◌, ℕ, Bool, false, List, [], ◌∷◌, fold, length}
+use Rattle.std.specs.Prelude.{◌≡◌, ℕ, Bool, false, List, fold}
 use Rattle.std.specs.List.{AllByRecursion}
 use Rattle.opfs_image.specs.Filling.{filled}
 use Rattle.opfs_machine.specs.Changes.{Change, changed, is_content}

@@ -1,6 +1,8 @@
 pub mod Calls
 pub mod Images
 pub mod Keeping
+pub mod Laws
 pub mod Making
 pub mod Seen
 pub mod Shown
+pub mod Trail

@@ -1,5 +1,5 @@
 -- What an image of the disk shows of the changes that were told. This project's own.
-use Rattle.std.specs.Prelude.{◌≡◌, ℕ, ◌+◌, ◌≤◌, List, ◌++◌, length, Some, Ok}
+use Rattle.std.specs.Prelude.{◌≡◌, ℕ, ◌+◌, ◌≤◌, ◌⊎◌, List, ◌++◌, length, Some, Ok}
 use Rattle.opfs_codec.specs.declared.change.Format.TheVariants.{New}
 use Rattle.opfs_image.specs.Filling.{Stands, filled}
 use Rattle.opfs_image.specs.Superblock.{area_bytes, data_base, geometry_of}
@@ -34,3 +34,7 @@ pub record Holds (g : Geometry) (b : Built) (m : Map) (c : List ℕ) : Type 0 wh
 -- Each image that a crash may have left since a disk was so shows a front of these changes.
 abbrev pub ShowsSince : {D : Type 0} → DiskWords D → Opening → ℕ → List Change → D → D → Type 0
 ShowsSince w o least all old new = (c : List ℕ) → w.since new (w.moment old) c → IsShown o least all c
+
+-- Each shows a front of these changes, or one of the others.
+abbrev pub ShowsEither : {D : Type 0} → DiskWords D → Opening → ℕ → List Change → List Change → D → D → Type 0
+ShowsEither w o least all others old new = (c : List ℕ) → w.since new (w.moment old) c → IsShown o least all c ⊎ IsShown o least others c

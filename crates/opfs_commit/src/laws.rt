@@ -1,87 +1,80 @@
 //! Laws of the images that a crash may leave while changes are committed.
 
-ghost use Rattle.std.specs.Prelude.{◌≡◌, ℕ, ◌+◌, ◌≤◌, ◌++◌, false, List, [], ◌∷◌, fold, Some};
-ghost use Rattle.opfs_codec.specs.Spelling.{spelling, IsChange};
-ghost use Rattle.opfs_codec.specs.declared.change.Change.{Change as Spelled};
-ghost use Rattle.opfs_codec.specs.declared.change.Format.TheVariants.{New};
-ghost use Rattle.opfs_commit.specs.Calls.{IsOneOf, IsCommitted, IsHalted, IsSettled, IsUnsettled};
-ghost use Rattle.opfs_commit.specs.Images.{Account, MayBe, AreImages, committed, doubting, keeping, sure};
-ghost use Rattle.opfs_commit.specs.Making.{IsToStore, IsKept};
-ghost use Rattle.opfs_commit.specs.Seen.{Committing, with_kept};
-ghost use Rattle.opfs_commit.specs.Shown.{IsShown, ShowsSince};
-ghost use Rattle.opfs_image.specs.Agreeing.{IsJournalOf, IsImageOf};
-ghost use Rattle.opfs_image.specs.Filling.{Stands, filled};
-ghost use Rattle.opfs_image.specs.Superblock.{area_bytes, areas_of, data_base};
-ghost use Rattle.opfs_image.specs.declared.geometry.Geometry.{Geometry};
-ghost use Rattle.opfs_journal.specs.Format.{Stored, records_of};
-ghost use Rattle.opfs_journal.specs.Seen.{Seen, Stays, kept, with_record, one_record};
-ghost use Rattle.opfs_machine.specs.Changes.{Change, changed, durable, floor};
-ghost use Rattle.opfs_machine.specs.Openings.{Opening};
-ghost use Rattle.opfs_replay.specs.Applying.{tried, rows_of};
-ghost use Rattle.opfs_replay.specs.Built.{Built};
-ghost use Rattle.opfs_replay.specs.Sums.{charge_of};
+ghost use Rattle.opfs_commit.specs.Laws.{ImagesShowFronts, RecordsAreDurable, RecordsMayBeInDoubt, RecordsShowFronts, DoubtsEnd, DoubtsMayStay, DoubtsNeedAGate, EndsShowFronts, FailedEndsShowFronts};
+ghost use Rattle.opfs_commit.specs.Laws.{ChangesAreKeptBack, OwnIsToStore, KeptIsToStore, WholeIsToStore, RunsBeginWithTheirImage, RowsHoldWhatWasTold, ContentsStand};
+ghost use Rattle.opfs_commit.specs.Laws.{ReadsLeaveImages, ReadsShowFronts, PagesBesideLeaveImages, PagesBesideShowFronts, MomentsFollow, MomentsFollowADoubt, MomentsGoOn, TrailsBegin, TrailsGoOn, TrailsGrowKept, TrailsGrowCommitted, ChangesGoThroughFilling, QuietChangesMayBeKept};
 
 use opfs_outside::Disk;
 
-/// Each image that a crash may leave now shows a front of what was told, with what is in doubt, at least up to the last
-/// content.
+/// What the images show now.
 pub fn an_image_shows_a_front<D: Disk>()
-    ensures { (a : Account) (k : Committing D) → AreImages D.Disk a k → (c : List ℕ) → MayBe D.Disk k.journal c → IsShown a.opening (floor a.told) (a.told ++ a.doubted) c }
-{}
-
-/// What a record that was written leaves of the images.
-pub fn a_record_is_durable<D: Disk>()
-    ensures { D.tells → (a : Account) (own : List Change) (next : Stored) (built : Built) (old new : Committing D) → AreImages D.Disk a old → IsToStore D.Disk a own next built old.journal → old.journal.in_doubt ≡ false → IsCommitted D.Disk next old new → AreImages D.Disk (committed a own built) new }
-{}
-
-/// What a record leaves of the images where the disk failed.
-pub fn a_record_may_be_in_doubt<D: Disk>()
-    ensures { D.tells → (a : Account) (own : List Change) (next : Stored) (built : Built) (old new : Committing D) → AreImages D.Disk a old → IsToStore D.Disk a own next built old.journal → old.journal.in_doubt ≡ false → IsHalted D.Disk next old new → AreImages D.Disk (doubting a own) new }
-{}
-
-/// At each moment of a call that writes a record, an image shows a front of what was told, with what is stored, at least
-/// up to the last content that was told.
-pub fn a_record_shows_a_front<D: Disk>()
-    ensures { D.tells → (a : Account) (own : List Change) (next : Stored) (built : Built) (old new : Committing D) → AreImages D.Disk a old → IsToStore D.Disk a own next built old.journal → old.journal.in_doubt ≡ false → Stays D.size old.journal new.journal → IsOneOf D.Disk next old.journal new.journal → ShowsSince D.Disk a.opening (floor a.told) (a.told ++ own) old.journal.disk new.journal.disk }
-{}
-
-/// What the end of a doubt leaves of the images.
-pub fn a_doubt_ends<D: Disk>()
-    ensures { D.tells → (a : Account) (old new : Committing D) → AreImages D.Disk a old → IsSettled D.Disk old.journal new.journal → new ≡ record old { journal = new.journal } → AreImages D.Disk (sure a) new }
-{}
-
-/// What it leaves of them where the disk failed.
-pub fn a_doubt_stays<D: Disk>()
-    ensures { D.tells → (a : Account) (old new : Committing D) → AreImages D.Disk a old → IsUnsettled D.Disk old.journal new.journal → new ≡ record old { journal = new.journal } → AreImages D.Disk a new }
-{}
-
-/// At each moment of the end of a doubt, an image shows a front of what was told, with what was in doubt.
-pub fn an_end_of_a_doubt_shows_a_front<D: Disk>()
-    ensures settled { D.tells → (a : Account) (old new : Committing D) → AreImages D.Disk a old → IsSettled D.Disk old.journal new.journal → ShowsSince D.Disk a.opening (floor a.told) (a.told ++ a.doubted) old.journal.disk new.journal.disk }
-    ensures unsettled { D.tells → (a : Account) (old new : Committing D) → AreImages D.Disk a old → IsUnsettled D.Disk old.journal new.journal → ShowsSince D.Disk a.opening (floor a.told) (a.told ++ a.doubted) old.journal.disk new.journal.disk }
-{}
-
-/// What one change more that is kept back leaves of the images.
-pub fn a_change_is_kept_back<D: Disk>()
-    ensures { (a : Account) (k : Committing D) (spelled : Spelled) (change : Change) (built : Built) → AreImages D.Disk a k → k.journal.in_doubt ≡ false → IsKept a spelled change built → AreImages D.Disk (keeping a change built) (with_kept k spelled) }
-{}
-
-/// What records that are to be written make of the map: one of what is kept back with one change more, one of what is kept
-/// back alone, and one that builds all from nothing.
-pub fn a_record_is_to_be_stored<D: Disk>()
-    ensures with_own { (a : Account) (k : Committing D) (spelled : Spelled) (change : Change) (built : Built) → AreImages D.Disk a k → k.journal.in_doubt ≡ false → k.long ≡ false → IsChange New spelled → tried New a.geometry.blocks a.rows spelled ≡ Some built → charge_of New built + 7 ≤ area_bytes a.geometry → filled (data_base a.geometry) (D.content k.journal.disk) built ≡ changed (filled (data_base a.geometry) (D.content k.journal.disk) a.rows) change → IsToStore D.Disk a (change ∷ []) (with_record (kept k.journal) (k.bytes ++ spelling New spelled)) built k.journal }
-    ensures kept_back { (a : Account) (k : Committing D) → AreImages D.Disk a k → k.journal.in_doubt ≡ false → k.long ≡ false → charge_of New a.rows + 7 ≤ area_bytes a.geometry → IsToStore D.Disk a [] (with_record (kept k.journal) k.bytes) a.rows k.journal }
-    ensures from_nothing { (a : Account) (k : Committing D) (own : List Change) (body : List ℕ) (built : Built) → AreImages D.Disk a k → k.journal.in_doubt ≡ false → rows_of New a.geometry.blocks (body ∷ []) ≡ Some built → charge_of New built + 7 ≤ area_bytes a.geometry → filled (data_base a.geometry) (D.content k.journal.disk) built ≡ fold changed (filled (data_base a.geometry) (D.content k.journal.disk) a.rows) own → IsToStore D.Disk a own (one_record k.journal.format body) built k.journal }
+    ensures { D.tells → ImagesShowFronts D.Disk }
 {}
 
 /// How a run begins with an image that was recovered, whatever room was made.
 pub fn a_run_begins_with_its_image<D: Disk>()
-    ensures { (o : Opening) (g : Geometry) (built : Built) (journal : Seen D) (k : Committing D) → IsJournalOf D.size g journal → IsImageOf D.content D.moment D.since g built journal → o.stored ≡ filled (data_base g) (D.content journal.disk) built → k.journal ≡ record journal { spare = k.journal.spare } → k.bytes ≡ [] → k.count ≡ 0 → k.long ≡ false → AreImages D.Disk (record { opening = o; geometry = g; told = []; doubted = []; recorded = built; rows = built }) k }
+    ensures { D.tells → RunsBeginWithTheirImage D.Disk }
 {}
 
-/// The present rows hold, in the content, all that was told. With nothing kept back, a content that has the journal's
-/// records stands for it.
+/// What records that are written leave of the images, and what these show at each moment.
+pub fn records_are_written<D: Disk>()
+    ensures durable { D.tells → RecordsAreDurable D.Disk }
+    ensures in_doubt { D.tells → RecordsMayBeInDoubt D.Disk }
+    ensures shown { D.tells → RecordsShowFronts D.Disk }
+{}
+
+/// What the end of a doubt leaves of the images, and what these show at each moment.
+pub fn a_doubt_ends<D: Disk>()
+    ensures ends { D.tells → DoubtsEnd D.Disk }
+    ensures stays { D.tells → DoubtsMayStay D.Disk }
+    ensures none { D.tells → DoubtsNeedAGate D.Disk }
+    ensures shown { D.tells → EndsShowFronts D.Disk }
+    ensures shown_still { D.tells → FailedEndsShowFronts D.Disk }
+{}
+
+/// What one change more that is kept back leaves of the images.
+pub fn a_change_is_kept_back<D: Disk>()
+    ensures { D.tells → ChangesAreKeptBack D.Disk }
+{}
+
+/// Which records are to be stored.
+pub fn records_are_to_be_stored<D: Disk>()
+    ensures with_own { D.tells → OwnIsToStore D.Disk }
+    ensures kept_back { D.tells → KeptIsToStore D.Disk }
+    ensures from_nothing { D.tells → WholeIsToStore D.Disk }
+{}
+
+/// What the present rows hold, and what a content with the journal's records stands for.
 pub fn the_rows_hold_what_was_told<D: Disk>()
-    ensures rows { (a : Account) (k : Committing D) → AreImages D.Disk a k → filled (data_base a.geometry) (D.content k.journal.disk) a.rows ≡ durable a.opening a.told }
-    ensures finished { (a : Account) (k : Committing D) → AreImages D.Disk a k → k.count ≡ 0 → records_of (areas_of a.geometry) (D.content k.journal.disk) ≡ Some (kept k.journal) → Stands (D.content k.journal.disk) (durable a.opening a.told) }
+    ensures rows { D.tells → RowsHoldWhatWasTold D.Disk }
+    ensures finished { D.tells → ContentsStand D.Disk }
+{}
+
+/// What other calls leave of the images, and what these show at each moment.
+pub fn other_calls_leave_the_images<D: Disk>()
+    ensures reads { D.tells → ReadsLeaveImages D.Disk }
+    ensures shown { D.tells → ReadsShowFronts D.Disk }
+    ensures pages { D.tells → PagesBesideLeaveImages D.Disk }
+    ensures shown_beside { D.tells → PagesBesideShowFronts D.Disk }
+{}
+
+/// What is shown in several calls, one after the other.
+pub fn moments_follow_each_other<D: Disk>()
+    ensures both { D.tells → MomentsFollow D.Disk }
+    ensures behind_a_doubt { D.tells → MomentsFollowADoubt D.Disk }
+    ensures go_on { D.tells → MomentsGoOn D.Disk }
+{}
+
+/// How the trail of a run grows.
+pub fn a_trail_grows<D: Disk>()
+    ensures begins { D.tells → TrailsBegin D.Disk }
+    ensures goes_on { D.tells → TrailsGoOn D.Disk }
+    ensures kept { D.tells → TrailsGrowKept D.Disk }
+    ensures committed { D.tells → TrailsGrowCommitted D.Disk }
+{}
+
+/// What changes make of what rows hold.
+pub fn changes_go_through_filling()
+    ensures filled { ChangesGoThroughFilling }
+    ensures kept { QuietChangesMayBeKept }
 {}

@@ -1,11 +1,15 @@
 //! Changes that are committed to a journal.
 #![tactic(auto)]
 
+mod commits;
 mod laws;
+mod records;
 
+pub use commits::Commits;
 pub use laws::{
-    a_change_is_kept_back, a_doubt_ends, a_doubt_stays, a_record_is_durable,
-    a_record_is_to_be_stored, a_record_may_be_in_doubt, a_record_shows_a_front,
-    a_run_begins_with_its_image, an_end_of_a_doubt_shows_a_front, an_image_shows_a_front,
+    a_change_is_kept_back, a_doubt_ends, a_run_begins_with_its_image, a_trail_grows,
+    an_image_shows_a_front, changes_go_through_filling, moments_follow_each_other,
+    other_calls_leave_the_images, records_are_to_be_stored, records_are_written,
     the_rows_hold_what_was_told,
 };
+pub use records::settle;

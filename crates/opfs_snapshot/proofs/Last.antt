@@ -75,7 +75,7 @@ module _ (place : Place) (r : Row) where
 
 -- ---- a place before the next row's
 
-none_below : (q p : Place) (es : Rows) → place_cmp q p ≡ Less → below_all place_cmp p es ≡ true → row_at q es ≡ None
+pub none_below : (q p : Place) (es : Rows) → place_cmp q p ≡ Less → below_all place_cmp p es ≡ true → row_at q es ≡ None
 none_below q p [] less h = refl
 none_below q p (e ∷ es) less h =
     let parts = and_parts (is_lt (place_cmp p e.0)) (below_all place_cmp p es) h in
