@@ -26,7 +26,7 @@ fn print_list<D: Disk>(alloc: Global, image: &Recovered<D>) -> Result<Vec<u8>, A
 // The digests of an image.
 fn print_check<D: Disk>(alloc: Global, image: &mut Recovered<D>) -> Result<Vec<u8>, DataRefusal>
     ensures text { IfOk result (λ text. D.tells → IsTold ReadTool.Check (D.content image.old.journal.disk) text.items) }
-    ensures only { OnlyRead D.tells D.size D.content D.moment D.since D.faults image.old.journal.disk image.new.journal.disk }
+    ensures only { OnlyRead D.Disk image.old.journal.disk image.new.journal.disk }
     ensures cause { IfErr result (λ e. e ≡ DataRefusal.DiskFault → Rose (D.faults image.old.journal.disk) (D.faults image.new.journal.disk)) }
 {
     let mut text = Vec::new(alloc);
@@ -41,7 +41,7 @@ fn print<D: Disk>(
     tool: ReadTool,
 ) -> Result<Vec<u8>, DataRefusal>
     ensures text { IfOk result (λ text. D.tells → IsTold tool (D.content image.old.journal.disk) text.items) }
-    ensures only { OnlyRead D.tells D.size D.content D.moment D.since D.faults image.old.journal.disk image.new.journal.disk }
+    ensures only { OnlyRead D.Disk image.old.journal.disk image.new.journal.disk }
     ensures cause { IfErr result (λ e. e ≡ DataRefusal.DiskFault → Rose (D.faults image.old.journal.disk) (D.faults image.new.journal.disk)) }
 {
     match tool {
@@ -59,7 +59,7 @@ fn tell<D: Disk>(
     image: Recovered<D>,
     tool: ReadTool,
 ) -> (D, Result<ToolAnswer, AllocError>)
-    ensures only { OnlyRead D.tells D.size D.content D.moment D.since D.faults image.journal.disk result.0 }
+    ensures only { OnlyRead D.Disk image.journal.disk result.0 }
     ensures answer { IfOk result.1 (λ answer. IsAnswer D.tells (IsTold tool (D.content image.journal.disk)) (λ text. ⊥) (Rose (D.faults image.journal.disk) (D.faults result.0)) answer.end answer.text) }
 {
     let mut image = image;
@@ -85,7 +85,7 @@ pub fn read_disk<D: Disk>(
     disk: D,
     tool: ReadTool,
 ) -> (D, Result<ToolAnswer, AllocError>)
-    ensures only { OnlyRead D.tells D.size D.content D.moment D.since D.faults disk result.0 }
+    ensures only { OnlyRead D.Disk disk result.0 }
     ensures answer { IfOk result.1 (λ answer. IsAnswer D.tells (IsTold tool (D.content disk)) (IsImageLine (read_as New New (D.content disk))) (Rose (D.faults disk) (D.faults result.0)) answer.end answer.text) }
 {
     match recover(alloc, disk) {

@@ -65,7 +65,7 @@ fn migrated(alloc: Global, files: u64) -> Result<ToolAnswer, AllocError>
 /// Brings the image on a disk from format 1 into format 2. Where it is refused the disk is only read.
 pub fn migrate_disk<D: Disk>(alloc: Global, disk: D) -> (D, Result<ToolAnswer, AllocError>)
     ensures answer { IfOk result.1 (λ answer. IsAnswer D.tells (IsMigratedText (D.content disk) (D.content result.0)) (IsNotMigrated (D.content disk)) (Rose (D.faults disk) (D.faults result.0)) answer.end answer.text) }
-    ensures refused { IfOk result.1 (λ answer. answer.end ≡ ToolEnd.Image → OnlyRead D.tells D.size D.content D.moment D.since D.faults disk result.0) }
+    ensures refused { IfOk result.1 (λ answer. answer.end ≡ ToolEnd.Image → OnlyRead D.Disk disk result.0) }
     ensures moments { D.tells → (m : Map) → StandsOld (D.content disk) m → (c : List ℕ) → D.since result.0 (D.moment disk) c → D.since disk (D.moment disk) c ⊎ StandsEither m c }
 {
     match migrate(alloc, disk) {

@@ -3,6 +3,7 @@ use Rattle.std.specs.Prelude.{◌≡◌, ℕ, ◌≤◌, List}
 use Rattle.opfs_base.specs.declared.extents.Extent.{Extent}
 use Rattle.opfs_outside.specs.Bytes.{Same}
 use Rattle.opfs_outside.specs.Moments.{Elapses}
+use Rattle.opfs_outside.specs.declared.disk.Disk.{Ghosts as DiskWords}
 use Rattle.opfs_journal.specs.Clauses.{Outside, Before}
 use Rattle.opfs_journal.specs.Format.{records_of}
 use Rattle.opfs_journal.specs.Seen.{Seen, Stays, kept}
@@ -14,36 +15,36 @@ abbrev pub OutsideRuns : Areas → ℕ → List Extent → ℕ → Type 0
 OutsideRuns a base extents i = Outside a i × Aside base extents i
 
 -- the disk has the same content, and no image that it could not have had before
-pub record IsRead {D : Type 0} (content : D → List ℕ) (moment : D → ℕ) (since : D → ℕ → List ℕ → Type 0) (old new : Seen D) : Type 0 where
+pub record IsRead {D : Type 0} (w : DiskWords D) (old new : Seen D) : Type 0 where
   pub records : new.records ≡ old.records
   pub doubt : new.doubt ≡ old.doubt
-  pub same : content new.disk ≡ content old.disk
-  pub time : Elapses moment since old.disk new.disk
-  pub moments : (c : List ℕ) → since new.disk (moment old.disk) c → since old.disk (moment old.disk) c
+  pub same : w.content new.disk ≡ w.content old.disk
+  pub time : Elapses w.moment w.since old.disk new.disk
+  pub moments : (c : List ℕ) → w.since new.disk (w.moment old.disk) c → w.since old.disk (w.moment old.disk) c
 
 -- the journal is as it was
-pub record Reads {D : Type 0} (tells : Type 0) (size : D → ℕ) (content : D → List ℕ) (moment : D → ℕ) (since : D → ℕ → List ℕ → Type 0) (faults : D → ℕ) (old new : Seen D) : Type 0 where
-  pub stays : Stays size old new
+pub record Reads {D : Type 0} (w : DiskWords D) (old new : Seen D) : Type 0 where
+  pub stays : Stays w.size old new
   pub tail : new.tail ≡ old.tail
   pub format : new.format ≡ old.format
   pub in_doubt : new.in_doubt ≡ old.in_doubt
-  pub later : faults old.disk ≤ faults new.disk
-  pub told : tells → IsRead content moment since old new
+  pub later : w.faults old.disk ≤ w.faults new.disk
+  pub told : w.tells → IsRead w old new
 
 -- The content outside of the runs stays. Each image since the start has the journal's records, and outside of the areas and
 -- the runs the bytes of an image at the start.
-pub record IsWritten {D : Type 0} (content : D → List ℕ) (moment : D → ℕ) (since : D → ℕ → List ℕ → Type 0) (base : ℕ) (extents : List Extent) (old new : Seen D) : Type 0 where
+pub record IsWritten {D : Type 0} (w : DiskWords D) (base : ℕ) (extents : List Extent) (old new : Seen D) : Type 0 where
   pub records : new.records ≡ old.records
-  pub elsewhere : Same (Aside base extents) (content new.disk) (content old.disk)
-  pub time : Elapses moment since old.disk new.disk
-  pub moments : (c : List ℕ) → since new.disk (moment old.disk) c
-      → Before (records_of old.areas) (kept old) (since old.disk (moment old.disk)) (OutsideRuns old.areas base extents) c
+  pub elsewhere : Same (Aside base extents) (w.content new.disk) (w.content old.disk)
+  pub time : Elapses w.moment w.since old.disk new.disk
+  pub moments : (c : List ℕ) → w.since new.disk (w.moment old.disk) c
+      → Before (records_of old.areas) (kept old) (w.since old.disk (w.moment old.disk)) (OutsideRuns old.areas base extents) c
 
 -- the journal is as it was but for bytes of the runs
-pub record Writes {D : Type 0} (tells : Type 0) (size : D → ℕ) (content : D → List ℕ) (moment : D → ℕ) (since : D → ℕ → List ℕ → Type 0) (faults : D → ℕ) (base : ℕ) (extents : List Extent) (old new : Seen D) : Type 0 where
-  pub stays : Stays size old new
+pub record Writes {D : Type 0} (w : DiskWords D) (base : ℕ) (extents : List Extent) (old new : Seen D) : Type 0 where
+  pub stays : Stays w.size old new
   pub tail : new.tail ≡ old.tail
   pub format : new.format ≡ old.format
   pub in_doubt : new.in_doubt ≡ old.in_doubt
-  pub later : faults old.disk ≤ faults new.disk
-  pub told : tells → IsWritten content moment since base extents old new
+  pub later : w.faults old.disk ≤ w.faults new.disk
+  pub told : w.tells → IsWritten w base extents old new

@@ -1,4 +1,5 @@
-// Pages of working copies, each in a block.
+//! Pages of working copies, each in a block.
+
 ghost use Rattle.std.specs.Prelude.{◌≡◌, length, IfOk};
 
 use opfs_base::Bytes;

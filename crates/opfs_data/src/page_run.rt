@@ -1,11 +1,10 @@
-// Runs of pages that are to be written.
+//! Runs of pages that are to be written.
+
 ghost use Rattle.std.specs.Prelude.{◌≡◌, ◌+◌, ◌-◌, ◌*◌, ◌^◌, ◌<◌, ◌≤◌, length, take, drop};
 ghost use Rattle.opfs_data.specs.Writes.{IsRun, IsWithin, source_bytes};
 
+use opfs_base::BLOCK_SIZE;
 use std::marker::Model;
-
-// The bytes of a page.
-const PAGE: u64 = 4096;
 
 /// What the bytes of a run are taken from.
 #[derive(Debug, Clone, Copy, PartialEq, Drop)]
@@ -87,7 +86,7 @@ impl PageRun {
             Source::Own => own,
         };
         let from = self.from as usize;
-        &source[from..from + (u64::from(self.count) * PAGE) as usize]
+        &source[from..from + (u64::from(self.count) * BLOCK_SIZE) as usize]
     }
 
     /// So many pages of the run from one on, with another first block.
@@ -101,7 +100,7 @@ impl PageRun {
             page: self.page + u64::from(done),
             count,
             block,
-            from: self.from + u64::from(done) * PAGE,
+            from: self.from + u64::from(done) * BLOCK_SIZE,
             source: self.source,
         }
     }

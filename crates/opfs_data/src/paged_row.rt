@@ -111,7 +111,7 @@ impl PagedRow {
         requires whole { length into.old ≡ 4096 }
         requires lies { LiesIn base (D.size journal.old.disk) (slice_index_or self.now.pages page blank).block }
         requires part { IsDataPart journal.old.areas base }
-        ensures reads { Reads D.tells D.size D.content D.moment D.since D.faults journal.old journal.new }
+        ensures reads { Reads D.Disk journal.old journal.new }
         ensures read { OnOk result (D.tells → into.new ≡ page_of (D.content journal.old.disk) base (slice_index_or self.now.pages page blank)) }
         ensures cause { OnErr result (Rose (D.faults journal.old.disk) (D.faults journal.new.disk)) }
     {
@@ -135,7 +135,7 @@ impl PagedRow {
         ensures room { OnOk result (pages ≤ self.new.room) }
         ensures saved { OnOk result (MatchOption self.new.saved ⊥ (λ saved. (given : List ℕ) → AreSaved saved self.new.pages (page_writes writes.now given))) }
         ensures now { OnOk result (D.tells → MatchOption self.new.saved ⊥ (λ saved. AreNow (D.content journal.new.disk) base self.new.pages saved)) }
-        ensures reads { Reads D.tells D.size D.content D.moment D.since D.faults journal.old journal.new }
+        ensures reads { Reads D.Disk journal.old journal.new }
         ensures cause { IsErrOf result DataRefusal.DiskFault → Rose (D.faults journal.old.disk) (D.faults journal.new.disk) }
     {
         let missing = (pages as usize).saturating_sub(self.pages.len());
@@ -180,7 +180,7 @@ impl PagedRow {
         ensures newly { OnErr result ((j : ℕ) → (HasAgain self.old.pages (page_writes writes.now given.now) j → ⊥)
             → slice_index_or self.new.pages j blank ≡ slice_index_or self.old.pages j blank) }
         ensures apart { D.tells → (page : Page) → IsApart page (page_writes writes.now given.now) → page_of (D.content journal.new.disk) base page ≡ page_of (D.content journal.old.disk) base page }
-        ensures writes { Writes D.tells D.size D.content D.moment D.since D.faults base (runs_of (page_writes writes.now given.now)) journal.old journal.new }
+        ensures writes { Writes D.Disk base (runs_of (page_writes writes.now given.now)) journal.old journal.new }
         ensures cause { OnErr result (Rose (D.faults journal.old.disk) (D.faults journal.new.disk)) }
     {
         let Some(saved) = self.saved.take() else {

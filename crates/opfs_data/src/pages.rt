@@ -1,4 +1,5 @@
-// Pages read from their blocks, and written into them.
+//! Pages read from their blocks, and written into them.
+
 ghost use Rattle.std.specs.Prelude.{◌≡◌, ◌+◌, ◌*◌, ◌^◌, ◌<◌, ◌≤◌, ℕ, List, Some, None, false, length, slice_index_or, OnOk, OnErr};
 ghost use Rattle.std.specs.List.{AllByRecursion};
 ghost use Rattle.opfs_outside.specs.Faults.{Rose};
@@ -9,18 +10,16 @@ ghost use Rattle.opfs_data.specs.Pages.{block_bytes, page_of, runs_of, AreOnce, 
 
 use crate::page::Page;
 use crate::page_run::PageRun;
+use opfs_base::BLOCK_SIZE;
 use opfs_journal::{DiskFault, Journal};
 use opfs_outside::Disk;
-
-// The bytes of a block.
-const BLOCK: u64 = 4096;
 
 // The byte where a block begins.
 fn place_of(base: u64, block: u32) -> u64
     requires { base < 2 ^ 63 }
     ensures { result ≡ base + 4096 * block }
 {
-    base + u64::from(block) * BLOCK
+    base + u64::from(block) * BLOCK_SIZE
 }
 
 /// Reads a page: the bytes that are kept of it, or those of its block, or zeros.
@@ -33,7 +32,7 @@ pub fn read_page<D: Disk>(
     requires whole { length into.old ≡ 4096 }
     requires lies { LiesIn base (D.size journal.old.disk) page.now.block }
     requires part { IsDataPart journal.old.areas base }
-    ensures reads { Reads D.tells D.size D.content D.moment D.since D.faults journal.old journal.new }
+    ensures reads { Reads D.Disk journal.old journal.new }
     ensures read { OnOk result (D.tells → into.new ≡ page_of (D.content journal.old.disk) base page.now) }
     ensures cause { OnErr result (Rose (D.faults journal.old.disk) (D.faults journal.new.disk)) }
 {
@@ -62,7 +61,7 @@ pub fn put_pages<D: Disk>(
     requires part { IsDataPart journal.old.areas base }
     requires once { AreOnce (writes_of own.now given.now runs.now) }
     requires within { AreWithin own.now given.now runs.now }
-    ensures writes { Writes D.tells D.size D.content D.moment D.since D.faults base (runs_of (writes_of own.now given.now runs.now)) journal.old journal.new }
+    ensures writes { Writes D.Disk base (runs_of (writes_of own.now given.now runs.now)) journal.old journal.new }
     ensures written { OnOk result (D.tells → AllByRecursion (λ w. block_bytes (D.content journal.new.disk) base w.block ≡ w.bytes) (writes_of own.now given.now runs.now)) }
     ensures cause { OnErr result (Rose (D.faults journal.old.disk) (D.faults journal.new.disk)) }
 {

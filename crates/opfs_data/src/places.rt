@@ -1,4 +1,5 @@
-// Pages that get their blocks, without memory.
+//! Pages that get their blocks, without memory.
+
 ghost use Rattle.std.specs.Prelude.{◌≡◌, ◌++◌, ◌+◌, ◌-◌, ◌*◌, ◌^◌, ◌<◌, ◌≤◌, ℕ, List, length, drop, min};
 ghost use Rattle.std.specs.List.{AllByRecursion, range_with_len};
 ghost use Rattle.std.specs.Vec.{vec_capacity};

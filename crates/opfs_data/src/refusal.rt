@@ -1,3 +1,5 @@
+//! What calls on bytes and pages answer besides Ok.
+
 ghost use Rattle.std.specs.Prelude.{◌≡◌};
 ghost use Rattle.opfs_data.specs.declared.refusal.DataRefusal.TheVariants.{DiskFault as Fault, NoMemory as NoRoomLeft};
 

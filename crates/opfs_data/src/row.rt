@@ -1,4 +1,5 @@
-// The pages of a row, saved and written.
+//! The pages of a row, saved and written.
+
 ghost use Rattle.std.specs.Prelude.{◌≡◌, ◌+◌, ◌*◌, ◌^◌, ◌<◌, ◌≤◌, ◌++◌, ◌∷◌, [], ℕ, List, false, length, slice_index_or, IfOk, OnOk, OnErr, IsErrOf};
 ghost use Rattle.std.specs.Bool.{OnTrue, OnFalse};
 ghost use Rattle.std.specs.List.{AllByRecursion};
@@ -40,7 +41,7 @@ pub fn write_row<D: Disk>(
     requires saved { AreSaved saved.items pages.old.items (page_writes writes.now given.now) }
     requires now { D.tells → AreNow (D.content journal.old.disk) base pages.old.items saved.items }
     requires own { AreOwn pages.old.items (page_writes writes.now given.now) }
-    ensures writes { Writes D.tells D.size D.content D.moment D.since D.faults base (runs_of (page_writes writes.now given.now)) journal.old journal.new }
+    ensures writes { Writes D.Disk base (runs_of (page_writes writes.now given.now)) journal.old journal.new }
     ensures written { OnOk result (pages.new.items ≡ with_writes (page_writes writes.now given.now) (resized count pages.old.items)) }
     ensures bytes { OnOk result (D.tells → AllByRecursion (λ w. block_bytes (D.content journal.new.disk) base w.block ≡ w.bytes) (page_writes writes.now given.now)) }
     ensures given { OnOk result (D.tells → AllByRecursion (λ w. page_of (D.content journal.new.disk) base (slice_index_or pages.new.items w.page blank) ≡ w.bytes) (page_writes writes.now given.now)) }
@@ -76,7 +77,7 @@ fn put_list<D: Disk>(
     requires part { IsDataPart journal.old.areas base }
     requires once { AreOnce (page_writes writes.now given.now) }
     requires within { AreWithin writes.now.own given.now writes.now.runs }
-    ensures writes { Writes D.tells D.size D.content D.moment D.since D.faults base (runs_of (page_writes writes.now given.now)) journal.old journal.new }
+    ensures writes { Writes D.Disk base (runs_of (page_writes writes.now given.now)) journal.old journal.new }
     ensures written { OnOk result (D.tells → AllByRecursion (λ w. block_bytes (D.content journal.new.disk) base w.block ≡ w.bytes) (page_writes writes.now given.now)) }
     ensures cause { OnErr result (Rose (D.faults journal.old.disk) (D.faults journal.new.disk)) }
 {
@@ -109,7 +110,7 @@ fn read_saved<D: Disk>(
 ) -> Result<PageBytes, DataRefusal>
     requires lies { LiesIn base (D.size journal.old.disk) page.now.block }
     requires part { IsDataPart journal.old.areas base }
-    ensures reads { Reads D.tells D.size D.content D.moment D.since D.faults journal.old journal.new }
+    ensures reads { Reads D.Disk journal.old journal.new }
     ensures read { IfOk result (λ bytes. D.tells → bytes ≡ page_of (D.content journal.old.disk) base page.now) }
     ensures cause { IsErrOf result DataRefusal.DiskFault → Rose (D.faults journal.old.disk) (D.faults journal.new.disk) }
 {
@@ -137,7 +138,7 @@ fn save_page<D: Disk>(
 ) -> Result<(), DataRefusal>
     requires lies { AllByRecursion (λ page. LiesIn base (D.size journal.old.disk) page.block) pages.now }
     requires part { IsDataPart journal.old.areas base }
-    ensures reads { Reads D.tells D.size D.content D.moment D.since D.faults journal.old journal.new }
+    ensures reads { Reads D.Disk journal.old journal.new }
     ensures saved { OnOk result ((ws : List PageWrite) (bytes : List ℕ) → AreSaved saved.old.items pages.now ws → AreSaved saved.new.items pages.now (ws ++ (record { page = page; block = block; bytes = bytes }) ∷ [])) }
     ensures now { OnOk result (D.tells → AreNow (D.content journal.old.disk) base pages.now saved.old.items → AreNow (D.content journal.old.disk) base pages.now saved.new.items) }
     ensures cause { IsErrOf result DataRefusal.DiskFault → Rose (D.faults journal.old.disk) (D.faults journal.new.disk) }
@@ -161,7 +162,7 @@ fn save_run<D: Disk>(
 ) -> Result<(), DataRefusal>
     requires lies { AllByRecursion (λ page. LiesIn base (D.size journal.old.disk) page.block) pages.now }
     requires part { IsDataPart journal.old.areas base }
-    ensures reads { Reads D.tells D.size D.content D.moment D.since D.faults journal.old journal.new }
+    ensures reads { Reads D.Disk journal.old journal.new }
     ensures saved { OnOk result ((ws : List PageWrite) (own given : List ℕ) → AreSaved saved.old.items pages.now ws → AreSaved saved.new.items pages.now (ws ++ run_writes own given run.now)) }
     ensures now { OnOk result (D.tells → AreNow (D.content journal.old.disk) base pages.now saved.old.items → AreNow (D.content journal.old.disk) base pages.now saved.new.items) }
     ensures cause { IsErrOf result DataRefusal.DiskFault → Rose (D.faults journal.old.disk) (D.faults journal.new.disk) }
@@ -192,7 +193,7 @@ pub fn save_pages<D: Disk>(
 ) -> Result<Vec<SavedPage>, DataRefusal>
     requires lies { AllByRecursion (λ page. LiesIn base (D.size journal.old.disk) page.block) pages.now }
     requires part { IsDataPart journal.old.areas base }
-    ensures reads { Reads D.tells D.size D.content D.moment D.since D.faults journal.old journal.new }
+    ensures reads { Reads D.Disk journal.old journal.new }
     ensures saved { IfOk result (λ saved. (own given : List ℕ) → AreSaved saved.items pages.now (writes_of own given runs.now)) }
     ensures now { IfOk result (λ saved. D.tells → AreNow (D.content journal.old.disk) base pages.now saved.items) }
     ensures cause { IsErrOf result DataRefusal.DiskFault → Rose (D.faults journal.old.disk) (D.faults journal.new.disk) }

@@ -1,4 +1,5 @@
-// Bytes over runs of data blocks.
+//! Bytes over runs of data blocks.
+
 ghost use Rattle.std.specs.Prelude.{◌≡◌, ◌+◌, ◌*◌, ◌^◌, ◌<◌, ◌≤◌, ℕ, List, true, false, length, IfOk, OnOk, OnErr, IsErrOf};
 ghost use Rattle.opfs_outside.specs.Bytes.{Same};
 ghost use Rattle.opfs_outside.specs.Faults.{Rose};
@@ -10,13 +11,10 @@ ghost use Rattle.opfs_data.specs.Calls.{OutsideRuns, Reads, Writes};
 ghost use Rattle.opfs_data.specs.Places.{room_of, bytes_of, AllLie, Aside, AreApart};
 
 use crate::DataRefusal;
-use opfs_base::{Bytes, Extent};
+use opfs_base::{BLOCK_SIZE, Bytes, Extent};
 use opfs_journal::{DiskFault, Journal};
 use opfs_outside::Disk;
 use std::alloc::Global;
-
-// The bytes of a block.
-const BLOCK: u64 = 4096;
 
 // Writes the bytes into the blocks of the runs, one after another.
 fn write_runs<D: Disk>(
@@ -30,7 +28,7 @@ fn write_runs<D: Disk>(
     requires lies { AllLie base (D.size journal.old.disk) extents.now }
     requires behind { journal.old.areas.first + 2 * journal.old.areas.bytes ≤ base }
     requires small { base < 2 ^ 63 }
-    ensures writes { Writes D.tells D.size D.content D.moment D.since D.faults base extents.now journal.old journal.new }
+    ensures writes { Writes D.Disk base extents.now journal.old journal.new }
     ensures written { OnOk result (D.tells → AreApart extents.now → bytes_of (D.content journal.new.disk) base extents.now (length bytes.now) ≡ bytes.now) }
     ensures cause { OnErr result (Rose (D.faults journal.old.disk) (D.faults journal.new.disk)) }
 {
@@ -38,9 +36,9 @@ fn write_runs<D: Disk>(
     journal.settle()?;
     let mut rest = bytes;
     for extent in extents {
-        let count = (u64::from(extent.count) * BLOCK).min(rest.len() as u64) as usize;
+        let count = (u64::from(extent.count) * BLOCK_SIZE).min(rest.len() as u64) as usize;
         let (here, more) = rest.split_at(count);
-        journal.put(base + u64::from(extent.start) * BLOCK, here)?;
+        journal.put(base + u64::from(extent.start) * BLOCK_SIZE, here)?;
         rest = more;
     }
     Ok(())
@@ -57,15 +55,15 @@ fn read_runs<D: Disk>(
     requires lies { AllLie base (D.size journal.old.disk) extents.now }
     requires behind { journal.old.areas.first + 2 * journal.old.areas.bytes ≤ base }
     requires small { base < 2 ^ 63 }
-    ensures reads { Reads D.tells D.size D.content D.moment D.since D.faults journal.old journal.new }
+    ensures reads { Reads D.Disk journal.old journal.new }
     ensures read { OnOk result (D.tells → into.new ≡ bytes_of (D.content journal.old.disk) base extents.now (length into.old)) }
     ensures cause { OnErr result (Rose (D.faults journal.old.disk) (D.faults journal.new.disk)) }
 {
     let mut from = 0;
     for extent in extents {
-        let count = (u64::from(extent.count) * BLOCK).min((into.len() - from) as u64) as usize;
+        let count = (u64::from(extent.count) * BLOCK_SIZE).min((into.len() - from) as u64) as usize;
         let here = &mut into[from..from + count];
-        journal.get(base + u64::from(extent.start) * BLOCK, here)?;
+        journal.get(base + u64::from(extent.start) * BLOCK_SIZE, here)?;
         from += count;
     }
     Ok(())
@@ -116,7 +114,7 @@ pub fn load<D: Disk>(
     requires small { base < 2 ^ 63 }
     ensures length { IfOk result (λ bytes. length bytes ≡ len) }
     ensures bytes { IfOk result (λ bytes. D.tells → bytes ≡ bytes_of (D.content journal.old.disk) base extents.now len) }
-    ensures reads { Reads D.tells D.size D.content D.moment D.since D.faults journal.old journal.new }
+    ensures reads { Reads D.Disk journal.old journal.new }
     ensures unread { IsErrOf result DataRefusal.NoMemory → journal.new ≡ journal.old }
     ensures cause { IsErrOf result DataRefusal.DiskFault → Rose (D.faults journal.old.disk) (D.faults journal.new.disk) }
 {

@@ -149,7 +149,7 @@ impl Swap {
         requires whole { length into.old ≡ 4096 }
         requires lies { LiesIn base (D.size journal.old.disk) (page_at agent row page self.now).block }
         requires part { IsDataPart journal.old.areas base }
-        ensures reads { Reads D.tells D.size D.content D.moment D.since D.faults journal.old journal.new }
+        ensures reads { Reads D.Disk journal.old journal.new }
         ensures read { OnOk result (D.tells → into.new ≡ page_of (D.content journal.old.disk) base (page_at agent row page self.now)) }
         ensures cause { OnErr result (Rose (D.faults journal.old.disk) (D.faults journal.new.disk)) }
     {
@@ -182,7 +182,7 @@ impl Swap {
         ensures room { OnOk result (pages ≤ (row_at agent row self.new).room) }
         ensures saved { OnOk result (MatchOption (row_at agent row self.new).saved ⊥ (λ saved. (given : List ℕ) → AreSaved saved (pages_at agent row self.new) (page_writes writes.now given))) }
         ensures now { OnOk result (D.tells → MatchOption (row_at agent row self.new).saved ⊥ (λ saved. AreNow (D.content journal.new.disk) base (pages_at agent row self.new) saved)) }
-        ensures reads { Reads D.tells D.size D.content D.moment D.since D.faults journal.old journal.new }
+        ensures reads { Reads D.Disk journal.old journal.new }
         ensures cause { IsErrOf result DataRefusal.DiskFault → Rose (D.faults journal.old.disk) (D.faults journal.new.disk) }
     {
         let Some(found) = self.rows.get_mut(&(agent, row)) else {
@@ -237,7 +237,7 @@ impl Swap {
         ensures others_read { D.tells → (a r : ℕ) → IsOther agent row a r → (j : ℕ) → j < length (pages_at a r self.old)
             → page_of (D.content journal.new.disk) base (page_at a r j self.new) ≡ page_of (D.content journal.old.disk) base (page_at a r j self.old) }
         ensures apart { D.tells → (page : Page) → IsApart page (page_writes writes.now given.now) → page_of (D.content journal.new.disk) base page ≡ page_of (D.content journal.old.disk) base page }
-        ensures writes { Writes D.tells D.size D.content D.moment D.since D.faults base (runs_of (page_writes writes.now given.now)) journal.old journal.new }
+        ensures writes { Writes D.Disk base (runs_of (page_writes writes.now given.now)) journal.old journal.new }
         ensures cause { OnErr result (Rose (D.faults journal.old.disk) (D.faults journal.new.disk)) }
     {
         let Some(found) = self.rows.get_mut(&(agent, row)) else {

@@ -1,4 +1,5 @@
-// Pages that are to be written.
+//! Pages that are to be written.
+
 ghost use Rattle.std.specs.Prelude.{◌≡◌, ◌++◌, ◌∷◌, [], ◌+◌, ◌*◌, ◌^◌, ◌<◌, ◌≤◌, ℕ, List, length, drop, IfOk, OnOk, OnErr, slice_index_or};
 ghost use Rattle.std.specs.List.{AllByRecursion};
 ghost use Rattle.opfs_data.specs.Writes.{Run, IsRun, PageWrite, WriteList, HasBytes, page_writes, page_moves, writes_of, run_writes, run_pages, placed, blocks_in};

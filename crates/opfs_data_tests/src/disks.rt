@@ -1,4 +1,5 @@
-// A journal over five blocks: both areas lie in the first one, and the data begins at the second.
+//! A journal over five blocks: both areas lie in the first one, and the data begins at the second.
+
 ghost use Rattle.std.specs.Prelude.{◌≡◌, false, length, IfOk};
 
 use opfs_journal::{Areas, Journal, OpenRefusal};

@@ -1,4 +1,5 @@
-// Pages in blocks, and a write that fails.
+//! Pages in blocks, and a write that fails.
+
 ghost use Rattle.std.specs.Prelude.{◌≡◌, [], ◌∷◌, ℕ, List, length, IfOk};
 ghost use Rattle.opfs_data.specs.Writes.{page_writes, AreWithin};
 

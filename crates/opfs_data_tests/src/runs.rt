@@ -1,4 +1,5 @@
-// Bytes in runs of blocks.
+//! Bytes in runs of blocks.
+
 use crate::disks::{BASE, begun};
 use opfs_base::Extent;
 use opfs_data::{DataRefusal, load, store};

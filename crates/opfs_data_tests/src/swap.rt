@@ -1,4 +1,5 @@
-// A page of one row, written three times, the second time onto a disk that fails.
+//! A page of one row, written three times, the second time onto a disk that fails.
+
 ghost use Rattle.std.specs.Prelude.{◌≡◌, [], ◌∷◌, ◌≤◌, length, IfOk, OnOk};
 ghost use Rattle.opfs_data_tests.specs.OneRow.{HasNone, HasOne, IsReady};
 

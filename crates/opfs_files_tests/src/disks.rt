@@ -1,3 +1,5 @@
+//! Disks over real files.
+
 use crate::faulty::FaultyFile;
 use opfs_files::{DirHost, FileDisk};
 use opfs_outside::{Disk, Failed, Host};

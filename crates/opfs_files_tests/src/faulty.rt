@@ -1,4 +1,4 @@
-// A file whose reads end early, whose writes fail, and whose first sync of bytes fails.
+//! A file whose reads end early, whose writes fail, and whose first sync of bytes fails.
 
 use std::cell::Cell;
 use std::fs::{Metadata, OpenFile};

@@ -1,3 +1,5 @@
+//! Hosts over a real folder.
+
 use opfs_files::DirHost;
 use opfs_outside::{Disk, Failed, Host, HostStop};
 use std::fs::{self, File, OpenFile, Permissions};

@@ -1,4 +1,5 @@
-// Images that are made anew.
+//! Images that are made anew.
+
 ghost use Rattle.std.specs.Prelude.{◌≡◌, ◌+◌, ◌*◌, ◌^◌, ◌<◌, ◌≤◌, ◌++◌, ℕ, List, true, Ok, length, drop, slice_index, OnOk, OnErr};
 ghost use Rattle.opfs_codec.specs.declared.change.Format.TheVariants.{New};
 ghost use Rattle.opfs_machine.specs.Openings.{empty_map};

@@ -1,4 +1,5 @@
-// What an image is read as.
+//! What an image is read as.
+
 ghost use Rattle.std.specs.Prelude.{◌≡◌, ◌⊎◌, ◌+◌, ◌*◌, ◌^◌, ◌<◌, ◌≤◌, ◌==◌, ℕ, true, Ok, Err, IfOk, IfErr, OnErr, IsErrOf};
 ghost use Rattle.opfs_codec.specs.declared.change.Format.{Format as AFormat};
 ghost use Rattle.opfs_codec.specs.declared.change.Format.TheVariants.{New};
@@ -12,8 +13,9 @@ ghost use Rattle.opfs_image.specs.Superblock.{areas_of, image_size, is_in_range}
 ghost use Rattle.opfs_image.specs.Walking.{IsFound};
 
 use crate::records::replay_records;
-use crate::superblock::{BLOCK, read_geometry};
+use crate::superblock::read_geometry;
 use crate::{Geometry, ImageRefusal};
+use opfs_base::BLOCK_SIZE;
 use opfs_codec::Format;
 use opfs_journal::{Ruling, find_ruling};
 use opfs_outside::Disk;
@@ -52,7 +54,7 @@ fn not_of(wanted: Format) -> ImageRefusal
 
 // The geometry, and whether area 1 rules.
 fn find_area<D: Disk>(disk: &mut D, wanted: Format) -> Result<(Geometry, bool), ImageRefusal>
-    ensures only { OnlyRead D.tells D.size D.content D.moment D.since D.faults disk.old disk.new }
+    ensures only { OnlyRead D.Disk disk.old disk.new }
     ensures range { IfOk result (λ found. is_in_range found.0 ≡ true) }
     ensures fits { IfOk result (λ found. image_size found.0 ≤ D.size disk.old) }
     ensures found { IfOk result (λ found. D.tells → IsFound wanted (D.content disk.old) found.0 found.1) }
@@ -77,7 +79,7 @@ fn rebuild<D: Disk>(
 ) -> Result<Rebuilt, ImageRefusal>
     requires range { is_in_range geometry ≡ true }
     requires fits { image_size geometry ≤ D.size disk.old }
-    ensures only { OnlyRead D.tells D.size D.content D.moment D.since D.faults disk.old disk.new }
+    ensures only { OnlyRead D.Disk disk.old disk.new }
     ensures built { IfOk result (λ all. D.tells → area_built wanted geometry.blocks (D.content disk.old) (areas_of geometry) second ≡ Ok (built_in all.tree all.shed)) }
     ensures agrees { IfOk result (λ all. IsRebuilt geometry all.tree all.shed all.map all.charge) }
     ensures refused { IfErr result (λ e. (e ≡ ImageRefusal.DiskFault) ⊎ (e ≡ ImageRefusal.NoMemory)
@@ -98,7 +100,7 @@ pub fn read_image<D: Disk>(
     disk: &mut D,
     wanted: Format,
 ) -> Result<ReadImage, ImageRefusal>
-    ensures only { OnlyRead D.tells D.size D.content D.moment D.since D.faults disk.old disk.new }
+    ensures only { OnlyRead D.Disk disk.old disk.new }
     ensures agrees { IfOk result (λ image. Agrees image.geometry image.parts.tree image.parts.shed image.parts.map image.parts.charge) }
     ensures length { IfOk result (λ image. image_size image.geometry ≤ D.size disk.old) }
     ensures image { IfOk result (λ image. D.tells → read_as wanted New (D.content disk.old) ≡ Ok (record { geometry = image.geometry; built = built_in image.parts.tree image.parts.shed })) }
@@ -107,7 +109,7 @@ pub fn read_image<D: Disk>(
 {
     let (geometry, second) = find_area(disk, wanted)?;
     let parts = rebuild(alloc, disk, geometry, second, wanted)?;
-    let area = BLOCK * u64::from(geometry.areas);
+    let area = BLOCK_SIZE * u64::from(geometry.areas);
     if area < parts.charge.saturating_add(7) {
         return Err(ImageRefusal::Overfull(parts.charge, area));
     }

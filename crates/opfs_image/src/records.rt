@@ -1,4 +1,5 @@
-// The records of the area that rules.
+//! The records of the area that rules.
+
 ghost use Rattle.std.specs.Prelude.{◌≡◌, ◌⊎◌, ◌+◌, ◌-◌, ◌*◌, ◌^◌, ◌<◌, ◌≤◌, ℕ, true, false, length, drop, Some, None, Ok, Err, IfOk, IfErr, IfSome, OnErr, IsErrOf};
 ghost use Rattle.std.specs.Option.{IfNone};
 ghost use Rattle.opfs_outside.specs.Faults.{Rose};
@@ -23,7 +24,7 @@ fn read_body<D: Disk>(
     buffer: &mut Vec<u8>,
 ) -> Result<(), ImageRefusal>
     requires { at + len ≤ D.size disk.old }
-    ensures only { OnlyRead D.tells D.size D.content D.moment D.since D.faults disk.old disk.new }
+    ensures only { OnlyRead D.Disk disk.old disk.new }
     ensures bytes { IfOk result (λ _. D.tells → buffer.new.items ≡ window (D.content disk.old) at len) }
     ensures refused { IfErr result (λ e. (e ≡ ImageRefusal.DiskFault) ⊎ (e ≡ ImageRefusal.NoMemory)) }
     ensures cause { IsErrOf result ImageRefusal.DiskFault → Rose (D.faults disk.old) (D.faults disk.new) }
@@ -50,7 +51,7 @@ fn read_record<D: Disk>(
 ) -> Result<Option<u64>, ImageRefusal>
     requires inside { gate < stop }
     requires lies { stop ≤ D.size disk.old }
-    ensures only { OnlyRead D.tells D.size D.content D.moment D.since D.faults disk.old disk.new }
+    ensures only { OnlyRead D.Disk disk.old disk.new }
     ensures shut { IfOk result (λ found. D.tells → IfNone found (is_open (D.content disk.old) gate ≡ false)) }
     ensures fits { IfOk result (λ found. IfSome found (λ len. gate + 6 + len ≤ stop)) }
     ensures record { IfOk result (λ found. D.tells → IfSome found (λ len. IsRecord (D.content disk.old) gate len buffer.new.items)) }
@@ -98,7 +99,7 @@ pub fn replay_records<D: Disk>(
 ) -> Result<Replay, ImageRefusal>
     requires inside { begin < stop }
     requires lies { stop ≤ D.size disk.old }
-    ensures only { OnlyRead D.tells D.size D.content D.moment D.since D.faults disk.old disk.new }
+    ensures only { OnlyRead D.Disk disk.old disk.new }
     ensures built { IfOk result (λ all. D.tells → Yields format replay.size (D.content disk.old) stop 1 begin replay.built (Ok all.built)) }
     ensures same { IfOk result (λ all. (all.size ≡ replay.size) × (all.quota ≡ replay.quota)) }
     ensures refused { IfErr result (λ e. (e ≡ ImageRefusal.DiskFault) ⊎ (e ≡ ImageRefusal.NoMemory)

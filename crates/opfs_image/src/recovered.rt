@@ -1,4 +1,5 @@
-// An image that was recovered.
+//! An image that was recovered.
+
 ghost use Rattle.opfs_image.specs.Props.{image_props};
 ghost use Rattle.opfs_image.specs.Agreeing.{Agrees, IsJournalOf, IsImageOf, built_in};
 

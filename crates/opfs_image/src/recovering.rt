@@ -1,4 +1,5 @@
-// Images that are recovered.
+//! Images that are recovered.
+
 ghost use Rattle.std.specs.Prelude.{◌≡◌, ◌≢◌, ◌+◌, ◌*◌, ◌≤◌, ℕ, Ok, Err, IfOk, IfErr, IsErrOf};
 ghost use Rattle.opfs_codec.specs.declared.change.Format.TheVariants.{New};
 ghost use Rattle.opfs_outside.specs.Faults.{Rose};
@@ -24,9 +25,9 @@ fn begin<D: Disk>(
     requires length { image_size image.geometry ≤ D.size disk }
     requires image { D.tells → read_as New New (D.content disk) ≡ Ok (record { geometry = image.geometry; built = built_in image.parts.tree image.parts.shed }) }
     ensures stands { IfOk result (λ all. D.tells → Stands (D.content disk) (filled (data_base all.geometry) (D.content disk) (built_in all.tree all.shed))) }
-    ensures only_read { IfOk result (λ all. OnlyRead D.tells D.size D.content D.moment D.since D.faults disk all.journal.disk) }
+    ensures only_read { IfOk result (λ all. OnlyRead D.Disk disk all.journal.disk) }
     ensures refused { IfErr result (λ err. err.1 ≢ ImageRefusal.DiskFault → err.1 ≢ ImageRefusal.NoMemory → D.tells → read_as New New (D.content disk) ≡ Err err.1) }
-    ensures only_read_err { IfErr result (λ err. OnlyRead D.tells D.size D.content D.moment D.since D.faults disk err.0) }
+    ensures only_read_err { IfErr result (λ err. OnlyRead D.Disk disk err.0) }
     ensures cause { IfErr result (λ err. err.1 ≡ ImageRefusal.DiskFault → Rose (D.faults disk) (D.faults err.0)) }
 {
     let ReadImage { geometry, parts } = image;
@@ -50,9 +51,9 @@ fn begin<D: Disk>(
 /// length that the superblock asks for.
 pub fn recover<D: Disk>(alloc: Global, disk: D) -> Result<Recovered<D>, (D, ImageRefusal)>
     ensures stands { IfOk result (λ image. D.tells → Stands (D.content disk) (filled (data_base image.geometry) (D.content disk) (built_in image.tree image.shed))) }
-    ensures only_read { IfOk result (λ image. OnlyRead D.tells D.size D.content D.moment D.since D.faults disk image.journal.disk) }
+    ensures only_read { IfOk result (λ image. OnlyRead D.Disk disk image.journal.disk) }
     ensures refused { IfErr result (λ err. err.1 ≢ ImageRefusal.DiskFault → err.1 ≢ ImageRefusal.NoMemory → D.tells → read_as New New (D.content disk) ≡ Err err.1) }
-    ensures only_read_err { IfErr result (λ err. OnlyRead D.tells D.size D.content D.moment D.since D.faults disk err.0) }
+    ensures only_read_err { IfErr result (λ err. OnlyRead D.Disk disk err.0) }
     ensures cause { IfErr result (λ err. err.1 ≡ ImageRefusal.DiskFault → Rose (D.faults disk) (D.faults err.0)) }
 {
     let mut disk = disk;

@@ -1,4 +1,5 @@
-// The superblock of an image.
+//! The superblock of an image.
+
 ghost use Rattle.std.specs.Prelude.{◌≡◌, ◌⊎◌, ◌+◌, ◌^◌, ◌<◌, ◌≤◌, ◌&&◌, true, length, take, drop, Ok, Err, IfOk, IfErr, OnErr, IsErrOf};
 ghost use Rattle.opfs_base.specs.Texts.{same_text};
 ghost use Rattle.opfs_outside.specs.Faults.{Rose};
@@ -8,11 +9,9 @@ ghost use Rattle.opfs_journal.specs.Walking.{OnlyRead};
 ghost use Rattle.opfs_image.specs.Superblock.{has_magic, has_version, geometry_in, geometry_by, geometry_of, is_in_range, is_between, image_size, areas_of, data_base};
 
 use crate::{Geometry, ImageRefusal};
+use opfs_base::BLOCK_SIZE;
 use opfs_journal::Areas;
 use opfs_outside::{Disk, Failed};
-
-/// The bytes of a block, and of the superblock.
-pub const BLOCK: u64 = 4096;
 
 /// What an image begins with.
 pub const MAGIC: [u8; 8] = *b"OPFSIMG1";
@@ -45,7 +44,7 @@ impl Geometry {
     pub fn image_size(self) -> u64
         ensures { result ≡ image_size self }
     {
-        BLOCK * (1 + 2 * u64::from(self.areas) + u64::from(self.blocks))
+        BLOCK_SIZE * (1 + 2 * u64::from(self.areas) + u64::from(self.blocks))
     }
 
     /// Where the areas of the journal lie.
@@ -53,8 +52,8 @@ impl Geometry {
         ensures { result ≡ areas_of self }
     {
         Areas {
-            first: BLOCK,
-            bytes: BLOCK * u64::from(self.areas),
+            first: BLOCK_SIZE,
+            bytes: BLOCK_SIZE * u64::from(self.areas),
         }
     }
 
@@ -63,7 +62,7 @@ impl Geometry {
         ensures same { result ≡ data_base self }
         ensures small { result < 2 ^ 63 }
     {
-        BLOCK * (1 + 2 * u64::from(self.areas))
+        BLOCK_SIZE * (1 + 2 * u64::from(self.areas))
     }
 }
 
@@ -105,7 +104,7 @@ fn judge(head: &[u8; 24], len: u64) -> Result<Geometry, ImageRefusal>
 
 fn read_head<D: Disk>(disk: &mut D) -> Result<[u8; 24], Failed>
     requires { 4096 ≤ D.size disk.old }
-    ensures only { OnlyRead D.tells D.size D.content D.moment D.since D.faults disk.old disk.new }
+    ensures only { OnlyRead D.Disk disk.old disk.new }
     ensures bytes { IfOk result (λ head. D.tells → head ≡ window (D.content disk.old) 0 24) }
     ensures cause { OnErr result (Rose (D.faults disk.old) (D.faults disk.new)) }
 {
@@ -116,7 +115,7 @@ fn read_head<D: Disk>(disk: &mut D) -> Result<[u8; 24], Failed>
 
 /// Reads the geometry from an image's superblock.
 pub fn read_geometry<D: Disk>(disk: &mut D) -> Result<Geometry, ImageRefusal>
-    ensures only { OnlyRead D.tells D.size D.content D.moment D.since D.faults disk.old disk.new }
+    ensures only { OnlyRead D.Disk disk.old disk.new }
     ensures range { IfOk result (λ g. is_in_range g ≡ true) }
     ensures fits { IfOk result (λ g. image_size g ≤ D.size disk.old) }
     ensures geometry { IfOk result (λ g. D.tells → geometry_of (D.content disk.old) ≡ Ok g) }
@@ -124,7 +123,7 @@ pub fn read_geometry<D: Disk>(disk: &mut D) -> Result<Geometry, ImageRefusal>
     ensures cause { IsErrOf result ImageRefusal.DiskFault → Rose (D.faults disk.old) (D.faults disk.new) }
 {
     let len = disk.len();
-    if len < BLOCK {
+    if len < BLOCK_SIZE {
         return Err(ImageRefusal::Short);
     }
     let head = read_head(disk)?;

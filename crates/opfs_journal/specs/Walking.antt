@@ -1,19 +1,20 @@
 -- What a reader of the areas finds.
 use Rattle.std.specs.Prelude.{◌≡◌, ℕ, ◌+◌, ◌<◌, ◌≤◌, Bool, true, List, slice_index}
 use Rattle.opfs_outside.specs.Moments.{Elapses}
+use Rattle.opfs_outside.specs.declared.disk.Disk.{Ghosts as DiskWords}
 use Rattle.opfs_journal.specs.Format.{is_open, number_at}
 use Rattle.opfs_journal.specs.Reading.{Walks}
 
 -- calls that changed no content, and left no image that could not have been left before
-pub record Untouched {D : Type 0} (content : D → List ℕ) (moment : D → ℕ) (since : D → ℕ → List ℕ → Type 0) (old new : D) : Type 0 where
-  pub same : content new ≡ content old
-  pub time : Elapses moment since old new
-  pub moments : (c : List ℕ) → since new (moment old) c → since old (moment old) c
+pub record Untouched {D : Type 0} (w : DiskWords D) (old new : D) : Type 0 where
+  pub same : w.content new ≡ w.content old
+  pub time : Elapses w.moment w.since old new
+  pub moments : (c : List ℕ) → w.since new (w.moment old) c → w.since old (w.moment old) c
 
-pub record OnlyRead {D : Type 0} (tells : Type 0) (size : D → ℕ) (content : D → List ℕ) (moment : D → ℕ) (since : D → ℕ → List ℕ → Type 0) (faults : D → ℕ) (old new : D) : Type 0 where
-  pub length : size new ≡ size old
-  pub later : faults old ≤ faults new
-  pub told : tells → Untouched content moment since old new
+pub record OnlyRead {D : Type 0} (w : DiskWords D) (old new : D) : Type 0 where
+  pub length : w.size new ≡ w.size old
+  pub later : w.faults old ≤ w.faults new
+  pub told : w.tells → Untouched w old new
 
 -- the first gate of an area, the length and the generation byte
 pub record IsFirst (c : List ℕ) (begin : ℕ) (open_there : Bool) (len generation : ℕ) : Type 0 where

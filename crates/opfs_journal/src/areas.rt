@@ -1,3 +1,5 @@
+//! The two areas of a journal.
+
 ghost use Rattle.std.specs.Prelude.{◌≡◌, ◌+◌, ◌*◌, ◌^◌, ◌<◌};
 ghost use Rattle.opfs_journal.specs.Format.{begin_of};
 

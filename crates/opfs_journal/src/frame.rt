@@ -1,4 +1,5 @@
-// The bytes behind a gate.
+//! The bytes behind a gate.
+
 ghost use Rattle.std.specs.Prelude.{◌≡◌, ◌+◌, ◌^◌, ◌<◌, ◌≤◌, ◌++◌, length, vec_capacity};
 ghost use Rattle.opfs_journal.specs.Format.{framed};
 

@@ -1,4 +1,5 @@
-// A list of records on a disk that may stop at any moment.
+//! A list of records on a disk that may stop at any moment.
+
 ghost use Rattle.std.specs.Prelude.{◌≡◌, ◌≢◌, ◌⊎◌, ◌+◌, ◌*◌, ◌<◌, ◌≤◌, ℕ, true, false, List, [], ◌∷◌, ◌++◌, length, ◌↔◌, IfOk, IfErr, OnOk, OnErr, IsErrOf};
 ghost use Rattle.opfs_outside.specs.Bytes.{Same, window, Beside};
 ghost use Rattle.opfs_outside.specs.Faults.{Rose};
@@ -69,8 +70,8 @@ impl<D: Disk> Journal<D> {
         ensures records { IfOk result (λ journal. D.tells → records_of areas (D.content disk) ≡ Some (kept journal)) }
         ensures durable { IfOk result (λ journal. D.tells → (c : List ℕ) → D.since journal.disk (D.moment journal.disk) c → c ≡ D.content journal.disk) }
         ensures refused { IfErr result (λ err. err.1 ≢ OpenRefusal.DiskFault → err.1 ≢ OpenRefusal.NoMemory → D.tells → read_areas areas (D.content disk) ≡ Err err.1) }
-        ensures only_read { IfOk result (λ journal. OnlyRead D.tells D.size D.content D.moment D.since D.faults disk journal.disk) }
-        ensures only_read_err { IfErr result (λ err. OnlyRead D.tells D.size D.content D.moment D.since D.faults disk err.0) }
+        ensures only_read { IfOk result (λ journal. OnlyRead D.Disk disk journal.disk) }
+        ensures only_read_err { IfErr result (λ err. OnlyRead D.Disk disk err.0) }
         ensures cause { IfErr result (λ err. err.1 ≡ OpenRefusal.DiskFault → Rose (D.faults disk) (D.faults err.0)) }
     {
         let mut disk = disk;

@@ -1,4 +1,5 @@
-// What a disk's areas hold. Of each record only the gate, the length and the generation byte are read, once.
+//! What a disk's areas hold. Of each record only the gate, the length and the generation byte are read, once.
+
 ghost use Rattle.std.specs.Prelude.{◌≡◌, ◌≢◌, ◌⊎◌, ◌+◌, ◌*◌, ◌^◌, ◌<◌, ◌≤◌, ◌==◌, ◌&&◌, ◌||◌, ℕ, List, true, false, not, nat_lt, None, Ok, Err, IfOk, IfErr, OnOk, OnErr, IsErrOf, MatchOption, slice_index};
 ghost use Rattle.opfs_outside.specs.Faults.{Rose};
 ghost use Rattle.opfs_journal.specs.Format.{is_open, number_at, begin_of, is_generation, is_bad_head, chosen, chosen_in, chain, read_areas};
@@ -38,7 +39,7 @@ fn is_generation(byte: u8) -> bool
 impl First {
     fn read<D: Disk>(disk: &mut D, begin: u64) -> Result<First, Failed>
         requires { begin + 6 ≤ D.size disk.old }
-        ensures only { OnlyRead D.tells D.size D.content D.moment D.since D.faults disk.old disk.new }
+        ensures only { OnlyRead D.Disk disk.old disk.new }
         ensures first { IfOk result (λ first. D.tells → IsFirst (D.content disk.old) begin first.open first.len first.generation) }
         ensures small { IfOk result (λ first. first.len < 2 ^ 32) }
         ensures cause { OnErr result (Rose (D.faults disk.old) (D.faults disk.new)) }
@@ -65,7 +66,7 @@ impl First {
 pub fn read_gate<D: Disk>(disk: &mut D, gate: u64, stop: u64) -> Result<Option<u64>, Failed>
     requires inside { gate < stop }
     requires lies { stop ≤ D.size disk.old }
-    ensures only { OnlyRead D.tells D.size D.content D.moment D.since D.faults disk.old disk.new }
+    ensures only { OnlyRead D.Disk disk.old disk.new }
     ensures open { IfOk result (λ found. D.tells → MatchOption found (is_open (D.content disk.old) gate ≡ false) (λ len. is_open (D.content disk.old) gate ≡ true)) }
     ensures length { IfOk result (λ found. D.tells → gate + 5 ≤ stop → MatchOption found (Unit {0}) (λ len. len ≡ number_at (D.content disk.old) (gate + 1))) }
     ensures small { IfOk result (λ found. MatchOption found (Unit {0}) (λ len. len < 2 ^ 32)) }
@@ -85,7 +86,7 @@ pub fn read_gate<D: Disk>(disk: &mut D, gate: u64, stop: u64) -> Result<Option<u
 fn walk<D: Disk>(disk: &mut D, from: u64, stop: u64) -> Result<u64, OpenRefusal>
     requires inside { from < stop }
     requires lies { stop ≤ D.size disk.old }
-    ensures only { OnlyRead D.tells D.size D.content D.moment D.since D.faults disk.old disk.new }
+    ensures only { OnlyRead D.Disk disk.old disk.new }
     ensures above { IfOk result (λ tail. from ≤ tail) }
     ensures within { IfOk result (λ tail. tail < stop) }
     ensures leads { IfOk result (λ tail. D.tells → Leads (D.content disk.old) from tail) }
@@ -144,7 +145,7 @@ fn read_ruling<D: Disk>(
     requires head_is { D.tells → IsFirst (D.content disk.old) (begin_of areas second) head.open head.len head.generation }
     requires other_is { D.tells → IsFirst (D.content disk.old) (begin_of areas (not second)) other.open other.len other.generation }
     requires durable { D.tells → (c : List ℕ) → D.since disk.old (D.moment disk.old) c → c ≡ D.content disk.old }
-    ensures only { OnlyRead D.tells D.size D.content D.moment D.since D.faults disk.old disk.new }
+    ensures only { OnlyRead D.Disk disk.old disk.new }
     ensures within { IfOk result (λ found. found.tail < areas.bytes) }
     ensures known { IfOk result (λ found. is_generation found.generation ≡ true) }
     ensures told { IfOk result (λ found. D.tells → Told areas found.second found.generation found.tail found.closed None (D.content disk.new) (D.since disk.new (D.moment disk.new))) }
@@ -170,7 +171,7 @@ fn read_heads<D: Disk>(disk: &mut D, areas: Areas) -> Result<(First, First), Fai
     requires lies { areas.first + 2 * areas.bytes ≤ D.size disk.old }
     requires fits { areas.first + 2 * areas.bytes < 2 ^ 64 }
     requires least { 7 ≤ areas.bytes }
-    ensures only { OnlyRead D.tells D.size D.content D.moment D.since D.faults disk.old disk.new }
+    ensures only { OnlyRead D.Disk disk.old disk.new }
     ensures first { IfOk result (λ heads. D.tells → IsFirst (D.content disk.old) areas.first heads.0.open heads.0.len heads.0.generation) }
     ensures second { IfOk result (λ heads. D.tells → IsFirst (D.content disk.old) (areas.first + areas.bytes) heads.1.open heads.1.len heads.1.generation) }
     ensures small { IfOk result (λ heads. (heads.0.len < 2 ^ 32) × (heads.1.len < 2 ^ 32)) }
@@ -186,7 +187,7 @@ pub fn find<D: Disk>(disk: &mut D, areas: Areas) -> Result<Found, OpenRefusal>
     requires lies { areas.first + 2 * areas.bytes ≤ D.size disk.old }
     requires fits { areas.first + 2 * areas.bytes < 2 ^ 64 }
     requires least { 7 ≤ areas.bytes }
-    ensures only { OnlyRead D.tells D.size D.content D.moment D.since D.faults disk.old disk.new }
+    ensures only { OnlyRead D.Disk disk.old disk.new }
     ensures within { IfOk result (λ found. found.tail < areas.bytes) }
     ensures known { IfOk result (λ found. is_generation found.generation ≡ true) }
     ensures told { IfOk result (λ found. D.tells → Told areas found.second found.generation found.tail found.closed None (D.content disk.new) (D.since disk.new (D.moment disk.new))) }
@@ -217,7 +218,7 @@ pub fn find_ruling<D: Disk>(disk: &mut D, areas: Areas) -> Result<Ruling, OpenRe
     requires lies { areas.first + 2 * areas.bytes ≤ D.size disk.old }
     requires fits { areas.first + 2 * areas.bytes < 2 ^ 64 }
     requires least { 7 ≤ areas.bytes }
-    ensures only { OnlyRead D.tells D.size D.content D.moment D.since D.faults disk.old disk.new }
+    ensures only { OnlyRead D.Disk disk.old disk.new }
     ensures rules { IfOk result (λ ruling. D.tells → chosen_in areas (D.content disk.old) ≡ Ok ruling.second) }
     ensures generation { IfOk result (λ ruling. D.tells → ruling.generation ≡ slice_index (D.content disk.old) (begin_of areas ruling.second + 5)) }
     ensures refused { IfErr result (λ refusal. (refusal ≡ OpenRefusal.DiskFault) ⊎ (D.tells → chosen_in areas (D.content disk.old) ≡ Err refusal)) }

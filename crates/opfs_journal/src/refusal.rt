@@ -1,3 +1,5 @@
+//! What a journal answers besides Ok.
+
 ghost use Rattle.std.specs.Prelude.{◌≡◌};
 ghost use Rattle.opfs_journal.specs.declared.refusal.JournalRefusal.TheVariants.{DiskFault};
 ghost use Rattle.opfs_journal.specs.declared.refusal.OpenRefusal.TheVariants.{DiskFault as OpenFault};

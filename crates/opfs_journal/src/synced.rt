@@ -1,4 +1,5 @@
-// A write and its sync.
+//! A write and its sync.
+
 ghost use Rattle.std.specs.Prelude.{◌≡◌, ◌+◌, ◌≤◌, true, false, [], ◌∷◌, length, IsOk, OnOk, OnErr};
 ghost use Rattle.opfs_outside.specs.Faults.{Rose};
 ghost use Rattle.opfs_journal.specs.Standing.{Torn, Wrote};

@@ -1,4 +1,5 @@
-// Areas written out by hand, and the records that they hold.
+//! Areas written out by hand, and the records that they hold.
+
 ghost use Rattle.std.specs.Prelude.{◌≡◌, [], ◌∷◌, Some};
 ghost use Rattle.opfs_journal.specs.Format.{records_of};
 

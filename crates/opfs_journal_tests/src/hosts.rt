@@ -1,3 +1,5 @@
+//! A host in memory.
+
 use opfs_memory::MemHost;
 use opfs_outside::{Disk, Failed, Host, HostStop};
 use std::alloc::{AllocError, Global};

@@ -1,4 +1,5 @@
-// The journal's calls on concrete disks.
+//! The journal's calls on concrete disks.
+
 ghost use Rattle.std.specs.Prelude.{◌≡◌, [], ◌∷◌, false, Some, length, IfOk};
 ghost use Rattle.opfs_journal.specs.Format.{records_of};
 ghost use Rattle.opfs_memory.specs.Drives.{content_of};

@@ -1,3 +1,5 @@
+//! Disks, sources and sinks in memory.
+
 use opfs_memory::{MemDisk, MemSink, MemSource, RamDisk};
 use opfs_outside::{Disk, Failed, Sink, Source};
 use std::test::Fail;

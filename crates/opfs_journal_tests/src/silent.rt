@@ -1,4 +1,5 @@
-// A disk that tells nothing, as a real one.
+//! A disk that tells nothing, as a real one.
+
 ghost use Rattle.std.specs.Prelude.{◌≡◌, ◌+◌, ◌≤◌, ℕ, length, OnErr};
 
 use opfs_memory::RamDisk;

@@ -1,4 +1,5 @@
-// A disk that stops within each call of three appends and a checkpoint, and is begun again.
+//! A disk that stops within each call of three appends and a checkpoint, and is begun again.
+
 ghost use Rattle.std.specs.Prelude.{◌≡◌, ◌≤◌, false};
 
 use opfs_journal::{Areas, Journal, JournalRefusal};

@@ -37,7 +37,7 @@ local-after : (s : State Text Own) (k : ℕ) (o : Op) → is_local s k o ≡ tru
 local-after s k o local = step-after s k o ∙ ap (λ units. after_reply (fold evicted s units) k o (step s k o).answered) (none_victims s k o local)
 
 -- A local call is no end, and asks nobody.
-local-plain : (s : State Text Own) (k : ℕ) (o : Op) → is_local s k o ≡ true → (is_end o ≡ false) × (asks_stuck o ≡ false)
+pub local-plain : (s : State Text Own) (k : ℕ) (o : Op) → is_local s k o ≡ true → (is_end o ≡ false) × (asks_stuck o ≡ false)
 unfolding is_local
 local-plain s k (op.Await tag) h = absurd (false≢true h)
 local-plain s k (op.Wait tag) h = absurd (false≢true h)

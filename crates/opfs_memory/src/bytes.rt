@@ -1,4 +1,5 @@
-// Bytes in place.
+//! Bytes in place.
+
 ghost use Rattle.std.specs.Prelude.{◌+◌, ◌≤◌, length};
 ghost use Rattle.opfs_memory.specs.Disks.{Overwritten};
 

@@ -1,4 +1,5 @@
-// A disk in memory whose calls fail where they are told to.
+//! A disk in memory whose calls fail where they are told to.
+
 ghost use Rattle.std.specs.Prelude.{◌≡◌, ◌≢◌, ◌+◌, ◌-◌, ◌^◌, ◌<◌, ◌≤◌, ◌&&◌, ◌||◌, ℕ, List, [], ◌∷◌, ◌++◌, Bool, true, false, not, if◌then◌else◌, length, take, IfOk, IsOk, OnOk, OnErr};
 ghost use Rattle.opfs_memory.specs.Counts.{counted, is_named};
 ghost use Rattle.opfs_memory.specs.Drives.{is_after, passes_room, call_fails, call_reply, call_after, written_event, synced_event, read_from, content_of, synced_of, replayed, Idle, Wrote, Synced, Platter, after_event, IsImageOf, IsCrash};

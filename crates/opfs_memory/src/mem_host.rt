@@ -1,4 +1,5 @@
-// A host in memory.
+//! A host in memory.
+
 ghost use Rattle.std.specs.Prelude.{◌≡◌, ◌+◌, ◌-◌, ◌^◌, ◌<◌, ℕ, [], ◌∷◌, ◌++◌, Option, Some, None, true, false, MatchOption, length, map, min, replicate, slice_set, option_map, option_copied, if◌then◌else◌, IfOk, IfSome, OnOk, OnErr};
 ghost use Rattle.std.specs.List.{position, slice_get};
 ghost use Rattle.opfs_memory.specs.Counts.{counted, is_named};

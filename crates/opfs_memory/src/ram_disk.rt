@@ -1,4 +1,5 @@
-// A disk in memory that never fails.
+//! A disk in memory that never fails.
+
 ghost use Rattle.std.specs.Prelude.{◌≡◌, ◌+◌, ◌-◌, ◌^◌, ◌<◌, ◌≤◌, ℕ, List, length, replicate, IfOk, IsOk, OnOk, OnErr};
 ghost use Rattle.opfs_outside.specs.Bytes.{window};
 ghost use Rattle.opfs_memory.specs.Disks.{Overwritten};

@@ -1,4 +1,5 @@
-// A sink in memory.
+//! A sink in memory.
+
 ghost use Rattle.std.specs.Prelude.{◌≡◌, ◌++◌, ◌-◌, ◌+◌, ◌^◌, ◌<◌, ◌≤◌, ℕ, List, [], length, take, min, IfOk, OnErr};
 ghost use Rattle.opfs_memory.specs.Streams.{write_reply, write_after};
 

@@ -1,4 +1,5 @@
-// A source in memory.
+//! A source in memory.
+
 ghost use Rattle.std.specs.Prelude.{◌≡◌, ◌++◌, ◌-◌, ◌+◌, ◌^◌, ◌<◌, ◌≤◌, ℕ, List, [], length, take, min, IfOk, OnErr};
 ghost use Rattle.opfs_outside.specs.Faults.{Rose};
 ghost use Rattle.opfs_memory.specs.Streams.{read_reply, read_after, read_bytes};

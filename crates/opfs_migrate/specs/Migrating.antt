@@ -3,6 +3,7 @@ use Rattle.std.specs.Prelude.{◌≡◌, ◌≤◌, ℕ, ◌⊎◌, Bool, true, 
 use Rattle.opfs_codec.specs.declared.change.Format.TheVariants.{Old, New}
 use Rattle.opfs_machine.specs.Openings.{Map, Stored, folder, document}
 use Rattle.opfs_outside.specs.Moments.{Elapses}
+use Rattle.opfs_outside.specs.declared.disk.Disk.{Ghosts as DiskWords}
 use Rattle.opfs_replay.specs.Applying.{rows_of}
 use Rattle.opfs_replay.specs.Built.{Built}
 use Rattle.opfs_tree.specs.Rows.{file_in}
@@ -37,11 +38,11 @@ pub record IsPlanned (g : Geometry) (files : ℕ) (body : List ℕ) (c : List �
   pub builds : rows_of New g.blocks (body ∷ []) ≡ Some built
 
 -- time went on, and if the image stood for a map, each image that a crash left since stands for it, or was left before
-pub record KeptSince {D : Type 0} (content : D → List ℕ) (moment : D → ℕ) (since : D → ℕ → List ℕ → Type 0) (old new : D) : Type 0 where
-  pub time : Elapses moment since old new
-  pub images : (m : Map) → StandsOld (content old) m → (c : List ℕ) → since new (moment old) c → since old (moment old) c ⊎ StandsEither m c
+pub record KeptSince {D : Type 0} (w : DiskWords D) (old new : D) : Type 0 where
+  pub time : Elapses w.moment w.since old new
+  pub images : (m : Map) → StandsOld (w.content old) m → (c : List ℕ) → w.since new (w.moment old) c → w.since old (w.moment old) c ⊎ StandsEither m c
 
-pub record Moved {D : Type 0} (tells : Type 0) (size : D → ℕ) (content : D → List ℕ) (moment : D → ℕ) (since : D → ℕ → List ℕ → Type 0) (faults : D → ℕ) (old new : D) : Type 0 where
-  pub length : size new ≡ size old
-  pub later : faults old ≤ faults new
-  pub told : tells → KeptSince content moment since old new
+pub record Moved {D : Type 0} (w : DiskWords D) (old new : D) : Type 0 where
+  pub length : w.size new ≡ w.size old
+  pub later : w.faults old ≤ w.faults new
+  pub told : w.tells → KeptSince w old new

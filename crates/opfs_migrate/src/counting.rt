@@ -1,4 +1,5 @@
-// The files of a tree.
+//! The files of a tree.
+
 ghost use Rattle.std.specs.Prelude.{◌≡◌, ◌+◌, count_by, is_some, if◌then◌else◌, IfOk};
 ghost use Rattle.opfs_tree.specs.Rows.{file_in, rows_above};
 

@@ -1,4 +1,5 @@
-// An image of format 1 becomes one of format 2.
+//! An image of format 1 becomes one of format 2.
+
 ghost use Rattle.std.specs.Prelude.{◌≡◌, ◌≢◌, ◌⊎◌, ◌≤◌, ℕ, List, Err, IfOk, IfErr};
 ghost use Rattle.opfs_codec.specs.declared.change.Format.TheVariants.{Old, New};
 ghost use Rattle.opfs_outside.specs.Faults.{Rose};
@@ -25,7 +26,7 @@ pub fn migrate<D: Disk>(alloc: Global, disk: D) -> Result<(D, u64), (D, ImageRef
     ensures moments { IfOk result (λ done. D.tells → (m : Map) → StandsOld (D.content disk) m → (c : List ℕ) → D.since done.0 (D.moment disk) c → D.since disk (D.moment disk) c ⊎ StandsEither m c) }
     ensures moments_err { IfErr result (λ err. D.tells → (m : Map) → StandsOld (D.content disk) m → (c : List ℕ) → D.since err.0 (D.moment disk) c → D.since disk (D.moment disk) c ⊎ StandsEither m c) }
     ensures refused { IfErr result (λ err. err.1 ≢ ImageRefusal.DiskFault → err.1 ≢ ImageRefusal.NoMemory → D.tells → read_as Old New (D.content disk) ≡ Err err.1) }
-    ensures only_read_err { IfErr result (λ err. err.1 ≢ ImageRefusal.DiskFault → OnlyRead D.tells D.size D.content D.moment D.since D.faults disk err.0) }
+    ensures only_read_err { IfErr result (λ err. err.1 ≢ ImageRefusal.DiskFault → OnlyRead D.Disk disk err.0) }
     ensures size { IfOk result (λ done. D.size done.0 ≡ D.size disk) }
     ensures size_err { IfErr result (λ err. D.size err.0 ≡ D.size disk) }
     ensures later { IfOk result (λ done. D.faults disk ≤ D.faults done.0) }

@@ -1,4 +1,5 @@
-// What a migration writes.
+//! What a migration writes.
+
 ghost use Rattle.std.specs.Prelude.{◌≡◌, ◌⊎◌, ◌+◌, ◌≤◌, true, length, Err, IfOk, IfErr, IsErrOf};
 ghost use Rattle.opfs_codec.specs.declared.change.Format.TheVariants.{Old, New};
 ghost use Rattle.opfs_outside.specs.Faults.{Rose};
@@ -27,7 +28,7 @@ pub struct Plan {
 
 /// Reads an image of format 1, and writes one record of format 2 that builds the same.
 pub(crate) fn read_plan<D: Disk>(alloc: Global, disk: &mut D) -> Result<Plan, ImageRefusal>
-    ensures only { OnlyRead D.tells D.size D.content D.moment D.since D.faults disk.old disk.new }
+    ensures only { OnlyRead D.Disk disk.old disk.new }
     ensures range { IfOk result (λ plan. is_in_range plan.geometry ≡ true) }
     ensures length { IfOk result (λ plan. image_size plan.geometry ≤ D.size disk.old) }
     ensures fits { IfOk result (λ plan. length plan.body.items + 7 ≤ area_bytes plan.geometry) }

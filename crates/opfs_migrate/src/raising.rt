@@ -1,4 +1,5 @@
-// The journal of an image is raised into format 2.
+//! The journal of an image is raised into format 2.
+
 ghost use Rattle.std.specs.Prelude.{◌≡◌, ◌≢◌, ◌⊎◌, ◌+◌, ◌≤◌, ℕ, List, true, false, length, Some, IfOk, IfErr, OnOk, OnErr, IsErrOf};
 ghost use Rattle.opfs_outside.specs.Bytes.{Same};
 ghost use Rattle.opfs_outside.specs.Faults.{Rose};
@@ -53,7 +54,7 @@ fn rule<D: Disk>(journal: &mut Journal<D>, plan: &Plan) -> Result<(), ImageRefus
     requires planned { D.tells → IsPlanned plan.now.geometry plan.now.files plan.now.body.items (D.content journal.old.disk) }
     requires records { D.tells → records_of (areas_of plan.now.geometry) (D.content journal.old.disk) ≡ Some (kept journal.old) }
     requires one_image { D.tells → (c : List ℕ) → D.since journal.old.disk (D.moment journal.old.disk) c → c ≡ D.content journal.old.disk }
-    ensures moved { Moved D.tells D.size D.content D.moment D.since D.faults journal.old.disk journal.new.disk }
+    ensures moved { Moved D.Disk journal.old.disk journal.new.disk }
     ensures areas_stay { journal.new.areas ≡ journal.old.areas }
     ensures sure { OnOk result (journal.new.in_doubt ≡ false) }
     ensures kept { OnOk result (D.tells → kept journal.new ≡ one_record 2 plan.now.body.items) }
@@ -78,10 +79,10 @@ fn raise_over<D: Disk>(journal: Journal<D>, plan: Plan) -> Result<(D, u64), (D, 
     requires planned { D.tells → IsPlanned plan.geometry plan.files plan.body.items (D.content journal.disk) }
     requires records { D.tells → records_of (areas_of plan.geometry) (D.content journal.disk) ≡ Some (kept journal) }
     requires one_image { D.tells → (c : List ℕ) → D.since journal.disk (D.moment journal.disk) c → c ≡ D.content journal.disk }
-    ensures moved { IfOk result (λ done. Moved D.tells D.size D.content D.moment D.since D.faults journal.disk done.0) }
+    ensures moved { IfOk result (λ done. Moved D.Disk journal.disk done.0) }
     ensures stands { IfOk result (λ done. D.tells → AreMigrated done.1 (D.content journal.disk) (D.content done.0)) }
     ensures durable { IfOk result (λ done. D.tells → (m : Map) → StandsOld (D.content journal.disk) m → (c : List ℕ) → D.since done.0 (D.moment done.0) c → Stands c m) }
-    ensures moved_err { IfErr result (λ err. Moved D.tells D.size D.content D.moment D.since D.faults journal.disk err.0) }
+    ensures moved_err { IfErr result (λ err. Moved D.Disk journal.disk err.0) }
     ensures untold { IfErr result (λ err. (err.1 ≡ ImageRefusal.DiskFault) ⊎ (err.1 ≡ ImageRefusal.NoMemory) ⊎ (D.tells → ⊥)) }
     ensures same { IfErr result (λ err. (err.1 ≡ ImageRefusal.DiskFault) ⊎ (err.0 ≡ journal.disk)) }
     ensures cause { IfErr result (λ err. err.1 ≡ ImageRefusal.DiskFault → Rose (D.faults journal.disk) (D.faults err.0)) }
@@ -103,12 +104,12 @@ pub(crate) fn raise_image<D: Disk>(
     requires length { image_size plan.geometry ≤ D.size disk }
     requires fits { length plan.body.items + 7 ≤ area_bytes plan.geometry }
     requires planned { D.tells → IsPlanned plan.geometry plan.files plan.body.items (D.content disk) }
-    ensures moved { IfOk result (λ done. Moved D.tells D.size D.content D.moment D.since D.faults disk done.0) }
+    ensures moved { IfOk result (λ done. Moved D.Disk disk done.0) }
     ensures stands { IfOk result (λ done. D.tells → AreMigrated done.1 (D.content disk) (D.content done.0)) }
     ensures durable { IfOk result (λ done. D.tells → (m : Map) → StandsOld (D.content disk) m → (c : List ℕ) → D.since done.0 (D.moment done.0) c → Stands c m) }
-    ensures moved_err { IfErr result (λ err. Moved D.tells D.size D.content D.moment D.since D.faults disk err.0) }
+    ensures moved_err { IfErr result (λ err. Moved D.Disk disk err.0) }
     ensures untold { IfErr result (λ err. (err.1 ≡ ImageRefusal.DiskFault) ⊎ (err.1 ≡ ImageRefusal.NoMemory) ⊎ (D.tells → ⊥)) }
-    ensures only_read_err { IfErr result (λ err. (err.1 ≡ ImageRefusal.DiskFault) ⊎ OnlyRead D.tells D.size D.content D.moment D.since D.faults disk err.0) }
+    ensures only_read_err { IfErr result (λ err. (err.1 ≡ ImageRefusal.DiskFault) ⊎ OnlyRead D.Disk disk err.0) }
     ensures cause { IfErr result (λ err. err.1 ≡ ImageRefusal.DiskFault → Rose (D.faults disk) (D.faults err.0)) }
 {
     let areas = plan.geometry.journal_areas();

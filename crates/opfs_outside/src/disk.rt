@@ -1,4 +1,5 @@
-// A disk that may stop at any moment.
+//! A disk that may stop at any moment.
+
 ghost use Rattle.std.specs.Prelude.{◌≡◌, ◌+◌, ◌-◌, ◌^◌, ◌<◌, ◌≤◌, ℕ, List, length, OnOk, OnErr};
 ghost use Rattle.opfs_outside.specs.Bytes.{Same, window, Beside};
 ghost use Rattle.opfs_outside.specs.Faults.{Rose};

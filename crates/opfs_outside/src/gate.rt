@@ -1,3 +1,5 @@
+//! A gate round each step of an agent.
+
 /// What runs before and after each step of an agent, so that a test can set the order of the steps.
 /// The program's own gate is empty.
 pub trait Gate: Sync {

@@ -1,4 +1,5 @@
-// A host of disks, by path.
+//! A host of disks, by path.
+
 ghost use Rattle.std.specs.Prelude.{◌≡◌, ◌≢◌, ◌⊎◌, ◌↔◌, ◌+◌, ◌-◌, ◌^◌, ◌<◌, ◌≤◌, ℕ, List, Option, length, replicate, IfOk, OnOk, OnErr, IsErrOf};
 ghost use Rattle.opfs_outside.specs.Faults.{Rose, RoseBy};
 

@@ -1,4 +1,5 @@
-// Streams of bytes that come in and go out.
+//! Streams of bytes that come in and go out.
+
 ghost use Rattle.std.specs.Prelude.{◌≡◌, ◌++◌, ◌-◌, ◌^◌, ◌<◌, ◌≤◌, ℕ, List, [], length, take, IfOk, OnErr};
 ghost use Rattle.opfs_outside.specs.Faults.{Rose};
 

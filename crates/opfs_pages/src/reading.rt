@@ -30,7 +30,7 @@ pub fn read_page<D: Disk>(
     requires held { is_far (page_at work.now.pages page) ≡ true → page < length (pages_at agent row swap.now) }
     requires lies { is_far (page_at work.now.pages page) ≡ true → LiesIn base (D.size journal.old.disk) (swap_page agent row page swap.now).block }
     requires part { IsDataPart journal.old.areas base }
-    ensures reads { Reads D.tells D.size D.content D.moment D.since D.faults journal.old journal.new }
+    ensures reads { Reads D.Disk journal.old journal.new }
     ensures read { OnOk result (D.tells → (bytes : List ℕ) → IsCopy bytes work.now
         → IsHeld bytes work.now page (page_of (D.content journal.old.disk) base (swap_page agent row page swap.now)) → IsPageOf bytes page into.new) }
     ensures whole { length into.new ≡ 4096 }

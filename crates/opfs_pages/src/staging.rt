@@ -42,7 +42,7 @@ pub fn stage_page<D: Disk>(
     requires held { is_far (page_at work.now.pages page) ≡ true → page < length (pages_at agent row swap.now) }
     requires lies { is_far (page_at work.now.pages page) ≡ true → LiesIn base (D.size journal.old.disk) (swap_page agent row page swap.now).block }
     requires part { IsDataPart journal.old.areas base }
-    ensures reads { Reads D.tells D.size D.content D.moment D.since D.faults journal.old journal.new }
+    ensures reads { Reads D.Disk journal.old journal.new }
     ensures right { OnOk result (D.tells → (bytes : List ℕ) → IsCopy bytes work.now
         → IsHeld bytes work.now page (page_of (D.content journal.old.disk) base (swap_page agent row page swap.now))
         → IsRight (splice bytes at given.now) writes.old given.now → IsRight (splice bytes at given.now) writes.new given.now) }
@@ -72,7 +72,7 @@ fn fill_page<D: Disk>(
     requires held { is_far (page_at work.now.pages page) ≡ true → page < length (pages_at agent row swap.now) }
     requires lies { is_far (page_at work.now.pages page) ≡ true → LiesIn base (D.size journal.old.disk) (swap_page agent row page swap.now).block }
     requires part { IsDataPart journal.old.areas base }
-    ensures reads { Reads D.tells D.size D.content D.moment D.since D.faults journal.old journal.new }
+    ensures reads { Reads D.Disk journal.old journal.new }
     ensures read { OnOk result (D.tells → (bytes : List ℕ) → IsCopy bytes work.now
         → IsHeld bytes work.now page (page_of (D.content journal.old.disk) base (swap_page agent row page swap.now)) → IsPageOf bytes page buffer.new) }
     ensures buffer { length buffer.new ≡ 4096 }

@@ -2,9 +2,11 @@
 #![tactic(auto)]
 
 mod open;
+mod register;
 mod seat;
 mod seats;
 
 pub use open::{OpenHandle, OpenStream, Slot};
+pub use register::Register;
 pub use seat::Seat;
 pub use seats::Seats;

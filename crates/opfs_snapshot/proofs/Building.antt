@@ -10,6 +10,7 @@ use Rattle.opfs_codec.specs.declared.change.Change.TheVariants.{MakeRoot, MakeDi
 use Rattle.opfs_codec.proofs.ChangeLemmas.{change_again}
 use Rattle.opfs_codec.proofs.FieldLemmas.{bind_some}
 use Rattle.opfs_replay.specs.Built.{Built, nothing_built}
+pub use Rattle.opfs_snapshot.specs.Building.{Builds}
 use Rattle.opfs_replay.specs.Applying.{tried, built_within, built_by, built_by_all, rows_of}
 
 abbrev applied_then : ℕ → ℕ → List ℕ → Option Built → Option Built
@@ -49,10 +50,6 @@ some_bytes (Content u p stamp size es) = omega arith
 some_bytes (Persist u) = omega arith
 some_bytes (Evict u) = omega arith
 
--- The bytes build one thing from another, whatever follows them.
-pub record Builds (size : ℕ) (bytes : List ℕ) (before after : Built) : Type 0 where
-  pub goes_on : (most more : ℕ) (rest : List ℕ) (out : Built) → length bytes + most ≤ more → built_within most New size rest after ≡ Some out → built_within more New size (bytes ++ rest) before ≡ Some out
-
 pub builds_nothing : (size : ℕ) (b : Built) → Builds size [] b b
 builds_nothing size b = record { goes_on = λ most more rest out le h. more_changes size most more rest b out (omega (arith, le)) h }
 
@@ -90,10 +87,28 @@ nothing_left size b = refl
 abbrev last_then : ℕ → Option Built → Option Built
 last_then size found = found >>= λ next. built_by_all New size [] next
 
+-- A body that builds from somewhere is read so.
+pub builds_whole : (size : ℕ) (bytes : List ℕ) (before after : Built) → Builds size bytes before after → built_by New size bytes before ≡ Some after
+builds_whole size bytes before after h =
+    ap (λ (xs : List ℕ). built_within (length bytes) New size xs before) (sym (append-nil bytes)) ∙ h.goes_on 0 (length bytes) [] after (omega arith) (nothing_left size after)
+
 -- A body that builds from nothing is one record's.
 pub one_record : (size : ℕ) (bytes : List ℕ) (b : Built) → Builds size bytes nothing_built b → rows_of New size (bytes ∷ []) ≡ Some b
 unfolding built_by_all
-one_record size bytes b h =
-    let whole : built_by New size bytes nothing_built ≡ Some b =
-    ap (λ (xs : List ℕ). built_within (length bytes) New size xs nothing_built) (sym (append-nil bytes)) ∙ h.goes_on 0 (length bytes) [] b (omega arith) (nothing_left size b) in
-    ap (last_then size) whole
+one_record size bytes b h = ap (last_then size) (builds_whole size bytes nothing_built b h)
+
+abbrev all_then : ℕ → List (List ℕ) → Option Built → Option Built
+all_then size more found = found >>= λ next. built_by_all New size more next
+
+one_more : (size : ℕ) (records : List (List ℕ)) (bytes : List ℕ) (start before after : Built) → built_by_all New size records start ≡ Some before → Builds size bytes before after → built_by_all New size (records ++ bytes ∷ []) start ≡ Some after
+unfolding built_by_all
+one_more size [] bytes start before after h builds =
+    let same : start ≡ before = cc in
+    ap (last_then size) (ap (built_by New size bytes) same ∙ builds_whole size bytes before after builds)
+one_more size (r ∷ rs) bytes start before after h builds =
+    let p = bind_some (built_by New size r start) (λ next. built_by_all New size rs next) before h in
+    ap (all_then size (rs ++ bytes ∷ [])) p.1 ∙ one_more size rs bytes p.0 before after p.2 builds
+
+-- One record more, whose body builds from what the records before it built.
+pub rows_more : (size : ℕ) (records : List (List ℕ)) (bytes : List ℕ) (before after : Built) → rows_of New size records ≡ Some before → Builds size bytes before after → rows_of New size (records ++ bytes ∷ []) ≡ Some after
+rows_more size records bytes before after h builds = one_more size records bytes nothing_built before after h builds

@@ -52,7 +52,7 @@ pub persist_len : (unit : Text) → length (spelling New (Persist unit)) ≡ 3 +
 unfolding spelled
 persist_len unit = length_spelling (Persist unit)
 
-units_below : (units : List Text) → length (units_bytes units) ≤ sum_by (λ unit. 3 + key_bytes New unit) units
+pub units_below : (units : List Text) → length (units_bytes units) ≤ sum_by (λ unit. 3 + key_bytes New unit) units
 unfolding spelled
 units_below [] = omega arith
 units_below (u ∷ us) =

@@ -5,7 +5,12 @@ pub mod Keys
 pub mod Last
 pub mod Left
 pub mod Making
+pub mod Modes
+pub mod OneMore
 pub mod Ordered
+pub mod Parts
 pub mod Persisting
+pub mod Remaining
 pub mod StoredRows
 pub mod Whole
+pub mod WholeAfter

@@ -22,10 +22,10 @@ persistent_behind after es = map (λ e. e.0) (filter (λ e. is_past after e.0 &&
 text_total : IsTotalOrder text_cmp
 text_total = nat_list_cmp_total
 
-abbrev keys : Buckets → List Text
+abbrev pub keys : Buckets → List Text
 keys es = map (λ e. e.0) es
 
-abbrev AllPast : Text → List Text → Type 0
+abbrev pub AllPast : Text → List Text → Type 0
 AllPast x ys = AllByRecursion (λ y. text_cmp x y ≡ Less) ys
 
 pub lt_less : (o : Ordering) → is_lt o ≡ true → o ≡ Less
@@ -102,7 +102,7 @@ behind_none after (e ∷ es) none =
       | false ↦ λ f. behind_none after es f
     ] none
 
-past_persistent : (x : Text) (es : Buckets) → AllPast x (keys es) → AllPast x (persistent_in es)
+pub past_persistent : (x : Text) (es : Buckets) → AllPast x (keys es) → AllPast x (persistent_in es)
 past_persistent x [] all = tt
 past_persistent x (e ∷ es) all =
     elim e.1.persistent as (λ t. AllPast x (keys (cond t (e ∷ filter (λ y. y.1.persistent) es) (filter (λ y. y.1.persistent) es)))) [

@@ -1,1 +1,4 @@
+pub mod After
+pub mod Building
+pub mod Contents
 pub mod Written

@@ -4,12 +4,16 @@ ghost use Rattle.std.specs.Prelude.{◌≡◌, ◌↔◌, ◌<◌, ◌≤◌, �
 ghost use Rattle.std.specs.List.{AllByRecursion};
 ghost use Rattle.opfs_base.specs.Texts.{same_text};
 ghost use Rattle.opfs_base.specs.Units.{is_bucket_name, default_bucket};
-ghost use Rattle.opfs_codec.specs.Spelling.{IsText, IsKey, IsName, IsPath, IsExtent, AreExtents, is_key_text};
+ghost use Rattle.opfs_codec.specs.Fields.{plain};
+ghost use Rattle.opfs_codec.specs.Spelling.{IsText, IsKey, IsName, IsPath, IsExtent, AreExtents, IsChange, is_key_text};
 ghost use Rattle.opfs_codec.specs.declared.change.Format.TheVariants.{New};
+ghost use Rattle.opfs_snapshot.specs.Contents.{as_file};
 ghost use Rattle.opfs_snapshot.specs.Written.{IsWritablePlace, IsWritableFile, IsWritableRow};
 
+use crate::content::FileContent;
 use opfs_base::{Extent, Key, Name, Path, is_bucket_name, origin_of};
-use opfs_tree::{FileRow, Row};
+use opfs_codec::ChangeRef;
+use opfs_tree::Row;
 
 /// Whether a unit has an origin of 1 to 255 bytes and a bucket's name, and is the unit of the two.
 pub(crate) fn is_key(unit: &Key) -> bool
@@ -29,8 +33,39 @@ pub(crate) fn is_writable(unit: &Key, path: &Path, row: &Row) -> bool
 {
     match row {
         Row::Dir => is_place(unit, path),
-        Row::File(file) => is_place(unit, path) && is_file(path, file),
+        Row::File(file) => is_file(unit, path, &FileContent::of(file)),
     }
+}
+
+/// Whether a change has a spelling that is read.
+#[tactic(auto, unfolding(opfs_codec::specs::Fields::plain, opfs_codec::specs::Spelling::IsChange))]
+pub(crate) fn is_spelled(change: &ChangeRef<'_>) -> bool
+    ensures { IsTrue result ↔ IsChange New (plain change.now) }
+{
+    match change {
+        ChangeRef::MakeRoot(unit) => is_key(unit),
+        ChangeRef::MakeDir(unit, path) => is_at_path(unit, path),
+        ChangeRef::MakeFile(unit, path, stamp) => {
+            let _stamp = *stamp;
+            is_at_path(unit, path)
+        }
+        ChangeRef::Remove(unit, path) => is_at_path(unit, path),
+        ChangeRef::Content(unit, path, stamp, length, extents) => {
+            let _stamp = *stamp;
+            let _length = *length;
+            is_at_path(unit, path) && are_extents(extents.as_slice())
+        }
+        ChangeRef::Persist(unit) => is_key(unit),
+        ChangeRef::Evict(unit) => is_key(unit),
+    }
+}
+
+// Whether a unit and a path have a spelling that is read.
+fn is_at_path(unit: &Key, path: &Path) -> bool
+    ensures { IsTrue result ↔ (IsKey New unit.now × IsPath path.now) }
+{
+    let names = path.names();
+    is_key(unit) && names.len() <= 255 && are_names(names)
 }
 
 // Whether bytes are a text of 1 to 255 bytes.
@@ -87,9 +122,16 @@ fn is_name(name: &Name) -> bool
     name.as_str().len() <= 255
 }
 
+/// Whether a file can stand at a place.
+pub(crate) fn is_file(unit: &Key, path: &Path, file: &FileContent<'_>) -> bool
+    ensures { IsTrue result ↔ (IsWritablePlace (unit.now, path.now) × IsWritableFile path.now (as_file file.now)) }
+{
+    is_place(unit, path) && is_content(path, file)
+}
+
 // Whether a file is no root, and has few enough extents. Its stamp and length are words of 64 bits, as their types say.
-fn is_file(path: &Path, file: &FileRow) -> bool
-    ensures { IsTrue result ↔ IsWritableFile path.now file.now }
+fn is_content(path: &Path, file: &FileContent<'_>) -> bool
+    ensures { IsTrue result ↔ IsWritableFile path.now (as_file file.now) }
 {
     let _stamp = file.stamp;
     let _length = file.length;

@@ -1,9 +1,13 @@
 //! The body of a checkpoint's one record.
 #![tactic(auto)]
 
+mod after;
 mod body;
 mod checks;
+mod content;
 mod rows;
+mod rows_after;
 mod units;
 
+pub use after::snapshot_after;
 pub use body::snapshot;

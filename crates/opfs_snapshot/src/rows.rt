@@ -2,6 +2,7 @@
 
 ghost use Rattle.std.specs.Prelude.{◌≡◌, ◌≤◌, ◌+◌, ◌*◌, ◌++◌, ℕ, OnOk, [], length, sum_by, vec_len, vec_capacity, is_ok, IsTrue};
 ghost use Rattle.std.specs.List.{AllByRecursion};
+ghost use Rattle.opfs_snapshot.specs.Contents.{as_file};
 ghost use Rattle.opfs_snapshot.specs.Written.{dir_bytes, content_bytes, file_bytes, row_bytes, rows_bytes, IsWritablePlace, IsWritableFile, IsWritableRow, stored_row};
 ghost use Rattle.opfs_base.specs.Blocks.{blocks};
 ghost use Rattle.opfs_codec.specs.Charges.{unit_bytes, path_bytes};
@@ -12,9 +13,10 @@ ghost use Rattle.opfs_tree.specs.declared.row.Row.TheVariants as row;
 ghost use Rattle.opfs_tree.specs.Rows.{IsInOrder, IsClosed};
 
 use crate::checks::is_writable;
+use crate::content::FileContent;
 use opfs_base::{Key, Path};
 use opfs_codec::{ChangeRef, write};
-use opfs_tree::{FileRow, Row, Tree, Walk};
+use opfs_tree::{Row, Tree, Walk};
 use std::alloc::AllocError;
 
 /// Appends the changes that build the rows. A row that has no spelling is answered as want of memory; an image has none.
@@ -42,8 +44,13 @@ pub(crate) fn in_directories(tree: &Tree)
     }
 }
 
-// Appends the changes that make a row.
-fn write_row(unit: &Key, path: &Path, row: &Row, into: &mut Vec<u8>) -> Result<(), AllocError>
+/// Appends the changes that make a row.
+pub(crate) fn write_row(
+    unit: &Key,
+    path: &Path,
+    row: &Row,
+    into: &mut Vec<u8>,
+) -> Result<(), AllocError>
     ensures written { OnOk result (into.new.items ≡ into.old.items ++ row_bytes (unit.now, path.now) row.now) }
     ensures writable { OnOk result (IsWritableRow (unit.now, path.now) row.now) }
     ensures capacity { vec_capacity into.old ≤ vec_capacity into.new }
@@ -54,7 +61,7 @@ fn write_row(unit: &Key, path: &Path, row: &Row, into: &mut Vec<u8>) -> Result<(
     }
     match row {
         Row::Dir => write_dir(unit, path, into)?,
-        Row::File(file) => write_file(unit, path, file, into)?,
+        Row::File(file) => write_file(unit, path, &FileContent::of(file), into)?,
     }
     Ok(())
 }
@@ -75,14 +82,19 @@ fn write_dir(unit: &Key, path: &Path, into: &mut Vec<u8>) -> Result<(), AllocErr
     Ok(())
 }
 
-// Appends the changes that make a file and its content.
+/// Appends the changes that make a file and its content.
 #[tactic(auto, unfolding(opfs_codec::specs::Fields::plain, opfs_codec::specs::Fields::Fits, opfs_codec::specs::Fields::HasFewExtents, opfs_codec::specs::Charges::charge))]
-fn write_file(unit: &Key, path: &Path, file: &FileRow, into: &mut Vec<u8>) -> Result<(), AllocError>
+pub(crate) fn write_file(
+    unit: &Key,
+    path: &Path,
+    file: &FileContent<'_>,
+    into: &mut Vec<u8>,
+) -> Result<(), AllocError>
     requires place { IsWritablePlace (unit.now, path.now) }
-    requires file { IsWritableFile path.now file.now }
-    ensures written { OnOk result (into.new.items ≡ into.old.items ++ file_bytes unit.now path.now file.now) }
+    requires file { IsWritableFile path.now (as_file file.now) }
+    ensures written { OnOk result (into.new.items ≡ into.old.items ++ file_bytes unit.now path.now (as_file file.now)) }
     ensures capacity { vec_capacity into.old ≤ vec_capacity into.new }
-    ensures room { length file.now.extents ≤ blocks file.now.length → vec_len into.old + row_charge New (unit.now, path.now) (row.File file.now) ≤ vec_capacity into.old → IsTrue (is_ok result) }
+    ensures room { length file.now.extents.now ≤ blocks file.now.length → vec_len into.old + row_charge New (unit.now, path.now) (row.File (as_file file.now)) ≤ vec_capacity into.old → IsTrue (is_ok result) }
 {
     write(&ChangeRef::MakeFile(unit, path, file.stamp), into)?;
     write_content(unit, path, file, into)?;
@@ -94,23 +106,22 @@ fn write_file(unit: &Key, path: &Path, file: &FileRow, into: &mut Vec<u8>) -> Re
 fn write_content(
     unit: &Key,
     path: &Path,
-    file: &FileRow,
+    file: &FileContent<'_>,
     into: &mut Vec<u8>,
 ) -> Result<(), AllocError>
     requires place { IsWritablePlace (unit.now, path.now) }
-    requires file { IsWritableFile path.now file.now }
-    ensures written { OnOk result (into.new.items ≡ into.old.items ++ content_bytes unit.now path.now file.now) }
+    requires file { IsWritableFile path.now (as_file file.now) }
+    ensures written { OnOk result (into.new.items ≡ into.old.items ++ content_bytes unit.now path.now (as_file file.now)) }
     ensures capacity { vec_capacity into.old ≤ vec_capacity into.new }
-    ensures room { length file.now.extents ≤ blocks file.now.length → vec_len into.old + (23 + unit_bytes unit.now + path_bytes path.now + 8 * blocks file.now.length) ≤ vec_capacity into.old → IsTrue (is_ok result) }
+    ensures room { length file.now.extents.now ≤ blocks file.now.length → vec_len into.old + (23 + unit_bytes unit.now + path_bytes path.now + 8 * blocks file.now.length) ≤ vec_capacity into.old → IsTrue (is_ok result) }
 {
     if file.length == 0 {
         return Ok(());
     }
-    let FileRow {
-        length,
+    let FileContent {
         stamp,
+        length,
         extents,
-        ..
     } = file;
     let content = ChangeRef::Content(unit, path, *stamp, *length, extents);
     write(&content, into)?;

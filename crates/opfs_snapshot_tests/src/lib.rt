@@ -1,5 +1,6 @@
 //! Tests of the body of a checkpoint's record.
 #![tactic(auto)]
 
+mod after;
 mod bytes;
 mod growing;

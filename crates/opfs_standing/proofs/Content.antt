@@ -21,7 +21,7 @@ use Rattle.opfs_shed.specs.Buckets as shed_words
 use Rattle.opfs_tree.specs.declared.row.FileRow.{FileRow}
 use Rattle.opfs_tree.specs.declared.row.Row.{Row}
 use Rattle.opfs_tree.specs.Rows as tree
-use Rattle.opfs_standing.specs.Beside.{Rest}
+use Rattle.opfs_seats.specs.Registers.{Registered}
 use Rattle.opfs_standing.specs.Seen.{Machine, machine_of, lines_of, persistent_in}
 use Rattle.opfs_standing.specs.Sums.{clearable}
 use Rattle.opfs_standing.specs.Tied.{IsKnown, IsTied}
@@ -59,7 +59,7 @@ some_row : (o : Option Row) (f : FileRow) → tree.file_of o ≡ Some f → is_s
 some_row None f h = cc
 some_row (Some r) f h = refl
 
-module _ (rows : tree.Rows) (shed : Storage) (pool : Blocks) (rest : Rest) (cost : ℕ) (top : List Text) (unit : Text) (path : List Text) (f : FileRow)
+module _ (rows : tree.Rows) (shed : Storage) (pool : Blocks) (rest : Registered) (cost : ℕ) (top : List Text) (unit : Text) (path : List Text) (f : FileRow)
     (tied : IsTied (machine_of rows shed.buckets rest) shed pool cost top) (found : tree.file_at (unit, path) rows ≡ Some f) where
   pub content-known : IsKnown shed pool unit
   content-known = tied.known (unit, path) (there-at (unit, path) rows ∙ some_row (tree.row_at (unit, path) rows) f found)
@@ -111,10 +111,13 @@ module _ (rows : tree.Rows) (shed : Storage) (pool : Blocks) (rest : Rest) (cost
     moved_less = shed-freed shed freed unit (blocks f.present) content-known.bucket content-usage less usages
 
     pub content-there : shed_words.has_unit freed.buckets unit ≡ true
-    content-there = moved_less.kept unit content-known.bucket
+    content-there = moved_less.kept unit ∙ content-known.bucket
 
-    pub content-fits : usage in_lengths m (origin_of unit) + more < 2 ^ 64 → usage_of (origin_of unit) freed.buckets + more < 2 ^ 64
-    content-fits fits = omega (arith, fits, usages (origin_of unit), content-quota)
+    own_part : part_of (origin_of unit) unit (blocks f.present) ≡ blocks f.present
+    own_part = ap (λ t. cond t (blocks f.present) 0) (unit_itself (origin_of unit) (origin_of unit) refl)
+
+    pub content-fits : usage in_lengths m (origin_of unit) + more < 2 ^ 64 + blocks f.present → usage_of (origin_of unit) freed.buckets + more < 2 ^ 64
+    content-fits fits = omega (arith, fits, usages (origin_of unit), content-quota, own_part)
 
     module _ (back : added ≡ shed_words.changed freed unit (record (bucket_at freed.buckets unit) { usage = (bucket_at freed.buckets unit).usage + more })) where
       pub content-modes : persistent_in added.buckets ≡ persistent_in shed.buckets

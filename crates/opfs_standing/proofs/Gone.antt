@@ -6,7 +6,7 @@ use Rattle.opfs_pool.specs.Shares.{Blocks, has_share, share_at, changed, held}
 use Rattle.opfs_shed.specs.Buckets.{Storage, has_unit, bucket_at, usage_of, part_of}
 use Rattle.opfs_shed.specs.Buckets as shed_words
 use Rattle.opfs_tree.specs.Rows as tree
-use Rattle.opfs_standing.specs.Beside.{Rest}
+use Rattle.opfs_seats.specs.Registers.{Registered}
 use Rattle.opfs_standing.specs.Seen.{Machine, machine_of, persistent_in}
 use Rattle.opfs_standing.specs.Sums.{clearable}
 use Rattle.opfs_standing.specs.Tied.{IsKnown, IsTied}
@@ -18,10 +18,10 @@ use Rattle.opfs_standing.proofs.TiedMoved.{tied_moved}
 use Rattle.opfs_standing.proofs.Units.{unit_itself}
 
 -- The same modes, the same machine.
-pub modes-machine : (rows : tree.Rows) (rest : Rest) (shed shed_after : Storage) → persistent_in shed_after.buckets ≡ persistent_in shed.buckets → machine_of rows shed_after.buckets rest ≡ machine_of rows shed.buckets rest
+pub modes-machine : (rows : tree.Rows) (rest : Registered) (shed shed_after : Storage) → persistent_in shed_after.buckets ≡ persistent_in shed.buckets → machine_of rows shed_after.buckets rest ≡ machine_of rows shed.buckets rest
 modes-machine rows rest shed shed_after modes = ap (λ (us : List Text). record (machine_of rows shed.buckets rest) { persistent = us }) modes
 
-module _ (rows : tree.Rows) (shed : Storage) (pool : Blocks) (rest : Rest) (cost : ℕ) (top : List Text) (unit : Text) (path : List Text)
+module _ (rows : tree.Rows) (shed : Storage) (pool : Blocks) (rest : Registered) (cost : ℕ) (top : List Text) (unit : Text) (path : List Text)
     (tied : IsTied (machine_of rows shed.buckets rest) shed pool cost top) (there : is_some (tree.row_at (unit, path) rows) ≡ true) where
   abbrev pub away : Amounts
   away = gone (unit, path) rows shed.buckets rest

@@ -17,7 +17,7 @@ use Rattle.opfs_tree.specs.declared.row.Row.TheVariants as row
 use Rattle.opfs_tree.specs.Rows as tree
 use Rattle.opfs_tree.specs.Sums as tree_sums
 use Rattle.opfs_tree.proofs.Closed.{exact_places}
-use Rattle.opfs_standing.specs.Beside.{Rest}
+use Rattle.opfs_seats.specs.Registers.{Registered}
 use Rattle.opfs_standing.specs.Seen.{Machine, line_of, lines_of, machine_of}
 use Rattle.opfs_standing.specs.Sums.{where_unit, clearable}
 use Rattle.opfs_standing.specs.Moves.{Amounts, Moves}
@@ -107,7 +107,7 @@ module _ (place : Place) where
   kept_there true o h = cc
   kept_there false o h = h
 
-  module _ (rows : tree.Rows) (buckets : Buckets) (rest : Rest) where
+  module _ (rows : tree.Rows) (buckets : Buckets) (rest : Registered) where
     abbrev pub gone : Amounts
     gone = record {
       usage = sum_by tree.present_blocks (tree.rows_within place rows);

@@ -3,7 +3,7 @@ pub mod Counted
 pub mod FileMoves
 pub mod Gone
 pub mod GoneMoves
-pub mod Handles
+pub mod OpenHandles
 pub mod Lines
 pub mod Locked
 pub mod Made
@@ -14,6 +14,10 @@ pub mod RowMoves
 pub mod RowSums
 pub mod SlotMoves
 pub mod Stores
-pub mod Streams
+pub mod OpenStreams
 pub mod TiedMoved
 pub mod Units
+pub mod Inserted
+pub mod Persisted
+pub mod Touched
+pub mod Flushed

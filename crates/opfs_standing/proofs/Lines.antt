@@ -20,7 +20,7 @@ use Rattle.opfs_tree.specs.declared.row.Row.{Row}
 use Rattle.opfs_tree.specs.declared.row.Row.TheVariants as row
 use Rattle.opfs_tree.specs.Rows as tree
 use Rattle.opfs_standing.specs.Seen.{line_of, lines_of, persistent_in, machine_of}
-use Rattle.opfs_standing.specs.Beside.{Rest}
+use Rattle.opfs_seats.specs.Registers.{Registered}
 use Rattle.opfs_standing.specs.Sums.{clearable}
 use Rattle.opfs_standing.proofs.Units.{same_unit}
 
@@ -98,7 +98,7 @@ any-filter u f (k ∷ keys) =
     ] refl
 
 -- A unit without a bucket is best-effort.
-known_key : (u : Text) (buckets : Buckets) → list_any (same_text u) (keys_of buckets) ≡ is_some (lookup (is_unit u) buckets)
+pub known_key : (u : Text) (buckets : Buckets) → list_any (same_text u) (keys_of buckets) ≡ is_some (lookup (is_unit u) buckets)
 known_key u [] = refl
 known_key u (e ∷ es) =
     ap (λ t. t || list_any (same_text u) (keys_of es)) (texts_ties u e.0)
@@ -116,8 +116,8 @@ persistent-is u buckets =
     any-filter u (λ x. (bucket_at buckets x).persistent) (keys_of buckets) ∙ (ap (λ t. (bucket_at buckets u).persistent && t) (known_key u buckets) ∙ mode_there (lookup (is_unit u) buckets))
 
 -- Whether a unit may be cleared.
-pub clear-lines : (u : Text) (rows : tree.Rows) (buckets : Buckets) (beside : Rest) → clearable (machine_of rows buckets beside) u ≡ (is_some (tree.row_at (u, []) rows) && not (bucket_at buckets u).persistent && tree.none_taken u rows)
-clear-lines u rows buckets beside =
-    ap (λ t. t && not (list_any (same_text u) (persistent_in buckets)) && machine_victims.none_taken (machine_of rows buckets beside) u) (there-at (u, []) rows)
-    ∙ (ap (λ t. is_some (tree.row_at (u, []) rows) && not t && machine_victims.none_taken (machine_of rows buckets beside) u) (persistent-is u buckets)
+pub clear-lines : (u : Text) (rows : tree.Rows) (buckets : Buckets) (register : Registered) → clearable (machine_of rows buckets register) u ≡ (is_some (tree.row_at (u, []) rows) && not (bucket_at buckets u).persistent && tree.none_taken u rows)
+clear-lines u rows buckets register =
+    ap (λ t. t && not (list_any (same_text u) (persistent_in buckets)) && machine_victims.none_taken (machine_of rows buckets register) u) (there-at (u, []) rows)
+    ∙ (ap (λ t. is_some (tree.row_at (u, []) rows) && not t && machine_victims.none_taken (machine_of rows buckets register) u) (persistent-is u buckets)
     ∙ ap (λ t. is_some (tree.row_at (u, []) rows) && not (bucket_at buckets u).persistent && t) (none-lines u rows))

@@ -10,7 +10,7 @@ use Rattle.opfs_tree.specs.declared.row.FileRow.{FileRow}
 use Rattle.opfs_tree.specs.declared.row.Row.{Row}
 use Rattle.opfs_tree.specs.declared.row.Row.TheVariants as row
 use Rattle.opfs_tree.specs.Rows as tree
-use Rattle.opfs_standing.specs.Beside.{Rest}
+use Rattle.opfs_seats.specs.Registers.{Registered}
 use Rattle.opfs_standing.specs.Seen.{line_of, lines_of, machine_of}
 use Rattle.opfs_standing.proofs.Lines.{lines-at, file-at, file_line}
 
@@ -42,7 +42,7 @@ children_lines : (dir : Place) (rows : tree.Rows) → tree.has_children dir rows
 children_lines dir [] = refl
 children_lines dir (e ∷ es) = ap (λ t. is_some (child_name dir e.0) || t) (children_lines dir es)
 
-module _ (rows : tree.Rows) (buckets : Buckets) (rest : Rest) (place : Place) where
+module _ (rows : tree.Rows) (buckets : Buckets) (rest : Registered) (place : Place) where
   pub kind-read : option_map tree.kind_of (tree.row_at place rows) ≡ option_map machine.kind_of (machine.row_at (machine_of rows buckets rest) place)
   kind-read = kind_line (tree.row_at place rows) ∙ ap (option_map machine.kind_of) (sym (lines-at place rows))
 

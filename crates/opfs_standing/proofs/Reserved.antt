@@ -9,7 +9,7 @@ use Rattle.opfs_pool.specs.Shares.{Blocks, share_at}
 use Rattle.opfs_seats.specs.Slots.{slot_in, stream_at, with_slot}
 use Rattle.opfs_shed.specs.Buckets.{Storage}
 use Rattle.opfs_tree.specs.Rows as tree
-use Rattle.opfs_standing.specs.Beside.{Rest}
+use Rattle.opfs_seats.specs.Registers.{Registered}
 use Rattle.opfs_standing.specs.Seen.{Machine, machine_of, with_slot_at, persistent_in}
 use Rattle.opfs_standing.specs.Tied.{IsKnown, IsTied}
 use Rattle.opfs_standing.specs.Moves.{ShedMoves, PoolMoves, kept_amounts}
@@ -35,7 +35,7 @@ slot-is-stream agents at n w h = of_slot (slot_in agents at n) h
     of_slot None e = cc
     of_slot (Some r) e = ap Some (in_row r e)
 
-module _ (rows : tree.Rows) (shed shed_after : Storage) (pool pool_after : Blocks) (rest rest_after : Rest) (cost : ℕ) (top : List Text) (at n : ℕ) (unit : Text) (old new : Outline)
+module _ (rows : tree.Rows) (shed shed_after : Storage) (pool pool_after : Blocks) (rest rest_after : Registered) (cost : ℕ) (top : List Text) (at n : ℕ) (unit : Text) (old new : Outline)
     (is : rest_after ≡ record rest { agents = with_slot rest.agents at n new }) (modes : persistent_in shed_after.buckets ≡ persistent_in shed.buckets) where
   pub slot-machine : machine_of rows shed_after.buckets rest_after ≡ with_slot_at (machine_of rows shed.buckets rest) at n new
   slot-machine =

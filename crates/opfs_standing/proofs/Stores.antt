@@ -11,7 +11,8 @@ use Rattle.opfs_shed.proofs.Values.{lookup-set_same, lookup-set_other, is_some-s
 use Rattle.opfs_shed.specs.declared.shed.Bucket.{Bucket}
 use Rattle.opfs_shed.specs.Buckets as shed_words
 use Rattle.opfs_shed.specs.Buckets.{Storage, Buckets, has_unit, bucket_at, with_bucket, usage_of, part_of}
-use Rattle.opfs_standing.specs.Seen.{persistent_in}
+use Rattle.opfs_ready.specs.Ready.{Ready}
+use Rattle.opfs_standing.specs.Seen.{Prepared, persistent_in}
 use Rattle.opfs_standing.specs.Moves.{ShedMoves, PoolMoves}
 use Rattle.opfs_standing.specs.Sums.{of_origin}
 use Rattle.opfs_standing.proofs.Units.{same_unit, apart_back}
@@ -28,6 +29,15 @@ found_new (Some x) w d h = refl
 
 -- ---- buckets
 
+-- The units stay.
+pub keys-kept : (test : Text → Bool) (es : Buckets) (b : Bucket) → keys_of (set_value test es b) ≡ keys_of es
+keys-kept test [] b = refl
+keys-kept test (e ∷ es) b =
+    elim (test e.0) as (λ t. keys_of (cond t ((e.0, b) ∷ es) (e ∷ set_value test es b)) ≡ e.0 ∷ keys_of es) [
+      | true ↦ refl
+      | false ↦ ap (λ xs. e.0 ∷ xs) (keys-kept test es b)
+    ]
+
 module _ (es : Buckets) (unit : Text) (b : Bucket) where
   pub bucket-same : has_unit es unit ≡ true → bucket_at (with_bucket es unit b) unit ≡ b
   bucket-same has = ap (λ o. unwrap_or o shed_words.first_bucket) (lookup-set_same (shed_words.is_unit unit) es b) ∙ found_new (lookup (shed_words.is_unit unit) es) b shed_words.first_bucket has
@@ -35,8 +45,8 @@ module _ (es : Buckets) (unit : Text) (b : Bucket) where
   pub bucket-other : (u : Text) → same_text unit u ≡ false → bucket_at (with_bucket es unit b) u ≡ bucket_at es u
   bucket-other u apart = ap (λ o. unwrap_or o shed_words.first_bucket) (lookup-set_other (shed_words.is_unit unit) (shed_words.is_unit u) es b (keys_apart unit u apart))
 
-  pub bucket-kept : (u : Text) → has_unit es u ≡ true → has_unit (with_bucket es unit b) u ≡ true
-  bucket-kept u has = is_some-set_value (shed_words.is_unit unit) (shed_words.is_unit u) es b ∙ has
+  pub bucket-kept : (u : Text) → has_unit (with_bucket es unit b) u ≡ has_unit es u
+  bucket-kept u = is_some-set_value (shed_words.is_unit unit) (shed_words.is_unit u) es b
 
 -- A bucket's usage once it has another bucket, at any unit.
 module _ (shed new : Storage) (unit : Text) (b : Bucket) (less more : ℕ) (has : has_unit shed.buckets unit ≡ true) (is : new.buckets ≡ with_bucket shed.buckets unit b)
@@ -57,13 +67,14 @@ module _ (shed new : Storage) (unit : Text) (b : Bucket) (less more : ℕ) (has 
   pub shed-moved : new.quota ≡ shed.quota → ((origin : Text) → usage_of origin new.buckets + cond (of_origin origin unit) less 0 ≡ usage_of origin shed.buckets + cond (of_origin origin unit) more 0) → ShedMoves shed new unit less more
   shed-moved quota usages = record {
     quota = quota;
-    kept = λ u known. ap (λ es. has_unit es u) is ∙ bucket-kept shed.buckets unit b u known;
+    units = ap keys_of is ∙ keys-kept (shed_words.is_unit unit) shed.buckets b;
+    kept = λ u. ap (λ es. has_unit es u) is ∙ bucket-kept shed.buckets unit b u;
     usage = usage_at;
     usages = usages;
   }
 
 pub shed-kept : (shed : Storage) (unit : Text) (n : ℕ) → ShedMoves shed shed unit n n
-shed-kept shed unit n = record { quota = refl; kept = λ u known. known; usage = λ u. refl; usages = λ origin. refl }
+shed-kept shed unit n = record { quota = refl; units = refl; kept = λ u. refl; usage = λ u. refl; usages = λ origin. refl }
 
 -- More blocks of a unit.
 pub shed-added : (shed new : Storage) (unit : Text) (need : ℕ) → has_unit shed.buckets unit ≡ true
@@ -92,7 +103,8 @@ shed-freed shed new unit n has le is usages =
 pub shed-then : (a b c : Storage) (unit : Text) (x y z : ℕ) → ShedMoves a b unit x y → ShedMoves b c unit y z → ShedMoves a c unit x z
 shed-then a b c unit x y z first second = record {
   quota = second.quota ∙ first.quota;
-  kept = λ u known. second.kept u (first.kept u known);
+  units = second.units ∙ first.units;
+  kept = λ u. second.kept u ∙ first.kept u;
   usage = λ u. omega (arith, first.usage u, second.usage u);
   usages = λ origin. omega (arith, first.usages origin, second.usages origin);
 }
@@ -170,6 +182,7 @@ lifted false a b x y k more less e p q = omega arith
 pub shed-lift : (a b : Storage) (unit : Text) (x y k less more : ℕ) → less ≡ k + x → more ≡ k + y → ShedMoves a b unit x y → ShedMoves a b unit less more
 shed-lift a b unit x y k less more p q moves = record {
   quota = moves.quota;
+  units = moves.units;
   kept = moves.kept;
   usage = λ u. lifted (same_text u unit) _ _ x y k more less (moves.usage u) p q;
   usages = λ origin. lifted (of_origin origin unit) _ _ x y k more less (moves.usages origin) p q;
@@ -198,18 +211,10 @@ pub mark-kept : (pool new : Blocks) (unit : Text) (v : Share) → has_share pool
 mark-kept pool new unit v has is same = ap (λ (b : Blocks). (share_at b.shares unit).candidate) is ∙ (ap (λ (x : Share). x.candidate) (share-same pool.shares unit v has) ∙ same)
 
 -- Modes stay where usage alone changes.
-filter-same : (f g : Text → Bool) → ((u : Text) → f u ≡ g u) → (us : List Text) → filter f us ≡ filter g us
+pub filter-same : (f g : Text → Bool) → ((u : Text) → f u ≡ g u) → (us : List Text) → filter f us ≡ filter g us
 filter-same f g same [] = refl
 filter-same f g same (u ∷ us) =
     ap (λ t. cond t (u ∷ filter f us) (filter f us)) (same u) ∙ ap (λ xs. cond (g u) (u ∷ xs) xs) (filter-same f g same us)
-
-keys-kept : (test : Text → Bool) (es : Buckets) (b : Bucket) → keys_of (set_value test es b) ≡ keys_of es
-keys-kept test [] b = refl
-keys-kept test (e ∷ es) b =
-    elim (test e.0) as (λ t. keys_of (cond t ((e.0, b) ∷ es) (e ∷ set_value test es b)) ≡ e.0 ∷ keys_of es) [
-      | true ↦ refl
-      | false ↦ ap (λ xs. e.0 ∷ xs) (keys-kept test es b)
-    ]
 
 pub modes-kept : (es : Buckets) (unit : Text) (b : Bucket) → has_unit es unit ≡ true → b.persistent ≡ (bucket_at es unit).persistent → persistent_in (with_bucket es unit b) ≡ persistent_in es
 modes-kept es unit b has same =
@@ -222,3 +227,10 @@ modes-kept es unit b has same =
       | false ↦ λ told. ap (λ (x : Bucket). x.persistent) (bucket-other es unit b u told)
     ] refl in
     ap (filter (mode (with_bucket es unit b))) (keys-kept (shed_words.is_unit unit) es b) ∙ filter-same (mode (with_bucket es unit b)) (mode es) each (keys_of es)
+
+-- What is prepared stays where the place that stands ready does, and each unit has another bucket at most.
+pub units-kept : (shed new : Storage) (unit : Text) (b : Bucket) → new ≡ shed_words.changed shed unit b → keys_of new.buckets ≡ keys_of shed.buckets
+units-kept shed new unit b is = ap (λ (s : Storage). keys_of s.buckets) is ∙ keys-kept (shed_words.is_unit unit) shed.buckets b
+
+pub prepared-same : (place later : Ready) (units more : List Text) → later ≡ place → more ≡ units → ◌≡◌ {A = Prepared} (record { place = later; units = more }) (record { place = place; units = units })
+prepared-same place later units more a b i = record { place = a i; units = b i }

@@ -16,11 +16,12 @@ module _ (m new : Machine) (shed shed_after : Storage) (pool pool_after : Blocks
       → (share_at pool_after.shares unit).candidate ≡ clearable new unit → cost_after + less.charge ≡ cost + more.charge
       → IsTied new shed_after pool_after cost_after top
   tied_moved tied its machine buckets shares mark charge =
-      let still : (u : Text) → IsKnown shed pool u → IsKnown shed_after pool_after u = λ u k. record { bucket = buckets.kept u k.bucket; share = shares.kept u k.share } in
+      let still : (u : Text) → IsKnown shed pool u → IsKnown shed_after pool_after u = λ u k. record { bucket = buckets.kept u ∙ k.bucket; share = shares.kept u k.share } in
       record {
         root = tied.root;
         quota = buckets.quota ∙ (tied.quota ∙ ap (λ l. l.quota) (sym machine.limits));
         size = shares.size ∙ (tied.size ∙ ap (λ l. l.blocks) (sym machine.limits));
+        shared = λ u has. shares.kept u (tied.shared u (sym (buckets.kept u) ∙ has));
         known = λ place there.
             elim (is_some (row_at m place)) as (λ t. is_some (row_at m place) ≡ t → IsKnown shed_after pool_after place.0) [
               | true ↦ λ was. still place.0 (tied.known place was)

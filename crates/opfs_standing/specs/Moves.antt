@@ -1,6 +1,7 @@
 -- A change of one unit: what leaves the sums of the machine, of the buckets and of the shares, and what comes. This
 -- project's own.
 use Rattle.std.specs.Prelude.{◌≡◌, ℕ, ◌+◌, Bool, true, false, cond, is_some}
+use Rattle.std.specs.Map.{keys_of}
 use Rattle.opfs_base.specs.Places.{Place}
 use Rattle.opfs_base.specs.Texts.{Text, same_text}
 use Rattle.opfs_machine.specs.Rows.{row_at}
@@ -32,7 +33,8 @@ pub record Moves (m new : Machine) (unit : Text) (less more : Amounts) : Type 0 
 -- The buckets.
 pub record ShedMoves (shed new : Storage) (unit : Text) (less more : ℕ) : Type 0 where
   pub quota : new.quota ≡ shed.quota
-  pub kept : (u : Text) → has_unit shed.buckets u ≡ true → has_unit new.buckets u ≡ true
+  pub units : keys_of new.buckets ≡ keys_of shed.buckets
+  pub kept : (u : Text) → has_unit new.buckets u ≡ has_unit shed.buckets u
   pub usage : (u : Text) → (bucket_at new.buckets u).usage + cond (same_text u unit) less 0 ≡ (bucket_at shed.buckets u).usage + cond (same_text u unit) more 0
   pub usages : (origin : Text) → usage_of origin new.buckets + cond (of_origin origin unit) less 0 ≡ usage_of origin shed.buckets + cond (of_origin origin unit) more 0
 

@@ -1,15 +1,17 @@
 -- The shared store as the machine in lengths, read from its tree, its buckets and its agents. This project's own.
-use Rattle.std.specs.Prelude.{ℕ, List, map, filter}
+use Rattle.std.specs.Prelude.{ℕ, Bool, List, map, filter}
+use Rattle.std.specs.List.{list_any}
 use Rattle.std.specs.Map.{keys_of}
-use Rattle.opfs_base.specs.Texts.{Text}
+use Rattle.opfs_base.specs.Texts.{Text, same_text}
 use Rattle.opfs_machine.specs.declared.own.Outline.{Outline}
 use Rattle.opfs_machine.specs.declared.state.Row.TheVariants as line
 use Rattle.opfs_machine.specs.declared.state.Row.{Row as Line}
 use Rattle.opfs_machine.specs.declared.state.State.{State}
 use Rattle.opfs_machine.specs.Rows.{Rows as Lines}
+use Rattle.opfs_ready.specs.Ready.{Ready}
 use Rattle.opfs_seats.specs.Slots.{with_slot}
 use Rattle.opfs_shed.specs.Buckets.{Buckets, bucket_at}
-use Rattle.opfs_standing.specs.Beside.{Rest}
+use Rattle.opfs_seats.specs.Registers.{Registered}
 use Rattle.opfs_tree.specs.Rows.{Rows}
 use Rattle.opfs_tree.specs.declared.row.Row.{Row}
 use Rattle.opfs_tree.specs.declared.row.Row.TheVariants as row
@@ -30,20 +32,29 @@ lines_of rows = map (λ e. (e.0, line_of e.1)) rows
 abbrev pub persistent_in : Buckets → List Text
 persistent_in buckets = filter (λ unit. (bucket_at buckets unit).persistent) (keys_of buckets)
 
-abbrev pub machine_of : Rows → Buckets → Rest → Machine
-machine_of rows buckets beside = record {
+abbrev pub machine_of : Rows → Buckets → Registered → Machine
+machine_of rows buckets register = record {
   rows = lines_of rows;
   persistent = persistent_in buckets;
-  posted = beside.posted;
-  agents = beside.agents;
-  entries = beside.entries;
-  used = beside.used;
-  limits = beside.limits;
+  posted = register.posted;
+  agents = register.agents;
+  entries = register.entries;
+  used = register.used;
+  limits = register.limits;
 }
+
+-- What changes need no memory for: the place that stands ready for a row, and the units that are known.
+pub record Prepared : Type 0 where
+  pub place : Ready
+  pub units : List Text
+
+abbrev pub is_known : Text → Prepared → Bool
+is_known unit prepared = list_any (same_text unit) prepared.units
 
 pub record Seen : Type 0 where
   pub machine : Machine
   pub tree : Rows
+  pub prepared : Prepared
 
 -- The machine with an own row changed, of an agent at a place, both counted from 0.
 abbrev pub with_slot_at : Machine → ℕ → ℕ → Outline → Machine

@@ -18,6 +18,7 @@ pub record IsTied (m : Machine) (shed : Storage) (pool : Blocks) (cost : ℕ) (t
   pub root : top ≡ []
   pub quota : shed.quota ≡ m.limits.quota
   pub size : pool.size ≡ m.limits.blocks
+  pub shared : (unit : Text) → has_unit shed.buckets unit ≡ true → has_share pool.shares unit ≡ true
   pub known : (place : Place) → is_some (row_at m place) ≡ true → IsKnown shed pool place.0
   pub usage : (unit : Text) → (bucket_at shed.buckets unit).usage ≡ usage_where (same_text unit) m
   pub usages : (origin : Text) → usage_of origin shed.buckets ≡ usage_where (of_origin origin) m

@@ -2,8 +2,12 @@
 //! ask for.
 #![tactic(auto)]
 
-mod beside;
+mod files;
+mod handles;
+mod locks;
 mod readers;
+mod rows;
 mod standing;
+mod streams;
 
 pub use standing::Standing;

@@ -1,4 +1,5 @@
-// The digests of an image's files.
+//! The digests of an image's files.
+
 ghost use Rattle.std.specs.Prelude.{◌≡◌, ◌+◌, ◌*◌, ◌^◌, ◌<◌, ◌≤◌, ◌++◌, IfOk, OnOk, OnErr, IsErrOf};
 ghost use Rattle.opfs_codec.specs.declared.change.Format.TheVariants.{New};
 ghost use Rattle.opfs_data.specs.Calls.{Reads};
@@ -34,7 +35,7 @@ fn check_text<D: Disk>(
     requires lies { RowsLie base (D.size journal.old.disk) tree.now }
     requires behind { journal.old.areas.first + 2 * journal.old.areas.bytes ≤ base }
     requires small { base < 2 ^ 63 }
-    ensures reads { Reads D.tells D.size D.content D.moment D.since D.faults journal.old journal.new }
+    ensures reads { Reads D.Disk journal.old journal.new }
     ensures text { IfOk result (λ text. D.tells → text.items ≡ stored_lines base (D.content journal.old.disk) tree.now ++ counts_line (sights_in tree.now) (persistent_in shed.now.buckets)) }
     ensures cause { IsErrOf result DataRefusal.DiskFault → Rose (D.faults journal.old.disk) (D.faults journal.new.disk) }
 {
@@ -54,7 +55,7 @@ pub fn check<D: Disk>(
 ) -> Result<(), DataRefusal>
     ensures checked { OnOk result (D.tells → into.new.items ≡ into.old.items ++ check_text (filled (data_base from.old.geometry) (D.content from.old.journal.disk) (built_in from.old.tree from.old.shed))) }
     ensures err { OnErr result (into.new.items ≡ into.old.items) }
-    ensures reads { Reads D.tells D.size D.content D.moment D.since D.faults from.old.journal from.new.journal }
+    ensures reads { Reads D.Disk from.old.journal from.new.journal }
     ensures geometry { from.new.geometry ≡ from.old.geometry }
     ensures tree { from.new.tree ≡ from.old.tree }
     ensures shed { from.new.shed ≡ from.old.shed }

@@ -1,4 +1,5 @@
-// The counts of an image.
+//! The counts of an image.
+
 ghost use Rattle.std.specs.Prelude.{◌≡◌, ◌^◌, ◌<◌, length, IfOk, string_bytes};
 ghost use Rattle.opfs_codec.specs.declared.change.Format.TheVariants.{New};
 ghost use Rattle.opfs_image.specs.Agreeing.{built_in};

@@ -1,4 +1,5 @@
-// The digests of files.
+//! The digests of files.
+
 ghost use Rattle.std.specs.Prelude.{◌≡◌, ◌+◌, ◌*◌, ◌^◌, ◌<◌, ◌≤◌, ◌++◌, ℕ, List, length, IfOk, IfSome, IsSome, OnOk, OnErr, IsErrOf};
 ghost use Rattle.sha2.specs.Hashers.{Holds256};
 ghost use Rattle.sha2.specs.Sha256.{sha256};
@@ -11,16 +12,13 @@ ghost use Rattle.opfs_tools.specs.Checking.{digest_line, stored_line};
 ghost use Rattle.opfs_tools.specs.Reading.{Lies, RowsLie, stored_lines};
 
 use crate::lines::digest_line;
-use opfs_base::Extent;
+use opfs_base::{BLOCK_SIZE, Extent};
 use opfs_data::DataRefusal;
 use opfs_journal::{DiskFault, Journal};
 use opfs_outside::Disk;
 use opfs_tree::{FileRow, Row, Tree, Walk};
 use sha2::{Digest, Sha256};
 use std::alloc::{AllocError, Global};
-
-// The bytes of a block.
-const BLOCK: u64 = 4096;
 
 // The bytes that are read at once.
 const PIECE: usize = 65536;
@@ -34,7 +32,7 @@ fn add_piece<D: Disk>(
 ) -> Result<(), DiskFault>
     requires lies { at + length piece.old ≤ D.size journal.old.disk }
     requires behind { journal.old.areas.first + 2 * journal.old.areas.bytes ≤ at }
-    ensures reads { Reads D.tells D.size D.content D.moment D.since D.faults journal.old journal.new }
+    ensures reads { Reads D.Disk journal.old journal.new }
     ensures added { OnOk result (D.tells → (m : List ℕ) → Holds256 hasher.old m → Holds256 hasher.new (m ++ window (D.content journal.old.disk) at (length piece.old))) }
     ensures cause { OnErr result (Rose (D.faults journal.old.disk) (D.faults journal.new.disk)) }
 {
@@ -55,7 +53,7 @@ fn add_bytes<D: Disk>(
     requires lies { at + count ≤ D.size journal.old.disk }
     requires behind { journal.old.areas.first + 2 * journal.old.areas.bytes ≤ at }
     requires small { at + count < 2 ^ 64 }
-    ensures reads { Reads D.tells D.size D.content D.moment D.since D.faults journal.old journal.new }
+    ensures reads { Reads D.Disk journal.old journal.new }
     ensures added { OnOk result (D.tells → (m : List ℕ) → Holds256 hasher.old m → Holds256 hasher.new (m ++ window (D.content journal.old.disk) at count)) }
     ensures cause { OnErr result (Rose (D.faults journal.old.disk) (D.faults journal.new.disk)) }
 {
@@ -81,15 +79,15 @@ fn digest_of<D: Disk>(
     requires lies { AllLie base (D.size journal.old.disk) extents.now }
     requires behind { journal.old.areas.first + 2 * journal.old.areas.bytes ≤ base }
     requires small { base < 2 ^ 63 }
-    ensures reads { Reads D.tells D.size D.content D.moment D.since D.faults journal.old journal.new }
+    ensures reads { Reads D.Disk journal.old journal.new }
     ensures digest { IfOk result (λ digest. D.tells → digest ≡ sha256 (bytes_of (D.content journal.old.disk) base extents.now len)) }
     ensures cause { OnErr result (Rose (D.faults journal.old.disk) (D.faults journal.new.disk)) }
 {
     let mut hasher = Sha256::new();
     let mut left = len;
     for extent in extents {
-        let count = (u64::from(extent.count) * BLOCK).min(left);
-        let place = base + u64::from(extent.start) * BLOCK;
+        let count = (u64::from(extent.count) * BLOCK_SIZE).min(left);
+        let place = base + u64::from(extent.start) * BLOCK_SIZE;
         add_bytes(journal, place, count, piece, &mut hasher)?;
         left -= count;
     }
@@ -112,7 +110,7 @@ fn add_file<D: Disk>(
     requires lies { AllLie base (D.size journal.old.disk) file.now.extents }
     requires behind { journal.old.areas.first + 2 * journal.old.areas.bytes ≤ base }
     requires small { base < 2 ^ 63 }
-    ensures reads { Reads D.tells D.size D.content D.moment D.since D.faults journal.old journal.new }
+    ensures reads { Reads D.Disk journal.old journal.new }
     ensures added { OnOk result (D.tells → IfSome walk.now (λ place. text.new.items ≡ text.old.items ++ digest_line place (bytes_of (D.content journal.old.disk) base file.now.extents file.now.length))) }
     ensures cause { IsErrOf result DataRefusal.DiskFault → Rose (D.faults journal.old.disk) (D.faults journal.new.disk) }
 {
@@ -137,7 +135,7 @@ fn add_row<D: Disk>(
     requires lies { Lies base (D.size journal.old.disk) row.now }
     requires behind { journal.old.areas.first + 2 * journal.old.areas.bytes ≤ base }
     requires small { base < 2 ^ 63 }
-    ensures reads { Reads D.tells D.size D.content D.moment D.since D.faults journal.old journal.new }
+    ensures reads { Reads D.Disk journal.old journal.new }
     ensures added { OnOk result (D.tells → IfSome walk.now (λ place. text.new.items ≡ text.old.items ++ stored_line (place, filled_row base (D.content journal.old.disk) row.now))) }
     ensures cause { IsErrOf result DataRefusal.DiskFault → Rose (D.faults journal.old.disk) (D.faults journal.new.disk) }
 {
@@ -163,7 +161,7 @@ fn add_rows<D: Disk>(
     requires lies { RowsLie base (D.size journal.old.disk) tree.now }
     requires behind { journal.old.areas.first + 2 * journal.old.areas.bytes ≤ base }
     requires small { base < 2 ^ 63 }
-    ensures reads { Reads D.tells D.size D.content D.moment D.since D.faults journal.old journal.new }
+    ensures reads { Reads D.Disk journal.old journal.new }
     ensures added { OnOk result (D.tells → text.new.items ≡ text.old.items ++ stored_lines base (D.content journal.old.disk) tree.now) }
     ensures cause { IsErrOf result DataRefusal.DiskFault → Rose (D.faults journal.old.disk) (D.faults journal.new.disk) }
 {
@@ -192,7 +190,7 @@ pub(crate) fn digests_text<D: Disk>(
     requires lies { RowsLie base (D.size journal.old.disk) tree.now }
     requires behind { journal.old.areas.first + 2 * journal.old.areas.bytes ≤ base }
     requires small { base < 2 ^ 63 }
-    ensures reads { Reads D.tells D.size D.content D.moment D.since D.faults journal.old journal.new }
+    ensures reads { Reads D.Disk journal.old journal.new }
     ensures digests { IfOk result (λ text. D.tells → text.items ≡ stored_lines base (D.content journal.old.disk) tree.now) }
     ensures cause { IsErrOf result DataRefusal.DiskFault → Rose (D.faults journal.old.disk) (D.faults journal.new.disk) }
 {

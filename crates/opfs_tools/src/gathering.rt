@@ -1,4 +1,5 @@
-// The rows of a tree, and the persistent units of a shed.
+//! The rows of a tree, and the persistent units of a shed.
+
 ghost use Rattle.std.specs.Prelude.{◌≡◌, IfOk};
 ghost use Rattle.opfs_replay.specs.Sums.{persistent_in};
 ghost use Rattle.opfs_tools.specs.Sights.{sights_in};

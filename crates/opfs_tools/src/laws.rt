@@ -1,4 +1,4 @@
-// Laws of the texts.
+//! Laws of the texts.
 
 ghost use Rattle.std.specs.Prelude.{◌≡◌, ◌||◌, List, map};
 ghost use Rattle.std.specs.List.{list_any, flat_map};

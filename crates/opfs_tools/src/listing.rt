@@ -1,4 +1,5 @@
-// What an image has.
+//! What an image has.
+
 ghost use Rattle.std.specs.Prelude.{◌≡◌, ◌^◌, ◌<◌, ◌++◌, IfOk, OnOk, OnErr};
 ghost use Rattle.std.specs.List.{flat_map};
 ghost use Rattle.opfs_image.specs.Agreeing.{built_in};

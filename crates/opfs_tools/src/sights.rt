@@ -1,4 +1,5 @@
-// Rows without the bytes of their files.
+//! Rows without the bytes of their files.
+
 ghost use Rattle.std.specs.Prelude.{◌≡◌};
 ghost use Rattle.opfs_tools.specs.Sights.{sight_in, sight_blocks};
 

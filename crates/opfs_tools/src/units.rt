@@ -1,4 +1,5 @@
-// Rows unit by unit.
+//! Rows unit by unit.
+
 ghost use Rattle.std.specs.Prelude.{◌≡◌, ◌+◌, ◌^◌, ◌<◌, ◌≤◌, ◌++◌, map, length, drop, IfOk, OnOk};
 ghost use Rattle.std.specs.List.{prefix_len};
 ghost use Rattle.opfs_base.specs.Texts.{same_text};

@@ -8,7 +8,7 @@ use std::test::Fail;
 
 // A script of one agent that makes a file.
 const SCRIPT: &str =
-    "{\"agents\":[{\"origin\":\"https://a.example\",\"steps\":[{\"do\":\"getDirectory\",\"as\":\"d\"}]}]}";
+    r#"{"agents":[{"origin":"https://a.example","steps":[{"do":"getDirectory","as":"d"}]}]}"#;
 
 // How `try` ends with this room in the sink, where these reads fail.
 fn tried(alloc: Global, room: u64, fails: Vec<u64>) -> Result<(Status, String), AllocError> {

@@ -10,23 +10,23 @@ fn refused_scripts_are_told_with_their_places(rt: HostRuntime) -> Result<(), Fai
     let rows = [
         ("{", "opfs: script refused: NotJson\n"),
         (
-            "{\"agents\":[{\"origin\":\"nonsense\",\"steps\":[]}]}",
+            r#"{"agents":[{"origin":"nonsense","steps":[]}]}"#,
             "opfs: script refused: BadOrigin 1\n",
         ),
         (
-            "{\"agents\":[{\"origin\":\"https://a.example\",\"steps\":[{\"do\":\"fly\"}]}]}",
+            r#"{"agents":[{"origin":"https://a.example","steps":[{"do":"fly"}]}]}"#,
             "opfs: script refused: UnknownStep 1 1\n",
         ),
         (
-            "{\"agents\":[],\"x\":1}",
+            r#"{"agents":[],"x":1}"#,
             "opfs: script refused: BadShape 0 0\n",
         ),
         (
-            "{\"agents\":[{\"origin\":\"https://a.example\",\"steps\":[{\"do\":\"moment\",\"ms\":9007199254740992}]}]}",
+            r#"{"agents":[{"origin":"https://a.example","steps":[{"do":"moment","ms":9007199254740992}]}]}"#,
             "opfs: script refused: BadShape 1 1\n",
         ),
         (
-            "{\"agents\":[{\"origin\":\"https://a.example\",\"steps\":[{\"do\":\"getDirectory\"}]}]}",
+            r#"{"agents":[{"origin":"https://a.example","steps":[{"do":"getDirectory"}]}]}"#,
             "opfs: script refused: BadShape 1 1\n",
         ),
     ];
@@ -69,15 +69,13 @@ fn deep_nesting_has_an_end(rt: HostRuntime) -> Result<(), Fail> {
 fn slices(alloc: Global, count: u32) -> Result<Vec<u8>, AllocError> {
     let mut text = bytes_of(
         alloc,
-        "{\"agents\":[{\"origin\":\"https://a.example\",\"steps\":[",
+        r#"{"agents":[{"origin":"https://a.example","steps":["#,
     )?;
     for number in 0..count {
         if number > 0 {
             text.push(b',')?;
         }
-        text.extend_from_slice(
-            "{\"do\":\"slice\",\"snapshot\":\"s\",\"at\":0,\"len\":65536}".as_bytes(),
-        )?;
+        text.extend_from_slice(r#"{"do":"slice","snapshot":"s","at":0,"len":65536}"#.as_bytes())?;
     }
     text.extend_from_slice("]}]}".as_bytes())?;
     Ok(text)
@@ -97,12 +95,12 @@ fn unbound_slices(alloc: Global, count: u32) -> Result<String, AllocError> {
 
 // So many agents without steps.
 fn idle_agents(alloc: Global, count: u32) -> Result<Vec<u8>, AllocError> {
-    let mut text = bytes_of(alloc, "{\"agents\":[")?;
+    let mut text = bytes_of(alloc, r#"{"agents":["#)?;
     for number in 0..count {
         if number > 0 {
             text.push(b',')?;
         }
-        text.extend_from_slice("{\"origin\":\"https://a.example\",\"steps\":[]}".as_bytes())?;
+        text.extend_from_slice(r#"{"origin":"https://a.example","steps":[]}"#.as_bytes())?;
     }
     text.extend_from_slice("]}".as_bytes())?;
     Ok(text)

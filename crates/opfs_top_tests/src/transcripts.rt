@@ -9,12 +9,12 @@ fn try_prints_its_lines(rt: HostRuntime) -> Result<(), Fail> {
     let rows = [
         (
             "a_file_is_made_written_and_read",
-            "{\"agents\":[{\"origin\":\"https://a.example\",\"steps\":[{\"do\":\"getDirectory\",\"as\":\"d\"},\
-            {\"do\":\"getFileHandle\",\"dir\":\"d\",\"name\":\"note\",\"create\":true,\"as\":\"f\"},\
-            {\"do\":\"createWritable\",\"file\":\"f\",\"as\":\"w\"},\
-            {\"do\":\"write\",\"stream\":\"w\",\"data\":\"hello\"},\
-            {\"do\":\"close\",\"stream\":\"w\"},\
-            {\"do\":\"getFile\",\"file\":\"f\",\"as\":\"s\"}]}]}",
+            r#"{"agents":[{"origin":"https://a.example","steps":[{"do":"getDirectory","as":"d"},
+            {"do":"getFileHandle","dir":"d","name":"note","create":true,"as":"f"},
+            {"do":"createWritable","file":"f","as":"w"},
+            {"do":"write","stream":"w","data":"hello"},
+            {"do":"close","stream":"w"},
+            {"do":"getFile","file":"f","as":"s"}]}]}"#,
             "1.1 getDirectory ok\n\
             1.2 getFileHandle ok\n\
             1.3 createWritable ok\n\
@@ -23,15 +23,15 @@ fn try_prints_its_lines(rt: HostRuntime) -> Result<(), Fail> {
             1.6 getFile ok 5 0\n\
             1.7 end ok\n",
         ),
-        ("no_agents_print_nothing", "{\"agents\":[]}", ""),
+        ("no_agents_print_nothing", r#"{"agents":[]}"#, ""),
         (
             "names_that_are_not_valid",
-            "{\"agents\":[{\"origin\":\"https://a.example\",\"steps\":[{\"do\":\"getDirectory\",\"as\":\"d\"},\
-            {\"do\":\"getFileHandle\",\"dir\":\"d\",\"name\":\"\",\"create\":true,\"as\":\"x\"},\
-            {\"do\":\"getFileHandle\",\"dir\":\"d\",\"name\":\".\",\"create\":true,\"as\":\"x\"},\
-            {\"do\":\"getFileHandle\",\"dir\":\"d\",\"name\":\"..\",\"create\":true,\"as\":\"x\"},\
-            {\"do\":\"getFileHandle\",\"dir\":\"d\",\"name\":\"a/b\",\"create\":true,\"as\":\"x\"},\
-            {\"do\":\"getFileHandle\",\"dir\":\"d\",\"name\":\"a\\\\b\",\"create\":true,\"as\":\"x\"}]}]}",
+            r#"{"agents":[{"origin":"https://a.example","steps":[{"do":"getDirectory","as":"d"},
+            {"do":"getFileHandle","dir":"d","name":"","create":true,"as":"x"},
+            {"do":"getFileHandle","dir":"d","name":".","create":true,"as":"x"},
+            {"do":"getFileHandle","dir":"d","name":"..","create":true,"as":"x"},
+            {"do":"getFileHandle","dir":"d","name":"a/b","create":true,"as":"x"},
+            {"do":"getFileHandle","dir":"d","name":"a\\b","create":true,"as":"x"}]}]}"#,
             "1.1 getDirectory ok\n\
             1.2 getFileHandle TypeError\n\
             1.3 getFileHandle TypeError\n\
@@ -42,11 +42,11 @@ fn try_prints_its_lines(rt: HostRuntime) -> Result<(), Fail> {
         ),
         (
             "a_child_of_the_other_kind",
-            "{\"agents\":[{\"origin\":\"https://a.example\",\"steps\":[{\"do\":\"getDirectory\",\"as\":\"d\"},\
-            {\"do\":\"getDirectoryHandle\",\"dir\":\"d\",\"name\":\"x\",\"create\":true,\"as\":\"x\"},\
-            {\"do\":\"getFileHandle\",\"dir\":\"d\",\"name\":\"x\",\"as\":\"y\"},\
-            {\"do\":\"getFileHandle\",\"dir\":\"d\",\"name\":\"x\",\"create\":true,\"as\":\"y\"},\
-            {\"do\":\"getFile\",\"file\":\"y\",\"as\":\"s\"}]}]}",
+            r#"{"agents":[{"origin":"https://a.example","steps":[{"do":"getDirectory","as":"d"},
+            {"do":"getDirectoryHandle","dir":"d","name":"x","create":true,"as":"x"},
+            {"do":"getFileHandle","dir":"d","name":"x","as":"y"},
+            {"do":"getFileHandle","dir":"d","name":"x","create":true,"as":"y"},
+            {"do":"getFile","file":"y","as":"s"}]}]}"#,
             "1.1 getDirectory ok\n\
             1.2 getDirectoryHandle ok\n\
             1.3 getFileHandle TypeMismatchError\n\
@@ -56,16 +56,16 @@ fn try_prints_its_lines(rt: HostRuntime) -> Result<(), Fail> {
         ),
         (
             "paths_resolve_and_directories_go_with_all_below",
-            "{\"agents\":[{\"origin\":\"https://a.example\",\"steps\":[{\"do\":\"getDirectory\",\"as\":\"d\"},\
-            {\"do\":\"getDirectoryHandle\",\"dir\":\"d\",\"name\":\"p\",\"create\":true,\"as\":\"p\"},\
-            {\"do\":\"getFileHandle\",\"dir\":\"p\",\"name\":\"q\",\"create\":true,\"as\":\"q\"},\
-            {\"do\":\"resolve\",\"dir\":\"d\",\"entry\":\"q\"},\
-            {\"do\":\"resolve\",\"dir\":\"d\",\"entry\":\"d\"},\
-            {\"do\":\"resolve\",\"dir\":\"p\",\"entry\":\"d\"},\
-            {\"do\":\"isSameEntry\",\"entry\":\"q\",\"other\":\"q\"},\
-            {\"do\":\"removeEntry\",\"dir\":\"d\",\"name\":\"p\"},\
-            {\"do\":\"removeEntry\",\"dir\":\"d\",\"name\":\"p\",\"recursive\":true},\
-            {\"do\":\"removeEntry\",\"dir\":\"d\",\"name\":\"p\",\"recursive\":true}]}]}",
+            r#"{"agents":[{"origin":"https://a.example","steps":[{"do":"getDirectory","as":"d"},
+            {"do":"getDirectoryHandle","dir":"d","name":"p","create":true,"as":"p"},
+            {"do":"getFileHandle","dir":"p","name":"q","create":true,"as":"q"},
+            {"do":"resolve","dir":"d","entry":"q"},
+            {"do":"resolve","dir":"d","entry":"d"},
+            {"do":"resolve","dir":"p","entry":"d"},
+            {"do":"isSameEntry","entry":"q","other":"q"},
+            {"do":"removeEntry","dir":"d","name":"p"},
+            {"do":"removeEntry","dir":"d","name":"p","recursive":true},
+            {"do":"removeEntry","dir":"d","name":"p","recursive":true}]}]}"#,
             "1.1 getDirectory ok\n\
             1.2 getDirectoryHandle ok\n\
             1.3 getFileHandle ok\n\
@@ -80,19 +80,19 @@ fn try_prints_its_lines(rt: HostRuntime) -> Result<(), Fail> {
         ),
         (
             "a_second_stream_shares_the_lock",
-            "{\"agents\":[{\"origin\":\"https://a.example\",\"steps\":[{\"do\":\"getDirectory\",\"as\":\"d\"},\
-            {\"do\":\"getFileHandle\",\"dir\":\"d\",\"name\":\"f\",\"create\":true,\"as\":\"f\"},\
-            {\"do\":\"createWritable\",\"file\":\"f\",\"as\":\"w\"},\
-            {\"do\":\"createWritable\",\"file\":\"f\",\"as\":\"v\"},\
-            {\"do\":\"createSyncAccessHandle\",\"file\":\"f\",\"as\":\"h\"},\
-            {\"do\":\"write\",\"stream\":\"w\",\"data\":\"one\"},\
-            {\"do\":\"write\",\"stream\":\"v\",\"data\":\"two!\"},\
-            {\"do\":\"close\",\"stream\":\"w\"},\
-            {\"do\":\"createSyncAccessHandle\",\"file\":\"f\",\"as\":\"h\"},\
-            {\"do\":\"getFile\",\"file\":\"f\",\"as\":\"s\"},\
-            {\"do\":\"close\",\"stream\":\"v\"},\
-            {\"do\":\"createSyncAccessHandle\",\"file\":\"f\",\"as\":\"h\"},\
-            {\"do\":\"getFile\",\"file\":\"f\",\"as\":\"s\"}]}]}",
+            r#"{"agents":[{"origin":"https://a.example","steps":[{"do":"getDirectory","as":"d"},
+            {"do":"getFileHandle","dir":"d","name":"f","create":true,"as":"f"},
+            {"do":"createWritable","file":"f","as":"w"},
+            {"do":"createWritable","file":"f","as":"v"},
+            {"do":"createSyncAccessHandle","file":"f","as":"h"},
+            {"do":"write","stream":"w","data":"one"},
+            {"do":"write","stream":"v","data":"two!"},
+            {"do":"close","stream":"w"},
+            {"do":"createSyncAccessHandle","file":"f","as":"h"},
+            {"do":"getFile","file":"f","as":"s"},
+            {"do":"close","stream":"v"},
+            {"do":"createSyncAccessHandle","file":"f","as":"h"},
+            {"do":"getFile","file":"f","as":"s"}]}]}"#,
             "1.1 getDirectory ok\n\
             1.2 getFileHandle ok\n\
             1.3 createWritable ok\n\
@@ -111,15 +111,15 @@ fn try_prints_its_lines(rt: HostRuntime) -> Result<(), Fail> {
         ),
         (
             "an_access_handle_keeps_streams_out",
-            "{\"agents\":[{\"origin\":\"https://a.example\",\"steps\":[{\"do\":\"getDirectory\",\"as\":\"d\"},\
-            {\"do\":\"getFileHandle\",\"dir\":\"d\",\"name\":\"f\",\"create\":true,\"as\":\"f\"},\
-            {\"do\":\"createWritable\",\"file\":\"f\",\"as\":\"w\"},\
-            {\"do\":\"createSyncAccessHandle\",\"file\":\"f\",\"as\":\"h\"},\
-            {\"do\":\"removeEntry\",\"dir\":\"d\",\"name\":\"f\"},\
-            {\"do\":\"abort\",\"stream\":\"w\"},\
-            {\"do\":\"createSyncAccessHandle\",\"file\":\"f\",\"as\":\"h\"},\
-            {\"do\":\"createWritable\",\"file\":\"f\",\"as\":\"v\"},\
-            {\"do\":\"close\",\"stream\":\"w\"}]}]}",
+            r#"{"agents":[{"origin":"https://a.example","steps":[{"do":"getDirectory","as":"d"},
+            {"do":"getFileHandle","dir":"d","name":"f","create":true,"as":"f"},
+            {"do":"createWritable","file":"f","as":"w"},
+            {"do":"createSyncAccessHandle","file":"f","as":"h"},
+            {"do":"removeEntry","dir":"d","name":"f"},
+            {"do":"abort","stream":"w"},
+            {"do":"createSyncAccessHandle","file":"f","as":"h"},
+            {"do":"createWritable","file":"f","as":"v"},
+            {"do":"close","stream":"w"}]}]}"#,
             "1.1 getDirectory ok\n\
             1.2 getFileHandle ok\n\
             1.3 createWritable ok\n\
@@ -134,15 +134,15 @@ fn try_prints_its_lines(rt: HostRuntime) -> Result<(), Fail> {
         ),
         (
             "a_write_past_the_end_fills_the_gap",
-            "{\"agents\":[{\"origin\":\"https://a.example\",\"steps\":[{\"do\":\"getDirectory\",\"as\":\"d\"},\
-            {\"do\":\"getFileHandle\",\"dir\":\"d\",\"name\":\"f\",\"create\":true,\"as\":\"f\"},\
-            {\"do\":\"moment\",\"ms\":1700000000000},\
-            {\"do\":\"createWritable\",\"file\":\"f\",\"as\":\"w\"},\
-            {\"do\":\"seek\",\"stream\":\"w\",\"position\":10},\
-            {\"do\":\"write\",\"stream\":\"w\",\"data\":\"x\"},\
-            {\"do\":\"close\",\"stream\":\"w\"},\
-            {\"do\":\"getFile\",\"file\":\"f\",\"as\":\"s\"},\
-            {\"do\":\"slice\",\"snapshot\":\"s\",\"at\":0,\"len\":11}]}]}",
+            r#"{"agents":[{"origin":"https://a.example","steps":[{"do":"getDirectory","as":"d"},
+            {"do":"getFileHandle","dir":"d","name":"f","create":true,"as":"f"},
+            {"do":"moment","ms":1700000000000},
+            {"do":"createWritable","file":"f","as":"w"},
+            {"do":"seek","stream":"w","position":10},
+            {"do":"write","stream":"w","data":"x"},
+            {"do":"close","stream":"w"},
+            {"do":"getFile","file":"f","as":"s"},
+            {"do":"slice","snapshot":"s","at":0,"len":11}]}]}"#,
             "1.1 getDirectory ok\n\
             1.2 getFileHandle ok\n\
             1.3 moment ok\n\
@@ -156,17 +156,17 @@ fn try_prints_its_lines(rt: HostRuntime) -> Result<(), Fail> {
         ),
         (
             "truncate_cuts_and_extends",
-            "{\"agents\":[{\"origin\":\"https://a.example\",\"steps\":[{\"do\":\"getDirectory\",\"as\":\"d\"},\
-            {\"do\":\"getFileHandle\",\"dir\":\"d\",\"name\":\"f\",\"create\":true,\"as\":\"f\"},\
-            {\"do\":\"createWritable\",\"file\":\"f\",\"as\":\"w\"},\
-            {\"do\":\"write\",\"stream\":\"w\",\"data\":\"abcdefghi\"},\
-            {\"do\":\"truncate\",\"stream\":\"w\",\"size\":3},\
-            {\"do\":\"write\",\"stream\":\"w\",\"data\":\"Z\"},\
-            {\"do\":\"truncate\",\"stream\":\"w\",\"size\":5000},\
-            {\"do\":\"truncate\",\"stream\":\"w\",\"size\":4},\
-            {\"do\":\"close\",\"stream\":\"w\"},\
-            {\"do\":\"getFile\",\"file\":\"f\",\"as\":\"s\"},\
-            {\"do\":\"slice\",\"snapshot\":\"s\",\"at\":0,\"len\":9}]}]}",
+            r#"{"agents":[{"origin":"https://a.example","steps":[{"do":"getDirectory","as":"d"},
+            {"do":"getFileHandle","dir":"d","name":"f","create":true,"as":"f"},
+            {"do":"createWritable","file":"f","as":"w"},
+            {"do":"write","stream":"w","data":"abcdefghi"},
+            {"do":"truncate","stream":"w","size":3},
+            {"do":"write","stream":"w","data":"Z"},
+            {"do":"truncate","stream":"w","size":5000},
+            {"do":"truncate","stream":"w","size":4},
+            {"do":"close","stream":"w"},
+            {"do":"getFile","file":"f","as":"s"},
+            {"do":"slice","snapshot":"s","at":0,"len":9}]}]}"#,
             "1.1 getDirectory ok\n\
             1.2 getFileHandle ok\n\
             1.3 createWritable ok\n\
@@ -182,24 +182,24 @@ fn try_prints_its_lines(rt: HostRuntime) -> Result<(), Fail> {
         ),
         (
             "an_access_handle_reads_and_writes_in_place",
-            "{\"agents\":[{\"origin\":\"https://a.example\",\"steps\":[{\"do\":\"getDirectory\",\"as\":\"d\"},\
-            {\"do\":\"getFileHandle\",\"dir\":\"d\",\"name\":\"f\",\"create\":true,\"as\":\"f\"},\
-            {\"do\":\"createWritable\",\"file\":\"f\",\"as\":\"w\"},\
-            {\"do\":\"write\",\"stream\":\"w\",\"data\":\"abcd\"},\
-            {\"do\":\"close\",\"stream\":\"w\"},\
-            {\"do\":\"createSyncAccessHandle\",\"file\":\"f\",\"as\":\"h\"},\
-            {\"do\":\"syncRead\",\"sync\":\"h\",\"len\":10,\"at\":4},\
-            {\"do\":\"syncRead\",\"sync\":\"h\",\"len\":1,\"at\":9},\
-            {\"do\":\"syncRead\",\"sync\":\"h\",\"len\":0,\"at\":2},\
-            {\"do\":\"syncRead\",\"sync\":\"h\",\"len\":10},\
-            {\"do\":\"syncWrite\",\"sync\":\"h\",\"data\":\"e\"},\
-            {\"do\":\"syncGetSize\",\"sync\":\"h\"},\
-            {\"do\":\"syncTruncate\",\"sync\":\"h\",\"size\":2},\
-            {\"do\":\"syncRead\",\"sync\":\"h\",\"len\":4},\
-            {\"do\":\"syncFlush\",\"sync\":\"h\"},\
-            {\"do\":\"syncClose\",\"sync\":\"h\"},\
-            {\"do\":\"syncClose\",\"sync\":\"h\"},\
-            {\"do\":\"syncGetSize\",\"sync\":\"h\"}]}]}",
+            r#"{"agents":[{"origin":"https://a.example","steps":[{"do":"getDirectory","as":"d"},
+            {"do":"getFileHandle","dir":"d","name":"f","create":true,"as":"f"},
+            {"do":"createWritable","file":"f","as":"w"},
+            {"do":"write","stream":"w","data":"abcd"},
+            {"do":"close","stream":"w"},
+            {"do":"createSyncAccessHandle","file":"f","as":"h"},
+            {"do":"syncRead","sync":"h","len":10,"at":4},
+            {"do":"syncRead","sync":"h","len":1,"at":9},
+            {"do":"syncRead","sync":"h","len":0,"at":2},
+            {"do":"syncRead","sync":"h","len":10},
+            {"do":"syncWrite","sync":"h","data":"e"},
+            {"do":"syncGetSize","sync":"h"},
+            {"do":"syncTruncate","sync":"h","size":2},
+            {"do":"syncRead","sync":"h","len":4},
+            {"do":"syncFlush","sync":"h"},
+            {"do":"syncClose","sync":"h"},
+            {"do":"syncClose","sync":"h"},
+            {"do":"syncGetSize","sync":"h"}]}]}"#,
             "1.1 getDirectory ok\n\
             1.2 getFileHandle ok\n\
             1.3 createWritable ok\n\
@@ -222,13 +222,13 @@ fn try_prints_its_lines(rt: HostRuntime) -> Result<(), Fail> {
         ),
         (
             "what_was_not_flushed_is_discarded",
-            "{\"agents\":[{\"origin\":\"https://a.example\",\"steps\":[{\"do\":\"getDirectory\",\"as\":\"d\"},\
-            {\"do\":\"getFileHandle\",\"dir\":\"d\",\"name\":\"f\",\"create\":true,\"as\":\"f\"},\
-            {\"do\":\"createSyncAccessHandle\",\"file\":\"f\",\"as\":\"h\"},\
-            {\"do\":\"syncWrite\",\"sync\":\"h\",\"data\":\"ab\"},\
-            {\"do\":\"syncFlush\",\"sync\":\"h\"},\
-            {\"do\":\"syncWrite\",\"sync\":\"h\",\"data\":\"cd\"},\
-            {\"do\":\"getFile\",\"file\":\"f\",\"as\":\"s\"}]}]}",
+            r#"{"agents":[{"origin":"https://a.example","steps":[{"do":"getDirectory","as":"d"},
+            {"do":"getFileHandle","dir":"d","name":"f","create":true,"as":"f"},
+            {"do":"createSyncAccessHandle","file":"f","as":"h"},
+            {"do":"syncWrite","sync":"h","data":"ab"},
+            {"do":"syncFlush","sync":"h"},
+            {"do":"syncWrite","sync":"h","data":"cd"},
+            {"do":"getFile","file":"f","as":"s"}]}]}"#,
             "1.1 getDirectory ok\n\
             1.2 getFileHandle ok\n\
             1.3 createSyncAccessHandle ok\n\
@@ -241,13 +241,13 @@ fn try_prints_its_lines(rt: HostRuntime) -> Result<(), Fail> {
         ),
         (
             "an_iterator_gives_each_name_once",
-            "{\"agents\":[{\"origin\":\"https://a.example\",\"steps\":[{\"do\":\"getDirectory\",\"as\":\"d\"},\
-            {\"do\":\"getFileHandle\",\"dir\":\"d\",\"name\":\"b\",\"create\":true,\"as\":\"b\"},\
-            {\"do\":\"values\",\"dir\":\"d\",\"as\":\"i\"},\
-            {\"do\":\"next\",\"iterator\":\"i\",\"as\":\"x\"},\
-            {\"do\":\"getFileHandle\",\"dir\":\"d\",\"name\":\"a\",\"create\":true,\"as\":\"a\"},\
-            {\"do\":\"next\",\"iterator\":\"i\",\"as\":\"x\"},\
-            {\"do\":\"next\",\"iterator\":\"i\",\"as\":\"x\"}]}]}",
+            r#"{"agents":[{"origin":"https://a.example","steps":[{"do":"getDirectory","as":"d"},
+            {"do":"getFileHandle","dir":"d","name":"b","create":true,"as":"b"},
+            {"do":"values","dir":"d","as":"i"},
+            {"do":"next","iterator":"i","as":"x"},
+            {"do":"getFileHandle","dir":"d","name":"a","create":true,"as":"a"},
+            {"do":"next","iterator":"i","as":"x"},
+            {"do":"next","iterator":"i","as":"x"}]}]}"#,
             "1.1 getDirectory ok\n\
             1.2 getFileHandle ok\n\
             1.3 values ok\n\
@@ -259,9 +259,9 @@ fn try_prints_its_lines(rt: HostRuntime) -> Result<(), Fail> {
         ),
         (
             "persist_with_the_grant",
-            "{\"agents\":[{\"origin\":\"https://a.example\",\"steps\":[{\"do\":\"persisted\"},\
-            {\"do\":\"persist\"},\
-            {\"do\":\"persisted\"}],\"grants\":[\"persistent-storage\"]}]}",
+            r#"{"agents":[{"origin":"https://a.example","steps":[{"do":"persisted"},
+            {"do":"persist"},
+            {"do":"persisted"}],"grants":["persistent-storage"]}]}"#,
             "1.1 persisted ok false\n\
             1.2 persist ok true\n\
             1.3 persisted ok true\n\
@@ -269,16 +269,16 @@ fn try_prints_its_lines(rt: HostRuntime) -> Result<(), Fail> {
         ),
         (
             "persist_without_the_grant",
-            "{\"agents\":[{\"origin\":\"https://a.example\",\"steps\":[{\"do\":\"persist\"}]}]}",
+            r#"{"agents":[{"origin":"https://a.example","steps":[{"do":"persist"}]}]}"#,
             "1.1 persist ok false\n\
             1.2 end ok\n",
         ),
         (
             "an_opaque_origin_has_no_store",
-            "{\"agents\":[{\"origin\":\"data:,x\",\"steps\":[{\"do\":\"getDirectory\",\"as\":\"d\"},\
-            {\"do\":\"estimate\"},\
-            {\"do\":\"persisted\"},\
-            {\"do\":\"persist\"}]}]}",
+            r#"{"agents":[{"origin":"data:,x","steps":[{"do":"getDirectory","as":"d"},
+            {"do":"estimate"},
+            {"do":"persisted"},
+            {"do":"persist"}]}]}"#,
             "1.1 getDirectory SecurityError\n\
             1.2 estimate TypeError\n\
             1.3 persisted TypeError\n\
@@ -287,54 +287,54 @@ fn try_prints_its_lines(rt: HostRuntime) -> Result<(), Fail> {
         ),
         (
             "a_default_port_is_no_part_of_the_key",
-            "{\"agents\":[{\"origin\":\"https://A.example:443/x\",\"steps\":[{\"do\":\"getDirectory\",\"as\":\"d\"}]}]}",
+            r#"{"agents":[{"origin":"https://A.example:443/x","steps":[{"do":"getDirectory","as":"d"}]}]}"#,
             "1.1 getDirectory ok\n\
             1.2 end ok\n",
         ),
         (
             "another_port_is",
-            "{\"agents\":[{\"origin\":\"http://a.example:8080\",\"steps\":[{\"do\":\"getDirectory\",\"as\":\"d\"}]}]}",
+            r#"{"agents":[{"origin":"http://a.example:8080","steps":[{"do":"getDirectory","as":"d"}]}]}"#,
             "1.1 getDirectory ok\n\
             1.2 end ok\n",
         ),
         (
             "long_names_and_deep_chains",
-            "{\"agents\":[{\"origin\":\"https://a.example\",\"steps\":[{\"do\":\"getDirectory\",\"as\":\"d\"},\
-            {\"do\":\"getFileHandle\",\"dir\":\"d\",\"name\":\"aaaaaaaaaaaaaaaaaaaaaaaaaaaaaaaaaaaaaaaaaaaaaaaaaaaaaaaaaaaaaaaaaaaaaaaaaaaaaaaaaaaaaaaaaaaaaaaaaaaaaaaaaaaaaaaaaaaaaaaaaaaaaaaaaaaaaaaaaaaaaaaaaaaaaaaaaaaaaaaaaaaaaaaaaaaaaaaaaaaaaaaaaaaaaaaaaaaaaaaaaaaaaaaaaaaaaaaaaaaaaaaaaaaaaaaaaaaaaaaaaaaaaaaaaaaaaaaa\",\"create\":true,\"as\":\"x\"},\
-            {\"do\":\"getFileHandle\",\"dir\":\"d\",\"name\":\"aaaaaaaaaaaaaaaaaaaaaaaaaaaaaaaaaaaaaaaaaaaaaaaaaaaaaaaaaaaaaaaaaaaaaaaaaaaaaaaaaaaaaaaaaaaaaaaaaaaaaaaaaaaaaaaaaaaaaaaaaaaaaaaaaaaaaaaaaaaaaaaaaaaaaaaaaaaaaaaaaaaaaaaaaaaaaaaaaaaaaaaaaaaaaaaaaaaaaaaaaaaaaaaaaaaaaaaaaaaaaaaaaaaaaaaaaaaaaaaaaaaaaaaaaaaaaaaa\",\"as\":\"x\"},\
-            {\"do\":\"getDirectoryHandle\",\"dir\":\"d\",\"name\":\"a\",\"create\":true,\"as\":\"d\"},\
-            {\"do\":\"getDirectoryHandle\",\"dir\":\"d\",\"name\":\"a\",\"create\":true,\"as\":\"d\"},\
-            {\"do\":\"getDirectoryHandle\",\"dir\":\"d\",\"name\":\"a\",\"create\":true,\"as\":\"d\"},\
-            {\"do\":\"getDirectoryHandle\",\"dir\":\"d\",\"name\":\"a\",\"create\":true,\"as\":\"d\"},\
-            {\"do\":\"getDirectoryHandle\",\"dir\":\"d\",\"name\":\"a\",\"create\":true,\"as\":\"d\"},\
-            {\"do\":\"getDirectoryHandle\",\"dir\":\"d\",\"name\":\"a\",\"create\":true,\"as\":\"d\"},\
-            {\"do\":\"getDirectoryHandle\",\"dir\":\"d\",\"name\":\"a\",\"create\":true,\"as\":\"d\"},\
-            {\"do\":\"getDirectoryHandle\",\"dir\":\"d\",\"name\":\"a\",\"create\":true,\"as\":\"d\"},\
-            {\"do\":\"getDirectoryHandle\",\"dir\":\"d\",\"name\":\"a\",\"create\":true,\"as\":\"d\"},\
-            {\"do\":\"getDirectoryHandle\",\"dir\":\"d\",\"name\":\"a\",\"create\":true,\"as\":\"d\"},\
-            {\"do\":\"getDirectoryHandle\",\"dir\":\"d\",\"name\":\"a\",\"create\":true,\"as\":\"d\"},\
-            {\"do\":\"getDirectoryHandle\",\"dir\":\"d\",\"name\":\"a\",\"create\":true,\"as\":\"d\"},\
-            {\"do\":\"getDirectoryHandle\",\"dir\":\"d\",\"name\":\"a\",\"create\":true,\"as\":\"d\"},\
-            {\"do\":\"getDirectoryHandle\",\"dir\":\"d\",\"name\":\"a\",\"create\":true,\"as\":\"d\"},\
-            {\"do\":\"getDirectoryHandle\",\"dir\":\"d\",\"name\":\"a\",\"create\":true,\"as\":\"d\"},\
-            {\"do\":\"getDirectoryHandle\",\"dir\":\"d\",\"name\":\"a\",\"create\":true,\"as\":\"d\"},\
-            {\"do\":\"getDirectoryHandle\",\"dir\":\"d\",\"name\":\"a\",\"create\":true,\"as\":\"d\"},\
-            {\"do\":\"getDirectoryHandle\",\"dir\":\"d\",\"name\":\"a\",\"create\":true,\"as\":\"d\"},\
-            {\"do\":\"getDirectoryHandle\",\"dir\":\"d\",\"name\":\"a\",\"create\":true,\"as\":\"d\"},\
-            {\"do\":\"getDirectoryHandle\",\"dir\":\"d\",\"name\":\"a\",\"create\":true,\"as\":\"d\"},\
-            {\"do\":\"getDirectoryHandle\",\"dir\":\"d\",\"name\":\"a\",\"create\":true,\"as\":\"d\"},\
-            {\"do\":\"getDirectoryHandle\",\"dir\":\"d\",\"name\":\"a\",\"create\":true,\"as\":\"d\"},\
-            {\"do\":\"getDirectoryHandle\",\"dir\":\"d\",\"name\":\"a\",\"create\":true,\"as\":\"d\"},\
-            {\"do\":\"getDirectoryHandle\",\"dir\":\"d\",\"name\":\"a\",\"create\":true,\"as\":\"d\"},\
-            {\"do\":\"getDirectoryHandle\",\"dir\":\"d\",\"name\":\"a\",\"create\":true,\"as\":\"d\"},\
-            {\"do\":\"getDirectoryHandle\",\"dir\":\"d\",\"name\":\"a\",\"create\":true,\"as\":\"d\"},\
-            {\"do\":\"getDirectoryHandle\",\"dir\":\"d\",\"name\":\"a\",\"create\":true,\"as\":\"d\"},\
-            {\"do\":\"getDirectoryHandle\",\"dir\":\"d\",\"name\":\"a\",\"create\":true,\"as\":\"d\"},\
-            {\"do\":\"getDirectoryHandle\",\"dir\":\"d\",\"name\":\"a\",\"create\":true,\"as\":\"d\"},\
-            {\"do\":\"getDirectoryHandle\",\"dir\":\"d\",\"name\":\"a\",\"create\":true,\"as\":\"d\"},\
-            {\"do\":\"getDirectoryHandle\",\"dir\":\"d\",\"name\":\"a\",\"create\":true,\"as\":\"d\"},\
-            {\"do\":\"getDirectoryHandle\",\"dir\":\"d\",\"name\":\"a\",\"create\":true,\"as\":\"d\"},\
-            {\"do\":\"getDirectoryHandle\",\"dir\":\"d\",\"name\":\"a\",\"create\":true,\"as\":\"d\"}]}]}",
+            r#"{"agents":[{"origin":"https://a.example","steps":[{"do":"getDirectory","as":"d"},
+            {"do":"getFileHandle","dir":"d","name":"aaaaaaaaaaaaaaaaaaaaaaaaaaaaaaaaaaaaaaaaaaaaaaaaaaaaaaaaaaaaaaaaaaaaaaaaaaaaaaaaaaaaaaaaaaaaaaaaaaaaaaaaaaaaaaaaaaaaaaaaaaaaaaaaaaaaaaaaaaaaaaaaaaaaaaaaaaaaaaaaaaaaaaaaaaaaaaaaaaaaaaaaaaaaaaaaaaaaaaaaaaaaaaaaaaaaaaaaaaaaaaaaaaaaaaaaaaaaaaaaaaaaaaaaaaaaaaaa","create":true,"as":"x"},
+            {"do":"getFileHandle","dir":"d","name":"aaaaaaaaaaaaaaaaaaaaaaaaaaaaaaaaaaaaaaaaaaaaaaaaaaaaaaaaaaaaaaaaaaaaaaaaaaaaaaaaaaaaaaaaaaaaaaaaaaaaaaaaaaaaaaaaaaaaaaaaaaaaaaaaaaaaaaaaaaaaaaaaaaaaaaaaaaaaaaaaaaaaaaaaaaaaaaaaaaaaaaaaaaaaaaaaaaaaaaaaaaaaaaaaaaaaaaaaaaaaaaaaaaaaaaaaaaaaaaaaaaaaaaaaaaaaaaaa","as":"x"},
+            {"do":"getDirectoryHandle","dir":"d","name":"a","create":true,"as":"d"},
+            {"do":"getDirectoryHandle","dir":"d","name":"a","create":true,"as":"d"},
+            {"do":"getDirectoryHandle","dir":"d","name":"a","create":true,"as":"d"},
+            {"do":"getDirectoryHandle","dir":"d","name":"a","create":true,"as":"d"},
+            {"do":"getDirectoryHandle","dir":"d","name":"a","create":true,"as":"d"},
+            {"do":"getDirectoryHandle","dir":"d","name":"a","create":true,"as":"d"},
+            {"do":"getDirectoryHandle","dir":"d","name":"a","create":true,"as":"d"},
+            {"do":"getDirectoryHandle","dir":"d","name":"a","create":true,"as":"d"},
+            {"do":"getDirectoryHandle","dir":"d","name":"a","create":true,"as":"d"},
+            {"do":"getDirectoryHandle","dir":"d","name":"a","create":true,"as":"d"},
+            {"do":"getDirectoryHandle","dir":"d","name":"a","create":true,"as":"d"},
+            {"do":"getDirectoryHandle","dir":"d","name":"a","create":true,"as":"d"},
+            {"do":"getDirectoryHandle","dir":"d","name":"a","create":true,"as":"d"},
+            {"do":"getDirectoryHandle","dir":"d","name":"a","create":true,"as":"d"},
+            {"do":"getDirectoryHandle","dir":"d","name":"a","create":true,"as":"d"},
+            {"do":"getDirectoryHandle","dir":"d","name":"a","create":true,"as":"d"},
+            {"do":"getDirectoryHandle","dir":"d","name":"a","create":true,"as":"d"},
+            {"do":"getDirectoryHandle","dir":"d","name":"a","create":true,"as":"d"},
+            {"do":"getDirectoryHandle","dir":"d","name":"a","create":true,"as":"d"},
+            {"do":"getDirectoryHandle","dir":"d","name":"a","create":true,"as":"d"},
+            {"do":"getDirectoryHandle","dir":"d","name":"a","create":true,"as":"d"},
+            {"do":"getDirectoryHandle","dir":"d","name":"a","create":true,"as":"d"},
+            {"do":"getDirectoryHandle","dir":"d","name":"a","create":true,"as":"d"},
+            {"do":"getDirectoryHandle","dir":"d","name":"a","create":true,"as":"d"},
+            {"do":"getDirectoryHandle","dir":"d","name":"a","create":true,"as":"d"},
+            {"do":"getDirectoryHandle","dir":"d","name":"a","create":true,"as":"d"},
+            {"do":"getDirectoryHandle","dir":"d","name":"a","create":true,"as":"d"},
+            {"do":"getDirectoryHandle","dir":"d","name":"a","create":true,"as":"d"},
+            {"do":"getDirectoryHandle","dir":"d","name":"a","create":true,"as":"d"},
+            {"do":"getDirectoryHandle","dir":"d","name":"a","create":true,"as":"d"},
+            {"do":"getDirectoryHandle","dir":"d","name":"a","create":true,"as":"d"},
+            {"do":"getDirectoryHandle","dir":"d","name":"a","create":true,"as":"d"},
+            {"do":"getDirectoryHandle","dir":"d","name":"a","create":true,"as":"d"}]}]}"#,
             "1.1 getDirectory ok\n\
             1.2 getFileHandle NameLimit\n\
             1.3 getFileHandle NotFoundError\n\
@@ -375,16 +375,16 @@ fn try_prints_its_lines(rt: HostRuntime) -> Result<(), Fail> {
         ),
         (
             "two_mebibytes",
-            "{\"agents\":[{\"origin\":\"https://a.example\",\"steps\":[{\"do\":\"getDirectory\",\"as\":\"d\"},\
-            {\"do\":\"getFileHandle\",\"dir\":\"d\",\"name\":\"f\",\"create\":true,\"as\":\"f\"},\
-            {\"do\":\"createWritable\",\"file\":\"f\",\"as\":\"w\"},\
-            {\"do\":\"write\",\"stream\":\"w\",\"data\":{\"fill\":65,\"count\":2097152}},\
-            {\"do\":\"write\",\"stream\":\"w\",\"data\":\"Z\",\"position\":0},\
-            {\"do\":\"close\",\"stream\":\"w\"},\
-            {\"do\":\"getFile\",\"file\":\"f\",\"as\":\"s\"},\
-            {\"do\":\"slice\",\"snapshot\":\"s\",\"at\":0,\"len\":3},\
-            {\"do\":\"createSyncAccessHandle\",\"file\":\"f\",\"as\":\"h\"},\
-            {\"do\":\"syncRead\",\"sync\":\"h\",\"len\":3,\"at\":2097150}]}]}",
+            r#"{"agents":[{"origin":"https://a.example","steps":[{"do":"getDirectory","as":"d"},
+            {"do":"getFileHandle","dir":"d","name":"f","create":true,"as":"f"},
+            {"do":"createWritable","file":"f","as":"w"},
+            {"do":"write","stream":"w","data":{"fill":65,"count":2097152}},
+            {"do":"write","stream":"w","data":"Z","position":0},
+            {"do":"close","stream":"w"},
+            {"do":"getFile","file":"f","as":"s"},
+            {"do":"slice","snapshot":"s","at":0,"len":3},
+            {"do":"createSyncAccessHandle","file":"f","as":"h"},
+            {"do":"syncRead","sync":"h","len":3,"at":2097150}]}]}"#,
             "1.1 getDirectory ok\n\
             1.2 getFileHandle ok\n\
             1.3 createWritable ok\n\
@@ -400,18 +400,18 @@ fn try_prints_its_lines(rt: HostRuntime) -> Result<(), Fail> {
         ),
         (
             "the_greatest_moment",
-            "{\"agents\":[{\"origin\":\"https://a.example\",\"steps\":[{\"do\":\"moment\",\"ms\":9007199254740991}]}]}",
+            r#"{"agents":[{"origin":"https://a.example","steps":[{"do":"moment","ms":9007199254740991}]}]}"#,
             "1.1 moment ok\n\
             1.2 end ok\n",
         ),
         (
             "a_named_bucket_is_apart",
-            "{\"agents\":[{\"origin\":\"https://a.example\",\"steps\":[{\"do\":\"getDirectory\",\"as\":\"d\"},\
-            {\"do\":\"getDirectory\",\"bucket\":\"drafts\",\"as\":\"e\"},\
-            {\"do\":\"getFileHandle\",\"dir\":\"e\",\"name\":\"n\",\"create\":true,\"as\":\"f\"},\
-            {\"do\":\"resolve\",\"dir\":\"d\",\"entry\":\"f\"},\
-            {\"do\":\"getDirectory\",\"bucket\":\"-x\",\"as\":\"g\"},\
-            {\"do\":\"persisted\",\"bucket\":\"drafts\"}]}]}",
+            r#"{"agents":[{"origin":"https://a.example","steps":[{"do":"getDirectory","as":"d"},
+            {"do":"getDirectory","bucket":"drafts","as":"e"},
+            {"do":"getFileHandle","dir":"e","name":"n","create":true,"as":"f"},
+            {"do":"resolve","dir":"d","entry":"f"},
+            {"do":"getDirectory","bucket":"-x","as":"g"},
+            {"do":"persisted","bucket":"drafts"}]}]}"#,
             "1.1 getDirectory ok\n\
             1.2 getDirectory ok\n\
             1.3 getFileHandle ok\n\
@@ -422,20 +422,20 @@ fn try_prints_its_lines(rt: HostRuntime) -> Result<(), Fail> {
         ),
         (
             "read_only_handles_share_the_lock",
-            "{\"agents\":[{\"origin\":\"https://a.example\",\"steps\":[{\"do\":\"getDirectory\",\"as\":\"d\"},\
-            {\"do\":\"getFileHandle\",\"dir\":\"d\",\"name\":\"f\",\"create\":true,\"as\":\"f\"},\
-            {\"do\":\"createWritable\",\"file\":\"f\",\"as\":\"w\"},\
-            {\"do\":\"write\",\"stream\":\"w\",\"data\":\"abcd\"},\
-            {\"do\":\"close\",\"stream\":\"w\"},\
-            {\"do\":\"createSyncAccessHandle\",\"file\":\"f\",\"mode\":\"read-only\",\"as\":\"h\"},\
-            {\"do\":\"createSyncAccessHandle\",\"file\":\"f\",\"mode\":\"read-only\",\"as\":\"i\"},\
-            {\"do\":\"createWritable\",\"file\":\"f\",\"as\":\"v\"},\
-            {\"do\":\"syncWrite\",\"sync\":\"h\",\"data\":\"x\"},\
-            {\"do\":\"syncRead\",\"sync\":\"i\",\"len\":9},\
-            {\"do\":\"syncFlush\",\"sync\":\"h\"},\
-            {\"do\":\"syncClose\",\"sync\":\"h\"},\
-            {\"do\":\"syncClose\",\"sync\":\"i\"},\
-            {\"do\":\"createWritable\",\"file\":\"f\",\"as\":\"v\"}]}]}",
+            r#"{"agents":[{"origin":"https://a.example","steps":[{"do":"getDirectory","as":"d"},
+            {"do":"getFileHandle","dir":"d","name":"f","create":true,"as":"f"},
+            {"do":"createWritable","file":"f","as":"w"},
+            {"do":"write","stream":"w","data":"abcd"},
+            {"do":"close","stream":"w"},
+            {"do":"createSyncAccessHandle","file":"f","mode":"read-only","as":"h"},
+            {"do":"createSyncAccessHandle","file":"f","mode":"read-only","as":"i"},
+            {"do":"createWritable","file":"f","as":"v"},
+            {"do":"syncWrite","sync":"h","data":"x"},
+            {"do":"syncRead","sync":"i","len":9},
+            {"do":"syncFlush","sync":"h"},
+            {"do":"syncClose","sync":"h"},
+            {"do":"syncClose","sync":"i"},
+            {"do":"createWritable","file":"f","as":"v"}]}]}"#,
             "1.1 getDirectory ok\n\
             1.2 getFileHandle ok\n\
             1.3 createWritable ok\n\

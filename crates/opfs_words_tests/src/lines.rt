@@ -85,8 +85,8 @@ fn shows_name(alloc: Global, name: &str, wanted: &str) -> Result<bool, AllocErro
 
 #[test]
 fn names_are_printed_as_json(rt: HostRuntime) -> Result<(), AllocError> {
-    assert!(rt; shows_name(rt.alloc(), "b", "\"b\"")?);
-    assert!(rt; shows_name(rt.alloc(), "a\"\\\n\u{1}é", "\"a\\\"\\\\\\n\\u0001é\"")?);
+    assert!(rt; shows_name(rt.alloc(), "b", r#""b""#)?);
+    assert!(rt; shows_name(rt.alloc(), "a\"\\\n\u{1}é", r#""a\"\\\n\u0001é""#)?);
     Ok(())
 }
 

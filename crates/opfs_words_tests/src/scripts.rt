@@ -12,7 +12,7 @@ fn refusal(alloc: Global, text: &str) -> Option<ScriptRefusal> {
 // Why a script of one agent with these steps is refused, or None.
 fn step_refusal(alloc: Global, steps: &str) -> Result<Option<ScriptRefusal>, AllocError> {
     let text = format!(in alloc;
-        "{{\"agents\":[{{\"origin\":\"https://a.example\",\"steps\":[{steps}]}}]}}"
+        r#"{{"agents":[{{"origin":"https://a.example","steps":[{steps}]}}]}}"#
     )?;
     Ok(refusal(alloc, text.as_str()))
 }
@@ -21,16 +21,16 @@ fn step_refusal(alloc: Global, steps: &str) -> Result<Option<ScriptRefusal>, All
 fn tops_are_judged_first(rt: HostRuntime) {
     let shape = Some(ScriptRefusal::BadShape(0, 0));
     let cases = [
-        ("{\"agents\":[]}", None),
-        (" { \"agents\" : [ ] } ", None),
+        (r#"{"agents":[]}"#, None),
+        (r#" { "agents" : [ ] } "#, None),
         ("{", Some(ScriptRefusal::NotJson)),
         ("", Some(ScriptRefusal::NotJson)),
-        ("{\"agents\":[1e400]}", Some(ScriptRefusal::NotJson)),
+        (r#"{"agents":[1e400]}"#, Some(ScriptRefusal::NotJson)),
         ("[]", shape),
         ("{}", shape),
-        ("{\"agents\":{}}", shape),
-        ("{\"agents\":[],\"more\":1}", shape),
-        ("{\"agents\":1,\"agents\":[]}", None),
+        (r#"{"agents":{}}"#, shape),
+        (r#"{"agents":[],"more":1}"#, shape),
+        (r#"{"agents":1,"agents":[]}"#, None),
     ];
     for (text, wanted) in cases {
         assert_eq!(rt; refusal(rt.alloc(), text), wanted, "{text}");
@@ -44,37 +44,37 @@ fn tops_are_judged_first(rt: HostRuntime) {
 #[test]
 fn agents_are_judged_in_order(rt: HostRuntime) {
     let cases = [
-        ("{\"agents\":[1]}", Some(ScriptRefusal::BadShape(1, 0))),
+        (r#"{"agents":[1]}"#, Some(ScriptRefusal::BadShape(1, 0))),
         (
-            "{\"agents\":[{\"origin\":\"https://a.example\"}]}",
+            r#"{"agents":[{"origin":"https://a.example"}]}"#,
             Some(ScriptRefusal::BadShape(1, 0)),
         ),
         (
-            "{\"agents\":[{\"origin\":\"nonsense\",\"steps\":[]}]}",
+            r#"{"agents":[{"origin":"nonsense","steps":[]}]}"#,
             Some(ScriptRefusal::BadOrigin(1)),
         ),
         (
-            "{\"agents\":[{\"origin\":\"nonsense\",\"steps\":[],\"x\":1}]}",
+            r#"{"agents":[{"origin":"nonsense","steps":[],"x":1}]}"#,
             Some(ScriptRefusal::BadShape(1, 0)),
         ),
         (
-            "{\"agents\":[{\"origin\":\"nonsense\",\"steps\":[1]},2]}",
+            r#"{"agents":[{"origin":"nonsense","steps":[1]},2]}"#,
             Some(ScriptRefusal::BadOrigin(1)),
         ),
         (
-            "{\"agents\":[{\"origin\":\"data:,x\",\"steps\":[]},{\"origin\":\"https://b.example\",\"steps\":[{\"do\":\"fly\"}]}]}",
+            r#"{"agents":[{"origin":"data:,x","steps":[]},{"origin":"https://b.example","steps":[{"do":"fly"}]}]}"#,
             Some(ScriptRefusal::UnknownStep(2, 1)),
         ),
         (
-            "{\"agents\":[{\"origin\":\"data:,x\",\"steps\":[],\"grants\":[\"persistent-storage\",\"persistent-storage\"]}]}",
+            r#"{"agents":[{"origin":"data:,x","steps":[],"grants":["persistent-storage","persistent-storage"]}]}"#,
             None,
         ),
         (
-            "{\"agents\":[{\"origin\":\"data:,x\",\"steps\":[],\"grants\":[\"camera\"]}]}",
+            r#"{"agents":[{"origin":"data:,x","steps":[],"grants":["camera"]}]}"#,
             Some(ScriptRefusal::BadShape(1, 0)),
         ),
         (
-            "{\"agents\":[{\"origin\":\"data:,x\",\"steps\":[],\"grants\":null}]}",
+            r#"{"agents":[{"origin":"data:,x","steps":[],"grants":null}]}"#,
             Some(ScriptRefusal::BadShape(1, 0)),
         ),
     ];
@@ -86,37 +86,37 @@ fn agents_are_judged_in_order(rt: HostRuntime) {
 #[test]
 fn every_word_has_its_members(rt: HostRuntime) -> Result<(), AllocError> {
     let good = [
-        "{\"do\":\"getDirectory\",\"as\":\"d\"}",
-        "{\"do\":\"getDirectory\",\"bucket\":\"-x\",\"as\":\"d\"}",
-        "{\"do\":\"getDirectoryHandle\",\"dir\":\"d\",\"name\":\"\",\"as\":\"x\"}",
-        "{\"do\":\"getFileHandle\",\"dir\":\"d\",\"name\":\"a/b\",\"create\":true,\"as\":\"x\"}",
-        "{\"do\":\"removeEntry\",\"dir\":\"d\",\"name\":\"x\",\"recursive\":false}",
-        "{\"do\":\"values\",\"dir\":\"d\",\"as\":\"i\"}",
-        "{\"do\":\"next\",\"iterator\":\"i\",\"as\":\"x\"}",
-        "{\"do\":\"resolve\",\"dir\":\"d\",\"entry\":\"x\"}",
-        "{\"do\":\"isSameEntry\",\"entry\":\"x\",\"other\":\"y\"}",
-        "{\"do\":\"getFile\",\"file\":\"f\",\"as\":\"s\"}",
-        "{\"do\":\"slice\",\"snapshot\":\"s\",\"at\":9007199254740991,\"len\":65536}",
-        "{\"do\":\"createWritable\",\"file\":\"f\",\"keepExistingData\":true,\"as\":\"w\"}",
-        "{\"do\":\"write\",\"stream\":\"w\",\"data\":\"\",\"position\":0}",
-        "{\"do\":\"write\",\"stream\":\"w\",\"data\":{\"hex\":\"0aF0\"}}",
-        "{\"do\":\"write\",\"stream\":\"w\",\"data\":{\"fill\":255,\"count\":16777216}}",
-        "{\"do\":\"seek\",\"stream\":\"w\",\"position\":1}",
-        "{\"do\":\"truncate\",\"stream\":\"w\",\"size\":1}",
-        "{\"do\":\"close\",\"stream\":\"w\"}",
-        "{\"do\":\"abort\",\"stream\":\"w\"}",
-        "{\"do\":\"createSyncAccessHandle\",\"file\":\"f\",\"as\":\"h\"}",
-        "{\"do\":\"createSyncAccessHandle\",\"file\":\"f\",\"mode\":\"read-only\",\"as\":\"h\"}",
-        "{\"do\":\"syncRead\",\"sync\":\"h\",\"len\":0}",
-        "{\"do\":\"syncWrite\",\"sync\":\"h\",\"data\":\"x\",\"at\":4}",
-        "{\"do\":\"syncTruncate\",\"sync\":\"h\",\"size\":4}",
-        "{\"do\":\"syncGetSize\",\"sync\":\"h\"}",
-        "{\"do\":\"syncFlush\",\"sync\":\"h\"}",
-        "{\"do\":\"syncClose\",\"sync\":\"h\"}",
-        "{\"do\":\"persist\"}",
-        "{\"do\":\"persisted\",\"bucket\":\"drafts\"}",
-        "{\"do\":\"estimate\"}",
-        "{\"do\":\"moment\",\"ms\":1700000000000}",
+        r#"{"do":"getDirectory","as":"d"}"#,
+        r#"{"do":"getDirectory","bucket":"-x","as":"d"}"#,
+        r#"{"do":"getDirectoryHandle","dir":"d","name":"","as":"x"}"#,
+        r#"{"do":"getFileHandle","dir":"d","name":"a/b","create":true,"as":"x"}"#,
+        r#"{"do":"removeEntry","dir":"d","name":"x","recursive":false}"#,
+        r#"{"do":"values","dir":"d","as":"i"}"#,
+        r#"{"do":"next","iterator":"i","as":"x"}"#,
+        r#"{"do":"resolve","dir":"d","entry":"x"}"#,
+        r#"{"do":"isSameEntry","entry":"x","other":"y"}"#,
+        r#"{"do":"getFile","file":"f","as":"s"}"#,
+        r#"{"do":"slice","snapshot":"s","at":9007199254740991,"len":65536}"#,
+        r#"{"do":"createWritable","file":"f","keepExistingData":true,"as":"w"}"#,
+        r#"{"do":"write","stream":"w","data":"","position":0}"#,
+        r#"{"do":"write","stream":"w","data":{"hex":"0aF0"}}"#,
+        r#"{"do":"write","stream":"w","data":{"fill":255,"count":16777216}}"#,
+        r#"{"do":"seek","stream":"w","position":1}"#,
+        r#"{"do":"truncate","stream":"w","size":1}"#,
+        r#"{"do":"close","stream":"w"}"#,
+        r#"{"do":"abort","stream":"w"}"#,
+        r#"{"do":"createSyncAccessHandle","file":"f","as":"h"}"#,
+        r#"{"do":"createSyncAccessHandle","file":"f","mode":"read-only","as":"h"}"#,
+        r#"{"do":"syncRead","sync":"h","len":0}"#,
+        r#"{"do":"syncWrite","sync":"h","data":"x","at":4}"#,
+        r#"{"do":"syncTruncate","sync":"h","size":4}"#,
+        r#"{"do":"syncGetSize","sync":"h"}"#,
+        r#"{"do":"syncFlush","sync":"h"}"#,
+        r#"{"do":"syncClose","sync":"h"}"#,
+        r#"{"do":"persist"}"#,
+        r#"{"do":"persisted","bucket":"drafts"}"#,
+        r#"{"do":"estimate"}"#,
+        r#"{"do":"moment","ms":1700000000000}"#,
     ];
     for step in good {
         assert_eq!(rt; step_refusal(rt.alloc(), step)?, None, "{step}");
@@ -129,31 +129,31 @@ fn steps_of_another_shape_are_refused(rt: HostRuntime) -> Result<(), AllocError>
     let bad = [
         "1",
         "{}",
-        "{\"do\":1}",
-        "{\"do\":\"getDirectory\"}",
-        "{\"do\":\"getDirectory\",\"as\":\"\"}",
-        "{\"do\":\"getDirectory\",\"as\":\"d\",\"bucket\":null}",
-        "{\"do\":\"getDirectory\",\"as\":\"d\",\"name\":\"x\"}",
-        "{\"do\":\"getFileHandle\",\"dir\":\"d\",\"name\":1,\"as\":\"x\"}",
-        "{\"do\":\"getFileHandle\",\"dir\":\"d\",\"name\":\"x\",\"create\":1,\"as\":\"x\"}",
-        "{\"do\":\"seek\",\"stream\":\"w\",\"position\":-0}",
-        "{\"do\":\"seek\",\"stream\":\"w\",\"position\":-1}",
-        "{\"do\":\"seek\",\"stream\":\"w\",\"position\":1.0}",
-        "{\"do\":\"seek\",\"stream\":\"w\",\"position\":1e0}",
-        "{\"do\":\"seek\",\"stream\":\"w\",\"position\":9007199254740992}",
-        "{\"do\":\"seek\",\"stream\":\"w\",\"position\":18446744073709551616}",
-        "{\"do\":\"write\",\"stream\":\"w\",\"data\":{}}",
-        "{\"do\":\"write\",\"stream\":\"w\",\"data\":{\"hex\":\"0\"}}",
-        "{\"do\":\"write\",\"stream\":\"w\",\"data\":{\"hex\":\"0g\"}}",
-        "{\"do\":\"write\",\"stream\":\"w\",\"data\":{\"hex\":\"00\",\"fill\":0}}",
-        "{\"do\":\"write\",\"stream\":\"w\",\"data\":{\"fill\":256,\"count\":1}}",
-        "{\"do\":\"write\",\"stream\":\"w\",\"data\":{\"fill\":0,\"count\":16777217}}",
-        "{\"do\":\"write\",\"stream\":\"w\",\"data\":{\"fill\":0}}",
-        "{\"do\":\"write\",\"stream\":\"w\",\"data\":\"x\",\"position\":null}",
-        "{\"do\":\"slice\",\"snapshot\":\"s\",\"at\":0,\"len\":65537}",
-        "{\"do\":\"syncRead\",\"sync\":\"h\",\"len\":65537}",
-        "{\"do\":\"createSyncAccessHandle\",\"file\":\"f\",\"mode\":\"read\",\"as\":\"h\"}",
-        "{\"do\":\"estimate\",\"bucket\":\"x\"}",
+        r#"{"do":1}"#,
+        r#"{"do":"getDirectory"}"#,
+        r#"{"do":"getDirectory","as":""}"#,
+        r#"{"do":"getDirectory","as":"d","bucket":null}"#,
+        r#"{"do":"getDirectory","as":"d","name":"x"}"#,
+        r#"{"do":"getFileHandle","dir":"d","name":1,"as":"x"}"#,
+        r#"{"do":"getFileHandle","dir":"d","name":"x","create":1,"as":"x"}"#,
+        r#"{"do":"seek","stream":"w","position":-0}"#,
+        r#"{"do":"seek","stream":"w","position":-1}"#,
+        r#"{"do":"seek","stream":"w","position":1.0}"#,
+        r#"{"do":"seek","stream":"w","position":1e0}"#,
+        r#"{"do":"seek","stream":"w","position":9007199254740992}"#,
+        r#"{"do":"seek","stream":"w","position":18446744073709551616}"#,
+        r#"{"do":"write","stream":"w","data":{}}"#,
+        r#"{"do":"write","stream":"w","data":{"hex":"0"}}"#,
+        r#"{"do":"write","stream":"w","data":{"hex":"0g"}}"#,
+        r#"{"do":"write","stream":"w","data":{"hex":"00","fill":0}}"#,
+        r#"{"do":"write","stream":"w","data":{"fill":256,"count":1}}"#,
+        r#"{"do":"write","stream":"w","data":{"fill":0,"count":16777217}}"#,
+        r#"{"do":"write","stream":"w","data":{"fill":0}}"#,
+        r#"{"do":"write","stream":"w","data":"x","position":null}"#,
+        r#"{"do":"slice","snapshot":"s","at":0,"len":65537}"#,
+        r#"{"do":"syncRead","sync":"h","len":65537}"#,
+        r#"{"do":"createSyncAccessHandle","file":"f","mode":"read","as":"h"}"#,
+        r#"{"do":"estimate","bucket":"x"}"#,
     ];
     for step in bad {
         assert_eq!(rt;
@@ -162,7 +162,7 @@ fn steps_of_another_shape_are_refused(rt: HostRuntime) -> Result<(), AllocError>
             "{step}"
         );
     }
-    let second = "{\"do\":\"estimate\"},{\"do\":\"fly\",\"x\":1}";
+    let second = r#"{"do":"estimate"},{"do":"fly","x":1}"#;
     assert_eq!(rt;
         step_refusal(rt.alloc(), second)?,
         Some(ScriptRefusal::UnknownStep(1, 2))
@@ -189,7 +189,7 @@ fn variables_end_at_64_bytes(rt: HostRuntime) -> Result<(), AllocError> {
         for _ in 0..count {
             name.push('v')?;
         }
-        let step = format!(in rt.alloc(); "{{\"do\":\"close\",\"stream\":\"{}\"}}", name.as_str())?;
+        let step = format!(in rt.alloc(); r#"{{"do":"close","stream":"{}"}}"#, name.as_str())?;
         assert_eq!(rt; step_refusal(rt.alloc(), step.as_str())?, wanted, "{count}");
     }
     Ok(())
@@ -199,27 +199,27 @@ fn variables_end_at_64_bytes(rt: HostRuntime) -> Result<(), AllocError> {
 fn too_much_is_refused_last(rt: HostRuntime) -> Result<(), AllocError> {
     let many = Some(ScriptRefusal::TooMany);
     for (count, wanted) in [(20_000, None), (20_001, many)] {
-        let steps = times(rt.alloc(), "{\"do\":\"estimate\"}", count)?;
+        let steps = times(rt.alloc(), r#"{"do":"estimate"}"#, count)?;
         assert_eq!(rt;
             step_refusal(rt.alloc(), steps.as_str())?,
             wanted,
             "{count} steps"
         );
     }
-    let full = "{\"do\":\"write\",\"stream\":\"w\",\"data\":{\"fill\":0,\"count\":16777216}}";
-    let read = "{\"do\":\"syncRead\",\"sync\":\"h\",\"len\":1}";
+    let full = r#"{"do":"write","stream":"w","data":{"fill":0,"count":16777216}}"#;
+    let read = r#"{"do":"syncRead","sync":"h","len":1}"#;
     let four = times(rt.alloc(), full, 4)?;
     assert_eq!(rt; step_refusal(rt.alloc(), four.as_str())?, None);
     let more = format!(in rt.alloc(); "{},{read}", four.as_str())?;
     assert_eq!(rt; step_refusal(rt.alloc(), more.as_str())?, many);
-    let fly = format!(in rt.alloc(); "{},{{\"do\":\"fly\"}}", more.as_str())?;
+    let fly = format!(in rt.alloc(); r#"{},{{"do":"fly"}}"#, more.as_str())?;
     assert_eq!(rt;
         step_refusal(rt.alloc(), fly.as_str())?,
         Some(ScriptRefusal::UnknownStep(1, 6))
     );
     for (count, wanted) in [(64, None), (65, many)] {
-        let agents = times(rt.alloc(), "{\"origin\":\"data:,x\",\"steps\":[]}", count)?;
-        let text = format!(in rt.alloc(); "{{\"agents\":[{}]}}", agents.as_str())?;
+        let agents = times(rt.alloc(), r#"{"origin":"data:,x","steps":[]}"#, count)?;
+        let text = format!(in rt.alloc(); r#"{{"agents":[{}]}}"#, agents.as_str())?;
         assert_eq!(rt;
             refusal(rt.alloc(), text.as_str()),
             wanted,
@@ -270,11 +270,11 @@ fn told(alloc: Global, script: &Script) -> Result<String, AllocError> {
 #[test]
 fn scripts_keep_what_they_say(rt: HostRuntime) -> Result<(), AllocError> {
     let text =
-        "{\"agents\":[{\"origin\":\"https://A.example:443/\",\"grants\":[\"persistent-storage\"],\"steps\":[\
-        {\"do\":\"write\",\"stream\":\"w\",\"data\":\"hé\"},\
-        {\"do\":\"write\",\"stream\":\"v\",\"data\":{\"hex\":\"0aFF\"},\"position\":7},\
-        {\"do\":\"write\",\"stream\":\"v\",\"data\":{\"fill\":65,\"count\":2}}]},\
-        {\"origin\":\"data:,x\",\"grants\":[],\"steps\":[{\"do\":\"estimate\"}]}]}";
+        r#"{"agents":[{"origin":"https://A.example:443/","grants":["persistent-storage"],"steps":[
+        {"do":"write","stream":"w","data":"hé"},
+        {"do":"write","stream":"v","data":{"hex":"0aFF"},"position":7},
+        {"do":"write","stream":"v","data":{"fill":65,"count":2}}]},
+        {"origin":"data:,x","grants":[],"steps":[{"do":"estimate"}]}]}"#;
     match read_script(rt.alloc(), text.as_bytes()) {
         Ok(script) => {
             let wanted =

@@ -30,8 +30,8 @@ returns-in_err-put-clause-writes g c =
     let n : ℕ = length c.bytes.result.now in
     let there : c.args.base + 4096 * r.block ≡ c.place_of.result = sym (c.place_of.ensures ∙ ap (λ (b : ℕ). c.args.base + 4096 * b) c.block.ensures.block) in
     let b = c.put.ensures in
-    writes_more g.D.Disk.tells g.D.Disk.size g.D.Disk.content g.D.Disk.moment g.D.Disk.since g.D.Disk.faults laws.falls c.args.base (runs_of ws) c.args.journal.now c.loop-run.journal c.put.new.self at.writes
-    (writes_put g.D.Disk.tells g.D.Disk.size g.D.Disk.content g.D.Disk.moment g.D.Disk.since g.D.Disk.faults laws.falls c.args.base (runs_of ws) c.place_of.result n c.loop-run.journal c.put.new.self
+    writes_more g.D.Disk laws.falls c.args.base (runs_of ws) c.args.journal.now c.loop-run.journal c.put.new.self at.writes
+    (writes_put g.D.Disk laws.falls c.args.base (runs_of ws) c.place_of.result n c.loop-run.journal c.put.new.self
     (λ k aside. rw (← there, c.bytes.ensures.length) (run_aside c.args.base k c.args.own.now c.args.given.now c.args.runs.now c.loop-run.run-index r c.run-item.is c.loop-run-test.true aside))
     b.stays b.tail b.format (b.sure ∙ sym (at.sure ∙ c.requires.settled)) b.later b.records b.elsewhere b.time b.moments)
 
@@ -46,8 +46,8 @@ loop-run-preserved g c =
     let b = c.in_ok-put.ensures in
     record {
       sure = b.sure ∙ sym c.requires.settled;
-      writes = writes_more g.D.Disk.tells g.D.Disk.size g.D.Disk.content g.D.Disk.moment g.D.Disk.since g.D.Disk.faults laws.falls c.args.base (runs_of ws) c.args.journal.now c.loop-run.journal c.put.new.self at.writes
-          (writes_put g.D.Disk.tells g.D.Disk.size g.D.Disk.content g.D.Disk.moment g.D.Disk.since g.D.Disk.faults laws.falls c.args.base (runs_of ws) c.place_of.result n c.loop-run.journal c.put.new.self
+      writes = writes_more g.D.Disk laws.falls c.args.base (runs_of ws) c.args.journal.now c.loop-run.journal c.put.new.self at.writes
+          (writes_put g.D.Disk laws.falls c.args.base (runs_of ws) c.place_of.result n c.loop-run.journal c.put.new.self
           (λ k aside. rw (← there, c.bytes.ensures.length) (run_aside c.args.base k c.args.own.now c.args.given.now c.args.runs.now c.loop-run.run-index r c.run-item.is c.loop-run-test.true aside))
           b.stays b.tail b.format (b.sure ∙ sym (at.sure ∙ c.requires.settled)) b.later b.records b.elsewhere b.time b.moments);
       written = λ told.

@@ -8,6 +8,6 @@ use Rattle.opfs_data.proofs.pages.put_pages.Given as goal
 abbrev pub invariant-loop-run : goal.invariant-loop-run
 invariant-loop-run g l = record {
   sure : l.journal.in_doubt ≡ l.fn.journal.in_doubt;
-  writes : Writes g.D.Disk.tells g.D.Disk.size g.D.Disk.content g.D.Disk.moment g.D.Disk.since g.D.Disk.faults l.base (runs_of (writes_of l.own l.given l.runs)) l.fn.journal l.journal;
+  writes : Writes g.D.Disk l.base (runs_of (writes_of l.own l.given l.runs)) l.fn.journal l.journal;
   written : g.D.Disk.tells → AllByRecursion (λ w. block_bytes (g.D.Disk.content l.journal.disk) l.base w.block ≡ w.bytes) (writes_of l.own l.given (take l.run-index l.runs));
 }

@@ -11,7 +11,7 @@ loop-run-preserved g c =
     let at = c.loop-run.invariant in
     let b = c.in_ok-save_run.ensures in
     record {
-      reads = reads_more g.D.Disk.tells g.D.Disk.size g.D.Disk.content g.D.Disk.moment g.D.Disk.since g.D.Disk.faults laws.falls c.args.journal.now c.loop-run.journal c.save_run.new.journal at.reads b.reads;
+      reads = reads_more g.D.Disk laws.falls c.args.journal.now c.loop-run.journal c.save_run.new.journal at.reads b.reads;
       saved = λ own given.
           subst (AreSaved c.save_run.new.saved.items c.args.pages.now) (sym (writes_next own given c.args.runs.now c.loop-run.run-index c.run-item.result c.run-item.is c.loop-run-test.true))
           (b.saved (writes_of own given (take c.loop-run.run-index c.args.runs.now)) own given (at.saved own given));

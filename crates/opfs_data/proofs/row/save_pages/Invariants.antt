@@ -6,7 +6,7 @@ use Rattle.opfs_data.proofs.row.save_pages.Given as goal
 
 abbrev pub invariant-loop-run : goal.invariant-loop-run
 invariant-loop-run g l = record {
-  reads : Reads g.D.Disk.tells g.D.Disk.size g.D.Disk.content g.D.Disk.moment g.D.Disk.since g.D.Disk.faults l.fn.journal l.journal;
+  reads : Reads g.D.Disk l.fn.journal l.journal;
   saved : (own given : List ℕ) → AreSaved l.saved.items l.pages (writes_of own given (take l.run-index l.runs));
   now : g.D.Disk.tells → AreNow (g.D.Disk.content l.fn.journal.disk) l.base l.pages l.saved.items;
 }

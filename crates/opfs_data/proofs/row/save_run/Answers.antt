@@ -11,7 +11,7 @@ loop-k-preserved g c =
     let at = c.loop-k.invariant in
     let b = c.in_ok-save_page.ensures in
     record {
-      reads = reads_more g.D.Disk.tells g.D.Disk.size g.D.Disk.content g.D.Disk.moment g.D.Disk.since g.D.Disk.faults laws.falls c.args.journal.now c.loop-k.journal c.save_page.new.journal at.reads b.reads;
+      reads = reads_more g.D.Disk laws.falls c.args.journal.now c.loop-k.journal c.save_page.new.journal at.reads b.reads;
       saved = λ ws own given before.
           saved_next c.save_page.new.saved.items c.args.pages.now ws (source_bytes own given c.args.run.now.source) c.args.run.now.page c.args.run.now.block c.args.run.now.from c.loop-k.k _ _
           (omega (arith, c.page-first.ensures.page, c.from.ensures)) (ap (λ (n : ℕ). n + c.loop-k.k) c.block-start.ensures.block)

@@ -6,7 +6,7 @@ use Rattle.opfs_data.proofs.row.save_run.Given as goal
 
 abbrev pub invariant-loop-k : goal.invariant-loop-k
 invariant-loop-k g l = record {
-  reads : Reads g.D.Disk.tells g.D.Disk.size g.D.Disk.content g.D.Disk.moment g.D.Disk.since g.D.Disk.faults l.fn.journal l.journal;
+  reads : Reads g.D.Disk l.fn.journal l.journal;
   saved : (ws : List PageWrite) (own given : List ℕ) → AreSaved l.fn.saved.items l.pages ws
       → AreSaved l.saved.items l.pages (ws ++ run_pages (source_bytes own given l.run.source) l.run.page l.run.block l.run.from l.k);
   now : g.D.Disk.tells → AreNow (g.D.Disk.content l.fn.journal.disk) l.base l.pages l.fn.saved.items → AreNow (g.D.Disk.content l.fn.journal.disk) l.base l.pages l.saved.items;

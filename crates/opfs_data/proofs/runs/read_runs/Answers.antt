@@ -36,7 +36,7 @@ loop-extent-preserved g c =
     record {
       within = omega (arith, whole, fits);
       room = omega (arith, whole, room, is);
-      reads = reads_more g.D.Disk.tells g.D.Disk.size g.D.Disk.content g.D.Disk.moment g.D.Disk.since g.D.Disk.faults laws.falls c.args.journal.now c.loop-extent.journal c.get.new.self at.reads (record {
+      reads = reads_more g.D.Disk laws.falls c.args.journal.now c.loop-extent.journal c.get.new.self at.reads (record {
         stays = f.stays;
         tail = f.tail;
         format = f.format;

@@ -7,7 +7,7 @@ abbrev pub invariant-loop-extent : goal.invariant-loop-extent
 invariant-loop-extent g l = record {
   within : l.from ≤ length l.into;
   room : length l.into - l.from ≤ room_of (drop l.extent-index l.extents);
-  reads : Reads g.D.Disk.tells g.D.Disk.size g.D.Disk.content g.D.Disk.moment g.D.Disk.since g.D.Disk.faults l.fn.journal l.journal;
+  reads : Reads g.D.Disk l.fn.journal l.journal;
   read : g.D.Disk.tells → take l.from l.into ++ bytes_of (g.D.Disk.content l.fn.journal.disk) l.base (drop l.extent-index l.extents) (length l.into - l.from)
       ≡ bytes_of (g.D.Disk.content l.fn.journal.disk) l.base l.extents (length l.into);
 }

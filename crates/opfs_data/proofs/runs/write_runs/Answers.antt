@@ -30,8 +30,8 @@ returns-in_err-put-clause-writes g c =
     let is = c.min-count.ensures in
     let there : run_place c.args.base e ≡ c.args.base + c.from-in-loop-extent.result * 4096 = omega (arith, start) in
     let small : n ≤ run_room e = omega (arith, is, count, c.split_at.ensures.front_len) in
-    writes_more g.D.Disk.tells g.D.Disk.size g.D.Disk.content g.D.Disk.moment g.D.Disk.since g.D.Disk.faults laws.falls c.args.base es c.args.journal.now c.loop-extent.journal c.put.new.self at.writes
-    (writes_put g.D.Disk.tells g.D.Disk.size g.D.Disk.content g.D.Disk.moment g.D.Disk.since g.D.Disk.faults laws.falls c.args.base es (c.args.base + c.from-in-loop-extent.result * 4096) n c.loop-extent.journal c.put.new.self
+    writes_more g.D.Disk laws.falls c.args.base es c.args.journal.now c.loop-extent.journal c.put.new.self at.writes
+    (writes_put g.D.Disk laws.falls c.args.base es (c.args.base + c.from-in-loop-extent.result * 4096) n c.loop-extent.journal c.put.new.self
     (λ k aside. subst (λ (p : ℕ). Beside p n k) there (beside_part c.args.base es i n e c.loop-extent-test.true refl small k aside))
     b.stays b.tail b.format (b.sure ∙ sym (at.sure ∙ c.requires.settled)) b.later b.records b.elsewhere b.time b.moments)
 
@@ -60,8 +60,8 @@ loop-extent-preserved g c =
     record {
       room = omega (arith, room, is, part.back_len, part.front_len);
       sure = b.sure ∙ sym c.requires.settled;
-      writes = writes_more g.D.Disk.tells g.D.Disk.size g.D.Disk.content g.D.Disk.moment g.D.Disk.since g.D.Disk.faults laws.falls c.args.base es c.args.journal.now c.loop-extent.journal c.put.new.self at.writes
-          (writes_put g.D.Disk.tells g.D.Disk.size g.D.Disk.content g.D.Disk.moment g.D.Disk.since g.D.Disk.faults laws.falls c.args.base es (c.args.base + c.from-in-loop-extent.result * 4096) n c.loop-extent.journal c.put.new.self
+      writes = writes_more g.D.Disk laws.falls c.args.base es c.args.journal.now c.loop-extent.journal c.put.new.self at.writes
+          (writes_put g.D.Disk laws.falls c.args.base es (c.args.base + c.from-in-loop-extent.result * 4096) n c.loop-extent.journal c.put.new.self
           (λ k aside. subst (λ (p : ℕ). Beside p n k) there (beside_part c.args.base es i n e c.loop-extent-test.true refl small k aside))
           b.stays b.tail b.format (b.sure ∙ sym (at.sure ∙ c.requires.settled)) b.later b.records b.elsewhere b.time b.moments);
       apart = λ apart. (subst AreApart next (at.apart apart)).1;

@@ -9,7 +9,7 @@ use Rattle.opfs_image.proofs.records.replay_records.Goals as goal
 pub returns-in_err-len-clause-only : goal.returns-in_err-len-clause-only
 returns-in_err-len-clause-only g c =
     let laws = g.met.D.Disk g.world.𝓛 g.world.𝓜 g.world.𝓡 ((λ s x. x), (λ x. x), (λ x. x), λ x. x) in
-    only_more g.D.Disk.tells g.D.Disk.size g.D.Disk.content g.D.Disk.moment g.D.Disk.since g.D.Disk.faults laws.falls c.args.disk.now c.gates.disk c.read_record.new.disk c.gates.invariant.only c.read_record.ensures.only
+    only_more g.D.Disk laws.falls c.args.disk.now c.gates.disk c.read_record.new.disk c.gates.invariant.only c.read_record.ensures.only
 
 pub returns-in_err-len-clause-refused : goal.returns-in_err-len-clause-refused
 returns-in_err-len-clause-refused g c =
@@ -32,7 +32,7 @@ returns-in_err-len-clause-refused g c =
 pub returns-in_default-clause-only : goal.returns-in_default-clause-only
 returns-in_default-clause-only g c =
     let laws = g.met.D.Disk g.world.𝓛 g.world.𝓜 g.world.𝓡 ((λ s x. x), (λ x. x), (λ x. x), λ x. x) in
-    only_more g.D.Disk.tells g.D.Disk.size g.D.Disk.content g.D.Disk.moment g.D.Disk.since g.D.Disk.faults laws.falls c.args.disk.now c.gates.disk c.read_record.new.disk c.gates.invariant.only c.read_record.ensures.only
+    only_more g.D.Disk laws.falls c.args.disk.now c.gates.disk c.read_record.new.disk c.gates.invariant.only c.read_record.ensures.only
 
 pub returns-in_default-clause-built : goal.returns-in_default-clause-built
 returns-in_default-clause-built g c = λ told.
@@ -44,7 +44,7 @@ returns-in_default-clause-built g c = λ told.
 pub returns-in_err-replay-clause-only : goal.returns-in_err-replay-clause-only
 returns-in_err-replay-clause-only g c =
     let laws = g.met.D.Disk g.world.𝓛 g.world.𝓜 g.world.𝓡 ((λ s x. x), (λ x. x), (λ x. x), λ x. x) in
-    only_more g.D.Disk.tells g.D.Disk.size g.D.Disk.content g.D.Disk.moment g.D.Disk.since g.D.Disk.faults laws.falls c.args.disk.now c.gates.disk c.read_record.new.disk c.gates.invariant.only c.read_record.ensures.only
+    only_more g.D.Disk laws.falls c.args.disk.now c.gates.disk c.read_record.new.disk c.gates.invariant.only c.read_record.ensures.only
 
 pub returns-in_err-replay-clause-refused : goal.returns-in_err-replay-clause-refused
 returns-in_err-replay-clause-refused g c =
@@ -74,7 +74,7 @@ gates-preserved g c =
     record {
       inside = omega (arith, fits);
       lies = omega (arith, at.lies, c.read_record.ensures.only.length);
-      only = only_more g.D.Disk.tells g.D.Disk.size g.D.Disk.content g.D.Disk.moment g.D.Disk.since g.D.Disk.faults laws.falls c.args.disk.now c.gates.disk c.read_record.new.disk at.only c.read_record.ensures.only;
+      only = only_more g.D.Disk laws.falls c.args.disk.now c.gates.disk c.read_record.new.disk at.only c.read_record.ensures.only;
       size = c.in_ok-replay.ensures.same.0 ∙ at.size;
       quota = c.in_ok-replay.ensures.same.1 ∙ at.quota;
       on = λ told r then_yields. at.on told r (record_more c.args.format c.args.replay.size (g.D.Disk.content c.args.disk.now) (g.D.Disk.content c.gates.disk) (at.only.told told).same c.args.stop c.gates.skip c.gates.gate c.gates.replay.built at.inside

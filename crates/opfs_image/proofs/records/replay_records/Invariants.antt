@@ -9,7 +9,7 @@ abbrev pub invariant-gates : goal.invariant-gates
 invariant-gates g l = record {
   inside : l.gate < l.stop;
   lies : l.stop ≤ g.D.Disk.size l.disk;
-  only : OnlyRead g.D.Disk.tells g.D.Disk.size g.D.Disk.content g.D.Disk.moment g.D.Disk.since g.D.Disk.faults l.fn.disk l.disk;
+  only : OnlyRead g.D.Disk l.fn.disk l.disk;
   size : l.replay.size ≡ l.fn.replay.size;
   quota : l.replay.quota ≡ l.fn.replay.quota;
   on : g.D.Disk.tells → (r : Result Built ℕ) → Yields l.format l.fn.replay.size (g.D.Disk.content l.fn.disk) l.stop l.skip l.gate l.replay.built r

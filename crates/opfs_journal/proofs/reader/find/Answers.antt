@@ -13,41 +13,41 @@ use Rattle.opfs_journal.proofs.reader.find.Goals as goal
 pub returns-in_err-choose-clause-only : goal.returns-in_err-choose-clause-only
 returns-in_err-choose-clause-only g c =
     let laws = g.met.D.Disk g.world.𝓛 g.world.𝓜 g.world.𝓡 ((λ s x. x), (λ x. x), (λ x. x), λ x. x) in
-    let synced : OnlyRead g.D.Disk.tells g.D.Disk.size g.D.Disk.content g.D.Disk.moment g.D.Disk.since g.D.Disk.faults c.args.disk.now c.sync.new.self =
+    let synced : OnlyRead g.D.Disk c.args.disk.now c.sync.new.self =
     record { length = c.sync.ensures.size; later = c.sync.ensures.later; told = λ told. record { same = c.sync.ensures.same told; time = c.sync.ensures.time told; moments = c.sync.ensures.moments told } } in
-    let both = only_more g.D.Disk.tells g.D.Disk.size g.D.Disk.content g.D.Disk.moment g.D.Disk.since g.D.Disk.faults laws.falls c.args.disk.now c.sync.new.self c.read_heads.new.disk synced c.read_heads.ensures.only in
+    let both = only_more g.D.Disk laws.falls c.args.disk.now c.sync.new.self c.read_heads.new.disk synced c.read_heads.ensures.only in
     both
 
 pub read_ruling-requires-clause-durable : goal.read_ruling-requires-clause-durable
 read_ruling-requires-clause-durable g c =
     let laws = g.met.D.Disk g.world.𝓛 g.world.𝓜 g.world.𝓡 ((λ s x. x), (λ x. x), (λ x. x), λ x. x) in
-    λ _ _ told. still_durable g.D.Disk.tells g.D.Disk.size g.D.Disk.content g.D.Disk.moment g.D.Disk.since g.D.Disk.faults laws.falls c.sync.new.self c.read_heads.new.disk c.read_heads.ensures.only told (c.in_ok-sync.ensures.durable told)
+    λ _ _ told. still_durable g.D.Disk laws.falls c.sync.new.self c.read_heads.new.disk c.read_heads.ensures.only told (c.in_ok-sync.ensures.durable told)
 
 pub read_ruling-requires-else-branch-clause-durable : goal.read_ruling-requires-else-branch-clause-durable
 read_ruling-requires-else-branch-clause-durable g c =
     let laws = g.met.D.Disk g.world.𝓛 g.world.𝓜 g.world.𝓡 ((λ s x. x), (λ x. x), (λ x. x), λ x. x) in
-    λ _ _ told. still_durable g.D.Disk.tells g.D.Disk.size g.D.Disk.content g.D.Disk.moment g.D.Disk.since g.D.Disk.faults laws.falls c.sync.new.self c.read_heads.new.disk c.read_heads.ensures.only told (c.in_ok-sync.ensures.durable told)
+    λ _ _ told. still_durable g.D.Disk laws.falls c.sync.new.self c.read_heads.new.disk c.read_heads.ensures.only told (c.in_ok-sync.ensures.durable told)
 
 pub returns-then-branch-clause-only : goal.returns-then-branch-clause-only
 returns-then-branch-clause-only g c =
     let laws = g.met.D.Disk g.world.𝓛 g.world.𝓜 g.world.𝓡 ((λ s x. x), (λ x. x), (λ x. x), λ x. x) in
-    let synced : OnlyRead g.D.Disk.tells g.D.Disk.size g.D.Disk.content g.D.Disk.moment g.D.Disk.since g.D.Disk.faults c.args.disk.now c.sync.new.self =
+    let synced : OnlyRead g.D.Disk c.args.disk.now c.sync.new.self =
     record { length = c.sync.ensures.size; later = c.sync.ensures.later; told = λ told. record { same = c.sync.ensures.same told; time = c.sync.ensures.time told; moments = c.sync.ensures.moments told } } in
-    let both = only_more g.D.Disk.tells g.D.Disk.size g.D.Disk.content g.D.Disk.moment g.D.Disk.since g.D.Disk.faults laws.falls c.args.disk.now c.sync.new.self c.read_heads.new.disk synced c.read_heads.ensures.only in
-    only_more g.D.Disk.tells g.D.Disk.size g.D.Disk.content g.D.Disk.moment g.D.Disk.since g.D.Disk.faults laws.falls c.args.disk.now c.read_heads.new.disk c.read_ruling.new.disk both c.read_ruling.ensures.only
+    let both = only_more g.D.Disk laws.falls c.args.disk.now c.sync.new.self c.read_heads.new.disk synced c.read_heads.ensures.only in
+    only_more g.D.Disk laws.falls c.args.disk.now c.read_heads.new.disk c.read_ruling.new.disk both c.read_ruling.ensures.only
 
 pub returns-then-branch-clause-durable : goal.returns-then-branch-clause-durable
 returns-then-branch-clause-durable g c =
     let laws = g.met.D.Disk g.world.𝓛 g.world.𝓜 g.world.𝓡 ((λ s x. x), (λ x. x), (λ x. x), λ x. x) in
-    let all = only_more g.D.Disk.tells g.D.Disk.size g.D.Disk.content g.D.Disk.moment g.D.Disk.since g.D.Disk.faults laws.falls c.sync.new.self c.read_heads.new.disk c.read_ruling.new.disk c.read_heads.ensures.only c.read_ruling.ensures.only in
-    on_ok c.read_ruling.result (λ told. still_durable g.D.Disk.tells g.D.Disk.size g.D.Disk.content g.D.Disk.moment g.D.Disk.since g.D.Disk.faults laws.falls c.sync.new.self c.read_ruling.new.disk all told (c.in_ok-sync.ensures.durable told))
+    let all = only_more g.D.Disk laws.falls c.sync.new.self c.read_heads.new.disk c.read_ruling.new.disk c.read_heads.ensures.only c.read_ruling.ensures.only in
+    on_ok c.read_ruling.result (λ told. still_durable g.D.Disk laws.falls c.sync.new.self c.read_ruling.new.disk all told (c.in_ok-sync.ensures.durable told))
 
 pub returns-then-branch-clause-refused : goal.returns-then-branch-clause-refused
 returns-then-branch-clause-refused g c =
     let laws = g.met.D.Disk g.world.𝓛 g.world.𝓜 g.world.𝓡 ((λ s x. x), (λ x. x), (λ x. x), λ x. x) in
-    let synced : OnlyRead g.D.Disk.tells g.D.Disk.size g.D.Disk.content g.D.Disk.moment g.D.Disk.since g.D.Disk.faults c.args.disk.now c.sync.new.self =
+    let synced : OnlyRead g.D.Disk c.args.disk.now c.sync.new.self =
     record { length = c.sync.ensures.size; later = c.sync.ensures.later; told = λ told. record { same = c.sync.ensures.same told; time = c.sync.ensures.time told; moments = c.sync.ensures.moments told } } in
-    let both = only_more g.D.Disk.tells g.D.Disk.size g.D.Disk.content g.D.Disk.moment g.D.Disk.since g.D.Disk.faults laws.falls c.args.disk.now c.sync.new.self c.read_heads.new.disk synced c.read_heads.ensures.only in
+    let both = only_more g.D.Disk laws.falls c.args.disk.now c.sync.new.self c.read_heads.new.disk synced c.read_heads.ensures.only in
     let ok = c.in_ok-choose.ensures in
     let weaken : (refusal : OpenRefusal) → (refusal ≡ DiskFault) ⊎ ((gate : ℕ) × (refusal ≡ BadRecord gate) × (g.D.Disk.tells → chain c.args.areas.bytes (g.D.Disk.content c.read_heads.new.disk) (begin_of c.args.areas true) (begin_of c.args.areas true + c.args.areas.bytes) ≡ Err gate))
     → (refusal ≡ DiskFault) ⊎ (g.D.Disk.tells → read_areas c.args.areas (g.D.Disk.content c.args.disk.now) ≡ Err refusal) = λ refusal h. elim h [
@@ -68,23 +68,23 @@ returns-then-branch-clause-refused g c =
 pub returns-else-branch-clause-only : goal.returns-else-branch-clause-only
 returns-else-branch-clause-only g c =
     let laws = g.met.D.Disk g.world.𝓛 g.world.𝓜 g.world.𝓡 ((λ s x. x), (λ x. x), (λ x. x), λ x. x) in
-    let synced : OnlyRead g.D.Disk.tells g.D.Disk.size g.D.Disk.content g.D.Disk.moment g.D.Disk.since g.D.Disk.faults c.args.disk.now c.sync.new.self =
+    let synced : OnlyRead g.D.Disk c.args.disk.now c.sync.new.self =
     record { length = c.sync.ensures.size; later = c.sync.ensures.later; told = λ told. record { same = c.sync.ensures.same told; time = c.sync.ensures.time told; moments = c.sync.ensures.moments told } } in
-    let both = only_more g.D.Disk.tells g.D.Disk.size g.D.Disk.content g.D.Disk.moment g.D.Disk.since g.D.Disk.faults laws.falls c.args.disk.now c.sync.new.self c.read_heads.new.disk synced c.read_heads.ensures.only in
-    only_more g.D.Disk.tells g.D.Disk.size g.D.Disk.content g.D.Disk.moment g.D.Disk.since g.D.Disk.faults laws.falls c.args.disk.now c.read_heads.new.disk c.read_ruling-else-branch.new.disk both c.read_ruling-else-branch.ensures.only
+    let both = only_more g.D.Disk laws.falls c.args.disk.now c.sync.new.self c.read_heads.new.disk synced c.read_heads.ensures.only in
+    only_more g.D.Disk laws.falls c.args.disk.now c.read_heads.new.disk c.read_ruling-else-branch.new.disk both c.read_ruling-else-branch.ensures.only
 
 pub returns-else-branch-clause-durable : goal.returns-else-branch-clause-durable
 returns-else-branch-clause-durable g c =
     let laws = g.met.D.Disk g.world.𝓛 g.world.𝓜 g.world.𝓡 ((λ s x. x), (λ x. x), (λ x. x), λ x. x) in
-    let all = only_more g.D.Disk.tells g.D.Disk.size g.D.Disk.content g.D.Disk.moment g.D.Disk.since g.D.Disk.faults laws.falls c.sync.new.self c.read_heads.new.disk c.read_ruling-else-branch.new.disk c.read_heads.ensures.only c.read_ruling-else-branch.ensures.only in
-    on_ok c.read_ruling-else-branch.result (λ told. still_durable g.D.Disk.tells g.D.Disk.size g.D.Disk.content g.D.Disk.moment g.D.Disk.since g.D.Disk.faults laws.falls c.sync.new.self c.read_ruling-else-branch.new.disk all told (c.in_ok-sync.ensures.durable told))
+    let all = only_more g.D.Disk laws.falls c.sync.new.self c.read_heads.new.disk c.read_ruling-else-branch.new.disk c.read_heads.ensures.only c.read_ruling-else-branch.ensures.only in
+    on_ok c.read_ruling-else-branch.result (λ told. still_durable g.D.Disk laws.falls c.sync.new.self c.read_ruling-else-branch.new.disk all told (c.in_ok-sync.ensures.durable told))
 
 pub returns-else-branch-clause-refused : goal.returns-else-branch-clause-refused
 returns-else-branch-clause-refused g c =
     let laws = g.met.D.Disk g.world.𝓛 g.world.𝓜 g.world.𝓡 ((λ s x. x), (λ x. x), (λ x. x), λ x. x) in
-    let synced : OnlyRead g.D.Disk.tells g.D.Disk.size g.D.Disk.content g.D.Disk.moment g.D.Disk.since g.D.Disk.faults c.args.disk.now c.sync.new.self =
+    let synced : OnlyRead g.D.Disk c.args.disk.now c.sync.new.self =
     record { length = c.sync.ensures.size; later = c.sync.ensures.later; told = λ told. record { same = c.sync.ensures.same told; time = c.sync.ensures.time told; moments = c.sync.ensures.moments told } } in
-    let both = only_more g.D.Disk.tells g.D.Disk.size g.D.Disk.content g.D.Disk.moment g.D.Disk.since g.D.Disk.faults laws.falls c.args.disk.now c.sync.new.self c.read_heads.new.disk synced c.read_heads.ensures.only in
+    let both = only_more g.D.Disk laws.falls c.args.disk.now c.sync.new.self c.read_heads.new.disk synced c.read_heads.ensures.only in
     let ok = c.in_ok-choose.ensures in
     let weaken : (refusal : OpenRefusal) → (refusal ≡ DiskFault) ⊎ ((gate : ℕ) × (refusal ≡ BadRecord gate) × (g.D.Disk.tells → chain c.args.areas.bytes (g.D.Disk.content c.read_heads.new.disk) (begin_of c.args.areas false) (begin_of c.args.areas false + c.args.areas.bytes) ≡ Err gate))
     → (refusal ≡ DiskFault) ⊎ (g.D.Disk.tells → read_areas c.args.areas (g.D.Disk.content c.args.disk.now) ≡ Err refusal) = λ refusal h. elim h [

@@ -7,7 +7,7 @@ invariant-gates g l = record {
   above : l.fn.from ≤ l.gate;
   inside : l.gate < l.stop;
   lies : l.stop ≤ g.D.Disk.size l.disk;
-  only : OnlyRead g.D.Disk.tells g.D.Disk.size g.D.Disk.content g.D.Disk.moment g.D.Disk.since g.D.Disk.faults l.fn.disk l.disk;
+  only : OnlyRead g.D.Disk l.fn.disk l.disk;
   leads : g.D.Disk.tells → Leads (g.D.Disk.content l.fn.disk) l.fn.from l.gate;
 }
 

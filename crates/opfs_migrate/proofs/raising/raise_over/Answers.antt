@@ -26,7 +26,7 @@ returns-in-Ok-clause-stands g c = λ told.
       map = m;
       was = was;
       is = subst (λ d. Stands (g.D.Disk.content d) m) (sym c.give_back.ensures.disk)
-          (content_new g.D.Disk.size g.D.Disk.content g.D.Disk.moment g.D.Disk.since (laws.full told) (laws.whole told) plan.geometry plan.files plan.body.items k
+          (content_new g.D.Disk (laws.full told) (laws.whole told) plan.geometry plan.files plan.body.items k
           (record { areas = c.requires.areas; planned = planned; records = c.requires.records told; one_image = c.requires.one_image told })
           c.rule.new.journal.disk c.rule.ensures.moved.length (c.rule.ensures.outside told) stored m was);
       counted = planned_files before plan.geometry plan.files plan.body.items planned;

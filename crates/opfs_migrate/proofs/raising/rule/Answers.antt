@@ -6,14 +6,14 @@ use Rattle.opfs_migrate.proofs.raising.rule.Goals as goal
 pub returns-then-format-ne1-clause-untold : goal.returns-then-format-ne1-clause-untold
 returns-then-format-ne1-clause-untold g c = inr (inr (λ told.
     let f : c.args.journal.now.format ≡ 1 =
-    format_is g.D.Disk.size g.D.Disk.content g.D.Disk.moment g.D.Disk.since c.args.plan.now.geometry c.args.plan.now.files c.args.plan.now.body.items c.args.journal.now
+    format_is g.D.Disk c.args.plan.now.geometry c.args.plan.now.files c.args.plan.now.body.items c.args.journal.now
     (record { areas = c.requires.areas; planned = c.requires.planned told; records = c.requires.records told; one_image = c.requires.one_image told }) in
     c.if-format-ne1.true (c.format.ensures.value ∙ f)))
 
 pub returns-clause-moved : goal.returns-clause-moved
 returns-clause-moved g c =
     let laws = g.met.D.Disk g.world.𝓛 g.world.𝓜 g.world.𝓡 ((λ s x. x), (λ x. x), (λ x. x), λ x. x) in
-    moved_by g.D.Disk.tells g.D.Disk.size g.D.Disk.content g.D.Disk.moment g.D.Disk.since g.D.Disk.faults laws.falls laws.full laws.whole
+    moved_by g.D.Disk laws.falls laws.full laws.whole
     c.args.plan.now.geometry c.args.plan.now.files c.args.plan.now.body.items c.deref.result.now c.args.journal.now c.reserve.new.self c.write_over.new.journal.disk c.reserve.ensures.same c.deref.ensures.value
     (λ told. record { areas = c.requires.areas; planned = c.requires.planned told; records = c.requires.records told; one_image = c.requires.one_image told })
     c.write_over.ensures.length c.write_over.ensures.later c.write_over.ensures.time c.write_over.ensures.moments
@@ -21,7 +21,7 @@ returns-clause-moved g c =
 pub returns-clause-durable : goal.returns-clause-durable
 returns-clause-durable g c =
     let laws = g.met.D.Disk g.world.𝓛 g.world.𝓜 g.world.𝓡 ((λ s x. x), (λ x. x), (λ x. x), λ x. x) in
-    on_ok_weaker c.write_over.result (durable_by g.D.Disk.tells g.D.Disk.size g.D.Disk.content g.D.Disk.moment g.D.Disk.since g.D.Disk.faults laws.falls laws.full laws.whole
+    on_ok_weaker c.write_over.result (durable_by g.D.Disk laws.falls laws.full laws.whole
     c.args.plan.now.geometry c.args.plan.now.files c.args.plan.now.body.items c.deref.result.now c.args.journal.now c.reserve.new.self c.write_over.new.journal.disk c.reserve.ensures.same c.deref.ensures.value
     (λ told. record { areas = c.requires.areas; planned = c.requires.planned told; records = c.requires.records told; one_image = c.requires.one_image told })
     c.write_over.ensures.length) c.write_over.ensures.durable

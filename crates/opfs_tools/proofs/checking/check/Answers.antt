@@ -17,8 +17,8 @@ invariant_of-from g c =
     let from = c.args.from.now in
     record {
       agrees = from.agrees;
-      journal_of = journal_kept g.D.Disk.tells g.D.Disk.size g.D.Disk.content g.D.Disk.moment g.D.Disk.since g.D.Disk.faults from.geometry from.journal c.check_text.new.journal c.check_text.ensures.reads from.journal_of;
-      image_of = λ told. image_kept g.D.Disk.tells g.D.Disk.size g.D.Disk.content g.D.Disk.moment g.D.Disk.since g.D.Disk.faults laws.falls from.geometry _ from.journal c.check_text.new.journal told c.check_text.ensures.reads (from.image_of told);
+      journal_of = journal_kept g.D.Disk from.geometry from.journal c.check_text.new.journal c.check_text.ensures.reads from.journal_of;
+      image_of = λ told. image_kept g.D.Disk laws.falls from.geometry _ from.journal c.check_text.new.journal told c.check_text.ensures.reads (from.image_of told);
     }
 
 pub returns-clause-checked : goal.returns-clause-checked

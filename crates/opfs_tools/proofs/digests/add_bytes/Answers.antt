@@ -15,6 +15,6 @@ loop-from-preserved g c =
     let f = c.in_ok-add_piece.ensures in
     record {
       within = omega (arith, c.min-len.ensures, at.within);
-      reads = reads_more g.D.Disk.tells g.D.Disk.size g.D.Disk.content g.D.Disk.moment g.D.Disk.since g.D.Disk.faults laws.falls c.args.journal.now c.loop-from.journal c.add_piece.new.journal at.reads f.reads;
+      reads = reads_more g.D.Disk laws.falls c.args.journal.now c.loop-from.journal c.add_piece.new.journal at.reads f.reads;
       added = λ told m held. piece_more c.add_piece.new.hasher content (g.D.Disk.content c.loop-from.journal.disk) m c.args.at from n _ (at.reads.told told).same (length-take-le n c.loop-from.piece (omega (arith, c.min-len.ensures))) (f.added told (m ++ window content c.args.at from) (at.added told m held));
     }

@@ -7,7 +7,7 @@ use Rattle.opfs_tools.proofs.digests.add_bytes.Given as goal
 abbrev pub invariant-loop-from : goal.invariant-loop-from
 invariant-loop-from g l = record {
   within : l.from ≤ l.count;
-  reads : Reads g.D.Disk.tells g.D.Disk.size g.D.Disk.content g.D.Disk.moment g.D.Disk.since g.D.Disk.faults l.fn.journal l.journal;
+  reads : Reads g.D.Disk l.fn.journal l.journal;
   added : g.D.Disk.tells → (m : List ℕ) → Holds256 l.fn.hasher m → Holds256 l.hasher (m ++ window (g.D.Disk.content l.fn.journal.disk) l.at l.from);
 }
 

@@ -13,7 +13,7 @@ use Rattle.opfs_tools.proofs.digests.add_rows.Goals as goal
 pub loop-row-init : goal.loop-row-init
 loop-row-init g c = record {
   lies = subst (λ (w : Option Place). RowsLie c.args.base (g.D.Disk.size c.args.journal.now.disk) (rows_above w c.args.tree.now)) (sym c.make-walk.ensures) c.requires.lies;
-  reads = reads_nothing g.D.Disk.tells g.D.Disk.size g.D.Disk.content g.D.Disk.moment g.D.Disk.since g.D.Disk.faults (g.met.D.Disk g.world.𝓛 g.world.𝓜 g.world.𝓡 ((λ s x. x), (λ x. x), (λ x. x), λ x. x)).falls c.args.journal.now;
+  reads = reads_nothing g.D.Disk (g.met.D.Disk g.world.𝓛 g.world.𝓜 g.world.𝓡 ((λ s x. x), (λ x. x), (λ x. x), λ x. x)).falls c.args.journal.now;
   text = λ told. ap (λ (w : Option Place). c.args.text.now.items ++ stored_lines c.args.base (g.D.Disk.content c.args.journal.now.disk) (rows_above w c.args.tree.now)) c.make-walk.ensures;
 }
 
@@ -36,7 +36,7 @@ loop-row-preserved g c =
     let f = c.in_ok-add_row.ensures in
     record {
       lies = (lies_next c.args.base (g.D.Disk.size c.args.journal.now.disk) c.step.new.walk (rows_above c.loop-row.walk c.args.tree.now) c.args.tree.now c.in-Some.row.now c.in-Some.ensures.next at.lies).1;
-      reads = reads_more g.D.Disk.tells g.D.Disk.size g.D.Disk.content g.D.Disk.moment g.D.Disk.since g.D.Disk.faults laws.falls c.args.journal.now c.loop-row.journal c.add_row.new.journal at.reads f.reads;
+      reads = reads_more g.D.Disk laws.falls c.args.journal.now c.loop-row.journal c.add_row.new.journal at.reads f.reads;
       text = λ told.
           lines_more c.args.base (g.D.Disk.content c.args.journal.now.disk) c.step.new.walk (rows_above c.loop-row.walk c.args.tree.now) c.args.tree.now c.in-Some.row.now c.loop-row.text.items c.add_row.new.text.items _
           c.in-Some.ensures.next
@@ -48,7 +48,7 @@ pub returns-in_err-add_row-clause-reads : goal.returns-in_err-add_row-clause-rea
 returns-in_err-add_row-clause-reads g c =
     let laws = g.met.D.Disk g.world.𝓛 g.world.𝓜 g.world.𝓡 ((λ s x. x), (λ x. x), (λ x. x), λ x. x) in
     let at = c.loop-row.invariant in
-    reads_more g.D.Disk.tells g.D.Disk.size g.D.Disk.content g.D.Disk.moment g.D.Disk.since g.D.Disk.faults laws.falls c.args.journal.now c.loop-row.journal c.add_row.new.journal at.reads c.add_row.ensures.reads
+    reads_more g.D.Disk laws.falls c.args.journal.now c.loop-row.journal c.add_row.new.journal at.reads c.add_row.ensures.reads
 
 pub returns-in_err-add_row-clause-cause : goal.returns-in_err-add_row-clause-cause
 returns-in_err-add_row-clause-cause g c = λ failed.

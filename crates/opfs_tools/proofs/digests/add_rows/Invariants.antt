@@ -7,7 +7,7 @@ use Rattle.opfs_tools.proofs.digests.add_rows.Given as goal
 abbrev pub invariant-loop-row : goal.invariant-loop-row
 invariant-loop-row g l = record {
   lies : RowsLie l.base (g.D.Disk.size l.fn.journal.disk) (rows_above l.walk l.tree);
-  reads : Reads g.D.Disk.tells g.D.Disk.size g.D.Disk.content g.D.Disk.moment g.D.Disk.since g.D.Disk.faults l.fn.journal l.journal;
+  reads : Reads g.D.Disk l.fn.journal l.journal;
   text : g.D.Disk.tells → l.text.items ++ stored_lines l.base (g.D.Disk.content l.fn.journal.disk) (rows_above l.walk l.tree)
       ≡ l.fn.text.items ++ stored_lines l.base (g.D.Disk.content l.fn.journal.disk) l.tree;
 }

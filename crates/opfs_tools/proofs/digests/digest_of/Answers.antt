@@ -29,7 +29,7 @@ loop-extent-preserved g c =
     let f = c.in_ok-add_bytes.ensures in
     record {
       room = omega (arith, room, is);
-      reads = reads_more g.D.Disk.tells g.D.Disk.size g.D.Disk.content g.D.Disk.moment g.D.Disk.since g.D.Disk.faults laws.falls c.args.journal.now c.loop-extent.journal c.add_bytes.new.journal at.reads f.reads;
+      reads = reads_more g.D.Disk laws.falls c.args.journal.now c.loop-extent.journal c.add_bytes.new.journal at.reads f.reads;
       held = λ told.
           let h = at.held told in
           let same : g.D.Disk.content c.loop-extent.journal.disk ≡ content = (at.reads.told told).same in

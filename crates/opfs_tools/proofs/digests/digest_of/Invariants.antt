@@ -7,7 +7,7 @@ use Rattle.opfs_tools.proofs.digests.digest_of.Given as goal
 abbrev pub invariant-loop-extent : goal.invariant-loop-extent
 invariant-loop-extent g l = record {
   room : l.left ≤ room_of (drop l.extent-index l.extents);
-  reads : Reads g.D.Disk.tells g.D.Disk.size g.D.Disk.content g.D.Disk.moment g.D.Disk.since g.D.Disk.faults l.fn.journal l.journal;
+  reads : Reads g.D.Disk l.fn.journal l.journal;
   held : g.D.Disk.tells → (done : List ℕ) × Holds256 l.hasher done × (done ++ bytes_of (g.D.Disk.content l.fn.journal.disk) l.base (drop l.extent-index l.extents) l.left
       ≡ bytes_of (g.D.Disk.content l.fn.journal.disk) l.base l.extents l.len);
 }

@@ -1,38 +1,46 @@
-use Rattle.std.proofs.Common.{sym, ap, subst, ◌∙◌}
+use Rattle.std.proofs.Common.{sym, ap, subst, ◌∙◌, refl}
 use Rattle.opfs_machine.specs.declared.own.Outline.TheVariants as outline
 use Rattle.opfs_standing.specs.Open.{IsStreamAt}
 use Rattle.opfs_standing.specs.Seen.{Seen, machine_of, with_slot_at}
-use Rattle.opfs_standing.proofs.Streams.{stream-usage, stream-blocks, closed-machine, closed-tied}
+use Rattle.opfs_standing.proofs.OpenStreams.{stream-usage, stream-blocks, closed-machine, closed-tied}
+use Rattle.std.specs.Map.{keys_of}
+use Rattle.opfs_standing.proofs.Stores.{units-kept, prepared-same}
 use Rattle.opfs_standing.proofs.standing.Standing.close_stream.Goals as goal
 
 pub free-requires : goal.free-requires
 free-requires c =
     let w = c.close_stream-stream.result in
-    let at : IsStreamAt (machine_of c.self.inside.tree c.self.inside.shed.buckets c.self.inside.beside) c.args.at c.args.n = subst (λ (s : Seen). IsStreamAt s.machine c.args.at c.args.n) (sym c.self.view_is) c.requires.stream in
+    let at : IsStreamAt (machine_of c.self.inside.tree.rows c.self.inside.shed.buckets c.self.inside.register) c.args.at c.args.n = subst (λ (s : Seen). IsStreamAt s.machine c.args.at c.args.n) (sym c.self.view_is) c.requires.stream in
     rw (c.outline.ensures, c.outline-2.ensures)
-    (stream-usage c.self.inside.tree c.self.inside.shed c.self.inside.pool c.self.inside.beside c.self.inside.fixed c.self.inside.root c.args.at c.args.n w c.self.invariant c.close_stream-stream.ensures.stream
+    (stream-usage c.self.inside.tree.rows c.self.inside.shed c.self.inside.pool c.self.inside.register c.self.inside.fixed c.self.inside.root c.args.at c.args.n w c.self.invariant c.close_stream-stream.ensures.stream
     (at.there w c.close_stream-stream.ensures.stream))
 
 pub lower-requires : goal.lower-requires
 lower-requires c =
     let w = c.close_stream-stream.result in
-    let at : IsStreamAt (machine_of c.self.inside.tree c.self.inside.shed.buckets c.self.inside.beside) c.args.at c.args.n = subst (λ (s : Seen). IsStreamAt s.machine c.args.at c.args.n) (sym c.self.view_is) c.requires.stream in
+    let at : IsStreamAt (machine_of c.self.inside.tree.rows c.self.inside.shed.buckets c.self.inside.register) c.args.at c.args.n = subst (λ (s : Seen). IsStreamAt s.machine c.args.at c.args.n) (sym c.self.view_is) c.requires.stream in
     rw (c.outline.ensures, c.outline-3.ensures)
-    (stream-blocks c.self.inside.tree c.self.inside.shed c.self.inside.pool c.self.inside.beside c.self.inside.fixed c.self.inside.root c.args.at c.args.n w c.self.invariant c.close_stream-stream.ensures.stream
+    (stream-blocks c.self.inside.tree.rows c.self.inside.shed c.self.inside.pool c.self.inside.register c.self.inside.fixed c.self.inside.root c.args.at c.args.n w c.self.invariant c.close_stream-stream.ensures.stream
     (at.there w c.close_stream-stream.ensures.stream))
 
 pub invariant_of-self : goal.invariant_of-self
 invariant_of-self c =
     let w = c.close_stream-stream.result in
-    let at : IsStreamAt (machine_of c.self.inside.tree c.self.inside.shed.buckets c.self.inside.beside) c.args.at c.args.n = subst (λ (s : Seen). IsStreamAt s.machine c.args.at c.args.n) (sym c.self.view_is) c.requires.stream in
-    closed-tied c.self.inside.tree c.self.inside.shed c.self.inside.pool c.self.inside.beside c.self.inside.fixed c.self.inside.root c.args.at c.args.n w c.self.invariant c.close_stream-stream.ensures.stream
+    let at : IsStreamAt (machine_of c.self.inside.tree.rows c.self.inside.shed.buckets c.self.inside.register) c.args.at c.args.n = subst (λ (s : Seen). IsStreamAt s.machine c.args.at c.args.n) (sym c.self.view_is) c.requires.stream in
+    closed-tied c.self.inside.tree.rows c.self.inside.shed c.self.inside.pool c.self.inside.register c.self.inside.fixed c.self.inside.root c.args.at c.args.n w c.self.invariant c.close_stream-stream.ensures.stream
     (at.there w c.close_stream-stream.ensures.stream) c.free.new.self c.lower.new.self c.close_stream-stream.new.self (rw (c.outline.ensures, c.outline-2.ensures) at c.free.ensures.bucket) c.close_stream-stream.ensures.rest
     (rw (c.outline.ensures, c.outline-2.ensures) at c.free.ensures.usage) (rw (c.outline.ensures, c.outline-3.ensures) at c.lower.ensures.share) (rw c.outline.ensures at c.lower.ensures.held)
 
 pub returns-clause-machine : goal.returns-clause-machine
 returns-clause-machine c =
     let w = c.close_stream-stream.result in
-    let at : IsStreamAt (machine_of c.self.inside.tree c.self.inside.shed.buckets c.self.inside.beside) c.args.at c.args.n = subst (λ (s : Seen). IsStreamAt s.machine c.args.at c.args.n) (sym c.self.view_is) c.requires.stream in
-    closed-machine c.self.inside.tree c.self.inside.shed c.self.inside.pool c.self.inside.beside c.self.inside.fixed c.self.inside.root c.args.at c.args.n w c.self.invariant c.close_stream-stream.ensures.stream
+    let at : IsStreamAt (machine_of c.self.inside.tree.rows c.self.inside.shed.buckets c.self.inside.register) c.args.at c.args.n = subst (λ (s : Seen). IsStreamAt s.machine c.args.at c.args.n) (sym c.self.view_is) c.requires.stream in
+    closed-machine c.self.inside.tree.rows c.self.inside.shed c.self.inside.pool c.self.inside.register c.self.inside.fixed c.self.inside.root c.args.at c.args.n w c.self.invariant c.close_stream-stream.ensures.stream
     (at.there w c.close_stream-stream.ensures.stream) c.free.new.self c.lower.new.self c.close_stream-stream.new.self (rw (c.outline.ensures, c.outline-2.ensures) at c.free.ensures.bucket) c.close_stream-stream.ensures.rest
     ∙ ap (λ (s : Seen). with_slot_at s.machine c.args.at c.args.n outline.ClosedStream) c.self.view_is
+
+pub returns-clause-prepared : goal.returns-clause-prepared
+returns-clause-prepared c =
+    prepared-same c.self.inside.tree.ready c.self.inside.tree.ready (keys_of c.self.inside.shed.buckets) (keys_of c.free.new.self.buckets) refl
+    (units-kept c.self.inside.shed c.free.new.self _ _ c.free.ensures.bucket)
+    ∙ ap (λ (s : Seen). s.prepared) c.self.view_is

@@ -1,4 +1,4 @@
-use Rattle.std.proofs.Common.{◌≡◌, ◌+◌, ◌<◌, ◌^◌, Some, sym, ap, subst, ◌∙◌, arith}
+use Rattle.std.proofs.Common.{◌≡◌, ◌+◌, ◌<◌, ◌^◌, Some, sym, ap, subst, ◌∙◌, arith, refl}
 use Rattle.opfs_base.specs.Units.{origin_of}
 use Rattle.opfs_machine.specs.declared.own.Outline.TheVariants as outline
 use Rattle.opfs_machine.specs.declared.own.StreamOutline.{StreamOutline}
@@ -7,41 +7,49 @@ use Rattle.opfs_machine.specs.Sums.{usage}
 use Rattle.opfs_seats.specs.Slots.{stream_at}
 use Rattle.opfs_standing.specs.Open.{IsStreamAt}
 use Rattle.opfs_standing.specs.Seen.{Seen, machine_of, with_slot_at}
-use Rattle.opfs_standing.proofs.Streams.{stream-in-usage, usage-known, one_stream, grown-machine, grown-tied}
+use Rattle.opfs_standing.proofs.OpenStreams.{stream-in-usage, usage-known, one_stream, grown-machine, grown-tied}
+use Rattle.std.specs.Map.{keys_of}
+use Rattle.opfs_standing.proofs.Stores.{units-kept, prepared-same}
 use Rattle.opfs_standing.proofs.standing.Standing.grow_stream.Goals as goal
 
 pub overflow_add-reserve : goal.overflow_add-reserve
 overflow_add-reserve c =
     let w = c.in-Some.stream.now in
-    let found : stream_at c.self.inside.beside.agents c.args.at c.args.n ≡ Some w = sym c.in-Some.ensures in
-    let at : IsStreamAt (machine_of c.self.inside.tree c.self.inside.shed.buckets c.self.inside.beside) c.args.at c.args.n = subst (λ (s : Seen). IsStreamAt s.machine c.args.at c.args.n) (sym c.self.view_is) c.requires.stream in
-    let quota : usage in_lengths (machine_of c.self.inside.tree c.self.inside.shed.buckets c.self.inside.beside) (origin_of w.file.0) + c.args.more < 2 ^ 64 =
+    let found : stream_at c.self.inside.register.agents c.args.at c.args.n ≡ Some w = sym c.in-Some.ensures in
+    let at : IsStreamAt (machine_of c.self.inside.tree.rows c.self.inside.shed.buckets c.self.inside.register) c.args.at c.args.n = subst (λ (s : Seen). IsStreamAt s.machine c.args.at c.args.n) (sym c.self.view_is) c.requires.stream in
+    let quota : usage in_lengths (machine_of c.self.inside.tree.rows c.self.inside.shed.buckets c.self.inside.register) (origin_of w.file.0) + c.args.more < 2 ^ 64 =
     (rw (← c.self.view_is) at c.requires.quota) w found in
-    omega (arith, quota, stream-in-usage c.self.inside.tree c.self.inside.shed c.self.inside.pool c.self.inside.beside c.self.inside.fixed c.self.inside.root c.args.at c.args.n w c.self.invariant found (at.there w found))
+    omega (arith, quota, stream-in-usage c.self.inside.tree.rows c.self.inside.shed c.self.inside.pool c.self.inside.register c.self.inside.fixed c.self.inside.root c.args.at c.args.n w c.self.invariant found (at.there w found))
 
 pub add-requires-clause-fits : goal.add-requires-clause-fits
 add-requires-clause-fits c =
     let w = c.in-Some.stream.now in
-    let found : stream_at c.self.inside.beside.agents c.args.at c.args.n ≡ Some w = sym c.in-Some.ensures in
-    let at : IsStreamAt (machine_of c.self.inside.tree c.self.inside.shed.buckets c.self.inside.beside) c.args.at c.args.n = subst (λ (s : Seen). IsStreamAt s.machine c.args.at c.args.n) (sym c.self.view_is) c.requires.stream in
-    let quota : usage in_lengths (machine_of c.self.inside.tree c.self.inside.shed.buckets c.self.inside.beside) (origin_of w.file.0) + c.args.more < 2 ^ 64 =
+    let found : stream_at c.self.inside.register.agents c.args.at c.args.n ≡ Some w = sym c.in-Some.ensures in
+    let at : IsStreamAt (machine_of c.self.inside.tree.rows c.self.inside.shed.buckets c.self.inside.register) c.args.at c.args.n = subst (λ (s : Seen). IsStreamAt s.machine c.args.at c.args.n) (sym c.self.view_is) c.requires.stream in
+    let quota : usage in_lengths (machine_of c.self.inside.tree.rows c.self.inside.shed.buckets c.self.inside.register) (origin_of w.file.0) + c.args.more < 2 ^ 64 =
     (rw (← c.self.view_is) at c.requires.quota) w found in
-    omega (arith, quota, usage-known c.self.inside.tree c.self.inside.shed c.self.inside.pool c.self.inside.beside c.self.inside.fixed c.self.inside.root c.args.at c.args.n w c.self.invariant found (at.there w found))
+    omega (arith, quota, usage-known c.self.inside.tree.rows c.self.inside.shed c.self.inside.pool c.self.inside.register c.self.inside.fixed c.self.inside.root c.args.at c.args.n w c.self.invariant found (at.there w found))
 
 pub invariant_of-self : goal.invariant_of-self
 invariant_of-self c =
     let w = c.in-Some.stream.now in
-    let found : stream_at c.self.inside.beside.agents c.args.at c.args.n ≡ Some w = sym c.in-Some.ensures in
-    let at : IsStreamAt (machine_of c.self.inside.tree c.self.inside.shed.buckets c.self.inside.beside) c.args.at c.args.n = subst (λ (s : Seen). IsStreamAt s.machine c.args.at c.args.n) (sym c.self.view_is) c.requires.stream in
-    grown-tied c.self.inside.tree c.self.inside.shed c.self.inside.pool c.self.inside.beside c.self.inside.fixed c.self.inside.root c.args.at c.args.n w c.self.invariant found (at.there w found)
+    let found : stream_at c.self.inside.register.agents c.args.at c.args.n ≡ Some w = sym c.in-Some.ensures in
+    let at : IsStreamAt (machine_of c.self.inside.tree.rows c.self.inside.shed.buckets c.self.inside.register) c.args.at c.args.n = subst (λ (s : Seen). IsStreamAt s.machine c.args.at c.args.n) (sym c.self.view_is) c.requires.stream in
+    grown-tied c.self.inside.tree.rows c.self.inside.shed c.self.inside.pool c.self.inside.register c.self.inside.fixed c.self.inside.root c.args.at c.args.n w c.self.invariant found (at.there w found)
     c.add.new.self c.raise.new.self c.set_reserve.new.self c.args.more c.add.ensures.bucket c.set_reserve.ensures c.add.ensures.usage c.raise.ensures.share c.raise.ensures.held
 
 pub returns-clause-machine : goal.returns-clause-machine
 returns-clause-machine c =
     let w = c.in-Some.stream.now in
-    let found : stream_at c.self.inside.beside.agents c.args.at c.args.n ≡ Some w = sym c.in-Some.ensures in
-    let at : IsStreamAt (machine_of c.self.inside.tree c.self.inside.shed.buckets c.self.inside.beside) c.args.at c.args.n = subst (λ (s : Seen). IsStreamAt s.machine c.args.at c.args.n) (sym c.self.view_is) c.requires.stream in
+    let found : stream_at c.self.inside.register.agents c.args.at c.args.n ≡ Some w = sym c.in-Some.ensures in
+    let at : IsStreamAt (machine_of c.self.inside.tree.rows c.self.inside.shed.buckets c.self.inside.register) c.args.at c.args.n = subst (λ (s : Seen). IsStreamAt s.machine c.args.at c.args.n) (sym c.self.view_is) c.requires.stream in
     rw (← c.self.view_is) (λ v told.
-    grown-machine c.self.inside.tree c.self.inside.shed c.self.inside.pool c.self.inside.beside c.self.inside.fixed c.self.inside.root c.args.at c.args.n w c.self.invariant found (at.there w found)
+    grown-machine c.self.inside.tree.rows c.self.inside.shed c.self.inside.pool c.self.inside.register c.self.inside.fixed c.self.inside.root c.args.at c.args.n w c.self.invariant found (at.there w found)
     c.add.new.self c.raise.new.self c.set_reserve.new.self c.args.more c.add.ensures.bucket c.set_reserve.ensures
-    ∙ ap (λ (x : StreamOutline). with_slot_at (machine_of c.self.inside.tree c.self.inside.shed.buckets c.self.inside.beside) c.args.at c.args.n (outline.Stream (record x { reserve = x.reserve + c.args.more }))) (one_stream (sym found ∙ told)))
+    ∙ ap (λ (x : StreamOutline). with_slot_at (machine_of c.self.inside.tree.rows c.self.inside.shed.buckets c.self.inside.register) c.args.at c.args.n (outline.Stream (record x { reserve = x.reserve + c.args.more }))) (one_stream (sym found ∙ told)))
+
+pub returns-clause-prepared : goal.returns-clause-prepared
+returns-clause-prepared c =
+    prepared-same c.self.inside.tree.ready c.self.inside.tree.ready (keys_of c.self.inside.shed.buckets) (keys_of c.add.new.self.buckets) refl
+    (units-kept c.self.inside.shed c.add.new.self _ _ c.add.ensures.bucket)
+    ∙ ap (λ (s : Seen). s.prepared) c.self.view_is

@@ -9,9 +9,9 @@ use Rattle.opfs_standing.proofs.standing.Standing.size.Goals as goal
 pub returns-in-Some : goal.returns-in-Some
 returns-in-Some c =
     ap (option_map (λ (f : FileRow). f.present)) c.in-Some.ensures
-    ∙ (size-read c.self.inside.tree c.self.inside.shed.buckets c.self.inside.beside (c.args.unit.now, c.args.path.now) ∙ ap (λ (s : Seen). option_map (λ (f : File ℕ). f.present) (file_at s.machine (c.args.unit.now, c.args.path.now))) c.self.view_is)
+    ∙ (size-read c.self.inside.tree.rows c.self.inside.shed.buckets c.self.inside.register (c.args.unit.now, c.args.path.now) ∙ ap (λ (s : Seen). option_map (λ (f : File ℕ). f.present) (file_at s.machine (c.args.unit.now, c.args.path.now))) c.self.view_is)
 
 pub returns-in-None : goal.returns-in-None
 returns-in-None c =
     ap (option_map (λ (f : FileRow). f.present)) c.in-None.ensures
-    ∙ (size-read c.self.inside.tree c.self.inside.shed.buckets c.self.inside.beside (c.args.unit.now, c.args.path.now) ∙ ap (λ (s : Seen). option_map (λ (f : File ℕ). f.present) (file_at s.machine (c.args.unit.now, c.args.path.now))) c.self.view_is)
+    ∙ (size-read c.self.inside.tree.rows c.self.inside.shed.buckets c.self.inside.register (c.args.unit.now, c.args.path.now) ∙ ap (λ (s : Seen). option_map (λ (f : File ℕ). f.present) (file_at s.machine (c.args.unit.now, c.args.path.now))) c.self.view_is)

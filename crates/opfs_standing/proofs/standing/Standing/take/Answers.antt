@@ -8,17 +8,17 @@ use Rattle.opfs_standing.proofs.standing.Standing.take.Goals as goal
 
 pub mark-requires : goal.mark-requires
 mark-requires c =
-    let there : is_some (file_at (c.args.unit.now, c.args.path.now) c.self.inside.tree) ≡ true = ap (λ (s : Seen). is_some (file_at (c.args.unit.now, c.args.path.now) s.tree)) c.self.view_is ∙ c.requires.there in
-    (file-known c.self.inside.tree c.take_lock-held.new.self c.self.inside.shed c.self.inside.beside c.args.unit.now c.args.path.now (locked c.args.want) (with_lock {F = ℕ} c.args.want) (λ f. refl) c.take_lock-held.ensures.rows
+    let there : is_some (file_at (c.args.unit.now, c.args.path.now) c.self.inside.tree.rows) ≡ true = ap (λ (s : Seen). is_some (file_at (c.args.unit.now, c.args.path.now) s.tree)) c.self.view_is ∙ c.requires.there in
+    (file-known c.self.inside.tree.rows c.take_lock-held.new.self.rows c.self.inside.shed c.self.inside.register c.args.unit.now c.args.path.now (locked c.args.want) (with_lock {F = ℕ} c.args.want) (λ f. refl) c.take_lock-held.ensures.rows
     c.self.inside.pool c.self.inside.pool c.self.inside.fixed c.self.inside.root c.self.invariant there).share
 
 pub invariant_of-self : goal.invariant_of-self
 invariant_of-self c =
-    let there : is_some (file_at (c.args.unit.now, c.args.path.now) c.self.inside.tree) ≡ true = ap (λ (s : Seen). is_some (file_at (c.args.unit.now, c.args.path.now) s.tree)) c.self.view_is ∙ c.requires.there in
-    locked-tied c.self.inside.tree c.take_lock-held.new.self c.self.inside.shed c.self.inside.beside c.args.unit.now c.args.path.now (locked c.args.want) (with_lock {F = ℕ} c.args.want) (λ f. refl) c.take_lock-held.ensures.rows
+    let there : is_some (file_at (c.args.unit.now, c.args.path.now) c.self.inside.tree.rows) ≡ true = ap (λ (s : Seen). is_some (file_at (c.args.unit.now, c.args.path.now) s.tree)) c.self.view_is ∙ c.requires.there in
+    locked-tied c.self.inside.tree.rows c.take_lock-held.new.self.rows c.self.inside.shed c.self.inside.register c.args.unit.now c.args.path.now (locked c.args.want) (with_lock {F = ℕ} c.args.want) (λ f. refl) c.take_lock-held.ensures.rows
     c.self.inside.pool c.mark.new.pool c.self.inside.fixed c.self.inside.root c.self.invariant there (λ f. refl) (λ f. refl) c.mark.ensures
 
 pub returns-clause-machine : goal.returns-clause-machine
 returns-clause-machine c =
-    locked-machine c.self.inside.tree c.take_lock-held.new.self c.self.inside.shed c.self.inside.beside c.args.unit.now c.args.path.now (locked c.args.want) (with_lock {F = ℕ} c.args.want) (λ f. refl) c.take_lock-held.ensures.rows
+    locked-machine c.self.inside.tree.rows c.take_lock-held.new.self.rows c.self.inside.shed c.self.inside.register c.args.unit.now c.args.path.now (locked c.args.want) (with_lock {F = ℕ} c.args.want) (λ f. refl) c.take_lock-held.ensures.rows
     ∙ ap (λ (s : Seen). with_file s.machine (c.args.unit.now, c.args.path.now) (with_lock {F = ℕ} c.args.want)) c.self.view_is

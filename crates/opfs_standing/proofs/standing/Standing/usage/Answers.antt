@@ -8,4 +8,4 @@ use Rattle.opfs_standing.proofs.standing.Standing.usage.Goals as goal
 
 pub returns : goal.returns
 returns c =
-    c.usage.ensures ∙ (c.self.invariant.usages (origin_of c.args.unit.now) ∙ (sym (usage-is (machine_of c.self.inside.tree c.self.inside.shed.buckets c.self.inside.beside) (origin_of c.args.unit.now)) ∙ ap (λ (s : Seen). usage in_lengths s.machine (origin_of c.args.unit.now)) c.self.view_is))
+    c.usage.ensures ∙ (c.self.invariant.usages (origin_of c.args.unit.now) ∙ (sym (usage-is (machine_of c.self.inside.tree.rows c.self.inside.shed.buckets c.self.inside.register) (origin_of c.args.unit.now)) ∙ ap (λ (s : Seen). usage in_lengths s.machine (origin_of c.args.unit.now)) c.self.view_is))

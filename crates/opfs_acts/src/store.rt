@@ -1,0 +1,60 @@
+//! The store under the agents.
+
+use crate::acted::{Acted, AwaitState};
+use opfs_base::Name;
+use opfs_hall::Chronicle;
+use opfs_hist::{Entry, Op, Pending, Room};
+use opfs_work::Work;
+use std::alloc::AllocError;
+
+/// A store that many agents share, one call at a time. Its history is legal from its opening.
+pub trait Store: Chronicle<Entry = Entry> {
+    ghost use Rattle.std.specs.Prelude.{◌≡◌, ◌++◌, ℕ, [], length, IfOk, OnErr, is_ok, IsTrue, true};
+    ghost use Rattle.opfs_hist.specs.declared.entry.Entry.{Entry};
+    ghost use Rattle.opfs_machine.specs.Agents.{agent_of};
+    ghost use Rattle.opfs_machine.specs.Histories.{state_after};
+    ghost use Rattle.opfs_machine.specs.Openings.{Opening};
+    ghost use Rattle.opfs_histories.specs.Unread.{IsTold};
+    ghost use Rattle.opfs_acts.specs.Asking.{MayAct};
+    ghost use Rattle.opfs_acts.specs.Acting.{IsActed, IsGift, IsLeft, IsSameCopy, always_acts, awaited};
+
+    /// Whether the bytes that it gives are told. It is no function of the value.
+    ghost tells: { Type 0 };
+
+    /// The machine's opening.
+    ghost opened: { Self.Opening → Opening };
+
+    /// Makes one shared call: takes in the agent's pending calls, clears units where the call needs room, and enters the
+    /// call with its reply. Where there is no memory nothing is entered, and the working copy has another room at most;
+    /// abort, discard and end take none.
+    fn act(
+        &mut self,
+        agent: u32,
+        number: u32,
+        pending: &mut Pending,
+        room: Room,
+        op: Op,
+        work: &mut Work,
+        past: &[Name],
+    ) -> Result<Acted, AllocError>
+        requires may { MayAct tells (opened (Self.opening self.old)) (Self.entries self.old) pending.old (record { agent = agent; number = number; op = op }) work.old past.now }
+        ensures opening { Self.opening self.new ≡ Self.opening self.old }
+        ensures acted { IfOk result (λ acted. IsActed tells (opened (Self.opening self.old)) (Self.entries self.old) pending.old (record { agent = agent; number = number; op = op }) acted.reply (Self.entries self.new)) }
+        ensures taken { IfOk result (λ acted. pending.new ≡ []) }
+        ensures left { IfOk result (λ acted. IsLeft tells (opened (Self.opening self.old)) (Self.entries self.new) (record { agent = agent; number = number; op = op }) acted.reply work.old work.new) }
+        ensures gift { IfOk result (λ acted. IsGift tells (state_after (opened (Self.opening self.old)) (Self.entries self.old ++ pending.old)) op acted.reply acted.gift) }
+        ensures rows { IfOk result (λ acted. acted.rows ≡ length (agent_of (state_after (opened (Self.opening self.old)) (Self.entries self.new)) agent).own) }
+        ensures unacted { OnErr result ((Self.entries self.new ≡ Self.entries self.old) × (pending.new ≡ pending.old) × IsSameCopy work.old work.new) }
+        ensures ends { always_acts op ≡ true → IsTrue (is_ok result) };
+
+    /// How a tag stands for an agent (this project's own). Takes no memory.
+    fn await_state(&self, agent: u32, tag: &str) -> AwaitState
+        ensures { result ≡ awaited (state_after (opened (Self.opening self.now)) (Self.entries self.now)) agent tag.now };
+
+    /// What the store's type keeps: its history is legal, but for the bytes of reads where it does not tell.
+    fn legal(&self)
+        ensures { IsTold tells (opened (Self.opening self.now)) (Self.entries self.now) };
+
+    /// An entry is its agent's.
+    ghost owned: { (e : Entry) → Self.owner e ≡ e.agent };
+}

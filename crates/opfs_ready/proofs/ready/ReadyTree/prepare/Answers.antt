@@ -1,0 +1,17 @@
+use Rattle.std.proofs.Common.{Some, ap, ◌∙◌}
+use Rattle.opfs_base.specs.Places.{Place}
+use Rattle.opfs_ready.specs.Ready.{ReadyRows}
+use Rattle.opfs_ready.proofs.Kept.{prepared}
+use Rattle.opfs_ready.proofs.ready.ReadyTree.prepare.Goals as goal
+
+pub invariant_of-self-2 : goal.invariant_of-self-2
+invariant_of-self-2 c =
+    let seen = c.self.view_is ∙ c.cancel.ensures in
+    (prepared (c.args.key.now, c.args.path.now) c.args.kind c.self.inside.ready c.set_ready.new.ready c.self.inside.tree c.add.new.self c.args.self.now.rows c.new_row-row.result (ap (λ (s : ReadyRows). s.ready) seen) (ap (λ (s : ReadyRows). s.rows) seen)
+    c.in_order.ensures.order c.in_order.ensures.closed c.requires.free c.new_row-row.ensures c.in_ok-add.ensures.ok (c.set_ready.ensures ∙ ap (λ (x : Place). Some (x, c.args.kind)) c.in_ok-place.ensures)).0
+
+pub returns-clause-rows : goal.returns-clause-rows
+returns-clause-rows c =
+    let seen = c.self.view_is ∙ c.cancel.ensures in
+    (prepared (c.args.key.now, c.args.path.now) c.args.kind c.self.inside.ready c.set_ready.new.ready c.self.inside.tree c.add.new.self c.args.self.now.rows c.new_row-row.result (ap (λ (s : ReadyRows). s.ready) seen) (ap (λ (s : ReadyRows). s.rows) seen)
+    c.in_order.ensures.order c.in_order.ensures.closed c.requires.free c.new_row-row.ensures c.in_ok-add.ensures.ok (c.set_ready.ensures ∙ ap (λ (x : Place). Some (x, c.args.kind)) c.in_ok-place.ensures)).1

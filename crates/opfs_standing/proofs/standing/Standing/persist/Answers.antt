@@ -1,0 +1,33 @@
+use Rattle.std.proofs.Common.{cond, refl, sym, ap, ◌∙◌}
+use Rattle.std.specs.Map.{keys_of}
+use Rattle.opfs_base.specs.Measures.{mode_charge}
+use Rattle.opfs_machine.specs.Ordered.{insert_by}
+use Rattle.opfs_machine.specs.Sums.{is_persistent}
+use Rattle.opfs_shed.specs.Buckets.{text_cmp}
+use Rattle.opfs_standing.specs.Seen.{Seen, is_known}
+use Rattle.opfs_standing.proofs.Lines.{known_key}
+use Rattle.opfs_standing.proofs.Made.{known-unit}
+use Rattle.opfs_standing.proofs.Persisted.{persisted-machine, persisted-tied}
+use Rattle.opfs_standing.proofs.Stores.{units-kept, prepared-same}
+use Rattle.opfs_standing.proofs.standing.Standing.persist.Goals as goal
+
+pub set_persistent-requires : goal.set_persistent-requires
+set_persistent-requires c = (sym (known_key c.args.unit.now c.self.inside.shed.buckets) ∙ (ap (λ (s : Seen). is_known c.args.unit.now s.prepared) c.self.view_is ∙ c.requires.known))
+
+pub mark-requires : goal.mark-requires
+mark-requires c = (known-unit c.self.inside.shed c.self.inside.pool c.args.unit.now c.self.invariant.shared (ap (λ (s : Seen). is_known c.args.unit.now s.prepared) c.self.view_is ∙ c.requires.known)).share
+
+pub invariant_of-self : goal.invariant_of-self
+invariant_of-self c =
+    persisted-tied c.self.inside.tree.rows c.self.inside.shed c.set_persistent.new.self c.self.inside.register c.args.unit.now (sym (known_key c.args.unit.now c.self.inside.shed.buckets) ∙ (ap (λ (s : Seen). is_known c.args.unit.now s.prepared) c.self.view_is ∙ c.requires.known)) c.set_persistent.ensures.ordered c.set_persistent.ensures.bucket c.self.inside.pool c.mark.new.pool c.self.inside.fixed c.args.charge c.self.inside.root c.self.invariant
+    (c.requires.charge ∙ sym (ap (λ (s : Seen). cond (is_persistent s.machine c.args.unit.now) 0 (mode_charge c.args.unit.now)) c.self.view_is)) c.set_persistent.ensures.usage c.mark.ensures
+
+pub returns-clause-machine : goal.returns-clause-machine
+returns-clause-machine c =
+    persisted-machine c.self.inside.tree.rows c.self.inside.shed c.set_persistent.new.self c.self.inside.register c.args.unit.now (sym (known_key c.args.unit.now c.self.inside.shed.buckets) ∙ (ap (λ (s : Seen). is_known c.args.unit.now s.prepared) c.self.view_is ∙ c.requires.known)) c.set_persistent.ensures.ordered c.set_persistent.ensures.bucket
+    ∙ ap (λ (s : Seen). record s.machine { persistent = insert_by text_cmp c.args.unit.now s.machine.persistent }) c.self.view_is
+
+pub returns-clause-prepared : goal.returns-clause-prepared
+returns-clause-prepared c =
+    prepared-same c.self.inside.tree.ready c.self.inside.tree.ready (keys_of c.self.inside.shed.buckets) (keys_of c.set_persistent.new.self.buckets) refl (units-kept c.self.inside.shed c.set_persistent.new.self _ _ c.set_persistent.ensures.bucket)
+    ∙ ap (λ (s : Seen). s.prepared) c.self.view_is

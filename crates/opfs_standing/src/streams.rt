@@ -1,0 +1,49 @@
+//! Open writable streams.
+
+ghost use Rattle.std.specs.Prelude.{None, [], OnErr, ◌++◌, length, vec_capacity, ◌≡◌, ◌+◌, ◌^◌, ◌≤◌, Some, ◌<◌, option_map, IsSome, IfSome, IsSomeAnd, not, ◌&&◌, is_some, true, false, OnOk, IsTrue, cond};
+ghost use Rattle.opfs_base.specs.Units.{origin_of};
+ghost use Rattle.opfs_machine.specs.Contents.{in_lengths};
+ghost use Rattle.opfs_machine.specs.Sums.{usage, pool};
+ghost use Rattle.opfs_machine.specs.declared.own.Outline.TheVariants as outline;
+ghost use Rattle.opfs_machine.specs.declared.own.StreamOutline.{StreamOutline};
+ghost use Rattle.opfs_seats.specs.Slots.{stream_at};
+ghost use Rattle.opfs_standing.specs.Open.{IsStreamAt};
+ghost use Rattle.opfs_standing.specs.Seen.{with_slot_at};
+
+use crate::standing::Standing;
+use opfs_seats::OpenStream;
+
+impl Standing {
+    /// Keeps so many blocks more for an open stream, whose file is there.
+    pub fn grow_stream(&mut self, at: usize, n: usize, more: u64)
+        requires stream { IsStreamAt self.old.machine at n }
+        requires quota { (w : StreamOutline) → stream_at self.old.machine.agents at n ≡ Some w → usage in_lengths self.old.machine (origin_of w.file.0) + more < 2 ^ 64 }
+        requires room { pool in_lengths self.old.machine + more ≤ self.old.machine.limits.blocks }
+        ensures machine { (w : StreamOutline) → stream_at self.old.machine.agents at n ≡ Some w → self.new.machine ≡ with_slot_at self.old.machine at n (outline.Stream (record w { reserve = w.reserve + more })) }
+        ensures tree { self.new.tree ≡ self.old.tree }
+        ensures prepared { self.new.prepared ≡ self.old.prepared }
+    {
+        let Some(stream) = self.register.stream(at, n) else {
+            unreachable!();
+        };
+        let reserve = stream.reserve + more;
+        self.shed.add(&stream.file.0, more);
+        self.pool.raise(&stream.file.0, more);
+        self.register.set_reserve(at, n, reserve);
+    }
+
+    /// Closes an open stream, whose file is there, and gives it.
+    pub fn close_stream(&mut self, at: usize, n: usize) -> OpenStream
+        requires stream { IsStreamAt self.old.machine at n }
+        ensures machine { self.new.machine ≡ with_slot_at self.old.machine at n outline.ClosedStream }
+        ensures tree { self.new.tree ≡ self.old.tree }
+        ensures prepared { self.new.prepared ≡ self.old.prepared }
+        ensures stream { stream_at self.old.machine.agents at n ≡ Some result }
+    {
+        let stream = self.register.close_stream(at, n);
+        let reserve = stream.outline().reserve;
+        self.shed.free(&stream.outline().file.0, reserve);
+        self.pool.lower(&stream.outline().file.0, reserve);
+        stream
+    }
+}

@@ -1,0 +1,127 @@
+-- What an agent's turn found and left, by the clauses of the hall and of the store.
+use Rattle.std.proofs.Common.{◌≡◌, ◌≢◌, ◌⊎◌, ℕ, ◌+◌, false, true, All, List, [], ◌∷◌, ◌++◌, append-nil, length, map, Result, Ok, Err, refl, sym, ap, ◌∙◌, subst, inl, inr}
+use Rattle.std.specs.Prelude.{IfOk, OnErr}
+use Rattle.std.proofs.lemmas.List.Elements.{All-append, All-cons, All-nil, All-weaker}
+use Rattle.opfs_base.specs.Texts.{Text}
+use Rattle.opfs_hall.specs.History.{GrowsByOthers, Adds}
+use Rattle.opfs_hall.specs.Seen.{PassSeen}
+use Rattle.opfs_hist.specs.declared.entry.Entry.{Entry}
+use Rattle.opfs_hist.specs.declared.op.Op.{Op}
+use Rattle.opfs_hist.specs.declared.reply.Reply.{Reply}
+use Rattle.opfs_machine.specs.declared.own.Own.{Own}
+use Rattle.opfs_machine.specs.declared.state.State.{State}
+use Rattle.opfs_machine.specs.Agents.{agent_of}
+use Rattle.opfs_machine.specs.Histories.{after_entry, state_after}
+use Rattle.opfs_machine.specs.Openings.{Opening}
+use Rattle.opfs_machine.specs.Runs.{Call, eviction}
+use Rattle.opfs_laws.specs.Leaving.{asks_nobody, is_end}
+use Rattle.opfs_histories.specs.Opened.{added}
+use Rattle.opfs_histories.specs.Unread.{IsTold, ArePendingFor}
+use Rattle.opfs_acts.specs.declared.acted.Gift.{Gift}
+use Rattle.opfs_acts.specs.Acting.{told_entry, IsCallFor, IsActed, IsGift}
+use Rattle.opfs_acts.specs.Asking.{MayAct}
+use Rattle.opfs_work.specs.Works.{WorkingCopy}
+use Rattle.opfs_turns.specs.declared.notes.Notes.{Notes}
+use Rattle.opfs_turns.specs.Agents.{AgentSeen, IsAgent, seen}
+use Rattle.opfs_turns.specs.Calls.{HasRoom, MayAsk, before_call, IsEntered, HasLooked}
+use Rattle.opfs_turns.proofs.Turning.{act-may, looked-agent, looked, entered-agent, entered}
+
+module _ {O : Type 0} (tells : Type 0) (opened : O → Opening) (pass : PassSeen O Entry) (notes : Notes) (owner : Entry → ℕ) (owned : (e : Entry) → owner e ≡ e.agent) where
+  abbrev agent : AgentSeen O
+  agent = seen opened pass notes
+
+  abbrev call : Op → Call
+  call called = record { agent = pass.agent; number = notes.number; op = called }
+
+  module _ (kept : IsAgent tells agent) (o : Opening) (begun : o ≡ opened pass.hall.opening) (list : List Entry) (grows : GrowsByOthers owner pass.agent pass.base list) (told : IsTold tells o list) where
+    abbrev more : List Entry
+    more = grows.0
+
+    apart : All (λ e. e.agent ≢ pass.agent) more
+    apart = All-weaker (λ e. owner e ≢ pass.agent) (λ e. e.agent ≢ pass.agent) (λ e ne is. ne (owned e ∙ is)) more (grows.2 kept.real)
+
+    told-here : IsTold tells (opened pass.hall.opening) (pass.base ++ more)
+    told-here = subst (λ p. IsTold tells p (pass.base ++ more)) begun (subst (IsTold tells o) grows.1 told)
+
+    pub acts : (called : Op) (work : WorkingCopy) (past : List Text) → HasRoom agent → MayAsk tells agent called work past → MayAct tells o list notes.pending (call called) work past
+    acts called work past room may =
+        subst (λ p. MayAct tells p list notes.pending (call called) work past) (sym begun)
+        (subst (λ l. MayAct tells (opened pass.hall.opening) l notes.pending (call called) work past) (sym grows.1)
+        (act-may tells agent kept more apart told-here called work past room may))
+
+    rested : (new : List Entry) (after : PassSeen O Entry) → after ≡ record pass { base = new; busy = false } → after ≡ record pass { base = new }
+    rested new after is = is ∙ (λ i. record pass { base = new; busy = sym kept.idle i })
+
+    -- Nothing was entered.
+    module _ (new : List Entry) (new_is : new ≡ list) (after : PassSeen O Entry) (after_is : after ≡ record pass { base = new; busy = false }) (pending : List Entry) (pending_is : pending ≡ notes.pending) where
+      same : record agent { pass = record pass { base = pass.base ++ more } } ≡ seen opened after (record notes { pending = pending })
+      same = λ i. seen opened (((λ j. record pass { base = sym (new_is ∙ grows.1) j }) ∙ sym (rested new after after_is)) i) (record notes { pending = sym pending_is i })
+
+      pub unacted-agent : IsAgent tells (seen opened after (record notes { pending = pending }))
+      unacted-agent = subst (IsAgent tells) same (looked-agent tells agent kept more apart told-here)
+
+      pub unacted-looked : HasLooked agent (seen opened after (record notes { pending = pending }))
+      unacted-looked = subst (HasLooked agent) same (looked tells agent kept more apart told-here)
+
+    -- The call was entered.
+    module _ (called : Op) (answered : Reply) (new : List Entry) (acted : IsActed tells o list notes.pending (call called) answered new) where
+      call-here : IsCallFor tells (state_after (opened pass.hall.opening) (before_call agent more)) acted.gone (told_entry (call called) answered)
+      call-here =
+          subst (λ p. IsCallFor tells (state_after p ((pass.base ++ more) ++ notes.pending)) acted.gone (told_entry (call called) answered)) begun
+          (subst (λ l. IsCallFor tells (state_after o (l ++ notes.pending)) acted.gone (told_entry (call called) answered)) grows.1 acted.call)
+
+      new-is : new ≡ (pass.base ++ more) ++ added notes.pending acted.gone (told_entry (call called) answered)
+      new-is = acted.grown ∙ ap (λ l. l ++ added notes.pending acted.gone (told_entry (call called) answered)) grows.1
+
+      module _ (told_new : IsTold tells o new) (after : PassSeen O Entry) (after_is : after ≡ record pass { base = new; busy = false }) (pending : List Entry) (none : pending ≡ []) (rows : ℕ) where
+        abbrev then : AgentSeen O
+        then = seen opened after (record notes { pending = pending; number = notes.number + 1; entries = notes.entries + 1; rows = rows })
+
+        grown-same : record agent { pass = record pass { base = (pass.base ++ more) ++ added notes.pending acted.gone (told_entry (call called) answered) }; pending = []; number = notes.number + 1; entries = notes.entries + 1; rows = rows } ≡ then
+        grown-same = λ i. seen opened (((λ j. record pass { base = sym new-is j }) ∙ sym (rested new after after_is)) i) (record notes { pending = sym none i; number = notes.number + 1; entries = notes.entries + 1; rows = rows })
+
+        pub acted-agent : rows ≡ length (agent_of (state_after o new) pass.agent).own → asks_nobody called ≡ true → is_end called ≡ false → IsAgent tells then
+        acted-agent made nobody stays =
+            subst (IsAgent tells) grown-same
+            (entered-agent tells agent kept more apart told-here called answered acted.gone call-here rows
+            (subst (λ p. IsTold tells p ((pass.base ++ more) ++ added notes.pending acted.gone (told_entry (call called) answered))) begun (subst (IsTold tells o) new-is told_new))
+            (made ∙ (λ i. length (agent_of (state_after (begun i) (new-is i)) pass.agent).own))
+            nobody stays)
+
+        pub acted-entered : (given : Gift) → IsGift tells (state_after o (list ++ notes.pending)) called answered given → IsEntered tells agent then called answered given
+        acted-entered given gift =
+            subst (λ b. IsEntered tells agent b called answered given) grown-same
+            (entered tells agent kept more apart told-here called answered acted.gone call-here rows given
+            (subst (λ p. IsGift tells (state_after p ((pass.base ++ more) ++ notes.pending)) called answered given) begun
+            (subst (λ l. IsGift tells (state_after o (l ++ notes.pending)) called answered given) grows.1 gift)))
+
+-- ---- what is added is the agent's own, or nobody's
+
+pending-own : (tells : Type 0) (s : State Text Own) (k : ℕ) (es : List Entry) → ArePendingFor tells s k es → All (λ e. e.agent ≡ k) es
+pending-own tells s k [] h = All-nil (λ e. e.agent ≡ k)
+pending-own tells s k (e ∷ es) h = All-cons (λ x. x.agent ≡ k) e es h.0.agent (pending-own tells (after_entry s e) k es h.1)
+
+nobody-s : (gone : List Text) → All (λ e. e.agent ≡ 0) (map eviction gone)
+nobody-s [] = All-nil (λ e. e.agent ≡ 0)
+nobody-s (unit ∷ gone) = All-cons (λ e. e.agent ≡ 0) (eviction unit) (map eviction gone) refl (nobody-s gone)
+
+module _ (owner : Entry → ℕ) (owned : (e : Entry) → owner e ≡ e.agent) (k : ℕ) where
+  abbrev Mine : Entry → Type 0
+  Mine e = (owner e ≡ k) ⊎ (owner e ≡ 0)
+
+  pub added-own : (pending : List Entry) (gone : List Text) (e : Entry) → All (λ x. x.agent ≡ k) pending → e.agent ≡ k → All Mine (added pending gone e)
+  added-own pending gone e mine here =
+      All-append Mine pending (map eviction gone ++ e ∷ [])
+      (All-weaker (λ x. x.agent ≡ k) Mine (λ x is. inl (owned x ∙ is)) pending mine)
+      (All-append Mine (map eviction gone) (e ∷ []) (All-weaker (λ x. x.agent ≡ 0) Mine (λ x is. inr (owned x ∙ is)) (map eviction gone) (nobody-s gone))
+      (All-cons Mine e [] (inl (owned e ∙ here)) (All-nil Mine)))
+
+  -- What a turn leaves: the call's entries or nothing.
+  pub adds : {A E P : Type 0} (tells : Type 0) (o : Opening) (list : List Entry) (number : ℕ) (called : Op) (pending new : List Entry) (reply_of : A → Reply) (r : Result A E)
+      → ArePendingFor tells (state_after o list) k pending
+      → IfOk r (λ a. IsActed tells o list pending (record { agent = k; number = number; op = called }) (reply_of a) new) → OnErr r P → (P → new ≡ list)
+      → Adds owner k list new
+  adds tells o list number called pending new reply_of (Ok a) local acted unacted same =
+      let is = acted in
+      (added pending is.gone (told_entry (record { agent = k; number = number; op = called }) (reply_of a)), is.grown, added-own pending is.gone (told_entry (record { agent = k; number = number; op = called }) (reply_of a)) (pending-own tells (state_after o list) k pending local) refl)
+  adds tells o list number called pending new reply_of (Err e) local acted unacted same = ([], same unacted ∙ sym (append-nil list), All-nil Mine)

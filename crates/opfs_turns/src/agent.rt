@@ -1,0 +1,149 @@
+//! An agent, between its turns and in them.
+
+ghost use Rattle.std.specs.Prelude.{◌≡◌, ◌≤◌, false, true, IfOk, IfErr, OnErr, is_ok, IsTrue};
+ghost use Rattle.opfs_hist.specs.declared.op.Op.TheVariants as op;
+ghost use Rattle.opfs_machine.specs.Histories.{may_enter};
+ghost use Rattle.opfs_laws.specs.Leaving.{is_end};
+ghost use Rattle.opfs_acts.specs.Acting.{IsLeft, IsSameCopy, always_acts};
+ghost use Rattle.opfs_turns.specs.Agents.{state_of};
+ghost use Rattle.opfs_turns.specs.Calls.{HasRoom, MayAsk, call_of, IsEntered, HasLooked, IsLocal, IsKept, new_agent, MayBegin, HasEnded};
+
+use crate::notes::Notes;
+use crate::turn::in_turn;
+use opfs_acts::{Acted, Store};
+use opfs_base::{Key, Name};
+use opfs_hall::{Hall, Pass};
+use opfs_hist::{Entry, Op, Pending, Reply, Room};
+use opfs_work::Work;
+use std::alloc::{AllocError, Global};
+use std::marker::Model;
+use std::sync::Wait;
+
+/// An agent that makes calls of a store. What it asks and is answered is said of the state after the entries that it knows:
+/// those that it has seen, and its own local calls that are not entered yet.
+pub struct Agent<S: Store> {
+    pass: Pass<S>,
+    notes: Notes,
+    // The place of its end's entry.
+    room: Room,
+    alloc: Global,
+}
+
+impl<S: Store> Model for Agent<S> {
+    ghost use Rattle.opfs_turns.specs.Agents.{AgentSeen, IsAgent, seen};
+
+    ghost Value = { AgentSeen S.Opening };
+
+    ghost view = { λ a. seen S.opened a.pass a.notes };
+
+    ghost invariant = { λ a. IsAgent S.tells (seen S.opened a.pass a.notes) };
+}
+
+impl<S: Store> Agent<S> {
+    /// An agent of this key, with a pass of the store's hall. It gives the pass back where memory is short.
+    pub fn make(alloc: Global, pass: Pass<S>, key: Option<Key>) -> Result<Agent<S>, Pass<S>>
+        requires { MayBegin S.opened pass key }
+        ensures made { IfOk result (λ agent. agent ≡ new_agent S.opened pass key) }
+        ensures err { IfErr result (λ back. back ≡ pass) }
+    {
+        let Ok(room) = Room::make(alloc) else {
+            return Err(pass);
+        };
+        let notes = Notes {
+            pending: Pending::make(alloc),
+            key,
+            number: 1,
+            entries: 0,
+            rows: 0,
+            waiting: None,
+        };
+        Ok(Agent {
+            pass,
+            notes,
+            room,
+            alloc,
+        })
+    }
+
+    /// Makes a shared call: takes the turn, has the call entered, and hands the turn on. Where there is no memory nothing is
+    /// entered.
+    pub fn call<R: Wait>(
+        &mut self,
+        rt: &R,
+        court: &Hall<S>,
+        room: Room,
+        op: Op,
+        work: &mut Work,
+        past: &[Name],
+    ) -> Result<Acted, AllocError>
+        requires own { self.old.pass.hall ≡ court.now }
+        requires room { HasRoom self.old }
+        requires may { MayAsk S.tells self.old op work.old past.now }
+        requires stays { is_end op ≡ false }
+        ensures entered { IfOk result (λ acted. IsEntered S.tells self.old self.new op acted.reply acted.gift) }
+        ensures left { IfOk result (λ acted. IsLeft S.tells self.old.opening self.new.pass.base (call_of self.old op) acted.reply work.old work.new) }
+        ensures looked { OnErr result (HasLooked self.old self.new) }
+        ensures same { OnErr result (IsSameCopy work.old work.new) }
+        ensures ends { always_acts op ≡ true → IsTrue (is_ok result) }
+    {
+        in_turn(
+            rt,
+            court,
+            &mut self.pass,
+            &mut self.notes,
+            room,
+            op,
+            work,
+            past,
+        )
+    }
+
+    /// Keeps a local call with its answer until the next turn. Takes no memory.
+    pub fn keep(&mut self, room: Room, op: Op, reply: Reply, made: u32)
+        requires room { HasRoom self.old }
+        requires local { IsLocal S.tells self.old op reply made }
+        requires few { made ≤ 1 }
+        ensures { IsKept self.old self.new op reply made }
+    {
+        let entry = Entry {
+            agent: self.pass.agent(),
+            number: self.notes.number,
+            op,
+            reply,
+            turn: false,
+        };
+        self.notes.pending.add(room, entry);
+        self.notes.number += 1;
+        self.notes.entries += 1;
+        self.notes.rows += made;
+    }
+
+    /// Ends an agent that has nothing open, and gives its pass. Takes no memory.
+    pub fn end<R: Wait>(self, rt: &R, court: &Hall<S>) -> Pass<S>
+        requires own { self.pass.hall ≡ court.now }
+        requires room { HasRoom self }
+        requires none { IsTrue (may_enter (state_of self) self.pass.agent op.End) }
+        ensures { HasEnded S.tells self result }
+    {
+        let Agent {
+            mut pass,
+            mut notes,
+            room,
+            alloc,
+        } = self;
+        let mut work = Work::fresh(alloc);
+        let Ok(_) = in_turn(
+            rt,
+            court,
+            &mut pass,
+            &mut notes,
+            room,
+            Op::End,
+            &mut work,
+            &[],
+        ) else {
+            unreachable!();
+        };
+        pass
+    }
+}

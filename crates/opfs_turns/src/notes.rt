@@ -1,0 +1,20 @@
+//! What an agent notes of itself between its turns.
+
+use opfs_base::{Key, Text};
+use opfs_hist::Pending;
+
+/// What an agent knows of itself beside its pass.
+#[derive(Drop)]
+pub struct Notes {
+    /// Its local calls that are not entered yet.
+    pub pending: Pending,
+    pub key: Option<Key>,
+    /// The number of its next entry.
+    pub number: u32,
+    /// How many entries it has, waits among them.
+    pub entries: u32,
+    /// How many streams, access handles, snapshots and iterators it has made.
+    pub rows: u32,
+    /// The tag that it waits for.
+    pub waiting: Option<Text>,
+}
