@@ -54,6 +54,16 @@ impl Swap {
         count
     }
 
+    /// How many pages a row has; none where it is not there. Takes no memory.
+    pub fn len(&self, agent: u32, row: u32) -> u64
+        ensures { result ≡ length (pages_at agent row self.now) }
+    {
+        match self.rows.get(&(agent, row)) {
+            Some(found) => found.len(),
+            None => 0,
+        }
+    }
+
     /// The block of a page; None where it has none. Takes no memory.
     pub fn block(&self, agent: u32, row: u32, page: u64) -> Option<u32>
         requires { page < length (pages_at agent row self.now) }

@@ -5,6 +5,8 @@ pub mod Taking
 pub mod Placing
 pub mod Paged
 pub mod Rest
+pub mod Planning
+pub mod FileBlocks
 pub mod Others
 pub mod Enough
 pub mod Looking

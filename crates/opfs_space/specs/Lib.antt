@@ -1,3 +1,5 @@
 pub mod Spaces
 pub mod Holders
+pub mod Files
+pub mod Plans
 pub mod Room

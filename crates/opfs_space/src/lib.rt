@@ -1,11 +1,14 @@
 //! Which data blocks are free, and which one page alone has.
 #![tactic(auto)]
 
+mod files;
 mod laws;
+mod plans;
 mod room;
 mod space;
 mod staying;
 
+pub use files::{changes_leave_other_files, files_have_the_named_blocks};
 pub use laws::{a_sweep_finds_what_is_used, covered_blocks_leave_room};
 pub use room::{a_look_knows_own_blocks, a_sweep_leaves_blocks_enough};
 pub use space::Space;
