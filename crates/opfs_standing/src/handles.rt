@@ -1,7 +1,10 @@
 //! Open access handles.
 
 ghost use Rattle.std.specs.Prelude.{None, [], OnErr, ◌++◌, length, vec_capacity, ◌≡◌, ◌+◌, ◌^◌, ◌≤◌, Some, ◌<◌, option_map, IsSome, IfSome, IsSomeAnd, not, ◌&&◌, is_some, true, false, OnOk, IsTrue, cond};
+ghost use Rattle.std.specs.Prelude.{suc};
+ghost use Rattle.opfs_machine.specs.Agents.{agent_of, adds_own};
 ghost use Rattle.opfs_machine.specs.Contents.{in_lengths};
+ghost use Rattle.opfs_seats.specs.Slots.{most_rows};
 ghost use Rattle.opfs_machine.specs.Sums.{pool};
 ghost use Rattle.opfs_machine.specs.declared.own.Outline.TheVariants as outline;
 ghost use Rattle.opfs_machine.specs.declared.own.HandleOutline.{HandleOutline};
@@ -13,6 +16,17 @@ use crate::standing::Standing;
 use opfs_seats::OpenHandle;
 
 impl Standing {
+    /// Gives an agent that has room an open access handle that keeps no block. Takes no memory.
+    pub fn open_handle(&mut self, at: usize, handle: OpenHandle)
+        requires inside { at < length self.old.machine.agents }
+        requires room { self.old.prepared.room ≡ Some at }
+        requires few { length (agent_of self.old.machine (suc at)).own < most_rows }
+        requires reserve { handle.reserve ≡ 0 }
+        ensures { self.new ≡ record self.old { machine = adds_own self.old.machine (suc at) (outline.Handle handle); prepared = record self.old.prepared { room = None } } }
+    {
+        self.register.add_handle(at, handle);
+    }
+
     /// Keeps so many blocks more for an open access handle, whose file is there.
     pub fn grow_handle(&mut self, at: usize, n: usize, more: u64)
         requires handle { IsHandleAt self.old.machine at n }

@@ -14,6 +14,7 @@ ghost use Rattle.opfs_machine.specs.Ordered.{insert_by};
 ghost use Rattle.opfs_machine.specs.Rows.{with_row, without};
 ghost use Rattle.opfs_machine.specs.Sums.{is_persistent};
 ghost use Rattle.opfs_machine.specs.Sums.{charge as charge_of};
+ghost use Rattle.opfs_machine.specs.Steps.{evicted};
 ghost use Rattle.opfs_ready.specs.Ready.{new_row as new_tree_row};
 ghost use Rattle.opfs_standing.specs.Coming.{IsReadyFor};
 ghost use Rattle.opfs_standing.specs.Seen.{is_known};
@@ -24,7 +25,7 @@ ghost use Rattle.opfs_tree.specs.Rows.{without as without_rows};
 
 use crate::standing::{Standing, mark};
 use opfs_base::{Extent, Key, Kind, Path};
-use std::alloc::AllocError;
+use std::alloc::{AllocError, Global};
 
 impl Standing {
     /// Gives a unit a bucket and a share, or leaves all as it was.
@@ -112,5 +113,31 @@ impl Standing {
         self.pool.lower(unit, gone.durable);
         self.fixed -= gone.charge;
         mark(&mut self.pool, &self.tree, &self.shed, &self.root, unit);
+    }
+
+    /// Clears a unit that has a root and of which no place stands ready: takes out all its rows, appends their extents to
+    /// those freed, and counts an entry that is no use (Storage: clear a bucket under storage pressure). Takes no memory.
+    pub fn clear(&mut self, alloc: Global, unit: &Key, freed: &mut Vec<Extent>)
+        requires root { IsSome (row_at (unit.now, []) self.old.tree) }
+        requires ready { ready_within (unit.now, []) self.old.prepared.place ≡ false }
+        requires entries { self.old.machine.entries + 1 < 2 ^ 64 }
+        requires room { length (freed.old.items ++ extents_within (unit.now, []) self.old.tree) ≤ vec_capacity freed.old }
+        ensures machine { self.new.machine ≡ evicted self.old.machine unit.now }
+        ensures tree { self.new.tree ≡ without_rows (unit.now, []) self.old.tree }
+        ensures prepared { self.new.prepared ≡ self.old.prepared }
+        ensures freed { freed.new.items ≡ freed.old.items ++ extents_within (unit.now, []) self.old.tree }
+        ensures capacity { vec_capacity freed.old ≤ vec_capacity freed.new }
+    {
+        let root = Path::root(alloc);
+        self.remove(unit, &root, freed);
+        self.count_eviction();
+    }
+
+    // Counts the entry of an eviction, which is no use.
+    fn count_eviction(&mut self)
+        requires { self.old.machine.entries + 1 < 2 ^ 64 }
+        ensures { self.new ≡ record self.old { machine = record self.old.machine { entries = self.old.machine.entries + 1 } } }
+    {
+        self.register.count_eviction();
     }
 }

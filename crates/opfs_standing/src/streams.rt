@@ -2,7 +2,11 @@
 
 ghost use Rattle.std.specs.Prelude.{None, [], OnErr, ◌++◌, length, vec_capacity, ◌≡◌, ◌+◌, ◌^◌, ◌≤◌, Some, ◌<◌, option_map, IsSome, IfSome, IsSomeAnd, not, ◌&&◌, is_some, true, false, OnOk, IsTrue, cond};
 ghost use Rattle.opfs_base.specs.Units.{origin_of};
+ghost use Rattle.std.specs.Prelude.{suc};
+ghost use Rattle.opfs_machine.specs.Agents.{agent_of, adds_own};
 ghost use Rattle.opfs_machine.specs.Contents.{in_lengths};
+ghost use Rattle.opfs_machine.specs.Rows.{row_at};
+ghost use Rattle.opfs_seats.specs.Slots.{most_rows};
 ghost use Rattle.opfs_machine.specs.Sums.{usage, pool};
 ghost use Rattle.opfs_machine.specs.declared.own.Outline.TheVariants as outline;
 ghost use Rattle.opfs_machine.specs.declared.own.StreamOutline.{StreamOutline};
@@ -14,6 +18,24 @@ use crate::standing::Standing;
 use opfs_seats::OpenStream;
 
 impl Standing {
+    /// Gives an agent that has room an open stream, whose file is there, and keeps its blocks. Takes no memory.
+    pub fn open_stream(&mut self, at: usize, stream: OpenStream)
+        requires inside { at < length self.old.machine.agents }
+        requires room { self.old.prepared.room ≡ Some at }
+        requires few { length (agent_of self.old.machine (suc at)).own < most_rows }
+        requires there { IsSome (row_at self.old.machine stream.file) }
+        requires quota { usage in_lengths self.old.machine (origin_of stream.file.0) + stream.reserve < 2 ^ 64 }
+        requires blocks { pool in_lengths self.old.machine + stream.reserve ≤ self.old.machine.limits.blocks }
+        ensures machine { self.new.machine ≡ adds_own self.old.machine (suc at) (outline.Stream stream) }
+        ensures tree { self.new.tree ≡ self.old.tree }
+        ensures prepared { self.new.prepared ≡ record self.old.prepared { room = None } }
+    {
+        let reserve = stream.outline().reserve;
+        self.shed.add(&stream.outline().file.0, reserve);
+        self.pool.raise(&stream.outline().file.0, reserve);
+        self.register.add_stream(at, stream);
+    }
+
     /// Keeps so many blocks more for an open stream, whose file is there.
     pub fn grow_stream(&mut self, at: usize, n: usize, more: u64)
         requires stream { IsStreamAt self.old.machine at n }
