@@ -1,0 +1,8 @@
+//! The shared state without bytes: what each call that is not refused changes of it, as the machine says.
+#![tactic(auto)]
+
+mod calls;
+mod rows;
+mod state;
+
+pub use state::State;
