@@ -1,6 +1,6 @@
 //! Calls that make rows and take them out.
 
-ghost use Rattle.std.specs.Prelude.{◌≡◌, ◌+◌, ◌<◌, ◌≤◌, ◌++◌, ◌^◌, suc, Some, [], length, vec_capacity, IsSome, false};
+ghost use Rattle.std.specs.Prelude.{◌≡◌, ◌+◌, ◌<◌, ◌≤◌, ◌++◌, ◌^◌, suc, None, Some, [], length, vec_capacity, IsSome, false};
 ghost use Rattle.opfs_base.specs.Measures.{place_charge};
 ghost use Rattle.opfs_machine.specs.Agents.{counted};
 ghost use Rattle.opfs_machine.specs.Contents.{in_lengths};
@@ -12,7 +12,10 @@ ghost use Rattle.opfs_standing.specs.Seen.{is_known};
 ghost use Rattle.opfs_tree.specs.Rows.{row_at, extents_within};
 ghost use Rattle.opfs_tree.specs.Rows.{without as without_rows};
 ghost use Rattle.opfs_state.specs.Applied.{IsCounted};
-ghost use Rattle.opfs_state.specs.Rows.{MayMake, made_in};
+ghost use Rattle.opfs_state.specs.Rows.{MayMake};
+ghost use Rattle.std.specs.FinMap.Entries.{put};
+ghost use Rattle.opfs_base.specs.Places.{place_cmp};
+ghost use Rattle.opfs_machine.specs.Rows.{row_at as line_at};
 ghost use Rattle.opfs_ready.specs.Ready.{new_row as new_tree_row};
 
 use crate::state::State;
@@ -25,7 +28,8 @@ impl State {
         requires counted { IsCounted self.old.store.machine at }
         requires may { MayMake self.old.store (unit.now, path.now) kind charge }
         ensures machine { self.new.store.machine ≡ counted (made self.old.store.machine (unit.now, path.now) (new_row in_lengths kind (moment_of self.old.store.machine (suc at)))) (suc at) }
-        ensures tree { self.new.store.tree ≡ made_in self.old.store.tree (unit.now, path.now) (new_tree_row kind (moment_of self.old.store.machine (suc at))) }
+        ensures tree { line_at self.old.store.machine (unit.now, path.now) ≡ None → self.new.store.tree ≡ put place_cmp (unit.now, path.now) (new_tree_row kind (moment_of self.old.store.machine (suc at))) self.old.store.tree }
+        ensures stays { IsSome (line_at self.old.store.machine (unit.now, path.now)) → self.new.store.tree ≡ self.old.store.tree }
         ensures file { self.new.file ≡ self.old.file }
     {
         if self.store.kind(unit, path).is_some() {
