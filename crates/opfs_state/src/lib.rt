@@ -4,5 +4,6 @@
 mod calls;
 mod rows;
 mod state;
+mod streams;
 
 pub use state::State;

@@ -1,4 +1,4 @@
-use Rattle.std.proofs.Common.{◌≡◌, ℕ, ◌+◌, ◌<◌, ◌^◌, length, None, sym, ap, ◌∙◌, subst}
+use Rattle.std.proofs.Common.{◌+◌, ◌<◌, ◌^◌, length, sym, subst}
 use Rattle.opfs_standing.specs.Seen.{Machine}
 use Rattle.opfs_state.proofs.Making.{none-there}
 use Rattle.opfs_state.proofs.state.State.make_row.Goals as goal

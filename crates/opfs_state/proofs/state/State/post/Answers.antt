@@ -1,7 +1,6 @@
-use Rattle.std.proofs.Common.{◌≡◌, ℕ, suc, ◌+◌, ◌<◌, ◌^◌, length, sym, ap, ◌∙◌, subst}
-use Rattle.opfs_machine.specs.Agents.{party_of, counted}
+use Rattle.std.proofs.Common.{suc, ◌+◌, ◌<◌, ◌^◌, length, sym, ap, ◌∙◌, subst}
+use Rattle.opfs_machine.specs.Agents.{party_of}
 use Rattle.opfs_standing.specs.Seen.{Seen}
-use Rattle.opfs_state.proofs.Telling.{wait-effect}
 use Rattle.opfs_state.proofs.state.State.post.Goals as goal
 
 pub count-requires-clause-inside : goal.count-requires-clause-inside
