@@ -21,7 +21,7 @@ use Rattle.opfs_shed.proofs.Values.{lookup-set_same, lookup-set_other, is_some-s
 abbrev pub part : Text → Text → Bucket → ℕ
 part origin unit b = cond (same_text origin (origin_of unit)) b.usage 0
 
-usage_of-cons : (origin : Text) (e : Text × Bucket) (es : Buckets) → usage_of origin (e ∷ es) ≡ part origin e.0 e.1 + usage_of origin es
+pub usage_of-cons : (origin : Text) (e : Text × Bucket) (es : Buckets) → usage_of origin (e ∷ es) ≡ part origin e.0 e.1 + usage_of origin es
 unfolding usage_of
 usage_of-cons origin e es =
     let rest = filter (λ (e : Text × Bucket). same_text origin (origin_of e.0)) es in
@@ -30,7 +30,7 @@ usage_of-cons origin e es =
       | false ↦ omega arith
     ]
 
-usage_of-none : (origin : Text) → usage_of origin [] ≡ 0
+pub usage_of-none : (origin : Text) → usage_of origin [] ≡ 0
 unfolding usage_of
 usage_of-none origin = refl
 

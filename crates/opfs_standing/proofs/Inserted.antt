@@ -74,7 +74,7 @@ insert_first : (k : Text) (xs : List Text) → AllByRecursion (λ x. text_cmp k 
 insert_first k [] all = refl
 insert_first k (x ∷ xs) all = ap (λ o. by_order o (k ∷ x ∷ xs) (x ∷ xs) (x ∷ insert_by text_cmp k xs)) all.0
 
-none_ahead : (k : Text) (xs : List Text) → AllByRecursion (λ x. text_cmp k x ≡ Less) xs → list_any (same_text k) xs ≡ false
+pub none_ahead : (k : Text) (xs : List Text) → AllByRecursion (λ x. text_cmp k x ≡ Less) xs → list_any (same_text k) xs ≡ false
 none_ahead k [] all = refl
 none_ahead k (x ∷ xs) all = ap (λ b. b || list_any (same_text k) xs) (texts_ties k x ∙ ap is_eq all.0) ∙ none_ahead k xs all.1
 

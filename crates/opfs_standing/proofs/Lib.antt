@@ -22,3 +22,4 @@ pub mod Persisted
 pub mod Touched
 pub mod Flushed
 pub mod AgentMoves
+pub mod UnitSums

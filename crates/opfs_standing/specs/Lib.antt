@@ -7,3 +7,4 @@ pub mod Moves
 pub mod Pooled
 pub mod Coming
 pub mod Noted
+pub mod Beginnings
