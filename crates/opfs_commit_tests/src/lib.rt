@@ -1,0 +1,5 @@
+//! Tests of changes that are committed.
+#![tactic(auto)]
+
+mod commits;
+mod images;
