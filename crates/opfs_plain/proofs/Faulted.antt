@@ -3,44 +3,18 @@ use Rattle.std.proofs.Common.{◌≡◌, ℕ, ◌+◌, ◌<◌, ◌≤◌, true,
 use Rattle.std.specs.Prelude.{IfSome, IfNone}
 use Rattle.std.proofs.lemmas.Bool.{false≢true}
 use Rattle.std.proofs.lemmas.List.{take-append-drop}
-use Rattle.opfs_base.specs.Places.{Place, place_of, resolved}
 use Rattle.opfs_base.specs.Texts.{Text}
 use Rattle.opfs_hist.specs.declared.op.Op.{Op}
-use Rattle.opfs_hist.specs.declared.op.Op.TheVariants.{Next, Resolve, GetFile}
 use Rattle.opfs_hist.specs.declared.reply.Refusal.{Refusal}
 use Rattle.opfs_hist.specs.declared.reply.Refusal.TheVariants.{DiskFault}
 use Rattle.opfs_hist.specs.declared.reply.Reply.TheVariants.{No}
 use Rattle.opfs_machine.specs.declared.own.Own.{Own}
-use Rattle.opfs_machine.specs.declared.state.FileRow.{FileRow}
-use Rattle.opfs_machine.specs.declared.state.Sizes.{Sizes}
 use Rattle.opfs_machine.specs.declared.state.State.{State}
-use Rattle.opfs_machine.specs.Agents.{agent_of, own_of}
-use Rattle.opfs_machine.specs.Contents.{next_of}
 use Rattle.opfs_machine.specs.Histories.{IsFault, is_disk_op}
-use Rattle.opfs_machine.specs.Replies.{answer, sizes_of, child_reply, path_reply, file_reply, given_in}
-use Rattle.opfs_machine.specs.Rows.{children_of, file_at}
+use Rattle.opfs_machine.specs.Replies.{answer, sizes_of}
 use Rattle.opfs_machine.specs.Steps.{is_refusal, outcome_of, judged, step}
+use Rattle.opfs_laws.proofs.Accepted.{answer-accepted}
 use Rattle.opfs_plain.specs.Faults.{MayFault}
-
-child-accepted : (s : State Text Own) (dir : Place) (name : Option Text) → is_refusal (child_reply s dir name) ≡ false
-child-accepted s dir None = refl
-child-accepted s dir (Some name) = refl
-
-path-accepted : (names : Option (List Text)) → is_refusal (path_reply names) ≡ false
-path-accepted None = refl
-path-accepted (Some names) = refl
-
-file-accepted : (f : Option (FileRow Text)) → is_refusal (file_reply f) ≡ false
-file-accepted None = refl
-file-accepted (Some f) = refl
-
--- What is answered where nothing refuses is no refusal.
-answer-accepted : (s : State Text Own) (z : Sizes) (k : ℕ) (op : Op) → is_refusal (answer s z k op) ≡ false
-unfolding answer
-answer-accepted s z k (Next n dir) = child-accepted s (place_of dir) (next_of (given_in (own_of (agent_of s k) n)) (children_of s (place_of dir)))
-answer-accepted s z k (Resolve dir entry) = path-accepted (resolved dir entry)
-answer-accepted s z k (GetFile at) = file-accepted (file_at s (place_of at))
-answer-accepted s z k op = refl
 
 step-refused : (s : State Text Own) (k : ℕ) (op : Op) (r : Refusal) → judged s k op ≡ Err r → is_refusal (step s k op).answered ≡ true
 unfolding step outcome_of
