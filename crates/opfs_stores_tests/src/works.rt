@@ -2,10 +2,18 @@
 
 ghost use Rattle.std.specs.Prelude.{◌≡◌, length, IfOk};
 
-use opfs_base::Bytes;
+use opfs_base::{Bytes, Data};
 use opfs_work::Work;
 use std::alloc::{AllocError, Global};
 use std::test::Fail;
+
+// These bytes.
+fn given(alloc: Global, bytes: &[u8]) -> Result<Data, AllocError>
+    ensures { IfOk result (λ made. made ≡ bytes.now) }
+{
+    let bytes = Bytes::copy_of(alloc, bytes)?;
+    Data::given(alloc, bytes)
+}
 
 // So many equal bytes.
 fn filled(alloc: Global, byte: u8, count: usize) -> Result<Vec<u8>, AllocError>
@@ -18,9 +26,9 @@ fn filled(alloc: Global, byte: u8, count: usize) -> Result<Vec<u8>, AllocError>
 
 #[test]
 fn a_write_fits_the_reserve(rt: HostRuntime) -> Result<(), Fail> {
-    let bytes = Bytes::copy_of(rt.alloc(), b"abc")?;
-    assert!(rt; bytes.len() <= 3);
-    let mut work = Work::make(rt.alloc(), bytes, 1)?;
+    let bytes = given(rt.alloc(), b"abc")?;
+    assert!(rt; bytes.len() <= 5);
+    let mut work = Work::make(rt.alloc(), &bytes, 1)?;
     assert!(rt; !work.fits(Some(4096), 1));
     work.prepare(2)?;
     work.grow(2);
@@ -36,11 +44,12 @@ fn a_write_fits_the_reserve(rt: HostRuntime) -> Result<(), Fail> {
 
 #[test]
 fn a_write_keeps_what_stands_behind_it(rt: HostRuntime) -> Result<(), Fail> {
-    let bytes = Bytes::copy_of(rt.alloc(), b"hello")?;
+    let bytes = given(rt.alloc(), b"hello")?;
     assert!(rt; bytes.len() <= 5);
-    let mut work = Work::make(rt.alloc(), bytes, 3)?;
-    assert!(rt; work.near_write(Some(1), 2));
-    work.write_within(b"EL", Some(1));
+    let mut work = Work::make(rt.alloc(), &bytes, 3)?;
+    let over = given(rt.alloc(), b"EL")?;
+    assert!(rt; work.near_write(Some(1), over.len()));
+    work.write_within(&over, Some(1));
     assert_eq!(rt; work.position(), 3);
     assert!(rt; work.near_read(9, Some(0)));
     let read = work.read(9, Some(0))?;
@@ -55,8 +64,9 @@ fn a_gap_is_zero_and_costs_no_page(rt: HostRuntime) -> Result<(), Fail> {
     work.prepare(4)?;
     work.grow(4);
     work.seek(12_287);
-    assert!(rt; work.near_write(None, 2));
-    work.write_within(b"xy", None);
+    let behind = given(rt.alloc(), b"xy")?;
+    assert!(rt; work.near_write(None, behind.len()));
+    work.write_within(&behind, None);
     assert_eq!(rt; work.size(), 12_289);
     assert_eq!(rt; work.pages(), 4);
     assert_eq!(rt; work.resident(), 2);
@@ -71,9 +81,9 @@ fn a_gap_is_zero_and_costs_no_page(rt: HostRuntime) -> Result<(), Fail> {
 
 #[test]
 fn a_cut_and_an_extension_leave_zeros(rt: HostRuntime) -> Result<(), Fail> {
-    let bytes = Bytes::copy_of(rt.alloc(), b"hello")?;
+    let bytes = given(rt.alloc(), b"hello")?;
     assert!(rt; bytes.len() <= 5);
-    let mut work = Work::make(rt.alloc(), bytes, 1)?;
+    let mut work = Work::make(rt.alloc(), &bytes, 1)?;
     work.seek(4);
     assert!(rt; work.near_size(2));
     work.truncate_within(2);
@@ -96,9 +106,9 @@ fn a_page_is_brought_and_another_is_overwritten(rt: HostRuntime) -> Result<(), F
     let page = filled(rt.alloc(), b'a', 4096)?;
     work.bring(1, page.as_slice());
     assert!(rt; work.near_read(1, Some(4096)));
-    let whole = filled(rt.alloc(), b'b', 4096)?;
-    assert!(rt; work.near_write(Some(0), 4096));
-    work.write_within(whole.as_slice(), Some(0));
+    let whole = Data::filled(b'b', 4096);
+    assert!(rt; work.near_write(Some(0), whole.len()));
+    work.write_within(&whole, Some(0));
     assert_eq!(rt; work.resident(), 2);
     assert!(rt; work.near_read(2, Some(4095)));
     let read = work.read(2, Some(4095))?;

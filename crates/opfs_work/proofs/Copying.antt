@@ -126,6 +126,13 @@ copied_more old now new at page from to bytes chunk is part wrote =
           omega (arith, wrote.count, more, one_near-le (page_at old.pages page));
     }
 
+-- How many bytes stand between two places.
+pub sliced : (bytes : List ℕ) (from to : ℕ) → from ≤ to → to ≤ length bytes → length (slice_range bytes from to) ≡ to - from
+sliced bytes from to order end =
+    let taken = length-take (to - from) (drop from bytes) in
+    let dropped = length-drop from bytes in
+    omega arith
+
 pub part_of : (at page from to : ℕ) (bytes : List ℕ) → (length bytes ≡ 0 → ⊥) → at / 4096 ≤ page → page < blocks (at + length bytes) → from ≡ max at (4096 * page)
     → to ≡ min (at + length bytes) (4096 * page + 4096) → IsPart at bytes page from to (slice_range bytes (from - at) (to - at))
 part_of at page from to bytes some first last begins ends =

@@ -12,6 +12,11 @@ pub record IsMarked (old new : WorkingCopy) (from to : ℕ) : Type 0 where
   pub added : (k : ℕ) → from < to → from < 4096 * k + 4096 → 4096 * k < to → (new.changed_from ≤ k) × (k < new.changed_to)
   pub rest : new ≡ record old { changed_from = new.changed_from; changed_to = new.changed_to }
 
+-- The same up to a number that is another one's.
+pub marks_to : (from at n m : ℕ) (new : WorkingCopy) → n ≡ m → ((k : ℕ) → from < at + n → from < 4096 * k + 4096 → 4096 * k < at + n → (new.changed_from ≤ k) × (k < new.changed_to))
+    → (k : ℕ) → from < at + m → from < 4096 * k + 4096 → 4096 * k < at + m → (new.changed_from ≤ k) × (k < new.changed_to)
+marks_to from at n m new same added k some above below = added k (omega arith) above (omega arith)
+
 pub record IsWoken (old new : WorkingCopy) (to : ℕ) : Type 0 where
   pub bytes : (far : ℕ → ℕ) (i : ℕ) → byte_at far new.pages i ≡ byte_at far old.pages i
   pub alike : (k : ℕ) → (is_far (page_at new.pages k) ≡ is_far (page_at old.pages k)) × (one_near (page_at new.pages k) ≡ one_near (page_at old.pages k))

@@ -1,7 +1,9 @@
 //! The bytes of one page.
 
+ghost use Rattle.std.specs.List.{slice_range};
 ghost use Rattle.std.specs.Prelude.{◌≡◌, ℕ, ◌+◌, ◌-◌, ◌<◌, ◌≤◌, length, IfOk, slice_index};
 
+use opfs_base::Data;
 use std::alloc::{AllocError, Global};
 use std::marker::Model;
 
@@ -44,14 +46,16 @@ impl Buffer {
         self.bytes.as_mut_slice().copy_from_slice(bytes);
     }
 
-    /// Writes bytes at an offset. Takes no memory.
-    pub fn write(&mut self, offset: usize, chunk: &[u8])
-        requires { offset + length chunk.now ≤ 4096 }
-        ensures inside { (k : ℕ) → offset ≤ k → k < offset + length chunk.now → slice_index self.new k ≡ slice_index chunk.now (k - offset) }
+    /// Writes the bytes between two places at an offset. Takes no memory.
+    pub fn write(&mut self, offset: usize, given: &Data, from: u64, to: u64)
+        requires order { from ≤ to }
+        requires end { to ≤ length given.now }
+        requires room { offset + length (slice_range given.now from to) ≤ 4096 }
+        ensures inside { (k : ℕ) → offset ≤ k → k < offset + length (slice_range given.now from to) → slice_index self.new k ≡ slice_index (slice_range given.now from to) (k - offset) }
         ensures before { (k : ℕ) → k < offset → slice_index self.new k ≡ slice_index self.old k }
-        ensures behind { (k : ℕ) → offset + length chunk.now ≤ k → slice_index self.new k ≡ slice_index self.old k }
+        ensures behind { (k : ℕ) → offset + length (slice_range given.now from to) ≤ k → slice_index self.new k ≡ slice_index self.old k }
     {
-        copy_into(self.bytes.as_mut_slice(), offset, chunk);
+        copy_into(self.bytes.as_mut_slice(), offset, given, from, to);
     }
 
     /// Makes the bytes from an offset on 0. Takes no memory.
@@ -73,14 +77,17 @@ fn zeros(alloc: Global, size: usize) -> Result<Vec<u8>, AllocError>
     Ok(bytes)
 }
 
-// Copies bytes over others.
-fn copy_into(bytes: &mut [u8], offset: usize, chunk: &[u8])
-    requires { offset + length chunk.now ≤ length bytes.old }
-    ensures inside { (k : ℕ) → offset ≤ k → k < offset + length chunk.now → slice_index bytes.new k ≡ slice_index chunk.now (k - offset) }
+// Copies the bytes between two places over others.
+fn copy_into(bytes: &mut [u8], offset: usize, given: &Data, from: u64, to: u64)
+    requires order { from ≤ to }
+    requires end { to ≤ length given.now }
+    requires room { offset + length (slice_range given.now from to) ≤ length bytes.old }
+    ensures inside { (k : ℕ) → offset ≤ k → k < offset + length (slice_range given.now from to) → slice_index bytes.new k ≡ slice_index (slice_range given.now from to) (k - offset) }
     ensures before { (k : ℕ) → k < offset → slice_index bytes.new k ≡ slice_index bytes.old k }
-    ensures behind { (k : ℕ) → offset + length chunk.now ≤ k → slice_index bytes.new k ≡ slice_index bytes.old k }
+    ensures behind { (k : ℕ) → offset + length (slice_range given.now from to) ≤ k → slice_index bytes.new k ≡ slice_index bytes.old k }
 {
-    bytes[offset..offset + chunk.len()].copy_from_slice(chunk);
+    let len = (to - from) as usize;
+    given.copy_into(from, &mut bytes[offset..offset + len]);
 }
 
 // Makes the bytes from an offset on 0.

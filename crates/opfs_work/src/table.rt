@@ -1,7 +1,7 @@
 //! A table of pages.
 
 ghost use Rattle.std.specs.Prelude.{◌≡◌, ℕ, ◌+◌, ◌-◌, ◌*◌, ◌/◌, ◌%◌, ◌^◌, ◌<◌, ◌≤◌, ◌++◌, ◌∷◌, [], true, false, ◌↔◌, if◌then◌else◌, length, take, min, max, replicate, IsTrue, IfOk, OnOk, OnErr, is_some, Some, IfSome, slice_index, slice_set, vec_len, map};
-ghost use Rattle.std.specs.List.{range_with_len};
+ghost use Rattle.std.specs.List.{range_with_len, slice_range};
 ghost use Rattle.std.specs.Vec.{vec_capacity};
 ghost use Rattle.opfs_work.specs.Pages.{is_zero, is_near, is_far, is_changed, is_held, bytes_near, as_kept, as_changed, page_at, page_byte, byte_at, one_near, near_count, added, pages_in, CoversFar, IsNearBetween, IsSettled};
 ghost use Rattle.opfs_work.specs.declared.pages.Page.{Page};
@@ -10,6 +10,7 @@ use crate::buffer::Buffer;
 use crate::pages::{Page, kept, one_near, put, touched, wiped};
 use crate::sizes::blocks;
 use crate::spares::{fill_spare, give_back, spare_buffer, taken};
+use opfs_base::Data;
 use std::alloc::{AllocError, Global};
 use std::marker::Model;
 
@@ -216,17 +217,19 @@ impl Table {
         give_back(&mut self.spare, last);
     }
 
-    /// Writes bytes into one page, which is Near then. Takes no memory.
-    pub fn write(&mut self, place: u64, chunk: &[u8])
+    /// Writes the bytes between two places into one page, which is Near then. Takes no memory.
+    pub fn write(&mut self, place: u64, given: &Data, from: u64, to: u64)
+        requires order { from ≤ to }
+        requires end { to ≤ length given.now }
         requires there { place / 4096 < length self.old.pages }
-        requires within { place % 4096 + length chunk.now ≤ 4096 }
-        requires whole { is_far (page_at self.old.pages (place / 4096)) ≡ true → length chunk.now ≡ 4096 }
+        requires within { place % 4096 + length (slice_range given.now from to) ≤ 4096 }
+        requires whole { is_far (page_at self.old.pages (place / 4096)) ≡ true → length (slice_range given.now from to) ≡ 4096 }
         requires few { near_count self.old.pages < 256 + one_near (page_at self.old.pages (place / 4096)) }
         ensures length { length self.new.pages ≡ length self.old.pages }
         ensures room { self.new.room ≡ self.old.room }
-        ensures inside { (far : ℕ → ℕ) (i : ℕ) → place ≤ i → i < place + length chunk.now → byte_at far self.new.pages i ≡ slice_index chunk.now (i - place) }
+        ensures inside { (far : ℕ → ℕ) (i : ℕ) → place ≤ i → i < place + length (slice_range given.now from to) → byte_at far self.new.pages i ≡ slice_index (slice_range given.now from to) (i - place) }
         ensures before { (far : ℕ → ℕ) (i : ℕ) → i < place → byte_at far self.new.pages i ≡ byte_at far self.old.pages i }
-        ensures behind { (far : ℕ → ℕ) (i : ℕ) → place + length chunk.now ≤ i → byte_at far self.new.pages i ≡ byte_at far self.old.pages i }
+        ensures behind { (far : ℕ → ℕ) (i : ℕ) → place + length (slice_range given.now from to) ≤ i → byte_at far self.new.pages i ≡ byte_at far self.old.pages i }
         ensures changed { is_changed (page_at self.new.pages (place / 4096)) ≡ true }
         ensures others { (k : ℕ) → (k ≡ place / 4096 → ⊥) → page_at self.new.pages k ≡ page_at self.old.pages k }
         ensures count { near_count self.new.pages + one_near (page_at self.old.pages (place / 4096)) ≡ near_count self.old.pages + 1 }
@@ -235,8 +238,8 @@ impl Table {
         let offset = (place % 4096) as usize;
         let old = put(&mut self.pages, page, Page::Zero);
         self.near = self.near + 1 - one_near(&old);
-        let mut buffer = taken(&mut self.spare, old, chunk.len() == 4096);
-        buffer.write(offset, chunk);
+        let mut buffer = taken(&mut self.spare, old, to - from == 4096);
+        buffer.write(offset, given, from, to);
         let _zero = put(&mut self.pages, page, Page::Near(buffer));
     }
 
@@ -292,30 +295,30 @@ impl Table {
     }
 
     /// Writes bytes at a position, over those that are there. Takes no memory.
-    pub fn copy(&mut self, at: u64, bytes: &[u8])
-        requires there { at + length bytes.now ≤ 4096 * length self.old.pages }
-        requires whole { CoversFar self.old.pages at (at + length bytes.now) }
-        requires few { near_count self.old.pages + added self.old.pages at (length bytes.now) ≤ 256 }
+    pub fn copy(&mut self, at: u64, given: &Data)
+        requires there { at + length given.now ≤ 4096 * length self.old.pages }
+        requires whole { CoversFar self.old.pages at (at + length given.now) }
+        requires few { near_count self.old.pages + added self.old.pages at (length given.now) ≤ 256 }
         ensures length { length self.new.pages ≡ length self.old.pages }
         ensures room { self.new.room ≡ self.old.room }
-        ensures inside { (far : ℕ → ℕ) (i : ℕ) → at ≤ i → i < at + length bytes.now → byte_at far self.new.pages i ≡ slice_index bytes.now (i - at) }
+        ensures inside { (far : ℕ → ℕ) (i : ℕ) → at ≤ i → i < at + length given.now → byte_at far self.new.pages i ≡ slice_index given.now (i - at) }
         ensures before { (far : ℕ → ℕ) (i : ℕ) → i < at → byte_at far self.new.pages i ≡ byte_at far self.old.pages i }
-        ensures behind { (far : ℕ → ℕ) (i : ℕ) → at + length bytes.now ≤ i → byte_at far self.new.pages i ≡ byte_at far self.old.pages i }
-        ensures changed { (k : ℕ) → at / 4096 ≤ k → k < at / 4096 + pages_in at (length bytes.now) → is_changed (page_at self.new.pages k) ≡ true }
+        ensures behind { (far : ℕ → ℕ) (i : ℕ) → at + length given.now ≤ i → byte_at far self.new.pages i ≡ byte_at far self.old.pages i }
+        ensures changed { (k : ℕ) → at / 4096 ≤ k → k < at / 4096 + pages_in at (length given.now) → is_changed (page_at self.new.pages k) ≡ true }
         ensures early { (k : ℕ) → k < at / 4096 → page_at self.new.pages k ≡ page_at self.old.pages k }
-        ensures late { (k : ℕ) → at / 4096 + pages_in at (length bytes.now) ≤ k → page_at self.new.pages k ≡ page_at self.old.pages k }
-        ensures count { near_count self.new.pages ≡ near_count self.old.pages + added self.old.pages at (length bytes.now) }
+        ensures late { (k : ℕ) → at / 4096 + pages_in at (length given.now) ≤ k → page_at self.new.pages k ≡ page_at self.old.pages k }
+        ensures count { near_count self.new.pages ≡ near_count self.old.pages + added self.old.pages at (length given.now) }
     {
-        if bytes.is_empty() {
+        if given.is_empty() {
             return;
         }
         let _room = self.room();
         let _len = self.len();
-        let end = at + bytes.len() as u64;
+        let end = at + given.len();
         for page in at / 4096..blocks(end) {
             let from = at.max(4096 * page);
             let to = end.min(4096 * page + 4096);
-            self.write(from, &bytes[(from - at) as usize..(to - at) as usize]);
+            self.write(from, given, from - at, to - at);
         }
     }
 

@@ -10,7 +10,7 @@ use crate::pages::Page;
 use crate::sizes::{blocks, blocks_to};
 use crate::span::Span;
 use crate::table::Table;
-use opfs_base::Bytes;
+use opfs_base::{Bytes, Data};
 use std::alloc::{AllocError, Global};
 use std::marker::Model;
 
@@ -71,19 +71,19 @@ impl Work {
     }
 
     /// These bytes and this reserve, with the offset 0.
-    pub fn make(alloc: Global, bytes: Bytes, reserve: u64) -> Result<Work, AllocError>
-        requires { blocks (length bytes) ≤ 256 }
-        ensures bytes { IfOk result (λ work. (far : ℕ → ℕ) → contents far work ≡ bytes) }
-        ensures length { IfOk result (λ work. work.length ≡ length bytes) }
+    pub fn make(alloc: Global, given: &Data, reserve: u64) -> Result<Work, AllocError>
+        requires { blocks (length given.now) ≤ 256 }
+        ensures bytes { IfOk result (λ work. (far : ℕ → ℕ) → contents far work ≡ given.now) }
+        ensures length { IfOk result (λ work. work.length ≡ length given.now) }
         ensures position { IfOk result (λ work. work.position ≡ 0) }
         ensures reserve { IfOk result (λ work. work.reserve ≡ reserve) }
         ensures near { IfOk result (λ work. (k : ℕ) → is_far (page_at work.pages k) ≡ false) }
     {
-        let count = blocks(bytes.len() as u64);
+        let count = blocks(given.len());
         let mut work = Work::fresh(alloc);
         work.prepare(count.max(reserve))?;
         work.grow(count);
-        work.write_within(bytes.as_slice(), Some(0));
+        work.write_within(given, Some(0));
         work.seek(0);
         work.drop_reserve();
         work.grow(reserve);
@@ -363,46 +363,46 @@ impl Work {
     }
 
     // Writes bytes at a position, behind which the offset stands then. Takes no memory.
-    fn write_over(&mut self, at: u64, bytes: &[u8])
-        requires near { IsNearWrite self.old at (length bytes.now) }
-        requires marked { (k : ℕ) → at / 4096 ≤ k → k < at / 4096 + pages_in at (length bytes.now) → (self.old.changed_from ≤ k) × (k < self.old.changed_to) }
-        ensures bytes { (far : ℕ → ℕ) → contents far self.new ≡ splice (contents far self.old) at bytes.now }
-        ensures length { self.new.length ≡ max self.old.length (at + length bytes.now) }
-        ensures position { self.new.position ≡ at + length bytes.now }
+    fn write_over(&mut self, at: u64, given: &Data)
+        requires near { IsNearWrite self.old at (length given.now) }
+        requires marked { (k : ℕ) → at / 4096 ≤ k → k < at / 4096 + pages_in at (length given.now) → (self.old.changed_from ≤ k) × (k < self.old.changed_to) }
+        ensures bytes { (far : ℕ → ℕ) → contents far self.new ≡ splice (contents far self.old) at given.now }
+        ensures length { self.new.length ≡ max self.old.length (at + length given.now) }
+        ensures position { self.new.position ≡ at + length given.now }
         ensures rest { self.new ≡ record self.old { pages = self.new.pages; length = self.new.length; position = self.new.position } }
-        ensures changed { (k : ℕ) → at / 4096 ≤ k → k < at / 4096 + pages_in at (length bytes.now) → is_changed (page_at self.new.pages k) ≡ true }
+        ensures changed { (k : ℕ) → at / 4096 ≤ k → k < at / 4096 + pages_in at (length given.now) → is_changed (page_at self.new.pages k) ≡ true }
         ensures early { (k : ℕ) → k < at / 4096 → page_at self.new.pages k ≡ page_at self.old.pages k }
-        ensures late { (k : ℕ) → at / 4096 + pages_in at (length bytes.now) ≤ k → page_at self.new.pages k ≡ page_at self.old.pages k }
-        ensures count { near_count self.new.pages ≡ near_count self.old.pages + added self.old.pages at (length bytes.now) }
+        ensures late { (k : ℕ) → at / 4096 + pages_in at (length given.now) ≤ k → page_at self.new.pages k ≡ page_at self.old.pages k }
+        ensures count { near_count self.new.pages ≡ near_count self.old.pages + added self.old.pages at (length given.now) }
     {
         let _room = self.table.room();
         let _len = self.table.len();
-        let end = at + bytes.len() as u64;
+        let end = at + given.len();
         self.stretch(end);
-        self.table.copy(at, bytes);
+        self.table.copy(at, given);
         self.position = end;
     }
 
     /// Writes bytes at a position, or else at the offset, which moves behind them (File System: write a chunk). Takes no
     /// memory.
-    pub fn write_within(&mut self, bytes: &[u8], position: Option<u64>)
-        requires { IsNearWrite self.old (place_in self.old position) (length bytes.now) }
-        ensures bytes { (far : ℕ → ℕ) → contents far self.new ≡ splice (contents far self.old) (place_in self.old position) bytes.now }
-        ensures length { self.new.length ≡ max self.old.length (place_in self.old position + length bytes.now) }
-        ensures position { self.new.position ≡ place_in self.old position + length bytes.now }
+    pub fn write_within(&mut self, given: &Data, position: Option<u64>)
+        requires { IsNearWrite self.old (place_in self.old position) (length given.now) }
+        ensures bytes { (far : ℕ → ℕ) → contents far self.new ≡ splice (contents far self.old) (place_in self.old position) given.now }
+        ensures length { self.new.length ≡ max self.old.length (place_in self.old position + length given.now) }
+        ensures position { self.new.position ≡ place_in self.old position + length given.now }
         ensures reserve { self.new.reserve ≡ self.old.reserve }
         ensures room { self.new.room ≡ self.old.room }
-        ensures changed { (k : ℕ) → place_in self.old position / 4096 ≤ k → k < place_in self.old position / 4096 + pages_in (place_in self.old position) (length bytes.now) → is_changed (page_at self.new.pages k) ≡ true }
-        ensures untouched { (k : ℕ) → (IsTouched self.old.length (place_in self.old position) (length bytes.now) k → ⊥) → page_at self.new.pages k ≡ page_at self.old.pages k }
-        ensures stored { (k : ℕ) → IsStored self.new k → IsStored self.old k × (IsTouched self.old.length (place_in self.old position) (length bytes.now) k → ⊥) }
-        ensures count { near_count self.new.pages ≡ near_count self.old.pages + added self.old.pages (place_in self.old position) (length bytes.now) }
+        ensures changed { (k : ℕ) → place_in self.old position / 4096 ≤ k → k < place_in self.old position / 4096 + pages_in (place_in self.old position) (length given.now) → is_changed (page_at self.new.pages k) ≡ true }
+        ensures untouched { (k : ℕ) → (IsTouched self.old.length (place_in self.old position) (length given.now) k → ⊥) → page_at self.new.pages k ≡ page_at self.old.pages k }
+        ensures stored { (k : ℕ) → IsStored self.new k → IsStored self.old k × (IsTouched self.old.length (place_in self.old position) (length given.now) k → ⊥) }
+        ensures count { near_count self.new.pages ≡ near_count self.old.pages + added self.old.pages (place_in self.old position) (length given.now) }
     {
         let at = position.unwrap_or(self.position);
         let _room = self.table.room();
         let _len = self.table.len();
-        self.mark(self.length.min(at), at + bytes.len() as u64);
+        self.mark(self.length.min(at), at + given.len());
         self.wake(at);
-        self.write_over(at, bytes);
+        self.write_over(at, given);
     }
 
     /// Cuts the bytes or extends them with 0 to a size; an offset or cursor past it becomes it (File System: truncate).

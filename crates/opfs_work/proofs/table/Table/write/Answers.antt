@@ -1,9 +1,10 @@
+use Rattle.std.specs.List.{slice_range}
 use Rattle.std.proofs.Common.{◌≡◌, ◌∙◌, ◌+◌, ◌<◌, ◌/◌, length, arith, ap, false, ℕ, slice_index}
 use Rattle.opfs_work.specs.declared.pages.Page.TheVariants.{Zero, Near}
 use Rattle.opfs_work.specs.Pages.{page_at, page_byte, one_near, near_count, is_far}
 use Rattle.opfs_work.proofs.Counts.{kept_set, near_count-changed, one_spare, one_near-le}
 use Rattle.std.proofs.lemmas.Bool.{eqb-true}
-use Rattle.opfs_work.proofs.Copying.{not_true}
+use Rattle.opfs_work.proofs.Copying.{not_true, sliced}
 use Rattle.opfs_work.proofs.Places.{written-inside, written-before, written-behind}
 use Rattle.opfs_work.proofs.table.Table.write.Goals as goal
 
@@ -23,23 +24,23 @@ invariant_of-self c =
 
 pub returns-clause-inside : goal.returns-clause-inside
 returns-clause-inside c = λ far i from below.
-    written-inside far c.self.inside.pages.items c.put-old.new.pages.items c.put-zero.new.pages.items Zero c.args.place i c.args.chunk.now c.write.new.self
+    written-inside far c.self.inside.pages.items c.put-old.new.pages.items c.put-zero.new.pages.items Zero c.args.place i (slice_range c.args.given.now c.args.from c.args.to) c.write.new.self
     (rw (← c.self.view_is) at c.requires.there) c.put-old.ensures.after c.put-zero.ensures.after c.requires.within c.write.ensures.inside from below
 
 pub returns-clause-before : goal.returns-clause-before
 returns-clause-before c = λ far i below.
-    let owns : (length c.args.chunk.now ≡ 4096 → ⊥) → is_far (page_at c.self.inside.pages.items (c.args.place / 4096)) ≡ false → (f j : ℕ) → slice_index c.taken-buffer.result j ≡ page_byte f (page_at c.self.inside.pages.items (c.args.place / 4096)) j =
-    λ part. rw (← c.put-old.ensures.was) (c.taken-buffer.ensures.bytes (not_true _ (λ is. part (eqb-true _ _ is)))) in
+    let owns : (length (slice_range c.args.given.now c.args.from c.args.to) ≡ 4096 → ⊥) → is_far (page_at c.self.inside.pages.items (c.args.place / 4096)) ≡ false → (f j : ℕ) → slice_index c.taken-buffer.result j ≡ page_byte f (page_at c.self.inside.pages.items (c.args.place / 4096)) j =
+    λ part. rw (← c.put-old.ensures.was) (c.taken-buffer.ensures.bytes (not_true _ (λ is. part (omega (arith, eqb-true _ _ is, sliced c.args.given.now c.args.from c.args.to c.requires.order c.requires.end))))) in
     rw (← c.self.view_is)
-    (written-before far c.self.inside.pages.items c.put-old.new.pages.items c.put-zero.new.pages.items Zero c.args.place i c.args.chunk.now c.taken-buffer.result c.write.new.self
+    (written-before far c.self.inside.pages.items c.put-old.new.pages.items c.put-zero.new.pages.items Zero c.args.place i (slice_range c.args.given.now c.args.from c.args.to) c.taken-buffer.result c.write.new.self
     (rw (← c.self.view_is) at c.requires.there) c.put-old.ensures.after c.put-zero.ensures.after c.requires.within (rw (← c.self.view_is) at c.requires.whole) owns c.write.ensures.before below)
 
 pub returns-clause-behind : goal.returns-clause-behind
 returns-clause-behind c = λ far i past.
-    let owns : (length c.args.chunk.now ≡ 4096 → ⊥) → is_far (page_at c.self.inside.pages.items (c.args.place / 4096)) ≡ false → (f j : ℕ) → slice_index c.taken-buffer.result j ≡ page_byte f (page_at c.self.inside.pages.items (c.args.place / 4096)) j =
-    λ part. rw (← c.put-old.ensures.was) (c.taken-buffer.ensures.bytes (not_true _ (λ is. part (eqb-true _ _ is)))) in
+    let owns : (length (slice_range c.args.given.now c.args.from c.args.to) ≡ 4096 → ⊥) → is_far (page_at c.self.inside.pages.items (c.args.place / 4096)) ≡ false → (f j : ℕ) → slice_index c.taken-buffer.result j ≡ page_byte f (page_at c.self.inside.pages.items (c.args.place / 4096)) j =
+    λ part. rw (← c.put-old.ensures.was) (c.taken-buffer.ensures.bytes (not_true _ (λ is. part (omega (arith, eqb-true _ _ is, sliced c.args.given.now c.args.from c.args.to c.requires.order c.requires.end))))) in
     rw (← c.self.view_is)
-    (written-behind far c.self.inside.pages.items c.put-old.new.pages.items c.put-zero.new.pages.items Zero c.args.place i c.args.chunk.now c.taken-buffer.result c.write.new.self
+    (written-behind far c.self.inside.pages.items c.put-old.new.pages.items c.put-zero.new.pages.items Zero c.args.place i (slice_range c.args.given.now c.args.from c.args.to) c.taken-buffer.result c.write.new.self
     (rw (← c.self.view_is) at c.requires.there) c.put-old.ensures.after c.put-zero.ensures.after c.requires.within (rw (← c.self.view_is) at c.requires.whole) owns c.write.ensures.behind past)
 
 pub returns-clause-count : goal.returns-clause-count

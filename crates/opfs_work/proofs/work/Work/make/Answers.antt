@@ -10,11 +10,10 @@ write_within-requires c =
     let pages : c.grow.new.self.pages ≡ [] = ap (λ (w : WorkingCopy). w.pages) (c.grow.ensures) ∙ ap (λ (w : WorkingCopy). w.pages) c.in_ok-prepare.ensures.same ∙ ap (λ (w : WorkingCopy). w.pages) c.fresh-work.ensures in
     let size : c.grow.new.self.length ≡ 0 = ap (λ (w : WorkingCopy). w.length) (c.grow.ensures) ∙ ap (λ (w : WorkingCopy). w.length) c.in_ok-prepare.ensures.same ∙ ap (λ (w : WorkingCopy). w.length) c.fresh-work.ensures in
     let reserve = ap (λ (w : WorkingCopy). w.reserve) (c.grow.ensures) in
-    let bytes = ap (length {A = ℕ}) c.as_slice.ensures in
-    make_near c.grow.new.self 0 (length c.as_slice.result.now) pages size refl (omega (arith, c.blocks-count.ensures, c.len.ensures)) (omega (arith, c.requires))
+    make_near c.grow.new.self 0 (length c.args.given.now) pages size refl (omega (arith, c.blocks-count.ensures, c.len.ensures)) (omega (arith, c.requires))
 
 pub returns-clause-bytes : goal.returns-clause-bytes
 returns-clause-bytes c = λ far.
     let size : c.grow.new.self.length ≡ 0 = ap (λ (w : WorkingCopy). w.length) (c.grow.ensures) ∙ ap (λ (w : WorkingCopy). w.length) c.in_ok-prepare.ensures.same ∙ ap (λ (w : WorkingCopy). w.length) c.fresh-work.ensures in
     ap (contents far) c.grow-2.ensures ∙ ap (contents far) c.drop_reserve.ensures ∙ ap (contents far) c.seek.ensures ∙ c.write_within.ensures.bytes far
-    ∙ ap (λ (old : List ℕ). splice old 0 c.as_slice.result.now) (nothing_there far c.grow.new.self.pages c.grow.new.self.length size) ∙ splice_nothing c.as_slice.result.now ∙ c.as_slice.ensures
+    ∙ ap (λ (old : List ℕ). splice old 0 c.args.given.now) (nothing_there far c.grow.new.self.pages c.grow.new.self.length size) ∙ splice_nothing c.args.given.now
