@@ -197,7 +197,7 @@ module _ (rows : tree.Rows) (start shed : Storage) (pool : Blocks) (rest : Regis
 pub go-on : (rows : tree.Rows) (at to : Option Place) (key : Text) (r : Row) (P Q : tree.Rows → Type 0) → P (tree.rows_above at rows)
     → IsSomeAnd to (λ x. tree.rows_above at rows ≡ (x, r) ∷ tree.rows_above (Some x) rows) → IfSome to (λ x. key ≡ x.0)
     → ((path : List Text) (rest : tree.Rows) → P (((key, path), r) ∷ rest) → Q rest) → Q (tree.rows_above to rows)
-go-on rows at None key r P Q was goes unit step = absurd goes
-go-on rows at (Some x) key r P Q was goes unit step =
+go-on rows at None key r P Q was goes told step = absurd goes
+go-on rows at (Some x) key r P Q was goes told step =
     step x.1 (tree.rows_above (Some x) rows)
-    (subst (λ (u : Text). P (((u, x.1), r) ∷ tree.rows_above (Some x) rows)) (sym unit) (subst P goes was))
+    (subst (λ (u : Text). P (((u, x.1), r) ∷ tree.rows_above (Some x) rows)) (sym told) (subst P goes was))
