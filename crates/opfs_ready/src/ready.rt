@@ -1,6 +1,6 @@
 //! A tree and a place that stands ready.
 
-ghost use Rattle.std.specs.Prelude.{◌≡◌, ℕ, None, Some, OnOk, OnErr};
+ghost use Rattle.std.specs.Prelude.{◌≡◌, None, Some, OnOk, OnErr};
 ghost use Rattle.std.specs.FinMap.Entries.{put};
 ghost use Rattle.opfs_base.specs.Places.{Place, place_cmp};
 ghost use Rattle.opfs_base.specs.declared.locator.Kind.{Kind};

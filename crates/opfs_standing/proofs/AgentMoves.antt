@@ -1,5 +1,5 @@
 -- Changes of agents alone: what they keep, and one row more.
-use Rattle.std.proofs.Common.{◌≡◌, ℕ, ◌+◌, ◌-◌, ◌<◌, suc, Bool, true, false, cond, List, [], ◌∷◌, ◌++◌, length, replicate, get_or, sum_by, flat_map, slice_set, refl, sym, ap, subst, ◌∙◌, arith}
+use Rattle.std.proofs.Common.{None, Some, Option, unwrap_or, slice_get, zero, ◌≡◌, ℕ, ◌+◌, ◌-◌, ◌<◌, suc, Bool, true, false, cond, List, [], ◌∷◌, ◌++◌, length, replicate, get_or, sum_by, flat_map, slice_set, refl, sym, ap, subst, ◌∙◌, arith}
 use Rattle.std.proofs.lemmas.List.Folds.{sum_by-replicate}
 use Rattle.std.proofs.lemmas.List.Sums.{sum_by-append, sum_by-cons, sum_by-set}
 use Rattle.std.proofs.lemmas.Option.{unwrap_or-slice_get}
@@ -7,12 +7,13 @@ use Rattle.opfs_base.specs.Texts.{Text, same_text}
 use Rattle.opfs_machine.specs.declared.own.Outline.{Outline}
 use Rattle.opfs_machine.specs.declared.own.Outline.TheVariants as outline
 use Rattle.opfs_machine.specs.declared.state.Agent.{Agent}
-use Rattle.opfs_machine.specs.Agents.{nobody, agent_in, with_agent}
+use Rattle.opfs_machine.specs.Agents.{nobody, agent_in, agent_of, with_agent, with_own}
 use Rattle.opfs_pool.specs.Shares.{Blocks, share_at}
 use Rattle.opfs_seats.specs.Registers.{Registered}
+use Rattle.opfs_seats.specs.Slots.{slot_set}
 use Rattle.opfs_shed.specs.Buckets.{Storage}
 use Rattle.opfs_tree.specs.Rows as tree
-use Rattle.opfs_standing.specs.Seen.{Machine, machine_of, persistent_in}
+use Rattle.opfs_standing.specs.Seen.{Machine, machine_of, with_slot_at, persistent_in}
 use Rattle.opfs_standing.specs.Sums.{anywhere, of_origin, stream_where, reserve_where}
 use Rattle.opfs_standing.specs.Tied.{IsKnown, IsTied}
 use Rattle.opfs_standing.specs.Moves.{Amounts, Moves, ShedMoves, PoolMoves, kept_amounts}
@@ -96,6 +97,23 @@ number at = omega arith
 
 pub agent-set : (m : Machine) (at : ℕ) (a : Agent Outline) → ◌≡◌ {A = Machine} (record m { agents = slice_set m.agents at a }) (with_agent m (suc at) a)
 agent-set m at a = ap (λ (n : ℕ). record m { agents = slice_set m.agents n a }) (sym (number at))
+
+-- An own row in the machine's numbers.
+set_past : {X : Type 0} (xs : List X) (i : ℕ) (x : X) → slice_get xs i ≡ None → slice_set xs i x ≡ xs
+set_past [] zero x none = refl
+set_past [] (suc i) x none = refl
+set_past (y ∷ xs) zero x none = cc
+set_past (y ∷ xs) (suc i) x none = ap (λ zs. y ∷ zs) (set_past xs i x none)
+
+pub own-slots : (m : Machine) (at n : ℕ) (r : Outline) → with_slot_at m at n r ≡ with_own m (suc at) (suc n) r
+own-slots m at n r =
+    let set = λ (o : Option (Agent Outline)). record (unwrap_or o nobody) { own = slice_set (unwrap_or o nobody).own n r } in
+    ap (λ (xs : List (Agent Outline)). record m { agents = xs })
+    (elim (slice_get m.agents at) as (λ o. slice_get m.agents at ≡ o → slot_set m.agents at n r o ≡ slice_set m.agents at (set o)) [
+      | None ↦ λ is. sym (set_past m.agents at (set None) is)
+      | Some a ↦ λ is. refl
+    ] refl)
+    ∙ (let a = sym (number at) in let b = sym (number n) in λ i. record m { agents = slice_set m.agents (a i) (record (agent_in m.agents (suc at)) { own = slice_set (agent_in m.agents (suc at)).own (b i) r }) })
 
 -- ---- an open row more
 

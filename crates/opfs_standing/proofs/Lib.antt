@@ -23,3 +23,4 @@ pub mod Touched
 pub mod Flushed
 pub mod AgentMoves
 pub mod UnitSums
+pub mod Begun

@@ -74,10 +74,10 @@ or_right false b h = h
 -- ---- buckets
 
 module _ (shed new : Storage) (unit : Text) (is : new ≡ record shed { buckets = with_unit shed.buckets unit }) where
-  bucket_same : (u : Text) → bucket_at new.buckets u ≡ bucket_at shed.buckets u
+  pub bucket_same : (u : Text) → bucket_at new.buckets u ≡ bucket_at shed.buckets u
   bucket_same u = ap (λ (s : Storage). bucket_at s.buckets u) is ∙ touched-at unit first_bucket shed.buckets u
 
-  unit_kept : (u : Text) → has_unit shed.buckets u ≡ true → has_unit new.buckets u ≡ true
+  pub unit_kept : (u : Text) → has_unit shed.buckets u ≡ true → has_unit new.buckets u ≡ true
   unit_kept u has = ap (λ (s : Storage). has_unit s.buckets u) is ∙ (touched-there unit first_bucket shed.buckets u ∙ or_right (is_at (text_cmp u) unit) (has_unit shed.buckets u) has)
 
   pub touched-modes : persistent_in new.buckets ≡ persistent_in shed.buckets
@@ -111,13 +111,13 @@ module _ (shed new : Storage) (unit : Text) (is : new ≡ record shed { buckets 
 -- ---- shares
 
 module _ (pool new : Blocks) (unit : Text) (is : new ≡ record pool { shares = touched pool.shares unit }) where
-  share_same : (u : Text) → share_at new.shares u ≡ share_at pool.shares u
+  pub share_same : (u : Text) → share_at new.shares u ≡ share_at pool.shares u
   share_same u = ap (λ (b : Blocks). share_at b.shares u) is ∙ touched-at unit first_share pool.shares u
 
-  share_there : (u : Text) → has_share new.shares u ≡ (is_at (text_cmp u) unit || has_share pool.shares u)
+  pub share_there : (u : Text) → has_share new.shares u ≡ (is_at (text_cmp u) unit || has_share pool.shares u)
   share_there u = ap (λ (b : Blocks). has_share b.shares u) is ∙ touched-there unit first_share pool.shares u
 
-  share_kept : (u : Text) → has_share pool.shares u ≡ true → has_share new.shares u ≡ true
+  pub share_kept : (u : Text) → has_share pool.shares u ≡ true → has_share new.shares u ≡ true
   share_kept u has = share_there u ∙ or_right (is_at (text_cmp u) unit) (has_share pool.shares u) has
 
   -- The units that are known stay so, and this one is.

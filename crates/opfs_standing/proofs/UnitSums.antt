@@ -1,14 +1,11 @@
 -- What the units of an origin use is what its rows use.
-use Rattle.std.proofs.Common.{◌≡◌, ℕ, ◌+◌, Bool, true, false, cond, not, ◌||◌, List, [], ◌∷◌, filter, sum_by, Option, Some, None, is_some, unwrap_or, refl, sym, ap, subst, ◌∙◌, arith}
+use Rattle.std.proofs.Common.{◌≡◌, ℕ, ◌+◌, Bool, true, false, cond, not, [], ◌∷◌, filter, sum_by, Option, Some, None, is_some, unwrap_or, refl, sym, ap, ◌∙◌, arith}
 use Rattle.std.proofs.lemmas.List.Sums.{sum_by-cons}
 use Rattle.std.proofs.lemmas.Map.Keys.{sorted_head, sorted_tail}
-use Rattle.std.specs.List.{list_any, AllByRecursion}
 use Rattle.std.specs.List.Sorted.{IsStrictlySortedBy}
 use Rattle.std.specs.Map.{keys_of, lookup}
-use Rattle.std.specs.declared.cmp.Ordering.TheVariants.{Less}
 use Rattle.opfs_base.specs.Places.{Place}
 use Rattle.opfs_base.specs.Texts.{Text, same_text}
-use Rattle.opfs_base.specs.Units.{origin_of}
 use Rattle.opfs_machine.specs.declared.state.Row.{Row as Line}
 use Rattle.opfs_machine.specs.Rows.{Rows as Lines}
 use Rattle.opfs_shed.specs.declared.shed.Bucket.{Bucket}

@@ -1,6 +1,6 @@
 //! What files hold.
 
-ghost use Rattle.std.specs.Prelude.{None, [], OnErr, ◌++◌, length, vec_capacity, ◌≡◌, ◌+◌, ◌^◌, ◌≤◌, Some, ◌<◌, option_map, IsSome, IfSome, IsSomeAnd, not, ◌&&◌, is_some, true, false, OnOk, IsTrue, cond};
+ghost use Rattle.std.specs.Prelude.{length, ◌≡◌, ◌+◌, ◌^◌, ◌≤◌, Some, ◌<◌, IsSome, IfSome};
 ghost use Rattle.opfs_base.specs.Blocks.{blocks};
 ghost use Rattle.opfs_base.specs.Units.{origin_of};
 ghost use Rattle.opfs_machine.specs.Contents.{in_lengths};

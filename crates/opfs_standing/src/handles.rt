@@ -1,8 +1,7 @@
 //! Open access handles.
 
-ghost use Rattle.std.specs.Prelude.{None, [], OnErr, ◌++◌, length, vec_capacity, ◌≡◌, ◌+◌, ◌^◌, ◌≤◌, Some, ◌<◌, option_map, IsSome, IfSome, IsSomeAnd, not, ◌&&◌, is_some, true, false, OnOk, IsTrue, cond};
-ghost use Rattle.std.specs.Prelude.{suc};
-ghost use Rattle.opfs_machine.specs.Agents.{agent_of, adds_own};
+ghost use Rattle.std.specs.Prelude.{None, length, ◌≡◌, ◌+◌, ◌≤◌, Some, ◌<◌, suc};
+ghost use Rattle.opfs_machine.specs.Agents.{agent_of, adds_own, with_own};
 ghost use Rattle.opfs_machine.specs.Contents.{in_lengths};
 ghost use Rattle.opfs_seats.specs.Slots.{most_rows};
 ghost use Rattle.opfs_machine.specs.Sums.{pool};
@@ -10,7 +9,6 @@ ghost use Rattle.opfs_machine.specs.declared.own.Outline.TheVariants as outline;
 ghost use Rattle.opfs_machine.specs.declared.own.HandleOutline.{HandleOutline};
 ghost use Rattle.opfs_seats.specs.Slots.{handle_at};
 ghost use Rattle.opfs_standing.specs.Open.{IsHandleAt};
-ghost use Rattle.opfs_standing.specs.Seen.{with_slot_at};
 
 use crate::standing::Standing;
 use opfs_seats::OpenHandle;
@@ -31,7 +29,7 @@ impl Standing {
     pub fn grow_handle(&mut self, at: usize, n: usize, more: u64)
         requires handle { IsHandleAt self.old.machine at n }
         requires room { pool in_lengths self.old.machine + more ≤ self.old.machine.limits.blocks }
-        ensures machine { (h : HandleOutline) → handle_at self.old.machine.agents at n ≡ Some h → self.new.machine ≡ with_slot_at self.old.machine at n (outline.Handle (record h { reserve = h.reserve + more })) }
+        ensures machine { (h : HandleOutline) → handle_at self.old.machine.agents at n ≡ Some h → self.new.machine ≡ with_own self.old.machine (suc at) (suc n) (outline.Handle (record h { reserve = h.reserve + more })) }
         ensures tree { self.new.tree ≡ self.old.tree }
         ensures prepared { self.new.prepared ≡ self.old.prepared }
     {
@@ -48,7 +46,7 @@ impl Standing {
     /// Keeps no block for an open access handle, whose file is there.
     pub fn free_handle(&mut self, at: usize, n: usize)
         requires handle { IsHandleAt self.old.machine at n }
-        ensures machine { (h : HandleOutline) → handle_at self.old.machine.agents at n ≡ Some h → self.new.machine ≡ with_slot_at self.old.machine at n (outline.Handle (record h { reserve = 0 })) }
+        ensures machine { (h : HandleOutline) → handle_at self.old.machine.agents at n ≡ Some h → self.new.machine ≡ with_own self.old.machine (suc at) (suc n) (outline.Handle (record h { reserve = 0 })) }
         ensures tree { self.new.tree ≡ self.old.tree }
         ensures prepared { self.new.prepared ≡ self.old.prepared }
     {
@@ -62,7 +60,7 @@ impl Standing {
     /// Closes an open access handle, whose file is there, and gives it.
     pub fn close_handle(&mut self, at: usize, n: usize) -> OpenHandle
         requires handle { IsHandleAt self.old.machine at n }
-        ensures machine { self.new.machine ≡ with_slot_at self.old.machine at n outline.ClosedHandle }
+        ensures machine { self.new.machine ≡ with_own self.old.machine (suc at) (suc n) outline.ClosedHandle }
         ensures tree { self.new.tree ≡ self.old.tree }
         ensures prepared { self.new.prepared ≡ self.old.prepared }
         ensures handle { handle_at self.old.machine.agents at n ≡ Some result }

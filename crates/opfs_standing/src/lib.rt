@@ -6,6 +6,7 @@ mod agents;
 mod files;
 mod handles;
 mod locks;
+mod making;
 mod readers;
 mod rows;
 mod standing;

@@ -1,6 +1,6 @@
 //! Locks of files.
 
-ghost use Rattle.std.specs.Prelude.{None, [], OnErr, ◌++◌, length, vec_capacity, ◌≡◌, ◌+◌, ◌^◌, ◌≤◌, Some, ◌<◌, option_map, IsSome, IfSome, IsSomeAnd, not, ◌&&◌, is_some, true, false, OnOk, IsTrue, cond};
+ghost use Rattle.std.specs.Prelude.{◌≡◌, ◌<◌, option_map, IsSome, IfSome};
 ghost use Rattle.opfs_locks.specs.Taking.{taken};
 ghost use Rattle.opfs_locks.specs.Holding.{IsTakenAs};
 ghost use Rattle.opfs_machine.specs.Effects.{with_lock, unlocked};

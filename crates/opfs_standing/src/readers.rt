@@ -1,17 +1,22 @@
 //! What is read of the shared store, in the machine's words.
 
-ghost use Rattle.std.specs.Prelude.{◌≡◌, ◌<◌, ◌≤◌, ◌^◌, None, option_map};
+ghost use Rattle.std.specs.Prelude.{◌≡◌, ◌<◌, ◌≤◌, ◌^◌, None, option_map, ◌∷◌, [], Some, IfOk, IfNone, IfSome, IsSomeAnd, length};
 ghost use Rattle.opfs_machine.specs.Contents.{in_lengths};
 ghost use Rattle.opfs_machine.specs.Rows.{row_at, file_at, kind_of, rows_within, has_children, first_locked};
-ghost use Rattle.opfs_machine.specs.Sums.{is_persistent, usage, pool, charge};
+ghost use Rattle.opfs_machine.specs.Sums.{is_persistent, usage, pool, charge, fits_quota, fits_area, fits_pool};
+ghost use Rattle.std.specs.Option.{option_copied};
+ghost use Rattle.opfs_tree.specs.Rows.{file_at as file_in_tree};
+ghost use Rattle.opfs_tree.specs.Rows.{extents_within, least_not_in, children_of, rows_above, IsInOrder};
 ghost use Rattle.opfs_base.specs.Units.{origin_of};
 ghost use Rattle.opfs_standing.specs.Pooled.{IsPooled, registered};
 
 use crate::standing::Standing;
-use opfs_base::{BLOCK_CHARGE, Key, Kind, Path};
+use opfs_base::{BLOCK_CHARGE, Key, Kind, Name, Path};
 use opfs_locks::LockValue;
 use opfs_pool::Pool;
 use opfs_seats::Register;
+use opfs_tree::{FileRow, Row, Walk};
+use std::alloc::{AllocError, Global};
 
 impl Standing {
     /// Whether a directory or a file is at a place; None where neither is.
@@ -90,5 +95,74 @@ impl Standing {
         ensures within { result ≤ self.now.machine.limits.blocks }
     {
         self.pool.count()
+    }
+
+    /// Whether the origin of a unit may use so many blocks more; nothing more may always be used.
+    pub fn fits_quota(&self, unit: &Key, need: u64) -> bool
+        ensures { result ≡ fits_quota in_lengths self.now.machine (origin_of unit.now) need }
+    {
+        need == 0
+            || need
+                <= self
+                    .register
+                    .limits()
+                    .quota
+                    .saturating_sub(self.usage(unit))
+    }
+
+    /// Whether the charge may grow by so much; it may always stay.
+    pub fn fits_area(&self, growth: u64) -> bool
+        requires { charge in_lengths self.now.machine < 2 ^ 64 }
+        ensures { result ≡ fits_area in_lengths self.now.machine growth }
+    {
+        let free = self.register.limits().area.saturating_sub(self.charge());
+        growth == 0 || growth <= free.saturating_sub(7)
+    }
+
+    /// Whether there are so many blocks more; none may always be kept.
+    pub fn fits_pool(&self, need: u64) -> bool
+        ensures { result ≡ fits_pool in_lengths self.now.machine need }
+    {
+        need == 0 || self.pool.room(need)
+    }
+
+    /// The file at a place with its blocks; None where none is.
+    pub fn file(&self, unit: &Key, path: &Path) -> Option<&FileRow>
+        ensures { option_copied result ≡ file_in_tree (unit.now, path.now) self.now.tree }
+    {
+        self.tree.file(unit, path)
+    }
+
+    /// How many extents the row at a place and all below it have.
+    pub fn extents_below(&self, unit: &Key, path: &Path) -> u64
+        requires { length (extents_within (unit.now, path.now) self.now.tree) < 2 ^ 64 }
+        ensures { result ≡ length (extents_within (unit.now, path.now) self.now.tree) }
+    {
+        self.tree.extents_below(unit, path)
+    }
+
+    /// The least child of a directory whose name is not among those given, in whatever order they are, where no place
+    /// stands ready; None where there is no further child.
+    pub fn least_not_in(
+        &self,
+        alloc: Global,
+        unit: &Key,
+        path: &Path,
+        past: &[Name],
+    ) -> Result<Option<(Name, Kind)>, AllocError>
+        requires { self.now.prepared.place ≡ None }
+        ensures { IfOk result (λ child. child ≡ least_not_in past.now (children_of (unit.now, path.now) self.now.tree)) }
+    {
+        self.tree.least_not_in(alloc, unit, path, past)
+    }
+
+    /// Moves a walk on to the least place above its own where a row is, and gives that row; None where there is none.
+    /// Takes no memory.
+    pub fn step<'a>(&'a self, walk: &mut Walk<'a>) -> Option<&'a Row>
+        ensures end { IfNone result (rows_above walk.old self.now.tree ≡ []) }
+        ensures next { IfSome result (λ row. IsSomeAnd walk.new (λ place. rows_above walk.old self.now.tree ≡ (place, row.now) ∷ rows_above (Some place) self.now.tree)) }
+        ensures order { IsInOrder self.now.tree }
+    {
+        self.tree.step(walk)
     }
 }

@@ -1,6 +1,6 @@
 //! Rows that come and go.
 
-ghost use Rattle.std.specs.Prelude.{None, [], OnErr, ◌++◌, length, vec_capacity, ◌≡◌, ◌+◌, ◌^◌, ◌≤◌, Some, ◌<◌, option_map, IsSome, IfSome, IsSomeAnd, not, ◌&&◌, is_some, true, false, OnOk, IsTrue, cond};
+ghost use Rattle.std.specs.Prelude.{None, [], OnErr, ◌++◌, length, vec_capacity, ◌≡◌, ◌+◌, ◌^◌, ◌≤◌, Some, ◌<◌, IsSome, true, false, OnOk, cond};
 ghost use Rattle.std.specs.FinMap.Entries.{put};
 ghost use Rattle.std.specs.Ordering.{nat_cmp};
 ghost use Rattle.std.specs.Cmp.Lexicographic.{slice_cmp};
@@ -79,16 +79,16 @@ impl Standing {
     }
 
     /// Makes a unit's mode persistent, which adds so much to the charge. Takes no memory.
-    pub fn persist(&mut self, unit: &Key, charge: u64)
+    pub fn persist(&mut self, unit: &Key, more: u64)
         requires known { is_known unit.now self.old.prepared ≡ true }
-        requires charge { charge ≡ cond (is_persistent self.old.machine unit.now) 0 (mode_charge unit.now) }
-        requires area { charge_of in_lengths self.old.machine + charge < 2 ^ 64 }
+        requires charge { more ≡ cond (is_persistent self.old.machine unit.now) 0 (mode_charge unit.now) }
+        requires area { charge_of in_lengths self.old.machine + more < 2 ^ 64 }
         ensures machine { self.new.machine ≡ record self.old.machine { persistent = insert_by (slice_cmp nat_cmp) unit.now self.old.machine.persistent } }
         ensures tree { self.new.tree ≡ self.old.tree }
         ensures prepared { self.new.prepared ≡ self.old.prepared }
     {
         self.shed.set_persistent(unit);
-        self.fixed += charge;
+        self.fixed += more;
         mark(&mut self.pool, &self.tree, &self.shed, &self.root, unit);
     }
 

@@ -1,9 +1,8 @@
 //! Open writable streams.
 
-ghost use Rattle.std.specs.Prelude.{None, [], OnErr, ◌++◌, length, vec_capacity, ◌≡◌, ◌+◌, ◌^◌, ◌≤◌, Some, ◌<◌, option_map, IsSome, IfSome, IsSomeAnd, not, ◌&&◌, is_some, true, false, OnOk, IsTrue, cond};
+ghost use Rattle.std.specs.Prelude.{None, length, ◌≡◌, ◌+◌, ◌^◌, ◌≤◌, Some, ◌<◌, IsSome, suc};
 ghost use Rattle.opfs_base.specs.Units.{origin_of};
-ghost use Rattle.std.specs.Prelude.{suc};
-ghost use Rattle.opfs_machine.specs.Agents.{agent_of, adds_own};
+ghost use Rattle.opfs_machine.specs.Agents.{agent_of, adds_own, with_own};
 ghost use Rattle.opfs_machine.specs.Contents.{in_lengths};
 ghost use Rattle.opfs_machine.specs.Rows.{row_at};
 ghost use Rattle.opfs_seats.specs.Slots.{most_rows};
@@ -12,7 +11,6 @@ ghost use Rattle.opfs_machine.specs.declared.own.Outline.TheVariants as outline;
 ghost use Rattle.opfs_machine.specs.declared.own.StreamOutline.{StreamOutline};
 ghost use Rattle.opfs_seats.specs.Slots.{stream_at};
 ghost use Rattle.opfs_standing.specs.Open.{IsStreamAt};
-ghost use Rattle.opfs_standing.specs.Seen.{with_slot_at};
 
 use crate::standing::Standing;
 use opfs_seats::OpenStream;
@@ -41,7 +39,7 @@ impl Standing {
         requires stream { IsStreamAt self.old.machine at n }
         requires quota { (w : StreamOutline) → stream_at self.old.machine.agents at n ≡ Some w → usage in_lengths self.old.machine (origin_of w.file.0) + more < 2 ^ 64 }
         requires room { pool in_lengths self.old.machine + more ≤ self.old.machine.limits.blocks }
-        ensures machine { (w : StreamOutline) → stream_at self.old.machine.agents at n ≡ Some w → self.new.machine ≡ with_slot_at self.old.machine at n (outline.Stream (record w { reserve = w.reserve + more })) }
+        ensures machine { (w : StreamOutline) → stream_at self.old.machine.agents at n ≡ Some w → self.new.machine ≡ with_own self.old.machine (suc at) (suc n) (outline.Stream (record w { reserve = w.reserve + more })) }
         ensures tree { self.new.tree ≡ self.old.tree }
         ensures prepared { self.new.prepared ≡ self.old.prepared }
     {
@@ -57,7 +55,7 @@ impl Standing {
     /// Closes an open stream, whose file is there, and gives it.
     pub fn close_stream(&mut self, at: usize, n: usize) -> OpenStream
         requires stream { IsStreamAt self.old.machine at n }
-        ensures machine { self.new.machine ≡ with_slot_at self.old.machine at n outline.ClosedStream }
+        ensures machine { self.new.machine ≡ with_own self.old.machine (suc at) (suc n) outline.ClosedStream }
         ensures tree { self.new.tree ≡ self.old.tree }
         ensures prepared { self.new.prepared ≡ self.old.prepared }
         ensures stream { stream_at self.old.machine.agents at n ≡ Some result }

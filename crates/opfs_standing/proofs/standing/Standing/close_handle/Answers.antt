@@ -4,6 +4,7 @@ use Rattle.opfs_standing.specs.Open.{IsHandleAt}
 use Rattle.opfs_standing.specs.Seen.{Seen, machine_of, with_slot_at}
 use Rattle.opfs_standing.proofs.OpenHandles.{handle-blocks, handle-closed-machine, handle-closed-tied}
 use Rattle.opfs_standing.proofs.Stores.{units-kept, prepared-same, agents-stand}
+use Rattle.opfs_standing.proofs.AgentMoves.{own-slots}
 use Rattle.opfs_standing.proofs.standing.Standing.close_handle.Goals as goal
 
 pub lower-requires : goal.lower-requires
@@ -27,7 +28,7 @@ returns-clause-machine c =
     let found = c.close_handle-handle.ensures.handle in
     let at : IsHandleAt (machine_of c.self.inside.tree.rows c.self.inside.shed.buckets c.self.inside.register) c.args.at c.args.n = subst (λ (s : Seen). IsHandleAt s.machine c.args.at c.args.n) (sym c.self.view_is) c.requires.handle in
     handle-closed-machine c.self.inside.tree.rows c.self.inside.shed c.self.inside.pool c.self.inside.register c.self.inside.fixed c.self.inside.root c.args.at c.args.n w c.self.invariant found (at.there w found) c.lower.new.self c.close_handle-handle.new.self c.close_handle-handle.ensures.rest
-    ∙ ap (λ (s : Seen). with_slot_at s.machine c.args.at c.args.n outline.ClosedHandle) c.self.view_is
+    ∙ ap (λ (s : Seen). with_slot_at s.machine c.args.at c.args.n outline.ClosedHandle) c.self.view_is ∙ own-slots c.args.self.now.machine c.args.at c.args.n outline.ClosedHandle
 
 pub returns-clause-prepared : goal.returns-clause-prepared
 returns-clause-prepared c =

@@ -4,6 +4,7 @@ use Rattle.opfs_standing.specs.Open.{IsStreamAt}
 use Rattle.opfs_standing.specs.Seen.{Seen, machine_of, with_slot_at}
 use Rattle.opfs_standing.proofs.OpenStreams.{stream-usage, stream-blocks, closed-machine, closed-tied}
 use Rattle.opfs_standing.proofs.Stores.{units-kept, prepared-same, agents-stand}
+use Rattle.opfs_standing.proofs.AgentMoves.{own-slots}
 use Rattle.opfs_standing.proofs.standing.Standing.close_stream.Goals as goal
 
 pub free-requires : goal.free-requires
@@ -36,7 +37,7 @@ returns-clause-machine c =
     let at : IsStreamAt (machine_of c.self.inside.tree.rows c.self.inside.shed.buckets c.self.inside.register) c.args.at c.args.n = subst (λ (s : Seen). IsStreamAt s.machine c.args.at c.args.n) (sym c.self.view_is) c.requires.stream in
     closed-machine c.self.inside.tree.rows c.self.inside.shed c.self.inside.pool c.self.inside.register c.self.inside.fixed c.self.inside.root c.args.at c.args.n w c.self.invariant c.close_stream-stream.ensures.stream
     (at.there w c.close_stream-stream.ensures.stream) c.free.new.self c.lower.new.self c.close_stream-stream.new.self (rw (c.outline.ensures, c.outline-2.ensures) at c.free.ensures.bucket) c.close_stream-stream.ensures.rest
-    ∙ ap (λ (s : Seen). with_slot_at s.machine c.args.at c.args.n outline.ClosedStream) c.self.view_is
+    ∙ ap (λ (s : Seen). with_slot_at s.machine c.args.at c.args.n outline.ClosedStream) c.self.view_is ∙ own-slots c.args.self.now.machine c.args.at c.args.n outline.ClosedStream
 
 pub returns-clause-prepared : goal.returns-clause-prepared
 returns-clause-prepared c =

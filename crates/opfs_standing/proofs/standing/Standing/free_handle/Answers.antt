@@ -6,6 +6,7 @@ use Rattle.opfs_standing.specs.Open.{IsHandleAt}
 use Rattle.opfs_standing.specs.Seen.{Seen, machine_of, with_slot_at}
 use Rattle.opfs_standing.proofs.OpenHandles.{one_handle, handle-blocks, handle-freed-machine, handle-freed-tied, slot-is-handle}
 use Rattle.opfs_standing.proofs.Stores.{units-kept, prepared-same, agents-stand}
+use Rattle.opfs_standing.proofs.AgentMoves.{own-slots}
 use Rattle.opfs_standing.proofs.standing.Standing.free_handle.Goals as goal
 
 pub lower-requires : goal.lower-requires
@@ -29,7 +30,8 @@ returns-clause-machine c =
     let at : IsHandleAt (machine_of c.self.inside.tree.rows c.self.inside.shed.buckets c.self.inside.register) c.args.at c.args.n = subst (λ (s : Seen). IsHandleAt s.machine c.args.at c.args.n) (sym c.self.view_is) c.requires.handle in
     rw (← c.self.view_is) (λ v told.
     handle-freed-machine c.self.inside.tree.rows c.self.inside.shed c.self.inside.pool c.self.inside.register c.self.inside.fixed c.self.inside.root c.args.at c.args.n w c.self.invariant found (at.there w found) c.lower.new.self c.set_reserve.new.self c.set_reserve.ensures
-    ∙ ap (λ (x : HandleOutline). with_slot_at (machine_of c.self.inside.tree.rows c.self.inside.shed.buckets c.self.inside.register) c.args.at c.args.n (outline.Handle (record x { reserve = 0 }))) (one_handle (sym found ∙ told)))
+    ∙ ap (λ (x : HandleOutline). with_slot_at (machine_of c.self.inside.tree.rows c.self.inside.shed.buckets c.self.inside.register) c.args.at c.args.n (outline.Handle (record x { reserve = 0 }))) (one_handle (sym found ∙ told))
+    ∙ own-slots (machine_of c.self.inside.tree.rows c.self.inside.shed.buckets c.self.inside.register) c.args.at c.args.n (outline.Handle (record v { reserve = 0 })))
 
 pub returns-clause-prepared : goal.returns-clause-prepared
 returns-clause-prepared c =

@@ -10,6 +10,7 @@ use Rattle.opfs_standing.specs.Seen.{Seen, machine_of, with_slot_at}
 use Rattle.opfs_standing.proofs.OpenStreams.{stream-in-usage, usage-known, one_stream, grown-machine, grown-tied}
 use Rattle.opfs_standing.proofs.Stores.{units-kept, prepared-same, agents-stand}
 use Rattle.opfs_standing.proofs.Reserved.{slot-is-stream}
+use Rattle.opfs_standing.proofs.AgentMoves.{own-slots}
 use Rattle.opfs_standing.proofs.standing.Standing.grow_stream.Goals as goal
 
 pub overflow_add-reserve : goal.overflow_add-reserve
@@ -46,7 +47,8 @@ returns-clause-machine c =
     rw (← c.self.view_is) (λ v told.
     grown-machine c.self.inside.tree.rows c.self.inside.shed c.self.inside.pool c.self.inside.register c.self.inside.fixed c.self.inside.root c.args.at c.args.n w c.self.invariant found (at.there w found)
     c.add.new.self c.raise.new.self c.set_reserve.new.self c.args.more c.add.ensures.bucket c.set_reserve.ensures
-    ∙ ap (λ (x : StreamOutline). with_slot_at (machine_of c.self.inside.tree.rows c.self.inside.shed.buckets c.self.inside.register) c.args.at c.args.n (outline.Stream (record x { reserve = x.reserve + c.args.more }))) (one_stream (sym found ∙ told)))
+    ∙ ap (λ (x : StreamOutline). with_slot_at (machine_of c.self.inside.tree.rows c.self.inside.shed.buckets c.self.inside.register) c.args.at c.args.n (outline.Stream (record x { reserve = x.reserve + c.args.more }))) (one_stream (sym found ∙ told))
+    ∙ own-slots (machine_of c.self.inside.tree.rows c.self.inside.shed.buckets c.self.inside.register) c.args.at c.args.n (outline.Stream (record v { reserve = v.reserve + c.args.more })))
 
 pub returns-clause-prepared : goal.returns-clause-prepared
 returns-clause-prepared c =

@@ -17,7 +17,7 @@ mark-requires c = (known-unit c.self.inside.shed c.self.inside.pool c.args.unit.
 
 pub invariant_of-self : goal.invariant_of-self
 invariant_of-self c =
-    persisted-tied c.self.inside.tree.rows c.self.inside.shed c.set_persistent.new.self c.self.inside.register c.args.unit.now (known-unit c.self.inside.shed c.self.inside.pool c.args.unit.now c.self.invariant.shared (ap (λ (s : Seen). is_known c.args.unit.now s.prepared) c.self.view_is ∙ c.requires.known)).bucket c.set_persistent.ensures.ordered c.set_persistent.ensures.bucket c.self.inside.pool c.mark.new.pool c.self.inside.fixed c.args.charge c.self.inside.root c.self.invariant (known-unit c.self.inside.shed c.self.inside.pool c.args.unit.now c.self.invariant.shared (ap (λ (s : Seen). is_known c.args.unit.now s.prepared) c.self.view_is ∙ c.requires.known)).share
+    persisted-tied c.self.inside.tree.rows c.self.inside.shed c.set_persistent.new.self c.self.inside.register c.args.unit.now (known-unit c.self.inside.shed c.self.inside.pool c.args.unit.now c.self.invariant.shared (ap (λ (s : Seen). is_known c.args.unit.now s.prepared) c.self.view_is ∙ c.requires.known)).bucket c.set_persistent.ensures.ordered c.set_persistent.ensures.bucket c.self.inside.pool c.mark.new.pool c.self.inside.fixed c.args.more c.self.inside.root c.self.invariant (known-unit c.self.inside.shed c.self.inside.pool c.args.unit.now c.self.invariant.shared (ap (λ (s : Seen). is_known c.args.unit.now s.prepared) c.self.view_is ∙ c.requires.known)).share
     (c.requires.charge ∙ sym (ap (λ (s : Seen). cond (is_persistent s.machine c.args.unit.now) 0 (mode_charge c.args.unit.now)) c.self.view_is)) c.set_persistent.ensures.usage c.mark.ensures
 
 pub returns-clause-machine : goal.returns-clause-machine
