@@ -1,0 +1,5 @@
+pub mod Roots
+pub mod Clearing
+pub mod Fronts
+pub mod PoolVictims
+pub mod FileLocks
