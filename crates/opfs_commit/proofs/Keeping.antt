@@ -1,9 +1,9 @@
 -- What is kept back, what a record with it makes, and how it begins.
-use Rattle.std.proofs.Common.{◌≡◌, ℕ, ◌+◌, ◌≤◌, Bool, true, false, not, List, [], ◌∷◌, ◌++◌, length, fold, Some, inl, refl, sym, ap, subst, ◌∙◌, append_assoc}
-use Rattle.std.specs.Prelude.{if◌then◌else◌, nat_le}
+use Rattle.std.proofs.Common.{◌≡◌, ℕ, ◌+◌, ◌≤◌, Bool, true, false, not, List, [], ◌∷◌, ◌++◌, fold, Some, inl, refl, sym, ap, subst, ◌∙◌, append_assoc}
+use Rattle.std.specs.Prelude.{if◌then◌else◌}
 use Rattle.std.proofs.lemmas.List.{append-nil, length-append}
 use Rattle.std.proofs.lemmas.List.Sums.{fold-append}
-use Rattle.std.proofs.lemmas.Bool.{true≢false, false≢true, and_parts}
+use Rattle.std.proofs.lemmas.Bool.{true≢false}
 use Rattle.opfs_codec.specs.Spelling.{spelling, IsChange}
 use Rattle.opfs_codec.specs.declared.change.Format.TheVariants.{New}
 use Rattle.opfs_codec.specs.Charges.{charge}
@@ -14,6 +14,7 @@ use Rattle.opfs_commit.specs.Seen.{Committing, committing, has_room, with_kept}
 use Rattle.opfs_commit.specs.Shown.{IsReadAs, Holds}
 use Rattle.opfs_commit.proofs.Holding.{AllQuiet}
 use Rattle.opfs_commit.proofs.Resting.{rows_are}
+use Rattle.opfs_commit.proofs.Spelling.{room_is}
 use Rattle.opfs_commit.proofs.Writing.{kept_none}
 use Rattle.opfs_image.specs.Agreeing.{IsJournalOf, IsImageOf}
 use Rattle.opfs_image.specs.Filling.{filled}
@@ -44,12 +45,7 @@ module _ {D : Type 0} (w : DiskWords D) (a : Account) (k : Committing D) (images
     builds_by : (t : Bool) → has_room k.back (charge spelled) ≡ t → not t ≡ false → Builds g.blocks (if t then k.back.bytes ++ spelling New spelled else []) a.recorded built
     builds_by false room long = absurd (true≢false long)
     builds_by true room long =
-        let parts = and_parts (not k.back.long) (nat_le (length k.back.bytes + charge spelled) k.back.room) room in
-        builds_both g.blocks k.back.bytes (spelling New spelled) a.recorded a.rows built (images.kept_back.builds (not_long k.back.long parts.0)) (builds_one g.blocks spelled a.rows built is.again is.found)
-      where
-        not_long : (b : Bool) → not b ≡ true → b ≡ false
-        not_long true h = absurd (false≢true h)
-        not_long false h = refl
+        builds_both g.blocks k.back.bytes (spelling New spelled) a.recorded a.rows built (images.kept_back.builds (room_is k.back (charge spelled) room).0) (builds_one g.blocks spelled a.rows built is.again is.found)
 
     pub keep_images : AreImages w (keeping a change built) (committing k.journal (with_kept k.back spelled))
     keep_images = record {
