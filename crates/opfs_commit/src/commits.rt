@@ -6,8 +6,7 @@ ghost use Rattle.opfs_codec.specs.Fields.{plain, Fits, HasFewExtents};
 ghost use Rattle.opfs_codec.specs.Spelling.{spelling};
 ghost use Rattle.opfs_codec.specs.declared.change.Format.TheVariants.{New};
 ghost use Rattle.opfs_commit.specs.Calls.{IsCommitted, IsHalted, IsReplaced, IsNotReplaced, BuildsAfter, BuildsAll, stored_in, HasRoomAfter, HasRoomFor};
-ghost use Rattle.opfs_commit.specs.Seen.{KeptBack, committing, emptied, has_room, with_kept, IsQuiet};
-ghost use Rattle.opfs_journal.specs.Seen.{kept, with_record};
+ghost use Rattle.opfs_commit.specs.Seen.{KeptBack, committing, emptied, has_room, with_back, with_kept, with_own, IsQuiet};
 ghost use Rattle.opfs_outside.specs.Faults.{Rose};
 
 use crate::records::{add_record, put_record};
@@ -106,8 +105,8 @@ impl Commits {
         requires settled { journal.old.in_doubt ≡ false }
         requires spare { self.old.room ≤ journal.old.spare }
         requires fits { Fits (plain own.now) }
-        ensures committed { OnOk result (IsCommitted D.Disk (with_record (kept journal.old) (self.old.bytes ++ spelling New (plain own.now))) (committing journal.old self.old) (committing journal.new self.new)) }
-        ensures halted { IsErrOf result JournalRefusal.DiskFault → IsHalted D.Disk (with_record (kept journal.old) (self.old.bytes ++ spelling New (plain own.now))) (committing journal.old self.old) (committing journal.new self.new) }
+        ensures committed { OnOk result (IsCommitted D.Disk (with_own (committing journal.old self.old) (plain own.now)) (committing journal.old self.old) (committing journal.new self.new)) }
+        ensures halted { IsErrOf result JournalRefusal.DiskFault → IsHalted D.Disk (with_own (committing journal.old self.old) (plain own.now)) (committing journal.old self.old) (committing journal.new self.new) }
         ensures unchanged { IsErrOf result JournalRefusal.NoRoom → (journal.new ≡ journal.old) × (self.new ≡ self.old) }
         ensures no_room { IsErrOf result JournalRefusal.NoRoom → HasFewExtents (plain own.now) → (has_room self.old (charge (plain own.now)) ≡ false) ⊎ (journal.old.areas.bytes < journal.old.tail + length (self.old.bytes ++ spelling New (plain own.now)) + 6) }
         ensures cause { IsErrOf result JournalRefusal.DiskFault → Rose (D.faults journal.old.disk) (D.faults journal.new.disk) }
@@ -131,8 +130,8 @@ impl Commits {
     pub fn add_kept<D: Disk>(&mut self, journal: &mut Journal<D>) -> Result<(), JournalRefusal>
         requires settled { journal.old.in_doubt ≡ false }
         requires spare { self.old.room ≤ journal.old.spare }
-        ensures committed { OnOk result (IsCommitted D.Disk (with_record (kept journal.old) self.old.bytes) (committing journal.old self.old) (committing journal.new self.new)) }
-        ensures halted { IsErrOf result JournalRefusal.DiskFault → IsHalted D.Disk (with_record (kept journal.old) self.old.bytes) (committing journal.old self.old) (committing journal.new self.new) }
+        ensures committed { OnOk result (IsCommitted D.Disk (with_back (committing journal.old self.old)) (committing journal.old self.old) (committing journal.new self.new)) }
+        ensures halted { IsErrOf result JournalRefusal.DiskFault → IsHalted D.Disk (with_back (committing journal.old self.old)) (committing journal.old self.old) (committing journal.new self.new) }
         ensures short { OnOk result (self.old.long ≡ false) }
         ensures unchanged { IsErrOf result JournalRefusal.NoRoom → (journal.new ≡ journal.old) × (self.new ≡ self.old) }
         ensures no_room { IsErrOf result JournalRefusal.NoRoom → (self.old.long ≡ true) ⊎ (journal.old.areas.bytes < journal.old.tail + length self.old.bytes + 6) }
