@@ -1,5 +1,5 @@
 -- What is kept back, what a record with it makes, and how it begins.
-use Rattle.std.proofs.Common.{◌≡◌, ℕ, ◌+◌, ◌≤◌, Bool, true, false, not, List, [], ◌∷◌, ◌++◌, fold, Some, inl, refl, sym, ap, subst, ◌∙◌, append_assoc}
+use Rattle.std.proofs.Common.{◌≡◌, ℕ, ◌+◌, ◌≤◌, Bool, true, false, not, List, [], ◌∷◌, ◌++◌, fold, Some, inl, inr, refl, sym, ap, subst, ◌∙◌, append_assoc}
 use Rattle.std.specs.Prelude.{if◌then◌else◌}
 use Rattle.std.proofs.lemmas.List.{append-nil, length-append}
 use Rattle.std.proofs.lemmas.List.Sums.{fold-append}
@@ -8,8 +8,9 @@ use Rattle.opfs_codec.specs.Spelling.{spelling, IsChange}
 use Rattle.opfs_codec.specs.declared.change.Format.TheVariants.{New}
 use Rattle.opfs_codec.specs.Charges.{charge}
 use Rattle.opfs_codec.specs.declared.change.Change.{Change as Spelled}
+use Rattle.opfs_commit.specs.Calls.{IsNext, IsNextAlone}
 use Rattle.opfs_commit.specs.Images.{Account, AreImages, keeping}
-use Rattle.opfs_commit.specs.Making.{IsToStore, IsKept}
+use Rattle.opfs_commit.specs.Making.{IsToStore, IsKept, IsOwn}
 use Rattle.opfs_commit.specs.Seen.{Committing, committing, has_room, with_kept}
 use Rattle.opfs_commit.specs.Shown.{IsReadAs, Holds}
 use Rattle.opfs_commit.proofs.Holding.{AllQuiet}
@@ -27,7 +28,7 @@ use Rattle.opfs_machine.specs.Changes.{Change, changed, durable, is_content}
 use Rattle.opfs_machine.specs.Openings.{Opening}
 use Rattle.opfs_outside.specs.declared.disk.Disk.{Ghosts as DiskWords}
 use Rattle.opfs_replay.specs.Applying.{tried, rows_of}
-use Rattle.opfs_replay.specs.Built.{Built}
+use Rattle.opfs_replay.specs.Built.{Built, IsSound}
 use Rattle.opfs_replay.specs.Sums.{charge_of}
 use Rattle.opfs_snapshot.specs.Building.{Builds}
 use Rattle.opfs_snapshot.proofs.Building.{builds_one, builds_both, rows_more}
@@ -95,6 +96,16 @@ module _ {D : Type 0} (w : DiskWords D) (a : Account) (k : Committing D) (images
     reads = record { format = images.reads.format; builds = builds; fits = fits };
     bytes = makes ∙ ap (λ m. fold changed m own) (rows_are w a k images) ∙ sym (fold-append changed a.opening.stored a.told own);
   }
+
+  -- So do those of a commit.
+  pub next_to_store : (spelled : Spelled) (change : Change) (built : Built) (next : Stored) → IsSound g.blocks a.rows.rows → IsOwn w a spelled change built k.journal → IsNext a.rows spelled k next → IsToStore w a (change ∷ []) next built k.journal
+  next_to_store spelled change built next sound is (inl kind) = subst (λ (s : Stored). IsToStore w a (change ∷ []) s built k.journal) (sym kind.1) (own_to_store kind.0 spelled change built is.again is.found is.fits is.makes)
+  next_to_store spelled change built next sound is (inr kind) =
+      subst (λ (s : Stored). IsToStore w a (change ∷ []) s built k.journal) (sym kind.2) (alone_to_store (change ∷ []) kind.0 built (kind.1 g.blocks built sound is.found) is.fits is.makes)
+
+  pub next_alone_to_store : (next : Stored) → IsSound g.blocks a.rows.rows → charge_of New a.rows + 7 ≤ area_bytes g → IsNextAlone a.rows k next → IsToStore w a [] next a.rows k.journal
+  next_alone_to_store next sound fits (inl kind) = subst (λ (s : Stored). IsToStore w a [] s a.rows k.journal) (sym kind.1) (kept_to_store kind.0 fits)
+  next_alone_to_store next sound fits (inr kind) = subst (λ (s : Stored). IsToStore w a [] s a.rows k.journal) (sym kind.2) (alone_to_store [] kind.0 a.rows (kind.1 g.blocks sound) fits refl)
 
 -- ---- as it begins
 
