@@ -1,6 +1,5 @@
 -- Changes of rows are changes of what the rows hold.
-use Rattle.std.proofs.Common.{◌≡◌, ℕ, Bool, true, false, cond, not, List, [], ◌∷◌, map, filter, Option, Some, None, is_some, refl, sym, ap, ◌∙◌}
-use Rattle.std.specs.Prelude.{if◌then◌else◌}
+use Rattle.std.proofs.Common.{◌≡◌, ℕ, true, false, cond, not, List, [], ◌∷◌, map, filter, Option, Some, is_some, refl, sym, ap, ◌∙◌}
 use Rattle.std.specs.Ordering.{is_eq}
 use Rattle.std.specs.declared.cmp.Ordering.TheVariants.{Less, Equal, Greater}
 use Rattle.std.specs.FinMap.Entries.{put, by_order, is_sorted, below_all}
@@ -25,6 +24,7 @@ use Rattle.opfs_tree.specs.Rows.{Rows, row_at, file_at, file_of, file_in, withou
 use Rattle.opfs_tree.specs.declared.row.Row.{Row}
 use Rattle.opfs_tree.specs.declared.row.Row.TheVariants as row
 use Rattle.opfs_snapshot.proofs.Last.{none_below}
+use Rattle.opfs_snapshot.proofs.OneMore.{told_by}
 
 module _ (base : ℕ) (c : List ℕ) where
   abbrev fill : Place × Row → Place × Stored
@@ -70,10 +70,6 @@ module _ (base : ℕ) (c : List ℕ) where
           | Equal ↦ λ is h. ap (λ (x : Stored). (e.0, x) ∷ fills es) (fills_file e.1 h)
           | Greater ↦ λ is h. ap (λ xs. fill e ∷ xs) (fills_content es parts.1 h)
         ] refl there
-
-told_by : (t : Bool) (x y : Built) → (if t then Some x else None) ≡ Some y → (t ≡ true) × (x ≡ y)
-told_by true x y h = (refl, cc)
-told_by false x y h = absurd cc
 
 abbrev with_rows : List (Place × Stored) → List Text → Map
 with_rows rows persistent = record { rows = rows; persistent = persistent }

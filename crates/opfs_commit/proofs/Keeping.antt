@@ -1,19 +1,21 @@
 -- What is kept back, what a record with it makes, and how it begins.
-use Rattle.std.proofs.Common.{◌≡◌, ℕ, ◌+◌, ◌≤◌, Bool, true, false, not, List, [], ◌∷◌, ◌++◌, length, fold, Some, inl, refl, sym, ap, subst, ◌∙◌, append_assoc}
-use Rattle.std.specs.Prelude.{if◌then◌else◌, nat_le}
+use Rattle.std.proofs.Common.{◌≡◌, ℕ, ◌+◌, ◌≤◌, Bool, true, false, not, List, [], ◌∷◌, ◌++◌, fold, Some, inl, inr, refl, sym, ap, subst, ◌∙◌, append_assoc}
+use Rattle.std.specs.Prelude.{if◌then◌else◌}
 use Rattle.std.proofs.lemmas.List.{append-nil, length-append}
 use Rattle.std.proofs.lemmas.List.Sums.{fold-append}
-use Rattle.std.proofs.lemmas.Bool.{true≢false, false≢true, and_parts}
+use Rattle.std.proofs.lemmas.Bool.{true≢false}
 use Rattle.opfs_codec.specs.Spelling.{spelling, IsChange}
 use Rattle.opfs_codec.specs.declared.change.Format.TheVariants.{New}
 use Rattle.opfs_codec.specs.Charges.{charge}
 use Rattle.opfs_codec.specs.declared.change.Change.{Change as Spelled}
+use Rattle.opfs_commit.specs.Calls.{IsNext, IsNextAlone}
 use Rattle.opfs_commit.specs.Images.{Account, AreImages, keeping}
-use Rattle.opfs_commit.specs.Making.{IsToStore, IsKept}
+use Rattle.opfs_commit.specs.Making.{IsToStore, IsKept, IsOwn}
 use Rattle.opfs_commit.specs.Seen.{Committing, committing, has_room, with_kept}
 use Rattle.opfs_commit.specs.Shown.{IsReadAs, Holds}
 use Rattle.opfs_commit.proofs.Holding.{AllQuiet}
 use Rattle.opfs_commit.proofs.Resting.{rows_are}
+use Rattle.opfs_commit.proofs.Spelling.{room_is}
 use Rattle.opfs_commit.proofs.Writing.{kept_none}
 use Rattle.opfs_image.specs.Agreeing.{IsJournalOf, IsImageOf}
 use Rattle.opfs_image.specs.Filling.{filled}
@@ -26,7 +28,7 @@ use Rattle.opfs_machine.specs.Changes.{Change, changed, durable, is_content}
 use Rattle.opfs_machine.specs.Openings.{Opening}
 use Rattle.opfs_outside.specs.declared.disk.Disk.{Ghosts as DiskWords}
 use Rattle.opfs_replay.specs.Applying.{tried, rows_of}
-use Rattle.opfs_replay.specs.Built.{Built}
+use Rattle.opfs_replay.specs.Built.{Built, IsSound}
 use Rattle.opfs_replay.specs.Sums.{charge_of}
 use Rattle.opfs_snapshot.specs.Building.{Builds}
 use Rattle.opfs_snapshot.proofs.Building.{builds_one, builds_both, rows_more}
@@ -44,12 +46,7 @@ module _ {D : Type 0} (w : DiskWords D) (a : Account) (k : Committing D) (images
     builds_by : (t : Bool) → has_room k.back (charge spelled) ≡ t → not t ≡ false → Builds g.blocks (if t then k.back.bytes ++ spelling New spelled else []) a.recorded built
     builds_by false room long = absurd (true≢false long)
     builds_by true room long =
-        let parts = and_parts (not k.back.long) (nat_le (length k.back.bytes + charge spelled) k.back.room) room in
-        builds_both g.blocks k.back.bytes (spelling New spelled) a.recorded a.rows built (images.kept_back.builds (not_long k.back.long parts.0)) (builds_one g.blocks spelled a.rows built is.again is.found)
-      where
-        not_long : (b : Bool) → not b ≡ true → b ≡ false
-        not_long true h = absurd (false≢true h)
-        not_long false h = refl
+        builds_both g.blocks k.back.bytes (spelling New spelled) a.recorded a.rows built (images.kept_back.builds (room_is k.back (charge spelled) room).0) (builds_one g.blocks spelled a.rows built is.again is.found)
 
     pub keep_images : AreImages w (keeping a change built) (committing k.journal (with_kept k.back spelled))
     keep_images = record {
@@ -99,6 +96,16 @@ module _ {D : Type 0} (w : DiskWords D) (a : Account) (k : Committing D) (images
     reads = record { format = images.reads.format; builds = builds; fits = fits };
     bytes = makes ∙ ap (λ m. fold changed m own) (rows_are w a k images) ∙ sym (fold-append changed a.opening.stored a.told own);
   }
+
+  -- So do those of a commit.
+  pub next_to_store : (spelled : Spelled) (change : Change) (built : Built) (next : Stored) → IsSound g.blocks a.rows.rows → IsOwn w a spelled change built k.journal → IsNext a.rows spelled k next → IsToStore w a (change ∷ []) next built k.journal
+  next_to_store spelled change built next sound is (inl kind) = subst (λ (s : Stored). IsToStore w a (change ∷ []) s built k.journal) (sym kind.1) (own_to_store kind.0 spelled change built is.again is.found is.fits is.makes)
+  next_to_store spelled change built next sound is (inr kind) =
+      subst (λ (s : Stored). IsToStore w a (change ∷ []) s built k.journal) (sym kind.2) (alone_to_store (change ∷ []) kind.0 built (kind.1 g.blocks built sound is.found) is.fits is.makes)
+
+  pub next_alone_to_store : (next : Stored) → IsSound g.blocks a.rows.rows → charge_of New a.rows + 7 ≤ area_bytes g → IsNextAlone a.rows k next → IsToStore w a [] next a.rows k.journal
+  next_alone_to_store next sound fits (inl kind) = subst (λ (s : Stored). IsToStore w a [] s a.rows k.journal) (sym kind.1) (kept_to_store kind.0 fits)
+  next_alone_to_store next sound fits (inr kind) = subst (λ (s : Stored). IsToStore w a [] s a.rows k.journal) (sym kind.2) (alone_to_store [] kind.0 a.rows (kind.1 g.blocks sound) fits refl)
 
 -- ---- as it begins
 

@@ -1,7 +1,7 @@
 -- What the calls that write a record leave of the journal and of what is kept back. This project's own.
-use Rattle.std.specs.Prelude.{◌≡◌, ℕ, ◌≤◌, true, false, List, [], ◌∷◌, Some}
+use Rattle.std.specs.Prelude.{◌≡◌, ◌⊎◌, ℕ, ◌≤◌, true, false, List, [], ◌∷◌, Some}
 use Rattle.opfs_commit.specs.Images.{MayBe}
-use Rattle.opfs_commit.specs.Seen.{Committing, emptied}
+use Rattle.opfs_commit.specs.Seen.{Committing, emptied, with_back, with_own}
 use Rattle.opfs_codec.specs.Spelling.{IsChange}
 use Rattle.opfs_codec.specs.declared.change.Change.{Change}
 use Rattle.opfs_codec.specs.declared.change.Format.TheVariants.{New}
@@ -131,3 +131,24 @@ pub record HasRoomFor (size most : ℕ) (rows : Rows) (shed : Storage) : Type 0 
   pub sound : IsSound size (stored_rows rows)
   pub writable : AreWritable rows (persistent_in shed.buckets)
   pub fits : charge_of New (stored_in rows shed) ≤ most
+
+-- What a commit of a change lets the journal keep: what is kept back and the change in one record more, or a snapshot after
+-- the change alone.
+abbrev pub IsNext : {D : Type 0} → Built → Change → Committing D → Stored → Type 0
+IsNext b own k next = ((k.back.long ≡ false) × (next ≡ with_own k own)) ⊎ ((body : List ℕ) × BuildsAfter b own body × (next ≡ one_record k.journal.format body))
+
+-- And a commit of what is kept back alone.
+abbrev pub IsNextAlone : {D : Type 0} → Built → Committing D → Stored → Type 0
+IsNextAlone b k next = ((k.back.long ≡ false) × (next ≡ with_back k)) ⊎ ((body : List ℕ) × BuildsAll b body × (next ≡ one_record k.journal.format body))
+
+-- Records of this kind were written.
+pub record IsAnyOf {D : Type 0} (w : DiskWords D) (Kind : Stored → Type 0) (old new : Committing D) : Type 0 where
+  pub next : Stored
+  pub kind : Kind next
+  pub committed : IsCommitted w next old new
+
+-- The disk failed in that.
+pub record IsNoneOf {D : Type 0} (w : DiskWords D) (Kind : Stored → Type 0) (old new : Committing D) : Type 0 where
+  pub next : Stored
+  pub kind : Kind next
+  pub halted : IsHalted w next old new

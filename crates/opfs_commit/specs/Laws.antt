@@ -1,13 +1,13 @@
 -- The laws of images that a crash may leave while changes are committed. This project's own.
 use Rattle.std.specs.Prelude.{◌≡◌, ℕ, ◌+◌, ◌≤◌, ◌++◌, false, List, [], ◌∷◌, Some}
 use Rattle.opfs_base.specs.declared.extents.Extent.{Extent}
-use Rattle.opfs_codec.specs.Spelling.{spelling, IsChange}
+use Rattle.opfs_codec.specs.Spelling.{IsChange}
 use Rattle.opfs_codec.specs.declared.change.Change.{Change as Spelled}
 use Rattle.opfs_codec.specs.declared.change.Format.TheVariants.{New}
-use Rattle.opfs_commit.specs.Calls.{IsOneOf, IsCommitted, IsHalted, IsSettled, IsUnsettled}
+use Rattle.opfs_commit.specs.Calls.{IsOneOf, IsCommitted, IsHalted, IsSettled, IsUnsettled, IsNext, IsNextAlone}
 use Rattle.opfs_commit.specs.Images.{Account, AreImages, committed, doubting, keeping, sure}
 use Rattle.opfs_commit.specs.Making.{IsToStore, IsKept, IsReadyFor, IsOwn, IsWhole, IsBegun, AreBeside, begun_with, told_as, new_bytes}
-use Rattle.opfs_commit.specs.Seen.{KeptBack, Committing, committing, with_kept, IsQuiet}
+use Rattle.opfs_commit.specs.Seen.{KeptBack, Committing, committing, with_kept, with_back, with_own, IsQuiet}
 use Rattle.opfs_commit.specs.Shown.{ShowsSince, ShowsEither}
 use Rattle.opfs_commit.specs.Trail.{IsTrail}
 use Rattle.opfs_data.specs.Calls.{Reads}
@@ -15,13 +15,13 @@ use Rattle.opfs_image.specs.Filling.{Stands, filled}
 use Rattle.opfs_image.specs.Superblock.{area_bytes, areas_of, data_base}
 use Rattle.opfs_image.specs.declared.geometry.Geometry.{Geometry}
 use Rattle.opfs_journal.specs.Format.{Stored, records_of}
-use Rattle.opfs_journal.specs.Seen.{Seen, Stays, kept, with_record, one_record}
+use Rattle.opfs_journal.specs.Seen.{Seen, Stays, kept, one_record}
 use Rattle.opfs_machine.specs.Changes.{Change, changed, durable, is_content, floor}
 use Rattle.opfs_machine.specs.Openings.{Opening}
 use Rattle.opfs_outside.specs.Moments.{Elapses}
 use Rattle.opfs_outside.specs.declared.disk.Disk.{Ghosts as DiskWords}
 use Rattle.opfs_replay.specs.Applying.{tried}
-use Rattle.opfs_replay.specs.Built.{Built}
+use Rattle.opfs_replay.specs.Built.{Built, IsSound}
 use Rattle.opfs_replay.specs.Sums.{charge_of}
 use Rattle.opfs_tree.specs.Rows.{IsInOrder}
 
@@ -78,17 +78,28 @@ ChangesAreKeptBack {D} w =
 abbrev pub OwnIsToStore : {D : Type 0} → DiskWords D → Type 0
 OwnIsToStore {D} w =
     (a : Account) (k : Committing D) (spelled : Spelled) (change : Change) (built : Built) → AreImages w a k → k.journal.in_doubt ≡ false → k.back.long ≡ false → IsOwn w a spelled change built k.journal
-    → IsToStore w a (change ∷ []) (with_record (kept k.journal) (k.back.bytes ++ spelling New spelled)) built k.journal
+    → IsToStore w a (change ∷ []) (with_own k spelled) built k.journal
 
 abbrev pub KeptIsToStore : {D : Type 0} → DiskWords D → Type 0
 KeptIsToStore {D} w =
     (a : Account) (k : Committing D) → AreImages w a k → k.journal.in_doubt ≡ false → k.back.long ≡ false → charge_of New a.rows + 7 ≤ area_bytes a.geometry
-    → IsToStore w a [] (with_record (kept k.journal) k.back.bytes) a.rows k.journal
+    → IsToStore w a [] (with_back k) a.rows k.journal
 
 abbrev pub WholeIsToStore : {D : Type 0} → DiskWords D → Type 0
 WholeIsToStore {D} w =
     (a : Account) (k : Committing D) (own : List Change) (body : List ℕ) (built : Built) → AreImages w a k → k.journal.in_doubt ≡ false → IsWhole w a own body built k.journal
     → IsToStore w a own (one_record k.journal.format body) built k.journal
+
+-- So are those of a commit, which writes one or the other.
+abbrev pub NextIsToStore : {D : Type 0} → DiskWords D → Type 0
+NextIsToStore {D} w =
+    (a : Account) (k : Committing D) (spelled : Spelled) (change : Change) (built : Built) (next : Stored) → AreImages w a k → k.journal.in_doubt ≡ false → IsSound a.geometry.blocks a.rows.rows → IsOwn w a spelled change built k.journal
+    → IsNext a.rows spelled k next → IsToStore w a (change ∷ []) next built k.journal
+
+abbrev pub NextAloneIsToStore : {D : Type 0} → DiskWords D → Type 0
+NextAloneIsToStore {D} w =
+    (a : Account) (k : Committing D) (next : Stored) → AreImages w a k → k.journal.in_doubt ≡ false → IsSound a.geometry.blocks a.rows.rows → charge_of New a.rows + 7 ≤ area_bytes a.geometry → IsNextAlone a.rows k next
+    → IsToStore w a [] next a.rows k.journal
 
 -- A run begins with its image.
 abbrev pub RunsBeginWithTheirImage : {D : Type 0} → DiskWords D → Type 0

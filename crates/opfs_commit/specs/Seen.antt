@@ -5,7 +5,8 @@ use Rattle.opfs_codec.specs.Spelling.{spelling}
 use Rattle.opfs_codec.specs.declared.change.Format.TheVariants.{New}
 use Rattle.opfs_codec.specs.declared.change.Change.{Change}
 use Rattle.opfs_codec.specs.declared.change.Change.TheVariants.{Content}
-use Rattle.opfs_journal.specs.Seen.{Seen}
+use Rattle.opfs_journal.specs.Format.{Stored}
+use Rattle.opfs_journal.specs.Seen.{Seen, kept, with_record}
 
 -- the spellings of the changes that are kept back, how many these are, and whether they are too long, and then not spelled;
 -- and the longest body that there is room for
@@ -22,6 +23,13 @@ pub record Committing (D : Type 0) : Type 0 where
 
 abbrev pub committing : {D : Type 0} → Seen D → KeptBack → Committing D
 committing journal back = record { journal = journal; back = back }
+
+-- What a journal keeps with a record of what is kept back more, alone and with one change more.
+abbrev pub with_back : {D : Type 0} → Committing D → Stored
+with_back k = with_record (kept k.journal) k.back.bytes
+
+abbrev pub with_own : {D : Type 0} → Committing D → Change → Stored
+with_own k own = with_record (kept k.journal) (k.back.bytes ++ spelling New own)
 
 -- Whether so many bytes more are still spelled.
 abbrev pub has_room : KeptBack → ℕ → Bool

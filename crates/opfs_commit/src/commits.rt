@@ -5,9 +5,8 @@ ghost use Rattle.opfs_codec.specs.Charges.{charge};
 ghost use Rattle.opfs_codec.specs.Fields.{plain, Fits, HasFewExtents};
 ghost use Rattle.opfs_codec.specs.Spelling.{spelling};
 ghost use Rattle.opfs_codec.specs.declared.change.Format.TheVariants.{New};
-ghost use Rattle.opfs_commit.specs.Calls.{IsCommitted, IsHalted, IsReplaced, IsNotReplaced, BuildsAfter, BuildsAll, stored_in, HasRoomAfter, HasRoomFor};
-ghost use Rattle.opfs_commit.specs.Seen.{KeptBack, committing, emptied, has_room, with_kept, IsQuiet};
-ghost use Rattle.opfs_journal.specs.Seen.{kept, with_record};
+ghost use Rattle.opfs_commit.specs.Calls.{IsCommitted, IsHalted, IsReplaced, IsNotReplaced, IsAnyOf, IsNoneOf, IsNext, IsNextAlone, BuildsAfter, BuildsAll, stored_in, HasRoomAfter, HasRoomFor};
+ghost use Rattle.opfs_commit.specs.Seen.{KeptBack, committing, emptied, has_room, with_back, with_kept, with_own, IsQuiet};
 ghost use Rattle.opfs_outside.specs.Faults.{Rose};
 
 use crate::records::{add_record, put_record};
@@ -95,6 +94,61 @@ impl Commits {
         self.count += 1;
     }
 
+    /// Commits a change with what is kept back: by a record more, or where that has no room, by a snapshot of what a tree
+    /// and a shed store after the change in the place of all records. The tree and the shed have what is kept back. Neither
+    /// has room where the charge of what is built, with a record's 7 bytes, passes the room or the area, or where something
+    /// has no spelling.
+    pub fn commit<D: Disk>(
+        &mut self,
+        journal: &mut Journal<D>,
+        tree: &Tree,
+        shed: &Shed,
+        own: &ChangeRef<'_>,
+    ) -> Result<(), JournalRefusal>
+        requires settled { journal.old.in_doubt ≡ false }
+        requires spare { self.old.room ≤ journal.old.spare }
+        requires fits { Fits (plain own.now) }
+        ensures committed { OnOk result (IsAnyOf D.Disk (IsNext (stored_in tree.now shed.now) (plain own.now) (committing journal.old self.old)) (committing journal.old self.old) (committing journal.new self.new)) }
+        ensures halted { IsErrOf result JournalRefusal.DiskFault → IsNoneOf D.Disk (IsNext (stored_in tree.now shed.now) (plain own.now) (committing journal.old self.old)) (committing journal.old self.old) (committing journal.new self.new) }
+        ensures unchanged { IsErrOf result JournalRefusal.NoRoom → (journal.new ≡ journal.old) × (self.new ≡ self.old) }
+        ensures no_room { IsErrOf result JournalRefusal.NoRoom → (size most : ℕ) → HasRoomAfter size most tree.now shed.now (plain own.now) → (self.old.room < most) ⊎ (journal.old.areas.bytes < most + 7) }
+        ensures cause { IsErrOf result JournalRefusal.DiskFault → Rose (D.faults journal.old.disk) (D.faults journal.new.disk) }
+    {
+        match self.add(journal, own) {
+            Ok(()) => Ok(()),
+            Err(JournalRefusal::DiskFault) => Err(JournalRefusal::DiskFault),
+            Err(JournalRefusal::NoRoom) => match self.replace(journal, tree, shed, own) {
+                Ok(()) => Ok(()),
+                Err(refusal) => Err(refusal),
+            },
+        }
+    }
+
+    /// Commits what is kept back alone, in the same way.
+    pub fn commit_kept<D: Disk>(
+        &mut self,
+        journal: &mut Journal<D>,
+        tree: &Tree,
+        shed: &Shed,
+    ) -> Result<(), JournalRefusal>
+        requires settled { journal.old.in_doubt ≡ false }
+        requires spare { self.old.room ≤ journal.old.spare }
+        ensures committed { OnOk result (IsAnyOf D.Disk (IsNextAlone (stored_in tree.now shed.now) (committing journal.old self.old)) (committing journal.old self.old) (committing journal.new self.new)) }
+        ensures halted { IsErrOf result JournalRefusal.DiskFault → IsNoneOf D.Disk (IsNextAlone (stored_in tree.now shed.now) (committing journal.old self.old)) (committing journal.old self.old) (committing journal.new self.new) }
+        ensures unchanged { IsErrOf result JournalRefusal.NoRoom → (journal.new ≡ journal.old) × (self.new ≡ self.old) }
+        ensures no_room { IsErrOf result JournalRefusal.NoRoom → (size most : ℕ) → HasRoomFor size most tree.now shed.now → (self.old.room < most) ⊎ (journal.old.areas.bytes < most + 7) }
+        ensures cause { IsErrOf result JournalRefusal.DiskFault → Rose (D.faults journal.old.disk) (D.faults journal.new.disk) }
+    {
+        match self.add_kept(journal) {
+            Ok(()) => Ok(()),
+            Err(JournalRefusal::DiskFault) => Err(JournalRefusal::DiskFault),
+            Err(JournalRefusal::NoRoom) => match self.replace_kept(journal, tree, shed) {
+                Ok(()) => Ok(()),
+                Err(refusal) => Err(refusal),
+            },
+        }
+    }
+
     /// Writes a record of what is kept back with one change more. It has no room where what is kept back is too long, or
     /// with the charge of the change longer than there is room for, or where the record with the next gate passes the
     /// area's end.
@@ -106,8 +160,9 @@ impl Commits {
         requires settled { journal.old.in_doubt ≡ false }
         requires spare { self.old.room ≤ journal.old.spare }
         requires fits { Fits (plain own.now) }
-        ensures committed { OnOk result (IsCommitted D.Disk (with_record (kept journal.old) (self.old.bytes ++ spelling New (plain own.now))) (committing journal.old self.old) (committing journal.new self.new)) }
-        ensures halted { IsErrOf result JournalRefusal.DiskFault → IsHalted D.Disk (with_record (kept journal.old) (self.old.bytes ++ spelling New (plain own.now))) (committing journal.old self.old) (committing journal.new self.new) }
+        ensures committed { OnOk result (IsCommitted D.Disk (with_own (committing journal.old self.old) (plain own.now)) (committing journal.old self.old) (committing journal.new self.new)) }
+        ensures halted { IsErrOf result JournalRefusal.DiskFault → IsHalted D.Disk (with_own (committing journal.old self.old) (plain own.now)) (committing journal.old self.old) (committing journal.new self.new) }
+        ensures long { self.old.long ≡ true → IsErrOf result JournalRefusal.NoRoom }
         ensures unchanged { IsErrOf result JournalRefusal.NoRoom → (journal.new ≡ journal.old) × (self.new ≡ self.old) }
         ensures no_room { IsErrOf result JournalRefusal.NoRoom → HasFewExtents (plain own.now) → (has_room self.old (charge (plain own.now)) ≡ false) ⊎ (journal.old.areas.bytes < journal.old.tail + length (self.old.bytes ++ spelling New (plain own.now)) + 6) }
         ensures cause { IsErrOf result JournalRefusal.DiskFault → Rose (D.faults journal.old.disk) (D.faults journal.new.disk) }
@@ -131,9 +186,9 @@ impl Commits {
     pub fn add_kept<D: Disk>(&mut self, journal: &mut Journal<D>) -> Result<(), JournalRefusal>
         requires settled { journal.old.in_doubt ≡ false }
         requires spare { self.old.room ≤ journal.old.spare }
-        ensures committed { OnOk result (IsCommitted D.Disk (with_record (kept journal.old) self.old.bytes) (committing journal.old self.old) (committing journal.new self.new)) }
-        ensures halted { IsErrOf result JournalRefusal.DiskFault → IsHalted D.Disk (with_record (kept journal.old) self.old.bytes) (committing journal.old self.old) (committing journal.new self.new) }
-        ensures short { OnOk result (self.old.long ≡ false) }
+        ensures committed { OnOk result (IsCommitted D.Disk (with_back (committing journal.old self.old)) (committing journal.old self.old) (committing journal.new self.new)) }
+        ensures halted { IsErrOf result JournalRefusal.DiskFault → IsHalted D.Disk (with_back (committing journal.old self.old)) (committing journal.old self.old) (committing journal.new self.new) }
+        ensures long { self.old.long ≡ true → IsErrOf result JournalRefusal.NoRoom }
         ensures unchanged { IsErrOf result JournalRefusal.NoRoom → (journal.new ≡ journal.old) × (self.new ≡ self.old) }
         ensures no_room { IsErrOf result JournalRefusal.NoRoom → (self.old.long ≡ true) ⊎ (journal.old.areas.bytes < journal.old.tail + length self.old.bytes + 6) }
         ensures cause { IsErrOf result JournalRefusal.DiskFault → Rose (D.faults journal.old.disk) (D.faults journal.new.disk) }
@@ -213,6 +268,7 @@ impl Commits {
     fn spell_own(&mut self, own: &ChangeRef<'_>) -> Result<(), JournalRefusal>
         requires fits { Fits (plain own.now) }
         ensures ok { OnOk result (self.new ≡ record self.old { bytes = self.old.bytes ++ spelling New (plain own.now) }) }
+        ensures short { OnOk result (self.old.long ≡ false) }
         ensures err { OnErr result (self.new ≡ self.old) }
         ensures no_room { IfErr result (λ refusal. refusal ≡ JournalRefusal.NoRoom) }
         ensures room { OnErr result (HasFewExtents (plain own.now) → has_room self.old (charge (plain own.now)) ≡ false) }

@@ -1,7 +1,7 @@
 //! Laws of the images that a crash may leave while changes are committed.
 
 ghost use Rattle.opfs_commit.specs.Laws.{ImagesShowFronts, RecordsAreDurable, RecordsMayBeInDoubt, RecordsShowFronts, DoubtsEnd, DoubtsMayStay, DoubtsNeedAGate, EndsShowFronts, FailedEndsShowFronts};
-ghost use Rattle.opfs_commit.specs.Laws.{ChangesAreKeptBack, OwnIsToStore, KeptIsToStore, WholeIsToStore, RunsBeginWithTheirImage, RowsHoldWhatWasTold, ContentsStand};
+ghost use Rattle.opfs_commit.specs.Laws.{ChangesAreKeptBack, OwnIsToStore, KeptIsToStore, WholeIsToStore, NextIsToStore, NextAloneIsToStore, RunsBeginWithTheirImage, RowsHoldWhatWasTold, ContentsStand};
 ghost use Rattle.opfs_commit.specs.Laws.{ReadsLeaveImages, ReadsShowFronts, PagesBesideLeaveImages, PagesBesideShowFronts, MomentsFollow, MomentsFollowADoubt, MomentsGoOn, TrailsBegin, TrailsGoOn, TrailsGrowKept, TrailsGrowCommitted, ChangesGoThroughFilling, QuietChangesMayBeKept};
 
 use opfs_outside::Disk;
@@ -42,6 +42,8 @@ pub fn records_are_to_be_stored<D: Disk>()
     ensures with_own { D.tells → OwnIsToStore D.Disk }
     ensures kept_back { D.tells → KeptIsToStore D.Disk }
     ensures from_nothing { D.tells → WholeIsToStore D.Disk }
+    ensures next { D.tells → NextIsToStore D.Disk }
+    ensures next_alone { D.tells → NextAloneIsToStore D.Disk }
 {}
 
 /// What the present rows hold, and what a content with the journal's records stands for.

@@ -7,22 +7,18 @@ use Rattle.std.specs.FinMap.Entries.{by_order}
 use Rattle.std.specs.Ordering.{is_eq}
 use Rattle.std.specs.declared.cmp.Ordering.{Ordering}
 use Rattle.std.specs.declared.cmp.Ordering.TheVariants.{Less, Equal, Greater}
-use Rattle.std.specs.Cmp.{IsTotalOrder}
-use Rattle.std.specs.Cmp.Lexicographic.{nat_list_cmp_total, texts_ties}
+use Rattle.std.specs.Cmp.Lexicographic.{texts_ties}
 use Rattle.std.proofs.lemmas.Bool.{true≢false, false≢true}
 use Rattle.std.proofs.lemmas.List.Sums.{sum_by-cons}
 use Rattle.opfs_base.specs.Texts.{Text, same_text}
 use Rattle.opfs_machine.specs.Ordered.{insert_by}
 use Rattle.opfs_shed.specs.declared.shed.Bucket.{Bucket}
 use Rattle.opfs_shed.specs.Buckets.{Buckets, text_cmp, is_unit, bucket_at, first_bucket}
-use Rattle.opfs_tree.proofs.Orders.{exact_texts}
+use Rattle.opfs_tree.proofs.Orders.{exact_texts, text_total}
 use Rattle.opfs_replay.specs.Sums.{persistent_in}
 use Rattle.opfs_snapshot.proofs.Ordered.{AllPast, keys, past_persistent}
 
-text_total : IsTotalOrder text_cmp
-text_total = nat_list_cmp_total
-
-equal_is : (o : Ordering) → is_eq o ≡ true → o ≡ Equal
+pub equal_is : (o : Ordering) → is_eq o ≡ true → o ≡ Equal
 equal_is Less h = absurd (false≢true h)
 equal_is Equal h = refl
 equal_is Greater h = absurd (false≢true h)

@@ -76,7 +76,7 @@ module _ (size : ℕ) (place : Place) (len stamp : ℕ) (extents : List Extent) 
 abbrev pub built : Rows → List Text → Built
 built rows units = record { rows = rows; persistent = units }
 
-told_by : (t : Bool) (x y : Built) → (if t then Some x else None) ≡ Some y → (t ≡ true) × (x ≡ y)
+pub told_by : (t : Bool) (x y : Built) → (if t then Some x else None) ≡ Some y → (t ≡ true) × (x ≡ y)
 told_by true x y h = (refl, cc)
 told_by false x y h = absurd cc
 

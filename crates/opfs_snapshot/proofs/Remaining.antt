@@ -17,6 +17,7 @@ use Rattle.opfs_tree.specs.declared.row.Row.{Row}
 use Rattle.opfs_tree.specs.declared.row.Row.TheVariants as row
 use Rattle.opfs_tree.proofs.Closed.{closed_without, closed_change, order_change, exact_places}
 use Rattle.opfs_snapshot.specs.After.{leaves_out, given, row_with, rows_after}
+use Rattle.opfs_snapshot.proofs.Modes.{equal_is}
 use Rattle.opfs_snapshot.specs.Written.{stored_row, stored_rows}
 
 -- The rows without what a change takes out, and with the content that it gives.
@@ -51,11 +52,6 @@ less_not : (o : Ordering) → is_lt o ≡ true → is_eq o ≡ false
 less_not Less h = refl
 less_not Equal h = absurd cc
 less_not Greater h = absurd cc
-
-equal_is : (o : Ordering) → is_eq o ≡ true → o ≡ Equal
-equal_is Less h = absurd cc
-equal_is Equal h = refl
-equal_is Greater h = absurd cc
 
 module _ (place : Place) (f : FileRow) where
   abbrev at_place : Place → Option FileRow

@@ -2,7 +2,7 @@ use Rattle.std.proofs.Common.{◌≡◌, true, sym, ◌∙◌, arith}
 use Rattle.opfs_codec.specs.Charges.{charge}
 use Rattle.opfs_codec.specs.Fields.{plain}
 use Rattle.opfs_commit.specs.Seen.{KeptBack, has_room}
-use Rattle.opfs_commit.proofs.Spelling.{spelled_room}
+use Rattle.opfs_commit.proofs.Spelling.{room_is, spelled_room}
 use Rattle.opfs_commit.proofs.commits.Commits.spell_own.Goals as goal
 
 pub returns-then-len-self-clause-room : goal.returns-then-len-self-clause-room
@@ -16,3 +16,8 @@ returns-then-len-self-clause-room c few =
       c.write.new.into.ok.0,
       spelled_room (record { bytes = c.self.inside.bytes.items; count = c.self.inside.count; long = c.self.inside.long; room = c.self.inside.room }) (plain c.args.own.now) c.write.new.into.items (rw (← c.self.view_is) at room) few c.in-Ok.ensures.written,
     ))
+
+pub returns-clause-short : goal.returns-clause-short
+returns-clause-short c =
+    let k : KeptBack = c.args.self.now in
+    (room_is k (charge (plain c.args.own.now)) (sym c.has_room.ensures ∙ c.if-not-has_room.false)).0
