@@ -1,6 +1,6 @@
 //! The pages of an open row, in blocks.
 
-ghost use Rattle.std.specs.Prelude.{◌≡◌, ◌+◌, ◌*◌, ◌^◌, ◌<◌, ◌≤◌, ℕ, List, None, false, length, is_some, count_by, slice_index_or, IfOk, OnOk, OnErr, IsErrOf, MatchOption};
+ghost use Rattle.std.specs.Prelude.{◌≡◌, ◌+◌, ◌*◌, ◌^◌, ◌<◌, ◌≤◌, ℕ, List, None, false, length, is_some, IsTrue, count_by, slice_index_or, IfOk, OnOk, OnErr, IsErrOf, MatchOption};
 ghost use Rattle.std.specs.List.{AllByRecursion};
 ghost use Rattle.opfs_outside.specs.Faults.{Rose};
 ghost use Rattle.opfs_data.specs.Calls.{Reads, Writes};
@@ -96,6 +96,16 @@ impl PagedRow {
         ensures { result ≡ (slice_index_or self.now.pages page blank).block }
     {
         self.pages[page as usize].block
+    }
+
+    /// Whether nothing is stored of a page: it has neither a block nor kept bytes, or is not there.
+    pub fn is_blank(&self, page: u64) -> bool
+        ensures { IsTrue result → slice_index_or self.now.pages page blank ≡ blank }
+    {
+        match self.pages.get(page as usize) {
+            Some(page) => page.block.is_none() && page.kept.is_none(),
+            None => true,
+        }
     }
 
     /// Reads a page: the bytes that are kept of it, or those of its block, or zeros. Block 0 begins at byte `base` of the

@@ -1,6 +1,6 @@
 //! The pages of all open rows, in blocks.
 
-ghost use Rattle.std.specs.Prelude.{◌≡◌, ◌+◌, ◌*◌, ◌-◌, ◌^◌, ◌<◌, ◌≤◌, ℕ, List, [], ◌∷◌, None, Some, true, false, length, min, is_some, slice_index_or, IfOk, OnOk, OnErr, IsErrOf, IfSome, IfNone, MatchOption, option_map};
+ghost use Rattle.std.specs.Prelude.{◌≡◌, ◌+◌, ◌*◌, ◌-◌, ◌^◌, ◌<◌, ◌≤◌, ℕ, List, [], ◌∷◌, None, Some, true, false, length, min, is_some, slice_index_or, IfOk, OnOk, OnErr, IsErrOf, IfSome, IfNone, IsTrue, MatchOption, option_map};
 ghost use Rattle.std.specs.List.{AllByRecursion, slice_get};
 ghost use Rattle.opfs_outside.specs.Faults.{Rose};
 ghost use Rattle.opfs_data.specs.Calls.{Reads, Writes};
@@ -108,6 +108,16 @@ impl Swap {
                 .rows
                 .range((Bound::Excluded(&key), Bound::Unbounded))
                 .next(),
+        }
+    }
+
+    /// Whether nothing is stored of a page: it has neither a block nor kept bytes, or is not there. Takes no memory.
+    pub fn is_blank(&self, agent: u32, row: u32, page: u64) -> bool
+        ensures { IsTrue result → page_at agent row page self.now ≡ blank }
+    {
+        match self.rows.get(&(agent, row)) {
+            Some(found) => found.is_blank(page),
+            None => true,
         }
     }
 

@@ -1,3 +1,5 @@
 pub mod PageBytes
 pub mod Named
+pub mod Steps
+pub mod Rest
 pub mod Left

@@ -6,8 +6,9 @@ use Rattle.opfs_splice.specs.Splicing.{splice}
 use Rattle.opfs_data.specs.Pages.{NamesPage}
 use Rattle.opfs_data.specs.Writes.{PageWrite, WriteList, Run, run_pages, run_writes, writes_of, page_writes, page_moves}
 use Rattle.opfs_data.proofs.WriteLemmas.{all_append, writes_push}
-use Rattle.opfs_work.proofs.Laws.{splice_inside}
+use Rattle.opfs_work.proofs.Laws.{splice_inside, resize_at}
 use Rattle.opfs_pages.specs.Copies.{IsPageOf, IsNamed, IsRight, AreRight}
+use Rattle.opfs_pages.specs.Stages.{changed}
 
 pub names_left : (xs ys : List PageWrite) (p : ℕ) → NamesPage xs p → NamesPage (xs ++ ys) p
 names_left [] ys p named = absurd named
@@ -17,7 +18,7 @@ pub names_right : (xs ys : List PageWrite) (p : ℕ) → NamesPage ys p → Name
 names_right [] ys p named = named
 names_right (x ∷ xs) ys p named = inr (names_right xs ys p named)
 
-names_run : (bytes : List ℕ) (page block from n p : ℕ) → page ≤ p → p < page + n → NamesPage (run_pages bytes page block from n) p
+pub names_run : (bytes : List ℕ) (page block from n p : ℕ) → page ≤ p → p < page + n → NamesPage (run_pages bytes page block from n) p
 names_run bytes page block from zero p above below = absurd (omega arith)
 names_run bytes page block from (suc n) p above below = elim (cases_lt page p) [
   | inl over ↦ inr (names_run bytes (page + 1) (block + 1) (from + 4096) n p (omega arith) (omega arith))
@@ -64,16 +65,16 @@ right_move row given w w' more moves writes new old = record {
 }
 
 -- pages that a write covers whole have the bytes of the call
-pub run_right : (old given : List ℕ) (at page block from n : ℕ) → at ≤ 4096 * page → from ≡ 4096 * page - at → 4096 * (page + n) ≤ at + length given → AreRight (splice old at given) (run_pages given page block from n)
-run_right old given at page block from zero begins from_is ends = tt
-run_right old given at page block from (suc n) begins from_is ends = (
+pub run_right : (old given : List ℕ) (at page block from n size : ℕ) → at ≤ 4096 * page → from ≡ 4096 * page - at → 4096 * (page + n) ≤ at + length given → 4096 * (page + n) ≤ size → AreRight (changed old at given size) (run_pages given page block from n)
+run_right old given at page block from zero size begins from_is ends stays = tt
+run_right old given at page block from (suc n) size begins from_is ends stays = (
   record {
     size = omega (arith, length-take 4096 (drop from given), length-drop from given);
     at = λ k below.
         get_or-take 4096 (drop from given) k 0 below ∙ get_or-drop from given k 0 ∙ ap (slice_index given) (omega arith)
-        ∙ sym (splice_inside old at given (4096 * page + k) (omega arith) (omega arith));
+        ∙ sym (resize_at (splice old at given) size (4096 * page + k) (omega arith) ∙ splice_inside old at given (4096 * page + k) (omega arith) (omega arith));
   },
-  run_right old given at (page + 1) (block + 1) (from + 4096) n (omega arith) (omega arith) (omega arith),
+  run_right old given at (page + 1) (block + 1) (from + 4096) n size (omega arith) (omega arith) (omega arith) (omega arith),
 )
 
 pub given_write : (w w' : WriteList) (given : List ℕ) (r : Run) → w'.runs ≡ w.runs ++ r ∷ [] → w'.own ≡ w.own → page_writes w' given ≡ page_writes w given ++ run_writes w.own given r

@@ -1,5 +1,5 @@
 -- What a working copy and the pages that the store has of it say of a row's bytes. This project's own.
-use Rattle.std.specs.Prelude.{◌≡◌, ◌⊎◌, ℕ, ◌+◌, ◌*◌, ◌<◌, true, List, length, slice_index, slice_index_or}
+use Rattle.std.specs.Prelude.{◌≡◌, ◌⊎◌, ℕ, ◌+◌, ◌*◌, ◌<◌, ◌++◌, true, Option, Some, None, List, length, slice_index, slice_index_or}
 use Rattle.std.specs.List.{AllByRecursion}
 use Rattle.opfs_data.specs.declared.page.Page.{Page}
 use Rattle.opfs_data.specs.Writes.{PageWrite, WriteList, page_writes, page_moves}
@@ -37,6 +37,15 @@ pub record HasFar (work : WorkingCopy) (base end : ℕ) (pages : List Page) : Ty
 -- the page is one of those that are to be written, in its block or in one that it gets later
 abbrev pub IsNamed : WriteList → List ℕ → ℕ → Type 0
 IsNamed w given page = NamesPage (page_writes w given) page ⊎ NamesPage (page_moves w given) page
+
+-- The list has these pages more, with their blocks, or, where they have none yet, among those that get one later.
+abbrev pub HasMore : Option ℕ → List PageWrite → WriteList → WriteList → List ℕ → Type 0
+HasMore (Some block) more old new given = (page_writes new given ≡ page_writes old given ++ more) × (page_moves new given ≡ page_moves old given)
+HasMore None more old new given = (page_writes new given ≡ page_writes old given) × (page_moves new given ≡ page_moves old given ++ more)
+
+-- the list has the same pages
+abbrev pub HasSame : WriteList → WriteList → List ℕ → Type 0
+HasSame old new given = (page_writes new given ≡ page_writes old given) × (page_moves new given ≡ page_moves old given)
 
 -- each page that is to be written has the row's bytes
 abbrev pub AreRight : List ℕ → List PageWrite → Type 0

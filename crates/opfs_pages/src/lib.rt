@@ -2,13 +2,16 @@
 #![tactic(auto)]
 
 mod bytes;
+mod calls;
 mod laws;
 mod leaving;
 mod reading;
+mod stages;
 mod staging;
 
 pub use bytes::{cut_page, overlay};
-pub use laws::untouched_pages_go_on;
+pub use calls::{stage_content, stage_size, stage_write};
+pub use laws::{a_call_changes_as_it_says, pages_at_rest_go_on, untouched_pages_go_on};
 pub use leaving::{leave_size, leave_write};
 pub use reading::read_page;
 pub use staging::{stage_page, stage_whole};

@@ -1,15 +1,15 @@
 // Pages of a row as a write leaves them, with all memory and reads before anything changes.
-ghost use Rattle.std.specs.Prelude.{◌≡◌, ◌⊎◌, ℕ, ◌+◌, ◌*◌, ◌^◌, ◌<◌, ◌≤◌, true, Some, List, length, OnOk, OnErr, IsErrOf};
+ghost use Rattle.std.specs.Prelude.{◌≡◌, ◌⊎◌, ℕ, ◌+◌, ◌-◌, ◌*◌, ◌^◌, ◌<◌, ◌≤◌, true, Some, [], ◌∷◌, unwrap_or, List, length, OnOk, OnErr, IsErrOf};
 ghost use Rattle.opfs_outside.specs.Faults.{Rose};
-ghost use Rattle.opfs_splice.specs.Splicing.{splice};
 ghost use Rattle.opfs_data.specs.Calls.{Reads};
 ghost use Rattle.opfs_data.specs.Pages.{page_of, LiesIn, IsDataPart};
 ghost use Rattle.opfs_data.specs.Rows.{pages_at, page_at as swap_page};
-ghost use Rattle.opfs_data.specs.Writes.{HasBytes};
+ghost use Rattle.opfs_data.specs.Writes.{HasBytes, run_pages};
 ghost use Rattle.opfs_work.specs.Pages.{page_at, is_far};
-ghost use Rattle.opfs_pages.specs.Copies.{IsPageOf, IsCopy, IsHeld, IsNamed, IsRight};
+ghost use Rattle.opfs_pages.specs.Copies.{IsPageOf, IsCopy, IsHeld, IsNamed, IsRight, HasMore, HasSame};
+ghost use Rattle.opfs_pages.specs.Stages.{changed};
 
-use crate::bytes::overlay;
+use crate::bytes::{cut_page, overlay};
 use crate::reading::read_page;
 use opfs_data::{DataRefusal, PageWrites, Swap};
 use opfs_journal::{DiskFault, Journal};
@@ -20,8 +20,9 @@ use std::alloc::AllocError;
 // The bytes of a page.
 const PAGE: u64 = 4096;
 
-/// Adds a page of a row, as a write at a position leaves it, to those that are to be written: into a block, or into one that
-/// it gets later. The page's bytes are put together in a buffer. All memory and all reads come before the list changes.
+/// Adds a page of a row, as a write at a position and then a new size leave it, to those that are to be written: into a block,
+/// or into one that it gets later. The page's bytes are put together in a buffer. All memory and all reads come before the list
+/// changes; where one of them fails the list has the same pages.
 pub fn stage_page<D: Disk>(
     work: &Work,
     swap: &Swap,
@@ -32,6 +33,7 @@ pub fn stage_page<D: Disk>(
     page: u64,
     at: u64,
     given: &[u8],
+    size: u64,
     block: Option<u32>,
     buffer: &mut [u8],
     writes: &mut PageWrites,
@@ -45,14 +47,17 @@ pub fn stage_page<D: Disk>(
     ensures reads { Reads D.Disk journal.old journal.new }
     ensures right { OnOk result (D.tells → (bytes : List ℕ) → IsCopy bytes work.now
         → IsHeld bytes work.now page (page_of (D.content journal.old.disk) base (swap_page agent row page swap.now))
-        → IsRight (splice bytes at given.now) writes.old given.now → IsRight (splice bytes at given.now) writes.new given.now) }
+        → IsRight (changed bytes at given.now size) writes.old given.now → IsRight (changed bytes at given.now size) writes.new given.now) }
     ensures named { OnOk result ((p : ℕ) → (p ≡ page) ⊎ IsNamed writes.old given.now p → IsNamed writes.new given.now p) }
     ensures bytes { OnOk result (HasBytes writes.old given.now → HasBytes writes.new given.now) }
+    ensures added { OnOk result (HasMore block ((record { page = page; block = unwrap_or block 0; bytes = buffer.new }) ∷ []) writes.old writes.new given.now) }
+    ensures same { OnErr result (HasSame writes.old writes.new given.now) }
     ensures buffer { length buffer.new ≡ 4096 }
     ensures cause { IsErrOf result DataRefusal.DiskFault → Rose (D.faults journal.old.disk) (D.faults journal.new.disk) }
 {
     fill_page(work, swap, journal, base, agent, row, page, buffer)?;
     overlay(buffer, page, at, given);
+    cut_page(buffer, page, size);
     add_page(writes, page, block, buffer)?;
     Ok(())
 }
@@ -98,6 +103,8 @@ fn add_page(
     ensures right { OnOk result ((row given : List ℕ) → IsPageOf row page bytes.now → IsRight row writes.old given → IsRight row writes.new given) }
     ensures named { OnOk result ((given : List ℕ) (p : ℕ) → (p ≡ page) ⊎ IsNamed writes.old given p → IsNamed writes.new given p) }
     ensures bytes { OnOk result ((given : List ℕ) → HasBytes writes.old given → HasBytes writes.new given) }
+    ensures added { OnOk result ((given : List ℕ) → HasMore block ((record { page = page; block = unwrap_or block 0; bytes = bytes.now }) ∷ []) writes.old writes.new given) }
+    ensures same { OnErr result ((given : List ℕ) → HasSame writes.old writes.new given) }
 {
     match block {
         Some(block) => writes.add_own(page, block, bytes)?,
@@ -107,12 +114,13 @@ fn add_page(
 }
 
 /// Adds pages that a write covers whole, with the bytes of the call themselves: no read and no copy. They go into blocks from
-/// one on, or into ones that they get later.
+/// one on, or into ones that they get later. Where there is no memory the list has the same pages.
 pub fn stage_whole(
     page: u64,
     count: u32,
     at: u64,
     given: &[u8],
+    size: u64,
     block: Option<u32>,
     writes: &mut PageWrites,
 ) -> Result<(), AllocError>
@@ -120,11 +128,15 @@ pub fn stage_whole(
     requires begins { at ≤ 4096 * page }
     requires ends { 4096 * (page + count) ≤ at + length given.now }
     requires end { at + length given.now < 2 ^ 63 }
+    requires stays { 4096 * (page + count) ≤ size }
     requires blocks { (b : ℕ) → block ≡ Some b → b + count ≤ 2 ^ 32 }
-    ensures right { OnOk result ((old : List ℕ) → IsRight (splice old at given.now) writes.old given.now → IsRight (splice old at given.now) writes.new given.now) }
+    ensures right { OnOk result ((old : List ℕ) → IsRight (changed old at given.now size) writes.old given.now → IsRight (changed old at given.now size) writes.new given.now) }
     ensures named { OnOk result ((p : ℕ) → ((page ≤ p) × (p < page + count)) ⊎ IsNamed writes.old given.now p → IsNamed writes.new given.now p) }
     ensures bytes { OnOk result (HasBytes writes.old given.now → HasBytes writes.new given.now) }
+    ensures added { OnOk result (HasMore block (run_pages given.now page (unwrap_or block 0) (4096 * page - at) count) writes.old writes.new given.now) }
+    ensures same { OnErr result (HasSame writes.old writes.new given.now) }
 {
+    let _ = size;
     let from = page * PAGE - at;
     match block {
         Some(block) => writes.add(page, count, block, from)?,
