@@ -1,5 +1,6 @@
 pub mod PageBytes
 pub mod Named
 pub mod Steps
+pub mod Parts
 pub mod Rest
 pub mod Left

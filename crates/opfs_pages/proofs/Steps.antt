@@ -57,8 +57,8 @@ stages_read tells s content from to w v same is = record {
     | inl named ↦ inl named
     | inr rest ↦ inr (record { stored = rest.stored; spared = record { unwritten = rest.spared.unwritten; whole = rest.spared.whole }; block = rest.block })
   ];
-  planned = λ p. let q = is.planned (record { stay = p.stay; move = p.move; stay_once = p.stay_once; move_once = p.move_once; before = p.before }) in
-      record { stay = q.stay; move = q.move; stay_once = q.stay_once; move_once = q.move_once; before = q.before };
+  planned = λ p. let q = is.planned (record { blocks = p.blocks; none = p.none; stay_once = p.stay_once; move_once = p.move_once; within = p.within }) in
+      record { blocks = q.blocks; none = q.none; stay_once = q.stay_once; move_once = q.move_once; within = q.within };
 }
 
 -- pages that are at rest
@@ -68,7 +68,7 @@ stages_rest tells s from to w order rest = record {
   bytes = λ is. is;
   named = λ i is. is;
   known = λ i above below. inr (rest i above below);
-  planned = λ p. record { stay = p.stay; move = p.move; stay_once = p.stay_once; move_once = p.move_once; before = λ i named. omega (arith, order, p.before i named) };
+  planned = λ p. record { blocks = p.blocks; none = p.none; stay_once = p.stay_once; move_once = p.move_once; within = λ i named. omega (arith, order, p.within i named) };
 }
 
 pub one_rest : (tells : Type 0) (s : Stage) (page : ℕ) (w : WriteList) → IsAtRest s page → Stages tells s page (page + 1) w w
@@ -136,29 +136,29 @@ module _ (s : Stage) (more : List PageWrite) (page end : ℕ) (w v : WriteList) 
   named_new (Some x) has i new = inl (subst (λ (l : List PageWrite). NamesPage l i) (sym has.0) (names_right (page_writes w s.given) more i new))
 
   stays : (block : Option ℕ) → HasMore block more w v s.given → AreNext s block more page end → IsPlanned s page w → (i b : ℕ) → Writes (page_writes v s.given) i b → own_block s.own s.swap s.agent s.row i ≡ Some b
-  stays None has next plan i b is = plan.stay i b (subst (λ (l : List PageWrite). Writes l i b) has.0 is)
+  stays None has next plan i b is = plan.blocks i b (subst (λ (l : List PageWrite). Writes l i b) has.0 is)
   stays (Some x) has next plan i b is = elim (writes_either (page_writes w s.given) more i b (subst (λ (l : List PageWrite). Writes l i b) has.0 is)) [
-    | inl old ↦ plan.stay i b old
+    | inl old ↦ plan.blocks i b old
     | inr new ↦ next.stay x refl i b new
   ]
 
   moves : (block : Option ℕ) → HasMore block more w v s.given → AreNext s block more page end → IsPlanned s page w → (i : ℕ) → NamesPage (page_moves v s.given) i → own_block s.own s.swap s.agent s.row i ≡ None
   moves None has next plan i is = elim (names_either (page_moves w s.given) more i (subst (λ (l : List PageWrite). NamesPage l i) has.1 is)) [
-    | inl old ↦ plan.move i old
+    | inl old ↦ plan.none i old
     | inr new ↦ next.move refl i new
   ]
-  moves (Some x) has next plan i is = plan.move i (subst (λ (l : List PageWrite). NamesPage l i) has.1 is)
+  moves (Some x) has next plan i is = plan.none i (subst (λ (l : List PageWrite). NamesPage l i) has.1 is)
 
   stay_once : (block : Option ℕ) → HasMore block more w v s.given → AreNext s block more page end → IsPlanned s page w → IsDistinct nat_eq (pages_of (page_writes v s.given))
   stay_once None has next plan = subst (λ (l : List PageWrite). IsDistinct nat_eq (pages_of l)) (sym has.0) plan.stay_once
   stay_once (Some x) has next plan =
       subst (λ (l : List PageWrite). IsDistinct nat_eq (pages_of l)) (sym has.0)
-      (once_both (page_writes w s.given) more page plan.stay_once next.once (λ i named. plan.before i (inl named)) (λ i named. (next.inside i named).0))
+      (once_both (page_writes w s.given) more page plan.stay_once next.once (λ i named. plan.within i (inl named)) (λ i named. (next.inside i named).0))
 
   move_once : (block : Option ℕ) → HasMore block more w v s.given → AreNext s block more page end → IsPlanned s page w → IsDistinct nat_eq (pages_of (page_moves v s.given))
   move_once None has next plan =
       subst (λ (l : List PageWrite). IsDistinct nat_eq (pages_of l)) (sym has.1)
-      (once_both (page_moves w s.given) more page plan.move_once next.once (λ i named. plan.before i (inr named)) (λ i named. (next.inside i named).0))
+      (once_both (page_moves w s.given) more page plan.move_once next.once (λ i named. plan.within i (inr named)) (λ i named. (next.inside i named).0))
   move_once (Some x) has next plan = subst (λ (l : List PageWrite). IsDistinct nat_eq (pages_of l)) (sym has.1) plan.move_once
 
   pub stages_added : (tells : Type 0) (block : Option ℕ) → HasMore block more w v s.given → AreNext s block more page end
@@ -170,12 +170,12 @@ module _ (s : Stage) (more : List PageWrite) (page end : ℕ) (w v : WriteList) 
     named = named_old block has;
     known = λ i above below. inl (named_new block has i (next.all i above below));
     planned = λ plan. record {
-      stay = stays block has next plan;
-      move = moves block has next plan;
+      blocks = stays block has next plan;
+      none = moves block has next plan;
       stay_once = stay_once block has next plan;
       move_once = move_once block has next plan;
-      before = λ i named. elim (named_either block has i named) [
-        | inl old ↦ omega (arith, plan.before i old, next.some)
+      within = λ i named. elim (named_either block has i named) [
+        | inl old ↦ omega (arith, plan.within i old, next.some)
         | inr new ↦ (next.inside i new).1
       ];
     };
@@ -279,11 +279,11 @@ none_planned s w runs moves =
     let writes : page_writes w s.given ≡ [] = ap (λ (rs : List Run). writes_of w.own s.given rs) runs in
     let later : page_moves w s.given ≡ [] = ap (λ (rs : List Run). writes_of w.own s.given rs) moves in
     record {
-      stay = λ i b is. absurd (subst (λ (l : List PageWrite). Writes l i b) writes is);
-      move = λ i is. absurd (subst (λ (l : List PageWrite). NamesPage l i) later is);
+      blocks = λ i b is. absurd (subst (λ (l : List PageWrite). Writes l i b) writes is);
+      none = λ i is. absurd (subst (λ (l : List PageWrite). NamesPage l i) later is);
       stay_once = subst (λ (l : List PageWrite). IsDistinct nat_eq (pages_of l)) (sym writes) tt;
       move_once = subst (λ (l : List PageWrite). IsDistinct nat_eq (pages_of l)) (sym later) tt;
-      before = λ i named. elim named [
+      within = λ i named. elim named [
         | inl is ↦ absurd (subst (λ (l : List PageWrite). NamesPage l i) writes is)
         | inr is ↦ absurd (subst (λ (l : List PageWrite). NamesPage l i) later is)
       ];

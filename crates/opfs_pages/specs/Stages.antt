@@ -1,16 +1,15 @@
 -- Pages of a row as a call leaves them, staged one after another. This project's own.
-use Rattle.std.specs.Prelude.{◌≡◌, ◌⊎◌, ℕ, ◌+◌, ◌*◌, ◌<◌, ◌≤◌, Bool, true, is_some, None, Some, List, map, length, nat_eq, slice_index_or}
-use Rattle.std.specs.List.{IsDistinct}
+use Rattle.std.specs.Prelude.{◌≡◌, ◌⊎◌, ℕ, ◌+◌, ◌*◌, ◌<◌, ◌≤◌, Bool, true, is_some, List, length, slice_index_or}
 use Rattle.opfs_base.specs.Blocks.{blocks}
 use Rattle.opfs_blocks.specs.Sets.{Used}
 use Rattle.opfs_data.specs.declared.page.Page.{Page}
-use Rattle.opfs_data.specs.Pages.{blank, NamesPage, IsDataPart}
+use Rattle.opfs_data.specs.Pages.{blank, IsDataPart}
 use Rattle.opfs_data.specs.Rows.{Rows, pages_at, page_at as swap_page}
-use Rattle.opfs_data.specs.Writes.{PageWrite, WriteList, HasBytes, page_writes, page_moves}
-use Rattle.opfs_space.specs.Holders.{Writes, AreAllBelow}
+use Rattle.opfs_data.specs.Writes.{WriteList, HasBytes, page_writes, page_moves}
+use Rattle.opfs_space.specs.Holders.{AreAllBelow}
 use Rattle.opfs_space.specs.Spaces.{SpaceSeen}
 use Rattle.opfs_journal.specs.declared.areas.Areas.{Areas}
-use Rattle.opfs_space.specs.Plans.{own_block}
+use Rattle.opfs_space.specs.Plans.{ArePlanned}
 use Rattle.opfs_splice.specs.Splicing.{splice, resize}
 use Rattle.opfs_work.specs.Pages.{page_at, is_zero}
 use Rattle.opfs_work.specs.Works.{WorkingCopy, IsStored}
@@ -63,13 +62,9 @@ pub record IsAtRest (s : Stage) (i : ℕ) : Type 0 where
   pub spared : IsSpared s i
   pub block : s.whole ≡ true → is_some (swap_page s.agent s.row i s.swap).block ≡ true
 
--- The pages with their own blocks, and those that want others. No page is named twice, and all are before one.
-pub record IsPlanned (s : Stage) (end : ℕ) (w : WriteList) : Type 0 where
-  pub stay : (i b : ℕ) → Writes (page_writes w s.given) i b → own_block s.own s.swap s.agent s.row i ≡ Some b
-  pub move : (i : ℕ) → NamesPage (page_moves w s.given) i → own_block s.own s.swap s.agent s.row i ≡ None
-  pub stay_once : IsDistinct nat_eq (map (λ (x : PageWrite). x.page) (page_writes w s.given))
-  pub move_once : IsDistinct nat_eq (map (λ (x : PageWrite). x.page) (page_moves w s.given))
-  pub before : (i : ℕ) → IsNamed w s.given i → i < end
+-- the pages of the list are planned, and all are before one
+abbrev pub IsPlanned : Stage → ℕ → WriteList → Type 0
+IsPlanned s end w = ArePlanned s.own s.swap s.agent s.row end (page_writes w s.given) (page_moves w s.given)
 
 -- The pages of a range were staged. Those of the list keep right, each page of the range is in it or at rest, and no page is
 -- named twice.

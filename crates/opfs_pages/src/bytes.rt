@@ -38,7 +38,7 @@ pub fn cut_page(into: &mut [u8], page: u64, size: u64)
 }
 
 // Copies bytes over others.
-fn copy_into(bytes: &mut [u8], offset: usize, chunk: &[u8])
+pub(crate) fn copy_into(bytes: &mut [u8], offset: usize, chunk: &[u8])
     requires { offset + length chunk.now ≤ length bytes.old }
     ensures inside { (k : ℕ) → offset ≤ k → k < offset + length chunk.now → slice_index bytes.new k ≡ slice_index chunk.now (k - offset) }
     ensures before { (k : ℕ) → k < offset → slice_index bytes.new k ≡ slice_index bytes.old k }

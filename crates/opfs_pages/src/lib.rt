@@ -8,6 +8,7 @@ mod leaving;
 mod reading;
 mod stages;
 mod staging;
+mod wide;
 
 pub use bytes::{cut_page, overlay};
 pub use calls::{stage_content, stage_size, stage_write};
@@ -15,3 +16,4 @@ pub use laws::{a_call_changes_as_it_says, pages_at_rest_go_on, untouched_pages_g
 pub use leaving::{leave_size, leave_write};
 pub use reading::read_page;
 pub use staging::{stage_page, stage_whole};
+pub use wide::{read_bytes, read_stored};

@@ -6,6 +6,7 @@ pub mod Placing
 pub mod Paged
 pub mod Rest
 pub mod Planning
+pub mod Mine
 pub mod FileBlocks
 pub mod Others
 pub mod Enough

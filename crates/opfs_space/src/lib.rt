@@ -4,12 +4,14 @@
 mod files;
 mod laws;
 mod plans;
+mod putting;
 mod room;
 mod space;
 mod staying;
 
 pub use files::{changes_leave_other_files, files_have_the_named_blocks};
 pub use laws::{a_sweep_finds_what_is_used, covered_blocks_leave_room};
+pub use putting::{own_blocks_may_be_written, planned_pages_may_be_written};
 pub use room::{a_look_knows_own_blocks, a_sweep_leaves_blocks_enough};
 pub use space::Space;
 pub use staying::{
