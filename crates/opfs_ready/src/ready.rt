@@ -48,9 +48,8 @@ impl ReadyTree {
     pub fn prepare(&mut self, key: &Key, path: &Path, kind: Kind) -> Result<(), AllocError>
         requires free { row_at (key.now, path.now) self.old.rows ≡ None }
         requires parent { HasParent (key.now, path.now) self.old.rows }
-        ensures rows { self.new.rows ≡ self.old.rows }
-        ensures ready { OnOk result (self.new.ready ≡ Some ((key.now, path.now), kind)) }
-        ensures err { OnErr result (self.new.ready ≡ None) }
+        ensures ok { OnOk result (self.new ≡ record { rows = self.old.rows; ready = Some ((key.now, path.now), kind) }) }
+        ensures err { OnErr result (self.new ≡ record { rows = self.old.rows; ready = None }) }
     {
         self.cancel();
         in_order(&self.tree, key, path);

@@ -7,7 +7,7 @@ use Rattle.opfs_base.specs.Texts.{Text, same_text}
 use Rattle.opfs_machine.specs.declared.own.Outline.{Outline}
 use Rattle.opfs_machine.specs.declared.own.Outline.TheVariants as outline
 use Rattle.opfs_machine.specs.declared.state.Agent.{Agent}
-use Rattle.opfs_machine.specs.Agents.{nobody, agent_in, agent_of, with_agent, with_own}
+use Rattle.opfs_machine.specs.Agents.{nobody, agent_in, with_agent, with_own}
 use Rattle.opfs_pool.specs.Shares.{Blocks, share_at}
 use Rattle.opfs_seats.specs.Registers.{Registered}
 use Rattle.opfs_seats.specs.Slots.{slot_set}

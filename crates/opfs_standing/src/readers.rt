@@ -101,13 +101,12 @@ impl Standing {
     pub fn fits_quota(&self, unit: &Key, need: u64) -> bool
         ensures { result ≡ fits_quota in_lengths self.now.machine (origin_of unit.now) need }
     {
-        need == 0
-            || need
-                <= self
-                    .register
-                    .limits()
-                    .quota
-                    .saturating_sub(self.usage(unit))
+        let free = self
+            .register
+            .limits()
+            .quota
+            .saturating_sub(self.usage(unit));
+        need == 0 || need <= free
     }
 
     /// Whether the charge may grow by so much; it may always stay.

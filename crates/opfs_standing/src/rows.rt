@@ -30,9 +30,7 @@ use std::alloc::{AllocError, Global};
 impl Standing {
     /// Gives a unit a bucket and a share, or leaves all as it was.
     pub fn prepare_unit(&mut self, unit: &Key) -> Result<(), AllocError>
-        ensures machine { self.new.machine ≡ self.old.machine }
-        ensures tree { self.new.tree ≡ self.old.tree }
-        ensures place { self.new.prepared.place ≡ self.old.prepared.place }
+        ensures rest { self.new ≡ record self.old { prepared = record self.old.prepared { units = self.new.prepared.units } } }
         ensures known { OnOk result (is_known unit.now self.new.prepared ≡ true) }
         ensures kept { (other : Text) → is_known other self.old.prepared ≡ true → is_known other self.new.prepared ≡ true }
         ensures err { OnErr result (self.new ≡ self.old) }
@@ -46,11 +44,8 @@ impl Standing {
     pub fn prepare_row(&mut self, unit: &Key, path: &Path, kind: Kind) -> Result<(), AllocError>
         requires free { row_at (unit.now, path.now) self.old.tree ≡ None }
         requires parent { HasParent (unit.now, path.now) self.old.tree }
-        ensures machine { self.new.machine ≡ self.old.machine }
-        ensures tree { self.new.tree ≡ self.old.tree }
-        ensures units { self.new.prepared.units ≡ self.old.prepared.units }
-        ensures place { OnOk result (self.new.prepared.place ≡ Some ((unit.now, path.now), kind)) }
-        ensures err { OnErr result (self.new.prepared.place ≡ None) }
+        ensures ok { OnOk result (self.new ≡ record self.old { prepared = record self.old.prepared { place = Some ((unit.now, path.now), kind) } }) }
+        ensures err { OnErr result (self.new ≡ record self.old { prepared = record self.old.prepared { place = None } }) }
     {
         self.tree.prepare(unit, path, kind)?;
         Ok(())

@@ -1,4 +1,5 @@
 use Rattle.std.proofs.Common.{sym, ap, subst, ◌∙◌}
+use Rattle.std.specs.Map.{keys_of}
 use Rattle.opfs_pool.specs.Shares.{Blocks}
 use Rattle.opfs_standing.specs.Seen.{Seen, machine_of, is_known, prepared_of}
 use Rattle.opfs_standing.specs.Tied.{IsTied}
@@ -13,11 +14,17 @@ invariant_of-self-2 c =
     pool-touched c.self.inside.pool c.touch-2.new.self c.args.unit.now c.in_ok-touch-2.ensures.touched (machine_of c.self.inside.tree.rows c.touch.new.self.buckets c.self.inside.register) c.touch.new.self c.self.inside.fixed c.self.inside.root
     (shed-touched c.self.inside.shed c.touch.new.self c.args.unit.now c.in_ok-touch.ensures.touched c.self.inside.tree.rows c.self.inside.register c.self.inside.pool c.self.inside.fixed c.self.inside.root c.self.invariant c.touch.ensures.usage) c.in_ok-touch.ensures.there c.touch-2.ensures.held
 
-pub returns-clause-machine : goal.returns-clause-machine
-returns-clause-machine c = touched-machine c.self.inside.shed c.touch.new.self c.args.unit.now c.in_ok-touch.ensures.touched c.self.inside.tree.rows c.self.inside.register ∙ ap (λ (s : Seen). s.machine) c.self.view_is
+pub returns-clause-rest : goal.returns-clause-rest
+returns-clause-rest c =
+    let machine = touched-machine c.self.inside.shed c.touch.new.self c.args.unit.now c.in_ok-touch.ensures.touched c.self.inside.tree.rows c.self.inside.register in
+    (λ i. record { machine = machine i; tree = c.self.inside.tree.rows; prepared = prepared_of c.self.inside.tree.ready c.touch-2.new.self.shares c.self.inside.register })
+    ∙ ap (λ (s : Seen). record s { prepared = record s.prepared { units = keys_of c.touch-2.new.self.shares } }) c.self.view_is
 
-pub returns-in_err-touch-2-clause-machine : goal.returns-in_err-touch-2-clause-machine
-returns-in_err-touch-2-clause-machine c = touched-machine c.self.inside.shed c.touch.new.self c.args.unit.now c.in_ok-touch.ensures.touched c.self.inside.tree.rows c.self.inside.register ∙ ap (λ (s : Seen). s.machine) c.self.view_is
+pub returns-in_err-touch-2-clause-rest : goal.returns-in_err-touch-2-clause-rest
+returns-in_err-touch-2-clause-rest c =
+    let machine = touched-machine c.self.inside.shed c.touch.new.self c.args.unit.now c.in_ok-touch.ensures.touched c.self.inside.tree.rows c.self.inside.register in
+    (λ i. record { machine = machine i; tree = c.self.inside.tree.rows; prepared = prepared_of c.self.inside.tree.ready c.touch-2.new.self.shares c.self.inside.register })
+    ∙ ap (λ (s : Seen). record s { prepared = record s.prepared { units = keys_of c.touch-2.new.self.shares } }) c.self.view_is
 
 pub returns-in_err-touch-2-clause-err : goal.returns-in_err-touch-2-clause-err
 returns-in_err-touch-2-clause-err c =
