@@ -4,3 +4,4 @@ pub mod Steps
 pub mod Parts
 pub mod Rest
 pub mod Left
+pub mod Brought

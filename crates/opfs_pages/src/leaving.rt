@@ -1,10 +1,10 @@
 // The working copy that is left when the store has a row's pages.
-ghost use Rattle.std.specs.Prelude.{◌≡◌, ℕ, ◌⊎◌, ◌+◌, ◌*◌, ◌^◌, ◌<◌, ◌≤◌, max, true, List, length};
+ghost use Rattle.std.specs.Prelude.{◌≡◌, ℕ, ◌⊎◌, ◌+◌, ◌*◌, ◌/◌, ◌%◌, ◌^◌, ◌<◌, ◌≤◌, max, true, List, length, slice_index};
 ghost use Rattle.opfs_base.specs.Blocks.{blocks};
 ghost use Rattle.opfs_splice.specs.Splicing.{splice, resize};
 ghost use Rattle.opfs_work.specs.Pages.{page_at, is_far};
 ghost use Rattle.opfs_work.specs.Works.{IsStored};
-ghost use Rattle.opfs_pages.specs.Copies.{IsCopy};
+ghost use Rattle.opfs_pages.specs.Copies.{IsCopy, IsPageOf};
 
 use opfs_work::Work;
 use opfs_work::sizes::blocks;
@@ -40,6 +40,21 @@ pub fn leave_size(work: &mut Work, size: u64)
     forget_touched(work, work.size(), size);
     work.settle();
     work.resize_far(size);
+}
+
+/// Brings a page that is elsewhere into memory, where there is room: that of the position, when a call leaves it elsewhere. Its
+/// bytes are the row's. Takes no memory.
+pub fn bring_page(work: &mut Work, page: u64, bytes: &[u8])
+    requires size { length bytes.now ≡ 4096 }
+    requires tail { (i : ℕ) → work.old.length ≤ i → i / 4096 ≡ page → slice_index bytes.now (i % 4096) ≡ 0 }
+    ensures copy { (row : List ℕ) → IsCopy row work.old → IsPageOf row page bytes.now → IsCopy row work.new }
+    ensures stored { (k : ℕ) → IsStored work.old k → IsStored work.new k }
+    ensures rest { work.new ≡ record work.old { pages = work.new.pages } }
+{
+    if page >= work.pages() || !work.is_far(page) || work.resident() >= 256 {
+        return;
+    }
+    work.bring(page, bytes);
 }
 
 // Sends the pages that hold a byte between two positions far.

@@ -13,7 +13,7 @@ mod wide;
 pub use bytes::{cut_page, overlay};
 pub use calls::{stage_content, stage_size, stage_write};
 pub use laws::{a_call_changes_as_it_says, pages_at_rest_go_on, untouched_pages_go_on};
-pub use leaving::{leave_size, leave_write};
+pub use leaving::{bring_page, leave_size, leave_write};
 pub use reading::read_page;
 pub use staging::{stage_page, stage_whole};
 pub use wide::{read_bytes, read_stored};
