@@ -1,9 +1,9 @@
 -- The last uses, as one is said.
-use Rattle.std.proofs.Common.{◌≡◌, ◌<◌, ◌==◌, ℕ, true, false, cond, not, List, [], ◌∷◌, Some, None, is_some, refl, sym, ap, ◌∙◌, arith}
+use Rattle.std.proofs.Common.{◌≡◌, ◌<◌, ◌==◌, ℕ, Bool, true, false, cond, not, List, [], ◌∷◌, Option, Some, None, is_some, unwrap_or, refl, sym, ap, ◌∙◌, arith}
 use Rattle.std.proofs.lemmas.Map.Lookups.{exact_bytes}
 use Rattle.std.specs.BTreeMap.{is_at, insert_entry}
 use Rattle.std.proofs.lemmas.Cmp.{nat_list_cmp_total}
-use Rattle.std.specs.FinMap.Entries.{put, by_order}
+use Rattle.std.specs.FinMap.Entries.{find, put, by_order}
 use Rattle.std.specs.List.{AllByRecursion}
 use Rattle.std.specs.List.Sorted.{IsStrictlySortedBy}
 use Rattle.std.specs.Map.{lookup, set_value, keys_of}
@@ -72,3 +72,31 @@ used-insert k (e ∷ es) none =
       | Equal ↦ λ none. cc
       | Greater ↦ λ none. ap (λ (r : Counts). cond (is_used e) (e ∷ r) r) (used-insert k es none)
     ] none
+
+-- The last use of an origin, found among those that were used.
+none-used : (k : Text) (es : Counts) → AllByRecursion (λ y. text_cmp k y ≡ Less) (keys_of es) → find text_cmp k (used_in es) ≡ None
+none-used k [] all = refl
+none-used k (e ∷ es) all =
+    elim (is_used e) as (λ t. find text_cmp k (cond t (e ∷ used_in es) (used_in es)) ≡ None) [
+      | true ↦ ap (λ o. cond (is_eq o) (Some e.1) (find text_cmp k (used_in es))) all.0 ∙ none-used k es all.1
+      | false ↦ none-used k es all.1
+    ]
+
+unused : (n : ℕ) → false ≡ not (n == 0) → 0 ≡ n
+unused n is = grind (arith, is)
+
+last-step : (k : Text) (e : Text × ℕ) (es : Counts) (o : Ordering) (t : Bool) → o ≡ text_cmp k e.0 → t ≡ is_used e → AllByRecursion (λ y. text_cmp e.0 y ≡ Less) (keys_of es)
+    → unwrap_or (lookup (is_at (text_cmp k)) es) 0 ≡ unwrap_or (find text_cmp k (used_in es)) 0
+    → unwrap_or (cond (is_eq o) (Some e.1) (lookup (is_at (text_cmp k)) es)) 0 ≡ unwrap_or (find text_cmp k (cond t (e ∷ used_in es) (used_in es))) 0
+last-step k e es Equal true told is all tail = ap (λ o. unwrap_or (cond (is_eq o) (Some e.1) (find text_cmp k (used_in es))) 0) told
+last-step k e es Equal false told is all tail =
+    sym (ap (λ (u : Text). unwrap_or (find text_cmp u (used_in es)) 0) (exact_bytes k e.0 (sym told)) ∙ ap (λ (o : Option ℕ). unwrap_or o 0) (none-used e.0 es all) ∙ unused e.1 is)
+last-step k e es Less true told is all tail = tail ∙ ap (λ o. unwrap_or (cond (is_eq o) (Some e.1) (find text_cmp k (used_in es))) 0) told
+last-step k e es Less false told is all tail = tail
+last-step k e es Greater true told is all tail = tail ∙ ap (λ o. unwrap_or (cond (is_eq o) (Some e.1) (find text_cmp k (used_in es))) 0) told
+last-step k e es Greater false told is all tail = tail
+
+pub last-used : (k : Text) (es : Counts) → IsStrictlySortedBy text_cmp (keys_of es) → unwrap_or (lookup (is_at (text_cmp k)) es) 0 ≡ unwrap_or (find text_cmp k (used_in es)) 0
+unfolding IsStrictlySortedBy
+last-used k [] sorted = refl
+last-used k (e ∷ es) sorted = last-step k e es (text_cmp k e.0) (is_used e) refl refl sorted.0 (last-used k es sorted.1)

@@ -2,7 +2,7 @@
 
 ghost use Rattle.std.specs.Prelude.{◌≡◌, ◌+◌, ◌<◌, ◌≤◌, ◌^◌, ◌++◌, suc, false, [], ◌∷◌, Some, None, IsSome, IfOk, OnOk, OnErr, length, map, option_map, slice_set};
 ghost use Rattle.std.specs.Option.{option_copied};
-ghost use Rattle.opfs_machine.specs.Agents.{agent_in, agent_of, has_open_row, used_now};
+ghost use Rattle.opfs_machine.specs.Agents.{agent_in, agent_of, has_open_row, last_use, used_now};
 ghost use Rattle.opfs_machine.specs.Contents.{in_lengths};
 ghost use Rattle.opfs_machine.specs.declared.own.Outline.{Outline};
 ghost use Rattle.opfs_machine.specs.declared.own.Outline.TheVariants as outline;
@@ -141,6 +141,13 @@ impl Register {
         ensures { result ≡ has_open_row in_lengths (bare self.now) (suc at) }
     {
         self.seats.seat(at).rows.has_open()
+    }
+
+    /// The number of the last entry of an origin; 0 where there is none.
+    pub fn last_use(&self, origin: &Key) -> u64
+        ensures { result ≡ last_use (bare self.now) origin.now }
+    {
+        self.seats.last_use(origin)
     }
 
     /// The origins that were used, with the number of their last entry.

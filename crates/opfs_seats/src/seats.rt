@@ -7,7 +7,8 @@ ghost use Rattle.opfs_machine.specs.declared.own.Outline.{Outline};
 ghost use Rattle.opfs_machine.specs.declared.own.Outline.TheVariants as outline;
 ghost use Rattle.opfs_seats.specs.Seating.{agent_seen, agents_seen, agent_begun, key_of, noted, used_by, most_agents};
 ghost use Rattle.opfs_base.specs.Texts.{Text};
-ghost use Rattle.opfs_seats.specs.LastUses.{used_in, is_known};
+ghost use Rattle.std.specs.FinMap.Entries.{find};
+ghost use Rattle.opfs_seats.specs.LastUses.{text_cmp, used_in, is_known};
 ghost use Rattle.opfs_seats.specs.Slots.{outline_in, kind_of_row, slot_row, slot_in, with_slot, stream_at, handle_at, keeping, most_rows};
 
 use crate::kind::RowKind;
@@ -242,6 +243,13 @@ impl Seats {
         let seat = &mut self.items[at];
         seat.live = false;
         seat.waits = None;
+    }
+
+    /// The number of the last entry of an origin; 0 where there is none.
+    pub(crate) fn last_use(&self, origin: &Key) -> u64
+        ensures { result ≡ unwrap_or (find text_cmp origin.now self.now.used) 0 }
+    {
+        self.uses.last(origin)
     }
 
     /// The origins that were used, with the number of their last entry.

@@ -1,8 +1,8 @@
 //! The last use of each origin.
 
-ghost use Rattle.std.specs.Prelude.{◌≡◌, ◌<◌, [], true, IsTrue, IfOk, OnOk};
+ghost use Rattle.std.specs.Prelude.{◌≡◌, ◌<◌, [], true, IsTrue, IfOk, OnOk, unwrap_or};
 ghost use Rattle.std.specs.BTreeMap.{is_at};
-ghost use Rattle.std.specs.FinMap.Entries.{put};
+ghost use Rattle.std.specs.FinMap.Entries.{find, put};
 ghost use Rattle.std.specs.List.Sorted.{IsStrictlySortedBy};
 ghost use Rattle.std.specs.Map.{keys_of, set_value};
 ghost use Rattle.opfs_base.specs.Texts.{Text};
@@ -12,6 +12,7 @@ use opfs_base::Key;
 use std::alloc::{AllocError, Global};
 use std::collections::BTreeMap;
 use std::marker::Model;
+use std::ops::Bound;
 
 /// The origins that have agents, in order, with the number of their last entry; 0 where there is none.
 #[derive(Drop)]
@@ -69,6 +70,22 @@ impl Uses {
         ensures known { (other : Text) → is_known self.new other ≡ is_known self.old other }
     {
         set_number(&mut self.items, origin, number);
+    }
+
+    /// The number of the last entry of an origin; 0 where there is none. Takes as long for many origins as for one.
+    pub(crate) fn last(&self, origin: &Key) -> u64
+        ensures { result ≡ unwrap_or (find text_cmp origin.now (used_in self.now)) 0 }
+    {
+        self.in_order();
+        self.items.get(origin).copied().unwrap_or(0)
+    }
+
+    // The origins stand in order, one for each. Says so, and does next to nothing.
+    fn in_order(&self)
+        ensures { IsStrictlySortedBy text_cmp (keys_of self.now) }
+    {
+        let all: (Bound<&Key>, Bound<&Key>) = (Bound::Unbounded, Bound::Unbounded);
+        let _origins = self.items.range(all);
     }
 
     /// The origins that were used, with the number of their last entry.

@@ -69,6 +69,14 @@ as-elim : (t : Bool) (a b : Option (List Text)) → cond t a b ≡ elim t [ true
 as-elim true a b = refl
 as-elim false a b = refl
 
+-- One unit more.
+front-step : (t fits : Bool) (unit : Text) (front rest : Option (List Text)) → t ≡ fits → front ≡ rest
+    → cond t (Some []) (option_map (λ more. unit ∷ more) front) ≡ elim fits [ true ↦ Some [] | false ↦ option_map (λ more. unit ∷ more) rest ]
+front-step true true unit front rest same is = refl
+front-step true false unit front rest same is = cc
+front-step false true unit front rest same is = cc
+front-step false false unit front rest same is = ap (option_map (λ (more : List Text). unit ∷ more)) is
+
 module _ (uses : Uses) where
   -- Each candidate stands by the last use of its origin.
   abbrev pub Each : Candidates → Type 0
@@ -143,7 +151,6 @@ module _ (uses : Uses) where
       → front_of lacking es ≡ shortest_front in_lengths s need (map (λ e. e.0.1) es)
   front-same s need [] lacking some is each has rise = as-elim (lacking == 0) (Some []) None ∙ ap (λ t. elim t [ true ↦ Some [] | false ↦ None ]) (lacks s need lacking some is)
   front-same s need (e ∷ es) lacking some is each has rise =
-      let rest = front-same (cleared s e.0.1) need es (lacking - e.1) some (omega (arith, is, has.0, pool-cleared s e.0.1)) each.1 (has-cleared s e.0 es each.0 each.1 (first_of (below_all use_cmp e.0 es) (is_sorted use_cmp es) rise) has.1) (second_of (below_all use_cmp e.0 es) (is_sorted use_cmp es) rise) in
-      as-elim (lacking == 0) (Some []) (option_map (λ more. e.0.1 ∷ more) (front_of (lacking - e.1) es))
-      ∙ ap (λ t. elim t [ true ↦ Some [] | false ↦ option_map (λ more. e.0.1 ∷ more) (front_of (lacking - e.1) es) ]) (lacks s need lacking some is)
-      ∙ ap (λ o. elim (fits_pool in_lengths s need) [ true ↦ Some [] | false ↦ option_map (λ more. e.0.1 ∷ more) o ]) rest
+      front-step (lacking == 0) (fits_pool in_lengths s need) e.0.1 (front_of (lacking - e.1) es) (shortest_front in_lengths (cleared s e.0.1) need (map (λ e. e.0.1) es)) (lacks s need lacking some is)
+      (front-same (cleared s e.0.1) need es (lacking - e.1) some (omega (arith, is, has.0, pool-cleared s e.0.1)) each.1
+      (has-cleared s e.0 es each.0 each.1 (first_of (below_all use_cmp e.0 es) (is_sorted use_cmp es) rise) has.1) (second_of (below_all use_cmp e.0 es) (is_sorted use_cmp es) rise))
