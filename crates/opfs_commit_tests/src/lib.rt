@@ -1,5 +1,6 @@
 //! Tests of changes that are committed.
 #![tactic(auto)]
 
-mod commits;
-mod images;
+#[cfg(test)]
+mod stops;
+mod works;
