@@ -1,21 +1,22 @@
-//! An agent, and how it asks for a shared call.
+//! An agent, and how it makes its calls.
 
-ghost use Rattle.std.specs.Prelude.{◌≡◌, ◌≤◌, true, IfOk, IfErr, IsTrue};
+ghost use Rattle.std.specs.Prelude.{◌≡◌, ◌≤◌, false, IfOk, IfErr, IsTrue};
 ghost use Rattle.opfs_hist.specs.declared.op.Op.TheVariants as op;
-ghost use Rattle.opfs_machine.specs.Histories.{may_enter};
-ghost use Rattle.opfs_turns.specs.Agents.{state_of};
-ghost use Rattle.opfs_turns.specs.Calls.{HasRoom, new_agent, MayBegin, HasEnded};
 ghost use Rattle.opfs_hist.specs.declared.reply.Reply.TheVariants as reply;
-ghost use Rattle.opfs_agent.specs.Answers.{Shared, MayAskPlainly, IsAnsweredBy, IsFlag, refusal_in, IsAnswer};
+ghost use Rattle.opfs_machine.specs.Histories.{may_enter};
+ghost use Rattle.opfs_machine.specs.Steps.{is_refusal};
+ghost use Rattle.opfs_turns.specs.Agents.{state_of, IsAgent};
+ghost use Rattle.opfs_turns.specs.Calls.{HasRoom, new_agent, MayBegin, HasEnded, IsLocal};
+ghost use Rattle.opfs_calls.specs.Answers.{Shared, MayAskPlainly, IsAnsweredBy, IsFlag};
+ghost use Rattle.opfs_calls.specs.Locals.{Local, Stopped};
 
-use crate::stop::Stop;
 use opfs_acts::{Acted, Store};
 use opfs_base::Key;
+use opfs_calls::{Stop, ask, ask_done, ask_flag, keep_call, keep_refusal};
 use opfs_hall::{Hall, Pass};
-use opfs_hist::{Op, Refusal, Reply, Room};
+use opfs_hist::{Op, Refusal, Reply};
 use opfs_turns::Turns;
-use opfs_work::Work;
-use std::alloc::{AllocError, Global};
+use std::alloc::Global;
 use std::marker::Model;
 use std::sync::Wait;
 
@@ -55,6 +56,13 @@ impl<S: Store> Agent<S> {
         turns.end(rt, court)
     }
 
+    // What the type keeps.
+    pub(crate) fn kept(&self)
+        ensures { IsAgent S.tells self.now }
+    {
+        self.turns.kept();
+    }
+
     // Makes a shared call that names no open row.
     pub(crate) fn ask<R: Wait>(&mut self, rt: &R, court: &Hall<S>, op: Op) -> Result<Acted, Stop>
         requires own { self.old.pass.hall ≡ court.now }
@@ -62,12 +70,7 @@ impl<S: Store> Agent<S> {
         requires may { MayAskPlainly self.old op }
         ensures { Shared S.tells self.old self.new op (λ acted answered given. (acted.reply ≡ answered) × (acted.gift ≡ given)) result }
     {
-        let Ok(room) = Room::make(self.alloc) else {
-            return Err(Stop::NoMemory);
-        };
-        let mut work = Work::fresh(self.alloc);
-        let acted = self.turns.call(rt, court, room, op, &mut work, &[]);
-        answer(acted)
+        ask(rt, self.alloc, &mut self.turns, court, op)
     }
 
     // Makes a shared call that names no open row, and that is answered by Done alone.
@@ -78,8 +81,7 @@ impl<S: Store> Agent<S> {
         requires answer { IsAnsweredBy op (λ answered. answered ≡ reply.Done) }
         ensures { Shared S.tells self.old self.new op (λ _ answered _. answered ≡ reply.Done) result }
     {
-        let _acted = self.ask(rt, court, op)?;
-        Ok(())
+        ask_done(rt, self.alloc, &mut self.turns, court, op)
     }
 
     // Makes a shared call that names no open row, and that is answered by yes or no alone.
@@ -95,33 +97,26 @@ impl<S: Store> Agent<S> {
         requires answer { IsAnsweredBy op IsFlag }
         ensures { Shared S.tells self.old self.new op (λ flag answered _. answered ≡ reply.Flag flag) result }
     {
-        let acted = self.ask(rt, court, op)?;
-        match acted.reply {
-            Reply::Flag(flag) => Ok(flag),
-            _ => unreachable!(),
-        }
+        ask_flag(rt, self.alloc, &mut self.turns, court, op)
     }
-}
 
-// The refusal of a reply.
-fn refusal_in(reply: &Reply) -> Option<Refusal>
-    ensures { result ≡ refusal_in reply.now }
-{
-    match reply {
-        Reply::No(refusal) => Some(*refusal),
-        _ => None,
+    // Keeps a local call that is not refused, with its answer.
+    pub(crate) fn keep_call(&mut self, op: Op, reply: Reply, made: u32) -> Result<(), Stop>
+        requires room { HasRoom self.old }
+        requires local { IsLocal S.tells self.old op reply made }
+        requires few { made ≤ 1 }
+        requires accepted { is_refusal reply ≡ false }
+        ensures { Local S.tells self.old self.new op made (λ _ answered. answered ≡ reply) result }
+    {
+        keep_call(self.alloc, &mut self.turns, op, reply, made)
     }
-}
 
-// What a call answered, or why it gives nothing.
-fn answer(acted: Result<Acted, AllocError>) -> Result<Acted, Stop>
-    ensures { IsAnswer acted result }
-{
-    let Ok(acted) = acted else {
-        return Err(Stop::NoMemory);
-    };
-    match refusal_in(&acted.reply) {
-        Some(refusal) => Err(Stop::No(refusal)),
-        None => Ok(acted),
+    // Keeps a local call that is refused, and tells why it gives nothing.
+    pub(crate) fn keep_refusal(&mut self, op: Op, refusal: Refusal) -> Stop
+        requires room { HasRoom self.old }
+        requires local { IsLocal S.tells self.old op (reply.No refusal) 0 }
+        ensures { Stopped S.tells self.old self.new op result }
+    {
+        keep_refusal(self.alloc, &mut self.turns, op, refusal)
     }
 }

@@ -4,7 +4,6 @@
 mod agent;
 mod buckets;
 mod entries;
-mod stop;
 
 pub use agent::Agent;
-pub use stop::Stop;
+pub use opfs_calls::Stop;

@@ -14,11 +14,14 @@ use atomic_table::{Refused, Table};
 use std::alloc::Global;
 use std::marker::Model;
 use std::sync::Wait;
+use std::sync::atomic::{AtomicU64, Ordering};
 
 /// A lock that holds a value, and hands it on in ticket order. Clauses see it as which hall it is (`id`), the opening
 /// of its value, and its number of agents.
 pub struct Hall<V: Chronicle> {
     board: Board<V>,
+    // How often its bell was rung, modulo 2^64.
+    rung: AtomicU64,
 }
 
 impl<V: Chronicle> Model for Hall<V> {
@@ -61,7 +64,10 @@ fn lay<V: Chronicle>(alloc: Global, value: V, agents: u32) -> Result<(Hall<V>, P
     };
     slots.push_reserved(Some(value));
     match Table::new(alloc, &[0, 0, 0], slots, &about) {
-        Ok((board, seat)) => Ok((Hall { board }, seat)),
+        Ok((board, seat)) => {
+            let rung = AtomicU64::new(0);
+            Ok((Hall { board, rung }, seat))
+        }
         Err(Refused { slots }) => Err(only(slots)),
     }
 }
@@ -164,6 +170,22 @@ impl<V: Chronicle> Hall<V> {
         top.wake_all(SERVING);
     }
 
+    /// What the bell tells now. One that has the turn reads it there, so that it misses no ring of a later turn.
+    pub fn heard(&self) -> u32 {
+        (self.rung.load(Ordering::SeqCst) % (1 << 32)) as u32
+    }
+
+    /// Rings the bell: all that sleep for it wake.
+    pub fn ring(&self) {
+        self.rung.fetch_add(1, Ordering::SeqCst);
+        self.rung.wake_all();
+    }
+
+    /// Sleeps while the bell tells what was heard. It may wake for no reason.
+    pub fn sleep<R: Wait>(&self, rt: &R, heard: u32) {
+        self.rung.park(rt, heard);
+    }
+
     /// Collects a pass that has ended, with all that it has collected.
     pub fn join(&self, into: &mut Pass<V>, from: Pass<V>)
         requires own { (into.old.hall ≡ self.now) × (from.hall ≡ self.now) }
@@ -184,7 +206,7 @@ impl<V: Chronicle> Hall<V> {
         ensures base { IsPrefix pass.base (V.entries result) }
         ensures ended { All (HasEnded V.owner (V.entries result)) pass.ended }
     {
-        let Self { board } = self;
+        let Self { board, rung: _ } = self;
         let mut closed = board.close_with(pass.into_place());
         let slot = closed.take(VALUE);
         closed.free();

@@ -41,13 +41,13 @@ pending-few tells a kept room =
     omega (arith, room.entries, kept.counted, count-append (is_of a.pass.agent) a.pass.base a.pending, pending-count tells (state_after a.opening a.pass.base) a.pass.agent a.pending kept.local)
 
 module _ {O : Type 0} (tells : Type 0) (a : AgentSeen O) (kept : IsAgent tells a) (called : Op) (answered : Reply) (made : ℕ) (is : IsLocal tells a called answered made) where
-  abbrev s : State Text Own
+  abbrev pub s : State Text Own
   s = state_of a
 
-  abbrev e : Entry
+  abbrev pub e : Entry
   e = kept_entry a called answered
 
-  abbrev own_entry : Entry
+  abbrev pub own_entry : Entry
   own_entry = record e { reply = (step s a.pass.agent called).answered }
 
   here : IsPendingFor tells s a.pass.agent e
@@ -57,20 +57,20 @@ module _ {O : Type 0} (tells : Type 0) (a : AgentSeen O) (kept : IsAgent tells a
   real = record { agent = refl; live = kept.live; fitting = is.fitting; local = is.local; answered = refl; turn = refl }
 
   -- The state is that after the machine's own step.
-  after-step : after_entry s e ≡ (step s a.pass.agent called).after
+  pub after-step : after_entry s e ≡ (step s a.pass.agent called).after
   after-step =
       let alike : unread_entry e ≡ unread_entry own_entry = ap (λ r. record e { reply = r }) is.alike in
       after-alike s e own_entry alike ∙ pending-after s a.pass.agent own_entry real
 
-  moved : IsMoved (agent_of s a.pass.agent) called (agent_of (after_entry s e) a.pass.agent)
+  pub moved : IsMoved (agent_of s a.pass.agent) called (agent_of (after_entry s e) a.pass.agent)
   moved =
       subst (λ t. IsMoved (agent_of s a.pass.agent) called (agent_of t a.pass.agent)) (sym (ap (after_op s e) (not_evict s a.pass.agent called is.fitting)))
       (call-moves s [] a.pass.agent called answered kept.live)
 
-  abbrev after : AgentSeen O
+  abbrev pub after : AgentSeen O
   after = record a { pending = a.pending ++ e ∷ []; number = a.number + 1; entries = a.entries + 1; rows = a.rows + made }
 
-  state-after : state_of after ≡ after_entry s e
+  pub state-after : state_of after ≡ after_entry s e
   state-after = ap (state_after a.opening) (sym (append_assoc a.pass.base a.pending (e ∷ []))) ∙ after-more a.opening (a.pass.base ++ a.pending) (e ∷ [])
 
   one : (p : Entry → Bool) → p e ≡ true → count_by p (a.pass.base ++ (a.pending ++ e ∷ [])) ≡ count_by p (a.pass.base ++ a.pending) + 1

@@ -91,6 +91,23 @@ module _ (tells : Type 0) (o : Opening) (base more : List Entry) (k : ℕ) (told
       subst (λ s. BytesStay s k n more) (sym front)
       (stay-alike (state_after o split.front) k n more split.rest split.last (others-stay o split.front split.rest [] k n legal others).0)
 
+-- ---- entries of others before a rest
+
+module _ (tells : Type 0) (o : Opening) (h more rest : List Entry) (k : ℕ) (told : IsTold tells o ((h ++ more) ++ rest)) (apart : All (λ e. e.agent ≢ k) more) where
+  outer : Splits (h ++ more) rest told.real
+  outer = alike-split (h ++ more) rest told.real told.alike
+
+  inner : Splits h more outer.front
+  inner = alike-split h more outer.front outer.first
+
+  legal-before : Legal o ((inner.front ++ inner.rest) ++ outer.rest)
+  legal-before = subst (Legal o) (outer.whole ∙ ap (λ xs. xs ++ outer.rest) inner.whole) told.legal
+
+  pub told-stay-before : (n : ℕ) → BytesStay (state_after o h) k n more
+  told-stay-before n =
+      subst (λ s. BytesStay s k n more) (sym (unread-state o h inner.front inner.first))
+      (stay-alike (state_after o inner.front) k n more inner.rest inner.last (others-stay o inner.front inner.rest outer.rest k n legal-before (apart-alike k more inner.rest inner.last apart)).0)
+
 -- ---- the agent's own calls that are not entered yet
 
 abbrev own_entry : State Text Own → Entry → Entry

@@ -241,4 +241,4 @@ module _ {O : Type 0} (tells : Type 0) (a : AgentSeen O) (kept : IsAgent tells a
         }
 
     pub entered : (rows : ℕ) (given : Gift) → IsGift tells s called answered given → IsEntered tells a (entered_at rows) called answered given
-    entered rows given gift = record { others = more; gone = gone; apart = apart; grown = refl; call = call; gift = gift; own = own-same; rest = refl }
+    entered rows given gift = record { others = more; gone = gone; apart = apart; legal = told; grown = refl; call = call; gift = gift; own = own-same; rest = refl }

@@ -52,6 +52,7 @@ pub record IsEntered {O : Type 0} (tells : Type 0) (before after : AgentSeen O) 
   pub others : List Entry
   pub gone : List Text
   pub apart : All (λ e. e.agent ≢ before.pass.agent) others
+  pub legal : IsTold tells before.opening (before.pass.base ++ others)
   pub grown : after.pass.base ≡ (before.pass.base ++ others) ++ added before.pending gone (told_entry (call_of before op) answered)
   pub call : IsCallFor tells (state_after before.opening (before_call before others)) gone (told_entry (call_of before op) answered)
   pub gift : IsGift tells (state_after before.opening (before_call before others)) op answered given

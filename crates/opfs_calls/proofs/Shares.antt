@@ -6,9 +6,9 @@ use Rattle.opfs_hist.specs.declared.op.Op.{Op}
 use Rattle.opfs_acts.specs.declared.acted.Acted.{Acted}
 use Rattle.opfs_turns.specs.Agents.{AgentSeen}
 use Rattle.opfs_turns.specs.Calls.{IsEntered, HasLooked}
-use Rattle.opfs_agent.specs.Answers.{Shared, IsAnswer}
-use Rattle.opfs_agent.specs.declared.stop.Stop.{Stop}
-use Rattle.opfs_agent.specs.declared.stop.Stop.TheVariants as stop
+use Rattle.opfs_calls.specs.Answers.{Shared, IsAnswer}
+use Rattle.opfs_calls.specs.declared.stop.Stop.{Stop}
+use Rattle.opfs_calls.specs.declared.stop.Stop.TheVariants as stop
 
 -- Nothing was entered, and nothing was seen.
 pub looked_none : {O : Type 0} (a : AgentSeen O) → HasLooked a a

@@ -18,8 +18,8 @@ use Rattle.opfs_acts.specs.declared.acted.Gift.{Gift}
 use Rattle.opfs_acts.specs.Asking.{is_shared, given_by, HasSmallNumbers}
 use Rattle.opfs_turns.specs.Agents.{AgentSeen, state_of}
 use Rattle.opfs_turns.specs.Calls.{IsEntered, HasLooked}
-use Rattle.opfs_agent.specs.declared.stop.Stop.{Stop}
-use Rattle.opfs_agent.specs.declared.stop.Stop.TheVariants as stop
+use Rattle.opfs_calls.specs.declared.stop.Stop.{Stop}
+use Rattle.opfs_calls.specs.declared.stop.Stop.TheVariants as stop
 
 -- A call was entered and not refused, and this is made of its reply and of what is given beside it.
 pub record HasAnswer {O T : Type 0} (tells : Type 0) (before after : AgentSeen O) (op : Op) (Gives : T → Reply → Gift → Type 0) (x : T) : Type 0 where

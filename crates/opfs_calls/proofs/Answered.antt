@@ -24,7 +24,7 @@ use Rattle.opfs_acts.specs.declared.acted.Acted.{Acted}
 use Rattle.opfs_acts.specs.declared.acted.Gift.{Gift}
 use Rattle.opfs_turns.specs.Agents.{AgentSeen}
 use Rattle.opfs_turns.specs.Calls.{before_call, IsEntered}
-use Rattle.opfs_agent.specs.Answers.{HasAnswer, IsAnsweredBy}
+use Rattle.opfs_calls.specs.Answers.{HasAnswer, IsAnsweredBy}
 
 true_false : true ≡ false → ⊥
 true_false h = cc

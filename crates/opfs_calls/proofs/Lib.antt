@@ -1,0 +1,7 @@
+pub mod Answered
+pub mod Shares
+pub mod Granted
+pub mod RowsAfter
+pub mod Entered
+pub mod Stands
+pub mod Plains

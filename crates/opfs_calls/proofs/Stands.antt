@@ -1,0 +1,132 @@
+-- A working copy still stands for its row behind a call that leaves the row.
+use Rattle.std.proofs.Common.{◌≡◌, ◌≢◌, ℕ, true, false, All, List, [], ◌∷◌, ◌++◌, append_assoc, map, fold, Some, refl, sym, ap, ◌∙◌, subst}
+use Rattle.std.proofs.lemmas.Bool.{false≢true}
+use Rattle.std.proofs.lemmas.List.Elements.{All-cons, All-map, All-nil}
+use Rattle.std.proofs.lemmas.List.Sums.{fold-append}
+use Rattle.opfs_base.specs.Texts.{Text}
+use Rattle.opfs_hist.specs.declared.entry.Entry.{Entry}
+use Rattle.opfs_hist.specs.declared.op.Op.{Op}
+use Rattle.opfs_hist.specs.declared.op.Op.TheVariants as op
+use Rattle.opfs_hist.specs.declared.reply.Reply.{Reply}
+use Rattle.opfs_machine.specs.declared.own.Own.{Own}
+use Rattle.opfs_machine.specs.declared.state.State.{State}
+use Rattle.opfs_machine.specs.Agents.{agent_of, own_of, counted}
+use Rattle.opfs_machine.specs.Effects.{refused}
+use Rattle.opfs_machine.specs.Histories.{after_entry, state_after}
+use Rattle.opfs_machine.specs.Openings.{Opening, begun}
+use Rattle.opfs_machine.specs.Runs.{eviction}
+use Rattle.opfs_machine.specs.Steps.{evicted, is_refusal}
+use Rattle.opfs_histories.specs.Opened.{added}
+use Rattle.opfs_laws.specs.Leaving.{asks_nobody}
+use Rattle.opfs_steady.specs.Settling.{BytesStay}
+use Rattle.opfs_steady.specs.Steady.{row_bytes}
+use Rattle.opfs_copies.specs.Copies.{StandsFor}
+use Rattle.opfs_copies.proofs.Copying.{stands-kept}
+use Rattle.opfs_histories.specs.Unread.{IsTold}
+use Rattle.opfs_acts.specs.declared.acted.Gift.{Gift}
+use Rattle.opfs_acts.specs.Acting.{told_entry}
+use Rattle.opfs_turns.specs.Agents.{AgentSeen, IsAgent, known, state_of, own_row}
+use Rattle.opfs_turns.specs.Calls.{call_of, before_call, IsEntered, HasLooked}
+use Rattle.opfs_turns.proofs.Others.{told-stay-before}
+use Rattle.opfs_turns.proofs.Standing.{stands-there}
+use Rattle.opfs_work.specs.Works.{WorkingCopy}
+use Rattle.opfs_calls.proofs.Entered.{t, list, known-is, opening-is, agent-is, refused-state, agent-same, row-there}
+
+stay-append : (s : State Text Own) (k n : ℕ) (xs ys : List Entry) → BytesStay s k n xs → BytesStay (fold after_entry s xs) k n ys → BytesStay s k n (xs ++ ys)
+stay-append s k n [] ys first then = then
+stay-append s k n (e ∷ xs) ys first then = (first.0, stay-append (after_entry s e) k n xs ys first.1 then)
+
+bytes-kept : (s : State Text Own) (k n : ℕ) (es : List Entry) → BytesStay s k n es → row_bytes (fold after_entry s es) k n ≡ row_bytes s k n
+bytes-kept s k n [] stay = refl
+bytes-kept s k n (e ∷ es) stay = bytes-kept (after_entry s e) k n es stay.1 ∙ stay.0
+
+evictions-fold : (s : State Text Own) (gone : List Text) → fold after_entry s (map eviction gone) ≡ fold evicted s gone
+evictions-fold s [] = refl
+evictions-fold s (unit ∷ gone) = evictions-fold (evicted s unit) gone
+
+evictions-apart : (k : ℕ) → k ≢ 0 → (gone : List Text) → All (λ e. e.agent ≢ k) (map eviction gone)
+evictions-apart k real gone = All-map (λ e. e.agent ≢ k) eviction gone (all gone)
+  where
+    all : (gone : List Text) → All (λ unit. (eviction unit).agent ≢ k) gone
+    all [] = All-nil (λ unit. (eviction unit).agent ≢ k)
+    all (unit ∷ gone) = All-cons (λ u. (eviction u).agent ≢ k) unit gone (λ is. real (sym is)) (all gone)
+
+-- Nothing was entered.
+pub looked-stands : {O : Type 0} (tells : Type 0) (before after : AgentSeen O) (n : ℕ) (work : WorkingCopy) → IsAgent tells before → IsAgent tells after → HasLooked before after
+    → StandsFor tells before.opening (known before) before.pass.agent n work → StandsFor tells after.opening (known after) after.pass.agent n work
+looked-stands {O} tells before after n work kept then looked stands =
+    let told : IsTold tells before.opening (before.pass.base ++ looked.others) =
+    subst (λ (a : AgentSeen O). IsTold tells a.opening (before.pass.base ++ looked.others)) looked.rest (subst (IsTold tells after.opening) looked.grown then.legal) in
+    subst (λ (a : AgentSeen O). StandsFor tells a.opening (known a) a.pass.agent n work) (sym looked.rest)
+    (subst (λ base. StandsFor tells before.opening (base ++ before.pending) before.pass.agent n work) (sym looked.grown)
+    (stands-there tells before.opening before.pass.base looked.others before.pass.agent told looked.apart before.pending kept.local n work stands))
+
+-- A call was entered.
+module _ {O : Type 0} (tells : Type 0) (before after : AgentSeen O) (kept : IsAgent tells before) (then : IsAgent tells after) (called : Op) (answered : Reply) (given : Gift)
+    (e : IsEntered tells before after called answered given) (n : ℕ) (work : WorkingCopy) (stands : StandsFor tells before.opening (known before) before.pass.agent n work) where
+  abbrev k : ℕ
+  k = before.pass.agent
+
+  abbrev turn : List Entry
+  turn = before_call before e.others
+
+  abbrev u : State Text Own
+  u = state_after before.opening turn
+
+  abbrev cleared : State Text Own
+  cleared = t tells before after kept called answered given e
+
+  abbrev whole : List Entry
+  whole = list tells before after kept called answered given e
+
+  in-turn : StandsFor tells before.opening turn k n work
+  in-turn = stands-there tells before.opening before.pass.base e.others k e.legal e.apart before.pending kept.local n work stands
+
+  whole-is : whole ≡ (turn ++ map eviction e.gone) ++ told_entry (call_of before called) answered ∷ []
+  whole-is =
+      sym (append_assoc (before.pass.base ++ e.others) before.pending (map eviction e.gone ++ told_entry (call_of before called) answered ∷ []))
+      ∙ sym (append_assoc turn (map eviction e.gone) (told_entry (call_of before called) answered ∷ []))
+
+  told-whole : IsTold tells before.opening ((turn ++ map eviction e.gone) ++ told_entry (call_of before called) answered ∷ [])
+  told-whole =
+      subst (IsTold tells before.opening) (e.grown ∙ whole-is) (subst (λ (a : AgentSeen O). IsTold tells a.opening after.pass.base) e.rest then.legal)
+
+  evictions-stay : BytesStay u k n (map eviction e.gone)
+  evictions-stay =
+      told-stay-before tells before.opening turn (map eviction e.gone) (told_entry (call_of before called) answered ∷ []) k told-whole (evictions-apart k kept.real e.gone) n
+
+  after-evictions : fold after_entry u (map eviction e.gone) ≡ cleared
+  after-evictions = evictions-fold u e.gone
+
+  state-whole : state_after before.opening whole ≡ after_entry cleared (told_entry (call_of before called) answered)
+  state-whole =
+      ap (state_after before.opening) whole-is
+      ∙ fold-append after_entry (begun before.opening) (turn ++ map eviction e.gone) (told_entry (call_of before called) answered ∷ [])
+      ∙ ap (λ x. after_entry x (told_entry (call_of before called) answered)) (fold-append after_entry (begun before.opening) turn (map eviction e.gone) ∙ after-evictions)
+
+  -- It left the row and its bytes.
+  pub entered-stands : own_of (agent_of (state_after before.opening whole) k) n ≡ own_of (agent_of cleared k) n
+      → row_bytes (state_after before.opening whole) k n ≡ row_bytes cleared k n → StandsFor tells before.opening whole k n work
+  entered-stands same bytes =
+      let last : BytesStay (fold after_entry u (map eviction e.gone)) k n (told_entry (call_of before called) answered ∷ []) =
+      subst (λ x. BytesStay x k n (told_entry (call_of before called) answered ∷ [])) (sym after-evictions)
+      (ap (λ x. row_bytes x k n) (sym state-whole) ∙ bytes, tt)
+      in
+      let stay = stay-append u k n (map eviction e.gone) (told_entry (call_of before called) answered ∷ []) evictions-stay last in
+      let joined : turn ++ (map eviction e.gone ++ told_entry (call_of before called) answered ∷ []) ≡ whole =
+      append_assoc (before.pass.base ++ e.others) before.pending (map eviction e.gone ++ told_entry (call_of before called) answered ∷ []) in
+      let row : own_of (agent_of (state_after before.opening whole) k) n ≡ own_of (agent_of u k) n =
+      same ∙ row-there tells before after kept called answered given e n ∙ sym (ap (λ x. own_of x.0 n) e.own) in
+      subst (λ es. StandsFor tells before.opening es k n work) joined
+      (stands-kept tells before.opening turn (map eviction e.gone ++ told_entry (call_of before called) answered ∷ []) k n work in-turn stay
+      (ap (λ es. own_of (agent_of (state_after before.opening es) k) n) joined ∙ row))
+
+  not-stuck : (o : Op) → asks_nobody o ≡ true → refused cleared k o ≡ cleared
+  not-stuck (op.Await tag) h = absurd (false≢true h)
+  not-stuck o h = refl
+
+  -- It was refused.
+  pub refused-stands : is_refusal answered ≡ true → asks_nobody called ≡ true → StandsFor tells before.opening whole k n work
+  refused-stands is nobody =
+      let state : state_after before.opening whole ≡ counted cleared k = refused-state tells before after kept called answered given e is ∙ ap (λ x. counted x k) (not-stuck called nobody) in
+      entered-stands (ap (λ x. own_of (agent_of x k) n) state) (ap (λ x. row_bytes x k n) state)

@@ -1,0 +1,119 @@
+//! How an agent asks for a shared call.
+
+ghost use Rattle.std.specs.Prelude.{◌≡◌};
+ghost use Rattle.opfs_hist.specs.declared.reply.Reply.TheVariants as reply;
+ghost use Rattle.opfs_turns.specs.Calls.{HasRoom};
+ghost use Rattle.opfs_calls.specs.Answers.{Shared, MayAskPlainly, IsAnsweredBy, IsFlag, IsEstimate, refusal_in, IsAnswer};
+
+use crate::stop::Stop;
+use opfs_acts::{Acted, Store};
+use opfs_hall::Hall;
+use opfs_hist::{Op, Refusal, Reply, Room};
+use opfs_turns::Turns;
+use opfs_work::Work;
+use std::alloc::{AllocError, Global};
+use std::sync::Wait;
+
+/// Makes a shared call that names no open row.
+pub fn ask<S: Store, R: Wait>(
+    rt: &R,
+    alloc: Global,
+    turns: &mut Turns<S>,
+    court: &Hall<S>,
+    op: Op,
+) -> Result<Acted, Stop>
+    requires own { turns.old.pass.hall ≡ court.now }
+    requires room { HasRoom turns.old }
+    requires may { MayAskPlainly turns.old op }
+    ensures { Shared S.tells turns.old turns.new op (λ acted answered given. (acted.reply ≡ answered) × (acted.gift ≡ given)) result }
+{
+    let Ok(room) = Room::make(alloc) else {
+        return Err(Stop::NoMemory);
+    };
+    let mut work = Work::fresh(alloc);
+    let acted = turns.call(rt, court, room, op, &mut work, &[]);
+    answer(acted)
+}
+
+/// Makes a shared call that names no open row, and that is answered by Done alone.
+pub fn ask_done<S: Store, R: Wait>(
+    rt: &R,
+    alloc: Global,
+    turns: &mut Turns<S>,
+    court: &Hall<S>,
+    op: Op,
+) -> Result<(), Stop>
+    requires own { turns.old.pass.hall ≡ court.now }
+    requires room { HasRoom turns.old }
+    requires may { MayAskPlainly turns.old op }
+    requires answer { IsAnsweredBy op (λ answered. answered ≡ reply.Done) }
+    ensures { Shared S.tells turns.old turns.new op (λ _ answered _. answered ≡ reply.Done) result }
+{
+    let _acted = ask(rt, alloc, turns, court, op)?;
+    Ok(())
+}
+
+/// Makes a shared call that names no open row, and that is answered by yes or no alone.
+pub fn ask_flag<S: Store, R: Wait>(
+    rt: &R,
+    alloc: Global,
+    turns: &mut Turns<S>,
+    court: &Hall<S>,
+    op: Op,
+) -> Result<bool, Stop>
+    requires own { turns.old.pass.hall ≡ court.now }
+    requires room { HasRoom turns.old }
+    requires may { MayAskPlainly turns.old op }
+    requires answer { IsAnsweredBy op IsFlag }
+    ensures { Shared S.tells turns.old turns.new op (λ flag answered _. answered ≡ reply.Flag flag) result }
+{
+    let acted = ask(rt, alloc, turns, court, op)?;
+    match acted.reply {
+        Reply::Flag(flag) => Ok(flag),
+        _ => unreachable!(),
+    }
+}
+
+/// Makes a shared call that names no open row, and that is answered by usage and quota alone.
+pub fn ask_estimate<S: Store, R: Wait>(
+    rt: &R,
+    alloc: Global,
+    turns: &mut Turns<S>,
+    court: &Hall<S>,
+    op: Op,
+) -> Result<(u64, u64), Stop>
+    requires own { turns.old.pass.hall ≡ court.now }
+    requires room { HasRoom turns.old }
+    requires may { MayAskPlainly turns.old op }
+    requires answer { IsAnsweredBy op IsEstimate }
+    ensures { Shared S.tells turns.old turns.new op (λ told answered _. answered ≡ reply.Estimate told.0 told.1) result }
+{
+    let acted = ask(rt, alloc, turns, court, op)?;
+    match acted.reply {
+        Reply::Estimate(used, quota) => Ok((used, quota)),
+        _ => unreachable!(),
+    }
+}
+
+// The refusal of a reply.
+fn refusal_in(reply: &Reply) -> Option<Refusal>
+    ensures { result ≡ refusal_in reply.now }
+{
+    match reply {
+        Reply::No(refusal) => Some(*refusal),
+        _ => None,
+    }
+}
+
+/// What a call answered, or why it gives nothing.
+pub fn answer(acted: Result<Acted, AllocError>) -> Result<Acted, Stop>
+    ensures { IsAnswer acted result }
+{
+    let Ok(acted) = acted else {
+        return Err(Stop::NoMemory);
+    };
+    match refusal_in(&acted.reply) {
+        Some(refusal) => Err(Stop::No(refusal)),
+        None => Ok(acted),
+    }
+}
