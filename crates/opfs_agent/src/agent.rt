@@ -1,6 +1,7 @@
 //! An agent, and how it makes its calls.
 
 ghost use Rattle.std.specs.Prelude.{◌≡◌, ◌≤◌, false, IfOk, IfErr, IsTrue};
+ghost use Rattle.std.specs.Option.{option_copied};
 ghost use Rattle.opfs_hist.specs.declared.op.Op.TheVariants as op;
 ghost use Rattle.opfs_hist.specs.declared.reply.Reply.TheVariants as reply;
 ghost use Rattle.opfs_machine.specs.Histories.{may_enter};
@@ -8,7 +9,7 @@ ghost use Rattle.opfs_machine.specs.Steps.{is_refusal};
 ghost use Rattle.opfs_turns.specs.Agents.{state_of, IsAgent};
 ghost use Rattle.opfs_turns.specs.Calls.{HasRoom, new_agent, MayBegin, HasEnded, IsLocal};
 ghost use Rattle.opfs_calls.specs.Answers.{Shared, MayAskPlainly, IsAnsweredBy, IsFlag};
-ghost use Rattle.opfs_calls.specs.Locals.{Local, Stopped};
+ghost use Rattle.opfs_calls.specs.Locals.{Local, Stopped, IsWhy};
 
 use opfs_acts::{Acted, Store};
 use opfs_base::Key;
@@ -54,6 +55,20 @@ impl<S: Store> Agent<S> {
     {
         let Agent { turns, alloc: _ } = self;
         turns.end(rt, court)
+    }
+
+    /// How many streams, access handles, snapshots and iterators it has made.
+    pub fn rows(&self) -> u32
+        ensures { result ≡ self.now.rows }
+    {
+        self.turns.rows()
+    }
+
+    /// The key of its origin; None where that is opaque.
+    pub fn key(&self) -> Option<&Key>
+        ensures { option_copied result ≡ self.now.key }
+    {
+        self.turns.key()
     }
 
     // What the type keeps.
@@ -115,7 +130,8 @@ impl<S: Store> Agent<S> {
     pub(crate) fn keep_refusal(&mut self, op: Op, refusal: Refusal) -> Stop
         requires room { HasRoom self.old }
         requires local { IsLocal S.tells self.old op (reply.No refusal) 0 }
-        ensures { Stopped S.tells self.old self.new op result }
+        ensures stopped { Stopped S.tells self.old self.new op result }
+        ensures why { IsWhy result refusal }
     {
         keep_refusal(self.alloc, &mut self.turns, op, refusal)
     }

@@ -1,17 +1,19 @@
 //! Buckets, and how a party's agents tell one another (Storage: persist, persisted; tags are this project's own).
 
-ghost use Rattle.std.specs.Prelude.{◌≡◌};
+ghost use Rattle.std.specs.Prelude.{◌≡◌, Some, IfOk};
 ghost use Rattle.opfs_hist.specs.declared.op.Op.TheVariants as op;
 ghost use Rattle.opfs_hist.specs.declared.reply.Reply.TheVariants as reply;
 ghost use Rattle.opfs_turns.specs.Calls.{HasRoom};
 ghost use Rattle.opfs_calls.specs.Answers.{Shared};
+ghost use Rattle.opfs_agent.specs.Entries.{root_of};
 
 use crate::agent::Agent;
 use opfs_acts::Store;
-use opfs_base::Text;
-use opfs_calls::Stop;
+use opfs_base::{Kind, Locator, Path, Text, unit_of};
+use opfs_calls::{Stop, ask_estimate};
 use opfs_hall::Hall;
 use opfs_hist::Op;
+use std::alloc::AllocError;
 use std::sync::Wait;
 
 impl<S: Store> Agent<S> {
@@ -44,6 +46,60 @@ impl<S: Store> Agent<S> {
             return Err(Stop::NoMemory);
         };
         self.ask_flag(rt, court, Op::Persisted { bucket })
+    }
+
+    /// Gives the locator of a bucket's root, and makes the root where it is missing (Storage: obtain a local storage bottle
+    /// map; File System: getDirectory).
+    #[tactic(auto, using(opfs_calls::proofs::Shares::looked_none), unfolding(opfs_machine::specs::Histories::may_enter, opfs_acts::specs::Asking::HasSmallNumbers, opfs_machine::specs::Replies::answer))]
+    pub fn get_directory<R: Wait>(
+        &mut self,
+        rt: &R,
+        court: &Hall<S>,
+        bucket: &Text,
+    ) -> Result<Locator, Stop>
+        requires own { self.old.pass.hall ≡ court.now }
+        requires room { HasRoom self.old }
+        ensures { Shared S.tells self.old self.new (op.GetDirectory bucket.now) (λ at answered _. (Some at ≡ root_of self.old.key bucket.now) × (answered ≡ reply.Done)) result }
+    {
+        self.kept();
+        let Ok(root) = self.root(bucket) else {
+            return Err(Stop::NoMemory);
+        };
+        let Ok(bucket) = bucket.copy(self.alloc) else {
+            return Err(Stop::NoMemory);
+        };
+        self.ask_done(rt, court, Op::GetDirectory { bucket })?;
+        let Some(root) = root else {
+            // An agent without a key was refused.
+            unreachable!();
+        };
+        Ok(root)
+    }
+
+    // The locator of a bucket's root; None without a key.
+    fn root(&self, bucket: &Text) -> Result<Option<Locator>, AllocError>
+        ensures { IfOk result (λ root. root ≡ root_of self.now.key bucket.now) }
+    {
+        let Some(origin) = self.key() else {
+            return Ok(None);
+        };
+        let key = unit_of(self.alloc, origin, bucket.as_str())?;
+        let path = Path::root(self.alloc);
+        Ok(Some(Locator {
+            key,
+            path,
+            kind: Kind::Directory,
+        }))
+    }
+
+    /// Gives the usage and the quota of the agent's origin, in bytes (Storage: estimate).
+    #[tactic(auto, using(opfs_calls::proofs::Shares::looked_none), unfolding(opfs_machine::specs::Histories::may_enter, opfs_acts::specs::Asking::HasSmallNumbers, opfs_machine::specs::Replies::answer))]
+    pub fn estimate<R: Wait>(&mut self, rt: &R, court: &Hall<S>) -> Result<(u64, u64), Stop>
+        requires own { self.old.pass.hall ≡ court.now }
+        requires room { HasRoom self.old }
+        ensures { Shared S.tells self.old self.new op.Estimate (λ told answered _. answered ≡ reply.Estimate told.0 told.1) result }
+    {
+        ask_estimate(rt, self.alloc, &mut self.turns, court, Op::Estimate)
     }
 
     /// Posts a tag for the agents of this one's party (this project's own).

@@ -4,6 +4,11 @@
 mod agent;
 mod buckets;
 mod entries;
+mod iteration;
+mod locals;
+mod snapshots;
 
 pub use agent::Agent;
+pub use iteration::Iter;
 pub use opfs_calls::Stop;
+pub use snapshots::Snapshot;

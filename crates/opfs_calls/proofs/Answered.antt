@@ -82,11 +82,11 @@ module _ {O : Type 0} (tells : Type 0) (before after : AgentSeen O) (called : Op
   abbrev pub turn_state : State Text Own
   turn_state = state_after before.opening (before_call before e.others)
 
-  real_accepted : is_refusal e.call.real.reply ≡ false
+  pub real_accepted : is_refusal e.call.real.reply ≡ false
   real_accepted =
       sym (refuses-same e.call.real.reply) ∙ ap (λ (x : Entry). is_refusal x.reply) (sym e.call.alike) ∙ refuses-same answered ∙ accepted
 
-  real_answered : e.call.real.reply ≡ answer turn_state (sizes_of turn_state before.pass.agent called) before.pass.agent called
+  pub real_answered : e.call.real.reply ≡ answer turn_state (sizes_of turn_state before.pass.agent called) before.pass.agent called
   real_answered =
       agrees-answered turn_state e.gone e.call.real.agent e.call.real.op e.call.real.reply e.call.call.agrees real_accepted
       ∙ (λ i. answer turn_state (sizes_of turn_state (ap (λ (x : Entry). x.agent) (sym e.call.alike) i) (ap (λ (x : Entry). x.op) (sym e.call.alike) i)) (ap (λ (x : Entry). x.agent) (sym e.call.alike) i) (ap (λ (x : Entry). x.op) (sym e.call.alike) i))
@@ -156,7 +156,7 @@ unfolding judged ruling get_handle_ruling
 directory-named s k dir name create units is = passed (is_valid_name name) _ _ _ units is
 
 module _ {O T : Type 0} (tells : Type 0) (before after : AgentSeen O) (called : Op) (Gives : T → Reply → Gift → Type 0) (x : T) (h : HasAnswer tells before after called Gives x) where
-  judged-there : (units : List Text) × (judged (turn_state tells before after called h.answered h.given h.entered h.accepted) before.pass.agent called ≡ Ok units)
+  pub judged-there : (units : List Text) × (judged (turn_state tells before after called h.answered h.given h.entered h.accepted) before.pass.agent called ≡ Ok units)
   judged-there =
       let e = h.entered in
       let agent_is = ap (λ (r : Entry). r.agent) (sym e.call.alike) in

@@ -63,13 +63,13 @@ module _ {O : Type 0} (tells : Type 0) (before after : AgentSeen O) (kept : IsAg
       (alike-front before.pending _ _
       (alike-front (map eviction e.gone) (told_entry (call_of before called) answered ∷ []) (e.call.real ∷ []) (λ i. e.call.alike i ∷ [])))
 
-  real-agent : e.call.real.agent ≡ k
+  pub real-agent : e.call.real.agent ≡ k
   real-agent = ap (λ (x : Entry). x.agent) (sym e.call.alike)
 
-  real-op : e.call.real.op ≡ called
+  pub real-op : e.call.real.op ≡ called
   real-op = ap (λ (x : Entry). x.op) (sym e.call.alike)
 
-  same-refusal : is_refusal e.call.real.reply ≡ is_refusal answered
+  pub same-refusal : is_refusal e.call.real.reply ≡ is_refusal answered
   same-refusal = sym (refuses-same e.call.real.reply) ∙ ap (λ (x : Entry). is_refusal x.reply) (sym e.call.alike) ∙ refuses-same answered
 
   list-state : state_after before.opening list ≡ after_reply t k called e.call.real.reply

@@ -5,3 +5,4 @@ pub mod RowsAfter
 pub mod Entered
 pub mod Stands
 pub mod Plains
+pub mod Rowed

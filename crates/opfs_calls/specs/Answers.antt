@@ -1,5 +1,5 @@
 -- What a shared call of an agent asks and answers. This project's own.
-use Rattle.std.specs.Prelude.{◌≡◌, ℕ, Bool, false, [], Option, Some, None, Result, Ok, Err, IsTrue}
+use Rattle.std.specs.Prelude.{◌≡◌, ℕ, Bool, false, List, [], Option, Some, None, Result, Ok, Err, IsTrue}
 use Rattle.opfs_base.specs.Texts.{Text}
 use Rattle.opfs_base.specs.declared.locator.Locator.{Locator}
 use Rattle.opfs_hist.specs.declared.op.Op.{Op}
@@ -48,6 +48,16 @@ pub record MayAskPlainly {O : Type 0} (a : AgentSeen O) (op : Op) : Type 0 where
   pub plain : row_named op ≡ 0
   pub numbers : HasSmallNumbers op
   pub given : given_by (state_of a) a.pass.agent op ≡ []
+  pub stays : is_end op ≡ false
+
+-- The same of one that names an iterator, which has given these names.
+pub record MayAskPast {O : Type 0} (a : AgentSeen O) (op : Op) (past : List Text) : Type 0 where
+  pub shared : IsTrue (is_shared op)
+  pub nobody : IsTrue (asks_nobody op)
+  pub fitting : IsTrue (may_enter (state_of a) a.pass.agent op)
+  pub plain : row_named op ≡ 0
+  pub numbers : HasSmallNumbers op
+  pub given : past ≡ given_by (state_of a) a.pass.agent op
   pub stays : is_end op ≡ false
 
 -- A locator is of the agent's own origin.

@@ -2,6 +2,7 @@
 use Rattle.std.specs.Prelude.{◌≡◌, ℕ, Bool, true, false, Result, Ok, Err}
 use Rattle.opfs_hist.specs.declared.op.Op.{Op}
 use Rattle.opfs_hist.specs.declared.op.Op.TheVariants as op
+use Rattle.opfs_hist.specs.declared.reply.Refusal.{Refusal}
 use Rattle.opfs_hist.specs.declared.reply.Reply.{Reply}
 use Rattle.opfs_hist.specs.declared.reply.Reply.TheVariants as reply
 use Rattle.opfs_machine.specs.Steps.{is_refusal}
@@ -55,3 +56,8 @@ is_handle_op (op.SyncTruncate n size) = true
 is_handle_op (op.SyncGetSize n) = true
 is_handle_op (op.SyncFlush n) = true
 is_handle_op called = false
+
+-- It gives nothing for this refusal, or for want of memory.
+abbrev pub IsWhy : Stop → Refusal → Type 0
+IsWhy (stop.No why) r = why ≡ r
+IsWhy stop.NoMemory r = Unit {0}

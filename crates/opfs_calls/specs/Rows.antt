@@ -1,14 +1,15 @@
 -- What an agent has: what its handles say of its own rows (File System: FileSystemWritableFileStream,
 -- FileSystemSyncAccessHandle, File). Snapshots and iterators are this project's own.
-use Rattle.std.specs.Prelude.{◌≡◌, ℕ, List, length, Some}
+use Rattle.std.specs.Prelude.{◌≡◌, ℕ, true, List, length, Some}
 use Rattle.opfs_base.specs.Places.{place_of}
 use Rattle.opfs_base.specs.Texts.{Text}
 use Rattle.opfs_base.specs.declared.locator.Locator.{Locator}
 use Rattle.opfs_hist.specs.declared.op.Mode.{Mode}
 use Rattle.opfs_machine.specs.declared.own.Own.{Own}
 use Rattle.opfs_machine.specs.declared.own.Own.TheVariants as own
+use Rattle.opfs_machine.specs.Histories.{is_own}
 use Rattle.opfs_copies.specs.Copies.{StandsFor}
-use Rattle.opfs_turns.specs.Agents.{AgentSeen, known, own_row}
+use Rattle.opfs_turns.specs.Agents.{AgentSeen, known, state_of, own_row}
 use Rattle.opfs_work.specs.Works.{WorkingCopy}
 
 -- An open stream: the number of its row, its file, and its working copy.
@@ -62,8 +63,10 @@ pub record HasSnapshot {O : Type 0} (tells : Type 0) (a : AgentSeen O) (s : Snap
   pub size : length s.bytes ≡ length bytes
   pub told : tells → s.bytes ≡ bytes
 
-abbrev pub HasIterator : {O : Type 0} → AgentSeen O → IteratorSeen → Type 0
-HasIterator a i = own_row a i.row ≡ Some (own.Iterator (record { dir = i.dir; given = i.given }))
+-- The agent's own row is an iterator over this directory, of its own origin, which has given these names.
+pub record HasIterator {O : Type 0} (a : AgentSeen O) (i : IteratorSeen) : Type 0 where
+  pub there : own_row a i.row ≡ Some (own.Iterator (record { dir = i.dir; given = i.given }))
+  pub mine : is_own (state_of a) a.pass.agent i.dir ≡ true
 
 abbrev pub HasClosedStream : {O : Type 0} → AgentSeen O → ℕ → Type 0
 HasClosedStream a n = own_row a n ≡ Some own.ClosedStream

@@ -3,10 +3,11 @@
 ghost use Rattle.std.specs.Prelude.{◌≡◌};
 ghost use Rattle.opfs_hist.specs.declared.reply.Reply.TheVariants as reply;
 ghost use Rattle.opfs_turns.specs.Calls.{HasRoom};
-ghost use Rattle.opfs_calls.specs.Answers.{Shared, MayAskPlainly, IsAnsweredBy, IsFlag, IsEstimate, refusal_in, IsAnswer};
+ghost use Rattle.opfs_calls.specs.Answers.{Shared, MayAskPlainly, MayAskPast, IsAnsweredBy, IsFlag, IsEstimate, refusal_in, IsAnswer};
 
 use crate::stop::Stop;
 use opfs_acts::{Acted, Store};
+use opfs_base::Name;
 use opfs_hall::Hall;
 use opfs_hist::{Op, Refusal, Reply, Room};
 use opfs_turns::Turns;
@@ -32,6 +33,28 @@ pub fn ask<S: Store, R: Wait>(
     };
     let mut work = Work::fresh(alloc);
     let acted = turns.call(rt, court, room, op, &mut work, &[]);
+    answer(acted)
+}
+
+/// Asks for the next child of an iterator that has given these names.
+pub fn ask_past<S: Store, R: Wait>(
+    rt: &R,
+    alloc: Global,
+    turns: &mut Turns<S>,
+    court: &Hall<S>,
+    op: Op,
+    past: &[Name],
+) -> Result<Acted, Stop>
+    requires own { turns.old.pass.hall ≡ court.now }
+    requires room { HasRoom turns.old }
+    requires may { MayAskPast turns.old op past.now }
+    ensures { Shared S.tells turns.old turns.new op (λ acted answered given. (acted.reply ≡ answered) × (acted.gift ≡ given)) result }
+{
+    let Ok(room) = Room::make(alloc) else {
+        return Err(Stop::NoMemory);
+    };
+    let mut work = Work::fresh(alloc);
+    let acted = turns.call(rt, court, room, op, &mut work, past);
     answer(acted)
 }
 

@@ -4,7 +4,7 @@ ghost use Rattle.std.specs.Prelude.{◌≡◌, ◌≤◌, false, Ok, Err};
 ghost use Rattle.opfs_hist.specs.declared.reply.Reply.TheVariants as reply;
 ghost use Rattle.opfs_machine.specs.Steps.{is_refusal};
 ghost use Rattle.opfs_turns.specs.Calls.{HasRoom, IsLocal};
-ghost use Rattle.opfs_calls.specs.Locals.{Local, Stopped};
+ghost use Rattle.opfs_calls.specs.Locals.{Local, Stopped, IsWhy};
 
 use crate::stop::Stop;
 use opfs_acts::Store;
@@ -37,7 +37,8 @@ pub fn keep_call<S: Store>(
 pub fn keep_refusal<S: Store>(alloc: Global, turns: &mut Turns<S>, op: Op, refusal: Refusal) -> Stop
     requires room { HasRoom turns.old }
     requires local { IsLocal S.tells turns.old op (reply.No refusal) 0 }
-    ensures { Stopped S.tells turns.old turns.new op result }
+    ensures stopped { Stopped S.tells turns.old turns.new op result }
+    ensures why { IsWhy result refusal }
 {
     let Ok(room) = Room::make(alloc) else {
         return Stop::NoMemory;

@@ -6,6 +6,6 @@ mod asking;
 mod keeping;
 mod stop;
 
-pub use asking::{answer, ask, ask_done, ask_estimate, ask_flag};
+pub use asking::{answer, ask, ask_done, ask_estimate, ask_flag, ask_past};
 pub use keeping::{keep_call, keep_refusal};
 pub use stop::Stop;

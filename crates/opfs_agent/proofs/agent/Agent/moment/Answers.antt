@@ -1,0 +1,5 @@
+use Rattle.opfs_calls.proofs.Plains.{moment-local}
+use Rattle.opfs_agent.proofs.agent.Agent.moment.Goals as goal
+
+pub keep_call-requires-clause-local : goal.keep_call-requires-clause-local
+keep_call-requires-clause-local g c = moment-local g.S.Store.tells c.args.self.now c.kept.ensures c.args.ms

@@ -1,0 +1,5 @@
+use Rattle.opfs_calls.proofs.Plains.{unbound-local}
+use Rattle.opfs_agent.proofs.agent.Agent.unbound.Goals as goal
+
+pub keep_refusal-requires-clause-local : goal.keep_refusal-requires-clause-local
+keep_refusal-requires-clause-local g c = unbound-local g.S.Store.tells c.args.self.now c.kept.ensures c.args.word
