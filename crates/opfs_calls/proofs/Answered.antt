@@ -48,7 +48,7 @@ abbrev pub is_read : Reply → Bool
 is_read (reply.Read bytes) = true
 is_read r = false
 
-unread-is : (r t : Reply) → unread r ≡ t → is_read t ≡ false → r ≡ t
+pub unread-is : (r t : Reply) → unread r ≡ t → is_read t ≡ false → r ≡ t
 unread-is (reply.Read bytes) t is plain = absurd (true_false (ap is_read is ∙ plain))
 unread-is reply.Done t is plain = is
 unread-is (reply.Length n) t is plain = is
@@ -62,7 +62,7 @@ unread-is (reply.Estimate used quota) t is plain = is
 unread-is (reply.Gone unit) t is plain = is
 unread-is (reply.No r) t is plain = is
 
-unread-plain : (t : Reply) → is_read t ≡ false → unread t ≡ t
+pub unread-plain : (t : Reply) → is_read t ≡ false → unread t ≡ t
 unread-plain (reply.Read bytes) plain = absurd (true_false plain)
 unread-plain reply.Done plain = refl
 unread-plain (reply.Length n) plain = refl

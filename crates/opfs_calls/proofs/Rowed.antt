@@ -12,8 +12,8 @@ use Rattle.opfs_machine.specs.declared.state.State.{State}
 use Rattle.opfs_machine.specs.Agents.{agent_of, counted}
 use Rattle.opfs_machine.specs.Contents.{in_bytes}
 use Rattle.opfs_machine.specs.Effects.{effect, refused}
-use Rattle.opfs_machine.specs.Histories.{Agrees, state_after}
-use Rattle.opfs_machine.specs.Replies.{sizes_of}
+use Rattle.opfs_machine.specs.Histories.{Agrees, is_disk_op, state_after}
+use Rattle.opfs_machine.specs.Replies.{answer, sizes_of}
 use Rattle.opfs_machine.specs.Rulings.{ruling}
 use Rattle.opfs_machine.specs.Steps.{Outcome, outcome_of, step, is_refusal}
 use Rattle.opfs_machine.specs.Sums.{no_need}
@@ -27,6 +27,8 @@ use Rattle.opfs_calls.specs.Answers.{Shared}
 use Rattle.opfs_calls.specs.declared.stop.Stop.{Stop}
 use Rattle.opfs_calls.specs.declared.stop.Stop.TheVariants as stop
 use Rattle.opfs_calls.proofs.Entered.{s, t, list, known-is, opening-is, agent-is, accepted-state, refused-state, agent-same, real-agent, real-op, same-refusal, moved}
+use Rattle.opfs_histories.specs.Unread.{unread}
+use Rattle.opfs_calls.proofs.Answered.{is_read, unread-is, unread-plain}
 use Rattle.opfs_calls.proofs.Granted.{granted}
 
 -- The agent's own record, as it knows it.
@@ -81,6 +83,31 @@ module _ {O : Type 0} (tells : Type 0) (before after : AgentSeen O) (kept : IsAg
       (subst (λ o. step u k o ≡ outcome_of u k o (Ok [])) (sym (real-op tells before after kept called answered given e)) here)
       in
       gone-by u e.call.real.agent e.call.real.op e.call.real.reply e.gone e.call.call.agrees (same-refusal tells before after kept called answered given e ∙ ok) there
+
+  sure-by : (u : State Text Own) (j : ℕ) (o : Op) (r : Reply) (gone : List Text) → Agrees u gone j o r (step u j o) → is_disk_op u j o ≡ false → step u j o ≡ outcome_of u j o (Ok []) → r ≡ answer u (sizes_of u j o) j o
+  unfolding outcome_of
+  sure-by u j o r gone (inl is) never same = is.same_reply ∙ ap (λ (x : Outcome). x.answered) same
+  sure-by u j o r gone (inr fault) never same = absurd (false≢true (sym never ∙ fault.disk))
+
+  -- One that needs no disk is answered as if nothing refused it.
+  pub sure-answer : (is_disk_op (s tells before after kept called answered given e) k called ≡ false)
+      → ruling in_bytes (s tells before after kept called answered given e) (sizes_of (s tells before after kept called answered given e) k called) k called ≡ Ok no_need
+      → is_read (answer (s tells before after kept called answered given e) (sizes_of (s tells before after kept called answered given e) k called) k called) ≡ false
+      → answered ≡ answer (s tells before after kept called answered given e) (sizes_of (s tells before after kept called answered given e) k called) k called
+  sure-answer never ruled plain =
+      let u = s tells before after kept called answered given e in
+      let j_is = real-agent tells before after kept called answered given e in
+      let o_is = real-op tells before after kept called answered given e in
+      let here : step u k called ≡ outcome_of u k called (Ok []) = granted u k called ruled in
+      let there : step u e.call.real.agent e.call.real.op ≡ outcome_of u e.call.real.agent e.call.real.op (Ok []) =
+      subst (λ j. step u j e.call.real.op ≡ outcome_of u j e.call.real.op (Ok [])) (sym j_is) (subst (λ o. step u k o ≡ outcome_of u k o (Ok [])) (sym o_is) here)
+      in
+      let real : e.call.real.reply ≡ answer u (sizes_of u k called) k called =
+      sure-by u e.call.real.agent e.call.real.op e.call.real.reply e.gone e.call.call.agrees ((λ i. is_disk_op u (j_is i) (o_is i)) ∙ never) there
+      ∙ (λ i. answer u (sizes_of u (j_is i) (o_is i)) (j_is i) (o_is i))
+      in
+      unread-is answered (answer u (sizes_of u k called) k called)
+      (ap (λ (x : Entry). x.reply) e.call.alike ∙ ap unread real ∙ unread-plain (answer u (sizes_of u k called) k called) plain) plain
 
 -- What gives nothing leaves the agent.
 pub stopped-own : {O T : Type 0} (tells : Type 0) (before after : AgentSeen O) (called : Op) (Gives : T → Reply → Gift → Type 0) (why : Stop) → IsAgent tells before → asks_nobody called ≡ true

@@ -12,6 +12,7 @@ use Rattle.opfs_machine.specs.Effects.{with_changed}
 use Rattle.opfs_machine.specs.Openings.{Opening}
 use Rattle.opfs_laws.proofs.Numbers.{IsNumber, agent-set}
 use Rattle.opfs_acts.specs.Acting.{StandsForLeft}
+use Rattle.opfs_acts.specs.Asking.{IsHandedIn}
 use Rattle.opfs_copies.specs.Copies.{StandsFor}
 use Rattle.opfs_work.specs.Works.{WorkingCopy}
 
@@ -64,3 +65,16 @@ last-number xs ys r is none = let n = ap length is ∙ length-append xs (r ∷ [
 pub left-stands : (tells : Type 0) (o : Opening) (h : List Entry) (k n : ℕ) (work : WorkingCopy) → n ≢ 0 → StandsForLeft tells o h k n work → StandsFor tells o h k n work
 left-stands tells o h k zero work some left = absurd (some refl)
 left-stands tells o h k (suc n) work some left = left
+
+-- No row has the number 0.
+pub some-number : (a : Agent Own) (n : ℕ) (r : Own) → own_of a n ≡ Some r → n ≢ 0
+some-number a zero r is = absurd cc
+some-number a (suc n) r is = λ none. absurd (omega (arith, none))
+
+-- A working copy that stands for a row may be handed in with it.
+pub handed-row : (tells : Type 0) (o : Opening) (h : List Entry) (k n : ℕ) (work : WorkingCopy) → StandsFor tells o h k n work → IsHandedIn tells o h k n work
+handed-row tells o h k zero work stands = absurd (none-there stands.there)
+  where
+    none-there : None ≡ Some stands.row → ⊥
+    none-there e = cc
+handed-row tells o h k (suc n) work stands = stands

@@ -1,5 +1,5 @@
 -- A working copy still stands for its row behind a call that leaves the row.
-use Rattle.std.proofs.Common.{◌≡◌, ◌≢◌, ℕ, true, false, All, List, [], ◌∷◌, ◌++◌, append_assoc, map, fold, Some, refl, sym, ap, ◌∙◌, subst}
+use Rattle.std.proofs.Common.{◌≡◌, ◌≢◌, ℕ, ◌<◌, ◌&&◌, length, true, false, All, List, [], ◌∷◌, ◌++◌, append_assoc, map, fold, Some, Err, refl, sym, ap, ◌∙◌, subst}
 use Rattle.std.proofs.lemmas.Bool.{false≢true}
 use Rattle.std.proofs.lemmas.List.Elements.{All-cons, All-map, All-nil}
 use Rattle.std.proofs.lemmas.List.Sums.{fold-append}
@@ -8,6 +8,10 @@ use Rattle.opfs_hist.specs.declared.entry.Entry.{Entry}
 use Rattle.opfs_hist.specs.declared.op.Op.{Op}
 use Rattle.opfs_hist.specs.declared.op.Op.TheVariants as op
 use Rattle.opfs_hist.specs.declared.reply.Reply.{Reply}
+use Rattle.opfs_hist.specs.declared.reply.Reply.TheVariants as reply
+use Rattle.opfs_calls.specs.Answers.{Shared}
+use Rattle.opfs_calls.specs.declared.stop.Stop.{Stop}
+use Rattle.opfs_calls.specs.declared.stop.Stop.TheVariants as stop
 use Rattle.opfs_machine.specs.declared.own.Own.{Own}
 use Rattle.opfs_machine.specs.declared.state.State.{State}
 use Rattle.opfs_machine.specs.Agents.{agent_of, own_of, counted}
@@ -19,17 +23,21 @@ use Rattle.opfs_machine.specs.Steps.{evicted, is_refusal}
 use Rattle.opfs_histories.specs.Opened.{added}
 use Rattle.opfs_laws.specs.Leaving.{asks_nobody}
 use Rattle.opfs_steady.specs.Settling.{BytesStay}
-use Rattle.opfs_steady.specs.Steady.{row_bytes}
-use Rattle.opfs_copies.specs.Copies.{StandsFor}
+use Rattle.opfs_steady.specs.Steady.{row_bytes, goes_on, is_steady, steady_by}
+use Rattle.opfs_steady.proofs.GoingOn.{steady-append}
+use Rattle.opfs_steady.proofs.Leaving.{local-leave}
+use Rattle.opfs_copies.specs.Copies.{IsCopyOf, StandsFor}
 use Rattle.opfs_copies.proofs.Copying.{stands-kept}
 use Rattle.opfs_histories.specs.Unread.{IsTold}
 use Rattle.opfs_acts.specs.declared.acted.Gift.{Gift}
-use Rattle.opfs_acts.specs.Acting.{told_entry}
+use Rattle.opfs_acts.specs.Acting.{told_entry, IsSameCopy}
 use Rattle.opfs_turns.specs.Agents.{AgentSeen, IsAgent, known, state_of, own_row}
-use Rattle.opfs_turns.specs.Calls.{call_of, before_call, IsEntered, HasLooked}
+use Rattle.opfs_turns.specs.Calls.{call_of, before_call, IsEntered, HasLooked, IsLocal, IsKept, kept_entry}
+use Rattle.opfs_turns.proofs.Keeping.{after-step}
+use Rattle.opfs_machine.specs.Steps.{step}
 use Rattle.opfs_turns.proofs.Others.{told-stay-before}
 use Rattle.opfs_turns.proofs.Standing.{stands-there}
-use Rattle.opfs_work.specs.Works.{WorkingCopy}
+use Rattle.opfs_work.specs.Works.{WorkingCopy, IsStored}
 use Rattle.opfs_calls.proofs.Entered.{t, list, known-is, opening-is, agent-is, refused-state, agent-same, row-there}
 
 stay-append : (s : State Text Own) (k n : ℕ) (xs ys : List Entry) → BytesStay s k n xs → BytesStay (fold after_entry s xs) k n ys → BytesStay s k n (xs ++ ys)
@@ -130,3 +138,70 @@ module _ {O : Type 0} (tells : Type 0) (before after : AgentSeen O) (kept : IsAg
   refused-stands is nobody =
       let state : state_after before.opening whole ≡ counted cleared k = refused-state tells before after kept called answered given e is ∙ ap (λ x. counted x k) (not-stuck called nobody) in
       entered-stands (ap (λ x. own_of (agent_of x k) n) state) (ap (λ x. row_bytes x k n) state)
+
+-- What gives nothing leaves the copy standing.
+pub stopped-stands : {O T : Type 0} (tells : Type 0) (before after : AgentSeen O) (called : Op) (Gives : T → Reply → Gift → Type 0) (why : Stop) (n : ℕ) (work : WorkingCopy) → IsAgent tells before → IsAgent tells after
+    → asks_nobody called ≡ true → Shared tells before after called Gives (Err why) → StandsFor tells before.opening (known before) before.pass.agent n work
+    → StandsFor tells after.opening (known after) after.pass.agent n work
+stopped-stands tells before after called Gives (stop.No r) n work kept then nobody h stands =
+    let here = refused-stands tells before after kept then called (reply.No r) h.given h.entered n work stands refl nobody in
+    subst (λ o. StandsFor tells o (known after) after.pass.agent n work) (sym (opening-is tells before after kept called (reply.No r) h.given h.entered))
+    (subst (λ k. StandsFor tells before.opening (known after) k n work) (sym (agent-is tells before after kept called (reply.No r) h.given h.entered))
+    (subst (λ es. StandsFor tells before.opening es before.pass.agent n work) (sym (known-is tells before after kept called (reply.No r) h.given h.entered)) here))
+stopped-stands tells before after called Gives stop.NoMemory n work kept then nobody h stands = looked-stands tells before after n work kept then h stands
+
+-- ---- local calls
+
+-- A working copy with another room.
+pub same-stands : (tells : Type 0) (o : Opening) (h : List Entry) (k n : ℕ) (old new : WorkingCopy) → IsSameCopy old new → StandsFor tells o h k n old → StandsFor tells o h k n new
+same-stands tells o h k n old new same stands = subst (StandsFor tells o h k n) (sym same) (record {
+  row = stands.row;
+  there = stands.there;
+  copy = record { bytes = stands.copy.bytes; open_row = stands.copy.open_row; size = stands.copy.size; same = stands.copy.same; position = stands.copy.position; reserve = stands.copy.reserve };
+  held = stands.held;
+})
+
+module _ {O : Type 0} (tells : Type 0) (before after : AgentSeen O) (kept : IsAgent tells before) (called : Op) (answered : Reply) (made : ℕ)
+    (local : IsLocal tells before called answered made) (is : IsKept before after called answered made) where
+  abbrev e : Entry
+  e = kept_entry before called answered
+
+  known-more : known after ≡ known before ++ kept_entry before called answered ∷ []
+  known-more = ap (λ (a : AgentSeen O). a.pass.base ++ a.pending) is ∙ sym (append_assoc before.pass.base before.pending (kept_entry before called answered ∷ []))
+
+  state-more : state_after before.opening (known before ++ kept_entry before called answered ∷ []) ≡ (step (state_of before) before.pass.agent called).after
+  state-more =
+      fold-append after_entry (begun before.opening) (known before) (kept_entry before called answered ∷ [])
+      ∙ after-step tells before kept called answered made local
+
+  -- Its pages go on.
+  pub goes-steady : (n i : ℕ) → is_steady before.opening (known before) before.pass.agent n i ≡ true
+      → goes_on (row_bytes (state_of before) before.pass.agent n) (row_bytes (step (state_of before) before.pass.agent called).after before.pass.agent n) i ≡ true
+      → is_steady before.opening (known before ++ kept_entry before called answered ∷ []) before.pass.agent n i ≡ true
+  goes-steady n i was goes =
+      steady-append (begun before.opening) false before.pass.agent n i (known before) (kept_entry before called answered ∷ [])
+      ∙ ap (λ b. steady_by b (is_steady before.opening (known before) before.pass.agent n i) (row_bytes (state_of before) before.pass.agent n)
+        (row_bytes (after_entry (state_of before) (kept_entry before called answered)) before.pass.agent n) i)
+        (local-leave (state_of before) before.pass.agent n (kept_entry before called answered) refl)
+      ∙ ap (λ u. is_steady before.opening (known before) before.pass.agent n i && goes_on (row_bytes (state_of before) before.pass.agent n) (row_bytes u before.pass.agent n) i)
+        (after-step tells before kept called answered made local)
+      ∙ (λ j. was j && goes j)
+
+  -- A working copy that the call changed with its row.
+  pub local-stands : (n : ℕ) (work : WorkingCopy) (row : Own) → own_of (agent_of (step (state_of before) before.pass.agent called).after before.pass.agent) n ≡ Some row
+      → IsCopyOf tells (step (state_of before) before.pass.agent called).after row work
+      → ((i : ℕ) → i < length work.pages → IsStored work i → (is_steady before.opening (known before) before.pass.agent n i ≡ true)
+      × (goes_on (row_bytes (state_of before) before.pass.agent n) (row_bytes (step (state_of before) before.pass.agent called).after before.pass.agent n) i ≡ true))
+      → StandsFor tells after.opening (known after) after.pass.agent n work
+  local-stands n work row there copy held =
+      let here : StandsFor tells before.opening (known before ++ kept_entry before called answered ∷ []) before.pass.agent n work = record {
+        row = row;
+        there = ap (λ u. own_of (agent_of u before.pass.agent) n) state-more ∙ there;
+        copy = subst (λ u. IsCopyOf tells u row work) (sym state-more) copy;
+        held = λ i within is. let both = held i within is in goes-steady n i both.0 both.1;
+      } in
+      let opening : after.opening ≡ before.opening = ap (λ (a : AgentSeen O). a.opening) is in
+      let agent : after.pass.agent ≡ before.pass.agent = ap (λ (a : AgentSeen O). a.pass.agent) is in
+      subst (λ o. StandsFor tells o (known after) after.pass.agent n work) (sym opening)
+      (subst (λ k. StandsFor tells before.opening (known after) k n work) (sym agent)
+      (subst (λ es. StandsFor tells before.opening es before.pass.agent n work) (sym known-more) here))

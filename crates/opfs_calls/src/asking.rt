@@ -1,8 +1,11 @@
 //! How an agent asks for a shared call.
 
-ghost use Rattle.std.specs.Prelude.{◌≡◌};
+ghost use Rattle.std.specs.Prelude.{◌≡◌, false, [], OnOk, OnErr};
 ghost use Rattle.opfs_hist.specs.declared.reply.Reply.TheVariants as reply;
-ghost use Rattle.opfs_turns.specs.Calls.{HasRoom};
+ghost use Rattle.opfs_laws.specs.Leaving.{is_end};
+ghost use Rattle.opfs_acts.specs.Acting.{IsSameCopy, StandsForLeft, row_left};
+ghost use Rattle.opfs_turns.specs.Agents.{known};
+ghost use Rattle.opfs_turns.specs.Calls.{HasRoom, MayAsk};
 ghost use Rattle.opfs_calls.specs.Answers.{Shared, MayAskPlainly, MayAskPast, IsAnsweredBy, IsFlag, IsEstimate, refusal_in, IsAnswer};
 
 use crate::stop::Stop;
@@ -56,6 +59,54 @@ pub fn ask_past<S: Store, R: Wait>(
     let mut work = Work::fresh(alloc);
     let acted = turns.call(rt, court, room, op, &mut work, past);
     answer(acted)
+}
+
+/// Makes a shared call on an open row, with its working copy, or one that makes an open row, with a fresh one. The copy is
+/// then that of the row that is left open, and as it was, its room aside, where the call gives nothing.
+pub fn ask_work<S: Store, R: Wait>(
+    rt: &R,
+    alloc: Global,
+    turns: &mut Turns<S>,
+    court: &Hall<S>,
+    op: Op,
+    work: &mut Work,
+) -> Result<Acted, Stop>
+    requires own { turns.old.pass.hall ≡ court.now }
+    requires room { HasRoom turns.old }
+    requires may { MayAsk S.tells turns.old op work.old [] }
+    requires stays { is_end op ≡ false }
+    ensures shared { Shared S.tells turns.old turns.new op (λ acted answered given. (acted.reply ≡ answered) × (acted.gift ≡ given)) result }
+    ensures left { OnOk result (StandsForLeft S.tells turns.new.opening (known turns.new) turns.new.pass.agent (row_left turns.new.rows op) work.new) }
+    ensures same { OnErr result (IsSameCopy work.old work.new) }
+{
+    let Ok(room) = Room::make(alloc) else {
+        return Err(Stop::NoMemory);
+    };
+    let acted = turns.call(rt, court, room, op, work, &[]);
+    turns.kept();
+    answer(acted)
+}
+
+/// The same of a call that is answered by Done alone.
+pub fn ask_row<S: Store, R: Wait>(
+    rt: &R,
+    alloc: Global,
+    turns: &mut Turns<S>,
+    court: &Hall<S>,
+    op: Op,
+    work: &mut Work,
+) -> Result<(), Stop>
+    requires own { turns.old.pass.hall ≡ court.now }
+    requires room { HasRoom turns.old }
+    requires may { MayAsk S.tells turns.old op work.old [] }
+    requires stays { is_end op ≡ false }
+    requires answer { IsAnsweredBy op (λ answered. answered ≡ reply.Done) }
+    ensures shared { Shared S.tells turns.old turns.new op (λ _ answered _. answered ≡ reply.Done) result }
+    ensures left { OnOk result (StandsForLeft S.tells turns.new.opening (known turns.new) turns.new.pass.agent (row_left turns.new.rows op) work.new) }
+    ensures same { OnErr result (IsSameCopy work.old work.new) }
+{
+    let _acted = ask_work(rt, alloc, turns, court, op, work)?;
+    Ok(())
 }
 
 /// Makes a shared call that names no open row, and that is answered by Done alone.
