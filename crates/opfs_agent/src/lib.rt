@@ -7,8 +7,10 @@ mod entries;
 mod iteration;
 mod locals;
 mod snapshots;
+mod streams;
 
 pub use agent::Agent;
 pub use iteration::Iter;
 pub use opfs_calls::Stop;
+pub use opfs_streams::{ClosedStream, Writable};
 pub use snapshots::Snapshot;
