@@ -24,7 +24,7 @@ use Rattle.opfs_acts.specs.declared.acted.Acted.{Acted}
 use Rattle.opfs_acts.specs.declared.acted.Gift.{Gift}
 use Rattle.opfs_turns.specs.Agents.{AgentSeen}
 use Rattle.opfs_turns.specs.Calls.{before_call, IsEntered}
-use Rattle.opfs_calls.specs.Answers.{HasAnswer, IsAnsweredBy}
+use Rattle.opfs_calls.specs.Answers.{HasAnswer, IsAnsweredBy, IsRead}
 
 true_false : true ≡ false → ⊥
 true_false h = cc
@@ -180,3 +180,27 @@ named-directory tells before after dir name create Gives x h =
 pub none-there : {A : Type 0} (o : Option A) (P : Type 0) (Q : A → Type 0) → MatchOption o P Q → o ≡ None → P
 none-there None P Q h is = h
 none-there (Some x) P Q h is = cc
+
+-- What is unread as bytes gave bytes.
+bytes-read : (r : Reply) (b : Text) → unread r ≡ unread (reply.Read b) → IsRead r
+bytes-read (reply.Read bytes) b is = (bytes, refl)
+bytes-read reply.Done b is = absurd cc
+bytes-read (reply.Length n) b is = absurd cc
+bytes-read (reply.Flag f) b is = absurd cc
+bytes-read (reply.Child kind name) b is = absurd cc
+bytes-read reply.Last b is = absurd cc
+bytes-read reply.NoPath b is = absurd cc
+bytes-read (reply.Names names) b is = absurd cc
+bytes-read (reply.FileInfo size stamp) b is = absurd cc
+bytes-read (reply.Estimate used quota) b is = absurd cc
+bytes-read (reply.Gone unit) b is = absurd cc
+bytes-read (reply.No r) b is = absurd cc
+
+-- A call that is answered by bytes alone.
+pub read-answered : {O : Type 0} (tells : Type 0) (before after : AgentSeen O) (called : Op) (acted : Acted) → IsAnsweredBy called IsRead
+    → HasAnswer tells before after called (λ a answered given. (a.reply ≡ answered) × (a.gift ≡ given)) acted → IsRead acted.reply
+read-answered tells before after called acted by h =
+    let s = turn_state tells before after called h.answered h.given h.entered h.accepted in
+    let here = by s (sizes_of s before.pass.agent called) before.pass.agent in
+    let real = real_answered tells before after called h.answered h.given h.entered h.accepted ∙ here.1 in
+    bytes-read acted.reply here.0 (ap unread h.gives.0 ∙ ap (λ (x : Entry). x.reply) h.entered.call.alike ∙ ap unread real)

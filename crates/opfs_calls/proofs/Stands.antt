@@ -1,9 +1,9 @@
 -- A working copy still stands for its row behind a call that leaves the row.
-use Rattle.std.proofs.Common.{◌≡◌, ◌≢◌, ℕ, ◌<◌, ◌&&◌, length, true, false, All, List, [], ◌∷◌, ◌++◌, append_assoc, map, fold, Some, Err, refl, sym, ap, ◌∙◌, subst}
+use Rattle.std.proofs.Common.{◌≡◌, ◌≢◌, ℕ, ◌<◌, ◌≤◌, ◌&&◌, length, true, false, All, List, [], ◌∷◌, ◌++◌, append_assoc, map, fold, Option, Some, None, Err, refl, sym, ap, ◌∙◌, subst}
 use Rattle.std.proofs.lemmas.Bool.{false≢true}
 use Rattle.std.proofs.lemmas.List.Elements.{All-cons, All-map, All-nil}
 use Rattle.std.proofs.lemmas.List.Sums.{fold-append}
-use Rattle.opfs_base.specs.Texts.{Text}
+use Rattle.opfs_base.specs.Texts.{Text, same_text}
 use Rattle.opfs_hist.specs.declared.entry.Entry.{Entry}
 use Rattle.opfs_hist.specs.declared.op.Op.{Op}
 use Rattle.opfs_hist.specs.declared.op.Op.TheVariants as op
@@ -23,8 +23,10 @@ use Rattle.opfs_machine.specs.Steps.{evicted, is_refusal}
 use Rattle.opfs_histories.specs.Opened.{added}
 use Rattle.opfs_laws.specs.Leaving.{asks_nobody}
 use Rattle.opfs_steady.specs.Settling.{BytesStay}
-use Rattle.opfs_steady.specs.Steady.{row_bytes, goes_on, is_steady, steady_by}
-use Rattle.opfs_steady.proofs.GoingOn.{steady-append}
+use Rattle.opfs_steady.specs.Steady.{row_bytes, page_in, has_page, is_front, goes_on, is_steady, steady_by}
+use Rattle.std.proofs.Math.Seq.{take-length}
+use Rattle.std.specs.Cmp.Lexicographic.{nat_list_eq_equiv}
+use Rattle.opfs_steady.proofs.GoingOn.{steady-append, steady-has}
 use Rattle.opfs_steady.proofs.Leaving.{local-leave}
 use Rattle.opfs_copies.specs.Copies.{IsCopyOf, StandsFor}
 use Rattle.opfs_copies.proofs.Copying.{stands-kept}
@@ -37,6 +39,7 @@ use Rattle.opfs_turns.proofs.Keeping.{after-step}
 use Rattle.opfs_machine.specs.Steps.{step}
 use Rattle.opfs_turns.proofs.Others.{told-stay-before}
 use Rattle.opfs_turns.proofs.Standing.{stands-there}
+use Rattle.opfs_work.specs.Pages.{page_at, is_held}
 use Rattle.opfs_work.specs.Works.{WorkingCopy, IsStored}
 use Rattle.opfs_calls.proofs.Entered.{t, list, known-is, opening-is, agent-is, refused-state, agent-same, row-there}
 
@@ -150,6 +153,17 @@ stopped-stands tells before after called Gives (stop.No r) n work kept then nobo
     (subst (λ es. StandsFor tells before.opening es before.pass.agent n work) (sym (known-is tells before after kept called (reply.No r) h.given h.entered)) here))
 stopped-stands tells before after called Gives stop.NoMemory n work kept then nobody h stands = looked-stands tells before after n work kept then h stands
 
+-- Where a row's bytes stay, its pages go on.
+front-itself : (a : Text) → is_front a a ≡ true
+front-itself a = ap (same_text a) (take-length a) ∙ nat_list_eq_equiv.refl a
+
+itself-goes : (x : Option Text) (i : ℕ) → has_page x i ≡ true → goes_on x x i ≡ true
+itself-goes None i h = absurd (false≢true h)
+itself-goes (Some bytes) i h = λ j. h j && front-itself (page_in bytes i) j
+
+pub bytes-go : (old new : Option Text) (i : ℕ) → new ≡ old → has_page old i ≡ true → goes_on old new i ≡ true
+bytes-go old new i same has = subst (λ x. goes_on old x i ≡ true) (sym same) (itself-goes old i has)
+
 -- ---- local calls
 
 -- A working copy with another room.
@@ -181,10 +195,10 @@ module _ {O : Type 0} (tells : Type 0) (before after : AgentSeen O) (kept : IsAg
   goes-steady n i was goes =
       steady-append (begun before.opening) false before.pass.agent n i (known before) (kept_entry before called answered ∷ [])
       ∙ ap (λ b. steady_by b (is_steady before.opening (known before) before.pass.agent n i) (row_bytes (state_of before) before.pass.agent n)
-        (row_bytes (after_entry (state_of before) (kept_entry before called answered)) before.pass.agent n) i)
-        (local-leave (state_of before) before.pass.agent n (kept_entry before called answered) refl)
+      (row_bytes (after_entry (state_of before) (kept_entry before called answered)) before.pass.agent n) i)
+      (local-leave (state_of before) before.pass.agent n (kept_entry before called answered) refl)
       ∙ ap (λ u. is_steady before.opening (known before) before.pass.agent n i && goes_on (row_bytes (state_of before) before.pass.agent n) (row_bytes u before.pass.agent n) i)
-        (after-step tells before kept called answered made local)
+      (after-step tells before kept called answered made local)
       ∙ (λ j. was j && goes j)
 
   -- A working copy that the call changed with its row.
@@ -205,3 +219,14 @@ module _ {O : Type 0} (tells : Type 0) (before after : AgentSeen O) (kept : IsAg
       subst (λ o. StandsFor tells o (known after) after.pass.agent n work) (sym opening)
       (subst (λ k. StandsFor tells before.opening (known after) k n work) (sym agent)
       (subst (λ es. StandsFor tells before.opening es before.pass.agent n work) (sym known-more) here))
+
+  -- The same of one whose bytes stay.
+  pub local-same : (n : ℕ) (work new : WorkingCopy) (row : Own) → StandsFor tells before.opening (known before) before.pass.agent n work
+      → own_of (agent_of (step (state_of before) before.pass.agent called).after before.pass.agent) n ≡ Some row → IsCopyOf tells (step (state_of before) before.pass.agent called).after row new
+      → row_bytes (step (state_of before) before.pass.agent called).after before.pass.agent n ≡ row_bytes (state_of before) before.pass.agent n
+      → new.pages ≡ work.pages → new.changed_from ≡ work.changed_from → new.changed_to ≡ work.changed_to → StandsFor tells after.opening (known after) after.pass.agent n new
+  local-same n work new row stands there copy bytes pages from to = local-stands n new row there copy (λ i within held.
+      let inside : i < length work.pages = subst (λ ps. i < length ps) pages within in
+      let stored : IsStored work i = λ a b. ap (λ ps. is_held (page_at ps i)) (sym pages) ∙ held (subst (λ m. m ≤ i) (sym from) a) (subst (λ m. i < m) (sym to) b) in
+      let steady = stands.held i inside stored in
+      (steady, bytes-go _ _ i bytes (steady-has before.opening (known before) before.pass.agent n i steady)))

@@ -88,3 +88,10 @@ IsFlag answered = (flag : Bool) × (answered ≡ reply.Flag flag)
 
 abbrev pub IsEstimate : Reply → Type 0
 IsEstimate answered = (used : ℕ) × (quota : ℕ) × (answered ≡ reply.Estimate used quota)
+
+-- A number of bytes; or bytes.
+abbrev pub IsLength : Reply → Type 0
+IsLength answered = (count : ℕ) × (answered ≡ reply.Length count)
+
+abbrev pub IsRead : Reply → Type 0
+IsRead answered = (bytes : Text) × (answered ≡ reply.Read bytes)

@@ -6,11 +6,11 @@ ghost use Rattle.opfs_laws.specs.Leaving.{is_end};
 ghost use Rattle.opfs_acts.specs.Acting.{IsSameCopy, StandsForLeft, row_left};
 ghost use Rattle.opfs_turns.specs.Agents.{known};
 ghost use Rattle.opfs_turns.specs.Calls.{HasRoom, MayAsk};
-ghost use Rattle.opfs_calls.specs.Answers.{Shared, MayAskPlainly, MayAskPast, IsAnsweredBy, IsFlag, IsEstimate, refusal_in, IsAnswer};
+ghost use Rattle.opfs_calls.specs.Answers.{Shared, MayAskPlainly, MayAskPast, IsAnsweredBy, IsFlag, IsEstimate, IsLength, IsRead, refusal_in, IsAnswer};
 
 use crate::stop::Stop;
 use opfs_acts::{Acted, Store};
-use opfs_base::Name;
+use opfs_base::{Bytes, Name};
 use opfs_hall::Hall;
 use opfs_hist::{Op, Refusal, Reply, Room};
 use opfs_turns::Turns;
@@ -107,6 +107,57 @@ pub fn ask_row<S: Store, R: Wait>(
 {
     let _acted = ask_work(rt, alloc, turns, court, op, work)?;
     Ok(())
+}
+
+/// The same of a call that is answered by a number of bytes alone.
+pub fn ask_length<S: Store, R: Wait>(
+    rt: &R,
+    alloc: Global,
+    turns: &mut Turns<S>,
+    court: &Hall<S>,
+    op: Op,
+    work: &mut Work,
+) -> Result<u64, Stop>
+    requires own { turns.old.pass.hall ≡ court.now }
+    requires room { HasRoom turns.old }
+    requires may { MayAsk S.tells turns.old op work.old [] }
+    requires stays { is_end op ≡ false }
+    requires answer { IsAnsweredBy op IsLength }
+    ensures shared { Shared S.tells turns.old turns.new op (λ count answered _. answered ≡ reply.Length count) result }
+    ensures left { OnOk result (StandsForLeft S.tells turns.new.opening (known turns.new) turns.new.pass.agent (row_left turns.new.rows op) work.new) }
+    ensures same { OnErr result (IsSameCopy work.old work.new) }
+{
+    let acted = ask_work(rt, alloc, turns, court, op, work)?;
+    match acted.reply {
+        Reply::Length(count) => Ok(count),
+        _ => unreachable!(),
+    }
+}
+
+/// The same of a call that is answered by bytes alone.
+pub fn ask_bytes<S: Store, R: Wait>(
+    rt: &R,
+    alloc: Global,
+    turns: &mut Turns<S>,
+    court: &Hall<S>,
+    op: Op,
+    work: &mut Work,
+) -> Result<Bytes, Stop>
+    requires own { turns.old.pass.hall ≡ court.now }
+    requires room { HasRoom turns.old }
+    requires may { MayAsk S.tells turns.old op work.old [] }
+    requires stays { is_end op ≡ false }
+    requires answer { IsAnsweredBy op IsRead }
+    ensures shared { Shared S.tells turns.old turns.new op (λ bytes answered _. answered ≡ reply.Read bytes) result }
+    ensures left { OnOk result (StandsForLeft S.tells turns.new.opening (known turns.new) turns.new.pass.agent (row_left turns.new.rows op) work.new) }
+    ensures same { OnErr result (IsSameCopy work.old work.new) }
+{
+    let acted = ask_work(rt, alloc, turns, court, op, work)?;
+    let Acted { reply, .. } = acted;
+    match reply {
+        Reply::Read(bytes) => Ok(bytes),
+        _ => unreachable!(),
+    }
 }
 
 /// Makes a shared call that names no open row, and that is answered by Done alone.

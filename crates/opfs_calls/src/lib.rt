@@ -6,6 +6,9 @@ mod asking;
 mod keeping;
 mod stop;
 
-pub use asking::{answer, ask, ask_done, ask_estimate, ask_flag, ask_past, ask_row, ask_work};
+pub use asking::{
+    answer, ask, ask_bytes, ask_done, ask_estimate, ask_flag, ask_length, ask_past, ask_row,
+    ask_work,
+};
 pub use keeping::{keep_call, keep_refusal};
 pub use stop::Stop;
