@@ -4,6 +4,7 @@
 mod agent;
 mod buckets;
 mod entries;
+mod handles;
 mod iteration;
 mod locals;
 mod snapshots;
@@ -12,5 +13,6 @@ mod streams;
 pub use agent::Agent;
 pub use iteration::Iter;
 pub use opfs_calls::Stop;
+pub use opfs_handles::{ClosedSync, SyncHandle};
 pub use opfs_streams::{ClosedStream, Writable};
 pub use snapshots::Snapshot;
