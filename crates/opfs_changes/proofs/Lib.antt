@@ -1,5 +1,9 @@
 pub mod Ended
 pub mod Found
+pub mod Grown
+pub mod Overwritten
 pub mod Reckoned
 pub mod Told
 pub mod Twice
+pub mod Widened
+pub mod Writing

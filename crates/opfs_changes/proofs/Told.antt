@@ -82,12 +82,12 @@ unfolding handle_ruling
 handle-told m k n need h = let both = bind-gave _ _ need h in (both.0, some-gave _ _ both.0 both.1)
 
 pub written-told : (m : Machine) (z : Sizes) (k n size : ℕ) (need : Need) → grow_handle_ruling in_lengths m z k n size ≡ Ok need
-    → (h : HandleOutline) × (open_handle in_lengths m k n ≡ Some h) × (need.pool ≡ reserve_for h.reserve size - h.reserve) × (is_read_write h.mode ≡ true)
+    → (h : HandleOutline) × (open_handle in_lengths m k n ≡ Some h) × (need.pool ≡ reserve_for h.reserve size - h.reserve) × (need.charge ≡ block_charge * (reserve_for h.reserve size - h.reserve)) × (is_read_write h.mode ≡ true)
 unfolding grow_handle_ruling
 written-told m z k n size need h =
     let both = bind-gave _ _ need h in
     let rest = then-gave _ _ need both.2 in
-    (both.0, some-gave _ _ both.0 both.1, sym (ap (λ (x : Need). x.pool) (sym (same-need rest.1))), unless-gave _ _ rest.0)
+    (both.0, some-gave _ _ both.0 both.1, sym (ap (λ (x : Need). x.pool) (sym (same-need rest.1))), sym (ap (λ (x : Need). x.charge) (sym (same-need rest.1))), unless-gave _ _ rest.0)
 
 -- A lock that is given.
 pub record IsGiven (m : Machine) (at : Locator) (w : Want) : Type 0 where

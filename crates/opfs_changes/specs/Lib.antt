@@ -1,3 +1,4 @@
 pub mod Allowed
 pub mod Asking
 pub mod Changed
+pub mod Growing

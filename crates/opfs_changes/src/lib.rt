@@ -2,5 +2,6 @@
 //! blocks. No call takes memory.
 #![tactic(auto)]
 
+pub mod handles;
 mod storing;
 pub mod streams;

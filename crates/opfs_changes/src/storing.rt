@@ -15,6 +15,20 @@ use opfs_machine::Place;
 use opfs_standing::Standing;
 use std::alloc::Global;
 
+/// How many data blocks there are.
+pub(crate) fn data_blocks(store: &Standing) -> u64
+    ensures { result ≡ store.now.machine.limits.blocks }
+{
+    store.register().limits().blocks
+}
+
+/// How many bytes a journal area has.
+pub(crate) fn area_bytes(store: &Standing) -> u64
+    ensures { result ≡ store.now.machine.limits.area }
+{
+    store.register().limits().area
+}
+
 // Appends extents to those freed, where there is room.
 fn append(extents: &[Extent], freed: &mut Vec<Extent>)
     requires { length (freed.old.items ++ extents.now) ≤ vec_capacity freed.old }
