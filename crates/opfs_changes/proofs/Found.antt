@@ -113,7 +113,7 @@ holds-itself want.Exclusive = refl
 holds-itself want.Shared = refl
 holds-itself want.ReadOnly = refl
 
-counts-itself : (place : Place) (w : Want) → counts place w (Some (place, w)) ≡ 1
+pub counts-itself : (place : Place) (w : Want) → counts place w (Some (place, w)) ≡ 1
 counts-itself place w = (λ i. cond (place_itself place i && holds-itself w i) 1 0)
 
 pub one-holds : (m : Machine) (k n : ℕ) (r : Outline) (place : Place) (w : Want) → own_of (agent_of m k) n ≡ Some r → hold_in r ≡ Some (place, w) → 1 ≤ holders_in m place w
@@ -199,3 +199,15 @@ held-in m t place w lines h =
       same = there.same;
       taken = subst (λ (f : FileRow ℕ). IsTakenAs w f.lock) there.same h.taken;
     }
+
+-- Whether a row is open.
+pub none-open : {X : Type 0} (o : Option X) (b : Bool) → b ≡ is_some o → b ≡ false → o ≡ None
+none-open None b is no_row = refl
+none-open (Some x) b is no_row = cc
+
+pub some-open : {X : Type 0} (o : Option X) (b : Bool) → b ≡ is_some o → b ≡ true → (x : X) × (o ≡ Some x)
+some-open None b is row = cc
+some-open (Some x) b is row = (x, refl)
+
+pub no-thing : {X : Type 0} {x : X} {o : Option X} → None ≡ o → o ≡ Some x → ⊥
+no-thing h g = cc

@@ -1,8 +1,10 @@
+pub mod Covering
 pub mod Ended
 pub mod Found
 pub mod Grown
 pub mod Overwritten
 pub mod Reckoned
+pub mod Settled
 pub mod Told
 pub mod Twice
 pub mod Widened

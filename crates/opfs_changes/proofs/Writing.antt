@@ -21,7 +21,7 @@ use Rattle.opfs_standing.proofs.Counted.{pool-is, charge-is}
 use Rattle.opfs_standing.specs.Seen.{Machine}
 use Rattle.opfs_standing.specs.Sums.{fixed_charge}
 use Rattle.opfs_changes.proofs.Found.{some-is, handle-own}
-use Rattle.opfs_changes.proofs.Told.{written-told}
+use Rattle.opfs_changes.proofs.Told.{written-told, handle-told}
 use Rattle.opfs_changes.specs.Allowed.{MayApply}
 use Rattle.opfs_changes.specs.Asking.{target_of, handle_place}
 use Rattle.opfs_changes.specs.Growing.{IsWriting}
@@ -82,3 +82,11 @@ writing m k row size present area target place kept w told is small most = recor
 pub no-size : (o : Option (FileRow ℕ)) (f : FileRow ℕ) → option_map (λ (x : FileRow ℕ). x.present) o ≡ None → o ≡ Some f → ⊥
 no-size None f h g = cc
 no-size (Some x) f h g = cc
+
+-- The file of an access handle that is flushed.
+pub flush-of : (m : Machine) (z : Sizes) (k row : ℕ) (target : Option Place) → MayApply m z k (op.SyncFlush row) → target ≡ target_of m k (op.SyncFlush row)
+    → (h : HandleOutline) × (open_handle in_lengths m k row ≡ Some h) × (target ≡ Some h.file)
+unfolding ruling target_of
+flush-of m z k row target may named =
+    let told = handle-told m k row may.need may.ruled in
+    (told.0, told.1, named ∙ ap handle_place told.1)

@@ -129,6 +129,13 @@ unfoldable pub growth_of : Machine → ℕ → Op → ℕ
 growth_of m k (op.Persist bucket) = mode_growth m (target_of m k (op.Persist bucket))
 growth_of m k o = row_growth (place_for m k o)
 
+-- Whether a call makes a row of the tree, if none is there.
+abbrev pub makes_row : Op → Bool
+makes_row (op.GetDirectory bucket) = true
+makes_row (op.GetDirectoryHandle dir name create) = true
+makes_row (op.GetFileHandle dir name create) = true
+makes_row o = false
+
 -- Whether a call makes an own row that is no iterator.
 abbrev pub makes_slot : Op → Bool
 makes_slot (op.GetFile at) = true

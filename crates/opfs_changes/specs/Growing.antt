@@ -3,6 +3,8 @@ use Rattle.std.specs.Prelude.{◌≡◌, ℕ, ◌+◌, ◌-◌, ◌<◌, ◌≤�
 use Rattle.opfs_base.specs.Blocks.{blocks}
 use Rattle.opfs_base.specs.Places.{Place}
 use Rattle.opfs_base.specs.Units.{origin_of}
+use Rattle.opfs_locks.specs.Taking.{Lock, taken}
+use Rattle.opfs_locks.specs.declared.Want.{Want}
 use Rattle.opfs_machine.specs.declared.own.HandleOutline.{HandleOutline}
 use Rattle.opfs_machine.specs.declared.own.StreamOutline.{StreamOutline}
 use Rattle.opfs_machine.specs.declared.state.FileRow.{FileRow}
@@ -27,3 +29,10 @@ pub record IsWriting (m : Machine) (k n : ℕ) (place : Place) (length size : �
   pub same : handle.file ≡ place
   pub room : pool in_lengths m + (reserve_for handle.reserve size - handle.reserve) ≤ m.limits.blocks
   pub quota : (f : FileRow ℕ) → file_at m place ≡ Some f → usage in_lengths m (origin_of place.0) + blocks length < 2 ^ 64 + blocks f.present
+
+-- A file is at a place, and its lock is given as asked.
+pub record IsLockGiven (m : Machine) (place : Place) (w : Want) : Type 0 where
+  pub file : FileRow ℕ
+  pub there : file_at m place ≡ Some file
+  pub lock : Lock
+  pub gives : taken w file.lock ≡ Some lock

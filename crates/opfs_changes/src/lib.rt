@@ -2,6 +2,9 @@
 //! blocks. No call takes memory.
 #![tactic(auto)]
 
+pub mod agents;
 pub mod handles;
+pub mod opening;
+pub mod rows;
 mod storing;
 pub mod streams;
