@@ -3,8 +3,10 @@ pub mod Ended
 pub mod Found
 pub mod Grown
 pub mod Overwritten
+pub mod Plainly
 pub mod Reckoned
 pub mod Settled
+pub mod Silent
 pub mod Told
 pub mod Twice
 pub mod Widened
