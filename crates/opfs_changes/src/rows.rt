@@ -9,6 +9,7 @@ ghost use Rattle.opfs_changes.specs.Changed.{IsDone, freed_by};
 ghost use Rattle.opfs_hist.specs.declared.op.Op.TheVariants as op;
 ghost use Rattle.opfs_standing.specs.Seen.{is_known};
 
+use crate::storing::area_bytes;
 use opfs_base::{Extent, Locator, Text};
 use opfs_hist::Op;
 use opfs_machine::{Place, Sizes};
@@ -35,10 +36,14 @@ pub fn make_row(
     let _ = sizes;
     let _ = op;
     let at = agent as usize - 1;
-    if let Some(place) = target {
-        let stamp = store.register().moment(at);
-        store.fill(&place.0, &place.1, stamp, growth);
-    }
+    let Some(place) = target else {
+        store.count(at);
+        return;
+    };
+    // An area has so many bytes, a count of 64 bits.
+    let _area = area_bytes(store);
+    let stamp = store.register().moment(at);
+    store.fill(&place.0, &place.1, stamp, growth);
     store.count(at);
 }
 
@@ -92,8 +97,13 @@ pub fn persist(
 {
     let _ = sizes;
     let _ = bucket;
-    if let Some(place) = target {
-        store.persist(&place.0, growth);
-    }
-    store.count(agent as usize - 1);
+    let at = agent as usize - 1;
+    let Some(place) = target else {
+        store.count(at);
+        return;
+    };
+    // An area has so many bytes, a count of 64 bits.
+    let _area = area_bytes(store);
+    store.persist(&place.0, growth);
+    store.count(at);
 }
