@@ -1,33 +1,45 @@
--- What a call leaves of the shared state: the machine's own effect, counted. This project's own.
-use Rattle.std.specs.Prelude.{◌≡◌, ℕ, suc, ◌+◌, ◌<◌, ◌^◌, length, Option, Some}
+-- The shared state as it is seen, and what stands ready for a call. This project's own.
+use Rattle.std.specs.Prelude.{◌≡◌, ℕ, ◌-◌, true, [], List, map, Option, Some}
 use Rattle.opfs_base.specs.Places.{Place}
+use Rattle.opfs_base.specs.Texts.{Text}
+use Rattle.opfs_changes.specs.Asking.{place_for, target_of, growth_of, makes_slot, tag_in, makes_in_unit}
 use Rattle.opfs_hist.specs.declared.op.Op.{Op}
-use Rattle.opfs_machine.specs.declared.state.Sizes.{Sizes}
-use Rattle.opfs_machine.specs.Agents.{agent_of, counted}
-use Rattle.opfs_machine.specs.Contents.{in_lengths}
-use Rattle.opfs_machine.specs.Effects.{effect}
-use Rattle.opfs_seats.specs.Slots.{most_rows}
-use Rattle.opfs_standing.specs.Seen.{Machine, Seen}
+use Rattle.opfs_machine.specs.declared.state.Limits.{Limits}
+use Rattle.opfs_machine.specs.Agents.{party_of}
+use Rattle.opfs_seats.specs.Seating.{agent_begun}
+use Rattle.opfs_seats.specs.declared.seat.Who.{Who}
+use Rattle.opfs_shed.specs.Buckets.{Storage}
+use Rattle.opfs_standing.specs.Seen.{Machine, Seen, is_known, lines_of, persistent_in}
+use Rattle.opfs_tree.specs.Rows.{Rows}
 
--- The store, and the place of a file that stands ready for an open row.
+-- The store; the place that the call in hand changes, in memory of its own, and what the call adds to the charge by the
+-- row or mode that it makes.
 pub record StateSeen : Type 0 where
   pub store : Seen
-  pub file : Option Place
+  pub target : Option Place
+  pub growth : ℕ
 
--- An agent at a place, counted from 0, with an entry more.
-pub record IsCounted (m : Machine) (at : ℕ) : Type 0 where
-  pub inside : at < length m.agents
-  pub entries : m.entries + 1 < 2 ^ 64
+-- The machine at the beginning.
+abbrev pub opened : Rows → Storage → Limits → List Who → Machine
+opened tree shed limits agents = record {
+  rows = lines_of tree;
+  persistent = persistent_in shed.buckets;
+  posted = [];
+  agents = map agent_begun agents;
+  entries = 0;
+  used = [];
+  limits = limits;
+}
 
--- And with room for one own row more.
-pub record HasRowRoom (s : Seen) (at : ℕ) : Type 0 where
-  pub ready : s.prepared.room ≡ Some at
-  pub few : length (agent_of s.machine (suc at)).own < most_rows
+-- What stands ready for a call of an agent, so that it takes no memory: where it makes a row, that place; the place that it
+-- changes; its unit; room for an own row; its tag.
+pub record IsReady (s : Seen) (own : Option Place) (more k : ℕ) (o : Op) : Type 0 where
+  pub place : s.prepared.place ≡ place_for s.machine k o
+  pub target : own ≡ target_of s.machine k o
+  pub growth : more ≡ growth_of s.machine k o
+  pub known : (place : Place) → makes_in_unit o ≡ true → target_of s.machine k o ≡ Some place → is_known place.0 s.prepared ≡ true
+  pub room : makes_slot o ≡ true → s.prepared.room ≡ Some (k - 1)
+  pub tag : (tag : Text) → tag_in o ≡ Some tag → s.prepared.tag ≡ Some (record { party = party_of s.machine k; tag = tag })
 
--- The machine after a call of the agent at a place that was not refused.
-abbrev pub Applied : Machine → Machine → ℕ → Op → Sizes → Type 0
-Applied m new at op z = new ≡ counted (effect in_lengths m z (suc at) op) (suc at)
-
--- A call that changes nothing.
-abbrev pub ChangesNothing : Op → Type 0
-ChangesNothing op = (m : Machine) (z : Sizes) (k : ℕ) → effect in_lengths m z k op ≡ m
+abbrev pub IsPrepared : StateSeen → ℕ → Op → Type 0
+IsPrepared s k o = IsReady s.store s.target s.growth k o

@@ -1,2 +1,3 @@
 pub mod Applied
-pub mod Rows
+pub mod Freeing
+pub mod Seeing

@@ -1,9 +1,10 @@
-//! The shared state without bytes: what each call that is not refused changes of it, as the machine says.
+//! The shared state without bytes: it judges each shared call, clears units for it, and changes by it, as the machine says.
 #![tactic(auto)]
 
-mod calls;
-mod rows;
+mod applying;
+mod judging;
+mod making;
+mod performing;
 mod state;
-mod streams;
 
 pub use state::State;

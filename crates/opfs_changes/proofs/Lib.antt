@@ -1,0 +1,16 @@
+pub mod Covering
+pub mod Ended
+pub mod Fewer
+pub mod Found
+pub mod Grown
+pub mod Opened
+pub mod Overwritten
+pub mod Plainly
+pub mod Reckoned
+pub mod Rowed
+pub mod Settled
+pub mod Silent
+pub mod Told
+pub mod Twice
+pub mod Widened
+pub mod Writing

@@ -1,0 +1,12 @@
+use Rattle.std.proofs.Common.{◌≡◌, ℕ, suc, ◌+◌, ◌-◌, ◌<◌, ◌≤◌, ◌^◌, Some, None, Option, List, length, refl, sym, ap, ◌∙◌, subst, arith}
+use Rattle.opfs_hist.specs.declared.op.Op.TheVariants as op
+use Rattle.opfs_standing.specs.Seen.{Machine, Seen}
+use Rattle.opfs_changes.proofs.Found.{place-number}
+use Rattle.opfs_changes.specs.Changed.{IsDone}
+use Rattle.opfs_changes.proofs.Plainly.{moment-done}
+use Rattle.opfs_changes.proofs.agents.set_moment.Goals as goal
+
+pub returns-clause-done : goal.returns-clause-done
+returns-clause-done c = λ extents.
+    subst (λ k. IsDone c.args.store.now c.count.new.self c.args.sizes k (op.Moment c.args.ms) extents) (place-number c.args.agent c.requires.may.above)
+    (moment-done c.args.store.now c.note.new.self c.count.new.self c.args.sizes (c.args.agent - 1) extents c.count.ensures (ap (λ (x : Seen). x.tree) c.note.ensures) c.args.ms (ap (λ (x : Seen). x.machine) c.note.ensures))

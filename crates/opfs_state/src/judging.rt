@@ -1,0 +1,28 @@
+//! What calls refuse, or which units are cleared for them.
+
+ghost use Rattle.std.specs.Prelude.{◌≡◌, None, IfOk};
+ghost use Rattle.opfs_changes.specs.Asking.{AreOwnUnits};
+ghost use Rattle.opfs_lengths.specs.Bridge.{judged_in};
+ghost use Rattle.opfs_lengths.specs.Kept.{Kept};
+ghost use Rattle.opfs_machine.specs.Contents.{in_lengths};
+ghost use Rattle.opfs_verdicts.specs.Callers.{IsCaller};
+
+use crate::state::State;
+use opfs_hist::Op;
+use opfs_machine::Sizes;
+use opfs_pool::Keys;
+use opfs_rulings::Ruled;
+use std::alloc::Global;
+
+impl State {
+    /// The refusal of a call, or the units that are cleared for it, where no place stands ready for a row.
+    pub fn judge(&self, alloc: Global, agent: u32, op: &Op, sizes: Sizes) -> Ruled<Keys>
+        requires caller { IsCaller self.now.store.machine agent }
+        requires own { AreOwnUnits self.now.store.machine agent op.now }
+        requires kept { Kept self.now.store.machine }
+        requires ready { self.now.store.prepared.place ≡ None }
+        ensures { IfOk result (λ judged. judged ≡ judged_in in_lengths self.now.store.machine sizes agent op.now) }
+    {
+        opfs_verdicts::judge(alloc, &self.store, agent, op, sizes)
+    }
+}
