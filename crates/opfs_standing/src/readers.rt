@@ -9,16 +9,41 @@ ghost use Rattle.opfs_tree.specs.Rows.{file_at as file_in_tree};
 ghost use Rattle.opfs_tree.specs.Rows.{extents_within, least_not_in, children_of, rows_above, IsInOrder};
 ghost use Rattle.opfs_base.specs.Units.{origin_of};
 ghost use Rattle.opfs_standing.specs.Pooled.{IsPooled, registered};
+ghost use Rattle.opfs_standing.specs.Seen.{lines_of, persistent_in};
 
 use crate::standing::Standing;
 use opfs_base::{BLOCK_CHARGE, Key, Kind, Name, Path};
 use opfs_locks::LockValue;
 use opfs_pool::Pool;
+use opfs_ready::ReadyTree;
 use opfs_seats::Register;
+use opfs_shed::Shed;
 use opfs_tree::{FileRow, Row, Walk};
 use std::alloc::{AllocError, Global};
 
 impl Standing {
+    /// The machine has the rows of the tree. Says so, and does next to nothing.
+    pub fn lines(&self)
+        ensures { self.now.machine.rows ≡ lines_of self.now.tree }
+    {
+        let _tree = &self.tree;
+    }
+
+    /// The rows with their blocks, beside the place that stands ready.
+    pub fn tree(&self) -> &ReadyTree
+        ensures { result.now ≡ record { rows = self.now.tree; ready = self.now.prepared.place } }
+    {
+        &self.tree
+    }
+
+    /// The buckets, with the modes of their units.
+    pub fn shed(&self) -> &Shed
+        ensures quota { result.now.quota ≡ self.now.machine.limits.quota }
+        ensures modes { persistent_in result.now.buckets ≡ self.now.machine.persistent }
+    {
+        &self.shed
+    }
+
     /// Whether a directory or a file is at a place; None where neither is.
     pub fn kind(&self, unit: &Key, path: &Path) -> Option<Kind>
         ensures { result ≡ option_map kind_of (row_at self.now.machine (unit.now, path.now)) }

@@ -1,0 +1,11 @@
+pub mod Covering
+pub mod Ended
+pub mod Found
+pub mod Grown
+pub mod Overwritten
+pub mod Reckoned
+pub mod Settled
+pub mod Told
+pub mod Twice
+pub mod Widened
+pub mod Writing
