@@ -5,3 +5,4 @@ pub mod Modes
 pub mod Ruling
 pub mod Stored
 pub mod Telling
+pub mod Tied

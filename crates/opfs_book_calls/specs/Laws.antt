@@ -5,6 +5,7 @@ use Rattle.opfs_base.specs.declared.extents.Extent.{Extent}
 use Rattle.opfs_book_laws.specs.Books.{IsNext}
 use Rattle.opfs_book_laws.specs.Laws.{failed}
 use Rattle.opfs_changes.specs.Changed.{tree_by}
+use Rattle.opfs_codec.specs.declared.change.Change.{Change as Spelled}
 use Rattle.opfs_codec.specs.declared.change.Change.TheVariants.{Evict}
 use Rattle.opfs_codec.specs.declared.change.Format.TheVariants.{New}
 use Rattle.opfs_hist.specs.declared.entry.Entry.{Entry}
@@ -38,6 +39,9 @@ pub record CallsAreSpelled : Type 0 where
   -- It makes of what is stored what the call leaves; and a call that spells nothing leaves that as it is.
   pub makes : (size : ℕ) (m : Machine) (t : Rows) (k : ℕ) → lines_of t ≡ m.rows → IsTrue (is_rising m.persistent) → (o : Op) (z : Sizes) (extents : Option (List Extent)) (need : Need) → ruling in_lengths m z k o ≡ Ok need
       → Makes size (spelled_by m t k o z extents) (stored_built t m.persistent) (stored_built (tree_by m t k o z extents) (effect in_lengths m z k o).persistent)
+  -- Where it stores something, the rows that it leaves are the machine's.
+  pub tied : (m : Machine) (t : Rows) (k : ℕ) → lines_of t ≡ m.rows → (o : Op) (z : Sizes) (extents : Option (List Extent)) (c : Spelled) → spelled_by m t k o z extents ≡ Some c
+      → lines_of (tree_by m t k o z extents) ≡ (effect in_lengths m z k o).rows
   -- So does an eviction.
   pub evicts : (size : ℕ) (m : Machine) (t : Rows) (unit : Text) → lines_of t ≡ m.rows → IsTrue (is_some (row_at m (unit, []))) → is_persistent m unit ≡ false
       → tried New size (stored_built t m.persistent) (Evict unit) ≡ Some (stored_built (without (unit, []) t) m.persistent)
