@@ -13,9 +13,9 @@ use crate::records::{add_record, put_record};
 use opfs_codec::{ChangeRef, charge, write};
 use opfs_journal::{Journal, JournalRefusal};
 use opfs_outside::Disk;
+use opfs_ready::ReadyTree;
 use opfs_shed::Shed;
 use opfs_snapshot::{snapshot, snapshot_after};
-use opfs_tree::Tree;
 use std::alloc::{AllocError, Global};
 use std::marker::Model;
 
@@ -101,17 +101,17 @@ impl Commits {
     pub fn commit<D: Disk>(
         &mut self,
         journal: &mut Journal<D>,
-        tree: &Tree,
+        tree: &ReadyTree,
         shed: &Shed,
         own: &ChangeRef<'_>,
     ) -> Result<(), JournalRefusal>
         requires settled { journal.old.in_doubt ≡ false }
         requires spare { self.old.room ≤ journal.old.spare }
         requires fits { Fits (plain own.now) }
-        ensures committed { OnOk result (IsAnyOf D.Disk (IsNext (stored_in tree.now shed.now) (plain own.now) (committing journal.old self.old)) (committing journal.old self.old) (committing journal.new self.new)) }
-        ensures halted { IsErrOf result JournalRefusal.DiskFault → IsNoneOf D.Disk (IsNext (stored_in tree.now shed.now) (plain own.now) (committing journal.old self.old)) (committing journal.old self.old) (committing journal.new self.new) }
+        ensures committed { OnOk result (IsAnyOf D.Disk (IsNext (stored_in tree.now.rows shed.now) (plain own.now) (committing journal.old self.old)) (committing journal.old self.old) (committing journal.new self.new)) }
+        ensures halted { IsErrOf result JournalRefusal.DiskFault → IsNoneOf D.Disk (IsNext (stored_in tree.now.rows shed.now) (plain own.now) (committing journal.old self.old)) (committing journal.old self.old) (committing journal.new self.new) }
         ensures unchanged { IsErrOf result JournalRefusal.NoRoom → (journal.new ≡ journal.old) × (self.new ≡ self.old) }
-        ensures no_room { IsErrOf result JournalRefusal.NoRoom → (size most : ℕ) → HasRoomAfter size most tree.now shed.now (plain own.now) → (self.old.room < most) ⊎ (journal.old.areas.bytes < most + 7) }
+        ensures no_room { IsErrOf result JournalRefusal.NoRoom → (size most : ℕ) → HasRoomAfter size most tree.now.rows shed.now (plain own.now) → (self.old.room < most) ⊎ (journal.old.areas.bytes < most + 7) }
         ensures cause { IsErrOf result JournalRefusal.DiskFault → Rose (D.faults journal.old.disk) (D.faults journal.new.disk) }
     {
         match self.add(journal, own) {
@@ -128,15 +128,15 @@ impl Commits {
     pub fn commit_kept<D: Disk>(
         &mut self,
         journal: &mut Journal<D>,
-        tree: &Tree,
+        tree: &ReadyTree,
         shed: &Shed,
     ) -> Result<(), JournalRefusal>
         requires settled { journal.old.in_doubt ≡ false }
         requires spare { self.old.room ≤ journal.old.spare }
-        ensures committed { OnOk result (IsAnyOf D.Disk (IsNextAlone (stored_in tree.now shed.now) (committing journal.old self.old)) (committing journal.old self.old) (committing journal.new self.new)) }
-        ensures halted { IsErrOf result JournalRefusal.DiskFault → IsNoneOf D.Disk (IsNextAlone (stored_in tree.now shed.now) (committing journal.old self.old)) (committing journal.old self.old) (committing journal.new self.new) }
+        ensures committed { OnOk result (IsAnyOf D.Disk (IsNextAlone (stored_in tree.now.rows shed.now) (committing journal.old self.old)) (committing journal.old self.old) (committing journal.new self.new)) }
+        ensures halted { IsErrOf result JournalRefusal.DiskFault → IsNoneOf D.Disk (IsNextAlone (stored_in tree.now.rows shed.now) (committing journal.old self.old)) (committing journal.old self.old) (committing journal.new self.new) }
         ensures unchanged { IsErrOf result JournalRefusal.NoRoom → (journal.new ≡ journal.old) × (self.new ≡ self.old) }
-        ensures no_room { IsErrOf result JournalRefusal.NoRoom → (size most : ℕ) → HasRoomFor size most tree.now shed.now → (self.old.room < most) ⊎ (journal.old.areas.bytes < most + 7) }
+        ensures no_room { IsErrOf result JournalRefusal.NoRoom → (size most : ℕ) → HasRoomFor size most tree.now.rows shed.now → (self.old.room < most) ⊎ (journal.old.areas.bytes < most + 7) }
         ensures cause { IsErrOf result JournalRefusal.DiskFault → Rose (D.faults journal.old.disk) (D.faults journal.new.disk) }
     {
         match self.add_kept(journal) {
@@ -207,16 +207,16 @@ impl Commits {
     pub fn replace<D: Disk>(
         &mut self,
         journal: &mut Journal<D>,
-        tree: &Tree,
+        tree: &ReadyTree,
         shed: &Shed,
         own: &ChangeRef<'_>,
     ) -> Result<(), JournalRefusal>
         requires settled { journal.old.in_doubt ≡ false }
         requires spare { self.old.room ≤ journal.old.spare }
-        ensures replaced { OnOk result (IsReplaced D.Disk (BuildsAfter (stored_in tree.now shed.now) (plain own.now)) (committing journal.old self.old) (committing journal.new self.new)) }
-        ensures halted { IsErrOf result JournalRefusal.DiskFault → IsNotReplaced D.Disk (BuildsAfter (stored_in tree.now shed.now) (plain own.now)) (committing journal.old self.old) (committing journal.new self.new) }
+        ensures replaced { OnOk result (IsReplaced D.Disk (BuildsAfter (stored_in tree.now.rows shed.now) (plain own.now)) (committing journal.old self.old) (committing journal.new self.new)) }
+        ensures halted { IsErrOf result JournalRefusal.DiskFault → IsNotReplaced D.Disk (BuildsAfter (stored_in tree.now.rows shed.now) (plain own.now)) (committing journal.old self.old) (committing journal.new self.new) }
         ensures unchanged { IsErrOf result JournalRefusal.NoRoom → (journal.new ≡ journal.old) × (self.new ≡ self.old) }
-        ensures no_room { IsErrOf result JournalRefusal.NoRoom → (size most : ℕ) → HasRoomAfter size most tree.now shed.now (plain own.now) → (self.old.room < most) ⊎ (journal.old.areas.bytes < most + 7) }
+        ensures no_room { IsErrOf result JournalRefusal.NoRoom → (size most : ℕ) → HasRoomAfter size most tree.now.rows shed.now (plain own.now) → (self.old.room < most) ⊎ (journal.old.areas.bytes < most + 7) }
         ensures cause { IsErrOf result JournalRefusal.DiskFault → Rose (D.faults journal.old.disk) (D.faults journal.new.disk) }
     {
         let Ok(()) = snapshot_after(tree, shed, own, &mut self.alone) else {
@@ -238,15 +238,15 @@ impl Commits {
     pub fn replace_kept<D: Disk>(
         &mut self,
         journal: &mut Journal<D>,
-        tree: &Tree,
+        tree: &ReadyTree,
         shed: &Shed,
     ) -> Result<(), JournalRefusal>
         requires settled { journal.old.in_doubt ≡ false }
         requires spare { self.old.room ≤ journal.old.spare }
-        ensures replaced { OnOk result (IsReplaced D.Disk (BuildsAll (stored_in tree.now shed.now)) (committing journal.old self.old) (committing journal.new self.new)) }
-        ensures halted { IsErrOf result JournalRefusal.DiskFault → IsNotReplaced D.Disk (BuildsAll (stored_in tree.now shed.now)) (committing journal.old self.old) (committing journal.new self.new) }
+        ensures replaced { OnOk result (IsReplaced D.Disk (BuildsAll (stored_in tree.now.rows shed.now)) (committing journal.old self.old) (committing journal.new self.new)) }
+        ensures halted { IsErrOf result JournalRefusal.DiskFault → IsNotReplaced D.Disk (BuildsAll (stored_in tree.now.rows shed.now)) (committing journal.old self.old) (committing journal.new self.new) }
         ensures unchanged { IsErrOf result JournalRefusal.NoRoom → (journal.new ≡ journal.old) × (self.new ≡ self.old) }
-        ensures no_room { IsErrOf result JournalRefusal.NoRoom → (size most : ℕ) → HasRoomFor size most tree.now shed.now → (self.old.room < most) ⊎ (journal.old.areas.bytes < most + 7) }
+        ensures no_room { IsErrOf result JournalRefusal.NoRoom → (size most : ℕ) → HasRoomFor size most tree.now.rows shed.now → (self.old.room < most) ⊎ (journal.old.areas.bytes < most + 7) }
         ensures cause { IsErrOf result JournalRefusal.DiskFault → Rose (D.faults journal.old.disk) (D.faults journal.new.disk) }
     {
         let Ok(()) = snapshot(tree, shed, &mut self.alone) else {

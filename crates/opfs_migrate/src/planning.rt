@@ -1,19 +1,25 @@
 //! What a migration writes.
 
-ghost use Rattle.std.specs.Prelude.{◌≡◌, ◌⊎◌, ◌+◌, ◌≤◌, true, length, Err, IfOk, IfErr, IsErrOf};
+ghost use Rattle.std.specs.Prelude.{◌≡◌, ◌⊎◌, ◌+◌, ◌≤◌, ℕ, true, [], ◌∷◌, Some, length, Err, IfOk, IfErr, IsErrOf};
 ghost use Rattle.opfs_codec.specs.declared.change.Format.TheVariants.{Old, New};
 ghost use Rattle.opfs_outside.specs.Faults.{Rose};
 ghost use Rattle.opfs_image.specs.Reading.{read_as};
 ghost use Rattle.opfs_image.specs.Superblock.{area_bytes, image_size, is_in_range};
 ghost use Rattle.opfs_journal.specs.Walking.{OnlyRead};
 ghost use Rattle.opfs_migrate.specs.Migrating.{IsPlanned};
+ghost use Rattle.opfs_replay.specs.Applying.{rows_of};
+ghost use Rattle.opfs_replay.specs.Built.{IsSound};
+ghost use Rattle.opfs_replay.specs.Sums.{charge_of, persistent_in};
+ghost use Rattle.opfs_snapshot.specs.Written.{stored_rows};
 
 use crate::counting::count_files;
 use opfs_codec::Format;
-use opfs_image::{Geometry, ImageRefusal, read_image};
+use opfs_image::{Geometry, ImageRefusal, ReadImage, read_image};
 use opfs_outside::Disk;
+use opfs_ready::ReadyTree;
+use opfs_replay::Rebuilt;
 use opfs_snapshot::snapshot;
-use std::alloc::Global;
+use std::alloc::{AllocError, Global};
 
 /// What a migration writes: one record that builds the same, and how many files that has.
 #[derive(Drop)]
@@ -38,11 +44,22 @@ pub(crate) fn read_plan<D: Disk>(alloc: Global, disk: &mut D) -> Result<Plan, Im
 {
     let image = read_image(alloc, disk, Format::Old)?;
     let files = count_files(&image.parts.tree)?;
-    let mut body = Vec::new(alloc);
-    snapshot(&image.parts.tree, &image.parts.shed, &mut body)?;
+    let ReadImage { geometry, parts } = image;
+    let body = spell(alloc, parts)?;
     Ok(Plan {
-        geometry: image.geometry,
+        geometry,
         files,
         body,
     })
+}
+
+// One record of format 2 that builds what was read.
+fn spell(alloc: Global, parts: Rebuilt) -> Result<Vec<u8>, AllocError>
+    ensures builds { IfOk result (λ body. (size : ℕ) → IsSound size (stored_rows parts.tree) → rows_of New size (body.items ∷ []) ≡ Some (record { rows = stored_rows parts.tree; persistent = persistent_in parts.shed.buckets })) }
+    ensures fits { IfOk result (λ body. (size : ℕ) → IsSound size (stored_rows parts.tree) → length body.items ≤ charge_of New (record { rows = stored_rows parts.tree; persistent = persistent_in parts.shed.buckets })) }
+{
+    let tree = ReadyTree::make(alloc, parts.tree);
+    let mut body = Vec::new(alloc);
+    snapshot(&tree, &parts.shed, &mut body)?;
+    Ok(body)
 }

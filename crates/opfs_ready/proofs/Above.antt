@@ -8,7 +8,8 @@ use Rattle.opfs_base.specs.Places.{Place, place_cmp, is_within}
 use Rattle.opfs_base.specs.Texts.{Text}
 use Rattle.opfs_base.specs.declared.locator.Kind.{Kind}
 use Rattle.opfs_tree.specs.declared.row.Row.{Row}
-use Rattle.opfs_tree.specs.Rows.{Rows, without, rows_above, IsInOrder}
+use Rattle.opfs_tree.specs.Rows.{Rows, without, rows_above, IsInOrder, IsClosed}
+use Rattle.opfs_tree.proofs.Closed.{closed_without}
 use Rattle.opfs_tree.proofs.Orders.{place_total}
 use Rattle.opfs_ready.specs.Ready.{Ready, new_row, is_ready, shown, IsSpare, IsKept}
 use Rattle.opfs_ready.proofs.Clear.{same_place, place_itself, within_itself, all-put}
@@ -128,6 +129,10 @@ none-above ready rows at none = above-shown ready at rows ∙ (ap (shown ready) 
 pub order-shown : (ready : Ready) (rows : Rows) → IsKept ready rows → IsInOrder rows → IsInOrder (shown ready rows)
 order-shown None rows kept order = order
 order-shown (Some e) rows kept order = order-base e.0 e.1 rows kept
+
+pub closed-shown : (ready : Ready) (rows : Rows) → IsClosed rows → IsClosed (shown ready rows)
+closed-shown None rows closed = closed
+closed-shown (Some e) rows closed = closed_without e.0 rows closed
 
 -- ---- the clauses of a step
 

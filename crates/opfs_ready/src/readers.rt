@@ -2,17 +2,25 @@
 
 ghost use Rattle.std.specs.Prelude.{◌≡◌, ◌<◌, ◌^◌, ◌∷◌, [], false, None, Some, IfOk, IfNone, IfSome, IsSomeAnd, length, option_map, sum_by};
 ghost use Rattle.std.specs.Option.{option_copied};
-ghost use Rattle.opfs_tree.specs.Rows.{row_at, file_at, kind_of, rows_within, extents_within, first_taken, none_taken, has_children, children_of, least_not_in, present_blocks, durable_blocks, rows_above, IsInOrder};
+ghost use Rattle.opfs_tree.specs.Rows.{row_at, file_at, kind_of, rows_within, extents_within, first_taken, none_taken, has_children, children_of, least_not_in, present_blocks, durable_blocks, rows_above, IsInOrder, IsClosed};
 ghost use Rattle.opfs_tree.specs.Sums.{row_charge, entries_within};
 ghost use Rattle.opfs_ready.specs.Ready.{ready_within};
 
-use crate::ready::{ReadyTree, is_ready};
+use crate::ready::{ReadyTree, in_order, is_ready};
 use opfs_base::{Key, Kind, Name, Path};
 use opfs_locks::LockValue;
 use opfs_tree::{FileRow, Row, Sums, Walk};
 use std::alloc::{AllocError, Global};
 
 impl ReadyTree {
+    /// What is said of the rows, by a look at any place: they stand in order, and each but the roots in a directory.
+    pub fn in_directories(&self, key: &Key, path: &Path)
+        ensures order { IsInOrder self.now.rows }
+        ensures closed { IsClosed self.now.rows }
+    {
+        in_order(&self.tree, key, path);
+    }
+
     /// Whether a directory or a file is at a place; None where neither is.
     pub fn kind(&self, key: &Key, path: &Path) -> Option<Kind>
         ensures { result ≡ option_map kind_of (row_at (key.now, path.now) self.now.rows) }

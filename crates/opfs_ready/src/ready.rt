@@ -117,7 +117,7 @@ pub(crate) fn is_ready(ready: &Option<(Place, Kind)>, key: &Key, path: &Path) ->
 }
 
 // The rows stand in order and closed under parents. Says so, and does next to nothing.
-fn in_order(tree: &Tree, key: &Key, path: &Path)
+pub(crate) fn in_order(tree: &Tree, key: &Key, path: &Path)
     ensures order { IsInOrder tree.now }
     ensures closed { IsClosed tree.now }
 {

@@ -16,8 +16,8 @@ use crate::rows::in_directories;
 use crate::rows_after::write_rows_after;
 use crate::units::write_units;
 use opfs_codec::{ChangeRef, write};
+use opfs_ready::ReadyTree;
 use opfs_shed::Shed;
-use opfs_tree::Tree;
 use std::alloc::AllocError;
 
 /// Writes the body of a checkpoint's one record in place of what the buffer holds: a list of changes in format 2 that
@@ -28,16 +28,16 @@ use std::alloc::AllocError;
 ///
 /// A row, a unit or a change that has no spelling is answered as want of memory too. An image has none.
 pub fn snapshot_after(
-    tree: &Tree,
+    tree: &ReadyTree,
     shed: &Shed,
     own: &ChangeRef<'_>,
     into: &mut Vec<u8>,
 ) -> Result<(), AllocError>
-    ensures builds { OnOk result ((size : ℕ) (next : Built) → IsSound size (stored_rows tree.now) → tried New size (record { rows = stored_rows tree.now; persistent = persistent_in shed.now.buckets }) (plain own.now) ≡ Some next → rows_of New size (into.new.items ∷ []) ≡ Some next) }
-    ensures fits { OnOk result ((size : ℕ) (next : Built) → IsSound size (stored_rows tree.now) → tried New size (record { rows = stored_rows tree.now; persistent = persistent_in shed.now.buckets }) (plain own.now) ≡ Some next → length into.new.items ≤ charge_of New next) }
+    ensures builds { OnOk result ((size : ℕ) (next : Built) → IsSound size (stored_rows tree.now.rows) → tried New size (record { rows = stored_rows tree.now.rows; persistent = persistent_in shed.now.buckets }) (plain own.now) ≡ Some next → rows_of New size (into.new.items ∷ []) ≡ Some next) }
+    ensures fits { OnOk result ((size : ℕ) (next : Built) → IsSound size (stored_rows tree.now.rows) → tried New size (record { rows = stored_rows tree.now.rows; persistent = persistent_in shed.now.buckets }) (plain own.now) ≡ Some next → length into.new.items ≤ charge_of New next) }
     ensures err { OnErr result (into.new.items ≡ []) }
     ensures capacity { vec_capacity into.old ≤ vec_capacity into.new }
-    ensures room { (size : ℕ) (next : Built) → IsSound size (stored_rows tree.now) → tried New size (record { rows = stored_rows tree.now; persistent = persistent_in shed.now.buckets }) (plain own.now) ≡ Some next → AreWritable tree.now (persistent_in shed.now.buckets) → IsChange New (plain own.now) → charge_of New next ≤ vec_capacity into.old → IsTrue (is_ok result) }
+    ensures room { (size : ℕ) (next : Built) → IsSound size (stored_rows tree.now.rows) → tried New size (record { rows = stored_rows tree.now.rows; persistent = persistent_in shed.now.buckets }) (plain own.now) ≡ Some next → AreWritable tree.now.rows (persistent_in shed.now.buckets) → IsChange New (plain own.now) → charge_of New next ≤ vec_capacity into.old → IsTrue (is_ok result) }
 {
     into.clear();
     match write_after(tree, shed, own, into) {
@@ -51,16 +51,16 @@ pub fn snapshot_after(
 
 // Writes the body into an empty buffer.
 fn write_after(
-    tree: &Tree,
+    tree: &ReadyTree,
     shed: &Shed,
     own: &ChangeRef<'_>,
     into: &mut Vec<u8>,
 ) -> Result<(), AllocError>
     requires { into.old.items ≡ [] }
-    ensures builds { OnOk result ((size : ℕ) (next : Built) → IsSound size (stored_rows tree.now) → tried New size (record { rows = stored_rows tree.now; persistent = persistent_in shed.now.buckets }) (plain own.now) ≡ Some next → rows_of New size (into.new.items ∷ []) ≡ Some next) }
-    ensures fits { OnOk result ((size : ℕ) (next : Built) → IsSound size (stored_rows tree.now) → tried New size (record { rows = stored_rows tree.now; persistent = persistent_in shed.now.buckets }) (plain own.now) ≡ Some next → length into.new.items ≤ charge_of New next) }
+    ensures builds { OnOk result ((size : ℕ) (next : Built) → IsSound size (stored_rows tree.now.rows) → tried New size (record { rows = stored_rows tree.now.rows; persistent = persistent_in shed.now.buckets }) (plain own.now) ≡ Some next → rows_of New size (into.new.items ∷ []) ≡ Some next) }
+    ensures fits { OnOk result ((size : ℕ) (next : Built) → IsSound size (stored_rows tree.now.rows) → tried New size (record { rows = stored_rows tree.now.rows; persistent = persistent_in shed.now.buckets }) (plain own.now) ≡ Some next → length into.new.items ≤ charge_of New next) }
     ensures capacity { vec_capacity into.old ≤ vec_capacity into.new }
-    ensures room { (size : ℕ) (next : Built) → IsSound size (stored_rows tree.now) → tried New size (record { rows = stored_rows tree.now; persistent = persistent_in shed.now.buckets }) (plain own.now) ≡ Some next → AreWritable tree.now (persistent_in shed.now.buckets) → IsChange New (plain own.now) → charge_of New next ≤ vec_capacity into.old → IsTrue (is_ok result) }
+    ensures room { (size : ℕ) (next : Built) → IsSound size (stored_rows tree.now.rows) → tried New size (record { rows = stored_rows tree.now.rows; persistent = persistent_in shed.now.buckets }) (plain own.now) ≡ Some next → AreWritable tree.now.rows (persistent_in shed.now.buckets) → IsChange New (plain own.now) → charge_of New next ≤ vec_capacity into.old → IsTrue (is_ok result) }
 {
     in_directories(tree);
     shed.in_order();

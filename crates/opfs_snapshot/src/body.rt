@@ -9,8 +9,8 @@ ghost use Rattle.opfs_snapshot.specs.Written.{AreWritable, built_bytes, stored_r
 
 use crate::rows::{in_directories, write_rows};
 use crate::units::write_units;
+use opfs_ready::ReadyTree;
 use opfs_shed::Shed;
-use opfs_tree::Tree;
 use std::alloc::AllocError;
 
 /// Writes the body of a checkpoint's one record in place of what the buffer holds: a list of changes in format 2 that
@@ -20,13 +20,13 @@ use std::alloc::AllocError;
 /// the buffer is left empty.
 ///
 /// A row or a unit that no list of changes can spell is answered as want of memory too. An image has none.
-pub fn snapshot(tree: &Tree, shed: &Shed, into: &mut Vec<u8>) -> Result<(), AllocError>
-    ensures bytes { OnOk result (into.new.items ≡ built_bytes (record { rows = tree.now; persistent = persistent_in shed.now.buckets })) }
-    ensures builds { OnOk result ((size : ℕ) → IsSound size (stored_rows tree.now) → rows_of New size (into.new.items ∷ []) ≡ Some (record { rows = stored_rows tree.now; persistent = persistent_in shed.now.buckets })) }
-    ensures fits { OnOk result ((size : ℕ) → IsSound size (stored_rows tree.now) → length into.new.items ≤ charge_of New (record { rows = stored_rows tree.now; persistent = persistent_in shed.now.buckets })) }
+pub fn snapshot(tree: &ReadyTree, shed: &Shed, into: &mut Vec<u8>) -> Result<(), AllocError>
+    ensures bytes { OnOk result (into.new.items ≡ built_bytes (record { rows = tree.now.rows; persistent = persistent_in shed.now.buckets })) }
+    ensures builds { OnOk result ((size : ℕ) → IsSound size (stored_rows tree.now.rows) → rows_of New size (into.new.items ∷ []) ≡ Some (record { rows = stored_rows tree.now.rows; persistent = persistent_in shed.now.buckets })) }
+    ensures fits { OnOk result ((size : ℕ) → IsSound size (stored_rows tree.now.rows) → length into.new.items ≤ charge_of New (record { rows = stored_rows tree.now.rows; persistent = persistent_in shed.now.buckets })) }
     ensures err { OnErr result (into.new.items ≡ []) }
     ensures capacity { vec_capacity into.old ≤ vec_capacity into.new }
-    ensures room { (size : ℕ) → IsSound size (stored_rows tree.now) → AreWritable tree.now (persistent_in shed.now.buckets) → charge_of New (record { rows = stored_rows tree.now; persistent = persistent_in shed.now.buckets }) ≤ vec_capacity into.old → IsTrue (is_ok result) }
+    ensures room { (size : ℕ) → IsSound size (stored_rows tree.now.rows) → AreWritable tree.now.rows (persistent_in shed.now.buckets) → charge_of New (record { rows = stored_rows tree.now.rows; persistent = persistent_in shed.now.buckets }) ≤ vec_capacity into.old → IsTrue (is_ok result) }
 {
     into.clear();
     match write_all(tree, shed, into) {
@@ -39,13 +39,13 @@ pub fn snapshot(tree: &Tree, shed: &Shed, into: &mut Vec<u8>) -> Result<(), Allo
 }
 
 // Writes the body into an empty buffer.
-fn write_all(tree: &Tree, shed: &Shed, into: &mut Vec<u8>) -> Result<(), AllocError>
+fn write_all(tree: &ReadyTree, shed: &Shed, into: &mut Vec<u8>) -> Result<(), AllocError>
     requires { into.old.items ≡ [] }
-    ensures bytes { OnOk result (into.new.items ≡ built_bytes (record { rows = tree.now; persistent = persistent_in shed.now.buckets })) }
-    ensures builds { OnOk result ((size : ℕ) → IsSound size (stored_rows tree.now) → rows_of New size (into.new.items ∷ []) ≡ Some (record { rows = stored_rows tree.now; persistent = persistent_in shed.now.buckets })) }
-    ensures fits { OnOk result ((size : ℕ) → IsSound size (stored_rows tree.now) → length into.new.items ≤ charge_of New (record { rows = stored_rows tree.now; persistent = persistent_in shed.now.buckets })) }
+    ensures bytes { OnOk result (into.new.items ≡ built_bytes (record { rows = tree.now.rows; persistent = persistent_in shed.now.buckets })) }
+    ensures builds { OnOk result ((size : ℕ) → IsSound size (stored_rows tree.now.rows) → rows_of New size (into.new.items ∷ []) ≡ Some (record { rows = stored_rows tree.now.rows; persistent = persistent_in shed.now.buckets })) }
+    ensures fits { OnOk result ((size : ℕ) → IsSound size (stored_rows tree.now.rows) → length into.new.items ≤ charge_of New (record { rows = stored_rows tree.now.rows; persistent = persistent_in shed.now.buckets })) }
     ensures capacity { vec_capacity into.old ≤ vec_capacity into.new }
-    ensures room { (size : ℕ) → IsSound size (stored_rows tree.now) → AreWritable tree.now (persistent_in shed.now.buckets) → charge_of New (record { rows = stored_rows tree.now; persistent = persistent_in shed.now.buckets }) ≤ vec_capacity into.old → IsTrue (is_ok result) }
+    ensures room { (size : ℕ) → IsSound size (stored_rows tree.now.rows) → AreWritable tree.now.rows (persistent_in shed.now.buckets) → charge_of New (record { rows = stored_rows tree.now.rows; persistent = persistent_in shed.now.buckets }) ≤ vec_capacity into.old → IsTrue (is_ok result) }
 {
     in_directories(tree);
     write_rows(tree, into)?;

@@ -16,15 +16,16 @@ use crate::checks::is_writable;
 use crate::content::FileContent;
 use opfs_base::{Key, Path};
 use opfs_codec::{ChangeRef, write};
-use opfs_tree::{Row, Tree, Walk};
+use opfs_ready::ReadyTree;
+use opfs_tree::{Row, Walk};
 use std::alloc::AllocError;
 
 /// Appends the changes that build the rows. A row that has no spelling is answered as want of memory; an image has none.
-pub(crate) fn write_rows(tree: &Tree, into: &mut Vec<u8>) -> Result<(), AllocError>
-    ensures written { OnOk result (into.new.items ≡ into.old.items ++ rows_bytes tree.now) }
-    ensures writable { OnOk result (AllByRecursion (λ e. IsWritableRow e.0 e.1) tree.now) }
+pub(crate) fn write_rows(tree: &ReadyTree, into: &mut Vec<u8>) -> Result<(), AllocError>
+    ensures written { OnOk result (into.new.items ≡ into.old.items ++ rows_bytes tree.now.rows) }
+    ensures writable { OnOk result (AllByRecursion (λ e. IsWritableRow e.0 e.1) tree.now.rows) }
     ensures capacity { vec_capacity into.old ≤ vec_capacity into.new }
-    ensures room { (size : ℕ) → AllByRecursion (λ e. IsSoundRow size (stored_row e.1)) tree.now → AllByRecursion (λ e. IsWritableRow e.0 e.1) tree.now → vec_len into.old + sum_by (λ e. row_charge New e.0 e.1) tree.now ≤ vec_capacity into.old → IsTrue (is_ok result) }
+    ensures room { (size : ℕ) → AllByRecursion (λ e. IsSoundRow size (stored_row e.1)) tree.now.rows → AllByRecursion (λ e. IsWritableRow e.0 e.1) tree.now.rows → vec_len into.old + sum_by (λ e. row_charge New e.0 e.1) tree.now.rows ≤ vec_capacity into.old → IsTrue (is_ok result) }
 {
     let mut walk = Walk::make();
     while let Some(row) = tree.step(&mut walk) {
@@ -34,13 +35,13 @@ pub(crate) fn write_rows(tree: &Tree, into: &mut Vec<u8>) -> Result<(), AllocErr
 }
 
 /// What a tree says of its rows: they stand in order, and each but the roots in a directory.
-pub(crate) fn in_directories(tree: &Tree)
-    ensures order { IsInOrder tree.now }
-    ensures closed { IsClosed tree.now }
+pub(crate) fn in_directories(tree: &ReadyTree)
+    ensures order { IsInOrder tree.now.rows }
+    ensures closed { IsClosed tree.now.rows }
 {
     let mut first = Walk::make();
     if let Some(_) = tree.step(&mut first) {
-        tree.kind(first.key(), first.path());
+        tree.in_directories(first.key(), first.path());
     }
 }
 

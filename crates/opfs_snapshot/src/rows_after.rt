@@ -17,20 +17,21 @@ use crate::content::FileContent;
 use crate::rows::{write_file, write_row};
 use opfs_base::{Key, Path, begins_with};
 use opfs_codec::ChangeRef;
-use opfs_tree::{Row, Tree, Walk};
+use opfs_ready::ReadyTree;
+use opfs_tree::{Row, Walk};
 use std::alloc::AllocError;
 
 /// Appends the changes that build the rows which a change leaves, with the content that it gives. A row that has no
 /// spelling is answered as want of memory; an image has none.
 pub(crate) fn write_rows_after(
-    tree: &Tree,
+    tree: &ReadyTree,
     own: &ChangeRef<'_>,
     into: &mut Vec<u8>,
 ) -> Result<(), AllocError>
-    ensures written { OnOk result (into.new.items ≡ into.old.items ++ rows_bytes (rows_after (plain own.now) tree.now)) }
-    ensures writable { OnOk result (AllByRecursion (λ e. IsWritableRow e.0 e.1) (rows_after (plain own.now) tree.now)) }
+    ensures written { OnOk result (into.new.items ≡ into.old.items ++ rows_bytes (rows_after (plain own.now) tree.now.rows)) }
+    ensures writable { OnOk result (AllByRecursion (λ e. IsWritableRow e.0 e.1) (rows_after (plain own.now) tree.now.rows)) }
     ensures capacity { vec_capacity into.old ≤ vec_capacity into.new }
-    ensures room { (size : ℕ) → AllByRecursion (λ e. IsSoundRow size (stored_row e.1)) (rows_after (plain own.now) tree.now) → AllByRecursion (λ e. IsWritableRow e.0 e.1) (rows_after (plain own.now) tree.now) → vec_len into.old + sum_by (λ e. row_charge New e.0 e.1) (rows_after (plain own.now) tree.now) ≤ vec_capacity into.old → IsTrue (is_ok result) }
+    ensures room { (size : ℕ) → AllByRecursion (λ e. IsSoundRow size (stored_row e.1)) (rows_after (plain own.now) tree.now.rows) → AllByRecursion (λ e. IsWritableRow e.0 e.1) (rows_after (plain own.now) tree.now.rows) → vec_len into.old + sum_by (λ e. row_charge New e.0 e.1) (rows_after (plain own.now) tree.now.rows) ≤ vec_capacity into.old → IsTrue (is_ok result) }
 {
     let mut walk = Walk::make();
     while let Some(row) = tree.step(&mut walk) {

@@ -12,7 +12,7 @@ returns-clause-fits g c =
     let agrees = c.in_ok-image.ensures.agrees in
     let tree = c.in_ok-image.image.parts.tree in
     let same = sound_stored _ tree agrees.parts.sound.files in
-    let fits = c.in_ok-snapshot.ensures.fits _ (subst (IsSound _) (sym same) agrees.parts.sound) in
+    let fits = c.in_ok-body.ensures.fits _ (subst (IsSound _) (sym same) agrees.parts.sound) in
     omega (arith, fits, ap (λ (rows : Rows). charge_of New (record { rows = rows; persistent = persistent_in c.in_ok-image.image.parts.shed.buckets })) same, agrees.parts.charge_is, agrees.fits)
 
 pub returns-clause-planned : goal.returns-clause-planned
@@ -23,6 +23,6 @@ returns-clause-planned g c = λ told. record {
   builds =
       let sound = c.in_ok-image.ensures.agrees.parts.sound in
       let same = sound_stored _ c.in_ok-image.image.parts.tree sound.files in
-      c.in_ok-snapshot.ensures.builds _ (subst (IsSound _) (sym same) sound)
+      c.in_ok-body.ensures.builds _ (subst (IsSound _) (sym same) sound)
       ∙ ap (λ (rows : Rows). Some (record { rows = rows; persistent = persistent_in c.in_ok-image.image.parts.shed.buckets })) same;
 }

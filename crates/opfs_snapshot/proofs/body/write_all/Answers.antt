@@ -17,18 +17,18 @@ both_parts none now whole rows units empty first second = sym (second ∙ ap (λ
 
 pub returns-clause-bytes : goal.returns-clause-bytes
 returns-clause-bytes c =
-    sym (both_parts _ _ c.write_units.new.into.items c.args.tree.now (persistent_in c.args.shed.now.buckets) c.requires c.in_ok-write_rows.ensures.written c.in_ok-write_units.ensures.written)
+    sym (both_parts _ _ c.write_units.new.into.items c.args.tree.now.rows (persistent_in c.args.shed.now.buckets) c.requires c.in_ok-write_rows.ensures.written c.in_ok-write_units.ensures.written)
 
 pub returns-clause-builds : goal.returns-clause-builds
 returns-clause-builds c size sound =
     let units = persistent_in c.args.shed.now.buckets in
-    let bytes = both_parts _ _ c.write_units.new.into.items c.args.tree.now units c.requires c.in_ok-write_rows.ensures.written c.in_ok-write_units.ensures.written in
-    snapshot_builds size c.args.tree.now units c.write_units.new.into.items (sym bytes) c.in_directories.ensures.order c.in_directories.ensures.closed sound c.in_ok-write_rows.ensures.writable
+    let bytes = both_parts _ _ c.write_units.new.into.items c.args.tree.now.rows units c.requires c.in_ok-write_rows.ensures.written c.in_ok-write_units.ensures.written in
+    snapshot_builds size c.args.tree.now.rows units c.write_units.new.into.items (sym bytes) c.in_directories.ensures.order c.in_directories.ensures.closed sound c.in_ok-write_rows.ensures.writable
     c.in_ok-write_units.ensures.ordered c.in_ok-write_units.ensures.writable
 
 pub returns-clause-fits : goal.returns-clause-fits
 returns-clause-fits c size sound =
-    let rows = c.args.tree.now in
+    let rows = c.args.tree.now.rows in
     let units = persistent_in c.args.shed.now.buckets in
     let bytes = both_parts _ _ c.write_units.new.into.items rows units c.requires c.in_ok-write_rows.ensures.written c.in_ok-write_units.ensures.written in
     let same : rows_bytes (stored_rows rows) ++ units_bytes units ≡ c.write_units.new.into.items = ap (λ xs. xs ++ units_bytes units) (stored_bytes rows) ∙ bytes in
@@ -36,13 +36,13 @@ returns-clause-fits c size sound =
 
 pub returns-in_err-write_rows-clause-room : goal.returns-in_err-write_rows-clause-room
 returns-in_err-write_rows-clause-room c size sound good le =
-    let rows = c.args.tree.now in
+    let rows = c.args.tree.now.rows in
     let sums = charge_parts (stored_rows rows) (persistent_in c.args.shed.now.buckets) in
     absurd (false≢true (c.in_err-write_rows.ensures.room size (sound_each size rows sound.files) good.0 (omega (arith, le, sums, stored_charge rows, c.args.into.now.ok.0, ap length c.requires))))
 
 pub returns-in_err-write_units-clause-room : goal.returns-in_err-write_units-clause-room
 returns-in_err-write_units-clause-room c size sound good le =
-    let rows = c.args.tree.now in
+    let rows = c.args.tree.now.rows in
     let sums = charge_parts (stored_rows rows) (persistent_in c.args.shed.now.buckets) in
     let bytes = ap length c.in_ok-write_rows.ensures.written ∙ length-append c.args.into.now.items (rows_bytes rows) in
     absurd (false≢true (c.in_err-write_units.ensures.room good.1

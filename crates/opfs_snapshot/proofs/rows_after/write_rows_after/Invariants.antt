@@ -7,7 +7,7 @@ use Rattle.opfs_snapshot.proofs.Left.{RowsLeft}
 use Rattle.opfs_snapshot.proofs.rows_after.write_rows_after.Given as goal
 
 abbrev pub invariant-loop-row : goal.invariant-loop-row
-invariant-loop-row l = RowsLeft (rows_after (plain l.own) l.tree) (rows_after (plain l.own) (rows_above l.walk l.tree)) l.fn.into.items l.into.items (vec_capacity l.fn.into) (vec_capacity l.into)
+invariant-loop-row l = RowsLeft (rows_after (plain l.own) l.tree.rows) (rows_after (plain l.own) (rows_above l.walk l.tree.rows)) l.fn.into.items l.into.items (vec_capacity l.fn.into) (vec_capacity l.into)
 
 abbrev pub decreases-loop-row : goal.decreases-loop-row
-decreases-loop-row l = length (rows_above l.walk l.tree)
+decreases-loop-row l = length (rows_above l.walk l.tree.rows)

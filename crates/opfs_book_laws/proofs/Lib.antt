@@ -1,0 +1,9 @@
+pub mod Told
+pub mod Counting
+pub mod Sound
+pub mod Few
+pub mod Entering
+pub mod Storing
+pub mod Committing
+pub mod Settling
+pub mod Pending

@@ -1,0 +1,93 @@
+-- The machine in lengths follows each entry.
+use Rattle.std.proofs.Common.{◌≡◌, ℕ, Bool, true, false, List, [], ◌∷◌, ◌++◌, fold, Option, Some, None, refl, sym, ap, ◌∙◌, subst}
+use Rattle.std.specs.List.{AllByRecursion}
+use Rattle.std.proofs.lemmas.Bool.{false≢true}
+use Rattle.opfs_base.specs.Texts.{Text}
+use Rattle.opfs_changes.specs.Asking.{makes_slot}
+use Rattle.opfs_hist.specs.declared.entry.Entry.{Entry}
+use Rattle.opfs_hist.specs.declared.op.Op.{Op}
+use Rattle.opfs_hist.specs.declared.op.Op.TheVariants as op
+use Rattle.opfs_hist.specs.declared.reply.Reply.{Reply}
+use Rattle.opfs_histories.specs.Unread.{ArePendingFor}
+use Rattle.opfs_laws.proofs.Going.{not_evict}
+use Rattle.opfs_lengths.specs.Bridge.{LengthsFollowEachCall, LocalCallsAreKnownByTheirWord}
+use Rattle.opfs_lengths.specs.Outlines.{in_lengths_of, local_change}
+use Rattle.opfs_machine.specs.declared.own.Own.{Own}
+use Rattle.opfs_machine.specs.declared.state.Sizes.{Sizes}
+use Rattle.opfs_machine.specs.declared.state.State.{State}
+use Rattle.opfs_machine.specs.Agents.{counted}
+use Rattle.opfs_machine.specs.Changes.{Change, stored_by, entry_changes}
+use Rattle.opfs_machine.specs.Contents.{in_bytes, in_lengths}
+use Rattle.opfs_machine.specs.Effects.{effect, refused}
+use Rattle.opfs_machine.specs.Histories.{after_entry, after_op}
+use Rattle.opfs_machine.specs.OwnRows.{is_local}
+use Rattle.opfs_machine.specs.Replies.{sizes_of}
+use Rattle.opfs_machine.specs.Steps.{after_reply, is_refusal}
+use Rattle.opfs_standing.specs.Seen.{Machine}
+use Rattle.opfs_books.specs.Noting.{noted, AreNotes}
+
+abbrev after_by : State Text Own → ℕ → Op → Bool → State Text Own
+after_by s k o b = counted (elim b [ true ↦ refused s k o | false ↦ effect in_bytes s (sizes_of s k o) k o ]) k
+
+module _ (follow : LengthsFollowEachCall) where
+  -- A call that is answered.
+  pub applied-follows : (s : State Text Own) (m new : Machine) (k : ℕ) (o : Op) (z : Sizes) (r : Reply) → m ≡ in_lengths_of s → z ≡ sizes_of s k o → is_refusal r ≡ false
+      → new ≡ counted (effect in_lengths m z k o) k → new ≡ in_lengths_of (after_reply s k o r)
+  applied-follows s m new k o z r same size plain is =
+      is
+      ∙ (λ i. counted (effect in_lengths (same i) (size i) k o) k)
+      ∙ ap (λ x. counted x k) (follow.effect s k o)
+      ∙ follow.counted (effect in_bytes s (sizes_of s k o) k o) k
+      ∙ ap (λ b. in_lengths_of (after_by s k o b)) (sym plain)
+
+  -- One that is refused.
+  pub refused-follows : (s : State Text Own) (m new : Machine) (k : ℕ) (o : Op) (r : Reply) → m ≡ in_lengths_of s → is_refusal r ≡ true
+      → new ≡ counted (refused m k o) k → new ≡ in_lengths_of (after_reply s k o r)
+  refused-follows s m new k o r same refuses is =
+      is
+      ∙ ap (λ x. counted (refused x k o) k) same
+      ∙ ap (λ x. counted x k) (follow.refused s k o)
+      ∙ follow.counted (refused s k o) k
+      ∙ ap (λ b. in_lengths_of (after_by s k o b)) (sym refuses)
+
+  module _ (local : LocalCallsAreKnownByTheirWord) (tells : Type 0) (k : ℕ) where
+    -- A local call that is refused changes nothing.
+    local-refused : (s : State Text Own) (o : Op) → is_local s k o ≡ true → refused s k o ≡ s
+    unfolding is_local
+    local-refused s (op.Await tag) h = absurd (false≢true h)
+    local-refused s o h = refl
+
+    note-follows : (s : State Text Own) (e : Entry) → e.agent ≡ k → is_local s e.agent e.op ≡ true → counted (elim (is_refusal e.reply) [ true ↦ in_lengths_of s | false ↦ local_change (in_lengths_of s) k e.op ]) k ≡ in_lengths_of (after_reply s e.agent e.op e.reply)
+    note-follows s e agent own =
+        let here : is_local s k e.op ≡ true = ap (λ n. is_local s n e.op) (sym agent) ∙ own in
+        (elim (is_refusal e.reply) as (λ b. counted (elim b [ true ↦ in_lengths_of s | false ↦ local_change (in_lengths_of s) k e.op ]) k ≡ in_lengths_of (after_by s k e.op b)) [
+          | true ↦ follow.counted s k ∙ ap (λ x. in_lengths_of (counted x k)) (sym (local-refused s e.op here))
+          | false ↦ ap (λ x. counted x k) (sym (local s k e.op here)) ∙ ap (λ x. counted x k) (follow.effect s k e.op) ∙ follow.counted (effect in_bytes s (sizes_of s k e.op) k e.op) k
+        ])
+        ∙ ap (λ n. in_lengths_of (after_reply s n e.op e.reply)) (sym agent)
+
+    -- Pending calls.
+    pub notes-follow : (s : State Text Own) (es : List Entry) → ArePendingFor tells s k es → noted (in_lengths_of s) k es ≡ in_lengths_of (fold after_entry s es)
+    notes-follow s [] h = refl
+    notes-follow s (e ∷ es) h =
+        let plain = not_evict s e.agent e.op h.0.fitting in
+        ap (λ x. noted x k es) (note-follows s e h.0.agent h.0.local ∙ ap in_lengths_of (sym (ap (after_op s e) plain)))
+        ∙ notes-follow (after_entry s e) es h.1
+
+    local-slot : (s : State Text Own) (o : Op) → is_local s k o ≡ true → makes_slot o ≡ false
+    unfolding is_local
+    local-slot s (op.GetFile at) h = absurd (false≢true h)
+    local-slot s (op.CreateWritable at keep) h = absurd (false≢true h)
+    local-slot s (op.CreateSyncAccessHandle at mode) h = absurd (false≢true h)
+    local-slot s o h = refl
+
+    pub pending-notes : (s : State Text Own) (es : List Entry) → ArePendingFor tells s k es → AreNotes es
+    pending-notes s [] h = tt
+    pending-notes s (e ∷ es) h = (local-slot s e.op (ap (λ n. is_local s n e.op) (sym h.0.agent) ∙ h.0.local), pending-notes (after_entry s e) es h.1)
+
+-- What an answered entry stores is what its call does.
+pub answered-changes : (s : State Text Own) (e : Entry) → is_refusal e.reply ≡ false → entry_changes s e ≡ stored_by s e.agent e.op
+answered-changes s e plain = ap (λ b. elim b as (λ y. List Change) [ true ↦ [] | false ↦ stored_by s e.agent e.op ]) plain
+
+pub refused-changes : (s : State Text Own) (e : Entry) → is_refusal e.reply ≡ true → entry_changes s e ≡ []
+refused-changes s e refuses = ap (λ b. elim b as (λ y. List Change) [ true ↦ [] | false ↦ stored_by s e.agent e.op ]) refuses

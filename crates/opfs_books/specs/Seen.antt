@@ -1,0 +1,60 @@
+-- The books as they are seen, and what is asked of them before a call. This project's own.
+use Rattle.std.specs.Prelude.{◌≡◌, ℕ, ◌+◌, ◌≤◌, List, [], ◌∷◌, ◌++◌, fold, Option, Ok}
+use Rattle.opfs_base.specs.Texts.{Text}
+use Rattle.opfs_book_calls.specs.Spelled.{stored_built}
+use Rattle.opfs_book_laws.specs.Books.{Fixed, Book, IsNext, IsPlaced, AreBooksAt}
+use Rattle.opfs_book_laws.specs.Laws.{failed}
+use Rattle.opfs_books.specs.declared.books.Books.{Books}
+use Rattle.opfs_books.specs.declared.shared.Shared.{Ghosts as SharedWords}
+use Rattle.opfs_commit.specs.Seen.{KeptBack}
+use Rattle.opfs_hist.specs.declared.entry.Entry.{Entry}
+use Rattle.opfs_hist.specs.declared.op.Op.{Op}
+use Rattle.opfs_journal.specs.Seen.{Seen}
+use Rattle.opfs_lengths.specs.Kept.{Kept}
+use Rattle.opfs_machine.specs.declared.own.Own.{Own}
+use Rattle.opfs_machine.specs.declared.state.Need.{Need}
+use Rattle.opfs_machine.specs.declared.state.Sizes.{Sizes}
+use Rattle.opfs_machine.specs.declared.state.State.{State}
+use Rattle.opfs_machine.specs.Contents.{in_lengths}
+use Rattle.opfs_machine.specs.Histories.{IsCall}
+use Rattle.opfs_machine.specs.Replies.{sizes_of}
+use Rattle.opfs_machine.specs.Rulings.{ruling}
+use Rattle.opfs_machine.specs.Steps.{evicted, step}
+use Rattle.opfs_outside.specs.declared.disk.Disk.{Ghosts as DiskWords}
+use Rattle.opfs_replay.specs.Built.{Built}
+use Rattle.opfs_standing.specs.Seen.{Machine}
+use Rattle.opfs_tree.specs.Rows.{Rows}
+
+-- The books with these parts.
+abbrev pub book : List Entry → Machine → Rows → KeptBack → Option ℕ → Book
+book h m t back place = record { entries = h; machine = m; rows = stored_built t m.persistent; back = back; place = place }
+
+abbrev pub book_of : {S : Type 0} → SharedWords S → Books S → Book
+book_of w b = book b.history (w.machine b.state) (w.tree b.state) b.commits b.place
+
+-- The books are kept.
+pub record AreKnown {D : Type 0} (w : DiskWords D) (b : Book) (j : Seen D) : Type 0 where
+  pub fixed : Fixed D
+  pub recorded : Built
+  pub base : State Text Own
+  pub gone : List Text
+  pub are : AreBooksAt w fixed recorded base gone b j
+
+-- A call is not refused, and has a place in the history.
+pub record MayAnswer (b : Book) (e : Entry) (z : Sizes) : Type 0 where
+  pub kept : Kept b.machine
+  pub need : Need
+  pub ruled : ruling in_lengths b.machine z e.agent e.op ≡ Ok need
+  pub placed : IsPlaced b.entries e.agent
+
+-- And its entry may come now, with these sizes of the row that it names.
+pub record MayCome {D : Type 0} (w : DiskWords D) (b : Book) (j : Seen D) (e : Entry) (z : Sizes) : Type 0 where
+  pub known : AreKnown w b j
+  pub next : IsNext w.tells known.base known.gone e
+  pub sizes : z ≡ sizes_of (fold evicted known.base known.gone) e.agent e.op
+
+-- A unit is the next that is cleared for a call, and the call may meet a disk fault now.
+pub record IsVictim (base : State Text Own) (gone : List Text) (e : Entry) (unit : Text) : Type 0 where
+  pub fault : IsCall base gone (failed e)
+  pub rest : List Text
+  pub victims : (step base e.agent e.op).victims ≡ gone ++ unit ∷ rest

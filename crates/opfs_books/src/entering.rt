@@ -1,0 +1,72 @@
+//! Entries of calls.
+
+ghost use Rattle.std.specs.Prelude.{◌≡◌, ◌++◌, ◌∷◌, ◌<◌, ◌^◌, [], length};
+ghost use Rattle.opfs_book_laws.specs.Laws.{failed};
+ghost use Rattle.opfs_tree.specs.Rows.{IsInOrder};
+
+use opfs_base::Extents;
+use opfs_hist::{Entry, History, Pending, Refusal, Reply, Room};
+use opfs_machine::Sizes;
+use opfs_ready::ReadyTree;
+use opfs_tree::Walk;
+use std::alloc::Global;
+
+/// A call's entry, and the memory for it.
+#[derive(Drop)]
+pub struct Last {
+    pub room: Room,
+    pub entry: Entry,
+}
+
+/// A call's entry with what the shared state is told of the call: the sizes of the row that it names, and the blocks in
+/// which it stores a content, where they are not those that the file has.
+#[derive(Drop)]
+pub struct Entering {
+    pub last: Last,
+    pub sizes: Sizes,
+    pub extents: Option<Extents>,
+}
+
+/// Enters a call.
+pub(crate) fn enter(alloc: Global, history: &mut History, last: Last)
+    requires { length history.old < 2 ^ 34 }
+    ensures { history.new ≡ history.old ++ last.entry ∷ [] }
+{
+    let mut pending = Pending::make(alloc);
+    pending.add(last.room, last.entry);
+    history.take_in(&mut pending);
+}
+
+/// The entry of a call in which the disk failed.
+pub(crate) fn with_fault(last: Last) -> Last
+    ensures { result.entry ≡ failed last.entry }
+{
+    let Last { room, entry } = last;
+    let Entry {
+        agent,
+        number,
+        op,
+        reply,
+        turn,
+    } = entry;
+    drop(reply);
+    let reply = Reply::No(Refusal::DiskFault);
+    Last {
+        room,
+        entry: Entry {
+            agent,
+            number,
+            op,
+            reply,
+            turn,
+        },
+    }
+}
+
+/// What a tree says of its rows: they stand in order.
+pub(crate) fn in_order(tree: &ReadyTree)
+    ensures { IsInOrder tree.now.rows }
+{
+    let mut first = Walk::make();
+    tree.step(&mut first);
+}
