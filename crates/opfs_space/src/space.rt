@@ -12,7 +12,8 @@ ghost use Rattle.opfs_space.specs.Holders.{AreAllBelow, AreSwept, all_pages};
 use opfs_base::Extent;
 use opfs_blocks::BlockMap;
 use opfs_data::Swap;
-use opfs_tree::{Tree, Walk};
+use opfs_ready::ReadyTree;
+use opfs_tree::Walk;
 use std::alloc::{AllocError, Global};
 use std::marker::Model;
 use std::mem;
@@ -113,10 +114,10 @@ impl Space {
         }
     }
 
-    /// Sees the files of all rows, before all pages. Takes no memory.
-    pub fn see_tree(&mut self, tree: &Tree)
-        requires { AreBelow (length self.old.used) (named tree.now) }
-        ensures { self.new ≡ record self.old { seen = marked true (named tree.now) self.old.seen } }
+    /// Sees the files of all rows, before all pages; a place that stands ready has none. Takes no memory.
+    pub fn see_tree(&mut self, tree: &ReadyTree)
+        requires { AreBelow (length self.old.used) (named tree.now.rows) }
+        ensures { self.new ≡ record self.old { seen = marked true (named tree.now.rows) self.old.seen } }
     {
         let mut walk = Walk::make();
         while let Some(row) = tree.step(&mut walk) {
@@ -138,11 +139,11 @@ impl Space {
     }
 
     /// Finds anew which blocks one page alone has, and no file. Takes no memory.
-    pub fn look(&mut self, tree: &Tree, swap: &Swap)
-        requires files { AreBelow (length self.old.used) (named tree.now) }
+    pub fn look(&mut self, tree: &ReadyTree, swap: &Swap)
+        requires files { AreBelow (length self.old.used) (named tree.now.rows) }
         requires pages { AreAllBelow (length self.old.used) swap.now }
         ensures used { self.new.used ≡ self.old.used }
-        ensures found { AreSwept (length self.old.used) (has_block (named tree.now)) swap.now self.new.seen self.new.own }
+        ensures found { AreSwept (length self.old.used) (has_block (named tree.now.rows)) swap.now self.new.seen self.new.own }
     {
         self.begin();
         self.see_tree(tree);
@@ -151,10 +152,10 @@ impl Space {
 
     /// Finds anew which blocks are used: those of files, and those of pages, of which one page alone may have some. All
     /// others are free. Takes no memory.
-    pub fn sweep(&mut self, tree: &Tree, swap: &Swap)
-        requires files { AreBelow (length self.old.used) (named tree.now) }
+    pub fn sweep(&mut self, tree: &ReadyTree, swap: &Swap)
+        requires files { AreBelow (length self.old.used) (named tree.now.rows) }
         requires pages { AreAllBelow (length self.old.used) swap.now }
-        ensures found { AreSwept (length self.old.used) (has_block (named tree.now)) swap.now self.new.used self.new.own }
+        ensures found { AreSwept (length self.old.used) (has_block (named tree.now.rows)) swap.now self.new.used self.new.own }
         ensures size { length self.new.used ≡ length self.old.used }
     {
         self.look(tree, swap);
