@@ -1,0 +1,6 @@
+pub mod Open
+pub mod Hands
+pub mod Told
+pub mod Spaced
+pub mod Shelves
+pub mod Laws
