@@ -3,7 +3,7 @@ ghost use Rattle.std.specs.Prelude.{◌≡◌, ◌↔◌, ◌≤◌, ◌<◌, �
 ghost use Rattle.std.specs.Bool.{OnTrue, OnFalse};
 ghost use Rattle.std.specs.List.{AllByRecursion};
 ghost use Rattle.std.specs.Vec.{vec_capacity};
-ghost use Rattle.opfs_blocks.specs.Sets.{free_blocks, marked, blocks_of, AreBelow};
+ghost use Rattle.opfs_blocks.specs.Sets.{free_blocks, marked, blocks_of, AreBelow, AreJoined};
 ghost use Rattle.opfs_data.specs.Rows.{pages_at, AreInOrder};
 ghost use Rattle.opfs_replay.specs.Built.{named, has_block};
 ghost use Rattle.opfs_space.specs.Spaces.{is_own, block_seen, pages_seen, IsBelow};
@@ -66,8 +66,10 @@ impl Space {
         requires room { n ≤ vec_capacity into.old }
         ensures enough { IsTrue result ↔ (n ≤ length (free_blocks self.old.used)) }
         ensures least { OnTrue result (blocks_of into.new.items ≡ take n (free_blocks self.old.used)) }
+        ensures joined { OnTrue result (AreJoined into.new.items) }
         ensures taken { OnTrue result (self.new ≡ record self.old { used = marked true (blocks_of into.new.items) self.old.used; own = marked true (blocks_of into.new.items) self.old.own }) }
         ensures refused { OnFalse result ((self.new ≡ self.old) × (into.new.items ≡ [])) }
+        ensures capacity { vec_capacity into.old ≤ vec_capacity into.new }
     {
         if !self.used.allot(n, into) {
             return false;
