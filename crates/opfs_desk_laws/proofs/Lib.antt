@@ -5,3 +5,6 @@ pub mod Others
 pub mod Leaving
 pub mod Holding
 pub mod Spacing
+pub mod Puts
+pub mod Alike
+pub mod Handed

@@ -3,4 +3,5 @@ pub mod Hands
 pub mod Told
 pub mod Spaced
 pub mod Shelves
+pub mod Putting
 pub mod Laws

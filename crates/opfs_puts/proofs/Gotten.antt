@@ -1,20 +1,19 @@
 -- Planned pages get their blocks.
-use Rattle.std.proofs.Common.{◌≡◌, ℕ, ◌+◌, ◌-◌, ◌*◌, ◌^◌, ◌<◌, ◌≤◌, ◌++◌, ◌||◌, nat_eq, Bool, true, false, List, [], ◌∷◌, length, take, get_or, Some, refl, sym, ap, subst, ◌∙◌, inl, inr, arith}
+use Rattle.std.proofs.Common.{◌≡◌, ℕ, ◌+◌, ◌-◌, ◌*◌, ◌^◌, ◌<◌, ◌≤◌, ◌++◌, ◌||◌, nat_eq, Bool, true, false, List, [], ◌∷◌, length, take, refl, sym, ap, subst, ◌∙◌, inl, inr, arith}
 use Rattle.std.specs.List.{AllByRecursion}
 use Rattle.std.proofs.lemmas.Bool.{eq-eqb}
 use Rattle.std.proofs.lemmas.List.{length-append, length-take}
 use Rattle.std.proofs.lemmas.List.FromFn.{length-range_with_len}
 use Rattle.opfs_base.specs.declared.extents.Extent.{Extent}
-use Rattle.opfs_blocks.specs.Sets.{Used, is_used, free_blocks, marked, blocks_of, AreBelow, AreJoined}
+use Rattle.opfs_blocks.specs.Sets.{is_used, free_blocks, marked, blocks_of, AreBelow, AreJoined}
 use Rattle.opfs_blocks.specs.Sets.{blocks_in as extent_blocks}
 use Rattle.opfs_blocks.proofs.SetLemmas.{all_front, all_back, below_at}
-use Rattle.opfs_data.specs.declared.page.Page.{Page}
-use Rattle.opfs_data.specs.Pages.{runs_of, IsAgain, AreOnce, NamesPage}
+use Rattle.opfs_data.specs.Pages.{runs_of, IsAgain, AreOnce}
 use Rattle.opfs_data.specs.Places.{AllLie}
-use Rattle.opfs_data.specs.Rows.{Rows, pages_at}
+use Rattle.opfs_data.specs.Rows.{pages_at}
 use Rattle.opfs_data.specs.Writes.{PageWrite, WriteList, page_writes, page_moves, placed, blocks_in}
 use Rattle.opfs_replay.specs.Built.{has_block}
-use Rattle.opfs_space.specs.Holders.{Holders, AreBlocks, AreMine, Writes, HasPage}
+use Rattle.opfs_space.specs.Holders.{Holders, AreBlocks, AreMine, Writes}
 use Rattle.opfs_space.specs.Plans.{ArePlanned}
 use Rattle.opfs_space.specs.Spaces.{SpaceSeen}
 use Rattle.opfs_space.proofs.Counting.{taken_below}

@@ -1,9 +1,8 @@
 -- Pages of a row that are ready to be put, have got their blocks, and were put. This project's own.
-use Rattle.std.specs.Prelude.{◌≡◌, ℕ, ◌+◌, ◌*◌, ◌^◌, ◌<◌, ◌≤◌, ◌++◌, true, List, length, take, is_some, MatchOption, slice_index_or}
+use Rattle.std.specs.Prelude.{◌≡◌, ℕ, ◌+◌, ◌^◌, ◌<◌, ◌≤◌, ◌++◌, true, List, length, take, is_some, MatchOption}
 use Rattle.std.specs.List.{AllByRecursion}
 use Rattle.opfs_base.specs.declared.extents.Extent.{Extent}
-use Rattle.opfs_blocks.specs.Sets.{Used, free_blocks, marked, blocks_of, AreJoined}
-use Rattle.opfs_data.specs.declared.page.Page.{Page}
+use Rattle.opfs_blocks.specs.Sets.{free_blocks, marked, blocks_of, AreJoined}
 use Rattle.opfs_data.specs.Pages.{page_of, blank, resized, with_writes, runs_of, NamesPage, AreOnce, AreSaved, AreNow, AreOwn, IsAgain}
 use Rattle.opfs_data.specs.Places.{AllLie}
 use Rattle.opfs_data.specs.Rows.{Rows, row_of, row_at, pages_at, page_at, kept_count, IsOther, OthersStay, AreFree}

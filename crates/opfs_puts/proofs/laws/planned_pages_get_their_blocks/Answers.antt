@@ -1,4 +1,3 @@
-use Rattle.opfs_blocks.specs.Sets.{free_blocks, marked, blocks_of}
 use Rattle.opfs_puts.proofs.Gotten.{gotten-placed, gotten-mine, taken-right}
 use Rattle.opfs_puts.proofs.laws.planned_pages_get_their_blocks.Goals as goal
 

@@ -1,6 +1,5 @@
-use Rattle.std.proofs.Common.{◌≡◌, ◌++◌, List, ap, sym, subst, ◌∙◌, MatchOption}
+use Rattle.std.proofs.Common.{◌≡◌, ◌++◌, List, ap, subst, ◌∙◌}
 use Rattle.opfs_base.specs.declared.extents.Extent.{Extent}
-use Rattle.opfs_data.specs.Pages.{AreSaved, AreNow, IsAgain}
 use Rattle.opfs_data.specs.Rows.{row_at, pages_at}
 use Rattle.opfs_data.specs.Writes.{PageWrite, page_writes, page_moves, placed, blocks_in}
 use Rattle.opfs_puts.specs.Puts.{IsPut, all_writes}
