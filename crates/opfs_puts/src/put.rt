@@ -30,6 +30,8 @@ pub struct Put {
     pub extents: Vec<Extent>,
     /// How many pages the row has afterwards.
     pub pages: u64,
+    /// Whether the blocks are taken.
+    pub taken: bool,
 }
 
 // The pages with memory for the runs of new blocks.
@@ -54,6 +56,7 @@ fn with_room(alloc: Global, writes: PageWrites, pages: u64) -> Result<Put, Alloc
         moves,
         extents,
         pages,
+        taken: false,
     })
 }
 
@@ -95,11 +98,13 @@ impl Put {
         ensures taken { OnTrue result (IsTaken space.old space.new self.old.moves self.new.extents.items) }
         ensures refused { OnFalse result ((space.new ≡ space.old) × (self.new.extents.items ≡ [])) }
         ensures writes { self.new.writes ≡ self.old.writes }
+        ensures flag { self.new.taken ≡ result }
         ensures moves { self.new.moves ≡ self.old.moves }
         ensures pages { self.new.pages ≡ self.old.pages }
         ensures capacity { vec_capacity self.old.extents ≤ vec_capacity self.new.extents }
     {
-        space.allot(self.moves, &mut self.extents)
+        self.taken = space.allot(self.moves, &mut self.extents);
+        self.taken
     }
 
     /// Puts the pages into their blocks, and leaves the row its pages; new ones that are not named have no block. Where the

@@ -51,6 +51,13 @@ impl Space {
         Ok(Space { used, own, seen })
     }
 
+    /// What the type keeps: own blocks are among as many as used ones.
+    pub fn kept(&self)
+        ensures { length self.now.own ≡ length self.now.used }
+    {
+        let _ = &self.used;
+    }
+
     /// Whether one page alone has a block, and no file.
     pub fn is_own(&self, block: u32) -> bool
         requires { block < length self.now.used }

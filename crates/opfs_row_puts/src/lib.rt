@@ -1,0 +1,7 @@
+//! Whole calls on the pages of an open row: what they put is planned and read, gets blocks, and is written; and the working
+//! copy that they leave.
+#![tactic(auto)]
+
+mod plan;
+
+pub use plan::plan_put;
