@@ -2,6 +2,8 @@
 //! copy that they leave.
 #![tactic(auto)]
 
+mod find;
 mod plan;
 
+pub use find::find_blocks;
 pub use plan::plan_put;
