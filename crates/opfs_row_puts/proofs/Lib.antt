@@ -1,3 +1,4 @@
 pub mod Staging
 pub mod Getting
 pub mod Finding
+pub mod Ways

@@ -3,7 +3,9 @@
 #![tactic(auto)]
 
 mod find;
+mod leave;
 mod plan;
 
 pub use find::find_blocks;
+pub use leave::{bring_near, page_after};
 pub use plan::plan_put;
