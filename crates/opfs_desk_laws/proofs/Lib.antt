@@ -8,3 +8,7 @@ pub mod Spacing
 pub mod Puts
 pub mod Alike
 pub mod Handed
+pub mod Forests
+pub mod Opened
+pub mod Stored
+pub mod Fewer

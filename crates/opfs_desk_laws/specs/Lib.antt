@@ -4,4 +4,5 @@ pub mod Told
 pub mod Spaced
 pub mod Shelves
 pub mod Putting
+pub mod Storing
 pub mod Laws

@@ -1,17 +1,17 @@
 -- How a sweep finds blocks for a put.
-use Rattle.std.proofs.Common.{◌≡◌, ◌≢◌, ℕ, suc, ◌+◌, ◌*◌, ◌^◌, ◌<◌, ◌≤◌, ◌⊎◌, ◌||◌, cond, Bool, true, false, nat_eq, List, [], ◌∷◌, length, map, sum_by, unwrap_or, Option, Some, None, refl, sym, ap, subst, ◌∙◌, inl, inr, arith}
+use Rattle.std.proofs.Common.{◌≡◌, ◌≢◌, ℕ, suc, ◌+◌, ◌*◌, ◌^◌, ◌≤◌, ◌||◌, cond, Bool, true, false, nat_eq, List, [], ◌∷◌, length, map, unwrap_or, Option, Some, None, refl, sym, ap, subst, ◌∙◌, inl, inr, arith}
 use Rattle.std.proofs.lemmas.Bool.{cases_eq, eqb-true}
 use Rattle.opfs_base.specs.declared.extents.Extent.{Extent}
 use Rattle.opfs_blocks.specs.Sets.{Used, free_blocks}
-use Rattle.opfs_data.specs.Pages.{NamesPage, blank}
-use Rattle.opfs_data.specs.Rows.{Rows, pages_at, page_at, IsOther}
+use Rattle.opfs_data.specs.Pages.{NamesPage}
+use Rattle.opfs_data.specs.Rows.{Rows, page_at}
 use Rattle.opfs_data.specs.Writes.{PageWrite, WriteList, page_writes, page_moves}
 use Rattle.opfs_puts.specs.Puts.{IsTaken}
 use Rattle.opfs_puts.proofs.Gotten.{gotten-mine, gotten-placed}
 use Rattle.opfs_replay.specs.Built.{named, has_block}
-use Rattle.opfs_space.specs.Holders.{Holders, HasPage, AreBlocks, AreSwept, Writes}
+use Rattle.opfs_space.specs.Holders.{Holders, HasPage, AreBlocks, AreSwept}
 use Rattle.opfs_space.specs.Plans.{ArePlanned, own_block, if_own}
-use Rattle.opfs_space.specs.Room.{Machine, IsExact, AreMoves, is_own_block, IsOfMachine, HasRoom, reserve_at}
+use Rattle.opfs_space.specs.Room.{Machine, IsExact, AreMoves, is_own_block, IsOfMachine}
 use Rattle.opfs_space.specs.Spaces.{SpaceSeen, is_own}
 use Rattle.opfs_space.proofs.Enough.{blocks_suffice}
 use Rattle.opfs_space.proofs.Keeping.{both, blocks_swept}
@@ -20,10 +20,10 @@ use Rattle.opfs_machine.specs.declared.own.Outline.{Outline}
 use Rattle.opfs_machine.specs.declared.own.Outline.TheVariants as outline
 use Rattle.opfs_machine.specs.Agents.{agent_of, own_of}
 use Rattle.opfs_machine.specs.Sums.{reserve_of}
-use Rattle.opfs_desk_laws.specs.Open.{open_at, if_open, reserve_in}
-use Rattle.opfs_desk_laws.specs.Spaced.{Shelf, AreSpaced}
+use Rattle.opfs_desk_laws.specs.Open.{if_open, reserve_in}
+use Rattle.opfs_desk_laws.specs.Spaced.{AreSpaced}
 use Rattle.opfs_desk_laws.proofs.Holding.{holders_of, are-holders, spaced-blocks, blocks-spaced}
-use Rattle.opfs_row_puts.specs.Plans.{shelf, KnowsOwn, HaveBlocks, WaitForBlocks, MayFindBlocks}
+use Rattle.opfs_row_puts.specs.Plans.{shelf, HaveBlocks, WaitForBlocks, MayFindBlocks}
 
 -- ---- a page's own block
 
@@ -69,7 +69,7 @@ module _ (h : Holders) (used own then found : Used) (agent row : ℕ) (are : Are
         same.0,
         same.1,
         are.apart agent row j page b
-        (subst (λ (x : ℕ). HasPage h.swap agent x j b) same.1 (subst (λ (x : ℕ). HasPage h.swap x m j b) same.0 there)) has,
+            (subst (λ (x : ℕ). HasPage h.swap agent x j b) same.1 (subst (λ (x : ℕ). HasPage h.swap x m j b) same.0 there)) has,
       ))
 
   own-was : (page b : ℕ) → HasPage h.swap agent row page b → is_own found b ≡ true → is_own own b ≡ true
@@ -114,9 +114,11 @@ member-names (w ∷ ws) i is = elim (cases_eq w.page i) [
     either : (a b : Bool) → a ≡ false → (a || b) ≡ true → b ≡ true
     either true b is h = absurd cc
     either false b is h = h
+
     not_true : (t : Bool) → (t ≡ true → ⊥) → t ≡ false
     not_true true never = absurd (never refl)
     not_true false never = refl
+
     later : (x : PageWrite) (j : ℕ) (xs : List PageWrite) → x.page ≢ j → has_block (pages_of (x ∷ xs)) j ≡ true → has_block (pages_of xs) j ≡ true
     later x j xs far is = either (nat_eq j x.page) (has_block (pages_of xs) j) (not_true (nat_eq j x.page) (λ same. far (sym (eqb-true j x.page same)))) is
 

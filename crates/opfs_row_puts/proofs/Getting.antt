@@ -1,25 +1,24 @@
 -- How the blocks stay right while a put is planned.
-use Rattle.std.proofs.Common.{◌≡◌, ◌⊎◌, ℕ, ◌+◌, ◌*◌, ◌^◌, ◌<◌, ◌≤◌, Bool, true, false, List, [], length, get_or, unwrap_or, Option, Some, refl, sym, ap, subst, ◌∙◌, inl, inr}
+use Rattle.std.proofs.Common.{◌≡◌, ℕ, ◌+◌, ◌*◌, ◌^◌, ◌≤◌, Bool, true, false, List, [], length, get_or, unwrap_or, Some, refl, sym, ap, subst, ◌∙◌, inl, inr}
 use Rattle.std.specs.List.{AllByRecursion}
-use Rattle.std.proofs.lemmas.Bool.{cases_eq}
 use Rattle.opfs_base.specs.declared.extents.Extent.{Extent}
-use Rattle.opfs_blocks.specs.Sets.{Used, marked, blocks_of}
+use Rattle.opfs_blocks.specs.Sets.{Used, blocks_of}
 use Rattle.opfs_data.specs.Rows.{Rows, pages_at, no_row}
 use Rattle.opfs_data.specs.Pages.{blank, LiesIn}
 use Rattle.opfs_data.specs.Writes.{PageWrite, WriteList, page_writes, page_moves}
-use Rattle.opfs_puts.specs.Puts.{HasSamePages, IsTaken, IsPlaced, all_writes}
+use Rattle.opfs_puts.specs.Puts.{HasSamePages, IsTaken}
 use Rattle.opfs_puts.proofs.Gotten.{gotten-mine, gotten-placed, taken-right}
 use Rattle.opfs_replay.specs.Built.{named, has_block}
-use Rattle.opfs_space.specs.Holders.{Holders, HasPage, AreBlocks, AreSwept, AreMine}
+use Rattle.opfs_space.specs.Holders.{HasPage, AreBlocks, AreSwept}
 use Rattle.opfs_space.specs.Plans.{ArePlanned, own_block, if_own}
-use Rattle.opfs_space.specs.Room.{Machine, IsExact}
+use Rattle.opfs_space.specs.Room.{Machine}
 use Rattle.opfs_space.specs.Spaces.{SpaceSeen}
 use Rattle.opfs_space.proofs.Enough.{look_exact}
 use Rattle.opfs_space.proofs.Keeping.{blocks_looked}
 use Rattle.opfs_space.proofs.Taking.{marked_size}
 use Rattle.opfs_tree.specs.Rows.{Rows as Tree}
 use Rattle.opfs_desk_laws.specs.Open.{open_at}
-use Rattle.opfs_desk_laws.specs.Spaced.{Shelf, AreHolders, AreSpaced}
+use Rattle.opfs_desk_laws.specs.Spaced.{Shelf, AreSpaced}
 use Rattle.opfs_desk_laws.proofs.Begun.{other-or}
 use Rattle.opfs_desk_laws.proofs.Holding.{holders_of, are-holders, spaced-blocks, blocks-spaced}
 use Rattle.opfs_desk_laws.proofs.Spacing.{spaced-stays, stays-same}

@@ -1,10 +1,9 @@
 -- What was staged of a row.
-use Rattle.std.proofs.Common.{◌≡◌, ◌⊎◌, ℕ, ◌<◌, ◌++◌, Bool, true, false, List, [], length, Option, Some, refl, sym, ap, subst, ◌∙◌, inl, inr}
+use Rattle.std.proofs.Common.{◌≡◌, List, sym, subst, inl, inr}
 use Rattle.opfs_base.specs.Blocks.{blocks}
 use Rattle.opfs_data.specs.Pages.{NamesPage}
-use Rattle.opfs_data.specs.Rows.{Rows, pages_at}
 use Rattle.opfs_data.specs.Writes.{PageWrite, WriteList, HasBytes, page_writes, page_moves}
-use Rattle.opfs_pages.specs.Copies.{IsRight, AreRight}
+use Rattle.opfs_pages.specs.Copies.{AreRight}
 use Rattle.opfs_pages.specs.Stages.{Stage, changed, IsStaged}
 use Rattle.opfs_space.specs.Plans.{ArePlanned}
 

@@ -1,5 +1,5 @@
 -- Pages of a row that a call puts: planned, with memory, and with blocks where these were free. This project's own.
-use Rattle.std.specs.Prelude.{◌≡◌, ℕ, ◌+◌, ◌*◌, ◌≤◌, Bool, true, false, List, [], length, sum_by}
+use Rattle.std.specs.Prelude.{◌≡◌, ℕ, ◌≤◌, Bool, true, false, List, [], length, sum_by}
 use Rattle.opfs_base.specs.declared.extents.Extent.{Extent}
 use Rattle.opfs_blocks.specs.Sets.{Used}
 use Rattle.opfs_data.specs.Rows.{Rows, pages_at}

@@ -1,4 +1,4 @@
-use Rattle.opfs_row_puts.proofs.Ways.{way-copy, way-near, way-stored, way-pages}
+use Rattle.opfs_row_puts.proofs.Ways.{way-copy, way-near, way-stored}
 use Rattle.opfs_row_puts.proofs.leave.bring_near.Goals as goal
 
 pub returns-clause-copy : goal.returns-clause-copy

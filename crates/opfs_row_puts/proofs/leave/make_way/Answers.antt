@@ -1,4 +1,4 @@
-use Rattle.std.proofs.Common.{◌≡◌, ℕ, length, arith}
+use Rattle.std.proofs.Common.{◌≡◌, arith}
 use Rattle.opfs_work.specs.Pages.{near_count}
 use Rattle.opfs_row_puts.proofs.Ways.{none-near}
 use Rattle.opfs_row_puts.proofs.leave.make_way.Goals as goal

@@ -1,13 +1,10 @@
-use Rattle.std.proofs.Common.{◌≡◌, ℕ, ◌+◌, ◌*◌, ◌^◌, ◌≤◌, Bool, true, false, length, refl, sym, ap, subst, ◌∙◌, arith}
+use Rattle.std.proofs.Common.{◌≡◌, ◌+◌, ◌*◌, ◌^◌, ◌≤◌, Bool, false, length, sym, ap, subst, ◌∙◌}
 use Rattle.opfs_base.specs.Blocks.{blocks}
 use Rattle.opfs_blocks.specs.Sets.{Used}
-use Rattle.opfs_data.specs.Writes.{page_writes, page_moves}
 use Rattle.opfs_desk_laws.specs.Spaced.{AreSpaced}
-use Rattle.opfs_row_puts.specs.Plans.{shelf, AreGotten, HasTaken, KnowsOwn}
-use Rattle.opfs_row_puts.proofs.Getting.{spaced-same, spaced-looked, looked-exact, tried-spaced, tried-blocks, tried-waits, lies-same, gotten-by}
-use Rattle.opfs_space.specs.Room.{Machine}
+use Rattle.opfs_row_puts.specs.Plans.{shelf, HasTaken}
+use Rattle.opfs_row_puts.proofs.Getting.{spaced-same, spaced-looked, looked-exact, tried-spaced, lies-same, gotten-by}
 use Rattle.opfs_space.specs.Spaces.{SpaceSeen}
-use Rattle.opfs_tree.specs.Rows.{Rows as Tree}
 use Rattle.opfs_row_puts.proofs.plan.plan_put.Goals as goal
 
 pub returns-in_err-put-clause-spaced : goal.returns-in_err-put-clause-spaced

@@ -1,4 +1,4 @@
-use Rattle.std.proofs.Common.{◌≡◌, refl, ap, ◌∙◌, subst, sym}
+use Rattle.std.proofs.Common.{refl, subst, sym}
 use Rattle.opfs_data.specs.Writes.{WriteList}
 use Rattle.opfs_row_puts.specs.Plans.{IsStagedFor}
 use Rattle.opfs_row_puts.proofs.Staging.{staged-same}
