@@ -12,3 +12,5 @@ pub mod Forests
 pub mod Opened
 pub mod Stored
 pub mod Fewer
+pub mod Contents
+pub mod Own

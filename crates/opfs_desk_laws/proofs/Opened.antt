@@ -29,10 +29,10 @@ length-from : (start n : ℕ) → length (pages_from start n) ≡ n
 length-from start zero = refl
 length-from start (suc n) = ap suc (length-from (start + 1) n)
 
-abbrev runs : List ℕ → ℕ → List Extent → List ℕ
+abbrev pub runs : List ℕ → ℕ → List Extent → List ℕ
 runs c base extents = flat_map (run_bytes c base) extents
 
-length-runs : (c : List ℕ) (base : ℕ) (extents : List Extent) → length (runs c base extents) ≡ room_of extents
+pub length-runs : (c : List ℕ) (base : ℕ) (extents : List Extent) → length (runs c base extents) ≡ room_of extents
 length-runs c base [] = refl
 length-runs c base (e ∷ more) =
     length-append (run_bytes c base e) (runs c base more) ∙ omega (arith, length-window c (run_place base e) (run_room e), length-runs c base more)
@@ -45,7 +45,7 @@ block-length : (c : List ℕ) (base b : ℕ) → length (block_bytes c base b) �
 unfolding block_bytes
 block-length c base b = length-window c (base + 4096 * b) 4096
 
-run-at : (c : List ℕ) (base : ℕ) (extents : List Extent) (i k : ℕ) → k < 4096 → 4096 * i + k < room_of extents
+pub run-at : (c : List ℕ) (base : ℕ) (extents : List Extent) (i k : ℕ) → k < 4096 → 4096 * i + k < room_of extents
     → (slice_index (page_of c base (get_or (pages_in extents) i blank)) k ≡ slice_index (runs c base extents) (4096 * i + k)) × (length (page_of c base (get_or (pages_in extents) i blank)) ≡ 4096)
 run-at c base [] i k small below = absurd (omega arith)
 run-at c base (e ∷ more) i k small below = elim (cases_lt i e.count) [

@@ -2,3 +2,4 @@ pub mod Staging
 pub mod Getting
 pub mod Finding
 pub mod Ways
+pub mod Blocks

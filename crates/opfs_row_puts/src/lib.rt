@@ -2,10 +2,12 @@
 //! copy that they leave.
 #![tactic(auto)]
 
+mod content;
 mod find;
 mod leave;
 mod plan;
 
+pub use content::collect_blocks;
 pub use find::find_blocks;
 pub use leave::{bring_near, page_after};
 pub use plan::plan_put;

@@ -1,0 +1,136 @@
+-- What a call leaves of the own row that it names.
+use Rattle.std.proofs.Common.{◌≡◌, ℕ, zero, suc, ◌+◌, ◌-◌, ◌<◌, min, max, Bool, true, false, List, [], ◌∷◌, ◌++◌, length, option_map, slice_set, Option, Some, None, refl, sym, ap, subst, ◌∙◌, arith, IsTrue}
+use Rattle.std.specs.Prelude.{slice_get}
+use Rattle.opfs_base.specs.Places.{Place, place_of}
+use Rattle.opfs_base.specs.Texts.{Text}
+use Rattle.opfs_hist.specs.declared.op.Op.{Op}
+use Rattle.opfs_hist.specs.declared.op.Op.TheVariants as op
+use Rattle.opfs_hist.specs.declared.reply.Reply.{Reply}
+use Rattle.opfs_machine.specs.declared.own.HandleOutline.{HandleOutline}
+use Rattle.opfs_machine.specs.declared.own.HandleRow.{HandleRow}
+use Rattle.opfs_machine.specs.declared.own.StreamOutline.{StreamOutline}
+use Rattle.opfs_machine.specs.declared.own.StreamRow.{StreamRow}
+use Rattle.opfs_machine.specs.declared.own.Own.{Own}
+use Rattle.opfs_machine.specs.declared.own.Own.TheVariants as own
+use Rattle.opfs_machine.specs.declared.state.FileRow.{FileRow}
+use Rattle.opfs_machine.specs.declared.state.Sizes.{Sizes}
+use Rattle.opfs_machine.specs.declared.state.State.{State}
+use Rattle.opfs_machine.specs.Agents.{agent_of, agent_in, own_of, with_own, with_agent, adds_own, of_row, handle_in, open_handle}
+use Rattle.opfs_machine.specs.Contents.{in_bytes, outline_of, written_row, truncated_row, moved_row}
+use Rattle.opfs_machine.specs.Effects.{effect, refused, with_changed, changes_file, moment_of}
+use Rattle.opfs_machine.specs.Replies.{sizes_of, sizes_in, bytes_at, bytes_in}
+use Rattle.opfs_machine.specs.Rows.{file_at, with_file}
+use Rattle.opfs_machine.specs.Rulings.{start_of, size_written, reserve_for}
+use Rattle.opfs_machine.specs.Steps.{is_refusal, changed_by, after_reply}
+use Rattle.opfs_machine.specs.Sums.{reserve_of}
+use Rattle.opfs_laws.proofs.Numbers.{IsNumber, number-of, agent-set}
+use Rattle.opfs_laws.proofs.Spots.{file-changed}
+use Rattle.opfs_splice.specs.Splicing.{splice, resize}
+
+set-same : {X : Type 0} (xs : List X) (i : ℕ) (x y : X) → slice_get xs i ≡ Some x → slice_get (slice_set xs i y) i ≡ Some y
+set-same [] i x y is = absurd cc
+set-same (z ∷ xs) zero x y is = refl
+set-same (z ∷ xs) (suc i) x y is = set-same xs i x y is
+
+own-set : (s : State Text Own) (k n : ℕ) (old new : Own) → IsNumber s k → own_of (agent_of s k) n ≡ Some old → own_of (agent_of (with_own s k n new) k) n ≡ Some new
+own-set s k zero old new number is = absurd cc
+own-set s k (suc i) old new number is =
+    let e : suc i - 1 ≡ i = omega arith in
+    ap (λ a. own_of a (suc i)) (agent-set s k (record (agent_of s k) { own = slice_set (agent_of s k).own (suc i - 1) new }) number)
+    ∙ ap (λ (j : ℕ). slice_get (slice_set (agent_of s k).own j new) i) e ∙ set-same (agent_of s k).own i old new is
+
+pub own-changed : (s : State Text Own) (k n : ℕ) (r : Own) (change : Own → Own) → IsNumber s k → own_of (agent_of s k) n ≡ Some r → own_of (agent_of (with_changed s k n change) k) n ≡ Some (change r)
+unfolding with_changed
+own-changed s k n r change number is =
+    ap (λ o. own_of (agent_of (elim o as (λ x. State Text Own) [ Some x ↦ with_own s k n (change x) | None ↦ s ]) k) n) is ∙ own-set s k n r (change r) number is
+
+number-of-rows : (s t : State Text Own) (k : ℕ) → t.agents ≡ s.agents → IsNumber s k → IsNumber t k
+number-of-rows s t k same number = record { index = number.index; is = number.is; within = subst (λ xs. number.index < length xs) (sym same) number.within }
+
+module _ (s : State Text Own) (k : ℕ) (live : IsTrue (agent_of s k).live) (told : Reply) (done : is_refusal told ≡ false) where
+  number : IsNumber s k
+  number = number-of s k live
+
+  after-is : (o : Op) → changed_by s k o told ≡ effect in_bytes s (sizes_of s k o) k o
+  after-is o = ap (λ b. elim b as (λ x. State Text Own) [ true ↦ refused s k o | false ↦ effect in_bytes s (sizes_of s k o) k o ]) done
+
+  abbrev own_after : Op → ℕ → Option Own
+  own_after o n = own_of (agent_of (after_reply s k o told) k) n
+
+  own-after : (o : Op) (n : ℕ) → own_after o n ≡ own_of (agent_of (effect in_bytes s (sizes_of s k o) k o) k) n
+  own-after o n = ap (λ t. own_of (agent_of t k) n) (after-is o)
+
+  pub wrote : (n : ℕ) (bytes : Text) (position : Option ℕ) (w : StreamRow) → own_of (agent_of s k) n ≡ Some (own.Stream w)
+      → own_after (op.Write n bytes position) n
+      ≡ Some (own.Stream (record w { buffer = splice w.buffer (start_of (sizes_in s (Some (own.Stream w))) position) bytes; offset = start_of (sizes_in s (Some (own.Stream w))) position + length bytes; reserve = reserve_for w.reserve (size_written (sizes_in s (Some (own.Stream w))) position bytes) }))
+  unfolding effect
+  wrote n bytes position w is =
+      own-after (op.Write n bytes position) n
+      ∙ own-changed s k n (own.Stream w) (λ r. written_row r (start_of (sizes_of s k (op.Write n bytes position)) position) bytes (reserve_for (reserve_of (outline_of r)) (size_written (sizes_of s k (op.Write n bytes position)) position bytes))) number is
+      ∙ ap (λ (z : Sizes). Some (written_row (own.Stream w) (start_of z position) bytes (reserve_for w.reserve (size_written z position bytes)))) (ap (sizes_in s) is)
+
+  pub truncated : (n size : ℕ) (w : StreamRow) → own_of (agent_of s k) n ≡ Some (own.Stream w)
+      → own_after (op.Truncate n size) n ≡ Some (own.Stream (record w { buffer = resize w.buffer size; offset = min w.offset size; reserve = reserve_for w.reserve size }))
+  unfolding effect
+  truncated n size w is =
+      own-after (op.Truncate n size) n ∙ own-changed s k n (own.Stream w) (λ r. truncated_row r size (reserve_for (reserve_of (outline_of r)) size)) number is
+
+  abbrev altered : HandleRow → ℕ → ℕ → Own
+  altered h cursor size = own.Handle (record h { cursor = cursor; reserve = reserve_for h.reserve size })
+
+  file-altered : (n : ℕ) (h : HandleRow) (change : Text → Text) (cursor size : ℕ) → own_of (agent_of s k) n ≡ Some (own.Handle h)
+      → own_of (agent_of (changes_file in_bytes s k n change cursor size (open_handle in_bytes s k n)) k) n ≡ Some (altered h cursor size)
+  unfolding changes_file
+  file-altered n h change cursor size is =
+      let outline : HandleOutline = record { file = h.file; mode = h.mode; reserve = h.reserve } in
+      let t = with_file s h.file (λ (f : FileRow Text). record f { present = change f.present; stamp = moment_of s k }) in
+      ap (λ o. own_of (agent_of (changes_file in_bytes s k n change cursor size o) k) n) (ap (λ o. of_row (λ r. handle_in (outline_of r)) o) is)
+      ∙ own-changed t k n (own.Handle h) (λ r. moved_row r cursor (reserve_for h.reserve size)) (number-of-rows s t k refl number) is
+
+  pub sync-wrote : (n : ℕ) (bytes : Text) (at : Option ℕ) (h : HandleRow) → own_of (agent_of s k) n ≡ Some (own.Handle h)
+      → own_after (op.SyncWrite n bytes at) n ≡ Some (altered h (start_of (sizes_in s (Some (own.Handle h))) at + length bytes) (size_written (sizes_in s (Some (own.Handle h))) at bytes))
+  unfolding effect
+  sync-wrote n bytes at h is =
+      let z = sizes_of s k (op.SyncWrite n bytes at) in
+      own-after (op.SyncWrite n bytes at) n
+      ∙ file-altered n h (λ f. splice f (start_of z at) bytes) (start_of z at + length bytes) (size_written z at bytes) is
+      ∙ ap (λ (y : Sizes). Some (altered h (start_of y at + length bytes) (size_written y at bytes))) (ap (sizes_in s) is)
+
+  pub sync-truncated : (n size : ℕ) (h : HandleRow) → own_of (agent_of s k) n ≡ Some (own.Handle h)
+      → own_after (op.SyncTruncate n size) n ≡ Some (altered h (min h.cursor size) size)
+  unfolding effect
+  sync-truncated n size h is =
+      let z = sizes_of s k (op.SyncTruncate n size) in
+      own-after (op.SyncTruncate n size) n
+      ∙ file-altered n h (λ f. resize f size) (min z.position size) size is
+      ∙ ap (λ (y : Sizes). Some (altered h (min y.position size) size)) (ap (sizes_in s) is)
+
+  changed-bytes : (t : State Text Own) (n : ℕ) (g : Own → Own) (p : Place) → bytes_at (with_changed t k n g) p ≡ bytes_at t p
+  unfolding with_changed
+  changed-bytes t n g p =
+      elim (own_of (agent_of t k) n) as (λ o. bytes_at (elim o as (λ x. State Text Own) [ Some x ↦ with_own t k n (g x) | None ↦ t ]) p ≡ bytes_at t p) [ Some x ↦ refl | None ↦ refl ]
+
+  file-bytes : (n : ℕ) (h : HandleRow) (change : Text → Text) (cursor size : ℕ) (f : FileRow Text) → own_of (agent_of s k) n ≡ Some (own.Handle h) → file_at s h.file ≡ Some f
+      → bytes_at (changes_file in_bytes s k n change cursor size (open_handle in_bytes s k n)) h.file ≡ change f.present
+  unfolding changes_file
+  file-bytes n h change cursor size f is there =
+      let t = with_file s h.file (λ (x : FileRow Text). record x { present = change x.present; stamp = moment_of s k }) in
+      ap (λ o. bytes_at (changes_file in_bytes s k n change cursor size o) h.file) (ap (λ o. of_row (λ r. handle_in (outline_of r)) o) is)
+      ∙ changed-bytes t n (λ r. moved_row r cursor (reserve_for h.reserve size)) h.file
+      ∙ ap bytes_in (file-changed s h.file (λ (x : FileRow Text). record x { present = change x.present; stamp = moment_of s k }) ∙ ap (option_map (λ (x : FileRow Text). record x { present = change x.present; stamp = moment_of s k })) there)
+
+  pub sync-wrote-bytes : (n : ℕ) (bytes : Text) (at : Option ℕ) (h : HandleRow) (f : FileRow Text) → own_of (agent_of s k) n ≡ Some (own.Handle h) → file_at s h.file ≡ Some f
+      → bytes_at (after_reply s k (op.SyncWrite n bytes at) told) h.file ≡ splice f.present (start_of (sizes_in s (Some (own.Handle h))) at) bytes
+  unfolding effect
+  sync-wrote-bytes n bytes at h f is there =
+      let z = sizes_of s k (op.SyncWrite n bytes at) in
+      ap (λ t. bytes_at t h.file) (after-is (op.SyncWrite n bytes at))
+      ∙ file-bytes n h (λ x. splice x (start_of z at) bytes) (start_of z at + length bytes) (size_written z at bytes) f is there
+      ∙ ap (λ (y : Sizes). splice f.present (start_of y at) bytes) (ap (sizes_in s) is)
+
+  pub sync-truncated-bytes : (n size : ℕ) (h : HandleRow) (f : FileRow Text) → own_of (agent_of s k) n ≡ Some (own.Handle h) → file_at s h.file ≡ Some f
+      → bytes_at (after_reply s k (op.SyncTruncate n size) told) h.file ≡ resize f.present size
+  unfolding effect
+  sync-truncated-bytes n size h f is there =
+      let z = sizes_of s k (op.SyncTruncate n size) in
+      ap (λ t. bytes_at t h.file) (after-is (op.SyncTruncate n size)) ∙ file-bytes n h (λ x. resize x size) (min z.position size) size f is there
