@@ -14,3 +14,4 @@ pub mod Stored
 pub mod Fewer
 pub mod Contents
 pub mod Own
+pub mod Laying

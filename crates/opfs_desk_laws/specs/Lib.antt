@@ -6,3 +6,4 @@ pub mod Shelves
 pub mod Putting
 pub mod Storing
 pub mod Laws
+pub mod Laid

@@ -6,4 +6,7 @@ mod spaces;
 mod steady;
 
 pub use spaces::{blocks_go_on, blocks_tell_a_file, trees_keep_their_blocks};
-pub use steady::{calls_leave_other_rows, pages_are_left, pages_go_on_telling, pages_that_were_put_tell_the_row};
+pub use steady::{
+    calls_leave_other_rows, pages_are_left, pages_go_on_telling, pages_that_were_put_tell_the_row,
+    what_is_laid_goes_on,
+};

@@ -1,5 +1,5 @@
 // The blocks of a row's pages, as those of a content.
-ghost use Rattle.std.specs.Prelude.{◌≡◌, ◌++◌, ◌∷◌, [], ℕ, ◌+◌, ◌^◌, ◌<◌, ◌≤◌, Some, length, take};
+ghost use Rattle.std.specs.Prelude.{◌≡◌, ◌++◌, ◌∷◌, [], ℕ, ◌+◌, ◌^◌, ◌<◌, ◌≤◌, Some, IsTrue, length, take};
 ghost use Rattle.std.specs.List.{AllByRecursion};
 ghost use Rattle.std.specs.Vec.{vec_capacity};
 ghost use Rattle.opfs_blocks.specs.Sets.{blocks_of};
@@ -39,6 +39,13 @@ fn add_page(into: &mut Vec<Extent>, block: Option<u32>)
     }
 }
 
+// Whether a run ends where a block begins.
+fn ends_at(run: &Extent, block: u32) -> bool
+    ensures { IsTrue result → run.now.start + run.now.count ≡ block }
+{
+    run.start.checked_add(run.count) == Some(block)
+}
+
 // Adds a block to the last run, or as a run of its own.
 fn add_block(into: &mut Vec<Extent>, block: u32)
     requires room { length into.old.items < vec_capacity into.old }
@@ -57,7 +64,7 @@ fn add_block(into: &mut Vec<Extent>, block: u32)
         .unwrap();
         return;
     };
-    if last.start.checked_add(last.count) == Some(block) {
+    if ends_at(&last, block) {
         into.push(Extent {
             start: last.start,
             count: last.count + 1,
