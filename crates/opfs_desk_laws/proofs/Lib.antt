@@ -15,3 +15,4 @@ pub mod Fewer
 pub mod Contents
 pub mod Own
 pub mod Laying
+pub mod Copied

@@ -1,8 +1,12 @@
 -- What a call leaves of the own row that it names.
-use Rattle.std.proofs.Common.{◌≡◌, ℕ, zero, suc, ◌+◌, ◌-◌, ◌<◌, min, max, Bool, true, false, List, [], ◌∷◌, ◌++◌, length, option_map, slice_set, Option, Some, None, refl, sym, ap, subst, ◌∙◌, arith, IsTrue}
+use Rattle.std.proofs.Common.{◌≡◌, ℕ, zero, suc, ◌+◌, ◌-◌, ◌<◌, min, max, Bool, true, false, if◌then◌else◌, List, [], ◌∷◌, ◌++◌, length, option_map, slice_set, Option, Some, None, refl, sym, ap, subst, ◌∙◌, arith, IsTrue}
 use Rattle.std.specs.Prelude.{slice_get}
 use Rattle.opfs_base.specs.Places.{Place, place_of}
 use Rattle.opfs_base.specs.Texts.{Text}
+use Rattle.opfs_base.specs.declared.locator.Locator.{Locator}
+use Rattle.opfs_hist.specs.declared.op.Mode.{Mode}
+use Rattle.opfs_hist.specs.declared.op.Mode.TheVariants as mode
+use Rattle.opfs_locks.specs.declared.Want.TheVariants as want
 use Rattle.opfs_hist.specs.declared.op.Op.{Op}
 use Rattle.opfs_hist.specs.declared.op.Op.TheVariants as op
 use Rattle.opfs_hist.specs.declared.reply.Reply.{Reply}
@@ -15,12 +19,12 @@ use Rattle.opfs_machine.specs.declared.own.Own.TheVariants as own
 use Rattle.opfs_machine.specs.declared.state.FileRow.{FileRow}
 use Rattle.opfs_machine.specs.declared.state.Sizes.{Sizes}
 use Rattle.opfs_machine.specs.declared.state.State.{State}
-use Rattle.opfs_machine.specs.Agents.{agent_of, agent_in, own_of, with_own, with_agent, adds_own, of_row, handle_in, open_handle}
+use Rattle.opfs_machine.specs.Agents.{agent_of, agent_in, own_of, with_own, with_agent, adds_own, of_row, handle_in, stream_in, open_handle, open_stream}
 use Rattle.opfs_machine.specs.Contents.{in_bytes, outline_of, written_row, truncated_row, moved_row}
-use Rattle.opfs_machine.specs.Effects.{effect, refused, with_changed, changes_file, moment_of}
+use Rattle.opfs_machine.specs.Effects.{effect, refused, with_changed, with_written, with_lock, changes_file, closes_stream, aborts_stream, closes_handle, discards, flushes, opens_stream, moment_of, replaced, unlocked, flushed, undone, content_of}
 use Rattle.opfs_machine.specs.Replies.{sizes_of, sizes_in, bytes_at, bytes_in}
 use Rattle.opfs_machine.specs.Rows.{file_at, with_file}
-use Rattle.opfs_machine.specs.Rulings.{start_of, size_written, reserve_for}
+use Rattle.opfs_machine.specs.Rulings.{start_of, size_written, reserve_for, want_of, first_reserve}
 use Rattle.opfs_machine.specs.Steps.{is_refusal, changed_by, after_reply}
 use Rattle.opfs_machine.specs.Sums.{reserve_of}
 use Rattle.opfs_laws.proofs.Numbers.{IsNumber, number-of, agent-set}
@@ -134,3 +138,76 @@ module _ (s : State Text Own) (k : ℕ) (live : IsTrue (agent_of s k).live) (tol
   sync-truncated-bytes n size h f is there =
       let z = sizes_of s k (op.SyncTruncate n size) in
       ap (λ t. bytes_at t h.file) (after-is (op.SyncTruncate n size)) ∙ file-bytes n h (λ x. resize x size) (min z.position size) size f is there
+
+  -- ---- rows that are closed, flushed and opened
+
+  open_is : (n : ℕ) (w : StreamRow) → own_of (agent_of s k) n ≡ Some (own.Stream w) → open_stream in_bytes s k n ≡ Some (record { file = w.file; reserve = w.reserve })
+  open_is n w is = ap (λ o. of_row (λ r. stream_in (outline_of r)) o) is
+
+  handle_is : (n : ℕ) (h : HandleRow) → own_of (agent_of s k) n ≡ Some (own.Handle h) → open_handle in_bytes s k n ≡ Some (record { file = h.file; mode = h.mode; reserve = h.reserve })
+  handle_is n h is = ap (λ o. of_row (λ r. handle_in (outline_of r)) o) is
+
+  written-agents : (m : Mode) (p : Place) (change : FileRow Text → FileRow Text) → (with_written s m p change).agents ≡ s.agents
+  written-agents mode.ReadWrite p change = refl
+  written-agents mode.ReadOnly p change = refl
+
+  -- another state with the same agents, and the row closed
+  closed : (t : State Text Own) (n : ℕ) (old new : Own) → t.agents ≡ s.agents → own_of (agent_of s k) n ≡ Some old → own_of (agent_of (with_own t k n new) k) n ≡ Some new
+  closed t n old new same is = own-set t k n old new (number-of-rows s t k same number) (ap (λ xs. own_of (agent_in xs k) n) same ∙ is)
+
+  pub stream-closed : (n : ℕ) (w : StreamRow) → own_of (agent_of s k) n ≡ Some (own.Stream w) → own_after (op.Close n) n ≡ Some own.ClosedStream
+  unfolding effect
+  stream-closed n w is =
+      let z = sizes_of s k (op.Close n) in
+      own-after (op.Close n) n ∙ ap (λ o. own_of (agent_of (closes_stream in_bytes s z k n o) k) n) (open_is n w is)
+      ∙ closed (with_file (with_file s w.file (replaced (content_of in_bytes (own_of (agent_of s k) n) z.size) (moment_of s k))) w.file unlocked) n (own.Stream w) own.ClosedStream refl is
+
+  pub stream-aborted : (n : ℕ) (w : StreamRow) → own_of (agent_of s k) n ≡ Some (own.Stream w) → own_after (op.Abort n) n ≡ Some own.ClosedStream
+  unfolding effect
+  stream-aborted n w is =
+      own-after (op.Abort n) n ∙ ap (λ o. own_of (agent_of (aborts_stream in_bytes s k n o) k) n) (open_is n w is) ∙ closed (with_file s w.file unlocked) n (own.Stream w) own.ClosedStream refl is
+
+  pub handle-closed : (n : ℕ) (h : HandleRow) → own_of (agent_of s k) n ≡ Some (own.Handle h) → own_after (op.SyncClose n) n ≡ Some own.ClosedHandle
+  unfolding effect
+  handle-closed n h is =
+      own-after (op.SyncClose n) n ∙ ap (λ o. own_of (agent_of (closes_handle in_bytes s k n o) k) n) (handle_is n h is)
+      ∙ closed (with_file (with_written s h.mode h.file flushed) h.file unlocked) n (own.Handle h) own.ClosedHandle (written-agents h.mode h.file flushed) is
+
+  pub handle-discarded : (n : ℕ) (h : HandleRow) → own_of (agent_of s k) n ≡ Some (own.Handle h) → own_after (op.Discard n) n ≡ Some own.ClosedHandle
+  unfolding effect
+  handle-discarded n h is =
+      own-after (op.Discard n) n ∙ ap (λ o. own_of (agent_of (discards in_bytes s k n o) k) n) (handle_is n h is)
+      ∙ closed (with_file (with_written s h.mode h.file undone) h.file unlocked) n (own.Handle h) own.ClosedHandle (written-agents h.mode h.file undone) is
+
+  pub handle-flushed : (n : ℕ) (h : HandleRow) → own_of (agent_of s k) n ≡ Some (own.Handle h) → own_after (op.SyncFlush n) n ≡ Some (own.Handle (record h { reserve = 0 }))
+  unfolding effect
+  handle-flushed n h is =
+      let z = sizes_of s k (op.SyncFlush n) in
+      let t = with_written s h.mode h.file flushed in
+      own-after (op.SyncFlush n) n ∙ ap (λ o. own_of (agent_of (flushes in_bytes s z k n o) k) n) (handle_is n h is)
+      ∙ own-changed t k n (own.Handle h) (λ r. moved_row r z.position 0) (number-of-rows s t k (written-agents h.mode h.file flushed) number) (ap (λ xs. own_of (agent_in xs k) n) (written-agents h.mode h.file flushed) ∙ is)
+      ∙ ap (λ (y : Sizes). Some (own.Handle (record h { cursor = y.position; reserve = 0 }))) (ap (sizes_in s) is)
+
+  last-own : {X : Type 0} (xs : List X) (x : X) → slice_get (xs ++ x ∷ []) (length xs) ≡ Some x
+  last-own [] x = refl
+  last-own (y ∷ xs) x = last-own xs x
+
+  added : (t : State Text Own) (new : Own) → t.agents ≡ s.agents → own_of (agent_of (adds_own t k new) k) (suc (length (agent_of s k).own)) ≡ Some new
+  added t new same =
+      ap (λ a. own_of a (suc (length (agent_of s k).own))) (agent-set t k (record (agent_of t k) { own = (agent_of t k).own ++ new ∷ [] }) (number-of-rows s t k same number))
+      ∙ ap (λ xs. slice_get ((agent_in xs k).own ++ new ∷ []) (length (agent_of s k).own)) same ∙ last-own (agent_of s k).own new
+
+  pub stream-opened : (at : Locator) (keep : Bool) (f : FileRow Text) → file_at s (place_of at) ≡ Some f
+      → own_after (op.CreateWritable at keep) (suc (length (agent_of s k).own))
+      ≡ Some (own.Stream (record { file = place_of at; buffer = if keep then f.present else []; offset = 0; reserve = first_reserve in_bytes s at keep }))
+  unfolding effect
+  stream-opened at keep f there =
+      own-after (op.CreateWritable at keep) (suc (length (agent_of s k).own))
+      ∙ ap (λ o. own_of (agent_of (opens_stream in_bytes s k (place_of at) (first_reserve in_bytes s at keep) keep o) k) (suc (length (agent_of s k).own))) there
+      ∙ added (with_file s (place_of at) (with_lock want.Shared)) (own.Stream (record { file = place_of at; buffer = if keep then f.present else []; offset = 0; reserve = first_reserve in_bytes s at keep })) refl
+
+  pub handle-opened : (at : Locator) (m : Mode) → own_after (op.CreateSyncAccessHandle at m) (suc (length (agent_of s k).own)) ≡ Some (own.Handle (record { file = place_of at; mode = m; cursor = 0; reserve = 0 }))
+  unfolding effect
+  handle-opened at m =
+      own-after (op.CreateSyncAccessHandle at m) (suc (length (agent_of s k).own))
+      ∙ added (with_file s (place_of at) (with_lock (want_of m))) (own.Handle (record { file = place_of at; mode = m; cursor = 0; reserve = 0 })) refl

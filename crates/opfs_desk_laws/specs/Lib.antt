@@ -7,3 +7,5 @@ pub mod Putting
 pub mod Storing
 pub mod Laws
 pub mod Laid
+pub mod Copies
+pub mod RowsAfter
