@@ -3,3 +3,4 @@ pub mod Getting
 pub mod Finding
 pub mod Ways
 pub mod Blocks
+pub mod Windows

@@ -5,9 +5,13 @@
 mod content;
 mod find;
 mod leave;
+mod opening;
 mod plan;
+mod reads;
 
 pub use content::collect_blocks;
 pub use find::find_blocks;
 pub use leave::{bring_near, page_after};
+pub use opening::open_row;
 pub use plan::plan_put;
+pub use reads::{read_handle, read_row};
