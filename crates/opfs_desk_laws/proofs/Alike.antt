@@ -1,7 +1,7 @@
 -- What the store's pages tell where all pages read as before.
 use Rattle.std.proofs.Common.{◌≡◌, ℕ, ◌<◌, List, ◌++◌, length, Some}
 use Rattle.opfs_base.specs.Texts.{Text}
-use Rattle.opfs_data.specs.Rows.{Rows, pages_at, IsOther}
+use Rattle.opfs_data.specs.Rows.{Rows, pages_at}
 use Rattle.opfs_hist.specs.declared.entry.Entry.{Entry}
 use Rattle.opfs_machine.specs.Histories.{state_after}
 use Rattle.opfs_machine.specs.Openings.{Opening}

@@ -1,5 +1,5 @@
 -- What begins as a page of a row, in two words.
-use Rattle.std.proofs.Common.{◌≡◌, ◌⊎◌, ℕ, ◌+◌, ◌-◌, ◌*◌, ◌<◌, min, nat_lt, true, List, length, slice_index, take, drop, Option, Some, None, refl, sym, ap, subst, ◌∙◌, inl, inr, arith}
+use Rattle.std.proofs.Common.{◌≡◌, ◌⊎◌, ℕ, ◌+◌, ◌-◌, ◌*◌, ◌<◌, min, nat_lt, true, List, length, slice_index, take, drop, Option, Some, None, refl, sym, ap, ◌∙◌, inl, inr, arith}
 use Rattle.std.proofs.lemmas.Bool.{cases_eq, false≢true}
 use Rattle.std.proofs.lemmas.Bool.Decides.{nat_tests}
 use Rattle.std.proofs.lemmas.List.{length-take, length-drop, get_or-take, get_or-drop}
@@ -30,10 +30,10 @@ begun-begins bytes page i there begun =
     let size : length (take n page) ≡ n = length-take n page ∙ omega (arith, page-length bytes i, begun.size) in (
       there,
       same_number_lists (take n page) (page_in bytes i) size
-      (λ k within.
-      let below : k < n = omega (arith, size) in
-      let small : k < 4096 = omega (arith, page-length bytes i) in
-      get_or-take n page k 0 below ∙ begun.at k small (omega (arith, page-length bytes i)) ∙ sym (page-at bytes i k small)),
+          (λ k within.
+          let below : k < n = omega (arith, size) in
+          let small : k < 4096 = omega (arith, page-length bytes i) in
+          get_or-take n page k 0 below ∙ begun.at k small (omega (arith, page-length bytes i)) ∙ sym (page-at bytes i k small)),
     )
 
 less : (a b : ℕ) → nat_lt a b ≡ true → a < b

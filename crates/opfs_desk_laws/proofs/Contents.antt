@@ -1,6 +1,6 @@
 -- The blocks of a row's pages have the row's bytes.
-use Rattle.std.proofs.Common.{◌≡◌, ℕ, zero, suc, ◌+◌, ◌*◌, ◌/◌, ◌%◌, ◌<◌, ◌≤◌, ◌++◌, ◌&&◌, min, is_some, is_none, Bool, true, false, List, [], ◌∷◌, length, map, take, slice_index, get_or, Option, Some, None, refl, sym, ap, subst, ◌∙◌, arith}
-use Rattle.std.specs.List.{AllByRecursion, flat_map, range_with_len}
+use Rattle.std.proofs.Common.{◌≡◌, ℕ, ◌+◌, ◌*◌, ◌/◌, ◌%◌, ◌<◌, ◌≤◌, ◌++◌, ◌&&◌, is_some, is_none, true, List, [], ◌∷◌, length, map, slice_index, get_or, Option, Some, None, refl, sym, ap, ◌∙◌, arith}
+use Rattle.std.specs.List.{AllByRecursion}
 use Rattle.std.proofs.lemmas.Grind.{same_number_lists}
 use Rattle.std.proofs.lemmas.List.{get_or-take, length-take, map-append}
 use Rattle.opfs_base.specs.Blocks.{blocks}
@@ -9,7 +9,7 @@ use Rattle.opfs_blocks.specs.Sets.{blocks_of}
 use Rattle.opfs_blocks.specs.Sets.{blocks_in as extent_blocks}
 use Rattle.opfs_data.specs.declared.page.Page.{Page}
 use Rattle.opfs_data.specs.Pages.{page_of, blank, pages_from, pages_in, is_plain}
-use Rattle.opfs_data.specs.Places.{run_bytes, room_of, bytes_of}
+use Rattle.opfs_data.specs.Places.{room_of, bytes_of}
 use Rattle.opfs_pages.specs.Copies.{IsBegun}
 use Rattle.opfs_space.specs.Spaces.{page_blocks, with_block}
 use Rattle.opfs_desk_laws.proofs.Opened.{runs, run-at, length-runs, opened-length}

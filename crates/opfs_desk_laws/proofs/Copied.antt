@@ -1,5 +1,5 @@
 -- The working copy that a call leaves of its row.
-use Rattle.std.proofs.Common.{◌≡◌, ◌≢◌, ◌⊎◌, ℕ, zero, suc, ◌+◌, ◌==◌, Bool, true, false, not, ◌&&◌, ◌||◌, List, [], ◌∷◌, ◌++◌, length, Option, Some, None, refl, sym, ap, subst, ◌∙◌, inl, inr, arith}
+use Rattle.std.proofs.Common.{◌≡◌, ◌≢◌, ℕ, ◌+◌, ◌==◌, Bool, true, false, not, ◌&&◌, ◌||◌, List, [], ◌∷◌, ◌++◌, length, Some, refl, ap, ◌∙◌, inl, inr, arith}
 use Rattle.std.proofs.lemmas.Bool.Decides.{nat_tests}
 use Rattle.opfs_base.specs.Texts.{Text}
 use Rattle.opfs_copies.specs.Copies.{IsCopyOf, StandsFor, IsPaged}
@@ -17,7 +17,6 @@ use Rattle.opfs_machine.specs.Histories.{state_after}
 use Rattle.opfs_machine.specs.Openings.{Opening}
 use Rattle.opfs_machine.specs.Replies.{row_named, bytes_at}
 use Rattle.opfs_machine.specs.Steps.{is_refusal}
-use Rattle.opfs_pages.specs.Copies.{IsCopy}
 use Rattle.opfs_steady.specs.Steady.{concerns, settles}
 use Rattle.opfs_work.specs.Works.{WorkingCopy}
 use Rattle.opfs_desk_laws.specs.Copies.{NamesRow, IsStreamCopy, IsHandleCopy}

@@ -1,6 +1,5 @@
 -- The blocks stay right where a unit is evicted, something is removed, or what is kept back is recorded.
-use Rattle.std.proofs.Common.{◌≡◌, ◌≤◌, ℕ, true, Option, refl, sym, ap, subst, ◌∙◌, arith}
-use Rattle.opfs_base.specs.Places.{Place}
+use Rattle.std.proofs.Common.{◌≡◌, ℕ, true, sym, ap, subst, ◌∙◌}
 use Rattle.opfs_space.specs.Files.{file_has}
 use Rattle.opfs_space.specs.Holders.{HasLess, KeepsRow}
 use Rattle.opfs_space.specs.Room.{Machine}

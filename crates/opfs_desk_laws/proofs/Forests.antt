@@ -1,5 +1,5 @@
 -- Which blocks the files of a tree have after its changes.
-use Rattle.std.proofs.Common.{◌≡◌, ◌⊎◌, ℕ, cond, Bool, true, false, List, [], ◌∷◌, ◌++◌, Option, Some, None, option_map, refl, sym, ap, subst, ◌∙◌, inl, inr, IsTrue}
+use Rattle.std.proofs.Common.{◌≡◌, ℕ, cond, Bool, true, false, List, [], ◌∷◌, Option, Some, None, refl, sym, ap, ◌∙◌}
 use Rattle.std.specs.FinMap.Entries.{put, find-put}
 use Rattle.std.specs.Ordering.{is_eq, eq_by_cmp}
 use Rattle.opfs_base.specs.Places.{Place, place_cmp}

@@ -1,22 +1,19 @@
 -- The working copy that a call hands in, and the one that it leaves.
-use Rattle.std.proofs.Common.{◌≡◌, ℕ, ◌+◌, ◌*◌, ◌/◌, ◌<◌, ◌≤◌, Bool, true, false, List, ◌++◌, [], ◌∷◌, length, slice_index, get_or, Option, Some, None, refl, sym, ap, subst, ◌∙◌, inl, inr, arith}
+use Rattle.std.proofs.Common.{◌≡◌, ℕ, ◌<◌, true, List, length, Some, refl, sym, ap, ◌∙◌, inl, inr}
 use Rattle.std.proofs.lemmas.Bool.{cases_lt, false≢true}
 use Rattle.std.proofs.lemmas.List.{get_or_past}
-use Rattle.opfs_base.specs.Blocks.{blocks}
-use Rattle.opfs_base.specs.Texts.{Text}
-use Rattle.opfs_copies.specs.Copies.{IsCopyOf, StandsFor}
-use Rattle.opfs_data.specs.Pages.{page_of, blank, LiesIn}
+use Rattle.opfs_copies.specs.Copies.{StandsFor}
+use Rattle.opfs_data.specs.Pages.{LiesIn}
 use Rattle.opfs_data.specs.Rows.{Rows, pages_at, page_at as swap_page}
 use Rattle.opfs_hist.specs.declared.entry.Entry.{Entry}
 use Rattle.opfs_machine.specs.Histories.{state_after}
 use Rattle.opfs_machine.specs.Openings.{Opening}
-use Rattle.opfs_machine.specs.Agents.{agent_of, own_of}
 use Rattle.opfs_pages.specs.Copies.{IsCopy, AreHeld, HasFar}
-use Rattle.opfs_steady.specs.Steady.{open_bytes, row_bytes, is_steady}
+use Rattle.opfs_steady.specs.Steady.{open_bytes, row_bytes}
 use Rattle.opfs_work.specs.declared.pages.Page.{Page}
 use Rattle.opfs_work.specs.declared.pages.Page.TheVariants.{Zero, Near, Clean, Far}
 use Rattle.opfs_work.specs.Pages.{page_at, is_far, is_held}
-use Rattle.opfs_work.specs.Works.{WorkingCopy, IsStored}
+use Rattle.opfs_work.specs.Works.{WorkingCopy}
 use Rattle.opfs_desk_laws.specs.Told.{AreThere, AreTold}
 
 far-held : (p : Page) → is_far p ≡ true → is_held p ≡ true

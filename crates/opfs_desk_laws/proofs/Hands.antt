@@ -1,8 +1,7 @@
 -- Which rows a call leaves: all but the one that it has in hand.
-use Rattle.std.proofs.Common.{◌≡◌, ◌≢◌, ◌⊎◌, ℕ, zero, suc, ◌+◌, ◌==◌, ◌<◌, ◌≤◌, Bool, true, false, not, ◌&&◌, ◌||◌, cond, List, [], ◌∷◌, length, Option, Some, None, refl, sym, ap, subst, ◌∙◌, inl, inr, arith}
+use Rattle.std.proofs.Common.{◌≡◌, ◌≢◌, ◌⊎◌, ℕ, zero, suc, ◌+◌, ◌==◌, ◌≤◌, Bool, true, false, not, ◌&&◌, ◌||◌, cond, List, [], ◌∷◌, length, Some, None, refl, sym, ap, ◌∙◌, inl, inr, arith}
 use Rattle.std.proofs.lemmas.Bool.{cases_eq}
 use Rattle.std.proofs.lemmas.Bool.Decides.{nat_tests}
-use Rattle.std.proofs.lemmas.Option.{slice_get_within}
 use Rattle.std.specs.Prelude.{slice_get}
 use Rattle.opfs_data.specs.Rows.{IsOther}
 use Rattle.opfs_hist.specs.Sums.{asks_for_row}
@@ -102,6 +101,7 @@ moved-own a b o (suc i) moved apart none =
         nonzero : (j : ℕ) → suc j ≡ 0 → ⊥
         nonzero j e = omega arith
     other false asks = λ e. apart (e ∙ sym (ap (λ t. cond t (length a.own + 1) (row_used o)) asks))
+
     far : (t : Bool) → asks_for_row o ≡ t → length a.own ≤ i → length b.own ≤ i
     far t asks past = elim moved.more [
       | inl same ↦ omega arith

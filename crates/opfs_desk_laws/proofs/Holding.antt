@@ -1,5 +1,5 @@
 -- Who has the blocks, as one value.
-use Rattle.std.proofs.Common.{◌≡◌, ◌≤◌, ℕ, true, Option, Some, refl, sym, subst, ◌∙◌, arith}
+use Rattle.std.proofs.Common.{ℕ, refl, sym, subst, ◌∙◌, arith}
 use Rattle.opfs_blocks.specs.Sets.{Used}
 use Rattle.opfs_data.specs.Rows.{Rows}
 use Rattle.opfs_replay.specs.Built.{named, has_block}

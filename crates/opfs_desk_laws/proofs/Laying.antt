@@ -1,6 +1,6 @@
 -- How what ties pages and blocks to a history goes on.
-use Rattle.std.proofs.Common.{◌≡◌, ◌⊎◌, ℕ, ◌*◌, ◌<◌, is_some, List, [], ◌∷◌, ◌++◌, length, unwrap_or, Option, Some, None, refl, sym, ap, subst, ◌∙◌, inl, inr}
-use Rattle.opfs_data.specs.Rows.{Rows, row_of, no_row, pages_at, IsOther, OthersStay}
+use Rattle.std.proofs.Common.{◌≡◌, ℕ, ◌<◌, is_some, List, [], ◌∷◌, ◌++◌, length, unwrap_or, sym, ap, subst, ◌∙◌, inl, inr}
+use Rattle.opfs_data.specs.Rows.{row_of, no_row}
 use Rattle.opfs_hist.specs.declared.entry.Entry.{Entry}
 use Rattle.opfs_machine.specs.Histories.{state_after}
 use Rattle.opfs_machine.specs.Openings.{Opening}

@@ -1,5 +1,5 @@
 -- What the store's pages tell of a row that is opened with its file's blocks.
-use Rattle.std.proofs.Common.{◌≡◌, ◌⊎◌, ℕ, zero, suc, ◌+◌, ◌-◌, ◌*◌, ◌<◌, ◌≤◌, ◌++◌, List, [], ◌∷◌, length, take, slice_index, get_or, Option, Some, None, refl, sym, ap, subst, ◌∙◌, inl, inr, arith}
+use Rattle.std.proofs.Common.{◌≡◌, ℕ, zero, suc, ◌+◌, ◌-◌, ◌*◌, ◌<◌, ◌≤◌, List, [], ◌∷◌, length, slice_index, get_or, Some, None, refl, sym, ap, ◌∙◌, inl, inr, arith}
 use Rattle.std.specs.List.{flat_map}
 use Rattle.std.proofs.lemmas.Bool.{cases_lt}
 use Rattle.std.proofs.lemmas.List.{get_or-take, get_or_append_left, get_or-append_right, length-append, length-take}
@@ -55,14 +55,14 @@ run-at c base (e ∷ more) i k small below = elim (cases_lt i e.count) [
       in
       let inside : 4096 * i + k < run_room e = omega (arith, here, small) in (
         ap (λ (p : Page). slice_index (page_of c base p) k) first ∙ block-at c base (e.start + i) k small ∙ ap (slice_index c) (omega arith)
-        ∙ sym (get_or_append_left (run_bytes c base e) (runs c base more) 0 (4096 * i + k) (omega (arith, length-window c (run_place base e) (run_room e))) ∙ window-at c (run_place base e) (run_room e) (4096 * i + k) inside),
+            ∙ sym (get_or_append_left (run_bytes c base e) (runs c base more) 0 (4096 * i + k) (omega (arith, length-window c (run_place base e) (run_room e))) ∙ window-at c (run_place base e) (run_room e) (4096 * i + k) inside),
         ap (λ (p : Page). length (page_of c base p)) first ∙ block-length c base (e.start + i),
       )
   | inr past ↦
       let later : get_or (pages_in (e ∷ more)) i blank ≡ get_or (pages_in more) (i - e.count) blank = get_or-append_right (pages_from e.start e.count) (pages_in more) e.count i blank (length-from e.start e.count) past in
       let rest = run-at c base more (i - e.count) k small (omega (arith, past, below)) in (
         ap (λ (p : Page). slice_index (page_of c base p) k) later ∙ rest.0
-        ∙ sym (get_or-append_right (run_bytes c base e) (runs c base more) (run_room e) (4096 * i + k) 0 (length-window c (run_place base e) (run_room e)) (omega (arith, past)) ∙ ap (slice_index (runs c base more)) (omega (arith, past))),
+            ∙ sym (get_or-append_right (run_bytes c base e) (runs c base more) (run_room e) (4096 * i + k) 0 (length-window c (run_place base e) (run_room e)) (omega (arith, past)) ∙ ap (slice_index (runs c base more)) (omega (arith, past))),
         ap (λ (p : Page). length (page_of c base p)) later ∙ rest.1,
       )
 ]

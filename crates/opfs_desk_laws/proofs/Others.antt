@@ -1,5 +1,5 @@
 -- A call leaves the records of other agents.
-use Rattle.std.proofs.Common.{◌≡◌, ◌≢◌, ℕ, ◌+◌, ◌-◌, ◌<◌, min, Bool, true, false, if◌then◌else◌, List, [], ◌∷◌, ◌++◌, length, slice_set, Option, Some, None, refl, sym, ap, ◌∙◌, subst, IsTrue}
+use Rattle.std.proofs.Common.{◌≡◌, ◌≢◌, ℕ, ◌+◌, ◌-◌, ◌<◌, min, Bool, true, false, if◌then◌else◌, [], ◌∷◌, ◌++◌, length, slice_set, Option, Some, None, refl, sym, ap, ◌∙◌, subst}
 use Rattle.opfs_base.specs.Texts.{Text}
 use Rattle.opfs_base.specs.Places.{Place, place_of, child}
 use Rattle.opfs_base.specs.Units.{unit_of}
@@ -26,7 +26,7 @@ use Rattle.opfs_machine.specs.Effects.{effect, refused, made, opens_bucket, open
 use Rattle.opfs_machine.specs.Replies.{sizes_of}
 use Rattle.opfs_machine.specs.Rows.{file_at, with_file, with_row, without, row_at, children_of}
 use Rattle.opfs_machine.specs.Rulings.{start_of, size_written, reserve_for, want_of, first_reserve}
-use Rattle.opfs_machine.specs.Steps.{is_refusal, changed_by, after_reply}
+use Rattle.opfs_machine.specs.Steps.{is_refusal, after_reply}
 use Rattle.opfs_machine.specs.Sums.{reserve_of}
 use Rattle.opfs_laws.proofs.Numbers.{IsNumber, agent-other}
 

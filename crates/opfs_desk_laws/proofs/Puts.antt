@@ -1,12 +1,11 @@
 -- What the store's pages tell of a row whose pages were put.
-use Rattle.std.proofs.Common.{◌≡◌, ◌⊎◌, ℕ, ◌+◌, ◌*◌, ◌/◌, ◌<◌, ◌≤◌, ◌++◌, List, [], ◌∷◌, length, get_or, Option, Some, None, refl, sym, ap, subst, ◌∙◌, inl, inr, arith}
+use Rattle.std.proofs.Common.{◌≡◌, ◌⊎◌, ℕ, ◌*◌, ◌<◌, ◌++◌, List, [], ◌∷◌, length, sym, ap, subst, ◌∙◌, inl, inr, arith}
 use Rattle.std.specs.List.{AllByRecursion}
 use Rattle.std.proofs.lemmas.Bool.{cases_eq, cases_lt}
 use Rattle.std.proofs.lemmas.List.{get_or_past}
 use Rattle.opfs_base.specs.Blocks.{blocks}
 use Rattle.opfs_base.specs.Texts.{Text}
 use Rattle.opfs_base.specs.declared.extents.Extent.{Extent}
-use Rattle.opfs_data.specs.declared.page.Page.{Page}
 use Rattle.opfs_data.specs.Pages.{page_of, blank, NamesPage}
 use Rattle.opfs_data.specs.Rows.{Rows, pages_at, page_at}
 use Rattle.opfs_data.specs.Writes.{PageWrite, WriteList, page_writes, page_moves, placed, blocks_in}
@@ -14,7 +13,7 @@ use Rattle.opfs_pages.specs.Copies.{IsPageOf, IsBegun, IsNamed, AreRight}
 use Rattle.opfs_pages.specs.Stages.{Stage, changed, IsAtRest}
 use Rattle.opfs_pages.proofs.Rest.{rest_begins}
 use Rattle.opfs_puts.specs.Puts.{IsPut, all_writes}
-use Rattle.opfs_desk_laws.specs.Putting.{AllReadAlike, IsFromRow}
+use Rattle.opfs_desk_laws.specs.Putting.{IsFromRow}
 
 -- ---- pages of a list
 

@@ -1,16 +1,15 @@
 -- The blocks stay right through each kind of entry.
-use Rattle.std.proofs.Common.{◌≡◌, ◌≤◌, ℕ, ◌<◌, Bool, true, false, Option, Some, None, List, [], ◌∷◌, length, nat_eq, refl, sym, ap, subst, ◌∙◌, inl, inr, arith}
+use Rattle.std.proofs.Common.{◌≡◌, ◌≤◌, ℕ, true, Option, List, length, nat_eq, sym, ap, subst, ◌∙◌, inl, inr, arith}
 use Rattle.std.specs.List.{IsDistinct}
-use Rattle.opfs_base.specs.Places.{Place}
 use Rattle.opfs_base.specs.declared.extents.Extent.{Extent}
-use Rattle.opfs_blocks.specs.Sets.{Used, blocks_of, marked}
+use Rattle.opfs_blocks.specs.Sets.{blocks_of}
 use Rattle.opfs_data.specs.Pages.{resized, with_writes, pages_in, AreOnce}
-use Rattle.opfs_data.specs.Rows.{Rows, pages_at, IsOther, OthersStay}
+use Rattle.opfs_data.specs.Rows.{pages_at, OthersStay}
 use Rattle.opfs_data.specs.Writes.{PageWrite}
 use Rattle.opfs_machine.specs.declared.own.Outline.{Outline}
-use Rattle.opfs_replay.specs.Built.{named, has_block}
+use Rattle.opfs_replay.specs.Built.{has_block}
 use Rattle.opfs_space.specs.Files.{file_has}
-use Rattle.opfs_space.specs.Holders.{HasPage, KeepsRow, KeepsOthers, HasFiles, HasFewer, AreBlocks, AreMine, IsOpened}
+use Rattle.opfs_space.specs.Holders.{HasPage, KeepsRow, KeepsOthers, HasFiles, AreMine}
 use Rattle.opfs_space.specs.Room.{Machine}
 use Rattle.opfs_space.specs.Spaces.{SpaceSeen}
 use Rattle.opfs_space.proofs.Keeping.{blocks_fewer}
@@ -64,11 +63,14 @@ module _ (m t : Machine) (s r : Shelf) where
     size = was.size ∙ ap (λ l. l.blocks) (sym limits);
     own_size = was.own_size;
     blocks = blocks-spaced t r space.used space.own (blocks_fewer (holders_of m s) (holders_of t r) space.used space.own (spaced-blocks m s space was) (same_files files)
-        (λ k n i b has. (fewer k n i b has, elim (other-or agent row k n) [
-          | inl apart ↦ keeps k n (stays-same (open_at m k n) (open_at t k n) (others k n apart))
-          | inr here ↦
-              absurd (none i b (subst (λ (x : ℕ). HasPage r.swap agent x i b) here.1 (subst (λ (x : ℕ). HasPage r.swap x n i b) here.0 has)))
-        ])));
+        (λ k n i b has. (
+          fewer k n i b has,
+          elim (other-or agent row k n) [
+            | inl apart ↦ keeps k n (stays-same (open_at m k n) (open_at t k n) (others k n apart))
+            | inr here ↦
+                absurd (none i b (subst (λ (x : ℕ). HasPage r.swap agent x i b) here.1 (subst (λ (x : ℕ). HasPage r.swap x n i b) here.0 has)))
+          ],
+        )));
   }
 
   -- Pages are written into blocks that are the row's own or were taken for it.

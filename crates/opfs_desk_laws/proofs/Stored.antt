@@ -1,19 +1,18 @@
 -- The blocks stay right where a close or a flush stores a content.
-use Rattle.std.proofs.Common.{◌≡◌, ◌⊎◌, ◌≤◌, ℕ, ◌<◌, Bool, true, false, List, [], ◌∷◌, length, Option, Some, None, refl, sym, ap, subst, ◌∙◌, inl, inr, IsTrue}
+use Rattle.std.proofs.Common.{◌≡◌, ℕ, true, false, List, Option, sym, ap, subst, ◌∙◌, inl, inr}
 use Rattle.opfs_base.specs.Places.{Place}
 use Rattle.opfs_base.specs.declared.extents.Extent.{Extent}
-use Rattle.opfs_blocks.specs.Sets.{Used, marked, blocks_of}
-use Rattle.opfs_data.specs.Rows.{Rows, pages_at, IsOther, OthersStay}
+use Rattle.opfs_blocks.specs.Sets.{marked, blocks_of}
+use Rattle.opfs_data.specs.Rows.{IsOther}
 use Rattle.opfs_replay.specs.Built.{named, has_block}
-use Rattle.opfs_space.specs.Files.{file_has, IsChangedAt}
-use Rattle.opfs_space.specs.Holders.{Holders, HasPage, AreBlocks, IsStored, KeepsRow, IsFlushed}
+use Rattle.opfs_space.specs.Files.{file_has}
+use Rattle.opfs_space.specs.Holders.{HasPage, IsStored, KeepsRow}
 use Rattle.opfs_space.specs.Room.{Machine}
 use Rattle.opfs_space.specs.Spaces.{SpaceSeen}
 use Rattle.opfs_space.proofs.FileBlocks.{has_named, named_has}
 use Rattle.opfs_space.proofs.Storing.{blocks_stored}
 use Rattle.opfs_space.proofs.Taking.{owned_less, marked_size}
-use Rattle.opfs_tree.specs.Rows.{Rows as Tree, IsInOrder}
-use Rattle.opfs_desk_laws.specs.Open.{open_at, file_in, is_stream, StaysOpen, OthersStayOpen}
+use Rattle.opfs_desk_laws.specs.Open.{open_at, file_in, is_stream}
 use Rattle.opfs_desk_laws.specs.Spaced.{Shelf, AreSpaced}
 use Rattle.opfs_desk_laws.specs.Storing.{IsContentOf}
 use Rattle.opfs_desk_laws.proofs.Begun.{other-or}

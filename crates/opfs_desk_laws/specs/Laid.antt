@@ -1,10 +1,8 @@
 -- What ties the pages of open rows, and the data blocks, to a history. This project's own.
-use Rattle.std.specs.Prelude.{◌≡◌, ◌⊎◌, ℕ, ◌*◌, ◌<◌, ◌≤◌, is_some, List, [], ◌∷◌, ◌++◌, length, Option, Some, None}
-use Rattle.opfs_base.specs.Blocks.{blocks}
+use Rattle.std.specs.Prelude.{◌≡◌, ℕ, ◌*◌, ◌<◌, is_some, List, [], ◌∷◌, ◌++◌, length, Some}
 use Rattle.opfs_base.specs.Texts.{Text}
-use Rattle.opfs_base.specs.declared.extents.Extent.{Extent}
 use Rattle.opfs_data.specs.Pages.{page_of}
-use Rattle.opfs_data.specs.Rows.{Rows, row_of, pages_at, page_at, IsOther, OthersStay}
+use Rattle.opfs_data.specs.Rows.{row_of, pages_at, page_at, IsOther, OthersStay}
 use Rattle.opfs_hist.specs.declared.entry.Entry.{Entry}
 use Rattle.opfs_machine.specs.Histories.{state_after}
 use Rattle.opfs_machine.specs.Openings.{Opening}

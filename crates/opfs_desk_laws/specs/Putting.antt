@@ -9,7 +9,6 @@ use Rattle.opfs_base.specs.declared.extents.Extent.{Extent}
 use Rattle.opfs_puts.specs.Puts.{IsPut, all_writes}
 use Rattle.opfs_pages.specs.Copies.{IsCopy, AreHeld}
 use Rattle.opfs_pages.specs.Stages.{Stage, changed, IsStaged}
-use Rattle.opfs_work.specs.Works.{WorkingCopy}
 
 -- All pages of all rows read in one content as in another.
 abbrev pub AllReadAlike : ℕ → List ℕ → List ℕ → Rows → Rows → Type 0

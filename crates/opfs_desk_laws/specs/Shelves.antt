@@ -1,5 +1,5 @@
 -- What happens to the store's rows and pages, as far as blocks go. This project's own.
-use Rattle.std.specs.Prelude.{◌≡◌, ℕ, true, Option}
+use Rattle.std.specs.Prelude.{◌≡◌, ℕ, Option}
 use Rattle.opfs_base.specs.Places.{Place}
 use Rattle.opfs_replay.specs.Built.{named, has_block}
 use Rattle.opfs_space.specs.Files.{file_has}

@@ -1,5 +1,5 @@
 -- What the store's pages tell of the open rows after a history. This project's own.
-use Rattle.std.specs.Prelude.{◌≡◌, ℕ, ◌*◌, ◌<◌, true, is_some, List, ◌++◌, length, Option, Some}
+use Rattle.std.specs.Prelude.{◌≡◌, ℕ, ◌*◌, ◌<◌, true, is_some, List, length, Some}
 use Rattle.opfs_base.specs.Texts.{Text}
 use Rattle.opfs_data.specs.Pages.{page_of}
 use Rattle.opfs_data.specs.Rows.{Rows, row_of, pages_at, page_at, IsOther}

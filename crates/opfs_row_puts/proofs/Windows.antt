@@ -1,7 +1,7 @@
 -- Bytes from a position on, as many as there are.
-use Rattle.std.proofs.Common.{◌≡◌, ℕ, ◌+◌, ◌-◌, ◌≤◌, ◌<◌, min, List, length, take, drop, get_or, refl, sym, ap, subst, ◌∙◌, arith}
+use Rattle.std.proofs.Common.{◌≡◌, ℕ, ◌-◌, ◌<◌, min, List, length, drop, get_or, sym, ap, ◌∙◌, arith}
 use Rattle.std.proofs.lemmas.Grind.{same_number_lists}
-use Rattle.std.proofs.lemmas.List.{length-take, length-drop, get_or-take, get_or-drop}
+use Rattle.std.proofs.lemmas.List.{length-take, length-drop, get_or-take}
 use Rattle.opfs_splice.specs.Splicing.{window}
 
 pub window-cut : (b : List ℕ) (at len start count : ℕ) → start ≡ min at (length b) → count ≡ min len (length b - start) → window b start count ≡ window b at len

@@ -52,7 +52,17 @@ pub fn read_row<D: Disk>(
     let len = len.min(size - start);
     let mut buffer = zeros(alloc, PAGE)?;
     let mut bytes = zeros(alloc, len as usize)?;
-    read_bytes(work, swap, journal, base, agent, row, start, &mut buffer, &mut bytes)?;
+    read_bytes(
+        work,
+        swap,
+        journal,
+        base,
+        agent,
+        row,
+        start,
+        &mut buffer,
+        &mut bytes,
+    )?;
     Ok(Bytes::from_vec(bytes))
 }
 

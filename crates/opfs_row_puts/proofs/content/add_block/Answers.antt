@@ -1,4 +1,4 @@
-use Rattle.std.proofs.Common.{rules, ◌≡◌, ◌++◌, ◌∷◌, ◌+◌, [], ℕ, List, refl, sym, ap, ◌∙◌}
+use Rattle.std.proofs.Common.{rules, ◌≡◌, ◌++◌, ◌∷◌, ◌+◌, [], List, refl, sym, ap, ◌∙◌}
 use Rattle.opfs_base.specs.declared.extents.Extent.{Extent}
 use Rattle.opfs_blocks.specs.Sets.{blocks_of}
 use Rattle.opfs_row_puts.proofs.Blocks.{run-longer}

@@ -1,5 +1,4 @@
-use Rattle.std.proofs.Common.{◌≡◌, ◌++◌, ℕ, [], List, Option, take, sym, ap, ◌∙◌, arith}
-use Rattle.opfs_blocks.specs.Sets.{blocks_of}
+use Rattle.std.proofs.Common.{◌++◌, ℕ, [], List, Option, take, sym, ap, ◌∙◌, arith}
 use Rattle.opfs_data.specs.Rows.{pages_at}
 use Rattle.opfs_space.specs.Spaces.{page_blocks, with_block}
 use Rattle.opfs_row_puts.proofs.Blocks.{page-next}
