@@ -16,3 +16,5 @@ pub mod Contents
 pub mod Own
 pub mod Laying
 pub mod Copied
+pub mod HandleFiles
+pub mod HandlesWhole

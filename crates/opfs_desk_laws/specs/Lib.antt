@@ -9,3 +9,4 @@ pub mod Laws
 pub mod Laid
 pub mod Copies
 pub mod RowsAfter
+pub mod Handles

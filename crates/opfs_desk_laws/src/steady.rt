@@ -8,6 +8,7 @@ ghost use Rattle.opfs_data.specs.Rows.{Rows, page_at};
 ghost use Rattle.opfs_data.specs.Writes.{WriteList};
 ghost use Rattle.opfs_pages.specs.Copies.{IsBegun};
 ghost use Rattle.opfs_pages.specs.Stages.{Stage};
+ghost use Rattle.opfs_desk_laws.specs.Handles.{HandlesStayWhole};
 ghost use Rattle.opfs_desk_laws.specs.Laws.{PagesStayThere, PagesGoOnTelling, PagesAreLeft, CallsLeaveOtherRows};
 ghost use Rattle.opfs_desk_laws.specs.Laid.{AreLaid, IsLaidBeside, IsLaidInHand};
 ghost use Rattle.opfs_desk_laws.specs.Putting.{IsPutFromRow};
@@ -50,4 +51,9 @@ pub fn what_is_laid_goes_on<D: Disk>()
         → AreLaid D.tells o h base c m s old → AreLaid D.tells o (h ++ more) base d t r new }
     ensures in_hand { (o : Opening) (h : List Entry) (e : Entry) (base : ℕ) (c d : List ℕ) (m t : Machine) (s r : Shelf) (old new : SpaceSeen) → IsLaidInHand D.tells o h e base c d m t s r → AreSpaced t r new
         → AreLaid D.tells o h base c m s old → AreLaid D.tells o (h ++ e ∷ []) base d t r new }
+{}
+
+/// The law of access handles: only a handle's own calls change its file's bytes, so that each of its pages is steady.
+pub fn handles_stay_whole()
+    ensures { HandlesStayWhole }
 {}
