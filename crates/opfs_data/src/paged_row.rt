@@ -1,13 +1,13 @@
 //! The pages of an open row, in blocks.
 
-ghost use Rattle.std.specs.Prelude.{◌≡◌, ◌+◌, ◌*◌, ◌^◌, ◌<◌, ◌≤◌, ℕ, List, None, false, length, is_some, IsTrue, count_by, slice_index_or, IfOk, OnOk, OnErr, IsErrOf, MatchOption};
+ghost use Rattle.std.specs.Prelude.{◌≡◌, ◌+◌, ◌*◌, ◌^◌, ◌<◌, ◌≤◌, ℕ, List, None, true, false, length, is_some, IsTrue, count_by, slice_index_or, IfOk, OnOk, OnErr, IsErrOf, MatchOption};
 ghost use Rattle.std.specs.List.{AllByRecursion};
 ghost use Rattle.opfs_outside.specs.Faults.{Rose};
 ghost use Rattle.opfs_data.specs.Calls.{Reads, Writes};
 ghost use Rattle.opfs_data.specs.Places.{AllLie};
 ghost use Rattle.opfs_data.specs.declared.page.Page.{Page};
 ghost use Rattle.opfs_data.specs.Writes.{page_writes, AreWithin};
-ghost use Rattle.opfs_data.specs.Pages.{block_bytes, page_of, blank, runs_of, resized, with_writes, pages_in, NamesPage, HasAgain, AreOnce, AreSaved, AreNow, AreOwn, IsApart, LiesIn, IsDataPart};
+ghost use Rattle.opfs_data.specs.Pages.{block_bytes, page_of, blank, is_plain, runs_of, resized, with_writes, pages_in, NamesPage, HasAgain, AreOnce, AreSaved, AreNow, AreOwn, IsApart, LiesIn, IsDataPart};
 
 use crate::page::{Page, SavedPage};
 use crate::pages::read_page;
@@ -105,6 +105,16 @@ impl PagedRow {
         match self.pages.get(page as usize) {
             Some(page) => page.block.is_none() && page.kept.is_none(),
             None => true,
+        }
+    }
+
+    /// Whether a page has a block and nothing is kept of it, so that the block has its bytes.
+    pub fn is_plain(&self, page: u64) -> bool
+        ensures { IsTrue result → is_plain (slice_index_or self.now.pages page blank) ≡ true }
+    {
+        match self.pages.get(page as usize) {
+            Some(page) => page.block.is_some() && page.kept.is_none(),
+            None => false,
         }
     }
 

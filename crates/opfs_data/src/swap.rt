@@ -7,7 +7,7 @@ ghost use Rattle.opfs_data.specs.Calls.{Reads, Writes};
 ghost use Rattle.opfs_data.specs.Places.{AllLie};
 ghost use Rattle.opfs_data.specs.declared.page.Page.{Page};
 ghost use Rattle.opfs_data.specs.Writes.{page_writes, AreWithin};
-ghost use Rattle.opfs_data.specs.Pages.{block_bytes, page_of, blank, runs_of, resized, with_writes, pages_in, NamesPage, HasAgain, AreOnce, AreSaved, AreNow, AreOwn, IsApart, LiesIn, IsDataPart};
+ghost use Rattle.opfs_data.specs.Pages.{block_bytes, page_of, blank, is_plain, runs_of, resized, with_writes, pages_in, NamesPage, HasAgain, AreOnce, AreSaved, AreNow, AreOwn, IsApart, LiesIn, IsDataPart};
 ghost use Rattle.opfs_data.specs.Rows.{row_of, row_at, pages_at, page_at, kept_in, kept_count, IsOther, OthersStay, AreFree, AreInOrder, rows_behind};
 
 use crate::{DataRefusal, PageWrites, PagedRow};
@@ -118,6 +118,16 @@ impl Swap {
         match self.rows.get(&(agent, row)) {
             Some(found) => found.is_blank(page),
             None => true,
+        }
+    }
+
+    /// Whether a page has a block and nothing is kept of it, so that the block has its bytes. Takes no memory.
+    pub fn is_plain(&self, agent: u32, row: u32, page: u64) -> bool
+        ensures { IsTrue result → is_plain (page_at agent row page self.now) ≡ true }
+    {
+        match self.rows.get(&(agent, row)) {
+            Some(found) => found.is_plain(page),
+            None => false,
         }
     }
 

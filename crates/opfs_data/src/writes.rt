@@ -1,6 +1,6 @@
 //! Pages that are to be written.
 
-ghost use Rattle.std.specs.Prelude.{◌≡◌, ◌++◌, ◌∷◌, [], ◌+◌, ◌*◌, ◌^◌, ◌<◌, ◌≤◌, ℕ, List, length, drop, IfOk, OnOk, OnErr, slice_index_or};
+ghost use Rattle.std.specs.Prelude.{◌≡◌, ◌++◌, ◌∷◌, [], ◌+◌, ◌*◌, ◌^◌, ◌<◌, ◌≤◌, ℕ, List, length, drop, IfOk, IfSome, OnOk, OnErr, slice_index_or};
 ghost use Rattle.std.specs.List.{AllByRecursion};
 ghost use Rattle.opfs_data.specs.Writes.{Run, IsRun, PageWrite, WriteList, HasBytes, page_writes, page_moves, writes_of, run_writes, run_pages, placed, blocks_in};
 ghost use Rattle.opfs_data.specs.declared.page_run.Source.{Source};
@@ -121,6 +121,14 @@ impl PageWrites {
         Ok(from)
     }
 
+    /// How many pages get their blocks later; None where they are more than a disk has. Takes no memory.
+    pub fn moved(&self) -> Option<u32>
+        ensures { IfSome result (λ count. (given : List ℕ) → length (page_moves self.now given) ≡ count) }
+    {
+        let _ = &self.own;
+        count_pages(&self.moves)
+    }
+
     /// Makes room for the pages without a block in so many runs of blocks.
     pub fn reserve(&mut self, extents: usize) -> Result<(), AllocError>
         ensures room { OnOk result (length self.new.runs + length self.new.moves + extents ≤ self.new.room) }
@@ -164,4 +172,15 @@ impl PageWrites {
         let _ = &self.moves;
         self.own.as_slice()
     }
+}
+
+// How many pages runs have; None where these are 2^32 or more.
+fn count_pages(runs: &[PageRun]) -> Option<u32>
+    ensures { IfSome result (λ count. (own given : List ℕ) → length (writes_of own given runs.now) ≡ count) }
+{
+    let mut count = 0u32;
+    for run in runs {
+        count = count.checked_add(run.count())?;
+    }
+    Some(count)
 }

@@ -1,9 +1,9 @@
 -- Pages of a row as a call leaves them, staged one after another. This project's own.
-use Rattle.std.specs.Prelude.{◌≡◌, ◌⊎◌, ℕ, ◌+◌, ◌*◌, ◌<◌, ◌≤◌, Bool, true, is_some, List, length, slice_index_or}
+use Rattle.std.specs.Prelude.{◌≡◌, ◌⊎◌, ℕ, ◌+◌, ◌*◌, ◌<◌, ◌≤◌, Bool, true, List, length, slice_index_or}
 use Rattle.opfs_base.specs.Blocks.{blocks}
 use Rattle.opfs_blocks.specs.Sets.{Used}
 use Rattle.opfs_data.specs.declared.page.Page.{Page}
-use Rattle.opfs_data.specs.Pages.{blank, IsDataPart}
+use Rattle.opfs_data.specs.Pages.{blank, is_plain, IsDataPart}
 use Rattle.opfs_data.specs.Rows.{Rows, pages_at, page_at as swap_page}
 use Rattle.opfs_data.specs.Writes.{WriteList, HasBytes, page_writes, page_moves}
 use Rattle.opfs_space.specs.Holders.{AreAllBelow}
@@ -56,11 +56,11 @@ pub record IsSpared (s : Stage) (i : ℕ) : Type 0 where
   pub unwritten : IsUnwritten s.at (length s.given) i
   pub whole : IsWhole s.work.length s.size i
 
--- The call need not write the page, and each page has a block where all have to have one.
+-- The call need not write the page, and each page has a block with its bytes where all have to have one.
 pub record IsAtRest (s : Stage) (i : ℕ) : Type 0 where
   pub stored : IsAtRestIn s.work (pages_at s.agent s.row s.swap) i
   pub spared : IsSpared s i
-  pub block : s.whole ≡ true → is_some (swap_page s.agent s.row i s.swap).block ≡ true
+  pub block : s.whole ≡ true → is_plain (swap_page s.agent s.row i s.swap) ≡ true
 
 -- the pages of the list are planned, and all are before one
 abbrev pub IsPlanned : Stage → ℕ → WriteList → Type 0

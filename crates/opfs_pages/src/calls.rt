@@ -89,8 +89,9 @@ fn walk_changes<D: Disk>(
     Ok(())
 }
 
-// The same, with a list and a buffer of its own.
-fn stage_changes<D: Disk>(
+/// The pages that a write at a position and then a new size leave changed, with all memory and all reads: nothing is written
+/// yet. Whole pages of the write are the call's own bytes.
+pub fn stage_changes<D: Disk>(
     alloc: Global,
     work: &Work,
     swap: &Swap,

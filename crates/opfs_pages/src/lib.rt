@@ -11,7 +11,7 @@ mod staging;
 mod wide;
 
 pub use bytes::{cut_page, overlay};
-pub use calls::{stage_content, stage_size, stage_write};
+pub use calls::{stage_changes, stage_content, stage_size, stage_write};
 pub use laws::{a_call_changes_as_it_says, pages_at_rest_go_on, untouched_pages_go_on};
 pub use leaving::{bring_page, leave_size, leave_write};
 pub use reading::read_page;

@@ -1,7 +1,8 @@
 // The pages of a row that a call leaves changed, one after another.
-ghost use Rattle.std.specs.Prelude.{ℕ, Bool, List, ◌≡◌, ◌+◌, ◌*◌, ◌^◌, ◌<◌, ◌≤◌, true, Some, is_some, length, OnOk, IsErrOf, IfOk, IsFalse, IsTrue};
+ghost use Rattle.std.specs.Prelude.{ℕ, Bool, List, ◌≡◌, ◌+◌, ◌*◌, ◌^◌, ◌<◌, ◌≤◌, true, Some, length, OnOk, IsErrOf, IfOk, IsFalse, IsTrue};
 ghost use Rattle.opfs_outside.specs.Faults.{Rose};
 ghost use Rattle.opfs_data.specs.Calls.{Reads};
+ghost use Rattle.opfs_data.specs.Pages.{is_plain};
 ghost use Rattle.opfs_data.specs.Rows.{pages_at, page_at as swap_page};
 ghost use Rattle.opfs_space.specs.Holders.{AreAllBelow};
 ghost use Rattle.opfs_work.specs.Works.{WorkingCopy};
@@ -18,10 +19,10 @@ use opfs_work::Work;
 const PAGE: u64 = 4096;
 
 // Whether a page has to be written though the call writes none of its bytes: it was changed, or it is all zeros and something
-// else is stored of it; and where each page has to have a block, one that has none.
+// else is stored of it; and where each page has to have a block with its bytes, one that has none.
 fn needs(work: &Work, swap: &Swap, agent: u32, row: u32, page: u64, whole: bool) -> bool
     ensures rest { IsFalse result → IsAtRestIn work.now (pages_at agent row swap.now) page }
-    ensures block { IsFalse result → whole ≡ true → is_some (swap_page agent row page swap.now).block ≡ true }
+    ensures block { IsFalse result → whole ≡ true → is_plain (swap_page agent row page swap.now) ≡ true }
 {
     if page >= work.pages() {
         return whole || !swap.is_blank(agent, row, page);
@@ -29,14 +30,7 @@ fn needs(work: &Work, swap: &Swap, agent: u32, row: u32, page: u64, whole: bool)
     if work.is_zero(page) {
         return whole || !swap.is_blank(agent, row, page);
     }
-    work.is_changed(page) || (whole && !has_block(swap, agent, row, page))
-}
-
-// Whether a page of a row has a block.
-fn has_block(swap: &Swap, agent: u32, row: u32, page: u64) -> bool
-    ensures { IsTrue result → is_some (swap_page agent row page swap.now).block ≡ true }
-{
-    page < swap.len(agent, row) && swap.block(agent, row, page).is_some()
+    work.is_changed(page) || (whole && !swap.is_plain(agent, row, page))
 }
 
 // Whether a call writes no byte of a page, and does not go on where the old bytes end in it.

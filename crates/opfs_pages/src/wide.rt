@@ -71,7 +71,7 @@ pub fn read_stored<D: Disk>(
     requires lies { (i : ℕ) → LiesIn base (D.size journal.old.disk) (swap_page agent row i swap.now).block }
     requires part { IsDataPart journal.old.areas base }
     ensures reads { Reads D.Disk journal.old journal.new }
-    ensures read { OnOk result (D.tells → (bytes : List ℕ) → at + length into.old ≤ length bytes → ((i : ℕ) → IsBegun bytes i (page_of (D.content journal.old.disk) base (swap_page agent row i swap.now)))
+    ensures read { OnOk result (D.tells → (bytes : List ℕ) → at + length into.old ≤ length bytes → ((i : ℕ) → 4096 * i < length bytes → IsBegun bytes i (page_of (D.content journal.old.disk) base (swap_page agent row i swap.now)))
         → into.new ≡ window bytes at (length into.old)) }
     ensures cause { OnErr result (Rose (D.faults journal.old.disk) (D.faults journal.new.disk)) }
 {

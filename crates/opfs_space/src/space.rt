@@ -3,7 +3,7 @@ ghost use Rattle.std.specs.Prelude.{◌≡◌, ◌↔◌, ◌≤◌, ◌<◌, �
 ghost use Rattle.std.specs.Bool.{OnTrue, OnFalse};
 ghost use Rattle.std.specs.List.{AllByRecursion};
 ghost use Rattle.std.specs.Vec.{vec_capacity};
-ghost use Rattle.opfs_blocks.specs.Sets.{free_blocks, marked, blocks_of, AreBelow};
+ghost use Rattle.opfs_blocks.specs.Sets.{free_blocks, marked, blocks_of, AreBelow, AreJoined};
 ghost use Rattle.opfs_data.specs.Rows.{pages_at, AreInOrder};
 ghost use Rattle.opfs_replay.specs.Built.{named, has_block};
 ghost use Rattle.opfs_space.specs.Spaces.{is_own, block_seen, pages_seen, IsBelow};
@@ -12,7 +12,8 @@ ghost use Rattle.opfs_space.specs.Holders.{AreAllBelow, AreSwept, all_pages};
 use opfs_base::Extent;
 use opfs_blocks::BlockMap;
 use opfs_data::Swap;
-use opfs_tree::{Tree, Walk};
+use opfs_ready::ReadyTree;
+use opfs_tree::Walk;
 use std::alloc::{AllocError, Global};
 use std::marker::Model;
 use std::mem;
@@ -50,6 +51,13 @@ impl Space {
         Ok(Space { used, own, seen })
     }
 
+    /// What the type keeps: own blocks are among as many as used ones.
+    pub fn kept(&self)
+        ensures { length self.now.own ≡ length self.now.used }
+    {
+        let _ = &self.used;
+    }
+
     /// Whether one page alone has a block, and no file.
     pub fn is_own(&self, block: u32) -> bool
         requires { block < length self.now.used }
@@ -65,8 +73,10 @@ impl Space {
         requires room { n ≤ vec_capacity into.old }
         ensures enough { IsTrue result ↔ (n ≤ length (free_blocks self.old.used)) }
         ensures least { OnTrue result (blocks_of into.new.items ≡ take n (free_blocks self.old.used)) }
+        ensures joined { OnTrue result (AreJoined into.new.items) }
         ensures taken { OnTrue result (self.new ≡ record self.old { used = marked true (blocks_of into.new.items) self.old.used; own = marked true (blocks_of into.new.items) self.old.own }) }
         ensures refused { OnFalse result ((self.new ≡ self.old) × (into.new.items ≡ [])) }
+        ensures capacity { vec_capacity into.old ≤ vec_capacity into.new }
     {
         if !self.used.allot(n, into) {
             return false;
@@ -113,10 +123,10 @@ impl Space {
         }
     }
 
-    /// Sees the files of all rows, before all pages. Takes no memory.
-    pub fn see_tree(&mut self, tree: &Tree)
-        requires { AreBelow (length self.old.used) (named tree.now) }
-        ensures { self.new ≡ record self.old { seen = marked true (named tree.now) self.old.seen } }
+    /// Sees the files of all rows, before all pages; a place that stands ready has none. Takes no memory.
+    pub fn see_tree(&mut self, tree: &ReadyTree)
+        requires { AreBelow (length self.old.used) (named tree.now.rows) }
+        ensures { self.new ≡ record self.old { seen = marked true (named tree.now.rows) self.old.seen } }
     {
         let mut walk = Walk::make();
         while let Some(row) = tree.step(&mut walk) {
@@ -138,11 +148,11 @@ impl Space {
     }
 
     /// Finds anew which blocks one page alone has, and no file. Takes no memory.
-    pub fn look(&mut self, tree: &Tree, swap: &Swap)
-        requires files { AreBelow (length self.old.used) (named tree.now) }
+    pub fn look(&mut self, tree: &ReadyTree, swap: &Swap)
+        requires files { AreBelow (length self.old.used) (named tree.now.rows) }
         requires pages { AreAllBelow (length self.old.used) swap.now }
         ensures used { self.new.used ≡ self.old.used }
-        ensures found { AreSwept (length self.old.used) (has_block (named tree.now)) swap.now self.new.seen self.new.own }
+        ensures found { AreSwept (length self.old.used) (has_block (named tree.now.rows)) swap.now self.new.seen self.new.own }
     {
         self.begin();
         self.see_tree(tree);
@@ -151,10 +161,10 @@ impl Space {
 
     /// Finds anew which blocks are used: those of files, and those of pages, of which one page alone may have some. All
     /// others are free. Takes no memory.
-    pub fn sweep(&mut self, tree: &Tree, swap: &Swap)
-        requires files { AreBelow (length self.old.used) (named tree.now) }
+    pub fn sweep(&mut self, tree: &ReadyTree, swap: &Swap)
+        requires files { AreBelow (length self.old.used) (named tree.now.rows) }
         requires pages { AreAllBelow (length self.old.used) swap.now }
-        ensures found { AreSwept (length self.old.used) (has_block (named tree.now)) swap.now self.new.used self.new.own }
+        ensures found { AreSwept (length self.old.used) (has_block (named tree.now.rows)) swap.now self.new.used self.new.own }
         ensures size { length self.new.used ≡ length self.old.used }
     {
         self.look(tree, swap);

@@ -1,0 +1,12 @@
+pub mod Open
+pub mod Hands
+pub mod Told
+pub mod Spaced
+pub mod Shelves
+pub mod Putting
+pub mod Storing
+pub mod Laws
+pub mod Laid
+pub mod Copies
+pub mod RowsAfter
+pub mod Handles
