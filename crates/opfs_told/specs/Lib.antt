@@ -1,0 +1,3 @@
+pub mod Goings
+pub mod Reading
+pub mod Turns

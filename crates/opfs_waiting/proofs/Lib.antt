@@ -1,0 +1,5 @@
+pub mod Calm
+pub mod Deciding
+pub mod Room
+pub mod RunsWithout
+pub mod SameCalls
