@@ -1,1 +1,4 @@
 pub mod Keyless
+pub mod Readied
+pub mod Shown
+pub mod Standby

@@ -1,3 +1,5 @@
 pub mod Applied
 pub mod Freeing
+pub mod Preparing
+pub mod Reading
 pub mod Seeing

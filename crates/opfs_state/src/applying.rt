@@ -1,7 +1,8 @@
 //! What calls change, refused or not; what pending calls leave; and what clearing a unit leaves.
 
-ghost use Rattle.std.specs.Prelude.{◌≡◌, ◌+◌, ◌-◌, ◌<◌, ◌≤◌, ◌++◌, ◌^◌, [], None, IsSome, false, length, vec_capacity};
+ghost use Rattle.std.specs.Prelude.{◌≡◌, ◌+◌, ◌-◌, ◌<◌, ◌≤◌, ◌++◌, ◌^◌, [], None, IsSome, IsTrue, OnOk, OnErr, is_ok, true, false, length, vec_capacity};
 ghost use Rattle.opfs_changes.specs.Allowed.{MayApply, IsSized};
+ghost use Rattle.opfs_changes.specs.Asking.{IsAccepted, ends};
 ghost use Rattle.opfs_changes.specs.Changed.{freed_by, tree_after};
 ghost use Rattle.opfs_lengths.specs.Kept.{Kept};
 ghost use Rattle.opfs_machine.specs.Agents.{agent_of, counted};
@@ -17,11 +18,13 @@ ghost use Rattle.opfs_tree.specs.Rows.{extents_within, without};
 ghost use Rattle.opfs_verdicts.specs.Callers.{IsAgent};
 
 use crate::performing::perform_any;
+use crate::preparing::ready_for;
 use crate::state::{Ready, State};
 use opfs_base::{Extent, Extents, Key};
 use opfs_changes::agents::refuse;
 use opfs_hist::{Op, PendingSum};
 use opfs_machine::Sizes;
+use std::alloc::{AllocError, Global};
 
 impl State {
     /// A call that is not refused, for which all stands ready, and for which units were cleared. A file that is stored gets
@@ -109,5 +112,29 @@ impl State {
     {
         self.store.lines();
         self.store.clear(self.alloc, key, freed);
+    }
+}
+
+impl State {
+    /// Makes ready all that an accepted call asks for, so that it takes no memory: where it makes a row, that place stands
+    /// ready. For calls that end what is open, or the agent, it takes none itself.
+    pub fn prepare(&mut self, alloc: Global, agent: u32, op: &Op) -> Result<(), AllocError>
+        requires agent { IsAgent self.old.store.machine agent }
+        requires judged { IsAccepted self.old.store.machine agent op.now }
+        ensures machine { self.new.store.machine ≡ self.old.store.machine }
+        ensures tree { self.new.store.tree ≡ self.old.store.tree }
+        ensures ready { OnOk result (IsPrepared self.new agent op.now) }
+        ensures err { OnErr result (self.new.store.prepared.place ≡ None) }
+        ensures ends { ends op.now ≡ true → IsTrue (is_ok result) }
+    {
+        self.ready = None;
+        self.store.cancel();
+        match ready_for(alloc, &mut self.store, agent, op) {
+            Ok(ready) => {
+                self.ready = Some(ready);
+                Ok(())
+            }
+            Err(error) => Err(error),
+        }
     }
 }

@@ -5,6 +5,8 @@ mod applying;
 mod judging;
 mod making;
 mod performing;
+mod preparing;
+mod readers;
 mod state;
 
 pub use state::State;

@@ -1,0 +1,6 @@
+//! Laws on the shared state: what was judged may be applied once its units are cleared, and what stands ready stays so. Laws
+//! alone; each is the contract of a function that does nothing.
+#![tactic(auto)]
+
+pub mod readied;
+pub mod room;
