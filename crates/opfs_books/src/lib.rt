@@ -7,6 +7,7 @@ mod clearing;
 mod committing;
 mod entering;
 mod keeping;
+mod opening;
 mod settling;
 mod shared;
 mod storing;
