@@ -1,3 +1,5 @@
-pub mod Clearing
+pub mod Alone
+pub mod Calls
+pub mod Evictions
 pub mod Following
-pub mod Keeping
+pub mod Starts

@@ -1,3 +1,4 @@
 pub mod Committing
 pub mod Noting
+pub mod Opened
 pub mod Seen

@@ -3,9 +3,14 @@
 #![tactic(auto)]
 
 mod books;
+mod clearing;
 mod committing;
 mod entering;
+mod keeping;
+mod opening;
+mod settling;
 mod shared;
+mod storing;
 
 pub use books::Books;
 pub use entering::{Entering, Last};

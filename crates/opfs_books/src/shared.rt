@@ -27,13 +27,17 @@ pub trait Shared {
 
     /// The machine in lengths, and the rows of its tree.
     ghost machine: { Self → Machine };
+
     ghost tree: { Self → Rows };
 
     /// When a call may be applied, entered as refused, and taken in with the sum of an agent's pending calls; and when a unit
     /// may be cleared.
     ghost may_apply: { Self → ℕ → Op → Sizes → Option (List Extent) → Type 0 };
+
     ghost may_refuse: { Self → ℕ → Op → Type 0 };
+
     ghost may_note: { Self → ℕ → PendingSum → Type 0 };
+
     ghost may_clear: { Self → Text → Type 0 };
 
     /// The rows of the tree.

@@ -11,6 +11,7 @@ use opfs_commit::{Commits, settle};
 use opfs_image::{Geometry, Recovered, format, recover};
 use opfs_journal::Journal;
 use opfs_memory::MemDisk;
+use opfs_ready::ReadyTree;
 use opfs_replay::{Rebuilt, Replay};
 use std::alloc::{AllocError, Global};
 
@@ -146,8 +147,9 @@ fn replace_with(
 {
     let before = rebuilt(alloc, changes)?;
     let own = borrowed(own);
+    let tree = ReadyTree::make(alloc, before.tree);
     commits
-        .replace(journal, &before.tree, &before.shed, &own)
+        .replace(journal, &tree, &before.shed, &own)
         .map_err(|_| AllocError)
 }
 

@@ -24,6 +24,7 @@ pub fn snapshot(tree: &ReadyTree, shed: &Shed, into: &mut Vec<u8>) -> Result<(),
     ensures bytes { OnOk result (into.new.items ≡ built_bytes (record { rows = tree.now.rows; persistent = persistent_in shed.now.buckets })) }
     ensures builds { OnOk result ((size : ℕ) → IsSound size (stored_rows tree.now.rows) → rows_of New size (into.new.items ∷ []) ≡ Some (record { rows = stored_rows tree.now.rows; persistent = persistent_in shed.now.buckets })) }
     ensures fits { OnOk result ((size : ℕ) → IsSound size (stored_rows tree.now.rows) → length into.new.items ≤ charge_of New (record { rows = stored_rows tree.now.rows; persistent = persistent_in shed.now.buckets })) }
+    ensures writable { OnOk result (AreWritable tree.now.rows (persistent_in shed.now.buckets)) }
     ensures err { OnErr result (into.new.items ≡ []) }
     ensures capacity { vec_capacity into.old ≤ vec_capacity into.new }
     ensures room { (size : ℕ) → IsSound size (stored_rows tree.now.rows) → AreWritable tree.now.rows (persistent_in shed.now.buckets) → charge_of New (record { rows = stored_rows tree.now.rows; persistent = persistent_in shed.now.buckets }) ≤ vec_capacity into.old → IsTrue (is_ok result) }
@@ -44,6 +45,7 @@ fn write_all(tree: &ReadyTree, shed: &Shed, into: &mut Vec<u8>) -> Result<(), Al
     ensures bytes { OnOk result (into.new.items ≡ built_bytes (record { rows = tree.now.rows; persistent = persistent_in shed.now.buckets })) }
     ensures builds { OnOk result ((size : ℕ) → IsSound size (stored_rows tree.now.rows) → rows_of New size (into.new.items ∷ []) ≡ Some (record { rows = stored_rows tree.now.rows; persistent = persistent_in shed.now.buckets })) }
     ensures fits { OnOk result ((size : ℕ) → IsSound size (stored_rows tree.now.rows) → length into.new.items ≤ charge_of New (record { rows = stored_rows tree.now.rows; persistent = persistent_in shed.now.buckets })) }
+    ensures writable { OnOk result (AreWritable tree.now.rows (persistent_in shed.now.buckets)) }
     ensures capacity { vec_capacity into.old ≤ vec_capacity into.new }
     ensures room { (size : ℕ) → IsSound size (stored_rows tree.now.rows) → AreWritable tree.now.rows (persistent_in shed.now.buckets) → charge_of New (record { rows = stored_rows tree.now.rows; persistent = persistent_in shed.now.buckets }) ≤ vec_capacity into.old → IsTrue (is_ok result) }
 {

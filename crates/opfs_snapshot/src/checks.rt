@@ -39,7 +39,7 @@ pub(crate) fn is_writable(unit: &Key, path: &Path, row: &Row) -> bool
 
 /// Whether a change has a spelling that is read.
 #[tactic(auto, unfolding(opfs_codec::specs::Fields::plain, opfs_codec::specs::Spelling::IsChange))]
-pub(crate) fn is_spelled(change: &ChangeRef<'_>) -> bool
+pub fn is_spelled(change: &ChangeRef<'_>) -> bool
     ensures { IsTrue result ↔ IsChange New (plain change.now) }
 {
     match change {

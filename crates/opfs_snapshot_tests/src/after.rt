@@ -3,6 +3,7 @@
 use crate::growing::{add_child, add_root, persist, short_file};
 use opfs_base::{Extents, Key, Name, Path};
 use opfs_codec::ChangeRef;
+use opfs_ready::ReadyTree;
 use opfs_shed::Shed;
 use opfs_snapshot::snapshot_after;
 use opfs_tree::{Row, Tree};
@@ -32,6 +33,7 @@ fn removes(alloc: Global, hand: &[u8]) -> Result<bool, AllocError> {
     let (tree, shed) = grown(alloc, &key)?;
     let path = file_path(alloc)?;
     let mut bytes = Vec::new(alloc);
+    let tree = ReadyTree::make(alloc, tree);
     snapshot_after(&tree, &shed, &ChangeRef::Remove(&key, &path), &mut bytes)?;
     Ok(bytes.as_slice() == hand)
 }
@@ -44,6 +46,7 @@ fn empties(alloc: Global, hand: &[u8]) -> Result<bool, AllocError> {
     let none = Extents::none(alloc);
     let own = ChangeRef::Content(&key, &path, 9, 0, &none);
     let mut bytes = Vec::new(alloc);
+    let tree = ReadyTree::make(alloc, tree);
     snapshot_after(&tree, &shed, &own, &mut bytes)?;
     Ok(bytes.as_slice() == hand)
 }

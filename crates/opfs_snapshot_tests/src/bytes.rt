@@ -2,6 +2,7 @@
 
 use crate::growing::{add_child, add_root, empty_file, persist, short_file};
 use opfs_base::{Key, Path};
+use opfs_ready::ReadyTree;
 use opfs_shed::Shed;
 use opfs_snapshot::snapshot;
 use opfs_tree::{Row, Tree};
@@ -41,7 +42,7 @@ fn written(alloc: Global) -> Result<Vec<u8>, AllocError> {
     let shed = two_modes(alloc, &first, &second)?;
     let mut bytes = Vec::new(alloc);
     bytes.push(9)?;
-    snapshot(&tree, &shed, &mut bytes)?;
+    snapshot(&ReadyTree::make(alloc, tree), &shed, &mut bytes)?;
     Ok(bytes)
 }
 
@@ -70,7 +71,7 @@ fn is_written(alloc: Global, unit: &str, row: Row) -> Result<bool, AllocError> {
     add_root(alloc, &mut tree, &key, row)?;
     let shed = Shed::make(alloc, 100);
     let mut bytes = Vec::new(alloc);
-    Ok(snapshot(&tree, &shed, &mut bytes).is_ok())
+    Ok(snapshot(&ReadyTree::make(alloc, tree), &shed, &mut bytes).is_ok())
 }
 
 #[test]

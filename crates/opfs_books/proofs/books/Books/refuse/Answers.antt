@@ -1,5 +1,5 @@
 use Rattle.opfs_books.specs.Seen.{book_of}
-use Rattle.opfs_books.proofs.Keeping.{refuse-done}
+use Rattle.opfs_books.proofs.Calls.{refuse-done}
 use Rattle.opfs_books.proofs.books.Books.refuse.Goals as goal
 
 pub enter-requires : goal.enter-requires

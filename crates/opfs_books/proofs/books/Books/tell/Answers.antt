@@ -1,5 +1,5 @@
 use Rattle.opfs_books.specs.Seen.{book_of}
-use Rattle.opfs_books.proofs.Keeping.{tell-done}
+use Rattle.opfs_books.proofs.Calls.{tell-done}
 use Rattle.opfs_books.proofs.books.Books.tell.Goals as goal
 
 pub enter-requires : goal.enter-requires

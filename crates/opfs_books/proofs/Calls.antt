@@ -1,53 +1,44 @@
 -- The books after each call, put together from its parts.
-use Rattle.std.proofs.Common.{◌≡◌, ◌⊎◌, inl, inr, ℕ, ◌+◌, ◌<◌, ◌≤◌, Bool, true, false, List, [], ◌∷◌, ◌++◌, fold, length, Option, Some, None, is_some, refl, sym, ap, ◌∙◌, subst, arith}
+use Rattle.std.proofs.Common.{◌≡◌, ◌⊎◌, ℕ, ◌+◌, ◌<◌, ◌≤◌, true, false, List, [], ◌∷◌, ◌++◌, fold, length, Option, Some, None, refl, sym, ap, ◌∙◌, subst, arith}
 use Rattle.std.specs.Prelude.{IsTrue}
 use Rattle.std.specs.List.{AllByRecursion}
 use Rattle.std.proofs.lemmas.Bool.{false≢true}
-use Rattle.std.proofs.lemmas.List.Sums.{fold-append}
 use Rattle.opfs_base.specs.Texts.{Text}
 use Rattle.opfs_base.specs.Places.{Place}
 use Rattle.opfs_base.specs.declared.extents.Extent.{Extent}
 use Rattle.opfs_book_calls.specs.Laws.{CallsAreSpelled, CallsMayFail}
 use Rattle.opfs_book_calls.specs.Spelled.{spelled_by, bytes_stored, told_list, stored_built, CanHold, Makes}
 use Rattle.opfs_book_calls.proofs.Failing.{next-plain}
-use Rattle.opfs_book_laws.specs.Books.{Fixed, Book, IsNext, IsPlaced, AreBooksAt, AreBooks, calls_of}
+use Rattle.opfs_book_laws.specs.Books.{Fixed, IsNext, IsPlaced, AreBooksAt, AreBooks}
 use Rattle.opfs_book_laws.specs.Commits.{StateLaws}
-use Rattle.opfs_book_laws.specs.Laws.{failed, IsEntered, IsMade, IsCovered, HasRisen, TellsKeepTheBooks, PendingKeepsTheBooks, KeepingBackKeepsTheBooks, CommittedCallsKeepTheBooks, CommittedEvictionsKeepTheBooks, FailedCommitsKeepTheBooks}
+use Rattle.opfs_book_laws.specs.Laws.{failed, IsEntered, IsMade, IsCovered, HasRisen, TellsKeepTheBooks, KeepingBackKeepsTheBooks, CommittedCallsKeepTheBooks, FailedCommitsKeepTheBooks, CommitsShow, ShowsTold, told}
 use Rattle.opfs_book_laws.proofs.Committing.{fault-refuses, covered-fits}
 use Rattle.opfs_changes.specs.Changed.{tree_by}
 use Rattle.opfs_codec.specs.Spelling.{IsChange}
 use Rattle.opfs_codec.specs.declared.change.Change.{Change as Spelled}
-use Rattle.opfs_codec.specs.declared.change.Change.TheVariants.{Evict}
 use Rattle.opfs_codec.specs.declared.change.Format.TheVariants.{New}
-use Rattle.opfs_commit.specs.Calls.{IsAnyOf, IsNoneOf, IsNext as IsNextRecord, HasRoomAfter, HasRoomFor}
+use Rattle.opfs_commit.specs.Calls.{IsAnyOf, IsNoneOf, IsNext as IsNextRecord}
 use Rattle.opfs_commit.specs.Making.{told_as, new_bytes}
+use Rattle.opfs_commit.proofs.Filling.{told_quiet}
 use Rattle.opfs_commit.specs.Seen.{KeptBack, committing, with_kept, IsQuiet}
-use Rattle.opfs_hist.specs.Faults.{is_disk_fault, disk_faults}
+use Rattle.opfs_hist.specs.Faults.{is_disk_fault}
 use Rattle.opfs_hist.specs.declared.entry.Entry.{Entry}
 use Rattle.opfs_hist.specs.declared.op.Op.{Op}
 use Rattle.opfs_hist.specs.declared.op.Op.TheVariants as op
-use Rattle.opfs_histories.specs.Doubts.{faulted}
-use Rattle.opfs_histories.specs.Unread.{ArePendingFor}
-use Rattle.opfs_image.specs.Superblock.{area_bytes, areas_of, data_base}
+use Rattle.opfs_image.specs.Superblock.{area_bytes, data_base}
 use Rattle.opfs_journal.specs.Seen.{Seen}
-use Rattle.opfs_lengths.specs.Bridge.{LengthsFollowEachCall, LocalCallsAreKnownByTheirWord}
+use Rattle.opfs_lengths.specs.Bridge.{LengthsFollowEachCall}
 use Rattle.opfs_lengths.specs.Kept.{Kept}
-use Rattle.opfs_lengths.specs.Outlines.{in_lengths_of}
 use Rattle.opfs_machine.specs.declared.own.Own.{Own}
 use Rattle.opfs_machine.specs.declared.state.Sizes.{Sizes}
 use Rattle.opfs_machine.specs.declared.state.State.{State}
 use Rattle.opfs_machine.specs.Agents.{counted}
-use Rattle.opfs_machine.specs.Changes.{Change, entry_changes, evict, stored_by}
+use Rattle.opfs_machine.specs.Changes.{Change, entry_changes, stored_by}
 use Rattle.opfs_machine.specs.Contents.{in_lengths}
 use Rattle.opfs_machine.specs.Effects.{effect, refused}
-use Rattle.opfs_machine.specs.Histories.{IsCall, evicted_by, state_after, after_entry}
-use Rattle.opfs_machine.specs.Openings.{begun}
 use Rattle.opfs_machine.specs.Replies.{sizes_of}
-use Rattle.opfs_machine.specs.Rows.{row_at}
-use Rattle.opfs_machine.specs.Runs.{eviction}
-use Rattle.opfs_machine.specs.Steps.{evicted, after_reply, step, is_refusal}
-use Rattle.opfs_machine.specs.Sums.{is_persistent}
-use Rattle.opfs_outside.specs.Faults.{Rose, RoseBy}
+use Rattle.opfs_machine.specs.Steps.{evicted, is_refusal}
+use Rattle.opfs_outside.specs.Faults.{Rose}
 use Rattle.opfs_outside.specs.declared.disk.Disk.{Ghosts as DiskWords}
 use Rattle.opfs_replay.specs.Applying.{tried}
 use Rattle.opfs_replay.specs.Built.{Built, IsSound}
@@ -56,13 +47,12 @@ use Rattle.opfs_shed.specs.Buckets.{Storage}
 use Rattle.opfs_snapshot.specs.Written.{AreWritable, IsWritableRow, stored_row, stored_rows}
 use Rattle.opfs_snapshot.proofs.StoredRows.{stored_order}
 use Rattle.opfs_standing.specs.Seen.{Machine, lines_of}
-use Rattle.opfs_tree.specs.Rows.{Rows, IsInOrder, without}
+use Rattle.opfs_tree.specs.Rows.{Rows, IsInOrder}
 use Rattle.opfs_tree.specs.declared.row.Row.{Row}
 use Rattle.opfs_tree.specs.declared.row.Row.TheVariants as row
-use Rattle.opfs_books.specs.Committing.{MayCommit, MayCommitAlone}
-use Rattle.opfs_books.specs.Noting.{noted}
-use Rattle.opfs_books.specs.Seen.{book, MayAnswer, IsVictim}
-use Rattle.opfs_books.proofs.Following.{applied-follows, refused-follows, notes-follow, answered-changes, refused-changes}
+use Rattle.opfs_books.specs.Committing.{MayCommit}
+use Rattle.opfs_books.specs.Seen.{book, MayAnswer}
+use Rattle.opfs_books.proofs.Following.{applied-follows, refused-follows, answered-changes, refused-changes}
 
 -- What is stored can be written, so can the rows themselves.
 unstored_row : (place : Place) (r : Row) → IsWritableRow place (stored_row r) → IsWritableRow place r
@@ -76,6 +66,9 @@ unstored (e ∷ es) h = (unstored_row e.0 e.1 h.0, unstored es h.1)
 pub refused-modes : (m : Machine) (k : ℕ) (o : Op) → (refused m k o).persistent ≡ m.persistent
 refused-modes m k (op.Await tag) = refl
 refused-modes m k o = refl
+
+pub quiet-told : (bytes : Text) (own : Spelled) → IsQuiet own → told_as bytes own ≡ told_as [] own
+quiet-told bytes own quiet = (told_quiet bytes own quiet).0
 
 module _ (follow : LengthsFollowEachCall) (spelled : CallsAreSpelled) {D : Type 0} (w : DiskWords D) (f : Fixed D) (recorded : Built) (base : State Text Own) (gone : List Text)
     (h : List Entry) (m : Machine) (t : Rows) (back : KeptBack) (place : Option ℕ) (j : Seen D) (are : AreBooksAt w f recorded base gone (book h m t back place) j) where
@@ -170,21 +163,31 @@ module _ (follow : LengthsFollowEachCall) (spelled : CallsAreSpelled) {D : Type 
             area = omega (arith, fits, bytes);
           }
 
+      -- What the images show in it.
+      pub store-shown : CommitsShow w → j.in_doubt ≡ false → (w.tells → told_as (new_bytes (data_base f.geometry) (w.content j.disk) own) own ≡ told_as (bytes_stored s e.agent e.op) own)
+          → (j2 : Seen D) (back2 : KeptBack) → (IsAnyOf w (IsNextRecord (stored_built t m.persistent) own (committing j back)) (committing j back) (committing j2 back2) ⊎ IsNoneOf w (IsNextRecord (stored_built t m.persistent) own (committing j back)) (committing j back) (committing j2 back2))
+          → ShowsTold w f (book h m t back place) (told f (book h m t back place) ++ told_as (bytes_stored s e.agent e.op) own ∷ []) j j2
+      store-shown shows settled bytes j2 back2 either =
+          let m3 = counted (effect in_lengths m z e.agent e.op) e.agent in
+          let t3 = tree_by m t e.agent e.op z extents in
+          shows f recorded base gone (book h m t back place) j j2 back2 own (stored_built t3 m3.persistent) (told_as (bytes_stored s e.agent e.op) own) are settled
+          (made (h ++ e ∷ []) m3 t3 refl refl refl own is_own holds again order) (fits-new (h ++ e ∷ []) m3 t3 refl refl refl own is_own holds again order states) bytes either
+
       -- Where the commit failed, the call is entered so.
       pub store-failed : FailedCommitsKeepTheBooks w → CallsMayFail w.tells → j.in_doubt ≡ false → (w.tells → told_as (new_bytes (data_base f.geometry) (w.content j.disk) own) own ≡ told_as (bytes_stored s e.agent e.op) own)
           → (h2 : List Entry) (m2 : Machine) (t2 : Rows) → h2 ≡ h ++ failed e ∷ [] → m2 ≡ counted (refused m e.agent e.op) e.agent → t2 ≡ t
           → (j2 : Seen D) (back2 : KeptBack) → IsNoneOf w (IsNextRecord (stored_built t m.persistent) own (committing j back)) (committing j back) (committing j2 back2) → Rose (w.faults j.disk) (w.faults j2.disk)
-          → AreBooks w f recorded (book h2 m2 t2 back2 (Some (length h))) j2
-      store-failed keeps fails settled bytes h2 m2 t2 grown machine tree j2 back2 none rose =
+          → (n : ℕ) → n ≡ length h → AreBooks w f recorded (book h2 m2 t2 back2 (Some n)) j2
+      store-failed keeps fails settled bytes h2 m2 t2 grown machine tree j2 back2 none rose n at =
           let m3 = counted (effect in_lengths m z e.agent e.op) e.agent in
           let t3 = tree_by m t e.agent e.op z extents in
           let stored_is : stored_by s e.agent e.op ≡ told_as (bytes_stored s e.agent e.op) own ∷ [] = sym (answered-changes s e plain) ∙ stores (h ++ e ∷ []) m3 t3 refl refl refl own is_own holds again order in
           let fail = fails.call base gone e (told_as (bytes_stored s e.agent e.op) own) next plain stored_is in
-          keeps f recorded base gone (book h m t back place) (book h2 m2 t2 back2 (Some (length h))) j j2 (failed e) own (stored_built t3 m3.persistent) (told_as (bytes_stored s e.agent e.op) own)
+          keeps f recorded base gone (book h m t back place) (book h2 m2 t2 back2 (Some n)) j j2 (failed e) own (stored_built t3 m3.persistent) (told_as (bytes_stored s e.agent e.op) own)
           are settled fail.0 refl
           (record { entries = grown; machine = refused-follows follow s m m2 e.agent e.op (failed e).reply are.machine refl machine; placed = may.placed })
           (λ i. stored_built (tree i) ((ap (λ (x : Machine). x.persistent) machine ∙ refused-modes m e.agent e.op) i))
-          refl (made (h ++ e ∷ []) m3 t3 refl refl refl own is_own holds again order) (fits-new (h ++ e ∷ []) m3 t3 refl refl refl own is_own holds again order states) bytes fail.1 none rose
+          (ap (λ (x : ℕ). Some x) at) (made (h ++ e ∷ []) m3 t3 refl refl refl own is_own holds again order) (fits-new (h ++ e ∷ []) m3 t3 refl refl refl own is_own holds again order states) bytes fail.1 none rose
 
   -- ---- calls that are refused
 

@@ -1,12 +1,12 @@
 -- The books after an eviction, after pending calls, and after a commit of what is kept back alone, put together.
-use Rattle.std.proofs.Common.{◌≡◌, ◌⊎◌, inl, inr, ℕ, ◌+◌, ◌<◌, ◌≤◌, Bool, true, false, List, [], ◌∷◌, ◌++◌, fold, length, Option, Some, None, is_some, refl, sym, ap, ◌∙◌, subst, arith}
+use Rattle.std.proofs.Common.{◌≡◌, ◌⊎◌, ℕ, ◌+◌, ◌≤◌, Bool, true, false, List, [], ◌∷◌, ◌++◌, fold, length, Option, Some, None, is_some, refl, sym, ap, ◌∙◌, subst, arith}
 use Rattle.std.specs.Prelude.{IsTrue}
 use Rattle.std.proofs.lemmas.List.Sums.{fold-append}
 use Rattle.opfs_base.specs.Texts.{Text}
 use Rattle.opfs_book_calls.specs.Laws.{CallsAreSpelled, CallsMayFail}
 use Rattle.opfs_book_calls.specs.Spelled.{stored_built}
-use Rattle.opfs_book_laws.specs.Books.{Fixed, Book, IsNext, IsPlaced, AreBooksAt, AreBooks, calls_of}
-use Rattle.opfs_book_laws.specs.Laws.{failed, IsMade, PendingKeepsTheBooks, CommittedEvictionsKeepTheBooks, FailedCommitsKeepTheBooks}
+use Rattle.opfs_book_laws.specs.Books.{Fixed, IsPlaced, AreBooksAt, AreBooks, calls_of}
+use Rattle.opfs_book_laws.specs.Laws.{failed, told, ShowsTold, CommitsShow, IsMade, PendingKeepsTheBooks, CommittedEvictionsKeepTheBooks, FailedCommitsKeepTheBooks}
 use Rattle.opfs_book_laws.proofs.Sound.{evicted_charge}
 use Rattle.opfs_codec.specs.Spelling.{IsChange}
 use Rattle.opfs_codec.specs.declared.change.Change.TheVariants.{Evict}
@@ -16,20 +16,22 @@ use Rattle.opfs_commit.specs.Making.{told_as, new_bytes}
 use Rattle.opfs_commit.specs.Seen.{KeptBack, committing}
 use Rattle.opfs_hist.specs.declared.entry.Entry.{Entry}
 use Rattle.opfs_histories.specs.Unread.{ArePendingFor}
-use Rattle.opfs_image.specs.Superblock.{area_bytes, areas_of, data_base}
+use Rattle.opfs_image.specs.Superblock.{area_bytes, data_base}
 use Rattle.opfs_journal.specs.Seen.{Seen}
 use Rattle.opfs_lengths.specs.Bridge.{LengthsFollowEachCall, LocalCallsAreKnownByTheirWord}
-use Rattle.opfs_lengths.specs.Outlines.{in_lengths_of}
+use Rattle.opfs_hist.specs.declared.op.Op.{Op}
+use Rattle.opfs_hist.specs.declared.op.Op.TheVariants as op
+use Rattle.opfs_lengths.specs.Outlines.{in_lengths_of, local_change}
 use Rattle.opfs_machine.specs.declared.own.Own.{Own}
 use Rattle.opfs_machine.specs.declared.state.State.{State}
 use Rattle.opfs_machine.specs.Agents.{counted}
-use Rattle.opfs_machine.specs.Changes.{Change, evict}
+use Rattle.opfs_machine.specs.Changes.{evict}
 use Rattle.opfs_machine.specs.Effects.{refused}
 use Rattle.opfs_machine.specs.Histories.{state_after, after_entry}
 use Rattle.opfs_machine.specs.Openings.{begun}
 use Rattle.opfs_machine.specs.Rows.{row_at}
 use Rattle.opfs_machine.specs.Runs.{eviction}
-use Rattle.opfs_machine.specs.Steps.{evicted}
+use Rattle.opfs_machine.specs.Steps.{evicted, is_refusal}
 use Rattle.opfs_machine.specs.Sums.{is_persistent}
 use Rattle.opfs_outside.specs.Faults.{Rose}
 use Rattle.opfs_outside.specs.declared.disk.Disk.{Ghosts as DiskWords}
@@ -45,7 +47,7 @@ use Rattle.opfs_books.specs.Committing.{MayCommit, MayCommitAlone}
 use Rattle.opfs_books.specs.Noting.{noted}
 use Rattle.opfs_books.specs.Seen.{book, IsVictim}
 use Rattle.opfs_books.proofs.Following.{refused-follows, notes-follow}
-use Rattle.opfs_books.proofs.Keeping.{unstored, refused-modes}
+use Rattle.opfs_books.proofs.Calls.{unstored, refused-modes}
 
 module _ (follow : LengthsFollowEachCall) (spelled : CallsAreSpelled) {D : Type 0} (w : DiskWords D) (f : Fixed D) (recorded : Built) (base : State Text Own) (gone : List Text)
     (h : List Entry) (m : Machine) (t : Rows) (back : KeptBack) (place : Option ℕ) (j : Seen D) (are : AreBooksAt w f recorded base gone (book h m t back place) j) where
@@ -120,16 +122,22 @@ module _ (follow : LengthsFollowEachCall) (spelled : CallsAreSpelled) {D : Type 
     unfolding told_as
     evict-told bytes = refl
 
+    pub evict-shown : CommitsShow w → j.in_doubt ≡ false → (j2 : Seen D) (back2 : KeptBack)
+        → (IsAnyOf w (IsNextRecord (stored_built t m.persistent) (Evict unit) (committing j back)) (committing j back) (committing j2 back2) ⊎ IsNoneOf w (IsNextRecord (stored_built t m.persistent) (Evict unit) (committing j back)) (committing j back) (committing j2 back2))
+        → ShowsTold w f (book h m t back place) (told f (book h m t back place) ++ evict unit ∷ []) j j2
+    evict-shown shows settled j2 back2 either =
+        shows f recorded base gone (book h m t back place) j j2 back2 (Evict unit) after (evict unit) are settled made fits (λ t. evict-told (new_bytes (data_base f.geometry) (w.content j.disk) (Evict unit))) either
+
     pub evict-failed : FailedCommitsKeepTheBooks w → {tells : Type 0} → CallsMayFail tells → j.in_doubt ≡ false → (e : Entry) → IsVictim base gone e unit → IsPlaced h e.agent
         → (h2 : List Entry) (m2 : Machine) (t2 : Rows) → h2 ≡ h ++ failed e ∷ [] → m2 ≡ counted (refused m e.agent e.op) e.agent → t2 ≡ t
         → (j2 : Seen D) (back2 : KeptBack) → IsNoneOf w (IsNextRecord (stored_built t m.persistent) (Evict unit) (committing j back)) (committing j back) (committing j2 back2) → Rose (w.faults j.disk) (w.faults j2.disk)
-        → AreBooks w f recorded (book h2 m2 t2 back2 (Some (length h))) j2
-    evict-failed keeps fails settled e victim placed h2 m2 t2 grown machine tree j2 back2 none rose =
-        keeps f recorded base gone (book h m t back place) (book h2 m2 t2 back2 (Some (length h))) j j2 (failed e) (Evict unit) after (evict unit)
+        → (n : ℕ) → n ≡ length h → AreBooks w f recorded (book h2 m2 t2 back2 (Some n)) j2
+    evict-failed keeps fails settled e victim placed h2 m2 t2 grown machine tree j2 back2 none rose n at =
+        keeps f recorded base gone (book h m t back place) (book h2 m2 t2 back2 (Some n)) j j2 (failed e) (Evict unit) after (evict unit)
         are settled victim.fault refl
         (record { entries = grown; machine = refused-follows follow s m m2 e.agent e.op (failed e).reply are.machine refl machine; placed = placed })
         (λ i. stored_built (tree i) ((ap (λ (x : Machine). x.persistent) machine ∙ refused-modes m e.agent e.op) i))
-        refl made fits (λ told. evict-told (new_bytes (data_base f.geometry) (w.content j.disk) (Evict unit))) (fails.eviction base gone victim.rest unit e victim.victims) none rose
+        (ap (λ (x : ℕ). Some x) at) made fits (λ told. evict-told (new_bytes (data_base f.geometry) (w.content j.disk) (Evict unit))) (fails.eviction base gone victim.rest unit e victim.victims) none rose
 
 -- ---- pending calls
 
@@ -143,3 +151,17 @@ note-done follow local w keeps f recorded h m t back place j are k es pending fi
     (machine ∙ ap (λ (x : Machine). noted x k es) are.machine ∙ notes-follow follow local w.tells k (state_after f.opening h) es pending
     ∙ ap in_lengths_of (sym (fold-append after_entry (begun f.opening) h es)))
     (λ i. stored_built (tree i) (modes i)) refl refl first last room
+
+-- Pending calls change no mode.
+pub notes-modes : (m : Machine) (k : ℕ) (es : List Entry) → (noted m k es).persistent ≡ m.persistent
+notes-modes m k [] = refl
+notes-modes m k (e ∷ es) = notes-modes (counted (elim (is_refusal e.reply) [ true ↦ m | false ↦ local_change m k e.op ]) k) k es ∙ by (is_refusal e.reply)
+  where
+    local-modes : (o : Op) → (local_change m k o).persistent ≡ m.persistent
+    local-modes (op.Values dir) = refl
+    local-modes (op.Moment ms) = refl
+    local-modes o = refl
+
+    by : (b : Bool) → (elim b as (λ x. Machine) [ true ↦ m | false ↦ local_change m k e.op ]).persistent ≡ m.persistent
+    by true = refl
+    by false = local-modes e.op

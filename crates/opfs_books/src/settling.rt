@@ -1,0 +1,88 @@
+//! The end of a doubt, and commits of what is kept back alone.
+
+ghost use Rattle.std.specs.Prelude.{◌≡◌, ◌++◌, ◌≤◌, ℕ, true, false, List, None, OnOk, OnErr, IfOk};
+ghost use Rattle.opfs_base.specs.Texts.{Text};
+ghost use Rattle.opfs_book_laws.specs.Books.{Fixed, AreBooksAt};
+ghost use Rattle.opfs_book_laws.specs.Laws.{LeavesPages, ShowsTold, told, doubt};
+ghost use Rattle.opfs_books.specs.Seen.{book_of, AreKnown};
+ghost use Rattle.opfs_commit.specs.Calls.{IsSettled, IsUnsettled};
+ghost use Rattle.opfs_machine.specs.declared.own.Own.{Own};
+ghost use Rattle.opfs_machine.specs.declared.state.State.{State};
+ghost use Rattle.opfs_outside.specs.Faults.{Rose};
+ghost use Rattle.opfs_replay.specs.Built.{Built};
+
+use crate::books::Books;
+use crate::committing::commit_alone;
+use crate::shared::Shared;
+use opfs_book_calls::calls_are_spelled;
+use opfs_book_laws::{
+    commits_alone_keep_the_books, settling_keeps_the_books, the_books_show_their_images,
+};
+use opfs_commit::settle;
+use opfs_journal::{DiskFault, Journal};
+use opfs_lengths::bridge::lengths_follow_each_call;
+use opfs_outside::Disk;
+
+impl<S: Shared> Books<S> {
+    /// Ends the doubt, if there is one. Without doubt it calls no disk.
+    pub fn settle<D: Disk>(&mut self, journal: &mut Journal<D>) -> Result<(), DiskFault>
+        ensures history { self.new.history ≡ self.old.history }
+        ensures state { self.new.state ≡ self.old.state }
+        ensures commits { self.new.commits ≡ self.old.commits }
+        ensures none { OnOk result (self.new.place ≡ None) }
+        ensures stays { OnErr result (self.new.place ≡ self.old.place) }
+        ensures sure { OnOk result (journal.new.in_doubt ≡ false) }
+        ensures settled { OnOk result (IsSettled D.Disk journal.old journal.new) }
+        ensures unsettled { OnErr result (IsUnsettled D.Disk journal.old journal.new) }
+        ensures books { (f : Fixed D) (recorded : Built) (base : State Text Own) (gone : List Text) → AreBooksAt D.Disk f recorded base gone (book_of S.Shared self.old) journal.old → AreBooksAt D.Disk f recorded base gone (book_of S.Shared self.new) journal.new }
+        ensures shown { (f : Fixed D) (recorded : Built) (base : State Text Own) (gone : List Text) → AreBooksAt D.Disk f recorded base gone (book_of S.Shared self.old) journal.old
+            → ShowsTold D.Disk f (book_of S.Shared self.old) (told f (book_of S.Shared self.old) ++ doubt f (book_of S.Shared self.old) journal.old) journal.old journal.new }
+        ensures cause { OnErr result (Rose (D.faults journal.old.disk) (D.faults journal.new.disk)) }
+    {
+        settling_keeps_the_books::<D>();
+        match settle(journal) {
+            Ok(()) => {
+                self.place = None;
+                Ok(())
+            }
+            Err(fault) => Err(fault),
+        }
+    }
+
+    /// Commits what is kept back; answers whether there was something.
+    pub fn commit_kept<D: Disk>(&mut self, journal: &mut Journal<D>) -> Result<bool, DiskFault>
+        requires known { AreKnown D.Disk (book_of S.Shared self.old) journal.old }
+        requires settled { journal.old.in_doubt ≡ false }
+        ensures history { self.new.history ≡ self.old.history }
+        ensures state { self.new.state ≡ self.old.state }
+        ensures none { OnOk result (self.new.commits.count ≡ 0) }
+        ensures sure { OnOk result (journal.new.in_doubt ≡ false) }
+        ensures untouched { IfOk result (λ written. written ≡ false → (self.new ≡ self.old) × (journal.new ≡ journal.old)) }
+        ensures leaves { LeavesPages D.Disk journal.old journal.new }
+        ensures committed { IfOk result (λ written. written ≡ true → (f : Fixed D) (recorded : Built) (base : State Text Own) (gone : List Text) → AreBooksAt D.Disk f recorded base gone (book_of S.Shared self.old) journal.old
+            → AreBooksAt D.Disk f (book_of S.Shared self.old).rows base gone (book_of S.Shared self.new) journal.new) }
+        ensures failed { OnErr result ((f : Fixed D) (recorded : Built) (base : State Text Own) (gone : List Text) → AreBooksAt D.Disk f recorded base gone (book_of S.Shared self.old) journal.old
+            → AreBooksAt D.Disk f recorded base gone (book_of S.Shared self.new) journal.new) }
+        ensures shown { (f : Fixed D) (recorded : Built) (base : State Text Own) (gone : List Text) → AreBooksAt D.Disk f recorded base gone (book_of S.Shared self.old) journal.old
+            → ShowsTold D.Disk f (book_of S.Shared self.old) (told f (book_of S.Shared self.old)) journal.old journal.new }
+        ensures cause { OnErr result (Rose (D.faults journal.old.disk) (D.faults journal.new.disk)) }
+    {
+        commits_alone_keep_the_books::<D>();
+        the_books_show_their_images::<D>();
+        calls_are_spelled();
+        lengths_follow_each_call();
+        if self.commits.count() == 0 {
+            return Ok(false);
+        }
+        self.place = None;
+        match commit_alone(
+            &mut self.commits,
+            journal,
+            self.state.rows(),
+            self.state.shed(),
+        ) {
+            Ok(()) => Ok(true),
+            Err(fault) => Err(fault),
+        }
+    }
+}
