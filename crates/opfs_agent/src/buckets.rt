@@ -5,6 +5,7 @@ ghost use Rattle.opfs_hist.specs.declared.op.Op.TheVariants as op;
 ghost use Rattle.opfs_hist.specs.declared.reply.Reply.TheVariants as reply;
 ghost use Rattle.opfs_turns.specs.Calls.{HasRoom};
 ghost use Rattle.opfs_calls.specs.Answers.{Shared};
+ghost use Rattle.opfs_agent.specs.Awaiting.{Awaits};
 ghost use Rattle.opfs_agent.specs.Entries.{root_of};
 
 use crate::agent::Agent;
@@ -12,7 +13,7 @@ use opfs_acts::Store;
 use opfs_base::{Kind, Locator, Path, Text, unit_of};
 use opfs_calls::{Stop, ask_estimate};
 use opfs_hall::Hall;
-use opfs_hist::Op;
+use opfs_hist::{Op, Refusal};
 use std::alloc::AllocError;
 use std::sync::Wait;
 
@@ -113,5 +114,19 @@ impl<S: Store> Agent<S> {
             return Err(Stop::NoMemory);
         };
         self.ask_done(rt, court, Op::Post { tag })
+    }
+
+    /// Waits until a tag is posted for its party, or nobody is left who could post it (this project's own). It takes a turn for
+    /// each look, and sleeps in between. Of memory too little it may have begun to wait: its next await of the tag goes on.
+    pub fn await_tag<R: Wait>(&mut self, rt: &R, court: &Hall<S>, tag: &Text) -> Result<(), Stop>
+        requires own { self.old.pass.hall ≡ court.now }
+        requires room { HasRoom self.old }
+        ensures { Awaits S.tells self.old self.new tag.now result }
+    {
+        match self.turns.await_tag(rt, court, tag) {
+            Ok(true) => Ok(()),
+            Ok(false) => Err(Stop::No(Refusal::Stuck)),
+            Err(_) => Err(Stop::NoMemory),
+        }
     }
 }

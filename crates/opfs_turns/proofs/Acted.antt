@@ -1,5 +1,5 @@
 -- What an agent's turn found and left, by the clauses of the hall and of the store.
-use Rattle.std.proofs.Common.{◌≡◌, ◌≢◌, ◌⊎◌, ℕ, ◌+◌, false, true, All, List, [], ◌∷◌, ◌++◌, append-nil, length, map, Result, Ok, Err, refl, sym, ap, ◌∙◌, subst, inl, inr}
+use Rattle.std.proofs.Common.{◌≡◌, ◌≢◌, ◌⊎◌, ℕ, ◌+◌, Bool, false, true, not, Option, Some, None, All, List, [], ◌∷◌, ◌++◌, append-nil, length, map, Result, Ok, Err, refl, sym, ap, ◌∙◌, subst, inl, inr}
 use Rattle.std.specs.Prelude.{IfOk, OnErr}
 use Rattle.std.proofs.lemmas.List.Elements.{All-append, All-cons, All-nil, All-weaker}
 use Rattle.opfs_base.specs.Texts.{Text}
@@ -24,7 +24,20 @@ use Rattle.opfs_work.specs.Works.{WorkingCopy}
 use Rattle.opfs_turns.specs.declared.notes.Notes.{Notes}
 use Rattle.opfs_turns.specs.Agents.{AgentSeen, IsAgent, seen}
 use Rattle.opfs_turns.specs.Calls.{HasRoom, MayAsk, before_call, IsEntered, HasLooked}
-use Rattle.opfs_turns.proofs.Turning.{act-may, looked-agent, looked, entered-agent, entered}
+use Rattle.opfs_machine.specs.Agents.{waits_for}
+use Rattle.opfs_acts.specs.declared.acted.AwaitState.{AwaitState}
+use Rattle.opfs_acts.specs.Acting.{awaited}
+use Rattle.opfs_hist.specs.declared.op.Op.TheVariants as op
+use Rattle.opfs_hist.specs.declared.reply.Reply.TheVariants as reply
+use Rattle.opfs_turns.specs.Agents.{is_wait}
+use Rattle.opfs_turns.specs.Waiting.{HasWaitRoom, IsTurned, await_reply, planned}
+use Rattle.opfs_turns.specs.declared.waiting.Plan.{Plan}
+use Rattle.opfs_turns.specs.declared.waiting.Plan.TheVariants as plan
+use Rattle.opfs_turns.proofs.Awaiting.{IsAsk, answered-facts, begun-facts, looks-by, await-ask, wait-ask}
+use Rattle.opfs_turns.proofs.Beside.{pending-awaited}
+use Rattle.opfs_turns.proofs.Counts.{one_if}
+use Rattle.opfs_turns.proofs.Standing.{act-pending, after-more}
+use Rattle.opfs_turns.proofs.Turning.{act-may, looked-agent, looked, entered-agent, entered, await-may, wait-may, waits-there, fresh_work, asked_at, asked-agent, asked, asked-reply, asked-rows, asked-waits}
 
 module _ {O : Type 0} (tells : Type 0) (opened : O → Opening) (pass : PassSeen O Entry) (notes : Notes) (owner : Entry → ℕ) (owned : (e : Entry) → owner e ≡ e.agent) where
   abbrev agent : AgentSeen O
@@ -63,6 +76,51 @@ module _ {O : Type 0} (tells : Type 0) (opened : O → Opening) (pass : PassSeen
       pub unacted-looked : HasLooked agent (seen opened after (record notes { pending = pending }))
       unacted-looked = subst (HasLooked agent) same (looked tells agent kept more apart told-here)
 
+    abbrev there : State Text Own
+    there = state_after (opened pass.hall.opening) (before_call agent more)
+
+    -- A tag stands as the store tells: the agent's own calls change nothing of it.
+    awaited-there : (tag : Text) → awaited there pass.agent tag ≡ awaited (state_after o list) pass.agent tag
+    awaited-there tag =
+        ap (λ t. awaited t pass.agent tag) (after-more (opened pass.hall.opening) (pass.base ++ more) notes.pending)
+        ∙ pending-awaited tells (state_after (opened pass.hall.opening) (pass.base ++ more)) pass.agent tag notes.pending kept.real
+        (act-pending tells (opened pass.hall.opening) pass.base more pass.agent told-here apart notes.pending kept.local)
+        ∙ (λ i. awaited (state_after (sym begun i) (sym grows.1 i)) pass.agent tag)
+
+    module _ (tag : Text) (stands : AwaitState) (stands_is : stands ≡ awaited (state_after o list) pass.agent tag) (begun_now : Bool) (begun_is : begun_now ≡ waits_for notes.waiting tag) where
+      plan-there : (p : Plan) → planned stands begun_now ≡ p → planned (awaited there pass.agent tag) begun_now ≡ p
+      plan-there p is = ap (λ w. planned w begun_now) (awaited-there tag ∙ sym stands_is) ∙ is
+
+      begun-there : begun_now ≡ waits_for (agent_of there pass.agent).waits tag
+      begun-there = begun_is ∙ ap (λ w. waits_for w tag) (sym (waits-there tells agent kept more apart told-here))
+
+      to-act : (called : Op) (work : WorkingCopy) → MayAct tells (opened pass.hall.opening) (pass.base ++ more) notes.pending (call called) work [] → MayAct tells o list notes.pending (call called) work []
+      to-act called work may =
+          subst (λ p. MayAct tells p list notes.pending (call called) work []) (sym begun)
+          (subst (λ l. MayAct tells (opened pass.hall.opening) l notes.pending (call called) work []) (sym grows.1) may)
+
+      pub await-acts : (posted : Bool) (work : WorkingCopy) → work ≡ fresh_work → HasWaitRoom agent → planned stands begun_now ≡ plan.Answer posted → MayAct tells o list notes.pending (call (op.Await tag)) work []
+      await-acts posted work fresh room is =
+          to-act (op.Await tag) work
+          (await-may tells agent kept more apart told-here tag work fresh room (answered-facts there pass.agent tag begun_now posted (plan-there (plan.Answer posted) is)).1)
+
+      pub wait-acts : (work : WorkingCopy) → work ≡ fresh_work → HasWaitRoom agent → planned stands begun_now ≡ plan.Begin → MayAct tells o list notes.pending (call (op.Wait tag)) work []
+      wait-acts work fresh room is =
+          to-act (op.Wait tag) work
+          (wait-may tells agent kept more apart told-here tag work fresh room (begun-facts there pass.agent tag begun_now begun-there (plan-there plan.Begin is)).0)
+
+      pub await-asks : (posted : Bool) → planned stands begun_now ≡ plan.Answer posted → IsAsk there pass.agent (op.Await tag) (await_reply posted) None
+      await-asks posted is = await-ask there pass.agent tag posted (answered-facts there pass.agent tag begun_now posted (plan-there (plan.Answer posted) is)).0
+
+      pub wait-asks : IsAsk there pass.agent (op.Wait tag) reply.Done (Some tag)
+      wait-asks = wait-ask there pass.agent tag
+
+      pub wait-first : planned stands begun_now ≡ plan.Begin → waits_for notes.waiting tag ≡ false
+      wait-first is = sym begun_is ∙ (begun-facts there pass.agent tag begun_now begun-there (plan-there plan.Begin is)).1
+
+      pub look-waits : planned stands begun_now ≡ plan.Look → waits_for notes.waiting tag ≡ true
+      look-waits is = sym begun_is ∙ looks-by stands begun_now is
+
     -- The call was entered.
     module _ (called : Op) (answered : Reply) (new : List Entry) (acted : IsActed tells o list notes.pending (call called) answered new) where
       call-here : IsCallFor tells (state_after (opened pass.hall.opening) (before_call agent more)) acted.gone (told_entry (call called) answered)
@@ -94,6 +152,40 @@ module _ {O : Type 0} (tells : Type 0) (opened : O → Opening) (pass : PassSeen
             (entered tells agent kept more apart told-here called answered acted.gone call-here rows given
             (subst (λ p. IsGift tells (state_after p ((pass.base ++ more) ++ notes.pending)) called answered given) begun
             (subst (λ l. IsGift tells (state_after o (l ++ notes.pending)) called answered given) grows.1 gift)))
+
+        -- A call that may change what the agent waits for, and its answer.
+        module _ (right : Reply) (waiting : Option Text) (number : ℕ) (ask : IsAsk there pass.agent called right waiting) where
+          abbrev asked_then : AgentSeen O
+          asked_then = seen opened after (record notes { pending = pending; number = number; entries = notes.entries + 1; rows = rows; waiting = waiting })
+
+          asked-same : asked_at tells agent kept more apart told-here called answered acted.gone call-here number rows waiting ≡ asked_then
+          asked-same = λ i. seen opened (((λ j. record pass { base = sym new-is j }) ∙ sym (rested new after after_is)) i) (record notes { pending = sym none i; number = number; entries = notes.entries + 1; rows = rows; waiting = waiting })
+
+          pub ask-agent : rows ≡ length (agent_of (state_after o new) pass.agent).own → number ≡ notes.number + one_if (not (is_wait called)) → IsAgent tells asked_then
+          ask-agent made next =
+              subst (IsAgent tells) asked-same
+              (asked-agent tells agent kept more apart told-here called answered acted.gone call-here number rows waiting
+              (subst (λ p. IsTold tells p ((pass.base ++ more) ++ added notes.pending acted.gone (told_entry (call called) answered))) begun (subst (IsTold tells o) new-is told_new))
+              (made ∙ (λ i. length (agent_of (state_after (begun i) (new-is i)) pass.agent).own))
+              ask.stays next
+              (asked-waits tells agent kept more apart told-here called answered acted.gone call-here right waiting ask))
+
+          pub ask-turned : IsTurned tells agent asked_then called right
+          ask-turned =
+              subst (IsTurned tells agent asked_then called) (asked-reply tells agent kept more apart told-here called answered acted.gone call-here right waiting ask)
+              (subst (λ b. IsTurned tells agent b called answered) asked-same
+              (asked tells agent kept more apart told-here called answered acted.gone call-here number rows waiting))
+
+          pub ask-rest : rows ≡ length (agent_of (state_after o new) pass.agent).own
+              → asked_then ≡ record agent { pass = record pass { base = asked_then.pass.base }; pending = []; number = number; entries = notes.entries + 1; waiting = waiting }
+          ask-rest made =
+              subst (λ b. b ≡ record agent { pass = record pass { base = b.pass.base }; pending = []; number = number; entries = notes.entries + 1; rows = b.rows; waiting = waiting }) asked-same refl
+              ∙ (λ i. record agent { pass = record pass { base = asked_then.pass.base }; pending = []; number = number; entries = notes.entries + 1; rows = same i; waiting = waiting })
+            where
+              same : rows ≡ notes.rows
+              same =
+                  asked-rows tells agent kept more apart told-here called answered acted.gone call-here right waiting rows ask
+                  (made ∙ (λ i. length (agent_of (state_after (begun i) (new-is i)) pass.agent).own))
 
 -- ---- what is added is the agent's own, or nobody's
 

@@ -1,7 +1,10 @@
 pub mod Acted
+pub mod Awaiting
+pub mod Beside
 pub mod Beginning
 pub mod Counts
 pub mod Keeping
 pub mod Others
 pub mod Standing
 pub mod Turning
+pub mod Waited

@@ -110,7 +110,7 @@ module _ (tells : Type 0) (o : Opening) (h more rest : List Entry) (k : ℕ) (to
 
 -- ---- the agent's own calls that are not entered yet
 
-abbrev own_entry : State Text Own → Entry → Entry
+abbrev pub own_entry : State Text Own → Entry → Entry
 own_entry s e = record e { reply = (step s e.agent e.op).answered }
 
 module _ (tells : Type 0) (s t : State Text Own) (k : ℕ) (same : seen_by s k ≡ seen_by t k) (e : Entry) (h : IsPendingFor tells s k e) where

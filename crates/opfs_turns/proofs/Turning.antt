@@ -1,7 +1,7 @@
 -- From what an agent knows to its turn, and back.
-use Rattle.std.proofs.Common.{◌≡◌, ◌≢◌, ◌≤◌, ℕ, ◌+◌, ◌==◌, ◌&&◌, ◌||◌, Bool, true, false, not, All, List, [], ◌∷◌, ◌++◌, append-nil, length, map, fold, refl, sym, ap, ◌∙◌, subst, arith, IsTrue}
+use Rattle.std.proofs.Common.{◌≡◌, ◌≢◌, ◌≤◌, ℕ, ◌+◌, ◌==◌, ◌&&◌, ◌||◌, Bool, true, false, not, All, List, [], ◌∷◌, ◌++◌, append-nil, length, map, fold, refl, sym, ap, ◌∙◌, subst, inl, inr, arith, Option, IsTrue}
 use Rattle.std.specs.List.{count_by}
-use Rattle.std.proofs.lemmas.Bool.{eqb-true, eq-eqb}
+use Rattle.std.proofs.lemmas.Bool.{eqb-true, eq-eqb, false≢true}
 use Rattle.std.proofs.lemmas.List.Elements.{All-cons, All-map, All-nil, All-weaker}
 use Rattle.opfs_base.specs.Texts.{Text}
 use Rattle.opfs_hist.specs.declared.entry.Entry.{Entry}
@@ -11,23 +11,27 @@ use Rattle.opfs_hist.specs.declared.reply.Reply.{Reply}
 use Rattle.opfs_machine.specs.declared.own.Own.{Own}
 use Rattle.opfs_machine.specs.declared.state.State.{State}
 use Rattle.opfs_machine.specs.Agents.{agent_of, own_of}
-use Rattle.opfs_machine.specs.Histories.{asks_stuck, state_after}
+use Rattle.opfs_machine.specs.Histories.{asks_stuck, may_enter, state_after}
 use Rattle.opfs_machine.specs.Replies.{given_in, row_named}
 use Rattle.opfs_machine.specs.Runs.{eviction}
 use Rattle.opfs_machine.specs.Steps.{evicted, after_reply}
 use Rattle.opfs_laws.specs.Leaving.{seen_by, asks_nobody, is_end, IsMoved}
 use Rattle.opfs_laws.proofs.Left.{may-left}
+use Rattle.opfs_laws.proofs.Allowed.{agent-stays}
 use Rattle.opfs_laws.proofs.Moved.{call-moves}
+use Rattle.opfs_laws.proofs.Numbers.{number-of}
 use Rattle.opfs_histories.specs.Opened.{added}
-use Rattle.opfs_histories.specs.Unread.{unread_entry, IsTold}
+use Rattle.opfs_histories.specs.Unread.{unread, unread_entry, IsTold}
 use Rattle.opfs_histories.proofs.Adding.{added-state}
 use Rattle.opfs_histories.proofs.Reading.{unread-state}
 use Rattle.opfs_acts.specs.declared.acted.Gift.{Gift}
 use Rattle.opfs_acts.specs.Acting.{told_entry, IsCallFor, IsGift}
-use Rattle.opfs_acts.specs.Asking.{MayAct, given_by, is_open_own}
+use Rattle.opfs_acts.specs.Asking.{MayAct, HasPlace, given_by, is_open_own}
 use Rattle.opfs_work.specs.Works.{WorkingCopy}
 use Rattle.opfs_turns.specs.Agents.{AgentSeen, IsAgent, state_of, entries_of, is_wait}
 use Rattle.opfs_turns.specs.Calls.{HasRoom, MayAsk, call_of, before_call, IsEntered, HasLooked}
+use Rattle.opfs_turns.specs.Waiting.{HasWaitRoom, IsTurned}
+use Rattle.opfs_turns.proofs.Awaiting.{IsAsk, bare-is, real-answer, await-small, wait-small}
 use Rattle.opfs_turns.proofs.Counts.{count-append, count-one, count-none, one_if}
 use Rattle.opfs_turns.proofs.Standing.{act-pending, known-same, handed-there}
 
@@ -100,11 +104,32 @@ one-more p base more pend gone e none gone_none here =
       none,
     )
 
+more-by : (p : Entry → Bool) (base more pend : List Entry) (gone : List Text) (e : Entry) → count_by p more ≡ 0 → ((unit : Text) → p (eviction unit) ≡ false)
+    → count_by p ((base ++ more) ++ added pend gone e) ≡ count_by p (base ++ pend) + one_if (p e)
+more-by p base more pend gone e none gone_none =
+    omega (
+      arith,
+      count-append p (base ++ more) (added pend gone e),
+      count-append p base more,
+      count-append p pend (map eviction gone ++ e ∷ []),
+      count-append p (map eviction gone) (e ∷ []),
+      count-append p base pend,
+      evictions-none p gone gone_none,
+      count-one p e,
+      none,
+    )
+
 -- An agent's next number is not above its entries by more than 1.
 pub number-small : {O : Type 0} (tells : Type 0) (a : AgentSeen O) → IsAgent tells a → HasRoom a → a.number ≤ 60000001
 number-small tells a kept room = omega (arith, room.entries, kept.numbered, kept.counted, numbered-within a.pass.agent (a.pass.base ++ a.pending))
 
+pub number-small-waiting : {O : Type 0} (tells : Type 0) (a : AgentSeen O) → IsAgent tells a → HasWaitRoom a → a.number ≤ 60000002
+number-small-waiting tells a kept room = omega (arith, room.entries, kept.numbered, kept.counted, numbered-within a.pass.agent (a.pass.base ++ a.pending))
+
 -- ---- calls
+
+abbrev pub fresh_work : WorkingCopy
+fresh_work = record { pages = []; length = 0; position = 0; reserve = 0; room = 0; changed_from = 0; changed_to = 0 }
 
 given-same : (s t : State Text Own) (k : ℕ) (called : Op) → agent_of s k ≡ agent_of t k → given_by s k called ≡ given_by t k called
 given-same s t k (op.Next n dir) same = ap (λ a. given_in (own_of a n)) same
@@ -156,6 +181,43 @@ module _ {O : Type 0} (tells : Type 0) (a : AgentSeen O) (kept : IsAgent tells a
     copy = handed-there tells a.opening a.pass.base more a.pass.agent told apart a.pending kept.local (row_named called) work may.copy;
     given = may.given ∙ sym (given-same s (state_of a) a.pass.agent called agent-same);
   }
+
+  place-there : HasWaitRoom a → HasPlace a.opening ((a.pass.base ++ more) ++ a.pending) a.pass.agent
+  place-there room = record {
+    rows = omega (arith, room.rows, kept.made, ap (λ x. length x.own) agent-same);
+    entries = omega (arith, room.entries, entries-there);
+  }
+
+  pub await-may : (tag : Text) (work : WorkingCopy) → work ≡ fresh_work → HasWaitRoom a → IsTrue (may_enter s a.pass.agent (op.Await tag))
+      → MayAct tells a.opening (a.pass.base ++ more) a.pending (call_of a (op.Await tag)) work []
+  await-may tag work fresh room fitting = record {
+    live = live-there;
+    pending = act-pending tells a.opening a.pass.base more a.pass.agent told apart a.pending kept.local;
+    place = place-there room;
+    shared = refl;
+    fitting = fitting;
+    opened = refl;
+    numbers = await-small tag;
+    copy = (ap (λ w. w.pages) fresh, ap (λ w. w.length) fresh, ap (λ w. w.position) fresh, ap (λ w. w.reserve) fresh);
+    given = refl;
+  }
+
+  pub wait-may : (tag : Text) (work : WorkingCopy) → work ≡ fresh_work → HasWaitRoom a → IsTrue (may_enter s a.pass.agent (op.Wait tag))
+      → MayAct tells a.opening (a.pass.base ++ more) a.pending (call_of a (op.Wait tag)) work []
+  wait-may tag work fresh room fitting = record {
+    live = live-there;
+    pending = act-pending tells a.opening a.pass.base more a.pass.agent told apart a.pending kept.local;
+    place = place-there room;
+    shared = refl;
+    fitting = fitting;
+    opened = refl;
+    numbers = wait-small tag;
+    copy = (ap (λ w. w.pages) fresh, ap (λ w. w.length) fresh, ap (λ w. w.position) fresh, ap (λ w. w.reserve) fresh);
+    given = refl;
+  }
+
+  pub waits-there : (agent_of s a.pass.agent).waits ≡ a.waiting
+  waits-there = ap (λ x. x.waits) agent-same ∙ kept.waits
 
   -- Nothing was entered: the agent with a longer base.
   abbrev looked_at : AgentSeen O
@@ -239,6 +301,57 @@ module _ {O : Type 0} (tells : Type 0) (a : AgentSeen O) (kept : IsAgent tells a
           made = made ∙ sym (ap (λ t. length (agent_of t a.pass.agent).own) same);
           waits = ap (λ t. (agent_of t a.pass.agent).waits) same ∙ moved.waits stays plain ∙ ap (λ x. x.waits) agent-same ∙ kept.waits;
         }
+
+    abbrev pub asked_at : ℕ → ℕ → Option Text → AgentSeen O
+    asked_at number rows waiting = record a { pass = record a.pass { base = grown }; pending = []; number = number; entries = a.entries + 1; rows = rows; waiting = waiting }
+
+    -- A call that may change what the agent waits for.
+    pub asked-agent : (number rows : ℕ) (waiting : Option Text) → IsTold tells a.opening grown → rows ≡ length (agent_of (state_after a.opening grown) a.pass.agent).own
+        → is_end called ≡ false → number ≡ a.number + one_if (not (is_wait called)) → (agent_of (state_after a.opening grown) a.pass.agent).waits ≡ waiting
+        → IsAgent tells (asked_at number rows waiting)
+    asked-agent number rows waiting legal made stays next waits =
+        let same : state_of (asked_at number rows waiting) ≡ state_after a.opening grown = ap (state_after a.opening) (append-nil grown) in
+        record {
+          idle = kept.idle;
+          real = kept.real;
+          legal = legal;
+          local = tt;
+          live = ap (λ t. (agent_of t a.pass.agent).live) same ∙ moved.live stays ∙ live-there;
+          own_key = ap (λ t. (agent_of t a.pass.agent).key) same ∙ moved.key ∙ ap (λ x. x.key) agent-same ∙ kept.own_key;
+          numbered =
+              let more =
+              more-by (is_numbered a.pass.agent) a.pass.base more a.pending gone (told_entry (call_of a called) answered) (numbered-none a.pass.agent more apart)
+              (λ unit. ap (λ t. t && true) (no_eviction unit))
+              in
+              let counts : one_if (is_numbered a.pass.agent (told_entry (call_of a called) answered)) ≡ one_if (not (is_wait called)) = (λ i. one_if (here i && not (is_wait called))) in
+              omega (arith, kept.numbered, more, counts, next, ap (λ es. count_by (is_numbered a.pass.agent) es) (append-nil grown));
+          counted =
+              let more_one = one-more (is_of a.pass.agent) a.pass.base more a.pending gone (told_entry (call_of a called) answered) (of-none a.pass.agent more apart) no_eviction here in
+              omega (arith, kept.counted, more_one, ap (λ es. count_by (is_of a.pass.agent) es) (append-nil grown));
+          made = made ∙ sym (ap (λ t. length (agent_of t a.pass.agent).own) same);
+          waits = ap (λ t. (agent_of t a.pass.agent).waits) same ∙ waits;
+        }
+
+    pub asked : (number rows : ℕ) (waiting : Option Text) → IsTurned tells a (asked_at number rows waiting) called answered
+    asked number rows waiting = record { others = more; gone = gone; apart = apart; legal = told; grown = refl; call = call; own = own-same }
+
+    real-reply : (right : Reply) (waiting : Option Text) → IsAsk s a.pass.agent called right waiting → call.real.reply ≡ right
+    real-reply right waiting ask = real-answer s gone a.pass.agent call.real.agent called call.real.op call.real.reply agent_is op_is ask.plain call.call.agrees ∙ ask.told
+
+    pub asked-reply : (right : Reply) (waiting : Option Text) → IsAsk s a.pass.agent called right waiting → answered ≡ right
+    asked-reply right waiting ask = bare-is answered right (ap (λ (x : Entry). x.reply) call.alike ∙ ap unread (real-reply right waiting ask)) ask.bare
+
+    pub asked-waits : (right : Reply) (waiting : Option Text) → IsAsk s a.pass.agent called right waiting → (agent_of (state_after a.opening grown) a.pass.agent).waits ≡ waiting
+    asked-waits right waiting ask =
+        ap (λ t. (agent_of t a.pass.agent).waits) (state-entered ∙ ap (after_reply (fold evicted s gone) a.pass.agent called) (real-reply right waiting ask))
+        ∙ ask.waits (fold evicted s gone) (number-of (fold evicted s gone) a.pass.agent (ap (λ x. x.live) (agent-stays gone s a.pass.agent) ∙ live-there))
+
+    pub asked-rows : (right : Reply) (waiting : Option Text) (rows : ℕ) → IsAsk s a.pass.agent called right waiting → rows ≡ length (agent_of (state_after a.opening grown) a.pass.agent).own → rows ≡ a.rows
+    asked-rows right waiting rows ask made =
+        made
+        ∙ elim moved.more as (λ x. length (agent_of (state_after a.opening grown) a.pass.agent).own ≡ length (agent_of s a.pass.agent).own) [ inl same ↦ same | inr more ↦ absurd (false≢true (sym ask.few ∙ more.1)) ]
+        ∙ ap (λ x. length x.own) agent-same
+        ∙ sym kept.made
 
     pub entered : (rows : ℕ) (given : Gift) → IsGift tells s called answered given → IsEntered tells a (entered_at rows) called answered given
     entered rows given gift = record { others = more; gone = gone; apart = apart; legal = told; grown = refl; call = call; gift = gift; own = own-same; rest = refl }

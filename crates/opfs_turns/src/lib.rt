@@ -4,6 +4,7 @@
 mod notes;
 mod turn;
 mod turns;
+mod waiting;
 
 pub use notes::Notes;
 pub use turns::Turns;

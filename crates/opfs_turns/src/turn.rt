@@ -17,6 +17,21 @@ use opfs_work::Work;
 use std::alloc::AllocError;
 use std::sync::Wait;
 
+// Whether others may wait for what a call does: a post, or an end.
+fn wakes(op: &Op) -> bool {
+    match op {
+        Op::Post { .. } | Op::End => true,
+        _ => false,
+    }
+}
+
+// Rings the hall's bell after a call that others may wait for.
+fn ring_if<S: Store>(court: &Hall<S>, wakes: bool) {
+    if wakes {
+        court.ring();
+    }
+}
+
 /// Takes the turn, makes a call, and hands the turn on. Where there is no memory nothing is entered.
 pub(crate) fn in_turn<S: Store, R: Wait>(
     rt: &R,
@@ -44,6 +59,7 @@ pub(crate) fn in_turn<S: Store, R: Wait>(
 {
     let agent = pass.agent();
     let number = notes.number;
+    let wakes = wakes(&op);
     let mut turn = court.enter(rt, pass);
     turn.value.legal();
     let acted = turn
@@ -51,6 +67,7 @@ pub(crate) fn in_turn<S: Store, R: Wait>(
         .act(agent, number, &mut notes.pending, room, op, work, past);
     turn.value.legal();
     court.leave(pass, turn);
+    ring_if(court, wakes);
     match acted {
         Ok(acted) => {
             notes.number += 1;

@@ -7,12 +7,14 @@ ghost use Rattle.opfs_machine.specs.Histories.{may_enter};
 ghost use Rattle.opfs_laws.specs.Leaving.{is_end};
 ghost use Rattle.opfs_acts.specs.Acting.{IsLeft, IsSameCopy, always_acts};
 ghost use Rattle.opfs_turns.specs.Agents.{state_of, IsAgent};
+ghost use Rattle.opfs_turns.specs.Waiting.{HasWaited, HasAwaited, await_reply};
 ghost use Rattle.opfs_turns.specs.Calls.{HasRoom, MayAsk, call_of, IsEntered, HasLooked, IsLocal, IsKept, new_agent, MayBegin, HasEnded};
 
 use crate::notes::Notes;
 use crate::turn::in_turn;
+use crate::waiting::await_turns;
 use opfs_acts::{Acted, Store};
-use opfs_base::{Key, Name};
+use opfs_base::{Key, Name, Text};
 use opfs_hall::{Hall, Pass};
 use opfs_hist::{Entry, Op, Pending, Reply, Room};
 use opfs_work::Work;
@@ -117,6 +119,25 @@ impl<S: Store> Turns<S> {
             op,
             work,
             past,
+        )
+    }
+
+    /// Makes an await: true where the tag was posted, false where nobody is left who could post it. It takes one turn after
+    /// another, and sleeps in between. Where there is no memory the agent may have begun to wait; its next await of the tag goes
+    /// on with that.
+    pub fn await_tag<R: Wait>(&mut self, rt: &R, court: &Hall<S>, tag: &Text) -> Result<bool, AllocError>
+        requires own { self.old.pass.hall ≡ court.now }
+        requires room { HasRoom self.old }
+        ensures awaited { IfOk result (λ posted. HasAwaited S.tells self.old self.new tag.now (await_reply posted)) }
+        ensures waited { OnErr result (HasWaited S.tells self.old self.new tag.now) }
+    {
+        await_turns(
+            rt,
+            self.alloc,
+            court,
+            &mut self.pass,
+            &mut self.notes,
+            tag,
         )
     }
 

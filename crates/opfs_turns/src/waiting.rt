@@ -1,0 +1,180 @@
+//! An await, turn by turn (this project's own).
+
+ghost use Rattle.std.specs.Prelude.{◌≡◌, ◌⊎◌, Bool, IfOk, OnErr};
+ghost use Rattle.opfs_machine.specs.Agents.{waits_for};
+ghost use Rattle.opfs_histories.specs.Unread.{IsTold};
+ghost use Rattle.opfs_turns.specs.Agents.{IsAgent, seen};
+ghost use Rattle.opfs_turns.specs.Calls.{HasRoom, HasLooked};
+ghost use Rattle.opfs_turns.specs.Waiting.{HasWaitRoom, HasWaited, HasAwaited, IsAwaitTurn, await_reply, planned};
+
+use crate::notes::Notes;
+use opfs_acts::{AwaitState, Store};
+use opfs_base::Text;
+use opfs_hall::{Hall, Pass};
+use opfs_hist::{Op, Room};
+use opfs_work::Work;
+use std::alloc::{AllocError, Global};
+use std::sync::Wait;
+
+/// How an await stands after a turn.
+#[derive(Clone, Copy, Debug, PartialEq, Eq)]
+pub(crate) enum AwaitTurn {
+    /// It was answered: whether the tag was posted.
+    Answered(bool),
+    /// It waits. The bell told this in its turn.
+    Waits(u32),
+}
+
+/// What an await does in its turn.
+#[derive(Clone, Copy, Debug, PartialEq, Eq)]
+pub(crate) enum Plan {
+    /// It is answered: whether the tag was posted.
+    Answer(bool),
+    /// It begins to wait.
+    Begin,
+    /// It goes on waiting.
+    Look,
+}
+
+// What an await does, by how its tag stands and whether the agent waits for it already.
+fn plan_for(state: AwaitState, begun: bool) -> Plan
+    ensures { result ≡ planned state begun }
+{
+    match state {
+        AwaitState::Posted => Plan::Answer(true),
+        AwaitState::Stuck => Plan::Answer(false),
+        AwaitState::Neither => {
+            if begun {
+                Plan::Look
+            } else {
+                Plan::Begin
+            }
+        }
+    }
+}
+
+// Whether an agent waits for a tag.
+fn waits_for(waiting: &Option<Text>, tag: &Text) -> bool
+    ensures { result ≡ waits_for waiting.now tag.now }
+{
+    match waiting {
+        Some(other) => *other == *tag,
+        None => false,
+    }
+}
+
+// What an await keeps ready before its turn: the place of an entry, the tag for it, and the tag for the notes.
+struct Asked {
+    room: Room,
+    tag: Text,
+    noted: Text,
+}
+
+fn keep_ready(alloc: Global, tag: &Text) -> Result<Asked, AllocError>
+    ensures { IfOk result (λ asked. (asked.tag ≡ tag.now) × (asked.noted ≡ tag.now)) }
+{
+    let room = Room::make(alloc)?;
+    let noted = tag.copy(alloc)?;
+    let tag = tag.copy(alloc)?;
+    Ok(Asked { room, tag, noted })
+}
+
+/// One turn of an await: it is answered, begins to wait, or looks alone.
+pub(crate) fn await_turn<S: Store, R: Wait>(
+    rt: &R,
+    alloc: Global,
+    court: &Hall<S>,
+    pass: &mut Pass<S>,
+    notes: &mut Notes,
+    tag: &Text,
+) -> Result<AwaitTurn, AllocError>
+    requires own { pass.old.hall ≡ court.now }
+    requires agent { IsAgent S.tells (seen S.opened pass.old notes.old) }
+    requires room { HasWaitRoom (seen S.opened pass.old notes.old) }
+    ensures agent { IsAgent S.tells (seen S.opened pass.new notes.new) }
+    ensures idle { pass.new ≡ record pass.old { base = pass.new.base } }
+    ensures turned { IsAwaitTurn S.tells (seen S.opened pass.old notes.old) (seen S.opened pass.new notes.new) tag.now result }
+{
+    let Asked {
+        room,
+        tag: asked,
+        noted,
+    } = keep_ready(alloc, tag)?;
+    let agent = pass.agent();
+    let number = notes.number;
+    let begun = waits_for(&notes.waiting, tag);
+    let mut work = Work::fresh(alloc);
+    let mut turn = court.enter(rt, pass);
+    turn.value.legal();
+    let heard = court.heard();
+    let stands = turn.value.await_state(agent, tag.as_str());
+    match plan_for(stands, begun) {
+        Plan::Answer(posted) => {
+            let op = Op::Await { tag: asked };
+            let acted = turn
+                .value
+                .act(agent, number, &mut notes.pending, room, op, &mut work, &[]);
+            turn.value.legal();
+            court.leave(pass, turn);
+            match acted {
+                Ok(acted) => {
+                    notes.number += 1;
+                    notes.entries += 1;
+                    notes.rows = acted.rows;
+                    notes.waiting = None;
+                    Ok(AwaitTurn::Answered(posted))
+                }
+                Err(error) => Err(error),
+            }
+        }
+        Plan::Begin => {
+            let op = Op::Wait { tag: asked };
+            let acted = turn
+                .value
+                .act(agent, number, &mut notes.pending, room, op, &mut work, &[]);
+            turn.value.legal();
+            court.leave(pass, turn);
+            court.ring();
+            match acted {
+                Ok(acted) => {
+                    notes.entries += 1;
+                    notes.rows = acted.rows;
+                    notes.waiting = Some(noted);
+                    Ok(AwaitTurn::Waits(heard))
+                }
+                Err(error) => Err(error),
+            }
+        }
+        Plan::Look => {
+            court.leave(pass, turn);
+            Ok(AwaitTurn::Waits(heard))
+        }
+    }
+}
+
+/// Makes an await: one turn after another until it is answered. It sleeps in between.
+pub(crate) fn await_turns<S: Store, R: Wait>(
+    rt: &R,
+    alloc: Global,
+    court: &Hall<S>,
+    pass: &mut Pass<S>,
+    notes: &mut Notes,
+    tag: &Text,
+) -> Result<bool, AllocError>
+    requires own { pass.old.hall ≡ court.now }
+    requires agent { IsAgent S.tells (seen S.opened pass.old notes.old) }
+    requires room { HasRoom (seen S.opened pass.old notes.old) }
+    ensures agent { IsAgent S.tells (seen S.opened pass.new notes.new) }
+    ensures idle { pass.new ≡ record pass.old { base = pass.new.base } }
+    ensures awaited { IfOk result (λ posted. HasAwaited S.tells (seen S.opened pass.old notes.old) (seen S.opened pass.new notes.new) tag.now (await_reply posted)) }
+    ensures waited { OnErr result (HasWaited S.tells (seen S.opened pass.old notes.old) (seen S.opened pass.new notes.new) tag.now) }
+{
+    for _ in rt.forever() {
+        match await_turn(rt, alloc, court, pass, notes, tag) {
+            Ok(AwaitTurn::Answered(posted)) => return Ok(posted),
+            Ok(AwaitTurn::Waits(heard)) => court.sleep(rt, heard),
+            Err(error) => return Err(error),
+        }
+    }
+    unreachable!()
+}
