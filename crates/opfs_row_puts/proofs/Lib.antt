@@ -4,3 +4,6 @@ pub mod Finding
 pub mod Ways
 pub mod Blocks
 pub mod Windows
+pub mod Written
+pub mod Placing
+pub mod Stores

@@ -8,6 +8,7 @@ mod leave;
 mod opening;
 mod plan;
 mod reads;
+mod write;
 
 pub use content::collect_blocks;
 pub use find::find_blocks;
@@ -15,3 +16,4 @@ pub use leave::{bring_near, page_after};
 pub use opening::open_row;
 pub use plan::plan_put;
 pub use reads::{read_handle, read_row};
+pub use write::put_row;
