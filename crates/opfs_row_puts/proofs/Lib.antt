@@ -7,3 +7,4 @@ pub mod Windows
 pub mod Written
 pub mod Placing
 pub mod Stores
+pub mod Moves

@@ -2,6 +2,7 @@
 //! copy that they leave.
 #![tactic(auto)]
 
+mod after;
 mod content;
 mod find;
 mod leave;
@@ -10,6 +11,7 @@ mod plan;
 mod reads;
 mod write;
 
+pub use after::{after_flush, after_size, after_write};
 pub use content::collect_blocks;
 pub use find::find_blocks;
 pub use leave::{bring_near, page_after};
