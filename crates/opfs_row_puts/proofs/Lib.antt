@@ -8,3 +8,4 @@ pub mod Written
 pub mod Placing
 pub mod Stores
 pub mod Moves
+pub mod Buffers

@@ -1,6 +1,7 @@
 -- A working copy with another position, another reserve, and the same pages.
 use Rattle.std.proofs.Common.{◌≡◌, ℕ, ◌+◌, max, List, length, sym, ap, subst, ◌∙◌}
-use Rattle.opfs_pages.specs.Copies.{IsCopy}
+use Rattle.opfs_data.specs.declared.page.Page.{Page}
+use Rattle.opfs_pages.specs.Copies.{IsCopy, AreHeld}
 use Rattle.opfs_pages.specs.Stages.{changed}
 use Rattle.opfs_pages.proofs.PageBytes.{copied_length}
 use Rattle.opfs_pages.proofs.Rest.{written_is, resized_is, stored_is}
@@ -22,3 +23,10 @@ call-writes bytes given work at len is copy =
     ap (λ (n : ℕ). changed bytes at given (max n (at + len))) (sym (copied_length bytes work copy))
     ∙ ap (λ (n : ℕ). changed bytes at given (max (length bytes) (at + n))) (sym is)
     ∙ written_is bytes given at
+
+-- another room
+pub room-copy : (bytes : List ℕ) (old new : WorkingCopy) → new ≡ record old { room = new.room } → IsCopy bytes old → IsCopy bytes new
+room-copy bytes old new is copy = subst (IsCopy bytes) (sym is) (record { same = copy.same })
+
+pub room-held : (bytes : List ℕ) (old new : WorkingCopy) (c : List ℕ) (base : ℕ) (pages : List Page) → new ≡ record old { room = new.room } → AreHeld bytes old c base pages → AreHeld bytes new c base pages
+room-held bytes old new c base pages is held = subst (λ (w : WorkingCopy). AreHeld bytes w c base pages) (sym is) (record { held = held.held })

@@ -3,6 +3,7 @@
 #![tactic(auto)]
 
 mod after;
+mod call;
 mod content;
 mod find;
 mod leave;
@@ -12,6 +13,7 @@ mod reads;
 mod write;
 
 pub use after::{after_flush, after_size, after_write};
+pub use call::{Planned, plan_call};
 pub use content::collect_blocks;
 pub use find::find_blocks;
 pub use leave::{bring_near, page_after};
