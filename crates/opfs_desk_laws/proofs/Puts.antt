@@ -17,7 +17,7 @@ use Rattle.opfs_desk_laws.specs.Putting.{IsFromRow}
 
 -- ---- pages of a list
 
-named-or : (ws : List PageWrite) (i : ℕ) → NamesPage ws i ⊎ (NamesPage ws i → ⊥)
+pub named-or : (ws : List PageWrite) (i : ℕ) → NamesPage ws i ⊎ (NamesPage ws i → ⊥)
 named-or [] i = inr (λ never. never)
 named-or (w ∷ ws) i = elim (cases_eq w.page i) [
   | inl here ↦ inl (inl here)
@@ -27,15 +27,15 @@ named-or (w ∷ ws) i = elim (cases_eq w.page i) [
   ]
 ]
 
-names-left : (xs ys : List PageWrite) (i : ℕ) → NamesPage xs i → NamesPage (xs ++ ys) i
+pub names-left : (xs ys : List PageWrite) (i : ℕ) → NamesPage xs i → NamesPage (xs ++ ys) i
 names-left [] ys i named = absurd named
 names-left (x ∷ xs) ys i named = elim named [ inl here ↦ inl here | inr later ↦ inr (names-left xs ys i later) ]
 
-names-right : (xs ys : List PageWrite) (i : ℕ) → NamesPage ys i → NamesPage (xs ++ ys) i
+pub names-right : (xs ys : List PageWrite) (i : ℕ) → NamesPage ys i → NamesPage (xs ++ ys) i
 names-right [] ys i named = named
 names-right (x ∷ xs) ys i named = inr (names-right xs ys i named)
 
-names-placed : (move : List PageWrite) (bs : List ℕ) (i : ℕ) → length move ≡ length bs → NamesPage move i → NamesPage (placed move bs) i
+pub names-placed : (move : List PageWrite) (bs : List ℕ) (i : ℕ) → length move ≡ length bs → NamesPage move i → NamesPage (placed move bs) i
 names-placed [] bs i same named = absurd named
 names-placed (w ∷ move) [] i same named = absurd (omega (arith, same))
 names-placed (w ∷ move) (b ∷ bs) i same named = elim named [ inl here ↦ inl here | inr later ↦ inr (names-placed move bs i (omega (arith, same)) later) ]

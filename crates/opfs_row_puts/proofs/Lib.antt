@@ -4,3 +4,8 @@ pub mod Finding
 pub mod Ways
 pub mod Blocks
 pub mod Windows
+pub mod Written
+pub mod Placing
+pub mod Stores
+pub mod Moves
+pub mod Buffers

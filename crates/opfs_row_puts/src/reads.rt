@@ -20,7 +20,7 @@ use std::alloc::{AllocError, Global};
 const PAGE: usize = 4096;
 
 // So many zeros.
-fn zeros(alloc: Global, len: usize) -> Result<Vec<u8>, AllocError>
+pub(crate) fn zeros(alloc: Global, len: usize) -> Result<Vec<u8>, AllocError>
     ensures { IfOk result (λ bytes. length bytes.items ≡ len) }
 {
     let mut bytes = Vec::new(alloc);

@@ -4,7 +4,7 @@ use Rattle.std.specs.Vec.{vec_capacity}
 use Rattle.opfs_blocks.specs.Sets.{blocks_of}
 use Rattle.opfs_data.specs.Rows.{pages_at}
 use Rattle.opfs_space.specs.Spaces.{page_blocks}
-use Rattle.opfs_row_puts.proofs.content.collect_blocks.Given as goal
+use Rattle.opfs_row_puts.proofs.content.add_pages.Given as goal
 
 abbrev pub invariant-loop-page : goal.invariant-loop-page
 invariant-loop-page l = record {
