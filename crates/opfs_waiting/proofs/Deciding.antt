@@ -77,7 +77,7 @@ size-follows n key i = record {
 size-at : (n : ℕ) (key : Option Text) (k : ℕ) → IsAbove k → Follows key k (SameSize n key k)
 size-at n key k above = subst (λ j. Follows key j (SameSize n key j)) (sym above.1) (size-follows n key above.0)
 
-size-after : (keys : ℕ → Option Text) (s : State Text Own) (k : ℕ) (o : Op) (answered : Reply) → IsAbove k → IsPlain (keys k) → may_enter s k o ≡ true → Kept keys s
+pub size-after : (keys : ℕ → Option Text) (s : State Text Own) (k : ℕ) (o : Op) (answered : Reply) → IsAbove k → IsPlain (keys k) → may_enter s k o ≡ true → Kept keys s
     → length (after_reply s k o answered).agents ≡ length s.agents
 size-after keys s k o answered above plain may kept =
     (changed-follows (keys k) k (SameSize (length s.agents) (keys k) k) (size-at (length s.agents) (keys k) k above) plain s s o answered may kept.files refl
@@ -88,7 +88,7 @@ within [] i live = absurd (true-false (sym live))
 within (a ∷ agents) zero live = omega arith
 within (a ∷ agents) (suc i) live = let more = within agents i live in omega (arith, more)
 
-live-within : (s : State Text Own) (k : ℕ) (above : IsAbove k) → (agent_of s k).live ≡ true → above.0 < length s.agents
+pub live-within : (s : State Text Own) (k : ℕ) (above : IsAbove k) → (agent_of s k).live ≡ true → above.0 < length s.agents
 live-within s k above live = within s.agents above.0 (sym (ap (λ j. (agent_of s j).live) above.1) ∙ live)
 
 -- ---- one call
@@ -235,7 +235,7 @@ without-from n keys plain waits s t (e ∷ es) legal entries well kept size q =
 
 -- ---- the law
 
-length-begun : (agents : List Who) → length (map agent_begun agents) ≡ length agents
+pub length-begun : (agents : List Who) → length (map agent_begun agents) ≡ length agents
 length-begun [] = refl
 length-begun (w ∷ agents) = ap suc (length-begun agents)
 

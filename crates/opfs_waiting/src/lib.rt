@@ -1,5 +1,7 @@
-//! Waits decide nothing: a law over every legal history of a script whose transcript tells neither of cleared units nor of
-//! stuck agents. It is the contract of a function that does nothing.
+//! What a transcript need not tell: laws over every legal history of a script. Waits decide nothing, where the transcript
+//! tells neither of cleared units nor of stuck agents; and what is cleared has no line feed. Each law is the contract of a
+//! function that does nothing.
 #![tactic(auto)]
 
+pub mod fixed;
 pub mod waits;

@@ -1,0 +1,18 @@
+-- Histories each of whose lines tells one entry. This project's own.
+use Rattle.std.specs.Prelude.{◌≡◌, ◌<◌, ◌^◌, true, false, List, All, length}
+use Rattle.opfs_hist.specs.declared.entry.Entry.{Entry}
+use Rattle.opfs_machine.specs.Histories.{Legal}
+use Rattle.opfs_machine.specs.Openings.{Opening}
+use Rattle.opfs_runs.specs.Running.{is_wait}
+use Rattle.opfs_separation.specs.Apart.{IsInOrder}
+use Rattle.opfs_told.specs.Goings.{IsFixed, has_no, is_line}
+
+-- No unit that is stored and no agent's key has a line feed, and an agent's number has 64 bits.
+pub record IsInLines (o : Opening) : Type 0 where
+  pub rows : All (λ e. has_no 10 e.0.0 ≡ true) o.stored.rows
+  pub keys : All (λ who. is_line who.key ≡ true) o.agents
+  pub few : length o.agents < 2 ^ 64
+
+-- In a legal history without waits each entry's line tells it.
+abbrev pub HistoriesAreFixed : Type 0
+HistoriesAreFixed = (o : Opening) (es : List Entry) → IsInOrder o → IsInLines o → Legal o es → All (λ e. is_wait e.op ≡ false) es → All IsFixed es

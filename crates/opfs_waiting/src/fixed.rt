@@ -1,0 +1,9 @@
+//! Histories whose lines tell their entries.
+
+ghost use Rattle.opfs_waiting.specs.Fixed.{HistoriesAreFixed};
+
+/// Where no key and no unit that is stored has a line feed, no unit that is ever cleared has one, so a line of the
+/// transcript tells one entry.
+pub fn histories_are_fixed()
+    ensures { HistoriesAreFixed }
+{}
