@@ -2,7 +2,7 @@
 use Rattle.std.proofs.Common.{◌≡◌, ◌+◌, ◌<◌, ℕ, zero, suc, List, [], ◌∷◌, drop, length, Option, Some, ◌⊎◌, inl, inr, refl, sym, ap, ◌∙◌, subst, arith}
 use Rattle.opfs_hist.specs.declared.op.Op.{Op}
 use Rattle.opfs_runs.specs.declared.hand.Open.{Open}
-use Rattle.opfs_told.specs.Goings.{Going, closing, asked_end, after_end, going_on}
+use Rattle.opfs_told.specs.Goings.{closing, asked_end, after_end, going_on}
 use Rattle.opfs_judge.specs.Players.{end_of, standing}
 use Rattle.opfs_hist.specs.declared.reply.Reply.{Reply}
 use Rattle.opfs_runs.specs.declared.hand.Hand.{Hand}

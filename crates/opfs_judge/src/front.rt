@@ -1,6 +1,6 @@
 //! The evictions at the front of a transcript.
 
-ghost use Rattle.std.specs.Prelude.{◌≡◌, option_map};
+ghost use Rattle.std.specs.Prelude.{◌≡◌, ◌≤◌, length, option_map};
 ghost use Rattle.opfs_judge.specs.Fronts.{after_eviction, IsScanned};
 
 use crate::settling::line_length;
@@ -19,7 +19,8 @@ fn after_eviction(text: &[u8]) -> Option<&[u8]>
 
 /// How many lines of evictions stand at the front of a text, and how many bytes they have.
 pub fn evictions(text: &[u8]) -> (usize, usize)
-    ensures { IsScanned text.now result }
+    ensures scanned { IsScanned text.now result }
+    ensures within { result.1 ≤ length text.now }
 {
     let mut count = 0;
     let mut rest = text;

@@ -1,7 +1,7 @@
 //! Whether an agent may make a call now.
 #![tactic(auto, unfolding(opfs_machine::specs::Machine::machine))]
 
-ghost use Rattle.std.specs.Prelude.{◌≡◌, ◌&&◌, false};
+ghost use Rattle.std.specs.Prelude.{◌≡◌, ◌&&◌, false, IsTrue};
 ghost use Rattle.std.specs.Option.{option_copied};
 ghost use Rattle.std.specs.List.{list_all, enumerate_from};
 ghost use Rattle.opfs_runs.specs.Running.{is_wait};
@@ -82,12 +82,15 @@ fn others_stuck(state: &State<Bytes, Own>, key: Option<&Key>, number: usize) -> 
     true
 }
 
-/// Whether an agent is live and may make a call, which is no wait.
+/// Whether there is an agent of a number, it is live, and may make a call, which is no wait.
 pub fn stands(state: &State<Bytes, Own>, number: u32, op: &Op) -> bool
-    requires agent { IsAgent state.now number }
     requires moves { is_wait op.now ≡ false }
-    ensures { result ≡ ((agent_of state.now number).live && may_enter state.now number op.now) }
+    ensures exact { result ≡ ((agent_of state.now number).live && may_enter state.now number op.now) }
+    ensures agent { IsTrue result → IsAgent state.now number }
 {
+    if number == 0 || number as usize > state.agents.items.len() {
+        return false;
+    }
     let caller = agent(state, number);
     if !caller.live {
         return false;

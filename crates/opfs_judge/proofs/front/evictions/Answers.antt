@@ -1,4 +1,4 @@
-use Rattle.std.proofs.Common.{◌≡◌, ◌≤◌, ◌+◌, length, Some, None, arith}
+use Rattle.std.proofs.Common.{◌≡◌, Some, None, arith}
 use Rattle.opfs_judge.specs.Fronts.{after_eviction}
 use Rattle.opfs_judge.proofs.Scanning.{scanning-next, scanning-done, shorter-rest, seen-some, seen-none}
 use Rattle.opfs_judge.proofs.front.evictions.Goals as goal
@@ -13,8 +13,8 @@ loop-more-preserved c =
     let below = c.loop-more.invariant.below in
     record { scanned = scanning-next text rest next c.loop-more.count c.loop-more.invariant.scanned is; below = omega (arith, less, below) }
 
-pub returns : goal.returns
-returns c =
+pub returns-clause-scanned : goal.returns-clause-scanned
+returns-clause-scanned c =
     let rest = c.loop-more.rest.now in
     let is : after_eviction rest ≡ None = seen-none (λ more. more.now) c.after_eviction.result (after_eviction rest) c.in_default.is c.after_eviction.ensures in
     scanning-done c.args.text.now rest c.loop-more.count c.loop-more.invariant.scanned is

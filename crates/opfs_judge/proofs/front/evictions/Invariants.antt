@@ -1,4 +1,4 @@
-use Rattle.std.proofs.Common.{◌≡◌, ◌+◌, ◌≤◌, length}
+use Rattle.std.proofs.Common.{◌+◌, ◌≤◌, length}
 use Rattle.opfs_judge.proofs.Scanning.{Scanning}
 use Rattle.opfs_judge.proofs.front.evictions.Given as goal
 

@@ -1,4 +1,4 @@
-use Rattle.std.proofs.Common.{◌≡◌, ◌∙◌, ◌+◌, take, drop, length, ap}
+use Rattle.std.proofs.Common.{◌∙◌, take, drop, length, ap}
 use Rattle.opfs_judge.specs.Fronts.{first_line}
 use Rattle.opfs_judge.proofs.Lining.{line-taken, behind-line}
 use Rattle.opfs_judge.proofs.settling.split_line.Goals as goal

@@ -1,4 +1,4 @@
-use Rattle.std.proofs.Common.{◌≡◌, ◌+◌, ◌≤◌, drop, length}
+use Rattle.std.proofs.Common.{◌≡◌, ◌+◌, drop}
 use Rattle.std.specs.Option.{option_copied}
 use Rattle.std.specs.List.{enumerate_from, list_all}
 use Rattle.opfs_machine.specs.Agents.{is_no_help, party_with}

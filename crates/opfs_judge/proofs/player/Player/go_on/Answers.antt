@@ -1,5 +1,5 @@
-use Rattle.std.proofs.Common.{◌≡◌, ◌∙◌, inl, inr, refl, sym, ap, rules}
-use Rattle.opfs_told.specs.Goings.{closing, going_on}
+use Rattle.std.proofs.Common.{◌∙◌, inl, inr, sym, ap, rules}
+use Rattle.opfs_told.specs.Goings.{going_on}
 use Rattle.opfs_judge.specs.declared.player.Stage.TheVariants as stage
 use Rattle.opfs_judge.proofs.Players.{ended-on, none-left}
 use Rattle.opfs_judge.proofs.player.Player.go_on.Goals as goal
