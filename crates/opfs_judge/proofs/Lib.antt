@@ -1,0 +1,9 @@
+pub mod Apart
+pub mod Calling
+pub mod Entering
+pub mod Grouping
+pub mod Lining
+pub mod Moves
+pub mod Players
+pub mod Scanning
+pub mod Texts

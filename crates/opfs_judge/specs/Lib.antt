@@ -1,0 +1,6 @@
+pub mod Agents
+pub mod Asking
+pub mod Fronts
+pub mod Players
+pub mod Turns
+pub mod Verdicts

@@ -1,0 +1,120 @@
+//! How far the run of an agent's script is.
+
+ghost use Rattle.std.specs.Prelude.{◌≡◌, ◌+◌, drop, Some, IfOk, OnOk};
+ghost use Rattle.opfs_told.specs.Goings.{asked, going_on};
+ghost use Rattle.opfs_judge.specs.Players.{starting, is_gone, end_of};
+
+use opfs_base::copy_key;
+use opfs_hist::{Entry, Op};
+use opfs_runs::{Hand, Open};
+use opfs_script::{AgentScript, Step};
+use std::alloc::{AllocError, Global};
+use std::marker::Model;
+
+/// Whether an agent makes its steps, ends what is still open from a row of its hand on, or has ended.
+#[derive(Clone, Copy, Debug, PartialEq, Eq)]
+pub enum Stage {
+    Stepping,
+    Closing(usize),
+    Gone,
+}
+
+/// The run of an agent's script, seen as how far it is.
+#[derive(Debug, Drop)]
+pub struct Player<'a> {
+    hand: Hand,
+    number: u32,
+    steps: &'a [Step],
+    stage: Stage,
+}
+
+impl<'a> Model for Player<'a> {
+    ghost use Rattle.opfs_told.specs.Goings.{Going};
+    ghost use Rattle.opfs_judge.specs.Players.{standing};
+
+    ghost Value = { Going };
+
+    ghost view = { λ player. standing player.hand player.number player.steps.now player.stage };
+}
+
+/// The next number. One that 32 bits don't hold is want of memory.
+fn next(number: u32) -> Result<u32, AllocError>
+    ensures { IfOk result (λ next. next ≡ number + 1) }
+{
+    match number.checked_add(1) {
+        Some(next) => Ok(next),
+        None => Err(AllocError),
+    }
+}
+
+/// What the end does next, where these rows are open and so many of them are ended.
+fn ending(opened: &[Open], ended: usize) -> Op
+    ensures { result ≡ end_of (drop ended opened.now) }
+{
+    match opened.get(ended) {
+        Some(open) => open.ending(),
+        None => Op::End,
+    }
+}
+
+impl<'a> Player<'a> {
+    /// An agent before its first step.
+    pub fn make(alloc: Global, script: &'a AgentScript) -> Result<Player<'a>, AllocError>
+        ensures { IfOk result (λ player. player ≡ starting script.now) }
+    {
+        Ok(Player {
+            hand: Hand::make(alloc, copy_key(alloc, script.key())?),
+            number: 1,
+            steps: script.steps(),
+            stage: Stage::Stepping,
+        })
+    }
+
+    /// The number and the call of the next entry; None where the agent has ended.
+    pub fn asked(&self, alloc: Global) -> Result<Option<(u32, Op)>, AllocError>
+        ensures { IfOk result (λ next. next ≡ asked self.now) }
+    {
+        match self.stage {
+            Stage::Stepping => match self.steps.first() {
+                Some(step) => Ok(Some((self.number, self.hand.op_of(alloc, step)?))),
+                None => Ok(Some((self.number, ending(self.hand.opened(), 0)))),
+            },
+            Stage::Closing(row) => Ok(Some((self.number, ending(self.hand.opened(), row)))),
+            Stage::Gone => Ok(None),
+        }
+    }
+
+    /// Whether the agent has ended.
+    pub fn is_gone(&self) -> bool
+        ensures { result ≡ is_gone self.now }
+    {
+        matches!(self.stage, Stage::Gone)
+    }
+
+    /// Goes on behind an entry of the agent's run.
+    pub fn go_on(&mut self, alloc: Global, entry: &Entry) -> Result<(), AllocError>
+        requires { asked self.old ≡ Some (entry.now.number, entry.now.op) }
+        ensures { OnOk result (self.new ≡ going_on self.old entry.now.reply) }
+    {
+        let row = match self.stage {
+            Stage::Stepping => match self.steps {
+                [step, more @ ..] => {
+                    self.hand.then(alloc, step, &entry.op, &entry.reply)?;
+                    self.steps = more;
+                    self.number = next(self.number)?;
+                    return Ok(());
+                }
+                [] => 0,
+            },
+            Stage::Closing(row) => row,
+            Stage::Gone => return Ok(()),
+        };
+        if row < self.hand.opened().len() {
+            self.number = next(self.number)?;
+            self.stage = Stage::Closing(row + 1);
+        } else {
+            self.stage = Stage::Gone;
+        }
+        Ok(())
+    }
+}

@@ -1,0 +1,89 @@
+//! Whether a transcript is settled: whether its text alone tells in what order its agents came to wait.
+
+ghost use Rattle.std.specs.Prelude.{◌≡◌, ◌+◌, ◌≤◌, drop, length};
+ghost use Rattle.std.specs.List.{list_any};
+ghost use Rattle.opfs_told.specs.Reading.{is_evict_line, is_stuck_line, tells_room_or_stuck};
+ghost use Rattle.opfs_judge.specs.Fronts.{first_line};
+ghost use Rattle.opfs_judge.specs.Verdicts.{has_await, is_unsettled};
+
+use opfs_script::{AgentScript, Script, Step};
+
+/// How many bytes stand in a text before its first line feed; all, where there is none.
+pub fn line_length(text: &[u8]) -> usize
+    ensures line { result ≡ length (first_line text.now) }
+    ensures within { result ≤ length text.now }
+{
+    let mut rest = text;
+    while let [byte, more @ ..] = rest {
+        if *byte == b'\n' {
+            return text.len() - rest.len();
+        }
+        rest = more;
+    }
+    text.len() - rest.len()
+}
+
+/// The first line of a text, and what stands behind its line feed.
+fn split_line(text: &[u8]) -> (&[u8], &[u8])
+    ensures line { result.0.now ≡ first_line text.now }
+    ensures rest { result.1.now ≡ drop (length (first_line text.now) + 1) text.now }
+{
+    let (line, rest) = text.split_at(line_length(text));
+    match rest {
+        [_, more @ ..] => (line, more),
+        [] => (line, rest),
+    }
+}
+
+/// Whether a line begins as that of an eviction.
+fn is_evict_line(line: &[u8]) -> bool
+    ensures { result ≡ is_evict_line line.now }
+{
+    line.starts_with("evict ".as_bytes())
+}
+
+/// Whether a line ends as that of an await that was answered Stuck.
+fn is_stuck_line(line: &[u8]) -> bool
+    ensures { result ≡ is_stuck_line line.now }
+{
+    line.ends_with(" await Stuck".as_bytes())
+}
+
+/// Whether a transcript has a line of an eviction, or of an agent that was stuck.
+fn tells_room_or_stuck(text: &[u8]) -> bool
+    ensures { result ≡ tells_room_or_stuck text.now }
+{
+    let mut rest = text;
+    while !rest.is_empty() {
+        let (line, more) = split_line(rest);
+        if is_evict_line(line) || is_stuck_line(line) {
+            return true;
+        }
+        rest = more;
+    }
+    false
+}
+
+/// Whether an agent has an await.
+fn awaits(agent: &AgentScript) -> bool
+    ensures { result ≡ has_await agent.now }
+{
+    agent
+        .steps()
+        .iter()
+        .any(|step| matches!(step, Step::Await { .. }))
+}
+
+/// Whether one of these agents has an await.
+fn one_awaits(agents: &[AgentScript]) -> bool
+    ensures { result ≡ list_any has_await agents.now }
+{
+    agents.iter().any(|agent| awaits(agent))
+}
+
+/// Whether a script has an await and a transcript a line of an eviction, or of an agent that was stuck.
+pub fn is_unsettled(script: &Script, transcript: &[u8]) -> bool
+    ensures { result ≡ is_unsettled script.now transcript.now }
+{
+    one_awaits(script.agents()) && tells_room_or_stuck(transcript)
+}
