@@ -1,6 +1,5 @@
 -- An iterator, and the row that it has.
-use Rattle.std.proofs.Common.{◌≡◌, ℕ, ◌+◌, ◌&&◌, Bool, true, false, List, [], ◌∷◌, ◌++◌, length, fold, Option, Some, None, Ok, Err, refl, sym, ap, ◌∙◌, subst, arith}
-use Rattle.std.proofs.lemmas.List.{length-append}
+use Rattle.std.proofs.Common.{◌≡◌, ℕ, ◌&&◌, Bool, true, false, List, [], ◌∷◌, length, fold, Option, Some, None, Err, refl, sym, ap, ◌∙◌, subst}
 use Rattle.opfs_base.specs.Places.{Place, place_of, child_of, child, same_locator, same_kind}
 use Rattle.opfs_base.specs.Texts.{Text, same_text}
 use Rattle.opfs_base.specs.declared.locator.Kind.TheVariants as kind
@@ -18,23 +17,23 @@ use Rattle.opfs_machine.specs.declared.own.Own.TheVariants as own
 use Rattle.opfs_machine.specs.declared.state.Agent.{Agent}
 use Rattle.opfs_machine.specs.declared.state.State.{State}
 use Rattle.opfs_machine.specs.Agents.{agent_of, own_of}
-use Rattle.opfs_machine.specs.Contents.{in_bytes, next_of, and_given, advanced_row}
+use Rattle.opfs_machine.specs.Contents.{next_of, and_given, advanced_row}
 use Rattle.opfs_machine.specs.Effects.{effect}
 use Rattle.opfs_machine.specs.Histories.{is_of_origin, is_own, is_iterator_of, may_enter}
-use Rattle.opfs_machine.specs.Replies.{answer, sizes_of, child_reply, given_in, kind_in}
+use Rattle.opfs_machine.specs.Replies.{answer, child_reply, given_in, kind_in}
 use Rattle.opfs_machine.specs.Rows.{children_of, row_at}
-use Rattle.opfs_machine.specs.Steps.{evicted, is_refusal, step}
+use Rattle.opfs_machine.specs.Steps.{evicted}
 use Rattle.opfs_acts.specs.declared.acted.Acted.{Acted}
 use Rattle.opfs_acts.specs.declared.acted.Gift.{Gift}
 use Rattle.opfs_acts.specs.declared.acted.Gift.TheVariants as gift
 use Rattle.opfs_acts.specs.Acting.{gift_of, unread_gift}
 use Rattle.opfs_turns.specs.Agents.{AgentSeen, IsAgent, state_of, own_row}
-use Rattle.opfs_turns.specs.Calls.{IsEntered, IsKept, IsLocal}
+use Rattle.opfs_turns.specs.Calls.{IsKept, IsLocal}
 use Rattle.opfs_calls.specs.Answers.{HasAnswer, MayAskPast, Shared}
 use Rattle.opfs_calls.specs.Locals.{HasLocalAnswer, IsMade}
 use Rattle.opfs_calls.specs.Rows.{HasIterator, IteratorSeen}
 use Rattle.opfs_calls.specs.declared.stop.Stop.{Stop}
-use Rattle.opfs_calls.proofs.Answered.{is_read, plain-answered, judged-there, turn_state}
+use Rattle.opfs_calls.proofs.Answered.{is_read, plain-answered, judged-there}
 use Rattle.opfs_calls.proofs.Entered.{s, t, row-there, number}
 use Rattle.opfs_calls.proofs.Plains.{values-own}
 use Rattle.opfs_calls.proofs.Rowed.{own_agent, accepted-own, granted-none, stopped-own, entered-moved, kept-own, kept-moved}

@@ -1,5 +1,5 @@
 -- The state behind a shared call's entry, and the agent's own rows in it.
-use Rattle.std.proofs.Common.{◌≡◌, ℕ, ◌+◌, Bool, true, false, not, List, [], ◌∷◌, ◌++◌, append-nil, map, fold, length, Some, refl, sym, ap, ◌∙◌, subst, IsTrue}
+use Rattle.std.proofs.Common.{◌≡◌, ℕ, ◌+◌, Bool, true, false, List, [], ◌∷◌, ◌++◌, append-nil, map, fold, sym, ap, ◌∙◌, subst, IsTrue}
 use Rattle.opfs_base.specs.Texts.{Text}
 use Rattle.opfs_hist.specs.declared.entry.Entry.{Entry}
 use Rattle.opfs_hist.specs.declared.op.Op.{Op}
@@ -10,15 +10,15 @@ use Rattle.opfs_machine.specs.declared.state.State.{State}
 use Rattle.opfs_machine.specs.Agents.{agent_in, agent_of, own_of, counted}
 use Rattle.opfs_machine.specs.Contents.{in_bytes}
 use Rattle.opfs_machine.specs.Effects.{effect, refused}
-use Rattle.opfs_machine.specs.Histories.{state_after, asks_stuck}
+use Rattle.opfs_machine.specs.Histories.{state_after}
 use Rattle.opfs_machine.specs.Replies.{sizes_of}
 use Rattle.opfs_machine.specs.Runs.{eviction}
-use Rattle.opfs_machine.specs.Steps.{evicted, after_reply, changed_by, is_refusal}
+use Rattle.opfs_machine.specs.Steps.{evicted, after_reply, is_refusal}
 use Rattle.opfs_histories.specs.Opened.{added}
 use Rattle.opfs_histories.specs.Unread.{unread_entry}
 use Rattle.opfs_histories.proofs.Adding.{added-state}
 use Rattle.opfs_histories.proofs.Reading.{unread-state, refuses-same}
-use Rattle.opfs_laws.specs.Leaving.{IsMoved, asks_nobody}
+use Rattle.opfs_laws.specs.Leaving.{IsMoved}
 use Rattle.opfs_laws.proofs.Allowed.{IsAllowed}
 use Rattle.opfs_laws.proofs.LocksEffect.{call-allowed}
 use Rattle.opfs_laws.proofs.Moved.{call-moves}

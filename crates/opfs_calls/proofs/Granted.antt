@@ -1,5 +1,5 @@
 -- What the machine does with a call that asks for nothing, or that is refused.
-use Rattle.std.proofs.Common.{◌≡◌, ℕ, ◌+◌, Bool, true, false, List, [], fold, length, Ok, Err, Option, Some, None, refl, sym, ap, ◌∙◌, subst, inl, inr, arith, IsTrue}
+use Rattle.std.proofs.Common.{◌≡◌, ℕ, Bool, true, false, List, [], fold, length, Ok, Err, Option, refl, sym, ap, ◌∙◌, subst, inl, inr, arith, IsTrue}
 use Rattle.std.proofs.lemmas.Bool.{false≢true}
 use Rattle.opfs_base.specs.Texts.{Text}
 use Rattle.opfs_hist.specs.Sums.{asks_for_row}

@@ -1,5 +1,5 @@
 -- Local calls, by their word: that they are local, and what they answer.
-use Rattle.std.proofs.Common.{◌≡◌, ℕ, ◌+◌, ◌-◌, min, Bool, true, false, List, [], ◌∷◌, ◌++◌, length, replicate, take, drop, Ok, Err, Option, Some, None, refl, sym, ap, ◌∙◌, subst, arith, IsTrue}
+use Rattle.std.proofs.Common.{◌≡◌, ℕ, ◌-◌, min, Bool, true, [], ◌∷◌, ◌++◌, length, replicate, drop, Ok, Err, Option, None, refl, sym, ap, ◌∙◌, subst, arith}
 use Rattle.std.proofs.lemmas.Bool.{false≢true}
 use Rattle.std.proofs.lemmas.List.{length-append, length-take, length-drop}
 use Rattle.opfs_base.specs.Places.{resolved, same_locator}
@@ -8,23 +8,21 @@ use Rattle.opfs_base.specs.declared.locator.Locator.{Locator}
 use Rattle.opfs_hist.specs.declared.op.Op.{Op}
 use Rattle.opfs_hist.specs.declared.op.Op.TheVariants as op
 use Rattle.opfs_hist.specs.declared.op.Word.{Word}
-use Rattle.opfs_hist.specs.declared.reply.Refusal.{Refusal}
 use Rattle.opfs_hist.specs.declared.reply.Refusal.TheVariants as refusal
 use Rattle.opfs_hist.specs.declared.reply.Reply.{Reply}
 use Rattle.opfs_hist.specs.declared.reply.Reply.TheVariants as reply
 use Rattle.opfs_machine.specs.declared.own.HandleOutline.{HandleOutline}
 use Rattle.opfs_machine.specs.declared.own.StreamOutline.{StreamOutline}
 use Rattle.opfs_machine.specs.declared.own.Own.{Own}
-use Rattle.opfs_machine.specs.declared.own.Own.TheVariants as own
 use Rattle.opfs_machine.specs.declared.state.State.{State}
-use Rattle.opfs_machine.specs.Agents.{agent_of, own_of, open_stream, open_handle, stream_in, handle_in, of_row, adds_own, counted}
+use Rattle.opfs_machine.specs.Agents.{agent_of, open_stream, open_handle, stream_in, handle_in, of_row, adds_own, counted}
 use Rattle.opfs_machine.specs.Contents.{in_bytes, outline_of}
 use Rattle.opfs_machine.specs.Effects.{effect}
 use Rattle.opfs_machine.specs.declared.state.Sizes.{Sizes}
 use Rattle.opfs_machine.specs.Histories.{may_enter, is_own, is_snapshot, is_stream, is_handle}
 use Rattle.opfs_machine.specs.OwnRows.{is_local, fits_stream, is_closed_stream, is_closed_handle}
 use Rattle.opfs_machine.specs.Replies.{answer, path_reply, row_named, sizes_of, snapshot_in}
-use Rattle.opfs_machine.specs.Ruled.{Ruled, ◌>>=◌, some_or}
+use Rattle.opfs_machine.specs.Ruled.{◌>>=◌, some_or}
 use Rattle.opfs_machine.specs.Rulings.{ruling, stream_ruling, grow_stream_ruling, handle_ruling, grow_handle_ruling, reserve_for, size_written}
 use Rattle.opfs_machine.specs.Steps.{step}
 use Rattle.opfs_machine.specs.Sums.{no_need, keeps_blocks}
@@ -32,7 +30,7 @@ use Rattle.opfs_splice.specs.Splicing.{window}
 use Rattle.opfs_histories.specs.Unread.{unread}
 use Rattle.opfs_laws.proofs.Local.{grown}
 use Rattle.opfs_laws.proofs.Numbers.{number-of}
-use Rattle.opfs_turns.specs.Agents.{AgentSeen, IsAgent, state_of, own_row}
+use Rattle.opfs_turns.specs.Agents.{AgentSeen, IsAgent, state_of}
 use Rattle.opfs_turns.specs.Calls.{IsLocal}
 use Rattle.opfs_calls.specs.Locals.{is_stream_op, is_handle_op}
 use Rattle.opfs_calls.specs.Rows.{HasSnapshot, HasClosedStream, HasClosedHandle, SnapshotSeen}

@@ -1,5 +1,5 @@
 -- The agent behind a call: as it was where the call was refused or not entered, and else as the call's effect leaves it.
-use Rattle.std.proofs.Common.{◌≡◌, ℕ, true, false, List, [], fold, Ok, Err, Result, refl, sym, ap, ◌∙◌, subst, inl, inr}
+use Rattle.std.proofs.Common.{◌≡◌, ℕ, true, false, List, [], Ok, Err, refl, sym, ap, ◌∙◌, subst, inl, inr}
 use Rattle.std.proofs.lemmas.Bool.{false≢true}
 use Rattle.opfs_base.specs.Texts.{Text}
 use Rattle.opfs_hist.specs.declared.op.Op.{Op}
@@ -9,7 +9,7 @@ use Rattle.opfs_hist.specs.declared.reply.Reply.{Reply}
 use Rattle.opfs_machine.specs.declared.own.Own.{Own}
 use Rattle.opfs_machine.specs.declared.state.Agent.{Agent}
 use Rattle.opfs_machine.specs.declared.state.State.{State}
-use Rattle.opfs_machine.specs.Agents.{agent_of, counted}
+use Rattle.opfs_machine.specs.Agents.{agent_of}
 use Rattle.opfs_machine.specs.Contents.{in_bytes}
 use Rattle.opfs_machine.specs.Effects.{effect, refused}
 use Rattle.opfs_machine.specs.Histories.{Agrees, is_disk_op, state_after}
@@ -20,7 +20,7 @@ use Rattle.opfs_machine.specs.Sums.{no_need}
 use Rattle.opfs_hist.specs.declared.reply.Reply.TheVariants as reply
 use Rattle.opfs_laws.specs.Leaving.{asks_nobody, IsMoved}
 use Rattle.opfs_acts.specs.declared.acted.Gift.{Gift}
-use Rattle.opfs_turns.specs.Agents.{AgentSeen, IsAgent, known, state_of}
+use Rattle.opfs_turns.specs.Agents.{AgentSeen, IsAgent, state_of}
 use Rattle.opfs_turns.specs.Calls.{IsEntered, HasLooked, IsLocal, IsKept}
 use Rattle.opfs_turns.proofs.Keeping.{state-after, after-step, moved as kept-moves}
 use Rattle.opfs_calls.specs.Answers.{Shared}

@@ -20,7 +20,6 @@ use Rattle.opfs_machine.specs.Histories.{after_entry, state_after}
 use Rattle.opfs_machine.specs.Openings.{Opening, begun}
 use Rattle.opfs_machine.specs.Runs.{eviction}
 use Rattle.opfs_machine.specs.Steps.{evicted, is_refusal}
-use Rattle.opfs_histories.specs.Opened.{added}
 use Rattle.opfs_laws.specs.Leaving.{asks_nobody}
 use Rattle.opfs_steady.specs.Settling.{BytesStay}
 use Rattle.opfs_steady.specs.Steady.{row_bytes, page_in, has_page, is_front, goes_on, is_steady, steady_by}
@@ -33,7 +32,7 @@ use Rattle.opfs_copies.proofs.Copying.{stands-kept}
 use Rattle.opfs_histories.specs.Unread.{IsTold}
 use Rattle.opfs_acts.specs.declared.acted.Gift.{Gift}
 use Rattle.opfs_acts.specs.Acting.{told_entry, IsSameCopy}
-use Rattle.opfs_turns.specs.Agents.{AgentSeen, IsAgent, known, state_of, own_row}
+use Rattle.opfs_turns.specs.Agents.{AgentSeen, IsAgent, known, state_of}
 use Rattle.opfs_turns.specs.Calls.{call_of, before_call, IsEntered, HasLooked, IsLocal, IsKept, kept_entry}
 use Rattle.opfs_turns.proofs.Keeping.{after-step}
 use Rattle.opfs_machine.specs.Steps.{step}
@@ -41,7 +40,7 @@ use Rattle.opfs_turns.proofs.Others.{told-stay-before}
 use Rattle.opfs_turns.proofs.Standing.{stands-there}
 use Rattle.opfs_work.specs.Pages.{page_at, is_held}
 use Rattle.opfs_work.specs.Works.{WorkingCopy, IsStored}
-use Rattle.opfs_calls.proofs.Entered.{t, list, known-is, opening-is, agent-is, refused-state, agent-same, row-there}
+use Rattle.opfs_calls.proofs.Entered.{t, list, known-is, opening-is, agent-is, refused-state, row-there}
 
 stay-append : (s : State Text Own) (k n : ℕ) (xs ys : List Entry) → BytesStay s k n xs → BytesStay (fold after_entry s xs) k n ys → BytesStay s k n (xs ++ ys)
 stay-append s k n [] ys first then = then

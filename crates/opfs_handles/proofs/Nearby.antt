@@ -1,5 +1,5 @@
 -- Local calls on an access handle.
-use Rattle.std.proofs.Common.{◌≡◌, ℕ, ◌+◌, ◌-◌, ◌<◌, ◌≤◌, min, true, false, List, [], length, map, slice_index, unwrap_or, Option, Some, None, Ok, Err, refl, sym, ap, ◌∙◌, subst, arith}
+use Rattle.std.proofs.Common.{◌≡◌, ℕ, ◌+◌, min, false, length, slice_index, unwrap_or, Option, Some, None, Ok, refl, sym, ap, ◌∙◌, subst, arith}
 use Rattle.std.proofs.lemmas.List.FromFn.{length-map-range_with_len}
 use Rattle.opfs_base.specs.Places.{Place}
 use Rattle.opfs_base.specs.Texts.{Text}
@@ -19,7 +19,7 @@ use Rattle.opfs_machine.specs.Contents.{in_bytes, outline_of, moved_row}
 use Rattle.opfs_machine.specs.Effects.{effect, cursor_after_read, with_changed}
 use Rattle.opfs_machine.specs.Histories.{may_enter, is_handle}
 use Rattle.opfs_machine.specs.OwnRows.{is_local}
-use Rattle.opfs_machine.specs.Replies.{answer, bytes_in, bytes_at, handle_bytes, sizes_in, sizes_of}
+use Rattle.opfs_machine.specs.Replies.{answer, bytes_at, handle_bytes, sizes_in, sizes_of}
 use Rattle.opfs_machine.specs.Ruled.{◌>>=◌, some_or}
 use Rattle.opfs_machine.specs.Rulings.{ruling, handle_ruling, start_of}
 use Rattle.opfs_machine.specs.Steps.{is_refusal, step}
@@ -29,7 +29,7 @@ use Rattle.opfs_histories.specs.Unread.{unread}
 use Rattle.opfs_laws.proofs.Numbers.{number-of}
 use Rattle.opfs_copies.specs.Copies.{IsCopyOf}
 use Rattle.opfs_steady.specs.Steady.{row_bytes, open_bytes}
-use Rattle.opfs_turns.specs.Agents.{AgentSeen, IsAgent, known, state_of, own_row}
+use Rattle.opfs_turns.specs.Agents.{AgentSeen, IsAgent, state_of}
 use Rattle.opfs_turns.specs.Calls.{IsKept, IsLocal}
 use Rattle.opfs_work.specs.Pages.{bytes_of, byte_at}
 use Rattle.opfs_work.specs.Works.{WorkingCopy, contents, place_in}
@@ -37,7 +37,7 @@ use Rattle.opfs_calls.specs.Locals.{HasLocalAnswer}
 use Rattle.opfs_calls.specs.Rows.{HasHandle, HandleSeen}
 use Rattle.opfs_calls.proofs.Granted.{granted-answer, granted-after, local-call, plain-call}
 use Rattle.opfs_calls.proofs.Plains.{reads-alike, window-length, windows-alike}
-use Rattle.opfs_calls.proofs.Rowed.{own_agent, kept-own}
+use Rattle.opfs_calls.proofs.Rowed.{kept-own}
 use Rattle.opfs_calls.proofs.RowsAfter.{own-changed}
 use Rattle.opfs_calls.proofs.Stands.{local-same}
 use Rattle.opfs_handles.proofs.Facts.{facts, row-is, has-row}

@@ -1,5 +1,5 @@
 -- What shared calls leave of an access handle.
-use Rattle.std.proofs.Common.{◌≡◌, ℕ, ◌+◌, min, Bool, true, false, List, [], ◌∷◌, ◌++◌, length, Option, Some, None, Result, Ok, Err, OnOk, OnErr, refl, sym, ap, ◌∙◌, subst}
+use Rattle.std.proofs.Common.{◌≡◌, ℕ, ◌+◌, min, true, [], ◌∷◌, ◌++◌, length, Option, Some, Result, Ok, Err, OnOk, OnErr, refl, sym, ap, ◌∙◌, subst}
 use Rattle.opfs_base.specs.Places.{Place, place_of}
 use Rattle.opfs_base.specs.Texts.{Text}
 use Rattle.opfs_base.specs.declared.locator.Locator.{Locator}
@@ -25,7 +25,7 @@ use Rattle.opfs_machine.specs.Replies.{answer, sizes_of}
 use Rattle.opfs_machine.specs.Rows.{with_file}
 use Rattle.opfs_machine.specs.Rulings.{ruling, reserve_for, size_written, start_of, want_of}
 use Rattle.opfs_machine.specs.Steps.{is_refusal}
-use Rattle.opfs_machine.specs.Sums.{no_need, reserve_of}
+use Rattle.opfs_machine.specs.Sums.{reserve_of}
 use Rattle.opfs_laws.proofs.Numbers.{IsNumber}
 use Rattle.opfs_laws.specs.Leaving.{asks_nobody}
 use Rattle.opfs_acts.specs.declared.acted.Gift.{Gift}

@@ -1,9 +1,8 @@
 -- What an await or a wait is answered, and what it leaves its agent waiting for.
-use Rattle.std.proofs.Common.{◌≡◌, ◌≢◌, ◌⊎◌, ℕ, ◌&&◌, ◌||◌, Bool, true, false, not, List, [], fold, Option, Some, None, Ok, Err, refl, sym, ap, ◌∙◌, subst, inl, inr, IsTrue}
+use Rattle.std.proofs.Common.{◌≡◌, ℕ, ◌&&◌, ◌||◌, Bool, true, false, not, List, [], Option, Some, None, Ok, Err, refl, sym, ap, ◌∙◌, subst, inl, inr, IsTrue}
 use Rattle.std.proofs.lemmas.Bool.{false≢true}
 use Rattle.opfs_base.specs.Texts.{Text}
 use Rattle.opfs_hist.specs.Sums.{asks_for_row}
-use Rattle.opfs_hist.specs.declared.entry.Entry.{Entry}
 use Rattle.opfs_hist.specs.declared.op.Op.{Op}
 use Rattle.opfs_hist.specs.declared.op.Op.TheVariants as op
 use Rattle.opfs_hist.specs.declared.reply.Refusal.{Refusal}
@@ -15,23 +14,22 @@ use Rattle.opfs_machine.specs.declared.state.Need.{Need}
 use Rattle.opfs_machine.specs.declared.state.State.{State}
 use Rattle.opfs_machine.specs.Agents.{agent_of, party_of, is_posted, others_stuck, waits_for}
 use Rattle.opfs_machine.specs.Contents.{in_bytes}
-use Rattle.opfs_machine.specs.Effects.{effect, refused, with_waiting}
+use Rattle.opfs_machine.specs.Effects.{effect, with_waiting}
 use Rattle.opfs_machine.specs.Histories.{may_enter, is_disk_op, Agrees}
 use Rattle.opfs_machine.specs.Replies.{answer, sizes_of}
 use Rattle.opfs_machine.specs.Ruled.{Ruled, ◌>>=◌, ◌>>◌, unless}
 use Rattle.opfs_machine.specs.Rulings.{ruling, await_ruling}
-use Rattle.opfs_machine.specs.Steps.{step, judged, outcome_of, room_for, after_reply, is_refusal, Outcome}
+use Rattle.opfs_machine.specs.Steps.{step, judged, outcome_of, room_for, after_reply, Outcome}
 use Rattle.opfs_machine.specs.Sums.{no_need}
 use Rattle.opfs_laws.specs.Leaving.{is_end}
 use Rattle.opfs_laws.proofs.Local.{room_for_nothing}
 use Rattle.opfs_laws.proofs.Numbers.{IsNumber, agent-set}
-use Rattle.opfs_histories.specs.Unread.{unread, unread_entry}
+use Rattle.opfs_histories.specs.Unread.{unread}
 use Rattle.opfs_acts.specs.declared.acted.AwaitState.{AwaitState}
 use Rattle.opfs_acts.specs.declared.acted.AwaitState.TheVariants as await
 use Rattle.opfs_acts.specs.Acting.{awaited}
 use Rattle.opfs_acts.specs.Asking.{HasSmallNumbers}
 use Rattle.opfs_turns.specs.Waiting.{await_reply, planned}
-use Rattle.opfs_turns.specs.declared.waiting.Plan.{Plan}
 use Rattle.opfs_turns.specs.declared.waiting.Plan.TheVariants as plan
 use Rattle.opfs_turns.proofs.Beside.{StateBy}
 

@@ -1,5 +1,5 @@
 -- An agent's own local calls leave how its tags stand.
-use Rattle.std.proofs.Common.{◌≡◌, ◌≢◌, ◌⊎◌, ℕ, ◌+◌, ◌-◌, ◌==◌, ◌&&◌, ◌||◌, zero, suc, Bool, true, false, not, List, [], ◌∷◌, ◌++◌, fold, slice_set, Option, Some, None, refl, sym, ap, ◌∙◌, subst, inl, inr, arith}
+use Rattle.std.proofs.Common.{◌≡◌, ◌≢◌, ◌⊎◌, ℕ, ◌+◌, ◌-◌, ◌==◌, ◌&&◌, ◌||◌, zero, suc, Bool, true, false, not, List, [], ◌∷◌, fold, slice_set, Option, Some, None, refl, sym, ap, ◌∙◌, subst, inl, inr, arith}
 use Rattle.std.proofs.lemmas.Bool.{false≢true, eq-eqb}
 use Rattle.std.specs.List.{list_any, list_all, enumerate_from}
 use Rattle.opfs_base.specs.Texts.{Text, same_text}
@@ -15,22 +15,21 @@ use Rattle.opfs_machine.specs.declared.state.Agent.{Agent}
 use Rattle.opfs_machine.specs.declared.state.Party.{Party}
 use Rattle.opfs_machine.specs.declared.state.Sizes.{Sizes}
 use Rattle.opfs_machine.specs.declared.state.State.{State}
-use Rattle.opfs_machine.specs.Agents.{agent_of, own_of, open_handle, with_agent, with_own, of_row, stream_in, handle_in, party_of, party_with, same_party, is_posted, is_unposted, is_no_help, others_stuck}
+use Rattle.opfs_machine.specs.Agents.{agent_of, own_of, open_handle, with_agent, with_own, of_row, stream_in, party_of, party_with, same_party, is_posted, is_unposted, is_no_help, others_stuck}
 use Rattle.opfs_machine.specs.Contents.{in_bytes, outline_of}
 use Rattle.opfs_machine.specs.Effects.{effect, refused, with_changed, closes_stream, aborts_stream, changes_file, flushes, closes_handle}
 use Rattle.opfs_machine.specs.Histories.{after_entry}
-use Rattle.opfs_machine.specs.OwnRows.{is_local, is_closed_stream, is_closed_handle}
+use Rattle.opfs_machine.specs.OwnRows.{is_local, is_closed_stream}
 use Rattle.opfs_machine.specs.Replies.{sizes_of}
-use Rattle.opfs_machine.specs.Steps.{step, after_reply, changed_by, is_refusal}
+use Rattle.opfs_machine.specs.Steps.{after_reply, is_refusal}
 use Rattle.opfs_laws.specs.GoingOn.{IsPending}
-use Rattle.opfs_laws.proofs.Left.{pending-after}
 use Rattle.opfs_laws.proofs.Local.{closed}
 use Rattle.opfs_laws.proofs.Moved.{call-moves}
-use Rattle.opfs_histories.specs.Unread.{unread_entry, IsPendingFor, ArePendingFor}
+use Rattle.opfs_histories.specs.Unread.{IsPendingFor, ArePendingFor}
 use Rattle.opfs_acts.specs.declared.acted.AwaitState.{AwaitState}
 use Rattle.opfs_acts.specs.declared.acted.AwaitState.TheVariants as await
 use Rattle.opfs_acts.specs.Acting.{awaited}
-use Rattle.opfs_turns.proofs.Others.{after-alike, own_entry}
+use Rattle.opfs_turns.proofs.Others.{own_entry}
 use Rattle.opfs_laws.proofs.Going.{not_evict}
 use Rattle.opfs_machine.specs.Histories.{after_op}
 

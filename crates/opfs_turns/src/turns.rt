@@ -125,20 +125,18 @@ impl<S: Store> Turns<S> {
     /// Makes an await: true where the tag was posted, false where nobody is left who could post it. It takes one turn after
     /// another, and sleeps in between. Where there is no memory the agent may have begun to wait; its next await of the tag goes
     /// on with that.
-    pub fn await_tag<R: Wait>(&mut self, rt: &R, court: &Hall<S>, tag: &Text) -> Result<bool, AllocError>
+    pub fn await_tag<R: Wait>(
+        &mut self,
+        rt: &R,
+        court: &Hall<S>,
+        tag: &Text,
+    ) -> Result<bool, AllocError>
         requires own { self.old.pass.hall ≡ court.now }
         requires room { HasRoom self.old }
         ensures awaited { IfOk result (λ posted. HasAwaited S.tells self.old self.new tag.now (await_reply posted)) }
         ensures waited { OnErr result (HasWaited S.tells self.old self.new tag.now) }
     {
-        await_turns(
-            rt,
-            self.alloc,
-            court,
-            &mut self.pass,
-            &mut self.notes,
-            tag,
-        )
+        await_turns(rt, self.alloc, court, &mut self.pass, &mut self.notes, tag)
     }
 
     /// Keeps a local call with its answer until the next turn. Takes no memory.

@@ -43,13 +43,7 @@ fn plan_for(state: AwaitState, begun: bool) -> Plan
     match state {
         AwaitState::Posted => Plan::Answer(true),
         AwaitState::Stuck => Plan::Answer(false),
-        AwaitState::Neither => {
-            if begun {
-                Plan::Look
-            } else {
-                Plan::Begin
-            }
-        }
+        AwaitState::Neither => { if begun { Plan::Look } else { Plan::Begin } }
     }
 }
 
@@ -111,9 +105,7 @@ pub(crate) fn await_turn<S: Store, R: Wait>(
     match plan_for(stands, begun) {
         Plan::Answer(posted) => {
             let op = Op::Await { tag: asked };
-            let acted = turn
-                .value
-                .act(agent, number, &mut notes.pending, room, op, &mut work, &[]);
+            let acted = turn.value.act(agent, number, &mut notes.pending, room, op, &mut work, &[]);
             turn.value.legal();
             court.leave(pass, turn);
             match acted {
@@ -129,9 +121,7 @@ pub(crate) fn await_turn<S: Store, R: Wait>(
         }
         Plan::Begin => {
             let op = Op::Wait { tag: asked };
-            let acted = turn
-                .value
-                .act(agent, number, &mut notes.pending, room, op, &mut work, &[]);
+            let acted = turn.value.act(agent, number, &mut notes.pending, room, op, &mut work, &[]);
             turn.value.legal();
             court.leave(pass, turn);
             court.ring();

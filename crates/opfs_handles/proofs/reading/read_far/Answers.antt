@@ -1,7 +1,6 @@
-use Rattle.std.proofs.Common.{◌≡◌, sym, subst}
+use Rattle.std.proofs.Common.{◌≡◌}
 use Rattle.opfs_base.specs.Texts.{Text}
 use Rattle.opfs_hist.specs.declared.reply.Reply.TheVariants as reply
-use Rattle.opfs_acts.specs.Asking.{IsSmallData, IsSmallPlace}
 use Rattle.opfs_handles.proofs.Facts.{may-read}
 use Rattle.opfs_handles.proofs.Shared.{read-told, read-either}
 use Rattle.opfs_handles.proofs.reading.read_far.Goals as goal

@@ -1,7 +1,5 @@
-use Rattle.std.proofs.Common.{◌≡◌, sym, subst}
-use Rattle.opfs_base.specs.Texts.{Text}
+use Rattle.std.proofs.Common.{◌≡◌}
 use Rattle.opfs_hist.specs.declared.reply.Reply.TheVariants as reply
-use Rattle.opfs_acts.specs.Asking.{IsSmallData, IsSmallPlace}
 use Rattle.opfs_handles.proofs.Facts.{may-flush}
 use Rattle.opfs_handles.proofs.Shared.{flush-done, flushed-either}
 use Rattle.opfs_handles.proofs.writing.flush.Goals as goal

@@ -19,13 +19,13 @@ use Rattle.opfs_turns.proofs.waiting.await_turn.Goals as goal
 pub act-acted-requires : goal.act-acted-requires
 act-acted-requires g c = record {
   may =
-    subst (λ (k : ℕ). MayAct g.S.Store.tells (g.S.Store.opened (g.S.Chronicle.opening c.enter-turn.result.value)) (g.S.Chronicle.entries c.enter-turn.result.value) c.args.notes.now.pending (record { agent = k; number = c.args.notes.now.number; op = op.Await c.in_ok-room.field-0.tag }) c.fresh-work.result []) (sym c.agent-agent.ensures)
-    (subst (λ (t : Text). MayAct g.S.Store.tells (g.S.Store.opened (g.S.Chronicle.opening c.enter-turn.result.value)) (g.S.Chronicle.entries c.enter-turn.result.value) c.args.notes.now.pending (record { agent = c.args.pass.now.agent; number = c.args.notes.now.number; op = op.Await t }) c.fresh-work.result []) (sym c.in_ok-room.ensures.0)
-    (await-acts g.S.Store.tells g.S.Store.opened c.args.pass.now c.args.notes.now g.S.Chronicle.owner g.met.S.Store.owned c.requires.agent
-    (g.S.Store.opened (g.S.Chronicle.opening c.enter-turn.result.value)) (ap g.S.Store.opened (c.enter-turn.ensures.opening ∙ ap (λ h. h.opening) (sym c.requires.own)))
-    (g.S.Chronicle.entries c.enter-turn.result.value) c.enter-turn.ensures.grows c.legal.ensures
-    c.args.tag.now c.await_state-stands.result (c.await_state-stands.ensures ∙ (λ i. awaited (state_after (g.S.Store.opened (g.S.Chronicle.opening c.enter-turn.result.value)) (g.S.Chronicle.entries c.enter-turn.result.value)) (c.agent-agent.ensures i) (c.as_str.ensures i))) c.waits_for-begun.result c.waits_for-begun.ensures
-    c.in-Answer.posted c.fresh-work.result c.fresh-work.ensures c.requires.room (sym c.plan_for.ensures ∙ c.in-Answer.is)));
+      subst (λ (k : ℕ). MayAct g.S.Store.tells (g.S.Store.opened (g.S.Chronicle.opening c.enter-turn.result.value)) (g.S.Chronicle.entries c.enter-turn.result.value) c.args.notes.now.pending (record { agent = k; number = c.args.notes.now.number; op = op.Await c.in_ok-room.field-0.tag }) c.fresh-work.result []) (sym c.agent-agent.ensures)
+      (subst (λ (t : Text). MayAct g.S.Store.tells (g.S.Store.opened (g.S.Chronicle.opening c.enter-turn.result.value)) (g.S.Chronicle.entries c.enter-turn.result.value) c.args.notes.now.pending (record { agent = c.args.pass.now.agent; number = c.args.notes.now.number; op = op.Await t }) c.fresh-work.result []) (sym c.in_ok-room.ensures.0)
+      (await-acts g.S.Store.tells g.S.Store.opened c.args.pass.now c.args.notes.now g.S.Chronicle.owner g.met.S.Store.owned c.requires.agent
+      (g.S.Store.opened (g.S.Chronicle.opening c.enter-turn.result.value)) (ap g.S.Store.opened (c.enter-turn.ensures.opening ∙ ap (λ h. h.opening) (sym c.requires.own)))
+      (g.S.Chronicle.entries c.enter-turn.result.value) c.enter-turn.ensures.grows c.legal.ensures
+      c.args.tag.now c.await_state-stands.result (c.await_state-stands.ensures ∙ (λ i. awaited (state_after (g.S.Store.opened (g.S.Chronicle.opening c.enter-turn.result.value)) (g.S.Chronicle.entries c.enter-turn.result.value)) (c.agent-agent.ensures i) (c.as_str.ensures i))) c.waits_for-begun.result c.waits_for-begun.ensures
+      c.in-Answer.posted c.fresh-work.result c.fresh-work.ensures c.requires.room (sym c.plan_for.ensures ∙ c.in-Answer.is)));
 }
 
 pub leave-requires-clause-adds : goal.leave-requires-clause-adds
@@ -67,38 +67,38 @@ returns-in-Ok-clause-agent g c =
 pub returns-in-Ok-clause-turned : goal.returns-in-Ok-clause-turned
 returns-in-Ok-clause-turned g c = record {
   turned =
-    ask-turned g.S.Store.tells g.S.Store.opened c.args.pass.now c.args.notes.now g.S.Chronicle.owner g.met.S.Store.owned c.requires.agent
-    (g.S.Store.opened (g.S.Chronicle.opening c.enter-turn.result.value)) (ap g.S.Store.opened (c.enter-turn.ensures.opening ∙ ap (λ h. h.opening) (sym c.requires.own)))
-    (g.S.Chronicle.entries c.enter-turn.result.value) c.enter-turn.ensures.grows c.legal.ensures
-    (op.Await c.args.tag.now) c.in-Ok.acted.reply (g.S.Chronicle.entries c.act-acted.new.self)
-    (subst (λ (t : Text). IsActed g.S.Store.tells (g.S.Store.opened (g.S.Chronicle.opening c.enter-turn.result.value)) (g.S.Chronicle.entries c.enter-turn.result.value) c.args.notes.now.pending (record { agent = c.args.pass.now.agent; number = c.args.notes.now.number; op = op.Await t }) c.in-Ok.acted.reply (g.S.Chronicle.entries c.act-acted.new.self)) c.in_ok-room.ensures.0
-    (subst (λ (k : ℕ). IsActed g.S.Store.tells (g.S.Store.opened (g.S.Chronicle.opening c.enter-turn.result.value)) (g.S.Chronicle.entries c.enter-turn.result.value) c.args.notes.now.pending (record { agent = k; number = c.args.notes.now.number; op = op.Await c.in_ok-room.field-0.tag }) c.in-Ok.acted.reply (g.S.Chronicle.entries c.act-acted.new.self)) c.agent-agent.ensures c.in-Ok.ensures.acted))
-    (subst (λ o. IsTold g.S.Store.tells (g.S.Store.opened o) (g.S.Chronicle.entries c.act-acted.new.self)) c.act-acted.ensures.opening c.legal-in-Answer.ensures)
-    c.leave.new.pass (c.leave.ensures ∙ ap (λ p. at_rest p (g.S.Chronicle.entries c.act-acted.new.self)) c.enter-turn.ensures.pass)
-    c.act-acted.new.pending c.in-Ok.ensures.taken c.in-Ok.acted.rows
-    (await_reply c.in-Answer.posted) None (c.args.notes.now.number + 1)
-    (await-asks g.S.Store.tells g.S.Store.opened c.args.pass.now c.args.notes.now g.S.Chronicle.owner g.met.S.Store.owned c.requires.agent
-    (g.S.Store.opened (g.S.Chronicle.opening c.enter-turn.result.value)) (ap g.S.Store.opened (c.enter-turn.ensures.opening ∙ ap (λ h. h.opening) (sym c.requires.own)))
-    (g.S.Chronicle.entries c.enter-turn.result.value) c.enter-turn.ensures.grows c.legal.ensures
-    c.args.tag.now c.await_state-stands.result (c.await_state-stands.ensures ∙ (λ i. awaited (state_after (g.S.Store.opened (g.S.Chronicle.opening c.enter-turn.result.value)) (g.S.Chronicle.entries c.enter-turn.result.value)) (c.agent-agent.ensures i) (c.as_str.ensures i))) c.waits_for-begun.result c.waits_for-begun.ensures
-    c.in-Answer.posted (sym c.plan_for.ensures ∙ c.in-Answer.is));
+      ask-turned g.S.Store.tells g.S.Store.opened c.args.pass.now c.args.notes.now g.S.Chronicle.owner g.met.S.Store.owned c.requires.agent
+      (g.S.Store.opened (g.S.Chronicle.opening c.enter-turn.result.value)) (ap g.S.Store.opened (c.enter-turn.ensures.opening ∙ ap (λ h. h.opening) (sym c.requires.own)))
+      (g.S.Chronicle.entries c.enter-turn.result.value) c.enter-turn.ensures.grows c.legal.ensures
+      (op.Await c.args.tag.now) c.in-Ok.acted.reply (g.S.Chronicle.entries c.act-acted.new.self)
+      (subst (λ (t : Text). IsActed g.S.Store.tells (g.S.Store.opened (g.S.Chronicle.opening c.enter-turn.result.value)) (g.S.Chronicle.entries c.enter-turn.result.value) c.args.notes.now.pending (record { agent = c.args.pass.now.agent; number = c.args.notes.now.number; op = op.Await t }) c.in-Ok.acted.reply (g.S.Chronicle.entries c.act-acted.new.self)) c.in_ok-room.ensures.0
+      (subst (λ (k : ℕ). IsActed g.S.Store.tells (g.S.Store.opened (g.S.Chronicle.opening c.enter-turn.result.value)) (g.S.Chronicle.entries c.enter-turn.result.value) c.args.notes.now.pending (record { agent = k; number = c.args.notes.now.number; op = op.Await c.in_ok-room.field-0.tag }) c.in-Ok.acted.reply (g.S.Chronicle.entries c.act-acted.new.self)) c.agent-agent.ensures c.in-Ok.ensures.acted))
+      (subst (λ o. IsTold g.S.Store.tells (g.S.Store.opened o) (g.S.Chronicle.entries c.act-acted.new.self)) c.act-acted.ensures.opening c.legal-in-Answer.ensures)
+      c.leave.new.pass (c.leave.ensures ∙ ap (λ p. at_rest p (g.S.Chronicle.entries c.act-acted.new.self)) c.enter-turn.ensures.pass)
+      c.act-acted.new.pending c.in-Ok.ensures.taken c.in-Ok.acted.rows
+      (await_reply c.in-Answer.posted) None (c.args.notes.now.number + 1)
+      (await-asks g.S.Store.tells g.S.Store.opened c.args.pass.now c.args.notes.now g.S.Chronicle.owner g.met.S.Store.owned c.requires.agent
+      (g.S.Store.opened (g.S.Chronicle.opening c.enter-turn.result.value)) (ap g.S.Store.opened (c.enter-turn.ensures.opening ∙ ap (λ h. h.opening) (sym c.requires.own)))
+      (g.S.Chronicle.entries c.enter-turn.result.value) c.enter-turn.ensures.grows c.legal.ensures
+      c.args.tag.now c.await_state-stands.result (c.await_state-stands.ensures ∙ (λ i. awaited (state_after (g.S.Store.opened (g.S.Chronicle.opening c.enter-turn.result.value)) (g.S.Chronicle.entries c.enter-turn.result.value)) (c.agent-agent.ensures i) (c.as_str.ensures i))) c.waits_for-begun.result c.waits_for-begun.ensures
+      c.in-Answer.posted (sym c.plan_for.ensures ∙ c.in-Answer.is));
   rest =
-    ask-rest g.S.Store.tells g.S.Store.opened c.args.pass.now c.args.notes.now g.S.Chronicle.owner g.met.S.Store.owned c.requires.agent
-    (g.S.Store.opened (g.S.Chronicle.opening c.enter-turn.result.value)) (ap g.S.Store.opened (c.enter-turn.ensures.opening ∙ ap (λ h. h.opening) (sym c.requires.own)))
-    (g.S.Chronicle.entries c.enter-turn.result.value) c.enter-turn.ensures.grows c.legal.ensures
-    (op.Await c.args.tag.now) c.in-Ok.acted.reply (g.S.Chronicle.entries c.act-acted.new.self)
-    (subst (λ (t : Text). IsActed g.S.Store.tells (g.S.Store.opened (g.S.Chronicle.opening c.enter-turn.result.value)) (g.S.Chronicle.entries c.enter-turn.result.value) c.args.notes.now.pending (record { agent = c.args.pass.now.agent; number = c.args.notes.now.number; op = op.Await t }) c.in-Ok.acted.reply (g.S.Chronicle.entries c.act-acted.new.self)) c.in_ok-room.ensures.0
-    (subst (λ (k : ℕ). IsActed g.S.Store.tells (g.S.Store.opened (g.S.Chronicle.opening c.enter-turn.result.value)) (g.S.Chronicle.entries c.enter-turn.result.value) c.args.notes.now.pending (record { agent = k; number = c.args.notes.now.number; op = op.Await c.in_ok-room.field-0.tag }) c.in-Ok.acted.reply (g.S.Chronicle.entries c.act-acted.new.self)) c.agent-agent.ensures c.in-Ok.ensures.acted))
-    (subst (λ o. IsTold g.S.Store.tells (g.S.Store.opened o) (g.S.Chronicle.entries c.act-acted.new.self)) c.act-acted.ensures.opening c.legal-in-Answer.ensures)
-    c.leave.new.pass (c.leave.ensures ∙ ap (λ p. at_rest p (g.S.Chronicle.entries c.act-acted.new.self)) c.enter-turn.ensures.pass)
-    c.act-acted.new.pending c.in-Ok.ensures.taken c.in-Ok.acted.rows
-    (await_reply c.in-Answer.posted) None (c.args.notes.now.number + 1)
-    (await-asks g.S.Store.tells g.S.Store.opened c.args.pass.now c.args.notes.now g.S.Chronicle.owner g.met.S.Store.owned c.requires.agent
-    (g.S.Store.opened (g.S.Chronicle.opening c.enter-turn.result.value)) (ap g.S.Store.opened (c.enter-turn.ensures.opening ∙ ap (λ h. h.opening) (sym c.requires.own)))
-    (g.S.Chronicle.entries c.enter-turn.result.value) c.enter-turn.ensures.grows c.legal.ensures
-    c.args.tag.now c.await_state-stands.result (c.await_state-stands.ensures ∙ (λ i. awaited (state_after (g.S.Store.opened (g.S.Chronicle.opening c.enter-turn.result.value)) (g.S.Chronicle.entries c.enter-turn.result.value)) (c.agent-agent.ensures i) (c.as_str.ensures i))) c.waits_for-begun.result c.waits_for-begun.ensures
-    c.in-Answer.posted (sym c.plan_for.ensures ∙ c.in-Answer.is))
-    (c.in-Ok.ensures.rows ∙ ap (λ (k : ℕ). length (agent_of (state_after (g.S.Store.opened (g.S.Chronicle.opening c.enter-turn.result.value)) (g.S.Chronicle.entries c.act-acted.new.self)) k).own) c.agent-agent.ensures);
+      ask-rest g.S.Store.tells g.S.Store.opened c.args.pass.now c.args.notes.now g.S.Chronicle.owner g.met.S.Store.owned c.requires.agent
+      (g.S.Store.opened (g.S.Chronicle.opening c.enter-turn.result.value)) (ap g.S.Store.opened (c.enter-turn.ensures.opening ∙ ap (λ h. h.opening) (sym c.requires.own)))
+      (g.S.Chronicle.entries c.enter-turn.result.value) c.enter-turn.ensures.grows c.legal.ensures
+      (op.Await c.args.tag.now) c.in-Ok.acted.reply (g.S.Chronicle.entries c.act-acted.new.self)
+      (subst (λ (t : Text). IsActed g.S.Store.tells (g.S.Store.opened (g.S.Chronicle.opening c.enter-turn.result.value)) (g.S.Chronicle.entries c.enter-turn.result.value) c.args.notes.now.pending (record { agent = c.args.pass.now.agent; number = c.args.notes.now.number; op = op.Await t }) c.in-Ok.acted.reply (g.S.Chronicle.entries c.act-acted.new.self)) c.in_ok-room.ensures.0
+      (subst (λ (k : ℕ). IsActed g.S.Store.tells (g.S.Store.opened (g.S.Chronicle.opening c.enter-turn.result.value)) (g.S.Chronicle.entries c.enter-turn.result.value) c.args.notes.now.pending (record { agent = k; number = c.args.notes.now.number; op = op.Await c.in_ok-room.field-0.tag }) c.in-Ok.acted.reply (g.S.Chronicle.entries c.act-acted.new.self)) c.agent-agent.ensures c.in-Ok.ensures.acted))
+      (subst (λ o. IsTold g.S.Store.tells (g.S.Store.opened o) (g.S.Chronicle.entries c.act-acted.new.self)) c.act-acted.ensures.opening c.legal-in-Answer.ensures)
+      c.leave.new.pass (c.leave.ensures ∙ ap (λ p. at_rest p (g.S.Chronicle.entries c.act-acted.new.self)) c.enter-turn.ensures.pass)
+      c.act-acted.new.pending c.in-Ok.ensures.taken c.in-Ok.acted.rows
+      (await_reply c.in-Answer.posted) None (c.args.notes.now.number + 1)
+      (await-asks g.S.Store.tells g.S.Store.opened c.args.pass.now c.args.notes.now g.S.Chronicle.owner g.met.S.Store.owned c.requires.agent
+      (g.S.Store.opened (g.S.Chronicle.opening c.enter-turn.result.value)) (ap g.S.Store.opened (c.enter-turn.ensures.opening ∙ ap (λ h. h.opening) (sym c.requires.own)))
+      (g.S.Chronicle.entries c.enter-turn.result.value) c.enter-turn.ensures.grows c.legal.ensures
+      c.args.tag.now c.await_state-stands.result (c.await_state-stands.ensures ∙ (λ i. awaited (state_after (g.S.Store.opened (g.S.Chronicle.opening c.enter-turn.result.value)) (g.S.Chronicle.entries c.enter-turn.result.value)) (c.agent-agent.ensures i) (c.as_str.ensures i))) c.waits_for-begun.result c.waits_for-begun.ensures
+      c.in-Answer.posted (sym c.plan_for.ensures ∙ c.in-Answer.is))
+      (c.in-Ok.ensures.rows ∙ ap (λ (k : ℕ). length (agent_of (state_after (g.S.Store.opened (g.S.Chronicle.opening c.enter-turn.result.value)) (g.S.Chronicle.entries c.act-acted.new.self)) k).own) c.agent-agent.ensures);
 }
 
 pub returns-in-Answer-clause-agent : goal.returns-in-Answer-clause-agent
@@ -120,13 +120,13 @@ returns-in-Answer-clause-turned g c = unacted-looked g.S.Store.tells g.S.Store.o
 pub act-acted-requires-in-Begin : goal.act-acted-requires-in-Begin
 act-acted-requires-in-Begin g c = record {
   may =
-    subst (λ (k : ℕ). MayAct g.S.Store.tells (g.S.Store.opened (g.S.Chronicle.opening c.enter-turn.result.value)) (g.S.Chronicle.entries c.enter-turn.result.value) c.args.notes.now.pending (record { agent = k; number = c.args.notes.now.number; op = op.Wait c.in_ok-room.field-0.tag }) c.fresh-work.result []) (sym c.agent-agent.ensures)
-    (subst (λ (t : Text). MayAct g.S.Store.tells (g.S.Store.opened (g.S.Chronicle.opening c.enter-turn.result.value)) (g.S.Chronicle.entries c.enter-turn.result.value) c.args.notes.now.pending (record { agent = c.args.pass.now.agent; number = c.args.notes.now.number; op = op.Wait t }) c.fresh-work.result []) (sym c.in_ok-room.ensures.0)
-    (wait-acts g.S.Store.tells g.S.Store.opened c.args.pass.now c.args.notes.now g.S.Chronicle.owner g.met.S.Store.owned c.requires.agent
-    (g.S.Store.opened (g.S.Chronicle.opening c.enter-turn.result.value)) (ap g.S.Store.opened (c.enter-turn.ensures.opening ∙ ap (λ h. h.opening) (sym c.requires.own)))
-    (g.S.Chronicle.entries c.enter-turn.result.value) c.enter-turn.ensures.grows c.legal.ensures
-    c.args.tag.now c.await_state-stands.result (c.await_state-stands.ensures ∙ (λ i. awaited (state_after (g.S.Store.opened (g.S.Chronicle.opening c.enter-turn.result.value)) (g.S.Chronicle.entries c.enter-turn.result.value)) (c.agent-agent.ensures i) (c.as_str.ensures i))) c.waits_for-begun.result c.waits_for-begun.ensures
-    c.fresh-work.result c.fresh-work.ensures c.requires.room (sym c.plan_for.ensures ∙ c.in-Begin.is)));
+      subst (λ (k : ℕ). MayAct g.S.Store.tells (g.S.Store.opened (g.S.Chronicle.opening c.enter-turn.result.value)) (g.S.Chronicle.entries c.enter-turn.result.value) c.args.notes.now.pending (record { agent = k; number = c.args.notes.now.number; op = op.Wait c.in_ok-room.field-0.tag }) c.fresh-work.result []) (sym c.agent-agent.ensures)
+      (subst (λ (t : Text). MayAct g.S.Store.tells (g.S.Store.opened (g.S.Chronicle.opening c.enter-turn.result.value)) (g.S.Chronicle.entries c.enter-turn.result.value) c.args.notes.now.pending (record { agent = c.args.pass.now.agent; number = c.args.notes.now.number; op = op.Wait t }) c.fresh-work.result []) (sym c.in_ok-room.ensures.0)
+      (wait-acts g.S.Store.tells g.S.Store.opened c.args.pass.now c.args.notes.now g.S.Chronicle.owner g.met.S.Store.owned c.requires.agent
+      (g.S.Store.opened (g.S.Chronicle.opening c.enter-turn.result.value)) (ap g.S.Store.opened (c.enter-turn.ensures.opening ∙ ap (λ h. h.opening) (sym c.requires.own)))
+      (g.S.Chronicle.entries c.enter-turn.result.value) c.enter-turn.ensures.grows c.legal.ensures
+      c.args.tag.now c.await_state-stands.result (c.await_state-stands.ensures ∙ (λ i. awaited (state_after (g.S.Store.opened (g.S.Chronicle.opening c.enter-turn.result.value)) (g.S.Chronicle.entries c.enter-turn.result.value)) (c.agent-agent.ensures i) (c.as_str.ensures i))) c.waits_for-begun.result c.waits_for-begun.ensures
+      c.fresh-work.result c.fresh-work.ensures c.requires.room (sym c.plan_for.ensures ∙ c.in-Begin.is)));
 }
 
 pub leave-requires-in-Begin-clause-adds : goal.leave-requires-in-Begin-clause-adds
@@ -167,42 +167,42 @@ returns-in-Ok-acted-clause-turned g c =
     inr (subst (λ (n : Text). IsWaiting g.S.Store.tells (seen g.S.Store.opened c.args.pass.now c.args.notes.now) (seen g.S.Store.opened c.leave-in-Begin.new.pass (record c.args.notes.now { pending = c.act-acted-in-Begin.new.pending; entries = c.args.notes.now.entries + 1; rows = c.in-Ok-acted.acted.rows; waiting = Some n })) c.args.tag.now) (sym c.in_ok-room.ensures.1)
     (record {
       turned =
-        ask-turned g.S.Store.tells g.S.Store.opened c.args.pass.now c.args.notes.now g.S.Chronicle.owner g.met.S.Store.owned c.requires.agent
-    (g.S.Store.opened (g.S.Chronicle.opening c.enter-turn.result.value)) (ap g.S.Store.opened (c.enter-turn.ensures.opening ∙ ap (λ h. h.opening) (sym c.requires.own)))
-    (g.S.Chronicle.entries c.enter-turn.result.value) c.enter-turn.ensures.grows c.legal.ensures
-    (op.Wait c.args.tag.now) c.in-Ok-acted.acted.reply (g.S.Chronicle.entries c.act-acted-in-Begin.new.self)
-    (subst (λ (t : Text). IsActed g.S.Store.tells (g.S.Store.opened (g.S.Chronicle.opening c.enter-turn.result.value)) (g.S.Chronicle.entries c.enter-turn.result.value) c.args.notes.now.pending (record { agent = c.args.pass.now.agent; number = c.args.notes.now.number; op = op.Wait t }) c.in-Ok-acted.acted.reply (g.S.Chronicle.entries c.act-acted-in-Begin.new.self)) c.in_ok-room.ensures.0
-    (subst (λ (k : ℕ). IsActed g.S.Store.tells (g.S.Store.opened (g.S.Chronicle.opening c.enter-turn.result.value)) (g.S.Chronicle.entries c.enter-turn.result.value) c.args.notes.now.pending (record { agent = k; number = c.args.notes.now.number; op = op.Wait c.in_ok-room.field-0.tag }) c.in-Ok-acted.acted.reply (g.S.Chronicle.entries c.act-acted-in-Begin.new.self)) c.agent-agent.ensures c.in-Ok-acted.ensures.acted))
-    (subst (λ o. IsTold g.S.Store.tells (g.S.Store.opened o) (g.S.Chronicle.entries c.act-acted-in-Begin.new.self)) c.act-acted-in-Begin.ensures.opening c.legal-in-Begin.ensures)
-    c.leave-in-Begin.new.pass (c.leave-in-Begin.ensures ∙ ap (λ p. at_rest p (g.S.Chronicle.entries c.act-acted-in-Begin.new.self)) c.enter-turn.ensures.pass)
-    c.act-acted-in-Begin.new.pending c.in-Ok-acted.ensures.taken c.in-Ok-acted.acted.rows
-    reply.Done (Some c.args.tag.now) c.args.notes.now.number
-    (wait-asks g.S.Store.tells g.S.Store.opened c.args.pass.now c.args.notes.now g.S.Chronicle.owner g.met.S.Store.owned c.requires.agent
-    (g.S.Store.opened (g.S.Chronicle.opening c.enter-turn.result.value)) (ap g.S.Store.opened (c.enter-turn.ensures.opening ∙ ap (λ h. h.opening) (sym c.requires.own)))
-    (g.S.Chronicle.entries c.enter-turn.result.value) c.enter-turn.ensures.grows c.legal.ensures
-    c.args.tag.now c.await_state-stands.result (c.await_state-stands.ensures ∙ (λ i. awaited (state_after (g.S.Store.opened (g.S.Chronicle.opening c.enter-turn.result.value)) (g.S.Chronicle.entries c.enter-turn.result.value)) (c.agent-agent.ensures i) (c.as_str.ensures i))) c.waits_for-begun.result c.waits_for-begun.ensures);
+          ask-turned g.S.Store.tells g.S.Store.opened c.args.pass.now c.args.notes.now g.S.Chronicle.owner g.met.S.Store.owned c.requires.agent
+          (g.S.Store.opened (g.S.Chronicle.opening c.enter-turn.result.value)) (ap g.S.Store.opened (c.enter-turn.ensures.opening ∙ ap (λ h. h.opening) (sym c.requires.own)))
+          (g.S.Chronicle.entries c.enter-turn.result.value) c.enter-turn.ensures.grows c.legal.ensures
+          (op.Wait c.args.tag.now) c.in-Ok-acted.acted.reply (g.S.Chronicle.entries c.act-acted-in-Begin.new.self)
+          (subst (λ (t : Text). IsActed g.S.Store.tells (g.S.Store.opened (g.S.Chronicle.opening c.enter-turn.result.value)) (g.S.Chronicle.entries c.enter-turn.result.value) c.args.notes.now.pending (record { agent = c.args.pass.now.agent; number = c.args.notes.now.number; op = op.Wait t }) c.in-Ok-acted.acted.reply (g.S.Chronicle.entries c.act-acted-in-Begin.new.self)) c.in_ok-room.ensures.0
+          (subst (λ (k : ℕ). IsActed g.S.Store.tells (g.S.Store.opened (g.S.Chronicle.opening c.enter-turn.result.value)) (g.S.Chronicle.entries c.enter-turn.result.value) c.args.notes.now.pending (record { agent = k; number = c.args.notes.now.number; op = op.Wait c.in_ok-room.field-0.tag }) c.in-Ok-acted.acted.reply (g.S.Chronicle.entries c.act-acted-in-Begin.new.self)) c.agent-agent.ensures c.in-Ok-acted.ensures.acted))
+          (subst (λ o. IsTold g.S.Store.tells (g.S.Store.opened o) (g.S.Chronicle.entries c.act-acted-in-Begin.new.self)) c.act-acted-in-Begin.ensures.opening c.legal-in-Begin.ensures)
+          c.leave-in-Begin.new.pass (c.leave-in-Begin.ensures ∙ ap (λ p. at_rest p (g.S.Chronicle.entries c.act-acted-in-Begin.new.self)) c.enter-turn.ensures.pass)
+          c.act-acted-in-Begin.new.pending c.in-Ok-acted.ensures.taken c.in-Ok-acted.acted.rows
+          reply.Done (Some c.args.tag.now) c.args.notes.now.number
+          (wait-asks g.S.Store.tells g.S.Store.opened c.args.pass.now c.args.notes.now g.S.Chronicle.owner g.met.S.Store.owned c.requires.agent
+          (g.S.Store.opened (g.S.Chronicle.opening c.enter-turn.result.value)) (ap g.S.Store.opened (c.enter-turn.ensures.opening ∙ ap (λ h. h.opening) (sym c.requires.own)))
+          (g.S.Chronicle.entries c.enter-turn.result.value) c.enter-turn.ensures.grows c.legal.ensures
+          c.args.tag.now c.await_state-stands.result (c.await_state-stands.ensures ∙ (λ i. awaited (state_after (g.S.Store.opened (g.S.Chronicle.opening c.enter-turn.result.value)) (g.S.Chronicle.entries c.enter-turn.result.value)) (c.agent-agent.ensures i) (c.as_str.ensures i))) c.waits_for-begun.result c.waits_for-begun.ensures);
       first =
-        wait-first g.S.Store.tells g.S.Store.opened c.args.pass.now c.args.notes.now g.S.Chronicle.owner g.met.S.Store.owned c.requires.agent
-    (g.S.Store.opened (g.S.Chronicle.opening c.enter-turn.result.value)) (ap g.S.Store.opened (c.enter-turn.ensures.opening ∙ ap (λ h. h.opening) (sym c.requires.own)))
-    (g.S.Chronicle.entries c.enter-turn.result.value) c.enter-turn.ensures.grows c.legal.ensures
-        c.args.tag.now c.await_state-stands.result (c.await_state-stands.ensures ∙ (λ i. awaited (state_after (g.S.Store.opened (g.S.Chronicle.opening c.enter-turn.result.value)) (g.S.Chronicle.entries c.enter-turn.result.value)) (c.agent-agent.ensures i) (c.as_str.ensures i))) c.waits_for-begun.result c.waits_for-begun.ensures
-        (sym c.plan_for.ensures ∙ c.in-Begin.is);
+          wait-first g.S.Store.tells g.S.Store.opened c.args.pass.now c.args.notes.now g.S.Chronicle.owner g.met.S.Store.owned c.requires.agent
+          (g.S.Store.opened (g.S.Chronicle.opening c.enter-turn.result.value)) (ap g.S.Store.opened (c.enter-turn.ensures.opening ∙ ap (λ h. h.opening) (sym c.requires.own)))
+          (g.S.Chronicle.entries c.enter-turn.result.value) c.enter-turn.ensures.grows c.legal.ensures
+          c.args.tag.now c.await_state-stands.result (c.await_state-stands.ensures ∙ (λ i. awaited (state_after (g.S.Store.opened (g.S.Chronicle.opening c.enter-turn.result.value)) (g.S.Chronicle.entries c.enter-turn.result.value)) (c.agent-agent.ensures i) (c.as_str.ensures i))) c.waits_for-begun.result c.waits_for-begun.ensures
+          (sym c.plan_for.ensures ∙ c.in-Begin.is);
       rest =
-        ask-rest g.S.Store.tells g.S.Store.opened c.args.pass.now c.args.notes.now g.S.Chronicle.owner g.met.S.Store.owned c.requires.agent
-    (g.S.Store.opened (g.S.Chronicle.opening c.enter-turn.result.value)) (ap g.S.Store.opened (c.enter-turn.ensures.opening ∙ ap (λ h. h.opening) (sym c.requires.own)))
-    (g.S.Chronicle.entries c.enter-turn.result.value) c.enter-turn.ensures.grows c.legal.ensures
-    (op.Wait c.args.tag.now) c.in-Ok-acted.acted.reply (g.S.Chronicle.entries c.act-acted-in-Begin.new.self)
-    (subst (λ (t : Text). IsActed g.S.Store.tells (g.S.Store.opened (g.S.Chronicle.opening c.enter-turn.result.value)) (g.S.Chronicle.entries c.enter-turn.result.value) c.args.notes.now.pending (record { agent = c.args.pass.now.agent; number = c.args.notes.now.number; op = op.Wait t }) c.in-Ok-acted.acted.reply (g.S.Chronicle.entries c.act-acted-in-Begin.new.self)) c.in_ok-room.ensures.0
-    (subst (λ (k : ℕ). IsActed g.S.Store.tells (g.S.Store.opened (g.S.Chronicle.opening c.enter-turn.result.value)) (g.S.Chronicle.entries c.enter-turn.result.value) c.args.notes.now.pending (record { agent = k; number = c.args.notes.now.number; op = op.Wait c.in_ok-room.field-0.tag }) c.in-Ok-acted.acted.reply (g.S.Chronicle.entries c.act-acted-in-Begin.new.self)) c.agent-agent.ensures c.in-Ok-acted.ensures.acted))
-    (subst (λ o. IsTold g.S.Store.tells (g.S.Store.opened o) (g.S.Chronicle.entries c.act-acted-in-Begin.new.self)) c.act-acted-in-Begin.ensures.opening c.legal-in-Begin.ensures)
-    c.leave-in-Begin.new.pass (c.leave-in-Begin.ensures ∙ ap (λ p. at_rest p (g.S.Chronicle.entries c.act-acted-in-Begin.new.self)) c.enter-turn.ensures.pass)
-    c.act-acted-in-Begin.new.pending c.in-Ok-acted.ensures.taken c.in-Ok-acted.acted.rows
-    reply.Done (Some c.args.tag.now) c.args.notes.now.number
-    (wait-asks g.S.Store.tells g.S.Store.opened c.args.pass.now c.args.notes.now g.S.Chronicle.owner g.met.S.Store.owned c.requires.agent
-    (g.S.Store.opened (g.S.Chronicle.opening c.enter-turn.result.value)) (ap g.S.Store.opened (c.enter-turn.ensures.opening ∙ ap (λ h. h.opening) (sym c.requires.own)))
-    (g.S.Chronicle.entries c.enter-turn.result.value) c.enter-turn.ensures.grows c.legal.ensures
-    c.args.tag.now c.await_state-stands.result (c.await_state-stands.ensures ∙ (λ i. awaited (state_after (g.S.Store.opened (g.S.Chronicle.opening c.enter-turn.result.value)) (g.S.Chronicle.entries c.enter-turn.result.value)) (c.agent-agent.ensures i) (c.as_str.ensures i))) c.waits_for-begun.result c.waits_for-begun.ensures)
-    (c.in-Ok-acted.ensures.rows ∙ ap (λ (k : ℕ). length (agent_of (state_after (g.S.Store.opened (g.S.Chronicle.opening c.enter-turn.result.value)) (g.S.Chronicle.entries c.act-acted-in-Begin.new.self)) k).own) c.agent-agent.ensures);
+          ask-rest g.S.Store.tells g.S.Store.opened c.args.pass.now c.args.notes.now g.S.Chronicle.owner g.met.S.Store.owned c.requires.agent
+          (g.S.Store.opened (g.S.Chronicle.opening c.enter-turn.result.value)) (ap g.S.Store.opened (c.enter-turn.ensures.opening ∙ ap (λ h. h.opening) (sym c.requires.own)))
+          (g.S.Chronicle.entries c.enter-turn.result.value) c.enter-turn.ensures.grows c.legal.ensures
+          (op.Wait c.args.tag.now) c.in-Ok-acted.acted.reply (g.S.Chronicle.entries c.act-acted-in-Begin.new.self)
+          (subst (λ (t : Text). IsActed g.S.Store.tells (g.S.Store.opened (g.S.Chronicle.opening c.enter-turn.result.value)) (g.S.Chronicle.entries c.enter-turn.result.value) c.args.notes.now.pending (record { agent = c.args.pass.now.agent; number = c.args.notes.now.number; op = op.Wait t }) c.in-Ok-acted.acted.reply (g.S.Chronicle.entries c.act-acted-in-Begin.new.self)) c.in_ok-room.ensures.0
+          (subst (λ (k : ℕ). IsActed g.S.Store.tells (g.S.Store.opened (g.S.Chronicle.opening c.enter-turn.result.value)) (g.S.Chronicle.entries c.enter-turn.result.value) c.args.notes.now.pending (record { agent = k; number = c.args.notes.now.number; op = op.Wait c.in_ok-room.field-0.tag }) c.in-Ok-acted.acted.reply (g.S.Chronicle.entries c.act-acted-in-Begin.new.self)) c.agent-agent.ensures c.in-Ok-acted.ensures.acted))
+          (subst (λ o. IsTold g.S.Store.tells (g.S.Store.opened o) (g.S.Chronicle.entries c.act-acted-in-Begin.new.self)) c.act-acted-in-Begin.ensures.opening c.legal-in-Begin.ensures)
+          c.leave-in-Begin.new.pass (c.leave-in-Begin.ensures ∙ ap (λ p. at_rest p (g.S.Chronicle.entries c.act-acted-in-Begin.new.self)) c.enter-turn.ensures.pass)
+          c.act-acted-in-Begin.new.pending c.in-Ok-acted.ensures.taken c.in-Ok-acted.acted.rows
+          reply.Done (Some c.args.tag.now) c.args.notes.now.number
+          (wait-asks g.S.Store.tells g.S.Store.opened c.args.pass.now c.args.notes.now g.S.Chronicle.owner g.met.S.Store.owned c.requires.agent
+          (g.S.Store.opened (g.S.Chronicle.opening c.enter-turn.result.value)) (ap g.S.Store.opened (c.enter-turn.ensures.opening ∙ ap (λ h. h.opening) (sym c.requires.own)))
+          (g.S.Chronicle.entries c.enter-turn.result.value) c.enter-turn.ensures.grows c.legal.ensures
+          c.args.tag.now c.await_state-stands.result (c.await_state-stands.ensures ∙ (λ i. awaited (state_after (g.S.Store.opened (g.S.Chronicle.opening c.enter-turn.result.value)) (g.S.Chronicle.entries c.enter-turn.result.value)) (c.agent-agent.ensures i) (c.as_str.ensures i))) c.waits_for-begun.result c.waits_for-begun.ensures)
+          (c.in-Ok-acted.ensures.rows ∙ ap (λ (k : ℕ). length (agent_of (state_after (g.S.Store.opened (g.S.Chronicle.opening c.enter-turn.result.value)) (g.S.Chronicle.entries c.act-acted-in-Begin.new.self)) k).own) c.agent-agent.ensures);
     }))
 
 pub returns-in-Begin-clause-agent : goal.returns-in-Begin-clause-agent
@@ -231,14 +231,16 @@ returns-clause-agent g c = unacted-agent g.S.Store.tells g.S.Store.opened c.args
 
 pub returns-clause-turned : goal.returns-clause-turned
 returns-clause-turned g c =
-    inl (unacted-looked g.S.Store.tells g.S.Store.opened c.args.pass.now c.args.notes.now g.S.Chronicle.owner g.met.S.Store.owned c.requires.agent
-    (g.S.Store.opened (g.S.Chronicle.opening c.enter-turn.result.value)) (ap g.S.Store.opened (c.enter-turn.ensures.opening ∙ ap (λ h. h.opening) (sym c.requires.own)))
-    (g.S.Chronicle.entries c.enter-turn.result.value) c.enter-turn.ensures.grows c.legal.ensures
-    (g.S.Chronicle.entries c.enter-turn.result.value) refl
-    c.leave-in-Look.new.pass (c.leave-in-Look.ensures ∙ ap (λ p. at_rest p (g.S.Chronicle.entries c.enter-turn.result.value)) c.enter-turn.ensures.pass)
-    c.args.notes.now.pending refl,
-    look-waits g.S.Store.tells g.S.Store.opened c.args.pass.now c.args.notes.now g.S.Chronicle.owner g.met.S.Store.owned c.requires.agent
-    (g.S.Store.opened (g.S.Chronicle.opening c.enter-turn.result.value)) (ap g.S.Store.opened (c.enter-turn.ensures.opening ∙ ap (λ h. h.opening) (sym c.requires.own)))
-    (g.S.Chronicle.entries c.enter-turn.result.value) c.enter-turn.ensures.grows c.legal.ensures
-    c.args.tag.now c.await_state-stands.result (c.await_state-stands.ensures ∙ (λ i. awaited (state_after (g.S.Store.opened (g.S.Chronicle.opening c.enter-turn.result.value)) (g.S.Chronicle.entries c.enter-turn.result.value)) (c.agent-agent.ensures i) (c.as_str.ensures i))) c.waits_for-begun.result c.waits_for-begun.ensures
-    (sym c.plan_for.ensures ∙ c.in-Look.is))
+    inl (
+      unacted-looked g.S.Store.tells g.S.Store.opened c.args.pass.now c.args.notes.now g.S.Chronicle.owner g.met.S.Store.owned c.requires.agent
+          (g.S.Store.opened (g.S.Chronicle.opening c.enter-turn.result.value)) (ap g.S.Store.opened (c.enter-turn.ensures.opening ∙ ap (λ h. h.opening) (sym c.requires.own)))
+          (g.S.Chronicle.entries c.enter-turn.result.value) c.enter-turn.ensures.grows c.legal.ensures
+          (g.S.Chronicle.entries c.enter-turn.result.value) refl
+          c.leave-in-Look.new.pass (c.leave-in-Look.ensures ∙ ap (λ p. at_rest p (g.S.Chronicle.entries c.enter-turn.result.value)) c.enter-turn.ensures.pass)
+          c.args.notes.now.pending refl,
+      look-waits g.S.Store.tells g.S.Store.opened c.args.pass.now c.args.notes.now g.S.Chronicle.owner g.met.S.Store.owned c.requires.agent
+          (g.S.Store.opened (g.S.Chronicle.opening c.enter-turn.result.value)) (ap g.S.Store.opened (c.enter-turn.ensures.opening ∙ ap (λ h. h.opening) (sym c.requires.own)))
+          (g.S.Chronicle.entries c.enter-turn.result.value) c.enter-turn.ensures.grows c.legal.ensures
+          c.args.tag.now c.await_state-stands.result (c.await_state-stands.ensures ∙ (λ i. awaited (state_after (g.S.Store.opened (g.S.Chronicle.opening c.enter-turn.result.value)) (g.S.Chronicle.entries c.enter-turn.result.value)) (c.agent-agent.ensures i) (c.as_str.ensures i))) c.waits_for-begun.result c.waits_for-begun.ensures
+          (sym c.plan_for.ensures ∙ c.in-Look.is),
+    )

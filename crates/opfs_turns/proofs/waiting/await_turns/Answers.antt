@@ -1,4 +1,4 @@
-use Rattle.std.proofs.Common.{◌≡◌, Ok, refl, ap, ◌∙◌, subst, inl}
+use Rattle.std.proofs.Common.{Ok, refl, ap, ◌∙◌, subst, inl}
 use Rattle.opfs_turns.proofs.Waited.{waited-room, waited-done, waited-looked, waited-step, looked-self}
 use Rattle.opfs_turns.specs.Agents.{seen}
 use Rattle.opfs_turns.specs.Waiting.{IsAwaitTurn, await_reply}
@@ -27,8 +27,10 @@ returns-in-Ok-Answered-clause-awaited g c =
 pub loop-preserved : goal.loop-preserved
 loop-preserved g c = (
   c.await_turn.ensures.agent,
-  (c.in-Ok-Waits.ensures.idle ∙ (λ i. record (c.loop.invariant.1.0 i) { base = c.await_turn.new.pass.base }),
-  waited-step g.S.Store.tells c.args.tag.now (seen g.S.Store.opened c.args.pass.now c.args.notes.now) (seen g.S.Store.opened c.loop.pass c.loop.notes) (seen g.S.Store.opened c.await_turn.new.pass c.await_turn.new.notes) c.loop.invariant.1.1 (subst (λ (r : AwaitTurn). IsAwaitTurn {E = Unit {0}} g.S.Store.tells (seen g.S.Store.opened c.loop.pass c.loop.notes) (seen g.S.Store.opened c.await_turn.new.pass c.await_turn.new.notes) c.args.tag.now (Ok r)) c.in-Ok-Waits.field-0-is c.in-Ok-Waits.ensures.turned)),
+  (
+    c.in-Ok-Waits.ensures.idle ∙ (λ i. record (c.loop.invariant.1.0 i) { base = c.await_turn.new.pass.base }),
+    waited-step g.S.Store.tells c.args.tag.now (seen g.S.Store.opened c.args.pass.now c.args.notes.now) (seen g.S.Store.opened c.loop.pass c.loop.notes) (seen g.S.Store.opened c.await_turn.new.pass c.await_turn.new.notes) c.loop.invariant.1.1 (subst (λ (r : AwaitTurn). IsAwaitTurn {E = Unit {0}} g.S.Store.tells (seen g.S.Store.opened c.loop.pass c.loop.notes) (seen g.S.Store.opened c.await_turn.new.pass c.await_turn.new.notes) c.args.tag.now (Ok r)) c.in-Ok-Waits.field-0-is c.in-Ok-Waits.ensures.turned),
+  ),
 )
 
 pub returns-in-Err-clause-idle : goal.returns-in-Err-clause-idle
