@@ -1,5 +1,5 @@
 -- A commit of what is kept back alone, over the rows and buckets that the shared state lends.
-use Rattle.std.proofs.Common.{◌≡◌, inl, inr, ℕ, ◌≤◌, Bool, true, false, List, [], ◌++◌, refl, sym, ap, ◌∙◌, subst, append-nil, arith}
+use Rattle.std.proofs.Common.{◌≡◌, inl, ℕ, ◌≤◌, Bool, true, false, List, [], ◌++◌, refl, sym, ap, ◌∙◌, subst, append-nil, arith}
 use Rattle.std.specs.Prelude.{if◌then◌else◌}
 use Rattle.opfs_base.specs.Texts.{Text}
 use Rattle.opfs_book_calls.specs.Spelled.{stored_built}
