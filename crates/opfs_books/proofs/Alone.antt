@@ -1,18 +1,23 @@
 -- A commit of what is kept back alone, over the rows and buckets that the shared state lends.
-use Rattle.std.proofs.Common.{◌≡◌, Bool, false, List, [], ◌++◌, ap, ◌∙◌, subst, append-nil}
+use Rattle.std.proofs.Common.{◌≡◌, inl, ℕ, ◌≤◌, Bool, true, false, List, [], ◌++◌, refl, sym, ap, ◌∙◌, subst, append-nil, arith}
 use Rattle.std.specs.Prelude.{if◌then◌else◌}
 use Rattle.opfs_base.specs.Texts.{Text}
 use Rattle.opfs_book_calls.specs.Spelled.{stored_built}
 use Rattle.opfs_book_laws.specs.Books.{Fixed, Book, AreBooksAt}
 use Rattle.opfs_book_laws.specs.Laws.{LeavesPages, ShowsTold, told, doubt, BooksShowTheirImages}
-use Rattle.opfs_commit.specs.Calls.{IsAnyOf, IsNoneOf, IsNext, IsNextAlone, stored_in}
+use Rattle.opfs_commit.specs.Calls.{IsAnyOf, IsNoneOf, IsNext, IsNextAlone, IsSettled, IsUnsettled, stored_in}
 use Rattle.opfs_commit.specs.Seen.{KeptBack, Committing, committing}
-use Rattle.opfs_commit.specs.Shown.{ShowsSince}
+use Rattle.opfs_commit.specs.Shown.{ShowsSince, IsShown}
+use Rattle.opfs_commit.proofs.Holding.{shown_more}
+use Rattle.opfs_journal.specs.Clauses.{Outside}
+use Rattle.opfs_outside.specs.Bytes.{Same}
+use Rattle.opfs_outside.specs.Moments.{Elapses, elapses-trans, each_of_both}
 use Rattle.opfs_histories.specs.Doubts.{doubted}
 use Rattle.opfs_codec.specs.declared.change.Change.{Change as Spelled}
 use Rattle.opfs_journal.specs.Format.{Stored}
 use Rattle.opfs_journal.specs.Seen.{Seen}
-use Rattle.opfs_machine.specs.Changes.{floor}
+use Rattle.opfs_hist.specs.declared.entry.Entry.{Entry}
+use Rattle.opfs_machine.specs.Changes.{Change, floor}
 use Rattle.opfs_machine.specs.declared.own.Own.{Own}
 use Rattle.opfs_machine.specs.declared.state.State.{State}
 use Rattle.opfs_outside.specs.declared.disk.Disk.{Ghosts as DiskWords}
@@ -56,6 +61,47 @@ none-leaves w Kind old new none = record {
   outside = λ t. (none.halted.journal.told t).written.outside;
   time = λ t. (none.halted.journal.told t).written.time;
 }
+
+-- So does the end of a doubt, and one that failed.
+same-leaves : {D : Type 0} (w : DiskWords D) (old new : Seen D) → new ≡ old → Same (Outside old.areas) (w.content new.disk) (w.content old.disk) × Elapses w.moment w.since old.disk new.disk
+same-leaves {D} w old new same =
+    subst (λ (x : Seen D). Same (Outside old.areas) (w.content x.disk) (w.content old.disk) × Elapses w.moment w.since old.disk x.disk) (sym same)
+    (λ i out. refl, record { later = omega arith; split = λ t c le left. inl left; keeps = λ t c le left. left })
+
+pub settled-leaves : {D : Type 0} (w : DiskWords D) (old new : Seen D) → IsSettled w old new → LeavesPages w old new
+settled-leaves w old new is =
+    let either : w.tells → Same (Outside old.areas) (w.content new.disk) (w.content old.disk) × Elapses w.moment w.since old.disk new.disk = λ t.
+    elim old.in_doubt as (λ d. old.in_doubt ≡ d → Same (Outside old.areas) (w.content new.disk) (w.content old.disk) × Elapses w.moment w.since old.disk new.disk) [
+      | true ↦ λ d. ((is.told t d).written.outside, (is.told t d).written.time)
+      | false ↦ λ d. same-leaves w old new (is.none d)
+    ] refl in
+    record { stays = is.stays; later = is.later; outside = λ t. (either t).0; time = λ t. (either t).1 }
+
+pub unsettled-leaves : {D : Type 0} (w : DiskWords D) (old new : Seen D) → IsUnsettled w old new → LeavesPages w old new
+unsettled-leaves w old new is = record { stays = is.stays; later = is.later; outside = λ t. (is.told t).written.outside; time = λ t. (is.told t).written.time }
+
+-- Two such calls, one after the other.
+pub both-leave : {D : Type 0} (w : DiskWords D) → (w.tells → (d : D) (t u : ℕ) (c : List ℕ) → t ≤ u → w.since d u c → w.since d t c) → (old mid new : Seen D) → LeavesPages w old mid → LeavesPages w mid new → LeavesPages w old new
+both-leave w falls old mid new a b = record {
+  stays = record { areas = b.stays.areas ∙ a.stays.areas; length = b.stays.length ∙ a.stays.length; spare = b.stays.spare ∙ a.stays.spare };
+  later = omega (arith, a.later, b.later);
+  outside = λ t i out. b.outside t i (subst (λ areas. Outside areas i) (sym a.stays.areas) out) ∙ a.outside t i out;
+  time = λ t. elapses-trans w.moment w.since (falls t) old.disk mid.disk new.disk (a.time t) (b.time t);
+}
+
+-- What the images show in the end of a doubt and a commit behind it.
+pub both-shown : {D : Type 0} (w : DiskWords D) → (w.tells → (d : D) (t u : ℕ) (c : List ℕ) → t ≤ u → w.since d u c → w.since d t c) → (f : Fixed D) (b next : Book) (old mid new : Seen D) (all : List Change) → LeavesPages w old mid → LeavesPages w mid new
+    → next.entries ≡ b.entries → ShowsTold w f b (told f b ++ all) old mid → ShowsTold w f next (told f next) mid new → ShowsTold w f b (told f b ++ all) old new
+both-shown w falls f b next old mid new all a c same first second t =
+    let behind : ShowsTold w f b (told f b) mid new = subst (λ (es : List Entry). ShowsTold w f (record b { entries = es }) (told f (record b { entries = es })) mid new) same second in
+    each_of_both w.moment w.since (falls t) old.disk mid.disk new.disk (λ x. IsShown f.opening (floor (told f b)) (told f b ++ all) x) (a.time t) (c.time t) (first t)
+    (λ x left. shown_more f.opening (floor (told f b)) (told f b) all x (behind t x left))
+
+-- Nothing is done: the books are as they were.
+pub same-books : {D : Type 0} (w : DiskWords D) (f : Fixed D) (recorded : Built) (base : State Text Own) (gone : List Text) (b next : Book) (old new : Seen D) → next ≡ b → new ≡ old
+    → AreBooksAt w f recorded base gone b old → AreBooksAt w f recorded base gone next new
+same-books {D} w f recorded base gone b next old new same still are =
+    subst (λ (x : Book). AreBooksAt w f recorded base gone x new) (sym same) (subst (λ (x : Seen D). AreBooksAt w f recorded base gone b x) (sym still) are)
 
 pub sure-doubt : {D : Type 0} (f : Fixed D) (b : Book) (j : Seen D) → j.in_doubt ≡ false → told f b ++ doubt f b j ≡ told f b
 sure-doubt f b j is = ap (λ (d : Bool). told f b ++ (if d then doubted f.opening b.entries b.place else [])) is ∙ append-nil (told f b)

@@ -1,5 +1,5 @@
 -- The machine in lengths follows each entry.
-use Rattle.std.proofs.Common.{◌≡◌, ℕ, Bool, true, false, List, [], ◌∷◌, fold, refl, sym, ap, ◌∙◌}
+use Rattle.std.proofs.Common.{◌≡◌, ℕ, Bool, true, false, List, [], ◌∷◌, fold, is_some, refl, sym, ap, ◌∙◌}
 use Rattle.std.proofs.lemmas.Bool.{false≢true}
 use Rattle.opfs_base.specs.Texts.{Text}
 use Rattle.opfs_changes.specs.Asking.{makes_slot}
@@ -7,23 +7,28 @@ use Rattle.opfs_hist.specs.declared.entry.Entry.{Entry}
 use Rattle.opfs_hist.specs.declared.op.Op.{Op}
 use Rattle.opfs_hist.specs.declared.op.Op.TheVariants as op
 use Rattle.opfs_hist.specs.declared.reply.Reply.{Reply}
-use Rattle.opfs_histories.specs.Unread.{ArePendingFor}
+use Rattle.opfs_histories.specs.Unread.{ArePendingFor, IsPendingFor, unread}
+use Rattle.opfs_hist.specs.Sums.{set_moment}
+use Rattle.opfs_hist.specs.declared.reply.Reply.TheVariants as reply
+use Rattle.opfs_laws.proofs.Local.{room_for_nothing}
+use Rattle.opfs_machine.specs.Agents.{agent_of, counted}
+use Rattle.opfs_machine.specs.Rulings.{ruling}
+use Rattle.opfs_machine.specs.Ruled.{◌>>=◌}
 use Rattle.opfs_laws.proofs.Going.{not_evict}
 use Rattle.opfs_lengths.specs.Bridge.{LengthsFollowEachCall, LocalCallsAreKnownByTheirWord}
 use Rattle.opfs_lengths.specs.Outlines.{in_lengths_of, local_change}
 use Rattle.opfs_machine.specs.declared.own.Own.{Own}
 use Rattle.opfs_machine.specs.declared.state.Sizes.{Sizes}
 use Rattle.opfs_machine.specs.declared.state.State.{State}
-use Rattle.opfs_machine.specs.Agents.{counted}
 use Rattle.opfs_machine.specs.Changes.{Change, stored_by, entry_changes}
 use Rattle.opfs_machine.specs.Contents.{in_bytes, in_lengths}
 use Rattle.opfs_machine.specs.Effects.{effect, refused}
 use Rattle.opfs_machine.specs.Histories.{after_entry, after_op}
 use Rattle.opfs_machine.specs.OwnRows.{is_local}
-use Rattle.opfs_machine.specs.Replies.{sizes_of}
-use Rattle.opfs_machine.specs.Steps.{after_reply, is_refusal}
+use Rattle.opfs_machine.specs.Replies.{sizes_of, answer}
+use Rattle.opfs_machine.specs.Steps.{after_reply, is_refusal, step, judged, outcome_of}
 use Rattle.opfs_standing.specs.Seen.{Machine}
-use Rattle.opfs_books.specs.Noting.{noted, AreNotes}
+use Rattle.opfs_books.specs.Noting.{noted, AreNotes, IsNote}
 
 abbrev after_by : State Text Own → ℕ → Op → Bool → State Text Own
 after_by s k o b = counted (elim b [ true ↦ refused s k o | false ↦ effect in_bytes s (sizes_of s k o) k o ]) k
@@ -80,9 +85,25 @@ module _ (follow : LengthsFollowEachCall) where
     local-slot s (op.CreateSyncAccessHandle at mode) h = absurd (false≢true h)
     local-slot s o h = refl
 
+    -- A call that sets the moment needs nothing, so it is not refused.
+    moment-told : (s : State Text Own) (n : ℕ) (o : Op) → is_some (set_moment o) ≡ true → is_refusal (step s n o).answered ≡ false
+    unfolding step judged ruling outcome_of answer ◌>>=◌
+    moment-told s n (op.Moment ms) sets = ap (λ u. is_refusal (outcome_of s n (op.Moment ms) u).answered) (room_for_nothing s (agent_of s n).key)
+    moment-told s n o sets = absurd (false≢true sets)
+
+    unread-refusal : (r : Reply) → is_refusal (unread r) ≡ is_refusal r
+    unread-refusal (reply.Read bytes) = refl
+    unread-refusal r = refl
+
+    note : (s : State Text Own) (e : Entry) → IsPendingFor tells s k e → IsNote e
+    note s e h = record {
+      slot = local-slot s e.op (ap (λ n. is_local s n e.op) (sym h.agent) ∙ h.local);
+      moment = λ sets. sym (unread-refusal e.reply) ∙ ap is_refusal h.alike ∙ unread-refusal (step s e.agent e.op).answered ∙ moment-told s e.agent e.op sets;
+    }
+
     pub pending-notes : (s : State Text Own) (es : List Entry) → ArePendingFor tells s k es → AreNotes es
     pending-notes s [] h = tt
-    pending-notes s (e ∷ es) h = (local-slot s e.op (ap (λ n. is_local s n e.op) (sym h.0.agent) ∙ h.0.local), pending-notes (after_entry s e) es h.1)
+    pending-notes s (e ∷ es) h = (note s e h.0, pending-notes (after_entry s e) es h.1)
 
 -- What an answered entry stores is what its call does.
 pub answered-changes : (s : State Text Own) (e : Entry) → is_refusal e.reply ≡ false → entry_changes s e ≡ stored_by s e.agent e.op

@@ -1,8 +1,8 @@
 -- What pending calls leave of the machine in lengths. This project's own.
-use Rattle.std.specs.Prelude.{◌≡◌, ℕ, true, false, List, fold, length, count_by}
+use Rattle.std.specs.Prelude.{◌≡◌, ℕ, true, false, List, fold, length, count_by, is_some}
 use Rattle.std.specs.List.{AllByRecursion}
 use Rattle.opfs_changes.specs.Asking.{makes_slot}
-use Rattle.opfs_hist.specs.Sums.{makes_row, last_moment}
+use Rattle.opfs_hist.specs.Sums.{makes_row, set_moment, last_moment}
 use Rattle.opfs_hist.specs.declared.entry.Entry.{Entry}
 use Rattle.opfs_hist.specs.declared.history.PendingSum.{PendingSum}
 use Rattle.opfs_lengths.specs.Outlines.{local_change}
@@ -20,6 +20,10 @@ pub record IsSumOf (sum : PendingSum) (es : List Entry) : Type 0 where
   pub rows : sum.rows ≡ count_by makes_row es
   pub moment : sum.moment ≡ last_moment es
 
--- None of them opens a stream or an access handle, or takes a snapshot.
+-- It opens no stream or access handle and takes no snapshot, and is not refused where it sets the moment.
+pub record IsNote (e : Entry) : Type 0 where
+  pub slot : makes_slot e.op ≡ false
+  pub moment : is_some (set_moment e.op) ≡ true → is_refusal e.reply ≡ false
+
 abbrev pub AreNotes : List Entry → Type 0
-AreNotes es = AllByRecursion (λ e. makes_slot e.op ≡ false) es
+AreNotes es = AllByRecursion IsNote es

@@ -9,7 +9,7 @@ use Rattle.opfs_commit.specs.Making.{told_as, new_bytes}
 use Rattle.opfs_image.specs.Superblock.{data_base}
 use Rattle.opfs_machine.specs.Changes.{Change}
 use Rattle.opfs_book_laws.specs.Books.{Fixed, Book, IsNext, IsPlaced, AreBooks, AreBooksAt}
-use Rattle.opfs_book_laws.specs.Laws.{failed}
+use Rattle.opfs_book_laws.specs.Laws.{failed, told, doubt, ShowsTold}
 use Rattle.opfs_books.specs.declared.books.Books.{Books}
 use Rattle.opfs_books.specs.declared.shared.Shared.{Ghosts as SharedWords}
 use Rattle.opfs_commit.specs.Seen.{KeptBack}
@@ -89,3 +89,9 @@ pub record MayTakeIn {D : Type 0} (w : DiskWords D) (b : Book) (j : Seen D) (k :
   pub recorded : Built
   pub are : AreBooks w fixed recorded b j
   pub pending : ArePendingFor w.tells (state_after fixed.opening b.entries) k es
+
+-- What the end of a run leaves of the books, and what the images show in it.
+pub record IsFinished {D : Type 0} (w : DiskWords D) (f : Fixed D) (base : State Text Own) (gone : List Text) (b new : Book) (old j : Seen D) : Type 0 where
+  pub after : Built
+  pub are : AreBooksAt w f after base gone new j
+  pub shown : ShowsTold w f b (told f b ++ doubt f b old) old j

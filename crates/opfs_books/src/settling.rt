@@ -4,7 +4,7 @@ ghost use Rattle.std.specs.Prelude.{◌≡◌, ◌++◌, ◌≤◌, ℕ, true, f
 ghost use Rattle.opfs_base.specs.Texts.{Text};
 ghost use Rattle.opfs_book_laws.specs.Books.{Fixed, AreBooksAt};
 ghost use Rattle.opfs_book_laws.specs.Laws.{LeavesPages, ShowsTold, told, doubt};
-ghost use Rattle.opfs_books.specs.Seen.{book_of, AreKnown};
+ghost use Rattle.opfs_books.specs.Seen.{book_of, AreKnown, IsFinished};
 ghost use Rattle.opfs_commit.specs.Calls.{IsSettled, IsUnsettled};
 ghost use Rattle.opfs_machine.specs.declared.own.Own.{Own};
 ghost use Rattle.opfs_machine.specs.declared.state.State.{State};
@@ -34,6 +34,7 @@ impl<S: Shared> Books<S> {
         ensures sure { OnOk result (journal.new.in_doubt ≡ false) }
         ensures settled { OnOk result (IsSettled D.Disk journal.old journal.new) }
         ensures unsettled { OnErr result (IsUnsettled D.Disk journal.old journal.new) }
+        ensures leaves { LeavesPages D.Disk journal.old journal.new }
         ensures books { (f : Fixed D) (recorded : Built) (base : State Text Own) (gone : List Text) → AreBooksAt D.Disk f recorded base gone (book_of S.Shared self.old) journal.old → AreBooksAt D.Disk f recorded base gone (book_of S.Shared self.new) journal.new }
         ensures shown { (f : Fixed D) (recorded : Built) (base : State Text Own) (gone : List Text) → AreBooksAt D.Disk f recorded base gone (book_of S.Shared self.old) journal.old
             → ShowsTold D.Disk f (book_of S.Shared self.old) (told f (book_of S.Shared self.old) ++ doubt f (book_of S.Shared self.old) journal.old) journal.old journal.new }
@@ -82,6 +83,28 @@ impl<S: Shared> Books<S> {
             self.state.shed(),
         ) {
             Ok(()) => Ok(true),
+            Err(fault) => Err(fault),
+        }
+    }
+
+    /// Ends the doubt and commits what is kept back; answers whether there was something. After it nothing is kept back and no
+    /// gate is in doubt, so a content that has the journal's records stands for all that was told.
+    pub fn finish<D: Disk>(&mut self, journal: &mut Journal<D>) -> Result<bool, DiskFault>
+        requires known { AreKnown D.Disk (book_of S.Shared self.old) journal.old }
+        ensures history { self.new.history ≡ self.old.history }
+        ensures state { self.new.state ≡ self.old.state }
+        ensures none { OnOk result (self.new.commits.count ≡ 0) }
+        ensures sure { OnOk result (journal.new.in_doubt ≡ false) }
+        ensures leaves { LeavesPages D.Disk journal.old journal.new }
+        ensures books { (f : Fixed D) (recorded : Built) (base : State Text Own) (gone : List Text) → AreBooksAt D.Disk f recorded base gone (book_of S.Shared self.old) journal.old
+            → IsFinished D.Disk f base gone (book_of S.Shared self.old) (book_of S.Shared self.new) journal.old journal.new }
+        ensures cause { OnErr result (Rose (D.faults journal.old.disk) (D.faults journal.new.disk)) }
+    {
+        match self.settle(journal) {
+            Ok(()) => match self.commit_kept(journal) {
+                Ok(written) => Ok(written),
+                Err(fault) => Err(fault),
+            },
             Err(fault) => Err(fault),
         }
     }
