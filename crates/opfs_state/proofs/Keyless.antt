@@ -16,7 +16,7 @@ use Rattle.opfs_hist.specs.declared.op.Mode.{Mode}
 use Rattle.opfs_hist.specs.declared.op.Op.{Op}
 use Rattle.opfs_hist.specs.declared.op.Op.TheVariants as op
 use Rattle.opfs_hist.specs.declared.reply.Refusal.{Refusal}
-use Rattle.opfs_laws.proofs.Gone.{then-gave, bind-gave, some-gave, unless-gave}
+use Rattle.opfs_laws.proofs.Gone.{then-gave, bind-gave}
 use Rattle.opfs_machine.specs.declared.state.Need.{Need}
 use Rattle.opfs_machine.specs.declared.state.Row.{Row}
 use Rattle.opfs_machine.specs.declared.state.Sizes.{Sizes}
@@ -24,7 +24,7 @@ use Rattle.opfs_machine.specs.Agents.{agent_of}
 use Rattle.opfs_machine.specs.Contents.{in_lengths}
 use Rattle.opfs_machine.specs.Rows.{row_at}
 use Rattle.opfs_machine.specs.Ruled.{Ruled}
-use Rattle.opfs_machine.specs.Rulings.{ruling, get_directory_ruling, get_handle_ruling, child_ruling, remove_entry_ruling, located_ruling, stream_ruling, create_sync_ruling, handle_ruling, persist_ruling, persisted_ruling, estimate_ruling, await_ruling, making, persisting, size_written}
+use Rattle.opfs_machine.specs.Rulings.{ruling, get_directory_ruling, get_handle_ruling, child_ruling, remove_entry_ruling, located_ruling, stream_ruling, create_sync_ruling, handle_ruling, persist_ruling, persisted_ruling, estimate_ruling, await_ruling, making, size_written}
 use Rattle.opfs_machine.specs.Victims.{is_callers}
 use Rattle.opfs_standing.specs.Seen.{Machine}
 

@@ -1,5 +1,5 @@
 -- All that a call asks for stands ready.
-use Rattle.std.proofs.Common.{◌≡◌, ℕ, suc, ◌-◌, Bool, true, false, cond, Option, Some, None, Result, Ok, Err, refl, sym, ap, ◌∙◌, subst}
+use Rattle.std.proofs.Common.{◌≡◌, ℕ, ◌-◌, Bool, true, false, cond, Option, Some, None, Result, Ok, Err, refl, sym, ap, ◌∙◌}
 use Rattle.std.specs.Prelude.{IfOk, OnOk}
 use Rattle.opfs_base.specs.Names.{is_valid_name}
 use Rattle.opfs_base.specs.Places.{Place, place_of, child}
@@ -9,15 +9,14 @@ use Rattle.opfs_base.specs.declared.locator.Kind.TheVariants as kind
 use Rattle.opfs_base.specs.declared.locator.Locator.{Locator}
 use Rattle.opfs_changes.proofs.Rowed.{row-target, row-grows}
 use Rattle.opfs_changes.proofs.Told.{located-directory}
-use Rattle.opfs_changes.specs.Asking.{made_at, place_for, place_in, where_free, target_of, growth_of, row_growth, mode_growth, makes_row, makes_slot, makes_in_unit, tag_in, handle_place, root_place, bucket_unit, IsAccepted}
+use Rattle.opfs_changes.specs.Asking.{made_at, place_for, target_of, growth_of, makes_row, makes_slot, makes_in_unit, tag_in, handle_place, root_place, bucket_unit, IsAccepted}
 use Rattle.opfs_hist.specs.declared.op.Mode.{Mode}
 use Rattle.opfs_hist.specs.declared.op.Op.{Op}
 use Rattle.opfs_hist.specs.declared.op.Op.TheVariants as op
-use Rattle.opfs_laws.proofs.Gone.{then-gave, bind-gave, some-gave, unless-gave}
+use Rattle.opfs_laws.proofs.Gone.{then-gave, bind-gave, unless-gave}
 use Rattle.opfs_lengths.specs.Bridge.{judged_in}
 use Rattle.opfs_machine.specs.declared.state.Need.{Need}
 use Rattle.opfs_machine.specs.declared.state.Row.TheVariants as line
-use Rattle.opfs_machine.specs.declared.state.Sizes.{Sizes}
 use Rattle.opfs_machine.specs.Agents.{agent_of, open_handle, party_of}
 use Rattle.opfs_machine.specs.Contents.{in_lengths}
 use Rattle.opfs_machine.specs.Rows.{row_at, is_located}

@@ -1,5 +1,5 @@
 -- What is made ready. This project's own.
-use Rattle.std.specs.Prelude.{◌≡◌, ℕ, true, Option, Some, None}
+use Rattle.std.specs.Prelude.{◌≡◌, ℕ, true, Option, Some}
 use Rattle.opfs_base.specs.Places.{Place}
 use Rattle.opfs_base.specs.declared.locator.Kind.{Kind}
 use Rattle.opfs_changes.specs.Asking.{row_growth, place_in, mode_growth}

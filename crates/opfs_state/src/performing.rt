@@ -47,9 +47,8 @@ pub(crate) fn perform(
     ensures place { store.new.prepared.place ≡ None }
 {
     match op {
-        Op::GetDirectory { .. } | Op::GetDirectoryHandle { .. } | Op::GetFileHandle { .. } => make_row(
-            store, sizes, agent, op, target, growth,
-        ),
+        Op::GetDirectory { .. } | Op::GetDirectoryHandle { .. } | Op::GetFileHandle { .. } =>
+            make_row(store, sizes, agent, op, target, growth),
         Op::Values { dir } => values(store, sizes, agent, dir),
         Op::GetFile { file } => get_file(store, sizes, agent, file),
         Op::CreateWritable { file, keep } => create_writable(
@@ -68,9 +67,7 @@ pub(crate) fn perform(
         Op::SyncWrite { row, bytes, at } => sync_write(
             store, sizes, agent, *row, bytes, *at, target,
         ),
-        Op::SyncTruncate { row, size } => sync_truncate(
-            store, sizes, agent, *row, *size, target,
-        ),
+        Op::SyncTruncate { row, size } => sync_truncate(store, sizes, agent, *row, *size, target),
         Op::Persist { bucket } => persist(store, sizes, agent, bucket, target, growth),
         Op::Moment { ms } => set_moment(store, sizes, agent, *ms),
         Op::Post { tag } => post(store, sizes, agent, tag),
@@ -78,7 +75,9 @@ pub(crate) fn perform(
         Op::Wait { tag } => wait(store, sizes, agent, tag),
         Op::Discard { row } => discard(store, sizes, agent, *row),
         Op::End => end(store, sizes, agent),
-        Op::RemoveEntry { .. } | Op::Close { .. } | Op::SyncFlush { .. } | Op::SyncClose { .. } => { unreachable!() }
+        Op::RemoveEntry { .. } | Op::Close { .. } | Op::SyncFlush { .. } | Op::SyncClose { .. } => {
+            unreachable!()
+        }
         Op::Next { .. }
         | Op::Resolve { .. }
         | Op::IsSameEntry { .. }
@@ -119,9 +118,7 @@ pub(crate) fn perform_freeing(
             dir,
             name,
             recursive,
-        } => remove_entry(
-            store, sizes, agent, dir, name, *recursive, target, freed,
-        ),
+        } => remove_entry(store, sizes, agent, dir, name, *recursive, target, freed),
         Op::Close { row } => close(alloc, store, sizes, agent, *row, extents, freed),
         Op::SyncFlush { row } => sync_flush(
             alloc, store, sizes, agent, *row, target, extents, freed,

@@ -146,12 +146,7 @@ fn ready_own(store: &mut Standing, agent: u32) -> Result<Ready, AllocError>
 }
 
 // The file of an open access handle.
-fn ready_handle(
-    alloc: Global,
-    store: &Standing,
-    agent: u32,
-    row: u32,
-) -> Result<Ready, AllocError>
+fn ready_handle(alloc: Global, store: &Standing, agent: u32, row: u32) -> Result<Ready, AllocError>
     requires { IsAgent store.now.machine agent }
     ensures { IfOk result (λ r. r ≡ record { target = handle_place (open_handle in_lengths store.now.machine agent row); growth = 0 }) }
 {
@@ -160,7 +155,8 @@ fn ready_handle(
     }
     let Some(handle) = store
         .register()
-        .handle(agent as usize - 1, row as usize - 1) else {
+        .handle(agent as usize - 1, row as usize - 1)
+    else {
         return Ok(Ready::none());
     };
     let place = copy_place(alloc, &handle.file.0, &handle.file.1)?;

@@ -1,3 +1,4 @@
+pub mod Judging
 pub mod Making
 pub mod Owning
 pub mod Readying

@@ -204,11 +204,11 @@ handle-more [] more (suc n) = handle-replicated more (suc n)
 handle-more (r ∷ rows) more zero = refl
 handle-more (r ∷ rows) more (suc n) = handle-more rows more n
 
-handle-noted : (a : Agent Outline) (more : ℕ) (moment : Option ℕ) (n : ℕ) → of_row handle_in (own_of (noted a more moment) n) ≡ of_row handle_in (own_of a n)
+pub handle-noted : (a : Agent Outline) (more : ℕ) (moment : Option ℕ) (n : ℕ) → of_row handle_in (own_of (noted a more moment) n) ≡ of_row handle_in (own_of a n)
 handle-noted a more moment zero = refl
 handle-noted a more moment (suc n) = handle-more a.own more n
 
-agent-noted : (m : Machine) (at : ℕ) (sum : PendingSum) → at < length m.agents → agent_of (with_sum m at sum) (suc at) ≡ noted (agent_of m (suc at)) sum.rows sum.moment
+pub agent-noted : (m : Machine) (at : ℕ) (sum : PendingSum) → at < length m.agents → agent_of (with_sum m at sum) (suc at) ≡ noted (agent_of m (suc at)) sum.rows sum.moment
 agent-noted m at sum inside = ap (λ a. unwrap_or a nobody) (get-set m.agents at (noted (agent_of m (suc at)) sum.rows sum.moment) inside)
 
 same-noted : (m : Machine) (at : ℕ) (sum : PendingSum) → at < length m.agents → IsSameFor m (with_sum m at sum) (suc at)

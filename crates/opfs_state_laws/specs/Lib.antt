@@ -1,3 +1,4 @@
+pub mod Judged
 pub mod Owned
 pub mod Readied
 pub mod Room

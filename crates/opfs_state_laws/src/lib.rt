@@ -2,5 +2,6 @@
 //! alone; each is the contract of a function that does nothing.
 #![tactic(auto)]
 
+pub mod judged;
 pub mod readied;
 pub mod room;

@@ -1,11 +1,7 @@
-use Rattle.std.proofs.Common.{◌≡◌, ℕ, ◌-◌, true, false, Some, None, refl, sym, ap, subst, ◌∙◌}
-use Rattle.opfs_changes.specs.Asking.{IsAccepted, place_for, made_at}
-use Rattle.opfs_hist.specs.declared.op.Op.{Op}
-use Rattle.opfs_hist.specs.declared.op.Op.TheVariants as op
-use Rattle.opfs_standing.specs.Seen.{Seen}
+use Rattle.std.proofs.Common.{refl, sym, ap, subst, ◌∙◌}
+use Rattle.opfs_changes.specs.Asking.{IsAccepted, made_at}
 use Rattle.opfs_state.proofs.Standby.{directory-asked, file-asked, remove-asked, row-ready, quiet-ready, not-asked, remove-ready, snapshot-ready, writable-ready, sync-ready, write-ready, truncate-ready, flush-ready, persist-ready, post-ready, wait-ready, if-both, if-then}
 use Rattle.opfs_state.specs.Applied.{IsReady}
-use Rattle.opfs_state.specs.Preparing.{HasStayed, IsRowReady}
 use Rattle.opfs_state.specs.declared.state.Ready.{Ready}
 use Rattle.opfs_state.proofs.preparing.ready_for.Goals as goal
 

@@ -1,4 +1,4 @@
-use Rattle.std.proofs.Common.{◌≡◌, None, ap, ◌∙◌}
+use Rattle.std.proofs.Common.{ap, ◌∙◌}
 use Rattle.opfs_standing.specs.Seen.{Seen}
 use Rattle.opfs_state.proofs.Readied.{free-line, free-row}
 use Rattle.opfs_tree.specs.Rows.{row_at}
