@@ -64,8 +64,8 @@ module _ (m : Machine) (t : Rows) (k : ℕ) (tied : lines_of t ≡ m.rows) where
   stream-tied z n extents (Some w) is =
       unlocked-tied w.file (change_at w.file (stored_in z.size (moment_of m k) extents) t)
       ∙ ap (line_change_at w.file line_unlocked)
-        (lines-changed w.file (stored_in z.size (moment_of m k) extents) (replaced z.size (moment_of m k)) (λ f. refl) t
-        ∙ (λ i. line_change_at w.file (replaced (sym (content-is (own_of (agent_of m k) n) z.size w is) i) (moment_of m k)) (tied i)))
+      (lines-changed w.file (stored_in z.size (moment_of m k) extents) (replaced z.size (moment_of m k)) (λ f. refl) t
+      ∙ (λ i. line_change_at w.file (replaced (sym (content-is (own_of (agent_of m k) n) z.size w is) i) (moment_of m k)) (tied i)))
 
   written-tied : (mode : Mode) (file : Place) (extents : Option (List Extent))
       → lines_of (if is_read_write mode then change_at file (flushed_in extents) t else t) ≡ (if is_read_write mode then with_file m file flushed else m).rows

@@ -52,7 +52,14 @@ pub fn sync_write(
     // An area has so many bytes, a count of 64 bits.
     let _area = area_bytes(store);
     let end = at.unwrap_or(sizes.position) + bytes.len();
-    overwrite(store, agent, row, &place, present.max(end), sizes.size.max(end));
+    overwrite(
+        store,
+        agent,
+        row,
+        &place,
+        present.max(end),
+        sizes.size.max(end),
+    );
 }
 
 /// syncTruncate, of the file at a place.

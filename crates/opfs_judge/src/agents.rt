@@ -13,7 +13,10 @@ use opfs_script::AgentScript;
 use std::alloc::{AllocError, Global};
 
 /// The agents of a script, before their first steps.
-pub fn players_of<'a>(alloc: Global, scripts: &'a [AgentScript]) -> Result<Vec<Player<'a>>, AllocError>
+pub fn players_of<'a>(
+    alloc: Global,
+    scripts: &'a [AgentScript],
+) -> Result<Vec<Player<'a>>, AllocError>
     ensures { IfOk result (λ players. players.items ≡ map starting scripts.now) }
 {
     let mut players = Vec::new(alloc);

@@ -40,11 +40,8 @@ fn share_tags(key: Option<&Key>, number: usize, other_key: Option<&Key>, other: 
 fn is_posted(state: &State<Bytes, Own>, key: Option<&Key>, number: usize, tag: &[u8]) -> bool
     ensures { result ≡ is_posted state.now (party_with (option_copied key.entry) number) tag.now }
 {
-    state
-        .posted
-        .items
-        .iter()
-        .any(|posted| is_party(key, number, &posted.party) && tag == posted.tag.as_slice())
+    state.posted.items.iter().any(|posted| is_party(key, number, &posted.party)
+        && tag == posted.tag.as_slice())
 }
 
 /// Whether another agent can't post a tag of the caller's: it is the caller, has ended, is of another party, or is stuck.

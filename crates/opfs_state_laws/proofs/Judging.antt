@@ -68,7 +68,7 @@ same_other key origin other =
 
 -- Another origin's last use.
 use-by : (used : List (Text × ℕ)) (key : Option Text) (number : ℕ) (unit : Text) → is_callers key unit ≡ false
-      → unwrap_or (find (slice_cmp nat_cmp) (origin_of unit) (used_by used key number)) 0 ≡ unwrap_or (find (slice_cmp nat_cmp) (origin_of unit) used) 0
+    → unwrap_or (find (slice_cmp nat_cmp) (origin_of unit) (used_by used key number)) 0 ≡ unwrap_or (find (slice_cmp nat_cmp) (origin_of unit) used) 0
 use-by used None number unit other = refl
 use-by used (Some key) number unit other =
     ap (λ o. unwrap_or o 0) (find-put (slice_cmp nat_cmp) nat_list_cmp_total (origin_of unit) key number used)
@@ -91,7 +91,7 @@ sorted : Machine → List (ℕ × Text) → List Text → List (ℕ × Text)
 sorted s acc units = fold (λ sorted unit. insert_by use_cmp (last_use s (origin_of unit), unit) sorted) acc units
 
 order-noted : (m : Machine) (at : ℕ) (sum : PendingSum) (key : Option Text) → key ≡ (agent_of m (suc at)).key → (units : List Text) (acc : List (ℕ × Text))
-      → sorted (with_sum m at sum) acc (filter (is_candidate m key) units) ≡ sorted m acc (filter (is_candidate m key) units)
+    → sorted (with_sum m at sum) acc (filter (is_candidate m key) units) ≡ sorted m acc (filter (is_candidate m key) units)
 unfolding sorted
 order-noted m at sum key same [] acc = refl
 order-noted m at sum key same (unit ∷ units) acc =

@@ -92,7 +92,7 @@ place-same : (m n : Machine) (k : ℕ) (o : Op) → IsSameFor m n k → IsSameRo
 place-same m n k o same rows = ap (free_in n) (made-same m n k o same) ∙ free-same m n (made_at m k o) rows
 
 root-same : (m n : Machine) (k : ℕ) (bucket : Text) → IsSameFor m n k
-      → cond (agent_of n k).grant (root_place (bucket_unit n k bucket)) None ≡ cond (agent_of m k).grant (root_place (bucket_unit m k bucket)) None
+    → cond (agent_of n k).grant (root_place (bucket_unit n k bucket)) None ≡ cond (agent_of m k).grant (root_place (bucket_unit m k bucket)) None
 root-same m n k bucket same =
     ap (λ t. cond t (root_place (bucket_unit n k bucket)) None) same.grant ∙ ap (λ u. cond (agent_of m k).grant (root_place u) None) (unit-same m n k bucket same)
 
@@ -176,7 +176,7 @@ growth-same m n k (op.Evict unit) same place target = ap row_growth place
 
 -- What stands ready stays.
 ready-same : (s t : Seen) (own : Option Place) (more k : ℕ) (o : Op) → IsSameFor s.machine t.machine k → IsSameRow s.machine t.machine (made_at s.machine k o) → t.prepared ≡ s.prepared
-      → IsReady s own more k o → IsReady t own more k o
+    → IsReady s own more k o → IsReady t own more k o
 ready-same s t own more k o same rows prepared ready =
     let place = place-same s.machine t.machine k o same rows in
     let target = target-same s.machine t.machine k o same place in
@@ -230,7 +230,7 @@ rows-noted m at sum None = tt
 rows-noted m at sum (Some e) = refl
 
 pub ready-noted : (s : Seen) (own : Option Place) (more k : ℕ) (o : Op) (sum : PendingSum) → IsAgent s.machine k → IsReady s own more k o
-      → IsReady (record s { machine = with_sum s.machine (k - 1) sum }) own more k o
+    → IsReady (record s { machine = with_sum s.machine (k - 1) sum }) own more k o
 ready-noted s own more k o sum agent ready =
     ready-same s (record s { machine = with_sum s.machine (k - 1) sum }) own more k o (noted-at s.machine k sum agent) (rows-noted s.machine (k - 1) sum (made_at s.machine k o)) refl ready
 
@@ -331,7 +331,7 @@ same-cleared : (m : Machine) (k : ℕ) (unit : Text) → IsSameFor m (evicted m 
 same-cleared m k unit = record { key = refl; grant = refl; handles = λ i. refl; modes = refl }
 
 pub ready-cleared : (s t : Seen) (own : Option Place) (more k : ℕ) (o : Op) (unit : Text) → AreOwnUnits s.machine k o → is_callers (agent_of s.machine k).key unit ≡ false
-      → t.machine ≡ evicted s.machine unit → t.prepared ≡ s.prepared → IsReady s own more k o → StillReady t own more k o
+    → t.machine ≡ evicted s.machine unit → t.prepared ≡ s.prepared → IsReady s own more k o → StillReady t own more k o
 ready-cleared s t own more k o unit mine other machine prepared ready =
     record {
       ready = ready-same s t own more k o (subst (λ n. IsSameFor s.machine n k) (sym machine) (same-cleared s.machine k unit)) (subst (λ n. IsSameRow s.machine n (made_at s.machine k o)) (sym machine) (rows-cleared s.machine k o unit mine other)) prepared ready;

@@ -91,4 +91,3 @@ returns-clause-done c = λ extents.
     (place-number c.args.row (handle-above m c.args.agent c.args.row h.0 h.1))
     (discarded-done c.args.store.now c.close_handle-handle.new.self c.undo_by.new.store c.count-2.new.self c.args.sizes (c.args.agent - 1) (c.args.row - 1) v extents found c.close_handle-handle.ensures.tree c.unlock.new.self
     c.close_handle-handle.ensures.machine c.unlock.ensures.machine c.unlock.ensures.tree c.count-2.ensures c.undo_by.ensures.machine c.undo_by.ensures.tree)
-
