@@ -5,5 +5,6 @@ pub mod Grouping
 pub mod Lining
 pub mod Moves
 pub mod Players
+pub mod Reading
 pub mod Scanning
 pub mod Texts

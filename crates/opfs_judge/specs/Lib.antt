@@ -1,6 +1,7 @@
 pub mod Agents
 pub mod Asking
 pub mod Fronts
+pub mod Judging
 pub mod Players
 pub mod Turns
 pub mod Verdicts
