@@ -14,7 +14,8 @@ returns-in_err-put-clause-spaced g c = λ m recorded was.
 
 pub returns-then-put-clause-spaced : goal.returns-then-put-clause-spaced
 returns-then-put-clause-spaced g c = λ m recorded was.
-    tried-spaced m recorded c.args.tree.now.rows c.args.swap.now c.try_put.new.swap c.args.space.now c.try_put.new.space c.args.agent c.args.row 0 c.in_ok-put.put.moves c.in_ok-put.put.writes c.args.given.now c.in_ok-put.put.extents.items
+    tried-spaced m recorded c.args.tree.now.rows c.args.swap.now c.try_put.new.swap c.args.space.now c.try_put.new.space c.args.agent c.args.row
+    0 c.in_ok-put.put.moves c.in_ok-put.put.writes c.args.given.now c.in_ok-put.put.extents.items
     c.in_ok-put.ensures.pages was c.in_ok-put.put.taken c.in_ok-put.ensures.taken
 
 pub returns-then-put-clause-gotten : goal.returns-then-put-clause-gotten
@@ -31,15 +32,18 @@ returns-in_err-put-2-clause-spaced g c = λ m recorded was.
     subst (AreSpaced m (shelf recorded c.args.tree.now.rows c.try_put-2.new.swap)) (sym c.in_err-put-2.ensures.err)
     (spaced-same m recorded c.args.tree.now.rows c.try_put.new.swap c.try_put-2.new.swap c.look_anew.new.space c.args.agent c.args.row c.in_err-put-2.ensures.pages
     (spaced-looked m (shelf recorded c.args.tree.now.rows c.try_put.new.swap) c.try_put.new.space c.look_anew.new.space c.look_anew.ensures.used c.look_anew.ensures.own c.look_anew.ensures.found
-    (tried-spaced m recorded c.args.tree.now.rows c.args.swap.now c.try_put.new.swap c.args.space.now c.try_put.new.space c.args.agent c.args.row 0 c.in_ok-put.put.moves c.in_ok-put.put.writes c.args.given.now c.in_ok-put.put.extents.items
+    (tried-spaced m recorded c.args.tree.now.rows c.args.swap.now c.try_put.new.swap c.args.space.now c.try_put.new.space c.args.agent c.args.row
+    0 c.in_ok-put.put.moves c.in_ok-put.put.writes c.args.given.now c.in_ok-put.put.extents.items
     c.in_ok-put.ensures.pages was c.in_ok-put.put.taken c.in_ok-put.ensures.taken)))
 
 pub returns-clause-spaced : goal.returns-clause-spaced
 returns-clause-spaced g c = λ m recorded was.
-    tried-spaced m recorded c.args.tree.now.rows c.try_put.new.swap c.try_put-2.new.swap c.look_anew.new.space c.try_put-2.new.space c.args.agent c.args.row 0 c.in_ok-put-2.put.moves c.in_ok-put-2.put.writes c.args.given.now c.in_ok-put-2.put.extents.items
+    tried-spaced m recorded c.args.tree.now.rows c.try_put.new.swap c.try_put-2.new.swap c.look_anew.new.space c.try_put-2.new.space c.args.agent c.args.row
+    0 c.in_ok-put-2.put.moves c.in_ok-put-2.put.writes c.args.given.now c.in_ok-put-2.put.extents.items
     c.in_ok-put-2.ensures.pages
     (spaced-looked m (shelf recorded c.args.tree.now.rows c.try_put.new.swap) c.try_put.new.space c.look_anew.new.space c.look_anew.ensures.used c.look_anew.ensures.own c.look_anew.ensures.found
-    (tried-spaced m recorded c.args.tree.now.rows c.args.swap.now c.try_put.new.swap c.args.space.now c.try_put.new.space c.args.agent c.args.row 0 c.in_ok-put.put.moves c.in_ok-put.put.writes c.args.given.now c.in_ok-put.put.extents.items
+    (tried-spaced m recorded c.args.tree.now.rows c.args.swap.now c.try_put.new.swap c.args.space.now c.try_put.new.space c.args.agent c.args.row
+    0 c.in_ok-put.put.moves c.in_ok-put.put.writes c.args.given.now c.in_ok-put.put.extents.items
     c.in_ok-put.ensures.pages was c.in_ok-put.put.taken c.in_ok-put.ensures.taken))
     c.in_ok-put-2.put.taken c.in_ok-put-2.ensures.taken
 
@@ -50,7 +54,8 @@ returns-clause-gotten g c = λ m recorded was fits small.
     in
     let used : c.look_anew.new.space.used ≡ c.args.space.now.used = c.look_anew.ensures.used ∙ ap (λ (s : SpaceSeen). s.used) not_taken.0 in
     let mid : AreSpaced m (shelf recorded c.args.tree.now.rows c.try_put.new.swap) c.try_put.new.space =
-    tried-spaced m recorded c.args.tree.now.rows c.args.swap.now c.try_put.new.swap c.args.space.now c.try_put.new.space c.args.agent c.args.row 0 c.in_ok-put.put.moves c.in_ok-put.put.writes c.args.given.now c.in_ok-put.put.extents.items
+    tried-spaced m recorded c.args.tree.now.rows c.args.swap.now c.try_put.new.swap c.args.space.now c.try_put.new.space c.args.agent c.args.row
+    0 c.in_ok-put.put.moves c.in_ok-put.put.writes c.args.given.now c.in_ok-put.put.extents.items
     c.in_ok-put.ensures.pages was c.in_ok-put.put.taken c.in_ok-put.ensures.taken
     in
     let looked = spaced-looked m (shelf recorded c.args.tree.now.rows c.try_put.new.swap) c.try_put.new.space c.look_anew.new.space c.look_anew.ensures.used c.look_anew.ensures.own c.look_anew.ensures.found mid in
