@@ -88,7 +88,7 @@ module _ (m t : Machine) (s r : Shelf) where
   pub spaced-opened : (space : SpaceSeen) (agent row : ℕ) (extents : List Extent) → AreSpaced m s space → OthersStayOpen m t agent row → t.limits ≡ m.limits → HasSameFiles s r
       → OthersStay agent row s.swap r.swap → pages_at agent row r.swap ≡ pages_in extents → IsDistinct nat_eq (blocks_of extents)
       → ((b : ℕ) → has_block (blocks_of extents) b ≡ true → file_has s.tree (file_in (open_at t agent row)) b ≡ true)
-      → length (blocks_of extents) ≤ reserve_in (open_at t agent row) → AreSpaced t r space
+      → (is_stream (open_at t agent row) ≡ true → length (blocks_of extents) ≤ reserve_in (open_at t agent row)) → AreSpaced t r space
   spaced-opened space agent row extents was others limits files stay opened once has kept = record {
     size = was.size ∙ ap (λ l. l.blocks) (sym limits);
     own_size = was.own_size;

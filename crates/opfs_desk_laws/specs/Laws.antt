@@ -32,7 +32,7 @@ use Rattle.opfs_tree.specs.Rows.{Rows as Tree, row_at, extents_of, change_at, Is
 use Rattle.opfs_tree.specs.declared.row.FileRow.{FileRow}
 use Rattle.opfs_tree.specs.declared.row.Row.{Row}
 use Rattle.opfs_desk_laws.specs.Hands.{row_in_hand}
-use Rattle.opfs_desk_laws.specs.Open.{open_at, file_in, reserve_in, OthersStayOpen}
+use Rattle.opfs_desk_laws.specs.Open.{open_at, file_in, reserve_in, is_stream, OthersStayOpen}
 use Rattle.opfs_desk_laws.specs.Putting.{AllReadAlike}
 use Rattle.opfs_desk_laws.specs.Shelves.{HasSameBlocks, HasSameFiles, KeepsOpen, HasNoMorePages}
 use Rattle.opfs_desk_laws.specs.Spaced.{Shelf, AreSpaced}
@@ -103,7 +103,7 @@ pub record BlocksGoOn : Type 0 where
   pub opened : (m t : Machine) (s r : Shelf) (space : SpaceSeen) (agent row : ℕ) (extents : List Extent) → AreSpaced m s space → OthersStayOpen m t agent row → t.limits ≡ m.limits → HasSameFiles s r
       → OthersStay agent row s.swap r.swap → pages_at agent row r.swap ≡ pages_in extents → IsDistinct nat_eq (blocks_of extents)
       → ((b : ℕ) → has_block (blocks_of extents) b ≡ true → file_has s.tree (file_in (open_at t agent row)) b ≡ true)
-      → length (blocks_of extents) ≤ reserve_in (open_at t agent row) → AreSpaced t r space
+      → (is_stream (open_at t agent row) ≡ true → length (blocks_of extents) ≤ reserve_in (open_at t agent row)) → AreSpaced t r space
   -- A content is stored.
   pub stored : (m t : Machine) (s r : Shelf) (agent row : ℕ) (place : Place) (extents : List Extent) (old new : SpaceSeen) → IsContentOf m t s r agent row place extents
       → new ≡ record old { own = marked false (blocks_of extents) old.own } → AreSpaced m s old → AreSpaced t r new

@@ -146,6 +146,9 @@ module _ (old new : Holders) (agent row : ℕ) (blocks : List ℕ) (used own : U
   row_reserve : (k n : ℕ) → k ≡ agent → n ≡ row → new.reserve k n ≡ new.reserve agent row
   row_reserve k n agent_is row_is = ap (λ (x : ℕ). new.reserve x n) agent_is ∙ ap (λ (x : ℕ). new.reserve agent x) row_is
 
+  row_stream : (k n : ℕ) → k ≡ agent → n ≡ row → new.streams k n ≡ new.streams agent row
+  row_stream k n agent_is row_is = ap (λ (x : ℕ). new.streams x n) agent_is ∙ ap (λ (x : ℕ). new.streams agent x) row_is
+
   -- an old page with a block of the file
   as_file : (k n i j b : ℕ) → HasPage old.swap k n i b → slice_get blocks j ≡ Some b → old.file k n ≡ new.file agent row
   as_file k n i j b has h = are.once (old.file k n) (new.file agent row) b (are.of_file k n i b has (are.inside b (named j b h))) (in_file j b h)
@@ -206,6 +209,6 @@ module _ (old new : Holders) (agent row : ℕ) (blocks : List ℕ) (used own : U
     ];
     covered = λ k n i b stream has. elim (page k n i b has) [
       | inl was ↦ omega (arith, was.1.reserve, are.covered k n i b (was.1.streams stream) was.0)
-      | inr here ↦ omega (arith, is.reserve, within i b blocks here.2, row_reserve k n here.0 here.1)
+      | inr here ↦ omega (arith, is.reserve (sym (row_stream k n here.0 here.1) ∙ stream), within i b blocks here.2, row_reserve k n here.0 here.1)
     ];
   }

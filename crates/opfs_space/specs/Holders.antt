@@ -87,10 +87,10 @@ pub record IsMine (used own : Used) (swap : Rows) (agent row page b : ℕ) : Typ
 abbrev pub AreMine : Used → Used → Rows → ℕ → ℕ → ℕ → List PageWrite → Type 0
 AreMine used own swap agent row reserve writes = (page b : ℕ) → Writes writes page b → IsMine used own swap agent row page b × (page < reserve)
 
--- A row is opened with the blocks of its file, in order.
+-- A row is opened with the blocks of its file, in order. A stream has as many kept.
 pub record IsOpened (old new : Holders) (agent row : ℕ) (blocks : List ℕ) : Type 0 where
   pub has : (b : ℕ) → has_block blocks b ≡ true → old.has (new.file agent row) b ≡ true
-  pub reserve : length blocks ≤ new.reserve agent row
+  pub reserve : new.streams agent row ≡ true → length blocks ≤ new.reserve agent row
 
 -- After a flush a page of the row itself has one of the content's blocks, and the row is no stream.
 pub record IsFlushed (old new : Holders) (agent row : ℕ) (blocks : List ℕ) (k n b : ℕ) : Type 0 where
