@@ -44,7 +44,7 @@ use Rattle.opfs_snapshot.proofs.StoredRows.{stored_order}
 use Rattle.opfs_standing.specs.Seen.{Machine, lines_of}
 use Rattle.opfs_tree.specs.Rows.{Rows, IsInOrder, without}
 use Rattle.opfs_books.specs.Committing.{MayCommit, MayCommitAlone}
-use Rattle.opfs_books.specs.Noting.{noted}
+use Rattle.opfs_sharing.specs.Noting.{noted}
 use Rattle.opfs_books.specs.Seen.{book, IsVictim}
 use Rattle.opfs_books.proofs.Following.{refused-follows, notes-follow}
 use Rattle.opfs_books.proofs.Calls.{unstored, refused-modes}

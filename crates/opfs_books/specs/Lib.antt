@@ -1,4 +1,3 @@
 pub mod Committing
-pub mod Noting
 pub mod Opened
 pub mod Seen

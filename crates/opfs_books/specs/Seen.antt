@@ -11,7 +11,7 @@ use Rattle.opfs_machine.specs.Changes.{Change}
 use Rattle.opfs_book_laws.specs.Books.{Fixed, Book, IsNext, IsPlaced, AreBooks, AreBooksAt}
 use Rattle.opfs_book_laws.specs.Laws.{failed, told, doubt, ShowsTold}
 use Rattle.opfs_books.specs.declared.books.Books.{Books}
-use Rattle.opfs_books.specs.declared.shared.Shared.{Ghosts as SharedWords}
+use Rattle.opfs_sharing.specs.declared.shared.Shared.{Ghosts as SharedWords}
 use Rattle.opfs_commit.specs.Seen.{KeptBack}
 use Rattle.opfs_hist.specs.declared.entry.Entry.{Entry}
 use Rattle.opfs_histories.specs.Unread.{ArePendingFor}

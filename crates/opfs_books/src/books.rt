@@ -17,7 +17,7 @@ ghost use Rattle.opfs_machine.specs.Steps.{evicted, is_refusal};
 ghost use Rattle.opfs_replay.specs.Built.{Built};
 
 use crate::entering::{Entering, Last, enter};
-use crate::shared::Shared;
+use opfs_sharing::Shared;
 use opfs_base::Extent;
 use opfs_book_calls::calls_are_spelled;
 use opfs_book_laws::{telling_keeps_the_books, the_state_is_kept};

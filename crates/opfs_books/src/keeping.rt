@@ -20,7 +20,7 @@ ghost use Rattle.opfs_replay.specs.Built.{Built};
 
 use crate::books::Books;
 use crate::entering::{Entering, enter, in_order};
-use crate::shared::Shared;
+use opfs_sharing::Shared;
 use opfs_base::Extent;
 use opfs_book_calls::calls_are_spelled;
 use opfs_book_laws::{keeping_back_keeps_the_books, the_state_is_kept};

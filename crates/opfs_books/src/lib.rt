@@ -9,9 +9,8 @@ mod entering;
 mod keeping;
 mod opening;
 mod settling;
-mod shared;
 mod storing;
 
 pub use books::Books;
 pub use entering::{Entering, Last};
-pub use shared::Shared;
+pub use opfs_sharing::Shared;

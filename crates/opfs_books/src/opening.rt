@@ -9,7 +9,7 @@ ghost use Rattle.opfs_replay.specs.Sums.{persistent_in};
 ghost use Rattle.opfs_snapshot.specs.Written.{AreWritable};
 
 use crate::books::Books;
-use crate::shared::Shared;
+use opfs_sharing::Shared;
 use opfs_book_laws::commit_laws;
 use opfs_commit::Commits;
 use opfs_hist::History;

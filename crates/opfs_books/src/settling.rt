@@ -13,7 +13,7 @@ ghost use Rattle.opfs_replay.specs.Built.{Built};
 
 use crate::books::Books;
 use crate::committing::commit_alone;
-use crate::shared::Shared;
+use opfs_sharing::Shared;
 use opfs_book_calls::calls_are_spelled;
 use opfs_book_laws::{
     commits_alone_keep_the_books, settling_keeps_the_books, the_books_show_their_images,

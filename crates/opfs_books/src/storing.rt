@@ -22,7 +22,7 @@ ghost use Rattle.opfs_replay.specs.Built.{Built};
 use crate::books::Books;
 use crate::committing::commit_own;
 use crate::entering::{Entering, enter, in_order, with_fault};
-use crate::shared::Shared;
+use opfs_sharing::Shared;
 use opfs_base::Extent;
 use opfs_book_calls::{calls_are_spelled, calls_may_fail};
 use opfs_book_laws::{commits_keep_the_books, state_laws, the_state_is_kept};

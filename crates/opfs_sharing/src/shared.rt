@@ -21,7 +21,7 @@ pub trait Shared {
     ghost use Rattle.opfs_machine.specs.declared.state.Sizes.{Sizes};
     ghost use Rattle.opfs_replay.specs.Sums.{persistent_in};
     ghost use Rattle.opfs_standing.specs.Seen.{Machine, lines_of};
-    ghost use Rattle.opfs_books.specs.Noting.{noted, IsSumOf, AreNotes};
+    ghost use Rattle.opfs_sharing.specs.Noting.{noted, IsSumOf, AreNotes};
     ghost use Rattle.opfs_hist.specs.declared.entry.Entry.{Entry};
     ghost use Rattle.opfs_tree.specs.Rows.{Rows, extents_within, without};
 
