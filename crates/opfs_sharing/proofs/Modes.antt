@@ -18,9 +18,9 @@ abbrev is_kept : Buckets → Text → Bool
 is_kept buckets unit = (bucket_at buckets unit).persistent
 
 equal-itself : (o : Ordering) → o ≡ ordering_reverse o → o ≡ Equal
-equal-itself Less is = sym is
+equal-itself Less is = cc
 equal-itself Equal is = refl
-equal-itself Greater is = sym is
+equal-itself Greater is = cc
 
 itself : (unit : Text) → text_cmp unit unit ≡ Equal
 itself unit = equal-itself (text_cmp unit unit) (nat_list_cmp_total.antisymm unit unit)

@@ -1,8 +1,10 @@
 -- An agent's pending calls are taken in by their sum.
-use Rattle.std.proofs.Common.{◌≡◌, ℕ, zero, suc, ◌+◌, ◌-◌, ◌<◌, ◌==◌, Bool, true, false, ◌&&◌, not, cond, List, [], ◌∷◌, ◌++◌, fold, length, slice_set, Option, Some, None, refl, sym, ap, ◌∙◌, subst, filter, ◌⊎◌, inl, inr, arith}
+use Rattle.std.proofs.Common.{◌≡◌, ℕ, zero, suc, ◌+◌, ◌-◌, ◌<◌, ◌≤◌, ◌==◌, Bool, true, false, ◌&&◌, not, cond, List, [], ◌∷◌, ◌++◌, fold, length, slice_set, Option, Some, None, refl, sym, ap, ◌∙◌, subst, filter, ◌⊎◌, inl, inr, arith}
 use Rattle.std.specs.Prelude.{slice_get, unwrap_or, replicate, count_by, is_some}
+use Rattle.std.proofs.lemmas.List.Sums.{length-filter}
 use Rattle.std.proofs.lemmas.List.{append_assoc, append-nil, replicate-append-replicate, length-set}
 use Rattle.std.specs.Cmp.Lexicographic.{slice_cmp}
+use Rattle.std.proofs.lemmas.Bool.Decides.{nat_tests}
 use Rattle.std.proofs.lemmas.Cmp.{nat_list_cmp_total}
 use Rattle.std.specs.FinMap.Entries.{put, by_order}
 use Rattle.std.specs.Option.{option_or}
@@ -49,14 +51,14 @@ set-again (x ∷ xs) zero a b = refl
 set-again (x ∷ xs) (suc at) a b = ap (λ ys. x ∷ ys) (set-again xs at a b)
 
 get-set : {X : Type 0} (xs : List X) (at : ℕ) (a : X) → at < length xs → slice_get (slice_set xs at a) at ≡ Some a
-get-set [] at a inside = absurd (omega inside)
+get-set [] at a inside = absurd (omega (arith, inside))
 get-set (x ∷ xs) zero a inside = refl
-get-set (x ∷ xs) (suc at) a inside = get-set xs at a (omega inside)
+get-set (x ∷ xs) (suc at) a inside = get-set xs at a (omega (arith, inside))
 
 equal-itself : (o : Ordering) → o ≡ ordering_reverse o → o ≡ Equal
-equal-itself Less is = sym is
+equal-itself Less is = cc
 equal-itself Equal is = refl
-equal-itself Greater is = sym is
+equal-itself Greater is = cc
 
 put-step : (k : Text) (a b : ℕ) (e : Text × ℕ) (es : List (Text × ℕ)) (o : Ordering) → o ≡ texts k e.0 → put texts k b (put texts k a es) ≡ put texts k b es
     → put texts k b (by_order o ((k, a) ∷ e ∷ es) ((e.0, a) ∷ es) (e ∷ put texts k a es)) ≡ by_order o ((k, b) ∷ e ∷ es) ((e.0, b) ∷ es) (e ∷ put texts k b es)
@@ -131,11 +133,9 @@ module _ (m : Machine) (at : ℕ) where
   none-noted = λ i. record agent { own = append-nil agent.own i }
 
   quiet : counted m (suc at) ≡ with_sum m at (record { entries = 1; rows = 0; moment = None })
-  quiet = λ i. record m {
-      agents = (ap (λ a. slice_set m.agents at a) none-noted ∙ set-itself m.agents at nobody) (~ i);
-      entries = m.entries + 1;
-      used = used-one agent.key i;
-    }
+  quiet =
+      let agents : m.agents ≡ slice_set m.agents at (noted_agent agent 0 None) = sym (ap (λ (a : Agent Outline). slice_set m.agents at a) none-noted ∙ set-itself m.agents at nobody) in
+      λ i. record m { agents = agents i; entries = m.entries + 1; used = used-one agent.key i }
 
   -- A call that makes no row and sets no clock.
   abbrev pub IsQuiet : Op → Type 0
@@ -202,15 +202,18 @@ module _ (m : Machine) (at : ℕ) where
         ∙ noted-by (record agent { moment = ms }) 0 (Some ms) (λ i. record agent { moment = ms; own = sym (append-nil agent.own) i })
 
     refused-quiet : (o : Op) → (is_some (set_moment o) ≡ true → true ≡ false) → set_moment o ≡ None
-    refused-quiet o no = elim (set_moment o) as (λ (t : Option ℕ). (is_some t ≡ true → true ≡ false) → t ≡ None) [
-      | None ↦ λ no. refl
-      | Some x ↦ λ no. absurd (true≢false (no refl))
-    ] no
+    refused-quiet o denies = elim (set_moment o) as (λ (t : Option ℕ). (is_some t ≡ true → true ≡ false) → t ≡ None) [
+      | None ↦ λ denied. refl
+      | Some x ↦ λ denied. absurd (differ (denied refl))
+    ] denies
+      where
+        differ : true ≡ false → ⊥
+        differ e = cc
 
     -- One entry is taken in by its sum.
-    noted-one : (k number : ℕ) (o : Op) (r : Reply) (turn : Bool) → IsNote (record { agent = k; number = number; op = o; reply = r; turn = turn }) → stepped (is_refusal r) o ≡ with_sum m at (one (record { agent = k; number = number; op = o; reply = r; turn = turn }))
-    noted-one k number o r turn note =
-        plain r note ∙ ap (λ (s : PendingSum). with_sum m at s) refl
+    noted-one : (k count : ℕ) (o : Op) (r : Reply) (turn : Bool) → IsNote (record { agent = k; number = count; op = o; reply = r; turn = turn }) → stepped (is_refusal r) o ≡ with_sum m at (one (record { agent = k; number = count; op = o; reply = r; turn = turn }))
+    noted-one k count o r turn note =
+        plain r note
       where
         by_does : (does : IsQuiet o ⊎ (((dir : Locator) × (o ≡ op.Values dir)) ⊎ ((ms : ℕ) × (o ≡ op.Moment ms)))) → counted (local_change m (suc at) o) (suc at) ≡ with_sum m at (record { entries = 1; rows = cond (asks_for_row o && true) 1 0; moment = set_moment o })
         by_does (inl q) =
@@ -218,11 +221,13 @@ module _ (m : Machine) (at : ℕ) where
             ∙ (λ i. with_sum m at (record { entries = 1; rows = cond (sym q.0 i && true) 1 0; moment = sym q.1 i }))
         by_does (inr (inl v)) = subst (λ (x : Op). counted (local_change m (suc at) x) (suc at) ≡ with_sum m at (record { entries = 1; rows = cond (asks_for_row x && true) 1 0; moment = set_moment x })) (sym v.1) of_values
         by_does (inr (inr v)) = subst (λ (x : Op). counted (local_change m (suc at) x) (suc at) ≡ with_sum m at (record { entries = 1; rows = cond (asks_for_row x && true) 1 0; moment = set_moment x })) (sym v.1) (of_moment v.0)
+
         by_refusal : (b : Bool) → (is_some (set_moment o) ≡ true → b ≡ false) → stepped b o ≡ with_sum m at (record { entries = 1; rows = cond (asks_for_row o && not b) 1 0; moment = set_moment o })
-        by_refusal true no =
-            quiet ∙ (λ i. with_sum m at (record { entries = 1; rows = cond (sym (and-false (asks_for_row o)) i) 1 0; moment = sym (refused-quiet o no) i }))
-        by_refusal false no = by_does (does o note.slot)
-        plain : (t : Reply) → IsNote (record { agent = k; number = number; op = o; reply = t; turn = turn }) → stepped (is_refusal t) o ≡ with_sum m at (one (record { agent = k; number = number; op = o; reply = t; turn = turn }))
+        by_refusal true denies =
+            quiet ∙ (λ i. with_sum m at (record { entries = 1; rows = cond (sym (and-false (asks_for_row o)) i) 1 0; moment = sym (refused-quiet o denies) i }))
+        by_refusal false denies = by_does (does o note.slot)
+
+        plain : (t : Reply) → IsNote (record { agent = k; number = count; op = o; reply = t; turn = turn }) → stepped (is_refusal t) o ≡ with_sum m at (one (record { agent = k; number = count; op = o; reply = t; turn = turn }))
         plain t note = by_refusal (is_refusal t) note.moment ∙ ap (λ b. with_sum m at (record { entries = 1; rows = cond (asks_for_row o && not b) 1 0; moment = set_moment o })) (refusals t)
 
 -- ---- one after another
@@ -237,10 +242,24 @@ more-uses used (Some k) x y = put-again k x y used
 sums : (x y z : ℕ) → x + y + z ≡ x + (y + z)
 sums x y z = omega arith
 
+one-none : (x : ℕ) → x + 1 ≡ x + (1 + 0)
+one-none x = omega arith
+
+not-none : (n : ℕ) → (suc n == 0) ≡ false
+not-none n = grind (arith, nat_tests)
+
 uses-after : (used : List (Text × ℕ)) (key : Option Text) (x n : ℕ)
     → elim (n == 0) [ true ↦ used_by used key (x + 1) | false ↦ used_by (used_by used key (x + 1)) key (x + 1 + n) ] ≡ used_by used key (x + (1 + n))
-uses-after used key x zero = ap (λ n. used_by used key n) (sums x 1 0 ∙ refl)
-uses-after used key x (suc n) = more-uses used key (x + 1) (x + 1 + suc n) ∙ ap (λ n. used_by used key n) (sums x 1 (suc n))
+uses-after used key x zero = ap (λ n. used_by used key n) (one-none x)
+uses-after used key x (suc n) =
+    ap (λ t. elim t [ true ↦ used_by used key (x + 1) | false ↦ used_by (used_by used key (x + 1)) key (x + 1 + suc n) ]) (not-none n)
+    ∙ more-uses used key (x + 1) (x + 1 + suc n) ∙ ap (λ n. used_by used key n) (sums x 1 (suc n))
+
+some-more : (n : ℕ) → (1 + n == 0) ≡ false
+some-more n = grind (arith, nat_tests)
+
+more-is : (m : Machine) (key : Option Text) (n : ℕ) → used_more m key (1 + n) ≡ used_by m.used key (m.entries + (1 + n))
+more-is m key n = ap (λ t. elim t [ true ↦ m.used | false ↦ used_by m.used key (m.entries + (1 + n)) ]) (some-more n)
 
 module _ (m : Machine) (at : ℕ) (rows : ℕ) (moment : Option ℕ) (b : PendingSum) (inside : at < length m.agents) where
   abbrev first : PendingSum
@@ -258,35 +277,42 @@ module _ (m : Machine) (at : ℕ) (rows : ℕ) (moment : Option ℕ) (b : Pendin
   last : noted_agent mid b.rows b.moment ≡ noted_agent was (rows + b.rows) (option_or b.moment moment)
   last =
       let own : was.own ++ replicate rows outline.Iterator ++ replicate b.rows outline.Iterator ≡ was.own ++ replicate (rows + b.rows) outline.Iterator =
-          append_assoc was.own (replicate rows outline.Iterator) (replicate b.rows outline.Iterator) ∙ ap (λ (r : List Outline). was.own ++ r) (replicate-append-replicate rows b.rows outline.Iterator) in
+      append_assoc was.own (replicate rows outline.Iterator) (replicate b.rows outline.Iterator) ∙ ap (λ (r : List Outline). was.own ++ r) (replicate-append-replicate rows b.rows outline.Iterator) in
       let now = clock b.moment moment was.moment in
       λ i. record was { moment = now i; own = own i }
 
   twice : with_sum (with_sum m at first) at b ≡ with_sum m at (record { entries = 1 + b.entries; rows = rows + b.rows; moment = option_or b.moment moment })
   twice =
       let agents : slice_set (slice_set m.agents at mid) at (noted_agent (agent_of (with_sum m at first) (suc at)) b.rows b.moment) ≡ slice_set m.agents at (noted_agent was (rows + b.rows) (option_or b.moment moment)) =
-          ap (λ (x : Agent Outline). slice_set (slice_set m.agents at mid) at (noted_agent x b.rows b.moment)) here
-          ∙ ap (λ (x : Agent Outline). slice_set (slice_set m.agents at mid) at x) last
-          ∙ set-again m.agents at mid (noted_agent was (rows + b.rows) (option_or b.moment moment)) in
-      let used : used_more (with_sum m at first) (agent_of (with_sum m at first) (suc at)).key b.entries ≡ used_by m.used was.key (m.entries + (1 + b.entries)) =
-          ap (λ (x : Agent Outline). used_more (with_sum m at first) x.key b.entries) here ∙ uses-after m.used was.key m.entries b.entries in
+      ap (λ (x : Agent Outline). slice_set (slice_set m.agents at mid) at (noted_agent x b.rows b.moment)) here
+      ∙ ap (λ (x : Agent Outline). slice_set (slice_set m.agents at mid) at x) last
+      ∙ set-again m.agents at mid (noted_agent was (rows + b.rows) (option_or b.moment moment)) in
+      let used : used_more (with_sum m at first) (agent_of (with_sum m at first) (suc at)).key b.entries ≡ used_more m was.key (1 + b.entries) =
+      ap (λ (x : Agent Outline). used_more (with_sum m at first) x.key b.entries) here ∙ uses-after m.used was.key m.entries b.entries ∙ sym (more-is m was.key b.entries) in
       let entries = sums m.entries 1 b.entries in
       λ i. record m { agents = agents i; entries = entries i; used = used i }
 
 nothing-noted : (m : Machine) (at : ℕ) → m ≡ with_sum m at (record { entries = 0; rows = 0; moment = None })
 nothing-noted m at =
-    let agents = ap (λ (a : Agent Outline). slice_set m.agents at a) (none-noted m at) ∙ set-itself m.agents at nobody in
+    let agents : m.agents ≡ slice_set m.agents at (noted_agent (agent_of m (suc at)) 0 None) = sym (ap (λ (a : Agent Outline). slice_set m.agents at a) (none-noted m at) ∙ set-itself m.agents at nobody) in
     let entries = none-more m.entries in
-    λ i. record m { agents = agents (~ i); entries = entries i }
+    λ i. record m { agents = agents i; entries = entries i }
   where
     none-more : (x : ℕ) → x ≡ x + 0
     none-more x = omega arith
 
 count-more : (e : Entry) (es : List Entry) → cond (makes_row e) 1 0 + count_by makes_row es ≡ count_by makes_row (e ∷ es)
-count-more e es = elim (makes_row e) as (λ t. cond t 1 0 + count_by makes_row es ≡ length (cond t (e ∷ filter makes_row es) (filter makes_row es))) [
-    | true ↦ refl
-    | false ↦ refl
-  ]
+count-more e es =
+    (λ i. cond (makes_row e) 1 0 + sym (length-filter makes_row es) i)
+    ∙ by-test (makes_row e) (filter makes_row es)
+    ∙ length-filter makes_row (e ∷ es)
+  where
+    by-test : (t : Bool) (xs : List Entry) → cond t 1 0 + length xs ≡ length (cond t (e ∷ xs) xs)
+    by-test true xs = omega arith
+    by-test false xs = omega arith
+
+one-suc : (n : ℕ) → 1 + n ≡ suc n
+one-suc n = omega arith
 
 -- Entries are taken in by their sum.
 pub all-noted : (m : Machine) (at : ℕ) (es : List Entry) → at < length m.agents → AreNotes es → noted m (suc at) es ≡ with_sum m at (sum_of es)
@@ -296,12 +322,12 @@ all-noted m at (e ∷ es) inside notes =
     ∙ (all-noted (with_sum m at (one e)) at es (subst (λ n. at < n) (sym (length-set m.agents at (noted_agent (agent_of m (suc at)) (cond (makes_row e) 1 0) (set_moment e.op)))) inside) notes.1
     ∙ (twice m at (cond (makes_row e) 1 0) (set_moment e.op) (sum_of es) inside
     ∙ (let rows = count-more e es in let clock = sym (later (option_or (set_moment e.op) None) es ∙ ap (λ (o : Option ℕ). option_or (last_moment es) o) (or-none (set_moment e.op))) in
-      λ i. with_sum m at (record { entries = 1 + length es; rows = rows i; moment = clock i }))))
+    λ i. with_sum m at (record { entries = one-suc (length es) i; rows = rows i; moment = clock i }))))
 
 -- A sum that is that of the entries.
 pub sum-noted : (m : Machine) (k : ℕ) (sum : PendingSum) (es : List Entry) → 0 < k → k ≤ length m.agents → IsSumOf sum es → AreNotes es → with_sum m (k - 1) sum ≡ noted m k es
-sum-noted m zero sum es above within is notes = absurd (omega above)
+sum-noted m zero sum es above within is notes = absurd (omega (arith, above))
 sum-noted m (suc at) sum es above within is notes =
     ap (λ n. with_sum m n sum) (number at)
     ∙ ((λ i. with_sum m at (record { entries = is.entries i; rows = is.rows i; moment = is.moment i }))
-    ∙ sym (all-noted m at es (omega within) notes))
+    ∙ sym (all-noted m at es (omega (arith, within)) notes))

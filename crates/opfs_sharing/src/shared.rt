@@ -8,7 +8,7 @@ use opfs_shed::Shed;
 
 /// What the shared state does for the books: it lends its rows and buckets to a commit, and changes as the machine says.
 pub trait Shared {
-    ghost use Rattle.std.specs.Prelude.{◌≡◌, ◌++◌, ◌≤◌, ℕ, [], Option, List, length, vec_capacity};
+    ghost use Rattle.std.specs.Prelude.{◌≡◌, ◌++◌, ◌≤◌, ℕ, [], Option, None, List, length, vec_capacity};
     ghost use Rattle.opfs_base.specs.Texts.{Text};
     ghost use Rattle.opfs_base.specs.declared.extents.Extent.{Extent};
     ghost use Rattle.opfs_changes.specs.Changed.{tree_by, freed_in};
@@ -22,6 +22,7 @@ pub trait Shared {
     ghost use Rattle.opfs_replay.specs.Sums.{persistent_in};
     ghost use Rattle.opfs_standing.specs.Seen.{Machine, lines_of};
     ghost use Rattle.opfs_sharing.specs.Noting.{noted, IsSumOf, AreNotes};
+    ghost use Rattle.opfs_sharing.specs.Standing.{Standby};
     ghost use Rattle.opfs_hist.specs.declared.entry.Entry.{Entry};
     ghost use Rattle.opfs_tree.specs.Rows.{Rows, extents_within, without};
 
@@ -29,6 +30,9 @@ pub trait Shared {
     ghost machine: { Self → Machine };
 
     ghost tree: { Self → Rows };
+
+    /// What stands ready for a call.
+    ghost standby: { Self → Standby };
 
     /// When a call may be applied, entered as refused, and taken in with the sum of an agent's pending calls; and when a unit
     /// may be cleared.
@@ -62,6 +66,7 @@ pub trait Shared {
         requires room { length (freed.old.items ++ freed_in (machine self.old) (tree self.old) agent op.now extents) ≤ vec_capacity freed.old }
         ensures machine { machine self.new ≡ counted (effect in_lengths (machine self.old) sizes agent op.now) agent }
         ensures tree { tree self.new ≡ tree_by (machine self.old) (tree self.old) agent op.now sizes extents }
+        ensures idle { (standby self.new).prepared.place ≡ None }
         ensures freed { freed.new.items ≡ freed.old.items ++ freed_in (machine self.old) (tree self.old) agent op.now extents }
         ensures capacity { vec_capacity freed.old ≤ vec_capacity freed.new };
 
@@ -69,13 +74,15 @@ pub trait Shared {
     fn refuse(&mut self, agent: u32, op: &Op)
         requires { may_refuse self.old agent op.now }
         ensures machine { machine self.new ≡ counted (refused (machine self.old) agent op.now) agent }
-        ensures tree { tree self.new ≡ tree self.old };
+        ensures tree { tree self.new ≡ tree self.old }
+        ensures idle { (standby self.new).prepared.place ≡ None };
 
     /// Takes in the sum of an agent's pending calls. Takes no memory.
     fn note(&mut self, agent: u32, sum: PendingSum)
         requires { may_note self.old agent sum }
         ensures machine { (es : List Entry) → IsSumOf sum es → AreNotes es → machine self.new ≡ noted (machine self.old) agent es }
-        ensures tree { tree self.new ≡ tree self.old };
+        ensures tree { tree self.new ≡ tree self.old }
+        ensures standby { standby self.new ≡ standby self.old };
 
     /// Clears a unit. Takes no memory.
     fn clear(&mut self, unit: &Key, freed: &mut Vec<Extent>)
@@ -83,6 +90,7 @@ pub trait Shared {
         requires room { length (freed.old.items ++ extents_within (unit.now, []) (tree self.old)) ≤ vec_capacity freed.old }
         ensures machine { machine self.new ≡ evicted (machine self.old) unit.now }
         ensures tree { tree self.new ≡ without (unit.now, []) (tree self.old) }
+        ensures standby { standby self.new ≡ standby self.old }
         ensures freed { freed.new.items ≡ freed.old.items ++ extents_within (unit.now, []) (tree self.old) }
         ensures capacity { vec_capacity freed.old ≤ vec_capacity freed.new };
 }

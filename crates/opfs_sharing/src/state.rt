@@ -15,6 +15,8 @@ impl Shared for State {
 
     ghost tree = { λ s. s.store.tree };
 
+    ghost standby = { λ s. record { prepared = s.store.prepared; target = s.target; growth = s.growth } };
+
     ghost may_apply = { λ s k o z extents. MayApplyTo s k o z };
 
     ghost may_refuse = { λ s k o. MayRefuseTo s k };

@@ -3,7 +3,7 @@
 ghost use Rattle.std.specs.Prelude.{◌≡◌, ◌<◌, ◌≤◌, ◌^◌, ◌∷◌, [], None, Some, IfOk, IfNone, IfSome, IsSomeAnd, length, option_map};
 ghost use Rattle.std.specs.Option.{option_copied};
 ghost use Rattle.opfs_base.specs.Units.{origin_of};
-ghost use Rattle.opfs_machine.specs.Agents.{agent_of, party_of, is_posted, others_stuck, waits_for};
+ghost use Rattle.opfs_machine.specs.Agents.{agent_of, open_handle, party_of, is_posted, others_stuck, waits_for};
 ghost use Rattle.opfs_machine.specs.Contents.{in_lengths};
 ghost use Rattle.opfs_machine.specs.Rows.{row_at, file_at, kind_of};
 ghost use Rattle.opfs_machine.specs.Sums.{is_persistent, usage};
@@ -17,7 +17,7 @@ ghost use Rattle.opfs_verdicts.specs.Callers.{IsAgent};
 
 use crate::state::State;
 use opfs_base::{Key, Kind, Name, Path, Text};
-use opfs_machine::Place;
+use opfs_machine::{HandleOutline, Place};
 use opfs_ready::ReadyTree;
 use opfs_shed::Shed;
 use opfs_tree::{FileRow, Row, Walk};
@@ -141,6 +141,35 @@ impl State {
         ensures few { result ≤ most_rows }
     {
         self.store.register().rows(agent as usize - 1)
+    }
+
+    /// The key of an agent's origin; None for an opaque origin.
+    pub fn key(&self, agent: u32) -> Option<&Key>
+        requires { IsAgent self.now.store.machine agent }
+        ensures { option_copied result ≡ (agent_of self.now.store.machine agent).key }
+    {
+        self.store.register().key(agent as usize - 1)
+    }
+
+    /// Whether an agent has the grant `persistent-storage`.
+    pub fn has_grant(&self, agent: u32) -> bool
+        requires { IsAgent self.now.store.machine agent }
+        ensures { result ≡ (agent_of self.now.store.machine agent).grant }
+    {
+        self.store.register().has_grant(agent as usize - 1)
+    }
+
+    /// An agent's open access handle of a number; None where the agent has no such row.
+    pub fn handle(&self, agent: u32, row: u32) -> Option<&HandleOutline>
+        requires { IsAgent self.now.store.machine agent }
+        ensures { option_copied result ≡ open_handle in_lengths self.now.store.machine agent row }
+    {
+        if row == 0 {
+            return None;
+        }
+        self.store
+            .register()
+            .handle(agent as usize - 1, row as usize - 1)
     }
 
     /// The file of an agent's open stream or access handle of a number; None where the agent has no such row.

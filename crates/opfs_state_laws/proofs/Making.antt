@@ -17,8 +17,8 @@ use Rattle.opfs_laws.proofs.Gone.{IsGiven, bind-gave, then-gave, some-gave, unle
 use Rattle.opfs_laws.proofs.Growing.{Grows, plain_charge, grows-without}
 use Rattle.opfs_laws.proofs.LocksEffect.{Untaken, locks-fold}
 use Rattle.opfs_laws.proofs.Bounded.{modes-gone}
-use Rattle.opfs_laws.proofs.OwnFiles.{OwnFiles}
-use Rattle.opfs_laws.proofs.OwnKept.{evicted-agents}
+use Rattle.opfs_laws.proofs.OwnFiles.{OwnFiles, HasOwnFile}
+use Rattle.opfs_laws.proofs.OwnKept.{evicted-agents, keeps-row}
 use Rattle.opfs_laws.proofs.Spots.{place_itself}
 use Rattle.opfs_laws.proofs.Wholes.{map-gone, file-there}
 use Rattle.opfs_laws.specs.Whole.{IsWhole, is_rising}
@@ -44,8 +44,8 @@ use Rattle.opfs_machine.specs.Agents.{agent_of, agent_in, own_of, party_of, part
 use Rattle.opfs_machine.specs.Alone.{is_partys}
 use Rattle.opfs_machine.specs.Contents.{in_bytes, in_lengths, outline_of}
 use Rattle.opfs_machine.specs.Histories.{IsFront, may_enter}
-use Rattle.opfs_machine.specs.Replies.{sizes_of}
-use Rattle.opfs_machine.specs.Rows.{row_at, Rows}
+use Rattle.opfs_machine.specs.Replies.{sizes_of, sizes_in, row_named, bytes_at, bytes_in}
+use Rattle.opfs_machine.specs.Rows.{row_at, file_of, Rows}
 use Rattle.opfs_machine.specs.Rulings.{ruling}
 use Rattle.opfs_machine.specs.Steps.{evicted, room_for}
 use Rattle.opfs_machine.specs.Sums.{fits_pool, fits_area, is_persistent, pool, charge}
@@ -243,6 +243,24 @@ front-of : (P : Text → Type 0) (front rest : List Text) → All P (front ++ re
 front-of P [] rest all = All-nil P
 front-of P (x ∷ xs) rest all = All-cons P x xs (All-head P x (xs ++ rest) all) (front-of P xs rest (All-tail P x (xs ++ rest) all))
 
+-- The sizes that a call tells are the same once others' units are cleared.
+bytes-read : (s t : State Text Own) (p : Place) → row_at t p ≡ row_at s p → bytes_at t p ≡ bytes_at s p
+bytes-read s t p same = ap (λ r. bytes_in (file_of r)) same
+
+own-callers : (key : Option Text) (h : HandleRow) → HasOwnFile key (own.Handle h) → is_callers key h.file.0 ≡ true
+own-callers key h is = is
+
+sizes-in : (k : ℕ) (s t : State Text Own) → Reads k s t → (o : Option Own) → ((r : Own) → o ≡ Some r → HasOwnFile (agent_of s k).key r) → sizes_in t o ≡ sizes_in s o
+sizes-in k s t reads None files = refl
+sizes-in k s t reads (Some (own.Handle h)) files = ap (λ b. record { size = length b; position = h.cursor }) (bytes-read s t h.file (sym (reads.row h.file (own-callers (agent_of s k).key h (files (own.Handle h) refl)))))
+sizes-in k s t reads (Some (own.Stream w)) files = refl
+sizes-in k s t reads (Some r) files = refl
+
+sizes-read : (k : ℕ) (s t : State Text Own) (o : Op) → Reads k s t → OwnFiles s → sizes_of t k o ≡ sizes_of s k o
+sizes-read k s t o reads files =
+    ap (λ a. sizes_in t (own_of a (row_named o))) (sym reads.agent)
+    ∙ sizes-in k s t reads (own_of (agent_of s k) (row_named o)) (λ r is. keeps-row HasOwnFile s k (row_named o) r files is)
+
 pub has-room : (s : State Text Own) (k : ℕ) (o : Op) (units : List Text) → IsWhole s → OwnFiles s → may_enter s k o ≡ true → HasOwnBuckets s k
     → judged_in in_lengths (in_lengths_of s) (sizes_of s k o) k o ≡ Ok units → HasRoom s k o units
 unfolding judged_in
@@ -258,7 +276,8 @@ has-room s k o units whole files may plain judged =
     let others = All-weaker (λ u. is_candidate s key u ≡ true) (λ u. is_partys (party_of s k) u ≡ false) (λ u h. others-party key k u (middle-of (not (is_persistent s u)) (is_callers key u) (none_taken s u) h)) units all in
     let t = fold evicted s units in
     let after = whole-gone units s whole untaken in
-    let ruled = ruling-on in_bytes in_lengths length outline_of lengths-fit t k z o ∙ sym (ruling-same k s t (reads-gone units s k files (told (is_sorted place_cmp s.rows) whole.order) others) plain files z o may) ∙ both.1 in
+    let reads = reads-gone units s k files (told (is_sorted place_cmp s.rows) whole.order) others in
+    let ruled = ruling-on in_bytes in_lengths length outline_of lengths-fit t k z o ∙ sym (ruling-same k s t reads plain files z o may) ∙ both.1 in
     let limits = limits-gone units s in
     let fits = front-fits s need.pool (candidates s key) units parts.1 in
     let like = like-fold units s s (record { rows = refl; agents = refl; limits = refl }) in
@@ -283,6 +302,7 @@ has-room s k o units whole files may plain judged =
             mode = not-true (is_persistent here unit) still.best_effort;
             kept = kept-lengths here (whole-gone first s whole gone);
           };
+      sizes = sizes-read k s t o reads files;
       others = λ first unit rest is. may-others s key unit (front-fine s key first unit rest (subst (λ us. IsFront us (candidates s key)) is front)).may;
     }
   where

@@ -3,10 +3,11 @@ use Rattle.std.proofs.Common.{◌≡◌, ℕ, zero, suc, ◌-◌, ◌<◌, ◌�
 use Rattle.std.specs.Prelude.{slice_get, unwrap_or, replicate, not, ⊤}
 use Rattle.std.specs.List.{list_any, AllByRecursion}
 use Rattle.opfs_base.specs.Measures.{mode_charge}
-use Rattle.opfs_base.specs.Places.{Place, begins_with}
+use Rattle.opfs_base.specs.Places.{Place, begins_with, place_of, child}
 use Rattle.opfs_base.specs.Texts.{Text, same_text}
 use Rattle.opfs_base.specs.Units.{unit_of}
 use Rattle.opfs_base.specs.declared.locator.Kind.{Kind}
+use Rattle.opfs_base.specs.declared.locator.Kind.TheVariants as kind
 use Rattle.opfs_changes.specs.Asking.{AreOwnUnits, units_of, unit_in, root_in, where_free, root_place, handle_place, bucket_unit, made_at, free_in, place_in, place_for, target_of, growth_of, row_growth, mode_growth}
 use Rattle.opfs_hist.specs.declared.history.PendingSum.{PendingSum}
 use Rattle.opfs_hist.specs.declared.op.Op.{Op}
@@ -22,6 +23,8 @@ use Rattle.opfs_machine.specs.Contents.{in_lengths}
 use Rattle.opfs_machine.specs.Rows.{row_at}
 use Rattle.opfs_machine.specs.Steps.{evicted}
 use Rattle.opfs_machine.specs.Victims.{is_callers}
+use Rattle.opfs_machine.specs.declared.state.Row.{Row}
+use Rattle.opfs_ready.specs.Ready.{ready_within}
 use Rattle.opfs_seats.proofs.KeptRows.{get-set}
 use Rattle.opfs_seats.specs.Seating.{noted}
 use Rattle.opfs_standing.proofs.AgentMoves.{number}
@@ -337,3 +340,24 @@ ready-cleared s t own more k o unit mine other machine prepared ready =
       ready = ready-same s t own more k o (subst (λ n. IsSameFor s.machine n k) (sym machine) (same-cleared s.machine k unit)) (subst (λ n. IsSameRow s.machine n (made_at s.machine k o)) (sym machine) (rows-cleared s.machine k o unit mine other)) prepared ready;
       units = subst (λ n. AreOwnUnits n k o) (sym machine) (subst (λ units. AllOwn (agent_of s.machine k).key units) (sym (units-cleared s.machine k o unit)) mine);
     }
+
+-- ---- the place that stands ready
+
+free-apart : (m : Machine) (unit : Text) (e : Place × Kind) → same_text unit e.0.0 ≡ false → (r : Option (Row ℕ)) → ready_within (unit, []) (where_free r e) ≡ false
+free-apart m unit e other None = ap (λ t. t && begins_with [] e.0.1) other
+free-apart m unit e other (Some r) = refl
+
+root-free : (m : Machine) (key : Option Text) (unit : Text) (root : Option Text) → is_callers key unit ≡ false → AllOwn key (unit_in root) → ready_within (unit, []) (free_in m (root_in root)) ≡ false
+root-free m key unit None other own = refl
+root-free m key unit (Some mine) other own = free-apart m unit ((mine, []), kind.Directory) (apart key unit mine other own.0) (row_at m (mine, []))
+
+place-apart : (m : Machine) (k : ℕ) (o : Op) (unit : Text) → AreOwnUnits m k o → is_callers (agent_of m k).key unit ≡ false → ready_within (unit, []) (place_for m k o) ≡ false
+unfolding units_of made_at
+place-apart m k (op.GetDirectory bucket) unit own other = root-free m (agent_of m k).key unit (bucket_unit m k bucket) other own
+place-apart m k (op.GetDirectoryHandle dir name create) unit own other = free-apart m unit (child (place_of dir) name, kind.Directory) (apart (agent_of m k).key unit dir.key other own.0) (row_at m (child (place_of dir) name))
+place-apart m k (op.GetFileHandle dir name create) unit own other = free-apart m unit (child (place_of dir) name, kind.File) (apart (agent_of m k).key unit dir.key other own.0) (row_at m (child (place_of dir) name))
+place-apart m k o unit own other = refl
+
+pub ready-apart : (s : Seen) (own : Option Place) (more k : ℕ) (o : Op) (unit : Text) → AreOwnUnits s.machine k o → is_callers (agent_of s.machine k).key unit ≡ false
+    → IsReady s own more k o → ready_within (unit, []) s.prepared.place ≡ false
+ready-apart s own more k o unit mine other ready = ap (ready_within (unit, [])) ready.place ∙ place-apart s.machine k o unit mine other

@@ -1,5 +1,5 @@
 -- What stands ready for a call stays so until it is done. This project's own.
-use Rattle.std.specs.Prelude.{◌≡◌, ℕ, ◌-◌, false, Option}
+use Rattle.std.specs.Prelude.{◌≡◌, ℕ, ◌-◌, false, [], Option}
 use Rattle.opfs_base.specs.Places.{Place}
 use Rattle.opfs_base.specs.Texts.{Text}
 use Rattle.opfs_changes.specs.Asking.{AreOwnUnits}
@@ -8,6 +8,7 @@ use Rattle.opfs_hist.specs.declared.op.Op.{Op}
 use Rattle.opfs_machine.specs.Agents.{agent_of}
 use Rattle.opfs_machine.specs.Steps.{evicted}
 use Rattle.opfs_machine.specs.Victims.{is_callers}
+use Rattle.opfs_ready.specs.Ready.{ready_within}
 use Rattle.opfs_standing.specs.Noted.{with_sum}
 use Rattle.opfs_standing.specs.Seen.{Seen}
 use Rattle.opfs_state.specs.Applied.{IsReady}
@@ -29,3 +30,9 @@ abbrev pub StaysReadyAsCleared : Type 0
 StaysReadyAsCleared =
     (s new : Seen) (own : Option Place) (more k : ℕ) (op : Op) (unit : Text) → AreOwnUnits s.machine k op → is_callers (agent_of s.machine k).key unit ≡ false
     → new.machine ≡ evicted s.machine unit → new.prepared ≡ s.prepared → IsReady s own more k op → StillReady new own more k op
+
+-- The place that stands ready is none of a unit of another origin.
+abbrev pub ReadyIsApart : Type 0
+ReadyIsApart =
+    (s : Seen) (own : Option Place) (more k : ℕ) (op : Op) (unit : Text) → AreOwnUnits s.machine k op → is_callers (agent_of s.machine k).key unit ≡ false
+    → IsReady s own more k op → ready_within (unit, []) s.prepared.place ≡ false

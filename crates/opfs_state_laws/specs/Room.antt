@@ -36,6 +36,7 @@ pub record HasRoom (s : State Text Own) (k : ℕ) (op : Op) (units : List Text) 
   pub kept : Kept (in_lengths_of (fold evicted s units))
   pub may : MayApply (in_lengths_of (fold evicted s units)) (sizes_of s k op) k op
   pub each : (front : List Text) (unit : Text) (rest : List Text) → units ≡ front ++ unit ∷ rest → MayClear (fold evicted s front) unit
+  pub sizes : sizes_of (fold evicted s units) k op ≡ sizes_of s k op
   pub others : (front : List Text) (unit : Text) (rest : List Text) → units ≡ front ++ unit ∷ rest → is_callers (agent_of s k).key unit ≡ false
 
 abbrev pub EvictionsMakeRoom : Type 0
