@@ -17,7 +17,6 @@ ghost use Rattle.opfs_machine.specs.Steps.{evicted, is_refusal};
 ghost use Rattle.opfs_replay.specs.Built.{Built};
 
 use crate::entering::{Entering, Last, enter};
-use opfs_sharing::Shared;
 use opfs_base::Extent;
 use opfs_book_calls::calls_are_spelled;
 use opfs_book_laws::{telling_keeps_the_books, the_state_is_kept};
@@ -26,6 +25,7 @@ use opfs_hist::History;
 use opfs_journal::Journal;
 use opfs_lengths::bridge::lengths_follow_each_call;
 use opfs_outside::Disk;
+use opfs_sharing::Shared;
 use std::alloc::Global;
 
 /// The history, the shared state, what is kept back of the changes, and the place of the entry whose change is in doubt.
@@ -53,6 +53,7 @@ impl<S: Shared> Books<S> {
         requires room { length (freed.old.items ++ freed_in (S.machine self.old.state) (S.tree self.old.state) entering.last.entry.agent entering.last.entry.op entering.extents) ≤ vec_capacity freed.old }
         ensures entries { self.new.history ≡ self.old.history ++ entering.last.entry ∷ [] }
         ensures machine { S.machine self.new.state ≡ counted (effect in_lengths (S.machine self.old.state) entering.sizes entering.last.entry.agent entering.last.entry.op) entering.last.entry.agent }
+        ensures idle { (S.standby self.new.state).prepared.place ≡ None }
         ensures tree { S.tree self.new.state ≡ tree_by (S.machine self.old.state) (S.tree self.old.state) entering.last.entry.agent entering.last.entry.op entering.sizes entering.extents }
         ensures commits { self.new.commits ≡ self.old.commits }
         ensures place { self.new.place ≡ self.old.place }
@@ -85,6 +86,7 @@ impl<S: Shared> Books<S> {
         requires may { S.may_refuse self.old.state last.entry.agent last.entry.op }
         ensures entries { self.new.history ≡ self.old.history ++ last.entry ∷ [] }
         ensures machine { S.machine self.new.state ≡ counted (refused (S.machine self.old.state) last.entry.agent last.entry.op) last.entry.agent }
+        ensures idle { (S.standby self.new.state).prepared.place ≡ None }
         ensures tree { S.tree self.new.state ≡ S.tree self.old.state }
         ensures commits { self.new.commits ≡ self.old.commits }
         ensures place { self.new.place ≡ self.old.place }

@@ -30,7 +30,6 @@ ghost use Rattle.opfs_tree.specs.Rows.{extents_within, without};
 use crate::books::Books;
 use crate::committing::commit_own;
 use crate::entering::{Last, enter, in_order, with_fault};
-use opfs_sharing::Shared;
 use opfs_base::{Extent, Key};
 use opfs_book_calls::{calls_are_spelled, calls_may_fail};
 use opfs_book_laws::{commits_keep_the_books, telling_keeps_the_books, the_state_is_kept};
@@ -39,6 +38,7 @@ use opfs_hist::Pending;
 use opfs_journal::{DiskFault, Journal};
 use opfs_lengths::bridge::{lengths_follow_each_call, local_calls_are_known_by_their_word};
 use opfs_outside::Disk;
+use opfs_sharing::Shared;
 use std::alloc::Global;
 
 // The change that clears a unit.
@@ -77,13 +77,16 @@ impl<S: Shared> Books<S> {
         ensures entries { OnOk result (self.new.history ≡ self.old.history ++ eviction unit.now ∷ []) }
         ensures machine { OnOk result (S.machine self.new.state ≡ evicted (S.machine self.old.state) unit.now) }
         ensures tree { OnOk result (S.tree self.new.state ≡ without (unit.now, []) (S.tree self.old.state)) }
+        ensures standby { OnOk result (S.standby self.new.state ≡ S.standby self.old.state) }
         ensures none { OnOk result (self.new.commits.count ≡ 0) }
         ensures sure { OnOk result (journal.new.in_doubt ≡ false) }
         ensures freed { OnOk result (freed.new.items ≡ freed.old.items ++ extents_within (unit.now, []) (S.tree self.old.state)) }
         ensures failed { OnErr result (self.new.history ≡ self.old.history ++ failed last.entry ∷ []) }
         ensures failed_machine { OnErr result (S.machine self.new.state ≡ counted (refused (S.machine self.old.state) last.entry.agent last.entry.op) last.entry.agent) }
         ensures failed_tree { OnErr result (S.tree self.new.state ≡ S.tree self.old.state) }
+        ensures failed_idle { OnErr result ((S.standby self.new.state).prepared.place ≡ None) }
         ensures failed_freed { OnErr result (freed.new ≡ freed.old) }
+        ensures failed_commits { OnErr result (self.new.commits ≡ self.old.commits) }
         ensures capacity { vec_capacity freed.old ≤ vec_capacity freed.new }
         ensures leaves { LeavesPages D.Disk journal.old journal.new }
         ensures books { OnOk result ((f : Fixed D) (recorded : Built) (base : State Text Own) (others : List Text) → AreBooksAt D.Disk f recorded base others (book_of S.Shared self.old) journal.old
@@ -129,6 +132,7 @@ impl<S: Shared> Books<S> {
         ensures entries { self.new.history ≡ self.old.history ++ pending.old }
         ensures taken { pending.new ≡ [] }
         ensures machine { S.machine self.new.state ≡ noted (S.machine self.old.state) agent pending.old }
+        ensures standby { S.standby self.new.state ≡ S.standby self.old.state }
         ensures tree { S.tree self.new.state ≡ S.tree self.old.state }
         ensures commits { self.new.commits ≡ self.old.commits }
         ensures place { self.new.place ≡ self.old.place }

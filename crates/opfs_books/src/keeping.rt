@@ -20,7 +20,6 @@ ghost use Rattle.opfs_replay.specs.Built.{Built};
 
 use crate::books::Books;
 use crate::entering::{Entering, enter, in_order};
-use opfs_sharing::Shared;
 use opfs_base::Extent;
 use opfs_book_calls::calls_are_spelled;
 use opfs_book_laws::{keeping_back_keeps_the_books, the_state_is_kept};
@@ -28,6 +27,7 @@ use opfs_codec::ChangeRef;
 use opfs_journal::Journal;
 use opfs_lengths::bridge::lengths_follow_each_call;
 use opfs_outside::Disk;
+use opfs_sharing::Shared;
 use std::alloc::Global;
 
 impl<S: Shared> Books<S> {
@@ -53,6 +53,7 @@ impl<S: Shared> Books<S> {
         requires room { length (freed.old.items ++ freed_in (S.machine self.old.state) (S.tree self.old.state) entering.last.entry.agent entering.last.entry.op entering.extents) ≤ vec_capacity freed.old }
         ensures entries { self.new.history ≡ self.old.history ++ entering.last.entry ∷ [] }
         ensures machine { S.machine self.new.state ≡ counted (effect in_lengths (S.machine self.old.state) entering.sizes entering.last.entry.agent entering.last.entry.op) entering.last.entry.agent }
+        ensures idle { (S.standby self.new.state).prepared.place ≡ None }
         ensures tree { S.tree self.new.state ≡ tree_by (S.machine self.old.state) (S.tree self.old.state) entering.last.entry.agent entering.last.entry.op entering.sizes entering.extents }
         ensures commits { self.new.commits ≡ with_kept self.old.commits (plain own.now) }
         ensures freed { freed.new.items ≡ freed.old.items ++ freed_in (S.machine self.old.state) (S.tree self.old.state) entering.last.entry.agent entering.last.entry.op entering.extents }

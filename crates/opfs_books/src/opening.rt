@@ -9,13 +9,13 @@ ghost use Rattle.opfs_replay.specs.Sums.{persistent_in};
 ghost use Rattle.opfs_snapshot.specs.Written.{AreWritable};
 
 use crate::books::Books;
-use opfs_sharing::Shared;
 use opfs_book_laws::commit_laws;
 use opfs_commit::Commits;
 use opfs_hist::History;
 use opfs_journal::Journal;
 use opfs_outside::Disk;
 use opfs_ready::ReadyTree;
+use opfs_sharing::Shared;
 use opfs_shed::Shed;
 use opfs_snapshot::snapshot;
 use std::alloc::{AllocError, Global};

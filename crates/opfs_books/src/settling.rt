@@ -13,7 +13,6 @@ ghost use Rattle.opfs_replay.specs.Built.{Built};
 
 use crate::books::Books;
 use crate::committing::commit_alone;
-use opfs_sharing::Shared;
 use opfs_book_calls::calls_are_spelled;
 use opfs_book_laws::{
     commits_alone_keep_the_books, settling_keeps_the_books, the_books_show_their_images,
@@ -22,6 +21,7 @@ use opfs_commit::settle;
 use opfs_journal::{DiskFault, Journal};
 use opfs_lengths::bridge::lengths_follow_each_call;
 use opfs_outside::Disk;
+use opfs_sharing::Shared;
 
 impl<S: Shared> Books<S> {
     /// Ends the doubt, if there is one. Without doubt it calls no disk.
@@ -58,6 +58,7 @@ impl<S: Shared> Books<S> {
         ensures state { self.new.state ≡ self.old.state }
         ensures none { OnOk result (self.new.commits.count ≡ 0) }
         ensures sure { OnOk result (journal.new.in_doubt ≡ false) }
+        ensures failed_commits { OnErr result (self.new.commits ≡ self.old.commits) }
         ensures untouched { IfOk result (λ written. written ≡ false → (self.new ≡ self.old) × (journal.new ≡ journal.old)) }
         ensures leaves { LeavesPages D.Disk journal.old journal.new }
         ensures committed { IfOk result (λ written. written ≡ true → (f : Fixed D) (recorded : Built) (base : State Text Own) (gone : List Text) → AreBooksAt D.Disk f recorded base gone (book_of S.Shared self.old) journal.old

@@ -22,7 +22,6 @@ ghost use Rattle.opfs_replay.specs.Built.{Built};
 use crate::books::Books;
 use crate::committing::commit_own;
 use crate::entering::{Entering, enter, in_order, with_fault};
-use opfs_sharing::Shared;
 use opfs_base::Extent;
 use opfs_book_calls::{calls_are_spelled, calls_may_fail};
 use opfs_book_laws::{commits_keep_the_books, state_laws, the_state_is_kept};
@@ -30,6 +29,7 @@ use opfs_codec::ChangeRef;
 use opfs_journal::{DiskFault, Journal};
 use opfs_lengths::bridge::lengths_follow_each_call;
 use opfs_outside::Disk;
+use opfs_sharing::Shared;
 use std::alloc::Global;
 
 impl<S: Shared> Books<S> {
@@ -55,6 +55,7 @@ impl<S: Shared> Books<S> {
         ensures entries { OnOk result (self.new.history ≡ self.old.history ++ entering.last.entry ∷ []) }
         ensures machine { OnOk result (S.machine self.new.state ≡ counted (effect in_lengths (S.machine self.old.state) entering.sizes entering.last.entry.agent entering.last.entry.op) entering.last.entry.agent) }
         ensures tree { OnOk result (S.tree self.new.state ≡ tree_by (S.machine self.old.state) (S.tree self.old.state) entering.last.entry.agent entering.last.entry.op entering.sizes entering.extents) }
+        ensures idle { (S.standby self.new.state).prepared.place ≡ None }
         ensures none { OnOk result (self.new.commits.count ≡ 0) }
         ensures sure { OnOk result (journal.new.in_doubt ≡ false) }
         ensures freed { OnOk result (freed.new.items ≡ freed.old.items ++ freed_in (S.machine self.old.state) (S.tree self.old.state) entering.last.entry.agent entering.last.entry.op entering.extents) }
@@ -62,6 +63,7 @@ impl<S: Shared> Books<S> {
         ensures failed_machine { OnErr result (S.machine self.new.state ≡ counted (refused (S.machine self.old.state) entering.last.entry.agent entering.last.entry.op) entering.last.entry.agent) }
         ensures failed_tree { OnErr result (S.tree self.new.state ≡ S.tree self.old.state) }
         ensures failed_freed { OnErr result (freed.new ≡ freed.old) }
+        ensures failed_commits { OnErr result (self.new.commits ≡ self.old.commits) }
         ensures capacity { vec_capacity freed.old ≤ vec_capacity freed.new }
         ensures leaves { LeavesPages D.Disk journal.old journal.new }
         ensures books { OnOk result ((f : Fixed D) (recorded : Built) (base : State Text Own) (gone : List Text) → AreBooksAt D.Disk f recorded base gone (book_of S.Shared self.old) journal.old

@@ -39,3 +39,6 @@ returns-in-Err-clause-shown g c f recorded base gone are =
     let b = c.args.self.now in
     c.commits_alone_keep_the_books.ensures.shown f recorded base gone (book_of g.S.Shared b) c.args.journal.now c.commit_alone.new.journal c.commit_alone.new.commits are c.requires.settled
     (inr (none-lent g.D.Disk (g.S.Shared.machine b.state) (g.S.Shared.tree b.state) c.rows.result.now.rows c.shed.result.now c.rows.ensures.rows c.shed.ensures c.args.journal.now c.commit_alone.new.journal b.commits c.commit_alone.new.commits c.in-Err.ensures.halted))
+
+pub returns-in-Err-clause-failed_commits : goal.returns-in-Err-clause-failed_commits
+returns-in-Err-clause-failed_commits g c = c.in-Err.ensures.halted.halted.same

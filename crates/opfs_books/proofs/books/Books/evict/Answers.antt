@@ -81,3 +81,6 @@ returns-in-Err-clause-shown g c f recorded base others are =
     evict-shown c.lengths_follow_each_call.ensures c.calls_are_spelled.ensures g.D.Disk f recorded base others b.history m t b.commits b.place c.args.journal.now are
     c.args.unit.now c.rows-tree.ensures.lines c.requires.root c.requires.mode c.requires.again order
     c.commits_keep_the_books.ensures.shown c.requires.settled c.commit_own.new.journal c.commit_own.new.commits (inr (none-own-lent g.D.Disk m t c.rows-tree.result.now.rows c.shed.result.now c.rows-tree.ensures.rows c.shed.ensures c.args.journal.now c.commit_own.new.journal b.commits c.commit_own.new.commits (Evict c.args.unit.now) (subst (λ (x : Spelled). IsNoneOf g.D.Disk (IsNext (stored_in c.rows-tree.result.now.rows c.shed.result.now) x (committing c.args.journal.now b.commits)) (committing c.args.journal.now b.commits) (committing c.commit_own.new.journal c.commit_own.new.commits)) c.clearing_of-own.ensures.plain c.in-Err.ensures.halted)))
+
+pub returns-in-Err-clause-failed_commits : goal.returns-in-Err-clause-failed_commits
+returns-in-Err-clause-failed_commits g c = c.in-Err.ensures.halted.halted.same

@@ -90,3 +90,6 @@ returns-in-Err-clause-shown g c f recorded base gone are next sizes stores bytes
     e.last.entry e.sizes e.extents next sizes c.requires.answers c.requires.answered c.rows-tree.ensures.lines
     own c.requires.spelled stores.holds stores.again order c.state_laws.ensures
     c.commits_keep_the_books.ensures.shown c.requires.settled bytes c.commit_own.new.journal c.commit_own.new.commits (inr (none-own-lent g.D.Disk m t c.rows-tree.result.now.rows c.shed.result.now c.rows-tree.ensures.rows c.shed.ensures c.args.journal.now c.commit_own.new.journal b.commits c.commit_own.new.commits own c.in-Err.ensures.halted))
+
+pub returns-in-Err-clause-failed_commits : goal.returns-in-Err-clause-failed_commits
+returns-in-Err-clause-failed_commits g c = c.in-Err.ensures.halted.halted.same
