@@ -1,0 +1,10 @@
+pub mod Inside
+pub mod Staying
+pub mod Copied
+pub mod Stored
+pub mod Locked
+pub mod InHand
+pub mod Opening
+pub mod Opens
+pub mod OpenCopies
+pub mod Puts
