@@ -101,7 +101,7 @@ find-values g place (e ∷ es) =
     ]
 
 -- A file of rows as they are stored is sound.
-sound-at : (size : ℕ) (t : Rows) (place : Place) (r : FileRow) → AllByRecursion (λ e. IsSoundRow size e.1) (stored_rows t) → row_at place t ≡ Some (row.File r) → IsSoundFile size (stored_file r)
+pub sound-at : (size : ℕ) (t : Rows) (place : Place) (r : FileRow) → AllByRecursion (λ e. IsSoundRow size e.1) (stored_rows t) → row_at place t ≡ Some (row.File r) → IsSoundFile size (stored_file r)
 sound-at size [] place r all is = absurd (none_some is)
   where
     none_some : ◌≡◌ {A = Option Row} None (Some (row.File r)) → ⊥
