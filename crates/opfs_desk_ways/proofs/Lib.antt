@@ -1,0 +1,16 @@
+pub mod Alike
+pub mod Evictions
+pub mod LaidStays
+pub mod OpenRows
+pub mod Real
+pub mod Ways
+pub mod Held
+pub mod Entries
+pub mod Freed
+pub mod Turns
+pub mod Ready
+pub mod Taken
+pub mod Books
+pub mod Loop
+pub mod Doubt
+pub mod Fresh
