@@ -1,0 +1,11 @@
+pub mod Alike
+pub mod Grown
+pub mod Lies
+pub mod Opened
+pub mod Rows
+pub mod Sizes
+pub mod Trees
+pub mod Undone
+pub mod Words
+pub mod Failed
+pub mod Given

@@ -1,0 +1,11 @@
+-- Pages that are alike. This project's own.
+use Rattle.std.specs.Prelude.{◌≡◌, ℕ, ◌≤◌}
+use Rattle.opfs_data.specs.Rows.{row_of, kept_count}
+use Rattle.opfs_desk_parts.specs.declared.parts.Pages.{Pages}
+
+-- Each row has the same pages, and no more of them are kept in memory; the space is the same.
+pub record AreAlike (p q : Pages) : Type 0 where
+  pub rows : (k n : ℕ) → row_of k n q.swap ≡ row_of k n p.swap
+  pub kept : kept_count q.swap ≤ kept_count p.swap
+  pub space : q.space ≡ p.space
+  pub base : q.base ≡ p.base

@@ -1,0 +1,7 @@
+//! createWritable and createSyncAccessHandle under the turn (File System: createWritable, createSyncAccessHandle).
+#![tactic(auto)]
+
+mod opening;
+mod pages;
+
+pub use opening::act_open;

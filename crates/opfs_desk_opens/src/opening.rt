@@ -1,0 +1,166 @@
+//! A call that opens a row.
+
+ghost use Rattle.std.specs.Prelude.{◌≡◌, true, List, [], IfOk, OnOk, OnErr};
+ghost use Rattle.opfs_acts.specs.Acting.{IsSameCopy};
+ghost use Rattle.opfs_book_laws.specs.Books.{Fixed};
+ghost use Rattle.opfs_book_laws.specs.Commits.{StateLaws};
+ghost use Rattle.opfs_book_laws.specs.Laws.{BooksShowTheirImages};
+ghost use Rattle.opfs_desk_laws.specs.Laws.{TreesKeepBlocks};
+ghost use Rattle.opfs_desk_laws.specs.RowsAfter.{CallsChangeTheirRow};
+ghost use Rattle.opfs_desk_parts.specs.Acted.{HasActed, IsUnacted};
+ghost use Rattle.opfs_desk_parts.specs.Asked.{IsAsked, MayGo};
+ghost use Rattle.opfs_base.specs.Texts.{Text};
+ghost use Rattle.opfs_desk_opens.specs.Opening.{HasTold, IsTidy};
+ghost use Rattle.opfs_desk_parts.specs.Answered.{IsAnswered, MayAnswer};
+ghost use Rattle.opfs_desk_parts.specs.Held.{AreHeldAt, AreHeldWhole};
+ghost use Rattle.opfs_desk_parts.specs.declared.parts.Pages.{Pages};
+ghost use Rattle.opfs_hist.specs.declared.reply.Reply.TheVariants as reply;
+ghost use Rattle.opfs_machine.specs.declared.own.Own.{Own};
+ghost use Rattle.opfs_machine.specs.declared.state.State.{State};
+ghost use Rattle.opfs_desk_parts.specs.Seen.{call_in};
+ghost use Rattle.opfs_desk_rows.specs.OpenCopies.{OpenedCopiesStand};
+ghost use Rattle.opfs_desk_rows.specs.Opening.{OpenedRowsAreLaid};
+ghost use Rattle.opfs_desk_rows.specs.Opens.{CallsOpenRows, opens_row};
+ghost use Rattle.opfs_desk_rows.specs.Stored.{FilesAreStored};
+ghost use Rattle.opfs_desk_steps.specs.Acting.{CallsAreActed};
+ghost use Rattle.opfs_desk_steps.specs.Answering.{ReadyCallsAreAnswered};
+ghost use Rattle.opfs_desk_steps.specs.Ready.{AskedCallsAreReady};
+ghost use Rattle.opfs_replay.specs.Built.{Built};
+
+use crate::pages::{next_row, open_pages};
+use opfs_acts::{Acted, Gift};
+use opfs_book_laws::{state_laws, the_books_show_their_images};
+use opfs_books::{Entering, Last};
+use opfs_desk_laws::{
+    blocks_go_on, calls_change_their_row, trees_keep_their_blocks, what_is_laid_goes_on,
+};
+use opfs_desk_parts::{InHand, Ledger, Parts};
+use opfs_desk_rows::{calls_open_rows, files_are_stored, opened_rows_are_laid};
+use opfs_desk_steps::{
+    asked_calls_are_ready, calls_are_acted, clear_for, ready_calls_are_answered,
+};
+use opfs_desk_ways::{take_in, tell_call};
+use opfs_hist::{Entry, Pending, Refusal, Reply};
+use opfs_machine::Sizes;
+use opfs_outside::Disk;
+use opfs_tree::Walk;
+use opfs_work::Work;
+use std::alloc::AllocError;
+
+// Enters a call that opens a row.
+fn enter_open<D: Disk>(ledger: &mut Ledger<D>, last: Last, sizes: Sizes)
+    requires may { MayAnswer D.Disk ledger.old last.entry sizes }
+    requires word { opens_row last.entry.op ≡ true }
+    requires done { last.entry.reply ≡ reply.Done }
+    ensures tidy { IsTidy ledger.old }
+    ensures told { (f : Fixed D) (recorded : Built) (base : State Text Own) (gone : List Text) (p : Pages) → AreHeldAt D.Disk f recorded base gone ledger.old p → IsAnswered D.Disk base gone ledger.old last.entry sizes
+        → HasTold D.Disk f recorded ledger.old ledger.new p last.entry sizes }
+{
+    ledger.books.state.lines();
+    ledger.books.state.step(&mut Walk::make());
+    let extents = None;
+    tell_call(
+        ledger,
+        Entering {
+            last,
+            sizes,
+            extents,
+        },
+    );
+    ledger.books.state.step(&mut Walk::make());
+}
+
+// What is known of the steps of such a call.
+fn opening_laws<D: Disk>()
+    ensures asks { AskedCallsAreReady D.Disk }
+    ensures answers { ReadyCallsAreAnswered D.Disk }
+    ensures acts { CallsAreActed D.Disk }
+    ensures opens { CallsOpenRows D.Disk }
+    ensures copies { OpenedCopiesStand D.Disk }
+    ensures laid { OpenedRowsAreLaid D.Disk }
+    ensures stored { FilesAreStored D.Disk }
+    ensures shown { BooksShowTheirImages D.Disk }
+    ensures states { StateLaws }
+    ensures changes { CallsChangeTheirRow }
+    ensures trees { TreesKeepBlocks }
+{
+    state_laws();
+    calls_change_their_row();
+    trees_keep_their_blocks();
+    asked_calls_are_ready::<D>();
+    ready_calls_are_answered::<D>();
+    calls_are_acted::<D>();
+    calls_open_rows::<D>();
+    opened_rows_are_laid::<D>();
+    files_are_stored::<D>();
+    the_books_show_their_images::<D>();
+}
+
+/// Acts a createWritable or a createSyncAccessHandle: the row is opened over the blocks of its file, which are read when its bytes
+/// are asked for. A writable that keeps the file's bytes keeps as many blocks, and may clear units for them. Where there is no
+/// memory nothing is entered.
+pub fn act_open<D: Disk>(
+    parts: &mut Parts<D>,
+    call: InHand,
+    pending: &mut Pending,
+    work: &mut Work,
+) -> Result<Acted, AllocError>
+    requires go { MayGo D.Disk parts.old call pending.old work.old [] }
+    requires word { opens_row call.op ≡ true }
+    ensures acted { IfOk result (λ acted. (f : Fixed D) (recorded : Built) → AreHeldWhole D.Disk f recorded parts.old.ledger parts.old.pages
+        → IsAsked D.tells f.opening parts.old.ledger.books.history pending.old parts.old.ledger.books.state call work.old []
+        → HasActed D.Disk f parts.old parts.new pending.old (call_in call) work.old work.new acted) }
+    ensures taken { OnOk result (pending.new ≡ []) }
+    ensures unacted { OnErr result ((pending.new ≡ pending.old) × IsSameCopy work.old work.new) }
+    ensures idle { OnErr result ((f : Fixed D) (recorded : Built) → AreHeldWhole D.Disk f recorded parts.old.ledger parts.old.pages → IsUnacted D.Disk f parts.old parts.new) }
+{
+    opening_laws::<D>();
+    blocks_go_on();
+    what_is_laid_goes_on::<D>();
+    let row = next_row(&parts.ledger, call.agent, pending);
+    let Ok(opened) = open_pages(
+        parts.ledger.alloc,
+        &parts.ledger.books.state,
+        &mut parts.pages.swap,
+        call.agent,
+        row,
+        &call.op,
+    ) else {
+        return Err(AllocError);
+    };
+    let InHand {
+        room,
+        agent,
+        number,
+        op,
+        sizes,
+        clearing,
+    } = call;
+    take_in(&mut parts.ledger, agent, pending);
+    let entry = Entry {
+        agent,
+        number,
+        op,
+        reply: Reply::Done,
+        turn: true,
+    };
+    match clear_for(&mut parts.ledger, clearing, Last { room, entry }) {
+        Ok(last) => {
+            enter_open(&mut parts.ledger, last, sizes);
+            *work = opened;
+            Ok(Acted {
+                reply: Reply::Done,
+                gift: Gift::Nothing,
+                rows: row,
+            })
+        }
+        Err(_) => {
+            parts.pages.swap.drop_row(agent, row);
+            Ok(Acted {
+                reply: Reply::No(Refusal::DiskFault),
+                gift: Gift::Nothing,
+                rows: row - 1,
+            })
+        }
+    }
+}
