@@ -1,0 +1,10 @@
+//! The desk: the shared store of many agents over a disk. Its history is legal, and at each moment an image that a crash leaves
+//! stands for a front of what its calls changed.
+#![tactic(auto)]
+
+mod desk;
+mod ending;
+mod making;
+mod showing;
+
+pub use desk::Desk;
