@@ -121,8 +121,7 @@ module _ (first : FirstBlocks) (m : Machine) (t : Tree) (size : ℕ) (used own :
 
   grounded : (b : ℕ) → has_block (named t) b ≡ true → (b < length used) × (is_used used b ≡ true)
   grounded b has =
-      let under = below-of size (named t) b below has in
-      (
+      let under = below-of size (named t) b below has in (
         omega (arith, under, long),
         ap (λ (u : Used). is_used u b) used-are ∙ marked-has (named t) (replicate size false) b (omega (arith, under, length-replicate size false)) has,
       )
@@ -180,8 +179,8 @@ module _ {D : Type 0} (w : DiskWords D) (from : Recovered D w) (agents : List Wh
       → AreHeld w f (record { ledger = l; pages = p })
   made-held first is keys few books history machine tree idle disk freed swap used own base =
       let spaced : AreSpaced (machine_in l) (shelf from.tree from.tree []) p.space =
-          begun-spaced first (machine_in l) from.tree from.geometry.blocks from.map (replicate from.geometry.blocks false) (ap (λ (x : Machine). x.limits.blocks) machine) from.agrees.parts.used_are refl
-          (named-below from.geometry.blocks from.tree from.agrees.parts.sound) from.agrees.parts.sound.once p.space used own in
+      begun-spaced first (machine_in l) from.tree from.geometry.blocks from.map (replicate from.geometry.blocks false) (ap (λ (x : Machine). x.limits.blocks) machine) from.agrees.parts.used_are refl
+      (named-below from.geometry.blocks from.tree from.agrees.parts.sound) from.agrees.parts.sound.once p.space used own in
       record {
         recorded = recorded;
         are =

@@ -1,8 +1,8 @@
 -- What a desk shows, and what its end leaves.
-use Rattle.std.proofs.Common.{◌≡◌, ℕ, false, List, [], ◌++◌, Some, sym, ap, subst, ◌∙◌}
-use Rattle.opfs_book_laws.specs.Books.{Fixed, account_of}
+use Rattle.std.proofs.Common.{◌≡◌, List, [], ◌++◌, Some, sym, ap, subst, ◌∙◌}
+use Rattle.opfs_book_laws.specs.Books.{account_of}
 use Rattle.opfs_book_laws.specs.Commits.{CommitLaws}
-use Rattle.opfs_book_laws.specs.Laws.{BooksShowTheirImages, ShowsTold, told, doubt}
+use Rattle.opfs_book_laws.specs.Laws.{BooksShowTheirImages, told, doubt}
 use Rattle.opfs_book_laws.proofs.Told.{told-whole}
 use Rattle.opfs_books.specs.Seen.{IsFinished}
 use Rattle.opfs_commit.specs.Seen.{committing}

@@ -1,5 +1,5 @@
 -- The desk as it is seen. This project's own.
-use Rattle.std.specs.Prelude.{◌≡◌, List, ◌++◌}
+use Rattle.std.specs.Prelude.{List, ◌++◌}
 use Rattle.opfs_book_laws.specs.Books.{Fixed, AreCounted}
 use Rattle.opfs_book_laws.specs.Laws.{told, doubt}
 use Rattle.opfs_commit.specs.Shown.{ShowsSince}

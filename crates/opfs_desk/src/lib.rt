@@ -6,5 +6,6 @@ mod desk;
 mod ending;
 mod making;
 mod showing;
+mod waiting;
 
 pub use desk::Desk;

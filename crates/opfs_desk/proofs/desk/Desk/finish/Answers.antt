@@ -1,4 +1,4 @@
-use Rattle.std.proofs.Common.{[], sym}
+use Rattle.std.proofs.Common.{[]}
 use Rattle.opfs_machine.specs.Histories.{state_after}
 use Rattle.opfs_openings.specs.Openings.{fixed_by}
 use Rattle.opfs_desk_parts.specs.declared.parts.Ledger.{Ledger}

@@ -1,13 +1,10 @@
-use Rattle.std.proofs.Common.{List, ◌∙◌, sym, ap, subst, arith}
-use Rattle.opfs_book_calls.specs.Spelled.{stored_built}
+use Rattle.std.proofs.Common.{◌∙◌, sym, ap, subst}
 use Rattle.opfs_books.specs.Opened.{IsOpened}
 use Rattle.opfs_image.specs.Agreeing.{built_in}
-use Rattle.opfs_image.specs.Superblock.{area_bytes}
 use Rattle.opfs_image.specs.declared.recovered.Recovered.{Recovered}
 use Rattle.opfs_journal.specs.Seen.{Seen}
 use Rattle.opfs_machine.specs.declared.state.Limits.{Limits}
 use Rattle.opfs_openings.specs.Openings.{fixed_by, limits_by}
-use Rattle.opfs_seats.specs.declared.seat.Who.{Who}
 use Rattle.opfs_space.specs.Room.{Machine}
 use Rattle.opfs_standing.specs.Beginnings.{IsBegun}
 use Rattle.opfs_state.specs.Applied.{StateSeen, opened}
@@ -39,14 +36,14 @@ invariant_of-result g c =
     let tree = c.in-Ok-make-2.ensures.tree in
     let f = fixed_by g.D.Disk from agents in
     let here =
-        subst (λ (x : Machine). IsOpened g.D.Disk f (built_in from.tree from.shed) x state.store.tree c.limits_of-limits.result.area from.journal) (sym machine)
-        (subst (λ (t : Tree). IsOpened g.D.Disk f (built_in from.tree from.shed) (opened from.tree from.shed (limits_by from.geometry) agents) t c.limits_of-limits.result.area from.journal) (sym tree)
-        (subst (λ (x : Limits). IsOpened g.D.Disk f (built_in from.tree from.shed) (opened from.tree from.shed (limits_by from.geometry) agents) from.tree x.area from.journal) (sym limits) opens)) in
+    subst (λ (x : Machine). IsOpened g.D.Disk f (built_in from.tree from.shed) x state.store.tree c.limits_of-limits.result.area from.journal) (sym machine)
+    (subst (λ (t : Tree). IsOpened g.D.Disk f (built_in from.tree from.shed) (opened from.tree from.shed (limits_by from.geometry) agents) t c.limits_of-limits.result.area from.journal) (sym tree)
+    (subst (λ (x : Limits). IsOpened g.D.Disk f (built_in from.tree from.shed) (opened from.tree from.shed (limits_by from.geometry) agents) from.tree x.area from.journal) (sym limits) opens)) in
     let done = c.in-Ok-make-3.ensures in
     let same = done.state in
     let held : AreHeld g.D.Disk f (record { ledger = l; pages = p }) =
-        made-held g.D.Disk from agents l p c.first_blocks_are_right.ensures opens c.requires.keys c.requires.few (done.books f (built_in from.tree from.shed) here) done.history
-        (ap (λ (s : StateSeen). s.store.machine) same ∙ machine) (ap (λ (s : StateSeen). s.store.tree) same ∙ tree) (ap (λ (s : StateSeen). s.store.prepared.place) same ∙ c.in-Ok-make-2.ensures.place)
-        (ap (λ (j : Seen g.row.D.Denot). j.disk) done.journal) c.in-Ok.ensures c.make-in-Ok-make-3.ensures c.in-Ok-make.ensures.used c.in-Ok-make.ensures.own c.data_base.ensures.same in
+    made-held g.D.Disk from agents l p c.first_blocks_are_right.ensures opens c.requires.keys c.requires.few (done.books f (built_in from.tree from.shed) here) done.history
+    (ap (λ (s : StateSeen). s.store.machine) same ∙ machine) (ap (λ (s : StateSeen). s.store.tree) same ∙ tree) (ap (λ (s : StateSeen). s.store.prepared.place) same ∙ c.in-Ok-make-2.ensures.place)
+    (ap (λ (j : Seen g.row.D.Denot). j.disk) done.journal) c.in-Ok.ensures c.make-in-Ok-make-3.ensures c.in-Ok-make.ensures.used c.in-Ok-make.ensures.own c.data_base.ensures.same in
     subst (λ (x : Recovered g.row.D.Denot g.D.Disk). AreHeld g.D.Disk (fixed_by g.D.Disk x c.of-who.result.value.items) (record { ledger = l; pages = p })) (sym c.of-told.ensures)
     (rw (c.of-who.ensures) held)
