@@ -1,0 +1,23 @@
+-- A call without units: nothing is to be cleared.
+use Rattle.std.proofs.Common.{◌≡◌, List, [], ◌∷◌, length, refl, arith}
+use Rattle.opfs_book_laws.specs.Books.{Fixed}
+use Rattle.opfs_book_laws.specs.Laws.{BooksShowTheirImages}
+use Rattle.opfs_machine.specs.Histories.{state_after}
+use Rattle.opfs_outside.specs.declared.disk.Disk.{Ghosts as DiskWords}
+use Rattle.opfs_replay.specs.Built.{Built}
+use Rattle.opfs_desk_parts.specs.Acted.{AreCleared}
+use Rattle.opfs_desk_parts.specs.Held.{AreHeldWhole}
+use Rattle.opfs_desk_parts.specs.Seen.{units_in}
+use Rattle.opfs_desk_parts.specs.declared.call.Clearing.{Clearing}
+use Rattle.opfs_desk_parts.specs.declared.parts.Ledger.{Ledger}
+use Rattle.opfs_desk_parts.specs.declared.parts.Pages.{Pages}
+use Rattle.opfs_desk_ways.proofs.Ways.{way-here}
+
+pub none-cleared : {D : Type 0} (w : DiskWords D) (show : BooksShowTheirImages w) (f : Fixed D) (recorded : Built) (l : Ledger D) (p : Pages) (items : List Clearing) → length items ≡ 0 → AreHeldWhole w f recorded l p
+    → AreCleared w f (units_in items) l l p
+none-cleared w show f recorded l p [] none held = record {
+  recorded = recorded;
+  are = held;
+  way = way-here w f recorded (state_after f.opening l.books.history) [] l l _ show held.books refl;
+}
+none-cleared w show f recorded l p (x ∷ items) none held = absurd (omega (arith, none))
