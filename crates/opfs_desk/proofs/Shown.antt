@@ -1,0 +1,45 @@
+-- What a desk shows, and what its end leaves.
+use Rattle.std.proofs.Common.{◌≡◌, List, [], ◌++◌, Some, sym, ap, subst, ◌∙◌}
+use Rattle.opfs_book_laws.specs.Books.{account_of}
+use Rattle.opfs_book_laws.specs.Commits.{CommitLaws}
+use Rattle.opfs_book_laws.specs.Laws.{BooksShowTheirImages, told, doubt}
+use Rattle.opfs_book_laws.proofs.Told.{told-whole}
+use Rattle.opfs_books.specs.Seen.{IsFinished}
+use Rattle.opfs_commit.specs.Seen.{committing}
+use Rattle.opfs_commit.specs.Shown.{ShowsSince}
+use Rattle.opfs_hist.specs.declared.entry.Entry.{Entry}
+use Rattle.opfs_histories.specs.Unread.{IsTold}
+use Rattle.opfs_image.specs.Filling.{Stands}
+use Rattle.opfs_journal.specs.Format.{records_of}
+use Rattle.opfs_journal.specs.Seen.{kept}
+use Rattle.opfs_machine.specs.Changes.{floor, changes, durable}
+use Rattle.opfs_machine.specs.Histories.{state_after}
+use Rattle.opfs_outside.specs.declared.disk.Disk.{Ghosts as DiskWords}
+use Rattle.opfs_replay.specs.Built.{Built}
+use Rattle.opfs_desk_parts.specs.Held.{AreHeldWhole}
+use Rattle.opfs_desk_parts.specs.Seen.{book_in}
+use Rattle.opfs_desk_parts.specs.declared.parts.Ledger.{Ledger}
+use Rattle.opfs_desk.specs.Seen.{DeskSeen, entries_of, disk_of, ShowsNow}
+use Rattle.opfs_desk.specs.Ending.{StandsWhole, ShowsEnding}
+
+module _ {D : Type 0} (w : DiskWords D) (d : DeskSeen D) (recorded : Built) (are : AreHeldWhole w d.fixed recorded d.parts.ledger d.parts.pages) where
+  pub shows-now : BooksShowTheirImages w → ShowsNow w d
+  shows-now rest t c since = rest d.fixed recorded (state_after d.fixed.opening (entries_of d)) [] (book_in d.parts.ledger) d.parts.ledger.journal are.books t c since
+
+  pub is-legal : IsTold w.tells d.fixed.opening (entries_of d)
+  is-legal = told-whole w.tells d.fixed.opening (entries_of d) (state_after d.fixed.opening (entries_of d)) are.books.told
+
+  -- ---- the end
+
+  module _ (new : Ledger D) (disk : D) (same : disk ≡ new.journal.disk) (done : IsFinished w d.fixed (state_after d.fixed.opening (entries_of d)) [] (book_in d.parts.ledger) (book_in new) d.parts.ledger.journal new.journal) where
+    pub stands-whole : (w.tells → CommitLaws w) → new.books.history ≡ entries_of d → new.books.commits.count ≡ 0 → (w.tells → records_of new.journal.areas (w.content disk) ≡ Some (kept new.journal)) → StandsWhole w d disk
+    stands-whole laws entries none records t =
+        subst (λ (x : D). Stands (w.content x) (durable d.fixed.opening (changes d.fixed.opening (entries_of d)))) (sym same)
+        (subst (λ (es : List Entry). Stands (w.content new.journal.disk) (durable d.fixed.opening (changes d.fixed.opening es))) entries
+        ((laws t).finished (account_of d.fixed done.after (book_in new)) (committing new.journal new.books.commits) (done.are.images t) none
+        (ap (λ a. records_of a (w.content new.journal.disk)) (sym done.are.areas) ∙ subst (λ (x : D). records_of new.journal.areas (w.content x) ≡ Some (kept new.journal)) same (records t))))
+
+    pub shows-ending : ShowsEnding w d disk
+    shows-ending t =
+        subst (λ (x : D). ShowsSince w d.fixed.opening (floor (told d.fixed (book_in d.parts.ledger))) (told d.fixed (book_in d.parts.ledger) ++ doubt d.fixed (book_in d.parts.ledger) d.parts.ledger.journal) (disk_of d) x) (sym same)
+        (done.shown t)

@@ -1,0 +1,33 @@
+use Rattle.std.proofs.Common.{◌≡◌, sym, subst}
+use Rattle.opfs_acts.specs.Acting.{awaited}
+use Rattle.opfs_acts.specs.declared.acted.AwaitState.TheVariants as await
+use Rattle.opfs_base.specs.Texts.{Text}
+use Rattle.opfs_machine.specs.Histories.{state_after}
+use Rattle.opfs_openings.specs.Openings.{fixed_by}
+use Rattle.opfs_desk_parts.specs.Seen.{machine_in}
+use Rattle.opfs_desk.proofs.Tags.{is-there, is-stuck, is-neither}
+use Rattle.opfs_desk.proofs.desk.Desk.await_state.Goals as goal
+
+pub returns-then-is_posted : goal.returns-then-is_posted
+returns-then-is_posted g c =
+    let f = fixed_by g.D.Disk c.self.inside.from.value c.self.inside.agents.value.items in
+    let l = c.self.inside.parts.ledger in
+    rw (← c.self.view_is)
+    (subst (λ (x : Text). await.Posted ≡ awaited (state_after f.opening l.books.history) c.args.agent x) c.as_bytes.ensures.value
+    (sym (is-there c.lengths_decide_each_ruling.ensures (state_after f.opening l.books.history) (machine_in l) c.args.agent c.as_bytes.result.now c.self.invariant.are.books.machine (sym c.if-is_posted.ensures))))
+
+pub returns-then-others_stuck : goal.returns-then-others_stuck
+returns-then-others_stuck g c =
+    let f = fixed_by g.D.Disk c.self.inside.from.value c.self.inside.agents.value.items in
+    let l = c.self.inside.parts.ledger in
+    rw (← c.self.view_is)
+    (subst (λ (x : Text). await.Stuck ≡ awaited (state_after f.opening l.books.history) c.args.agent x) c.as_bytes.ensures.value
+    (sym (is-stuck c.lengths_decide_each_ruling.ensures (state_after f.opening l.books.history) (machine_in l) c.args.agent c.as_bytes.result.now c.self.invariant.are.books.machine (sym c.if-is_posted.ensures) (sym c.if-others_stuck.ensures))))
+
+pub returns-else-others_stuck : goal.returns-else-others_stuck
+returns-else-others_stuck g c =
+    let f = fixed_by g.D.Disk c.self.inside.from.value c.self.inside.agents.value.items in
+    let l = c.self.inside.parts.ledger in
+    rw (← c.self.view_is)
+    (subst (λ (x : Text). await.Neither ≡ awaited (state_after f.opening l.books.history) c.args.agent x) c.as_bytes.ensures.value
+    (sym (is-neither c.lengths_decide_each_ruling.ensures (state_after f.opening l.books.history) (machine_in l) c.args.agent c.as_bytes.result.now c.self.invariant.are.books.machine (sym c.if-is_posted.ensures) (sym c.if-others_stuck.ensures))))

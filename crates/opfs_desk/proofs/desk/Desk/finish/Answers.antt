@@ -1,0 +1,33 @@
+use Rattle.std.proofs.Common.{[]}
+use Rattle.opfs_machine.specs.Histories.{state_after}
+use Rattle.opfs_openings.specs.Openings.{fixed_by}
+use Rattle.opfs_desk_parts.specs.declared.parts.Ledger.{Ledger}
+use Rattle.opfs_desk.specs.Seen.{DeskSeen, entries_of}
+use Rattle.opfs_desk.proofs.Shown.{stands-whole, shows-ending}
+use Rattle.opfs_desk.proofs.desk.Desk.finish.Goals as goal
+use Rattle.opfs_desk.proofs.desk.Desk.finish.Goals.{in-Ok, in-Err}
+
+pub returns-clause-stands : goal.returns-clause-stands
+returns-clause-stands g c =
+    let d : DeskSeen g.row.D.Denot = record { fixed = fixed_by g.D.Disk c.self.inside.from.value c.self.inside.agents.value.items; parts = c.self.inside.parts } in
+    let l = c.self.inside.parts.ledger in
+    let new : Ledger g.row.D.Denot = record { journal = c.finish.new.journal; books = c.finish.new.self; freed = l.freed; alloc = l.alloc } in
+    let recorded = c.self.invariant.recorded in
+    let are = c.self.invariant.are in
+    let done = c.finish.ensures.books d.fixed recorded (state_after d.fixed.opening (entries_of d)) [] are.books in
+    elim c.match-finish.branch [
+      | in-Ok w ↦
+          rw (← c.self.view_is, w.done-is)
+          (stands-whole g.D.Disk d recorded are new c.give_back.result c.give_back.ensures.disk done c.commit_laws.ensures c.finish.ensures.history w.in-Ok.ensures.none (λ t. c.give_back.ensures.records t w.in-Ok.ensures.sure))
+      | in-Err w ↦ rw (w.done-is) tt
+    ]
+
+pub returns-clause-shown : goal.returns-clause-shown
+returns-clause-shown g c =
+    let d : DeskSeen g.row.D.Denot = record { fixed = fixed_by g.D.Disk c.self.inside.from.value c.self.inside.agents.value.items; parts = c.self.inside.parts } in
+    let l = c.self.inside.parts.ledger in
+    let new : Ledger g.row.D.Denot = record { journal = c.finish.new.journal; books = c.finish.new.self; freed = l.freed; alloc = l.alloc } in
+    let recorded = c.self.invariant.recorded in
+    let are = c.self.invariant.are in
+    let done = c.finish.ensures.books d.fixed recorded (state_after d.fixed.opening (entries_of d)) [] are.books in
+    rw (← c.self.view_is) (shows-ending g.D.Disk d recorded are new c.give_back.result c.give_back.ensures.disk done)

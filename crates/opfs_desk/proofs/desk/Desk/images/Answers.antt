@@ -1,0 +1,9 @@
+use Rattle.opfs_desk.specs.Seen.{DeskSeen}
+use Rattle.opfs_openings.specs.Openings.{fixed_by}
+use Rattle.opfs_desk.proofs.Shown.{shows-now}
+use Rattle.opfs_desk.proofs.desk.Desk.images.Goals as goal
+
+pub returns : goal.returns
+returns g c =
+    let d : DeskSeen g.row.D.Denot = record { fixed = fixed_by g.D.Disk c.self.inside.from.value c.self.inside.agents.value.items; parts = c.self.inside.parts } in
+    rw (← c.self.view_is) (shows-now g.D.Disk d c.self.invariant.recorded c.self.invariant.are c.the_books_show_their_images.ensures)

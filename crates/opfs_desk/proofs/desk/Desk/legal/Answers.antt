@@ -1,0 +1,18 @@
+use Rattle.std.proofs.Common.{[]}
+use Rattle.opfs_machine.specs.Histories.{state_after}
+use Rattle.opfs_openings.specs.Openings.{fixed_by}
+use Rattle.opfs_desk_parts.specs.Seen.{book_in}
+use Rattle.opfs_desk.specs.Seen.{DeskSeen, entries_of}
+use Rattle.opfs_desk.proofs.Shown.{is-legal}
+use Rattle.opfs_desk.proofs.desk.Desk.legal.Goals as goal
+
+pub returns-clause-legal : goal.returns-clause-legal
+returns-clause-legal g c =
+    let d : DeskSeen g.row.D.Denot = record { fixed = fixed_by g.D.Disk c.self.inside.from.value c.self.inside.agents.value.items; parts = c.self.inside.parts } in
+    rw (← c.self.view_is) (is-legal g.D.Disk d c.self.invariant.recorded c.self.invariant.are)
+
+pub returns-clause-short : goal.returns-clause-short
+returns-clause-short g c =
+    let d : DeskSeen g.row.D.Denot = record { fixed = fixed_by g.D.Disk c.self.inside.from.value c.self.inside.agents.value.items; parts = c.self.inside.parts } in
+    rw (← c.self.view_is)
+    (c.the_state_is_kept.ensures.short d.fixed c.self.invariant.recorded (state_after d.fixed.opening (entries_of d)) [] (book_in d.parts.ledger) d.parts.ledger.journal c.self.invariant.are.books)

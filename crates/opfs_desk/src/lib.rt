@@ -1,0 +1,11 @@
+//! The desk: the shared store of many agents over a disk. Its history is legal, and at each moment an image that a crash leaves
+//! stands for a front of what its calls changed.
+#![tactic(auto)]
+
+mod desk;
+mod ending;
+mod making;
+mod showing;
+mod waiting;
+
+pub use desk::Desk;

@@ -1,0 +1,89 @@
+//! A desk that begins over a recovered image.
+
+ghost use Rattle.std.specs.Prelude.{◌≡◌, ◌≤◌, [], length, vec_capacity, IfOk, IfErr};
+ghost use Rattle.opfs_desk.specs.Seen.{entries_of, disk_of};
+ghost use Rattle.opfs_desk_parts.specs.Held.{HaveOwnKeys};
+ghost use Rattle.opfs_openings.specs.Openings.{fixed_by};
+
+use crate::desk::Desk;
+use opfs_base::Extent;
+use opfs_books::Books;
+use opfs_data::Swap;
+use opfs_desk_parts::{Ledger, Pages, Parts};
+use opfs_hall::Told;
+use opfs_image::Recovered;
+use opfs_openings::{a_recovered_image_opens_a_run, limits_of};
+use opfs_outside::Disk;
+use opfs_seats::Who;
+use opfs_space::{Space, first_blocks_are_right};
+use opfs_state::State;
+use std::alloc::{AllocError, Global};
+
+// Room for so many extents.
+fn make_freed(alloc: Global, count: u32) -> Result<Vec<Extent>, AllocError>
+    ensures { IfOk result (λ freed. count ≤ vec_capacity freed) }
+{
+    let mut freed = Vec::new(alloc);
+    freed.reserve(count as usize)?;
+    Ok(freed)
+}
+
+impl<D: Disk> Desk<D> {
+    /// A desk over a recovered image, with agents whose keys are those of origins and name no bucket. Its history is empty. Where
+    /// there is no memory it gives the disk back, which it has not called.
+    pub fn make(alloc: Global, from: Recovered<D>, agents: Vec<Who>) -> Result<Desk<D>, D>
+        requires few { length agents.items ≤ 64 }
+        requires keys { HaveOwnKeys (fixed_by D.Disk from agents.items).opening }
+        ensures fixed { IfOk result (λ desk. desk.fixed ≡ fixed_by D.Disk from agents.items) }
+        ensures entries { IfOk result (λ desk. entries_of desk ≡ []) }
+        ensures disk { IfOk result (λ desk. disk_of desk ≡ from.journal.disk) }
+        ensures err { IfErr result (λ disk. disk ≡ from.journal.disk) }
+    {
+        a_recovered_image_opens_a_run(&from);
+        first_blocks_are_right();
+        let who = Told::of(&agents);
+        let told = Told::of(&from);
+        let Recovered {
+            journal,
+            geometry,
+            tree,
+            shed,
+            map,
+            charge,
+        } = from;
+        let mut journal = journal;
+        let Ok(freed) = make_freed(alloc, geometry.blocks) else {
+            return Err(journal.give_back());
+        };
+        let Ok(space) = Space::make(alloc, geometry.blocks, map) else {
+            return Err(journal.give_back());
+        };
+        let limits = limits_of(&geometry);
+        let Ok(state) = State::make(alloc, tree, shed, charge, limits, agents) else {
+            return Err(journal.give_back());
+        };
+        match Books::make(alloc, &mut journal, limits.area, state) {
+            Ok(books) => Ok(Desk {
+                parts: Parts {
+                    ledger: Ledger {
+                        journal,
+                        books,
+                        freed,
+                        alloc,
+                    },
+                    pages: Pages {
+                        swap: Swap::make(alloc),
+                        space,
+                        base: geometry.data_base(),
+                    },
+                },
+                from: told,
+                agents: who,
+            }),
+            Err(state) => {
+                state.end();
+                Err(journal.give_back())
+            }
+        }
+    }
+}
