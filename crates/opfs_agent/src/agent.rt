@@ -57,6 +57,18 @@ impl<S: Store> Agent<S> {
         turns.end(rt, court)
     }
 
+    /// Its number.
+    pub fn number(&self) -> u32
+        ensures { result ≡ self.now.pass.agent }
+    {
+        self.turns.agent()
+    }
+
+    /// The memory that it takes.
+    pub fn alloc(&self) -> Global {
+        self.alloc
+    }
+
     /// How many streams, access handles, snapshots and iterators it has made.
     pub fn rows(&self) -> u32
         ensures { result ≡ self.now.rows }
@@ -71,8 +83,8 @@ impl<S: Store> Agent<S> {
         self.turns.key()
     }
 
-    // What the type keeps.
-    pub(crate) fn kept(&self)
+    /// What the type keeps.
+    pub fn kept(&self)
         ensures { IsAgent S.tells self.now }
     {
         self.turns.kept();

@@ -75,6 +75,13 @@ impl<S: Store> Turns<S> {
         let _ = &self.notes;
     }
 
+    /// The number of the agent.
+    pub fn agent(&self) -> u32
+        ensures { result ≡ self.now.pass.agent }
+    {
+        self.pass.agent()
+    }
+
     /// How many streams, access handles, snapshots and iterators the agent has made.
     pub fn rows(&self) -> u32
         ensures { result ≡ self.now.rows }
