@@ -7,7 +7,7 @@ use Rattle.std.proofs.lemmas.List.Elements.{All-nil, All-cons, All-append, All-m
 use Rattle.std.proofs.lemmas.Option.{slice_get_within}
 use mathlib.Core.List.{map-append}
 use Rattle.opfs_hall.specs.History.{HasEnded}
-use Rattle.opfs_hall.specs.Seen.{HallSeen, PassSeen, joined}
+use Rattle.opfs_hall.specs.Seen.{HallSeen, PassSeen, new_pass, joined, HasAll}
 use Rattle.opfs_hist.specs.declared.entry.Entry.{Entry}
 use Rattle.opfs_turns.specs.Agents.{AgentSeen}
 use Rattle.opfs_runs.specs.Running.{entries_of}
@@ -156,3 +156,30 @@ make-history = record {
   cut = λ scripts ps whole history h ended. history-cut scripts ps whole history h ended;
   run = λ scripts ps history h ended. history-run scripts ps true history h ended refl;
 }
+
+-- ---- the end of the hall
+
+-- The owner's pass that has collected the agents' has all.
+pub has-all : {O : Type 0} (of : HallSeen O) (scripts : List Asked) (owner pass : PassSeen O Entry) (whole : Bool) → owner ≡ new_pass of 0 [] → of.agents ≡ length scripts
+    → HasRunAll of scripts (length scripts) pass whole → HasAll (joined owner pass)
+has-all {O} of scripts owner pass whole is count h = subst (λ (o : PassSeen O Entry). HasAll (joined o pass)) (sym is) all
+  where
+    all : HasAll (joined (new_pass of 0 []) pass)
+    all zero small other = absurd (other refl)
+    all (suc j) small other = h.all.named j (omega (arith, small, count))
+
+pub owners : (owner : Entry → ℕ) → ((e : Entry) → owner e ≡ e.agent) → (history : List Entry) (ps : List (ℕ × List Entry)) → All (HasEnded owner history) ps → All (HasEnded (λ e. e.agent) history) ps
+owners owner same history ps all = subst (λ (f : Entry → ℕ). All (HasEnded f history) ps) (λ i e. same e i) all
+
+module _ {O : Type 0} (of : HallSeen O) (scripts : List Asked) (owner pass last : PassSeen O Entry) (whole : Bool) (fresh : owner ≡ new_pass of 0 []) (ran : HasRunAll of scripts (length scripts) pass whole)
+    (joins : last ≡ joined owner pass) (whose : Entry → ℕ) (same : (e : Entry) → whose e ≡ e.agent) (history : List Entry) (ended : All (HasEnded whose history) last.ended) where
+  all-ended : All (HasEnded (λ (e : Entry). e.agent) history) (pairs pass)
+  all-ended =
+      owners whose same history (pairs pass)
+      (subst (All (HasEnded whose history)) (ap (λ (p : PassSeen O Entry). p.ended) (joins ∙ ap (λ o. joined o pass) fresh)) ended)
+
+  pub closed-cut : EachCut scripts history
+  closed-cut = history-cut scripts (pairs pass) whole history ran.all all-ended
+
+  pub closed-run : whole ≡ true → EachRuns scripts history
+  closed-run = history-run scripts (pairs pass) whole history ran.all all-ended
