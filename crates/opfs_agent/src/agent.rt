@@ -21,7 +21,8 @@ use std::alloc::Global;
 use std::marker::Model;
 use std::sync::Wait;
 
-/// An agent of a store: a page, a worker or a script (HTML: agent), with its calls by the names of the Standards.
+/// An agent of a store: a page, a worker or a script (HTML: agent), with its calls by the names of the Standards. A store whose
+/// agent is dropped before it has ended can't be taken out of its hall.
 pub struct Agent<S: Store> {
     pub(crate) turns: Turns<S>,
     pub(crate) alloc: Global,
@@ -33,6 +34,12 @@ impl<S: Store> Model for Agent<S> {
     ghost Value = { AgentSeen S.Opening };
 
     ghost view = { λ a. a.turns };
+}
+
+impl<S: Store> Drop for Agent<S> {
+    fn drop(self) {
+        let Self { turns: _, alloc: _ } = self;
+    }
 }
 
 impl<S: Store> Agent<S> {
@@ -57,6 +64,18 @@ impl<S: Store> Agent<S> {
         turns.end(rt, court)
     }
 
+    /// Its number.
+    pub fn number(&self) -> u32
+        ensures { result ≡ self.now.pass.agent }
+    {
+        self.turns.agent()
+    }
+
+    /// The memory that it takes.
+    pub fn alloc(&self) -> Global {
+        self.alloc
+    }
+
     /// How many streams, access handles, snapshots and iterators it has made.
     pub fn rows(&self) -> u32
         ensures { result ≡ self.now.rows }
@@ -71,8 +90,8 @@ impl<S: Store> Agent<S> {
         self.turns.key()
     }
 
-    // What the type keeps.
-    pub(crate) fn kept(&self)
+    /// What the type keeps.
+    pub fn kept(&self)
         ensures { IsAgent S.tells self.now }
     {
         self.turns.kept();

@@ -23,7 +23,8 @@ use std::marker::Model;
 use std::sync::Wait;
 
 /// An agent that makes calls of a store, one turn after another. What it asks and is answered is said of the state after the
-/// entries that it knows: those that it has seen, and its own local calls that are not entered yet.
+/// entries that it knows: those that it has seen, and its own local calls that are not entered yet. A store whose agent is
+/// dropped before it has ended can't be taken out of its hall.
 pub struct Turns<S: Store> {
     pass: Pass<S>,
     notes: Notes,
@@ -40,6 +41,17 @@ impl<S: Store> Model for Turns<S> {
     ghost view = { λ a. seen S.opened a.pass a.notes };
 
     ghost invariant = { λ a. IsAgent S.tells (seen S.opened a.pass a.notes) };
+}
+
+impl<S: Store> Drop for Turns<S> {
+    fn drop(self) {
+        let Self {
+            pass: _,
+            notes: _,
+            room: _,
+            alloc: _,
+        } = self;
+    }
 }
 
 impl<S: Store> Turns<S> {
@@ -73,6 +85,13 @@ impl<S: Store> Turns<S> {
         ensures { IsAgent S.tells self.now }
     {
         let _ = &self.notes;
+    }
+
+    /// The number of the agent.
+    pub fn agent(&self) -> u32
+        ensures { result ≡ self.now.pass.agent }
+    {
+        self.pass.agent()
     }
 
     /// How many streams, access handles, snapshots and iterators the agent has made.

@@ -1,0 +1,5 @@
+pub mod Awaits
+pub mod Entries
+pub mod Files
+pub mod Leaving
+pub mod Turned

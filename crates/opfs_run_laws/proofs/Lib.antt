@@ -1,0 +1,4 @@
+pub mod Hands
+pub mod OpenRows
+pub mod Sorts
+pub mod StepOps

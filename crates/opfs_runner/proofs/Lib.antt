@@ -1,0 +1,5 @@
+pub mod Counting
+pub mod Doing
+pub mod Endings
+pub mod Joining
+pub mod Way

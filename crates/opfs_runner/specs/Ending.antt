@@ -1,0 +1,23 @@
+-- How the rows of an agent end with its script. This project's own.
+use Rattle.std.specs.Prelude.{◌≡◌, ℕ, Bool, List, ◌++◌}
+use Rattle.opfs_hist.specs.declared.entry.Entry.{Entry}
+use Rattle.opfs_hist.specs.declared.op.Op.TheVariants as op
+use Rattle.opfs_turns.specs.Agents.{AgentSeen}
+use Rattle.opfs_runs.specs.declared.hand.Open.{Open}
+use Rattle.opfs_runs.specs.Running.{IsEnd}
+use Rattle.opfs_script.specs.Scripts.{Asked}
+use Rattle.opfs_streams.specs.Ends as streams
+use Rattle.opfs_handles.specs.Ends as handles
+use Rattle.opfs_slots.specs.declared.table.Slot.{Slot}
+use Rattle.opfs_slots.specs.declared.table.Slot.TheVariants as slot
+use Rattle.opfs_runner.specs.Runs.{HasEntries}
+
+-- With the end of these open rows, from a number on, the entries so far are those of a script.
+abbrev pub Closes : Asked → Bool → List Entry → ℕ → List Open → Type 0
+Closes asked whole so_far n rows = (rest : List Entry) → IsEnd n rows rest → HasEntries asked whole (so_far ++ rest)
+
+-- A row has ended: an open stream was aborted, an open access handle discarded; any other is left.
+abbrev pub IsEnded : {O : Type 0} → Type 0 → AgentSeen O → AgentSeen O → Slot → Type 0
+IsEnded tells a b (slot.Stream w) = (closed : ℕ) × streams.IsClosed tells a b (op.Abort w.row) w.row closed
+IsEnded tells a b (slot.Handle h) = (closed : ℕ) × handles.IsClosed tells a b (op.Discard h.row) h.row closed
+IsEnded tells a b s = b ≡ a

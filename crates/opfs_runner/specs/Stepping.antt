@@ -1,0 +1,86 @@
+-- What one step of a script leaves. This project's own.
+use Rattle.std.specs.Prelude.{◌≡◌, ◌⊎◌, ℕ, ◌+◌, ◌≤◌, Bool, true, false, List, [], ◌∷◌, ◌++◌, Option, Some, None, Result, Ok, Err}
+use Rattle.opfs_base.specs.Texts.{Text}
+use Rattle.opfs_hist.specs.declared.entry.Entry.{Entry}
+use Rattle.opfs_hist.specs.declared.op.Op.{Op}
+use Rattle.opfs_hist.specs.declared.op.Op.TheVariants.{Await, Wait}
+use Rattle.opfs_hist.specs.declared.reply.Reply.{Reply}
+use Rattle.opfs_hist.specs.declared.reply.Reply.TheVariants as reply
+use Rattle.opfs_calls.specs.declared.stop.Stop.{Stop}
+use Rattle.opfs_calls.specs.declared.stop.Stop.TheVariants as stop
+use Rattle.opfs_turns.specs.Agents.{AgentSeen, known}
+use Rattle.opfs_runs.specs.declared.hand.Hand.{Hand}
+use Rattle.opfs_runs.specs.Running.{entries_of, op_of, hand_then}
+use Rattle.opfs_script.specs.declared.step.Step.{Step}
+use Rattle.opfs_run_laws.specs.Kinds.{kinds_after}
+use Rattle.opfs_slots.specs.Tables.{kinds_of, HasTable}
+use Rattle.opfs_slots.specs.declared.table.Slot.{Slot}
+
+-- All that an agent has entered or will enter.
+abbrev pub own_entries : {O : Type 0} → AgentSeen O → List Entry
+own_entries a = entries_of a.pass.agent (known a)
+
+-- An await has begun to wait, with the number of its own entry.
+pub record IsWaitOf (n : ℕ) (o : Op) (before after : List Entry) : Type 0 where
+  pub tag : Text
+  pub await_is : o ≡ Await tag
+  pub wait : Entry
+  pub wait_is : wait.op ≡ Wait tag
+  pub number : wait.number ≡ n
+  pub grown : after ≡ before ++ wait ∷ []
+
+-- Before the entry of a call nothing is entered, but a wait where it is an await.
+abbrev pub IsWaitedFor : ℕ → Op → List Entry → List Entry → Type 0
+IsWaitedFor n o before after = (after ≡ before) ⊎ IsWaitOf n o before after
+
+-- An agent goes on: nothing but its entries changes, and few are more.
+pub record GoesOn {O : Type 0} (a b : AgentSeen O) : Type 0 where
+  pub same : b.pass ≡ record a.pass { base = b.pass.base }
+  pub key : b.key ≡ a.key
+  pub few : b.entries ≤ a.entries + 2
+
+-- A call has its entry, the last, with its number, and at most one wait before it.
+pub record IsDone {O : Type 0} (a b : AgentSeen O) (o : Op) (answered : Reply) : Type 0 where
+  pub goes : GoesOn a b
+  pub before : List Entry
+  pub waited : IsWaitedFor a.number o (own_entries a) before
+  pub entry : Entry
+  pub asked : entry.op ≡ o
+  pub told : entry.reply ≡ answered
+  pub numbered : entry.number ≡ a.number
+  pub grown : own_entries b ≡ before ++ entry ∷ []
+  pub next : b.number ≡ a.number + 1
+
+-- A call has no entry, and at most one wait stands for it.
+pub record IsNotDone {O : Type 0} (a b : AgentSeen O) (o : Op) : Type 0 where
+  pub goes : GoesOn a b
+  pub waited : IsWaitedFor a.number o (own_entries a) (own_entries b)
+  pub next : b.number ≡ a.number
+
+-- The reply of a call, a refusal too; none for want of memory.
+abbrev pub reply_of : Result Reply Stop → Option Reply
+reply_of (Ok answered) = Some answered
+reply_of (Err (stop.No r)) = Some (reply.No r)
+reply_of (Err stop.NoMemory) = None
+
+-- The hand has taken note of a call.
+pub record IsTaken (h then_h : Hand) (s : Step) (o : Op) (answer : Result Reply Stop) : Type 0 where
+  pub answered : Reply
+  pub told : reply_of answer ≡ Some answered
+  pub noted : then_h ≡ hand_then h s o answered
+
+-- A step was made, and the hand has taken note; or it was made alone; or it was not.
+pub record IsNoted {O : Type 0} (tells : Type 0) (a b : AgentSeen O) (old new : List Slot) (h : Hand) (s : Step) : Type 0 where
+  pub answered : Reply
+  pub done : IsDone a b (op_of h s) answered
+  pub table : HasTable tells b new
+  pub kinds : kinds_of new ≡ kinds_after (kinds_of old) (op_of h s) answered
+
+pub record IsLeft {O : Type 0} (tells : Type 0) (a b : AgentSeen O) (old new : List Slot) (h : Hand) (s : Step) : Type 0 where
+  pub done : IsNotDone a b (op_of h s)
+  pub table : HasTable tells b new
+  pub kinds : kinds_of new ≡ kinds_of old
+
+abbrev pub IsStepped : {O : Type 0} → Type 0 → AgentSeen O → AgentSeen O → List Slot → List Slot → Hand → Hand → Step → Bool → Type 0
+IsStepped tells a b old new h then_h s true = (n : IsNoted tells a b old new h s) × (then_h ≡ hand_then h s (op_of h s) n.answered)
+IsStepped tells a b old new h then_h s false = IsNoted tells a b old new h s ⊎ IsLeft tells a b old new h s

@@ -1,0 +1,69 @@
+//! How an agent's rows end with its script.
+
+ghost use Rattle.std.specs.Prelude.{◌≡◌, ◌≤◌, ℕ, [], Bool, length, IsTrue};
+ghost use Rattle.opfs_hist.specs.declared.op.Op.TheVariants as op;
+ghost use Rattle.opfs_machine.specs.Histories.{may_enter};
+ghost use Rattle.opfs_turns.specs.Agents.{state_of};
+ghost use Rattle.opfs_turns.specs.Calls.{HasRoom};
+ghost use Rattle.opfs_run_laws.specs.Kinds.{open_rows};
+ghost use Rattle.opfs_script.specs.Scripts.{Asked};
+ghost use Rattle.opfs_slots.specs.Tables.{kinds_of, HasSlot, HasTable};
+ghost use Rattle.opfs_runner.specs.Ending.{Closes, IsEnded};
+ghost use Rattle.opfs_runner.specs.Stepping.{own_entries};
+
+use opfs_acts::Store;
+use opfs_agent::Agent;
+use opfs_hall::Hall;
+use opfs_slots::Slot;
+use std::sync::Wait;
+
+// Ends one row: a stream is aborted, and an access handle discarded.
+fn end_slot<S: Store, R: Wait>(rt: &R, court: &Hall<S>, agent: &mut Agent<S>, slot: Slot)
+    requires own { agent.old.pass.hall ≡ court.now }
+    requires room { HasRoom agent.old }
+    requires slot { (n : ℕ) × HasSlot S.tells agent.old n slot }
+    ensures { IsEnded S.tells agent.old agent.new slot }
+{
+    match slot {
+        Slot::Stream(stream) => {
+            let _closed = agent.abort(rt, court, stream);
+        }
+        Slot::Handle(handle) => {
+            let _closed = agent.discard_sync(rt, court, handle);
+        }
+        Slot::ClosedStream(_)
+        | Slot::ClosedHandle(_)
+        | Slot::Snapshot(_)
+        | Slot::Iterator(_)
+        | Slot::Taken => {}
+    }
+}
+
+/// Ends all rows, in the order of their numbers. Then the agent may end. Takes no memory.
+pub fn end_rows<S: Store, R: Wait>(
+    rt: &R,
+    court: &Hall<S>,
+    agent: &mut Agent<S>,
+    mut slots: Vec<Slot>,
+)
+    requires own { agent.old.pass.hall ≡ court.now }
+    requires table { HasTable S.tells agent.old slots.items }
+    requires few { (agent.old.entries ≤ 50000) × (length slots.items ≤ 20000) }
+    ensures none { IsTrue (may_enter (state_of agent.new) agent.new.pass.agent op.End) }
+    ensures room { HasRoom agent.new }
+    ensures same { agent.new.pass ≡ record agent.old.pass { base = agent.new.pass.base } }
+    ensures closes { (asked : Asked) (whole : Bool)
+        → Closes asked whole (own_entries agent.old) agent.old.number (open_rows 1 (kinds_of slots.items))
+        → Closes asked whole (own_entries agent.new) agent.new.number [] }
+{
+    agent.kept();
+    slots.reverse();
+    loop {
+        let Some(slot) = slots.pop() else {
+            break;
+        };
+        end_slot(rt, court, agent, slot);
+        agent.kept();
+    }
+    slots.destroy_empty();
+}

@@ -1,0 +1,13 @@
+//! What runs the scripts of agents, each agent on a thread of its own, over any store that serves shared calls.
+#![tactic(auto)]
+
+mod closing;
+pub mod ended;
+mod ends;
+pub mod history;
+mod steps;
+mod threads;
+
+pub use closing::close_hall;
+pub use ended::{Ended, run_agent};
+pub use threads::run_all;

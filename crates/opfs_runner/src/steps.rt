@@ -1,0 +1,153 @@
+//! The steps of an agent's script.
+
+ghost use Rattle.std.specs.Prelude.{◌≡◌, ◌≤◌, [], true, length};
+ghost use Rattle.opfs_runs.specs.Running.{op_of};
+ghost use Rattle.opfs_script.specs.Limits.{keeps_bounds};
+ghost use Rattle.opfs_turns.specs.Calls.{HasRoom};
+ghost use Rattle.opfs_run_laws.specs.Agreeing.{Agrees};
+ghost use Rattle.opfs_run_laws.specs.Kinds.{open_rows, MayPerform};
+ghost use Rattle.opfs_slots.specs.Tables.{kinds_of, HasTable};
+ghost use Rattle.opfs_runner.specs.Ending.{Closes};
+ghost use Rattle.opfs_runner.specs.Runs.{IsReady};
+ghost use Rattle.opfs_runner.specs.Stepping.{own_entries, reply_of, IsTaken, IsStepped};
+
+use opfs_acts::Store;
+use opfs_agent::{Agent, Stop};
+use opfs_base::copy_key;
+use opfs_hall::Hall;
+use opfs_hist::{Op, Reply};
+use opfs_outside::Gate;
+use opfs_runs::Hand;
+use opfs_script::{AgentScript, Step};
+use opfs_slots::{Slot, perform};
+use std::alloc::Global;
+use std::sync::Wait;
+
+// The reply of a call, a refusal too; none for want of memory.
+fn reply_of(answer: Result<Reply, Stop>) -> Option<Reply>
+    ensures { result ≡ reply_of answer }
+{
+    match answer {
+        Ok(reply) => Some(reply),
+        Err(Stop::No(refusal)) => Some(Reply::No(refusal)),
+        Err(Stop::NoMemory) => None,
+    }
+}
+
+// Lets the hand take note of a call, and tells whether it has.
+fn note(alloc: Global, hand: &mut Hand, step: &Step, op: &Op, answer: Result<Reply, Stop>) -> bool
+    ensures { result ≡ true → IsTaken hand.old hand.new step.now op.now answer }
+{
+    let Some(reply) = reply_of(answer) else {
+        return false;
+    };
+    hand.then(alloc, step, op, &reply).is_ok()
+}
+
+// Makes the call of a step, and tells whether it was made and the hand has taken note.
+fn run_asked<S: Store, R: Wait>(
+    rt: &R,
+    court: &Hall<S>,
+    agent: &mut Agent<S>,
+    slots: &mut Vec<Slot>,
+    hand: &mut Hand,
+    step: &Step,
+    op: &Op,
+) -> bool
+    requires own { agent.old.pass.hall ≡ court.now }
+    requires room { HasRoom agent.old }
+    requires table { HasTable S.tells agent.old slots.old.items }
+    requires may { MayPerform agent.old.key (kinds_of slots.old.items) op.now }
+    requires asked { op.now ≡ op_of hand.old step.now }
+    ensures { IsStepped S.tells agent.old agent.new slots.old.items slots.new.items hand.old hand.new step.now result }
+{
+    agent.kept();
+    let alloc = agent.alloc();
+    let answer = perform(rt, court, agent, slots, op);
+    agent.kept();
+    note(alloc, hand, step, op, answer)
+}
+
+// Makes a step, and tells whether it was made and the hand has taken note.
+fn run_step<S: Store, R: Wait>(
+    rt: &R,
+    court: &Hall<S>,
+    agent: &mut Agent<S>,
+    slots: &mut Vec<Slot>,
+    hand: &mut Hand,
+    step: &Step,
+) -> bool
+    requires own { agent.old.pass.hall ≡ court.now }
+    requires room { HasRoom agent.old }
+    requires table { HasTable S.tells agent.old slots.old.items }
+    requires agrees { Agrees hand.old (kinds_of slots.old.items) }
+    requires key { hand.old.key ≡ agent.old.key }
+    requires bounds { keeps_bounds step.now ≡ true }
+    ensures { IsStepped S.tells agent.old agent.new slots.old.items slots.new.items hand.old hand.new step.now result }
+{
+    let Ok(op) = hand.op_of(agent.alloc(), step) else {
+        return false;
+    };
+    let done = run_asked(rt, court, agent, slots, hand, step, &op);
+    drop(op);
+    done
+}
+
+// The same with the gate round it.
+fn pass_step<S: Store, R: Wait, G: Gate>(
+    rt: &R,
+    court: &Hall<S>,
+    agent: &mut Agent<S>,
+    slots: &mut Vec<Slot>,
+    hand: &mut Hand,
+    step: &Step,
+    gate: &G,
+    number: u32,
+) -> bool
+    requires own { agent.old.pass.hall ≡ court.now }
+    requires room { HasRoom agent.old }
+    requires table { HasTable S.tells agent.old slots.old.items }
+    requires agrees { Agrees hand.old (kinds_of slots.old.items) }
+    requires key { hand.old.key ≡ agent.old.key }
+    requires bounds { keeps_bounds step.now ≡ true }
+    ensures { IsStepped S.tells agent.old agent.new slots.old.items slots.new.items hand.old hand.new step.now result }
+{
+    let agent_number = agent.number();
+    gate.before(agent_number, number);
+    let done = run_step(rt, court, agent, slots, hand, step);
+    gate.after(agent_number, number);
+    done
+}
+
+/// Makes the steps of a script, and tells whether all were made. Only want of memory leaves the others.
+pub fn run_steps<S: Store, R: Wait, G: Gate>(
+    rt: &R,
+    court: &Hall<S>,
+    agent: &mut Agent<S>,
+    slots: &mut Vec<Slot>,
+    script: &AgentScript,
+    gate: &G,
+) -> bool
+    requires ready { IsReady court.now script.now agent.old }
+    requires none { slots.old.items ≡ [] }
+    ensures table { HasTable S.tells agent.new slots.new.items }
+    ensures few { (agent.new.entries ≤ 50000) × (length slots.new.items ≤ 20000) }
+    ensures same { agent.new.pass ≡ record agent.old.pass { base = agent.new.pass.base } }
+    ensures closes { Closes script.now result (own_entries agent.new) agent.new.number (open_rows 1 (kinds_of slots.new.items)) }
+{
+    agent.kept();
+    let alloc = agent.alloc();
+    let steps = script.steps();
+    let Ok(key) = copy_key(alloc, script.key()) else {
+        return false;
+    };
+    let mut hand = Hand::make(alloc, key);
+    let mut number = 0;
+    for step in steps {
+        number += 1;
+        if !pass_step(rt, court, agent, slots, &mut hand, step, gate, number) {
+            return false;
+        }
+    }
+    true
+}

@@ -1,0 +1,5 @@
+pub mod Grown
+pub mod Handed
+pub mod Resting
+pub mod Slotted
+pub mod Using

@@ -1,0 +1,4 @@
+pub mod Called
+pub mod Making
+pub mod Spending
+pub mod Tables

@@ -1,0 +1,15 @@
+//! An agent's rows.
+
+use opfs_agent::{ClosedStream, ClosedSync, Iter, Snapshot, SyncHandle, Writable};
+
+/// A row of an agent: what its call gave. An open stream or access handle has to be spent.
+pub enum Slot {
+    Stream(Writable),
+    ClosedStream(ClosedStream),
+    Handle(SyncHandle),
+    ClosedHandle(ClosedSync),
+    Snapshot(Snapshot),
+    Iterator(Iter),
+    /// It is in a call's hands.
+    Taken,
+}
