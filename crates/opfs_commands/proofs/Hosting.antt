@@ -11,7 +11,7 @@ use Rattle.opfs_machine.specs.Openings.{Map}
 use Rattle.opfs_image.specs.Filling.{StandsOld}
 use Rattle.opfs_migrate.specs.Migrating.{StandsEither}
 use Rattle.opfs_outside.specs.declared.host.Host.{Ghosts as HostWords}
-use Rattle.opfs_outside.specs.Turns.{of_host, AsBefore, GivenBack, HostTurn, HostServed, ImageStays, OthersAsBefore}
+use Rattle.opfs_outside.specs.Turns.{of_host, GivenBack, HostTurn, ImageStays, OthersAsBefore}
 use Rattle.opfs_commands.specs.Kinds.{NoneFailed}
 use Rattle.opfs_commands.specs.Telling.{IsAnswer, IsStoodFor}
 use Rattle.opfs_commands.specs.declared.answers.ToolAnswer.{ToolAnswer}

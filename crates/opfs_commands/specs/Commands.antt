@@ -8,14 +8,17 @@ use Rattle.opfs_commands.specs.declared.words.Action.TheVariants.{Format, List a
 use Rattle.opfs_commands.specs.declared.words.Command.{Command as Read}
 use Rattle.opfs_commands.specs.declared.words.Command.TheVariants as read
 
--- A command: to run a script over an empty store, or to do something with the image at a path.
+-- A command: to run a script over an empty store, to judge a transcript of a script, or to do something with the image at a
+-- path.
 pub data Command : Type 0 where
   trial : Command
+  judgement : Command
   on_image : Text → Action → Command
 
 -- The words that ask for a command. A number is written as it prints.
 abbrev pub spelled : Command → List Text
 spelled trial = codes "try" ∷ []
+spelled judgement = codes "judge" ∷ []
 spelled (on_image path (Format g)) = codes "format" ∷ path ∷ decimal g.blocks ∷ decimal g.areas ∷ decimal g.quota ∷ []
 spelled (on_image path ListIt) = codes "list" ∷ path ∷ []
 spelled (on_image path Check) = codes "check" ∷ path ∷ []
@@ -34,6 +37,7 @@ pub record IsPath (path : Text) : Type 0 where
 -- The paths and numbers of a command are in range.
 abbrev pub IsInRange : Command → Type 0
 IsInRange trial = Unit {0}
+IsInRange judgement = Unit {0}
 IsInRange (on_image path action) = IsPath path × InRange action
 
 -- The words ask for this command.
@@ -54,6 +58,7 @@ AsksNothing words = (command : Command) → IsAsked words command → ⊥
 -- The command that was read.
 abbrev pub meant : Read → Command
 meant read.Try = trial
+meant read.Judge = judgement
 meant (read.OnImage path action) = on_image path.now action
 
 -- What a word asks that names an image alone.

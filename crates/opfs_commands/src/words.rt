@@ -28,6 +28,8 @@ pub enum Action {
 pub enum Command<'a> {
     /// To run a script over an empty store.
     Try,
+    /// To judge a transcript of a script.
+    Judge,
     /// To do something with the image at a path.
     OnImage(&'a str, Action),
 }
@@ -107,6 +109,9 @@ fn read_one<'a>(word: &[u8]) -> Option<Command<'a>>
 {
     if word == b"try".as_slice() {
         return Some(Command::Try);
+    }
+    if word == b"judge".as_slice() {
+        return Some(Command::Judge);
     }
     None
 }

@@ -87,6 +87,7 @@ pub fn ask(alloc: Global, host: &mut MemHost, words: &[&str]) -> Result<String, 
             told(alloc, &answer)
         }
         Some(Command::Try) => String::from_str(alloc, "no command on an image"),
+        Some(Command::Judge) => String::from_str(alloc, "no command on an image"),
         None => String::from_str(alloc, "no command"),
     }
 }

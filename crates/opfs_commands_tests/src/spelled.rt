@@ -16,6 +16,7 @@ fn asked(alloc: Global, words: &[&str]) -> Result<Option<Action>, AllocError> {
             Ok(None)
         },
         Some(Command::Try) => Ok(None),
+        Some(Command::Judge) => Ok(None),
         None => Ok(None),
     }
 }
@@ -58,6 +59,15 @@ fn words_that_ask_for_something(rt: HostRuntime) -> Result<(), Fail> {
     for (words, action) in rows {
         assert_eq!(rt; asked(alloc, words)?, Some(action));
     }
+    Ok(())
+}
+
+#[test]
+fn the_one_word_judge_asks_for_a_verdict(rt: HostRuntime) -> Result<(), Fail> {
+    let words = words_of(rt.alloc(), &["judge"])?;
+    assert!(rt; matches!(read_command(&words), Some(Command::Judge)));
+    let more = words_of(rt.alloc(), &["judge", "I"])?;
+    assert!(rt; read_command(&more).is_none());
     Ok(())
 }
 

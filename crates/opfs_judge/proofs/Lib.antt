@@ -1,6 +1,7 @@
 pub mod Apart
 pub mod Calling
 pub mod Entering
+pub mod Finding
 pub mod Grouping
 pub mod Lining
 pub mod Moves

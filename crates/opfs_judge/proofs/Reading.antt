@@ -1,5 +1,5 @@
 -- A transcript is read group after group.
-use Rattle.std.proofs.Common.{◌≡◌, ◌&&◌, ℕ, zero, suc, Bool, true, false, List, [], ◌∷◌, ◌++◌, append_assoc, append-nil, codes, drop, length, map, fold, All, Option, Some, None, refl, sym, ap, ◌∙◌, subst}
+use Rattle.std.proofs.Common.{◌≡◌, ◌&&◌, ℕ, zero, suc, Bool, true, false, List, [], ◌∷◌, ◌++◌, append_assoc, append-nil, codes, drop, map, fold, All, None, refl, sym, ap, ◌∙◌, subst}
 use Rattle.std.specs.List.{list_all}
 use Rattle.std.proofs.lemmas.Bool.{false≢true, and_parts}
 use Rattle.std.proofs.lemmas.List.Sums.{fold-append}
@@ -8,16 +8,16 @@ use Rattle.opfs_base.specs.Texts.{Text}
 use Rattle.opfs_hist.specs.declared.entry.Entry.{Entry}
 use Rattle.opfs_machine.specs.declared.own.Own.{Own}
 use Rattle.opfs_machine.specs.declared.state.State.{State}
-use Rattle.opfs_machine.specs.Histories.{evicted_by, after_entry, after_op, IsCall, IsEviction, LegalFrom}
+use Rattle.opfs_machine.specs.Histories.{evicted_by, after_entry, after_op, IsCall, LegalFrom}
 use Rattle.opfs_machine.specs.Openings.{Opening, begun}
 use Rattle.opfs_machine.specs.Runs.{eviction}
 use Rattle.opfs_machine.specs.Steps.{after_reply, evicted}
 use Rattle.opfs_machine.proofs.GoOn.{legal-append}
 use Rattle.opfs_print.specs.Lines.{text_of}
-use Rattle.opfs_runs.specs.Running.{entries_of, is_wait, IsEnd, IsRunFrom}
+use Rattle.opfs_runs.specs.Running.{entries_of, is_wait}
 use Rattle.opfs_separation.specs.Apart.{IsInOrder}
-use Rattle.opfs_told.specs.Goings.{Going, stepping, closing, gone, has_no, IsFixed, IsGoing, IsRest}
-use Rattle.opfs_told.specs.Turns.{AreLines, HasRest, HasTurn, Turned}
+use Rattle.opfs_told.specs.Goings.{Going, stepping, closing, gone, has_no, IsFixed, IsGoing}
+use Rattle.opfs_told.specs.Turns.{AreLines, HasRest, HasTurn}
 use Rattle.opfs_told.proofs.Apart.{no-text}
 use Rattle.opfs_told.proofs.Fixing.{Line, of_unit, of_call, NextIs, agent-line, behind_agent, call-text, line-is, unit-text}
 use Rattle.opfs_told.proofs.Turning.{turn-back, turn-first, turn-on}

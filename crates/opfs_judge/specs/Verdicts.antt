@@ -5,12 +5,11 @@ use Rattle.opfs_base.specs.Texts.{Text}
 use Rattle.opfs_hist.specs.declared.entry.Entry.{Entry}
 use Rattle.opfs_machine.specs.Histories.{Legal}
 use Rattle.opfs_print.specs.Lines.{text_of}
-use Rattle.opfs_script.specs.declared.step.Step.{Step}
-use Rattle.opfs_script.specs.declared.step.Step.TheVariants as step
 use Rattle.opfs_script.specs.Scripts.{Asked}
 use Rattle.opfs_stage.specs.Openings.{trial_opening}
 use Rattle.opfs_stage.specs.Runs.{EachRuns}
 use Rattle.opfs_told.specs.Reading.{tells_room_or_stuck}
+use Rattle.opfs_waiting.specs.Fixed.{has_await}
 use Rattle.opfs_judge.specs.declared.verdict.Verdict.{Verdict}
 use Rattle.opfs_judge.specs.declared.verdict.Verdict.TheVariants as verdict
 
@@ -21,13 +20,6 @@ pub record IsTextOf (script : List Asked) (text : Text) (es : List Entry) : Type
   pub runs : EachRuns script es
   pub printed : text ≡ text_of es
 
-abbrev pub is_await : Step → Bool
-is_await (step.Await tag) = true
-is_await s = false
-
-abbrev pub has_await : Asked → Bool
-has_await a = list_any is_await a.steps
-
 -- Whether a script has an await, and a transcript a line that begins as an eviction's or ends as a stuck await's.
 abbrev pub is_unsettled : List Asked → Text → Bool
 is_unsettled script text = list_any has_await script && tells_room_or_stuck text
@@ -37,3 +29,8 @@ abbrev pub IsJudged : List Asked → Text → Verdict → Type 0
 IsJudged script text verdict.Unsettled = IsTrue (is_unsettled script text)
 IsJudged script text verdict.Yes = (is_unsettled script text ≡ false) × ((es : List Entry) × IsTextOf script text es)
 IsJudged script text verdict.No = (is_unsettled script text ≡ false) × ((es : List Entry) → IsTextOf script text es → ⊥)
+
+-- The verdict of a settled transcript, by whether there is such a history.
+abbrev pub verdict_of : Bool → Verdict
+verdict_of true = verdict.Yes
+verdict_of false = verdict.No

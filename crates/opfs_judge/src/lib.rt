@@ -1,14 +1,16 @@
-//! What a judge of finished transcripts stands on: whether a script and a transcript are settled, and reading one group of a
-//! transcript, its evictions and its call, as the machine has it.
+//! The judge of finished transcripts: whether a store could have printed one. It reads group after group, each its evictions
+//! and a call, as the machine has them.
 #![tactic(auto)]
 
 pub mod agents;
 pub mod asking;
 mod front;
+pub mod judging;
 mod player;
 pub mod settling;
 mod standing;
 pub mod turn;
 pub mod verdict;
 
+pub use judging::judge;
 pub use verdict::Verdict;

@@ -3,7 +3,7 @@ use Rattle.std.proofs.Common.{◌≡◌, ◌≢◌, ◌⊎◌, ℕ, inl, inr, re
 use Rattle.std.specs.Prelude.{List, Result, Ok, Err, IsErr, is_err, true, false}
 use Rattle.std.specs.declared.alloc.AllocError.{AllocError}
 use Rattle.opfs_base.specs.Texts.{Text}
-use Rattle.opfs_commands.specs.Commands.{Command, trial, on_image, Asks, AsksNothing, IsAsked}
+use Rattle.opfs_commands.specs.Commands.{Command, trial, judgement, on_image, Asks, AsksNothing, IsAsked}
 use Rattle.opfs_commands.specs.Kinds.{IsReading, IsMigration}
 use Rattle.opfs_commands.specs.Kinds.{NoneFailed as ToolNoneFailed}
 use Rattle.opfs_commands.specs.Telling.{IsAnswer}
@@ -18,9 +18,11 @@ use Rattle.opfs_outside.specs.Turns.{of_host, AsBefore, HostFailed, HostTurn, Im
 use Rattle.opfs_print.specs.declared.end.End.TheVariants as end
 use Rattle.opfs_print.specs.Status.{status_text}
 use Rattle.opfs_top.specs.Answers.{ImageEnded, NoneFailedBy}
-use Rattle.opfs_top.specs.Doing.{Ended, IsNoTool, IsUsage, Migrates, Names, NoneFailed, TakesImage, Tells, ToolEnded, TrialEnded}
+use Rattle.opfs_top.specs.Doing.{Did, Ended, IsNoTool, IsTooLong, IsUsage, Migrates, Names, NoneFailed, OfSource, RefusedScript, TakesImage, TakesScript, TaskDone, TaskEnded, TaskRefused, Tells, ToolEnded}
 use Rattle.opfs_top.specs.Statuses.{status_of}
 use Rattle.opfs_top.specs.declared.answer.Answer.{Answer}
+use Rattle.opfs_top.specs.declared.answer.Task.{Task}
+use Rattle.opfs_top.specs.declared.answer.Task.TheVariants as task
 use Rattle.opfs_top.specs.declared.status.Status.{Status}
 use Rattle.opfs_top.specs.declared.status.Status.TheVariants as status
 
@@ -54,15 +56,38 @@ tool_ends words h path action asked status.Source text is = absurd is
 tool_ends words h path action asked status.Sink text is = absurd is
 tool_ends words h path action asked status.Memory text is = absurd is
 
-pub trial_ends : (words : List Text) (s : SourceTurn) (h : HostTurn) → IsAsked words trial → (ended : Status) (text : Text) → TrialEnded s ended text → Ended words s h ended text
-trial_ends words s h asked status.Done text is = record { command = trial; asked = asked; holds = is }
-trial_ends words s h asked status.Usage text is = absurd is
-trial_ends words s h asked status.Script text is = record { command = trial; asked = asked; holds = is }
-trial_ends words s h asked status.Image text is = absurd is
-trial_ends words s h asked status.Host text is = absurd is
-trial_ends words s h asked status.Source text is = record { asked = record { command = trial; asked = asked; holds = tt }; failed = is.0; line = is.1 }
-trial_ends words s h asked status.Sink text is = absurd is
-trial_ends words s h asked status.Memory text is = absurd is
+-- the command for which a script is read
+abbrev pub asked_for : Task → Command
+asked_for task.Try = trial
+asked_for task.Judge = judgement
+
+done_by : (t : Task) (s : SourceTurn) (h : HostTurn) (text : Text) → OfSource s (TaskDone t) text → Did (asked_for t) s h text
+done_by task.Try s h text is = is
+done_by task.Judge s h text is = is
+
+refused_by : (t : Task) (s : SourceTurn) (text : Text) → OfSource s (TaskRefused t) text ⊎ IsTooLong s text → RefusedScript (asked_for t) s text
+refused_by task.Try s text is = is
+refused_by task.Judge s text is = is
+
+takes_by : (t : Task) → TakesScript (asked_for t)
+takes_by task.Try = tt
+takes_by task.Judge = tt
+
+task_ends : (t : Task) (words : List Text) (s : SourceTurn) (h : HostTurn) → IsAsked words (asked_for t) → (ended : Status) (text : Text) → TaskEnded t s ended text → Ended words s h ended text
+task_ends t words s h asked status.Done text is = record { command = asked_for t; asked = asked; holds = done_by t s h text is }
+task_ends t words s h asked status.Usage text is = absurd is
+task_ends t words s h asked status.Script text is = record { command = asked_for t; asked = asked; holds = refused_by t s text is }
+task_ends t words s h asked status.Image text is = absurd is
+task_ends t words s h asked status.Host text is = absurd is
+task_ends t words s h asked status.Source text is = record { asked = record { command = asked_for t; asked = asked; holds = takes_by t }; failed = is.0; line = is.1 }
+task_ends t words s h asked status.Sink text is = absurd is
+task_ends t words s h asked status.Memory text is = absurd is
+
+pub trial_ends : (words : List Text) (s : SourceTurn) (h : HostTurn) → IsAsked words trial → (ended : Status) (text : Text) → TaskEnded task.Try s ended text → Ended words s h ended text
+trial_ends words s h asked ended text is = task_ends task.Try words s h asked ended text is
+
+pub judgement_ends : (words : List Text) (s : SourceTurn) (h : HostTurn) → IsAsked words judgement → (ended : Status) (text : Text) → TaskEnded task.Judge s ended text → Ended words s h ended text
+judgement_ends words s h asked ended text is = task_ends task.Judge words s h asked ended text is
 
 pub nothing_ends : (words : List Text) (s : SourceTurn) (h : HostTurn) → AsksNothing words → (ended : Status) (text : Text) → ended ≡ status.Usage → text ≡ status_text end.Usage → Ended words s h ended text
 nothing_ends words s h nothing ended text is line = subst (λ e. Ended words s h e text) (sym is) (record { nothing = nothing; line = line })
@@ -70,24 +95,30 @@ nothing_ends words s h nothing ended text is line = subst (λ e. Ended words s h
 pub no_tool_ends : (words : List Text) (h : HostTurn) → (Asks words TakesImage → ⊥) → (ended : Status) (text : Text) → ended ≡ status.Usage → text ≡ status_text end.Usage → ToolEnded words h ended text
 no_tool_ends words h none ended text is line = subst (λ e. ToolEnded words h e text) (sym is) (record { none = none; line = line })
 
--- ---- words that ask for a trial, or for nothing, name no image
+-- ---- words that ask for a trial, for a judgement, or for nothing, name no image
 
 pub no_image_of_trial : (words : List Text) → IsAsked words trial → Asks words TakesImage → ⊥
 no_image_of_trial words asked is = named words trial TakesImage asked is
+
+pub no_image_of_judgement : (words : List Text) → IsAsked words judgement → Asks words TakesImage → ⊥
+no_image_of_judgement words asked is = named words judgement TakesImage asked is
 
 pub no_image_of_nothing : (words : List Text) → AsksNothing words → Asks words TakesImage → ⊥
 no_image_of_nothing words nothing is = nothing is.command is.asked
 
 named_takes : (path : Text) (c : Command) → Names path c → TakesImage c
 named_takes path trial is = is
+named_takes path judgement is = is
 named_takes path (on_image image action) is = tt
 
 told_takes : (path : Text) (c : Command) → Tells path c → TakesImage c
 told_takes path trial is = is
+told_takes path judgement is = is
 told_takes path (on_image image action) is = tt
 
 migrated_takes : (path : Text) (c : Command) → Migrates path c → TakesImage c
 migrated_takes path trial is = is
+migrated_takes path judgement is = is
 migrated_takes path (on_image image action) is = tt
 
 pub none_named : (words : List Text) (path : Text) → (Asks words TakesImage → ⊥) → Asks words (Names path) → ⊥

@@ -7,16 +7,17 @@ use Rattle.opfs_commands.specs.declared.words.Action.{Action}
 use Rattle.opfs_outside.specs.Turns.{HostTurn, HostFailed, HostServed}
 use Rattle.opfs_print.specs.declared.end.End.TheVariants as end
 use Rattle.opfs_print.specs.Status.{status_text}
-use Rattle.opfs_top.specs.Doing.{IsTranscript, IsRefused}
+use Rattle.opfs_top.specs.Doing.{TaskDone, TaskRefused}
 use Rattle.opfs_top.specs.declared.answer.Answer.{Answer}
+use Rattle.opfs_top.specs.declared.answer.Task.{Task}
 use Rattle.opfs_top.specs.declared.status.Status.{Status}
 use Rattle.opfs_top.specs.declared.status.Status.TheVariants as status
 
 -- What bytes that were read whole give.
-abbrev pub Outcome : Text → Status → Text → Type 0
-Outcome bytes status.Done text = IsTranscript bytes text
-Outcome bytes status.Script text = IsRefused bytes text
-Outcome bytes ended text = ⊥
+abbrev pub Outcome : Task → Text → Status → Text → Type 0
+Outcome t bytes status.Done text = TaskDone t bytes text
+Outcome t bytes status.Script text = TaskRefused t bytes text
+Outcome t bytes ended text = ⊥
 
 -- What a command on the image at a path puts out at each end.
 abbrev pub ImageEnded : HostTurn → Text → Action → Status → Text → Type 0

@@ -1,11 +1,14 @@
 -- What each command puts out and what it leaves of the host. This project's own.
 --
 -- A source, a sink and a host stand here as they are before the call and after it (`SourceTurn`, `SinkTurn`, `HostTurn`).
-use Rattle.std.specs.Prelude.{◌≡◌, ◌≢◌, ◌⊎◌, ℕ, List, Option, Some, None, Ok, Err}
+use Rattle.std.specs.Prelude.{◌≡◌, ◌≢◌, ◌⊎◌, ℕ, ◌+◌, ◌==◌, true, false, List, [], ◌∷◌, codes, drop, length, Option, Some, None, Ok, Err}
 use Rattle.opfs_base.specs.Texts.{Text}
-use Rattle.opfs_commands.specs.Commands.{Command, trial, on_image, Asks, AsksNothing}
+use Rattle.opfs_commands.specs.Commands.{Command, trial, judgement, on_image, Asks, AsksNothing}
 use Rattle.opfs_commands.specs.Kinds.{DoneKind, RefusedKind, IsReading, IsMigration}
 use Rattle.opfs_hist.specs.declared.entry.Entry.{Entry}
+use Rattle.opfs_judge.specs.declared.verdict.Verdict.{Verdict}
+use Rattle.opfs_judge.specs.declared.verdict.Verdict.TheVariants as verdict
+use Rattle.opfs_judge.specs.Verdicts.{IsJudged}
 use Rattle.opfs_outside.specs.Turns.{HostTurn, SourceTurn, HostFailed, HostServed, SourceFailed, ReadWhole, ReadTooFar}
 use Rattle.opfs_print.specs.declared.end.BadScript.{BadScript}
 use Rattle.opfs_print.specs.declared.end.BadScript.TheVariants as bad
@@ -17,10 +20,12 @@ use Rattle.opfs_script.specs.declared.refusal.ScriptRefusal.TheVariants as refus
 use Rattle.opfs_script.specs.Reading.{reads}
 use Rattle.opfs_script.specs.Scripts.{Asked}
 use Rattle.opfs_trial.specs.Trials.{IsTrial}
+use Rattle.opfs_top.specs.declared.answer.Task.{Task}
+use Rattle.opfs_top.specs.declared.answer.Task.TheVariants as task
 use Rattle.opfs_top.specs.declared.status.Status.{Status}
 use Rattle.opfs_top.specs.declared.status.Status.TheVariants as status
 
--- The most bytes that a script may have.
+-- The most bytes that a script may have, with a transcript behind it.
 abbrev pub most_bytes : ℕ
 most_bytes = 16777216
 
@@ -59,6 +64,45 @@ pub record IsRefused (bytes text : Text) : Type 0 where
   pub refused : reads bytes ≡ Err why
   pub line : IsRefusal why text
 
+-- What stands before the first 0; all, where there is none.
+abbrev pub script_part : Text → Text
+script_part [] = []
+script_part (c ∷ cs) = elim (c == 0) [ true ↦ [] | false ↦ c ∷ script_part cs ]
+
+-- What stands behind the first 0; nothing, where there is none.
+abbrev pub transcript_part : Text → Text
+transcript_part bytes = drop (length (script_part bytes) + 1) bytes
+
+abbrev pub verdict_line : Verdict → Text
+verdict_line verdict.Yes = codes "yes\n"
+verdict_line verdict.No = codes "no\n"
+verdict_line verdict.Unsettled = codes "unsettled\n"
+
+-- The text is the line of the verdict on a script's transcript.
+pub record IsVerdictText (script : List Asked) (transcript text : Text) : Type 0 where
+  pub verdict : Verdict
+  pub judged : IsJudged script transcript verdict
+  pub line : text ≡ verdict_line verdict
+
+-- What stands before the first 0 reads as a script, and the text is the line of the verdict on what stands behind it.
+pub record IsJudgement (bytes text : Text) : Type 0 where
+  pub script : List Asked
+  pub read : reads (script_part bytes) ≡ Ok script
+  pub judged : IsVerdictText script (transcript_part bytes) text
+
+-- What stands before the first 0 is refused as a script, and the text is the line that says why.
+abbrev pub IsRefusedBefore : Text → Text → Type 0
+IsRefusedBefore bytes text = IsRefused (script_part bytes) text
+
+-- What bytes give that were read for one of the two, and how they are refused.
+abbrev pub TaskDone : Task → Text → Text → Type 0
+TaskDone task.Try bytes text = IsTranscript bytes text
+TaskDone task.Judge bytes text = IsJudgement bytes text
+
+abbrev pub TaskRefused : Task → Text → Text → Type 0
+TaskRefused task.Try bytes text = IsRefused bytes text
+TaskRefused task.Judge bytes text = IsRefusedBefore bytes text
+
 -- The source was read to its end, and its bytes give this text.
 pub record OfSource (s : SourceTurn) (Kind : Text → Text → Type 0) (text : Text) : Type 0 where
   pub bytes : Text
@@ -70,34 +114,40 @@ pub record IsTooLong (s : SourceTurn) (text : Text) : Type 0 where
   pub far : ReadTooFar s most_bytes
   pub line : text ≡ status_text (end.Script bad.TooMany)
 
--- What a command puts out that was done: a trial its transcript; a command on an image what is told of the image before, or
--- of the one that it made.
+-- What a command puts out that was done: a trial its transcript; a judgement the line of its verdict; a command on an image
+-- what is told of the image before, or of the one that it made.
 abbrev pub Did : Command → SourceTurn → HostTurn → Text → Type 0
 Did trial s h text = OfSource s IsTranscript text
+Did judgement s h text = OfSource s IsJudgement text
 Did (on_image path action) s h text = h.tells → DoneKind action (h.image path) (h.image_after path) text
 
 -- The same of a command on an image alone.
 abbrev pub DidWithImage : Command → HostTurn → Text → Type 0
 DidWithImage trial h text = ⊥
+DidWithImage judgement h text = ⊥
 DidWithImage (on_image path action) h text = h.tells → DoneKind action (h.image path) (h.image_after path) text
 
 -- The command takes a script, which is refused.
 abbrev pub RefusedScript : Command → SourceTurn → Text → Type 0
 RefusedScript trial s text = OfSource s IsRefused text ⊎ IsTooLong s text
+RefusedScript judgement s text = OfSource s IsRefusedBefore text ⊎ IsTooLong s text
 RefusedScript (on_image path action) s text = ⊥
 
 -- The command takes an image, which is refused.
 abbrev pub RefusedImage : Command → HostTurn → Text → Type 0
 RefusedImage trial h text = ⊥
+RefusedImage judgement h text = ⊥
 RefusedImage (on_image path action) h text = h.tells → RefusedKind action (h.image path) text
 
 -- The command takes a script, or an image.
 abbrev pub TakesScript : Command → Type 0
 TakesScript trial = Unit {0}
+TakesScript judgement = Unit {0}
 TakesScript (on_image path action) = ⊥
 
 abbrev pub TakesImage : Command → Type 0
 TakesImage trial = ⊥
+TakesImage judgement = ⊥
 TakesImage (on_image path action) = Unit {0}
 
 -- ---- the ends, each with its cause
@@ -162,16 +212,19 @@ pub record IsSomeToolEnd (words : List Text) (h : HostTurn) (text : Text) : Type
 -- The command works on the image at a path.
 abbrev pub Names : Text → Command → Type 0
 Names path trial = ⊥
+Names path judgement = ⊥
 Names path (on_image image action) = path ≡ image
 
 -- It only tells what that image holds: `list` or `check`.
 abbrev pub Tells : Text → Command → Type 0
 Tells path trial = ⊥
+Tells path judgement = ⊥
 Tells path (on_image image action) = (path ≡ image) × IsReading action
 
 -- It brings that image into the format of now.
 abbrev pub Migrates : Text → Command → Type 0
 Migrates path trial = ⊥
+Migrates path judgement = ⊥
 Migrates path (on_image image action) = (path ≡ image) × IsMigration action
 
 -- No call of the host failed: its own count did not rise, or the command was answered without a fault.
@@ -180,9 +233,9 @@ NoneFailed h ended = HostServed h ⊎ (ended ≡ status.Done) ⊎ (ended ≡ sta
 
 -- ---- one command
 
--- What a trial puts out at each end.
-abbrev pub TrialEnded : SourceTurn → Status → Text → Type 0
-TrialEnded s status.Done text = OfSource s IsTranscript text
-TrialEnded s status.Script text = OfSource s IsRefused text ⊎ IsTooLong s text
-TrialEnded s status.Source text = SourceFailed s × (text ≡ status_text end.Source)
-TrialEnded s ended text = ⊥
+-- What is put out at each end where a source was read for one of the two.
+abbrev pub TaskEnded : Task → SourceTurn → Status → Text → Type 0
+TaskEnded t s status.Done text = OfSource s (TaskDone t) text
+TaskEnded t s status.Script text = OfSource s (TaskRefused t) text ⊎ IsTooLong s text
+TaskEnded t s status.Source text = SourceFailed s × (text ≡ status_text end.Source)
+TaskEnded t s ended text = ⊥

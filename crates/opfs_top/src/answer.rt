@@ -6,12 +6,14 @@ ghost use Rattle.opfs_print.specs.Lines.{text_of};
 ghost use Rattle.opfs_print.specs.Status.{status_text};
 ghost use Rattle.opfs_print.specs.declared.end.End.TheVariants as end;
 ghost use Rattle.opfs_top.specs.Answers.{Outcome};
-ghost use Rattle.opfs_top.specs.Doing.{IsRefusal, IsTrialText, TrialEnded};
+ghost use Rattle.opfs_top.specs.Doing.{IsRefusal, IsTrialText, IsVerdictText, TaskEnded, verdict_line};
 
 use crate::input::{Input, read_all};
+use crate::parts::parts;
 use crate::status::Status;
 use opfs_base::Bytes;
 use opfs_hist::Entry;
+use opfs_judge::{Verdict, judge};
 use opfs_outside::Source;
 use opfs_print::{BadScript, End, line, status_line};
 use opfs_script::{Script, ScriptRefusal, read_script};
@@ -23,6 +25,15 @@ use std::alloc::{AllocError, Global};
 pub struct Answer {
     pub status: Status,
     pub text: Bytes,
+}
+
+/// What a script is read for.
+#[derive(Clone, Copy, Debug, PartialEq, Eq)]
+pub enum Task {
+    /// To run it over an empty store.
+    Try,
+    /// To judge the transcript that stands behind it.
+    Judge,
 }
 
 /// A status line.
@@ -70,11 +81,23 @@ fn trial_text(alloc: Global, script: &Script) -> Result<Bytes, AllocError>
     Ok(text)
 }
 
-/// Runs the script that bytes are.
-fn run(alloc: Global, bytes: &Bytes) -> Result<Answer, AllocError>
-    ensures { IfOk result (λ answer. Outcome bytes.now answer.status answer.text) }
+/// The answer to bytes that are refused as a script.
+fn refused(alloc: Global, why: ScriptRefusal) -> Result<Answer, AllocError>
+    ensures status { IfOk result (λ answer. answer.status ≡ Status.Script) }
+    ensures text { IfOk result (λ answer. IsRefusal why answer.text) }
 {
-    match read_script(alloc, bytes.as_slice()) {
+    let text = refusal(alloc, why)?;
+    Ok(Answer {
+        status: Status::Script,
+        text,
+    })
+}
+
+/// Runs the script that bytes are.
+fn run(alloc: Global, bytes: &[u8]) -> Result<Answer, AllocError>
+    ensures { IfOk result (λ answer. Outcome Task.Try bytes.now answer.status answer.text) }
+{
+    match read_script(alloc, bytes) {
         Ok(script) => {
             let text = trial_text(alloc, &script)?;
             Ok(Answer {
@@ -83,21 +106,74 @@ fn run(alloc: Global, bytes: &Bytes) -> Result<Answer, AllocError>
             })
         }
         Err(why) => {
-            let text = refusal(alloc, why)?;
-            Ok(Answer {
-                status: Status::Script,
-                text,
-            })
+            let answer = refused(alloc, why)?;
+            Ok(answer)
         }
     }
 }
 
-/// How a trial ends whose script the source gives, and what it is to put out.
-pub fn answer_trial<S: Source>(alloc: Global, source: &mut S) -> Result<Answer, AllocError>
-    ensures { IfOk result (λ answer. TrialEnded (of_source S.Source source.old source.new) answer.status answer.text) }
+/// The line of a verdict.
+fn verdict_text(alloc: Global, verdict: Verdict) -> Result<Bytes, AllocError>
+    ensures { IfOk result (λ text. text ≡ verdict_line verdict) }
+{
+    let line = match verdict {
+        Verdict::Yes => "yes\n",
+        Verdict::No => "no\n",
+        Verdict::Unsettled => "unsettled\n",
+    };
+    let text = Bytes::copy_of(alloc, line.as_bytes())?;
+    Ok(text)
+}
+
+/// The line of the verdict on a script's transcript.
+fn judgement_text(alloc: Global, script: &Script, transcript: &[u8]) -> Result<Bytes, AllocError>
+    ensures { IfOk result (λ text. IsVerdictText script.now transcript.now text) }
+{
+    let verdict = judge(alloc, script, transcript)?;
+    let text = verdict_text(alloc, verdict)?;
+    Ok(text)
+}
+
+/// Judges the transcript that stands behind the first 0 of bytes, as one of the script that stands before it.
+fn judge_parts(alloc: Global, bytes: &[u8]) -> Result<Answer, AllocError>
+    ensures { IfOk result (λ answer. Outcome Task.Judge bytes.now answer.status answer.text) }
+{
+    let (script, transcript) = parts(bytes);
+    match read_script(alloc, script) {
+        Ok(script) => {
+            let text = judgement_text(alloc, &script, transcript)?;
+            Ok(Answer {
+                status: Status::Done,
+                text,
+            })
+        }
+        Err(why) => {
+            let answer = refused(alloc, why)?;
+            Ok(answer)
+        }
+    }
+}
+
+/// Does with bytes that were read whole what they were read for.
+fn serve(alloc: Global, task: Task, bytes: &[u8]) -> Result<Answer, AllocError>
+    ensures { IfOk result (λ answer. Outcome task bytes.now answer.status answer.text) }
+{
+    match task {
+        Task::Try => run(alloc, bytes),
+        Task::Judge => judge_parts(alloc, bytes),
+    }
+}
+
+/// How a command ends whose script the source gives, and what it is to put out.
+pub fn answer_script<S: Source>(
+    alloc: Global,
+    task: Task,
+    source: &mut S,
+) -> Result<Answer, AllocError>
+    ensures { IfOk result (λ answer. TaskEnded task (of_source S.Source source.old source.new) answer.status answer.text) }
 {
     let (status, end) = match read_all(alloc, source) {
-        Input::Whole(bytes) => return run(alloc, &bytes),
+        Input::Whole(bytes) => return serve(alloc, task, bytes.as_slice()),
         Input::TooFar => (Status::Script, End::Script(BadScript::TooMany)),
         Input::Failed => (Status::Source, End::Source),
         Input::NoMemory => return Err(AllocError),

@@ -50,8 +50,9 @@ pub fn opfs_tool<H: Host, K: Sink>(
 }
 
 /// Does what the words of a command line ask. `try` reads a script from the source to its end, runs its agents one after
-/// another over an empty store, and puts out the transcript. `format`, `list`, `check` and `migrate` work on the image at a
-/// path of the host. Each status says what was put out, and why.
+/// another over an empty store, and puts out the transcript. `judge` reads a script and, behind a byte 0, a transcript, and
+/// tells whether that is one of a legal history of the script. `format`, `list`, `check` and `migrate` work on the image at
+/// a path of the host. Each status says what was put out, and why.
 ///
 /// Where no call of the host failed, every path but that of the command is as before; a path whose image is refused, or is
 /// only listed or checked, has its image still; and a stop within a migration leaves the old image or the new one. A command

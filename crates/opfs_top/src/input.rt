@@ -8,7 +8,7 @@ use opfs_base::Bytes;
 use opfs_outside::Source;
 use std::alloc::{AllocError, Global};
 
-/// The most bytes that a script may have.
+/// The most bytes that a script may have, with a transcript behind it.
 const MOST_BYTES: usize = 16_777_216;
 
 /// How many bytes one read asks for.
@@ -69,7 +69,7 @@ fn buffer(alloc: Global) -> Result<Vec<u8>, AllocError>
     Ok(buffer)
 }
 
-/// Reads a source to its end, but no further than one piece past the most bytes that a script may have.
+/// Reads a source to its end, but no further than one piece past the most bytes that it may have.
 fn read_into<S: Source>(source: &mut S, buffer: &mut [u8], mut bytes: Vec<u8>) -> Input
     requires buffer { 0 < length buffer.old }
     requires empty { bytes.items ≡ [] }

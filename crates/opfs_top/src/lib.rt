@@ -5,6 +5,7 @@ mod answer;
 pub mod command;
 mod input;
 mod output;
+mod parts;
 pub mod status;
 mod tool;
 

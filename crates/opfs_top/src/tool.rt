@@ -12,7 +12,7 @@ ghost use Rattle.opfs_top.specs.Answers.{ImageEnded, NoneFailedBy};
 ghost use Rattle.opfs_top.specs.Doing.{Ended, Migrates, Names, TakesImage, Tells, ToolEnded};
 ghost use Rattle.opfs_top.specs.Statuses.{status_of};
 
-use crate::answer::{Answer, answer_nothing, answer_trial};
+use crate::answer::{Answer, Task, answer_nothing, answer_script};
 use crate::status::Status;
 use opfs_base::Words;
 use opfs_commands::{Action, Command, ToolEnd, read_command, run_command};
@@ -67,6 +67,7 @@ pub fn answer_tool<H: Host>(
     match read_command(words) {
         Some(Command::OnImage(path, action)) => answer_image(alloc, host, path, action),
         Some(Command::Try) => answer_nothing(alloc),
+        Some(Command::Judge) => answer_nothing(alloc),
         None => answer_nothing(alloc),
     }
 }
@@ -87,7 +88,8 @@ pub fn answer_to<H: Host, S: Source>(
 {
     match read_command(words) {
         Some(Command::OnImage(path, action)) => answer_image(alloc, host, path, action),
-        Some(Command::Try) => answer_trial(alloc, source),
+        Some(Command::Try) => answer_script(alloc, Task::Try, source),
+        Some(Command::Judge) => answer_script(alloc, Task::Judge, source),
         None => answer_nothing(alloc),
     }
 }

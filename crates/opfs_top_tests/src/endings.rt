@@ -19,10 +19,11 @@ fn tried(alloc: Global, room: u64, fails: Vec<u64>) -> Result<(Status, String), 
 
 #[test]
 fn words_that_ask_for_nothing(rt: HostRuntime) -> Result<(), Fail> {
-    let cases: [&[&str]; 6] = [
+    let cases: [&[&str]; 7] = [
         &[],
         &["run"],
         &["try", "try"],
+        &["judge", "x"],
         &["Try"],
         &["list"],
         &["format", "I", "0", "4", "8"],

@@ -1,4 +1,4 @@
-//! Tests of the program's one call: transcripts, refusals, and the ends of a command.
+//! Tests of the program's one call: transcripts, verdicts, refusals, and the ends of a command.
 #![tactic(auto)]
 
 #[cfg(test)]
@@ -7,6 +7,8 @@ mod asking;
 mod endings;
 #[cfg(test)]
 mod every_word;
+#[cfg(test)]
+mod judgements;
 #[cfg(test)]
 mod refusals;
 #[cfg(test)]

@@ -1,11 +1,12 @@
 //! Scripts and their transcripts.
 
 use crate::asking::answered;
+use crate::judgements::judged;
 use opfs_top::Status;
 use std::test::Fail;
 
 #[test]
-fn try_prints_its_lines(rt: HostRuntime) -> Result<(), Fail> {
+fn try_prints_lines_that_are_judged_yes(rt: HostRuntime) -> Result<(), Fail> {
     let rows = [
         (
             "a_file_is_made_written_and_read",
@@ -458,6 +459,8 @@ fn try_prints_its_lines(rt: HostRuntime) -> Result<(), Fail> {
         let (status, text) = answered(rt.alloc(), &["try"], script)?;
         assert_eq!(rt; status, Status::Done, "{name}");
         assert_eq!(rt; text.as_str(), lines, "{name}");
+        let (_, verdict) = judged(rt.alloc(), script, lines)?;
+        assert_eq!(rt; verdict.as_str(), "yes\n", "{name}");
     }
     Ok(())
 }

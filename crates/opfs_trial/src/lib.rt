@@ -2,7 +2,7 @@
 #![tactic(auto)]
 
 mod numbers;
-mod opening;
+pub mod opening;
 mod runner;
 pub mod trial;
 

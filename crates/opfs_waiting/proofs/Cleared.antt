@@ -1,6 +1,7 @@
 -- In a legal history no unit that is cleared has a line feed.
-use Rattle.std.proofs.Common.{◌≡◌, ◌+◌, ◌<◌, ◌^◌, ◌==◌, ◌||◌, ℕ, zero, suc, Bool, true, false, List, [], ◌∷◌, ◌++◌, append_assoc, length, map, fold, slice_get, All, Option, Some, None, refl, sym, ap, ◌∙◌, subst, inl, inr, arith}
+use Rattle.std.proofs.Common.{◌≡◌, ◌+◌, ◌<◌, ◌≤◌, ◌^◌, ◌==◌, ◌||◌, ℕ, zero, suc, Bool, true, false, List, [], ◌∷◌, ◌++◌, append_assoc, length, map, fold, slice_get, All, Option, Some, None, refl, sym, ap, ◌∙◌, subst, inl, inr, arith}
 use Rattle.std.proofs.lemmas.Bool.{false≢true}
+use Rattle.std.proofs.lemmas.Bool.Decides.{nat_tests}
 use Rattle.std.specs.List.{list_any}
 use Rattle.std.proofs.lemmas.List.Elements.{All-nil, All-cons, All-head, All-tail}
 use Rattle.opfs_base.specs.Places.{Place}
@@ -11,7 +12,7 @@ use Rattle.opfs_hist.specs.declared.op.Op.TheVariants as op
 use Rattle.opfs_machine.specs.declared.own.Own.{Own}
 use Rattle.opfs_machine.specs.declared.state.State.{State}
 use Rattle.opfs_machine.specs.Agents.{agent_of}
-use Rattle.opfs_machine.specs.Histories.{evicted_by, IsCall, IsEviction, IsFront, LegalFrom}
+use Rattle.opfs_machine.specs.Histories.{evicted_by, IsCall, IsEviction, IsFront, Legal, LegalFrom}
 use Rattle.opfs_machine.specs.Openings.{Opening, Stored, Who, agent_begun, begun, row_of}
 use Rattle.opfs_machine.specs.Replies.{sizes_of}
 use Rattle.opfs_machine.specs.Steps.{after_reply, evicted, is_refusal}
@@ -26,6 +27,7 @@ use Rattle.opfs_script.specs.Scripts.{Asked}
 use Rattle.opfs_laws.proofs.Gone.{ran-by}
 use Rattle.opfs_laws.proofs.OwnFiles.{may-after}
 use Rattle.opfs_laws.proofs.Wholes.{call-placed}
+use Rattle.opfs_separation.specs.Apart.{IsInOrder}
 use Rattle.opfs_separation.proofs.Calls.{Kept, kept-after, kept-evicted, live-above}
 use Rattle.opfs_separation.proofs.Follows.{IsPlain}
 use Rattle.opfs_separation.proofs.Fronts.{call-front, front-fine}
@@ -33,7 +35,7 @@ use Rattle.opfs_separation.proofs.Numbered.{agent_at}
 use Rattle.opfs_separation.proofs.Separation.{begun-kept, keys-plain}
 use Rattle.opfs_told.specs.Goings.{IsFixed, has_no, is_line}
 use Rattle.opfs_told.proofs.Goes.{nobody-here, other-entry, own-entry, self-here}
-use Rattle.opfs_waiting.specs.Fixed.{HistoriesAreFixed, NobodyWaitsUnasked, has_await, is_await}
+use Rattle.opfs_waiting.specs.Fixed.{HistoriesAreFixed, IsInLines, NobodyWaitsUnasked, has_await, is_await}
 use Rattle.opfs_waiting.proofs.Deciding.{length-begun, size-after, live-within}
 use Rattle.opfs_waiting.proofs.Lines.{InLines, IsLine, IsNamed, named, changed-lines-kept, line-root, lines-without}
 
@@ -92,6 +94,9 @@ AllMove (e ∷ es) = (is_wait e.op ≡ false) × AllMove es
 
 nobody : (k i : ℕ) → k ≡ 0 → (k == suc i) ≡ false
 nobody k i is = ap (λ j. j == suc i) is ∙ nobody-here i
+
+another : (k j i : ℕ) → k ≡ suc j → j < i → (k == suc i) ≡ false
+another k j i is less = grind (arith, nat_tests)
 
 no-wait : (o : Op) (unit : Text) → evicted_by o ≡ Some unit → is_wait o ≡ false
 no-wait (op.Evict told) unit is = refl
@@ -207,6 +212,19 @@ module _ (keys : ℕ → Option Text) (plain : (k : ℕ) → IsPlain (keys k)) (
             ] refl))
       ] refl legal
 
+  -- Nobody behind the last agent has an entry.
+  within-from : (s : State Text Own) (gone : List Text) (es : List Entry) → LegalFrom s gone es → Now keys n s → (i : ℕ) → n ≤ i → entries_of (suc i) es ≡ []
+  within-from s gone [] legal h i beyond = refl
+  within-from s gone (e ∷ es) legal h i beyond =
+      elim (evicted_by e.op) as (λ told. Next s gone e es told → entries_of (suc i) (e ∷ es) ≡ []) [
+        | Some unit ↦ λ next. other-entry (suc i) e es (nobody e.agent i next.0.agent) ∙ within-from s (gone ++ unit ∷ []) es next.1 h i beyond
+        | None ↦ λ next.
+            let above = live-above s e.agent next.0.live in
+            let inside : above.0 < n = subst (λ m. above.0 < m) h.size (live-within s e.agent above next.0.live) in
+            other-entry (suc i) e es (another e.agent above.0 i above.1 (omega (arith, inside, beyond)))
+            ∙ within-from (after_reply (fold evicted s gone) e.agent e.op e.reply) [] es next.1 (called s gone e next.0 h) i beyond
+      ] legal
+
 begun-lines : (rows : List (Place × Stored)) → All (λ e. has_no 10 e.0.0 ≡ true) rows → InLines (map (λ e. (e.0, row_of e.1)) rows)
 begun-lines [] h = tt
 begun-lines (e ∷ es) h = (All-head (λ x. has_no 10 x.0.0 ≡ true) e es h, begun-lines es (All-tail (λ x. has_no 10 x.0.0 ≡ true) e es h))
@@ -236,3 +254,8 @@ nobody-waits-unasked o script es order lines same none h =
   where
     next : (i : ℕ) → i + 1 ≡ suc i
     next i = omega arith
+
+pub nobody-beyond : (o : Opening) (es : List Entry) → IsInOrder o → IsInLines o → Legal o es → (i : ℕ) → length o.agents ≤ i → entries_of (suc i) es ≡ []
+nobody-beyond o es order lines legal i beyond =
+    within-from (λ k. (agent_of (begun o) k).key) (keys-plain o order) (keys-lines o lines.keys) (length o.agents) lines.few (begun o) [] es legal
+    (record { kept = begun-kept o order; size = length-begun o.agents; lines = begun-lines o.stored.rows lines.rows }) i beyond

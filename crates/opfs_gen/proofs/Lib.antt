@@ -1,0 +1,5 @@
+pub mod Drawn
+pub mod Keys
+pub mod Limits
+pub mod Looping
+pub mod Summed

@@ -1,0 +1,5 @@
+//! Tests of large runs: what their summaries are.
+#![tactic(auto)]
+
+#[cfg(test)]
+mod runs;

@@ -1,0 +1,81 @@
+//! Verdicts on drawn transcripts, and on those with a line changed.
+
+use crate::altering::{CHANGES, altered, lines_of};
+use crate::drawing::{Draws, script_text};
+use crate::replaying::{is_printed, played};
+use opfs_judge::{Verdict, judge};
+use opfs_script::{Script, read_script};
+use std::alloc::{AllocError, Global};
+use std::test::Fail;
+
+// How often the judge said yes and no, and how often a replay says otherwise.
+#[derive(Clone, Copy, Debug, PartialEq, Eq)]
+struct Seen {
+    yes: u32,
+    no: u32,
+    apart: u32,
+}
+
+// The verdict on a text beside what a replay says.
+fn look(alloc: Global, script: &Script, text: &[u8], seen: &mut Seen) -> Result<(), AllocError> {
+    let printed = is_printed(alloc, script, text)?;
+    let verdict = judge(alloc, script, text)?;
+    let wanted = if printed { Verdict::Yes } else { Verdict::No };
+    if verdict != wanted {
+        seen.apart = seen.apart.saturating_add(1);
+    }
+    if verdict == Verdict::Yes {
+        seen.yes = seen.yes.saturating_add(1);
+    } else {
+        seen.no = seen.no.saturating_add(1);
+    }
+    Ok(())
+}
+
+// The verdicts on what a drawn script prints in a drawn order, and on that with a line changed, each change at a drawn place.
+fn look_at(alloc: Global, script: &Script, seed: u64, seen: &mut Seen) -> Result<(), AllocError> {
+    let mut draws = Draws::make(seed);
+    let text = played(alloc, script, &mut draws)?;
+    look(alloc, script, text.as_slice(), seen)?;
+    let lines = lines_of(alloc, text.as_slice())?;
+    if lines.is_empty() {
+        return Ok(());
+    }
+    for change in CHANGES {
+        let at = draws.below(lines.len() as u64) as usize;
+        let changed = altered(alloc, lines.as_slice(), change, at)?;
+        look(alloc, script, changed.as_slice(), seen)?;
+    }
+    Ok(())
+}
+
+// The script of a seed.
+fn script_of(alloc: Global, seed: u64) -> Result<Script, AllocError> {
+    let text = script_text(alloc, seed)?;
+    match read_script(alloc, text.as_bytes()) {
+        Ok(script) => Ok(script),
+        Err(_) => Err(AllocError),
+    }
+}
+
+// What is seen of so many drawn scripts.
+fn seen_of(alloc: Global, count: u64) -> Result<Seen, AllocError> {
+    let mut seen = Seen {
+        yes: 0,
+        no: 0,
+        apart: 0,
+    };
+    for seed in 0..count {
+        let script = script_of(alloc, seed)?;
+        look_at(alloc, &script, seed, &mut seen)?;
+    }
+    Ok(seen)
+}
+
+#[test]
+fn the_judge_and_a_replay_agree(rt: HostRuntime) -> Result<(), Fail> {
+    let seen = seen_of(rt.alloc(), 120)?;
+    assert_eq!(rt; seen.apart, 0);
+    assert_eq!(rt; seen.yes > 120 && seen.no > 200, true);
+    Ok(())
+}

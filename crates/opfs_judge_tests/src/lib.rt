@@ -1,0 +1,11 @@
+//! Tests of the judge: transcripts of drawn scripts, as they were printed and with a line changed.
+#![tactic(auto)]
+
+#[cfg(test)]
+mod altering;
+#[cfg(test)]
+mod drawing;
+#[cfg(test)]
+mod judging;
+#[cfg(test)]
+mod replaying;
