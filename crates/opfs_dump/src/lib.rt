@@ -1,0 +1,12 @@
+//! An image as one JSON text, put out piece by piece.
+#![tactic(auto)]
+
+mod dumping;
+mod files;
+mod output;
+mod pieces;
+mod rows;
+mod stop;
+
+pub use dumping::dump;
+pub use stop::DumpStop;

@@ -1,0 +1,11 @@
+//! Tests of images as texts, and of texts as images.
+#![tactic(auto)]
+
+#[cfg(test)]
+mod drawn;
+#[cfg(test)]
+mod hostile;
+#[cfg(test)]
+mod images;
+#[cfg(test)]
+mod worked;

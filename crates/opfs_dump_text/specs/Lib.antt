@@ -1,0 +1,4 @@
+pub mod Limits
+pub mod Reading
+pub mod Seen
+pub mod Texts
