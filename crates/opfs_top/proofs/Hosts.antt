@@ -1,5 +1,5 @@
 -- What a command leaves of a host, as its words ask.
-use Rattle.std.proofs.Common.{◌≡◌, ◌≢◌, ◌⊎◌, ℕ, inl, inr, refl, sym, ◌∙◌, ap, subst}
+use Rattle.std.proofs.Common.{◌≡◌, ◌≢◌, ◌⊎◌, inl, inr, refl, sym, ◌∙◌, ap, subst}
 use Rattle.std.specs.Prelude.{List, Result, Ok, Err, IsErr, is_err, true, false}
 use Rattle.std.specs.declared.alloc.AllocError.{AllocError}
 use Rattle.opfs_base.specs.Texts.{Text}
@@ -14,11 +14,11 @@ use Rattle.opfs_commands.specs.declared.answers.ToolEnd.TheVariants as tool_end
 use Rattle.opfs_commands.specs.declared.words.Action.{Action}
 use Rattle.opfs_commands.proofs.Spelled.{named}
 use Rattle.opfs_outside.specs.declared.host.Host.{Ghosts as HostWords}
-use Rattle.opfs_outside.specs.Turns.{of_host, AsBefore, HostFailed, HostTurn, ImageStays, OthersAsBefore, SourceTurn}
+use Rattle.opfs_outside.specs.Turns.{of_host, AsBefore, HostFailed, HostTurn, SourceTurn}
 use Rattle.opfs_print.specs.declared.end.End.TheVariants as end
 use Rattle.opfs_print.specs.Status.{status_text}
 use Rattle.opfs_top.specs.Answers.{ImageEnded, NoneFailedBy}
-use Rattle.opfs_top.specs.Doing.{Did, Ended, IsNoTool, IsTooLong, IsUsage, Migrates, Names, NoneFailed, OfSource, RefusedScript, TakesImage, TakesScript, TaskDone, TaskEnded, TaskRefused, Tells, ToolEnded}
+use Rattle.opfs_top.specs.Doing.{Did, Ended, IsTooLong, Migrates, Names, NoneFailed, OfSource, RefusedScript, TakesImage, TakesScript, TaskDone, TaskEnded, TaskRefused, Tells, ToolEnded}
 use Rattle.opfs_top.specs.Statuses.{status_of}
 use Rattle.opfs_top.specs.declared.answer.Answer.{Answer}
 use Rattle.opfs_top.specs.declared.answer.Task.{Task}

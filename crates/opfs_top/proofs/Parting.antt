@@ -1,5 +1,5 @@
 -- What stands before the first 0 of a text, and behind it.
-use Rattle.std.proofs.Common.{◌≡◌, ◌+◌, ◌==◌, ◌-◌, ℕ, zero, suc, true, false, [], ◌∷◌, drop, take, length, refl, sym, ap, ◌∙◌, subst, arith}
+use Rattle.std.proofs.Common.{◌≡◌, ◌+◌, ◌==◌, ◌-◌, ℕ, suc, true, false, [], ◌∷◌, drop, take, length, refl, sym, ap, ◌∙◌, arith}
 use Rattle.std.proofs.lemmas.List.{drop-drop, length-drop, take_all}
 use Rattle.opfs_base.specs.Texts.{Text}
 use Rattle.opfs_top.specs.Doing.{script_part}

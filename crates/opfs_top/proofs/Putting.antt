@@ -3,7 +3,7 @@ use Rattle.std.proofs.Common.{◌≡◌, ℕ, ◌-◌, ◌++◌, take, drop, len
 use Rattle.std.proofs.lemmas.List.{take-append-drop, take_all}
 use Rattle.opfs_base.specs.Texts.{Text}
 use Rattle.opfs_outside.specs.declared.stream.Sink.{Ghosts as SinkWords}
-use Rattle.opfs_outside.specs.Turns.{of_sink, Took, TookFront}
+use Rattle.opfs_outside.specs.Turns.{of_sink, TookFront}
 
 rest_whole : (rest : Text) (count m : ℕ) → m ≡ length rest → take (m - count) (drop count rest) ≡ drop count rest
 rest_whole rest count m is = take_all (m - count) (drop count rest) (rw (length-drop count rest) (omega (arith, is)))

@@ -1,7 +1,7 @@
 -- What each command puts out and what it leaves of the host. This project's own.
 --
 -- A source, a sink and a host stand here as they are before the call and after it (`SourceTurn`, `SinkTurn`, `HostTurn`).
-use Rattle.std.specs.Prelude.{◌≡◌, ◌≢◌, ◌⊎◌, ℕ, ◌+◌, ◌==◌, true, false, List, [], ◌∷◌, codes, drop, length, Option, Some, None, Ok, Err}
+use Rattle.std.specs.Prelude.{◌≡◌, ◌⊎◌, ℕ, ◌+◌, ◌==◌, true, false, List, [], ◌∷◌, codes, drop, length, Option, Some, None, Ok, Err}
 use Rattle.opfs_base.specs.Texts.{Text}
 use Rattle.opfs_commands.specs.Commands.{Command, trial, judgement, on_image, Asks, AsksNothing}
 use Rattle.opfs_commands.specs.Kinds.{DoneKind, RefusedKind, IsReading, IsMigration}

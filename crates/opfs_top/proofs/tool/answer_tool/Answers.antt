@@ -1,4 +1,4 @@
-use Rattle.std.proofs.Common.{◌≡◌, ◌⊎◌, List, ℕ, sym, subst}
+use Rattle.std.proofs.Common.{◌⊎◌, sym, subst}
 use Rattle.opfs_commands.specs.Commands.{meant, IsAsked}
 use Rattle.opfs_commands.specs.Telling.{IsStoodFor}
 use Rattle.opfs_migrate.specs.Migrating.{StandsEither}
