@@ -37,10 +37,10 @@ use opfs_desk_laws::{
 use opfs_desk_parts::{InHand, Ledger, Parts};
 use opfs_desk_rows::{calls_open_rows, files_are_stored, opened_rows_are_laid};
 use opfs_desk_steps::{
-    asked_calls_are_ready, calls_are_acted, clear_for, ready_calls_are_answered,
+    asked_calls_are_ready, calls_are_acted, clear_call, ready_calls_are_answered,
 };
 use opfs_desk_ways::{take_in, tell_call};
-use opfs_hist::{Entry, Pending, Refusal, Reply};
+use opfs_hist::{Pending, Refusal, Reply};
 use opfs_machine::Sizes;
 use opfs_outside::Disk;
 use opfs_tree::Walk;
@@ -128,24 +128,10 @@ pub fn act_open<D: Disk>(
     ) else {
         return Err(AllocError);
     };
-    let InHand {
-        room,
-        agent,
-        number,
-        op,
-        sizes,
-        clearing,
-    } = call;
+    let agent = call.agent;
     take_in(&mut parts.ledger, agent, pending);
-    let entry = Entry {
-        agent,
-        number,
-        op,
-        reply: Reply::Done,
-        turn: true,
-    };
-    match clear_for(&mut parts.ledger, clearing, Last { room, entry }) {
-        Ok(last) => {
+    match clear_call(&mut parts.ledger, call, Reply::Done) {
+        Ok((last, sizes)) => {
             enter_open(&mut parts.ledger, last, sizes);
             *work = opened;
             Ok(Acted {

@@ -1,10 +1,11 @@
 //! The units of a call, where it clears any.
 
 ghost use Rattle.std.specs.Prelude.{◌≡◌, ◌++◌, map, fold, IfOk, OnOk, OnErr};
+ghost use Rattle.opfs_acts.specs.Acting.{told_entry};
 ghost use Rattle.opfs_book_laws.specs.Books.{Fixed};
 ghost use Rattle.opfs_desk_parts.specs.Acted.{AreCleared, HasFailed};
 ghost use Rattle.opfs_desk_parts.specs.Held.{AreHeldWhole};
-ghost use Rattle.opfs_desk_parts.specs.Seen.{tree_in, units_in};
+ghost use Rattle.opfs_desk_parts.specs.Seen.{tree_in, call_in, units_in};
 ghost use Rattle.opfs_desk_parts.specs.declared.parts.Pages.{Pages};
 ghost use Rattle.opfs_desk_ways.specs.Clearing.{IsJudged, MayMakeWay, cleared_from};
 ghost use Rattle.opfs_machine.specs.Histories.{state_after};
@@ -14,33 +15,54 @@ ghost use Rattle.opfs_state.specs.Applied.{IsPrepared};
 
 use opfs_book_laws::the_books_show_their_images;
 use opfs_books::Last;
-use opfs_desk_parts::{Clearing, Ledger};
+use opfs_desk_parts::{InHand, Ledger};
 use opfs_desk_ways::make_way;
+use opfs_hist::{Entry, Reply};
 use opfs_journal::DiskFault;
+use opfs_machine::Sizes;
 use opfs_outside::Disk;
 
-/// Clears the units of a call that stores nothing itself, and gives its entry back. Without units it calls no disk, and a doubt
-/// stays. Where the disk fails, the call is entered so, after the evictions that were committed.
-pub fn clear_for<D: Disk>(
+/// Clears the units of a call that stores nothing itself, and gives the entry with its reply, for which it takes the call apart, and
+/// its sizes. Without units it calls no disk, and a doubt stays. Where the disk fails, the call is entered so, after the evictions
+/// that were committed.
+pub fn clear_call<D: Disk>(
     ledger: &mut Ledger<D>,
-    clearing: Vec<Clearing>,
-    last: Last,
-) -> Result<Last, DiskFault>
-    requires may { MayMakeWay D.Disk ledger.old last.entry clearing.items }
-    ensures last { IfOk result (λ back. back.entry ≡ last.entry) }
-    ensures entries { OnOk result (ledger.new.books.history ≡ ledger.old.books.history ++ map eviction (units_in clearing.items)) }
-    ensures tree { OnOk result (tree_in ledger.new ≡ fold cleared_from (tree_in ledger.old) (units_in clearing.items)) }
-    ensures prepared { OnOk result (IsPrepared ledger.new.books.state last.entry.agent last.entry.op) }
-    ensures cleared { OnOk result ((f : Fixed D) (recorded : Built) (p : Pages) → AreHeldWhole D.Disk f recorded ledger.old p → AreCleared D.Disk f (units_in clearing.items) ledger.old ledger.new p) }
+    call: InHand,
+    reply: Reply,
+) -> Result<(Last, Sizes), DiskFault>
+    requires may { MayMakeWay D.Disk ledger.old (told_entry (call_in call) reply) call.clearing.items }
+    ensures entry { IfOk result (λ ready. ready.0.entry ≡ told_entry (call_in call) reply) }
+    ensures sizes { IfOk result (λ ready. ready.1 ≡ call.sizes) }
+    ensures entries { OnOk result (ledger.new.books.history ≡ ledger.old.books.history ++ map eviction (units_in call.clearing.items)) }
+    ensures tree { OnOk result (tree_in ledger.new ≡ fold cleared_from (tree_in ledger.old) (units_in call.clearing.items)) }
+    ensures prepared { OnOk result (IsPrepared ledger.new.books.state call.agent call.op) }
+    ensures cleared { OnOk result ((f : Fixed D) (recorded : Built) (p : Pages) → AreHeldWhole D.Disk f recorded ledger.old p → AreCleared D.Disk f (units_in call.clearing.items) ledger.old ledger.new p) }
     ensures failed { OnErr result ((f : Fixed D) (recorded : Built) (p : Pages) → AreHeldWhole D.Disk f recorded ledger.old p
-        → IsJudged (state_after f.opening ledger.old.books.history) last.entry (units_in clearing.items) → HasFailed D.Disk f last.entry ledger.old ledger.new p) }
+        → IsJudged (state_after f.opening ledger.old.books.history) (told_entry (call_in call) reply) (units_in call.clearing.items) → HasFailed D.Disk f (told_entry (call_in call) reply) ledger.old ledger.new p) }
 {
     the_books_show_their_images::<D>();
+    let InHand {
+        room,
+        agent,
+        number,
+        op,
+        sizes,
+        clearing,
+    } = call;
+    let turn = true;
+    let entry = Entry {
+        agent,
+        number,
+        op,
+        reply,
+        turn,
+    };
+    let last = Last { room, entry };
     if clearing.is_empty() {
-        return Ok(last);
+        return Ok((last, sizes));
     }
     match make_way(ledger, clearing, last) {
-        Ok(back) => Ok(back),
+        Ok(back) => Ok((back, sizes)),
         Err(fault) => Err(fault),
     }
 }

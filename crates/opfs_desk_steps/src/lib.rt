@@ -6,5 +6,5 @@
 mod clearing;
 mod steps;
 
-pub use clearing::clear_for;
+pub use clearing::clear_call;
 pub use steps::{asked_calls_are_ready, calls_are_acted, ready_calls_are_answered};

@@ -3,6 +3,7 @@ use Rattle.opfs_acts.specs.Acting.{told_entry}
 use Rattle.opfs_hist.specs.declared.entry.Entry.{Entry}
 use Rattle.opfs_hist.specs.declared.reply.Reply.TheVariants as reply
 use Rattle.opfs_machine.specs.Histories.{state_after}
+use Rattle.opfs_machine.specs.declared.state.Sizes.{Sizes}
 use Rattle.opfs_desk_parts.specs.Answered.{IsAnswered}
 use Rattle.opfs_desk_parts.specs.Acted.{HasActed}
 use Rattle.opfs_desk_parts.specs.Seen.{machine_in, call_in, units_in}
@@ -45,8 +46,8 @@ take_in-requires-clause-may g c κs within =
     let may = c.requires.go in
     c.opening_laws.ensures.asks.taken may.fixed may.recorded c.args.parts.now.ledger c.args.parts.now.pages c.args.pending.now c.args.call c.args.work.now [] may.are may.asked
 
-pub clear_for-requires-clause-may : goal.clear_for-requires-clause-may
-clear_for-requires-clause-may g c κs within =
+pub clear_call-requires-clause-may : goal.clear_call-requires-clause-may
+clear_call-requires-clause-may g c κs within =
     let may = c.requires.go in
     let l = c.args.parts.now.ledger in
     let p = c.args.parts.now.pages in
@@ -66,10 +67,10 @@ enter_open-requires-clause-may g c κs within =
     let l = c.args.parts.now.ledger in
     let p = c.args.parts.now.pages in
     let mid = c.take_in.new.ledger in
-    let back = c.clear_for.new.ledger in
+    let back = c.clear_call.new.ledger in
     let is = c.take_in.ensures in
     let held = is.held may.fixed may.recorded p may.are may.asked.may.pending in
-    let cleared = c.in-Ok-clear_for.ensures.cleared may.fixed may.recorded p held in
+    let cleared = c.in-Ok-clear_call.ensures.cleared may.fixed may.recorded p held in
     record {
       fixed = may.fixed;
       recorded = cleared.recorded;
@@ -78,46 +79,49 @@ enter_open-requires-clause-may g c κs within =
       pages = p;
       are = cleared.are;
       answered =
-          subst (λ (e : Entry). IsAnswered g.D.Disk (state_after may.fixed.opening mid.books.history) (units_in c.args.call.clearing.items) back e c.args.call.sizes) (sym c.in-Ok-clear_for.ensures.last)
+          subst (λ (z : Sizes). IsAnswered g.D.Disk (state_after may.fixed.opening mid.books.history) (units_in c.args.call.clearing.items) back c.in-Ok-clear_call.last.entry z) (sym c.in-Ok-clear_call.ensures.sizes)
+          (subst (λ (e : Entry). IsAnswered g.D.Disk (state_after may.fixed.opening mid.books.history) (units_in c.args.call.clearing.items) back e c.args.call.sizes) (sym c.in-Ok-clear_call.ensures.entry)
           (answered g.D.Disk c.opening_laws.ensures.asks c.opening_laws.ensures.answers may.fixed may.recorded l mid back p c.args.pending.now c.args.call c.args.work.now []
           (record { held = may.are; asked = may.asked; opens = c.requires.word })
           (record { taken = record { entries = is.entries; journal = is.journal; place = is.place }; held = held; prepared = is.prepared c.args.call.op may.asked.prepared; tree = is.tree })
-          (record { entries = c.in-Ok-clear_for.ensures.entries; prepared = c.in-Ok-clear_for.ensures.prepared; tree = c.in-Ok-clear_for.ensures.tree; cleared = cleared }));
+          (record { entries = c.in-Ok-clear_call.ensures.entries; prepared = c.in-Ok-clear_call.ensures.prepared; tree = c.in-Ok-clear_call.ensures.tree; cleared = cleared })));
     }
 
 pub returns-in_default-clause-idle : goal.returns-in_default-clause-idle
 returns-in_default-clause-idle g c f recorded held =
     unacted g.D.Disk c.opening_laws.ensures.shown f recorded c.args.parts.now c.open_pages.new.swap c.in_default.ensures.err held
 
-pub returns-in-Ok-clear_for-clause-acted : goal.returns-in-Ok-clear_for-clause-acted
-returns-in-Ok-clear_for-clause-acted g c f recorded held asked =
+pub returns-in-Ok-clear_call-clause-acted : goal.returns-in-Ok-clear_call-clause-acted
+returns-in-Ok-clear_call-clause-acted g c f recorded held asked =
     let w = g.D.Disk in
     let l = c.args.parts.now.ledger in
     let p = c.args.parts.now.pages in
     let call = c.args.call in
     let mid = c.take_in.new.ledger in
-    let back = c.clear_for.new.ledger in
+    let back = c.clear_call.new.ledger in
     let new = c.enter_open.new.ledger in
     let q : Pages = record { swap = c.open_pages.new.swap; space = p.space; base = p.base } in
     let asks = c.opening_laws.ensures.asks in
     let answers = c.opening_laws.ensures.answers in
     let is = c.take_in.ensures in
     let mid_held = is.held f recorded p held asked.may.pending in
-    let cleared = c.in-Ok-clear_for.ensures.cleared f recorded p mid_held in
+    let cleared = c.in-Ok-clear_call.ensures.cleared f recorded p mid_held in
     let base = state_after f.opening mid.books.history in
     let begins : BeginsOpening w f recorded l p c.args.pending.now call c.args.work.now [] = record { held = held; asked = asked; opens = c.requires.word } in
     let took : HasTakenIn w f recorded l mid p c.args.pending.now call =
     record { taken = record { entries = is.entries; journal = is.journal; place = is.place }; held = mid_held; prepared = is.prepared call.op asked.prepared; tree = is.tree } in
     let way : HasMadeWay w f mid back p call =
-    record { entries = c.in-Ok-clear_for.ensures.entries; prepared = c.in-Ok-clear_for.ensures.prepared; tree = c.in-Ok-clear_for.ensures.tree; cleared = cleared } in
+    record { entries = c.in-Ok-clear_call.ensures.entries; prepared = c.in-Ok-clear_call.ensures.prepared; tree = c.in-Ok-clear_call.ensures.tree; cleared = cleared } in
     let row_is = number-is w asks f recorded l mid p c.args.pending.now call c.args.work.now [] held asked is.entries c.next_row-row.result c.next_row-row.ensures in
     let pages = pages-are l p q call c.next_row-row.result (next_row base call.agent) row_is c.in-Ok.ensures.others c.in-Ok.ensures.there c.in-Ok.ensures.pages refl refl c.in-Ok.ensures.kept in
-    let may_come : IsAnswered w base (units_in call.clearing.items) back c.in-Ok-clear_for.last.entry call.sizes =
-    subst (λ (e : Entry). IsAnswered w base (units_in call.clearing.items) back e call.sizes) (sym c.in-Ok-clear_for.ensures.last)
-    (answered w asks answers f recorded l mid back p c.args.pending.now call c.args.work.now [] begins took way) in
+    let may_come : IsAnswered w base (units_in call.clearing.items) back c.in-Ok-clear_call.last.entry c.in-Ok-clear_call.sizes =
+    subst (λ (z : Sizes). IsAnswered w base (units_in call.clearing.items) back c.in-Ok-clear_call.last.entry z) (sym c.in-Ok-clear_call.ensures.sizes)
+    (subst (λ (e : Entry). IsAnswered w base (units_in call.clearing.items) back e call.sizes) (sym c.in-Ok-clear_call.ensures.entry)
+    (answered w asks answers f recorded l mid back p c.args.pending.now call c.args.work.now [] begins took way)) in
     let told : HasTold w f cleared.recorded back new p (told_entry (call_in call) reply.Done) call.sizes =
-    subst (λ (e : Entry). HasTold w f cleared.recorded back new p e call.sizes) c.in-Ok-clear_for.ensures.last
-    (c.enter_open.ensures.told f cleared.recorded base (units_in call.clearing.items) p cleared.are may_come) in
+    subst (λ (z : Sizes). HasTold w f cleared.recorded back new p (told_entry (call_in call) reply.Done) z) c.in-Ok-clear_call.ensures.sizes
+    (subst (λ (e : Entry). HasTold w f cleared.recorded back new p e c.in-Ok-clear_call.sizes) c.in-Ok-clear_call.ensures.entry
+    (c.enter_open.ensures.told f cleared.recorded base (units_in call.clearing.items) p cleared.are may_come)) in
     let now : Parts g.row.D.Denot = record { ledger = new; pages = q } in
     subst (λ (n : ℕ). HasActed w f c.args.parts.now now c.args.pending.now (call_in call) c.args.work.now c.in-Ok.opened (opened_act n)) (sym row_is)
     (has-acted w asks answers f recorded l mid back p c.args.pending.now call c.args.work.now [] begins took way c.enter_open.ensures.tidy q pages told.order
@@ -131,7 +135,7 @@ returns-in-Err-clause-acted g c f recorded held asked =
     let p = c.args.parts.now.pages in
     let call = c.args.call in
     let mid = c.take_in.new.ledger in
-    let back = c.clear_for.new.ledger in
+    let back = c.clear_call.new.ledger in
     let q : Pages = record { swap = c.drop_row.new.self; space = p.space; base = p.base } in
     let asks = c.opening_laws.ensures.asks in
     let is = c.take_in.ensures in

@@ -1,7 +1,7 @@
 use Rattle.std.proofs.Common.{arith}
 use Rattle.opfs_desk_steps.proofs.Cleared.{none-cleared}
-use Rattle.opfs_desk_steps.proofs.clearing.clear_for.Goals as goal
+use Rattle.opfs_desk_steps.proofs.clearing.clear_call.Goals as goal
 
 pub returns-then-is_empty-clause-cleared : goal.returns-then-is_empty-clause-cleared
 returns-then-is_empty-clause-cleared g c f recorded p held =
-    none-cleared g.D.Disk c.the_books_show_their_images.ensures f recorded c.args.ledger.now p c.args.clearing.items (grind (arith, c.if-is_empty.ensures)) held
+    none-cleared g.D.Disk c.the_books_show_their_images.ensures f recorded c.args.ledger.now p c.args.call.clearing.items (grind (arith, c.if-is_empty.ensures)) held
