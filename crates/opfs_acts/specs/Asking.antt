@@ -1,6 +1,6 @@
 -- What a shared call asks of its caller: the standing conditions on numbers, rows and entries, and what it hands in. This
 -- project's own.
-use Rattle.std.specs.Prelude.{◌≡◌, ℕ, zero, suc, ◌≤◌, ◌==◌, ◌||◌, ◌++◌, Bool, true, false, List, [], ◌∷◌, length, count_by, Option, Some, None, unwrap_or, IsTrue}
+use Rattle.std.specs.Prelude.{◌≡◌, ℕ, zero, suc, ◌<◌, ◌≤◌, ◌==◌, ◌||◌, ◌++◌, Bool, true, false, List, [], ◌∷◌, length, count_by, Option, Some, None, unwrap_or, IsTrue}
 use Rattle.opfs_base.specs.Texts.{Text}
 use Rattle.opfs_hist.specs.declared.entry.Entry.{Entry}
 use Rattle.opfs_hist.specs.declared.op.Op.{Op}
@@ -63,6 +63,11 @@ names_open s k called = row_named called == 0 || is_open_own (own_of (agent_of s
 abbrev pub given_by : State Text Own → ℕ → Op → List Text
 given_by s k (op.Next n dir) = given_in (own_of (agent_of s k) n)
 given_by s k called = []
+
+-- There is an agent of this number.
+pub record IsThere (s : State Text Own) (k : ℕ) : Type 0 where
+  pub above : 0 < k
+  pub within : k ≤ length s.agents
 
 -- The agent has room for a row and an entry more.
 pub record HasPlace (o : Opening) (known : List Entry) (k : ℕ) : Type 0 where

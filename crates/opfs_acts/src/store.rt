@@ -15,7 +15,7 @@ pub trait Store: Chronicle<Entry = Entry> {
     ghost use Rattle.opfs_machine.specs.Histories.{state_after};
     ghost use Rattle.opfs_machine.specs.Openings.{Opening};
     ghost use Rattle.opfs_histories.specs.Unread.{IsTold};
-    ghost use Rattle.opfs_acts.specs.Asking.{MayAct};
+    ghost use Rattle.opfs_acts.specs.Asking.{MayAct, IsThere};
     ghost use Rattle.opfs_acts.specs.Acting.{IsActed, IsGift, IsLeft, IsSameCopy, always_acts, awaited};
 
     /// Whether the bytes that it gives are told. It is no function of the value.
@@ -49,6 +49,7 @@ pub trait Store: Chronicle<Entry = Entry> {
 
     /// How a tag stands for an agent (this project's own). Takes no memory.
     fn await_state(&self, agent: u32, tag: &str) -> AwaitState
+        requires { IsThere (state_after (opened (Self.opening self.now)) (Self.entries self.now)) agent }
         ensures { result ≡ awaited (state_after (opened (Self.opening self.now)) (Self.entries self.now)) agent tag.now };
 
     /// What the store's type keeps: its history is legal, but for the bytes of reads where it does not tell.

@@ -7,20 +7,23 @@ use Rattle.opfs_book_laws.proofs.Told.{told-whole}
 use Rattle.opfs_books.specs.Seen.{IsFinished}
 use Rattle.opfs_commit.specs.Seen.{committing}
 use Rattle.opfs_commit.specs.Shown.{ShowsSince}
+use Rattle.opfs_commit.specs.Trail.{IsTrail}
 use Rattle.opfs_hist.specs.declared.entry.Entry.{Entry}
+use Rattle.opfs_hist.specs.Faults.{disk_faults}
 use Rattle.opfs_histories.specs.Unread.{IsTold}
 use Rattle.opfs_image.specs.Filling.{Stands}
 use Rattle.opfs_journal.specs.Format.{records_of}
 use Rattle.opfs_journal.specs.Seen.{kept}
 use Rattle.opfs_machine.specs.Changes.{floor, changes, durable}
 use Rattle.opfs_machine.specs.Histories.{state_after}
+use Rattle.opfs_outside.specs.Faults.{Rose, RoseBy}
 use Rattle.opfs_outside.specs.declared.disk.Disk.{Ghosts as DiskWords}
 use Rattle.opfs_replay.specs.Built.{Built}
 use Rattle.opfs_desk_parts.specs.Held.{AreHeldWhole}
 use Rattle.opfs_desk_parts.specs.Seen.{book_in}
 use Rattle.opfs_desk_parts.specs.declared.parts.Ledger.{Ledger}
 use Rattle.opfs_desk.specs.Seen.{DeskSeen, entries_of, disk_of, ShowsNow}
-use Rattle.opfs_desk.specs.Ending.{StandsWhole, ShowsEnding}
+use Rattle.opfs_desk.specs.Ending.{StandsWhole, ShowsEnding, EndsTrail}
 
 module _ {D : Type 0} (w : DiskWords D) (d : DeskSeen D) (recorded : Built) (are : AreHeldWhole w d.fixed recorded d.parts.ledger d.parts.pages) where
   pub shows-now : BooksShowTheirImages w → ShowsNow w d
@@ -43,3 +46,14 @@ module _ {D : Type 0} (w : DiskWords D) (d : DeskSeen D) (recorded : Built) (are
     shows-ending t =
         subst (λ (x : D). ShowsSince w d.fixed.opening (floor (told d.fixed (book_in d.parts.ledger))) (told d.fixed (book_in d.parts.ledger) ++ doubt d.fixed (book_in d.parts.ledger) d.parts.ledger.journal) (disk_of d) x) (sym same)
         (done.shown t)
+
+    pub ends-trail : new.books.history ≡ entries_of d → EndsTrail w d disk
+    ends-trail entries t never =
+        subst (λ (x : D). IsTrail w d.fixed.opening (changes d.fixed.opening (entries_of d)) d.fixed.begun x) (sym same)
+        (subst (λ (es : List Entry). IsTrail w d.fixed.opening (changes d.fixed.opening es) d.fixed.begun new.journal.disk) entries
+        (done.are.trail t (λ rose. never (subst (λ (x : D). Rose (w.faults d.fixed.begun) (w.faults x)) (sym same) rose))))
+
+    pub counts-all : new.books.history ≡ entries_of d → RoseBy (disk_faults (entries_of d)) (w.faults d.fixed.begun) (w.faults disk)
+    counts-all entries =
+        subst (λ (x : D). RoseBy (disk_faults (entries_of d)) (w.faults d.fixed.begun) (w.faults x)) (sym same)
+        (subst (λ (es : List Entry). RoseBy (disk_faults es) (w.faults d.fixed.begun) (w.faults new.journal.disk)) entries done.are.counted.faults)

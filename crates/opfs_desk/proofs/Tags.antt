@@ -1,17 +1,20 @@
 -- How a tag stands, by the state in lengths.
-use Rattle.std.proofs.Common.{◌≡◌, ℕ, Bool, true, false, length, refl, sym, ap, ◌∙◌}
+use Rattle.std.proofs.Common.{◌≡◌, ℕ, Bool, true, false, length, refl, sym, ap, ◌∙◌, arith}
+use Rattle.std.proofs.lemmas.List.{length-map}
 use Rattle.opfs_acts.specs.Acting.{awaited}
+use Rattle.opfs_acts.specs.Asking.{IsThere}
 use Rattle.opfs_acts.specs.declared.acted.AwaitState.{AwaitState}
 use Rattle.opfs_acts.specs.declared.acted.AwaitState.TheVariants as await
 use Rattle.opfs_base.specs.Texts.{Text}
 use Rattle.opfs_lengths.specs.Bridge.{LengthsDecideEachRuling}
-use Rattle.opfs_lengths.specs.Outlines.{in_lengths_of}
+use Rattle.opfs_lengths.specs.Outlines.{in_lengths_of, on_agent}
 use Rattle.opfs_lengths.proofs.Readers.{agent-on}
 use Rattle.opfs_machine.specs.Contents.{outline_of}
 use Rattle.opfs_machine.specs.declared.own.Own.{Own}
 use Rattle.opfs_machine.specs.declared.state.State.{State}
 use Rattle.opfs_machine.specs.Agents.{agent_of, is_posted, others_stuck, party_of, party_with}
 use Rattle.opfs_space.specs.Room.{Machine}
+use Rattle.opfs_verdicts.specs.Callers.{IsAgent}
 
 abbrev by_state : Bool → Bool → AwaitState
 by_state posted stuck = elim posted [ true ↦ await.Posted | false ↦ elim stuck [ true ↦ await.Stuck | false ↦ await.Neither ] ]
@@ -40,3 +43,6 @@ module _ (decide : LengthsDecideEachRuling) (s : State Text Own) (m : Machine) (
 
   pub is-neither : is_posted m (party_of m k) tag ≡ false → others_stuck m k ≡ false → awaited s k tag ≡ await.Neither
   is-neither none is = awaited-is ∙ (λ i. by_state (none i) (is i))
+
+pub agent-there : (s : State Text Own) (m : Machine) (k : ℕ) → m ≡ in_lengths_of s → IsThere s k → IsAgent m k
+agent-there s m k machine there = record { above = there.above; within = omega (arith, there.within, ap (λ (x : Machine). length x.agents) machine, length-map s.agents (on_agent outline_of)) }

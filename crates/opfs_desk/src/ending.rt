@@ -1,9 +1,11 @@
 //! The end of a run.
 
-ghost use Rattle.std.specs.Prelude.{◌≡◌, OnOk, OnErr};
+ghost use Rattle.std.specs.Prelude.{◌≡◌, ◌≤◌, OnOk, OnErr};
+ghost use Rattle.opfs_desk.specs.Apart.{IsToldApart};
 ghost use Rattle.opfs_desk.specs.Seen.{entries_of, disk_of};
-ghost use Rattle.opfs_desk.specs.Ending.{ShowsEnding, StandsWhole};
-ghost use Rattle.opfs_outside.specs.Faults.{Rose};
+ghost use Rattle.opfs_desk.specs.Ending.{ShowsEnding, StandsWhole, EndsTrail};
+ghost use Rattle.opfs_hist.specs.Faults.{disk_faults};
+ghost use Rattle.opfs_outside.specs.Faults.{Rose, RoseBy};
 
 use crate::desk::Desk;
 use opfs_book_calls::calls_are_spelled;
@@ -12,17 +14,23 @@ use opfs_desk_parts::{Ledger, Pages, Parts};
 use opfs_hist::History;
 use opfs_journal::DiskFault;
 use opfs_outside::Disk;
+use opfs_separation::apart::each_party_runs_alone;
 
 impl<D: Disk> Desk<D> {
-    /// Ends the run: ends the doubt, commits what is kept back, and gives the disk and the history. At Ok the image stands for all
-    /// that the history stored. Takes no memory.
+    /// Ends the run: ends the doubt, commits what is kept back, and gives the disk and the history, in which each party's replies are
+    /// those of its own calls. At Ok the image stands for all that the history stored. Takes no memory.
     pub fn finish(self) -> (D, History, Result<(), DiskFault>)
         ensures history { result.1 ≡ entries_of self }
+        ensures apart { IsToldApart D.tells self.fixed.opening result.1 }
         ensures stands { OnOk result.2 (StandsWhole D.Disk self result.0) }
         ensures shown { ShowsEnding D.Disk self result.0 }
+        ensures trail { EndsTrail D.Disk self result.0 }
+        ensures later { D.faults (disk_of self) ≤ D.faults result.0 }
+        ensures counts { RoseBy (disk_faults (entries_of self)) (D.faults self.fixed.begun) (D.faults result.0) }
         ensures cause { OnErr result.2 (Rose (D.faults (disk_of self)) (D.faults result.0)) }
     {
         commit_laws::<D>();
+        each_party_runs_alone();
         let Desk {
             parts,
             from: _,

@@ -1,5 +1,5 @@
 -- What an agent's turn found and left, by the clauses of the hall and of the store.
-use Rattle.std.proofs.Common.{◌≡◌, ◌≢◌, ◌⊎◌, ℕ, ◌+◌, Bool, false, true, not, Option, Some, None, All, List, [], ◌∷◌, ◌++◌, append-nil, length, map, Result, Ok, Err, refl, sym, ap, ◌∙◌, subst, inl, inr}
+use Rattle.std.proofs.Common.{◌≡◌, ◌≢◌, ◌⊎◌, ℕ, ◌+◌, Bool, false, true, not, Option, Some, None, All, List, [], ◌∷◌, ◌++◌, append-nil, length, map, Result, Ok, Err, refl, sym, ap, ◌∙◌, subst, inl, inr, arith}
 use Rattle.std.specs.Prelude.{IfOk, OnErr}
 use Rattle.std.proofs.lemmas.List.Elements.{All-append, All-cons, All-nil, All-weaker}
 use Rattle.opfs_base.specs.Texts.{Text}
@@ -15,11 +15,12 @@ use Rattle.opfs_machine.specs.Histories.{after_entry, state_after}
 use Rattle.opfs_machine.specs.Openings.{Opening}
 use Rattle.opfs_machine.specs.Runs.{Call, eviction}
 use Rattle.opfs_laws.specs.Leaving.{asks_nobody, is_end}
+use Rattle.opfs_laws.proofs.Numbers.{number-of}
 use Rattle.opfs_histories.specs.Opened.{added}
 use Rattle.opfs_histories.specs.Unread.{IsTold, ArePendingFor}
 use Rattle.opfs_acts.specs.declared.acted.Gift.{Gift}
 use Rattle.opfs_acts.specs.Acting.{told_entry, IsCallFor, IsActed, IsGift}
-use Rattle.opfs_acts.specs.Asking.{MayAct}
+use Rattle.opfs_acts.specs.Asking.{MayAct, IsThere}
 use Rattle.opfs_work.specs.Works.{WorkingCopy}
 use Rattle.opfs_turns.specs.declared.notes.Notes.{Notes}
 use Rattle.opfs_turns.specs.Agents.{AgentSeen, IsAgent, seen}
@@ -34,7 +35,7 @@ use Rattle.opfs_turns.specs.Waiting.{HasWaitRoom, IsTurned, await_reply, planned
 use Rattle.opfs_turns.specs.declared.waiting.Plan.{Plan}
 use Rattle.opfs_turns.specs.declared.waiting.Plan.TheVariants as plan
 use Rattle.opfs_turns.proofs.Awaiting.{IsAsk, answered-facts, begun-facts, looks-by, await-ask, wait-ask}
-use Rattle.opfs_turns.proofs.Beside.{pending-awaited}
+use Rattle.opfs_turns.proofs.Beside.{pending-awaited, pending-agents}
 use Rattle.opfs_turns.proofs.Counts.{one_if}
 use Rattle.opfs_turns.proofs.Standing.{act-pending, after-more}
 use Rattle.opfs_turns.proofs.Turning.{act-may, looked-agent, looked, entered-agent, entered, await-may, wait-may, waits-there, fresh_work, asked_at, asked-agent, asked, asked-reply, asked-rows, asked-waits}
@@ -78,6 +79,17 @@ module _ {O : Type 0} (tells : Type 0) (opened : O → Opening) (pass : PassSeen
 
     abbrev there : State Text Own
     there = state_after (opened pass.hall.opening) (before_call agent more)
+
+    -- The store has such an agent.
+    pub agent-there : IsThere (state_after o list) pass.agent
+    agent-there =
+        let number = number-of there pass.agent (looked-agent tells agent kept more apart told-here).live in
+        let many : length there.agents ≡ length (state_after o list).agents =
+        ap (λ t. length t.agents) (after-more (opened pass.hall.opening) (pass.base ++ more) notes.pending)
+        ∙ pending-agents tells (state_after (opened pass.hall.opening) (pass.base ++ more)) pass.agent notes.pending
+        (act-pending tells (opened pass.hall.opening) pass.base more pass.agent told-here apart notes.pending kept.local)
+        ∙ (λ i. length (state_after (sym begun i) (sym grows.1 i)).agents) in
+        record { above = omega (arith, number.is); within = omega (arith, number.is, number.within, many) }
 
     -- A tag stands as the store tells: the agent's own calls change nothing of it.
     awaited-there : (tag : Text) → awaited there pass.agent tag ≡ awaited (state_after o list) pass.agent tag

@@ -1,6 +1,7 @@
 -- An agent's own local calls leave how its tags stand.
-use Rattle.std.proofs.Common.{◌≡◌, ◌≢◌, ◌⊎◌, ℕ, ◌+◌, ◌-◌, ◌==◌, ◌&&◌, ◌||◌, zero, suc, Bool, true, false, not, List, [], ◌∷◌, fold, slice_set, Option, Some, None, refl, sym, ap, ◌∙◌, subst, inl, inr, arith}
+use Rattle.std.proofs.Common.{◌≡◌, ◌≢◌, ◌⊎◌, ℕ, ◌+◌, ◌-◌, ◌==◌, ◌&&◌, ◌||◌, zero, suc, Bool, true, false, not, List, [], ◌∷◌, fold, slice_set, Option, Some, None, refl, sym, ap, ◌∙◌, subst, inl, inr, arith, length}
 use Rattle.std.proofs.lemmas.Bool.{false≢true, eq-eqb}
+use Rattle.std.proofs.lemmas.List.{length-set}
 use Rattle.std.specs.List.{list_any, list_all, enumerate_from}
 use Rattle.opfs_base.specs.Texts.{Text, same_text}
 use Rattle.opfs_hist.specs.declared.entry.Entry.{Entry}
@@ -144,22 +145,30 @@ beside-awaited s t k tag real h key =
 
 -- ---- pending calls
 
-module _ (tells : Type 0) (s : State Text Own) (k : ℕ) (real : k ≢ 0) (tag : Text) (e : Entry) (h : IsPendingFor tells s k e) where
-  pending : IsPending s k (own_entry s e)
-  pending = record { agent = h.agent; live = h.live; fitting = h.fitting; local = h.local; answered = refl; turn = h.turn }
-
+module _ (tells : Type 0) (s : State Text Own) (k : ℕ) (e : Entry) (h : IsPendingFor tells s k e) where
   after-one : after_entry s e ≡ after_reply s e.agent e.op e.reply
   after-one = ap (after_op s e) (not_evict s e.agent e.op h.fitting)
 
-  one-awaited : awaited (after_entry s e) k tag ≡ awaited s k tag
-  one-awaited =
-      let beside : IsBeside s (after_entry s e) k =
-      subst (λ j. IsBeside s (after_entry s e) j) h.agent (subst (λ u. IsBeside s u e.agent) (sym after-one) (reply-beside s e.agent e.op e.reply h.local)) in
+  one-beside : IsBeside s (after_entry s e) k
+  one-beside = subst (λ j. IsBeside s (after_entry s e) j) h.agent (subst (λ u. IsBeside s u e.agent) (sym after-one) (reply-beside s e.agent e.op e.reply h.local))
+
+  one-awaited : (tag : Text) → k ≢ 0 → awaited (after_entry s e) k tag ≡ awaited s k tag
+  one-awaited tag real =
       let moved = call-moves s [] e.agent e.op e.reply h.live in
       let key : (agent_of (after_entry s e) k).key ≡ (agent_of s k).key =
       subst (λ j. (agent_of (after_entry s e) j).key ≡ (agent_of s j).key) h.agent (ap (λ u. (agent_of u e.agent).key) after-one ∙ moved.key) in
-      beside-awaited s (after_entry s e) k tag real beside key
+      beside-awaited s (after_entry s e) k tag real one-beside key
 
 pub pending-awaited : (tells : Type 0) (s : State Text Own) (k : ℕ) (tag : Text) (es : List Entry) → k ≢ 0 → ArePendingFor tells s k es → awaited (fold after_entry s es) k tag ≡ awaited s k tag
 pending-awaited tells s k tag [] real h = refl
-pending-awaited tells s k tag (e ∷ es) real h = pending-awaited tells (after_entry s e) k tag es real h.1 ∙ one-awaited tells s k real tag e h.0
+pending-awaited tells s k tag (e ∷ es) real h = pending-awaited tells (after_entry s e) k tag es real h.1 ∙ one-awaited tells s k e h.0 tag real
+
+-- There are as many agents.
+pub pending-agents : (tells : Type 0) (s : State Text Own) (k : ℕ) (es : List Entry) → ArePendingFor tells s k es → length (fold after_entry s es).agents ≡ length s.agents
+pending-agents tells s k [] h = refl
+pending-agents tells s k (e ∷ es) h =
+    pending-agents tells (after_entry s e) k es h.1
+    ∙ elim (one-beside tells s k e h.0).agents as (λ x. length (after_entry s e).agents ≡ length s.agents) [
+      | inl same ↦ ap (λ as_. length as_) same
+      | inr set ↦ ap (λ as_. length as_) set.1 ∙ length-set s.agents (k - 1) set.0
+    ]

@@ -9,12 +9,19 @@ use Rattle.opfs_machine.specs.Agents.{agent_of}
 use Rattle.opfs_machine.specs.Histories.{state_after}
 use Rattle.opfs_histories.specs.Unread.{IsTold}
 use Rattle.opfs_acts.specs.Acting.{IsActed, awaited}
-use Rattle.opfs_acts.specs.Asking.{MayAct}
+use Rattle.opfs_acts.specs.Asking.{MayAct, IsThere}
 use Rattle.opfs_turns.specs.Agents.{IsAgent, seen}
 use Rattle.opfs_turns.specs.Waiting.{IsWaiting, await_reply}
-use Rattle.opfs_turns.proofs.Acted.{await-acts, wait-acts, await-asks, wait-asks, wait-first, look-waits, ask-agent, ask-turned, ask-rest, unacted-agent, unacted-looked, adds}
+use Rattle.opfs_turns.proofs.Acted.{agent-there, await-acts, wait-acts, await-asks, wait-asks, wait-first, look-waits, ask-agent, ask-turned, ask-rest, unacted-agent, unacted-looked, adds}
 use Rattle.opfs_turns.proofs.Turning.{number-small-waiting}
 use Rattle.opfs_turns.proofs.waiting.await_turn.Goals as goal
+
+pub await_state-stands-requires : goal.await_state-stands-requires
+await_state-stands-requires g c =
+    subst (λ (k : ℕ). IsThere (state_after (g.S.Store.opened (g.S.Chronicle.opening c.enter-turn.result.value)) (g.S.Chronicle.entries c.enter-turn.result.value)) k) (sym c.agent-agent.ensures)
+    (agent-there g.S.Store.tells g.S.Store.opened c.args.pass.now c.args.notes.now g.S.Chronicle.owner g.met.S.Store.owned c.requires.agent
+    (g.S.Store.opened (g.S.Chronicle.opening c.enter-turn.result.value)) (ap g.S.Store.opened (c.enter-turn.ensures.opening ∙ ap (λ h. h.opening) (sym c.requires.own)))
+    (g.S.Chronicle.entries c.enter-turn.result.value) c.enter-turn.ensures.grows c.legal.ensures)
 
 pub act-acted-requires : goal.act-acted-requires
 act-acted-requires g c = record {

@@ -5,7 +5,7 @@ use Rattle.opfs_base.specs.Texts.{Text}
 use Rattle.opfs_machine.specs.Histories.{state_after}
 use Rattle.opfs_openings.specs.Openings.{fixed_by}
 use Rattle.opfs_desk_parts.specs.Seen.{machine_in}
-use Rattle.opfs_desk.proofs.Tags.{is-there, is-stuck, is-neither}
+use Rattle.opfs_desk.proofs.Tags.{agent-there, is-there, is-stuck, is-neither}
 use Rattle.opfs_desk.proofs.desk.Desk.await_state.Goals as goal
 
 pub returns-then-is_posted : goal.returns-then-is_posted
@@ -31,3 +31,15 @@ returns-else-others_stuck g c =
     rw (← c.self.view_is)
     (subst (λ (x : Text). await.Neither ≡ awaited (state_after f.opening l.books.history) c.args.agent x) c.as_bytes.ensures.value
     (sym (is-neither c.lengths_decide_each_ruling.ensures (state_after f.opening l.books.history) (machine_in l) c.args.agent c.as_bytes.result.now c.self.invariant.are.books.machine (sym c.if-is_posted.ensures) (sym c.if-others_stuck.ensures))))
+
+pub is_posted-requires : goal.is_posted-requires
+is_posted-requires g c =
+    let f = fixed_by g.D.Disk c.self.inside.from.value c.self.inside.agents.value.items in
+    let l = c.self.inside.parts.ledger in
+    agent-there (state_after f.opening l.books.history) (machine_in l) c.args.agent c.self.invariant.are.books.machine (rw (c.self.view_is) at c.requires)
+
+pub others_stuck-requires : goal.others_stuck-requires
+others_stuck-requires g c =
+    let f = fixed_by g.D.Disk c.self.inside.from.value c.self.inside.agents.value.items in
+    let l = c.self.inside.parts.ledger in
+    agent-there (state_after f.opening l.books.history) (machine_in l) c.args.agent c.self.invariant.are.books.machine (rw (c.self.view_is) at c.requires)

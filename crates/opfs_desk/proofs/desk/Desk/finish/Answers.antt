@@ -1,9 +1,10 @@
-use Rattle.std.proofs.Common.{[]}
+use Rattle.std.proofs.Common.{ℕ, ◌≤◌, [], sym, subst}
 use Rattle.opfs_machine.specs.Histories.{state_after}
 use Rattle.opfs_openings.specs.Openings.{fixed_by}
 use Rattle.opfs_desk_parts.specs.declared.parts.Ledger.{Ledger}
 use Rattle.opfs_desk.specs.Seen.{DeskSeen, entries_of}
-use Rattle.opfs_desk.proofs.Shown.{stands-whole, shows-ending}
+use Rattle.opfs_desk.proofs.Apart.{told-apart}
+use Rattle.opfs_desk.proofs.Shown.{is-legal, stands-whole, shows-ending, ends-trail, counts-all}
 use Rattle.opfs_desk.proofs.desk.Desk.finish.Goals as goal
 use Rattle.opfs_desk.proofs.desk.Desk.finish.Goals.{in-Ok, in-Err}
 
@@ -31,3 +32,30 @@ returns-clause-shown g c =
     let are = c.self.invariant.are in
     let done = c.finish.ensures.books d.fixed recorded (state_after d.fixed.opening (entries_of d)) [] are.books in
     rw (← c.self.view_is) (shows-ending g.D.Disk d recorded are new c.give_back.result c.give_back.ensures.disk done)
+
+pub returns-clause-apart : goal.returns-clause-apart
+returns-clause-apart g c =
+    let d : DeskSeen g.row.D.Denot = record { fixed = fixed_by g.D.Disk c.self.inside.from.value c.self.inside.agents.value.items; parts = c.self.inside.parts } in
+    let are = c.self.invariant.are in
+    rw (← c.self.view_is, c.end.ensures.history, c.finish.ensures.history)
+    (told-apart g.D.Disk.tells d.fixed.opening (entries_of d) are.books.whole are.tied.keys c.each_party_runs_alone.ensures (is-legal g.D.Disk d c.self.invariant.recorded are))
+
+pub returns-clause-trail : goal.returns-clause-trail
+returns-clause-trail g c =
+    let d : DeskSeen g.row.D.Denot = record { fixed = fixed_by g.D.Disk c.self.inside.from.value c.self.inside.agents.value.items; parts = c.self.inside.parts } in
+    let l = c.self.inside.parts.ledger in
+    let new : Ledger g.row.D.Denot = record { journal = c.finish.new.journal; books = c.finish.new.self; freed = l.freed; alloc = l.alloc } in
+    let recorded = c.self.invariant.recorded in
+    let are = c.self.invariant.are in
+    let done = c.finish.ensures.books d.fixed recorded (state_after d.fixed.opening (entries_of d)) [] are.books in
+    rw (← c.self.view_is) (ends-trail g.D.Disk d recorded are new c.give_back.result c.give_back.ensures.disk done c.finish.ensures.history)
+
+pub returns-clause-counts : goal.returns-clause-counts
+returns-clause-counts g c =
+    let d : DeskSeen g.row.D.Denot = record { fixed = fixed_by g.D.Disk c.self.inside.from.value c.self.inside.agents.value.items; parts = c.self.inside.parts } in
+    let l = c.self.inside.parts.ledger in
+    let new : Ledger g.row.D.Denot = record { journal = c.finish.new.journal; books = c.finish.new.self; freed = l.freed; alloc = l.alloc } in
+    let recorded = c.self.invariant.recorded in
+    let are = c.self.invariant.are in
+    let done = c.finish.ensures.books d.fixed recorded (state_after d.fixed.opening (entries_of d)) [] are.books in
+    rw (← c.self.view_is) (counts-all g.D.Disk d recorded are new c.give_back.result c.give_back.ensures.disk done c.finish.ensures.history)
