@@ -3,10 +3,12 @@ use Rattle.std.proofs.Common.{◌≡◌, ℕ, zero, suc, true, ◌&&◌, List, [
 use Rattle.std.specs.Ordering.{is_lt}
 use Rattle.std.specs.Prelude.{IsTrue, slice_get, unwrap_or}
 use Rattle.std.specs.FinMap.Entries.{is_sorted, below_all}
+use Rattle.std.proofs.lemmas.Bool.{and_parts}
 use Rattle.std.proofs.lemmas.List.Elements.{All-cons, All-nil}
 use Rattle.opfs_base.specs.Keys.{is_origin}
 use Rattle.opfs_base.specs.Places.{Place, place_cmp}
 use Rattle.opfs_base.specs.Texts.{Text}
+use Rattle.opfs_codec.specs.Spelling.{is_key_text}
 use Rattle.opfs_desk.specs.Apart.{IsToldApart}
 use Rattle.opfs_desk_parts.specs.Held.{HaveOwnKeys}
 use Rattle.opfs_hist.specs.declared.entry.Entry.{Entry}
@@ -35,7 +37,7 @@ origin-keys (w ∷ agents) h = All-cons (λ who. IsTrue (has_origin_key who.key)
 in-order : (o : Opening) → IsWholeOpening o → HaveOwnKeys o → IsInOrder o
 in-order o whole keys = record {
   rows = order-begun-back;
-  keys = origin-keys o.agents (λ i key is. keys (suc i) key is);
+  keys = origin-keys o.agents (λ i key is. (and_parts (is_key_text key) (is_origin key) (keys (suc i) key is).1).1);
 }
   where
     order-begun-back : IsTrue (is_sorted place_cmp o.stored.rows)

@@ -29,7 +29,7 @@ fn make_freed(alloc: Global, count: u32) -> Result<Vec<Extent>, AllocError>
 }
 
 impl<D: Disk> Desk<D> {
-    /// A desk over a recovered image, with agents whose keys are those of origins and name no bucket. Its history is empty. Where
+    /// A desk over a recovered image, with agents whose keys are texts of origins and name no bucket. Its history is empty. Where
     /// there is no memory it gives the disk back, which it has not called.
     pub fn make(alloc: Global, from: Recovered<D>, agents: Vec<Who>) -> Result<Desk<D>, D>
         requires few { length agents.items ≤ 64 }

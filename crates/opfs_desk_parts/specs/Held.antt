@@ -1,9 +1,9 @@
 -- What is kept of the parts of the shared store. This project's own.
 use Rattle.std.specs.Prelude.{◌≡◌, ℕ, ◌≤◌, true, List, [], length, None, Some}
 use Rattle.std.specs.Vec.{vec_capacity}
-use Rattle.opfs_base.specs.Keys.{is_origin}
 use Rattle.opfs_base.specs.Texts.{Text}
 use Rattle.opfs_book_laws.specs.Books.{Fixed, AreBooksAt}
+use Rattle.opfs_codec.specs.Spelling.{IsText, is_origin_text}
 use Rattle.opfs_data.specs.Rows.{kept_count}
 use Rattle.opfs_desk_laws.specs.Laid.{AreLaid}
 use Rattle.opfs_image.specs.Superblock.{data_base, image_size, is_in_range}
@@ -20,9 +20,9 @@ use Rattle.opfs_desk_parts.specs.declared.parts.Ledger.{Ledger}
 use Rattle.opfs_desk_parts.specs.declared.parts.Pages.{Pages}
 use Rattle.opfs_desk_parts.specs.declared.parts.Parts.{Parts}
 
--- Each agent's key, if it has one, is that of an origin, and names no bucket.
+-- Each agent's key, if it has one, is an origin's text of 1 to 255 bytes, and names no bucket.
 abbrev pub HaveOwnKeys : Opening → Type 0
-HaveOwnKeys o = (k : ℕ) (key : Text) → key_of o k ≡ Some key → is_origin key ≡ true
+HaveOwnKeys o = (k : ℕ) (key : Text) → key_of o k ≡ Some key → IsText is_origin_text key
 
 -- What ties the parts. The sizes are the image's, the data part lies where the geometry says, within the disk; there is room
 -- for all extents that a call may let go; of 64 agents at most each key is an origin's; and pages are kept in memory only once

@@ -1,6 +1,7 @@
 -- The legal history behind one that is held, and what it says of the state.
 use Rattle.std.proofs.Common.{◌≡◌, ℕ, true, List, [], length, Some, Ok, refl, sym, ap, subst, ◌∙◌, arith}
 use Rattle.std.specs.Prelude.{IsTrue}
+use Rattle.std.proofs.lemmas.Bool.{and_parts}
 use Rattle.std.proofs.lemmas.List.{length-map}
 use Rattle.opfs_base.specs.Keys.{is_origin}
 use Rattle.opfs_base.specs.Texts.{Text}
@@ -8,6 +9,7 @@ use Rattle.opfs_base.specs.Units.{origin_of, unit_of}
 use Rattle.opfs_base.proofs.UnitLemmas.{origin_of-unit_of, origin_of-plain, plain-from_is_origin}
 use Rattle.opfs_book_laws.specs.Books.{IsToldAt}
 use Rattle.opfs_book_laws.proofs.Told.{told-whole}
+use Rattle.opfs_codec.specs.Spelling.{is_key_text}
 use Rattle.opfs_hist.specs.declared.entry.Entry.{Entry}
 use Rattle.opfs_hist.specs.declared.op.Op.{Op}
 use Rattle.opfs_histories.specs.Unread.{IsTold, ReadsLeaveTheState}
@@ -57,7 +59,7 @@ module _ (tells : Type 0) (o : Opening) (h : List Entry) (reads : ReadsLeaveTheS
     key-now k = ap (λ (s : State Text Own). (agent_of s k).key) real-state ∙ counts.keys o real k real-legal
 
     origin-now : (k : ℕ) (key : Text) → (agent_of (state_after o h) k).key ≡ Some key → is_origin key ≡ true
-    origin-now k key is = keys k key (sym (key-now k) ∙ is)
+    origin-now k key is = (and_parts (is_key_text key) (is_origin key) (keys k key (sym (key-now k) ∙ is)).1).1
 
     pub own-buckets : (k : ℕ) → HasOwnBuckets (state_after o h) k
     own-buckets k origin bucket is =
