@@ -12,7 +12,7 @@ use Rattle.opfs_lengths.proofs.Readers.{agent-on}
 use Rattle.opfs_machine.specs.Contents.{outline_of}
 use Rattle.opfs_machine.specs.declared.own.Own.{Own}
 use Rattle.opfs_machine.specs.declared.state.State.{State}
-use Rattle.opfs_machine.specs.Agents.{agent_of, is_posted, others_stuck, party_of, party_with}
+use Rattle.opfs_machine.specs.Agents.{is_posted, others_stuck, party_of, party_with}
 use Rattle.opfs_space.specs.Room.{Machine}
 use Rattle.opfs_verdicts.specs.Callers.{IsAgent}
 

@@ -1,5 +1,5 @@
 -- What the end of a run leaves. This project's own.
-use Rattle.std.specs.Prelude.{◌++◌, ⊥}
+use Rattle.std.specs.Prelude.{◌++◌}
 use Rattle.opfs_book_laws.specs.Laws.{told, doubt}
 use Rattle.opfs_commit.specs.Shown.{ShowsSince}
 use Rattle.opfs_commit.specs.Trail.{IsTrail}

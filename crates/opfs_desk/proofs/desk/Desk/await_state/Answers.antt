@@ -36,10 +36,10 @@ pub is_posted-requires : goal.is_posted-requires
 is_posted-requires g c =
     let f = fixed_by g.D.Disk c.self.inside.from.value c.self.inside.agents.value.items in
     let l = c.self.inside.parts.ledger in
-    agent-there (state_after f.opening l.books.history) (machine_in l) c.args.agent c.self.invariant.are.books.machine (rw (c.self.view_is) at c.requires)
+    agent-there (state_after f.opening l.books.history) (machine_in l) c.args.agent c.self.invariant.are.books.machine (rw (← c.self.view_is) at c.requires)
 
 pub others_stuck-requires : goal.others_stuck-requires
 others_stuck-requires g c =
     let f = fixed_by g.D.Disk c.self.inside.from.value c.self.inside.agents.value.items in
     let l = c.self.inside.parts.ledger in
-    agent-there (state_after f.opening l.books.history) (machine_in l) c.args.agent c.self.invariant.are.books.machine (rw (c.self.view_is) at c.requires)
+    agent-there (state_after f.opening l.books.history) (machine_in l) c.args.agent c.self.invariant.are.books.machine (rw (← c.self.view_is) at c.requires)

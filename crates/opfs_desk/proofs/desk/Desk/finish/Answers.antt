@@ -1,4 +1,4 @@
-use Rattle.std.proofs.Common.{ℕ, ◌≤◌, [], sym, subst}
+use Rattle.std.proofs.Common.{[]}
 use Rattle.opfs_machine.specs.Histories.{state_after}
 use Rattle.opfs_openings.specs.Openings.{fixed_by}
 use Rattle.opfs_desk_parts.specs.declared.parts.Ledger.{Ledger}
@@ -37,7 +37,7 @@ pub returns-clause-apart : goal.returns-clause-apart
 returns-clause-apart g c =
     let d : DeskSeen g.row.D.Denot = record { fixed = fixed_by g.D.Disk c.self.inside.from.value c.self.inside.agents.value.items; parts = c.self.inside.parts } in
     let are = c.self.invariant.are in
-    rw (← c.self.view_is, c.end.ensures.history, c.finish.ensures.history)
+    rw (← c.self.view_is, c.end-history.ensures.history, c.finish.ensures.history)
     (told-apart g.D.Disk.tells d.fixed.opening (entries_of d) are.books.whole are.tied.keys c.each_party_runs_alone.ensures (is-legal g.D.Disk d c.self.invariant.recorded are))
 
 pub returns-clause-trail : goal.returns-clause-trail
