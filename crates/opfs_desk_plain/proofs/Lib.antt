@@ -1,3 +1,11 @@
 pub mod Closed
-pub mod Entered
 pub mod Refusing
+pub mod Children
+pub mod Done
+pub mod Flags
+pub mod Nexts
+pub mod Noted
+pub mod Silent
+pub mod TellsOnly
+pub mod Unacted
+pub mod Words

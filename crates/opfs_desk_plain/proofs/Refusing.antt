@@ -1,12 +1,12 @@
 -- A call that the machine refuses: its entry may come, and what it leaves.
-use Rattle.std.proofs.Common.{◌≡◌, ℕ, ◌≤◌, true, false, List, [], ◌∷◌, ◌++◌, fold, length, None, Err, refl, sym, ap, subst, ◌∙◌, inl, append_assoc, arith}
+use Rattle.std.proofs.Common.{◌≡◌, ℕ, ◌≤◌, false, List, [], ◌∷◌, ◌++◌, length, None, Err, refl, sym, ap, subst, ◌∙◌, inl, append_assoc, arith}
 use Rattle.std.specs.Prelude.{IsTrue, count_by, ◌==◌}
 use Rattle.std.proofs.lemmas.Bool.{false≢true, true≢false}
 use Rattle.opfs_acts.specs.Acting.{gift_of, told_entry, unread_gift}
 use Rattle.opfs_acts.specs.declared.acted.Acted.{Acted}
 use Rattle.opfs_acts.specs.declared.acted.Gift.TheVariants as gift
 use Rattle.opfs_base.specs.Texts.{Text}
-use Rattle.opfs_book_laws.specs.Books.{Fixed, IsNext, IsPlaced}
+use Rattle.opfs_book_laws.specs.Books.{Fixed, IsNext}
 use Rattle.opfs_book_laws.specs.Laws.{BooksShowTheirImages, told}
 use Rattle.opfs_book_laws.proofs.Told.{next-state, next-reply}
 use Rattle.opfs_hist.specs.declared.entry.Entry.{Entry}
@@ -40,7 +40,7 @@ use Rattle.opfs_desk_parts.specs.declared.parts.Pages.{Pages}
 use Rattle.opfs_desk_ways.specs.Refusing.{IsRefused, MayRefuse}
 use Rattle.opfs_desk_ways.specs.Taking.{MayTakeInto}
 use Rattle.opfs_desk_ways.proofs.Ways.{way-here}
-use Rattle.opfs_desk_steps.specs.Acting.{HasTaken, CallsAreActed}
+use Rattle.opfs_desk_steps.specs.Acting.{CallsAreActed}
 use Rattle.opfs_desk_steps.proofs.Counts.{calls-less, pending-entries, live-before, own-length, pending-rows}
 use Rattle.opfs_desk_steps.proofs.Ready.{agent-of, last-of}
 use Rattle.opfs_desk_plain.specs.Refused.{IsRefusedCall}

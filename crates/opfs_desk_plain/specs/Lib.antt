@@ -1,1 +1,4 @@
 pub mod Refused
+pub mod Next
+pub mod Silent
+pub mod Telling

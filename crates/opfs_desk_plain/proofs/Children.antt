@@ -1,0 +1,145 @@
+-- The children of a directory, by the rows of the tree and by the machine's.
+use Rattle.std.proofs.Common.{◌≡◌, Bool, true, false, not, cond, List, [], ◌∷◌, ◌++◌, Option, Some, None, option_map, refl, sym, ap, ◌∙◌, inl, inr}
+use Rattle.std.proofs.lemmas.Bool.{cases_Bool, true≢false}
+use Rattle.std.specs.Ordering.{eq_by_cmp}
+use Rattle.std.specs.FinMap.Entries.{find as find_row}
+use Rattle.std.specs.List.{cons_option, filter_map, list_any}
+use Rattle.opfs_base.specs.Places.{Place, child, child_name, only_name, place_cmp, rest_below}
+use Rattle.opfs_base.specs.Texts.{Text, same_text}
+use Rattle.opfs_base.specs.declared.locator.Kind.{Kind}
+use Rattle.opfs_laws.proofs.Spots.{place_apart, place_itself}
+use Rattle.opfs_machine.specs.Contents.{next_of}
+use Rattle.opfs_standing.specs.Seen.{lines_of}
+use Rattle.opfs_standing.proofs.Units.{same_unit, unit_itself}
+use Rattle.opfs_tree.specs.Rows.{Rows as Tree, children_of, kind_of, least_not_in}
+use Rattle.opfs_tree.specs.declared.row.Row.{Row}
+
+-- ---- a child's name and place
+
+rest-child : (path : List Text) (name : Text) → rest_below path (path ++ name ∷ []) ≡ Some (name ∷ [])
+rest-child [] name = refl
+rest-child (a ∷ path) name = ap (λ b. elim b as (λ y. Option (List Text)) [ true ↦ rest_below path (path ++ name ∷ []) | false ↦ None ]) (unit_itself a a refl) ∙ rest-child path name
+
+child-named : (dir : Place) (name : Text) → child_name dir (child dir name) ≡ Some name
+child-named dir name =
+    ap (λ b. elim b as (λ y. Option Text) [ true ↦ only_name (rest_below dir.1 (dir.1 ++ name ∷ [])) | false ↦ None ]) (unit_itself dir.0 dir.0 refl)
+    ∙ ap only_name (rest-child dir.1 name)
+
+only-path : (names : List Text) (name : Text) → only_name (Some names) ≡ Some name → names ≡ name ∷ []
+only-path [] name is = cc
+only-path (a ∷ []) name is = cc
+only-path (a ∷ b ∷ names) name is = cc
+
+rest-is : (path names : List Text) (name : Text) → only_name (rest_below path names) ≡ Some name → names ≡ path ++ name ∷ []
+rest-is [] names name is = only-path names name is
+rest-is (a ∷ path) [] name is = cc
+rest-is (a ∷ path) (b ∷ names) name is = elim (cases_Bool (same_text a b)) [
+  | inl same ↦
+      let rest = rest-is path names name (sym (ap (λ t. only_name (elim t as (λ y. Option (List Text)) [ true ↦ rest_below path names | false ↦ None ])) same) ∙ is) in
+      ap (λ (x : Text). x ∷ names) (sym (same_unit a b same)) ∙ ap (λ (xs : List Text). a ∷ xs) rest
+  | inr other ↦ absurd (none-some (sym (ap (λ t. only_name (elim t as (λ y. Option (List Text)) [ true ↦ rest_below path names | false ↦ None ])) other) ∙ is))
+]
+  where
+    none-some : ◌≡◌ {A = Option Text} None (Some name) → ⊥
+    none-some h = cc
+
+pair-is : (a b : Place) → a.0 ≡ b.0 → a.1 ≡ b.1 → a ≡ b
+pair-is (x, xs) (y, ys) first second = ap (λ (z : Text). (z, xs)) first ∙ ap (λ (zs : List Text). (y, zs)) second
+
+child-is : (dir place : Place) (name : Text) → child_name dir place ≡ Some name → place ≡ child dir name
+child-is dir place name is = elim (cases_Bool (same_text dir.0 place.0)) [
+  | inl same ↦
+      pair-is place (child dir name) (sym (same_unit dir.0 place.0 same))
+      (rest-is dir.1 place.1 name (sym (ap (λ t. elim t as (λ y. Option Text) [ true ↦ only_name (rest_below dir.1 place.1) | false ↦ None ]) same) ∙ is))
+  | inr other ↦ absurd (none-some (sym (ap (λ t. elim t as (λ y. Option Text) [ true ↦ only_name (rest_below dir.1 place.1) | false ↦ None ]) other) ∙ is))
+]
+  where
+    none-some : ◌≡◌ {A = Option Text} None (Some name) → ⊥
+    none-some h = cc
+
+-- ---- the least child that was not given
+
+abbrev is_new : List Text → Text → Bool
+is_new past name = not (list_any (same_text name) past)
+
+-- Its name is the machine's.
+abbrev names_on : List Text → Place → Tree → Kind → Option Text → Type 0
+names_on past dir rows k o =
+    next_of past (cons_option o (filter_map (λ e. child_name dir e.0) (lines_of rows)))
+    ≡ option_map (λ (c : Text × Kind). c.0) (least_not_in past (cons_option (option_map (λ name. (name, k)) o) (children_of dir rows)))
+
+abbrev names_by : List Text → Place → Tree → Kind → Text → Bool → Type 0
+names_by past dir rows k name b =
+    cond b (Some name) (next_of past (filter_map (λ e. child_name dir e.0) (lines_of rows)))
+    ≡ option_map (λ (c : Text × Kind). c.0) (cond b (Some (name, k)) (least_not_in past (children_of dir rows)))
+
+pub least-name : (past : List Text) (dir : Place) (rows : Tree) → next_of past (filter_map (λ e. child_name dir e.0) (lines_of rows)) ≡ option_map (λ (c : Text × Kind). c.0) (least_not_in past (children_of dir rows))
+least-name past dir [] = refl
+least-name past dir (e ∷ rows) =
+    elim (child_name dir e.0) as (names_on past dir rows (kind_of e.1)) [
+      | None ↦ least-name past dir rows
+      | Some name ↦ elim (is_new past name) as (names_by past dir rows (kind_of e.1) name) [ true ↦ refl | false ↦ least-name past dir rows ]
+    ]
+
+-- It is new.
+pub least-new : (past : List Text) (children : List (Text × Kind)) (c : Text × Kind) → least_not_in past children ≡ Some c → is_new past c.0 ≡ true
+least-new past [] c is = cc
+least-new past (x ∷ children) c is = elim (cases_Bool (is_new past x.0)) [
+  | inl new ↦ let same : x ≡ c = some-is (sym (ap (λ b. cond b (Some x) (least_not_in past children)) new) ∙ is) in ap (λ (y : Text × Kind). is_new past y.0) (sym same) ∙ new
+  | inr old ↦ least-new past children c (sym (ap (λ b. cond b (Some x) (least_not_in past children)) old) ∙ is)
+]
+  where
+    some-is : ◌≡◌ {A = Option (Text × Kind)} (Some x) (Some c) → x ≡ c
+    some-is h = cc
+
+-- Its kind is that of its row.
+abbrev pub KindAt : Place → Tree → Text × Kind → Type 0
+KindAt dir rows c = option_map kind_of (find_row place_cmp (child dir c.0) rows) ≡ Some c.1
+
+passed : (dir : Place) (e : Place × Row) (rows : Tree) (c : Text × Kind) → eq_by_cmp place_cmp (child dir c.0) e.0 ≡ false → KindAt dir rows c → KindAt dir (e ∷ rows) c
+passed dir e rows c other rest = ap (λ b. option_map kind_of (cond b (Some e.1) (find_row place_cmp (child dir c.0) rows))) other ∙ rest
+
+here : (dir : Place) (e : Place × Row) (rows : Tree) (c : Text × Kind) → eq_by_cmp place_cmp (child dir c.0) e.0 ≡ true → kind_of e.1 ≡ c.1 → KindAt dir (e ∷ rows) c
+here dir e rows c same is = ap (λ b. option_map kind_of (cond b (Some e.1) (find_row place_cmp (child dir c.0) rows))) same ∙ ap Some is
+
+some-text : (a b : Text) → ◌≡◌ {A = Option Text} (Some a) (Some b) → a ≡ b
+some-text a b is = cc
+
+some-child : (a b : Text × Kind) → ◌≡◌ {A = Option (Text × Kind)} (Some a) (Some b) → a ≡ b
+some-child a b is = cc
+
+none-name : (a : Text) → ◌≡◌ {A = Option Text} None (Some a) → ⊥
+none-name a is = cc
+
+-- A row that is not the child's is passed.
+apart : (dir place : Place) (name : Text) → (child_name dir place ≡ Some name → ⊥) → eq_by_cmp place_cmp (child dir name) place ≡ false
+apart dir place name never = place_apart (child dir name) place (λ same. never (ap (child_name dir) (sym same) ∙ child-named dir name))
+
+-- The first row is its own, or the child's is among the others.
+abbrev pub Goes : List Text → Place → Tree → Text × Kind → Type 0
+Goes past dir rows c = least_not_in past (children_of dir rows) ≡ Some c → KindAt dir rows c
+
+kind-given : (past : List Text) (dir : Place) (e : Place × Row) (rows : Tree) (c : Text × Kind) (name : Text) → Goes past dir rows c → child_name dir e.0 ≡ Some name → least_not_in past ((name, kind_of e.1) ∷ children_of dir rows) ≡ Some c
+    → KindAt dir (e ∷ rows) c
+kind-given past dir e rows c name goes named found = elim (cases_Bool (is_new past name)) [
+  | inl new ↦
+      let same = some-child (name, kind_of e.1) c (sym (ap (λ b. cond b (Some (name, kind_of e.1)) (least_not_in past (children_of dir rows))) new) ∙ found) in
+      here dir e rows c (ap (λ (x : Place). eq_by_cmp place_cmp (child dir c.0) x) (child-is dir e.0 name named ∙ ap (λ (y : Text × Kind). child dir y.0) same) ∙ place_itself (child dir c.0)) (ap (λ (y : Text × Kind). y.1) same)
+  | inr old ↦
+      let rest = sym (ap (λ b. cond b (Some (name, kind_of e.1)) (least_not_in past (children_of dir rows))) old) ∙ found in
+      let never : child_name dir e.0 ≡ Some c.0 → ⊥ =
+      λ again. true≢false (sym (least-new past (children_of dir rows) c rest) ∙ (ap (is_new past) (some-text c.0 name (sym again ∙ named)) ∙ old)) in
+      passed dir e rows c (apart dir e.0 c.0 never) (goes rest)
+]
+
+kind-by : (past : List Text) (dir : Place) (e : Place × Row) (rows : Tree) (c : Text × Kind) (o : Option Text) → Goes past dir rows c → child_name dir e.0 ≡ o
+    → least_not_in past (cons_option (option_map (λ name. (name, kind_of e.1)) o) (children_of dir rows)) ≡ Some c → KindAt dir (e ∷ rows) c
+kind-by past dir e rows c None goes none found = passed dir e rows c (apart dir e.0 c.0 (λ named. none-name c.0 (sym none ∙ named))) (goes found)
+kind-by past dir e rows c (Some name) goes named found = kind-given past dir e rows c name goes named found
+
+pub least-kind : (past : List Text) (dir : Place) (rows : Tree) (c : Text × Kind) → Goes past dir rows c
+least-kind past dir [] c is = absurd (none is)
+  where
+    none : ◌≡◌ {A = Option (Text × Kind)} None (Some c) → ⊥
+    none x = cc
+least-kind past dir (e ∷ rows) c is = kind-by past dir e rows c (child_name dir e.0) (least-kind past dir rows c) refl is
