@@ -1,0 +1,9 @@
+pub mod Words
+pub mod Free
+pub mod Spelled
+pub mod Fewer
+pub mod Changed
+pub mod Shown
+pub mod Kept
+pub mod Entered
+pub mod Ready

@@ -1,0 +1,52 @@
+-- A call's change may be stored, once its entry may come.
+use Rattle.std.proofs.Common.{◌≡◌, ℕ, ◌<◌, ◌^◌, true, Some, None, sym, ap, subst, ◌∙◌}
+use Rattle.std.specs.Str.{is_utf8}
+use Rattle.opfs_book_calls.specs.Spelled.{spelled_by, CanHold}
+use Rattle.opfs_book_laws.specs.Books.{Fixed}
+use Rattle.opfs_books.specs.Seen.{MayStore}
+use Rattle.opfs_codec.specs.Fields.{Fits}
+use Rattle.opfs_codec.specs.Spelling.{IsChange}
+use Rattle.opfs_codec.specs.declared.change.Change.{Change as Spelled}
+use Rattle.opfs_codec.specs.declared.change.Format.TheVariants.{New}
+use Rattle.opfs_codec.proofs.WritingLemmas.{change_fits}
+use Rattle.opfs_commit.specs.Seen.{IsQuiet}
+use Rattle.opfs_hist.specs.declared.entry.Entry.{Entry}
+use Rattle.opfs_machine.specs.declared.state.Sizes.{Sizes}
+use Rattle.opfs_machine.specs.Effects.{moment_of}
+use Rattle.opfs_outside.specs.declared.disk.Disk.{Ghosts as DiskWords}
+use Rattle.opfs_standing.specs.Seen.{lines_of}
+use Rattle.opfs_desk_parts.specs.Answered.{MayAnswer}
+use Rattle.opfs_desk_parts.specs.Seen.{machine_in, tree_in, book_in}
+use Rattle.opfs_desk_parts.specs.declared.parts.Ledger.{Ledger}
+use Rattle.opfs_desk_ways.specs.Entering.{MayStoreCall}
+use Rattle.opfs_desk_kept.specs.Keeping.{keeps_back, entry_name, change_of}
+use Rattle.opfs_desk_kept.specs.Steps.{change_now}
+use Rattle.opfs_desk_kept.proofs.Spelled.{again, spelled-is, quiet-change, can-hold}
+
+module _ {D : Type 0} (w : DiskWords D) (l : Ledger D) (e : Entry) (z : Sizes) (may : MayAnswer w l e z) (keeps : keeps_back (machine_in l) e.op ≡ true) (lines : (machine_in l).rows ≡ lines_of (tree_in l)) (text : is_utf8 (entry_name e.op) ≡ true)
+    (moment : ℕ) (small : moment < 2 ^ 64) (its : moment ≡ moment_of (machine_in l) e.agent) (own : Spelled) (is : own ≡ change_of moment e.op) where
+  pub own-is : own ≡ change_now l e
+  own-is = is ∙ ap (λ n. change_of n e.op) its
+
+  read-again : IsChange New own
+  read-again =
+      let change = may.answered.change.may in
+      subst (IsChange New) (sym is) (again (machine_in l) (tree_in l) lines may.are.books.stored.writable.0 z e.agent e.op change.need moment keeps change.ruled text small)
+
+  pub may-be-stored : (f : Fixed D) → MayStore f (book_in l) own
+  may-be-stored f = record {
+    again = read-again;
+    holds = subst (λ (x : Spelled). CanHold f.geometry.blocks x (book_in l).rows) (sym is) (can-hold f.geometry.blocks moment e.op (book_in l).rows);
+  }
+
+  pub may-store-call : MayStoreCall w l e z own
+  may-store-call = record { answer = may; stores = may-be-stored may.fixed }
+
+  pub spelled-own : spelled_by (machine_in l) (tree_in l) e.agent e.op z None ≡ Some own
+  spelled-own = spelled-is (machine_in l) (tree_in l) e.agent e.op z keeps ∙ ap (λ (x : Spelled). Some x) (sym own-is)
+
+  pub quiet-own : IsQuiet own
+  quiet-own = subst IsQuiet (sym is) (quiet-change moment e.op)
+
+  pub fits-own : Fits own
+  fits-own = change_fits own read-again
