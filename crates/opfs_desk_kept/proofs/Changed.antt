@@ -47,6 +47,7 @@ use Rattle.opfs_desk_kept.proofs.Words.{kept-word, kept-agents, kept-limits}
 
 no-hand : (s : State Text Own) (k : ℕ) (o : Op) → is_of_entry o ≡ true → row_in_hand s k o ≡ 0
 unfolding row_in_hand
+no-hand s k (op.GetDirectory bucket) h = refl
 no-hand s k (op.GetDirectoryHandle dir name create) h = refl
 no-hand s k (op.GetFileHandle dir name create) h = refl
 no-hand s k (op.RemoveEntry dir name recursive) h = refl
@@ -67,9 +68,9 @@ settles-none s k zero e h = no-row s k e
 settles-none s k (suc i) e h = hand-settles s e k (suc i) (λ is. apart-zero i (is.1 ∙ no-hand s e.agent e.op h))
 
 module _ {D : Type 0} (w : DiskWords D) (beside : LaidBeside w.tells) (blocks : BlocksGoOn) (states : BooksKeepTheState w) (f : Fixed D) (recorded : Built) (base : State Text Own) (gone : List Text) (back new : Ledger D) (p : Pages) (e : Entry) (z : Sizes) (own : Spelled)
-    (are : AreHeldAt w f recorded base gone back p) (tidy : IsTidy back) (after : IsInOrder (tree_in new)) (keeps : keeps_back (machine_in back) e.op ≡ true) (changed : HasChanged w f recorded base gone back new p e z own) where
+    (are : AreHeldAt w f recorded base gone back p) (tidy : IsTidy back) (after : IsInOrder (tree_in new)) (keeps : keeps_back (machine_in back) e.agent e.op ≡ true) (changed : HasChanged w f recorded base gone back new p e z own) where
   word : is_of_entry e.op ≡ true
-  word = kept-word (machine_in back) e.op keeps
+  word = kept-word (machine_in back) e.agent e.op keeps
 
   opened : (k n : ℕ) → open_at (machine_in new) k n ≡ open_at (machine_in back) k n
   opened k n =

@@ -1,12 +1,15 @@
 -- The blocks of files where an entry is made or removed: no file has more, and the files of open rows have what they had.
 use Rattle.std.proofs.Common.{◌≡◌, ◌⊎◌, ℕ, Bool, true, false, cond, not, List, [], Option, Some, None, refl, sym, ap, subst, ◌∙◌, inl, inr}
 use Rattle.std.specs.FinMap.Entries.{put}
-use Rattle.std.specs.Prelude.{is_some}
+use Rattle.std.specs.Prelude.{is_some, option_map}
 use Rattle.std.proofs.lemmas.Bool.{false≢true}
 use Rattle.opfs_base.specs.Places.{Place, place_cmp, place_of, child, is_within}
+use Rattle.opfs_base.specs.Texts.{Text}
+use Rattle.opfs_base.specs.Units.{unit_of}
 use Rattle.opfs_base.specs.declared.locator.Kind.{Kind}
 use Rattle.opfs_base.specs.declared.locator.Kind.TheVariants as kind
-use Rattle.opfs_changes.specs.Asking.{made_at, where_free}
+use Rattle.opfs_changes.specs.Asking.{made_at, where_free, root_in}
+use Rattle.opfs_changes.specs.Asking.{free_in as free_of}
 use Rattle.opfs_changes.specs.Changed.{tree_by, grown_by}
 use Rattle.opfs_data.specs.Rows.{Rows}
 use Rattle.opfs_desk_laws.specs.Laws.{BlocksGoOn}
@@ -39,7 +42,7 @@ use Rattle.opfs_standing.specs.Seen.{lines_of}
 use Rattle.opfs_standing.proofs.Lines.{there-at}
 use Rattle.opfs_tree.specs.Rows.{Rows as Tree, IsInOrder, row_at, extents_of, without}
 use Rattle.opfs_desk_ways.proofs.Evictions.{stored-named, recorded-has}
-use Rattle.opfs_desk_kept.specs.Keeping.{keeps_back}
+use Rattle.opfs_desk_kept.specs.Keeping.{makes_root, keeps_back}
 
 -- The rows afterwards name no more blocks, nor has any file more, and the files of open rows keep theirs.
 pub record HasNoMore (m : Machine) (t u : Tree) : Type 0 where
@@ -75,6 +78,15 @@ made-fewer m t place kd stamp free order after =
 -- The row of the tree is free where the machine's is.
 free-in : (m : Machine) (t : Tree) (q : Place) → m.rows ≡ lines_of t → machine_row m q ≡ None → row_at q t ≡ None
 free-in m t q lines none = none-by (row_at q t) (sym (there-at q t) ∙ sym (ap (λ rows. is_some (machine_row (record m { rows = rows }) q)) lines) ∙ ap is_some none)
+
+root-fewer : (m : Machine) (t : Tree) (bucket : Text) (stamp : ℕ) (key : Option Text) → makes_root m bucket key ≡ true → m.rows ≡ lines_of t → IsInOrder t
+    → IsInOrder (grown_by t stamp (free_of m (root_in (option_map (λ origin. unit_of origin bucket) key)))) → HasNoMore m t (grown_by t stamp (free_of m (root_in (option_map (λ origin. unit_of origin bucket) key))))
+root-fewer m t bucket stamp None h lines order after = absurd (false≢true h)
+root-fewer m t bucket stamp (Some origin) h lines order after =
+    let place : Place = (unit_of origin bucket, []) in
+    let none = none-of (machine_row m place) h in
+    subst (λ (x : Option (Line ℕ)). IsInOrder (grown_by t stamp (where_free x (place, kind.Directory))) → HasNoMore m t (grown_by t stamp (where_free x (place, kind.Directory)))) (sym none)
+    (λ later. made-fewer m t place kind.Directory stamp (free-in m t place lines none) order later) after
 
 -- ---- an entry is removed
 
@@ -118,9 +130,10 @@ module _ (m : Machine) (j : ℕ) (place : Place) (kept : Kept (counted (machine_
 
 -- ---- both, by the call's word
 
-pub fewer-by : (m new : Machine) (t : Tree) (k : ℕ) (z : Sizes) (o : Op) → keeps_back m o ≡ true → m.rows ≡ lines_of t → IsInOrder t → IsInOrder (tree_by m t k o z None) → Kept new → new ≡ counted (effect in_lengths m z k o) k
+pub fewer-by : (m new : Machine) (t : Tree) (k : ℕ) (z : Sizes) (o : Op) → keeps_back m k o ≡ true → m.rows ≡ lines_of t → IsInOrder t → IsInOrder (tree_by m t k o z None) → Kept new → new ≡ counted (effect in_lengths m z k o) k
     → HasNoMore m t (tree_by m t k o z None)
 unfolding tree_by made_at effect
+fewer-by m new t k z (op.GetDirectory bucket) h lines order after kept is = root-fewer m t bucket (moment_of m k) (agent_of m k).key h lines order after
 fewer-by m new t k z (op.GetDirectoryHandle dir name create) h lines order after kept is =
     let place = child (place_of dir) name in
     let none = none-of (machine_row m place) h in

@@ -70,7 +70,7 @@ module _ {D : Type 0} (w : DiskWords D) (asks : AskedCallsAreReady w) (answers :
   entry = told_entry (call_in c) reply.Done
 
   pub word : is_of_entry c.op ≡ true
-  word = kept-word (machine_in l) c.op begins.keeps
+  word = kept-word (machine_in l) c.agent c.op begins.keeps
 
   pub ready : IsReadyCall base mid c
   ready = asks.ready f recorded l mid p calls c work [] begins.held begins.asked took.taken.entries took.held took.prepared
@@ -107,10 +107,10 @@ module _ {D : Type 0} (w : DiskWords D) (asks : AskedCallsAreReady w) (answers :
         (sized (machine_in back) c.sizes c.agent c.op word)
 
     -- The call still changes something.
-    pub keeps-now : (machine_in back).rows ≡ lines_of (tree_in back) → keeps_back (machine_in back) c.op ≡ true
+    pub keeps-now : (machine_in back).rows ≡ lines_of (tree_in back) → keeps_back (machine_in back) c.agent c.op ≡ true
     keeps-now lines =
-        keeps-still (machine_in l) (machine_in back) (tree_in l) units c.op begins.lines
-        (lines ∙ ap lines_of (way.tree ∙ ap (λ (t : Tree). fold cleared_from t units) took.tree)) begins.keeps
+        keeps-still (machine_in l) (machine_in back) (tree_in l) units c.agent c.op begins.lines
+        (lines ∙ ap lines_of (way.tree ∙ ap (λ (t : Tree). fold cleared_from t units) took.tree)) (begins.keyed ∙ sym way.keyed) begins.keeps
 
     module _ (tidy : IsTidy back) (states : BooksKeepTheState w) (spells : CallsAreSpelled) (fails : CallsMayFail w.tells) (falls : Falls w) (acts : CallsAreActed w) (new : Ledger D) where
       spelled : spelled_by (machine_in back) (tree_in back) c.agent c.op c.sizes None ≡ Some (change_now back entry)

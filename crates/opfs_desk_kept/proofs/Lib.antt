@@ -7,3 +7,4 @@ pub mod Shown
 pub mod Kept
 pub mod Entered
 pub mod Ready
+pub mod Keys

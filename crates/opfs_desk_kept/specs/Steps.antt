@@ -6,6 +6,8 @@ use Rattle.opfs_book_laws.specs.Books.{Fixed}
 use Rattle.opfs_codec.specs.declared.change.Change.{Change as Spelled}
 use Rattle.opfs_hist.specs.declared.entry.Entry.{Entry}
 use Rattle.opfs_hist.specs.declared.reply.Reply.TheVariants as reply
+use Rattle.opfs_laws.specs.Counting.{key_of}
+use Rattle.opfs_machine.specs.Agents.{agent_of}
 use Rattle.opfs_machine.specs.Effects.{moment_of}
 use Rattle.opfs_machine.specs.Runs.{eviction}
 use Rattle.opfs_outside.specs.declared.disk.Disk.{Ghosts as DiskWords}
@@ -24,7 +26,7 @@ use Rattle.opfs_desk_parts.specs.declared.parts.Ledger.{Ledger}
 use Rattle.opfs_desk_parts.specs.declared.parts.Pages.{Pages}
 use Rattle.opfs_desk_steps.specs.Acting.{HasTaken}
 use Rattle.opfs_desk_ways.specs.Clearing.{cleared_from}
-use Rattle.opfs_desk_kept.specs.Keeping.{keeps_back, change_of}
+use Rattle.opfs_desk_kept.specs.Keeping.{keeps_back, entry_place, change_of}
 
 -- The machine has the rows of the tree, which are in order.
 pub record IsTidy {D : Type 0} (l : Ledger D) : Type 0 where
@@ -35,8 +37,9 @@ pub record IsTidy {D : Type 0} (l : Ledger D) : Type 0 where
 pub record BeginsKeeping {D : Type 0} (w : DiskWords D) (f : Fixed D) (recorded : Built) (l : Ledger D) (p : Pages) (calls : List Entry) (c : InHand) (work : WorkingCopy) : Type 0 where
   pub held : AreHeldWhole w f recorded l p
   pub asked : IsAsked w.tells f.opening l.books.history calls l.books.state c work []
-  pub keeps : keeps_back (machine_in l) c.op ≡ true
+  pub keeps : keeps_back (machine_in l) c.agent c.op ≡ true
   pub lines : (machine_in l).rows ≡ lines_of (tree_in l)
+  pub keyed : (agent_of (machine_in l) c.agent).key ≡ key_of f.opening c.agent
 
 -- Its agent's pending calls were taken in.
 pub record HasTakenIn {D : Type 0} (w : DiskWords D) (f : Fixed D) (recorded : Built) (l mid : Ledger D) (p : Pages) (calls : List Entry) (c : InHand) : Type 0 where
@@ -52,10 +55,11 @@ pub record HasMadeWay {D : Type 0} (w : DiskWords D) (f : Fixed D) (mid back : L
   pub tree : tree_in back ≡ fold cleared_from (tree_in mid) (units_in c.clearing.items)
   pub cleared : AreCleared w f (units_in c.clearing.items) mid back p
   pub sure : back.journal.in_doubt ≡ false
+  pub keyed : (agent_of (machine_in back) c.agent).key ≡ key_of f.opening c.agent
 
 -- The change that a call makes now.
 abbrev pub change_now : {D : Type 0} → Ledger D → Entry → Spelled
-change_now l e = change_of (moment_of (machine_in l) e.agent) e.op
+change_now l e = change_of (moment_of (machine_in l) e.agent) (entry_place (agent_of (machine_in l) e.agent).key e.op) e.op
 
 -- What it answers, with as many rows as its agent has.
 abbrev pub kept_act : ℕ → Acted

@@ -14,6 +14,8 @@ ghost use Rattle.opfs_desk_parts.specs.Seen.{machine_in, call_in};
 ghost use Rattle.opfs_desk_steps.specs.Acting.{CallsAreActed};
 ghost use Rattle.opfs_desk_steps.specs.Answering.{ReadyCallsAreAnswered};
 ghost use Rattle.opfs_desk_steps.specs.Ready.{AskedCallsAreReady};
+ghost use Rattle.opfs_histories.specs.Unread.{ReadsLeaveTheState};
+ghost use Rattle.opfs_laws.specs.Counting.{AStateCountsItsHistory};
 ghost use Rattle.opfs_lengths.specs.Bridge.{LengthsDecideEachRuling};
 ghost use Rattle.opfs_replay.specs.Built.{Built};
 
@@ -27,6 +29,8 @@ use opfs_desk_parts::{InHand, Parts};
 use opfs_desk_steps::{asked_calls_are_ready, calls_are_acted, ready_calls_are_answered};
 use opfs_desk_ways::take_in;
 use opfs_hist::{Pending, Refusal, Reply};
+use opfs_histories::unread::reads_leave_the_state;
+use opfs_laws::counted::a_state_counts_its_history;
 use opfs_lengths::bridge::lengths_decide_each_ruling;
 use opfs_outside::Disk;
 use opfs_work::Work;
@@ -44,6 +48,8 @@ fn keeping_laws<D: Disk>()
     ensures leave { CallsLeaveOtherRows }
     ensures blocks { BlocksGoOn }
     ensures lengths { LengthsDecideEachRuling }
+    ensures reads { ReadsLeaveTheState }
+    ensures counts { AStateCountsItsHistory }
 {
     asked_calls_are_ready::<D>();
     ready_calls_are_answered::<D>();
@@ -55,9 +61,11 @@ fn keeping_laws<D: Disk>()
     calls_leave_other_rows();
     blocks_go_on();
     lengths_decide_each_ruling();
+    reads_leave_the_state();
+    a_state_counts_its_history();
 }
 
-/// Acts a call that makes a directory or a file, or removes an entry. Its change is kept back, and no disk is called for it; the 64th
+/// Acts a call that makes a root, a directory or a file, or removes an entry. Its change is kept back, and no disk is called for it; the 64th
 /// is committed with those that are kept back. A doubt is ended first, and units are cleared for what is made. Where there is no
 /// memory nothing is entered.
 pub fn act_kept<D: Disk>(
@@ -67,7 +75,7 @@ pub fn act_kept<D: Disk>(
     work: &mut Work,
 ) -> Result<Acted, AllocError>
     requires go { MayGo D.Disk parts.old call pending.old work.old [] }
-    requires word { keeps_back (machine_in parts.old.ledger) call.op ≡ true }
+    requires word { keeps_back (machine_in parts.old.ledger) call.agent call.op ≡ true }
     ensures acted { IfOk result (λ acted. (f : Fixed D) (recorded : Built) → AreHeldWhole D.Disk f recorded parts.old.ledger parts.old.pages
         → IsAsked D.tells f.opening parts.old.ledger.books.history pending.old parts.old.ledger.books.state call work.old []
         → HasActed D.Disk f parts.old parts.new pending.old (call_in call) work.old work.new acted) }
@@ -79,7 +87,8 @@ pub fn act_kept<D: Disk>(
     what_is_laid_goes_on::<D>();
     parts.ledger.books.state.lines();
     let agent = call.agent;
-    let Ok(place) = entry_of(parts.ledger.alloc, &call.op) else {
+    let key = parts.ledger.books.state.key(agent);
+    let Ok(place) = entry_of(parts.ledger.alloc, key, &call.op) else {
         return Err(AllocError);
     };
     take_in(&mut parts.ledger, agent, pending);

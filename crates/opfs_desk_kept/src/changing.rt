@@ -6,7 +6,7 @@ ghost use Rattle.opfs_acts.specs.Acting.{told_entry};
 ghost use Rattle.opfs_base.specs.Texts.{Text};
 ghost use Rattle.opfs_book_laws.specs.Books.{Fixed};
 ghost use Rattle.opfs_desk_kept.specs.Changing.{HasChanged, HasNotChanged};
-ghost use Rattle.opfs_desk_kept.specs.Keeping.{keeps_back, entry_name, entry_place};
+ghost use Rattle.opfs_desk_kept.specs.Keeping.{keeps_back, entry_name, entry_place, HasOwnKey};
 ghost use Rattle.opfs_desk_kept.specs.Steps.{IsTidy, change_now};
 ghost use Rattle.opfs_desk_parts.specs.Acted.{AreCleared, HasFailed};
 ghost use Rattle.opfs_desk_parts.specs.Answered.{IsAnswered, MayAnswer};
@@ -17,6 +17,7 @@ ghost use Rattle.opfs_desk_ways.specs.Clearing.{IsJudged, MayMakeWay, cleared_fr
 ghost use Rattle.opfs_hist.specs.declared.reply.Reply.TheVariants as reply;
 ghost use Rattle.opfs_machine.specs.declared.own.Own.{Own};
 ghost use Rattle.opfs_machine.specs.declared.state.State.{State};
+ghost use Rattle.opfs_machine.specs.Agents.{agent_of};
 ghost use Rattle.opfs_machine.specs.Histories.{state_after};
 ghost use Rattle.opfs_machine.specs.Runs.{eviction};
 ghost use Rattle.opfs_replay.specs.Built.{Built};
@@ -83,9 +84,10 @@ pub(crate) fn enter_kept<D: Disk>(
     place: &Place,
 ) -> Result<(), DiskFault>
     requires may { MayAnswer D.Disk ledger.old last.entry sizes }
-    requires word { keeps_back (machine_in ledger.old) last.entry.op ≡ true }
+    requires word { keeps_back (machine_in ledger.old) last.entry.agent last.entry.op ≡ true }
     requires done { last.entry.reply ≡ reply.Done }
-    requires place { place.now ≡ entry_place last.entry.op }
+    requires place { place.now ≡ entry_place (agent_of (machine_in ledger.old) last.entry.agent).key last.entry.op }
+    requires keys { HasOwnKey (agent_of (machine_in ledger.old) last.entry.agent).key }
     requires text { is_utf8 (entry_name last.entry.op) ≡ true }
     requires settled { ledger.old.journal.in_doubt ≡ false }
     ensures tidy { IsTidy ledger.old }

@@ -1,5 +1,5 @@
-//! Shared calls whose change is no content: a directory or a file is made, or an entry is removed. The change is kept back in memory,
-//! and is committed with the next content, eviction or end, or with the 64th that is kept back.
+//! Shared calls whose change is no content: a root, a directory or a file is made, or an entry is removed. The change is kept back
+//! in memory, and is committed with the next content, eviction or end, or with the 64th that is kept back.
 #![tactic(auto)]
 
 mod acting;
