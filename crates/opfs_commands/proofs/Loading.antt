@@ -1,6 +1,6 @@
 -- A text that is read, and an image that is made from it.
-use Rattle.std.proofs.Common.{◌≡◌, ◌≢◌, ◌⊎◌, ℕ, ◌-◌, ◌^◌, ◌<◌, ◌≤◌, Bool, true, false, List, [], take, length, inl, inr, refl, sym, ap, subst, ◌∙◌, arith}
-use Rattle.std.specs.Prelude.{nat_lt, Option, Some, Result, Ok, Err, IfOk, IfErr, IsOk, IsErrOf, OnOk, if◌then◌else◌}
+use Rattle.std.proofs.Common.{◌≡◌, ◌⊎◌, ℕ, ◌-◌, ◌^◌, ◌<◌, ◌≤◌, Bool, true, false, List, length, inl, inr, refl, sym, ap, subst, ◌∙◌, arith}
+use Rattle.std.specs.Prelude.{nat_lt, Option, Some, Result, Ok, Err, IfOk, IfErr, if◌then◌else◌}
 use Rattle.std.proofs.lemmas.Bool.{false≢true}
 use Rattle.std.proofs.lemmas.List.{take_all}
 use Rattle.std.proofs.lemmas.Result.{IfOk-weaker}
@@ -8,24 +8,21 @@ use Rattle.std.specs.Cmp.Lexicographic.{same_text as equal_texts, nat_list_eq_eq
 use Rattle.std.specs.declared.alloc.AllocError.{AllocError}
 use Rattle.opfs_base.specs.Texts.{Text, same_text}
 use Rattle.opfs_dump_text.specs.Reading.{Dump, Read, if_json, most_bytes, reads_dump}
-use Rattle.opfs_dump_text.specs.Texts.{loaded_line, refused_line}
+use Rattle.opfs_dump_text.specs.Texts.{refused_line}
 use Rattle.opfs_dump_text.specs.Whole.{dump_of}
 use Rattle.opfs_dump_text.specs.declared.dumped.Dumped.{Dumped}
 use Rattle.opfs_dump_text.specs.declared.refusal.DumpRefusal.TheVariants as refusal
-use Rattle.opfs_load.specs.Laid.{StandsAs}
-use Rattle.opfs_load.specs.declared.stop.LayStop.{LayStop}
-use Rattle.opfs_load.specs.declared.stop.LayStop.TheVariants as lay_stop
 use Rattle.opfs_outside.specs.Bytes.{window}
 use Rattle.opfs_outside.specs.Windows.{window_is}
 use Rattle.opfs_outside.specs.Faults.{Rose, RoseBy}
-use Rattle.opfs_outside.specs.Turns.{HostTurn, AsBefore, HostFailed, ImageStays, OthersAsBefore, of_host}
+use Rattle.opfs_outside.specs.Turns.{HostTurn, AsBefore, HostFailed, ImageStays, of_host}
 use Rattle.opfs_outside.specs.declared.host.Host.{Ghosts as HostWords}
 use Rattle.opfs_print.specs.Status.{status_text}
 use Rattle.opfs_print.specs.declared.end.End.TheVariants as end
 use Rattle.opfs_script.specs.Reading.{json_of}
 use Rattle.opfs_commands.proofs.Hosting.{rose_later}
 use Rattle.opfs_commands.specs.Kinds.{FaultsLater, LeavesText, NoneFailed}
-use Rattle.opfs_commands.specs.Telling.{IsAnswer, IsDumpAt, IsLaid, IsNoDump}
+use Rattle.opfs_commands.specs.Telling.{IsAnswer, IsDumpAt, IsNoDump}
 use Rattle.opfs_commands.specs.declared.answers.ToolAnswer.{ToolAnswer}
 use Rattle.opfs_commands.specs.declared.answers.ToolEnd.{ToolEnd}
 use Rattle.opfs_commands.specs.declared.answers.ToolEnd.TheVariants as tool_end

@@ -1,4 +1,4 @@
-use Rattle.std.proofs.Common.{◌∙◌, ap, refl, sym, arith}
+use Rattle.std.proofs.Common.{◌∙◌, arith}
 use Rattle.std.proofs.lemmas.List.{with_items_is}
 use Rattle.opfs_commands.proofs.Loading.{both_ok, host_answered, no_dump_told, too_long, whole_window}
 use Rattle.opfs_commands.proofs.loads.bytes_on.Goals as goal

@@ -1,4 +1,4 @@
-use Rattle.std.proofs.Common.{refl, sym}
+use Rattle.std.proofs.Common.{refl}
 use Rattle.opfs_outside.specs.Turns.{of_host}
 use Rattle.opfs_commands.proofs.Loading.{all_stay, before_on, failed_on, never_refused, none_on, refused_stays, stays_on, wider_answer}
 use Rattle.opfs_commands.proofs.loads.load_at.Goals as goal

@@ -1,8 +1,8 @@
-use Rattle.std.proofs.Common.{◌≡◌, inl, inr, refl, sym, ◌∙◌, subst, arith}
+use Rattle.std.proofs.Common.{◌≡◌, inl, refl, sym, ◌∙◌, arith}
 use Rattle.std.specs.Prelude.{Some}
 use Rattle.opfs_outside.specs.Turns.{of_host, HostFailed}
 use Rattle.opfs_commands.proofs.Hosting.{rose_later, host_rose, later_by, given_back, was_given, others_stay, only_read, one_since}
-use Rattle.opfs_commands.proofs.Loading.{both_ok, dump_at_told, err_at, ok_at, failed_none, failed_told, host_answered, host_none, later_twice}
+use Rattle.opfs_commands.proofs.Loading.{dump_at_told, err_at, ok_at, failed_none, failed_told, later_twice}
 use Rattle.opfs_commands.proofs.loads.text_at.Goals as goal
 
 pub returns-in-Err-clause-not : goal.returns-in-Err-clause-not

@@ -1,6 +1,4 @@
-use Rattle.std.proofs.Common.{◌∙◌, ap, sym, subst}
-use Rattle.std.proofs.lemmas.Result.{IfOk-weaker}
-use Rattle.opfs_dump_text.specs.Reading.{reads_dump}
+use Rattle.std.proofs.Common.{◌∙◌}
 use Rattle.opfs_commands.proofs.Loading.{read_told, refused_told}
 use Rattle.opfs_commands.proofs.loads.text_on.Goals as goal
 
