@@ -82,6 +82,7 @@ module _ (tells dtells : Type 0) (to : tells → dtells) (There : Type 0) (Done 
   answer_at there tool_end.Done text is = λ told. done told (there told) text (is (to told))
   answer_at there tool_end.Image text is = λ told. refused told text (is (to told))
   answer_at there tool_end.Host text is = (cause is.0, is.1)
+  answer_at there tool_end.Sink text is = is
 
   pub given_back : (r first : Result ToolAnswer AllocError) (Fault : Type 0) → (Fault → Cause') → IfOk first (λ a. IsAnswer dtells Done Refused Cause a.end a.text)
       → IfOk r (λ a. ((first ≡ Ok a) × (tells → There)) ⊎ (Fault × (a.end ≡ tool_end.Host) × (a.text ≡ status_text end.Host))) → IfOk r (λ a. IsAnswer tells Done' Refused' Cause' a.end a.text)

@@ -1,4 +1,6 @@
+pub mod Dumping
 pub mod Hosting
+pub mod Loading
 pub mod Numbers
 pub mod Spelled
 pub mod Standing

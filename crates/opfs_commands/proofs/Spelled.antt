@@ -5,8 +5,8 @@ use Rattle.std.specs.Str.Parse.{digits_value}
 use Rattle.std.proofs.lemmas.Fmt.{decimal_is_IsNumeral}
 use Rattle.opfs_base.specs.Texts.{Text}
 use Rattle.opfs_image.proofs.Formatted.{range_parts}
-use Rattle.opfs_commands.specs.Commands.{Command, trial, judgement, on_image, spelled, IsAsked, IsInRange, Asks}
-use Rattle.opfs_commands.specs.declared.words.Action.TheVariants.{Format, List as ListIt, Check, Migrate}
+use Rattle.opfs_commands.specs.Commands.{Command, trial, judgement, on_image, loading, spelled, IsAsked, IsInRange, Asks}
+use Rattle.opfs_commands.specs.declared.words.Action.TheVariants.{Format, List as ListIt, Check, Migrate, Dump}
 
 abbrev pub word_at : ℕ → List Text → Text
 word_at n [] = []
@@ -28,7 +28,9 @@ marked mark words =
     else (if mark == 2108 then on_image (word_at 1 words) ListIt
     else (if mark == 2099 then on_image (word_at 1 words) Check
     else (if mark == 2109 then on_image (word_at 1 words) Migrate
-    else on_image (word_at 1 words) (Format (record { areas = number_of (word_at 3 words); blocks = number_of (word_at 2 words); quota = number_of (word_at 4 words) }))))))
+    else (if mark == 2100 then on_image (word_at 1 words) Dump
+    else (if mark == 3108 then loading (word_at 1 words) (word_at 2 words)
+    else on_image (word_at 1 words) (Format (record { areas = number_of (word_at 3 words); blocks = number_of (word_at 2 words); quota = number_of (word_at 4 words) }))))))))
 
 read_back : List Text → Command
 read_back words = marked (mark_of words) words
@@ -46,6 +48,8 @@ reads_back (on_image path (Format g)) range =
 reads_back (on_image path ListIt) range = refl
 reads_back (on_image path Check) range = refl
 reads_back (on_image path Migrate) range = refl
+reads_back (on_image path Dump) range = refl
+reads_back (loading image text) range = refl
 
 pub one_command : (words : List Text) (a b : Command) → IsAsked words a → IsAsked words b → a ≡ b
 one_command words a b x y = sym (reads_back a x.range) ∙ ap read_back (sym x.spelling ∙ y.spelling) ∙ reads_back b y.range

@@ -4,16 +4,17 @@ use Rattle.std.specs.Str.{IsUtf8}
 use Rattle.opfs_base.specs.Texts.{Text, same_text}
 use Rattle.opfs_image.specs.Superblock.{is_in_range}
 use Rattle.opfs_commands.specs.declared.words.Action.{Action}
-use Rattle.opfs_commands.specs.declared.words.Action.TheVariants.{Format, List as ListIt, Check, Migrate}
+use Rattle.opfs_commands.specs.declared.words.Action.TheVariants.{Format, List as ListIt, Check, Migrate, Dump}
 use Rattle.opfs_commands.specs.declared.words.Command.{Command as Read}
 use Rattle.opfs_commands.specs.declared.words.Command.TheVariants as read
 
--- A command: to run a script over an empty store, to judge a transcript of a script, or to do something with the image at a
--- path.
+-- A command: to run a script over an empty store, to judge a transcript of a script, to do something with the image at a
+-- path, or to make the image at a path anew from the text at another.
 pub data Command : Type 0 where
   trial : Command
   judgement : Command
   on_image : Text → Action → Command
+  loading : Text → Text → Command
 
 -- The words that ask for a command. A number is written as it prints.
 abbrev pub spelled : Command → List Text
@@ -23,6 +24,8 @@ spelled (on_image path (Format g)) = codes "format" ∷ path ∷ decimal g.block
 spelled (on_image path ListIt) = codes "list" ∷ path ∷ []
 spelled (on_image path Check) = codes "check" ∷ path ∷ []
 spelled (on_image path Migrate) = codes "migrate" ∷ path ∷ []
+spelled (on_image path Dump) = codes "dump" ∷ path ∷ []
+spelled (loading image text) = codes "load" ∷ image ∷ text ∷ []
 
 -- The numbers of an action are in range.
 abbrev pub InRange : Action → Type 0
@@ -39,6 +42,7 @@ abbrev pub IsInRange : Command → Type 0
 IsInRange trial = Unit {0}
 IsInRange judgement = Unit {0}
 IsInRange (on_image path action) = IsPath path × InRange action
+IsInRange (loading image text) = IsPath image × IsPath text
 
 -- The words ask for this command.
 pub record IsAsked (words : List Text) (command : Command) : Type 0 where
@@ -60,10 +64,12 @@ abbrev pub meant : Read → Command
 meant read.Try = trial
 meant read.Judge = judgement
 meant (read.OnImage path action) = on_image path.now action
+meant (read.Load image text) = loading image.now text.now
 
 -- What a word asks that names an image alone.
 abbrev pub plain_action : Text → Option Action
 plain_action word =
     if same_text word (codes "list") then Some ListIt
     else (if same_text word (codes "check") then Some Check
-    else (if same_text word (codes "migrate") then Some Migrate else None))
+    else (if same_text word (codes "migrate") then Some Migrate
+    else (if same_text word (codes "dump") then Some Dump else None)))

@@ -1,5 +1,6 @@
 -- What a command on an image puts out, and how it ends. This project's own.
-use Rattle.std.specs.Prelude.{◌≡◌, ℕ, [], ◌∷◌, codes, decimal, Option, Some, None, Result, Ok, Err}
+use Rattle.std.specs.Prelude.{◌≡◌, ◌⊎◌, ℕ, [], ◌∷◌, ◌++◌, length, codes, decimal, Option, Some, None, Result, Ok, Err, IfOk}
+use Rattle.std.specs.declared.alloc.AllocError.{AllocError}
 use Rattle.opfs_base.specs.Texts.{Text}
 use Rattle.opfs_machine.specs.Openings.{Map, empty_map}
 use Rattle.opfs_print.specs.declared.end.BadImage.{BadImage}
@@ -15,8 +16,14 @@ use Rattle.opfs_image.specs.declared.refusal.ImageRefusal.{ImageRefusal}
 use Rattle.opfs_image.specs.declared.refusal.ImageRefusal.TheVariants as image
 use Rattle.opfs_replay.specs.Built.{nothing_built}
 use Rattle.opfs_migrate.specs.Migrating.{AreMigrated}
+use Rattle.opfs_dump_text.specs.Reading.{Dump, reads_dump}
+use Rattle.opfs_dump_text.specs.Texts.{dump_text, loaded_line, refused_line}
+use Rattle.opfs_dump_text.specs.declared.refusal.DumpRefusal.{DumpRefusal}
+use Rattle.opfs_load.specs.Laid.{StandsAs}
+use Rattle.opfs_outside.specs.Turns.{SinkTurn, SinkFailed, Took}
 use Rattle.opfs_tools.specs.Listing.{list_text}
 use Rattle.opfs_tools.specs.Checking.{check_text}
+use Rattle.opfs_commands.specs.declared.answers.ToolAnswer.{ToolAnswer}
 use Rattle.opfs_commands.specs.declared.answers.ToolEnd.{ToolEnd}
 use Rattle.opfs_commands.specs.declared.answers.ToolEnd.TheVariants as tool_end
 use Rattle.opfs_commands.specs.declared.answers.ReadTool.{ReadTool}
@@ -87,6 +94,42 @@ pub record IsMigrated (old new : Option Text) (text : Text) : Type 0 where
   pub is : new ≡ Some after
   pub told : IsMigratedText before after text
 
+-- A host has an image at a path, and the text is of this kind for it.
+pub record IsOfImage (Kind : Text → Text → Type 0) (found : Option Text) (text : Text) : Type 0 where
+  pub image : Text
+  pub there : found ≡ Some image
+  pub kind : Kind image text
+
+-- The text is that of the map that an image stands for, and of its sizes.
+pub record IsDumped (c text : Text) : Type 0 where
+  pub geometry : Geometry
+  pub map : Map
+  pub stands : StandsAs geometry map c
+  pub printed : text ≡ dump_text geometry map
+
+-- The image stands for what was read, in its sizes, and the text is the line with the number of its rows.
+pub record IsLaid (d : Dump) (c text : Text) : Type 0 where
+  pub stands : StandsAs d.geometry d.map c
+  pub printed : text ≡ loaded_line (length d.map.rows)
+
+-- What stands at a path is read as a dump.
+pub record IsDumpAt (dump : Dump) (found : Option Text) : Type 0 where
+  pub source : Text
+  pub there : found ≡ Some source
+  pub reads : reads_dump source ≡ Ok dump
+
+-- These are what stood at the one path and the image at the other, which was made anew from it, and this is its text.
+pub record IsLoaded (from after : Option Text) (text : Text) : Type 0 where
+  pub dump : Dump
+  pub read : IsDumpAt dump from
+  pub laid : IsOfImage (IsLaid dump) after text
+
+-- The text is the line that says why what stood there is no dump.
+pub record IsNoDump (source text : Text) : Type 0 where
+  pub why : DumpRefusal
+  pub refused : reads_dump source ≡ Err why
+  pub line : text ≡ refused_line why
+
 -- A host has an image of format 1 at a path, and it stands for this map.
 pub record IsStoodFor (m : Map) (found : Option Text) : Type 0 where
   pub image : Text
@@ -97,18 +140,32 @@ pub record IsStoodFor (m : Map) (found : Option Text) : Type 0 where
 abbrev pub IsNotMigrated : Text → Text → Type 0
 IsNotMigrated c text = IsImageLine (read_as Old New c) text
 
--- How a command ended that was asked of an image: done, with a text of one kind; with the image refused, and a line of
--- another; or with a fault, which has a cause.
+-- How a command ended that was asked of an image and has put out nothing: done, with a text of one kind; with the image
+-- refused, and a line of another; or with a fault, which has a cause.
 abbrev pub IsAnswer : Type 0 → (Text → Type 0) → (Text → Type 0) → Type 0 → ToolEnd → Text → Type 0
 IsAnswer tells Done Refused Cause tool_end.Done text = tells → Done text
 IsAnswer tells Done Refused Cause tool_end.Image text = tells → Refused text
 IsAnswer tells Done Refused Cause tool_end.Host text = Cause × (text ≡ status_text end.Host)
+IsAnswer tells Done Refused Cause tool_end.Sink text = ⊥
 
--- A host has an image at a path, and the text is of this kind for it.
-pub record IsOfImage (Kind : Text → Text → Type 0) (found : Option Text) (text : Text) : Type 0 where
-  pub image : Text
-  pub there : found ≡ Some image
-  pub kind : Kind image text
+-- A text was put out: none, or a front of one of a kind.
+pub record IsBegun (k : SinkTurn) (Begun : Text → Type 0) (front : Text) : Type 0 where
+  pub took : Took k front
+  pub begun : (front ≡ []) ⊎ ((rest : Text) × Begun (front ++ rest))
+
+-- How a command ended that puts its text out itself, behind what it has put out: done; with the image refused, where it has
+-- put out nothing; with a fault, which has a cause; or with a front of its text, where the sink failed.
+abbrev pub IsBehind : SinkTurn → (Text → Type 0) → (Text → Type 0) → Type 0 → Text → ToolEnd → Text → Type 0
+IsBehind k Whole Refused Cause front tool_end.Done text = Whole (front ++ text)
+IsBehind k Whole Refused Cause front tool_end.Image text = (front ≡ []) × Refused text
+IsBehind k Whole Refused Cause front tool_end.Host text = Cause × (text ≡ status_text end.Host)
+IsBehind k Whole Refused Cause front tool_end.Sink text = SinkFailed k × (text ≡ []) × ((rest : Text) × Whole (front ++ rest))
+
+-- The same, with what it has put out.
+pub record IsPut (k : SinkTurn) (Begun Whole Refused : Text → Type 0) (Cause : Type 0) (r : Result ToolAnswer AllocError) : Type 0 where
+  pub front : Text
+  pub begun : IsBegun k Begun front
+  pub ended : IfOk r (λ answer. IsBehind k Whole Refused Cause front answer.end answer.text)
 
 -- The text says why an image is refused.
 abbrev pub IsRefusedLine : Text → Text → Type 0

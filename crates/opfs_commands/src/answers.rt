@@ -15,10 +15,12 @@ use std::alloc::{AllocError, Global};
 pub enum ToolEnd {
     /// All was done.
     Done,
-    /// The image is refused.
+    /// The image is refused, or the text of one.
     Image,
     /// The file or the host failed.
     Host,
+    /// The output failed.
+    Sink,
 }
 
 /// A tool that only reads an image.
@@ -30,7 +32,7 @@ pub enum ReadTool {
     Check,
 }
 
-/// How a command on an image ends, and what it is to put out.
+/// How a command on an image ends, and what it is to put out behind what it has put out already.
 #[derive(Debug, Drop)]
 pub struct ToolAnswer {
     pub end: ToolEnd,

@@ -18,8 +18,8 @@ use opfs_image::Geometry;
 use opfs_outside::{Host, HostStop};
 use std::alloc::{AllocError, Global};
 
-// Gives a disk back, and then the answer, or that of a fault.
-fn give_back<H: Host>(
+/// Gives a disk back, and then the answer, or that of a fault.
+pub(crate) fn give_back<H: Host>(
     alloc: Global,
     host: &mut H,
     path: &str,

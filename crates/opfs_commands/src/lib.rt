@@ -1,13 +1,17 @@
-//! The commands on an image: they make one, tell what it holds, check it, and bring it into the format of now.
+//! The commands on an image: they make one, tell what it holds, check it, bring it into the format of now, put its text out,
+//! and make one from such a text.
 #![tactic(auto)]
 
 mod answers;
 mod disks;
+mod dumps;
 mod hosts;
+mod loads;
 mod makers;
 mod running;
 mod words;
 
 pub use answers::{ReadTool, ToolAnswer, ToolEnd};
+pub use loads::load_at;
 pub use running::run_command;
 pub use words::{Action, Command, read_command};

@@ -15,8 +15,8 @@ use opfs_migrate::migrate;
 use opfs_outside::Disk;
 use std::alloc::{AllocError, Global};
 
-// An answer that all was done, with a text.
-fn done(text: String) -> ToolAnswer
+/// An answer that all was done, with a text.
+pub(crate) fn done(text: String) -> ToolAnswer
     ensures end { result.end ≡ ToolEnd.Done }
     ensures text { result.text ≡ string_bytes text }
 {

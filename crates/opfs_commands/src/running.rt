@@ -1,39 +1,43 @@
 //! A command on an image.
-ghost use Rattle.std.specs.Prelude.{◌≡◌, ◌≢◌, ◌⊎◌, IfOk};
+ghost use Rattle.std.specs.Prelude.{◌≡◌, ◌≢◌, ◌⊎◌, ◌≤◌, IfOk};
 ghost use Rattle.opfs_base.specs.Texts.{Text};
 ghost use Rattle.opfs_machine.specs.Openings.{Map};
 ghost use Rattle.opfs_migrate.specs.Migrating.{StandsEither};
-ghost use Rattle.opfs_outside.specs.Turns.{of_host, HostFailed, ImageStays, OthersAsBefore};
+ghost use Rattle.opfs_outside.specs.Turns.{of_host, of_sink, HostFailed, ImageStays, OthersAsBefore};
 ghost use Rattle.opfs_commands.specs.Commands.{InRange};
-ghost use Rattle.opfs_commands.specs.Kinds.{DoneKind, RefusedKind, IsReading, IsMigration, NoneFailed};
-ghost use Rattle.opfs_commands.specs.Telling.{IsStoodFor, IsAnswer};
+ghost use Rattle.opfs_commands.specs.Kinds.{DoneKind, RefusedKind, IsDumping, IsReading, IsMigration, NoneFailed};
+ghost use Rattle.opfs_commands.specs.Telling.{IsStoodFor, IsPut};
 
 use crate::answers::{ReadTool, ToolAnswer, ToolEnd};
+use crate::dumps::dump_at;
 use crate::hosts::{format_at, migrate_at, read_at};
 use crate::words::Action;
-use opfs_outside::Host;
+use opfs_outside::{Host, Sink};
 use std::alloc::{AllocError, Global};
 
-/// Does what is asked of the image at a path. Where no call of the host failed, every other path is as before; and a path
-/// whose image is refused, or of which the command only tells, has its image still. A stop within a migration leaves the old
-/// image or the new one.
-pub fn run_command<H: Host>(
+/// Does what is asked of the image at a path. A dump puts its text out itself; what the other commands tell is in the answer.
+/// Where no call of the host failed, every other path is as before; and a path whose image is refused, or of which the command
+/// only tells, has its image still. A stop within a migration leaves the old image or the new one.
+pub fn run_command<H: Host, K: Sink>(
     alloc: Global,
     host: &mut H,
     image: &str,
     action: Action,
+    sink: &mut K,
 ) -> Result<ToolAnswer, AllocError>
     requires { InRange action }
-    ensures answer { IfOk result (λ answer. IsAnswer H.tells (DoneKind action (H.image host.old image.now) (H.image host.new image.now)) (RefusedKind action (H.image host.old image.now)) (HostFailed (of_host H.Host host.old host.new)) answer.end answer.text) }
+    ensures put { IsPut (of_sink K.Sink sink.old sink.new) (λ text. IsDumping action × (H.tells → DoneKind action (H.image host.old image.now) (H.image host.new image.now) text)) (λ text. H.tells → DoneKind action (H.image host.old image.now) (H.image host.new image.now) text) (λ text. H.tells → RefusedKind action (H.image host.old image.now) text) (HostFailed (of_host H.Host host.old host.new)) result }
     ensures others { H.tells → NoneFailed (of_host H.Host host.old host.new) result → OthersAsBefore (of_host H.Host host.old host.new) image.now }
     ensures reads { IsReading action → H.tells → NoneFailed (of_host H.Host host.old host.new) result → ImageStays (of_host H.Host host.old host.new) image.now }
     ensures refused { IfOk result (λ answer. answer.end ≡ ToolEnd.Image → H.tells → ImageStays (of_host H.Host host.old host.new) image.now) }
     ensures trail { IsMigration action → H.tells → NoneFailed (of_host H.Host host.old host.new) result → (m : Map) → IsStoodFor m (H.image host.old image.now) → (c : Text) → H.trail host.new image.now c → H.trail host.old image.now c ⊎ StandsEither m c }
+    ensures later { K.faults sink.old ≤ K.faults sink.new }
 {
     match action {
         Action::Format(geometry) => format_at(alloc, host, image, geometry),
         Action::List => read_at(alloc, host, image, ReadTool::List),
         Action::Check => read_at(alloc, host, image, ReadTool::Check),
         Action::Migrate => migrate_at(alloc, host, image),
+        Action::Dump => dump_at(alloc, host, image, sink),
     }
 }

@@ -21,6 +21,8 @@ pub enum Action {
     Check,
     /// To bring it from format 1 into format 2.
     Migrate,
+    /// To put its text out.
+    Dump,
 }
 
 /// What the words of a command line ask.
@@ -32,6 +34,8 @@ pub enum Command<'a> {
     Judge,
     /// To do something with the image at a path.
     OnImage(&'a str, Action),
+    /// To make the image at a path anew from the text at another.
+    Load(&'a str, &'a str),
 }
 
 // The number that a word is, written as it prints.
@@ -99,6 +103,9 @@ fn action_of(word: &[u8]) -> Option<Action>
     if word == b"migrate".as_slice() {
         return Some(Action::Migrate);
     }
+    if word == b"dump".as_slice() {
+        return Some(Action::Dump);
+    }
     None
 }
 
@@ -124,6 +131,19 @@ fn read_two<'a>(word: &[u8], path: &'a [u8]) -> Option<Command<'a>>
     let path = path_of(path)?;
     let action = action_of(word)?;
     Some(Command::OnImage(path, action))
+}
+
+// The command that three words are.
+fn read_three<'a>(word: &[u8], image: &'a [u8], text: &'a [u8]) -> Option<Command<'a>>
+    ensures some { IfSome result (λ command. IsAsked (word.now ∷ image.now ∷ text.now ∷ []) (meant command)) }
+    ensures none { IfNone result (AsksNothing (word.now ∷ image.now ∷ text.now ∷ [])) }
+{
+    if word != b"load".as_slice() {
+        return None;
+    }
+    let image = path_of(image)?;
+    let text = path_of(text)?;
+    Some(Command::Load(image, text))
 }
 
 // The command that five words are.
@@ -153,6 +173,7 @@ pub fn read_command(words: &Words) -> Option<Command<'_>>
     match words.as_slice() {
         [word] => read_one(word.as_slice()),
         [word, path] => read_two(word.as_slice(), path.as_slice()),
+        [word, image, text] => read_three(word.as_slice(), image.as_slice(), text.as_slice()),
         [word, path, blocks, areas, quota] => read_five(
             word.as_slice(),
             path.as_slice(),

@@ -1,8 +1,8 @@
 //! Commands over a host in memory.
 
 use opfs_base::{Bytes, Words};
-use opfs_commands::{Command, ToolAnswer, ToolEnd, read_command, run_command};
-use opfs_memory::MemHost;
+use opfs_commands::{Command, ToolAnswer, ToolEnd, load_at, read_command, run_command};
+use opfs_memory::{MemHost, MemSink};
 use std::alloc::{AllocError, Global};
 use std::str;
 
@@ -49,6 +49,21 @@ pub fn failing_host(alloc: Global, image: &[u8], fails: u64) -> Result<MemHost, 
     host_with(alloc, image, &[fails], &[], None)
 }
 
+/// A host with this image at the path `I` and this text at the path `T`.
+pub fn host_with_text(alloc: Global, image: &[u8], text: &[u8]) -> Result<MemHost, AllocError> {
+    let path = b"I".to_vec(alloc)?;
+    let text_path = b"T".to_vec(alloc)?;
+    let images = Vec::from_array(
+        alloc,
+        [
+            (path, image.to_vec(alloc)?),
+            (text_path, text.to_vec(alloc)?),
+        ],
+    )?;
+    let none = Vec::new(alloc);
+    MemHost::make(alloc, images, none, Vec::new(alloc), None, ROOM, 16 * ROOM)
+}
+
 /// A host without images.
 pub fn empty_host(alloc: Global) -> Result<MemHost, AllocError> {
     let none = Vec::new(alloc);
@@ -63,33 +78,51 @@ pub fn empty_host(alloc: Global) -> Result<MemHost, AllocError> {
     )
 }
 
-// How a command ends, and then its text.
-fn told(alloc: Global, answer: &ToolAnswer) -> Result<String, AllocError> {
+// How a command ends, and then what it has put out and its text.
+fn told(alloc: Global, answer: &ToolAnswer, put: &[u8]) -> Result<String, AllocError> {
     let end = match answer.end {
         ToolEnd::Done => "done: ",
         ToolEnd::Image => "image: ",
         ToolEnd::Host => "host: ",
+        ToolEnd::Sink => "sink: ",
     };
     let mut line = String::from_str(alloc, end)?;
-    match str::from_utf8(answer.text.as_slice()) {
-        Ok(text) => line.push_str(text)?,
-        Err(_) => line.push_str("no text")?,
+    for part in [put, answer.text.as_slice()] {
+        match str::from_utf8(part) {
+            Ok(text) => line.push_str(text)?,
+            Err(_) => line.push_str("no text")?,
+        }
     }
     Ok(line)
 }
 
-/// How the command of these words ends, and then its text.
-pub fn ask(alloc: Global, host: &mut MemHost, words: &[&str]) -> Result<String, AllocError> {
+/// How the command of these words ends, and then its text, where the output has room for so many bytes.
+pub fn ask_with(
+    alloc: Global,
+    host: &mut MemHost,
+    words: &[&str],
+    room: u64,
+) -> Result<String, AllocError> {
     let words = words_of(alloc, words)?;
+    let mut sink = MemSink::make(alloc, room, Vec::new(alloc))?;
     match read_command(&words) {
         Some(Command::OnImage(path, action)) => {
-            let answer = run_command(alloc, host, path, action)?;
-            told(alloc, &answer)
+            let answer = run_command(alloc, host, path, action, &mut sink)?;
+            told(alloc, &answer, sink.written())
+        }
+        Some(Command::Load(image, text)) => {
+            let answer = load_at(alloc, host, image, text)?;
+            told(alloc, &answer, b"")
         }
         Some(Command::Try) => String::from_str(alloc, "no command on an image"),
         Some(Command::Judge) => String::from_str(alloc, "no command on an image"),
         None => String::from_str(alloc, "no command"),
     }
+}
+
+/// The same, with room enough.
+pub fn ask(alloc: Global, host: &mut MemHost, words: &[&str]) -> Result<String, AllocError> {
+    ask_with(alloc, host, words, 65_536)
 }
 
 /// What a command of one word tells of an image.

@@ -6,6 +6,8 @@ mod asking;
 #[cfg(test)]
 mod damaged;
 #[cfg(test)]
+mod dumps;
+#[cfg(test)]
 mod faults;
 #[cfg(test)]
 mod images;

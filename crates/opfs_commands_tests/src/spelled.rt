@@ -15,6 +15,7 @@ fn asked(alloc: Global, words: &[&str]) -> Result<Option<Action>, AllocError> {
         } else {
             Ok(None)
         },
+        Some(Command::Load(_, _)) => Ok(None),
         Some(Command::Try) => Ok(None),
         Some(Command::Judge) => Ok(None),
         None => Ok(None),
@@ -50,11 +51,12 @@ fn words_that_ask_for_something(rt: HostRuntime) -> Result<(), Fail> {
         blocks: 16,
         quota: 8,
     };
-    let rows: [(&[&str], Action); 4] = [
+    let rows: [(&[&str], Action); 5] = [
         (&["format", "I", "16", "4", "8"], Action::Format(sizes)),
         (&["list", "I"], Action::List),
         (&["check", "I"], Action::Check),
         (&["migrate", "I"], Action::Migrate),
+        (&["dump", "I"], Action::Dump),
     ];
     for (words, action) in rows {
         assert_eq!(rt; asked(alloc, words)?, Some(action));
@@ -77,5 +79,18 @@ fn the_one_word_try_asks_for_a_trial(rt: HostRuntime) -> Result<(), Fail> {
     assert!(rt; matches!(read_command(&words), Some(Command::Try)));
     let more = words_of(rt.alloc(), &["try", "I"])?;
     assert!(rt; read_command(&more).is_none());
+    Ok(())
+}
+
+#[test]
+fn load_names_an_image_and_a_text(rt: HostRuntime) -> Result<(), Fail> {
+    let words = words_of(rt.alloc(), &["load", "I", "T"])?;
+    assert!(rt; matches!(read_command(&words), Some(Command::Load("I", "T"))));
+    for few in [&["load", "I"], &["load", "T"]] {
+        let few = words_of(rt.alloc(), few)?;
+        assert!(rt; read_command(&few).is_none());
+    }
+    let none = words_of(rt.alloc(), &["load", "I", ""])?;
+    assert!(rt; read_command(&none).is_none());
     Ok(())
 }

@@ -2,8 +2,10 @@
 use Rattle.std.proofs.Common.{◌≡◌, ℕ, ◌≤◌, ◌-◌, List, [], ◌++◌, take, drop, length, refl, sym, ap, ◌∙◌, subst, append_assoc, length-drop, inl, inr, arith}
 use Rattle.std.specs.Prelude.{Option, Some, None, IfSome, IsSome, Result, Ok, Err, IsErrOf}
 use Rattle.std.proofs.lemmas.List.{append-nil, take-append-drop, take_all}
+use Rattle.serde_json.specs.Written.{compact_text}
 use Rattle.opfs_base.specs.Places.{Place}
 use Rattle.opfs_base.specs.Texts.{Text}
+use Rattle.opfs_dump_text.specs.Texts.{folder_value}
 use Rattle.opfs_outside.specs.Faults.{Rose}
 use Rattle.opfs_outside.specs.declared.stream.Sink.{Ghosts as SinkWords}
 use Rattle.opfs_outside.specs.Turns.{of_sink, Took, TookFront}
@@ -90,7 +92,9 @@ module _ {D K : Type 0} (w : DiskWords D) (k : SinkWords K) (falls : w.tells →
   pub dumps_puts : {A : Type 0} (j : Seen D) (s0 s1 : K) (text : Text) (r : Result A DumpStop) → Puts k s0 s1 text r → Dumps w k j j s0 s1 (λ c. text) r
   dumps_puts j s0 s1 text r p = record {
     reads = reads_nothing w falls j;
-    put = λ told. p.put;
+    whole = text;
+    put = p.put;
+    told = λ told. refl;
     later = p.later;
     disk = λ i. absurd (p.disk i);
     sink = p.sink;
@@ -99,35 +103,59 @@ module _ {D K : Type 0} (w : DiskWords D) (k : SinkWords K) (falls : w.tells →
   pub dumps_nothing : {A : Type 0} (j : Seen D) (s : K) (text : List ℕ → Text) → Dumps {A = A} w k j j s s text (Err stop.NoMemory)
   dumps_nothing j s text = record {
     reads = reads_nothing w falls j;
-    put = λ told. none_put k s (text (w.content j.disk));
+    whole = text (w.content j.disk);
+    put = none_put k s (text (w.content j.disk));
+    told = λ told. refl;
     later = omega arith;
     disk = λ i. cc;
     sink = λ i. cc;
+  }
+
+  -- bytes were read, and a text of them was put out
+  pub read_put : {A : Type 0} (j0 j1 : Seen D) (s0 s1 : K) (p : Text) (text : List ℕ → Text) (r : Result A DumpStop) → Reads w j0 j1 → (w.tells → p ≡ text (w.content j0.disk)) → Puts k s0 s1 p r
+      → Dumps w k j0 j1 s0 s1 text r
+  read_put j0 j1 s0 s1 p text r reads same b = record {
+    reads = reads;
+    whole = p;
+    put = b.put;
+    told = same;
+    later = b.later;
+    disk = λ i. absurd (b.disk i);
+    sink = b.sink;
   }
 
   -- the disk failed at once
   pub read_failed : {A : Type 0} (j0 j1 : Seen D) (s : K) (text : List ℕ → Text) → Reads w j0 j1 → Rose (w.faults j0.disk) (w.faults j1.disk) → Dumps {A = A} w k j0 j1 s s text (Err stop.DiskFault)
   read_failed j0 j1 s text reads rose = record {
     reads = reads;
-    put = λ told. none_put k s (text (w.content j0.disk));
+    whole = text (w.content j0.disk);
+    put = none_put k s (text (w.content j0.disk));
+    told = λ told. refl;
     later = omega arith;
     disk = λ i. rose;
     sink = λ i. cc;
   }
 
   pub begin_dump : (j : Seen D) (s : K) (text : List ℕ → Text) → DumpsSoFar w k j j s s text text
-  begin_dump j s text = record { reads = reads_nothing w falls j; put = λ told. begin_put k s (text (w.content j.disk)); later = omega arith }
+  begin_dump j s text = record { reads = reads_nothing w falls j; front = []; took = λ t. sym (append-nil (k.written s)); told = λ told. refl; later = omega arith }
+
+  -- what was put out, what is put out now, and what is still to come
+  parted : (j0 j1 : Seen D) (front now : Text) (text rest p more : List ℕ → Text) → text (w.content j0.disk) ≡ front ++ rest (w.content j0.disk) → ((c : List ℕ) → rest c ≡ p c ++ more c)
+      → now ≡ p (w.content j1.disk) → w.content j1.disk ≡ w.content j0.disk → text (w.content j0.disk) ≡ front ++ (now ++ more (w.content j0.disk))
+  parted j0 j1 front now text rest p more so_far parts is same =
+      let c : List ℕ = w.content j0.disk in
+      so_far
+      ∙ (ap (λ (t : Text). front ++ t) (parts c)
+      ∙ ap (λ (t : Text). front ++ (t ++ more c)) (sym (is ∙ ap p same)))
 
   -- a call more
   pub more_dumped : {A : Type 0} (x : A) (j0 j1 j2 : Seen D) (s0 s1 s2 : K) (text rest p more : List ℕ → Text) → DumpsSoFar w k j0 j1 s0 s1 text rest → ((c : List ℕ) → rest c ≡ p c ++ more c)
       → Dumps {A = A} w k j1 j2 s1 s2 p (Ok x) → DumpsSoFar w k j0 j2 s0 s2 text more
   more_dumped x j0 j1 j2 s0 s1 s2 text rest p more a parts b = record {
     reads = reads_more w falls j0 j1 j2 a.reads b.reads;
-    put = λ told.
-        let same = (a.reads.told told).same in
-        then_all k s0 s1 s2 (text (w.content j0.disk)) (p (w.content j0.disk)) (more (w.content j0.disk))
-        (subst (λ (t : Text). TookFront (of_sink k s0 s1) (text (w.content j0.disk)) t) (parts (w.content j0.disk)) (a.put told))
-        (subst (λ (c : List ℕ). Took (of_sink k s1 s2) (p c)) same (b.put told));
+    front = a.front ++ b.whole;
+    took = λ t. b.put t ∙ (ap (λ (x : Text). x ++ b.whole) (a.took t) ∙ append_assoc (k.written s0) a.front b.whole);
+    told = λ told. parted j0 j1 a.front b.whole text rest p more (a.told told) parts (b.told told) ((a.reads.told told).same) ∙ sym (append_assoc a.front b.whole (more (w.content j0.disk)));
     later = omega (arith, a.later, b.later);
   }
 
@@ -136,11 +164,9 @@ module _ {D K : Type 0} (w : DiskWords D) (k : SinkWords K) (falls : w.tells →
       → Dumps {A = A} w k j1 j2 s1 s2 p (Err e) → Dumps {A = B} w k j0 j2 s0 s2 text (Err e)
   failed_dump e j0 j1 j2 s0 s1 s2 text rest p more a parts b = record {
     reads = reads_more w falls j0 j1 j2 a.reads b.reads;
-    put = λ told.
-        let same = (a.reads.told told).same in
-        then_some k s0 s1 s2 (text (w.content j0.disk)) (p (w.content j0.disk)) (more (w.content j0.disk))
-        (subst (λ (t : Text). TookFront (of_sink k s0 s1) (text (w.content j0.disk)) t) (parts (w.content j0.disk)) (a.put told))
-        (subst (λ (c : List ℕ). TookSome (of_sink k s1 s2) (p c)) same (b.put told));
+    whole = a.front ++ (b.whole ++ more (w.content j0.disk));
+    put = then_some k s0 s1 s2 (a.front ++ (b.whole ++ more (w.content j0.disk))) b.whole (more (w.content j0.disk)) (record { front = a.front; whole = refl; took = a.took }) b.put;
+    told = λ told. sym (parted j0 j1 a.front b.whole text rest p more (a.told told) parts (b.told told) ((a.reads.told told).same));
     later = omega (arith, a.later, b.later);
     disk = λ i. rose_since (w.faults j0.disk) (w.faults j1.disk) (w.faults j2.disk) a.reads.later (b.disk (same_kind e stop.DiskFault i));
     sink = λ i. rose_since (k.faults s0) (k.faults s1) (k.faults s2) a.later (b.sink (same_kind e stop.SinkFault i));
@@ -151,7 +177,9 @@ module _ {D K : Type 0} (w : DiskWords D) (k : SinkWords K) (falls : w.tells →
       → Dumps {A = A} w k j0 j1 s0 s1 text (Ok x)
   dumped x j0 j1 s0 s1 text rest a none = record {
     reads = a.reads;
-    put = λ told. end_put k s0 s1 (text (w.content j0.disk)) (subst (λ (t : Text). TookFront (of_sink k s0 s1) (text (w.content j0.disk)) t) (none (w.content j0.disk)) (a.put told));
+    whole = a.front;
+    put = a.took;
+    told = λ told. sym (a.told told ∙ (ap (λ (t : Text). a.front ++ t) (none (w.content j0.disk)) ∙ append-nil a.front));
     later = a.later;
     disk = λ i. cc;
     sink = λ i. cc;
@@ -202,3 +230,10 @@ module _ {D K : Type 0} (w : DiskWords D) (k : SinkWords K) (falls : w.tells →
       → IfSome place (λ at. (c : List ℕ) → rest c ≡ q at c ++ more c) → IfSome place (λ at. Dumps {A = A} w k j1 j2 s1 s2 (q at) (Err e)) → Dumps {A = B} w k j0 j2 s0 s2 text (Err e)
   failed_placed A e j0 j1 j2 s0 s1 s2 None text rest more q some a parts b = absurd cc
   failed_placed A e j0 j1 j2 s0 s1 s2 (Some at) text rest more q some a parts b = failed_dump e j0 j1 j2 s0 s1 s2 text rest (q at) more a parts b
+
+  -- a directory where a walk stands
+  pub folder_placed : {A : Type 0} (j : Seen D) (s0 s1 : K) (place : Option Place) (unit : Text) (path : List Text) (r : Result A DumpStop) → IfSome place (λ at. unit ≡ at.0) → IfSome place (λ at. path ≡ at.1)
+      → Puts k s0 s1 (compact_text (folder_value (unit, path))) r → IfSome place (λ at. Dumps w k j j s0 s1 (λ c. compact_text (folder_value at)) r)
+  folder_placed j s0 s1 None unit path r key names a = tt
+  folder_placed j s0 s1 (Some at) unit path r key names a =
+      dumps_puts j s0 s1 (compact_text (folder_value at)) r (subst (λ (t : Text). Puts k s0 s1 t r) (λ i. compact_text (folder_value (key i, names i))) a)

@@ -1,5 +1,5 @@
 -- What a call puts out of a text: all of it, or a front where it fails. This project's own.
-use Rattle.std.specs.Prelude.{ℕ, ◌≤◌, List, Result, Ok, Err, IsErrOf}
+use Rattle.std.specs.Prelude.{◌≡◌, ℕ, ◌≤◌, List, ◌++◌, Result, Ok, Err, IsErrOf}
 use Rattle.opfs_base.specs.Texts.{Text}
 use Rattle.opfs_data.specs.Calls.{Reads}
 use Rattle.opfs_journal.specs.Seen.{Seen}
@@ -26,11 +26,13 @@ pub record Puts {K A : Type 0} (k : SinkWords K) (before after : K) (text : Text
   pub sink : IsErrOf r stop.SinkFault → SinkFailed (of_sink k before after)
   pub disk : IsErrOf r stop.DiskFault → ⊥
 
--- A text of what an image holds was put out, or a front of it, and then the disk or the sink failed, or there was no memory.
--- The disk was only read.
+-- A text was put out, or a front of it, and then the disk or the sink failed, or there was no memory. Where the disk tells, it
+-- is this text of what the disk holds. The disk was only read.
 pub record Dumps {D K A : Type 0} (w : DiskWords D) (k : SinkWords K) (old new : Seen D) (before after : K) (text : List ℕ → Text) (r : Result A DumpStop) : Type 0 where
   pub reads : Reads w old new
-  pub put : w.tells → PutOut (of_sink k before after) (text (w.content old.disk)) r
+  pub whole : Text
+  pub put : PutOut (of_sink k before after) whole r
+  pub told : w.tells → whole ≡ text (w.content old.disk)
   pub later : k.faults before ≤ k.faults after
   pub disk : IsErrOf r stop.DiskFault → Rose (w.faults old.disk) (w.faults new.disk)
   pub sink : IsErrOf r stop.SinkFault → SinkFailed (of_sink k before after)
@@ -38,5 +40,7 @@ pub record Dumps {D K A : Type 0} (w : DiskWords D) (k : SinkWords K) (old new :
 -- The same in the midst of a text, of which this is still to come.
 pub record DumpsSoFar {D K : Type 0} (w : DiskWords D) (k : SinkWords K) (old new : Seen D) (before after : K) (text rest : List ℕ → Text) : Type 0 where
   pub reads : Reads w old new
-  pub put : w.tells → TookFront (of_sink k before after) (text (w.content old.disk)) (rest (w.content old.disk))
+  pub front : Text
+  pub took : Took (of_sink k before after) front
+  pub told : w.tells → text (w.content old.disk) ≡ front ++ rest (w.content old.disk)
   pub later : k.faults before ≤ k.faults after

@@ -1,10 +1,5 @@
 //! Images in memory, and their texts.
 
-ghost use Rattle.std.specs.Prelude.{◌≡◌, ◌+◌, ◌≤◌, true};
-ghost use Rattle.opfs_dump_text.specs.Limits.{charge_of_map};
-ghost use Rattle.opfs_dump_text.specs.Seen.{dump_of};
-ghost use Rattle.opfs_image.specs.Superblock.{area_bytes, is_in_range};
-
 use opfs_dump::dump;
 use opfs_dump_text::{Dumped, loaded_line, refused_line};
 use opfs_image::recover;
@@ -39,10 +34,7 @@ pub fn text_of(alloc: Global, image: &[u8]) -> Result<Vec<u8>, AllocError> {
 }
 
 /// The image that a text stands for.
-fn laid(alloc: Global, dumped: &Dumped) -> Result<Vec<u8>, AllocError>
-    requires range { is_in_range dumped.now.geometry ≡ true }
-    requires fits { charge_of_map (dump_of dumped.now).map + 7 ≤ area_bytes dumped.now.geometry }
-{
+fn laid(alloc: Global, dumped: &Dumped) -> Result<Vec<u8>, AllocError> {
     let size = dumped.geometry.image_size();
     let disk = disk_of(alloc, vec![in alloc; 7u8; size as usize]?, Vec::new(alloc))?;
     if disk.len() < size {

@@ -2,3 +2,4 @@ pub mod Limits
 pub mod Reading
 pub mod Seen
 pub mod Texts
+pub mod Whole

@@ -1,9 +1,8 @@
--- What was read as the map that it is.
-use Rattle.std.specs.Prelude.{map, Option, Some, None}
+-- Rows that were read as the rows that they are. This project's own.
+use Rattle.std.specs.Prelude.{List, map, Option, Some, None}
 use Rattle.opfs_base.specs.Places.{Place}
-use Rattle.opfs_machine.specs.Openings.{Stored, folder, document}
-use Rattle.opfs_dump_text.specs.Reading.{Dump}
-use Rattle.opfs_dump_text.specs.declared.dumped.Dumped.{Dumped}
+use Rattle.opfs_base.specs.Texts.{Text}
+use Rattle.opfs_machine.specs.Openings.{Map, Stored, folder, document}
 use Rattle.opfs_dump_text.specs.declared.dumped.DumpedRow.{DumpedRow}
 use Rattle.opfs_dump_text.specs.declared.dumped.DumpedFile.{DumpedFile}
 
@@ -17,5 +16,6 @@ stored_of (Some f) = document_of f
 abbrev pub row_of : DumpedRow → Place × Stored
 row_of r = (r.place, stored_of r.file)
 
-abbrev pub dump_of : Dumped → Dump
-dump_of d = record { geometry = d.geometry; map = record { rows = map row_of d.rows.items; persistent = d.persistent.items } }
+-- Rows and persistent units as a map.
+abbrev pub map_of : List DumpedRow → List Text → Map
+map_of rows persistent = record { rows = map row_of rows; persistent = persistent }

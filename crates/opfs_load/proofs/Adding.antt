@@ -4,15 +4,15 @@ use Rattle.std.specs.Prelude.{map, sum_by}
 use Rattle.std.proofs.lemmas.List.Sums.{sum_by-cons}
 use Rattle.opfs_base.specs.Measures.{mode_charge, place_charge, block_charge}
 use Rattle.opfs_base.specs.Places.{Place}
+use Rattle.opfs_base.specs.Texts.{Text}
 use Rattle.opfs_codec.specs.declared.change.Format.TheVariants.{New}
 use Rattle.opfs_machine.specs.Openings.{Stored, folder, document}
 use Rattle.opfs_replay.specs.Sums.{charge_of, row_charge}
 use Rattle.opfs_tree.specs.Rows.{kind_of}
 use Rattle.opfs_tree.specs.declared.row.Row.{Row}
-use Rattle.opfs_dump_text.specs.declared.dumped.Dumped.{Dumped}
 use Rattle.opfs_dump_text.specs.declared.dumped.DumpedRow.{DumpedRow}
 use Rattle.opfs_dump_text.specs.Limits.{bare_row, bare_rows, blocks_needed, charge_of_map, stored_blocks}
-use Rattle.opfs_dump_text.specs.Seen.{dump_of, row_of, stored_of}
+use Rattle.opfs_dump_text.specs.Seen.{map_of, row_of, stored_of}
 
 pub needed_is : (rows : List DumpedRow) → sum_by (λ r. stored_blocks (stored_of r.file)) rows ≡ blocks_needed (map row_of rows)
 needed_is [] = refl
@@ -35,7 +35,7 @@ rows_charge_is (r ∷ rs) =
       sum_by-cons (λ (x : Place × Row). row_charge New x.0 x.1) (r.place, bare_row (stored_of r.file)) (bare_rows (map row_of rs)),
     )
 
-pub charge_is : (d : Dumped) (rows modes whole : ℕ) → rows ≡ sum_by (λ r. row_charge New r.place (bare_row (stored_of r.file))) d.rows.items → modes ≡ sum_by mode_charge d.persistent.items → whole ≡ rows + modes
-    → whole ≡ charge_of_map (dump_of d).map
+pub charge_is : (items : List DumpedRow) (persistent : List Text) (rows modes whole : ℕ) → rows ≡ sum_by (λ r. row_charge New r.place (bare_row (stored_of r.file))) items → modes ≡ sum_by mode_charge persistent → whole ≡ rows + modes
+    → whole ≡ charge_of_map (map_of items persistent)
 unfolding charge_of
-charge_is d rows modes whole r m w = omega (arith, r, m, w, rows_charge_is d.rows.items)
+charge_is items persistent rows modes whole r m w = omega (arith, r, m, w, rows_charge_is items)

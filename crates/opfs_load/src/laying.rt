@@ -4,7 +4,8 @@ ghost use Rattle.std.specs.Prelude.{◌≡◌, ◌+◌, ◌*◌, ◌^◌, ◌<�
 ghost use Rattle.opfs_base.specs.Blocks.{blocks};
 ghost use Rattle.opfs_codec.specs.declared.change.Format.TheVariants.{New};
 ghost use Rattle.opfs_dump_text.specs.Limits.{blocks_needed, charge_of_map, stored_blocks};
-ghost use Rattle.opfs_dump_text.specs.Seen.{document_of, dump_of, row_of, stored_of};
+ghost use Rattle.opfs_dump_text.specs.Seen.{document_of, row_of, stored_of};
+ghost use Rattle.opfs_dump_text.specs.Whole.{dump_of};
 ghost use Rattle.opfs_image.specs.Filling.{filled_row};
 ghost use Rattle.opfs_image.specs.Reading.{read_as};
 ghost use Rattle.opfs_image.specs.Superblock.{area_bytes, image_size, is_in_range};
@@ -186,9 +187,7 @@ fn lay_on<D: Disk>(alloc: Global, dumped: &Dumped, body: &[u8], disk: D) -> (D, 
 /// puts one record in the place of all. A stop within it may leave no image. All memory but the journal's is taken before the
 /// disk is written.
 pub fn lay<D: Disk>(alloc: Global, dumped: &Dumped, disk: D) -> (D, Result<(), LayStop>)
-    requires range { is_in_range dumped.now.geometry ≡ true }
-    requires fits { charge_of_map (dump_of dumped.now).map + 7 ≤ area_bytes dumped.now.geometry }
-    requires length { image_size dumped.now.geometry ≤ D.size disk }
+    requires { image_size dumped.now.geometry ≤ D.size disk }
     ensures stands { OnOk result.1 (D.tells → StandsAs dumped.now.geometry (dump_of dumped.now).map (D.content result.0)) }
     ensures size { D.size result.0 ≡ D.size disk }
     ensures later { D.faults disk ≤ D.faults result.0 }

@@ -3,7 +3,8 @@
 ghost use Rattle.std.specs.Prelude.{ℕ, ◌≡◌, ◌+◌, ◌≤◌, [], ◌++◌, ◌∷◌, map, Some, IfOk, OnOk, IsTrue};
 ghost use Rattle.opfs_codec.specs.declared.change.Format.TheVariants.{New};
 ghost use Rattle.opfs_dump_text.specs.Limits.{blocks_needed, stored_blocks};
-ghost use Rattle.opfs_dump_text.specs.Seen.{dump_of, row_of, stored_of};
+ghost use Rattle.opfs_dump_text.specs.Seen.{row_of, stored_of};
+ghost use Rattle.opfs_dump_text.specs.Whole.{dump_of};
 ghost use Rattle.opfs_replay.specs.Applying.{rows_of};
 ghost use Rattle.opfs_replay.specs.Built.{IsSound};
 ghost use Rattle.opfs_replay.specs.Sums.{persistent_in};

@@ -1,12 +1,12 @@
 //! What bytes read as.
 
-ghost use Rattle.std.specs.Prelude.{◌≡◌, ◌⊎◌, ◌+◌, ◌≤◌, map, true, None, Some, Ok, Err, IfOk, IfErr};
+ghost use Rattle.std.specs.Prelude.{◌≡◌, ◌⊎◌, map, true, None, Some, Ok, Err, IfOk, IfErr};
 ghost use Rattle.serde_json.specs.View.{view};
 ghost use Rattle.opfs_script.specs.Reading.{json_of};
 ghost use Rattle.opfs_dump_text.specs.Reading.{if_fits, if_json, if_topped, reads_dump};
-ghost use Rattle.opfs_dump_text.specs.Limits.{charge_of_map};
-ghost use Rattle.opfs_dump_text.specs.Seen.{dump_of};
-ghost use Rattle.opfs_image.specs.Superblock.{area_bytes, is_in_range};
+ghost use Rattle.opfs_dump_text.specs.Seen.{map_of};
+ghost use Rattle.opfs_dump_text.specs.Whole.{dump_of};
+ghost use Rattle.opfs_image.specs.Superblock.{is_in_range};
 ghost use Rattle.opfs_load.specs.Answers.{Answers};
 
 use crate::fault::Fault;
@@ -14,7 +14,7 @@ use crate::rows::rows_of;
 use crate::sums::{blocks_needed, charge_of};
 use crate::top::{Top, top_in};
 use opfs_base::{BLOCK_SIZE, Key};
-use opfs_dump_text::{DumpRefusal, Dumped};
+use opfs_dump_text::{DumpRefusal, Dumped, DumpedRow};
 use opfs_image::Geometry;
 use serde_json::Value;
 use std::alloc::Global;
@@ -39,22 +39,29 @@ fn json_of(alloc: Global, bytes: &[u8]) -> Result<Value, DumpRefusal>
 
 // What was read, if there is room for it.
 #[tactic(auto, unfolding(opfs_dump_text::specs::Reading::if_fits))]
-fn fitting(dumped: Dumped) -> Result<Dumped, DumpRefusal>
-    ensures read { Answers dump_of result (if_fits (dump_of dumped)) }
-    ensures geometry { IfOk result (λ d. d.geometry ≡ dumped.geometry) }
-    ensures room { IfOk result (λ d. charge_of_map (dump_of d).map + 7 ≤ area_bytes d.geometry) }
+fn fitting(
+    geometry: Geometry,
+    rows: Vec<DumpedRow>,
+    persistent: Vec<Key>,
+) -> Result<Dumped, DumpRefusal>
+    requires { is_in_range geometry ≡ true }
+    ensures { Answers dump_of result (if_fits (record { geometry = geometry; map = map_of rows.items persistent.items })) }
 {
-    let need = blocks_needed(&dumped.rows)?;
-    let blocks = u64::from(dumped.geometry.blocks);
+    let need = blocks_needed(&rows)?;
+    let blocks = u64::from(geometry.blocks);
     if blocks < need {
         return Err(DumpRefusal::Full(need, blocks));
     }
-    let charge = charge_of(&dumped)?;
-    let area = BLOCK_SIZE * u64::from(dumped.geometry.areas);
+    let charge = charge_of(&rows, &persistent)?;
+    let area = BLOCK_SIZE * u64::from(geometry.areas);
     if area < charge.saturating_add(7) {
         return Err(DumpRefusal::Overfull(charge, area));
     }
-    Ok(dumped)
+    Ok(Dumped {
+        geometry,
+        rows,
+        persistent,
+    })
 }
 
 // The rows, and what was read.
@@ -64,23 +71,16 @@ fn with_rows(
     persistent: Vec<Key>,
     rows: &[Value],
 ) -> Result<Dumped, DumpRefusal>
-    ensures read { Answers dump_of result (if_topped (Some (record { geometry = geometry; persistent = persistent.items; rows = map view rows.now }))) }
-    ensures geometry { IfOk result (λ d. d.geometry ≡ geometry) }
-    ensures room { IfOk result (λ d. charge_of_map (dump_of d).map + 7 ≤ area_bytes d.geometry) }
+    requires { is_in_range geometry ≡ true }
+    ensures { Answers dump_of result (if_topped (Some (record { geometry = geometry; persistent = persistent.items; rows = map view rows.now }))) }
 {
     let rows = rows_of(alloc, rows)?;
-    fitting(Dumped {
-        geometry,
-        rows,
-        persistent,
-    })
+    fitting(geometry, rows, persistent)
 }
 
 // What a JSON value is.
 fn dump_of(alloc: Global, value: &Value) -> Result<Dumped, DumpRefusal>
-    ensures read { Answers dump_of result (if_json (Some (view value.now))) }
-    ensures range { IfOk result (λ d. is_in_range d.geometry ≡ true) }
-    ensures room { IfOk result (λ d. charge_of_map (dump_of d).map + 7 ≤ area_bytes d.geometry) }
+    ensures { Answers dump_of result (if_json (Some (view value.now))) }
 {
     match top_in(alloc, value) {
         Ok(
@@ -102,8 +102,6 @@ fn dump_of(alloc: Global, value: &Value) -> Result<Dumped, DumpRefusal>
 pub fn read_dump(alloc: Global, bytes: &[u8]) -> Result<Dumped, DumpRefusal>
     ensures ok { IfOk result (λ dumped. reads_dump bytes.now ≡ Ok (dump_of dumped)) }
     ensures err { IfErr result (λ why. (reads_dump bytes.now ≡ Err why) ⊎ (why ≡ DumpRefusal.NoMemory)) }
-    ensures range { IfOk result (λ dumped. is_in_range dumped.geometry ≡ true) }
-    ensures room { IfOk result (λ dumped. charge_of_map (dump_of dumped).map + 7 ≤ area_bytes dumped.geometry) }
 {
     if bytes.len() > MOST_BYTES {
         return Err(DumpRefusal::TooLong);

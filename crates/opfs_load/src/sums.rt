@@ -4,12 +4,12 @@ ghost use Rattle.std.specs.Prelude.{◌≡◌, ◌+◌, ◌*◌, map, sum_by, If
 ghost use Rattle.opfs_base.specs.Measures.{mode_charge};
 ghost use Rattle.opfs_codec.specs.declared.change.Format.TheVariants.{New};
 ghost use Rattle.opfs_dump_text.specs.Limits.{bare_row, blocks_needed, charge_of_map, stored_blocks};
-ghost use Rattle.opfs_dump_text.specs.Seen.{dump_of, row_of, stored_of};
+ghost use Rattle.opfs_dump_text.specs.Seen.{map_of, row_of, stored_of};
 ghost use Rattle.opfs_replay.specs.Sums.{row_charge};
 ghost use Rattle.opfs_tree.specs.Rows.{kind_of};
 
 use opfs_base::{BLOCK_CHARGE, Key, Kind, blocks, mode_charge, place_charge, plus, times};
-use opfs_dump_text::{Dumped, DumpedFile, DumpedRow};
+use opfs_dump_text::{DumpedFile, DumpedRow};
 use std::alloc::AllocError;
 
 // The blocks that a row takes.
@@ -76,11 +76,11 @@ fn modes_charge(units: &[Key]) -> Result<u64, AllocError>
 }
 
 /// The charge of what was read.
-pub(crate) fn charge_of(dumped: &Dumped) -> Result<u64, AllocError>
-    ensures { IfOk result (λ charge. charge ≡ charge_of_map (dump_of dumped.now).map) }
+pub(crate) fn charge_of(rows: &[DumpedRow], persistent: &[Key]) -> Result<u64, AllocError>
+    ensures { IfOk result (λ charge. charge ≡ charge_of_map (map_of rows.now persistent.now)) }
 {
-    let rows = rows_charge(&dumped.rows)?;
-    let modes = modes_charge(&dumped.persistent)?;
+    let rows = rows_charge(rows)?;
+    let modes = modes_charge(persistent)?;
     let charge = plus(rows, modes)?;
     Ok(charge)
 }

@@ -1,12 +1,12 @@
 -- What a command leaves of a host, as its words ask.
-use Rattle.std.proofs.Common.{◌≡◌, ◌≢◌, ◌⊎◌, inl, inr, refl, sym, ◌∙◌, ap, subst}
-use Rattle.std.specs.Prelude.{List, Result, Ok, Err, IsErr, is_err, true, false}
+use Rattle.std.proofs.Common.{◌≡◌, ◌≢◌, ◌⊎◌, ◌++◌, [], inl, inr, refl, sym, ◌∙◌, ap, subst}
+use Rattle.std.specs.Prelude.{List, Result, Ok, Err, IfOk, IsErr, is_err, true, false}
 use Rattle.std.specs.declared.alloc.AllocError.{AllocError}
 use Rattle.opfs_base.specs.Texts.{Text}
-use Rattle.opfs_commands.specs.Commands.{Command, trial, judgement, on_image, Asks, AsksNothing, IsAsked}
-use Rattle.opfs_commands.specs.Kinds.{IsReading, IsMigration}
+use Rattle.opfs_commands.specs.Commands.{Command, trial, judgement, on_image, loading, Asks, AsksNothing, IsAsked}
+use Rattle.opfs_commands.specs.Kinds.{IsDumping, IsReading, IsMigration}
 use Rattle.opfs_commands.specs.Kinds.{NoneFailed as ToolNoneFailed}
-use Rattle.opfs_commands.specs.Telling.{IsAnswer}
+use Rattle.opfs_commands.specs.Telling.{IsAnswer, IsBehind, IsLoaded, IsNoDump, IsOfImage, IsPut}
 use Rattle.opfs_commands.specs.Kinds.{DoneKind, RefusedKind}
 use Rattle.opfs_commands.specs.declared.answers.ToolAnswer.{ToolAnswer}
 use Rattle.opfs_commands.specs.declared.answers.ToolEnd.{ToolEnd}
@@ -14,11 +14,11 @@ use Rattle.opfs_commands.specs.declared.answers.ToolEnd.TheVariants as tool_end
 use Rattle.opfs_commands.specs.declared.words.Action.{Action}
 use Rattle.opfs_commands.proofs.Spelled.{named}
 use Rattle.opfs_outside.specs.declared.host.Host.{Ghosts as HostWords}
-use Rattle.opfs_outside.specs.Turns.{of_host, AsBefore, HostFailed, HostTurn, SourceTurn}
+use Rattle.opfs_outside.specs.Turns.{of_host, AsBefore, HostFailed, HostTurn, SinkTurn, SourceTurn}
 use Rattle.opfs_print.specs.declared.end.End.TheVariants as end
 use Rattle.opfs_print.specs.Status.{status_text}
-use Rattle.opfs_top.specs.Answers.{ImageEnded, NoneFailedBy}
-use Rattle.opfs_top.specs.Doing.{Did, Ended, IsTooLong, Migrates, Names, NoneFailed, OfSource, RefusedScript, TakesImage, TakesScript, TaskDone, TaskEnded, TaskRefused, Tells, ToolEnded}
+use Rattle.opfs_top.specs.Answers.{Behind, ImageEnded, IsTold, LoadEnded, NoneFailedBy}
+use Rattle.opfs_top.specs.Doing.{Did, Dumped, Ended, IsFrontOf, IsTooLong, Migrates, Names, NoneFailed, OfSource, RefusedScript, TakesImage, TakesScript, TaskDone, TaskEnded, TaskRefused, Tells, ToolEnded}
 use Rattle.opfs_top.specs.Statuses.{status_of}
 use Rattle.opfs_top.specs.declared.answer.Answer.{Answer}
 use Rattle.opfs_top.specs.declared.answer.Task.{Task}
@@ -28,11 +28,54 @@ use Rattle.opfs_top.specs.declared.status.Status.TheVariants as status
 
 -- ---- the ends of one command
 
-pub image_ended : (h : HostTurn) (path : Text) (action : Action) (e : ToolEnd) (text : Text)
-    → IsAnswer h.tells (DoneKind action (h.image path) (h.image_after path)) (RefusedKind action (h.image path)) (HostFailed h) e text → ImageEnded h path action (status_of e) text
-image_ended h path action tool_end.Done text is = is
-image_ended h path action tool_end.Image text is = is
-image_ended h path action tool_end.Host text is = is
+-- a command on the image at a path, from what it put out and its answer
+module _ (k : SinkTurn) (h : HostTurn) (path : Text) (action : Action) where
+  abbrev Begins : Text → Type 0
+  Begins text = IsDumping action × (h.tells → DoneKind action (h.image path) (h.image_after path) text)
+
+  abbrev Whole : Text → Type 0
+  Whole text = h.tells → DoneKind action (h.image path) (h.image_after path) text
+
+  abbrev Refuses : Text → Type 0
+  Refuses text = h.tells → RefusedKind action (h.image path) text
+
+  behind_by : (front : Text) → IsFrontOf Begins front → (e : ToolEnd) (text : Text) → IsBehind k Whole Refuses (HostFailed h) front e text → Behind k front (ImageEnded h path action) (status_of e) text
+  behind_by front begun tool_end.Done text is = is
+  behind_by front begun tool_end.Image text is = subst (λ f. Refuses (f ++ text)) (sym is.0) is.1
+  behind_by front begun tool_end.Host text is = (is.0, (front, begun, ap (λ (t : Text). front ++ t) is.1))
+  behind_by front begun tool_end.Sink text is = is
+
+  pub image_answered : (r : Result ToolAnswer AllocError) (a : ToolAnswer) (b : Answer) (result : Result Answer AllocError) → IsPut k Begins Whole Refuses (HostFailed h) r → r ≡ Ok a → result ≡ Ok b → b.status ≡ status_of a.end → b.text ≡ a.text
+      → IsTold k Begins (ImageEnded h path action) result
+  image_answered r a b result put is made ends same =
+      let e : IsBehind k Whole Refuses (HostFailed h) put.front a.end a.text = subst (λ x. IfOk x (λ y. IsBehind k Whole Refuses (HostFailed h) put.front y.end y.text)) is put.ended in
+      let by : Behind k put.front (ImageEnded h path action) (status_of a.end) a.text = behind_by put.front put.begun.begun a.end a.text e in
+      record {
+        front = put.front;
+        took = put.begun.took;
+        begun = put.begun.begun;
+        ended = subst (λ x. IfOk x (λ y. Behind k put.front (ImageEnded h path action) y.status y.text)) (sym made)
+            (subst (λ x. Behind k put.front (ImageEnded h path action) x b.text) (sym ends) (subst (λ t. Behind k put.front (ImageEnded h path action) (status_of a.end) t) (sym same) by));
+      }
+
+  pub image_failed : (r : Result ToolAnswer AllocError) (result : Result Answer AllocError) → IsPut k Begins Whole Refuses (HostFailed h) r → IsErr result → IsTold k Begins (ImageEnded h path action) result
+  image_failed r (Ok b) put failed = absurd (let never : false ≡ true = failed in cc never)
+  image_failed r (Err e) put failed = record { front = put.front; took = put.begun.took; begun = put.begun.begun; ended = tt }
+
+-- making an image from a text
+pub load_ended : (h : HostTurn) (image from : Text) (e : ToolEnd) (text : Text)
+    → IsAnswer h.tells (IsLoaded (h.image from) (h.image_after image)) (IsOfImage IsNoDump (h.image from)) (HostFailed h) e text → LoadEnded h image from (status_of e) text
+load_ended h image from tool_end.Done text is = is
+load_ended h image from tool_end.Image text is = is
+load_ended h image from tool_end.Host text is = is
+load_ended h image from tool_end.Sink text is = absurd is
+
+front_by : (words : List Text) (h : HostTurn) (path : Text) (action : Action) → IsAsked words (on_image path action) → (front : Text)
+    → IsFrontOf (λ t. IsDumping action × (h.tells → DoneKind action (h.image path) (h.image_after path) t)) front → IsFrontOf (λ t. Asks words (λ command. Dumped command h t)) front
+front_by words h path action asked front begun = elim begun [
+  | inl none ↦ inl none
+  | inr more ↦ inr (more.0, record { command = on_image path action; asked = asked; holds = more.1 })
+]
 
 pub image_ends : (words : List Text) (s : SourceTurn) (h : HostTurn) (path : Text) (action : Action) → IsAsked words (on_image path action)
     → (ended : Status) (text : Text) → ImageEnded h path action ended text → Ended words s h ended text
@@ -40,7 +83,13 @@ image_ends words s h path action asked status.Done text is = record { command = 
 image_ends words s h path action asked status.Usage text is = absurd is
 image_ends words s h path action asked status.Script text is = absurd is
 image_ends words s h path action asked status.Image text is = record { command = on_image path action; asked = asked; holds = is }
-image_ends words s h path action asked status.Host text is = record { asked = record { command = on_image path action; asked = asked; holds = tt }; failed = is.0; line = is.1 }
+image_ends words s h path action asked status.Host text is = record {
+  asked = record { command = on_image path action; asked = asked; holds = tt };
+  failed = is.0;
+  front = is.1.0;
+  begun = front_by words h path action asked is.1.0 is.1.1;
+  line = is.1.2;
+}
 image_ends words s h path action asked status.Source text is = absurd is
 image_ends words s h path action asked status.Sink text is = absurd is
 image_ends words s h path action asked status.Memory text is = absurd is
@@ -51,10 +100,38 @@ tool_ends words h path action asked status.Done text is = record { command = on_
 tool_ends words h path action asked status.Usage text is = absurd is
 tool_ends words h path action asked status.Script text is = absurd is
 tool_ends words h path action asked status.Image text is = record { command = on_image path action; asked = asked; holds = is }
-tool_ends words h path action asked status.Host text is = record { asked = record { command = on_image path action; asked = asked; holds = tt }; failed = is.0; line = is.1 }
+tool_ends words h path action asked status.Host text is = record {
+  asked = record { command = on_image path action; asked = asked; holds = tt };
+  failed = is.0;
+  front = is.1.0;
+  begun = front_by words h path action asked is.1.0 is.1.1;
+  line = is.1.2;
+}
 tool_ends words h path action asked status.Source text is = absurd is
 tool_ends words h path action asked status.Sink text is = absurd is
 tool_ends words h path action asked status.Memory text is = absurd is
+
+pub load_ends : (words : List Text) (s : SourceTurn) (h : HostTurn) (image from : Text) → IsAsked words (loading image from)
+    → (ended : Status) (text : Text) → LoadEnded h image from ended text → Ended words s h ended text
+load_ends words s h image from asked status.Done text is = record { command = loading image from; asked = asked; holds = is }
+load_ends words s h image from asked status.Usage text is = absurd is
+load_ends words s h image from asked status.Script text is = absurd is
+load_ends words s h image from asked status.Image text is = record { command = loading image from; asked = asked; holds = is }
+load_ends words s h image from asked status.Host text is = record { asked = record { command = loading image from; asked = asked; holds = tt }; failed = is.0; front = []; begun = inl refl; line = is.1 }
+load_ends words s h image from asked status.Source text is = absurd is
+load_ends words s h image from asked status.Sink text is = absurd is
+load_ends words s h image from asked status.Memory text is = absurd is
+
+pub load_tool_ends : (words : List Text) (h : HostTurn) (image from : Text) → IsAsked words (loading image from)
+    → (ended : Status) (text : Text) → LoadEnded h image from ended text → ToolEnded words h ended text
+load_tool_ends words h image from asked status.Done text is = record { command = loading image from; asked = asked; holds = is }
+load_tool_ends words h image from asked status.Usage text is = absurd is
+load_tool_ends words h image from asked status.Script text is = absurd is
+load_tool_ends words h image from asked status.Image text is = record { command = loading image from; asked = asked; holds = is }
+load_tool_ends words h image from asked status.Host text is = record { asked = record { command = loading image from; asked = asked; holds = tt }; failed = is.0; front = []; begun = inl refl; line = is.1 }
+load_tool_ends words h image from asked status.Source text is = absurd is
+load_tool_ends words h image from asked status.Sink text is = absurd is
+load_tool_ends words h image from asked status.Memory text is = absurd is
 
 -- the command for which a script is read
 abbrev pub asked_for : Task → Command
@@ -110,16 +187,19 @@ named_takes : (path : Text) (c : Command) → Names path c → TakesImage c
 named_takes path trial is = is
 named_takes path judgement is = is
 named_takes path (on_image image action) is = tt
+named_takes path (loading image from) is = tt
 
 told_takes : (path : Text) (c : Command) → Tells path c → TakesImage c
 told_takes path trial is = is
 told_takes path judgement is = is
 told_takes path (on_image image action) is = tt
+told_takes path (loading image from) is = tt
 
 migrated_takes : (path : Text) (c : Command) → Migrates path c → TakesImage c
 migrated_takes path trial is = is
 migrated_takes path judgement is = is
 migrated_takes path (on_image image action) is = tt
+migrated_takes path (loading image from) is = absurd is
 
 pub none_named : (words : List Text) (path : Text) → (Asks words TakesImage → ⊥) → Asks words (Names path) → ⊥
 none_named words path none is = none (record { command = is.command; asked = is.asked; holds = named_takes path is.command is.holds })
@@ -151,6 +231,24 @@ module _ (words : List Text) (image : Text) (action : Action) (asked : IsAsked w
 
   pub not_named : (path : Text) → (Asks words (Names path) → ⊥) → path ≢ image
   not_named path none same = none (record { command = on_image image action; asked = asked; holds = same })
+
+-- ---- an image made from a text
+
+module _ (words : List Text) (image from : Text) (asked : IsAsked words (loading image from)) where
+  pub load_told : (path : Text) → Asks words (Tells path) → (path ≡ from) × (from ≢ image)
+  load_told path is = named words (loading image from) (Tells path) asked is
+
+  pub load_no_migration : (path : Text) → Asks words (Migrates path) → ⊥
+  load_no_migration path is = named words (loading image from) (Migrates path) asked is
+
+  pub takes_load : Asks words TakesImage
+  takes_load = record { command = loading image from; asked = asked; holds = tt }
+
+  pub not_image : (path : Text) → (Asks words (Names path) → ⊥) → path ≢ image
+  not_image path none same = none (record { command = loading image from; asked = asked; holds = inl same })
+
+  pub not_text : (path : Text) → (Asks words (Names path) → ⊥) → path ≢ from
+  not_text path none same = none (record { command = loading image from; asked = asked; holds = inr same })
 
 -- ---- no call failed, told from above
 

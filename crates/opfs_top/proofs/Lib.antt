@@ -1,3 +1,4 @@
 pub mod Hosts
 pub mod Parting
 pub mod Putting
+pub mod Telling

@@ -1,13 +1,14 @@
 -- What is said of a command before its text is put out. This project's own.
-use Rattle.std.specs.Prelude.{◌≡◌, ◌≢◌, ◌⊎◌, Result, Ok}
+use Rattle.std.specs.Prelude.{◌≡◌, ◌≢◌, ◌⊎◌, ◌++◌, [], Result, Ok, IfOk}
 use Rattle.std.specs.declared.alloc.AllocError.{AllocError}
 use Rattle.opfs_base.specs.Texts.{Text}
-use Rattle.opfs_commands.specs.Kinds.{DoneKind, RefusedKind}
+use Rattle.opfs_outside.specs.Turns.{HostTurn, HostFailed, HostServed, SinkFailed, SinkTurn, Took}
+use Rattle.opfs_commands.specs.Kinds.{DoneKind, IsDumping, RefusedKind}
+use Rattle.opfs_commands.specs.Telling.{IsLoaded, IsNoDump, IsOfImage}
 use Rattle.opfs_commands.specs.declared.words.Action.{Action}
-use Rattle.opfs_outside.specs.Turns.{HostTurn, HostFailed, HostServed}
 use Rattle.opfs_print.specs.declared.end.End.TheVariants as end
 use Rattle.opfs_print.specs.Status.{status_text}
-use Rattle.opfs_top.specs.Doing.{TaskDone, TaskRefused}
+use Rattle.opfs_top.specs.Doing.{IsFrontOf, TaskDone, TaskRefused}
 use Rattle.opfs_top.specs.declared.answer.Answer.{Answer}
 use Rattle.opfs_top.specs.declared.answer.Task.{Task}
 use Rattle.opfs_top.specs.declared.status.Status.{Status}
@@ -19,12 +20,31 @@ Outcome t bytes status.Done text = TaskDone t bytes text
 Outcome t bytes status.Script text = TaskRefused t bytes text
 Outcome t bytes ended text = ⊥
 
+-- What is to be put out at each end behind a front that was put out. Where the sink has failed, nothing more is.
+abbrev pub Behind : SinkTurn → Text → (Status → Text → Type 0) → Status → Text → Type 0
+Behind k front End status.Sink text = SinkFailed k × (text ≡ []) × ((rest : Text) × End status.Done (front ++ rest))
+Behind k front End ended text = End ended (front ++ text)
+
+-- How a command ended: what it has put out, and what it is to put out behind it.
+pub record IsTold (k : SinkTurn) (Begun : Text → Type 0) (End : Status → Text → Type 0) (r : Result Answer AllocError) : Type 0 where
+  pub front : Text
+  pub took : Took k front
+  pub begun : IsFrontOf Begun front
+  pub ended : IfOk r (λ answer. Behind k front End answer.status answer.text)
+
 -- What a command on the image at a path puts out at each end.
 abbrev pub ImageEnded : HostTurn → Text → Action → Status → Text → Type 0
 ImageEnded h path action status.Done text = h.tells → DoneKind action (h.image path) (h.image_after path) text
 ImageEnded h path action status.Image text = h.tells → RefusedKind action (h.image path) text
-ImageEnded h path action status.Host text = HostFailed h × (text ≡ status_text end.Host)
+ImageEnded h path action status.Host text = HostFailed h × ((front : Text) × IsFrontOf (λ t. IsDumping action × (h.tells → DoneKind action (h.image path) (h.image_after path) t)) front × (text ≡ front ++ status_text end.Host))
 ImageEnded h path action ended text = ⊥
+
+-- What making the image at the one path from the text at the other puts out at each end.
+abbrev pub LoadEnded : HostTurn → Text → Text → Status → Text → Type 0
+LoadEnded h image from status.Done text = h.tells → IsLoaded (h.image from) (h.image_after image) text
+LoadEnded h image from status.Image text = h.tells → IsOfImage IsNoDump (h.image from) text
+LoadEnded h image from status.Host text = HostFailed h × (text ≡ status_text end.Host)
+LoadEnded h image from ended text = ⊥
 
 -- No call of the host failed: its own count did not rise, or the command was answered without a fault.
 abbrev pub NoneFailedBy : HostTurn → Result Answer AllocError → Type 0

@@ -1,15 +1,16 @@
 -- What each command puts out and what it leaves of the host. This project's own.
 --
 -- A source, a sink and a host stand here as they are before the call and after it (`SourceTurn`, `SinkTurn`, `HostTurn`).
-use Rattle.std.specs.Prelude.{◌≡◌, ◌⊎◌, ℕ, ◌+◌, ◌==◌, true, false, List, [], ◌∷◌, codes, drop, length, Option, Some, None, Ok, Err}
+use Rattle.std.specs.Prelude.{◌≡◌, ◌≢◌, ◌⊎◌, ◌++◌, ℕ, ◌+◌, ◌==◌, true, false, List, [], ◌∷◌, codes, drop, length, Option, Some, None, Ok, Err}
 use Rattle.opfs_base.specs.Texts.{Text}
-use Rattle.opfs_commands.specs.Commands.{Command, trial, judgement, on_image, Asks, AsksNothing}
-use Rattle.opfs_commands.specs.Kinds.{DoneKind, RefusedKind, IsReading, IsMigration}
+use Rattle.opfs_commands.specs.Commands.{Command, trial, judgement, on_image, loading, Asks, AsksNothing}
+use Rattle.opfs_commands.specs.Kinds.{DoneKind, RefusedKind, IsDumping, IsReading, IsMigration}
+use Rattle.opfs_commands.specs.Telling.{IsLoaded, IsNoDump, IsOfImage}
 use Rattle.opfs_hist.specs.declared.entry.Entry.{Entry}
 use Rattle.opfs_judge.specs.declared.verdict.Verdict.{Verdict}
 use Rattle.opfs_judge.specs.declared.verdict.Verdict.TheVariants as verdict
 use Rattle.opfs_judge.specs.Verdicts.{IsJudged}
-use Rattle.opfs_outside.specs.Turns.{HostTurn, SourceTurn, HostFailed, HostServed, SourceFailed, ReadWhole, ReadTooFar}
+use Rattle.opfs_outside.specs.Turns.{HostTurn, SinkTurn, SourceTurn, HostFailed, HostServed, SourceFailed, ReadWhole, ReadTooFar, Took}
 use Rattle.opfs_print.specs.declared.end.BadScript.{BadScript}
 use Rattle.opfs_print.specs.declared.end.BadScript.TheVariants as bad
 use Rattle.opfs_print.specs.declared.end.End.TheVariants as end
@@ -115,40 +116,53 @@ pub record IsTooLong (s : SourceTurn) (text : Text) : Type 0 where
   pub line : text ≡ status_text (end.Script bad.TooMany)
 
 -- What a command puts out that was done: a trial its transcript; a judgement the line of its verdict; a command on an image
--- what is told of the image before, or of the one that it made.
+-- what is told of the image before, or of the one that it made; a load the line of the image that it made.
 abbrev pub Did : Command → SourceTurn → HostTurn → Text → Type 0
 Did trial s h text = OfSource s IsTranscript text
 Did judgement s h text = OfSource s IsJudgement text
 Did (on_image path action) s h text = h.tells → DoneKind action (h.image path) (h.image_after path) text
+Did (loading image from) s h text = h.tells → IsLoaded (h.image from) (h.image_after image) text
 
 -- The same of a command on an image alone.
 abbrev pub DidWithImage : Command → HostTurn → Text → Type 0
 DidWithImage trial h text = ⊥
 DidWithImage judgement h text = ⊥
 DidWithImage (on_image path action) h text = h.tells → DoneKind action (h.image path) (h.image_after path) text
+DidWithImage (loading image from) h text = h.tells → IsLoaded (h.image from) (h.image_after image) text
+
+-- The text of a command that puts it out itself: a dump. Where it ends early, a front of it was put out.
+abbrev pub Dumped : Command → HostTurn → Text → Type 0
+Dumped trial h text = ⊥
+Dumped judgement h text = ⊥
+Dumped (on_image path action) h text = IsDumping action × (h.tells → DoneKind action (h.image path) (h.image_after path) text)
+Dumped (loading image from) h text = ⊥
 
 -- The command takes a script, which is refused.
 abbrev pub RefusedScript : Command → SourceTurn → Text → Type 0
 RefusedScript trial s text = OfSource s IsRefused text ⊎ IsTooLong s text
 RefusedScript judgement s text = OfSource s IsRefusedBefore text ⊎ IsTooLong s text
 RefusedScript (on_image path action) s text = ⊥
+RefusedScript (loading image from) s text = ⊥
 
--- The command takes an image, which is refused.
+-- The command takes an image, or the text of one, which is refused.
 abbrev pub RefusedImage : Command → HostTurn → Text → Type 0
 RefusedImage trial h text = ⊥
 RefusedImage judgement h text = ⊥
 RefusedImage (on_image path action) h text = h.tells → RefusedKind action (h.image path) text
+RefusedImage (loading image from) h text = h.tells → IsOfImage IsNoDump (h.image from) text
 
 -- The command takes a script, or an image.
 abbrev pub TakesScript : Command → Type 0
 TakesScript trial = Unit {0}
 TakesScript judgement = Unit {0}
 TakesScript (on_image path action) = ⊥
+TakesScript (loading image from) = ⊥
 
 abbrev pub TakesImage : Command → Type 0
 TakesImage trial = ⊥
 TakesImage judgement = ⊥
 TakesImage (on_image path action) = Unit {0}
+TakesImage (loading image from) = Unit {0}
 
 -- ---- the ends, each with its cause
 
@@ -170,10 +184,17 @@ IsBadScript words s text = Asks words (λ command. RefusedScript command s text)
 abbrev pub IsBadImage : List Text → HostTurn → Text → Type 0
 IsBadImage words h text = Asks words (λ command. RefusedImage command h text)
 
+-- No text, or a front of one of a kind.
+abbrev pub IsFrontOf : (Text → Type 0) → Text → Type 0
+IsFrontOf Kind front = (front ≡ []) ⊎ ((rest : Text) × Kind (front ++ rest))
+
+-- A call of the host or of a disk failed. The line stands behind what a dump has put out.
 pub record IsHostFault (words : List Text) (h : HostTurn) (text : Text) : Type 0 where
   pub asked : Asks words TakesImage
   pub failed : HostFailed h
-  pub line : text ≡ status_text end.Host
+  pub front : Text
+  pub begun : IsFrontOf (λ t. Asks words (λ command. Dumped command h t)) front
+  pub line : text ≡ front ++ status_text end.Host
 
 pub record IsSourceFault (words : List Text) (s : SourceTurn) (text : Text) : Type 0 where
   pub asked : Asks words TakesScript
@@ -207,25 +228,34 @@ pub record IsSomeToolEnd (words : List Text) (h : HostTurn) (text : Text) : Type
   pub status : Status
   pub ended : ToolEnded words h status text
 
+-- Nothing was put out, or a front of the text of a dump.
+pub record TookDumped (k : SinkTurn) (words : List Text) (h : HostTurn) : Type 0 where
+  pub front : Text
+  pub took : Took k front
+  pub begun : IsFrontOf (λ t. Asks words (λ command. Dumped command h t)) front
+
 -- ---- what is left of the host
 
--- The command works on the image at a path.
+-- The command works on the image at a path, or reads it.
 abbrev pub Names : Text → Command → Type 0
 Names path trial = ⊥
 Names path judgement = ⊥
 Names path (on_image image action) = path ≡ image
+Names path (loading image from) = (path ≡ image) ⊎ (path ≡ from)
 
--- It only tells what that image holds: `list` or `check`.
+-- It only reads what is there: `list`, `check`, `dump`; or `load`, where its text is not at the path of its image.
 abbrev pub Tells : Text → Command → Type 0
 Tells path trial = ⊥
 Tells path judgement = ⊥
 Tells path (on_image image action) = (path ≡ image) × IsReading action
+Tells path (loading image from) = (path ≡ from) × (from ≢ image)
 
 -- It brings that image into the format of now.
 abbrev pub Migrates : Text → Command → Type 0
 Migrates path trial = ⊥
 Migrates path judgement = ⊥
 Migrates path (on_image image action) = (path ≡ image) × IsMigration action
+Migrates path (loading image from) = ⊥
 
 -- No call of the host failed: its own count did not rise, or the command was answered without a fault.
 abbrev pub NoneFailed : HostTurn → Status → Type 0

@@ -20,3 +20,4 @@ abbrev pub status_of : ToolEnd → Status
 status_of tool_end.Done = status.Done
 status_of tool_end.Image = status.Image
 status_of tool_end.Host = status.Host
+status_of tool_end.Sink = status.Sink

@@ -6,8 +6,8 @@ ghost use Rattle.opfs_commands.specs.Commands.{Asks};
 ghost use Rattle.opfs_commands.specs.Telling.{IsStoodFor};
 ghost use Rattle.opfs_machine.specs.Openings.{Map};
 ghost use Rattle.opfs_migrate.specs.Migrating.{StandsEither};
-ghost use Rattle.opfs_outside.specs.Turns.{of_host, of_sink, of_source, AsBefore, ImageStays, Puts, PutsFront, SinkFailed, TookNothing};
-ghost use Rattle.opfs_top.specs.Doing.{DidWithImage, IsDone, IsUsage, IsBadScript, IsBadImage, IsHostFault, IsNoTool, IsSourceFault, IsSomeEnd, IsSomeToolEnd, Migrates, Names, NoneFailed, TakesImage, Tells};
+ghost use Rattle.opfs_outside.specs.Turns.{of_host, of_sink, of_source, AsBefore, ImageStays, Puts, PutsFront, SinkFailed};
+ghost use Rattle.opfs_top.specs.Doing.{DidWithImage, IsDone, IsUsage, IsBadScript, IsBadImage, IsHostFault, IsNoTool, IsSourceFault, IsSomeEnd, IsSomeToolEnd, Migrates, Names, NoneFailed, TakesImage, Tells, TookDumped};
 
 use crate::answer::Answer;
 use crate::output::put_all;
@@ -17,8 +17,8 @@ use opfs_base::Words;
 use opfs_outside::{Failed, Host, Sink, Source};
 use std::alloc::Global;
 
-/// Does what a command on an image asks: `format`, `list`, `check` or `migrate`; other words are no command here. Each status
-/// says what was put out, and why. What it leaves of the host is told as by `opfs`.
+/// Does what a command on an image asks: `format`, `list`, `check`, `migrate`, `dump` or `load`; other words are no command here.
+/// Each status says what was put out, and why. What it leaves of the host is told as by `opfs`.
 pub fn opfs_tool<H: Host, K: Sink>(
     alloc: Global,
     words: &Words,
@@ -31,7 +31,7 @@ pub fn opfs_tool<H: Host, K: Sink>(
     ensures host { result ≡ Status.Host → Puts (of_sink K.Sink sink.old sink.new) (IsHostFault words.now (of_host H.Host host.old host.new)) }
     ensures sink { result ≡ Status.Sink → PutsFront (of_sink K.Sink sink.old sink.new) (IsSomeToolEnd words.now (of_host H.Host host.old host.new)) }
     ensures sink_cause { result ≡ Status.Sink → SinkFailed (of_sink K.Sink sink.old sink.new) }
-    ensures memory { result ≡ Status.Memory → TookNothing (of_sink K.Sink sink.old sink.new) }
+    ensures memory { result ≡ Status.Memory → TookDumped (of_sink K.Sink sink.old sink.new) words.now (of_host H.Host host.old host.new) }
     ensures no_script { result ≢ Status.Script }
     ensures no_source { result ≢ Status.Source }
     ensures others { H.tells → NoneFailed (of_host H.Host host.old host.new) result → (path : Text) → (Asks words.now (Names path) → ⊥) → AsBefore (of_host H.Host host.old host.new) path }
@@ -40,7 +40,7 @@ pub fn opfs_tool<H: Host, K: Sink>(
     ensures trail { H.tells → NoneFailed (of_host H.Host host.old host.new) result → (path : Text) → Asks words.now (Migrates path) → (m : Map) → IsStoodFor m (H.image host.old path) → (c : Text) → H.trail host.new path c → H.trail host.old path c ⊎ StandsEither m c }
     ensures none { (Asks words.now TakesImage → ⊥) → host.new ≡ host.old }
 {
-    let Ok(Answer { status, text }) = answer_tool(alloc, words, host) else {
+    let Ok(Answer { status, text }) = answer_tool(alloc, words, host, sink) else {
         return Status::Memory;
     };
     match put_all(sink, text.as_slice()) {
@@ -51,12 +51,15 @@ pub fn opfs_tool<H: Host, K: Sink>(
 
 /// Does what the words of a command line ask. `try` reads a script from the source to its end, runs its agents one after
 /// another over an empty store, and puts out the transcript. `judge` reads a script and, behind a byte 0, a transcript, and
-/// tells whether that is one of a legal history of the script. `format`, `list`, `check` and `migrate` work on the image at
-/// a path of the host. Each status says what was put out, and why.
+/// tells whether that is one of a legal history of the script. `format`, `list`, `check`, `migrate` and `dump` work on the
+/// image at a path of the host; `load` makes one anew from the text at another path. Each status says what was put out, and
+/// why. A dump is put out piece by piece: where it ends early, a front of it was put out, and the line of a fault stands
+/// behind that.
 ///
-/// Where no call of the host failed, every path but that of the command is as before; a path whose image is refused, or is
-/// only listed or checked, has its image still; and a stop within a migration leaves the old image or the new one. A command
-/// that names no image leaves the host as it is.
+/// Where no call of the host failed, every path but those of the command is as before; a path whose image, or whose text, is
+/// refused, or is only listed, checked, dumped or loaded from, has its image still; a text that is refused leaves the image
+/// that was to be made from it as it was; and a stop within a migration leaves the old image or the new one. A command that
+/// names no image leaves the host as it is.
 pub fn opfs<H: Host, S: Source, K: Sink>(
     alloc: Global,
     words: &Words,
@@ -72,7 +75,7 @@ pub fn opfs<H: Host, S: Source, K: Sink>(
     ensures source { result ≡ Status.Source → Puts (of_sink K.Sink sink.old sink.new) (IsSourceFault words.now (of_source S.Source source.old source.new)) }
     ensures sink { result ≡ Status.Sink → PutsFront (of_sink K.Sink sink.old sink.new) (IsSomeEnd words.now (of_source S.Source source.old source.new) (of_host H.Host host.old host.new)) }
     ensures sink_cause { result ≡ Status.Sink → SinkFailed (of_sink K.Sink sink.old sink.new) }
-    ensures memory { result ≡ Status.Memory → TookNothing (of_sink K.Sink sink.old sink.new) }
+    ensures memory { result ≡ Status.Memory → TookDumped (of_sink K.Sink sink.old sink.new) words.now (of_host H.Host host.old host.new) }
     ensures others { H.tells → NoneFailed (of_host H.Host host.old host.new) result → (path : Text) → (Asks words.now (Names path) → ⊥) → AsBefore (of_host H.Host host.old host.new) path }
     ensures reads { H.tells → NoneFailed (of_host H.Host host.old host.new) result → (path : Text) → Asks words.now (Tells path) → ImageStays (of_host H.Host host.old host.new) path }
     ensures refused { result ≡ Status.Image → H.tells → (path : Text) → Asks words.now (Names path) → ImageStays (of_host H.Host host.old host.new) path }
@@ -84,7 +87,7 @@ pub fn opfs<H: Host, S: Source, K: Sink>(
             status: ended,
             text,
         },
-    ) = answer_to(alloc, words, host, source)
+    ) = answer_to(alloc, words, host, source, sink)
     else {
         return Status::Memory;
     };

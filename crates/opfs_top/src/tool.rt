@@ -1,22 +1,22 @@
 //! Which command words ask for, and how it ends.
 
-ghost use Rattle.std.specs.Prelude.{◌≡◌, ◌≢◌, ◌⊎◌, IfOk};
+ghost use Rattle.std.specs.Prelude.{◌≡◌, ◌≢◌, ◌⊎◌, ◌≤◌, IfOk};
 ghost use Rattle.opfs_base.specs.Texts.{Text};
 ghost use Rattle.opfs_commands.specs.Commands.{AsksNothing, Asks, InRange};
-ghost use Rattle.opfs_commands.specs.Kinds.{IsReading, IsMigration};
+ghost use Rattle.opfs_commands.specs.Kinds.{DoneKind, IsDumping, IsReading, IsMigration};
 ghost use Rattle.opfs_commands.specs.Telling.{IsStoodFor};
 ghost use Rattle.opfs_machine.specs.Openings.{Map};
 ghost use Rattle.opfs_migrate.specs.Migrating.{StandsEither};
-ghost use Rattle.opfs_outside.specs.Turns.{of_host, of_source, AsBefore, ImageStays, OthersAsBefore};
-ghost use Rattle.opfs_top.specs.Answers.{ImageEnded, NoneFailedBy};
-ghost use Rattle.opfs_top.specs.Doing.{Ended, Migrates, Names, TakesImage, Tells, ToolEnded};
+ghost use Rattle.opfs_outside.specs.Turns.{of_host, of_sink, of_source, AsBefore, ImageStays, OthersAsBefore};
+ghost use Rattle.opfs_top.specs.Answers.{ImageEnded, IsTold, LoadEnded, NoneFailedBy};
+ghost use Rattle.opfs_top.specs.Doing.{Dumped, Ended, Migrates, Names, TakesImage, Tells, ToolEnded};
 ghost use Rattle.opfs_top.specs.Statuses.{status_of};
 
 use crate::answer::{Answer, Task, answer_nothing, answer_script};
 use crate::status::Status;
 use opfs_base::Words;
-use opfs_commands::{Action, Command, ToolEnd, read_command, run_command};
-use opfs_outside::{Host, Source};
+use opfs_commands::{Action, Command, ToolEnd, load_at, read_command, run_command};
+use opfs_outside::{Host, Sink, Source};
 use std::alloc::{AllocError, Global};
 
 // The status of a command on an image.
@@ -27,67 +27,95 @@ fn status_of(end: ToolEnd) -> Status
         ToolEnd::Done => Status::Done,
         ToolEnd::Image => Status::Image,
         ToolEnd::Host => Status::Host,
+        ToolEnd::Sink => Status::Sink,
     }
 }
 
 // How a command on the image at a path ends, and what it is to put out.
-fn answer_image<H: Host>(
+fn answer_image<H: Host, K: Sink>(
     alloc: Global,
     host: &mut H,
     path: &str,
     action: Action,
+    sink: &mut K,
 ) -> Result<Answer, AllocError>
     requires { InRange action }
-    ensures ended { IfOk result (λ answer. ImageEnded (of_host H.Host host.old host.new) path.now action answer.status answer.text) }
+    ensures told { IsTold (of_sink K.Sink sink.old sink.new) (λ text. IsDumping action × (H.tells → DoneKind action (H.image host.old path.now) (H.image host.new path.now) text)) (ImageEnded (of_host H.Host host.old host.new) path.now action) result }
     ensures others { H.tells → NoneFailedBy (of_host H.Host host.old host.new) result → OthersAsBefore (of_host H.Host host.old host.new) path.now }
     ensures reads { IsReading action → H.tells → NoneFailedBy (of_host H.Host host.old host.new) result → ImageStays (of_host H.Host host.old host.new) path.now }
     ensures refused { IfOk result (λ answer. answer.status ≡ Status.Image → H.tells → ImageStays (of_host H.Host host.old host.new) path.now) }
     ensures trail { IsMigration action → H.tells → NoneFailedBy (of_host H.Host host.old host.new) result → (m : Map) → IsStoodFor m (H.image host.old path.now) → (c : Text) → H.trail host.new path.now c → H.trail host.old path.now c ⊎ StandsEither m c }
+    ensures later { K.faults sink.old ≤ K.faults sink.new }
 {
-    let answer = run_command(alloc, host, path, action)?;
+    let answer = run_command(alloc, host, path, action, sink)?;
     Ok(Answer {
         status: status_of(answer.end),
         text: answer.text,
     })
 }
 
-/// How the command on an image ends that words ask for, and what it is to put out.
-pub fn answer_tool<H: Host>(
+// How making an image from a text ends, and what it is to put out.
+fn answer_load<H: Host>(
+    alloc: Global,
+    host: &mut H,
+    image: &str,
+    text: &str,
+) -> Result<Answer, AllocError>
+    ensures ended { IfOk result (λ answer. LoadEnded (of_host H.Host host.old host.new) image.now text.now answer.status answer.text) }
+    ensures others { H.tells → NoneFailedBy (of_host H.Host host.old host.new) result → (path : Text) → path ≢ image.now → path ≢ text.now → AsBefore (of_host H.Host host.old host.new) path }
+    ensures reads { H.tells → NoneFailedBy (of_host H.Host host.old host.new) result → text.now ≢ image.now → ImageStays (of_host H.Host host.old host.new) text.now }
+    ensures refused { IfOk result (λ answer. answer.status ≡ Status.Image → H.tells → (path : Text) → ImageStays (of_host H.Host host.old host.new) path) }
+{
+    let answer = load_at(alloc, host, image, text)?;
+    Ok(Answer {
+        status: status_of(answer.end),
+        text: answer.text,
+    })
+}
+
+/// How the command on an image ends that words ask for, and what it is to put out behind what it has put out.
+pub fn answer_tool<H: Host, K: Sink>(
     alloc: Global,
     words: &Words,
     host: &mut H,
+    sink: &mut K,
 ) -> Result<Answer, AllocError>
-    ensures ended { IfOk result (λ answer. ToolEnded words.now (of_host H.Host host.old host.new) answer.status answer.text) }
+    ensures told { IsTold (of_sink K.Sink sink.old sink.new) (λ text. Asks words.now (λ command. Dumped command (of_host H.Host host.old host.new) text)) (ToolEnded words.now (of_host H.Host host.old host.new)) result }
     ensures others { H.tells → NoneFailedBy (of_host H.Host host.old host.new) result → (path : Text) → (Asks words.now (Names path) → ⊥) → AsBefore (of_host H.Host host.old host.new) path }
     ensures reads { H.tells → NoneFailedBy (of_host H.Host host.old host.new) result → (path : Text) → Asks words.now (Tells path) → ImageStays (of_host H.Host host.old host.new) path }
     ensures refused { IfOk result (λ answer. answer.status ≡ Status.Image → H.tells → (path : Text) → Asks words.now (Names path) → ImageStays (of_host H.Host host.old host.new) path) }
     ensures trail { H.tells → NoneFailedBy (of_host H.Host host.old host.new) result → (path : Text) → Asks words.now (Migrates path) → (m : Map) → IsStoodFor m (H.image host.old path) → (c : Text) → H.trail host.new path c → H.trail host.old path c ⊎ StandsEither m c }
     ensures none { (Asks words.now TakesImage → ⊥) → host.new ≡ host.old }
+    ensures later { K.faults sink.old ≤ K.faults sink.new }
 {
     match read_command(words) {
-        Some(Command::OnImage(path, action)) => answer_image(alloc, host, path, action),
+        Some(Command::OnImage(path, action)) => answer_image(alloc, host, path, action, sink),
+        Some(Command::Load(image, text)) => answer_load(alloc, host, image, text),
         Some(Command::Try) => answer_nothing(alloc),
         Some(Command::Judge) => answer_nothing(alloc),
         None => answer_nothing(alloc),
     }
 }
 
-/// How the command ends that words ask for, and what it is to put out.
-pub fn answer_to<H: Host, S: Source>(
+/// How the command ends that words ask for, and what it is to put out behind what it has put out.
+pub fn answer_to<H: Host, S: Source, K: Sink>(
     alloc: Global,
     words: &Words,
     host: &mut H,
     source: &mut S,
+    sink: &mut K,
 ) -> Result<Answer, AllocError>
-    ensures ended { IfOk result (λ answer. Ended words.now (of_source S.Source source.old source.new) (of_host H.Host host.old host.new) answer.status answer.text) }
+    ensures told { IsTold (of_sink K.Sink sink.old sink.new) (λ text. Asks words.now (λ command. Dumped command (of_host H.Host host.old host.new) text)) (Ended words.now (of_source S.Source source.old source.new) (of_host H.Host host.old host.new)) result }
     ensures others { H.tells → NoneFailedBy (of_host H.Host host.old host.new) result → (path : Text) → (Asks words.now (Names path) → ⊥) → AsBefore (of_host H.Host host.old host.new) path }
     ensures reads { H.tells → NoneFailedBy (of_host H.Host host.old host.new) result → (path : Text) → Asks words.now (Tells path) → ImageStays (of_host H.Host host.old host.new) path }
     ensures refused { IfOk result (λ answer. answer.status ≡ Status.Image → H.tells → (path : Text) → Asks words.now (Names path) → ImageStays (of_host H.Host host.old host.new) path) }
     ensures trail { H.tells → NoneFailedBy (of_host H.Host host.old host.new) result → (path : Text) → Asks words.now (Migrates path) → (m : Map) → IsStoodFor m (H.image host.old path) → (c : Text) → H.trail host.new path c → H.trail host.old path c ⊎ StandsEither m c }
     ensures none { (Asks words.now TakesImage → ⊥) → host.new ≡ host.old }
+    ensures later { K.faults sink.old ≤ K.faults sink.new }
 {
     match read_command(words) {
-        Some(Command::OnImage(path, action)) => answer_image(alloc, host, path, action),
+        Some(Command::OnImage(path, action)) => answer_image(alloc, host, path, action, sink),
+        Some(Command::Load(image, text)) => answer_load(alloc, host, image, text),
         Some(Command::Try) => answer_script(alloc, Task::Try, source),
         Some(Command::Judge) => answer_script(alloc, Task::Judge, source),
         None => answer_nothing(alloc),

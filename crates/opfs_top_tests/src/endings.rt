@@ -19,7 +19,7 @@ fn tried(alloc: Global, room: u64, fails: Vec<u64>) -> Result<(Status, String), 
 
 #[test]
 fn words_that_ask_for_nothing(rt: HostRuntime) -> Result<(), Fail> {
-    let cases: [&[&str]; 7] = [
+    let cases: [&[&str]; 9] = [
         &[],
         &["run"],
         &["try", "try"],
@@ -27,6 +27,8 @@ fn words_that_ask_for_nothing(rt: HostRuntime) -> Result<(), Fail> {
         &["Try"],
         &["list"],
         &["format", "I", "0", "4", "8"],
+        &["dump"],
+        &["load", "I"],
     ];
     for words in cases {
         let (status, text) = answered(rt.alloc(), words, SCRIPT)?;

@@ -4,6 +4,8 @@
 #[cfg(test)]
 mod asking;
 #[cfg(test)]
+mod dumps;
+#[cfg(test)]
 mod endings;
 #[cfg(test)]
 mod every_word;

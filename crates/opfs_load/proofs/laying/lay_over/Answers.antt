@@ -4,7 +4,8 @@ use Rattle.opfs_image.specs.Superblock.{areas_of}
 use Rattle.opfs_journal.specs.Format.{Stored, records_of}
 use Rattle.opfs_journal.specs.Seen.{kept, one_record}
 use Rattle.opfs_journal.specs.declared.areas.Areas.{Areas}
-use Rattle.opfs_dump_text.specs.Seen.{dump_of, row_of}
+use Rattle.opfs_dump_text.specs.Seen.{row_of}
+use Rattle.opfs_dump_text.specs.Whole.{dump_of}
 use Rattle.opfs_dump_text.specs.declared.dumped.DumpedRow.{DumpedRow}
 use Rattle.opfs_load.specs.Laid.{IsWritten}
 use Rattle.opfs_load.proofs.StandsFor.{lay_stands, on_ok_all}

@@ -1,12 +1,47 @@
 use Rattle.opfs_outside.specs.Turns.{of_host}
 use Rattle.opfs_top.proofs.Hosts.{by_memory, by_sink, by_status}
+use Rattle.opfs_top.proofs.Telling.{cause_as, cut_as, front_as, never_as, puts_as, sink_after}
+use Rattle.opfs_top.specs.declared.status.Status.TheVariants as status
 use Rattle.opfs_top.proofs.command.opfs.Goals as goal
+
+pub returns-in_default-clause-memory : goal.returns-in_default-clause-memory
+returns-in_default-clause-memory g c = λ is. record { front = c.answer_to.ensures.told.front; took = c.answer_to.ensures.told.took; begun = c.answer_to.ensures.told.begun }
 
 pub returns-in_default-clause-others : goal.returns-in_default-clause-others
 returns-in_default-clause-others g c = λ told none. c.answer_to.ensures.others told (by_memory (of_host g.H.Host c.args.host.now c.answer_to.new.host) c.answer_to.result none)
 
+pub returns-in_default-clause-reads : goal.returns-in_default-clause-reads
+returns-in_default-clause-reads g c = λ told none. c.answer_to.ensures.reads told (by_memory (of_host g.H.Host c.args.host.now c.answer_to.new.host) c.answer_to.result none)
+
 pub returns-in_default-clause-trail : goal.returns-in_default-clause-trail
 returns-in_default-clause-trail g c = λ told none. c.answer_to.ensures.trail told (by_memory (of_host g.H.Host c.args.host.now c.answer_to.new.host) c.answer_to.result none)
+
+pub returns-in-Ok-put_all-clause-done : goal.returns-in-Ok-put_all-clause-done
+returns-in-Ok-put_all-clause-done g c = λ is. puts_as g.K.Sink c.args.sink.now c.answer_to.new.sink c.put_all.new.sink _ _ c.answer_to.result c.answer_to.ensures.told c.in-Ok.field-0 c.in-Ok.is _ c.as_slice.ensures status.Done (λ x. cc x) c.in-Ok-put_all.ensures.ok is
+
+pub returns-in-Ok-put_all-clause-usage : goal.returns-in-Ok-put_all-clause-usage
+returns-in-Ok-put_all-clause-usage g c = λ is. puts_as g.K.Sink c.args.sink.now c.answer_to.new.sink c.put_all.new.sink _ _ c.answer_to.result c.answer_to.ensures.told c.in-Ok.field-0 c.in-Ok.is _ c.as_slice.ensures status.Usage (λ x. cc x) c.in-Ok-put_all.ensures.ok is
+
+pub returns-in-Ok-put_all-clause-script : goal.returns-in-Ok-put_all-clause-script
+returns-in-Ok-put_all-clause-script g c = λ is. puts_as g.K.Sink c.args.sink.now c.answer_to.new.sink c.put_all.new.sink _ _ c.answer_to.result c.answer_to.ensures.told c.in-Ok.field-0 c.in-Ok.is _ c.as_slice.ensures status.Script (λ x. cc x) c.in-Ok-put_all.ensures.ok is
+
+pub returns-in-Ok-put_all-clause-image : goal.returns-in-Ok-put_all-clause-image
+returns-in-Ok-put_all-clause-image g c = λ is. puts_as g.K.Sink c.args.sink.now c.answer_to.new.sink c.put_all.new.sink _ _ c.answer_to.result c.answer_to.ensures.told c.in-Ok.field-0 c.in-Ok.is _ c.as_slice.ensures status.Image (λ x. cc x) c.in-Ok-put_all.ensures.ok is
+
+pub returns-in-Ok-put_all-clause-host : goal.returns-in-Ok-put_all-clause-host
+returns-in-Ok-put_all-clause-host g c = λ is. puts_as g.K.Sink c.args.sink.now c.answer_to.new.sink c.put_all.new.sink _ _ c.answer_to.result c.answer_to.ensures.told c.in-Ok.field-0 c.in-Ok.is _ c.as_slice.ensures status.Host (λ x. cc x) c.in-Ok-put_all.ensures.ok is
+
+pub returns-in-Ok-put_all-clause-source : goal.returns-in-Ok-put_all-clause-source
+returns-in-Ok-put_all-clause-source g c = λ is. puts_as g.K.Sink c.args.sink.now c.answer_to.new.sink c.put_all.new.sink _ _ c.answer_to.result c.answer_to.ensures.told c.in-Ok.field-0 c.in-Ok.is _ c.as_slice.ensures status.Source (λ x. cc x) c.in-Ok-put_all.ensures.ok is
+
+pub returns-in-Ok-put_all-clause-sink : goal.returns-in-Ok-put_all-clause-sink
+returns-in-Ok-put_all-clause-sink g c = λ is. front_as g.K.Sink c.args.sink.now c.answer_to.new.sink c.put_all.new.sink _ _ c.answer_to.result c.answer_to.ensures.told c.in-Ok.field-0 c.in-Ok.is _ c.as_slice.ensures _ (λ e t x. record { status = e; ended = x }) c.in-Ok-put_all.ensures.ok is
+
+pub returns-in-Ok-put_all-clause-sink_cause : goal.returns-in-Ok-put_all-clause-sink_cause
+returns-in-Ok-put_all-clause-sink_cause g c = λ is. cause_as g.K.Sink c.args.sink.now c.answer_to.new.sink c.put_all.new.sink _ _ c.answer_to.result c.answer_to.ensures.told c.in-Ok.field-0 c.in-Ok.is _ c.as_slice.ensures c.put_all.ensures.later (g.met.K.Sink.counted _) is
+
+pub returns-in-Ok-put_all-clause-memory : goal.returns-in-Ok-put_all-clause-memory
+returns-in-Ok-put_all-clause-memory g c = λ is. absurd (never_as g.K.Sink c.args.sink.now c.answer_to.new.sink c.put_all.new.sink _ _ c.answer_to.result c.answer_to.ensures.told c.in-Ok.field-0 c.in-Ok.is _ c.as_slice.ensures status.Memory (λ x. cc x) is)
 
 pub returns-in-Ok-put_all-clause-others : goal.returns-in-Ok-put_all-clause-others
 returns-in-Ok-put_all-clause-others g c = λ told none. c.answer_to.ensures.others told (by_status (of_host g.H.Host c.args.host.now c.answer_to.new.host) c.answer_to.result c.in-Ok.field-0 c.in-Ok.is none)
@@ -17,8 +52,17 @@ returns-in-Ok-put_all-clause-reads g c = λ told none. c.answer_to.ensures.reads
 pub returns-in-Ok-put_all-clause-trail : goal.returns-in-Ok-put_all-clause-trail
 returns-in-Ok-put_all-clause-trail g c = λ told none. c.answer_to.ensures.trail told (by_status (of_host g.H.Host c.args.host.now c.answer_to.new.host) c.answer_to.result c.in-Ok.field-0 c.in-Ok.is none)
 
+pub returns-clause-sink : goal.returns-clause-sink
+returns-clause-sink g c = λ is. cut_as g.K.Sink c.args.sink.now c.answer_to.new.sink c.put_all.new.sink _ _ c.answer_to.result c.answer_to.ensures.told c.in-Ok.field-0 c.in-Ok.is _ c.as_slice.ensures _ (λ e t x. record { status = e; ended = x }) c.in-Err.ensures.err
+
+pub returns-clause-sink_cause : goal.returns-clause-sink_cause
+returns-clause-sink_cause g c = λ is. sink_after g.K.Sink c.args.sink.now c.answer_to.new.sink c.put_all.new.sink c.answer_to.ensures.later c.in-Err.ensures.cause
+
 pub returns-clause-others : goal.returns-clause-others
 returns-clause-others g c = λ told none. c.answer_to.ensures.others told (by_sink (of_host g.H.Host c.args.host.now c.answer_to.new.host) c.answer_to.result none)
+
+pub returns-clause-reads : goal.returns-clause-reads
+returns-clause-reads g c = λ told none. c.answer_to.ensures.reads told (by_sink (of_host g.H.Host c.args.host.now c.answer_to.new.host) c.answer_to.result none)
 
 pub returns-clause-trail : goal.returns-clause-trail
 returns-clause-trail g c = λ told none. c.answer_to.ensures.trail told (by_sink (of_host g.H.Host c.args.host.now c.answer_to.new.host) c.answer_to.result none)

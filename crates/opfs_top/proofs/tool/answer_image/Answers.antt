@@ -1,13 +1,21 @@
 use Rattle.std.proofs.Common.{refl}
-use Rattle.opfs_outside.specs.Turns.{of_host}
-use Rattle.opfs_top.proofs.Hosts.{by_error, by_run}
+use Rattle.opfs_outside.specs.Turns.{of_host, of_sink}
+use Rattle.opfs_top.proofs.Hosts.{by_error, by_run, image_answered, image_failed}
 use Rattle.opfs_top.proofs.tool.answer_image.Goals as goal
+
+pub returns-in_err-answer-clause-told : goal.returns-in_err-answer-clause-told
+returns-in_err-answer-clause-told g c =
+    image_failed (of_sink g.K.Sink c.args.sink.now c.run_command.new.sink) (of_host g.H.Host c.args.host.now c.run_command.new.host) c.args.path.now c.args.action c.run_command.result c.from_residual.result c.run_command.ensures.put c.from_residual.ensures.0
 
 pub returns-in_err-answer-clause-others : goal.returns-in_err-answer-clause-others
 returns-in_err-answer-clause-others g c = λ told none. c.run_command.ensures.others told (by_error (of_host g.H.Host c.args.host.now c.run_command.new.host) c.run_command.result c.from_residual.result c.from_residual.ensures.0 none)
 
 pub returns-in_err-answer-clause-trail : goal.returns-in_err-answer-clause-trail
 returns-in_err-answer-clause-trail g c = λ is told none. c.run_command.ensures.trail is told (by_error (of_host g.H.Host c.args.host.now c.run_command.new.host) c.run_command.result c.from_residual.result c.from_residual.ensures.0 none)
+
+pub returns-clause-told : goal.returns-clause-told
+returns-clause-told g c =
+    image_answered (of_sink g.K.Sink c.args.sink.now c.run_command.new.sink) (of_host g.H.Host c.args.host.now c.run_command.new.host) c.args.path.now c.args.action c.run_command.result c.in_ok-answer.answer _ _ c.run_command.ensures.put c.in_ok-answer.was refl c.status_of.ensures refl
 
 pub returns-clause-others : goal.returns-clause-others
 returns-clause-others g c = λ told none. c.run_command.ensures.others told (by_run (of_host g.H.Host c.args.host.now c.run_command.new.host) c.run_command.result c.in_ok-answer.answer _ _ c.in_ok-answer.was refl c.status_of.ensures none)
