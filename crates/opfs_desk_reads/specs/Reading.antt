@@ -1,14 +1,19 @@
 -- A call that reads bytes, step by step: syncRead and getFile. This project's own.
 use Rattle.std.specs.Prelude.{◌≡◌, ℕ, ◌-◌, ◌/◌, min, true, List, [], ◌∷◌, ◌++◌, map, length, Some, None, IsTrue}
+use Rattle.opfs_base.specs.Places.{Place}
 use Rattle.opfs_base.specs.Texts.{Text}
 use Rattle.opfs_book_laws.specs.Books.{Fixed, AreBooks}
 use Rattle.opfs_data.specs.Calls.{Reads}
 use Rattle.opfs_desk_laws.specs.Handles.{AreHandlesWhole}
 use Rattle.opfs_hist.specs.declared.entry.Entry.{Entry}
 use Rattle.opfs_hist.specs.declared.op.Op.{Op}
+use Rattle.opfs_hist.specs.declared.reply.Reply.TheVariants as reply
+use Rattle.opfs_machine.specs.declared.own.Own.{Own}
 use Rattle.opfs_machine.specs.declared.state.Sizes.{Sizes}
+use Rattle.opfs_machine.specs.declared.state.State.{State}
 use Rattle.opfs_machine.specs.Histories.{is_disk_op, state_after}
-use Rattle.opfs_machine.specs.Replies.{row_named}
+use Rattle.opfs_machine.specs.Replies.{bytes_at, file_reply, row_named}
+use Rattle.opfs_machine.specs.Rows.{file_at}
 use Rattle.opfs_machine.specs.Runs.{eviction}
 use Rattle.opfs_outside.specs.Faults.{Rose}
 use Rattle.opfs_outside.specs.declared.disk.Disk.{Ghosts as DiskWords}
@@ -17,15 +22,18 @@ use Rattle.opfs_replay.specs.Built.{Built}
 use Rattle.opfs_splice.specs.Splicing.{window}
 use Rattle.opfs_state.specs.Applied.{IsPrepared}
 use Rattle.opfs_steady.specs.Steady.{row_bytes}
+use Rattle.opfs_tree.specs.Rows.{file_at as file_in_tree}
+use Rattle.opfs_tree.specs.declared.row.FileRow.{FileRow}
 use Rattle.opfs_work.specs.Works.{WorkingCopy}
 use Rattle.opfs_desk_parts.specs.Acted.{AreCleared}
 use Rattle.opfs_desk_parts.specs.Asked.{IsAsked}
 use Rattle.opfs_desk_parts.specs.Held.{AreTied, AreHeldWhole}
-use Rattle.opfs_desk_parts.specs.Seen.{tree_in, book_in, units_in}
+use Rattle.opfs_desk_parts.specs.Seen.{machine_in, tree_in, book_in, units_in}
 use Rattle.opfs_desk_parts.specs.declared.call.InHand.{InHand}
 use Rattle.opfs_desk_parts.specs.declared.parts.Ledger.{Ledger}
 use Rattle.opfs_desk_parts.specs.declared.parts.Pages.{Pages}
 use Rattle.opfs_desk_parts.specs.declared.parts.Parts.{Parts}
+use Rattle.opfs_desk_reads.specs.Files.{IsReadOfFile}
 use Rattle.opfs_desk_reads.specs.Words.{read_start, read_len, cursor_read}
 use Rattle.opfs_desk_steps.specs.Acting.{HasTaken}
 
@@ -55,6 +63,17 @@ abbrev pub IsReadFor : {D : Type 0} → DiskWords D → Parts D → List Entry �
 IsReadFor {D} w p calls c work bytes copy cursor page =
     (f : Fixed D) (recorded : Built) → AreHeldWhole w f recorded p.ledger p.pages → IsAsked w.tells f.opening p.ledger.books.history calls p.ledger.books.state c work []
     → (row : Text) → row_bytes (state_after f.opening (p.ledger.books.history ++ calls)) c.agent (row_named c.op) ≡ Some row → IsReadOf w.tells row c.sizes c.op bytes copy cursor page
+
+-- What was read of a file: as many bytes as there are, its size and its time stamp. Where the disk tells, and each page of each
+-- access handle is one that the store tells, they are the file's.
+pub record IsFileRead (tells whole : Type 0) (s : State Text Own) (place : Place) (bytes : Text) (size stamp : ℕ) : Type 0 where
+  pub info : file_reply (file_at s place) ≡ reply.FileInfo size stamp
+  pub long : length bytes ≡ length (bytes_at s place)
+  pub told : tells → whole → bytes ≡ bytes_at s place
+
+-- A file was read by its row in the tree, if it is there.
+abbrev pub IsReadFrom : {D : Type 0} → DiskWords D → Ledger D → Pages → Place → Text → ℕ → ℕ → Type 0
+IsReadFrom w l p place bytes size stamp = (found : FileRow) → file_in_tree place (tree_in l) ≡ Some found → IsReadOfFile w.tells (machine_in l) place found p.swap (w.content l.journal.disk) p.base bytes size stamp
 
 -- Its agent's pending calls were taken in.
 pub record HasTakenIn {D : Type 0} (w : DiskWords D) (f : Fixed D) (recorded : Built) (l mid : Ledger D) (p : Pages) (calls : List Entry) (c : InHand) : Type 0 where
