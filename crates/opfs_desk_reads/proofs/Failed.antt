@@ -1,5 +1,5 @@
 -- A call in which the disk failed before its own change leaves its agent's rows.
-use Rattle.std.proofs.Common.{◌≡◌, ℕ, List, [], ◌∷◌, ◌++◌, fold, length, refl, sym, ap, subst, ◌∙◌, append-nil}
+use Rattle.std.proofs.Common.{◌≡◌, List, [], fold, length, sym, ap, subst, ◌∙◌, append-nil}
 use Rattle.opfs_acts.specs.Acting.{told_entry}
 use Rattle.opfs_base.specs.Texts.{Text}
 use Rattle.opfs_book_laws.specs.Books.{Fixed}

@@ -1,5 +1,5 @@
 -- A call for which the disk was read, and failed.
-use Rattle.std.proofs.Common.{◌≡◌, ℕ, ◌+◌, ◌-◌, ◌^◌, ◌≤◌, true, false, List, [], ◌∷◌, ◌++◌, map, length, None, refl, sym, ap, subst, ◌∙◌, append-nil, arith}
+use Rattle.std.proofs.Common.{◌≡◌, ℕ, ◌+◌, List, [], ◌∷◌, ◌++◌, length, None, refl, sym, ap, subst, ◌∙◌, append-nil}
 use Rattle.std.proofs.lemmas.Bool.{true≢false}
 use Rattle.std.specs.Prelude.{IsTrue}
 use Rattle.opfs_acts.specs.Acting.{IsActed, IsSameCopy, gift_of, told_entry, unread_gift}
@@ -7,7 +7,6 @@ use Rattle.opfs_acts.specs.declared.acted.Gift.TheVariants as gift
 use Rattle.opfs_base.specs.Texts.{Text}
 use Rattle.opfs_book_laws.specs.Books.{Fixed, IsNext}
 use Rattle.opfs_book_laws.specs.Laws.{BooksShowTheirImages, FaultsAreCounted, ReadsKeepTheBooks, failed, told}
-use Rattle.opfs_book_laws.proofs.Counting.{rose-before}
 use Rattle.opfs_book_laws.proofs.Told.{next-state, next-reply}
 use Rattle.opfs_books.specs.declared.books.Books.{Books}
 use Rattle.opfs_desk_parts.specs.Acted.{HasActed, last_doubt}
@@ -24,7 +23,6 @@ use Rattle.opfs_desk_steps.specs.Acting.{HasTaken, HasAdded, CallsAreActed, fail
 use Rattle.opfs_desk_steps.specs.Ready.{AskedCallsAreReady, IsReadyCall}
 use Rattle.opfs_desk_steps.proofs.Counts.{own-length}
 use Rattle.opfs_desk_ways.specs.Refusing.{IsRefused, MayRefuse}
-use Rattle.opfs_desk_ways.specs.Clearing.{IsJudged}
 use Rattle.opfs_desk_ways.proofs.Turns.{may-fail}
 use Rattle.opfs_desk_ways.proofs.Ways.{way-here}
 use Rattle.opfs_hist.specs.Faults.{disk_faults}

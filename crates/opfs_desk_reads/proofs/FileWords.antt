@@ -1,16 +1,15 @@
 -- getFile, word by word.
-use Rattle.std.proofs.Common.{◌≡◌, ℕ, zero, suc, true, false, [], ◌∷◌, ◌++◌, List, length, Option, Some, None, Ok, refl, sym, ap, subst, ◌∙◌, arith}
+use Rattle.std.proofs.Common.{◌≡◌, ℕ, true, false, [], ◌∷◌, ◌++◌, List, length, Option, Some, None, Ok, refl, sym, ap, ◌∙◌, arith}
 use Rattle.std.proofs.lemmas.Bool.{and_parts, false≢true}
 use Rattle.std.proofs.lemmas.List.{length-append}
 use Rattle.std.specs.Prelude.{IsTrue, slice_get}
 use Rattle.opfs_acts.specs.Acting.{brings_position, gift_of, row_left}
 use Rattle.opfs_acts.specs.declared.acted.Gift.TheVariants as gift
-use Rattle.opfs_base.specs.Places.{Place, place_of}
+use Rattle.opfs_base.specs.Places.{place_of}
 use Rattle.opfs_base.specs.Texts.{Text}
 use Rattle.opfs_base.specs.declared.locator.Kind.TheVariants as kind
 use Rattle.opfs_changes.specs.Allowed.{IsSized}
 use Rattle.opfs_desk_laws.specs.Hands.{row_in_hand}
-use Rattle.opfs_desk_laws.specs.Open.{if_open, open_at}
 use Rattle.opfs_desk_laws.specs.RowsAfter.{IsDone}
 use Rattle.opfs_desk_reads.specs.Words.{file_read, gets_file, reads_bytes}
 use Rattle.opfs_desk_rows.specs.Opens.{next_row}

@@ -1,9 +1,6 @@
 -- A walk over the open rows that looks for one.
-use Rattle.std.proofs.Common.{◌≡◌, ℕ, Bool, true, false, cond, ◌||◌, List, [], ◌∷◌, length, Option, Some, None, is_some, refl, sym, ap, subst, ◌∙◌}
-use Rattle.std.proofs.lemmas.Bool.{false≢true}
+use Rattle.std.proofs.Common.{◌≡◌, ℕ, Bool, true, false, cond, ◌||◌, [], ◌∷◌, Option, Some, None, is_some, refl, sym, ap, subst, ◌∙◌}
 use Rattle.std.specs.BTreeMap.{is_at}
-use Rattle.std.specs.List.{list_any}
-use Rattle.std.specs.Map.{lookup}
 use Rattle.std.specs.Option.{IfSome, IfNone}
 use Rattle.std.specs.Ordering.{is_lt}
 use Rattle.opfs_base.specs.Places.{Place}

@@ -1,5 +1,5 @@
 -- Where the present bytes of a file are.
-use Rattle.std.proofs.Common.{◌≡◌, ℕ, ◌+◌, ◌*◌, ◌<◌, ◌≤◌, ◌/◌, nat_lt, true, false, ◌||◌, List, [], ◌∷◌, ◌++◌, length, option_map, Option, Some, None, is_some, inl, inr, refl, sym, ap, subst, ◌∙◌, arith}
+use Rattle.std.proofs.Common.{◌≡◌, ℕ, ◌+◌, ◌*◌, ◌<◌, ◌≤◌, nat_lt, true, false, ◌||◌, List, [], ◌∷◌, ◌++◌, length, option_map, Option, Some, None, is_some, inl, inr, refl, sym, ap, subst, ◌∙◌, arith}
 use Rattle.std.proofs.lemmas.Bool.{false≢true, lt-ltb}
 use Rattle.std.proofs.lemmas.List.Sums.{fold-append, sum_by-cons}
 use Rattle.std.specs.List.{AllByRecursion}
@@ -22,7 +22,7 @@ use Rattle.opfs_desk_parts.specs.declared.parts.Pages.{Pages}
 use Rattle.opfs_desk_reads.specs.Reading.{IsFileRead, IsReadFrom}
 use Rattle.opfs_desk_reads.proofs.Wholes.{pending-whole}
 use Rattle.opfs_desk_reads.specs.Files.{IsPresent, IsReadOfFile, has_writer, is_writer, writes_file}
-use Rattle.opfs_desk_reads.proofs.Writers.{HasOpenWriter, IsOpenWriter, has-found, writer-known, writer-own, writer-there}
+use Rattle.opfs_desk_reads.proofs.Writers.{IsOpenWriter, has-found, writer-known, writer-own, writer-there}
 use Rattle.opfs_desk_rows.specs.Stored.{FilesAreStored, HasCleared, HistoriesAreCleared, IsStoredAt}
 use Rattle.opfs_desk_rows.proofs.Locked.{base-whole}
 use Rattle.opfs_desk_rows.proofs.Staying.{open-with-bytes, pending-stays}
@@ -42,7 +42,7 @@ use Rattle.opfs_machine.specs.declared.own.Outline.TheVariants as outline
 use Rattle.opfs_machine.specs.declared.own.Own.{Own}
 use Rattle.opfs_machine.specs.declared.state.FileRow.{FileRow as File}
 use Rattle.opfs_machine.specs.declared.state.State.{State}
-use Rattle.opfs_machine.specs.Agents.{agent_of, handle_in, of_row, open_handle, own_of}
+use Rattle.opfs_machine.specs.Agents.{agent_of, handle_in, of_row, own_of}
 use Rattle.opfs_machine.specs.Contents.{in_lengths, outline_of}
 use Rattle.opfs_machine.specs.Histories.{after_entry, state_after}
 use Rattle.opfs_machine.specs.Openings.{begun}

@@ -1,5 +1,5 @@
 -- A file may be read by its row in the tree.
-use Rattle.std.proofs.Common.{◌≡◌, ℕ, ◌+◌, ◌*◌, ◌≤◌, zero, suc, true, List, [], ◌∷◌, length, Option, Some, None, is_some, refl, sym, ap, ◌∙◌, arith}
+use Rattle.std.proofs.Common.{◌≡◌, ℕ, ◌+◌, ◌*◌, ◌≤◌, zero, suc, true, List, [], ◌∷◌, Some, None, is_some, refl, sym, ◌∙◌, arith}
 use Rattle.std.proofs.lemmas.Bool.{false≢true}
 use Rattle.std.proofs.lemmas.Option.{slice_get_within}
 use Rattle.std.specs.List.{AllByRecursion}
@@ -23,7 +23,6 @@ use Rattle.opfs_desk_rows.specs.Inside.{PartsLieInside}
 use Rattle.opfs_desk_rows.specs.Stored.{FilesAreStored, HistoriesAreCleared}
 use Rattle.opfs_desk_rows.proofs.Inside.{lies-by, size-is}
 use Rattle.opfs_machine.specs.declared.own.Outline.{Outline}
-use Rattle.opfs_machine.specs.declared.state.Agent.{Agent}
 use Rattle.opfs_machine.specs.Agents.{nobody, own_of}
 use Rattle.opfs_outside.specs.declared.disk.Disk.{Ghosts as DiskWords}
 use Rattle.opfs_replay.specs.Built.{Built}

@@ -1,6 +1,6 @@
 -- Parts whose disk was read.
 use Rattle.std.specs.Vec.{vec_capacity}
-use Rattle.std.proofs.Common.{◌≡◌, ◌⊎◌, ℕ, ◌-◌, ◌^◌, ◌≤◌, Bool, if◌then◌else◌, List, [], ◌++◌, refl, sym, ap, subst, ◌∙◌, inl, inr, arith}
+use Rattle.std.proofs.Common.{◌≡◌, ◌⊎◌, ℕ, ◌-◌, ◌^◌, ◌≤◌, Bool, if◌then◌else◌, List, [], ◌++◌, refl, sym, ap, subst, inr, arith}
 use Rattle.opfs_acts.specs.Acting.{IsActed, IsGift}
 use Rattle.opfs_acts.specs.declared.acted.Acted.{Acted}
 use Rattle.opfs_base.specs.Texts.{Text}

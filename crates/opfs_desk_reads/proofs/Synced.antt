@@ -1,5 +1,5 @@
 -- A read of an access handle, put together from its steps.
-use Rattle.std.proofs.Common.{◌≡◌, ◌≢◌, ℕ, ◌+◌, ◌-◌, ◌*◌, ◌<◌, ◌/◌, min, zero, suc, nat_lt, is_some, true, false, List, [], ◌∷◌, ◌++◌, fold, length, map, replicate, drop, slice_index, option_map, Option, Some, None, refl, sym, ap, ◌∙◌, subst, append-nil, inl, inr, arith}
+use Rattle.std.proofs.Common.{◌≡◌, ◌≢◌, ℕ, ◌-◌, ◌*◌, ◌<◌, ◌/◌, min, zero, suc, is_some, true, List, [], ◌∷◌, ◌++◌, fold, length, map, replicate, drop, slice_index, option_map, Option, Some, refl, sym, ap, ◌∙◌, subst, append-nil, inl, arith}
 use Rattle.std.proofs.lemmas.Bool.{false≢true, lt-ltb}
 use Rattle.std.proofs.lemmas.List.{length-take, length-drop}
 use Rattle.std.specs.Prelude.{IsTrue}
@@ -22,7 +22,6 @@ use Rattle.opfs_desk_laws.specs.Shelves.{HasSameBlocks, KeepsOpen}
 use Rattle.opfs_desk_laws.specs.Spaced.{AreSpaced}
 use Rattle.opfs_desk_laws.proofs.Leaving.{open-is}
 use Rattle.opfs_hist.specs.declared.entry.Entry.{Entry}
-use Rattle.opfs_hist.specs.declared.reply.Reply.{Reply}
 use Rattle.opfs_hist.specs.declared.reply.Reply.TheVariants as reply
 use Rattle.opfs_histories.specs.Unread.{unread}
 use Rattle.opfs_journal.specs.Seen.{Seen}

@@ -1,5 +1,5 @@
 -- A call that reads bytes, step by step: syncRead and getFile. This project's own.
-use Rattle.std.specs.Prelude.{◌≡◌, ℕ, ◌-◌, ◌/◌, min, true, List, [], ◌∷◌, ◌++◌, map, length, Some, None, IsTrue}
+use Rattle.std.specs.Prelude.{◌≡◌, ℕ, ◌-◌, ◌/◌, min, List, [], ◌∷◌, ◌++◌, map, length, Some, None, IsTrue}
 use Rattle.opfs_base.specs.Places.{Place}
 use Rattle.opfs_base.specs.Texts.{Text}
 use Rattle.opfs_book_laws.specs.Books.{Fixed, AreBooks}

@@ -1,4 +1,4 @@
-use Rattle.std.proofs.Common.{◌≡◌, ℕ, ◌/◌, List, length, ◌∙◌, sym, arith}
+use Rattle.std.proofs.Common.{ℕ, ◌/◌, List, ◌∙◌, sym, arith}
 use Rattle.opfs_data.specs.Rows.{pages_at}
 use Rattle.opfs_pages.specs.Copies.{IsBegun, IsPageOf}
 use Rattle.opfs_pages.proofs.PageBytes.{copied_length}

@@ -1,4 +1,4 @@
-use Rattle.std.proofs.Common.{sym, subst, ◌≡◌, ◌∙◌, List, ℕ, slice_index}
+use Rattle.std.proofs.Common.{sym, subst}
 use Rattle.opfs_pages.specs.Copies.{IsCopy}
 use Rattle.opfs_work.specs.Works.{WorkingCopy}
 use Rattle.opfs_desk_reads.proofs.bytes.leave_cursor.Goals as goal

@@ -1,5 +1,4 @@
-use Rattle.std.proofs.Common.{ℕ, List, [], refl, sym, ap, subst, Err, arith}
-use Rattle.opfs_data.specs.Rows.{Rows}
+use Rattle.std.proofs.Common.{ℕ, List, [], refl, sym, subst, Err, arith}
 use Rattle.opfs_machine.specs.Histories.{state_after}
 use Rattle.opfs_desk_parts.specs.Seen.{machine_in}
 use Rattle.opfs_desk_parts.specs.declared.parts.Ledger.{Ledger}

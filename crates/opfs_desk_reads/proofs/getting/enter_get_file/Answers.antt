@@ -1,10 +1,9 @@
-use Rattle.std.proofs.Common.{rules, ◌≡◌, ℕ, ◌/◌, [], List, length, refl, sym, ap, subst, ◌∙◌, arith}
+use Rattle.std.proofs.Common.{[], length, refl, sym, ap, subst, ◌∙◌, arith}
 use Rattle.opfs_acts.specs.Acting.{told_entry}
 use Rattle.opfs_hist.specs.declared.entry.Entry.{Entry}
 use Rattle.opfs_hist.specs.declared.reply.Reply.TheVariants as reply
 use Rattle.opfs_machine.specs.Agents.{agent_of}
 use Rattle.opfs_machine.specs.Histories.{state_after}
-use Rattle.opfs_pages.specs.Copies.{IsPageOf}
 use Rattle.opfs_machine.specs.Steps.{is_refusal}
 use Rattle.opfs_machine.specs.declared.state.Sizes.{Sizes}
 use Rattle.opfs_space.specs.Room.{Machine}
