@@ -1,0 +1,12 @@
+pub mod Failed
+pub mod Faulted
+pub mod FileWords
+pub mod Finding
+pub mod Got
+pub mod Present
+pub mod Readable
+pub mod Readied
+pub mod Synced
+pub mod Wholes
+pub mod Words
+pub mod Writers
