@@ -193,6 +193,7 @@ module _ {D : Type 0} (w : DiskWords D) (from : Recovered D w) (agents : List Wh
               freed = freed;
               agents = omega (arith, few, length-map agents caller_by);
               keys = keys;
+              quota = refl;
               few = λ x. ap kept_count swap;
             })
             (sym ((λ i. stored_built (tree i) (machine i).persistent) ∙ is.rows));

@@ -28,6 +28,6 @@ same-held w f recorded l p s machine tree h = record {
   laid =
       subst (λ (m : Machine). AreLaid w.tells f.opening l.books.history p.base (w.content l.journal.disk) m (shelf recorded.rows s.store.tree p.swap) p.space) (sym machine)
       (subst (λ (t : Tree). AreLaid w.tells f.opening l.books.history p.base (w.content l.journal.disk) (machine_in l) (shelf recorded.rows t p.swap) p.space) (sym tree) h.laid);
-  tied = record { range = h.tied.range; base = h.tied.base; size = h.tied.size; freed = h.tied.freed; agents = h.tied.agents; keys = h.tied.keys; few = h.tied.few };
+  tied = record { range = h.tied.range; base = h.tied.base; size = h.tied.size; freed = h.tied.freed; agents = h.tied.agents; keys = h.tied.keys; quota = h.tied.quota; few = h.tied.few };
   fresh = λ none. h.fresh none ∙ (λ i. stored_built (sym tree i) (sym machine i).persistent);
 }

@@ -68,6 +68,7 @@ module _ {D : Type 0} (w : DiskWords D) (beside : LaidBeside w.tells) (blocks : 
       freed = held.tied.freed;
       agents = held.tied.agents;
       keys = held.tied.keys;
+      quota = held.tied.quota;
       few = λ none. omega (arith, same.kept, held.tied.few none);
     };
     fresh = held.fresh;

@@ -25,7 +25,7 @@ abbrev pub HaveOwnKeys : Opening → Type 0
 HaveOwnKeys o = (k : ℕ) (key : Text) → key_of o k ≡ Some key → IsText is_origin_text key
 
 -- What ties the parts. The sizes are the image's, the data part lies where the geometry says, within the disk; there is room
--- for all extents that a call may let go; of 64 agents at most each key is an origin's; and pages are kept in memory only once
+-- for all extents that a call may let go; of 64 agents at most each key is an origin's, and their quota is the image's; and pages are kept in memory only once
 -- the disk has failed.
 pub record AreTied {D : Type 0} (w : DiskWords D) (f : Fixed D) (l : Ledger D) (p : Pages) : Type 0 where
   pub range : is_in_range f.geometry ≡ true
@@ -34,6 +34,7 @@ pub record AreTied {D : Type 0} (w : DiskWords D) (f : Fixed D) (l : Ledger D) (
   pub freed : f.geometry.blocks ≤ vec_capacity l.freed
   pub agents : length f.opening.agents ≤ 64
   pub keys : HaveOwnKeys f.opening
+  pub quota : f.opening.limits.quota ≡ f.geometry.quota
   pub few : (Rose (w.faults f.begun) (w.faults l.journal.disk) → ⊥) → kept_count p.swap ≡ 0
 
 -- The history, images and counts; the pages and blocks; and what ties them: while a call is made, after these evictions. Where

@@ -118,6 +118,7 @@ module _ {D : Type 0} (w : DiskWords D) (asks : AskedCallsAreReady w) (answers :
             freed = told.tied.freed;
             agents = told.tied.agents;
             keys = told.tied.keys;
+            quota = told.tied.quota;
             few = λ none. omega (arith, closed.kept, told.tied.few none);
           };
           fresh = told.fresh;

@@ -71,6 +71,7 @@ module _ {D : Type 0} (w : DiskWords D) (f : Fixed D) where
     freed = omega (arith, tied.freed, freed);
     agents = tied.agents;
     keys = tied.keys;
+    quota = tied.quota;
     few = λ none. tied.few (λ rose. none (rose-later (w.faults f.begun) (w.faults l.journal.disk) (w.faults new.journal.disk) (most new.journal.disk) rose later));
   }
 
@@ -82,6 +83,7 @@ module _ {D : Type 0} (w : DiskWords D) (f : Fixed D) where
     freed = omega (arith, tied.freed, freed);
     agents = tied.agents;
     keys = tied.keys;
+    quota = tied.quota;
     few = λ none. tied.few (subst (λ (j : Seen D). Rose (w.faults f.begun) (w.faults j.disk) → ⊥) same none);
   }
 

@@ -73,6 +73,13 @@ impl Shed {
         }
     }
 
+    /// The blocks that the units of an origin may use together.
+    pub fn quota(&self) -> u64
+        ensures { result ≡ self.now.quota }
+    {
+        self.quota
+    }
+
     /// What the units of a key's origin use together, in blocks. Takes as long for many origins as for one.
     pub fn usage(&self, key: &Key) -> u64
         ensures { result ≡ usage_of (origin_of key.now) self.now.buckets }

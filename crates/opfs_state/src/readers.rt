@@ -111,6 +111,23 @@ impl State {
         self.store.usage(key)
     }
 
+    /// The blocks that the units of an origin may use together.
+    pub fn quota(&self) -> u64
+        ensures { result ≡ self.now.store.machine.limits.quota }
+    {
+        self.store.shed().quota()
+    }
+
+    /// The blocks that the row or mode adds that the call makes for which all stands ready.
+    pub fn growth(&self) -> u64
+        ensures { result ≡ self.now.growth }
+    {
+        match &self.ready {
+            Some(ready) => ready.growth,
+            None => 0,
+        }
+    }
+
     /// Whether a unit's mode is persistent.
     pub fn is_persistent(&self, key: &Key) -> bool
         ensures { result ≡ is_persistent self.now.store.machine key.now }
