@@ -1,0 +1,3 @@
+pub mod Dumpable
+pub mod Laws
+pub mod Plain
