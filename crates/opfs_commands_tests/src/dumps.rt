@@ -77,6 +77,29 @@ fn refused(alloc: Global, text: &str) -> Result<(String, bool), AllocError> {
     Ok((told, left))
 }
 
+// The text of a file of 4,097 bytes on so many blocks.
+fn long_note(alloc: Global, blocks: u32) -> Result<String, AllocError> {
+    let mut digits = String::new(alloc);
+    for _ in 0..4097 {
+        digits.push_str("41")?;
+    }
+    format!(in alloc;
+        r#"{{"areas":4,"blocks":{blocks},"persistent":[],"quota":8,"rows":[{{"key":"https://a.example","path":[]}},{{"hex":"{}","key":"https://a.example","path":["note"],"stamp":0}}],"version":2}}"#,
+        digits.as_str()
+    )
+}
+
+#[test]
+fn a_file_wants_blocks_enough(rt: HostRuntime) -> Result<(), Fail> {
+    let alloc = rt.alloc();
+    let (told, left) = refused(alloc, long_note(alloc, 1)?.as_str())?;
+    assert_eq!(rt; told.as_str(), "image: opfs: dump refused: Full 2 1\n");
+    assert!(rt; left);
+    let two = told_with(alloc, long_note(alloc, 2)?.as_str(), &[&["load", "I", "T"]])?;
+    assert_eq!(rt; two.as_str(), "done: loaded 2\n");
+    Ok(())
+}
+
 #[test]
 fn a_text_that_is_no_dump_leaves_the_image(rt: HostRuntime) -> Result<(), Fail> {
     for (text, line) in REFUSED {
