@@ -15,7 +15,7 @@ use opfs_acts::{Acted, Store};
 use opfs_base::Key;
 use opfs_calls::{Stop, ask, ask_done, ask_flag, keep_call, keep_refusal};
 use opfs_hall::{Hall, Pass};
-use opfs_hist::{Op, Refusal, Reply};
+use opfs_hist::{Op, Refusal, Reply, Room};
 use opfs_turns::Turns;
 use std::alloc::Global;
 use std::marker::Model;
@@ -51,6 +51,15 @@ impl<S: Store> Agent<S> {
     {
         let turns = Turns::make(alloc, pass, key)?;
         Ok(Agent { turns, alloc })
+    }
+
+    /// The same, with room for the entry of its end. Takes no memory.
+    pub fn begin(alloc: Global, pass: Pass<S>, key: Option<Key>, room: Room) -> Agent<S>
+        requires { MayBegin S.opened pass key }
+        ensures { result ≡ new_agent S.opened pass key }
+    {
+        let turns = Turns::begin(alloc, pass, key, room);
+        Agent { turns, alloc }
     }
 
     /// Ends an agent that has nothing open, and gives its pass. Takes no memory.

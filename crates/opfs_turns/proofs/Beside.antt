@@ -23,14 +23,12 @@ use Rattle.opfs_machine.specs.Histories.{after_entry}
 use Rattle.opfs_machine.specs.OwnRows.{is_local, is_closed_stream}
 use Rattle.opfs_machine.specs.Replies.{sizes_of}
 use Rattle.opfs_machine.specs.Steps.{after_reply, is_refusal}
-use Rattle.opfs_laws.specs.GoingOn.{IsPending}
 use Rattle.opfs_laws.proofs.Local.{closed}
 use Rattle.opfs_laws.proofs.Moved.{call-moves}
 use Rattle.opfs_histories.specs.Unread.{IsPendingFor, ArePendingFor}
 use Rattle.opfs_acts.specs.declared.acted.AwaitState.{AwaitState}
 use Rattle.opfs_acts.specs.declared.acted.AwaitState.TheVariants as await
 use Rattle.opfs_acts.specs.Acting.{awaited}
-use Rattle.opfs_turns.proofs.Others.{own_entry}
 use Rattle.opfs_laws.proofs.Going.{not_evict}
 use Rattle.opfs_machine.specs.Histories.{after_op}
 

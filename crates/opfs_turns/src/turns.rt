@@ -64,6 +64,14 @@ impl<S: Store> Turns<S> {
         let Ok(room) = Room::make(alloc) else {
             return Err(pass);
         };
+        Ok(Turns::begin(alloc, pass, key, room))
+    }
+
+    /// The same, with room for the entry of its end. Takes no memory.
+    pub fn begin(alloc: Global, pass: Pass<S>, key: Option<Key>, room: Room) -> Turns<S>
+        requires { MayBegin S.opened pass key }
+        ensures { result ≡ new_agent S.opened pass key }
+    {
         let notes = Notes {
             pending: Pending::make(alloc),
             key,
@@ -72,12 +80,12 @@ impl<S: Store> Turns<S> {
             rows: 0,
             waiting: None,
         };
-        Ok(Turns {
+        Turns {
             pass,
             notes,
             room,
             alloc,
-        })
+        }
     }
 
     /// What the type keeps.
