@@ -1,15 +1,15 @@
 -- The keys of a large run's agents.
-use Rattle.std.proofs.Common.{◌≡◌, ℕ, ◌==◌, ◌<◌, ◌≤◌, ◌^◌, ◌||◌, ◌&&◌, Bool, true, false, not, [], ◌∷◌, ◌++◌, codes, decimal, Some, refl, sym, ap, ◌∙◌, arith}
+use Rattle.std.proofs.Common.{◌≡◌, ℕ, ◌+◌, ◌==◌, ◌<◌, ◌≤◌, ◌^◌, ◌||◌, ◌&&◌, Bool, true, false, not, [], ◌∷◌, ◌++◌, codes, decimal, length, Some, refl, sym, ap, ◌∙◌, arith, length-append}
 use Rattle.std.specs.List.{list_any}
-use Rattle.std.proofs.lemmas.Bool.{false≢true}
+use Rattle.std.proofs.lemmas.Bool.{and_from, false≢true, le-leb}
 use Rattle.std.proofs.lemmas.Bool.Decides.{nat_tests}
-use Rattle.std.proofs.lemmas.Fmt.{decimal_is_IsNumeral}
+use Rattle.std.proofs.lemmas.Fmt.{decimal_is_IsNumeral, length-decimal-le}
 use Rattle.std.proofs.lemmas.Str.Parse.{digit_from_value}
 use Rattle.std.specs.Str.Parse.{AllDigits}
 use Rattle.std.specs.Cmp.Lexicographic.{nat_list_eq_equiv, same_text as equal_texts}
 use Rattle.opfs_base.specs.Keys.{is_origin}
 use Rattle.opfs_base.specs.Texts.{Text, same_text}
-use Rattle.opfs_script.specs.Limits.{is_origin_key}
+use Rattle.opfs_script.specs.Limits.{is_origin_key, is_short_key}
 use Rattle.opfs_told.proofs.Apart.{tail-same, same-number}
 use Rattle.opfs_gen.specs.Making.{gen_key}
 
@@ -43,8 +43,15 @@ key-without c k small few front back =
 pub key-origin : (k : ℕ) → k < 2 ^ 64 → is_origin (gen_key k) ≡ true
 key-origin k few = ap not (key-without 35 k (omega arith) few refl refl)
 
+key-short : (k : ℕ) → k < 2 ^ 64 → is_short_key (gen_key k) ≡ true
+key-short k few =
+    let size : length (gen_key k) ≡ 17 + length (decimal k) =
+    length-append (codes "https://a") (decimal k ++ codes ".example") ∙ omega (arith, length-append (decimal k) (codes ".example")) in
+    let digits = length-decimal-le 20 k (omega arith) (omega (arith, few)) few in
+    and_from _ _ (le-leb 1 (length (gen_key k)) (omega (arith, size))) (le-leb (length (gen_key k)) 255 (omega (arith, size, digits)))
+
 pub key-formed : (k : ℕ) → k < 2 ^ 64 → is_origin_key (Some (gen_key k)) ≡ true
-key-formed k few = λ i. key-origin k few i && ap not (key-without 10 k (omega arith) few refl refl) i
+key-formed k few = λ i. key-origin k few i && ap not (key-without 10 k (omega arith) few refl refl) i && key-short k few i
 
 -- Agents of different numbers have different keys.
 abbrev behind : ℕ → Text

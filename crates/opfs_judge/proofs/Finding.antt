@@ -11,7 +11,7 @@ use Rattle.opfs_machine.specs.declared.own.Own.{Own}
 use Rattle.opfs_machine.specs.declared.state.State.{State}
 use Rattle.opfs_machine.specs.Openings.{begun}
 use Rattle.opfs_runs.specs.Running.{entries_of, is_wait, IsRun}
-use Rattle.opfs_script.specs.Limits.{is_origin_key}
+use Rattle.opfs_script.specs.Limits.{is_origin_key, is_short_key}
 use Rattle.opfs_script.specs.Scripts.{Asked}
 use Rattle.opfs_separation.specs.Apart.{IsInOrder, has_origin_key}
 use Rattle.opfs_stage.specs.Openings.{trial_opening, who_of}
@@ -78,11 +78,11 @@ one-line (c ∷ key) h = by (c == 10) (list_any (λ byte. byte == 10) key) (has_
 
 key-line : (key : Option Text) → IsTrue (is_origin_key key) → is_line key ≡ true
 key-line None h = refl
-key-line (Some key) h = one-line key (and_parts (is_origin key) (is_one_line key) h).1
+key-line (Some key) h = one-line key (and_parts (is_origin key) (is_one_line key) (and_parts (is_origin key && is_one_line key) (is_short_key key) h).0).1
 
 origin-key : (key : Option Text) → IsTrue (is_origin_key key) → IsTrue (has_origin_key key)
 origin-key None h = h
-origin-key (Some key) h = (and_parts (is_origin key) (is_one_line key) h).0
+origin-key (Some key) h = (and_parts (is_origin key) (is_one_line key) (and_parts (is_origin key && is_one_line key) (is_short_key key) h).0).0
 
 origin-keys : (script : List Asked) → All (λ a. IsTrue (is_origin_key a.key)) script → All (λ a. IsTrue (has_origin_key (who_of a).key)) script
 origin-keys [] h = All-nil (λ a. IsTrue (has_origin_key (who_of a).key))

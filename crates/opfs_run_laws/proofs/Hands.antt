@@ -1,5 +1,5 @@
 -- A hand agrees with its rows.
-use Rattle.std.proofs.Common.{◌≡◌, ℕ, ◌+◌, ◌-◌, true, false, cond, not, List, [], ◌∷◌, ◌++◌, append-nil, filter, length, slice_set, Option, Some, None, refl, sym, ap, ◌∙◌, subst, arith}
+use Rattle.std.proofs.Common.{◌≡◌, ◌&&◌, ℕ, ◌+◌, ◌-◌, true, false, cond, not, List, [], ◌∷◌, ◌++◌, append-nil, filter, length, slice_set, Option, Some, None, refl, sym, ap, ◌∙◌, subst, arith}
 use Rattle.std.proofs.lemmas.Bool.{and_parts}
 use Rattle.std.specs.Cmp.Lexicographic.{slice_cmp, nat_list_cmp_total, nat_list_eq_equiv}
 use Rattle.std.specs.FinMap.Entries.{find-put}
@@ -24,7 +24,7 @@ use Rattle.opfs_runs.specs.declared.hand.Named.{Named}
 use Rattle.opfs_runs.specs.declared.hand.Named.TheVariants as named
 use Rattle.opfs_runs.specs.Running.{empty_hand, named_by, binds, binds_root, binds_child, handle_named, closes_row, bind_name, hand_after, hand_then, is_row}
 use Rattle.opfs_script.specs.declared.step.Step.{Step}
-use Rattle.opfs_script.specs.Limits.{is_origin_key}
+use Rattle.opfs_script.specs.Limits.{is_origin_key, is_short_key}
 use Rattle.opfs_run_laws.specs.Kinds.{RowKind, stream, closed_stream, handle, closed_handle, snapshot, iterator, sort_of, kind_at, sort_at, open_rows, kinds_changed, kinds_after, Names}
 use Rattle.opfs_run_laws.specs.Agreeing.{IsNamed, Agrees, HandsAgreeWithRows}
 use Rattle.opfs_run_laws.proofs.OpenRows.{open-append, stream-closed, handle-closed}
@@ -92,7 +92,7 @@ module _ (h : Hand) (kinds : List RowKind) (agrees : Agrees h kinds) where
   root-named bucket None fine origin is = absurd cc
   root-named bucket (Some text) fine origin is =
       let same : text ≡ origin = some-same is in
-      let plain = plain-from_is_origin text (and_parts (is_origin text) (is_one_line text) fine).0 in
+      let plain = plain-from_is_origin text (and_parts (is_origin text) (is_one_line text) (and_parts (is_origin text && is_one_line text) (is_short_key text) fine).0).0 in
       ap (λ o. same_text text (origin_of (unit_of o bucket))) (sym same)
       ∙ ap (same_text text) (origin_of-unit_of text bucket plain)
       ∙ nat_list_eq_equiv.refl text

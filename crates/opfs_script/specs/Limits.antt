@@ -85,10 +85,14 @@ abbrev pub fits_limits : List Asked → Bool
 fits_limits agents =
     nat_le (length agents) 64 && nat_le (steps_of_all agents) 20000 && nat_le (bytes_of_all agents) 67108864
 
--- Whether a key, if there is one, is an origin's and stands on one line.
+-- Whether a key has 1 to 255 bytes.
+abbrev pub is_short_key : Text → Bool
+is_short_key key = nat_le 1 (length key) && nat_le (length key) 255
+
+-- Whether a key, if there is one, is an origin's, stands on one line and is short.
 abbrev pub is_origin_key : Option Text → Bool
 is_origin_key None = true
-is_origin_key (Some key) = is_origin key && is_one_line key
+is_origin_key (Some key) = is_origin key && is_one_line key && is_short_key key
 
 -- Whether what an agent asks is of the right form: its key is an origin's, and its steps keep their bounds.
 abbrev pub is_formed : Asked → Bool

@@ -1,5 +1,5 @@
 -- What one call more does to the entries of each agent.
-use Rattle.std.proofs.Common.{◌≡◌, ℕ, zero, suc, ◌+◌, ◌-◌, ◌<◌, ◌≤◌, ◌==◌, true, false, List, [], ◌∷◌, ◌++◌, map, length, All, Option, Some, slice_get, refl, sym, ap, ◌∙◌, subst, append_assoc, append-nil, length-append, arith, inl, inr, unwrap_or, IsTrue, None, take, get_or}
+use Rattle.std.proofs.Common.{◌≡◌, ◌&&◌, ℕ, zero, suc, ◌+◌, ◌-◌, ◌<◌, ◌≤◌, ◌==◌, true, false, List, [], ◌∷◌, ◌++◌, map, length, All, Option, Some, slice_get, refl, sym, ap, ◌∙◌, subst, append_assoc, append-nil, length-append, arith, inl, inr, unwrap_or, IsTrue, None, take, get_or}
 use Rattle.std.proofs.lemmas.Bool.{and_parts}
 use Rattle.std.proofs.lemmas.Grind.{take_at_read}
 use Rattle.std.proofs.lemmas.Option.{slice_get_within}
@@ -18,7 +18,7 @@ use Rattle.opfs_machine.specs.declared.own.Own.{Own}
 use Rattle.opfs_machine.specs.declared.state.State.{State}
 use Rattle.opfs_machine.specs.Openings.{begun}
 use Rattle.opfs_plain.specs.declared.plain.Plain.{Plain}
-use Rattle.opfs_script.specs.Limits.{is_origin_key}
+use Rattle.opfs_script.specs.Limits.{is_origin_key, is_short_key}
 use Rattle.opfs_separation.specs.Apart.{EachPartyRunsAlone, IsInOrder, has_origin_key}
 use Rattle.opfs_stage.specs.Openings.{trial_opening, who_of}
 use Rattle.opfs_stage.specs.Runs.{EachRuns}
@@ -167,7 +167,7 @@ within_next n (e ∷ es) h =
 
 same_key : (key : Option Text) → IsTrue (is_origin_key key) → IsTrue (has_origin_key key)
 same_key None h = h
-same_key (Some key) h = (and_parts (is_origin key) (is_one_line key) h).0
+same_key (Some key) h = (and_parts (is_origin key) (is_one_line key) (and_parts (is_origin key && is_one_line key) (is_short_key key) h).0).0
 
 same_keys : (script : List Asked) → All (λ a. IsTrue (is_origin_key a.key)) script → All (λ a. IsTrue (has_origin_key (who_of a).key)) script
 same_keys [] h = All-nil (λ a. IsTrue (has_origin_key (who_of a).key))
