@@ -1,9 +1,8 @@
--- What is held once a call is entered with its change.
+-- What is held once a call is entered with its change, where the rows afterwards name no more blocks.
 use Rattle.std.proofs.Common.{◌≡◌, ◌⊎◌, ℕ, zero, suc, Bool, true, false, not, ◌&&◌, List, [], ◌∷◌, None, refl, sym, ap, subst, ◌∙◌, inl, inr}
 use Rattle.std.specs.Prelude.{◌==◌}
 use Rattle.opfs_base.specs.Texts.{Text}
 use Rattle.opfs_book_laws.specs.Books.{Fixed}
-use Rattle.opfs_book_laws.specs.Laws.{BooksKeepTheState}
 use Rattle.opfs_changes.specs.Changed.{tree_by}
 use Rattle.opfs_codec.specs.declared.change.Change.{Change as Spelled}
 use Rattle.opfs_desk_laws.specs.Hands.{row_in_hand}
@@ -12,16 +11,12 @@ use Rattle.opfs_desk_laws.specs.Open.{if_open, open_at}
 use Rattle.opfs_desk_laws.specs.Spaced.{AreSpaced}
 use Rattle.opfs_desk_laws.proofs.Hands.{hand-settles}
 use Rattle.opfs_hist.specs.declared.entry.Entry.{Entry}
-use Rattle.opfs_hist.specs.declared.op.Op.{Op}
-use Rattle.opfs_hist.specs.declared.op.Op.TheVariants as op
-use Rattle.opfs_lengths.specs.Kept.{Kept}
 use Rattle.opfs_machine.specs.declared.own.Outline.{Outline}
 use Rattle.opfs_machine.specs.declared.own.Own.{Own}
 use Rattle.opfs_machine.specs.declared.state.Agent.{Agent}
 use Rattle.opfs_machine.specs.declared.state.Sizes.{Sizes}
 use Rattle.opfs_machine.specs.declared.state.State.{State}
 use Rattle.opfs_machine.specs.Agents.{agent_in, own_of}
-use Rattle.opfs_machine.specs.Contents.{in_lengths}
 use Rattle.opfs_machine.specs.Histories.{state_after}
 use Rattle.opfs_machine.specs.Steps.{is_refusal}
 use Rattle.opfs_outside.specs.declared.disk.Disk.{Ghosts as DiskWords}
@@ -30,28 +25,18 @@ use Rattle.opfs_row_puts.specs.Plans.{shelf}
 use Rattle.opfs_snapshot.specs.Written.{stored_rows}
 use Rattle.opfs_space.specs.Room.{Machine}
 use Rattle.opfs_steady.specs.Steady.{settles, concerns}
-use Rattle.opfs_tree.specs.Rows.{Rows as Tree, IsInOrder}
+use Rattle.opfs_tree.specs.Rows.{Rows as Tree}
 use Rattle.opfs_desk_parts.specs.Held.{AreHeldAt, AreHeldWhole}
-use Rattle.opfs_desk_parts.specs.Seen.{machine_in, tree_in, book_in}
+use Rattle.opfs_desk_parts.specs.Seen.{machine_in, tree_in}
 use Rattle.opfs_desk_parts.specs.declared.parts.Ledger.{Ledger}
 use Rattle.opfs_desk_parts.specs.declared.parts.Pages.{Pages}
 use Rattle.opfs_desk_ways.proofs.Held.{laid-more}
 use Rattle.opfs_desk_ways.proofs.LaidStays.{LaidBeside}
 use Rattle.opfs_desk_kept.specs.Changing.{HasChanged}
-use Rattle.opfs_desk_kept.specs.Keeping.{is_of_entry, keeps_back}
-use Rattle.opfs_desk_kept.specs.Steps.{IsTidy}
-use Rattle.opfs_desk_kept.proofs.Fewer.{fewer-by, spaced-fewer}
-use Rattle.opfs_desk_kept.proofs.Words.{kept-word, kept-agents, kept-limits}
+use Rattle.opfs_desk_kept.specs.Words.{IsQuietCall}
+use Rattle.opfs_desk_kept.proofs.Fewer.{HasNoMore, spaced-fewer}
 
 -- ---- such a call settles no row
-
-no-hand : (s : State Text Own) (k : ℕ) (o : Op) → is_of_entry o ≡ true → row_in_hand s k o ≡ 0
-unfolding row_in_hand
-no-hand s k (op.GetDirectory bucket) h = refl
-no-hand s k (op.GetDirectoryHandle dir name create) h = refl
-no-hand s k (op.GetFileHandle dir name create) h = refl
-no-hand s k (op.RemoveEntry dir name recursive) h = refl
-no-hand s k o h = cc
 
 and-false : (a b : Bool) → b ≡ false → (a && b) ≡ false
 and-false true b is = is
@@ -63,25 +48,20 @@ no-row s k e = and-false (e.turn && not (is_refusal e.reply)) (e.agent == k && c
 apart-zero : (i : ℕ) → suc i ≡ 0 → ⊥
 apart-zero i e = cc
 
-settles-none : (s : State Text Own) (k n : ℕ) (e : Entry) → is_of_entry e.op ≡ true → settles s k n e ≡ false
-settles-none s k zero e h = no-row s k e
-settles-none s k (suc i) e h = hand-settles s e k (suc i) (λ is. apart-zero i (is.1 ∙ no-hand s e.agent e.op h))
+settles-none : (s : State Text Own) (k n : ℕ) (e : Entry) → row_in_hand s e.agent e.op ≡ 0 → settles s k n e ≡ false
+settles-none s k zero e none = no-row s k e
+settles-none s k (suc i) e none = hand-settles s e k (suc i) (λ is. apart-zero i (is.1 ∙ none))
 
-module _ {D : Type 0} (w : DiskWords D) (beside : LaidBeside w.tells) (blocks : BlocksGoOn) (states : BooksKeepTheState w) (f : Fixed D) (recorded : Built) (base : State Text Own) (gone : List Text) (back new : Ledger D) (p : Pages) (e : Entry) (z : Sizes) (own : Spelled)
-    (are : AreHeldAt w f recorded base gone back p) (tidy : IsTidy back) (after : IsInOrder (tree_in new)) (keeps : keeps_back (machine_in back) e.agent e.op ≡ true) (changed : HasChanged w f recorded base gone back new p e z own) where
-  word : is_of_entry e.op ≡ true
-  word = kept-word (machine_in back) e.agent e.op keeps
-
+module _ {D : Type 0} (w : DiskWords D) (beside : LaidBeside w.tells) (blocks : BlocksGoOn) (f : Fixed D) (recorded : Built) (base : State Text Own) (gone : List Text) (back new : Ledger D) (p : Pages) (e : Entry) (z : Sizes) (own : Spelled)
+    (are : AreHeldAt w f recorded base gone back p) (words : IsQuietCall e.agent e.op e.reply) (less : HasNoMore (machine_in back) (tree_in back) (tree_by (machine_in back) (tree_in back) e.agent e.op z None))
+    (changed : HasChanged w f recorded base gone back new p e z own) where
   opened : (k n : ℕ) → open_at (machine_in new) k n ≡ open_at (machine_in back) k n
   opened k n =
       ap (λ (m : Machine). open_at m k n) changed.machine
-      ∙ ap (λ (agents : List (Agent Outline)). if_open (own_of (agent_in agents k) n)) (kept-agents in_lengths (machine_in back) z e.agent e.op word)
+      ∙ ap (λ (agents : List (Agent Outline)). if_open (own_of (agent_in agents k) n)) (words.outlines (machine_in back) z)
 
   limits : (machine_in new).limits ≡ (machine_in back).limits
-  limits = ap (λ (m : Machine). m.limits) changed.machine ∙ kept-limits in_lengths (machine_in back) z e.agent e.op word
-
-  kept-new : Kept (machine_in new)
-  kept-new = states.kept f changed.next (state_after f.opening new.books.history) (book_in new) new.journal changed.books
+  limits = ap (λ (m : Machine). m.limits) changed.machine ∙ words.limits (machine_in back) z
 
   next-is : (changed.next.rows ≡ recorded.rows) ⊎ (changed.next.rows ≡ stored_rows (tree_in new))
   next-is = elim changed.either [ inl is ↦ inl (ap (λ (b : Built). b.rows) is) | inr is ↦ inr (ap (λ (b : Built). b.rows) is) ]
@@ -89,7 +69,6 @@ module _ {D : Type 0} (w : DiskWords D) (beside : LaidBeside w.tells) (blocks : 
   spaced : AreSpaced (machine_in new) (shelf changed.next.rows (tree_in new) p.swap) p.space
   spaced =
       let grown = tree_by (machine_in back) (tree_in back) e.agent e.op z None in
-      let less = fewer-by (machine_in back) (machine_in new) (tree_in back) e.agent z e.op keeps tidy.lines tidy.order (subst IsInOrder changed.tree after) kept-new changed.machine in
       subst (λ (t : Tree). AreSpaced (machine_in new) (shelf changed.next.rows t p.swap) p.space) (sym changed.tree)
       (spaced-fewer blocks (machine_in back) (machine_in new) recorded.rows (tree_in back) grown changed.next.rows p.swap p.space opened limits less
       (subst (λ (t : Tree). (changed.next.rows ≡ recorded.rows) ⊎ (changed.next.rows ≡ stored_rows t)) changed.tree next-is) are.laid.spaced)
@@ -97,7 +76,7 @@ module _ {D : Type 0} (w : DiskWords D) (beside : LaidBeside w.tells) (blocks : 
   pub changed-held : AreHeldWhole w f changed.next new p
   changed-held = record {
     books = changed.books;
-    laid = laid-more w f recorded changed.next back new p (e ∷ []) beside changed.entries (λ k n. (settles-none (state_after f.opening back.books.history) k n e word, tt)) opened changed.alike spaced are.laid;
+    laid = laid-more w f recorded changed.next back new p (e ∷ []) beside changed.entries (λ k n. (settles-none (state_after f.opening back.books.history) k n e (words.hand _), tt)) opened changed.alike spaced are.laid;
     tied = changed.tied;
     fresh = changed.fresh;
   }

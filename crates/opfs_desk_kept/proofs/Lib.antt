@@ -8,3 +8,4 @@ pub mod Kept
 pub mod Entered
 pub mod Ready
 pub mod Keys
+pub mod Through

@@ -102,7 +102,7 @@ short-bucket (first ∷ more) is =
     let most = (and_parts (is_letter_or_digit first && list_all is_bucket_byte more) (nat_le (length more) 63) is).1 in
     omega (arith, leb-true (length more) 63 most)
 
-root-key : (o b : Text) → IsText is_origin_text o → IsText is_bucket_name b → IsKey New (unit_of o b)
+pub root-key : (o b : Text) → IsText is_origin_text o → IsText is_bucket_name b → IsKey New (unit_of o b)
 root-key o b good_o good_b =
     let plain = plain-from_is_origin o (and_parts (is_key_text o) (is_origin o) good_o.1).1 in
     let o-is = origin_of-unit_of o b plain in

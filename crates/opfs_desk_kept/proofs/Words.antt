@@ -16,13 +16,15 @@ use Rattle.opfs_machine.specs.declared.state.Row.{Row}
 use Rattle.opfs_machine.specs.declared.state.Sizes.{Sizes}
 use Rattle.opfs_machine.specs.declared.state.State.{State}
 use Rattle.opfs_machine.specs.Agents.{agent_of}
-use Rattle.opfs_machine.specs.Contents.{Contents}
+use Rattle.opfs_machine.specs.Contents.{Contents, in_bytes, in_lengths}
 use Rattle.opfs_machine.specs.Effects.{effect, made, opens_bucket, refused}
 use Rattle.opfs_machine.specs.Histories.{is_disk_op, evicted_by}
 use Rattle.opfs_machine.specs.Replies.{answer, row_named}
 use Rattle.opfs_machine.specs.Rows.{row_at, with_row}
 use Rattle.opfs_space.specs.Room.{Machine}
+use Rattle.opfs_desk_laws.specs.Hands.{row_in_hand}
 use Rattle.opfs_desk_kept.specs.Keeping.{is_of_entry, keeps_back}
+use Rattle.opfs_desk_kept.specs.Words.{IsQuietCall}
 
 pub kept-word : (m : Machine) (k : ℕ) (o : Op) → keeps_back m k o ≡ true → is_of_entry o ≡ true
 kept-word m k (op.GetDirectory bucket) h = refl
@@ -130,3 +132,29 @@ refused-same s k (op.GetDirectoryHandle dir name create) h = refl
 refused-same s k (op.GetFileHandle dir name create) h = refl
 refused-same s k (op.RemoveEntry dir name recursive) h = refl
 refused-same s k o h = cc
+
+-- ---- all of it
+
+no-hand : (s : State Text Own) (k : ℕ) (o : Op) → is_of_entry o ≡ true → row_in_hand s k o ≡ 0
+unfolding row_in_hand
+no-hand s k (op.GetDirectory bucket) h = refl
+no-hand s k (op.GetDirectoryHandle dir name create) h = refl
+no-hand s k (op.GetFileHandle dir name create) h = refl
+no-hand s k (op.RemoveEntry dir name recursive) h = refl
+no-hand s k o h = cc
+
+pub quiet-call : (k : ℕ) (o : Op) → is_of_entry o ≡ true → IsQuietCall k o reply.Done
+quiet-call k o h = record {
+  done = refl;
+  disk = λ s. on-disk s k o h;
+  sized = λ m z. sized m z k o h;
+  gift = λ s. no-gift s o h;
+  hand = λ s. no-hand s k o h;
+  left = λ rows. leaves-none rows o h;
+  near = not-near o h;
+  plain = no-eviction o h;
+  refused = λ s. refused-same s k o h;
+  agents = λ s z. kept-agents in_bytes s z k o h;
+  outlines = λ m z. kept-agents in_lengths m z k o h;
+  limits = λ m z. kept-limits in_lengths m z k o h;
+}

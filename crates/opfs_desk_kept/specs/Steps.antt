@@ -5,6 +5,7 @@ use Rattle.opfs_acts.specs.declared.acted.Gift.TheVariants as gift
 use Rattle.opfs_book_laws.specs.Books.{Fixed}
 use Rattle.opfs_codec.specs.declared.change.Change.{Change as Spelled}
 use Rattle.opfs_hist.specs.declared.entry.Entry.{Entry}
+use Rattle.opfs_hist.specs.declared.reply.Reply.{Reply}
 use Rattle.opfs_hist.specs.declared.reply.Reply.TheVariants as reply
 use Rattle.opfs_laws.specs.Counting.{key_of}
 use Rattle.opfs_machine.specs.Agents.{agent_of}
@@ -61,6 +62,9 @@ pub record HasMadeWay {D : Type 0} (w : DiskWords D) (f : Fixed D) (mid back : L
 abbrev pub change_now : {D : Type 0} → Ledger D → Entry → Spelled
 change_now l e = change_of (moment_of (machine_in l) e.agent) (entry_place (agent_of (machine_in l) e.agent).key e.op) e.op
 
--- What it answers, with as many rows as its agent has.
+-- What such a call answers, with as many rows as its agent has. One that makes or removes an entry is answered by that it is done.
+abbrev pub changed_act : Reply → ℕ → Acted
+changed_act answered rows = record { reply = answered; gift = gift.Nothing; rows = rows }
+
 abbrev pub kept_act : ℕ → Acted
-kept_act rows = record { reply = reply.Done; gift = gift.Nothing; rows = rows }
+kept_act rows = changed_act reply.Done rows

@@ -37,7 +37,7 @@ use opfs_tree::Walk;
 
 /// Ends the doubt and clears the units of a call that changes something; gives the entry with its reply, for which it takes the call
 /// apart, and its sizes. Where the disk fails, the call is entered so, after the evictions that were committed.
-pub(crate) fn clear_way<D: Disk>(
+pub fn clear_way<D: Disk>(
     ledger: &mut Ledger<D>,
     call: InHand,
     reply: Reply,

@@ -61,7 +61,7 @@ pub fn keep_call<D: Disk>(ledger: &mut Ledger<D>, own: &ChangeRef<'_>, entering:
 }
 
 /// Enters a call with its change: it is kept back, or is committed with 63 that are. Where the disk fails, the call is entered so.
-pub(crate) fn enter_change<D: Disk>(
+pub fn enter_change<D: Disk>(
     ledger: &mut Ledger<D>,
     own: &ChangeRef<'_>,
     entering: Entering,

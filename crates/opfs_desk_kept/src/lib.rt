@@ -8,4 +8,5 @@ mod entering;
 mod spelling;
 
 pub use acting::act_kept;
-pub use entering::keep_call;
+pub use changing::clear_way;
+pub use entering::{enter_change, keep_call};

@@ -10,4 +10,5 @@ mod told;
 pub use modes::act_mode;
 pub use next::act_next;
 pub use refused::act_refused;
+pub use telling::{tell, telling_laws};
 pub use told::act_told;

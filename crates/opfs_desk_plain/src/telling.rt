@@ -41,8 +41,8 @@ use opfs_lengths::bridge::{
 use opfs_outside::Disk;
 use opfs_state_laws::readied::what_is_ready_stays_as_calls_are_noted;
 
-// What is known of the steps of such a call.
-pub(crate) fn telling_laws<D: Disk>()
+/// What is known of the steps of such a call.
+pub fn telling_laws<D: Disk>()
     ensures asks { AskedCallsAreReady D.Disk }
     ensures answers { ReadyCallsAreAnswered D.Disk }
     ensures acts { CallsAreActed D.Disk }
@@ -106,12 +106,7 @@ fn enter_told<D: Disk>(ledger: &mut Ledger<D>, call: InHand, reply: Reply)
 
 /// Takes in an agent's pending calls, and enters its call, which only tells, with this reply; gives how many rows the agent has
 /// made. Takes no memory, and calls no disk.
-pub(crate) fn tell<D: Disk>(
-    parts: &mut Parts<D>,
-    call: InHand,
-    pending: &mut Pending,
-    reply: Reply,
-) -> u32
+pub fn tell<D: Disk>(parts: &mut Parts<D>, call: InHand, pending: &mut Pending, reply: Reply) -> u32
     requires may { MayTell D.Disk parts.old call pending.old reply }
     ensures taken { pending.new ≡ [] }
     ensures acted { (f : Fixed D) (recorded : Built) (work : WorkingCopy) (past : List Text) (gift : Gift) → AreHeldWhole D.Disk f recorded parts.old.ledger parts.old.pages

@@ -6,6 +6,7 @@ pub mod Got
 pub mod Present
 pub mod Readable
 pub mod Readied
+pub mod Small
 pub mod Synced
 pub mod Wholes
 pub mod Words

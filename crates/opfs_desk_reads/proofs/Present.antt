@@ -1,5 +1,5 @@
 -- Where the present bytes of a file are.
-use Rattle.std.proofs.Common.{◌≡◌, ℕ, ◌+◌, ◌*◌, ◌<◌, ◌≤◌, nat_lt, true, false, ◌||◌, List, [], ◌∷◌, ◌++◌, length, option_map, Option, Some, None, is_some, inl, inr, refl, sym, ap, subst, ◌∙◌, arith}
+use Rattle.std.proofs.Common.{◌≡◌, ℕ, ◌+◌, ◌*◌, ◌^◌, ◌<◌, ◌≤◌, nat_lt, true, false, ◌||◌, List, [], ◌∷◌, ◌++◌, length, option_map, Option, Some, None, is_some, inl, inr, refl, sym, ap, subst, ◌∙◌, arith}
 use Rattle.std.proofs.lemmas.Bool.{false≢true, lt-ltb}
 use Rattle.std.proofs.lemmas.List.Sums.{fold-append, sum_by-cons}
 use Rattle.std.specs.List.{AllByRecursion}
@@ -22,15 +22,19 @@ use Rattle.opfs_desk_parts.specs.declared.parts.Pages.{Pages}
 use Rattle.opfs_desk_reads.specs.Reading.{IsFileRead, IsReadFrom}
 use Rattle.opfs_desk_reads.proofs.Wholes.{pending-whole}
 use Rattle.opfs_desk_reads.specs.Files.{IsPresent, IsReadOfFile, has_writer, is_writer, writes_file}
+use Rattle.opfs_desk_reads.proofs.Small.{few-blocks, few-bytes}
 use Rattle.opfs_desk_reads.proofs.Writers.{IsOpenWriter, has-found, writer-known, writer-own, writer-there}
 use Rattle.opfs_desk_rows.specs.Stored.{FilesAreStored, HasCleared, HistoriesAreCleared, IsStoredAt}
 use Rattle.opfs_desk_rows.proofs.Locked.{base-whole}
 use Rattle.opfs_desk_rows.proofs.Staying.{open-with-bytes, pending-stays}
+use Rattle.opfs_desk_rows.proofs.Inside.{limits-are}
 use Rattle.opfs_hist.specs.declared.entry.Entry.{Entry}
 use Rattle.opfs_histories.specs.Unread.{ArePendingFor}
+use Rattle.opfs_image.proofs.Formatted.{range_parts}
 use Rattle.opfs_laws.specs.Holders.{IsLockOf, holders}
 use Rattle.opfs_laws.specs.Whole.{IsWhole}
 use Rattle.opfs_lengths.proofs.Readers.{file-on}
+use Rattle.opfs_lengths.specs.Kept.{Kept}
 use Rattle.opfs_lengths.specs.Bridge.{LengthsFollowEachCall, LocalCallsAreKnownByTheirWord}
 use Rattle.opfs_lengths.specs.Outlines.{in_lengths_of, on_file}
 use Rattle.opfs_locks.specs.Taking.{Lock}
@@ -41,6 +45,7 @@ use Rattle.opfs_machine.specs.declared.own.Outline.{Outline}
 use Rattle.opfs_machine.specs.declared.own.Outline.TheVariants as outline
 use Rattle.opfs_machine.specs.declared.own.Own.{Own}
 use Rattle.opfs_machine.specs.declared.state.FileRow.{FileRow as File}
+use Rattle.opfs_machine.specs.declared.state.Limits.{Limits}
 use Rattle.opfs_machine.specs.declared.state.State.{State}
 use Rattle.opfs_machine.specs.Agents.{agent_of, handle_in, of_row, own_of}
 use Rattle.opfs_machine.specs.Contents.{in_lengths, outline_of}
@@ -126,6 +131,15 @@ module _ (states : StateLaws) {D : Type 0} (w : DiskWords D) (files : FilesAreSt
 
   abbrev pub NoneWrites : Type 0
   NoneWrites = found.lock.0 ≡ value.Exclusive → has_writer (machine_in v) place p.swap ≡ false
+
+  -- It has no more blocks than there are.
+  pub small : found.present < 2 ^ 63
+  small =
+      let m = machine_in v in
+      let kept : Kept m = subst Kept (sym held.books.machine) (states.lengths.whole s whole) in
+      let few = few-blocks m kept place (file_line found) (machine-file m (tree_in v) place found lines there) in
+      let most = ap (λ (y : Limits). y.blocks) (limits-are states w f recorded v p held) in
+      few-bytes found.present (omega (arith, few, most, held.books.blocks, (range_parts f.geometry held.tied.range).1))
 
   -- Where no handle may write it, its bytes are stored.
   pub durable : NoneWrites → x.present ≡ x.durable

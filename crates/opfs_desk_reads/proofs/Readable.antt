@@ -18,7 +18,7 @@ use Rattle.opfs_desk_parts.specs.Seen.{machine_in, tree_in}
 use Rattle.opfs_desk_parts.specs.declared.parts.Ledger.{Ledger}
 use Rattle.opfs_desk_parts.specs.declared.parts.Pages.{Pages}
 use Rattle.opfs_desk_reads.specs.Files.{AreOfAgents, MayReadFile}
-use Rattle.opfs_desk_reads.proofs.Present.{below, blocks-there, fits}
+use Rattle.opfs_desk_reads.proofs.Present.{below, blocks-there, fits, small}
 use Rattle.opfs_desk_rows.specs.Inside.{PartsLieInside}
 use Rattle.opfs_desk_rows.specs.Stored.{FilesAreStored, HistoriesAreCleared}
 use Rattle.opfs_desk_rows.proofs.Inside.{lies-by, size-is}
@@ -62,6 +62,7 @@ module _ (states : StateLaws) {D : Type 0} (w : DiskWords D) (files : FilesAreSt
   may-read lines whole place found there =
       let here = lie f recorded l p held in
       record {
+        small = small states w files between f recorded l p held lines place found there;
         there = blocks-there states w files between f recorded l p held lines place found there whole;
         fits = fits states w files between f recorded l p held lines place found there;
         lies =

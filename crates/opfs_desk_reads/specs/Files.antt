@@ -1,6 +1,6 @@
 -- The present bytes of a file, as getFile reads them: those of the pages of the access handle that may write it, else those of its
 -- blocks. This project's own.
-use Rattle.std.specs.Prelude.{◌≡◌, ℕ, ◌*◌, ◌<◌, ◌≤◌, ◌&&◌, Bool, true, false, is_some, length, Option, Some, None, List}
+use Rattle.std.specs.Prelude.{◌≡◌, ℕ, ◌*◌, ◌^◌, ◌<◌, ◌≤◌, ◌&&◌, Bool, true, false, is_some, length, Option, Some, None, List}
 use Rattle.std.specs.List.{list_any}
 use Rattle.opfs_base.specs.Blocks.{blocks}
 use Rattle.opfs_base.specs.Places.{Place}
@@ -46,8 +46,10 @@ pub record IsPresent (m : Machine) (place : Place) (x : FileRow) (swap : Rows) (
   pub written : (k n : ℕ) → is_writer m place (k, n) ≡ true → (i : ℕ) → 4096 * i < length bytes → IsBegun bytes i (page_of c base (page_at k n i swap))
   pub stored : (x.lock.0 ≡ value.Exclusive → has_writer m place swap ≡ false) → bytes_of c base x.extents x.present ≡ bytes
 
--- The pages of each handle that may write the file are there, or its blocks are enough, and lie on the disk.
+-- The file has no more bytes than a memory can hold. The pages of each handle that may write it are there, or its blocks are
+-- enough, and lie on the disk.
 pub record MayReadFile (m : Machine) (place : Place) (x : FileRow) (swap : Rows) (base end : ℕ) : Type 0 where
+  pub small : x.present < 2 ^ 63
   pub there : (k n : ℕ) → is_writer m place (k, n) ≡ true → blocks x.present ≤ length (pages_at k n swap)
   pub fits : (x.lock.0 ≡ value.Exclusive → has_writer m place swap ≡ false) → x.present ≤ room_of x.extents
   pub lies : AllLie base end x.extents

@@ -21,9 +21,6 @@ use opfs_state::State;
 use opfs_tree::FileRow;
 use std::alloc::Global;
 
-// No memory holds more bytes.
-const LARGEST: u64 = 9223372036854775807;
-
 // Whether a row is that of an access handle that may write the file.
 fn writes_file(state: &State, agent: u32, row: u32, file: &Locator) -> bool
     requires { IsAgent state.now.store.machine agent }
@@ -86,9 +83,6 @@ pub(crate) fn read_file<D: Disk>(
     ensures read { IfOk result (λ bytes. D.tells → (present : List ℕ) → IsPresent state.now.store.machine (place_of file.now) found.now swap.now (D.content journal.old.disk) base present → bytes ≡ present) }
     ensures cause { IsErrOf result DataRefusal.DiskFault → Rose (D.faults journal.old.disk) (D.faults journal.new.disk) }
 {
-    if found.present > LARGEST {
-        return Err(DataRefusal::NoMemory);
-    }
     match writer_of(state, swap, file, found) {
         Some((agent, row)) => read_handle(alloc, swap, journal, base, agent, row, found.present),
         None => load(

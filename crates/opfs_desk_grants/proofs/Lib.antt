@@ -1,0 +1,4 @@
+pub mod Estimates
+pub mod Modes
+pub mod Granted
+pub mod Stored

@@ -1,0 +1,2 @@
+pub mod Estimating
+pub mod Granting
