@@ -49,7 +49,8 @@ use Rattle.opfs_desk_steps.specs.Acting.{CallsAreActed}
 use Rattle.opfs_desk_steps.specs.Answering.{ReadyCallsAreAnswered, IsReply}
 use Rattle.opfs_desk_steps.specs.Ready.{AskedCallsAreReady}
 use Rattle.opfs_desk_steps.proofs.Counts.{own-length}
-use Rattle.opfs_desk_plain.specs.Silent.{BeginsCall, HasTakenIn, HasTold, LeavesClosed, told_act}
+use Rattle.opfs_desk_steps.specs.Going.{HasTakenIn, HasTold}
+use Rattle.opfs_desk_plain.specs.Silent.{BeginsCall, LeavesClosed, told_act}
 use Rattle.opfs_desk_plain.proofs.Noted.{mid-noted, sum_of}
 use Rattle.opfs_desk_plain.proofs.Silent.{ready, answered, has-acted, machine-is}
 use Rattle.opfs_desk_ends.specs.Leaving.{IsInOrderThrough, is_leaving, leaves_row}

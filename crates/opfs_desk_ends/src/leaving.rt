@@ -14,10 +14,10 @@ ghost use Rattle.opfs_desk_parts.specs.Asked.{IsAsked, MayGo};
 ghost use Rattle.opfs_desk_parts.specs.Held.{AreHeldAt, AreHeldWhole};
 ghost use Rattle.opfs_desk_parts.specs.Seen.{machine_in, call_in};
 ghost use Rattle.opfs_desk_parts.specs.declared.parts.Pages.{Pages};
-ghost use Rattle.opfs_desk_plain.specs.Silent.{HasTold};
 ghost use Rattle.opfs_desk_rows.specs.InHand.{RowsInHandAreLaid};
 ghost use Rattle.opfs_desk_steps.specs.Acting.{CallsAreActed};
 ghost use Rattle.opfs_desk_steps.specs.Answering.{ReadyCallsAreAnswered};
+ghost use Rattle.opfs_desk_steps.specs.Going.{HasTold};
 ghost use Rattle.opfs_desk_steps.specs.Ready.{AskedCallsAreReady};
 ghost use Rattle.opfs_hist.specs.declared.reply.Reply.TheVariants as reply;
 ghost use Rattle.opfs_laws.specs.Leaving.{ACallMovesItsAgent};
@@ -29,15 +29,16 @@ ghost use Rattle.opfs_replay.specs.Built.{Built};
 
 use opfs_acts::{Acted, Gift};
 use opfs_book_laws::the_books_show_their_images;
-use opfs_books::{Entering, Last};
 use opfs_desk_laws::{
     blocks_go_on, calls_change_their_row, calls_leave_other_rows, trees_keep_their_blocks,
 };
 use opfs_desk_parts::{InHand, Ledger, Parts};
 use opfs_desk_rows::rows_in_hand_are_laid;
-use opfs_desk_steps::{asked_calls_are_ready, calls_are_acted, ready_calls_are_answered};
-use opfs_desk_ways::{take_in, tell_call};
-use opfs_hist::{Entry, Op, Pending, Reply};
+use opfs_desk_steps::{
+    asked_calls_are_ready, calls_are_acted, ready_calls_are_answered, tell_in_hand,
+};
+use opfs_desk_ways::take_in;
+use opfs_hist::{Op, Pending, Reply};
 use opfs_laws::owned::a_call_moves_its_agent;
 use opfs_lengths::bridge::{
     lengths_decide_each_ruling, lengths_follow_each_call, local_calls_are_known_by_their_word,
@@ -102,35 +103,8 @@ fn enter_leave<D: Disk>(ledger: &mut Ledger<D>, call: InHand)
         → IsAnswered D.Disk base gone ledger.old (told_entry (call_in call) reply.Done) call.sizes → HasTold D.Disk f recorded ledger.old ledger.new p (told_entry (call_in call) reply.Done) call.sizes }
 {
     ledger.books.state.step(&mut Walk::make());
-    let InHand {
-        room,
-        agent,
-        number,
-        op,
-        sizes,
-        clearing: _none,
-    } = call;
     let reply = Reply::Done;
-    let turn = true;
-    let last = Last {
-        room,
-        entry: Entry {
-            agent,
-            number,
-            op,
-            reply,
-            turn,
-        },
-    };
-    let extents = None;
-    tell_call(
-        ledger,
-        Entering {
-            last,
-            sizes,
-            extents,
-        },
-    );
+    tell_in_hand(ledger, call, reply);
     ledger.books.state.step(&mut Walk::make());
 }
 

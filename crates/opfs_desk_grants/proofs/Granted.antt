@@ -5,7 +5,7 @@ use Rattle.opfs_book_laws.specs.Books.{Fixed}
 use Rattle.opfs_hist.specs.declared.entry.Entry.{Entry}
 use Rattle.opfs_hist.specs.declared.reply.Reply.TheVariants as reply
 use Rattle.opfs_histories.specs.Unread.{ReadsLeaveTheState, unread}
-use Rattle.opfs_laws.specs.Counting.{AStateCountsItsHistory}
+use Rattle.opfs_laws.specs.Counting.{AStateCountsItsHistory, key_of}
 use Rattle.opfs_laws.proofs.Bounded.{modes-gone}
 use Rattle.opfs_laws.proofs.OwnKept.{evicted-agents}
 use Rattle.opfs_lengths.specs.Bridge.{LengthsFollowEachCall, LocalCallsAreKnownByTheirWord}
@@ -33,7 +33,7 @@ use Rattle.opfs_desk_ways.proofs.Real.{real, real-legal, real-state}
 use Rattle.opfs_desk_steps.specs.Answering.{IsReply}
 use Rattle.opfs_desk_plain.specs.Silent.{BeginsCall}
 use Rattle.opfs_desk_plain.proofs.Noted.{mid-noted}
-use Rattle.opfs_desk_kept.specs.Steps.{HasTakenIn, HasMadeWay}
+use Rattle.opfs_desk_steps.specs.Going.{HasTakenIn, HasMadeWay}
 use Rattle.opfs_desk_kept.proofs.Keys.{key-held}
 use Rattle.opfs_desk_grants.specs.Granting.{gives_mode}
 use Rattle.opfs_desk_grants.proofs.Modes.{gives-grant, gives-still, gives-word, answers-mode}
@@ -85,11 +85,11 @@ module _ {D : Type 0} (w : DiskWords D) (follow : LengthsFollowEachCall) (local 
       record { alike = ap unread (sym is); told = λ t. sym is }
 
   -- The call still gives a mode.
-  pub gives-now : (back : Ledger D) → HasMadeWay w f mid back p c → gives_mode (machine_in back) c.agent c.op ≡ true
-  gives-now back way =
+  pub gives-now : (back : Ledger D) → HasMadeWay w f mid back p c → (agent_of (machine_in back) c.agent).key ≡ key_of f.opening c.agent → gives_mode (machine_in back) c.agent c.op ≡ true
+  gives-now back way keyed =
       let machine = way.cleared.are.books.machine in
       let units = units_in c.clearing.items in
       gives-still (machine_in l) (machine_in back) c.agent c.op
       (modes-of base units (machine_in back) machine ∙ (sym (modes-of base [] (machine_in mid) took.held.books.machine) ∙ modes-mid))
       (grant-of base units c.agent (machine_in back) machine ∙ grant-base)
-      (way.keyed ∙ sym (key-held w reads counts f recorded l p held c.agent)) gives
+      (keyed ∙ sym (key-held w reads counts f recorded l p held c.agent)) gives

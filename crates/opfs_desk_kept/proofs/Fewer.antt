@@ -43,16 +43,13 @@ use Rattle.opfs_standing.proofs.Lines.{there-at}
 use Rattle.opfs_tree.specs.Rows.{Rows as Tree, IsInOrder, row_at, extents_of, without}
 use Rattle.opfs_desk_ways.proofs.Evictions.{stored-named, recorded-has}
 use Rattle.opfs_desk_kept.specs.Keeping.{makes_root, keeps_back}
+use Rattle.opfs_desk_kept.proofs.Free.{none-of}
 
 -- The rows afterwards name no more blocks, nor has any file more, and the files of open rows keep theirs.
 pub record HasNoMore (m : Machine) (t u : Tree) : Type 0 where
   pub rows : (b : ℕ) → has_block (named u) b ≡ true → has_block (named t) b ≡ true
   pub has : (f : Option Place) (b : ℕ) → file_has u f b ≡ true → file_has t f b ≡ true
   pub stays : (k n b : ℕ) → file_has t (file_in (open_at m k n)) b ≡ true → file_has u (file_in (open_at m k n)) b ≡ true
-
-none-of : {X : Type 0} (x : Option X) → not (is_some x) ≡ true → x ≡ None
-none-of None is = refl
-none-of (Some x) is = cc
 
 none-by : {X : Type 0} (x : Option X) → is_some x ≡ false → x ≡ None
 none-by None is = refl

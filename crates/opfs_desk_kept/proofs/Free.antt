@@ -29,7 +29,7 @@ free-tree : (units : List Text) (t : Tree) (q : Place) → row_at q t ≡ None �
 free-tree [] t q none = none
 free-tree (unit ∷ units) t q none = free-tree units (without (unit, []) t) q (tree-without t (unit, []) q ∙ none-either (not (is_within (unit, []) q)) (row_at q t) none)
 
-none-of : {X : Type 0} (x : Option X) → not (is_some x) ≡ true → x ≡ None
+pub none-of : {X : Type 0} (x : Option X) → not (is_some x) ≡ true → x ≡ None
 none-of None is = refl
 none-of (Some x) is = cc
 

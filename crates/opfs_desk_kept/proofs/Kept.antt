@@ -11,6 +11,7 @@ use Rattle.opfs_desk_laws.specs.Laws.{BlocksGoOn}
 use Rattle.opfs_hist.specs.declared.entry.Entry.{Entry}
 use Rattle.opfs_hist.specs.declared.reply.Reply.TheVariants as reply
 use Rattle.opfs_histories.specs.Unread.{unread}
+use Rattle.opfs_laws.specs.Counting.{key_of}
 use Rattle.opfs_lengths.specs.Kept.{Kept}
 use Rattle.opfs_machine.specs.declared.own.Own.{Own}
 use Rattle.opfs_machine.specs.declared.state.State.{State}
@@ -38,7 +39,8 @@ use Rattle.opfs_desk_steps.specs.Answering.{ReadyCallsAreAnswered, IsReply}
 use Rattle.opfs_desk_steps.specs.Ready.{IsReadyCall, AskedCallsAreReady}
 use Rattle.opfs_desk_kept.specs.Changing.{HasChanged, HasNotChanged}
 use Rattle.opfs_desk_kept.specs.Keeping.{keeps_back}
-use Rattle.opfs_desk_kept.specs.Steps.{BeginsKeeping, HasTakenIn, HasMadeWay, IsTidy, change_now, kept_act}
+use Rattle.opfs_desk_steps.specs.Going.{HasTakenIn, HasMadeWay, IsTidy}
+use Rattle.opfs_desk_kept.specs.Steps.{BeginsKeeping, change_now, kept_act}
 use Rattle.opfs_desk_kept.specs.Words.{IsQuietCall}
 use Rattle.opfs_desk_kept.proofs.Fewer.{HasNoMore, fewer-by}
 use Rattle.opfs_desk_kept.proofs.Free.{keeps-still}
@@ -72,7 +74,7 @@ module _ {D : Type 0} (w : DiskWords D) (asks : AskedCallsAreReady w) (answers :
   pub rows-failed : (new : Ledger D) (q : Pages) → HasFailed w f entry mid new q → length (agent_of (machine_in mid) c.agent).own ≡ length (agent_of (state_after f.opening new.books.history) c.agent).own
   rows-failed = rows-failed-through w asks answers f recorded l mid back p calls c work reply.Done begins.held begins.asked took words
 
-  module _ (way : HasMadeWay w f mid back p c) where
+  module _ (way : HasMadeWay w f mid back p c) (keyed : (agent_of (machine_in back) c.agent).key ≡ key_of f.opening c.agent) where
     pub answered : IsAnswered w base units back entry c.sizes
     answered = answered-through w asks answers f recorded l mid back p calls c work reply.Done begins.held begins.asked took words its-reply way
 
@@ -80,7 +82,7 @@ module _ {D : Type 0} (w : DiskWords D) (asks : AskedCallsAreReady w) (answers :
     pub keeps-now : (machine_in back).rows ≡ lines_of (tree_in back) → keeps_back (machine_in back) c.agent c.op ≡ true
     keeps-now lines =
         keeps-still (machine_in l) (machine_in back) (tree_in l) units c.agent c.op begins.lines
-        (lines ∙ ap lines_of (way.tree ∙ ap (λ (t : Tree). fold cleared_from t units) took.tree)) (begins.keyed ∙ sym way.keyed) begins.keeps
+        (lines ∙ ap lines_of (way.tree ∙ ap (λ (t : Tree). fold cleared_from t units) took.tree)) (begins.keyed ∙ sym keyed) begins.keeps
 
     module _ (tidy : IsTidy back) (states : BooksKeepTheState w) (spells : CallsAreSpelled) (fails : CallsMayFail w.tells) (falls : Falls w) (acts : CallsAreActed w) (new : Ledger D) where
       spelled : spelled_by (machine_in back) (tree_in back) c.agent c.op c.sizes None ≡ Some (change_now back entry)

@@ -32,7 +32,7 @@ use Rattle.opfs_desk_ways.proofs.Held.{evictions-told, refused-told}
 use Rattle.opfs_desk_ways.proofs.Loop.{Falls}
 use Rattle.opfs_desk_ways.proofs.Ways.{way-then, way-told, way-same, way-told-same, last-doubt}
 use Rattle.opfs_desk_kept.specs.Changing.{HasNotChanged, IsChangeShown}
-use Rattle.opfs_desk_kept.specs.Steps.{IsTidy}
+use Rattle.opfs_desk_steps.specs.Going.{IsTidy}
 
 module _ {D : Type 0} (w : DiskWords D) (f : Fixed D) (states : BooksKeepTheState w) (spells : CallsAreSpelled) (fails : CallsMayFail w.tells) (falls : Falls w) (mid back new : Ledger D) (p : Pages) (units : List Text) (e : Entry) (z : Sizes) (own : Spelled)
     (grown : back.books.history ≡ mid.books.history ++ map eviction units) (cleared : AreCleared w f units mid back p) (answered : IsAnswered w (state_after f.opening mid.books.history) units back e z) (plain : is_refusal e.reply ≡ false)

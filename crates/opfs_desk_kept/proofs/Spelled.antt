@@ -1,5 +1,5 @@
 -- The change of a call is what it spells, and it can be read.
-use Rattle.std.proofs.Common.{◌≡◌, ℕ, ◌<◌, ◌≤◌, ◌^◌, Bool, true, false, not, cond, List, [], ◌∷◌, ◌++◌, length, Option, Some, None, Ok, refl, sym, ap, subst, ◌∙◌, arith}
+use Rattle.std.proofs.Common.{◌≡◌, ℕ, ◌<◌, ◌≤◌, ◌^◌, Bool, true, false, cond, List, [], ◌∷◌, ◌++◌, length, Option, Some, None, Ok, refl, sym, ap, subst, ◌∙◌, arith}
 use Rattle.std.specs.List.{AllByRecursion}
 use Rattle.std.specs.FinMap.Entries.{find}
 use Rattle.std.specs.Ordering.{is_eq, eq_by_cmp}
@@ -52,10 +52,7 @@ use Rattle.opfs_tree.specs.Rows.{Rows as Tree}
 use Rattle.opfs_tree.specs.declared.row.Row.{Row}
 use Rattle.opfs_tree.specs.declared.row.Row.TheVariants as row
 use Rattle.opfs_desk_kept.specs.Keeping.{keeps_back, makes_root, is_well_named, root_place, entry_name, entry_place, change_of, HasOwnKey}
-
-none-of : {X : Type 0} (x : Option X) → not (is_some x) ≡ true → x ≡ None
-none-of None is = refl
-none-of (Some x) is = cc
+use Rattle.opfs_desk_kept.proofs.Free.{none-of}
 
 -- ---- what the ruling tells
 

@@ -47,7 +47,8 @@ use Rattle.opfs_desk_steps.specs.Ready.{IsReadyCall, AskedCallsAreReady}
 use Rattle.opfs_desk_steps.proofs.Counts.{own-length}
 use Rattle.opfs_desk_steps.proofs.Numbers.{agent-stays}
 use Rattle.opfs_desk_kept.specs.Changing.{HasChanged, HasNotChanged}
-use Rattle.opfs_desk_kept.specs.Steps.{HasTakenIn, HasMadeWay, IsTidy, changed_act}
+use Rattle.opfs_desk_steps.specs.Going.{HasTakenIn, HasMadeWay, IsTidy}
+use Rattle.opfs_desk_kept.specs.Steps.{changed_act}
 use Rattle.opfs_desk_kept.specs.Words.{IsQuietCall}
 use Rattle.opfs_desk_kept.proofs.Changed.{changed-held}
 use Rattle.opfs_desk_kept.proofs.Fewer.{HasNoMore}

@@ -1,5 +1,5 @@
 -- A call that keeps its change back, step by step. This project's own.
-use Rattle.std.specs.Prelude.{◌≡◌, [], ◌++◌, List, fold, map, true, false}
+use Rattle.std.specs.Prelude.{◌≡◌, [], List, true}
 use Rattle.opfs_acts.specs.declared.acted.Acted.{Acted}
 use Rattle.opfs_acts.specs.declared.acted.Gift.TheVariants as gift
 use Rattle.opfs_book_laws.specs.Books.{Fixed}
@@ -10,29 +10,18 @@ use Rattle.opfs_hist.specs.declared.reply.Reply.TheVariants as reply
 use Rattle.opfs_laws.specs.Counting.{key_of}
 use Rattle.opfs_machine.specs.Agents.{agent_of}
 use Rattle.opfs_machine.specs.Effects.{moment_of}
-use Rattle.opfs_machine.specs.Runs.{eviction}
 use Rattle.opfs_outside.specs.declared.disk.Disk.{Ghosts as DiskWords}
 use Rattle.opfs_replay.specs.Built.{Built}
 use Rattle.opfs_standing.specs.Seen.{lines_of}
-use Rattle.opfs_state.specs.Applied.{IsPrepared}
-use Rattle.opfs_tree.specs.Rows.{IsInOrder}
 use Rattle.opfs_work.specs.Works.{WorkingCopy}
 use Rattle.std.specs.Prelude.{ℕ}
-use Rattle.opfs_desk_parts.specs.Acted.{AreCleared}
 use Rattle.opfs_desk_parts.specs.Asked.{IsAsked}
 use Rattle.opfs_desk_parts.specs.Held.{AreHeldWhole}
-use Rattle.opfs_desk_parts.specs.Seen.{machine_in, tree_in, units_in}
+use Rattle.opfs_desk_parts.specs.Seen.{machine_in, tree_in}
 use Rattle.opfs_desk_parts.specs.declared.call.InHand.{InHand}
 use Rattle.opfs_desk_parts.specs.declared.parts.Ledger.{Ledger}
 use Rattle.opfs_desk_parts.specs.declared.parts.Pages.{Pages}
-use Rattle.opfs_desk_steps.specs.Acting.{HasTaken}
-use Rattle.opfs_desk_ways.specs.Clearing.{cleared_from}
 use Rattle.opfs_desk_kept.specs.Keeping.{keeps_back, entry_place, change_of}
-
--- The machine has the rows of the tree, which are in order.
-pub record IsTidy {D : Type 0} (l : Ledger D) : Type 0 where
-  pub lines : (machine_in l).rows ≡ lines_of (tree_in l)
-  pub order : IsInOrder (tree_in l)
 
 -- What such a call begins with.
 pub record BeginsKeeping {D : Type 0} (w : DiskWords D) (f : Fixed D) (recorded : Built) (l : Ledger D) (p : Pages) (calls : List Entry) (c : InHand) (work : WorkingCopy) : Type 0 where
@@ -41,22 +30,6 @@ pub record BeginsKeeping {D : Type 0} (w : DiskWords D) (f : Fixed D) (recorded 
   pub keeps : keeps_back (machine_in l) c.agent c.op ≡ true
   pub lines : (machine_in l).rows ≡ lines_of (tree_in l)
   pub keyed : (agent_of (machine_in l) c.agent).key ≡ key_of f.opening c.agent
-
--- Its agent's pending calls were taken in.
-pub record HasTakenIn {D : Type 0} (w : DiskWords D) (f : Fixed D) (recorded : Built) (l mid : Ledger D) (p : Pages) (calls : List Entry) (c : InHand) : Type 0 where
-  pub taken : HasTaken l mid calls
-  pub held : AreHeldWhole w f recorded mid p
-  pub prepared : IsPrepared mid.books.state c.agent c.op
-  pub tree : tree_in mid ≡ tree_in l
-
--- The doubt was ended, and its units were cleared.
-pub record HasMadeWay {D : Type 0} (w : DiskWords D) (f : Fixed D) (mid back : Ledger D) (p : Pages) (c : InHand) : Type 0 where
-  pub entries : back.books.history ≡ mid.books.history ++ map eviction (units_in c.clearing.items)
-  pub prepared : IsPrepared back.books.state c.agent c.op
-  pub tree : tree_in back ≡ fold cleared_from (tree_in mid) (units_in c.clearing.items)
-  pub cleared : AreCleared w f (units_in c.clearing.items) mid back p
-  pub sure : back.journal.in_doubt ≡ false
-  pub keyed : (agent_of (machine_in back) c.agent).key ≡ key_of f.opening c.agent
 
 -- The change that a call makes now.
 abbrev pub change_now : {D : Type 0} → Ledger D → Entry → Spelled

@@ -19,14 +19,16 @@ ghost use Rattle.opfs_laws.specs.Counting.{AStateCountsItsHistory};
 ghost use Rattle.opfs_lengths.specs.Bridge.{LengthsDecideEachRuling};
 ghost use Rattle.opfs_replay.specs.Built.{Built};
 
-use crate::changing::{clear_way, enter_kept};
+use crate::changing::enter_kept;
 use crate::spelling::entry_of;
 use opfs_acts::{Acted, Gift};
 use opfs_book_calls::{calls_are_spelled, calls_may_fail};
 use opfs_book_laws::{the_books_show_their_images, the_state_is_kept};
 use opfs_desk_laws::{blocks_go_on, calls_leave_other_rows, what_is_laid_goes_on};
 use opfs_desk_parts::{InHand, Parts};
-use opfs_desk_steps::{asked_calls_are_ready, calls_are_acted, ready_calls_are_answered};
+use opfs_desk_steps::{
+    asked_calls_are_ready, calls_are_acted, clear_way, ready_calls_are_answered,
+};
 use opfs_desk_ways::take_in;
 use opfs_hist::{Pending, Refusal, Reply};
 use opfs_histories::unread::reads_leave_the_state;

@@ -8,5 +8,4 @@ mod entering;
 mod spelling;
 
 pub use acting::act_kept;
-pub use changing::clear_way;
 pub use entering::{enter_change, keep_call};

@@ -55,7 +55,8 @@ use Rattle.opfs_desk_steps.specs.Acting.{CallsAreActed}
 use Rattle.opfs_desk_steps.specs.Answering.{ReadyCallsAreAnswered, IsReply}
 use Rattle.opfs_desk_steps.specs.Ready.{IsReadyCall, AskedCallsAreReady}
 use Rattle.opfs_desk_steps.proofs.Numbers.{agent-stays}
-use Rattle.opfs_desk_opens.specs.Opening.{BeginsOpening, HasTakenIn, HasMadeWay, HasTold, HasPages, IsTidy, opened_act}
+use Rattle.opfs_desk_steps.specs.Going.{HasTakenIn, HasMadeWay, HasTold, IsTidy}
+use Rattle.opfs_desk_opens.specs.Opening.{BeginsOpening, HasPages, opened_act}
 use Rattle.opfs_desk_opens.proofs.Grown.{writable-grown, sync-grown}
 use Rattle.opfs_desk_opens.proofs.Rows.{next-stays}
 use Rattle.opfs_desk_opens.proofs.Sizes.{size-is, reserve-is, same-size, same-kept}
@@ -119,7 +120,7 @@ module _ {D : Type 0} (w : DiskWords D) (asks : AskedCallsAreReady w) (answers :
       may-open = record {
         held = way.cleared.are;
         cleared = has-cleared;
-        lines = tidy.lines;
+        lines = sym tidy.lines;
         order = tidy.order;
         order_after = order_after;
         answered = answered;
@@ -205,12 +206,12 @@ module _ {D : Type 0} (w : DiskWords D) (asks : AskedCallsAreReady w) (answers :
                   size =
                       copy.size_is
                       ∙ (sym (same-size (tree_in l) (tree_in back) c.op begins.opens file-row)
-                      ∙ size-is s (machine_in back) (tree_in back) way.cleared.are.books.machine tidy.lines c.op begins.opens);
+                      ∙ size-is s (machine_in back) (tree_in back) way.cleared.are.books.machine (sym tidy.lines) c.op begins.opens);
                   position = copy.position;
                   reserve =
                       copy.reserve
                       ∙ (sym (same-kept (tree_in l) (tree_in back) c.op begins.opens file-row)
-                      ∙ reserve-is s (machine_in back) (tree_in back) way.cleared.are.books.machine tidy.lines c.op begins.opens);
+                      ∙ reserve-is s (machine_in back) (tree_in back) way.cleared.are.books.machine (sym tidy.lines) c.op begins.opens);
                   far = copy.far;
                   paged = copy.paged;
                 })))

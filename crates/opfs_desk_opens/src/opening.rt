@@ -10,36 +10,37 @@ ghost use Rattle.opfs_desk_laws.specs.RowsAfter.{CallsChangeTheirRow};
 ghost use Rattle.opfs_desk_parts.specs.Acted.{HasActed, IsUnacted};
 ghost use Rattle.opfs_desk_parts.specs.Asked.{IsAsked, MayGo};
 ghost use Rattle.opfs_base.specs.Texts.{Text};
-ghost use Rattle.opfs_desk_opens.specs.Opening.{HasTold, IsTidy};
 ghost use Rattle.opfs_desk_parts.specs.Answered.{IsAnswered, MayAnswer};
 ghost use Rattle.opfs_desk_parts.specs.Held.{AreHeldAt, AreHeldWhole};
 ghost use Rattle.opfs_desk_parts.specs.declared.parts.Pages.{Pages};
 ghost use Rattle.opfs_hist.specs.declared.reply.Reply.TheVariants as reply;
 ghost use Rattle.opfs_machine.specs.declared.own.Own.{Own};
 ghost use Rattle.opfs_machine.specs.declared.state.State.{State};
-ghost use Rattle.opfs_desk_parts.specs.Seen.{call_in};
+ghost use Rattle.opfs_desk_parts.specs.Seen.{tree_in, call_in};
 ghost use Rattle.opfs_desk_rows.specs.OpenCopies.{OpenedCopiesStand};
 ghost use Rattle.opfs_desk_rows.specs.Opening.{OpenedRowsAreLaid};
 ghost use Rattle.opfs_desk_rows.specs.Opens.{CallsOpenRows, opens_row};
 ghost use Rattle.opfs_desk_rows.specs.Stored.{FilesAreStored};
 ghost use Rattle.opfs_desk_steps.specs.Acting.{CallsAreActed};
 ghost use Rattle.opfs_desk_steps.specs.Answering.{ReadyCallsAreAnswered};
+ghost use Rattle.opfs_desk_steps.specs.Going.{HasTold, IsTidy};
 ghost use Rattle.opfs_desk_steps.specs.Ready.{AskedCallsAreReady};
 ghost use Rattle.opfs_replay.specs.Built.{Built};
+ghost use Rattle.opfs_tree.specs.Rows.{IsInOrder};
 
 use crate::pages::{next_row, open_pages};
 use opfs_acts::{Acted, Gift};
 use opfs_book_laws::{state_laws, the_books_show_their_images};
-use opfs_books::{Entering, Last};
+use opfs_books::Last;
 use opfs_desk_laws::{
     blocks_go_on, calls_change_their_row, trees_keep_their_blocks, what_is_laid_goes_on,
 };
 use opfs_desk_parts::{InHand, Ledger, Parts};
 use opfs_desk_rows::{calls_open_rows, files_are_stored, opened_rows_are_laid};
 use opfs_desk_steps::{
-    asked_calls_are_ready, calls_are_acted, clear_call, ready_calls_are_answered,
+    asked_calls_are_ready, calls_are_acted, clear_call, ready_calls_are_answered, tell_last,
 };
-use opfs_desk_ways::{take_in, tell_call};
+use opfs_desk_ways::take_in;
 use opfs_hist::{Pending, Refusal, Reply};
 use opfs_machine::Sizes;
 use opfs_outside::Disk;
@@ -53,20 +54,13 @@ fn enter_open<D: Disk>(ledger: &mut Ledger<D>, last: Last, sizes: Sizes)
     requires word { opens_row last.entry.op ≡ true }
     requires done { last.entry.reply ≡ reply.Done }
     ensures tidy { IsTidy ledger.old }
+    ensures order { IsInOrder (tree_in ledger.new) }
     ensures told { (f : Fixed D) (recorded : Built) (base : State Text Own) (gone : List Text) (p : Pages) → AreHeldAt D.Disk f recorded base gone ledger.old p → IsAnswered D.Disk base gone ledger.old last.entry sizes
         → HasTold D.Disk f recorded ledger.old ledger.new p last.entry sizes }
 {
     ledger.books.state.lines();
     ledger.books.state.step(&mut Walk::make());
-    let extents = None;
-    tell_call(
-        ledger,
-        Entering {
-            last,
-            sizes,
-            extents,
-        },
-    );
+    tell_last(ledger, last, sizes);
     ledger.books.state.step(&mut Walk::make());
 }
 

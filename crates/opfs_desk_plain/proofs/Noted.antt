@@ -26,7 +26,8 @@ use Rattle.opfs_desk_parts.specs.Seen.{machine_in}
 use Rattle.opfs_desk_parts.specs.declared.call.InHand.{InHand}
 use Rattle.opfs_desk_parts.specs.declared.parts.Ledger.{Ledger}
 use Rattle.opfs_desk_parts.specs.declared.parts.Pages.{Pages}
-use Rattle.opfs_desk_plain.specs.Silent.{BeginsCall, HasTakenIn}
+use Rattle.opfs_desk_steps.specs.Going.{HasTakenIn}
+use Rattle.opfs_desk_plain.specs.Silent.{BeginsCall}
 use Rattle.opfs_desk_plain.specs.Telling.{TellsOnly}
 
 -- The sum of an agent's calls.

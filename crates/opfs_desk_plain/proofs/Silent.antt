@@ -45,7 +45,8 @@ use Rattle.opfs_desk_steps.specs.Answering.{ReadyCallsAreAnswered, IsReply}
 use Rattle.opfs_desk_steps.specs.Ready.{IsReadyCall, AskedCallsAreReady}
 use Rattle.opfs_desk_steps.proofs.Counts.{own-length}
 use Rattle.opfs_desk_ways.proofs.Ways.{way-here}
-use Rattle.opfs_desk_plain.specs.Silent.{BeginsCall, HasTakenIn, HasTold, LeavesClosed, told_act}
+use Rattle.opfs_desk_steps.specs.Going.{HasTakenIn, HasTold}
+use Rattle.opfs_desk_plain.specs.Silent.{BeginsCall, LeavesClosed, told_act}
 use Rattle.opfs_desk_plain.proofs.Closed.{shut-none}
 
 no-fault : (r : Reply) → is_refusal r ≡ false → is_disk_fault r ≡ false

@@ -40,7 +40,8 @@ use Rattle.opfs_desk_steps.specs.Acting.{CallsAreActed}
 use Rattle.opfs_desk_steps.specs.Answering.{ReadyCallsAreAnswered, IsReply}
 use Rattle.opfs_desk_steps.specs.Ready.{AskedCallsAreReady}
 use Rattle.opfs_desk_ways.proofs.LaidStays.{spaced-stays}
-use Rattle.opfs_desk_plain.specs.Silent.{BeginsCall, HasTakenIn, HasTold, LeavesClosed, told_act}
+use Rattle.opfs_desk_steps.specs.Going.{HasTakenIn, HasTold}
+use Rattle.opfs_desk_plain.specs.Silent.{BeginsCall, LeavesClosed, told_act}
 use Rattle.opfs_desk_plain.specs.Telling.{IsTelling, TellsOnly}
 use Rattle.opfs_desk_plain.proofs.Closed.{none-rowed}
 use Rattle.opfs_desk_plain.proofs.Noted.{tells-mid}

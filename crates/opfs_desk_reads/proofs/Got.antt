@@ -50,9 +50,11 @@ use Rattle.opfs_desk_parts.specs.declared.call.InHand.{InHand}
 use Rattle.opfs_desk_parts.specs.declared.parts.Ledger.{Ledger}
 use Rattle.opfs_desk_parts.specs.declared.parts.Pages.{Pages}
 use Rattle.opfs_desk_parts.specs.declared.parts.Parts.{Parts}
-use Rattle.opfs_desk_reads.specs.Reading.{BeginsRead, HasTakenIn, HasMadeWay, HasTold, IsFileRead}
+use Rattle.opfs_desk_steps.specs.Going.{HasTakenIn, HasMadeWay, HasTold}
+use Rattle.opfs_desk_reads.specs.Reading.{BeginsRead, IsFileRead}
 use Rattle.opfs_desk_reads.specs.Words.{file_read, gets_file}
-use Rattle.opfs_desk_reads.proofs.FileWords.{answers-file, gift-is, in-hand, leaves-none, limits-file, not-near, own-file, plain, rows-file, ruled, sized}
+use Rattle.opfs_desk_reads.proofs.FileWords.{answers-file, as-bytes, gift-is, in-hand, leaves-none, limits-file, not-near, own-file, plain, rows-file, ruled, sized}
+use Rattle.opfs_desk_reads.proofs.Words.{same-tree}
 use Rattle.opfs_desk_rows.specs.InHand.{HasInHand, HasNoPages, RowsInHandAreLaid}
 use Rattle.opfs_desk_rows.specs.Opens.{next_row}
 use Rattle.opfs_desk_steps.specs.Acting.{CallsAreActed}
@@ -212,7 +214,7 @@ module _ {D : Type 0} (w : DiskWords D) (asks : AskedCallsAreReady w) (answers :
           laid =
               subst (λ (j : Seen D). AreLaid w.tells f.opening new.books.history p.base (w.content j.disk) (machine_in new) (shelf way.cleared.recorded.rows (tree_in new) p.swap) p.space) (sym told.journal)
               (subst (λ (es : List Entry). AreLaid w.tells f.opening es p.base (w.content back.journal.disk) (machine_in new) (shelf way.cleared.recorded.rows (tree_in new) p.swap) p.space) (sym told.entries)
-              (subst (λ (t : Tree). AreLaid w.tells f.opening (back.books.history ++ entry ∷ []) p.base (w.content back.journal.disk) (machine_in new) (shelf way.cleared.recorded.rows t p.swap) p.space) (sym told.tree)
+              (subst (λ (t : Tree). AreLaid w.tells f.opening (back.books.history ++ entry ∷ []) p.base (w.content back.journal.disk) (machine_in new) (shelf way.cleared.recorded.rows t p.swap) p.space) (sym (told.tree ∙ same-tree (machine_in back) (tree_in back) c.agent c.op c.sizes (as-bytes c.op gets)))
               (subst (λ (m : Machine). AreLaid w.tells f.opening (back.books.history ++ entry ∷ []) p.base (w.content back.journal.disk) m (shelf way.cleared.recorded.rows (tree_in back) p.swap) p.space) (sym machine-is) laid)));
           tied = told.tied;
           fresh = told.fresh;

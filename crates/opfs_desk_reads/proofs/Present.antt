@@ -1,7 +1,7 @@
 -- Where the present bytes of a file are.
-use Rattle.std.proofs.Common.{◌≡◌, ℕ, ◌+◌, ◌*◌, ◌^◌, ◌<◌, ◌≤◌, nat_lt, true, false, ◌||◌, List, [], ◌∷◌, ◌++◌, length, option_map, Option, Some, None, is_some, inl, inr, refl, sym, ap, subst, ◌∙◌, arith}
+use Rattle.std.proofs.Common.{◌≡◌, ℕ, ◌+◌, ◌*◌, ◌^◌, ◌<◌, ◌≤◌, nat_lt, true, false, ◌||◌, List, [], ◌∷◌, ◌++◌, length, Option, Some, None, is_some, inl, inr, refl, sym, ap, subst, ◌∙◌, arith}
 use Rattle.std.proofs.lemmas.Bool.{false≢true, lt-ltb}
-use Rattle.std.proofs.lemmas.List.Sums.{fold-append, sum_by-cons}
+use Rattle.std.proofs.lemmas.List.Sums.{fold-append}
 use Rattle.std.specs.List.{AllByRecursion}
 use Rattle.opfs_base.specs.Blocks.{blocks}
 use Rattle.opfs_base.specs.Places.{Place}
@@ -26,6 +26,7 @@ use Rattle.opfs_desk_reads.proofs.Small.{few-blocks, few-bytes}
 use Rattle.opfs_desk_reads.proofs.Writers.{IsOpenWriter, has-found, writer-known, writer-own, writer-there}
 use Rattle.opfs_desk_rows.specs.Stored.{FilesAreStored, HasCleared, HistoriesAreCleared, IsStoredAt}
 use Rattle.opfs_desk_rows.proofs.Locked.{base-whole}
+use Rattle.opfs_desk_rows.proofs.Opens.{file-back, room-count}
 use Rattle.opfs_desk_rows.proofs.Staying.{open-with-bytes, pending-stays}
 use Rattle.opfs_desk_rows.proofs.Inside.{limits-are}
 use Rattle.opfs_hist.specs.declared.entry.Entry.{Entry}
@@ -58,26 +59,12 @@ use Rattle.opfs_machine.specs.Rows.{file_at}
 use Rattle.opfs_machine.specs.Rulings.{lock_in}
 use Rattle.opfs_outside.specs.declared.disk.Disk.{Ghosts as DiskWords}
 use Rattle.opfs_pages.specs.Copies.{IsBegun}
-use Rattle.opfs_replay.specs.Built.{Built, block_count}
+use Rattle.opfs_replay.specs.Built.{Built}
 use Rattle.opfs_standing.specs.Seen.{Machine, lines_of}
 use Rattle.opfs_standing.proofs.Lines.{file_line}
 use Rattle.opfs_steady.specs.Steady.{is_steady, open_bytes}
 use Rattle.opfs_tree.specs.Rows.{file_at as file_in_tree}
 use Rattle.opfs_tree.specs.declared.row.FileRow.{FileRow}
-
-room-count : (extents : List Extent) → room_of extents ≡ 4096 * block_count extents
-room-count [] = refl
-room-count (e ∷ more) = omega (arith, room-count more, sum_by-cons (λ (x : Extent). x.count) e more)
-
-pub file-back : (o : Option (File Text)) (fl : File ℕ) → option_map (on_file length) o ≡ Some fl → (x : File Text) × (o ≡ Some x) × (fl ≡ on_file length x)
-file-back None fl is = absurd (none_some is)
-  where
-    none_some : ◌≡◌ {A = Option (File ℕ)} None (Some fl) → ⊥
-    none_some e = cc
-file-back (Some x) fl is = (x, refl, sym (one is))
-  where
-    one : {a b : File ℕ} → ◌≡◌ {A = Option (File ℕ)} (Some a) (Some b) → a ≡ b
-    one e = cc
 
 one-row : (a b : FileRow) → ◌≡◌ {A = Option FileRow} (Some a) (Some b) → a ≡ b
 one-row a b e = cc

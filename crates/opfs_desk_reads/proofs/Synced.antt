@@ -59,10 +59,11 @@ use Rattle.opfs_desk_parts.specs.declared.call.InHand.{InHand}
 use Rattle.opfs_desk_parts.specs.declared.parts.Ledger.{Ledger}
 use Rattle.opfs_desk_parts.specs.declared.parts.Pages.{Pages}
 use Rattle.opfs_desk_parts.specs.declared.parts.Parts.{Parts}
-use Rattle.opfs_desk_reads.specs.Reading.{BeginsRead, HasTakenIn, HasMadeWay, HasTold, IsReadOf}
+use Rattle.opfs_desk_steps.specs.Going.{HasTakenIn, HasMadeWay, HasTold}
+use Rattle.opfs_desk_reads.specs.Reading.{BeginsRead, IsReadOf}
 use Rattle.opfs_desk_reads.specs.Words.{reads_row, read_start, read_len, end_of_read, cursor_read}
 use Rattle.opfs_desk_reads.proofs.Wholes.{pending-whole}
-use Rattle.opfs_desk_reads.proofs.Words.{answers-read, bytes-read, handle-there, in-hand, leaves-named, limits-read, no-gift, no-units, not-near, own-read, plain, row-some, rows-read, sized}
+use Rattle.opfs_desk_reads.proofs.Words.{answers-read, as-bytes, bytes-read, handle-there, in-hand, leaves-named, limits-read, no-gift, no-units, not-near, own-read, plain, row-some, rows-read, same-tree, sized}
 use Rattle.opfs_desk_rows.specs.Copied.{CopiesAreStored, IsStoredCopy}
 use Rattle.opfs_desk_rows.specs.InHand.{HasInHand, HasPages, RowsInHandAreLaid}
 use Rattle.opfs_desk_rows.proofs.Staying.{open-with-bytes}
@@ -340,7 +341,7 @@ module _ {D : Type 0} (w : DiskWords D) (asks : AskedCallsAreReady w) (answers :
             laid =
                 subst (λ (j : Seen D). AreLaid w.tells f.opening new.books.history p.base (w.content j.disk) (machine_in new) (shelf way.cleared.recorded.rows (tree_in new) p.swap) p.space) (sym told.journal)
                 (subst (λ (es : List Entry). AreLaid w.tells f.opening es p.base (w.content back.journal.disk) (machine_in new) (shelf way.cleared.recorded.rows (tree_in new) p.swap) p.space) (sym told.entries)
-                (subst (λ (t : Tree). AreLaid w.tells f.opening (back.books.history ++ entry ∷ []) p.base (w.content back.journal.disk) (machine_in new) (shelf way.cleared.recorded.rows t p.swap) p.space) (sym told.tree)
+                (subst (λ (t : Tree). AreLaid w.tells f.opening (back.books.history ++ entry ∷ []) p.base (w.content back.journal.disk) (machine_in new) (shelf way.cleared.recorded.rows t p.swap) p.space) (sym (told.tree ∙ same-tree (machine_in back) (tree_in back) c.agent c.op c.sizes (as-bytes c.op reads)))
                 (subst (λ (m : Machine). AreLaid w.tells f.opening (back.books.history ++ entry ∷ []) p.base (w.content back.journal.disk) m (shelf way.cleared.recorded.rows (tree_in back) p.swap) p.space) (sym machine-is) laid)));
             tied = told.tied;
             fresh = told.fresh;

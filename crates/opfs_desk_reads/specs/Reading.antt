@@ -1,8 +1,8 @@
 -- A call that reads bytes, step by step: syncRead and getFile. This project's own.
-use Rattle.std.specs.Prelude.{◌≡◌, ℕ, ◌-◌, ◌/◌, min, List, [], ◌∷◌, ◌++◌, map, length, Some, None, IsTrue}
+use Rattle.std.specs.Prelude.{◌≡◌, ℕ, ◌-◌, ◌/◌, min, List, [], ◌++◌, length, Some, IsTrue}
 use Rattle.opfs_base.specs.Places.{Place}
 use Rattle.opfs_base.specs.Texts.{Text}
-use Rattle.opfs_book_laws.specs.Books.{Fixed, AreBooks}
+use Rattle.opfs_book_laws.specs.Books.{Fixed}
 use Rattle.opfs_data.specs.Calls.{Reads}
 use Rattle.opfs_desk_laws.specs.Handles.{AreHandlesWhole}
 use Rattle.opfs_hist.specs.declared.entry.Entry.{Entry}
@@ -14,28 +14,24 @@ use Rattle.opfs_machine.specs.declared.state.State.{State}
 use Rattle.opfs_machine.specs.Histories.{is_disk_op, state_after}
 use Rattle.opfs_machine.specs.Replies.{bytes_at, file_reply, row_named}
 use Rattle.opfs_machine.specs.Rows.{file_at}
-use Rattle.opfs_machine.specs.Runs.{eviction}
 use Rattle.opfs_outside.specs.Faults.{Rose}
 use Rattle.opfs_outside.specs.declared.disk.Disk.{Ghosts as DiskWords}
 use Rattle.opfs_pages.specs.Copies.{IsPageOf}
 use Rattle.opfs_replay.specs.Built.{Built}
 use Rattle.opfs_splice.specs.Splicing.{window}
-use Rattle.opfs_state.specs.Applied.{IsPrepared}
 use Rattle.opfs_steady.specs.Steady.{row_bytes}
 use Rattle.opfs_tree.specs.Rows.{file_at as file_in_tree}
 use Rattle.opfs_tree.specs.declared.row.FileRow.{FileRow}
 use Rattle.opfs_work.specs.Works.{WorkingCopy}
-use Rattle.opfs_desk_parts.specs.Acted.{AreCleared}
 use Rattle.opfs_desk_parts.specs.Asked.{IsAsked}
-use Rattle.opfs_desk_parts.specs.Held.{AreTied, AreHeldWhole}
-use Rattle.opfs_desk_parts.specs.Seen.{machine_in, tree_in, book_in, units_in}
+use Rattle.opfs_desk_parts.specs.Held.{AreHeldWhole}
+use Rattle.opfs_desk_parts.specs.Seen.{machine_in, tree_in}
 use Rattle.opfs_desk_parts.specs.declared.call.InHand.{InHand}
 use Rattle.opfs_desk_parts.specs.declared.parts.Ledger.{Ledger}
 use Rattle.opfs_desk_parts.specs.declared.parts.Pages.{Pages}
 use Rattle.opfs_desk_parts.specs.declared.parts.Parts.{Parts}
 use Rattle.opfs_desk_reads.specs.Files.{IsReadOfFile}
 use Rattle.opfs_desk_reads.specs.Words.{read_start, read_len, cursor_read}
-use Rattle.opfs_desk_steps.specs.Acting.{HasTaken}
 
 -- Each page of each open access handle is one that the store tells, over parts that are kept.
 pub record HaveWholeHandles {D : Type 0} (w : DiskWords D) (p : Parts D) : Type 0 where
@@ -74,28 +70,6 @@ pub record IsFileRead (tells whole : Type 0) (s : State Text Own) (place : Place
 -- A file was read by its row in the tree, if it is there.
 abbrev pub IsReadFrom : {D : Type 0} → DiskWords D → Ledger D → Pages → Place → Text → ℕ → ℕ → Type 0
 IsReadFrom w l p place bytes size stamp = (found : FileRow) → file_in_tree place (tree_in l) ≡ Some found → IsReadOfFile w.tells (machine_in l) place found p.swap (w.content l.journal.disk) p.base bytes size stamp
-
--- Its agent's pending calls were taken in.
-pub record HasTakenIn {D : Type 0} (w : DiskWords D) (f : Fixed D) (recorded : Built) (l mid : Ledger D) (p : Pages) (calls : List Entry) (c : InHand) : Type 0 where
-  pub taken : HasTaken l mid calls
-  pub held : AreHeldWhole w f recorded mid p
-  pub prepared : IsPrepared mid.books.state c.agent c.op
-
--- Its units were cleared.
-pub record HasMadeWay {D : Type 0} (w : DiskWords D) (f : Fixed D) (mid back : Ledger D) (p : Pages) (c : InHand) : Type 0 where
-  pub entries : back.books.history ≡ mid.books.history ++ map eviction (units_in c.clearing.items)
-  pub prepared : IsPrepared back.books.state c.agent c.op
-  pub cleared : AreCleared w f (units_in c.clearing.items) mid back p
-
--- And it was entered.
-pub record HasTold {D : Type 0} (w : DiskWords D) (f : Fixed D) (recorded : Built) (back new : Ledger D) (p : Pages) (e : Entry) (z : Sizes) : Type 0 where
-  pub journal : new.journal ≡ back.journal
-  pub entries : new.books.history ≡ back.books.history ++ e ∷ []
-  pub tree : tree_in new ≡ tree_in back
-  pub idle : new.books.state.store.prepared.place ≡ None
-  pub books : AreBooks w f recorded (book_in new) new.journal
-  pub tied : AreTied w f new p
-  pub fresh : new.books.commits.count ≡ 0 → recorded ≡ (book_in new).rows
 
 -- The disk was read and failed: its count rose, and nothing else was changed. The call may fail so.
 pub record HasFailedToRead {D : Type 0} (w : DiskWords D) (f : Fixed D) (recorded : Built) (start now : Ledger D) (before after : Pages) (calls : List Entry) (c : InHand) (work : WorkingCopy) (past : List Text) : Type 0 where

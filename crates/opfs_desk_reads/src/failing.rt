@@ -9,43 +9,16 @@ ghost use Rattle.opfs_desk_parts.specs.Seen.{call_in};
 ghost use Rattle.opfs_desk_parts.specs.declared.parts.Ledger.{Ledger};
 ghost use Rattle.opfs_desk_parts.specs.declared.parts.Pages.{Pages};
 ghost use Rattle.opfs_desk_reads.specs.Reading.{HasFailedToRead, MayFailToRead};
-ghost use Rattle.opfs_hist.specs.declared.reply.Reply.TheVariants as reply;
-ghost use Rattle.opfs_acts.specs.Acting.{told_entry};
 ghost use Rattle.opfs_replay.specs.Built.{Built};
 ghost use Rattle.opfs_work.specs.Works.{WorkingCopy};
 
 use opfs_acts::{Acted, Gift};
 use opfs_book_laws::{a_fault_is_counted, reads_leave_the_books, the_books_show_their_images};
-use opfs_books::Last;
 use opfs_desk_parts::{InHand, Parts};
-use opfs_desk_steps::{asked_calls_are_ready, calls_are_acted};
+use opfs_desk_steps::{CallParts, asked_calls_are_ready, call_parts, calls_are_acted};
 use opfs_desk_ways::{fail_call, take_in};
-use opfs_hist::{Entry, Pending, Refusal, Reply};
+use opfs_hist::{Pending, Refusal, Reply};
 use opfs_outside::Disk;
-
-// The entry of a call, with the memory for it.
-fn entry_of(call: InHand) -> Last
-    ensures { result.entry ≡ told_entry (call_in call) reply.Done }
-{
-    let InHand {
-        room,
-        agent,
-        number,
-        op,
-        sizes: _,
-        clearing: _,
-    } = call;
-    Last {
-        room,
-        entry: Entry {
-            agent,
-            number,
-            op,
-            reply: Reply::Done,
-            turn: true,
-        },
-    }
-}
 
 /// Enters a call for which the disk was read and failed: nothing of it was done. Calls no disk.
 pub fn fail_reading<D: Disk>(parts: &mut Parts<D>, call: InHand, pending: &mut Pending) -> Acted
@@ -63,7 +36,7 @@ pub fn fail_reading<D: Disk>(parts: &mut Parts<D>, call: InHand, pending: &mut P
     let agent = call.agent;
     take_in(&mut parts.ledger, agent, pending);
     let rows = parts.ledger.books.state.rows(agent) as u32;
-    let last = entry_of(call);
+    let CallParts { last, .. } = call_parts(call, Reply::Done);
     fail_call(&mut parts.ledger, last);
     Acted {
         reply: Reply::No(Refusal::DiskFault),

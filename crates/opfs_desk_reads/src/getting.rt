@@ -28,7 +28,6 @@ ghost use Rattle.opfs_replay.specs.Built.{Built};
 ghost use Rattle.opfs_tree.specs.Rows.{file_at as file_in_tree};
 ghost use Rattle.opfs_tree.specs.declared.row.FileRow.{FileRow};
 
-use crate::entering::enter_read;
 use crate::failing::fail_reading;
 use crate::files::read_file;
 use opfs_acts::{Acted, Gift};
@@ -39,7 +38,7 @@ use opfs_desk_laws::{blocks_go_on, calls_leave_other_rows, handles_stay_whole};
 use opfs_desk_parts::{InHand, Parts};
 use opfs_desk_rows::{files_are_stored, parts_lie_inside, rows_in_hand_are_laid};
 use opfs_desk_steps::{
-    asked_calls_are_ready, calls_are_acted, clear_call, ready_calls_are_answered,
+    asked_calls_are_ready, calls_are_acted, clear_call, ready_calls_are_answered, tell_last,
 };
 use opfs_desk_ways::take_in;
 use opfs_hist::{Op, Pending, Refusal, Reply};
@@ -112,7 +111,7 @@ fn enter_get_file<D: Disk>(
     let FileRead { bytes, size, stamp } = read;
     match clear_call(&mut parts.ledger, call, Reply::FileInfo(size, stamp)) {
         Ok((last, sizes)) => {
-            enter_read(&mut parts.ledger, last, sizes);
+            tell_last(&mut parts.ledger, last, sizes);
             Acted {
                 reply: Reply::FileInfo(size, stamp),
                 gift: Gift::Bytes(bytes),

@@ -2,7 +2,6 @@
 #![tactic(auto)]
 
 mod bytes;
-mod entering;
 mod failing;
 mod files;
 mod getting;

@@ -23,7 +23,6 @@ ghost use Rattle.opfs_machine.specs.Replies.{row_named};
 ghost use Rattle.opfs_replay.specs.Built.{Built};
 
 use crate::bytes::{RowRead, leave_cursor, read_open_row};
-use crate::entering::enter_read;
 use crate::failing::fail_reading;
 use opfs_acts::{Acted, Gift};
 use opfs_book_laws::{reads_leave_the_books, the_books_show_their_images, the_state_is_kept};
@@ -34,7 +33,7 @@ use opfs_desk_laws::{
 use opfs_desk_parts::{InHand, Parts};
 use opfs_desk_rows::{copies_are_stored, parts_lie_inside, rows_in_hand_are_laid};
 use opfs_desk_steps::{
-    asked_calls_are_ready, calls_are_acted, clear_call, ready_calls_are_answered,
+    asked_calls_are_ready, calls_are_acted, clear_call, ready_calls_are_answered, tell_last,
 };
 use opfs_desk_ways::take_in;
 use opfs_hist::{Op, Pending, Refusal, Reply};
@@ -127,7 +126,7 @@ fn enter_sync_read<D: Disk>(
     } = read;
     match clear_call(&mut parts.ledger, call, Reply::Read(copy)) {
         Ok((last, sizes)) => {
-            enter_read(&mut parts.ledger, last, sizes);
+            tell_last(&mut parts.ledger, last, sizes);
             leave_cursor(work, cursor, page.as_slice());
             Acted {
                 reply: Reply::Read(bytes),

@@ -72,7 +72,7 @@ use Rattle.opfs_desk_rows.proofs.Stored.{row-of}
 
 -- ---- extents
 
-room-count : (extents : List Extent) → room_of extents ≡ 4096 * block_count extents
+pub room-count : (extents : List Extent) → room_of extents ≡ 4096 * block_count extents
 room-count [] = refl
 room-count (e ∷ more) = omega (arith, room-count more, sum_by-cons (λ (x : Extent). x.count) e more)
 
@@ -114,7 +114,7 @@ once-at (e ∷ es) place r once is =
 
 -- ---- the file of a row
 
-file-back : (o : Option (File Text)) (fl : File ℕ) → option_map (on_file length) o ≡ Some fl → (x : File Text) × (o ≡ Some x) × (fl ≡ on_file length x)
+pub file-back : (o : Option (File Text)) (fl : File ℕ) → option_map (on_file length) o ≡ Some fl → (x : File Text) × (o ≡ Some x) × (fl ≡ on_file length x)
 file-back None fl is = absurd (none_some is)
   where
     none_some : ◌≡◌ {A = Option (File ℕ)} None (Some fl) → ⊥

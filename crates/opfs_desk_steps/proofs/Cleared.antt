@@ -1,8 +1,10 @@
 -- A call without units: nothing is to be cleared.
-use Rattle.std.proofs.Common.{◌≡◌, List, [], ◌∷◌, length, refl, arith}
+use Rattle.std.proofs.Common.{◌≡◌, List, [], ◌∷◌, ◌++◌, map, length, refl, sym, append-nil, arith}
 use Rattle.opfs_book_laws.specs.Books.{Fixed}
 use Rattle.opfs_book_laws.specs.Laws.{BooksShowTheirImages}
+use Rattle.opfs_hist.specs.declared.entry.Entry.{Entry}
 use Rattle.opfs_machine.specs.Histories.{state_after}
+use Rattle.opfs_machine.specs.Runs.{eviction}
 use Rattle.opfs_outside.specs.declared.disk.Disk.{Ghosts as DiskWords}
 use Rattle.opfs_replay.specs.Built.{Built}
 use Rattle.opfs_desk_parts.specs.Acted.{AreCleared}
@@ -21,3 +23,8 @@ none-cleared w show f recorded l p [] none held = record {
   way = way-here w f recorded (state_after f.opening l.books.history) [] l l _ show held.books refl;
 }
 none-cleared w show f recorded l p (x ∷ items) none held = absurd (omega (arith, none))
+
+-- And nothing is added to the history.
+pub none-added : (h : List Entry) (items : List Clearing) → length items ≡ 0 → h ≡ h ++ map eviction (units_in items)
+none-added h [] none = sym (append-nil h)
+none-added h (x ∷ items) none = absurd (omega (arith, none))

@@ -1,3 +1,4 @@
 pub mod Ready
 pub mod Answering
 pub mod Acting
+pub mod Going

@@ -1,6 +1,6 @@
-//! The units of a call, where it clears any.
+//! The way of a call: the doubt is ended, and its units are cleared.
 
-ghost use Rattle.std.specs.Prelude.{◌≡◌, ◌++◌, map, fold, IfOk, OnOk, OnErr};
+ghost use Rattle.std.specs.Prelude.{◌≡◌, ◌++◌, false, map, fold, IfOk, OnOk, OnErr};
 ghost use Rattle.opfs_acts.specs.Acting.{told_entry};
 ghost use Rattle.opfs_book_laws.specs.Books.{Fixed};
 ghost use Rattle.opfs_desk_parts.specs.Acted.{AreCleared, HasFailed};
@@ -13,14 +13,44 @@ ghost use Rattle.opfs_machine.specs.Runs.{eviction};
 ghost use Rattle.opfs_replay.specs.Built.{Built};
 ghost use Rattle.opfs_state.specs.Applied.{IsPrepared};
 
+use crate::apart::{CallParts, call_parts};
 use opfs_book_laws::the_books_show_their_images;
 use opfs_books::Last;
 use opfs_desk_parts::{InHand, Ledger};
 use opfs_desk_ways::make_way;
-use opfs_hist::{Entry, Reply};
+use opfs_hist::Reply;
 use opfs_journal::DiskFault;
 use opfs_machine::Sizes;
 use opfs_outside::Disk;
+
+/// Ends the doubt and clears the units of a call that changes something; gives the entry with its reply, for which it takes the call
+/// apart, and its sizes. Where the disk fails, the call is entered so, after the evictions that were committed.
+pub fn clear_way<D: Disk>(
+    ledger: &mut Ledger<D>,
+    call: InHand,
+    reply: Reply,
+) -> Result<(Last, Sizes), DiskFault>
+    requires may { MayMakeWay D.Disk ledger.old (told_entry (call_in call) reply) call.clearing.items }
+    ensures entry { IfOk result (λ ready. ready.0.entry ≡ told_entry (call_in call) reply) }
+    ensures sizes { IfOk result (λ ready. ready.1 ≡ call.sizes) }
+    ensures entries { OnOk result (ledger.new.books.history ≡ ledger.old.books.history ++ map eviction (units_in call.clearing.items)) }
+    ensures tree { OnOk result (tree_in ledger.new ≡ fold cleared_from (tree_in ledger.old) (units_in call.clearing.items)) }
+    ensures prepared { OnOk result (IsPrepared ledger.new.books.state call.agent call.op) }
+    ensures sure { OnOk result (ledger.new.journal.in_doubt ≡ false) }
+    ensures cleared { OnOk result ((f : Fixed D) (recorded : Built) (p : Pages) → AreHeldWhole D.Disk f recorded ledger.old p → AreCleared D.Disk f (units_in call.clearing.items) ledger.old ledger.new p) }
+    ensures failed { OnErr result ((f : Fixed D) (recorded : Built) (p : Pages) → AreHeldWhole D.Disk f recorded ledger.old p
+        → IsJudged (state_after f.opening ledger.old.books.history) (told_entry (call_in call) reply) (units_in call.clearing.items) → HasFailed D.Disk f (told_entry (call_in call) reply) ledger.old ledger.new p) }
+{
+    let CallParts {
+        last,
+        sizes,
+        clearing,
+    } = call_parts(call, reply);
+    match make_way(ledger, clearing, last) {
+        Ok(back) => Ok((back, sizes)),
+        Err(fault) => Err(fault),
+    }
+}
 
 /// Clears the units of a call that stores nothing itself, and gives the entry with its reply, for which it takes the call apart, and
 /// its sizes. Without units it calls no disk, and a doubt stays. Where the disk fails, the call is entered so, after the evictions
@@ -41,28 +71,12 @@ pub fn clear_call<D: Disk>(
         → IsJudged (state_after f.opening ledger.old.books.history) (told_entry (call_in call) reply) (units_in call.clearing.items) → HasFailed D.Disk f (told_entry (call_in call) reply) ledger.old ledger.new p) }
 {
     the_books_show_their_images::<D>();
-    let InHand {
-        room,
-        agent,
-        number,
-        op,
-        sizes,
-        clearing,
-    } = call;
-    let turn = true;
-    let entry = Entry {
-        agent,
-        number,
-        op,
-        reply,
-        turn,
-    };
-    let last = Last { room, entry };
-    if clearing.is_empty() {
+    if call.clearing.is_empty() {
+        let CallParts { last, sizes, .. } = call_parts(call, reply);
         return Ok((last, sizes));
     }
-    match make_way(ledger, clearing, last) {
-        Ok(back) => Ok((back, sizes)),
+    match clear_way(ledger, call, reply) {
+        Ok(ready) => Ok(ready),
         Err(fault) => Err(fault),
     }
 }

@@ -4,7 +4,8 @@ use Rattle.opfs_machine.specs.Replies.{row_named}
 use Rattle.opfs_desk_parts.specs.Seen.{machine_in}
 use Rattle.opfs_desk_parts.specs.declared.parts.Pages.{Pages}
 use Rattle.opfs_desk_parts.specs.declared.parts.Parts.{Parts}
-use Rattle.opfs_desk_plain.specs.Silent.{BeginsCall, HasTakenIn}
+use Rattle.opfs_desk_steps.specs.Going.{HasTakenIn}
+use Rattle.opfs_desk_plain.specs.Silent.{BeginsCall}
 use Rattle.opfs_desk_ends.proofs.Ended.{HasDropped, agent-is, leave-acted, may-come, word-mid}
 use Rattle.opfs_desk_ends.proofs.Words.{word-is}
 use Rattle.opfs_desk_ends.proofs.leaving.act_leave.Goals as goal

@@ -13,7 +13,7 @@ use Rattle.opfs_desk_parts.specs.Seen.{machine_in, tree_in, call_in, units_in}
 use Rattle.opfs_desk_parts.specs.declared.parts.Parts.{Parts}
 use Rattle.opfs_desk_kept.specs.Changing.{HasChanged, HasNotChanged}
 use Rattle.opfs_desk_kept.specs.Keeping.{HasOwnKey}
-use Rattle.opfs_desk_kept.specs.Steps.{HasTakenIn, HasMadeWay}
+use Rattle.opfs_desk_steps.specs.Going.{HasTakenIn, HasMadeWay}
 use Rattle.opfs_desk_kept.proofs.Keys.{key-held, key-back, key-own}
 use Rattle.opfs_desk_kept.proofs.Kept.{unacted}
 use Rattle.opfs_desk_kept.proofs.Through.{ready, answered, rows-failed, failed-then, has-acted}
@@ -91,7 +91,8 @@ enter_mode-requires-clause-may g c κs within =
     let took : HasTakenIn w may.fixed may.recorded l mid p c.args.pending.now call =
     record { taken = record { entries = is.entries; journal = is.journal; place = is.place }; held = held; prepared = is.prepared call.op may.asked.prepared; tree = is.tree } in
     let its = its-reply w know.follow know.local know.reads know.counts may.fixed may.recorded l mid p c.args.pending.now call c.args.work.now may.are may.asked agent took c.requires.word in
-    let way : HasMadeWay w may.fixed mid back p call = record { entries = clear.entries; prepared = clear.prepared; tree = clear.tree; cleared = cleared; sure = clear.sure; keyed = key-back w know.reads know.counts may.fixed may.recorded mid p held call.agent cleared.recorded (units_in call.clearing.items) back cleared.are } in
+    let way : HasMadeWay w may.fixed mid back p call = record { entries = clear.entries; prepared = clear.prepared; tree = clear.tree; cleared = cleared } in
+    let keyed = key-back w know.reads know.counts may.fixed may.recorded mid p held call.agent cleared.recorded (units_in call.clearing.items) back cleared.are in
     record {
       fixed = may.fixed;
       recorded = cleared.recorded;
@@ -122,9 +123,10 @@ enter_mode-requires-clause-word g c κs within =
     let agent = (know.asks.taken may.fixed may.recorded l p c.args.pending.now call c.args.work.now [] may.are may.asked).agent in
     let took : HasTakenIn w may.fixed may.recorded l mid p c.args.pending.now call =
     record { taken = record { entries = is.entries; journal = is.journal; place = is.place }; held = held; prepared = is.prepared call.op may.asked.prepared; tree = is.tree } in
-    let way : HasMadeWay w may.fixed mid back p call = record { entries = clear.entries; prepared = clear.prepared; tree = clear.tree; cleared = cleared; sure = clear.sure; keyed = key-back w know.reads know.counts may.fixed may.recorded mid p held call.agent cleared.recorded (units_in call.clearing.items) back cleared.are } in
+    let way : HasMadeWay w may.fixed mid back p call = record { entries = clear.entries; prepared = clear.prepared; tree = clear.tree; cleared = cleared } in
+    let keyed = key-back w know.reads know.counts may.fixed may.recorded mid p held call.agent cleared.recorded (units_in call.clearing.items) back cleared.are in
     subst (λ (e : Entry). gives_mode (machine_in back) e.agent e.op ≡ true) (sym clear.entry)
-    (gives-now w know.follow know.local know.reads know.counts may.fixed may.recorded l mid p c.args.pending.now call c.args.work.now may.are may.asked agent took c.requires.word back way)
+    (gives-now w know.follow know.local know.reads know.counts may.fixed may.recorded l mid p c.args.pending.now call c.args.work.now may.are may.asked agent took c.requires.word back way keyed)
 
 pub enter_mode-requires-clause-flag : goal.enter_mode-requires-clause-flag
 enter_mode-requires-clause-flag g c κs within = ap (λ (e : Entry). e.reply) c.in-Ok-clear_way.ensures.entry
@@ -191,8 +193,9 @@ returns-in-Ok-enter_mode-clause-acted g c f recorded held asked =
     let took : HasTakenIn w f recorded l mid p c.args.pending.now call =
     record { taken = record { entries = is.entries; journal = is.journal; place = is.place }; held = mid_held; prepared = is.prepared call.op asked.prepared; tree = is.tree } in
     let its = its-reply w know.follow know.local know.reads know.counts f recorded l mid p c.args.pending.now call c.args.work.now held asked agent took c.requires.word in
-    let way : HasMadeWay w f mid back p call = record { entries = clear.entries; prepared = clear.prepared; tree = clear.tree; cleared = cleared; sure = clear.sure; keyed = key-back w know.reads know.counts f recorded mid p mid_held call.agent cleared.recorded units back cleared.are } in
-    let gives = gives-now w know.follow know.local know.reads know.counts f recorded l mid p c.args.pending.now call c.args.work.now held asked agent took c.requires.word back way in
+    let way : HasMadeWay w f mid back p call = record { entries = clear.entries; prepared = clear.prepared; tree = clear.tree; cleared = cleared } in
+    let keyed = key-back w know.reads know.counts f recorded mid p mid_held call.agent cleared.recorded units back cleared.are in
+    let gives = gives-now w know.follow know.local know.reads know.counts f recorded l mid p c.args.pending.now call c.args.work.now held asked agent took c.requires.word back way keyed in
     let may_come : IsAnswered w base units back c.in-Ok-clear_way.last.entry c.in-Ok-clear_way.sizes =
     subst (λ (z : Sizes). IsAnswered w base units back c.in-Ok-clear_way.last.entry z) (sym clear.sizes)
     (subst (λ (x : Entry). IsAnswered w base units back x call.sizes) (sym clear.entry)
@@ -228,8 +231,9 @@ returns-in-Ok-clear_way-clause-acted g c f recorded held asked =
     let took : HasTakenIn w f recorded l mid p c.args.pending.now call =
     record { taken = record { entries = is.entries; journal = is.journal; place = is.place }; held = mid_held; prepared = is.prepared call.op asked.prepared; tree = is.tree } in
     let its = its-reply w know.follow know.local know.reads know.counts f recorded l mid p c.args.pending.now call c.args.work.now held asked agent took c.requires.word in
-    let way : HasMadeWay w f mid back p call = record { entries = clear.entries; prepared = clear.prepared; tree = clear.tree; cleared = cleared; sure = clear.sure; keyed = key-back w know.reads know.counts f recorded mid p mid_held call.agent cleared.recorded units back cleared.are } in
-    let gives = gives-now w know.follow know.local know.reads know.counts f recorded l mid p c.args.pending.now call c.args.work.now held asked agent took c.requires.word back way in
+    let way : HasMadeWay w f mid back p call = record { entries = clear.entries; prepared = clear.prepared; tree = clear.tree; cleared = cleared } in
+    let keyed = key-back w know.reads know.counts f recorded mid p mid_held call.agent cleared.recorded units back cleared.are in
+    let gives = gives-now w know.follow know.local know.reads know.counts f recorded l mid p c.args.pending.now call c.args.work.now held asked agent took c.requires.word back way keyed in
     let may_come : IsAnswered w base units back c.in-Ok-clear_way.last.entry c.in-Ok-clear_way.sizes =
     subst (λ (z : Sizes). IsAnswered w base units back c.in-Ok-clear_way.last.entry z) (sym clear.sizes)
     (subst (λ (x : Entry). IsAnswered w base units back x call.sizes) (sym clear.entry)

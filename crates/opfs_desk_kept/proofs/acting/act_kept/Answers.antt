@@ -13,7 +13,8 @@ use Rattle.opfs_desk_parts.specs.Seen.{machine_in, call_in, units_in}
 use Rattle.opfs_desk_parts.specs.declared.parts.Parts.{Parts}
 use Rattle.opfs_desk_kept.specs.Changing.{HasChanged, HasNotChanged}
 use Rattle.opfs_desk_kept.specs.Keeping.{keeps_back, is_well_named, entry_place, entry_name, HasOwnKey}
-use Rattle.opfs_desk_kept.specs.Steps.{BeginsKeeping, HasTakenIn, HasMadeWay, change_now}
+use Rattle.opfs_desk_steps.specs.Going.{HasTakenIn, HasMadeWay}
+use Rattle.opfs_desk_kept.specs.Steps.{BeginsKeeping, change_now}
 use Rattle.opfs_desk_kept.proofs.Keys.{key-held, key-back, key-own}
 use Rattle.opfs_desk_kept.proofs.Kept.{ready, answered, keeps-now, rows-failed, failed-then, has-acted, unacted}
 use Rattle.opfs_desk_kept.proofs.Spelled.{name-valid}
@@ -89,7 +90,8 @@ enter_kept-requires-clause-may g c κs within =
     let begins : BeginsKeeping w may.fixed may.recorded l p c.args.pending.now c.args.call c.args.work.now = record { held = may.are; asked = may.asked; keeps = c.requires.word; lines = c.lines.ensures; keyed = key-held w c.keeping_laws.ensures.reads c.keeping_laws.ensures.counts may.fixed may.recorded l p may.are c.args.call.agent } in
     let took : HasTakenIn w may.fixed may.recorded l mid p c.args.pending.now c.args.call =
     record { taken = record { entries = is.entries; journal = is.journal; place = is.place }; held = held; prepared = is.prepared c.args.call.op may.asked.prepared; tree = is.tree } in
-    let way : HasMadeWay w may.fixed mid back p c.args.call = record { entries = clear.entries; prepared = clear.prepared; tree = clear.tree; cleared = cleared; sure = clear.sure; keyed = key-back w c.keeping_laws.ensures.reads c.keeping_laws.ensures.counts may.fixed may.recorded mid p held c.args.call.agent cleared.recorded (units_in c.args.call.clearing.items) back cleared.are } in
+    let way : HasMadeWay w may.fixed mid back p c.args.call = record { entries = clear.entries; prepared = clear.prepared; tree = clear.tree; cleared = cleared } in
+    let keyed = key-back w c.keeping_laws.ensures.reads c.keeping_laws.ensures.counts may.fixed may.recorded mid p held c.args.call.agent cleared.recorded (units_in c.args.call.clearing.items) back cleared.are in
     record {
       fixed = may.fixed;
       recorded = cleared.recorded;
@@ -100,7 +102,7 @@ enter_kept-requires-clause-may g c κs within =
       answered =
           subst (λ (z : Sizes). IsAnswered w base (units_in c.args.call.clearing.items) back c.in-Ok-clear_way.last.entry z) (sym clear.sizes)
           (subst (λ (e : Entry). IsAnswered w base (units_in c.args.call.clearing.items) back e c.args.call.sizes) (sym clear.entry)
-          (answered w c.keeping_laws.ensures.asks c.keeping_laws.ensures.answers may.fixed may.recorded l mid back p c.args.pending.now c.args.call c.args.work.now begins took way));
+          (answered w c.keeping_laws.ensures.asks c.keeping_laws.ensures.answers may.fixed may.recorded l mid back p c.args.pending.now c.args.call c.args.work.now begins took way keyed));
     }
 
 pub enter_kept-requires-clause-word : goal.enter_kept-requires-clause-word
@@ -118,9 +120,10 @@ enter_kept-requires-clause-word g c κs within =
     let took : HasTakenIn w may.fixed may.recorded l mid p c.args.pending.now c.args.call =
     record { taken = record { entries = is.entries; journal = is.journal; place = is.place }; held = held; prepared = is.prepared c.args.call.op may.asked.prepared; tree = is.tree } in
     let way : HasMadeWay w may.fixed mid back p c.args.call =
-    record { entries = clear.entries; prepared = clear.prepared; tree = clear.tree; cleared = clear.cleared may.fixed may.recorded p held; sure = clear.sure; keyed = key-back w c.keeping_laws.ensures.reads c.keeping_laws.ensures.counts may.fixed may.recorded mid p held c.args.call.agent (clear.cleared may.fixed may.recorded p held).recorded (units_in c.args.call.clearing.items) back (clear.cleared may.fixed may.recorded p held).are } in
+    record { entries = clear.entries; prepared = clear.prepared; tree = clear.tree; cleared = clear.cleared may.fixed may.recorded p held } in
+    let keyed = key-back w c.keeping_laws.ensures.reads c.keeping_laws.ensures.counts may.fixed may.recorded mid p held c.args.call.agent (clear.cleared may.fixed may.recorded p held).recorded (units_in c.args.call.clearing.items) back (clear.cleared may.fixed may.recorded p held).are in
     subst (λ (e : Entry). keeps_back (machine_in back) e.agent e.op ≡ true) (sym clear.entry)
-    (keeps-now w c.keeping_laws.ensures.asks c.keeping_laws.ensures.answers may.fixed may.recorded l mid back p c.args.pending.now c.args.call c.args.work.now begins took way c.lines-in-Ok-clear_way.ensures)
+    (keeps-now w c.keeping_laws.ensures.asks c.keeping_laws.ensures.answers may.fixed may.recorded l mid back p c.args.pending.now c.args.call c.args.work.now begins took way keyed c.lines-in-Ok-clear_way.ensures)
 
 pub enter_kept-requires-clause-done : goal.enter_kept-requires-clause-done
 enter_kept-requires-clause-done g c κs within = ap (λ (e : Entry). e.reply) c.in-Ok-clear_way.ensures.entry
@@ -182,16 +185,17 @@ returns-in-Ok-enter_kept-clause-acted g c f recorded held asked =
     let begins : BeginsKeeping w f recorded l p c.args.pending.now call c.args.work.now = record { held = held; asked = asked; keeps = c.requires.word; lines = c.lines.ensures; keyed = key-held w know.reads know.counts f recorded l p held call.agent } in
     let took : HasTakenIn w f recorded l mid p c.args.pending.now call =
     record { taken = record { entries = is.entries; journal = is.journal; place = is.place }; held = mid_held; prepared = is.prepared call.op asked.prepared; tree = is.tree } in
-    let way : HasMadeWay w f mid back p call = record { entries = clear.entries; prepared = clear.prepared; tree = clear.tree; cleared = cleared; sure = clear.sure; keyed = key-back w know.reads know.counts f recorded mid p mid_held call.agent cleared.recorded (units_in call.clearing.items) back cleared.are } in
+    let way : HasMadeWay w f mid back p call = record { entries = clear.entries; prepared = clear.prepared; tree = clear.tree; cleared = cleared } in
+    let keyed = key-back w know.reads know.counts f recorded mid p mid_held call.agent cleared.recorded (units_in call.clearing.items) back cleared.are in
     let may_come : IsAnswered w base (units_in call.clearing.items) back c.in-Ok-clear_way.last.entry c.in-Ok-clear_way.sizes =
     subst (λ (z : Sizes). IsAnswered w base (units_in call.clearing.items) back c.in-Ok-clear_way.last.entry z) (sym clear.sizes)
     (subst (λ (e : Entry). IsAnswered w base (units_in call.clearing.items) back e call.sizes) (sym clear.entry)
-    (answered w know.asks know.answers f recorded l mid back p c.args.pending.now call c.args.work.now begins took way)) in
+    (answered w know.asks know.answers f recorded l mid back p c.args.pending.now call c.args.work.now begins took way keyed)) in
     let changed : HasChanged w f cleared.recorded base (units_in call.clearing.items) back new p (told_entry (call_in call) reply.Done) call.sizes (change_now back (told_entry (call_in call) reply.Done)) =
     subst (λ (z : Sizes). HasChanged w f cleared.recorded base (units_in call.clearing.items) back new p (told_entry (call_in call) reply.Done) z (change_now back (told_entry (call_in call) reply.Done))) clear.sizes
     (subst (λ (e : Entry). HasChanged w f cleared.recorded base (units_in call.clearing.items) back new p e c.in-Ok-clear_way.sizes (change_now back e)) clear.entry
     (c.in-Ok-enter_kept.ensures.done f cleared.recorded base (units_in call.clearing.items) p cleared.are may_come)) in
-    has-acted w know.asks know.answers f recorded l mid back p c.args.pending.now call c.args.work.now begins took way c.enter_kept.ensures.tidy know.states know.spelled know.fails laws.falls know.acts new changed
+    has-acted w know.asks know.answers f recorded l mid back p c.args.pending.now call c.args.work.now begins took way keyed c.enter_kept.ensures.tidy know.states know.spelled know.fails laws.falls know.acts new changed
     c.in-Ok-enter_kept.ensures.order c.what_is_laid_goes_on.ensures.beside c.keeping_laws.ensures.blocks _ (omega (arith, c.rows-rows.ensures.count, c.rows-rows.ensures.few))
 
 pub returns-in-Ok-clear_way-clause-acted : goal.returns-in-Ok-clear_way-clause-acted
@@ -213,15 +217,16 @@ returns-in-Ok-clear_way-clause-acted g c f recorded held asked =
     let begins : BeginsKeeping w f recorded l p c.args.pending.now call c.args.work.now = record { held = held; asked = asked; keeps = c.requires.word; lines = c.lines.ensures; keyed = key-held w know.reads know.counts f recorded l p held call.agent } in
     let took : HasTakenIn w f recorded l mid p c.args.pending.now call =
     record { taken = record { entries = is.entries; journal = is.journal; place = is.place }; held = mid_held; prepared = is.prepared call.op asked.prepared; tree = is.tree } in
-    let way : HasMadeWay w f mid back p call = record { entries = clear.entries; prepared = clear.prepared; tree = clear.tree; cleared = cleared; sure = clear.sure; keyed = key-back w know.reads know.counts f recorded mid p mid_held call.agent cleared.recorded (units_in call.clearing.items) back cleared.are } in
+    let way : HasMadeWay w f mid back p call = record { entries = clear.entries; prepared = clear.prepared; tree = clear.tree; cleared = cleared } in
+    let keyed = key-back w know.reads know.counts f recorded mid p mid_held call.agent cleared.recorded (units_in call.clearing.items) back cleared.are in
     let may_come : IsAnswered w base (units_in call.clearing.items) back c.in-Ok-clear_way.last.entry c.in-Ok-clear_way.sizes =
     subst (λ (z : Sizes). IsAnswered w base (units_in call.clearing.items) back c.in-Ok-clear_way.last.entry z) (sym clear.sizes)
     (subst (λ (e : Entry). IsAnswered w base (units_in call.clearing.items) back e call.sizes) (sym clear.entry)
-    (answered w know.asks know.answers f recorded l mid back p c.args.pending.now call c.args.work.now begins took way)) in
+    (answered w know.asks know.answers f recorded l mid back p c.args.pending.now call c.args.work.now begins took way keyed)) in
     let not : HasNotChanged w f cleared.recorded base (units_in call.clearing.items) back new p (told_entry (call_in call) reply.Done) (change_now back (told_entry (call_in call) reply.Done)) =
     subst (λ (e : Entry). HasNotChanged w f cleared.recorded base (units_in call.clearing.items) back new p e (change_now back e)) clear.entry
     (c.in-Err-enter_kept.ensures.failed f cleared.recorded base (units_in call.clearing.items) p cleared.are may_come) in
-    let fail = failed-then w know.asks know.answers f recorded l mid back p c.args.pending.now call c.args.work.now begins took way c.enter_kept.ensures.tidy know.states know.spelled know.fails laws.falls know.acts new not in
+    let fail = failed-then w know.asks know.answers f recorded l mid back p c.args.pending.now call c.args.work.now begins took way keyed c.enter_kept.ensures.tidy know.states know.spelled know.fails laws.falls know.acts new not in
     let now : Parts g.row.D.Denot = record { ledger = new; pages = p } in
     know.acts.failed f recorded c.args.parts.now now mid c.args.pending.now call reply.Done c.args.work.now c.args.work.now _ held asked.may.pending took.taken fail refl (omega (arith, c.rows-rows.ensures.count, c.rows-rows.ensures.few, rows-failed w know.asks know.answers f recorded l mid back p c.args.pending.now call c.args.work.now begins took new p fail))
 

@@ -11,7 +11,9 @@ use Rattle.opfs_desk_parts.specs.declared.parts.Pages.{Pages}
 use Rattle.opfs_desk_parts.specs.declared.parts.Parts.{Parts}
 use Rattle.opfs_desk_rows.specs.Opens.{next_row}
 use Rattle.opfs_desk_opens.specs.Alike.{AreAlike}
-use Rattle.opfs_desk_opens.specs.Opening.{BeginsOpening, HasTakenIn, HasMadeWay, HasTold, opened_act}
+use Rattle.opfs_tree.specs.Rows.{IsInOrder}
+use Rattle.opfs_desk_steps.specs.Going.{HasTakenIn, HasMadeWay, HasTold}
+use Rattle.opfs_desk_opens.specs.Opening.{BeginsOpening, opened_act}
 use Rattle.opfs_desk_opens.proofs.Alike.{alike-held}
 use Rattle.opfs_desk_opens.proofs.Failed.{rows-left}
 use Rattle.opfs_desk_opens.proofs.Given.{number-is, pages-are, unacted}
@@ -124,7 +126,7 @@ returns-in-Ok-clear_call-clause-acted g c f recorded held asked =
     (c.enter_open.ensures.told f cleared.recorded base (units_in call.clearing.items) p cleared.are may_come)) in
     let now : Parts g.row.D.Denot = record { ledger = new; pages = q } in
     subst (λ (n : ℕ). HasActed w f c.args.parts.now now c.args.pending.now (call_in call) c.args.work.now c.in-Ok.opened (opened_act n)) (sym row_is)
-    (has-acted w asks answers f recorded l mid back p c.args.pending.now call c.args.work.now [] begins took way c.enter_open.ensures.tidy q pages told.order
+    (has-acted w asks answers f recorded l mid back p c.args.pending.now call c.args.work.now [] begins took way c.enter_open.ensures.tidy q pages (subst IsInOrder told.tree c.enter_open.ensures.order)
     c.opening_laws.ensures.opens c.opening_laws.ensures.laid new told c.opening_laws.ensures.states c.opening_laws.ensures.changes c.opening_laws.ensures.trees c.opening_laws.ensures.stored
     c.opening_laws.ensures.copies c.opening_laws.ensures.acts c.in-Ok.opened c.in-Ok.ensures.copy c.args.parts.now now refl refl refl)
 

@@ -1,8 +1,11 @@
 use Rattle.std.proofs.Common.{[], refl, arith}
 use Rattle.opfs_machine.specs.Histories.{state_after}
+use Rattle.opfs_desk_parts.specs.Seen.{machine_in, tree_in}
 use Rattle.opfs_desk_parts.specs.declared.parts.Parts.{Parts}
-use Rattle.opfs_desk_plain.specs.Silent.{BeginsCall, HasTakenIn}
+use Rattle.opfs_desk_steps.specs.Going.{HasTakenIn}
+use Rattle.opfs_desk_plain.specs.Silent.{BeginsCall}
 use Rattle.opfs_desk_plain.proofs.TellsOnly.{agent-is, may-come, only, tell-acted}
+use Rattle.opfs_desk_plain.proofs.Words.{silent}
 use Rattle.opfs_desk_plain.proofs.telling.tell.Goals as goal
 
 pub take_in-requires-clause-may : goal.take_in-requires-clause-may
@@ -28,8 +31,8 @@ rows-rows-requires g c =
     } in
     agent-is w laws.asks laws.answers laws.decide laws.follow laws.local laws.noted may.fixed may.recorded l mid p c.args.pending.now c.args.call may.work may.past c.args.reply begins may.telling took
 
-pub enter_told-requires-clause-may : goal.enter_told-requires-clause-may
-enter_told-requires-clause-may g c κs within =
+pub tell_in_hand-requires-clause-may : goal.tell_in_hand-requires-clause-may
+tell_in_hand-requires-clause-may g c κs within =
     let w = g.D.Disk in
     let may = c.requires.may in
     let laws = c.telling_laws.ensures in
@@ -54,8 +57,8 @@ enter_told-requires-clause-may g c κs within =
       answered = may-come w laws.asks laws.answers laws.decide laws.follow laws.local laws.noted may.fixed may.recorded l mid p c.args.pending.now c.args.call may.work may.past c.args.reply begins may.telling took;
     }
 
-pub enter_told-requires-clause-only : goal.enter_told-requires-clause-only
-enter_told-requires-clause-only g c κs within =
+pub tell_in_hand-requires-clause-silent : goal.tell_in_hand-requires-clause-silent
+tell_in_hand-requires-clause-silent g c κs within =
     let w = g.D.Disk in
     let may = c.requires.may in
     let laws = c.telling_laws.ensures in
@@ -70,10 +73,11 @@ enter_told-requires-clause-only g c κs within =
       prepared = is.prepared c.args.call.op may.telling.asked.prepared;
       tree = is.tree;
     } in
-    only w laws.asks laws.answers laws.decide laws.follow laws.local laws.noted may.fixed may.recorded l mid p c.args.pending.now c.args.call may.work may.past c.args.reply begins may.telling took
+    silent (machine_in mid) (tree_in mid) c.args.call.agent c.args.call.op c.args.call.sizes
+    (only w laws.asks laws.answers laws.decide laws.follow laws.local laws.noted may.fixed may.recorded l mid p c.args.pending.now c.args.call may.work may.past c.args.reply begins may.telling took)
 
-pub enter_told-requires-clause-done : goal.enter_told-requires-clause-done
-enter_told-requires-clause-done g c κs within = c.requires.may.telling.done
+pub tell_in_hand-requires-clause-answered : goal.tell_in_hand-requires-clause-answered
+tell_in_hand-requires-clause-answered g c κs within = c.requires.may.telling.done
 
 pub returns-clause-acted : goal.returns-clause-acted
 returns-clause-acted g c f recorded work past gift are telling given =
@@ -91,7 +95,7 @@ returns-clause-acted g c f recorded work past gift are telling given =
       tree = is.tree;
     } in
     let come = may-come w laws.asks laws.answers laws.decide laws.follow laws.local laws.noted f recorded l mid p c.args.pending.now c.args.call work past c.args.reply begins telling took in
-    let told = c.enter_told.ensures.told f recorded (state_after f.opening mid.books.history) [] p took.held come in
-    let now : Parts g.row.D.Denot = record { ledger = c.enter_told.new.ledger; pages = p } in
+    let told = c.tell_in_hand.ensures.told f recorded (state_after f.opening mid.books.history) [] p took.held come in
+    let now : Parts g.row.D.Denot = record { ledger = c.tell_in_hand.new.ledger; pages = p } in
     tell-acted w laws.asks laws.answers laws.decide laws.follow laws.local laws.noted f recorded l mid p c.args.pending.now c.args.call work past c.args.reply begins telling took
-    c.enter_told.new.ledger told laws.rows laws.blocks laws.acts laws.shown gift given _ (omega (arith, c.rows-rows.ensures.count, c.rows-rows.ensures.few)) c.args.parts.now now refl refl refl
+    c.tell_in_hand.new.ledger told laws.rows laws.blocks laws.acts laws.shown gift given _ (omega (arith, c.rows-rows.ensures.count, c.rows-rows.ensures.few)) c.args.parts.now now refl refl refl

@@ -34,7 +34,7 @@ fail_call-requires-clause-may g c κs within =
     let is = c.take_in.ensures in
     let asks = c.asked_calls_are_ready.ensures in
     let asked = asked-now g.D.Disk asks may.fixed may.recorded may.start l mid may.before p c.args.pending.now c.args.call may.work may.past fail in
-    rw c.entry_of-last.ensures
+    rw c.call_parts-last.ensures.entry
     (may-refuse g.D.Disk asks may.fixed may.recorded may.start l mid may.before p c.args.pending.now c.args.call may.work may.past fail
     (record { entries = is.entries; journal = is.journal; place = is.place }) (is.held may.fixed may.recorded p fail.are asked.may.pending) (is.prepared c.args.call.op asked.prepared))
 
@@ -52,9 +52,9 @@ returns-clause-acted g c f recorded start before first work after past fail copy
     let taken : HasTaken l mid c.args.pending.now = record { entries = is.entries; journal = is.journal; place = is.place } in
     let prepared = is.prepared c.args.call.op asked.prepared in
     let refused = is-refused g.D.Disk asks f recorded start l mid before p c.args.pending.now c.args.call work past fail taken held prepared c.a_fault_is_counted.ensures in
-    let entered = (rw c.entry_of-last.ensures at c.fail_call.ensures.entries) in
+    let entered = (rw c.call_parts-last.ensures.entry at c.fail_call.ensures.entries) in
     has-failed g.D.Disk asks f recorded start l mid before p c.args.pending.now c.args.call work past fail taken held prepared
     c.calls_are_acted.ensures c.a_fault_is_counted.ensures c.the_books_show_their_images.ensures c.reads_leave_the_books.ensures laws.falls
     (record { ledger = new; pages = p }) entered c.fail_call.ensures.journal c.fail_call.ensures.idle
-    ((rw c.entry_of-last.ensures at c.fail_call.ensures.held) f recorded (state_after f.opening mid.books.history) [] p held refused)
+    ((rw c.call_parts-last.ensures.entry at c.fail_call.ensures.held) f recorded (state_after f.opening mid.books.history) [] p held refused)
     first after _ copy (omega (arith, c.rows-rows.ensures.count, c.rows-rows.ensures.few))

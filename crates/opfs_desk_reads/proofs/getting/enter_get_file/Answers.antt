@@ -1,5 +1,6 @@
-use Rattle.std.proofs.Common.{[], length, refl, sym, ap, subst, ◌∙◌, arith}
+use Rattle.std.proofs.Common.{◌≡◌, [], length, None, refl, sym, ap, subst, ◌∙◌, arith}
 use Rattle.opfs_acts.specs.Acting.{told_entry}
+use Rattle.opfs_book_calls.specs.Spelled.{spelled_by}
 use Rattle.opfs_hist.specs.declared.entry.Entry.{Entry}
 use Rattle.opfs_hist.specs.declared.reply.Reply.TheVariants as reply
 use Rattle.opfs_machine.specs.Agents.{agent_of}
@@ -9,14 +10,16 @@ use Rattle.opfs_machine.specs.declared.state.Sizes.{Sizes}
 use Rattle.opfs_space.specs.Room.{Machine}
 use Rattle.opfs_desk_steps.proofs.Counts.{own-length}
 use Rattle.opfs_desk_parts.specs.Answered.{IsAnswered}
-use Rattle.opfs_desk_parts.specs.Seen.{call_in, units_in}
+use Rattle.opfs_desk_parts.specs.Seen.{machine_in, tree_in, call_in, units_in}
 use Rattle.opfs_desk_parts.specs.declared.parts.Parts.{Parts}
-use Rattle.opfs_desk_reads.specs.Reading.{BeginsRead, HasTakenIn, HasMadeWay, HasTold}
-use Rattle.opfs_desk_reads.specs.Words.{file_read, reads_bytes}
+use Rattle.opfs_desk_steps.specs.Going.{HasTakenIn, HasMadeWay, HasTold}
+use Rattle.opfs_desk_reads.specs.Reading.{BeginsRead}
+use Rattle.opfs_desk_reads.specs.Words.{file_read}
 use Rattle.opfs_desk_reads.proofs.Failed.{rows-failed}
 use Rattle.opfs_desk_reads.proofs.Got.{answered, file-there, has-acted}
 use Rattle.opfs_desk_reads.proofs.Present.{as-read}
 use Rattle.opfs_desk_reads.proofs.FileWords.{as-bytes, on-disk}
+use Rattle.opfs_desk_reads.proofs.Words.{silent}
 use Rattle.opfs_desk_reads.proofs.getting.enter_get_file.Goals as goal
 
 pub take_in-requires-clause-may : goal.take_in-requires-clause-may
@@ -44,14 +47,19 @@ clear_call-requires-clause-may g c κs within =
     c.getting_laws.ensures.answers.clearing may.fixed may.recorded mid p c.args.call (reply.FileInfo c.args.read.size c.args.read.stamp) held then
     (on-disk (state_after may.fixed.opening mid.books.history) c.args.call.agent c.args.call.op c.requires.word)
 
-pub enter_read-requires-clause-word : goal.enter_read-requires-clause-word
-enter_read-requires-clause-word g c κs within = ap (λ (e : Entry). reads_bytes e.op) c.in-Ok.ensures.entry ∙ as-bytes c.args.call.op c.requires.word
+pub tell_last-requires-clause-silent : goal.tell_last-requires-clause-silent
+tell_last-requires-clause-silent g c κs within =
+    let back = c.clear_call.new.ledger in
+    let call = c.args.call in
+    let z = c.in-Ok.sizes in
+    subst (λ (e : Entry). spelled_by (machine_in back) (tree_in back) e.agent e.op z None ≡ None) (sym c.in-Ok.ensures.entry)
+    (silent (machine_in back) (tree_in back) call.agent call.op z (as-bytes call.op c.requires.word))
 
-pub enter_read-requires-clause-answered : goal.enter_read-requires-clause-answered
-enter_read-requires-clause-answered g c κs within = ap (λ (e : Entry). is_refusal e.reply) c.in-Ok.ensures.entry
+pub tell_last-requires-clause-answered : goal.tell_last-requires-clause-answered
+tell_last-requires-clause-answered g c κs within = ap (λ (e : Entry). is_refusal e.reply) c.in-Ok.ensures.entry
 
-pub enter_read-requires-clause-may : goal.enter_read-requires-clause-may
-enter_read-requires-clause-may g c κs within =
+pub tell_last-requires-clause-may : goal.tell_last-requires-clause-may
+tell_last-requires-clause-may g c κs within =
     let may = c.requires.go in
     let l = c.args.parts.now.ledger in
     let p = c.args.parts.now.pages in
@@ -65,8 +73,8 @@ enter_read-requires-clause-may g c κs within =
     let base = state_after may.fixed.opening mid.books.history in
     let begins : BeginsRead g.D.Disk may.fixed may.recorded l p c.args.pending.now call c.args.work.now = record { held = may.are; asked = may.asked } in
     let took : HasTakenIn g.D.Disk may.fixed may.recorded l mid p c.args.pending.now call =
-    record { taken = record { entries = is.entries; journal = is.journal; place = is.place }; held = held; prepared = is.prepared call.op may.asked.prepared } in
-    let way : HasMadeWay g.D.Disk may.fixed mid back p call = record { entries = c.in-Ok.ensures.entries; prepared = c.in-Ok.ensures.prepared; cleared = cleared } in
+    record { taken = record { entries = is.entries; journal = is.journal; place = is.place }; held = held; prepared = is.prepared call.op may.asked.prepared; tree = is.tree } in
+    let way : HasMadeWay g.D.Disk may.fixed mid back p call = record { entries = c.in-Ok.ensures.entries; prepared = c.in-Ok.ensures.prepared; tree = c.in-Ok.ensures.tree; cleared = cleared } in
     let here = file-there g.D.Disk laws.asks laws.answers may.fixed may.recorded l mid back p c.args.pending.now call c.args.work.now begins c.requires.word took in
     let read = as-read laws.follow laws.local g.D.Disk may.fixed may.recorded l mid p call.agent c.args.pending.now may.are held is.entries may.asked.may.pending laws.states laws.files laws.between laws.handles c.lines.ensures is.tree is.journal (file_read call.op) here.0 here.1 c.args.read.bytes c.args.read.size c.args.read.stamp c.requires.read in
     record {
@@ -91,7 +99,7 @@ returns-in-Ok-clause-acted g c f recorded held whole asked =
     let call = c.args.call in
     let mid = c.take_in.new.ledger in
     let back = c.clear_call.new.ledger in
-    let new = c.enter_read.new.ledger in
+    let new = c.tell_last.new.ledger in
     let is = c.take_in.ensures in
     let laws = c.getting_laws.ensures in
     let then = is.held f recorded p held asked.may.pending in
@@ -99,8 +107,8 @@ returns-in-Ok-clause-acted g c f recorded held whole asked =
     let base = state_after f.opening mid.books.history in
     let begins : BeginsRead w f recorded l p c.args.pending.now call c.args.work.now = record { held = held; asked = asked } in
     let took : HasTakenIn w f recorded l mid p c.args.pending.now call =
-    record { taken = record { entries = is.entries; journal = is.journal; place = is.place }; held = then; prepared = is.prepared call.op asked.prepared } in
-    let way : HasMadeWay w f mid back p call = record { entries = c.in-Ok.ensures.entries; prepared = c.in-Ok.ensures.prepared; cleared = cleared } in
+    record { taken = record { entries = is.entries; journal = is.journal; place = is.place }; held = then; prepared = is.prepared call.op asked.prepared; tree = is.tree } in
+    let way : HasMadeWay w f mid back p call = record { entries = c.in-Ok.ensures.entries; prepared = c.in-Ok.ensures.prepared; tree = c.in-Ok.ensures.tree; cleared = cleared } in
     let here = file-there w laws.asks laws.answers f recorded l mid back p c.args.pending.now call c.args.work.now begins c.requires.word took in
     let read = as-read laws.follow laws.local w f recorded l mid p call.agent c.args.pending.now held then is.entries asked.may.pending laws.states laws.files laws.between laws.handles c.lines.ensures is.tree is.journal (file_read call.op) here.0 here.1 c.args.read.bytes c.args.read.size c.args.read.stamp c.requires.read in
     let its = answered w laws.asks laws.answers f recorded l mid back p c.args.pending.now call c.args.work.now begins c.requires.word took
@@ -111,7 +119,7 @@ returns-in-Ok-clause-acted g c f recorded held whole asked =
     let told : HasTold w f cleared.recorded back new p (told_entry (call_in call) (reply.FileInfo c.args.read.size c.args.read.stamp)) call.sizes =
     subst (λ (z : Sizes). HasTold w f cleared.recorded back new p (told_entry (call_in call) (reply.FileInfo c.args.read.size c.args.read.stamp)) z) c.in-Ok.ensures.sizes
     (subst (λ (e : Entry). HasTold w f cleared.recorded back new p e c.in-Ok.sizes) c.in-Ok.ensures.entry
-    (c.enter_read.ensures.told f cleared.recorded base (units_in call.clearing.items) p cleared.are may_come)) in
+    (c.tell_last.ensures.told f cleared.recorded base (units_in call.clearing.items) p cleared.are may_come)) in
     let now : Parts g.row.D.Denot = record { ledger = new; pages = p } in
     has-acted w laws.asks laws.answers f recorded l mid back p c.args.pending.now call c.args.work.now begins c.requires.word took
     c.args.read.bytes c.args.read.size c.args.read.stamp read way laws.laid laws.spaces laws.others new told laws.acts whole

@@ -1,0 +1,47 @@
+//! A call with its answer, taken apart.
+
+ghost use Rattle.std.specs.Prelude.{◌≡◌};
+ghost use Rattle.opfs_acts.specs.Acting.{told_entry};
+ghost use Rattle.opfs_desk_parts.specs.Seen.{call_in};
+
+use opfs_books::Last;
+use opfs_desk_parts::{Clearing, InHand};
+use opfs_hist::{Entry, Reply};
+use opfs_machine::Sizes;
+
+/// A call's entry with the memory for it, the sizes of the row that it names, and the units that are cleared for it.
+#[derive(Drop)]
+pub struct CallParts {
+    pub last: Last,
+    pub sizes: Sizes,
+    pub clearing: Vec<Clearing>,
+}
+
+/// Takes a call apart that is answered so.
+pub fn call_parts(call: InHand, reply: Reply) -> CallParts
+    ensures entry { result.last.entry ≡ told_entry (call_in call) reply }
+    ensures sizes { result.sizes ≡ call.sizes }
+    ensures clearing { result.clearing.items ≡ call.clearing.items }
+{
+    let InHand {
+        room,
+        agent,
+        number,
+        op,
+        sizes,
+        clearing,
+    } = call;
+    let turn = true;
+    let entry = Entry {
+        agent,
+        number,
+        op,
+        reply,
+        turn,
+    };
+    CallParts {
+        last: Last { room, entry },
+        sizes,
+        clearing,
+    }
+}

@@ -1,0 +1,59 @@
+//! The entering of a call that stores nothing.
+
+ghost use Rattle.std.specs.Prelude.{◌≡◌, false, List, None};
+ghost use Rattle.opfs_acts.specs.Acting.{told_entry};
+ghost use Rattle.opfs_base.specs.Texts.{Text};
+ghost use Rattle.opfs_book_calls.specs.Spelled.{spelled_by};
+ghost use Rattle.opfs_book_laws.specs.Books.{Fixed};
+ghost use Rattle.opfs_changes.specs.Changed.{tree_by};
+ghost use Rattle.opfs_desk_parts.specs.Answered.{IsAnswered, MayAnswer};
+ghost use Rattle.opfs_desk_parts.specs.Held.{AreHeldAt};
+ghost use Rattle.opfs_desk_parts.specs.Seen.{machine_in, tree_in, call_in};
+ghost use Rattle.opfs_desk_parts.specs.declared.parts.Pages.{Pages};
+ghost use Rattle.opfs_desk_steps.specs.Going.{HasTold};
+ghost use Rattle.opfs_machine.specs.declared.own.Own.{Own};
+ghost use Rattle.opfs_machine.specs.declared.state.State.{State};
+ghost use Rattle.opfs_machine.specs.Steps.{is_refusal};
+ghost use Rattle.opfs_replay.specs.Built.{Built};
+
+use crate::apart::{CallParts, call_parts};
+use opfs_books::{Entering, Last};
+use opfs_desk_parts::{InHand, Ledger};
+use opfs_desk_ways::tell_call;
+use opfs_hist::Reply;
+use opfs_machine::Sizes;
+use opfs_outside::Disk;
+
+/// Enters a call that is answered and stores nothing; each file keeps its blocks. The pages are the caller's.
+pub fn tell_last<D: Disk>(ledger: &mut Ledger<D>, last: Last, sizes: Sizes)
+    requires may { MayAnswer D.Disk ledger.old last.entry sizes }
+    requires answered { is_refusal last.entry.reply ≡ false }
+    requires silent { spelled_by (machine_in ledger.old) (tree_in ledger.old) last.entry.agent last.entry.op sizes None ≡ None }
+    ensures journal { ledger.new.journal ≡ ledger.old.journal }
+    ensures tree { tree_in ledger.new ≡ tree_by (machine_in ledger.old) (tree_in ledger.old) last.entry.agent last.entry.op sizes None }
+    ensures told { (f : Fixed D) (recorded : Built) (base : State Text Own) (gone : List Text) (p : Pages) → AreHeldAt D.Disk f recorded base gone ledger.old p → IsAnswered D.Disk base gone ledger.old last.entry sizes
+        → HasTold D.Disk f recorded ledger.old ledger.new p last.entry sizes }
+{
+    let extents = None;
+    tell_call(
+        ledger,
+        Entering {
+            last,
+            sizes,
+            extents,
+        },
+    );
+}
+
+/// Enters a call in hand, for which no unit is cleared, so.
+pub fn tell_in_hand<D: Disk>(ledger: &mut Ledger<D>, call: InHand, reply: Reply)
+    requires may { MayAnswer D.Disk ledger.old (told_entry (call_in call) reply) call.sizes }
+    requires answered { is_refusal reply ≡ false }
+    requires silent { spelled_by (machine_in ledger.old) (tree_in ledger.old) call.agent call.op call.sizes None ≡ None }
+    ensures tree { tree_in ledger.new ≡ tree_by (machine_in ledger.old) (tree_in ledger.old) call.agent call.op call.sizes None }
+    ensures told { (f : Fixed D) (recorded : Built) (base : State Text Own) (gone : List Text) (p : Pages) → AreHeldAt D.Disk f recorded base gone ledger.old p
+        → IsAnswered D.Disk base gone ledger.old (told_entry (call_in call) reply) call.sizes → HasTold D.Disk f recorded ledger.old ledger.new p (told_entry (call_in call) reply) call.sizes }
+{
+    let CallParts { last, sizes, .. } = call_parts(call, reply);
+    tell_last(ledger, last, sizes);
+}
