@@ -1,0 +1,6 @@
+//! Contents.
+#![tactic(auto)]
+
+mod planning;
+mod putting;
+mod words;
