@@ -1,2 +1,5 @@
 pub mod Beside
 pub mod Written
+pub mod Settled
+pub mod Found
+pub mod Going

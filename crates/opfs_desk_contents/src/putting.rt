@@ -14,7 +14,9 @@ ghost use Rattle.opfs_replay.specs.Built.{Built};
 ghost use Rattle.opfs_row_puts.specs.Plans.{HaveBlocks};
 ghost use Rattle.opfs_work.specs.Works.{WorkingCopy};
 
-use opfs_book_laws::pages_beside_leave_the_books;
+use opfs_book_laws::{
+    pages_beside_leave_the_books, the_books_show_their_images, the_state_is_kept,
+};
 use opfs_desk_laws::{
     blocks_go_on, pages_go_on_telling, pages_that_were_put_tell_the_row, what_is_laid_goes_on,
 };
@@ -68,6 +70,8 @@ fn find_room<D: Disk>(
 {
     parts_lie_inside::<D>();
     puts_have_room();
+    the_state_is_kept::<D>();
+    the_books_show_their_images::<D>();
     if put.taken {
         return Ok(());
     }
