@@ -1,22 +1,20 @@
 -- Pages that are ready to be put stay so while the journal is used.
 use Rattle.std.specs.Vec.{vec_capacity}
-use Rattle.std.specs.List.{AllByRecursion}
 use Rattle.std.specs.Prelude.{MatchOption}
-use Rattle.std.proofs.Common.{◌≡◌, ℕ, ◌<◌, ◌≤◌, false, List, [], ◌∷◌, ◌++◌, length, slice_index_or, Option, Some, None, refl, sym, ap, subst, ◌∙◌, inl, inr, append-nil, arith}
+use Rattle.std.proofs.Common.{◌≡◌, ℕ, ◌≤◌, false, List, [], ◌∷◌, length, Option, Some, None, sym, ap, subst, ◌∙◌, inl, inr, append-nil, arith}
 use Rattle.std.proofs.lemmas.Bool.{cases_lt}
 use Rattle.std.proofs.lemmas.List.{get_or_past}
 use Rattle.opfs_base.specs.Texts.{Text}
 use Rattle.opfs_book_laws.specs.Books.{Fixed}
 use Rattle.opfs_book_laws.specs.Laws.{told}
-use Rattle.opfs_data.specs.declared.page.Page.{Page}
-use Rattle.opfs_data.specs.declared.row.SavedPage.{SavedPage}
+use Rattle.opfs_data.specs.declared.page.SavedPage.{SavedPage}
 use Rattle.opfs_data.specs.Pages.{AreNow, blank, page_of}
 use Rattle.opfs_data.specs.Rows.{Rows, pages_at, page_at, row_at}
 use Rattle.opfs_data.specs.Writes.{WriteList}
 use Rattle.opfs_desk_laws.specs.Putting.{AllReadAlike}
 use Rattle.opfs_desk_parts.specs.Acted.{AreCleared}
-use Rattle.opfs_desk_parts.specs.Held.{AreHeldAt}
-use Rattle.opfs_desk_parts.specs.Seen.{book_in}
+use Rattle.opfs_desk_parts.specs.Held.{AreHeldAt, AreHeldWhole}
+use Rattle.opfs_desk_parts.specs.Seen.{book_in, machine_in, shelf_in, tree_in}
 use Rattle.opfs_desk_parts.specs.declared.parts.Ledger.{Ledger}
 use Rattle.opfs_desk_parts.specs.declared.parts.Pages.{Pages}
 use Rattle.opfs_desk_ways.proofs.Loop.{Falls}
@@ -27,7 +25,10 @@ use Rattle.opfs_machine.specs.Histories.{state_after}
 use Rattle.opfs_outside.specs.declared.disk.Disk.{Ghosts as DiskWords}
 use Rattle.opfs_puts.specs.Puts.{IsReady as IsPutReady}
 use Rattle.opfs_puts.specs.declared.put.Put.{Put}
+use Rattle.opfs_row_puts.specs.Plans.{AreGotten, shelf}
 use Rattle.opfs_row_puts.specs.Rows.{IsPutOf}
+use Rattle.opfs_state.specs.Applied.{StateSeen}
+use Rattle.opfs_tree.specs.Rows.{Rows as Tree}
 use Rattle.opfs_steady.specs.Steady.{row_bytes}
 use Rattle.opfs_work.specs.Works.{WorkingCopy}
 use Rattle.opfs_desk_contents.specs.Putting.{IsRowToPut, all_of}
@@ -58,6 +59,29 @@ ready-on tells c d base swap agent row pages w moves room now alike more is = re
   saved = is.saved;
   now = λ t. saved-now base c d swap agent row (alike t) (row_at agent row swap).saved (is.now t);
 }
+
+pub ready-put : (tells : Type 0) (c d : List ℕ) (base next_base : ℕ) (swap next_swap : Rows) (agent row : ℕ) (put next : Put) → next_swap ≡ swap → next_base ≡ base → next.writes ≡ put.writes → next.pages ≡ put.pages → next.moves ≡ put.moves
+    → vec_capacity put.extents ≤ vec_capacity next.extents → (tells → AllReadAlike base c d swap swap) → IsPutReady tells c base swap agent row put.pages put.writes put.moves (vec_capacity put.extents)
+    → IsPutReady tells d next_base next_swap agent row next.pages next.writes next.moves (vec_capacity next.extents)
+ready-put tells c d base next_base swap next_swap agent row put next same_swap same_base writes pages moves more alike is =
+    let goes = ready-on tells c d base swap agent row put.pages put.writes put.moves (vec_capacity put.extents) (vec_capacity next.extents) alike more is in
+    subst (λ (x : ℕ). IsPutReady tells d next_base next_swap agent row next.pages next.writes x (vec_capacity next.extents)) (sym moves)
+    (subst (λ (x : ℕ). IsPutReady tells d next_base next_swap agent row x next.writes put.moves (vec_capacity next.extents)) (sym pages)
+    (subst (λ (x : WriteList). IsPutReady tells d next_base next_swap agent row put.pages x put.moves (vec_capacity next.extents)) (sym writes)
+    (subst (λ (x : ℕ). IsPutReady tells d x next_swap agent row put.pages put.writes put.moves (vec_capacity next.extents)) (sym same_base)
+    (subst (λ (x : Rows). IsPutReady tells d base x agent row put.pages put.writes put.moves (vec_capacity next.extents)) (sym same_swap) goes))))
+
+-- What was gotten stays.
+pub gotten-on : {D : Type 0} (w : DiskWords D) (recorded : Tree) (l new : Ledger D) (p : Pages) (agent row : ℕ) (put : Put) → new.books.state ≡ l.books.state → w.size new.journal.disk ≡ w.size l.journal.disk
+    → AreGotten put.taken (machine_in l) (shelf_in recorded l p) p.space p.base (w.size l.journal.disk) agent row put.pages put.writes [] put.extents.items
+    → AreGotten put.taken (machine_in new) (shelf_in recorded new p) p.space p.base (w.size new.journal.disk) agent row put.pages put.writes [] put.extents.items
+gotten-on w recorded l new p agent row put state size is =
+    subst (λ (s : StateSeen). AreGotten put.taken s.store.machine (shelf recorded s.store.tree p.swap) p.space p.base (w.size new.journal.disk) agent row put.pages put.writes [] put.extents.items) (sym state)
+    (subst (λ (n : ℕ). AreGotten put.taken (machine_in l) (shelf recorded (tree_in l) p.swap) p.space p.base n agent row put.pages put.writes [] put.extents.items) (sym size) is)
+
+-- Whole parts after a step over the same history.
+pub whole-now : {D : Type 0} (w : DiskWords D) (f : Fixed D) (l new : Ledger D) (p : Pages) → new.books.history ≡ l.books.history → (is : AreCleared w f [] l new p) → AreHeldWhole w f is.recorded new p
+whole-now w f l new p entries is = subst (λ (es : List Entry). AreHeldAt w f is.recorded (state_after f.opening es) [] new p) (sym entries) is.are
 
 pub of-on : (tells : Type 0) (work : WorkingCopy) (c d : List ℕ) (base : ℕ) (swap : Rows) (agent row : ℕ) (w : WriteList) (before after : Text) → (tells → AllReadAlike base c d swap swap)
     → IsPutOf tells work c base swap agent row (all_of work.length) w before after → IsPutOf tells work d base swap agent row (all_of work.length) w before after

@@ -3,4 +3,5 @@
 
 mod planning;
 mod putting;
+mod storing;
 mod words;

@@ -141,7 +141,6 @@ pub(crate) fn put_content<D: Disk>(
     ensures base { parts.new.pages.base ≡ parts.old.pages.base }
     ensures entries { parts.new.ledger.books.history ≡ parts.old.ledger.books.history }
     ensures state { parts.new.ledger.books.state ≡ parts.old.ledger.books.state }
-    ensures count { OnOk result (put.new.pages ≡ put.old.pages) }
     ensures sure { OnOk result (parts.new.ledger.journal.in_doubt ≡ false) }
     ensures cleared { (f : Fixed D) (recorded : Built) (work : WorkingCopy) (bytes : Text) → AreHeldWhole D.Disk f recorded parts.old.ledger parts.old.pages → IsRowToPut D.Disk f parts.old.ledger parts.old.pages agent row put.old work bytes
         → AreCleared D.Disk f [] parts.old.ledger parts.new.ledger parts.new.pages }
@@ -149,6 +148,7 @@ pub(crate) fn put_content<D: Disk>(
         → HasContent D.tells parts.new.pages.base (D.content parts.new.ledger.journal.disk) parts.new.pages.swap agent row put.old.pages bytes) }
     ensures cause { OnErr result (Rose (D.faults parts.old.ledger.journal.disk) (D.faults parts.new.ledger.journal.disk)) }
 {
+    parts_lie_inside::<D>();
     match settle_doubt(&mut parts.ledger) {
         Ok(()) => match find_room(parts, put, agent, row) {
             Ok(()) => match write_pages(parts, put, agent, row) {
