@@ -3,3 +3,4 @@ pub mod Written
 pub mod Settled
 pub mod Found
 pub mod Going
+pub mod Entered

@@ -37,6 +37,7 @@ use opfs_tree::Walk;
 #[tactic(auto, unfolding(opfs_codec::specs::Fields::plain))]
 fn content_of<'a>(place: &'a Place, stamp: u64, size: u64, runs: &'a Extents) -> ChangeRef<'a>
     ensures is { plain result ≡ Content place.now.0 place.now.1 stamp size runs.now }
+    ensures moment { stamp < 2 ^ 64 }
     ensures small { size < 2 ^ 64 }
 {
     ChangeRef::Content(&place.0, &place.1, stamp, size, runs)

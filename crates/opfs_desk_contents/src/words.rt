@@ -1,6 +1,6 @@
 //! What the words of these calls say.
 
-ghost use Rattle.std.specs.Prelude.{◌≡◌, ◌<◌, ◌^◌, true, is_some, Some};
+ghost use Rattle.std.specs.Prelude.{◌≡◌, true, is_some, Some};
 ghost use Rattle.opfs_desk_contents.specs.Words.{is_storing, ends_row, stamp_stored};
 ghost use Rattle.opfs_machine.specs.Replies.{row_named};
 ghost use Rattle.opfs_tree.specs.Rows.{file_at as file_in_tree};
@@ -35,8 +35,7 @@ pub(crate) fn is_last(op: &Op) -> bool
 // The time stamp that a read of a file gives.
 fn stamp_in(state: &State, place: &Place) -> u64
     requires there { is_some (file_in_tree place.now state.now.store.tree) ≡ true }
-    ensures stamp { (f : FileRow) → file_in_tree place.now state.now.store.tree ≡ Some f → result ≡ f.present_stamp }
-    ensures small { result < 2 ^ 64 }
+    ensures { (f : FileRow) → file_in_tree place.now state.now.store.tree ≡ Some f → result ≡ f.present_stamp }
 {
     match state.file(&place.0, &place.1) {
         Some(file) => file.present_stamp,
@@ -49,8 +48,7 @@ pub(crate) fn stamp_of(state: &State, agent: u32, op: &Op, place: &Place) -> u64
     requires agent { IsAgent state.now.store.machine agent }
     requires word { is_storing op.now ≡ true }
     requires there { is_some (file_in_tree place.now state.now.store.tree) ≡ true }
-    ensures stamp { (f : FileRow) → file_in_tree place.now state.now.store.tree ≡ Some f → result ≡ stamp_stored state.now.store.machine agent op.now f }
-    ensures small { result < 2 ^ 64 }
+    ensures { (f : FileRow) → file_in_tree place.now state.now.store.tree ≡ Some f → result ≡ stamp_stored state.now.store.machine agent op.now f }
 {
     match op {
         Op::Close { .. } => state.moment(agent),
