@@ -4,3 +4,7 @@ pub mod Settled
 pub mod Found
 pub mod Going
 pub mod Entered
+pub mod Holds
+pub mod Stowed
+pub mod Failing
+pub mod Storable

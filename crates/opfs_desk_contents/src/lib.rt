@@ -1,6 +1,7 @@
 //! Contents.
 #![tactic(auto)]
 
+mod pages;
 mod planning;
 mod putting;
 mod storing;
