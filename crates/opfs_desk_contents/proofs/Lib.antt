@@ -8,3 +8,4 @@ pub mod Holds
 pub mod Stowed
 pub mod Failing
 pub mod Storable
+pub mod Contained

@@ -1,5 +1,5 @@
 -- A row's content may be stored once its pages were put.
-use Rattle.std.proofs.Common.{◌≡◌, ℕ, ◌<◌, List, [], ◌∷◌, ◌++◌, length, Some, refl, sym, ap, subst, ◌∙◌}
+use Rattle.std.proofs.Common.{◌≡◌, ℕ, ◌<◌, List, [], ◌∷◌, ◌++◌, length, true, Some, None, refl, sym, ap, subst, ◌∙◌}
 use Rattle.opfs_base.specs.Blocks.{blocks}
 use Rattle.opfs_base.specs.Places.{Place}
 use Rattle.opfs_base.specs.Texts.{Text}
@@ -14,6 +14,9 @@ use Rattle.opfs_codec.specs.declared.change.Change.{Change as Spelled}
 use Rattle.opfs_codec.specs.declared.change.Change.TheVariants.{Content}
 use Rattle.opfs_commit.specs.Making.{told_as}
 use Rattle.opfs_hist.specs.declared.entry.Entry.{Entry}
+use Rattle.opfs_hist.specs.declared.op.Op.{Op}
+use Rattle.opfs_hist.specs.declared.op.Op.TheVariants as op
+use Rattle.opfs_machine.specs.Histories.{evicted_by}
 use Rattle.opfs_lengths.specs.Kept.{Kept}
 use Rattle.opfs_machine.specs.Agents.{agent_of}
 use Rattle.opfs_seats.specs.Slots.{most_rows}
@@ -38,7 +41,7 @@ use Rattle.opfs_desk_parts.specs.declared.parts.Pages.{Pages}
 use Rattle.opfs_desk_contents.specs.Putting.{KeepsEnough}
 use Rattle.opfs_desk_contents.specs.Rows.{StoresFile}
 use Rattle.opfs_desk_contents.specs.Storing.{AreRunsOf, MayStoreContent, content_now}
-use Rattle.opfs_desk_contents.specs.Words.{size_stored, stamp_stored}
+use Rattle.opfs_desk_contents.specs.Words.{is_storing, size_stored, stamp_stored}
 use Rattle.opfs_desk_contents.proofs.Stowed.{can-be-held, few-pages, runs-extents, spelled-runs, written-there}
 
 -- ---- over a ledger whose shared state and history stayed
@@ -101,3 +104,7 @@ module _ {D : Type 0} (w : DiskWords D) (states : StateLaws) (keeps : BooksKeepT
         runs_are = runs-extents w states f recorded back q whole agent row place opened order pages runs runs_are plain (few-pages w states keeps f recorded back q whole agent row pages enough);
         holds = can-be-held w states f recorded back q whole agent row place opened order pages runs runs_are plain stamp size many;
       }
+
+pub no-eviction : (o : Op) → is_storing o ≡ true → evicted_by o ≡ None
+no-eviction (op.Evict unit) h = cc
+no-eviction o h = refl

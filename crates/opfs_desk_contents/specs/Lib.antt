@@ -2,3 +2,4 @@ pub mod Words
 pub mod Rows
 pub mod Putting
 pub mod Storing
+pub mod Blocks
