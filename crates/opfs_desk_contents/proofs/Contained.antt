@@ -1,5 +1,5 @@
 -- The blocks of a row whose content was stored.
-use Rattle.std.proofs.Common.{◌≡◌, ℕ, zero, suc, ◌+◌, ◌<◌, ◌≤◌, ◌||◌, not, ◌&&◌, nat_eq, is_some, is_none, Bool, true, false, List, [], ◌∷◌, length, slice_index_or, unwrap_or, Option, Some, None, refl, sym, ap, subst, ◌∙◌, inl, inr, arith}
+use Rattle.std.proofs.Common.{◌≡◌, ℕ, zero, suc, ◌≤◌, ◌||◌, not, ◌&&◌, nat_eq, Bool, true, false, List, [], ◌∷◌, length, slice_index_or, unwrap_or, Option, Some, None, refl, sym, ap, subst, ◌∙◌, inl, inr, arith}
 use Rattle.std.specs.List.{IsDistinct, range_with_len}
 use Rattle.std.proofs.lemmas.Bool.{eq-eqb, eqb-true}
 use Rattle.std.proofs.lemmas.Cmp.{nat_eq_equiv}
@@ -11,21 +11,19 @@ use Rattle.opfs_base.specs.Places.{Place}
 use Rattle.opfs_base.specs.declared.extents.Extent.{Extent}
 use Rattle.opfs_blocks.specs.Sets.{blocks_of, marked}
 use Rattle.opfs_data.specs.declared.page.Page.{Page}
-use Rattle.opfs_data.specs.Pages.{blank, is_plain}
-use Rattle.opfs_data.specs.Rows.{Rows, no_row, page_at, pages_at, row_of}
+use Rattle.opfs_data.specs.Pages.{blank}
+use Rattle.opfs_data.specs.Rows.{Rows, no_row, pages_at, row_of}
 use Rattle.opfs_desk_laws.specs.Laws.{BlocksGoOn}
-use Rattle.opfs_desk_laws.specs.Open.{open_at, file_in, is_stream}
 use Rattle.opfs_desk_laws.specs.Spaced.{AreSpaced}
 use Rattle.opfs_desk_laws.proofs.Holding.{spaced-blocks}
 use Rattle.opfs_desk_ways.proofs.Evictions.{spaced-recorded, stored-named}
-use Rattle.opfs_replay.specs.Built.{block_count, has_block, is_once, named}
+use Rattle.opfs_replay.specs.Built.{block_count, has_block, is_once}
 use Rattle.opfs_replay.proofs.Counts.{distinct_once}
 use Rattle.opfs_row_puts.specs.Plans.{shelf}
 use Rattle.opfs_snapshot.specs.Written.{stored_rows}
 use Rattle.opfs_space.specs.Holders.{HasPage}
 use Rattle.opfs_space.specs.Room.{Machine}
 use Rattle.opfs_space.specs.Spaces.{SpaceSeen, page_blocks, with_block}
-use Rattle.opfs_space.proofs.FileBlocks.{all_counted}
 use Rattle.opfs_tree.specs.Rows.{Rows as Tree}
 use Rattle.opfs_desk_contents.specs.Blocks.{ContentsKeepBlocks, IsContentIn}
 
@@ -102,7 +100,7 @@ module _ (blocks : BlocksGoOn) (m t : Machine) (recorded u v : Tree) (p q : Rows
       let enough = is.runs_are.count is.plain in
       let size = is.plain.count in
       not-false (has_block (blocks_of runs) b) (λ none.
-        missing b (blocks_of runs) (page_blocks ps) none once (page-has ps i b has) (λ x there. let page = is.runs_are.of_row x there in page-has ps page.0 x page.1) (omega (arith, most, count, enough, size)))
+      missing b (blocks_of runs) (page_blocks ps) none once (page-has ps i b has) (λ x there. let page = is.runs_are.of_row x there in page-has ps page.0 x page.1) (omega (arith, most, count, enough, size)))
 
   contained : AreSpaced t (shelf (stored_rows v) v q) (record space { own = marked false (blocks_of runs) space.own })
   contained =

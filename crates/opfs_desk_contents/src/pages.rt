@@ -118,15 +118,7 @@ pub(crate) fn store_pages<D: Disk>(
             collect(&parts.pages.swap, agent, row, pages, &mut runs, &mut copy);
             let runs = Extents::from_vec(runs);
             let extents = Some(Extents::from_vec(copy));
-            match enter_content(
-                &mut parts.ledger,
-                last,
-                sizes,
-                &place,
-                size,
-                &runs,
-                extents,
-            ) {
+            match enter_content(&mut parts.ledger, last, sizes, &place, size, &runs, extents) {
                 Ok(()) => Ok(runs),
                 Err(fault) => Err(fault),
             }

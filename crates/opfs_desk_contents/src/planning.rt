@@ -17,7 +17,6 @@ ghost use Rattle.opfs_state.specs.Reading.{row_file};
 ghost use Rattle.opfs_tree.specs.Rows.{Rows as Tree};
 ghost use Rattle.opfs_verdicts.specs.Callers.{IsAgent};
 
-
 use opfs_base::{Extent, copy_place};
 use opfs_data::DataRefusal;
 use opfs_desk_parts::Parts;

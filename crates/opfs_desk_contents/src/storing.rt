@@ -81,12 +81,7 @@ pub(crate) fn enter_content<D: Disk>(
         → HasNotChanged D.Disk f recorded base gone ledger.old ledger.new p last.entry (content_now ledger.old last.entry place.now row size runs.now)) }
 {
     ledger.books.state.step(&mut Walk::make());
-    let stamp = stamp_of(
-        &ledger.books.state,
-        last.entry.agent,
-        &last.entry.op,
-        place,
-    );
+    let stamp = stamp_of(&ledger.books.state, last.entry.agent, &last.entry.op, place);
     let own = content_of(place, stamp, size, runs);
     let entering = Entering {
         last,
