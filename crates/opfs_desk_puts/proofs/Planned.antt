@@ -48,6 +48,7 @@ use Rattle.opfs_acts.specs.declared.acted.Acted.{Acted}
 use Rattle.opfs_machine.specs.Runs.{Call}
 use Rattle.opfs_desk_rows.specs.Copied.{CopiesAreStored, IsStoredCopy}
 use Rattle.opfs_desk_reads.proofs.Readied.{read-held}
+use Rattle.opfs_desk_reads.proofs.Synced.{handed}
 use Rattle.opfs_desk_rows.specs.Inside.{PartsLieInside}
 use Rattle.opfs_desk_rows.specs.Puts.{puts_row, size_put}
 use Rattle.opfs_desk_ways.proofs.LaidStays.{LaidBeside}
@@ -141,6 +142,9 @@ copy-back bytes work new same is = let it = subst (λ (x : WorkingCopy). IsCopy 
 held-back : (bytes : Text) (work new : WorkingCopy) (c : List ℕ) (base : ℕ) (ps : List Page) → IsSameCopy work new → AreHeld bytes new c base ps → AreHeld bytes work c base ps
 held-back bytes work new c base ps same is = let it = subst (λ (x : WorkingCopy). AreHeld bytes x c base ps) same is in record { held = it.held }
 
+pub paged-room : (work new : WorkingCopy) → IsSameCopy work new → length work.pages ≡ blocks work.length → length new.pages ≡ blocks new.length
+paged-room work new same is = subst (λ (x : WorkingCopy). length x.pages ≡ blocks x.length) (sym same) is
+
 pub same-both : (a b c : WorkingCopy) → IsSameCopy a b → IsSameCopy b c → IsSameCopy a c
 same-both a b c first second = second ∙ ap (λ (x : WorkingCopy). record x { room = c.room }) first
 
@@ -162,12 +166,9 @@ module _ {D : Type 0} (w : DiskWords D) (copies : CopiesAreStored w) (f : Fixed 
   some : row_named c.op ≢ 0
   some = row-some (state_after f.opening (l.books.history ++ calls)) c.agent c.op puts asked.may.fitting
 
-  pub handed-in : (n : ℕ) → n ≢ 0 → IsHandedIn w.tells f.opening (l.books.history ++ calls) c.agent n work → StandsFor w.tells f.opening (l.books.history ++ calls) c.agent n work
-  handed-in zero other is = absurd (other refl)
-  handed-in (suc n) other is = is
-
   pub stored-copy : IsStoredCopy w f l p calls c.agent (row_named c.op) work
-  stored-copy = copies f recorded l p calls c.agent (row_named c.op) work held asked.may.pending some (handed-in (row_named c.op) some asked.may.copy)
+  stored-copy = copies f recorded l p calls c.agent (row_named c.op) work held asked.may.pending some
+      (handed w.tells f.opening (l.books.history ++ calls) c.agent (row_named c.op) work some asked.may.copy)
 
 -- ---- what is planned is of the row
 

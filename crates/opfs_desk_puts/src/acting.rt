@@ -112,8 +112,7 @@ pub(crate) fn enter_call<D: Disk>(
     let agent = call.agent;
     take_in(&mut parts.ledger, agent, pending);
     let rows = parts.ledger.books.state.rows(agent) as u32;
-    let Planned { put, page } = planned;
-    let mut put = put;
+    let Planned { mut put, page } = planned;
     let len = given.len() as u64;
     let Ok((last, sizes)) = clear_way(&mut parts.ledger, call, reply_of(target.counts, len)) else {
         return faulted(rows);

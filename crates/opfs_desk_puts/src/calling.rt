@@ -125,15 +125,12 @@ pub fn act_put<D: Disk>(
     ensures idle { OnErr result ((f : Fixed D) (recorded : Built) → AreHeldWhole D.Disk f recorded parts.old.ledger parts.old.pages → IsUnacted D.Disk f parts.old parts.new) }
 {
     size_laws::<D>();
-    let held = match bytes_held(&call.op) {
-        Ok(held) => held,
-        Err(_) => return Err(AllocError),
-    };
+    let held = bytes_held(&call.op)?;
     match held.told() {
         Told::Given(bytes) => put_bytes(parts, call, bytes, pending, work),
-        Told::Fill(byte, count) => match spelled_out(parts.ledger.alloc, byte, count) {
-            Ok(bytes) => put_bytes(parts, call, bytes.as_slice(), pending, work),
-            Err(_) => Err(AllocError),
-        },
+        Told::Fill(byte, count) => {
+            let bytes = spelled_out(parts.ledger.alloc, byte, count)?;
+            put_bytes(parts, call, bytes.as_slice(), pending, work)
+        }
     }
 }

@@ -5,11 +5,10 @@ use Rattle.opfs_data.specs.Rows.{row_of}
 use Rattle.opfs_pages.specs.Stages.{IsReady}
 use Rattle.opfs_replay.specs.Built.{named}
 use Rattle.opfs_tree.specs.Rows.{Rows as Tree}
-use Rattle.opfs_work.specs.Works.{WorkingCopy}
 use Rattle.opfs_desk_parts.specs.declared.parts.Ledger.{Ledger}
 use Rattle.opfs_desk_parts.specs.declared.parts.Pages.{Pages}
 use Rattle.opfs_desk_reads.proofs.Readied.{read-acted, read-unacted}
-use Rattle.opfs_desk_puts.proofs.Planned.{acted-room, asked-room, is-plan, planned-of, read-parts, stored-copy}
+use Rattle.opfs_desk_puts.proofs.Planned.{acted-room, asked-room, is-plan, paged-room, planned-of, read-parts, stored-copy}
 use Rattle.opfs_desk_puts.proofs.Words.{on-disk}
 use Rattle.opfs_desk_puts.proofs.calling.put_bytes.Goals as goal
 
@@ -97,7 +96,7 @@ enter_call-requires-clause-planned g c κs within f recorded held asked before r
     (stored-copy w c.copies_are_stored.ensures.copies go.fixed go.recorded l p c.args.pending.now call c.args.work.now [] go.are go.asked c.requires.word).there in
     let t = c.target_of-target in
     let first : length c.args.work.now.pages ≡ blocks c.args.work.now.length = search rules in
-    let paged : length c.plan_call.new.work.pages ≡ blocks c.plan_call.new.work.length = subst (λ (x : WorkingCopy). length x.pages ≡ blocks x.length) (sym is.same) first in
+    let paged = paged-room c.args.work.now c.plan_call.new.work is.same first in
     planned-of w c.copies_are_stored.ensures.copies f recorded now p q c.args.pending.now call c.args.work.now c.plan_call.new.work (w.content l.journal.disk) held asked c.requires.word
     t.result (record { row = t.ensures.row; at = t.ensures.at; size = t.ensures.size; position = t.ensures.position; writes = t.ensures.writes; counts = t.ensures.counts })
     c.args.given.now c.requires.given is.same is.pages refl (λ told. (is.reads.told told).same) paged c.in-Ok.planned.put.writes c.in-Ok.planned.page.items is.staged is.page before row_is
