@@ -1,0 +1,11 @@
+pub mod Beside
+pub mod Written
+pub mod Settled
+pub mod Found
+pub mod Going
+pub mod Entered
+pub mod Holds
+pub mod Stowed
+pub mod Failing
+pub mod Storable
+pub mod Contained

@@ -1,0 +1,5 @@
+pub mod Words
+pub mod Rows
+pub mod Putting
+pub mod Storing
+pub mod Blocks

@@ -1,0 +1,13 @@
+//! How a row's content is stored with the call that ends in it: the close of a stream, or the flush or the close of an access handle
+//! that may write. The row's pages are planned before anything is written, then they are put into blocks of its own, and the content
+//! is committed with what is kept back as the call is entered. Where the disk fails, the call is entered as failed.
+#![tactic(auto)]
+
+mod laws;
+mod pages;
+mod planning;
+mod putting;
+mod storing;
+mod words;
+
+pub use laws::stored_contents_keep_blocks_right;

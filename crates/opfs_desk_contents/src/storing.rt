@@ -1,0 +1,98 @@
+//! The content of a row, committed, and the call's entry.
+
+ghost use Rattle.std.specs.Prelude.{◌≡◌, ◌<◌, ◌≤◌, ◌^◌, ◌++◌, [], List, true, false, Some, length, OnOk, OnErr};
+ghost use Rattle.std.specs.Vec.{vec_capacity};
+ghost use Rattle.opfs_base.specs.Texts.{Text};
+ghost use Rattle.opfs_book_calls.specs.Spelled.{CanHold};
+ghost use Rattle.opfs_book_laws.specs.Books.{Fixed};
+ghost use Rattle.opfs_books.specs.Seen.{BytesStand};
+ghost use Rattle.opfs_codec.specs.Fields.{plain};
+ghost use Rattle.opfs_codec.specs.declared.change.Change.TheVariants.{Content};
+ghost use Rattle.opfs_desk_contents.specs.Storing.{MayStoreContent, HasStored, content_now};
+ghost use Rattle.opfs_desk_contents.specs.Words.{is_storing};
+ghost use Rattle.opfs_desk_kept.specs.Changing.{HasNotChanged};
+ghost use Rattle.opfs_desk_parts.specs.Answered.{IsAnswered};
+ghost use Rattle.opfs_desk_parts.specs.Held.{AreHeldAt};
+ghost use Rattle.opfs_desk_parts.specs.Seen.{tree_in, book_in};
+ghost use Rattle.opfs_desk_parts.specs.declared.parts.Pages.{Pages};
+ghost use Rattle.opfs_hist.specs.declared.reply.Reply.TheVariants as reply;
+ghost use Rattle.opfs_machine.specs.declared.own.Own.{Own};
+ghost use Rattle.opfs_machine.specs.declared.state.State.{State};
+ghost use Rattle.opfs_replay.specs.Built.{Built};
+ghost use Rattle.opfs_tree.specs.Rows.{IsInOrder, file_at as file_in_tree};
+ghost use Rattle.opfs_tree.specs.declared.row.FileRow.{FileRow};
+
+use crate::words::stamp_of;
+use opfs_base::{Extent, Extents};
+use opfs_books::{Entering, Last};
+use opfs_codec::ChangeRef;
+use opfs_desk_parts::Ledger;
+use opfs_desk_ways::store_call;
+use opfs_journal::DiskFault;
+use opfs_machine::{Place, Sizes};
+use opfs_outside::Disk;
+use opfs_tree::Walk;
+
+// The content of a file as a change.
+#[tactic(auto, unfolding(opfs_codec::specs::Fields::plain))]
+fn content_of<'a>(place: &'a Place, stamp: u64, size: u64, runs: &'a Extents) -> ChangeRef<'a>
+    ensures is { plain result ≡ Content place.now.0 place.now.1 stamp size runs.now }
+    ensures moment { stamp < 2 ^ 64 }
+    ensures small { size < 2 ^ 64 }
+{
+    ChangeRef::Content(&place.0, &place.1, stamp, size, runs)
+}
+
+/// Copies runs to where there is room for them.
+pub(crate) fn copy_runs(runs: &[Extent], into: &mut Vec<Extent>)
+    requires empty { into.old.items ≡ [] }
+    requires room { length runs.now ≤ vec_capacity into.old }
+    ensures { into.new.items ≡ runs.now }
+{
+    if into.extend_from_slice(runs).is_err() {
+        unreachable!();
+    }
+}
+
+/// Commits the content of a file with what is kept back, and enters the call. Where the disk fails, the call is entered so, and the
+/// content may be in doubt. The pages are the caller's.
+pub(crate) fn enter_content<D: Disk>(
+    ledger: &mut Ledger<D>,
+    last: Last,
+    sizes: Sizes,
+    place: &Place,
+    size: u64,
+    runs: &Extents,
+    extents: Option<Extents>,
+) -> Result<(), DiskFault>
+    requires may { MayStoreContent D.Disk ledger.old last.entry sizes place.now size runs.now extents }
+    requires word { is_storing last.entry.op ≡ true }
+    requires done { last.entry.reply ≡ reply.Done }
+    requires settled { ledger.old.journal.in_doubt ≡ false }
+    ensures order { IsInOrder (tree_in ledger.old) }
+    ensures order_now { OnOk result (IsInOrder (tree_in ledger.new)) }
+    ensures stored { OnOk result ((f : Fixed D) (recorded : Built) (base : State Text Own) (gone : List Text) (p : Pages) (row : FileRow) → AreHeldAt D.Disk f recorded base gone ledger.old p → IsAnswered D.Disk base gone ledger.old last.entry sizes
+        → file_in_tree place.now (tree_in ledger.old) ≡ Some row → CanHold f.geometry.blocks (content_now ledger.old last.entry place.now row size runs.now) (book_in ledger.old).rows
+        → BytesStand D.Disk f base gone ledger.old.journal last.entry (content_now ledger.old last.entry place.now row size runs.now)
+        → HasStored D.Disk f base gone ledger.old ledger.new p last.entry sizes extents (content_now ledger.old last.entry place.now row size runs.now)) }
+    ensures failed { OnErr result ((f : Fixed D) (recorded : Built) (base : State Text Own) (gone : List Text) (p : Pages) (row : FileRow) → AreHeldAt D.Disk f recorded base gone ledger.old p → IsAnswered D.Disk base gone ledger.old last.entry sizes
+        → file_in_tree place.now (tree_in ledger.old) ≡ Some row → CanHold f.geometry.blocks (content_now ledger.old last.entry place.now row size runs.now) (book_in ledger.old).rows
+        → BytesStand D.Disk f base gone ledger.old.journal last.entry (content_now ledger.old last.entry place.now row size runs.now)
+        → HasNotChanged D.Disk f recorded base gone ledger.old ledger.new p last.entry (content_now ledger.old last.entry place.now row size runs.now)) }
+{
+    ledger.books.state.step(&mut Walk::make());
+    let stamp = stamp_of(&ledger.books.state, last.entry.agent, &last.entry.op, place);
+    let own = content_of(place, stamp, size, runs);
+    let entering = Entering {
+        last,
+        sizes,
+        extents,
+    };
+    match store_call(ledger, &own, entering) {
+        Ok(()) => {
+            ledger.books.state.step(&mut Walk::make());
+            Ok(())
+        }
+        Err(fault) => Err(fault),
+    }
+}
