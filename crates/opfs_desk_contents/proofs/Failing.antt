@@ -3,7 +3,7 @@ use Rattle.std.proofs.Common.{◌≡◌, ◌+◌, List, [], ◌∷◌, ◌++◌,
 use Rattle.opfs_book_laws.specs.Books.{Fixed}
 use Rattle.opfs_book_laws.specs.Laws.{FaultsAreCounted, failed, told}
 use Rattle.opfs_desk_parts.specs.Acted.{AreCleared, HasFailed, last_doubt}
-use Rattle.opfs_desk_parts.specs.Held.{AreHeldAt, AreHeldWhole}
+use Rattle.opfs_desk_parts.specs.Held.{AreHeldWhole}
 use Rattle.opfs_desk_parts.specs.Seen.{book_in}
 use Rattle.opfs_desk_parts.specs.declared.parts.Ledger.{Ledger}
 use Rattle.opfs_desk_parts.specs.declared.parts.Pages.{Pages}

@@ -1,10 +1,9 @@
 -- The blocks of a row's pages are those of no other file, so its file can have them.
-use Rattle.std.proofs.Common.{◌≡◌, ℕ, ◌+◌, ◌<◌, ◌≤◌, nat_eq, nat_lt, nat_le, not, cond, ◌&&◌, ◌||◌, ◌==◌, Bool, true, false, List, [], ◌∷◌, ◌++◌, T, Option, Some, None, filter, refl, sym, ap, subst, ◌∙◌, arith}
-use Rattle.std.specs.FinMap.Entries.{find-where_key, is_sorted, is_sorted-where_key}
+use Rattle.std.proofs.Common.{◌≡◌, ℕ, ◌+◌, ◌<◌, ◌≤◌, nat_eq, nat_lt, nat_le, not, cond, ◌||◌, Bool, true, false, List, [], ◌∷◌, ◌++◌, T, Option, Some, None, filter, refl, sym, ap, subst, ◌∙◌, arith}
+use Rattle.std.specs.FinMap.Entries.{find-where_key, is_sorted-where_key}
 use Rattle.std.specs.List.{AllByRecursion}
 use Rattle.std.specs.Cmp.{tied_itself}
 use Rattle.std.specs.Ordering.{is_eq}
-use Rattle.std.specs.declared.cmp.Ordering.TheVariants.{Equal}
 use Rattle.std.specs.Prelude.{IsTrue}
 use Rattle.std.proofs.lemmas.Bool.{and_from, eq-eqb, false≢true, le-leb, lt-ltb}
 use Rattle.opfs_base.specs.Blocks.{blocks}
@@ -21,7 +20,7 @@ use Rattle.opfs_replay.specs.Built.{all_extents, block_count, has_block, is_once
 use Rattle.opfs_replay.proofs.Holding.{all_both, is_within_size, of_all}
 use Rattle.opfs_row_puts.specs.Plans.{shelf}
 use Rattle.opfs_snapshot.specs.Written.{stored_row, stored_rows}
-use Rattle.opfs_space.specs.Files.{blocks_at, extents_in, file_has}
+use Rattle.opfs_space.specs.Files.{extents_in, file_has}
 use Rattle.opfs_space.specs.Holders.{HasPage}
 use Rattle.opfs_space.specs.Room.{Machine}
 use Rattle.opfs_space.specs.Spaces.{SpaceSeen}

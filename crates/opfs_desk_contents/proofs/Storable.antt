@@ -1,5 +1,5 @@
 -- A row's content may be stored once its pages were put.
-use Rattle.std.proofs.Common.{◌≡◌, ℕ, ◌<◌, List, [], ◌∷◌, ◌++◌, length, true, Some, None, refl, sym, ap, subst, ◌∙◌}
+use Rattle.std.proofs.Common.{◌≡◌, ℕ, ◌<◌, List, [], ◌∷◌, ◌++◌, length, true, Some, None, refl, sym, subst, ◌∙◌}
 use Rattle.opfs_base.specs.Blocks.{blocks}
 use Rattle.opfs_base.specs.Places.{Place}
 use Rattle.opfs_base.specs.Texts.{Text}
@@ -8,9 +8,7 @@ use Rattle.opfs_book_laws.specs.Books.{Fixed, IsPlaced}
 use Rattle.opfs_book_laws.specs.Commits.{StateLaws}
 use Rattle.opfs_book_calls.specs.Spelled.{bytes_stored}
 use Rattle.opfs_book_laws.specs.Laws.{BooksKeepTheState, ShowsTold, told}
-use Rattle.opfs_books.specs.Seen.{stored_change}
 use Rattle.opfs_changes.specs.Allowed.{MayApply, IsSized}
-use Rattle.opfs_codec.specs.declared.change.Change.{Change as Spelled}
 use Rattle.opfs_codec.specs.declared.change.Change.TheVariants.{Content}
 use Rattle.opfs_commit.specs.Making.{told_as}
 use Rattle.opfs_hist.specs.declared.entry.Entry.{Entry}
@@ -40,7 +38,7 @@ use Rattle.opfs_desk_parts.specs.declared.parts.Ledger.{Ledger}
 use Rattle.opfs_desk_parts.specs.declared.parts.Pages.{Pages}
 use Rattle.opfs_desk_contents.specs.Putting.{KeepsEnough}
 use Rattle.opfs_desk_contents.specs.Rows.{StoresFile}
-use Rattle.opfs_desk_contents.specs.Storing.{AreRunsOf, MayStoreContent, content_now}
+use Rattle.opfs_desk_contents.specs.Storing.{AreRunsOf, MayStoreContent}
 use Rattle.opfs_desk_contents.specs.Words.{is_storing, size_stored, stamp_stored}
 use Rattle.opfs_desk_contents.proofs.Stowed.{can-be-held, few-pages, runs-extents, spelled-runs, written-there}
 

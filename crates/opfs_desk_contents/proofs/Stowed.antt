@@ -1,11 +1,10 @@
 -- What a row's content is, once its pages were put.
 use Rattle.std.proofs.Common.{◌≡◌, ℕ, ◌+◌, ◌*◌, ◌^◌, ◌<◌, ◌≤◌, nat_le, ◌&&◌, cond, Bool, true, false, List, [], ◌∷◌, length, unwrap_or, if◌then◌else◌, Option, Some, None, refl, sym, ap, subst, ◌∙◌, arith}
 use Rattle.std.specs.List.{AllByRecursion, flat_map, sum_by}
-use Rattle.std.specs.FinMap.Entries.{find}
 use Rattle.std.specs.Ordering.{is_eq}
 use Rattle.std.specs.declared.cmp.Ordering.{Ordering}
 use Rattle.std.specs.declared.cmp.Ordering.TheVariants.{Less, Equal, Greater}
-use Rattle.std.proofs.lemmas.Bool.{and_parts, leb-true, false≢true}
+use Rattle.std.proofs.lemmas.Bool.{and_parts, leb-true}
 use Rattle.opfs_base.specs.Blocks.{blocks}
 use Rattle.opfs_base.specs.Places.{Place, place_cmp}
 use Rattle.opfs_base.specs.Texts.{Text}
@@ -16,36 +15,32 @@ use Rattle.opfs_book_laws.specs.Commits.{StateLaws}
 use Rattle.opfs_book_laws.specs.Laws.{BooksKeepTheState}
 use Rattle.opfs_books.specs.Seen.{BytesStand}
 use Rattle.opfs_codec.specs.Spelling.{AreExtents, IsExtent}
-use Rattle.opfs_codec.specs.declared.change.Change.{Change as Spelled}
 use Rattle.opfs_codec.specs.declared.change.Change.TheVariants.{Content}
 use Rattle.opfs_commit.specs.Making.{new_bytes, told_as}
-use Rattle.opfs_data.specs.Pages.{page_of}
 use Rattle.opfs_data.specs.Places.{bytes_of}
-use Rattle.opfs_data.specs.Rows.{Rows, page_at}
+use Rattle.opfs_data.specs.Rows.{page_at}
 use Rattle.opfs_desk_laws.specs.Open.{open_at, file_in}
 use Rattle.opfs_hist.specs.declared.entry.Entry.{Entry}
 use Rattle.opfs_hist.specs.declared.op.Op.{Op}
 use Rattle.opfs_hist.specs.declared.op.Op.TheVariants as op
-use Rattle.opfs_image.specs.Superblock.{data_base, is_between, is_in_range}
+use Rattle.opfs_image.specs.Superblock.{is_between, is_in_range}
 use Rattle.opfs_image.specs.declared.geometry.Geometry.{Geometry}
 use Rattle.opfs_machine.specs.declared.own.HandleOutline.{HandleOutline}
 use Rattle.opfs_machine.specs.declared.own.StreamOutline.{StreamOutline}
 use Rattle.opfs_machine.specs.declared.own.Own.{Own}
 use Rattle.opfs_machine.specs.declared.state.Sizes.{Sizes}
 use Rattle.opfs_machine.specs.declared.state.State.{State}
-use Rattle.opfs_machine.specs.Agents.{agent_of, open_handle, open_stream, own_of}
+use Rattle.opfs_machine.specs.Agents.{open_handle, open_stream}
 use Rattle.opfs_machine.specs.Contents.{in_lengths}
 use Rattle.opfs_machine.specs.Effects.{moment_of}
 use Rattle.opfs_machine.specs.Histories.{state_after}
-use Rattle.opfs_machine.specs.Rulings.{is_read_write}
 use Rattle.opfs_lengths.specs.Kept.{Kept}
 use Rattle.opfs_machine.specs.Sums.{durable_blocks, reserve_of}
 use Rattle.opfs_outside.specs.declared.disk.Disk.{Ghosts as DiskWords}
 use Rattle.opfs_laws.proofs.Spots.{exact_places}
 use Rattle.opfs_replay.specs.Applying.{can_hold}
 use Rattle.opfs_replay.specs.Built.{Built, named_beside}
-use Rattle.opfs_replay.proofs.Holding.{all_both, all_more}
-use Rattle.opfs_row_puts.specs.Plans.{shelf}
+use Rattle.opfs_replay.proofs.Holding.{all_more}
 use Rattle.opfs_row_puts.specs.Rows.{ArePlain}
 use Rattle.opfs_snapshot.specs.Written.{IsWritablePlace, IsWritableRow, stored_row, stored_rows}
 use Rattle.opfs_space.specs.Room.{Machine}
@@ -61,8 +56,8 @@ use Rattle.opfs_desk_parts.specs.declared.parts.Pages.{Pages}
 use Rattle.opfs_desk_rows.proofs.Inside.{size-is}
 use Rattle.opfs_desk_contents.specs.Putting.{HasContent, KeepsEnough}
 use Rattle.opfs_desk_contents.specs.Rows.{IsStreamOf, IsWriterOf, StoresFile}
-use Rattle.opfs_desk_contents.specs.Storing.{AreRunsOf, content_now}
-use Rattle.opfs_desk_contents.specs.Words.{is_storing, size_stored, stamp_stored}
+use Rattle.opfs_desk_contents.specs.Storing.{AreRunsOf}
+use Rattle.opfs_desk_contents.specs.Words.{size_stored, stamp_stored}
 use Rattle.opfs_desk_contents.proofs.Holds.{apart-once, below-size, can-have}
 
 -- ---- how it is spelled
