@@ -1,0 +1,13 @@
+pub mod Copied
+pub mod Words
+pub mod Rows
+pub mod Used
+pub mod Found
+pub mod Wrote
+pub mod Entered
+pub mod Stays
+pub mod Small
+pub mod Planned
+pub mod Begun
+pub mod Put
+pub mod Acted

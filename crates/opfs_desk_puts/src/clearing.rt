@@ -1,0 +1,43 @@
+//! The way of a call to its own change: the doubt is ended, and the units that it needs are cleared.
+
+ghost use Rattle.std.specs.Prelude.{◌≡◌, [], false, IfOk, OnOk, OnErr};
+ghost use Rattle.opfs_book_laws.specs.Books.{Fixed};
+ghost use Rattle.opfs_book_laws.specs.Laws.{LeavesPages, failed};
+ghost use Rattle.opfs_desk_parts.specs.Acted.{HasFailed, IsWayNow};
+ghost use Rattle.opfs_desk_parts.specs.Held.{AreHeldWhole};
+ghost use Rattle.opfs_desk_parts.specs.declared.parts.Pages.{Pages};
+ghost use Rattle.opfs_desk_ways.specs.Clearing.{MayEndDoubt};
+ghost use Rattle.opfs_machine.specs.Histories.{IsCall, state_after};
+ghost use Rattle.opfs_replay.specs.Built.{Built};
+
+use opfs_book_laws::a_fault_is_counted;
+use opfs_books::Last;
+use opfs_desk_laws::what_is_laid_goes_on;
+use opfs_desk_parts::Ledger;
+use opfs_desk_ways::fail_call;
+use opfs_journal::DiskFault;
+use opfs_outside::Disk;
+
+/// Ends the doubt before a call that writes or changes something, and gives the call's entry back. Where the disk fails, the call
+/// is entered so. Without doubt it calls no disk.
+pub(crate) fn end_doubt<D: Disk>(ledger: &mut Ledger<D>, last: Last) -> Result<Last, DiskFault>
+    requires may { MayEndDoubt D.Disk ledger.old last.entry }
+    ensures last { IfOk result (λ back. back.entry ≡ last.entry) }
+    ensures entries { OnOk result (ledger.new.books.history ≡ ledger.old.books.history) }
+    ensures state { OnOk result (ledger.new.books.state ≡ ledger.old.books.state) }
+    ensures sure { OnOk result (ledger.new.journal.in_doubt ≡ false) }
+    ensures leaves { OnOk result (LeavesPages D.Disk ledger.old.journal ledger.new.journal) }
+    ensures held { OnOk result ((f : Fixed D) (recorded : Built) (p : Pages) → AreHeldWhole D.Disk f recorded ledger.old p → AreHeldWhole D.Disk f recorded ledger.new p × IsWayNow D.Disk f ledger.old ledger.new) }
+    ensures failed { OnErr result ((f : Fixed D) (recorded : Built) (p : Pages) → AreHeldWhole D.Disk f recorded ledger.old p → IsCall (state_after f.opening ledger.old.books.history) [] (failed last.entry)
+        → HasFailed D.Disk f last.entry ledger.old ledger.new p) }
+{
+    what_is_laid_goes_on::<D>();
+    a_fault_is_counted::<D>();
+    match ledger.books.settle(&mut ledger.journal) {
+        Ok(()) => Ok(last),
+        Err(fault) => {
+            fail_call(ledger, last);
+            Err(fault)
+        }
+    }
+}

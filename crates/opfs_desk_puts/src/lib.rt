@@ -1,0 +1,16 @@
+//! write, truncate, and an access handle's write and truncate under the turn (File System: write a chunk;
+//! FileSystemSyncAccessHandle's write and truncate).
+#![tactic(auto)]
+
+mod acting;
+mod calling;
+mod clearing;
+mod entering;
+mod evicting;
+mod leaving;
+mod putting;
+mod target;
+mod units;
+mod way;
+
+pub use calling::act_put;

@@ -1,0 +1,65 @@
+//! The way of a call to its pages: its units are cleared.
+
+ghost use Rattle.std.specs.Prelude.{◌≡◌, ◌++◌, map, fold, false, IfOk, OnOk, OnErr};
+ghost use Rattle.opfs_acts.specs.Acting.{told_entry};
+ghost use Rattle.opfs_book_laws.specs.Books.{Fixed};
+ghost use Rattle.opfs_book_laws.specs.Laws.{LeavesPages};
+ghost use Rattle.opfs_desk_parts.specs.Acted.{AreCleared, HasFailed};
+ghost use Rattle.opfs_desk_parts.specs.Held.{AreHeldWhole};
+ghost use Rattle.opfs_desk_parts.specs.Seen.{tree_in, call_in, units_in};
+ghost use Rattle.opfs_desk_parts.specs.declared.parts.Pages.{Pages};
+ghost use Rattle.opfs_desk_ways.specs.Clearing.{IsJudged, MayMakeWay, cleared_from};
+ghost use Rattle.opfs_machine.specs.Histories.{state_after};
+ghost use Rattle.opfs_machine.specs.Runs.{eviction};
+ghost use Rattle.opfs_replay.specs.Built.{Built};
+ghost use Rattle.opfs_state.specs.Applied.{IsPrepared};
+
+use crate::units::make_way;
+use opfs_books::Last;
+use opfs_desk_parts::{InHand, Ledger};
+use opfs_hist::{Entry, Reply};
+use opfs_journal::DiskFault;
+use opfs_machine::Sizes;
+use opfs_outside::Disk;
+
+/// Ends the doubt and clears the units of a call that changes something; gives the entry with its reply, for which it takes the call
+/// apart, and its sizes. Where the disk fails, the call is entered so, after the evictions that were committed.
+pub(crate) fn clear_way<D: Disk>(
+    ledger: &mut Ledger<D>,
+    call: InHand,
+    reply: Reply,
+) -> Result<(Last, Sizes), DiskFault>
+    requires may { MayMakeWay D.Disk ledger.old (told_entry (call_in call) reply) call.clearing.items }
+    ensures entry { IfOk result (λ ready. ready.0.entry ≡ told_entry (call_in call) reply) }
+    ensures sizes { IfOk result (λ ready. ready.1 ≡ call.sizes) }
+    ensures entries { OnOk result (ledger.new.books.history ≡ ledger.old.books.history ++ map eviction (units_in call.clearing.items)) }
+    ensures tree { OnOk result (tree_in ledger.new ≡ fold cleared_from (tree_in ledger.old) (units_in call.clearing.items)) }
+    ensures prepared { OnOk result (IsPrepared ledger.new.books.state call.agent call.op) }
+    ensures sure { OnOk result (ledger.new.journal.in_doubt ≡ false) }
+    ensures leaves { OnOk result (LeavesPages D.Disk ledger.old.journal ledger.new.journal) }
+    ensures cleared { OnOk result ((f : Fixed D) (recorded : Built) (p : Pages) → AreHeldWhole D.Disk f recorded ledger.old p → AreCleared D.Disk f (units_in call.clearing.items) ledger.old ledger.new p) }
+    ensures failed { OnErr result ((f : Fixed D) (recorded : Built) (p : Pages) → AreHeldWhole D.Disk f recorded ledger.old p
+        → IsJudged (state_after f.opening ledger.old.books.history) (told_entry (call_in call) reply) (units_in call.clearing.items) → HasFailed D.Disk f (told_entry (call_in call) reply) ledger.old ledger.new p) }
+{
+    let InHand {
+        room,
+        agent,
+        number,
+        op,
+        sizes,
+        clearing,
+    } = call;
+    let turn = true;
+    let entry = Entry {
+        agent,
+        number,
+        op,
+        reply,
+        turn,
+    };
+    let last = Last { room, entry };
+    match make_way(ledger, clearing, last) {
+        Ok(back) => Ok((back, sizes)),
+        Err(fault) => Err(fault),
+    }
+}
