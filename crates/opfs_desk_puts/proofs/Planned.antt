@@ -7,7 +7,6 @@ use Rattle.opfs_base.specs.Blocks.{blocks}
 use Rattle.opfs_base.specs.Texts.{Text}
 use Rattle.opfs_book_laws.specs.Books.{Fixed}
 use Rattle.opfs_book_laws.specs.Laws.{ReadsKeepTheBooks}
-use Rattle.opfs_copies.specs.Copies.{StandsFor}
 use Rattle.opfs_data.specs.Calls.{Reads}
 use Rattle.opfs_data.specs.declared.page.Page.{Page}
 use Rattle.opfs_data.specs.Pages.{page_of, blank}
