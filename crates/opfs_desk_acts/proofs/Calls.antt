@@ -8,11 +8,13 @@ use Rattle.opfs_book_laws.specs.Books.{Fixed}
 use Rattle.opfs_book_laws.specs.Laws.{BooksShowTheirImages}
 use Rattle.opfs_commit.specs.Shown.{ShowsEither}
 use Rattle.opfs_hist.specs.declared.entry.Entry.{Entry}
+use Rattle.opfs_hist.specs.declared.op.Op.{Op}
 use Rattle.opfs_hist.specs.declared.reply.Refusal.{Refusal}
 use Rattle.opfs_histories.specs.Doubts.{doubted}
 use Rattle.opfs_journal.specs.Seen.{Seen}
 use Rattle.opfs_machine.specs.Changes.{Change, changes, floor}
 use Rattle.opfs_machine.specs.Histories.{state_after}
+use Rattle.opfs_machine.specs.Openings.{Opening}
 use Rattle.opfs_machine.specs.Runs.{Call}
 use Rattle.opfs_machine.specs.Steps.{judged}
 use Rattle.opfs_outside.specs.Moments.{Elapses}
@@ -20,7 +22,9 @@ use Rattle.opfs_outside.specs.declared.disk.Disk.{Ghosts as DiskWords}
 use Rattle.opfs_replay.specs.Built.{Built}
 use Rattle.opfs_state.specs.Applied.{StateSeen}
 use Rattle.opfs_work.specs.Works.{WorkingCopy}
-use Rattle.opfs_desk_asks.specs.Asking.{IsReadied}
+use Rattle.opfs_desk_asks.specs.Asking.{IsAskedAs, IsReadied}
+use Rattle.opfs_desk_asks.specs.declared.asked.Asked.{Asked}
+use Rattle.opfs_desk_asks.specs.declared.asked.Asked.TheVariants as asked
 use Rattle.opfs_desk_asks.specs.declared.asked.Readied.{Readied}
 use Rattle.opfs_desk_asks.proofs.Same.{same-held, with_state}
 use Rattle.opfs_desk_laws.specs.Handles.{AreHandlesWhole}
@@ -58,11 +62,20 @@ module _ {D : Type 0} (w : DiskWords D) (f : Fixed D) (old : Parts D) where
         way = way-same _ l new.books.state un.way;
       })
 
+-- ---- what became of a call that was asked for
+
+module _ (o : Opening) (h calls : List Entry) (s : StateSeen) (k : ℕ) (called : Op) (a : Asked) where
+  pub refused-as : (r : Refusal) → a ≡ asked.Refused r → IsAskedAs o h calls s k called a → judged (state_after o (h ++ calls)) k called ≡ Err r
+  refused-as r is as_it = (subst (λ (x : Asked). IsAskedAs o h calls s k called x) is as_it).refused
+
+  pub readied-as : (r : Readied) → a ≡ asked.Ready r → IsAskedAs o h calls s k called a → IsReadied o h calls s k called r
+  readied-as r is as_it = subst (λ (x : Asked). IsAskedAs o h calls s k called x) is as_it
+
 -- ---- over parts before the call was asked for
 
 module _ {D : Type 0} (w : DiskWords D) (f : Fixed D) (old : Parts D) (mid : Ledger D) (journal : mid.journal ≡ old.ledger.journal) (entries : mid.books.history ≡ old.ledger.books.history) (place : mid.books.place ≡ old.ledger.books.place) where
-  abbrev asked : Parts D
-  asked = record { ledger = mid; pages = old.pages }
+  abbrev pub parts_then : Parts D
+  parts_then = record { ledger = mid; pages = old.pages }
 
   -- What the images show that are left by a new ledger.
   abbrev Shown : List Change → Ledger D → Seen D → List Entry → Option ℕ → Type 0
@@ -78,7 +91,7 @@ module _ {D : Type 0} (w : DiskWords D) (f : Fixed D) (old : Parts D) (mid : Led
         (subst (λ (j : Seen D). Shown all new j mid.books.history mid.books.place) journal (way.shown t)));
   }
 
-  pub acted-before : (new : Parts D) (calls : List Entry) (c : Call) (before after : WorkingCopy) (done : Acted) → HasActed w f asked new calls c before after done → HasActed w f old new calls c before after done
+  pub acted-before : (new : Parts D) (calls : List Entry) (c : Call) (before after : WorkingCopy) (done : Acted) → HasActed w f parts_then new calls c before after done → HasActed w f old new calls c before after done
   acted-before new calls c before after done acted = record {
     held = acted.held;
     acted = subst (λ (h : List Entry). IsActed w.tells f.opening h calls c done.reply new.ledger.books.history) entries acted.acted;
@@ -89,7 +102,7 @@ module _ {D : Type 0} (w : DiskWords D) (f : Fixed D) (old : Parts D) (mid : Led
     way = way-before _ new.ledger acted.way;
   }
 
-  pub alone-before : (new : Parts D) → IsLeftAlone w f asked new → IsLeftAlone w f old new
+  pub alone-before : (new : Parts D) → IsLeftAlone w f parts_then new → IsLeftAlone w f old new
   alone-before new alone = record { held = alone.held; entries = alone.entries ∙ entries; way = way-before _ new.ledger alone.way }
 
   -- ---- and what is asked of it then
@@ -110,10 +123,10 @@ module _ {D : Type 0} (w : DiskWords D) (f : Fixed D) (old : Parts D) (mid : Led
         evictions = subst AreEvictions (sym clearing) ready.evictions;
       })
 
-  pub whole-now : (recorded : Built) → AreHeldWhole w f recorded mid old.pages → AreHandlesWhole f.opening old.ledger.books.history → HaveWholeHandles w asked
+  pub whole-now : (recorded : Built) → AreHeldWhole w f recorded mid old.pages → AreHandlesWhole f.opening old.ledger.books.history → HaveWholeHandles w parts_then
   whole-now recorded are whole = record { fixed = f; recorded = recorded; are = are; whole = subst (AreHandlesWhole f.opening) (sym entries) whole }
 
-  pub alone-now : (recorded : Built) → BooksShowTheirImages w → AreHeldWhole w f recorded old.ledger old.pages → AreHeldWhole w f recorded mid old.pages → mid.books.state.store.prepared.place ≡ None → IsLeftAlone w f old asked
+  pub alone-now : (recorded : Built) → BooksShowTheirImages w → AreHeldWhole w f recorded old.ledger old.pages → AreHeldWhole w f recorded mid old.pages → mid.books.state.store.prepared.place ≡ None → IsLeftAlone w f old parts_then
   alone-now recorded rest are held idle = record {
     held = record { recorded = recorded; are = held; idle = idle };
     entries = entries;
