@@ -1,5 +1,5 @@
-pub mod Acting
 pub mod Apart
 pub mod Begun
+pub mod Called
 pub mod Shown
 pub mod Tags

@@ -17,10 +17,10 @@ use Rattle.opfs_desk_parts.specs.declared.parts.Parts.{Parts}
 use Rattle.opfs_desk_reads.specs.Handles.{HandlesGoOn}
 use Rattle.opfs_desk.specs.Resting.{IsAtRest}
 
-module _ {D : Type 0} (w : DiskWords D) (f : Fixed D) (old new : Parts D) (calls : List Entry) (c : Call) (work : WorkingCopy) (past : List Text) (rest : IsAtRest w f old) (may : MayAct w.tells f.opening old.ledger.books.history calls c work past) where
-  pub is-called : IsCalled w f old calls c work past
-  is-called = record { held = rest.held; whole = rest.whole; may = may }
+pub is-called : {D : Type 0} (w : DiskWords D) (f : Fixed D) (old : Parts D) (calls : List Entry) (c : Call) (work : WorkingCopy) (past : List Text) → IsAtRest w f old → MayAct w.tells f.opening old.ledger.books.history calls c work past → IsCalled w f old calls c work past
+is-called w f old calls c work past rest may = record { held = rest.held; whole = rest.whole; may = may }
 
+module _ {D : Type 0} (w : DiskWords D) (f : Fixed D) (old new : Parts D) (calls : List Entry) (c : Call) (work : WorkingCopy) (past : List Text) (rest : IsAtRest w f old) (may : MayAct w.tells f.opening old.ledger.books.history calls c work past) where
   pub rests-acted : HandlesGoOn w.tells → (after : WorkingCopy) (done : Acted) → HasActed w f old new calls c work after done → IsAtRest w f new
   rests-acted go after done has = record {
     held = has.held;
