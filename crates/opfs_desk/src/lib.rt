@@ -6,9 +6,9 @@ mod acting;
 mod desk;
 mod ending;
 mod making;
-mod serving;
 mod showing;
+mod standing;
 mod waiting;
 
 pub use desk::Desk;
-pub use serving::Opened;
+pub use standing::Opened;
