@@ -1,5 +1,5 @@
 -- A call over parts in which only what stands ready is another.
-use Rattle.std.proofs.Common.{◌≡◌, ℕ, ◌≤◌, Bool, if◌then◌else◌, List, [], ◌++◌, Option, None, Ok, Err, refl, sym, ap, ◌∙◌, subst}
+use Rattle.std.proofs.Common.{◌≡◌, ℕ, ◌≤◌, if◌then◌else◌, List, [], ◌++◌, Option, None, Ok, Err, sym, ap, ◌∙◌, subst}
 use Rattle.opfs_acts.specs.Acting.{IsActed, IsGift, HasFaultOnlyIfRose}
 use Rattle.opfs_acts.specs.Asking.{MayAct}
 use Rattle.opfs_acts.specs.declared.acted.Acted.{Acted}
@@ -28,7 +28,7 @@ use Rattle.opfs_desk_asks.specs.declared.asked.Asked.TheVariants as asked
 use Rattle.opfs_desk_asks.specs.declared.asked.Readied.{Readied}
 use Rattle.opfs_desk_asks.proofs.Same.{same-held, with_state}
 use Rattle.opfs_desk_laws.specs.Handles.{AreHandlesWhole}
-use Rattle.opfs_desk_parts.specs.Acted.{HasActed, IsUnacted, IsWay, IsWayNow}
+use Rattle.opfs_desk_parts.specs.Acted.{HasActed, IsUnacted, IsWay}
 use Rattle.opfs_desk_parts.specs.Asked.{AreEvictions, IsAsked}
 use Rattle.opfs_desk_parts.specs.Held.{AreHeldWhole}
 use Rattle.opfs_desk_parts.specs.Seen.{call_in, units_in}

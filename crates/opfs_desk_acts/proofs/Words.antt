@@ -1,5 +1,5 @@
 -- Which kind a call is of, word by word.
-use Rattle.std.proofs.Common.{◌≡◌, ℕ, Bool, true, false, not, ◌&&◌, cond, [], Option, Some, None, option_map, is_some, refl, sym, ap, ◌∙◌, arith}
+use Rattle.std.proofs.Common.{◌≡◌, ℕ, Bool, true, false, not, ◌&&◌, cond, [], Option, Some, None, option_map, is_some, refl, sym, ap, ◌∙◌}
 use Rattle.std.proofs.lemmas.Bool.{false≢true}
 use Rattle.opfs_acts.specs.Acting.{always_acts}
 use Rattle.opfs_base.specs.Measures.{mode_charge}
@@ -23,7 +23,6 @@ use Rattle.opfs_machine.specs.declared.state.Row.{Row}
 use Rattle.opfs_machine.specs.Agents.{agent_of}
 use Rattle.opfs_machine.specs.Histories.{writes_in}
 use Rattle.opfs_machine.specs.Rows.{row_at}
-use Rattle.opfs_machine.specs.Rulings.{is_read_write}
 use Rattle.opfs_machine.specs.Sums.{is_persistent}
 use Rattle.opfs_standing.specs.Seen.{Machine}
 use Rattle.opfs_desk_acts.specs.Kinds.{IsOfKind}

@@ -1,4 +1,3 @@
-use Rattle.opfs_desk_parts.specs.Seen.{machine_in}
 use Rattle.opfs_desk_acts.proofs.Handles.{has-handle}
 use Rattle.opfs_desk_acts.proofs.acting.act_asked.Goals as goal
 
