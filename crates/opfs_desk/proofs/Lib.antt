@@ -1,4 +1,5 @@
 pub mod Apart
 pub mod Begun
+pub mod Called
 pub mod Shown
 pub mod Tags

@@ -1,3 +1,5 @@
 pub mod Apart
+pub mod Resting
 pub mod Seen
+pub mod Passing
 pub mod Ending

@@ -2,10 +2,13 @@
 //! stands for a front of what its calls changed.
 #![tactic(auto)]
 
+mod acting;
 mod desk;
 mod ending;
 mod making;
 mod showing;
+mod standing;
 mod waiting;
 
 pub use desk::Desk;
+pub use standing::Opened;

@@ -1,0 +1,4 @@
+pub mod Words
+pub mod Handles
+pub mod Plain
+pub mod Calls

@@ -1,0 +1,39 @@
+-- A call that is asked for over parts that are kept as between calls, and what want of memory leaves of them. This project's own.
+use Rattle.std.specs.Prelude.{◌≡◌, List, None}
+use Rattle.opfs_acts.specs.Asking.{MayAct}
+use Rattle.opfs_base.specs.Texts.{Text}
+use Rattle.opfs_book_laws.specs.Books.{Fixed}
+use Rattle.opfs_desk_laws.specs.Handles.{AreHandlesWhole}
+use Rattle.opfs_desk_parts.specs.Acted.{IsWayNow}
+use Rattle.opfs_desk_parts.specs.Held.{AreHeld}
+use Rattle.opfs_desk_parts.specs.Seen.{machine_in, tree_in}
+use Rattle.opfs_desk_parts.specs.declared.parts.Ledger.{Ledger}
+use Rattle.opfs_desk_parts.specs.declared.parts.Parts.{Parts}
+use Rattle.opfs_hist.specs.declared.entry.Entry.{Entry}
+use Rattle.opfs_machine.specs.Runs.{Call}
+use Rattle.opfs_outside.specs.declared.disk.Disk.{Ghosts as DiskWords}
+use Rattle.opfs_work.specs.Works.{WorkingCopy}
+
+-- All parts are kept as between calls, each page of each open access handle is one that the store tells, and the call may be made
+-- after the history and its agent's pending calls.
+pub record IsCalled {D : Type 0} (w : DiskWords D) (f : Fixed D) (p : Parts D) (calls : List Entry) (c : Call) (work : WorkingCopy) (past : List Text) : Type 0 where
+  pub held : AreHeld w f p
+  pub whole : AreHandlesWhole f.opening p.ledger.books.history
+  pub may : MayAct w.tells f.opening p.ledger.books.history calls c work past
+
+pub record MayCall {D : Type 0} (w : DiskWords D) (p : Parts D) (calls : List Entry) (c : Call) (work : WorkingCopy) (past : List Text) : Type 0 where
+  pub fixed : Fixed D
+  pub called : IsCalled w fixed p calls c work past
+
+-- There was no memory: nothing was entered, and nothing stands ready; the disk may have been read.
+pub record IsLeftAlone {D : Type 0} (w : DiskWords D) (f : Fixed D) (old new : Parts D) : Type 0 where
+  pub held : AreHeld w f new
+  pub entries : new.ledger.books.history ≡ old.ledger.books.history
+  pub way : IsWayNow w f old.ledger new.ledger
+
+-- Nothing stands ready for a call any more; all else is as before.
+pub record HasNoneReady {D : Type 0} (old new : Ledger D) : Type 0 where
+  pub machine : machine_in new ≡ machine_in old
+  pub tree : tree_in new ≡ tree_in old
+  pub idle : new.books.state.store.prepared.place ≡ None
+  pub rest : new ≡ record old { books = record old.books { state = new.books.state } }

@@ -1,0 +1,99 @@
+//! A call from its words to its entry.
+
+ghost use Rattle.std.specs.Prelude.{◌≡◌, true, [], IfOk, OnOk, OnErr, IsTrue, is_ok};
+ghost use Rattle.opfs_acts.specs.Acting.{IsSameCopy, always_acts};
+ghost use Rattle.opfs_book_laws.specs.Books.{Fixed};
+ghost use Rattle.opfs_desk_acts.specs.Calling.{HasNoneReady, IsCalled, IsLeftAlone, MayCall};
+ghost use Rattle.opfs_desk_laws.specs.Handles.{AreHandlesWhole};
+ghost use Rattle.opfs_desk_parts.specs.Acted.{HasActed};
+ghost use Rattle.opfs_desk_parts.specs.Asked.{IsAsked, MayGo};
+ghost use Rattle.opfs_desk_parts.specs.Held.{AreHeldWhole};
+ghost use Rattle.opfs_desk_parts.specs.Seen.{call_in};
+ghost use Rattle.opfs_desk_reads.specs.Reading.{HaveWholeHandles};
+ghost use Rattle.opfs_replay.specs.Built.{Built};
+
+use crate::acting::act_asked;
+use opfs_acts::Acted;
+use opfs_base::Name;
+use opfs_book_laws::the_books_show_their_images;
+use opfs_desk_asks::{Asked, Readied, ask_call};
+use opfs_desk_parts::{InHand, Ledger, Parts};
+use opfs_desk_plain::act_refused;
+use opfs_hist::{Op, Pending, Room};
+use opfs_outside::Disk;
+use opfs_work::Work;
+use std::alloc::AllocError;
+
+// Nothing stands ready any more.
+fn cancel<D: Disk>(ledger: &mut Ledger<D>)
+    ensures { HasNoneReady ledger.old ledger.new }
+{
+    ledger.books.state.cancel();
+}
+
+// Acts a call for which all stands ready; where there is no memory nothing stands ready afterwards.
+fn act_or_cancel<D: Disk>(
+    parts: &mut Parts<D>,
+    call: InHand,
+    pending: &mut Pending,
+    work: &mut Work,
+    past: &[Name],
+) -> Result<Acted, AllocError>
+    requires go { MayGo D.Disk parts.old call pending.old work.old past.now }
+    requires whole { HaveWholeHandles D.Disk parts.old }
+    ensures acted { IfOk result (λ acted. (f : Fixed D) (recorded : Built) → AreHeldWhole D.Disk f recorded parts.old.ledger parts.old.pages → AreHandlesWhole f.opening parts.old.ledger.books.history
+        → IsAsked D.tells f.opening parts.old.ledger.books.history pending.old parts.old.ledger.books.state call work.old past.now
+        → HasActed D.Disk f parts.old parts.new pending.old (call_in call) work.old work.new acted) }
+    ensures taken { OnOk result (pending.new ≡ []) }
+    ensures unacted { OnErr result ((pending.new ≡ pending.old) × IsSameCopy work.old work.new) }
+    ensures alone { OnErr result ((f : Fixed D) (recorded : Built) → AreHeldWhole D.Disk f recorded parts.old.ledger parts.old.pages → IsLeftAlone D.Disk f parts.old parts.new) }
+    ensures ends { always_acts call.op ≡ true → IsTrue (is_ok result) }
+{
+    match act_asked(parts, call, pending, work, past) {
+        Ok(acted) => Ok(acted),
+        Err(error) => {
+            cancel(&mut parts.ledger);
+            Err(error)
+        }
+    }
+}
+
+/// Makes one shared call of an agent: judges it, takes in the agent's pending calls, clears units where it needs room, and enters it
+/// with its reply. Where there is no memory nothing is entered and nothing stands ready; abort, discard and end take none.
+pub fn act_call<D: Disk>(
+    parts: &mut Parts<D>,
+    agent: u32,
+    number: u32,
+    pending: &mut Pending,
+    room: Room,
+    op: Op,
+    work: &mut Work,
+    past: &[Name],
+) -> Result<Acted, AllocError>
+    requires may { MayCall D.Disk parts.old pending.old (record { agent = agent; number = number; op = op }) work.old past.now }
+    ensures acted { IfOk result (λ acted. (f : Fixed D) → IsCalled D.Disk f parts.old pending.old (record { agent = agent; number = number; op = op }) work.old past.now
+        → HasActed D.Disk f parts.old parts.new pending.old (record { agent = agent; number = number; op = op }) work.old work.new acted) }
+    ensures taken { OnOk result (pending.new ≡ []) }
+    ensures unacted { OnErr result ((pending.new ≡ pending.old) × IsSameCopy work.old work.new) }
+    ensures alone { OnErr result ((f : Fixed D) → IsCalled D.Disk f parts.old pending.old (record { agent = agent; number = number; op = op }) work.old past.now → IsLeftAlone D.Disk f parts.old parts.new) }
+    ensures ends { always_acts op ≡ true → IsTrue (is_ok result) }
+{
+    the_books_show_their_images::<D>();
+    match ask_call(&mut parts.ledger, agent, &op, pending, work) {
+        Ok(Asked::Refused(refusal)) => Ok(act_refused(
+            parts, room, agent, number, op, refusal, pending,
+        )),
+        Ok(Asked::Ready(Readied { sizes, clearing })) => {
+            let call = InHand {
+                room,
+                agent,
+                number,
+                op,
+                sizes,
+                clearing,
+            };
+            Ok(act_or_cancel(parts, call, pending, work, past)?)
+        }
+        Err(error) => Err(error),
+    }
+}
