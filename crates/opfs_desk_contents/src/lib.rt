@@ -11,3 +11,5 @@ mod storing;
 mod words;
 
 pub use laws::stored_contents_keep_blocks_right;
+pub use pages::store_pages;
+pub use planning::{Plan, plan_content};

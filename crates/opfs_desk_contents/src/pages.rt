@@ -75,7 +75,7 @@ fn collect(
 
 /// Puts a row's pages, and stores its content with the call's entry; gives the runs of its blocks. Where the disk fails, the call is
 /// entered so, and the row's bytes stay.
-pub(crate) fn store_pages<D: Disk>(
+pub fn store_pages<D: Disk>(
     parts: &mut Parts<D>,
     last: Last,
     sizes: Sizes,

@@ -31,7 +31,7 @@ use std::alloc::{AllocError, Global};
 /// What a call stores of a row: its pages with all memory, its file, and room for the runs of its blocks, once for the change and
 /// once for the file.
 #[derive(Drop)]
-pub(crate) struct Plan {
+pub struct Plan {
     pub put: Put,
     pub place: Place,
     pub runs: Vec<Extent>,
@@ -61,7 +61,7 @@ fn room_for(alloc: Global, count: u64) -> Result<Vec<Extent>, AllocError>
 }
 
 /// Plans what a call stores of a row. It has all memory and all reads, and the blocks where enough are free. Nothing is written.
-pub(crate) fn plan_content<D: Disk>(
+pub fn plan_content<D: Disk>(
     parts: &mut Parts<D>,
     agent: u32,
     row: u32,
