@@ -26,7 +26,10 @@ use Rattle.opfs_machine.specs.Rows.{row_at}
 use Rattle.opfs_machine.specs.Sums.{is_persistent}
 use Rattle.opfs_standing.specs.Seen.{Machine}
 use Rattle.opfs_desk_acts.specs.Kinds.{IsOfKind}
-use Rattle.opfs_desk_acts.specs.Stubs.{flushes_nothing, gives_among, gives_mode, is_estimate, puts_row, stores_row}
+use Rattle.opfs_desk_contents.specs.Words.{flushes_nothing, stores_row}
+use Rattle.opfs_desk_grants.specs.Estimating.{is_estimate}
+use Rattle.opfs_desk_grants.specs.Granting.{gives_among, gives_mode}
+use Rattle.opfs_desk_rows.specs.Puts.{puts_row}
 use Rattle.opfs_desk_acts.specs.declared.kinds.CallKind.{CallKind}
 use Rattle.opfs_desk_acts.specs.declared.kinds.CallKind.TheVariants as kind
 

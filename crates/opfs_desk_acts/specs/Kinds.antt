@@ -1,6 +1,9 @@
 -- Which kind of call a call is, by its word and by what is there before its agent's pending calls. This project's own.
 use Rattle.std.specs.Prelude.{◌≡◌, ℕ, Bool, true, is_some}
-use Rattle.opfs_desk_acts.specs.Stubs.{flushes_nothing, gives_mode, is_estimate, puts_row, stores_row}
+use Rattle.opfs_desk_contents.specs.Words.{flushes_nothing, stores_row}
+use Rattle.opfs_desk_grants.specs.Estimating.{is_estimate}
+use Rattle.opfs_desk_grants.specs.Granting.{gives_among, gives_mode}
+use Rattle.opfs_desk_rows.specs.Puts.{puts_row}
 use Rattle.opfs_desk_acts.specs.declared.kinds.CallKind.{CallKind}
 use Rattle.opfs_desk_acts.specs.declared.kinds.CallKind.TheVariants as kind
 use Rattle.opfs_desk_ends.specs.Leaving.{leaves_row}

@@ -1,3 +1,2 @@
-pub mod Stubs
 pub mod Kinds
 pub mod Calling

@@ -14,15 +14,17 @@ ghost use Rattle.opfs_desk_steps.specs.Ready.{AskedCallsAreReady};
 ghost use Rattle.opfs_lengths.specs.Bridge.{LengthsFollowEachCall, LocalCallsAreKnownByTheirWord};
 ghost use Rattle.opfs_replay.specs.Built.{Built};
 
+use crate::contents::Contents;
 use crate::kinds::{CallKind, kind_of};
-use crate::stubs::{act_content, act_estimate, act_idle_flush, act_persist, act_put};
 use opfs_acts::Acted;
 use opfs_base::Name;
 use opfs_desk_ends::act_leave;
+use opfs_desk_grants::{act_estimate, act_persist};
 use opfs_desk_kept::act_kept;
 use opfs_desk_opens::act_open;
 use opfs_desk_parts::{InHand, Parts};
 use opfs_desk_plain::{act_mode, act_next, act_told};
+use opfs_desk_puts::act_put;
 use opfs_desk_reads::{act_get_file, act_sync_read};
 use opfs_desk_steps::asked_calls_are_ready;
 use opfs_hist::Pending;
@@ -43,7 +45,7 @@ fn asking_laws<D: Disk>()
 }
 
 // Acts a call of a kind.
-fn act_as<D: Disk>(
+fn act_as<D: Disk, C: Contents<D>>(
     kind: CallKind,
     parts: &mut Parts<D>,
     call: InHand,
@@ -67,21 +69,21 @@ fn act_as<D: Disk>(
         CallKind::Asked => Ok(act_mode(parts, call, pending, work)?),
         CallKind::Given => Ok(act_persist(parts, call, pending, work)?),
         CallKind::Next => Ok(act_next(parts, call, pending, work, past)?),
-        CallKind::Estimate => Ok(act_estimate(parts, call, pending, work)?),
+        CallKind::Estimate => Ok(act_estimate(parts, call, pending, work)),
         CallKind::Kept => Ok(act_kept(parts, call, pending, work)?),
         CallKind::GetFile => Ok(act_get_file(parts, call, pending, work)?),
         CallKind::Opened => Ok(act_open(parts, call, pending, work)?),
         CallKind::Put => Ok(act_put(parts, call, pending, work)?),
         CallKind::SyncRead => Ok(act_sync_read(parts, call, pending, work)?),
-        CallKind::Stored => Ok(act_content(parts, call, pending, work)?),
-        CallKind::Idle => Ok(act_idle_flush(parts, call, pending, work)?),
+        CallKind::Stored => Ok(C::act_content(parts, call, pending, work)?),
+        CallKind::Idle => Ok(C::act_idle_flush(parts, call, pending, work)?),
         CallKind::Left => Ok(act_leave(parts, call, pending, work)),
     }
 }
 
 /// Acts a call that is not refused, and for which all of the shared state stands ready: takes in its agent's pending calls, clears
 /// its units, and enters it. Where there is no memory nothing is entered; abort, discard and end take none.
-pub fn act_asked<D: Disk>(
+pub fn act_asked<D: Disk, C: Contents<D>>(
     parts: &mut Parts<D>,
     call: InHand,
     pending: &mut Pending,
@@ -100,5 +102,5 @@ pub fn act_asked<D: Disk>(
 {
     asking_laws::<D>();
     let kind = kind_of(&parts.ledger.books.state, call.agent, &call.op);
-    act_as(kind, parts, call, pending, work, past)
+    act_as::<D, C>(kind, parts, call, pending, work, past)
 }

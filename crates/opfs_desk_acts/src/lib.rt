@@ -3,8 +3,9 @@
 
 mod acting;
 mod calling;
+mod contents;
 mod kinds;
-mod stubs;
 
 pub use acting::act_asked;
 pub use calling::act_call;
+pub use contents::Contents;
