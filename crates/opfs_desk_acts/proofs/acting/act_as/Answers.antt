@@ -17,7 +17,7 @@ act_told-requires-clause-only g c κs within = (as-kind _ kind.Told (machine_in 
 
 pub returns-in-Told-clause-acted : goal.returns-in-Told-clause-acted
 returns-in-Told-clause-acted g c f recorded held whole asked =
-    c.act_told.ensures.acted f recorded held 
+    c.act_told.ensures.acted f recorded held
     (plain-asked g.D.Disk.tells f.opening c.args.parts.now.ledger.books.history c.args.pending.now c.args.parts.now.ledger.books.state c.args.call c.args.work.now c.args.past.now (other-kind kind.Told (machine_in c.args.parts.now.ledger) c.args.call.agent c.args.call.op refl (as-kind _ kind.Told (machine_in c.args.parts.now.ledger) c.args.call.agent c.args.call.op c.in-Told.is c.requires.word)) asked)
 
 pub act_mode-requires-clause-go : goal.act_mode-requires-clause-go
@@ -32,7 +32,7 @@ act_mode-requires-clause-only g c κs within = (as-kind _ kind.Asked (machine_in
 
 pub returns-in_ok-act_mode-in-Asked-clause-acted : goal.returns-in_ok-act_mode-in-Asked-clause-acted
 returns-in_ok-act_mode-in-Asked-clause-acted g c f recorded held whole asked =
-    c.in_ok-act_mode-in-Asked.ensures.acted f recorded held 
+    c.in_ok-act_mode-in-Asked.ensures.acted f recorded held
     (plain-asked g.D.Disk.tells f.opening c.args.parts.now.ledger.books.history c.args.pending.now c.args.parts.now.ledger.books.state c.args.call c.args.work.now c.args.past.now (other-kind kind.Asked (machine_in c.args.parts.now.ledger) c.args.call.agent c.args.call.op refl (as-kind _ kind.Asked (machine_in c.args.parts.now.ledger) c.args.call.agent c.args.call.op c.in-Asked.is c.requires.word)) asked)
 
 pub returns-in_err-act_mode-in-Asked-clause-ends : goal.returns-in_err-act_mode-in-Asked-clause-ends
@@ -47,7 +47,7 @@ act_persist-requires-clause-word g c κs within = as-kind _ kind.Given (machine_
 
 pub returns-in_ok-act_persist-in-Given-clause-acted : goal.returns-in_ok-act_persist-in-Given-clause-acted
 returns-in_ok-act_persist-in-Given-clause-acted g c f recorded held whole asked =
-    c.in_ok-act_persist-in-Given.ensures.acted f recorded held 
+    c.in_ok-act_persist-in-Given.ensures.acted f recorded held
     (plain-asked g.D.Disk.tells f.opening c.args.parts.now.ledger.books.history c.args.pending.now c.args.parts.now.ledger.books.state c.args.call c.args.work.now c.args.past.now (other-kind kind.Given (machine_in c.args.parts.now.ledger) c.args.call.agent c.args.call.op refl (as-kind _ kind.Given (machine_in c.args.parts.now.ledger) c.args.call.agent c.args.call.op c.in-Given.is c.requires.word)) asked)
 
 pub returns-in_err-act_persist-in-Given-clause-ends : goal.returns-in_err-act_persist-in-Given-clause-ends
@@ -71,7 +71,7 @@ act_estimate-requires-clause-word g c κs within = as-kind _ kind.Estimate (mach
 
 pub returns-in_ok-act_estimate-in-Estimate-clause-acted : goal.returns-in_ok-act_estimate-in-Estimate-clause-acted
 returns-in_ok-act_estimate-in-Estimate-clause-acted g c f recorded held whole asked =
-    c.in_ok-act_estimate-in-Estimate.ensures.acted f recorded held 
+    c.in_ok-act_estimate-in-Estimate.ensures.acted f recorded held
     (plain-asked g.D.Disk.tells f.opening c.args.parts.now.ledger.books.history c.args.pending.now c.args.parts.now.ledger.books.state c.args.call c.args.work.now c.args.past.now (other-kind kind.Estimate (machine_in c.args.parts.now.ledger) c.args.call.agent c.args.call.op refl (as-kind _ kind.Estimate (machine_in c.args.parts.now.ledger) c.args.call.agent c.args.call.op c.in-Estimate.is c.requires.word)) asked)
 
 pub returns-in_err-act_estimate-in-Estimate-clause-ends : goal.returns-in_err-act_estimate-in-Estimate-clause-ends
@@ -86,7 +86,7 @@ act_kept-requires-clause-word g c κs within = as-kind _ kind.Kept (machine_in c
 
 pub returns-in_ok-act_kept-in-Kept-clause-acted : goal.returns-in_ok-act_kept-in-Kept-clause-acted
 returns-in_ok-act_kept-in-Kept-clause-acted g c f recorded held whole asked =
-    c.in_ok-act_kept-in-Kept.ensures.acted f recorded held 
+    c.in_ok-act_kept-in-Kept.ensures.acted f recorded held
     (plain-asked g.D.Disk.tells f.opening c.args.parts.now.ledger.books.history c.args.pending.now c.args.parts.now.ledger.books.state c.args.call c.args.work.now c.args.past.now (other-kind kind.Kept (machine_in c.args.parts.now.ledger) c.args.call.agent c.args.call.op refl (as-kind _ kind.Kept (machine_in c.args.parts.now.ledger) c.args.call.agent c.args.call.op c.in-Kept.is c.requires.word)) asked)
 
 pub returns-in_err-act_kept-in-Kept-clause-ends : goal.returns-in_err-act_kept-in-Kept-clause-ends
@@ -101,7 +101,7 @@ act_get_file-requires-clause-word g c κs within = as-kind _ kind.GetFile (machi
 
 pub returns-in_ok-act_get_file-in-GetFile-clause-acted : goal.returns-in_ok-act_get_file-in-GetFile-clause-acted
 returns-in_ok-act_get_file-in-GetFile-clause-acted g c f recorded held whole asked =
-    c.in_ok-act_get_file-in-GetFile.ensures.acted f recorded held whole 
+    c.in_ok-act_get_file-in-GetFile.ensures.acted f recorded held whole
     (plain-asked g.D.Disk.tells f.opening c.args.parts.now.ledger.books.history c.args.pending.now c.args.parts.now.ledger.books.state c.args.call c.args.work.now c.args.past.now (other-kind kind.GetFile (machine_in c.args.parts.now.ledger) c.args.call.agent c.args.call.op refl (as-kind _ kind.GetFile (machine_in c.args.parts.now.ledger) c.args.call.agent c.args.call.op c.in-GetFile.is c.requires.word)) asked)
 
 pub returns-in_err-act_get_file-in-GetFile-clause-ends : goal.returns-in_err-act_get_file-in-GetFile-clause-ends
@@ -116,7 +116,7 @@ act_open-requires-clause-word g c κs within = as-kind _ kind.Opened (machine_in
 
 pub returns-in_ok-act_open-in-Opened-clause-acted : goal.returns-in_ok-act_open-in-Opened-clause-acted
 returns-in_ok-act_open-in-Opened-clause-acted g c f recorded held whole asked =
-    c.in_ok-act_open-in-Opened.ensures.acted f recorded held 
+    c.in_ok-act_open-in-Opened.ensures.acted f recorded held
     (plain-asked g.D.Disk.tells f.opening c.args.parts.now.ledger.books.history c.args.pending.now c.args.parts.now.ledger.books.state c.args.call c.args.work.now c.args.past.now (other-kind kind.Opened (machine_in c.args.parts.now.ledger) c.args.call.agent c.args.call.op refl (as-kind _ kind.Opened (machine_in c.args.parts.now.ledger) c.args.call.agent c.args.call.op c.in-Opened.is c.requires.word)) asked)
 
 pub returns-in_err-act_open-in-Opened-clause-ends : goal.returns-in_err-act_open-in-Opened-clause-ends
@@ -131,7 +131,7 @@ act_put-requires-clause-word g c κs within = as-kind _ kind.Put (machine_in c.a
 
 pub returns-in_ok-act_put-in-Put-clause-acted : goal.returns-in_ok-act_put-in-Put-clause-acted
 returns-in_ok-act_put-in-Put-clause-acted g c f recorded held whole asked =
-    c.in_ok-act_put-in-Put.ensures.acted f recorded held 
+    c.in_ok-act_put-in-Put.ensures.acted f recorded held
     (plain-asked g.D.Disk.tells f.opening c.args.parts.now.ledger.books.history c.args.pending.now c.args.parts.now.ledger.books.state c.args.call c.args.work.now c.args.past.now (other-kind kind.Put (machine_in c.args.parts.now.ledger) c.args.call.agent c.args.call.op refl (as-kind _ kind.Put (machine_in c.args.parts.now.ledger) c.args.call.agent c.args.call.op c.in-Put.is c.requires.word)) asked)
 
 pub returns-in_err-act_put-in-Put-clause-ends : goal.returns-in_err-act_put-in-Put-clause-ends
@@ -146,7 +146,7 @@ act_sync_read-requires-clause-word g c κs within = as-kind _ kind.SyncRead (mac
 
 pub returns-in_ok-act_sync_read-in-SyncRead-clause-acted : goal.returns-in_ok-act_sync_read-in-SyncRead-clause-acted
 returns-in_ok-act_sync_read-in-SyncRead-clause-acted g c f recorded held whole asked =
-    c.in_ok-act_sync_read-in-SyncRead.ensures.acted f recorded held whole 
+    c.in_ok-act_sync_read-in-SyncRead.ensures.acted f recorded held whole
     (plain-asked g.D.Disk.tells f.opening c.args.parts.now.ledger.books.history c.args.pending.now c.args.parts.now.ledger.books.state c.args.call c.args.work.now c.args.past.now (other-kind kind.SyncRead (machine_in c.args.parts.now.ledger) c.args.call.agent c.args.call.op refl (as-kind _ kind.SyncRead (machine_in c.args.parts.now.ledger) c.args.call.agent c.args.call.op c.in-SyncRead.is c.requires.word)) asked)
 
 pub returns-in_err-act_sync_read-in-SyncRead-clause-ends : goal.returns-in_err-act_sync_read-in-SyncRead-clause-ends
@@ -161,7 +161,7 @@ act_content-requires-clause-word g c κs within = as-kind _ kind.Stored (machine
 
 pub returns-in_ok-act_content-in-Stored-clause-acted : goal.returns-in_ok-act_content-in-Stored-clause-acted
 returns-in_ok-act_content-in-Stored-clause-acted g c f recorded held whole asked =
-    c.in_ok-act_content-in-Stored.ensures.acted f recorded held 
+    c.in_ok-act_content-in-Stored.ensures.acted f recorded held
     (plain-asked g.D.Disk.tells f.opening c.args.parts.now.ledger.books.history c.args.pending.now c.args.parts.now.ledger.books.state c.args.call c.args.work.now c.args.past.now (other-kind kind.Stored (machine_in c.args.parts.now.ledger) c.args.call.agent c.args.call.op refl (as-kind _ kind.Stored (machine_in c.args.parts.now.ledger) c.args.call.agent c.args.call.op c.in-Stored.is c.requires.word)) asked)
 
 pub returns-in_err-act_content-in-Stored-clause-ends : goal.returns-in_err-act_content-in-Stored-clause-ends
@@ -176,7 +176,7 @@ act_idle_flush-requires-clause-word g c κs within = as-kind _ kind.Idle (machin
 
 pub returns-in_ok-act_idle_flush-in-Idle-clause-acted : goal.returns-in_ok-act_idle_flush-in-Idle-clause-acted
 returns-in_ok-act_idle_flush-in-Idle-clause-acted g c f recorded held whole asked =
-    c.in_ok-act_idle_flush-in-Idle.ensures.acted f recorded held 
+    c.in_ok-act_idle_flush-in-Idle.ensures.acted f recorded held
     (plain-asked g.D.Disk.tells f.opening c.args.parts.now.ledger.books.history c.args.pending.now c.args.parts.now.ledger.books.state c.args.call c.args.work.now c.args.past.now (other-kind kind.Idle (machine_in c.args.parts.now.ledger) c.args.call.agent c.args.call.op refl (as-kind _ kind.Idle (machine_in c.args.parts.now.ledger) c.args.call.agent c.args.call.op c.in-Idle.is c.requires.word)) asked)
 
 pub returns-in_err-act_idle_flush-in-Idle-clause-ends : goal.returns-in_err-act_idle_flush-in-Idle-clause-ends
@@ -191,5 +191,5 @@ act_leave-requires-clause-word g c κs within = as-kind _ kind.Left (machine_in 
 
 pub returns-in-Left-clause-acted : goal.returns-in-Left-clause-acted
 returns-in-Left-clause-acted g c f recorded held whole asked =
-    c.act_leave.ensures.acted f recorded held 
+    c.act_leave.ensures.acted f recorded held
     (plain-asked g.D.Disk.tells f.opening c.args.parts.now.ledger.books.history c.args.pending.now c.args.parts.now.ledger.books.state c.args.call c.args.work.now c.args.past.now (other-kind kind.Left (machine_in c.args.parts.now.ledger) c.args.call.agent c.args.call.op refl (as-kind _ kind.Left (machine_in c.args.parts.now.ledger) c.args.call.agent c.args.call.op c.in-Left.is c.requires.word)) asked)
