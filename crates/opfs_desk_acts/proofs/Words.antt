@@ -10,26 +10,24 @@ use Rattle.opfs_base.specs.declared.locator.Kind.{Kind}
 use Rattle.opfs_base.specs.declared.locator.Kind.TheVariants as sort
 use Rattle.opfs_base.specs.declared.locator.Locator.{Locator}
 use Rattle.opfs_changes.specs.Asking.{free_in, growth_of, made_at, makes_row, mode_growth, root_in, root_place, row_growth, target_of, where_free}
-use Rattle.opfs_desk_ends.specs.Leaving.{is_reader, leaves_row}
+use Rattle.opfs_desk_contents.specs.Words.{flushes_nothing, stores_row}
+use Rattle.opfs_desk_ends.specs.Leaving.{leaves_row}
+use Rattle.opfs_desk_grants.specs.Estimating.{is_estimate}
+use Rattle.opfs_desk_grants.specs.Granting.{gives_among, gives_mode}
 use Rattle.opfs_desk_kept.specs.Keeping.{keeps_back, makes_root}
 use Rattle.opfs_desk_plain.specs.Next.{is_next}
 use Rattle.opfs_desk_plain.specs.Telling.{is_done, is_of_mode}
 use Rattle.opfs_desk_reads.specs.Words.{gets_file, reads_row}
 use Rattle.opfs_desk_rows.specs.Opens.{opens_row}
+use Rattle.opfs_desk_rows.specs.Puts.{puts_row}
 use Rattle.opfs_hist.specs.declared.op.Op.{Op}
 use Rattle.opfs_hist.specs.declared.op.Op.TheVariants as op
-use Rattle.opfs_machine.specs.declared.own.HandleOutline.{HandleOutline}
 use Rattle.opfs_machine.specs.declared.state.Row.{Row}
 use Rattle.opfs_machine.specs.Agents.{agent_of}
-use Rattle.opfs_machine.specs.Histories.{writes_in}
 use Rattle.opfs_machine.specs.Rows.{row_at}
 use Rattle.opfs_machine.specs.Sums.{is_persistent}
 use Rattle.opfs_standing.specs.Seen.{Machine}
 use Rattle.opfs_desk_acts.specs.Kinds.{IsOfKind}
-use Rattle.opfs_desk_contents.specs.Words.{flushes_nothing, stores_row}
-use Rattle.opfs_desk_grants.specs.Estimating.{is_estimate}
-use Rattle.opfs_desk_grants.specs.Granting.{gives_among, gives_mode}
-use Rattle.opfs_desk_rows.specs.Puts.{puts_row}
 use Rattle.opfs_desk_acts.specs.declared.kinds.CallKind.{CallKind}
 use Rattle.opfs_desk_acts.specs.declared.kinds.CallKind.TheVariants as kind
 
@@ -97,12 +95,6 @@ given-by m true bucket (Some origin) some = not-there (is_persistent m (unit_of 
 pub mode-given : (m : Machine) (k : ℕ) (bucket : Text) → (growth_of m k (op.Persist bucket) ≡ 0 → ⊥) → IsOfKind kind.Given m k (op.Persist bucket)
 unfolding growth_of target_of
 mode-given m k bucket some = given-by m (agent_of m k).grant bucket (agent_of m k).key some
-
--- ---- an access handle that only reads
-
-pub reads-only : (h : Option HandleOutline) → is_some h ≡ true → writes_in h ≡ false → is_reader h ≡ true
-reads-only None there is = absurd (false≢true there)
-reads-only (Some h) there is = ap not is
 
 -- ---- only next has names that its iterator has given
 

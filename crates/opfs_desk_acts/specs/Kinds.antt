@@ -1,17 +1,17 @@
 -- Which kind of call a call is, by its word and by what is there before its agent's pending calls. This project's own.
 use Rattle.std.specs.Prelude.{◌≡◌, ℕ, Bool, true, is_some}
-use Rattle.opfs_desk_contents.specs.Words.{flushes_nothing, stores_row}
-use Rattle.opfs_desk_grants.specs.Estimating.{is_estimate}
-use Rattle.opfs_desk_grants.specs.Granting.{gives_among, gives_mode}
-use Rattle.opfs_desk_rows.specs.Puts.{puts_row}
 use Rattle.opfs_desk_acts.specs.declared.kinds.CallKind.{CallKind}
 use Rattle.opfs_desk_acts.specs.declared.kinds.CallKind.TheVariants as kind
+use Rattle.opfs_desk_contents.specs.Words.{flushes_nothing, stores_row}
 use Rattle.opfs_desk_ends.specs.Leaving.{leaves_row}
+use Rattle.opfs_desk_grants.specs.Estimating.{is_estimate}
+use Rattle.opfs_desk_grants.specs.Granting.{gives_mode}
 use Rattle.opfs_desk_kept.specs.Keeping.{keeps_back}
 use Rattle.opfs_desk_plain.specs.Next.{is_next}
 use Rattle.opfs_desk_plain.specs.Telling.{TellsOnly, is_done, is_of_mode}
 use Rattle.opfs_desk_reads.specs.Words.{gets_file, reads_row}
 use Rattle.opfs_desk_rows.specs.Opens.{opens_row}
+use Rattle.opfs_desk_rows.specs.Puts.{puts_row}
 use Rattle.opfs_hist.specs.declared.op.Op.{Op}
 use Rattle.opfs_hist.specs.declared.op.Op.TheVariants as op
 use Rattle.opfs_machine.specs.Agents.{open_handle}

@@ -12,8 +12,8 @@ ghost use Rattle.opfs_desk_parts.specs.Seen.{call_in};
 ghost use Rattle.opfs_desk_reads.specs.Reading.{HaveWholeHandles};
 ghost use Rattle.opfs_replay.specs.Built.{Built};
 
-use crate::contents::Contents;
 use crate::acting::act_asked;
+use crate::contents::Contents;
 use opfs_acts::Acted;
 use opfs_base::Name;
 use opfs_book_laws::the_books_show_their_images;

@@ -4,10 +4,10 @@ ghost use Rattle.std.specs.Prelude.{◌≡◌, true, is_some, IsTrue};
 ghost use Rattle.opfs_acts.specs.Asking.{is_shared};
 ghost use Rattle.opfs_changes.specs.Asking.{makes_row};
 ghost use Rattle.opfs_desk_acts.specs.Kinds.{IsOfKind, has_handle};
+ghost use Rattle.opfs_desk_contents.specs.Words.{may_write};
 ghost use Rattle.opfs_hist.specs.declared.op.Op.TheVariants as op;
 ghost use Rattle.opfs_machine.specs.Agents.{open_handle};
 ghost use Rattle.opfs_machine.specs.Contents.{in_lengths};
-ghost use Rattle.opfs_machine.specs.Histories.{writes_in};
 ghost use Rattle.opfs_state.specs.Applied.{IsPrepared};
 ghost use Rattle.opfs_verdicts.specs.Callers.{IsAgent};
 
@@ -71,7 +71,7 @@ fn kind_of_persist(state: &State, agent: u32, bucket: &Text) -> CallKind
 fn may_write(state: &State, agent: u32, row: u32) -> bool
     requires agent { IsAgent state.now.store.machine agent }
     requires there { is_some (open_handle in_lengths state.now.store.machine agent row) ≡ true }
-    ensures { result ≡ writes_in (open_handle in_lengths state.now.store.machine agent row) }
+    ensures { result ≡ may_write (open_handle in_lengths state.now.store.machine agent row) }
 {
     match state.handle(agent, row) {
         Some(handle) => handle.mode == Mode::ReadWrite,

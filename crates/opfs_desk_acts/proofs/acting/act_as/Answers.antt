@@ -69,13 +69,10 @@ act_estimate-requires-clause-go g c κs within =
 pub act_estimate-requires-clause-word : goal.act_estimate-requires-clause-word
 act_estimate-requires-clause-word g c κs within = as-kind _ kind.Estimate (machine_in c.args.parts.now.ledger) c.args.call.agent c.args.call.op c.in-Estimate.is c.requires.word
 
-pub returns-in_ok-act_estimate-in-Estimate-clause-acted : goal.returns-in_ok-act_estimate-in-Estimate-clause-acted
-returns-in_ok-act_estimate-in-Estimate-clause-acted g c f recorded held whole asked =
-    c.in_ok-act_estimate-in-Estimate.ensures.acted f recorded held
+pub returns-in-Estimate-clause-acted : goal.returns-in-Estimate-clause-acted
+returns-in-Estimate-clause-acted g c f recorded held whole asked =
+    c.act_estimate.ensures.acted f recorded held
     (plain-asked g.D.Disk.tells f.opening c.args.parts.now.ledger.books.history c.args.pending.now c.args.parts.now.ledger.books.state c.args.call c.args.work.now c.args.past.now (other-kind kind.Estimate (machine_in c.args.parts.now.ledger) c.args.call.agent c.args.call.op refl (as-kind _ kind.Estimate (machine_in c.args.parts.now.ledger) c.args.call.agent c.args.call.op c.in-Estimate.is c.requires.word)) asked)
-
-pub returns-in_err-act_estimate-in-Estimate-clause-ends : goal.returns-in_err-act_estimate-in-Estimate-clause-ends
-returns-in_err-act_estimate-in-Estimate-clause-ends g c end = absurd (never-ends kind.Estimate (machine_in c.args.parts.now.ledger) c.args.call.agent c.args.call.op refl (as-kind _ kind.Estimate (machine_in c.args.parts.now.ledger) c.args.call.agent c.args.call.op c.in-Estimate.is c.requires.word) end)
 
 pub act_kept-requires-clause-go : goal.act_kept-requires-clause-go
 act_kept-requires-clause-go g c κs within =
