@@ -5,7 +5,7 @@ use Rattle.opfs_machine.specs.Runs.{Call}
 use Rattle.opfs_desk_parts.specs.Asked.{AreEvictions}
 use Rattle.opfs_desk_parts.specs.Seen.{units_in}
 use Rattle.opfs_desk_parts.specs.declared.call.Clearing.{Clearing}
-use Rattle.opfs_desk_asks.proofs.Endings.{never-refused}
+use Rattle.opfs_desk_asks.proofs.Endings.{never-refused, takes-none}
 use Rattle.opfs_desk_asks.proofs.Judged.{agent, judged-now}
 use Rattle.opfs_desk_asks.proofs.Rows.{sizes-are}
 use Rattle.opfs_desk_asks.proofs.Same.{same-held}
