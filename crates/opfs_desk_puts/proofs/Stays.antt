@@ -38,8 +38,8 @@ use Rattle.opfs_tree.specs.Rows.{Rows as Tree, row_at, without}
 use Rattle.opfs_desk_laws.specs.Open.{if_open, open_at, file_in}
 use Rattle.opfs_desk_laws.specs.Spaced.{AreSpaced}
 use Rattle.opfs_desk_laws.proofs.Holding.{holders_of, are-holders, spaced-blocks}
-use Rattle.opfs_desk_reads.proofs.Present.{file-back}
 use Rattle.opfs_desk_ways.specs.Clearing.{cleared_from}
+use Rattle.opfs_desk_rows.proofs.Opens.{file-back}
 
 -- ---- rows of trees, and of machines
 
