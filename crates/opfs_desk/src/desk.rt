@@ -17,12 +17,12 @@ pub struct Desk<D: Disk> {
 
 impl<D: Disk> Model for Desk<D> {
     ghost use Rattle.opfs_desk.specs.Seen.{DeskSeen};
-    ghost use Rattle.opfs_desk_parts.specs.Held.{AreHeld};
+    ghost use Rattle.opfs_desk.specs.Resting.{IsAtRest};
     ghost use Rattle.opfs_openings.specs.Openings.{fixed_by};
 
     ghost Value = { DeskSeen D };
 
     ghost view = { λ d. record { fixed = fixed_by D.Disk d.from.value d.agents.value.items; parts = d.parts } };
 
-    ghost invariant = { λ d. AreHeld D.Disk (fixed_by D.Disk d.from.value d.agents.value.items) d.parts };
+    ghost invariant = { λ d. IsAtRest D.Disk (fixed_by D.Disk d.from.value d.agents.value.items) d.parts };
 }

@@ -6,6 +6,8 @@ mod desk;
 mod ending;
 mod making;
 mod showing;
+mod standing;
 mod waiting;
 
 pub use desk::Desk;
+pub use standing::Opened;

@@ -9,6 +9,7 @@ use crate::desk::Desk;
 use opfs_base::Extent;
 use opfs_books::Books;
 use opfs_data::Swap;
+use opfs_desk_laws::handles_stay_whole;
 use opfs_desk_parts::{Ledger, Pages, Parts};
 use opfs_hall::Told;
 use opfs_image::Recovered;
@@ -41,6 +42,7 @@ impl<D: Disk> Desk<D> {
     {
         a_recovered_image_opens_a_run(&from);
         first_blocks_are_right();
+        handles_stay_whole();
         let who = Told::of(&agents);
         let told = Told::of(&from);
         let Recovered {

@@ -1,6 +1,7 @@
 //! A call that is judged, and made ready.
 
-ghost use Rattle.std.specs.Prelude.{◌≡◌, ℕ, List, None, IfOk, OnErr};
+ghost use Rattle.std.specs.Prelude.{◌≡◌, ℕ, List, None, IfOk, OnErr, IsTrue, is_ok, true};
+ghost use Rattle.opfs_acts.specs.Acting.{always_acts};
 ghost use Rattle.opfs_acts.specs.Asking.{MayAct};
 ghost use Rattle.opfs_base.specs.Texts.{Text};
 ghost use Rattle.opfs_book_laws.specs.Books.{Fixed};
@@ -11,6 +12,7 @@ ghost use Rattle.opfs_replay.specs.Built.{Built};
 
 use crate::asked::{Asked, Readied};
 use crate::clearings::clearings_for;
+use crate::ending::{always_acts, ask_ending};
 use crate::sizes::sizes_for;
 use opfs_book_laws::state_laws;
 use opfs_desk_parts::Ledger;
@@ -27,7 +29,7 @@ use std::alloc::AllocError;
 
 /// Judges a call as it stands after its agent's pending calls, which are taken in later; and takes the memory for the units that are
 /// cleared for it, and for what it needs of the shared state. Nothing is entered, and no disk is called. Where there is no memory
-/// nothing stands ready.
+/// nothing stands ready; abort, discard and end take none.
 pub fn ask_call<D: Disk>(
     ledger: &mut Ledger<D>,
     agent: u32,
@@ -38,11 +40,13 @@ pub fn ask_call<D: Disk>(
     requires may { MayAsk D.Disk ledger.old pending.now agent op.now work.now }
     ensures journal { ledger.new.journal ≡ ledger.old.journal }
     ensures entries { ledger.new.books.history ≡ ledger.old.books.history }
+    ensures place { ledger.new.books.place ≡ ledger.old.books.place }
     ensures held { (f : Fixed D) (recorded : Built) (p : Pages) → AreHeldWhole D.Disk f recorded ledger.old p → AreHeldWhole D.Disk f recorded ledger.new p }
     ensures asked { IfOk result (λ asked. (f : Fixed D) (recorded : Built) (p : Pages) (number : ℕ) (past : List Text) → AreHeldWhole D.Disk f recorded ledger.old p
         → MayAct D.tells f.opening ledger.old.books.history pending.now (record { agent = agent; number = number; op = op.now }) work.now past
         → IsAskedAs f.opening ledger.old.books.history pending.now ledger.new.books.state agent op.now asked) }
     ensures idle { OnErr result (ledger.new.books.state.store.prepared.place ≡ None) }
+    ensures ends { always_acts op.now ≡ true → IsTrue (is_ok result) }
 {
     state_laws();
     reads_leave_the_state();
@@ -51,6 +55,9 @@ pub fn ask_call<D: Disk>(
     local_calls_are_known_by_their_word();
     notes_decide_nothing();
     calls_are_about_own_units();
+    if always_acts(op) {
+        return Ok(Asked::Ready(ask_ending(ledger, agent, op, pending, work)));
+    }
     let alloc = ledger.alloc;
     let sizes = sizes_for(op, work);
     match ledger.books.state.judge(alloc, agent, op, sizes)? {

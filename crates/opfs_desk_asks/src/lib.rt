@@ -5,6 +5,7 @@
 mod asked;
 mod asking;
 mod clearings;
+mod ending;
 mod sizes;
 
 pub use asked::{Asked, Readied};

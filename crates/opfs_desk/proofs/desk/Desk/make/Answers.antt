@@ -9,9 +9,11 @@ use Rattle.opfs_space.specs.Room.{Machine}
 use Rattle.opfs_standing.specs.Beginnings.{IsBegun}
 use Rattle.opfs_state.specs.Applied.{StateSeen, opened}
 use Rattle.opfs_tree.specs.Rows.{Rows as Tree}
+use Rattle.opfs_desk_laws.specs.Handles.{AreHandlesWhole}
 use Rattle.opfs_desk_parts.specs.Held.{AreHeld}
 use Rattle.opfs_desk_parts.specs.declared.parts.Ledger.{Ledger}
 use Rattle.opfs_desk_parts.specs.declared.parts.Pages.{Pages}
+use Rattle.opfs_desk.specs.Resting.{IsAtRest}
 use Rattle.opfs_desk.proofs.Begun.{used-long, made-held}
 use Rattle.opfs_desk.proofs.desk.Desk.make.Goals as goal
 
@@ -45,5 +47,6 @@ invariant_of-result g c =
     made-held g.D.Disk from agents l p c.first_blocks_are_right.ensures opens c.requires.keys c.requires.few (done.books f (built_in from.tree from.shed) here) done.history
     (ap (λ (s : StateSeen). s.store.machine) same ∙ machine) (ap (λ (s : StateSeen). s.store.tree) same ∙ tree) (ap (λ (s : StateSeen). s.store.prepared.place) same ∙ c.in-Ok-make-2.ensures.place)
     (ap (λ (j : Seen g.row.D.Denot). j.disk) done.journal) c.in-Ok.ensures c.make-in-Ok-make-3.ensures c.in-Ok-make.ensures.used c.in-Ok-make.ensures.own c.data_base.ensures.same in
-    subst (λ (x : Recovered g.row.D.Denot g.D.Disk). AreHeld g.D.Disk (fixed_by g.D.Disk x c.of-who.result.value.items) (record { ledger = l; pages = p })) (sym c.of-told.ensures)
-    (rw (c.of-who.ensures) held)
+    let whole : AreHandlesWhole f.opening l.books.history = subst (AreHandlesWhole f.opening) (sym done.history) (c.handles_stay_whole.ensures.begun f.opening) in
+    subst (λ (x : Recovered g.row.D.Denot g.D.Disk). IsAtRest g.D.Disk (fixed_by g.D.Disk x c.of-who.result.value.items) (record { ledger = l; pages = p })) (sym c.of-told.ensures)
+    (rw (c.of-who.ensures) (record { held = held; whole = whole }))

@@ -1,0 +1,34 @@
+//! The desk stands for its history.
+
+ghost use Rattle.opfs_book_laws.specs.Books.{Fixed};
+ghost use base.Fml.{ftrue};
+
+use crate::desk::Desk;
+use opfs_hall::Chronicle;
+use opfs_hist::Entry;
+use opfs_outside::Disk;
+use std::marker::{Model, PhantomData};
+
+/// With what a desk began. No value of it is made.
+pub struct Opened<D: Disk> {
+    marker: PhantomData<D>,
+    pub ghost fixed: { Fixed D },
+}
+
+impl<D: Disk> Model for Opened<D> {
+    ghost also_owns = { λ _. ftrue };
+}
+
+impl<D: Disk> Chronicle for Desk<D> {
+    ghost use Rattle.opfs_desk.specs.Seen.{entries_of};
+
+    type Opening = Opened<D>;
+
+    type Entry = Entry;
+
+    ghost opening = { λ d. record { marker = record {}; fixed = d.fixed } };
+
+    ghost entries = { λ d. entries_of d };
+
+    ghost owner = { λ e. e.agent };
+}
