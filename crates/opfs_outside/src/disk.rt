@@ -9,7 +9,7 @@ use crate::Failed;
 
 /// Bytes by place, of a length that never changes. Between two syncs each range that was written may hold any
 /// bytes after a crash, also where the write failed; elsewhere it has what the last successful sync left.
-pub trait Disk: Send {
+pub trait Disk {
     /// Whether it tells its content and the images of a crash. It is no function of the value.
     ghost tells: { Type 0 };
 

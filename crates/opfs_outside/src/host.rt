@@ -20,7 +20,7 @@ pub enum HostStop {
 /// Disks by path. It counts its own faults, and beside them all faults, which also has those of the disks that
 /// were given back.
 pub trait Host {
-    type D: Disk;
+    type D: Disk + Send;
 
     /// Whether it tells its images and trails. It is no function of the value.
     ghost tells: { Type 0 };

@@ -3,5 +3,5 @@ use Rattle.opfs_book_laws.proofs.laws.a_fault_is_counted.Goals as goal
 
 pub returns : goal.returns
 returns g c =
-    let laws = g.met.D.Disk g.world.𝓛 g.world.𝓜 g.world.𝓡 ((λ s x. x), (λ x. x), (λ x. x), λ x. x) in
+    let laws = g.met.D.Disk in
     faults-counted c.state_laws.ensures g.D.Disk laws.counted

@@ -3,15 +3,15 @@ use Rattle.opfs_book_laws.proofs.laws.commits_alone_keep_the_books.Goals as goal
 
 pub returns-clause-committed : goal.returns-clause-committed
 returns-clause-committed g c =
-    let laws = g.met.D.Disk g.world.𝓛 g.world.𝓜 g.world.𝓡 ((λ s x. x), (λ x. x), (λ x. x), λ x. x) in
+    let laws = g.met.D.Disk in
     committed-alone g.D.Disk c.commit_laws.ensures laws.counted
 
 pub returns-clause-failed : goal.returns-clause-failed
 returns-clause-failed g c =
-    let laws = g.met.D.Disk g.world.𝓛 g.world.𝓜 g.world.𝓡 ((λ s x. x), (λ x. x), (λ x. x), λ x. x) in
+    let laws = g.met.D.Disk in
     failed-alone g.D.Disk c.commit_laws.ensures laws.counted
 
 pub returns-clause-shown : goal.returns-clause-shown
 returns-clause-shown g c =
-    let laws = g.met.D.Disk g.world.𝓛 g.world.𝓜 g.world.𝓡 ((λ s x. x), (λ x. x), (λ x. x), λ x. x) in
+    let laws = g.met.D.Disk in
     alone-shows g.D.Disk c.commit_laws.ensures laws.counted

@@ -12,7 +12,7 @@ use Rattle.opfs_commands.proofs.dumps.dump_disk.Goals as goal
 
 pub returns-in-Ok-clause-only : goal.returns-in-Ok-clause-only
 returns-in-Ok-clause-only g c =
-    let laws = g.met.D.Disk g.world.𝓛 g.world.𝓜 g.world.𝓡 ((λ s x. x), (λ x. x), (λ x. x), λ x. x) in
+    let laws = g.met.D.Disk in
     only_more g.D.Disk laws.falls c.args.disk c.in-Ok.image.journal.disk c.put_image.result.0 c.in-Ok.ensures.only_read c.put_image.ensures.only
 
 pub returns-in-Ok-clause-put : goal.returns-in-Ok-clause-put

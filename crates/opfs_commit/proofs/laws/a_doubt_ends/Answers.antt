@@ -6,22 +6,22 @@ use Rattle.opfs_commit.proofs.laws.a_doubt_ends.Goals as goal
 
 pub returns-clause-ends : goal.returns-clause-ends
 returns-clause-ends g s told a back old new images is =
-    let laws = g.met.D.Disk g.world.𝓛 g.world.𝓜 g.world.𝓡 ((λ s x. x), (λ x. x), (λ x. x), λ x. x) in
+    let laws = g.met.D.Disk in
     settle_done g.D.Disk (laws.full told) (laws.whole told) (laws.falls told) a (committing old back) (committing new back) images is.stays.length is.stays.areas refl is.none (is.told told) is.sure (is.durable told)
 
 pub returns-clause-stays : goal.returns-clause-stays
 returns-clause-stays g s told a back old new images is =
-    let laws = g.met.D.Disk g.world.𝓛 g.world.𝓜 g.world.𝓡 ((λ s x. x), (λ x. x), (λ x. x), λ x. x) in
+    let laws = g.met.D.Disk in
     shut_stopped g.D.Disk (laws.full told) (laws.whole told) (laws.falls told) a (committing old back) (committing new back) images is.stays.length is.stays.areas refl is.was (is.told told) is.unsure (is.doubt told) (is.behind told)
 
 pub returns-clause-shown : goal.returns-clause-shown
 returns-clause-shown g s told a back old new images is =
-    let laws = g.met.D.Disk g.world.𝓛 g.world.𝓜 g.world.𝓡 ((λ s x. x), (λ x. x), (λ x. x), λ x. x) in
+    let laws = g.met.D.Disk in
     settle_moments g.D.Disk (laws.full told) (laws.whole told) (laws.falls told) a (committing old back) (committing new back) images is.stays.length is.stays.areas refl is.none (is.told told)
 
 pub returns-clause-shown_still : goal.returns-clause-shown_still
 returns-clause-shown_still g s told a back old new images is =
-    let laws = g.met.D.Disk g.world.𝓛 g.world.𝓜 g.world.𝓡 ((λ s x. x), (λ x. x), (λ x. x), λ x. x) in
+    let laws = g.met.D.Disk in
     settle_moments g.D.Disk (laws.full told) (laws.whole told) (laws.falls told) a (committing old back) (committing new back) images is.stays.length is.stays.areas refl (λ settled. absurd (true≢false (sym is.was ∙ settled))) (λ _. is.told told)
 
 pub returns-clause-none : goal.returns-clause-none

@@ -5,24 +5,24 @@ use Rattle.opfs_commit.proofs.laws.other_calls_leave_the_images.Goals as goal
 
 pub returns-clause-reads : goal.returns-clause-reads
 returns-clause-reads g s told a back old new images is =
-    let laws = g.met.D.Disk g.world.𝓛 g.world.𝓜 g.world.𝓡 ((λ s x. x), (λ x. x), (λ x. x), λ x. x) in
+    let laws = g.met.D.Disk in
     let only = is.told told in
     read_images g.D.Disk (laws.falls told) a (committing old back) (committing new back) images is.stays.areas (λ i. record { format = is.format i; records = only.records i }) refl only.time is.in_doubt only.doubt only.same only.moments
 
 pub returns-clause-shown : goal.returns-clause-shown
 returns-clause-shown g s told a back old new images is =
-    let laws = g.met.D.Disk g.world.𝓛 g.world.𝓜 g.world.𝓡 ((λ s x. x), (λ x. x), (λ x. x), λ x. x) in
+    let laws = g.met.D.Disk in
     let only = is.told told in
     read_moments g.D.Disk (laws.falls told) a (committing old back) (committing new back) images is.stays.areas (λ i. record { format = is.format i; records = only.records i }) refl only.time is.in_doubt only.doubt only.same only.moments
 
 pub returns-clause-pages : goal.returns-clause-pages
 returns-clause-pages g s told a back extents old new images is =
-    let laws = g.met.D.Disk g.world.𝓛 g.world.𝓜 g.world.𝓡 ((λ s x. x), (λ x. x), (λ x. x), λ x. x) in
+    let laws = g.met.D.Disk in
     let written = is.writes.told told in
     put_images g.D.Disk (laws.falls told) a (committing old back) (committing new back) images is.writes.stays.areas (λ i. record { format = is.writes.format i; records = written.records i }) refl written.time (laws.full told) (laws.whole told) is.writes.stays.length (is.writes.in_doubt ∙ is.settled) extents is.aside written.elsewhere written.moments
 
 pub returns-clause-shown_beside : goal.returns-clause-shown_beside
 returns-clause-shown_beside g s told a back extents old new images is =
-    let laws = g.met.D.Disk g.world.𝓛 g.world.𝓜 g.world.𝓡 ((λ s x. x), (λ x. x), (λ x. x), λ x. x) in
+    let laws = g.met.D.Disk in
     let written = is.writes.told told in
     put_moments g.D.Disk (laws.falls told) a (committing old back) (committing new back) images is.writes.stays.areas (λ i. record { format = is.writes.format i; records = written.records i }) refl written.time (laws.full told) (laws.whole told) is.writes.stays.length (is.writes.in_doubt ∙ is.settled) extents is.aside written.elsewhere written.moments

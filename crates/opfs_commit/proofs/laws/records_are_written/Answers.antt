@@ -3,15 +3,15 @@ use Rattle.opfs_commit.proofs.laws.records_are_written.Goals as goal
 
 pub returns-clause-durable : goal.returns-clause-durable
 returns-clause-durable g s told a own next built old new ready is =
-    let laws = g.met.D.Disk g.world.𝓛 g.world.𝓜 g.world.𝓡 ((λ s x. x), (λ x. x), (λ x. x), λ x. x) in
+    let laws = g.met.D.Disk in
     record_done g.D.Disk (laws.full told) (laws.whole told) (laws.falls told) a own next built old new ready.images ready.to_store ready.settled is.journal.stays.length (is.journal.told told) is.journal.stays.areas is.journal.sure is.none
 
 pub returns-clause-in_doubt : goal.returns-clause-in_doubt
 returns-clause-in_doubt g s told a own next built old new ready is =
-    let laws = g.met.D.Disk g.world.𝓛 g.world.𝓜 g.world.𝓡 ((λ s x. x), (λ x. x), (λ x. x), λ x. x) in
+    let laws = g.met.D.Disk in
     record_stopped g.D.Disk (laws.full told) (laws.whole told) (laws.falls told) a own next built old new ready.images ready.to_store ready.settled is.journal.stays.length (is.journal.told told) is.journal.stays.areas is.same
 
 pub returns-clause-shown : goal.returns-clause-shown
 returns-clause-shown g s told a own next built old new ready stays one =
-    let laws = g.met.D.Disk g.world.𝓛 g.world.𝓜 g.world.𝓡 ((λ s x. x), (λ x. x), (λ x. x), λ x. x) in
+    let laws = g.met.D.Disk in
     record_moments g.D.Disk (laws.full told) (laws.whole told) (laws.falls told) a own next built old new ready.images ready.to_store ready.settled stays.length one

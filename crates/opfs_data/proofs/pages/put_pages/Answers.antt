@@ -23,7 +23,7 @@ put-requires-clause-lies g c κs lives =
 
 pub returns-in_err-put-clause-writes : goal.returns-in_err-put-clause-writes
 returns-in_err-put-clause-writes g c =
-    let laws = g.met.D.Disk g.world.𝓛 g.world.𝓜 g.world.𝓡 ((λ s x. x), (λ x. x), (λ x. x), λ x. x) in
+    let laws = g.met.D.Disk in
     let at = c.loop-run.invariant in
     let r : Run = c.run-item.result in
     let ws : List PageWrite = writes_of c.args.own.now c.args.given.now c.args.runs.now in
@@ -37,7 +37,7 @@ returns-in_err-put-clause-writes g c =
 
 pub loop-run-preserved : goal.loop-run-preserved
 loop-run-preserved g c =
-    let laws = g.met.D.Disk g.world.𝓛 g.world.𝓜 g.world.𝓡 ((λ s x. x), (λ x. x), (λ x. x), λ x. x) in
+    let laws = g.met.D.Disk in
     let at = c.loop-run.invariant in
     let r : Run = c.run-item.result in
     let ws : List PageWrite = writes_of c.args.own.now c.args.given.now c.args.runs.now in

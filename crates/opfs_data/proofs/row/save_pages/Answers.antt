@@ -7,7 +7,7 @@ use Rattle.opfs_data.proofs.row.save_pages.Goals as goal
 
 pub loop-run-preserved : goal.loop-run-preserved
 loop-run-preserved g c =
-    let laws = g.met.D.Disk g.world.𝓛 g.world.𝓜 g.world.𝓡 ((λ s x. x), (λ x. x), (λ x. x), λ x. x) in
+    let laws = g.met.D.Disk in
     let at = c.loop-run.invariant in
     let b = c.in_ok-save_run.ensures in
     record {

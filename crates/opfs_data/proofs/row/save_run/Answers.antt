@@ -7,7 +7,7 @@ use Rattle.opfs_data.proofs.row.save_run.Goals as goal
 
 pub loop-k-preserved : goal.loop-k-preserved
 loop-k-preserved g c =
-    let laws = g.met.D.Disk g.world.𝓛 g.world.𝓜 g.world.𝓡 ((λ s x. x), (λ x. x), (λ x. x), λ x. x) in
+    let laws = g.met.D.Disk in
     let at = c.loop-k.invariant in
     let b = c.in_ok-save_page.ensures in
     record {

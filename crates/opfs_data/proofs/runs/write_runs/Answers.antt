@@ -17,7 +17,7 @@ beside_part base es i n e lt is small k aside =
 
 pub returns-in_err-put-clause-writes : goal.returns-in_err-put-clause-writes
 returns-in_err-put-clause-writes g c =
-    let laws = g.met.D.Disk g.world.𝓛 g.world.𝓜 g.world.𝓡 ((λ s x. x), (λ x. x), (λ x. x), λ x. x) in
+    let laws = g.met.D.Disk in
     let at = c.loop-extent.invariant in
     let es : List Extent = c.args.extents.now in
     let i = c.loop-extent.extent-index in
@@ -37,7 +37,7 @@ returns-in_err-put-clause-writes g c =
 
 pub loop-extent-preserved : goal.loop-extent-preserved
 loop-extent-preserved g c =
-    let laws = g.met.D.Disk g.world.𝓛 g.world.𝓜 g.world.𝓡 ((λ s x. x), (λ x. x), (λ x. x), λ x. x) in
+    let laws = g.met.D.Disk in
     let at = c.loop-extent.invariant in
     let es : List Extent = c.args.extents.now in
     let i = c.loop-extent.extent-index in

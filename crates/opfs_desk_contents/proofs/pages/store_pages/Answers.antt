@@ -151,7 +151,7 @@ returns-in-Ok-enter_content-clause-stored g c f recorded bytes are stores =
 pub returns-in-Ok-clause-failed : goal.returns-in-Ok-clause-failed
 returns-in-Ok-clause-failed g c f recorded bytes are stores =
     let w = g.D.Disk in
-    let laws_of = g.met.D.Disk g.world.𝓛 g.world.𝓜 g.world.𝓡 ((λ s x. x), (λ x. x), (λ x. x), λ x. x) in
+    let laws_of = g.met.D.Disk in
     let may = c.requires.may in
     let l = c.args.parts.now.ledger in
     let back = c.put_content.new.parts.ledger in

@@ -67,7 +67,7 @@ returns-in-Err-clause-cleared g c f recorded work bytes are of = c.settle_doubt.
 
 pub returns-in-Err-find_room-clause-cleared : goal.returns-in-Err-find_room-clause-cleared
 returns-in-Err-find_room-clause-cleared g c f recorded work bytes are of =
-    let laws = g.met.D.Disk g.world.𝓛 g.world.𝓜 g.world.𝓡 ((λ s x. x), (λ x. x), (λ x. x), λ x. x) in
+    let laws = g.met.D.Disk in
     let p = c.args.parts.now.pages in
     let is = c.settle_doubt.ensures in
     let found = c.find_room.ensures in
@@ -77,7 +77,7 @@ returns-in-Err-find_room-clause-cleared g c f recorded work bytes are of =
 pub returns-in-Err-write_pages-clause-cleared : goal.returns-in-Err-write_pages-clause-cleared
 returns-in-Err-write_pages-clause-cleared g c f recorded work bytes are of =
     let w = g.D.Disk in
-    let laws = g.met.D.Disk g.world.𝓛 g.world.𝓜 g.world.𝓡 ((λ s x. x), (λ x. x), (λ x. x), λ x. x) in
+    let laws = g.met.D.Disk in
     let l = c.args.parts.now.ledger in
     let p = c.args.parts.now.pages in
     let put = c.args.put.now in
@@ -99,7 +99,7 @@ returns-in-Err-write_pages-clause-cleared g c f recorded work bytes are of =
 pub returns-in-Ok-write_pages-clause-cleared : goal.returns-in-Ok-write_pages-clause-cleared
 returns-in-Ok-write_pages-clause-cleared g c f recorded work bytes are of =
     let w = g.D.Disk in
-    let laws = g.met.D.Disk g.world.𝓛 g.world.𝓜 g.world.𝓡 ((λ s x. x), (λ x. x), (λ x. x), λ x. x) in
+    let laws = g.met.D.Disk in
     let l = c.args.parts.now.ledger in
     let p = c.args.parts.now.pages in
     let put = c.args.put.now in

@@ -6,7 +6,7 @@ use Rattle.opfs_desk_contents.proofs.putting.settle_doubt.Goals as goal
 
 pub returns-in-Ok-clause-held : goal.returns-in-Ok-clause-held
 returns-in-Ok-clause-held g c f recorded p are =
-    let laws = g.met.D.Disk g.world.𝓛 g.world.𝓜 g.world.𝓡 ((λ s x. x), (λ x. x), (λ x. x), λ x. x) in
+    let laws = g.met.D.Disk in
     let l = c.args.ledger.now in
     let new : Ledger g.row.D.Denot = record { journal = c.settle.new.journal; books = c.settle.new.self; freed = l.freed; alloc = l.alloc } in
     let done = c.in-Ok.ensures in
@@ -14,7 +14,7 @@ returns-in-Ok-clause-held g c f recorded p are =
 
 pub returns-in-Ok-clause-cleared : goal.returns-in-Ok-clause-cleared
 returns-in-Ok-clause-cleared g c f recorded p are =
-    let laws = g.met.D.Disk g.world.𝓛 g.world.𝓜 g.world.𝓡 ((λ s x. x), (λ x. x), (λ x. x), λ x. x) in
+    let laws = g.met.D.Disk in
     let l = c.args.ledger.now in
     let new : Ledger g.row.D.Denot = record { journal = c.settle.new.journal; books = c.settle.new.self; freed = l.freed; alloc = l.alloc } in
     let done = c.in-Ok.ensures in
@@ -23,7 +23,7 @@ returns-in-Ok-clause-cleared g c f recorded p are =
 
 pub returns-in-Err-clause-held : goal.returns-in-Err-clause-held
 returns-in-Err-clause-held g c f recorded p are =
-    let laws = g.met.D.Disk g.world.𝓛 g.world.𝓜 g.world.𝓡 ((λ s x. x), (λ x. x), (λ x. x), λ x. x) in
+    let laws = g.met.D.Disk in
     let l = c.args.ledger.now in
     let new : Ledger g.row.D.Denot = record { journal = c.settle.new.journal; books = c.settle.new.self; freed = l.freed; alloc = l.alloc } in
     let done = c.in-Err.ensures in
@@ -31,7 +31,7 @@ returns-in-Err-clause-held g c f recorded p are =
 
 pub returns-in-Err-clause-cleared : goal.returns-in-Err-clause-cleared
 returns-in-Err-clause-cleared g c f recorded p are =
-    let laws = g.met.D.Disk g.world.𝓛 g.world.𝓜 g.world.𝓡 ((λ s x. x), (λ x. x), (λ x. x), λ x. x) in
+    let laws = g.met.D.Disk in
     let l = c.args.ledger.now in
     let new : Ledger g.row.D.Denot = record { journal = c.settle.new.journal; books = c.settle.new.self; freed = l.freed; alloc = l.alloc } in
     let done = c.in-Err.ensures in

@@ -9,7 +9,7 @@ write-requires-clause-part g c κs within = (c.parts_lie_inside.ensures c.requir
 
 pub returns-in-Ok-clause-cleared : goal.returns-in-Ok-clause-cleared
 returns-in-Ok-clause-cleared g c f recorded work bytes are of =
-    let laws = g.met.D.Disk g.world.𝓛 g.world.𝓜 g.world.𝓡 ((λ s x. x), (λ x. x), (λ x. x), λ x. x) in
+    let laws = g.met.D.Disk in
     let w = g.D.Disk in
     let l = c.args.parts.now.ledger in
     let p = c.args.parts.now.pages in
@@ -27,7 +27,7 @@ returns-in-Ok-clause-content g c f work bytes of =
 
 pub returns-in-Err-clause-cleared : goal.returns-in-Err-clause-cleared
 returns-in-Err-clause-cleared g c f recorded work bytes are of =
-    let laws = g.met.D.Disk g.world.𝓛 g.world.𝓜 g.world.𝓡 ((λ s x. x), (λ x. x), (λ x. x), λ x. x) in
+    let laws = g.met.D.Disk in
     let w = g.D.Disk in
     let l = c.args.parts.now.ledger in
     let p = c.args.parts.now.pages in

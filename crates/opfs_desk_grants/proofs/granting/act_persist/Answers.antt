@@ -172,7 +172,7 @@ returns-in_default-clause-idle g c f recorded held = unacted g.D.Disk c.granting
 pub returns-in-Ok-enter_mode-clause-acted : goal.returns-in-Ok-enter_mode-clause-acted
 returns-in-Ok-enter_mode-clause-acted g c f recorded held asked =
     let w = g.D.Disk in
-    let laws = g.met.D.Disk g.world.𝓛 g.world.𝓜 g.world.𝓡 ((λ s x. x), (λ x. x), (λ x. x), λ x. x) in
+    let laws = g.met.D.Disk in
     let l = c.args.parts.now.ledger in
     let p = c.args.parts.now.pages in
     let call = c.args.call in
@@ -211,7 +211,7 @@ returns-in-Ok-enter_mode-clause-acted g c f recorded held asked =
 pub returns-in-Ok-clear_way-clause-acted : goal.returns-in-Ok-clear_way-clause-acted
 returns-in-Ok-clear_way-clause-acted g c f recorded held asked =
     let w = g.D.Disk in
-    let laws = g.met.D.Disk g.world.𝓛 g.world.𝓜 g.world.𝓡 ((λ s x. x), (λ x. x), (λ x. x), λ x. x) in
+    let laws = g.met.D.Disk in
     let l = c.args.parts.now.ledger in
     let p = c.args.parts.now.pages in
     let call = c.args.call in

@@ -136,7 +136,7 @@ leave_put-requires-clause-cut g c =
 
 pub returns-in-Ok-enter_put-clause-acted : goal.returns-in-Ok-enter_put-clause-acted
 returns-in-Ok-enter_put-clause-acted g c f recorded held asked =
-    let met = g.met.D.Disk g.world.𝓛 g.world.𝓜 g.world.𝓡 ((λ s x. x), (λ x. x), (λ x. x), λ x. x) in
+    let met = g.met.D.Disk in
     let w = g.D.Disk in
     let l = c.args.parts.now.ledger in
     let p = c.args.parts.now.pages in
@@ -182,7 +182,7 @@ returns-in-Ok-enter_put-clause-acted g c f recorded held asked =
 
 pub returns-clause-acted : goal.returns-clause-acted
 returns-clause-acted g c f recorded held asked =
-    let met = g.met.D.Disk g.world.𝓛 g.world.𝓜 g.world.𝓡 ((λ s x. x), (λ x. x), (λ x. x), λ x. x) in
+    let met = g.met.D.Disk in
     let w = g.D.Disk in
     let l = c.args.parts.now.ledger in
     let p = c.args.parts.now.pages in

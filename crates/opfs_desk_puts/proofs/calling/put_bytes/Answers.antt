@@ -40,7 +40,7 @@ plan_call-requires-clause-files g c κs within =
 pub enter_call-requires-clause-go : goal.enter_call-requires-clause-go
 enter_call-requires-clause-go g c κs within =
     let may = c.requires.go in
-    let laws = g.met.D.Disk g.world.𝓛 g.world.𝓜 g.world.𝓡 ((λ s x. x), (λ x. x), (λ x. x), λ x. x) in
+    let laws = g.met.D.Disk in
     let w = g.D.Disk in
     let l = c.args.parts.now.ledger in
     let p = c.args.parts.now.pages in
@@ -62,7 +62,7 @@ enter_call-requires-clause-go g c κs within =
 pub enter_call-requires-clause-plan : goal.enter_call-requires-clause-plan
 enter_call-requires-clause-plan g c κs within =
     let may = c.requires.go in
-    let laws = g.met.D.Disk g.world.𝓛 g.world.𝓜 g.world.𝓡 ((λ s x. x), (λ x. x), (λ x. x), λ x. x) in
+    let laws = g.met.D.Disk in
     let w = g.D.Disk in
     let l = c.args.parts.now.ledger in
     let p = c.args.parts.now.pages in
@@ -82,7 +82,7 @@ enter_call-requires-clause-plan g c κs within =
 
 pub enter_call-requires-clause-planned : goal.enter_call-requires-clause-planned
 enter_call-requires-clause-planned g c κs within f recorded held asked before row_is =
-    let laws = g.met.D.Disk g.world.𝓛 g.world.𝓜 g.world.𝓡 ((λ s x. x), (λ x. x), (λ x. x), λ x. x) in
+    let laws = g.met.D.Disk in
     let w = g.D.Disk in
     let l = c.args.parts.now.ledger in
     let p = c.args.parts.now.pages in
@@ -104,7 +104,7 @@ enter_call-requires-clause-planned g c κs within f recorded held asked before r
 pub fail_reading-requires-clause-may : goal.fail_reading-requires-clause-may
 fail_reading-requires-clause-may g c κs within =
     let may = c.requires.go in
-    let laws = g.met.D.Disk g.world.𝓛 g.world.𝓜 g.world.𝓡 ((λ s x. x), (λ x. x), (λ x. x), λ x. x) in
+    let laws = g.met.D.Disk in
     let w = g.D.Disk in
     let l = c.args.parts.now.ledger in
     let p = c.args.parts.now.pages in
@@ -136,7 +136,7 @@ fail_reading-requires-clause-may g c κs within =
 
 pub returns-in-Ok-clause-acted : goal.returns-in-Ok-clause-acted
 returns-in-Ok-clause-acted g c f recorded held asked =
-    let laws = g.met.D.Disk g.world.𝓛 g.world.𝓜 g.world.𝓡 ((λ s x. x), (λ x. x), (λ x. x), λ x. x) in
+    let laws = g.met.D.Disk in
     let w = g.D.Disk in
     let l = c.args.parts.now.ledger in
     let p = c.args.parts.now.pages in
@@ -155,7 +155,7 @@ returns-in-Ok-clause-acted g c f recorded held asked =
 
 pub returns-in-Err-DiskFault-clause-acted : goal.returns-in-Err-DiskFault-clause-acted
 returns-in-Err-DiskFault-clause-acted g c f recorded held asked =
-    let laws = g.met.D.Disk g.world.𝓛 g.world.𝓜 g.world.𝓡 ((λ s x. x), (λ x. x), (λ x. x), λ x. x) in
+    let laws = g.met.D.Disk in
     let w = g.D.Disk in
     let l = c.args.parts.now.ledger in
     let p = c.args.parts.now.pages in
@@ -173,7 +173,7 @@ returns-in-Err-DiskFault-clause-acted g c f recorded held asked =
 
 pub returns-in-Err-NoMemory-clause-idle : goal.returns-in-Err-NoMemory-clause-idle
 returns-in-Err-NoMemory-clause-idle g c f recorded held =
-    let laws = g.met.D.Disk g.world.𝓛 g.world.𝓜 g.world.𝓡 ((λ s x. x), (λ x. x), (λ x. x), λ x. x) in
+    let laws = g.met.D.Disk in
     let w = g.D.Disk in
     let l = c.args.parts.now.ledger in
     let p = c.args.parts.now.pages in

@@ -50,7 +50,7 @@ returns-in-Ok-clause-ready g c =
 
 pub returns-in-Ok-clause-held : goal.returns-in-Ok-clause-held
 returns-in-Ok-clause-held g c f recorded base gone p are =
-    let laws = g.met.D.Disk g.world.𝓛 g.world.𝓜 g.world.𝓡 ((λ s x. x), (λ x. x), (λ x. x), λ x. x) in
+    let laws = g.met.D.Disk in
     let may = c.requires.may in
     let l = c.args.ledger.now in
     let done = c.in-Ok.ensures in
@@ -63,7 +63,7 @@ returns-in-Ok-clause-shown g c f recorded base gone p are = c.in-Ok.ensures.show
 
 pub returns-clause-failed : goal.returns-clause-failed
 returns-clause-failed g c f recorded base gone p are turn =
-    let laws = g.met.D.Disk g.world.𝓛 g.world.𝓜 g.world.𝓡 ((λ s x. x), (λ x. x), (λ x. x), λ x. x) in
+    let laws = g.met.D.Disk in
     let may = c.requires.may in
     let l = c.args.ledger.now in
     let done = c.in-Err.ensures in

@@ -23,7 +23,7 @@ returns-in-Ok-write_pages-clause-put g c f recorded base gone to gotten =
 
 pub returns-in-Err-write_pages-clause-failed : goal.returns-in-Err-write_pages-clause-failed
 returns-in-Err-write_pages-clause-failed g c f recorded base gone to gotten =
-    let laws = g.met.D.Disk g.world.𝓛 g.world.𝓜 g.world.𝓡 ((λ s x. x), (λ x. x), (λ x. x), λ x. x) in
+    let laws = g.met.D.Disk in
     let w = g.D.Disk in
     let old = c.args.parts.now.ledger in
     let mid = c.find_room.new.parts.ledger in

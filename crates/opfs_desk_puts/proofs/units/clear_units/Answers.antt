@@ -39,7 +39,7 @@ evict_one-requires-clause-may g c κs within =
 
 pub loop-next-preserved : goal.loop-next-preserved
 loop-next-preserved g c =
-    let laws = g.met.D.Disk g.world.𝓛 g.world.𝓜 g.world.𝓡 ((λ s x. x), (λ x. x), (λ x. x), λ x. x) in
+    let laws = g.met.D.Disk in
     let l = c.args.ledger.now in
     let all = c.args.clearing.items in
     let e = c.args.call.entry in
@@ -51,7 +51,7 @@ loop-next-preserved g c =
 
 pub returns-in-Err-clause-failed : goal.returns-in-Err-clause-failed
 returns-in-Err-clause-failed g c f recorded p are judged =
-    let laws = g.met.D.Disk g.world.𝓛 g.world.𝓜 g.world.𝓡 ((λ s x. x), (λ x. x), (λ x. x), λ x. x) in
+    let laws = g.met.D.Disk in
     let l = c.args.ledger.now in
     let all = c.args.clearing.items in
     let e = c.args.call.entry in

@@ -16,14 +16,14 @@ clear_units-requires-clause-may g c κs within =
 
 pub returns-in-Ok-clear_units-clause-cleared : goal.returns-in-Ok-clear_units-clause-cleared
 returns-in-Ok-clear_units-clause-cleared g c =
-    let laws = g.met.D.Disk g.world.𝓛 g.world.𝓜 g.world.𝓡 ((λ s x. x), (λ x. x), (λ x. x), λ x. x) in
+    let laws = g.met.D.Disk in
     let done = c.in-Ok.ensures in
     let its = c.in-Ok-clear_units.ensures in
     then-cleared g.D.Disk c.args.ledger.now c.args.last.entry c.args.clearing.items c.end_doubt.new.ledger done.entries done.sure done.held laws.falls c.clear_units.new.ledger its.entries its.cleared
 
 pub returns-in-Err-clear_units-clause-failed : goal.returns-in-Err-clear_units-clause-failed
 returns-in-Err-clear_units-clause-failed g c =
-    let laws = g.met.D.Disk g.world.𝓛 g.world.𝓜 g.world.𝓡 ((λ s x. x), (λ x. x), (λ x. x), λ x. x) in
+    let laws = g.met.D.Disk in
     let done = c.in-Ok.ensures in
     then-failed g.D.Disk c.args.ledger.now c.args.last.entry c.args.clearing.items c.end_doubt.new.ledger done.entries done.sure done.held laws.falls c.clear_units.new.ledger c.in-Ok.last.entry done.last c.in-Err-clear_units.ensures.failed
 
@@ -35,5 +35,5 @@ returns-in-Err-clause-failed g c f recorded p are judged =
 
 pub returns-in-Ok-clear_units-clause-leaves : goal.returns-in-Ok-clear_units-clause-leaves
 returns-in-Ok-clear_units-clause-leaves g c =
-    let laws = g.met.D.Disk g.world.𝓛 g.world.𝓜 g.world.𝓡 ((λ s x. x), (λ x. x), (λ x. x), λ x. x) in
+    let laws = g.met.D.Disk in
     leaves-both g.D.Disk laws.falls c.args.ledger.now.journal c.end_doubt.new.ledger.journal c.clear_units.new.ledger.journal c.in-Ok.ensures.leaves c.in-Ok-clear_units.ensures.leaves

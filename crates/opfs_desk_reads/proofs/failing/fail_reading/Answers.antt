@@ -40,7 +40,7 @@ fail_call-requires-clause-may g c κs within =
 
 pub returns-clause-acted : goal.returns-clause-acted
 returns-clause-acted g c f recorded start before first work after past fail copy =
-    let laws = g.met.D.Disk g.world.𝓛 g.world.𝓜 g.world.𝓡 ((λ s x. x), (λ x. x), (λ x. x), λ x. x) in
+    let laws = g.met.D.Disk in
     let p = c.args.parts.now.pages in
     let l = c.args.parts.now.ledger in
     let mid = c.take_in.new.ledger in

@@ -34,7 +34,7 @@ read_named-requires-clause-part g c κs within =
 
 pub enter_get_file-requires-clause-go : goal.enter_get_file-requires-clause-go
 enter_get_file-requires-clause-go g c κs within =
-    let laws = g.met.D.Disk g.world.𝓛 g.world.𝓜 g.world.𝓡 ((λ s x. x), (λ x. x), (λ x. x), λ x. x) in
+    let laws = g.met.D.Disk in
     let may = c.requires.go in
     let l = c.args.parts.now.ledger in
     let now : Ledger g.row.D.Denot = record { journal = c.read_named.new.journal; books = l.books; freed = l.freed; alloc = l.alloc } in
@@ -61,7 +61,7 @@ enter_get_file-requires-clause-read g c κs within found there =
 
 pub fail_reading-requires-clause-may : goal.fail_reading-requires-clause-may
 fail_reading-requires-clause-may g c κs within =
-    let laws = g.met.D.Disk g.world.𝓛 g.world.𝓜 g.world.𝓡 ((λ s x. x), (λ x. x), (λ x. x), λ x. x) in
+    let laws = g.met.D.Disk in
     let may = c.requires.go in
     let l = c.args.parts.now.ledger in
     let p = c.args.parts.now.pages in
@@ -86,7 +86,7 @@ fail_reading-requires-clause-may g c κs within =
 
 pub returns-in-Ok-clause-acted : goal.returns-in-Ok-clause-acted
 returns-in-Ok-clause-acted g c f recorded held whole asked =
-    let laws = g.met.D.Disk g.world.𝓛 g.world.𝓜 g.world.𝓡 ((λ s x. x), (λ x. x), (λ x. x), λ x. x) in
+    let laws = g.met.D.Disk in
     let l = c.args.parts.now.ledger in
     let p = c.args.parts.now.pages in
     let now : Ledger g.row.D.Denot = record { journal = c.read_named.new.journal; books = l.books; freed = l.freed; alloc = l.alloc } in
@@ -97,7 +97,7 @@ returns-in-Ok-clause-acted g c f recorded held whole asked =
 
 pub returns-in-Err-DiskFault-clause-acted : goal.returns-in-Err-DiskFault-clause-acted
 returns-in-Err-DiskFault-clause-acted g c f recorded held whole asked =
-    let laws = g.met.D.Disk g.world.𝓛 g.world.𝓜 g.world.𝓡 ((λ s x. x), (λ x. x), (λ x. x), λ x. x) in
+    let laws = g.met.D.Disk in
     let l = c.args.parts.now.ledger in
     let p = c.args.parts.now.pages in
     let now : Ledger g.row.D.Denot = record { journal = c.read_named.new.journal; books = l.books; freed = l.freed; alloc = l.alloc } in
@@ -108,7 +108,7 @@ returns-in-Err-DiskFault-clause-acted g c f recorded held whole asked =
 
 pub returns-in-Err-NoMemory-clause-idle : goal.returns-in-Err-NoMemory-clause-idle
 returns-in-Err-NoMemory-clause-idle g c f recorded held =
-    let laws = g.met.D.Disk g.world.𝓛 g.world.𝓜 g.world.𝓡 ((λ s x. x), (λ x. x), (λ x. x), λ x. x) in
+    let laws = g.met.D.Disk in
     let l = c.args.parts.now.ledger in
     let p = c.args.parts.now.pages in
     let now : Ledger g.row.D.Denot = record { journal = c.read_named.new.journal; books = l.books; freed = l.freed; alloc = l.alloc } in

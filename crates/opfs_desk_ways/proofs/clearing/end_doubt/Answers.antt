@@ -16,7 +16,7 @@ use Rattle.opfs_desk_ways.proofs.clearing.end_doubt.Goals as goal
 
 pub fail_call-requires-clause-may : goal.fail_call-requires-clause-may
 fail_call-requires-clause-may g c κs within =
-    let laws = g.met.D.Disk g.world.𝓛 g.world.𝓜 g.world.𝓡 ((λ s x. x), (λ x. x), (λ x. x), λ x. x) in
+    let laws = g.met.D.Disk in
     let may = c.requires.may in
     let l = c.args.ledger.now in
     let mid : Ledger g.row.D.Denot = record { journal = c.settle.new.journal; books = c.settle.new.self; freed = l.freed; alloc = l.alloc } in
@@ -38,7 +38,7 @@ fail_call-requires-clause-may g c κs within =
 
 pub returns-in-Ok-clause-held : goal.returns-in-Ok-clause-held
 returns-in-Ok-clause-held g c f recorded p are =
-    let laws = g.met.D.Disk g.world.𝓛 g.world.𝓜 g.world.𝓡 ((λ s x. x), (λ x. x), (λ x. x), λ x. x) in
+    let laws = g.met.D.Disk in
     let l = c.args.ledger.now in
     let new : Ledger g.row.D.Denot = record { journal = c.settle.new.journal; books = c.settle.new.self; freed = l.freed; alloc = l.alloc } in
     let done = c.in-Ok.ensures in
@@ -52,7 +52,7 @@ returns-in-Ok-clause-held g c f recorded p are =
 
 pub returns-in-Err-clause-failed : goal.returns-in-Err-clause-failed
 returns-in-Err-clause-failed g c f recorded p are fault =
-    let laws = g.met.D.Disk g.world.𝓛 g.world.𝓜 g.world.𝓡 ((λ s x. x), (λ x. x), (λ x. x), λ x. x) in
+    let laws = g.met.D.Disk in
     let l = c.args.ledger.now in
     let mid : Ledger g.row.D.Denot = record { journal = c.settle.new.journal; books = c.settle.new.self; freed = l.freed; alloc = l.alloc } in
     let new = c.fail_call.new.ledger in

@@ -13,7 +13,7 @@ use Rattle.opfs_desk_ways.proofs.committing.commit_kept.Goals as goal
 
 pub returns-in-Ok-true-clause-recorded : goal.returns-in-Ok-true-clause-recorded
 returns-in-Ok-true-clause-recorded g c f recorded base gone p are =
-    let laws = g.met.D.Disk g.world.𝓛 g.world.𝓜 g.world.𝓡 ((λ s x. x), (λ x. x), (λ x. x), λ x. x) in
+    let laws = g.met.D.Disk in
     let l = c.args.ledger.now in
     let new : Ledger g.row.D.Denot = record { journal = c.commit_kept.new.journal; books = c.commit_kept.new.self; freed = l.freed; alloc = l.alloc } in
     let done = c.in-Ok-true.ensures in
@@ -39,7 +39,7 @@ returns-in-Ok-false-clause-shown g c f recorded base gone p are = c.in-Ok-false.
 
 pub returns-in-Err-clause-failed : goal.returns-in-Err-clause-failed
 returns-in-Err-clause-failed g c f recorded base gone p are =
-    let laws = g.met.D.Disk g.world.𝓛 g.world.𝓜 g.world.𝓡 ((λ s x. x), (λ x. x), (λ x. x), λ x. x) in
+    let laws = g.met.D.Disk in
     let l = c.args.ledger.now in
     let new : Ledger g.row.D.Denot = record { journal = c.commit_kept.new.journal; books = c.commit_kept.new.self; freed = l.freed; alloc = l.alloc } in
     let done = c.in-Err.ensures in

@@ -45,14 +45,14 @@ returns-in-Ok-clause-shown g c f recorded base gone p are answered stores stand 
 
 pub returns-in-Ok-clause-tied : goal.returns-in-Ok-clause-tied
 returns-in-Ok-clause-tied g c f p tied =
-    let laws = g.met.D.Disk g.world.𝓛 g.world.𝓜 g.world.𝓡 ((λ s x. x), (λ x. x), (λ x. x), λ x. x) in
+    let laws = g.met.D.Disk in
     let l = c.args.ledger.now in
     let new : Ledger g.row.D.Denot = record { journal = c.store.new.journal; books = c.store.new.self; freed = c.store.new.freed; alloc = l.alloc } in
     tied-moved g.D.Disk f laws.counted l new p tied c.in-Ok.ensures.leaves (omega (arith, c.clear.ensures.capacity, c.in-Ok.ensures.capacity))
 
 pub returns-in-Err-clause-held : goal.returns-in-Err-clause-held
 returns-in-Err-clause-held g c f recorded base gone p are answered stores stand =
-    let laws = g.met.D.Disk g.world.𝓛 g.world.𝓜 g.world.𝓡 ((λ s x. x), (λ x. x), (λ x. x), λ x. x) in
+    let laws = g.met.D.Disk in
     let l = c.args.ledger.now in
     let new : Ledger g.row.D.Denot = record { journal = c.store.new.journal; books = c.store.new.self; freed = c.store.new.freed; alloc = l.alloc } in
     let done = c.in-Err.ensures in
@@ -64,7 +64,7 @@ returns-in-Err-clause-shown g c f recorded base gone p are answered stores stand
 
 pub returns-in-Err-clause-tied : goal.returns-in-Err-clause-tied
 returns-in-Err-clause-tied g c f p tied =
-    let laws = g.met.D.Disk g.world.𝓛 g.world.𝓜 g.world.𝓡 ((λ s x. x), (λ x. x), (λ x. x), λ x. x) in
+    let laws = g.met.D.Disk in
     let l = c.args.ledger.now in
     let new : Ledger g.row.D.Denot = record { journal = c.store.new.journal; books = c.store.new.self; freed = c.store.new.freed; alloc = l.alloc } in
     tied-moved g.D.Disk f laws.counted l new p tied c.in-Err.ensures.leaves (omega (arith, c.clear.ensures.capacity, c.in-Err.ensures.capacity))

@@ -15,14 +15,14 @@ clear_units-requires-clause-may g c κs within =
 
 pub returns-in-Ok-clear_units-clause-cleared : goal.returns-in-Ok-clear_units-clause-cleared
 returns-in-Ok-clear_units-clause-cleared g c =
-    let laws = g.met.D.Disk g.world.𝓛 g.world.𝓜 g.world.𝓡 ((λ s x. x), (λ x. x), (λ x. x), λ x. x) in
+    let laws = g.met.D.Disk in
     let done = c.in-Ok.ensures in
     let its = c.in-Ok-clear_units.ensures in
     then-cleared g.D.Disk c.args.ledger.now c.args.last.entry c.args.clearing.items c.end_doubt.new.ledger done.entries done.sure done.held laws.falls c.clear_units.new.ledger its.entries its.cleared
 
 pub returns-in-Err-clear_units-clause-failed : goal.returns-in-Err-clear_units-clause-failed
 returns-in-Err-clear_units-clause-failed g c =
-    let laws = g.met.D.Disk g.world.𝓛 g.world.𝓜 g.world.𝓡 ((λ s x. x), (λ x. x), (λ x. x), λ x. x) in
+    let laws = g.met.D.Disk in
     let done = c.in-Ok.ensures in
     then-failed g.D.Disk c.args.ledger.now c.args.last.entry c.args.clearing.items c.end_doubt.new.ledger done.entries done.sure done.held laws.falls c.clear_units.new.ledger c.in-Ok.last.entry done.last c.in-Err-clear_units.ensures.failed
 

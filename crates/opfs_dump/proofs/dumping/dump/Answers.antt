@@ -18,7 +18,7 @@ put_parts-requires-clause-lies g c κs within =
 
 pub invariant_of-from : goal.invariant_of-from
 invariant_of-from g c =
-    let laws = g.met.D.Disk g.world.𝓛 g.world.𝓜 g.world.𝓡 ((λ s x. x), (λ x. x), (λ x. x), λ x. x) in
+    let laws = g.met.D.Disk in
     let from = c.args.from.now in
     let reads = c.put_parts.ensures.reads in
     record {
@@ -29,7 +29,7 @@ invariant_of-from g c =
 
 pub returns-clause-dumps : goal.returns-clause-dumps
 returns-clause-dumps g c =
-    let laws = g.met.D.Disk g.world.𝓛 g.world.𝓜 g.world.𝓡 ((λ s x. x), (λ x. x), (λ x. x), λ x. x) in
+    let laws = g.met.D.Disk in
     let from = c.args.from.now in
     dumps_same g.D.Disk g.K.Sink laws.falls from.journal c.put_parts.new.journal c.args.sink.now c.put_parts.new.sink _ _ c.put_parts.result c.put_parts.ensures
     (λ x. ap (λ (n : ℕ). head_text from.geometry (persistent_in from.shed.buckets) ++ rest_text false n x from.tree) c.data_base-base.ensures.same ∙ text_whole from.geometry (data_base from.geometry) x (built_in from.tree from.shed))

@@ -3,5 +3,5 @@ use Rattle.opfs_dump.proofs.dumping.put_all_rows.Goals as goal
 
 pub returns-in-Err : goal.returns-in-Err
 returns-in-Err g c =
-    let laws = g.met.D.Disk g.world.𝓛 g.world.𝓜 g.world.𝓡 ((λ s x. x), (λ x. x), (λ x. x), λ x. x) in
+    let laws = g.met.D.Disk in
     dumps_nothing g.D.Disk g.K.Sink laws.falls c.args.journal.now c.args.sink.now _

@@ -8,7 +8,7 @@ use Rattle.opfs_dump.proofs.files.put_bytes.Goals as goal
 
 pub loop-from-preserved : goal.loop-from-preserved
 loop-from-preserved g c =
-    let laws = g.met.D.Disk g.world.𝓛 g.world.𝓜 g.world.𝓡 ((λ s x. x), (λ x. x), (λ x. x), λ x. x) in
+    let laws = g.met.D.Disk in
     let at = c.loop-from.invariant in
     let from : ℕ = c.loop-from.from in
     let n : ℕ = c.min-len.result in
@@ -22,7 +22,7 @@ loop-from-preserved g c =
 
 pub returns-in-Err : goal.returns-in-Err
 returns-in-Err g c =
-    let laws = g.met.D.Disk g.world.𝓛 g.world.𝓜 g.world.𝓡 ((λ s x. x), (λ x. x), (λ x. x), λ x. x) in
+    let laws = g.met.D.Disk in
     let at = c.loop-from.invariant in
     let from : ℕ = c.loop-from.from in
     let n : ℕ = c.min-len.result in
@@ -33,7 +33,7 @@ returns-in-Err g c =
 
 pub returns : goal.returns
 returns g c =
-    let laws = g.met.D.Disk g.world.𝓛 g.world.𝓜 g.world.𝓡 ((λ s x. x), (λ x. x), (λ x. x), λ x. x) in
+    let laws = g.met.D.Disk in
     let at = c.loop-from.invariant in
     dumped g.D.Disk g.K.Sink laws.falls tt c.args.journal.now c.loop-from.journal c.args.sink.now c.loop-from.sink
     (λ (x : List ℕ). digits_text (window x c.args.at c.args.count)) (λ (x : List ℕ). digits_text (window x (c.args.at + c.loop-from.from) (c.args.count - c.loop-from.from))) at.so_far

@@ -6,7 +6,7 @@ use Rattle.opfs_dump.proofs.files.put_piece.Goals as goal
 
 pub returns-in-Ok : goal.returns-in-Ok
 returns-in-Ok g c =
-    let laws = g.met.D.Disk g.world.𝓛 g.world.𝓜 g.world.𝓡 ((λ s x. x), (λ x. x), (λ x. x), λ x. x) in
+    let laws = g.met.D.Disk in
     let e = c.in-Ok.ensures in
     read_put g.D.Disk g.K.Sink laws.falls c.args.journal.now c.get.new.self c.args.sink.now c.put_digits.new.sink _ _ c.put_digits.result (record {
       stays = e.stays;
@@ -19,7 +19,7 @@ returns-in-Ok g c =
 
 pub returns-in-Err : goal.returns-in-Err
 returns-in-Err g c =
-    let laws = g.met.D.Disk g.world.𝓛 g.world.𝓜 g.world.𝓡 ((λ s x. x), (λ x. x), (λ x. x), λ x. x) in
+    let laws = g.met.D.Disk in
     let e = c.in-Err.ensures in
     read_failed g.D.Disk g.K.Sink laws.falls c.args.journal.now c.get.new.self c.args.sink.now _ (record {
       stays = e.stays;

@@ -9,7 +9,7 @@ use Rattle.opfs_dump.proofs.files.put_runs.Goals as goal
 
 pub loop-extent-preserved : goal.loop-extent-preserved
 loop-extent-preserved g c =
-    let laws = g.met.D.Disk g.world.𝓛 g.world.𝓜 g.world.𝓡 ((λ s x. x), (λ x. x), (λ x. x), λ x. x) in
+    let laws = g.met.D.Disk in
     let at = c.loop-extent.invariant in
     let es : List Extent = c.args.extents.now in
     let i = c.loop-extent.extent-index in
@@ -34,7 +34,7 @@ loop-extent-preserved g c =
 
 pub returns-in-Err : goal.returns-in-Err
 returns-in-Err g c =
-    let laws = g.met.D.Disk g.world.𝓛 g.world.𝓜 g.world.𝓡 ((λ s x. x), (λ x. x), (λ x. x), λ x. x) in
+    let laws = g.met.D.Disk in
     let at = c.loop-extent.invariant in
     let es : List Extent = c.args.extents.now in
     let i = c.loop-extent.extent-index in
@@ -55,7 +55,7 @@ returns-in-Err g c =
 
 pub returns : goal.returns
 returns g c =
-    let laws = g.met.D.Disk g.world.𝓛 g.world.𝓜 g.world.𝓡 ((λ s x. x), (λ x. x), (λ x. x), λ x. x) in
+    let laws = g.met.D.Disk in
     let at = c.loop-extent.invariant in
     let es : List Extent = c.args.extents.now in
     let over : List Extent = drop c.loop-extent.extent-index es in

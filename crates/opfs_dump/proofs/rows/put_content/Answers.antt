@@ -7,7 +7,7 @@ use Rattle.opfs_dump.proofs.rows.put_content.Goals as goal
 
 pub returns-in-Ok : goal.returns-in-Ok
 returns-in-Ok g c =
-    let laws = g.met.D.Disk g.world.𝓛 g.world.𝓜 g.world.𝓡 ((λ s x. x), (λ x. x), (λ x. x), λ x. x) in
+    let laws = g.met.D.Disk in
     then_dumps g.D.Disk g.K.Sink laws.falls tt c.put_text.result c.args.journal.now c.put_runs.new.journal c.put_runs.new.journal c.args.sink.now c.put_runs.new.sink c.put_text.new.sink _ _
     (λ (x : List ℕ). digits_text (bytes_of x c.args.base c.args.file.now.extents c.args.file.now.length) ++ c.args.behind.now)
     c.in-Ok.ensures (dumps_puts g.D.Disk g.K.Sink laws.falls c.put_runs.new.journal c.put_runs.new.sink c.put_text.new.sink c.args.behind.now c.put_text.result c.put_text.ensures)
@@ -15,7 +15,7 @@ returns-in-Ok g c =
 
 pub returns-in-Err : goal.returns-in-Err
 returns-in-Err g c =
-    let laws = g.met.D.Disk g.world.𝓛 g.world.𝓜 g.world.𝓡 ((λ s x. x), (λ x. x), (λ x. x), λ x. x) in
+    let laws = g.met.D.Disk in
     first_failed g.D.Disk g.K.Sink laws.falls c.in-Err.stop c.args.journal.now c.put_runs.new.journal c.args.sink.now c.put_runs.new.sink _ (λ x. c.args.behind.now)
     (λ (x : List ℕ). digits_text (bytes_of x c.args.base c.args.file.now.extents c.args.file.now.length) ++ c.args.behind.now)
     c.in-Err.ensures (λ x. ap (λ (es : List Extent). digits_text (bytes_of x c.args.base es c.args.file.now.length) ++ c.args.behind.now) c.as_slice-extents.ensures)

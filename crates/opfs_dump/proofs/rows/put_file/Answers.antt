@@ -8,12 +8,12 @@ use Rattle.opfs_dump.proofs.rows.put_file.Goals as goal
 
 pub returns-in-Err : goal.returns-in-Err
 returns-in-Err g c =
-    let laws = g.met.D.Disk g.world.𝓛 g.world.𝓜 g.world.𝓡 ((λ s x. x), (λ x. x), (λ x. x), λ x. x) in
+    let laws = g.met.D.Disk in
     dumps_nothing g.D.Disk g.K.Sink laws.falls c.args.journal.now c.args.sink.now _
 
 pub returns-in-Ok-put_text : goal.returns-in-Ok-put_text
 returns-in-Ok-put_text g c =
-    let laws = g.met.D.Disk g.world.𝓛 g.world.𝓜 g.world.𝓡 ((λ s x. x), (λ x. x), (λ x. x), λ x. x) in
+    let laws = g.met.D.Disk in
     let f = c.args.file.now in
     let bytes : List ℕ → Text = λ x. bytes_of x c.args.base f.extents f.length in
     then_dumps g.D.Disk g.K.Sink laws.falls tt c.put_content.result c.args.journal.now c.args.journal.now c.put_content.new.journal c.args.sink.now c.put_text.new.sink c.put_content.new.sink
@@ -23,7 +23,7 @@ returns-in-Ok-put_text g c =
 
 pub returns : goal.returns
 returns g c =
-    let laws = g.met.D.Disk g.world.𝓛 g.world.𝓜 g.world.𝓡 ((λ s x. x), (λ x. x), (λ x. x), λ x. x) in
+    let laws = g.met.D.Disk in
     let f = c.args.file.now in
     let bytes : List ℕ → Text = λ x. bytes_of x c.args.base f.extents f.length in
     first_failed g.D.Disk g.K.Sink laws.falls c.in-Err-put_text.stop c.args.journal.now c.args.journal.now c.args.sink.now c.put_text.new.sink

@@ -23,7 +23,7 @@ loop-row-smaller g c = fewer c.step.new.walk (rows_above c.loop-row.walk c.args.
 
 pub loop-row-preserved : goal.loop-row-preserved
 loop-row-preserved g c =
-    let laws = g.met.D.Disk g.world.𝓛 g.world.𝓜 g.world.𝓡 ((λ s x. x), (λ x. x), (λ x. x), λ x. x) in
+    let laws = g.met.D.Disk in
     let at = c.loop-row.invariant in
     let base = c.args.base in
     let later = c.loop-row.later in
@@ -40,7 +40,7 @@ loop-row-preserved g c =
 
 pub returns-in-Err : goal.returns-in-Err
 returns-in-Err g c =
-    let laws = g.met.D.Disk g.world.𝓛 g.world.𝓜 g.world.𝓡 ((λ s x. x), (λ x. x), (λ x. x), λ x. x) in
+    let laws = g.met.D.Disk in
     let at = c.loop-row.invariant in
     let base = c.args.base in
     let later = c.loop-row.later in
@@ -54,7 +54,7 @@ returns-in-Err g c =
 
 pub returns : goal.returns
 returns g c =
-    let laws = g.met.D.Disk g.world.𝓛 g.world.𝓜 g.world.𝓡 ((λ s x. x), (λ x. x), (λ x. x), λ x. x) in
+    let laws = g.met.D.Disk in
     let base = c.args.base in
     let later = c.loop-row.later in
     let above : Rows = rows_above c.loop-row.walk c.args.tree.now in

@@ -6,7 +6,7 @@ use Rattle.opfs_image.proofs.formatting.format.Goals as goal
 
 pub returns-clause-image : goal.returns-clause-image
 returns-clause-image g c = λ told.
-    let laws = g.met.D.Disk g.world.𝓛 g.world.𝓜 g.world.𝓡 ((λ s x. x), (λ x. x), (λ x. x), λ x. x) in
+    let laws = g.met.D.Disk in
     let c0 = g.D.Disk.content c.write_areas.new.disk in
     let c1 = g.D.Disk.content c.write_superblock.new.disk in
     let empty = still_empty c0 c1 (areas_of c.args.geometry) (omega arith) (c.in_ok-write_superblock.ensures.behind told) (subst (λ a. IsEmptyJournal a c0) c.journal_areas.ensures (c.in_ok-write_areas.ensures.empty told)) in
@@ -15,7 +15,7 @@ returns-clause-image g c = λ told.
 
 pub returns-clause-stands : goal.returns-clause-stands
 returns-clause-stands g c = λ told.
-    let laws = g.met.D.Disk g.world.𝓛 g.world.𝓜 g.world.𝓡 ((λ s x. x), (λ x. x), (λ x. x), λ x. x) in
+    let laws = g.met.D.Disk in
     let c0 = g.D.Disk.content c.write_areas.new.disk in
     let c1 = g.D.Disk.content c.write_superblock.new.disk in
     let empty = still_empty c0 c1 (areas_of c.args.geometry) (omega arith) (c.in_ok-write_superblock.ensures.behind told) (subst (λ a. IsEmptyJournal a c0) c.journal_areas.ensures (c.in_ok-write_areas.ensures.empty told)) in

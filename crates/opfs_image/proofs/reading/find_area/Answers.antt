@@ -11,7 +11,7 @@ use Rattle.opfs_image.proofs.reading.find_area.Goals as goal
 
 pub returns-in_err-ruling-clause-only : goal.returns-in_err-ruling-clause-only
 returns-in_err-ruling-clause-only g c =
-    let laws = g.met.D.Disk g.world.𝓛 g.world.𝓜 g.world.𝓡 ((λ s x. x), (λ x. x), (λ x. x), λ x. x) in
+    let laws = g.met.D.Disk in
     only_more g.D.Disk laws.falls c.args.disk.now c.read_geometry.new.disk c.find_ruling.new.disk c.read_geometry.ensures.only c.find_ruling.ensures.only
 
 pub returns-in_err-ruling-clause-refused : goal.returns-in_err-ruling-clause-refused
@@ -27,7 +27,7 @@ returns-in_err-ruling-clause-refused g c =
 
 pub returns-then-not-is_of_format-clause-only : goal.returns-then-not-is_of_format-clause-only
 returns-then-not-is_of_format-clause-only g c =
-    let laws = g.met.D.Disk g.world.𝓛 g.world.𝓜 g.world.𝓡 ((λ s x. x), (λ x. x), (λ x. x), λ x. x) in
+    let laws = g.met.D.Disk in
     only_more g.D.Disk laws.falls c.args.disk.now c.read_geometry.new.disk c.find_ruling.new.disk c.read_geometry.ensures.only c.find_ruling.ensures.only
 
 pub returns-then-not-is_of_format-clause-refused : goal.returns-then-not-is_of_format-clause-refused
@@ -42,7 +42,7 @@ returns-then-not-is_of_format-clause-refused g c = inr (inr (λ told.
 
 pub returns-clause-only : goal.returns-clause-only
 returns-clause-only g c =
-    let laws = g.met.D.Disk g.world.𝓛 g.world.𝓜 g.world.𝓡 ((λ s x. x), (λ x. x), (λ x. x), λ x. x) in
+    let laws = g.met.D.Disk in
     only_more g.D.Disk laws.falls c.args.disk.now c.read_geometry.new.disk c.find_ruling.new.disk c.read_geometry.ensures.only c.find_ruling.ensures.only
 
 pub returns-clause-found : goal.returns-clause-found

@@ -9,12 +9,12 @@ use Rattle.opfs_image.proofs.reading.read_image.Goals as goal
 
 pub returns-in_err-parts-clause-only : goal.returns-in_err-parts-clause-only
 returns-in_err-parts-clause-only g c =
-    let laws = g.met.D.Disk g.world.𝓛 g.world.𝓜 g.world.𝓡 ((λ s x. x), (λ x. x), (λ x. x), λ x. x) in
+    let laws = g.met.D.Disk in
     only_more g.D.Disk laws.falls c.args.disk.now c.find_area.new.disk c.rebuild.new.disk c.find_area.ensures.only c.rebuild.ensures.only
 
 pub returns-then-area-saturating_add-clause-only : goal.returns-then-area-saturating_add-clause-only
 returns-then-area-saturating_add-clause-only g c =
-    let laws = g.met.D.Disk g.world.𝓛 g.world.𝓜 g.world.𝓡 ((λ s x. x), (λ x. x), (λ x. x), λ x. x) in
+    let laws = g.met.D.Disk in
     only_more g.D.Disk laws.falls c.args.disk.now c.find_area.new.disk c.rebuild.new.disk c.find_area.ensures.only c.rebuild.ensures.only
 
 pub returns-then-area-saturating_add-clause-refused : goal.returns-then-area-saturating_add-clause-refused
@@ -29,7 +29,7 @@ returns-then-area-saturating_add-clause-refused g c = inr (inr (λ told.
 
 pub returns-clause-only : goal.returns-clause-only
 returns-clause-only g c =
-    let laws = g.met.D.Disk g.world.𝓛 g.world.𝓜 g.world.𝓡 ((λ s x. x), (λ x. x), (λ x. x), λ x. x) in
+    let laws = g.met.D.Disk in
     only_more g.D.Disk laws.falls c.args.disk.now c.find_area.new.disk c.rebuild.new.disk c.find_area.ensures.only c.rebuild.ensures.only
 
 pub returns-clause-image : goal.returns-clause-image

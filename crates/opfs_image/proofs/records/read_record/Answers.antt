@@ -3,5 +3,5 @@ use Rattle.opfs_image.proofs.records.read_record.Goals as goal
 
 pub returns-in_err-read_body-clause-only : goal.returns-in_err-read_body-clause-only
 returns-in_err-read_body-clause-only g c =
-    let laws = g.met.D.Disk g.world.𝓛 g.world.𝓜 g.world.𝓡 ((λ s x. x), (λ x. x), (λ x. x), λ x. x) in
+    let laws = g.met.D.Disk in
     only_more g.D.Disk laws.falls c.args.disk.now c.read_gate.new.disk c.read_body.new.disk c.read_gate.ensures.only c.read_body.ensures.only

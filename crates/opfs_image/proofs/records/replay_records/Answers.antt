@@ -8,7 +8,7 @@ use Rattle.opfs_image.proofs.records.replay_records.Goals as goal
 
 pub returns-in_err-len-clause-only : goal.returns-in_err-len-clause-only
 returns-in_err-len-clause-only g c =
-    let laws = g.met.D.Disk g.world.𝓛 g.world.𝓜 g.world.𝓡 ((λ s x. x), (λ x. x), (λ x. x), λ x. x) in
+    let laws = g.met.D.Disk in
     only_more g.D.Disk laws.falls c.args.disk.now c.gates.disk c.read_record.new.disk c.gates.invariant.only c.read_record.ensures.only
 
 pub returns-in_err-len-clause-refused : goal.returns-in_err-len-clause-refused
@@ -31,7 +31,7 @@ returns-in_err-len-clause-refused g c =
 
 pub returns-in_default-clause-only : goal.returns-in_default-clause-only
 returns-in_default-clause-only g c =
-    let laws = g.met.D.Disk g.world.𝓛 g.world.𝓜 g.world.𝓡 ((λ s x. x), (λ x. x), (λ x. x), λ x. x) in
+    let laws = g.met.D.Disk in
     only_more g.D.Disk laws.falls c.args.disk.now c.gates.disk c.read_record.new.disk c.gates.invariant.only c.read_record.ensures.only
 
 pub returns-in_default-clause-built : goal.returns-in_default-clause-built
@@ -43,7 +43,7 @@ returns-in_default-clause-built g c = λ told.
 
 pub returns-in_err-replay-clause-only : goal.returns-in_err-replay-clause-only
 returns-in_err-replay-clause-only g c =
-    let laws = g.met.D.Disk g.world.𝓛 g.world.𝓜 g.world.𝓡 ((λ s x. x), (λ x. x), (λ x. x), λ x. x) in
+    let laws = g.met.D.Disk in
     only_more g.D.Disk laws.falls c.args.disk.now c.gates.disk c.read_record.new.disk c.gates.invariant.only c.read_record.ensures.only
 
 pub returns-in_err-replay-clause-refused : goal.returns-in_err-replay-clause-refused
@@ -66,7 +66,7 @@ returns-in_err-replay-clause-refused g c =
 
 pub gates-preserved : goal.gates-preserved
 gates-preserved g c =
-    let laws = g.met.D.Disk g.world.𝓛 g.world.𝓜 g.world.𝓡 ((λ s x. x), (λ x. x), (λ x. x), λ x. x) in
+    let laws = g.met.D.Disk in
     let at = c.gates.invariant in
     let bytes_is = rw c.deref.ensures.value at c.behind.ensures in
     let record_is = rw c.in-Some.is at c.in_ok-len.ensures.record in

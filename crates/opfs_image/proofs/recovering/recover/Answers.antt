@@ -8,7 +8,7 @@ use Rattle.opfs_image.proofs.recovering.recover.Goals as goal
 
 pub returns-in-Ok-clause-only_read : goal.returns-in-Ok-clause-only_read
 returns-in-Ok-clause-only_read g c =
-    let laws = g.met.D.Disk g.world.𝓛 g.world.𝓜 g.world.𝓡 ((λ s x. x), (λ x. x), (λ x. x), λ x. x) in
+    let laws = g.met.D.Disk in
     IfOk-weaker c.begin.result _ _ (λ all is. only_more g.D.Disk laws.falls c.args.disk c.read_image.new.disk all.journal.disk c.read_image.ensures.only is) c.begin.ensures.only_read
 
 pub returns-in-Ok-clause-refused : goal.returns-in-Ok-clause-refused
@@ -17,5 +17,5 @@ returns-in-Ok-clause-refused g c =
 
 pub returns-in-Ok-clause-only_read_err : goal.returns-in-Ok-clause-only_read_err
 returns-in-Ok-clause-only_read_err g c =
-    let laws = g.met.D.Disk g.world.𝓛 g.world.𝓜 g.world.𝓡 ((λ s x. x), (λ x. x), (λ x. x), λ x. x) in
+    let laws = g.met.D.Disk in
     IfErr-weaker c.begin.result _ _ (λ err is. only_more g.D.Disk laws.falls c.args.disk c.read_image.new.disk err.0 c.read_image.ensures.only is) c.begin.ensures.only_read_err

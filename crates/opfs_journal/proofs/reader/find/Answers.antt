@@ -12,7 +12,7 @@ use Rattle.opfs_journal.proofs.reader.find.Goals as goal
 
 pub returns-in_err-choose-clause-only : goal.returns-in_err-choose-clause-only
 returns-in_err-choose-clause-only g c =
-    let laws = g.met.D.Disk g.world.𝓛 g.world.𝓜 g.world.𝓡 ((λ s x. x), (λ x. x), (λ x. x), λ x. x) in
+    let laws = g.met.D.Disk in
     let synced : OnlyRead g.D.Disk c.args.disk.now c.sync.new.self =
     record { length = c.sync.ensures.size; later = c.sync.ensures.later; told = λ told. record { same = c.sync.ensures.same told; time = c.sync.ensures.time told; moments = c.sync.ensures.moments told } } in
     let both = only_more g.D.Disk laws.falls c.args.disk.now c.sync.new.self c.read_heads.new.disk synced c.read_heads.ensures.only in
@@ -20,17 +20,17 @@ returns-in_err-choose-clause-only g c =
 
 pub read_ruling-requires-clause-durable : goal.read_ruling-requires-clause-durable
 read_ruling-requires-clause-durable g c =
-    let laws = g.met.D.Disk g.world.𝓛 g.world.𝓜 g.world.𝓡 ((λ s x. x), (λ x. x), (λ x. x), λ x. x) in
-    λ _ _ told. still_durable g.D.Disk laws.falls c.sync.new.self c.read_heads.new.disk c.read_heads.ensures.only told (c.in_ok-sync.ensures.durable told)
+    let laws = g.met.D.Disk in
+    λ told. still_durable g.D.Disk laws.falls c.sync.new.self c.read_heads.new.disk c.read_heads.ensures.only told (c.in_ok-sync.ensures.durable told)
 
 pub read_ruling-requires-else-branch-clause-durable : goal.read_ruling-requires-else-branch-clause-durable
 read_ruling-requires-else-branch-clause-durable g c =
-    let laws = g.met.D.Disk g.world.𝓛 g.world.𝓜 g.world.𝓡 ((λ s x. x), (λ x. x), (λ x. x), λ x. x) in
-    λ _ _ told. still_durable g.D.Disk laws.falls c.sync.new.self c.read_heads.new.disk c.read_heads.ensures.only told (c.in_ok-sync.ensures.durable told)
+    let laws = g.met.D.Disk in
+    λ told. still_durable g.D.Disk laws.falls c.sync.new.self c.read_heads.new.disk c.read_heads.ensures.only told (c.in_ok-sync.ensures.durable told)
 
 pub returns-then-branch-clause-only : goal.returns-then-branch-clause-only
 returns-then-branch-clause-only g c =
-    let laws = g.met.D.Disk g.world.𝓛 g.world.𝓜 g.world.𝓡 ((λ s x. x), (λ x. x), (λ x. x), λ x. x) in
+    let laws = g.met.D.Disk in
     let synced : OnlyRead g.D.Disk c.args.disk.now c.sync.new.self =
     record { length = c.sync.ensures.size; later = c.sync.ensures.later; told = λ told. record { same = c.sync.ensures.same told; time = c.sync.ensures.time told; moments = c.sync.ensures.moments told } } in
     let both = only_more g.D.Disk laws.falls c.args.disk.now c.sync.new.self c.read_heads.new.disk synced c.read_heads.ensures.only in
@@ -38,13 +38,13 @@ returns-then-branch-clause-only g c =
 
 pub returns-then-branch-clause-durable : goal.returns-then-branch-clause-durable
 returns-then-branch-clause-durable g c =
-    let laws = g.met.D.Disk g.world.𝓛 g.world.𝓜 g.world.𝓡 ((λ s x. x), (λ x. x), (λ x. x), λ x. x) in
+    let laws = g.met.D.Disk in
     let all = only_more g.D.Disk laws.falls c.sync.new.self c.read_heads.new.disk c.read_ruling.new.disk c.read_heads.ensures.only c.read_ruling.ensures.only in
     on_ok c.read_ruling.result (λ told. still_durable g.D.Disk laws.falls c.sync.new.self c.read_ruling.new.disk all told (c.in_ok-sync.ensures.durable told))
 
 pub returns-then-branch-clause-refused : goal.returns-then-branch-clause-refused
 returns-then-branch-clause-refused g c =
-    let laws = g.met.D.Disk g.world.𝓛 g.world.𝓜 g.world.𝓡 ((λ s x. x), (λ x. x), (λ x. x), λ x. x) in
+    let laws = g.met.D.Disk in
     let synced : OnlyRead g.D.Disk c.args.disk.now c.sync.new.self =
     record { length = c.sync.ensures.size; later = c.sync.ensures.later; told = λ told. record { same = c.sync.ensures.same told; time = c.sync.ensures.time told; moments = c.sync.ensures.moments told } } in
     let both = only_more g.D.Disk laws.falls c.args.disk.now c.sync.new.self c.read_heads.new.disk synced c.read_heads.ensures.only in
@@ -67,7 +67,7 @@ returns-then-branch-clause-refused g c =
 
 pub returns-else-branch-clause-only : goal.returns-else-branch-clause-only
 returns-else-branch-clause-only g c =
-    let laws = g.met.D.Disk g.world.𝓛 g.world.𝓜 g.world.𝓡 ((λ s x. x), (λ x. x), (λ x. x), λ x. x) in
+    let laws = g.met.D.Disk in
     let synced : OnlyRead g.D.Disk c.args.disk.now c.sync.new.self =
     record { length = c.sync.ensures.size; later = c.sync.ensures.later; told = λ told. record { same = c.sync.ensures.same told; time = c.sync.ensures.time told; moments = c.sync.ensures.moments told } } in
     let both = only_more g.D.Disk laws.falls c.args.disk.now c.sync.new.self c.read_heads.new.disk synced c.read_heads.ensures.only in
@@ -75,13 +75,13 @@ returns-else-branch-clause-only g c =
 
 pub returns-else-branch-clause-durable : goal.returns-else-branch-clause-durable
 returns-else-branch-clause-durable g c =
-    let laws = g.met.D.Disk g.world.𝓛 g.world.𝓜 g.world.𝓡 ((λ s x. x), (λ x. x), (λ x. x), λ x. x) in
+    let laws = g.met.D.Disk in
     let all = only_more g.D.Disk laws.falls c.sync.new.self c.read_heads.new.disk c.read_ruling-else-branch.new.disk c.read_heads.ensures.only c.read_ruling-else-branch.ensures.only in
     on_ok c.read_ruling-else-branch.result (λ told. still_durable g.D.Disk laws.falls c.sync.new.self c.read_ruling-else-branch.new.disk all told (c.in_ok-sync.ensures.durable told))
 
 pub returns-else-branch-clause-refused : goal.returns-else-branch-clause-refused
 returns-else-branch-clause-refused g c =
-    let laws = g.met.D.Disk g.world.𝓛 g.world.𝓜 g.world.𝓡 ((λ s x. x), (λ x. x), (λ x. x), λ x. x) in
+    let laws = g.met.D.Disk in
     let synced : OnlyRead g.D.Disk c.args.disk.now c.sync.new.self =
     record { length = c.sync.ensures.size; later = c.sync.ensures.later; told = λ told. record { same = c.sync.ensures.same told; time = c.sync.ensures.time told; moments = c.sync.ensures.moments told } } in
     let both = only_more g.D.Disk laws.falls c.args.disk.now c.sync.new.self c.read_heads.new.disk synced c.read_heads.ensures.only in

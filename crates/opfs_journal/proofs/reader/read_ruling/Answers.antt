@@ -43,7 +43,7 @@ returns-clause-told g c = λ told.
     let same = (c.walk.ensures.only.told told).same in
     let content = g.D.Disk.content c.args.disk.now in
     let now : List ℕ → Type 0 = λ i. g.D.Disk.since c.walk.new.disk (g.D.Disk.moment c.walk.new.disk) i in
-    let laws = g.met.D.Disk g.world.𝓛 g.world.𝓜 g.world.𝓡 ((λ s x. x), (λ x. x), (λ x. x), λ x. x) in
+    let laws = g.met.D.Disk in
     let left : (i : List ℕ) → now i → i ≡ content = λ i is.
     c.requires.durable told i ((c.walk.ensures.only.told told).moments i (laws.falls told c.walk.new.disk (g.D.Disk.moment c.args.disk.now) (g.D.Disk.moment c.walk.new.disk) i (c.walk.ensures.only.told told).time.later is)) in
     rw (at, same) (chosen_told a c.args.second head.open head.len head.generation other.open other.len other.generation (g.D.Disk.content c.args.disk.now) (record { opened = c.requires.open; good = c.requires.good; other_good = c.requires.other_good; rules = c.requires.rules }) (c.requires.head_is told) (c.requires.other_is told) now c.in_ok-tail.tail (c.begin-begin.result + 5 + head.len) (ap (λ x. x + 5 + head.len) at) (c.in_ok-tail.ensures.leads told) (c.in_ok-tail.ensures.shut told)

@@ -5,7 +5,7 @@ use Rattle.opfs_journal.proofs.reader.walk.Goals as goal
 
 pub gates-preserved : goal.gates-preserved
 gates-preserved g c =
-    let laws = g.met.D.Disk g.world.𝓛 g.world.𝓜 g.world.𝓡 ((λ s x. x), (λ x. x), (λ x. x), λ x. x) in
+    let laws = g.met.D.Disk in
     let at = c.gates.invariant in
     let open_is = rw c.in-Some.is at c.in_ok-len.ensures.open in
     let size_is = rw c.in-Some.is at c.in_ok-len.ensures.length in

@@ -13,7 +13,7 @@ use Rattle.opfs_load.proofs.laying.lay_over.Goals as goal
 
 pub returns-clause-stands : goal.returns-clause-stands
 returns-clause-stands g c =
-    let laws = g.met.D.Disk g.world.𝓛 g.world.𝓜 g.world.𝓡 ((λ s x. x), (λ x. x), (λ x. x), λ x. x) in
+    let laws = g.met.D.Disk in
     let w = c.write_all-written.ensures in
     let gm = c.args.dumped.now.geometry in
     let m = (dump_of c.args.dumped.now).map in

@@ -16,21 +16,21 @@ returns-in-Ok-clause-durable g c =
 
 pub returns-in-Ok-clause-moments : goal.returns-in-Ok-clause-moments
 returns-in-Ok-clause-moments g c =
-    let laws = g.met.D.Disk g.world.𝓛 g.world.𝓜 g.world.𝓡 ((λ s x. x), (λ x. x), (λ x. x), λ x. x) in
+    let laws = g.met.D.Disk in
     IfOk-weaker c.raise_image.result _ _ (λ done is told.
     let whole = moved_more g.D.Disk laws.falls c.args.disk c.read_plan.new.disk done.0 c.read_plan.ensures.only is in
     (whole.told told).images) c.raise_image.ensures.moved
 
 pub returns-in-Ok-clause-moments_err : goal.returns-in-Ok-clause-moments_err
 returns-in-Ok-clause-moments_err g c =
-    let laws = g.met.D.Disk g.world.𝓛 g.world.𝓜 g.world.𝓡 ((λ s x. x), (λ x. x), (λ x. x), λ x. x) in
+    let laws = g.met.D.Disk in
     IfErr-weaker c.raise_image.result _ _ (λ err is told.
     let whole = moved_more g.D.Disk laws.falls c.args.disk c.read_plan.new.disk err.0 c.read_plan.ensures.only is in
     (whole.told told).images) c.raise_image.ensures.moved_err
 
 pub returns-in-Ok-clause-only_read_err : goal.returns-in-Ok-clause-only_read_err
 returns-in-Ok-clause-only_read_err g c =
-    let laws = g.met.D.Disk g.world.𝓛 g.world.𝓜 g.world.𝓡 ((λ s x. x), (λ x. x), (λ x. x), λ x. x) in
+    let laws = g.met.D.Disk in
     IfErr-weaker c.raise_image.result _ _ (λ err is no_fault. elim is [
       | inl fault ↦ absurd (no_fault fault)
       | inr only ↦ only_more g.D.Disk laws.falls c.args.disk c.read_plan.new.disk err.0 c.read_plan.ensures.only only

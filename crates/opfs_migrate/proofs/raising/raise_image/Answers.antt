@@ -17,7 +17,7 @@ raise_over-requires-clause-records g c κs within = λ told.
 
 pub returns-in-Ok-clause-moved : goal.returns-in-Ok-clause-moved
 returns-in-Ok-clause-moved g c =
-    let laws = g.met.D.Disk g.world.𝓛 g.world.𝓜 g.world.𝓡 ((λ s x. x), (λ x. x), (λ x. x), λ x. x) in
+    let laws = g.met.D.Disk in
     IfOk-weaker c.raise_over.result _ _ (λ done is. moved_more g.D.Disk laws.falls c.args.disk c.in-Ok.journal.disk done.0 c.in-Ok.ensures.only_read is) c.raise_over.ensures.moved
 
 pub returns-in-Ok-clause-stands : goal.returns-in-Ok-clause-stands
@@ -30,12 +30,12 @@ returns-in-Ok-clause-durable g c =
 
 pub returns-in-Ok-clause-moved_err : goal.returns-in-Ok-clause-moved_err
 returns-in-Ok-clause-moved_err g c =
-    let laws = g.met.D.Disk g.world.𝓛 g.world.𝓜 g.world.𝓡 ((λ s x. x), (λ x. x), (λ x. x), λ x. x) in
+    let laws = g.met.D.Disk in
     IfErr-weaker c.raise_over.result _ _ (λ err is. moved_more g.D.Disk laws.falls c.args.disk c.in-Ok.journal.disk err.0 c.in-Ok.ensures.only_read is) c.raise_over.ensures.moved_err
 
 pub returns-in-Err-clause-moved_err : goal.returns-in-Err-clause-moved_err
 returns-in-Err-clause-moved_err g c =
-    let laws = g.met.D.Disk g.world.𝓛 g.world.𝓜 g.world.𝓡 ((λ s x. x), (λ x. x), (λ x. x), λ x. x) in
+    let laws = g.met.D.Disk in
     only_moved g.D.Disk laws.falls c.args.disk c.in-Err.disk c.in-Err.ensures.only_read_err
 
 pub returns-in-Err-clause-untold : goal.returns-in-Err-clause-untold

@@ -9,7 +9,7 @@ use Rattle.opfs_migrate.proofs.raising.raise_over.Goals as goal
 
 pub returns-in-Ok-clause-stands : goal.returns-in-Ok-clause-stands
 returns-in-Ok-clause-stands g c = λ told.
-    let laws = g.met.D.Disk g.world.𝓛 g.world.𝓜 g.world.𝓡 ((λ s x. x), (λ x. x), (λ x. x), λ x. x) in
+    let laws = g.met.D.Disk in
     let plan = c.args.plan in
     let k = c.args.journal in
     let before = g.D.Disk.content k.disk in

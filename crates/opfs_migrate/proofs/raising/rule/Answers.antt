@@ -12,7 +12,7 @@ returns-then-format-ne1-clause-untold g c = inr (inr (λ told.
 
 pub returns-clause-moved : goal.returns-clause-moved
 returns-clause-moved g c =
-    let laws = g.met.D.Disk g.world.𝓛 g.world.𝓜 g.world.𝓡 ((λ s x. x), (λ x. x), (λ x. x), λ x. x) in
+    let laws = g.met.D.Disk in
     moved_by g.D.Disk laws.falls laws.full laws.whole
     c.args.plan.now.geometry c.args.plan.now.files c.args.plan.now.body.items c.deref.result.now c.args.journal.now c.reserve.new.self c.write_over.new.journal.disk c.reserve.ensures.same c.deref.ensures.value
     (λ told. record { areas = c.requires.areas; planned = c.requires.planned told; records = c.requires.records told; one_image = c.requires.one_image told })
@@ -20,7 +20,7 @@ returns-clause-moved g c =
 
 pub returns-clause-durable : goal.returns-clause-durable
 returns-clause-durable g c =
-    let laws = g.met.D.Disk g.world.𝓛 g.world.𝓜 g.world.𝓡 ((λ s x. x), (λ x. x), (λ x. x), λ x. x) in
+    let laws = g.met.D.Disk in
     on_ok_weaker c.write_over.result (durable_by g.D.Disk laws.falls laws.full laws.whole
     c.args.plan.now.geometry c.args.plan.now.files c.args.plan.now.body.items c.deref.result.now c.args.journal.now c.reserve.new.self c.write_over.new.journal.disk c.reserve.ensures.same c.deref.ensures.value
     (λ told. record { areas = c.requires.areas; planned = c.requires.planned told; records = c.requires.records told; one_image = c.requires.one_image told })

@@ -7,7 +7,7 @@ use Rattle.opfs_pages.proofs.calls.walk_changes.Goals as goal
 
 pub returns-clause-staged : goal.returns-clause-staged
 returns-clause-staged g c =
-    let laws = g.met.D.Disk g.world.𝓛 g.world.𝓜 g.world.𝓡 ((λ s x. x), (λ x. x), (λ x. x), λ x. x) in
+    let laws = g.met.D.Disk in
     let s : Stage = record {
       own = c.args.space.now.own;
       swap = c.args.swap.now;

@@ -6,7 +6,7 @@ use Rattle.opfs_pages.proofs.stages.stage_range.Goals as goal
 
 pub loop-page-preserved : goal.loop-page-preserved
 loop-page-preserved g c =
-    let laws = g.met.D.Disk g.world.𝓛 g.world.𝓜 g.world.𝓡 ((λ s x. x), (λ x. x), (λ x. x), λ x. x) in
+    let laws = g.met.D.Disk in
     let at = c.loop-page.invariant in
     let s : Stage = record {
       own = c.args.space.now.own;

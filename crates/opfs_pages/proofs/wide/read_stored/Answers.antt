@@ -8,7 +8,7 @@ use Rattle.opfs_pages.proofs.wide.read_stored.Goals as goal
 
 pub loop-done-preserved : goal.loop-done-preserved
 loop-done-preserved g c =
-    let laws = g.met.D.Disk g.world.𝓛 g.world.𝓜 g.world.𝓡 ((λ s x. x), (λ x. x), (λ x. x), λ x. x) in
+    let laws = g.met.D.Disk in
     let was = c.loop-done.invariant in
     let part = c.copy_part-done.ensures in
     let place : ℕ = c.args.at + c.loop-done.done in

@@ -13,7 +13,7 @@ check_text-requires-clause-lies g c κs within =
 
 pub invariant_of-from : goal.invariant_of-from
 invariant_of-from g c =
-    let laws = g.met.D.Disk g.world.𝓛 g.world.𝓜 g.world.𝓡 ((λ s x. x), (λ x. x), (λ x. x), λ x. x) in
+    let laws = g.met.D.Disk in
     let from = c.args.from.now in
     record {
       agrees = from.agrees;

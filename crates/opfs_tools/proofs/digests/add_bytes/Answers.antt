@@ -7,7 +7,7 @@ use Rattle.opfs_tools.proofs.digests.add_bytes.Goals as goal
 
 pub loop-from-preserved : goal.loop-from-preserved
 loop-from-preserved g c =
-    let laws = g.met.D.Disk g.world.𝓛 g.world.𝓜 g.world.𝓡 ((λ s x. x), (λ x. x), (λ x. x), λ x. x) in
+    let laws = g.met.D.Disk in
     let at = c.loop-from.invariant in
     let content : List ℕ = g.D.Disk.content c.args.journal.now.disk in
     let from : ℕ = c.loop-from.from in

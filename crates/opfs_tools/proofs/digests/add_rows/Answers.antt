@@ -13,7 +13,7 @@ use Rattle.opfs_tools.proofs.digests.add_rows.Goals as goal
 pub loop-row-init : goal.loop-row-init
 loop-row-init g c = record {
   lies = subst (λ (w : Option Place). RowsLie c.args.base (g.D.Disk.size c.args.journal.now.disk) (rows_above w c.args.tree.now)) (sym c.make-walk.ensures) c.requires.lies;
-  reads = reads_nothing g.D.Disk (g.met.D.Disk g.world.𝓛 g.world.𝓜 g.world.𝓡 ((λ s x. x), (λ x. x), (λ x. x), λ x. x)).falls c.args.journal.now;
+  reads = reads_nothing g.D.Disk (g.met.D.Disk).falls c.args.journal.now;
   text = λ told. ap (λ (w : Option Place). c.args.text.now.items ++ stored_lines c.args.base (g.D.Disk.content c.args.journal.now.disk) (rows_above w c.args.tree.now)) c.make-walk.ensures;
 }
 
@@ -31,7 +31,7 @@ loop-row-smaller g c = fewer c.step.new.walk (rows_above c.loop-row.walk c.args.
 
 pub loop-row-preserved : goal.loop-row-preserved
 loop-row-preserved g c =
-    let laws = g.met.D.Disk g.world.𝓛 g.world.𝓜 g.world.𝓡 ((λ s x. x), (λ x. x), (λ x. x), λ x. x) in
+    let laws = g.met.D.Disk in
     let at = c.loop-row.invariant in
     let f = c.in_ok-add_row.ensures in
     record {
@@ -46,7 +46,7 @@ loop-row-preserved g c =
 
 pub returns-in_err-add_row-clause-reads : goal.returns-in_err-add_row-clause-reads
 returns-in_err-add_row-clause-reads g c =
-    let laws = g.met.D.Disk g.world.𝓛 g.world.𝓜 g.world.𝓡 ((λ s x. x), (λ x. x), (λ x. x), λ x. x) in
+    let laws = g.met.D.Disk in
     let at = c.loop-row.invariant in
     reads_more g.D.Disk laws.falls c.args.journal.now c.loop-row.journal c.add_row.new.journal at.reads c.add_row.ensures.reads
 

@@ -10,7 +10,7 @@ use Rattle.opfs_tools.proofs.digests.digest_of.Goals as goal
 
 pub loop-extent-preserved : goal.loop-extent-preserved
 loop-extent-preserved g c =
-    let laws = g.met.D.Disk g.world.𝓛 g.world.𝓜 g.world.𝓡 ((λ s x. x), (λ x. x), (λ x. x), λ x. x) in
+    let laws = g.met.D.Disk in
     let at = c.loop-extent.invariant in
     let es : List Extent = c.args.extents.now in
     let i = c.loop-extent.extent-index in

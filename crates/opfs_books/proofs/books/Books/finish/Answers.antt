@@ -11,12 +11,12 @@ commit_kept-requires-clause-known g c κs within =
 
 pub returns-in-Ok-commit_kept-clause-leaves : goal.returns-in-Ok-commit_kept-clause-leaves
 returns-in-Ok-commit_kept-clause-leaves g c =
-    let laws = g.met.D.Disk g.world.𝓛 g.world.𝓜 g.world.𝓡 ((λ s x. x), (λ x. x), (λ x. x), λ x. x) in
+    let laws = g.met.D.Disk in
     both-leave g.D.Disk (λ t. laws.falls t) c.args.journal.now c.settle.new.journal c.commit_kept.new.journal c.settle.ensures.leaves c.commit_kept.ensures.leaves
 
 pub returns-in-Ok-commit_kept-clause-books : goal.returns-in-Ok-commit_kept-clause-books
 returns-in-Ok-commit_kept-clause-books g c f recorded base gone are =
-    let laws = g.met.D.Disk g.world.𝓛 g.world.𝓜 g.world.𝓡 ((λ s x. x), (λ x. x), (λ x. x), λ x. x) in
+    let laws = g.met.D.Disk in
     let b = book_of g.S.Shared c.args.self.now in
     let mid = book_of g.S.Shared c.settle.new.self in
     let sure = c.settle.ensures.books f recorded base gone are in
@@ -35,12 +35,12 @@ returns-in-Ok-commit_kept-clause-books g c f recorded base gone are =
 
 pub returns-in-Err-commit_kept-clause-leaves : goal.returns-in-Err-commit_kept-clause-leaves
 returns-in-Err-commit_kept-clause-leaves g c =
-    let laws = g.met.D.Disk g.world.𝓛 g.world.𝓜 g.world.𝓡 ((λ s x. x), (λ x. x), (λ x. x), λ x. x) in
+    let laws = g.met.D.Disk in
     both-leave g.D.Disk (λ t. laws.falls t) c.args.journal.now c.settle.new.journal c.commit_kept.new.journal c.settle.ensures.leaves c.commit_kept.ensures.leaves
 
 pub returns-in-Err-commit_kept-clause-books : goal.returns-in-Err-commit_kept-clause-books
 returns-in-Err-commit_kept-clause-books g c f recorded base gone are =
-    let laws = g.met.D.Disk g.world.𝓛 g.world.𝓜 g.world.𝓡 ((λ s x. x), (λ x. x), (λ x. x), λ x. x) in
+    let laws = g.met.D.Disk in
     let b = book_of g.S.Shared c.args.self.now in
     let mid = book_of g.S.Shared c.settle.new.self in
     let sure = c.settle.ensures.books f recorded base gone are in

@@ -10,7 +10,7 @@ use Rattle.opfs_journal.proofs.journal.Journal.append.Goals as goal
 
 pub returns-then-self-saturating_add-clause-moments : goal.returns-then-self-saturating_add-clause-moments
 returns-then-self-saturating_add-clause-moments g c =
-    let laws = g.met.D.Disk g.world.𝓛 g.world.𝓜 g.world.𝓡 ((λ s x. x), (λ x. x), (λ x. x), λ x. x) in
+    let laws = g.met.D.Disk in
     let j = c.self.inside in
     let was = c.self.invariant.0 in
     let old = j.disk in
@@ -27,8 +27,8 @@ returns-then-self-saturating_add-clause-known g c =
     let sure : j.doubt ≡ None = none_from j.doubt (rw (← c.self.view_is) at c.requires.settled) in
     rw (← c.self.view_is) (λ told _ i is. durable_at_rest g.D.Disk.content j.areas j.second j.generation j.tail j.closed j.spare old (g.D.Disk.since old (g.D.Disk.moment old)) j.doubt (was.told told) sure i is)
 
-pub write_synced-requires-after_bounds : goal.write_synced-requires-after_bounds
-write_synced-requires-after_bounds g c =
+pub write_synced-requires : goal.write_synced-requires
+write_synced-requires g c =
     let j = c.self.inside in
     let was = c.self.invariant.0 in
     let old = j.disk in
@@ -42,7 +42,7 @@ write_synced-requires-after_bounds g c =
 
 pub invariant_of-self : goal.invariant_of-self
 invariant_of-self g c =
-    let laws = g.met.D.Disk g.world.𝓛 g.world.𝓜 g.world.𝓡 ((λ s x. x), (λ x. x), (λ x. x), λ x. x) in
+    let laws = g.met.D.Disk in
     let j = c.self.inside in
     let was = c.self.invariant.0 in
     let old = j.disk in
@@ -61,7 +61,7 @@ invariant_of-self g c =
 
 pub returns-in_err-write_synced-clause-same_records : goal.returns-in_err-write_synced-clause-same_records
 returns-in_err-write_synced-clause-same_records g c =
-    let laws = g.met.D.Disk g.world.𝓛 g.world.𝓜 g.world.𝓡 ((λ s x. x), (λ x. x), (λ x. x), λ x. x) in
+    let laws = g.met.D.Disk in
     let j = c.self.inside in
     let was = c.self.invariant.0 in
     let old = j.disk in
@@ -75,7 +75,7 @@ returns-in_err-write_synced-clause-same_records g c =
 
 pub returns-in_err-write_synced-clause-outside : goal.returns-in_err-write_synced-clause-outside
 returns-in_err-write_synced-clause-outside g c =
-    let laws = g.met.D.Disk g.world.𝓛 g.world.𝓜 g.world.𝓡 ((λ s x. x), (λ x. x), (λ x. x), λ x. x) in
+    let laws = g.met.D.Disk in
     let j = c.self.inside in
     let was = c.self.invariant.0 in
     let old = j.disk in
@@ -89,7 +89,7 @@ returns-in_err-write_synced-clause-outside g c =
 
 pub returns-in_err-write_synced-clause-moments : goal.returns-in_err-write_synced-clause-moments
 returns-in_err-write_synced-clause-moments g c =
-    let laws = g.met.D.Disk g.world.𝓛 g.world.𝓜 g.world.𝓡 ((λ s x. x), (λ x. x), (λ x. x), λ x. x) in
+    let laws = g.met.D.Disk in
     let j = c.self.inside in
     let was = c.self.invariant.0 in
     let old = j.disk in
@@ -103,7 +103,7 @@ returns-in_err-write_synced-clause-moments g c =
 
 pub returns-in_err-write_synced-clause-known : goal.returns-in_err-write_synced-clause-known
 returns-in_err-write_synced-clause-known g c =
-    let laws = g.met.D.Disk g.world.𝓛 g.world.𝓜 g.world.𝓡 ((λ s x. x), (λ x. x), (λ x. x), λ x. x) in
+    let laws = g.met.D.Disk in
     let j = c.self.inside in
     let was = c.self.invariant.0 in
     let old = j.disk in
@@ -117,7 +117,7 @@ returns-in_err-write_synced-clause-known g c =
 
 pub invariant_of-self-then-is_err : goal.invariant_of-self-then-is_err
 invariant_of-self-then-is_err g c =
-    let laws = g.met.D.Disk g.world.𝓛 g.world.𝓜 g.world.𝓡 ((λ s x. x), (λ x. x), (λ x. x), λ x. x) in
+    let laws = g.met.D.Disk in
     let j = c.self.inside in
     let was = c.self.invariant.0 in
     let old = j.disk in
@@ -147,7 +147,7 @@ invariant_of-self-then-is_err g c =
 
 pub returns-then-is_err-clause-same_records : goal.returns-then-is_err-clause-same_records
 returns-then-is_err-clause-same_records g c =
-    let laws = g.met.D.Disk g.world.𝓛 g.world.𝓜 g.world.𝓡 ((λ s x. x), (λ x. x), (λ x. x), λ x. x) in
+    let laws = g.met.D.Disk in
     let j = c.self.inside in
     let was = c.self.invariant.0 in
     let old = j.disk in
@@ -163,7 +163,7 @@ returns-then-is_err-clause-same_records g c =
 
 pub returns-then-is_err-clause-doubt : goal.returns-then-is_err-clause-doubt
 returns-then-is_err-clause-doubt g c =
-    let laws = g.met.D.Disk g.world.𝓛 g.world.𝓜 g.world.𝓡 ((λ s x. x), (λ x. x), (λ x. x), λ x. x) in
+    let laws = g.met.D.Disk in
     let j = c.self.inside in
     let was = c.self.invariant.0 in
     let old = j.disk in
@@ -180,7 +180,7 @@ returns-then-is_err-clause-doubt g c =
 
 pub returns-then-is_err-clause-outside : goal.returns-then-is_err-clause-outside
 returns-then-is_err-clause-outside g c =
-    let laws = g.met.D.Disk g.world.𝓛 g.world.𝓜 g.world.𝓡 ((λ s x. x), (λ x. x), (λ x. x), λ x. x) in
+    let laws = g.met.D.Disk in
     let j = c.self.inside in
     let was = c.self.invariant.0 in
     let old = j.disk in
@@ -196,7 +196,7 @@ returns-then-is_err-clause-outside g c =
 
 pub returns-then-is_err-clause-time : goal.returns-then-is_err-clause-time
 returns-then-is_err-clause-time g c =
-    let laws = g.met.D.Disk g.world.𝓛 g.world.𝓜 g.world.𝓡 ((λ s x. x), (λ x. x), (λ x. x), λ x. x) in
+    let laws = g.met.D.Disk in
     let j = c.self.inside in
     let was = c.self.invariant.0 in
     let old = j.disk in
@@ -212,7 +212,7 @@ returns-then-is_err-clause-time g c =
 
 pub returns-then-is_err-clause-moments : goal.returns-then-is_err-clause-moments
 returns-then-is_err-clause-moments g c =
-    let laws = g.met.D.Disk g.world.𝓛 g.world.𝓜 g.world.𝓡 ((λ s x. x), (λ x. x), (λ x. x), λ x. x) in
+    let laws = g.met.D.Disk in
     let j = c.self.inside in
     let was = c.self.invariant.0 in
     let old = j.disk in
@@ -228,7 +228,7 @@ returns-then-is_err-clause-moments g c =
 
 pub returns-then-is_err-clause-behind : goal.returns-then-is_err-clause-behind
 returns-then-is_err-clause-behind g c =
-    let laws = g.met.D.Disk g.world.𝓛 g.world.𝓜 g.world.𝓡 ((λ s x. x), (λ x. x), (λ x. x), λ x. x) in
+    let laws = g.met.D.Disk in
     let j = c.self.inside in
     let was = c.self.invariant.0 in
     let old = j.disk in
@@ -244,7 +244,7 @@ returns-then-is_err-clause-behind g c =
 
 pub invariant_of-self-2 : goal.invariant_of-self-2
 invariant_of-self-2 g c =
-    let laws = g.met.D.Disk g.world.𝓛 g.world.𝓜 g.world.𝓡 ((λ s x. x), (λ x. x), (λ x. x), λ x. x) in
+    let laws = g.met.D.Disk in
     let j = c.self.inside in
     let was = c.self.invariant.0 in
     let old = j.disk in
@@ -274,7 +274,7 @@ invariant_of-self-2 g c =
 
 pub returns-clause-records : goal.returns-clause-records
 returns-clause-records g c =
-    let laws = g.met.D.Disk g.world.𝓛 g.world.𝓜 g.world.𝓡 ((λ s x. x), (λ x. x), (λ x. x), λ x. x) in
+    let laws = g.met.D.Disk in
     let j = c.self.inside in
     let was = c.self.invariant.0 in
     let old = j.disk in
@@ -291,7 +291,7 @@ returns-clause-records g c =
 
 pub returns-clause-outside : goal.returns-clause-outside
 returns-clause-outside g c =
-    let laws = g.met.D.Disk g.world.𝓛 g.world.𝓜 g.world.𝓡 ((λ s x. x), (λ x. x), (λ x. x), λ x. x) in
+    let laws = g.met.D.Disk in
     let j = c.self.inside in
     let was = c.self.invariant.0 in
     let old = j.disk in
@@ -308,7 +308,7 @@ returns-clause-outside g c =
 
 pub returns-clause-time : goal.returns-clause-time
 returns-clause-time g c =
-    let laws = g.met.D.Disk g.world.𝓛 g.world.𝓜 g.world.𝓡 ((λ s x. x), (λ x. x), (λ x. x), λ x. x) in
+    let laws = g.met.D.Disk in
     let j = c.self.inside in
     let was = c.self.invariant.0 in
     let old = j.disk in
@@ -325,7 +325,7 @@ returns-clause-time g c =
 
 pub returns-clause-moments : goal.returns-clause-moments
 returns-clause-moments g c =
-    let laws = g.met.D.Disk g.world.𝓛 g.world.𝓜 g.world.𝓡 ((λ s x. x), (λ x. x), (λ x. x), λ x. x) in
+    let laws = g.met.D.Disk in
     let j = c.self.inside in
     let was = c.self.invariant.0 in
     let old = j.disk in
@@ -342,7 +342,7 @@ returns-clause-moments g c =
 
 pub returns-clause-durable : goal.returns-clause-durable
 returns-clause-durable g c =
-    let laws = g.met.D.Disk g.world.𝓛 g.world.𝓜 g.world.𝓡 ((λ s x. x), (λ x. x), (λ x. x), λ x. x) in
+    let laws = g.met.D.Disk in
     let j = c.self.inside in
     let was = c.self.invariant.0 in
     let old = j.disk in

@@ -5,7 +5,7 @@ use Rattle.opfs_journal.proofs.journal.Journal.get.Goals as goal
 
 pub invariant_of-self : goal.invariant_of-self
 invariant_of-self g c =
-    let laws = g.met.D.Disk g.world.𝓛 g.world.𝓜 g.world.𝓡 ((λ s x. x), (λ x. x), (λ x. x), λ x. x) in
+    let laws = g.met.D.Disk in
     let j = c.self.inside in
     let was = c.self.invariant.0 in (
       record {

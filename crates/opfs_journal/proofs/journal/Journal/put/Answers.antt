@@ -8,7 +8,7 @@ use Rattle.opfs_journal.proofs.journal.Journal.put.Goals as goal
 
 pub invariant_of-self : goal.invariant_of-self
 invariant_of-self g c =
-    let laws = g.met.D.Disk g.world.𝓛 g.world.𝓜 g.world.𝓡 ((λ s x. x), (λ x. x), (λ x. x), λ x. x) in
+    let laws = g.met.D.Disk in
     let j = c.self.inside in
     let was = c.self.invariant.0 in
     let sure : j.doubt ≡ None = none_from j.doubt (rw (← c.self.view_is) at c.requires.settled) in (
@@ -23,7 +23,7 @@ invariant_of-self g c =
 
 pub returns-clause-records : goal.returns-clause-records
 returns-clause-records g c = λ told.
-    let laws = g.met.D.Disk g.world.𝓛 g.world.𝓜 g.world.𝓡 ((λ s x. x), (λ x. x), (λ x. x), λ x. x) in
+    let laws = g.met.D.Disk in
     let j = c.self.inside in
     let was = c.self.invariant.0 in
     let sure : j.doubt ≡ None = none_from j.doubt (rw (← c.self.view_is) at c.requires.settled) in

@@ -12,7 +12,7 @@ use Rattle.opfs_journal.proofs.journal.Journal.rule_anew.Goals as goal
 
 pub returns-then-self-saturating_add-clause-moments : goal.returns-then-self-saturating_add-clause-moments
 returns-then-self-saturating_add-clause-moments g c =
-    let laws = g.met.D.Disk g.world.𝓛 g.world.𝓜 g.world.𝓡 ((λ s x. x), (λ x. x), (λ x. x), λ x. x) in
+    let laws = g.met.D.Disk in
     let j = c.self.inside in
     let was = c.self.invariant.0 in
     let old = j.disk in
@@ -31,7 +31,7 @@ returns-then-self-saturating_add-clause-known g c =
 
 pub invariant_of-self : goal.invariant_of-self
 invariant_of-self g c =
-    let laws = g.met.D.Disk g.world.𝓛 g.world.𝓜 g.world.𝓡 ((λ s x. x), (λ x. x), (λ x. x), λ x. x) in
+    let laws = g.met.D.Disk in
     let j = c.self.inside in
     let was = c.self.invariant.0 in
     let old = j.disk in
@@ -50,7 +50,7 @@ invariant_of-self g c =
 
 pub returns-in_err-close_gate-clause-same_records : goal.returns-in_err-close_gate-clause-same_records
 returns-in_err-close_gate-clause-same_records g c =
-    let laws = g.met.D.Disk g.world.𝓛 g.world.𝓜 g.world.𝓡 ((λ s x. x), (λ x. x), (λ x. x), λ x. x) in
+    let laws = g.met.D.Disk in
     let j = c.self.inside in
     let was = c.self.invariant.0 in
     let old = j.disk in
@@ -64,7 +64,7 @@ returns-in_err-close_gate-clause-same_records g c =
 
 pub returns-in_err-close_gate-clause-outside : goal.returns-in_err-close_gate-clause-outside
 returns-in_err-close_gate-clause-outside g c =
-    let laws = g.met.D.Disk g.world.𝓛 g.world.𝓜 g.world.𝓡 ((λ s x. x), (λ x. x), (λ x. x), λ x. x) in
+    let laws = g.met.D.Disk in
     let j = c.self.inside in
     let was = c.self.invariant.0 in
     let old = j.disk in
@@ -78,7 +78,7 @@ returns-in_err-close_gate-clause-outside g c =
 
 pub returns-in_err-close_gate-clause-time : goal.returns-in_err-close_gate-clause-time
 returns-in_err-close_gate-clause-time g c =
-    let laws = g.met.D.Disk g.world.𝓛 g.world.𝓜 g.world.𝓡 ((λ s x. x), (λ x. x), (λ x. x), λ x. x) in
+    let laws = g.met.D.Disk in
     let j = c.self.inside in
     let was = c.self.invariant.0 in
     let old = j.disk in
@@ -92,7 +92,7 @@ returns-in_err-close_gate-clause-time g c =
 
 pub returns-in_err-close_gate-clause-moments : goal.returns-in_err-close_gate-clause-moments
 returns-in_err-close_gate-clause-moments g c =
-    let laws = g.met.D.Disk g.world.𝓛 g.world.𝓜 g.world.𝓡 ((λ s x. x), (λ x. x), (λ x. x), λ x. x) in
+    let laws = g.met.D.Disk in
     let j = c.self.inside in
     let was = c.self.invariant.0 in
     let old = j.disk in
@@ -106,7 +106,7 @@ returns-in_err-close_gate-clause-moments g c =
 
 pub returns-in_err-close_gate-clause-known : goal.returns-in_err-close_gate-clause-known
 returns-in_err-close_gate-clause-known g c =
-    let laws = g.met.D.Disk g.world.𝓛 g.world.𝓜 g.world.𝓡 ((λ s x. x), (λ x. x), (λ x. x), λ x. x) in
+    let laws = g.met.D.Disk in
     let j = c.self.inside in
     let was = c.self.invariant.0 in
     let old = j.disk in
@@ -118,8 +118,8 @@ returns-in_err-close_gate-clause-known g c =
     let shut : j.closed ≡ false = not_closed j.closed (λ e. absurd (cc (c.in_err-close_gate.ensures.ok e))) in
     rw (← c.self.view_is) (on_err c.from_residual.result (λ told _. closing.known1 g.D.Disk.content g.D.Disk.moment g.D.Disk.since (laws.falls told) j.areas j.second j.generation j.tail j.closed j.spare j.doubt old d1 (was.told told) sure was.bounds.least shut (torn_as g.D.Disk.content g.D.Disk.moment g.D.Disk.since c.begin-other.result (begin_of j.areas (not j.second)) (0 ∷ []) (0 ∷ []) old d1 at0 refl (c.close_gate.ensures.torn shut told))))
 
-pub write_synced-requires-after_bounds : goal.write_synced-requires-after_bounds
-write_synced-requires-after_bounds g c =
+pub write_synced-requires : goal.write_synced-requires
+write_synced-requires g c =
     let j = c.self.inside in
     let was = c.self.invariant.0 in
     let old = j.disk in
@@ -134,7 +134,7 @@ write_synced-requires-after_bounds g c =
 
 pub invariant_of-self-in_err-write_synced : goal.invariant_of-self-in_err-write_synced
 invariant_of-self-in_err-write_synced g c =
-    let laws = g.met.D.Disk g.world.𝓛 g.world.𝓜 g.world.𝓡 ((λ s x. x), (λ x. x), (λ x. x), λ x. x) in
+    let laws = g.met.D.Disk in
     let j = c.self.inside in
     let was = c.self.invariant.0 in
     let old = j.disk in
@@ -163,7 +163,7 @@ invariant_of-self-in_err-write_synced g c =
 
 pub returns-in_err-write_synced-clause-same_records : goal.returns-in_err-write_synced-clause-same_records
 returns-in_err-write_synced-clause-same_records g c =
-    let laws = g.met.D.Disk g.world.𝓛 g.world.𝓜 g.world.𝓡 ((λ s x. x), (λ x. x), (λ x. x), λ x. x) in
+    let laws = g.met.D.Disk in
     let j = c.self.inside in
     let was = c.self.invariant.0 in
     let old = j.disk in
@@ -179,7 +179,7 @@ returns-in_err-write_synced-clause-same_records g c =
 
 pub returns-in_err-write_synced-clause-outside : goal.returns-in_err-write_synced-clause-outside
 returns-in_err-write_synced-clause-outside g c =
-    let laws = g.met.D.Disk g.world.𝓛 g.world.𝓜 g.world.𝓡 ((λ s x. x), (λ x. x), (λ x. x), λ x. x) in
+    let laws = g.met.D.Disk in
     let j = c.self.inside in
     let was = c.self.invariant.0 in
     let old = j.disk in
@@ -195,7 +195,7 @@ returns-in_err-write_synced-clause-outside g c =
 
 pub returns-in_err-write_synced-clause-time : goal.returns-in_err-write_synced-clause-time
 returns-in_err-write_synced-clause-time g c =
-    let laws = g.met.D.Disk g.world.𝓛 g.world.𝓜 g.world.𝓡 ((λ s x. x), (λ x. x), (λ x. x), λ x. x) in
+    let laws = g.met.D.Disk in
     let j = c.self.inside in
     let was = c.self.invariant.0 in
     let old = j.disk in
@@ -211,7 +211,7 @@ returns-in_err-write_synced-clause-time g c =
 
 pub returns-in_err-write_synced-clause-moments : goal.returns-in_err-write_synced-clause-moments
 returns-in_err-write_synced-clause-moments g c =
-    let laws = g.met.D.Disk g.world.𝓛 g.world.𝓜 g.world.𝓡 ((λ s x. x), (λ x. x), (λ x. x), λ x. x) in
+    let laws = g.met.D.Disk in
     let j = c.self.inside in
     let was = c.self.invariant.0 in
     let old = j.disk in
@@ -227,7 +227,7 @@ returns-in_err-write_synced-clause-moments g c =
 
 pub returns-in_err-write_synced-clause-known : goal.returns-in_err-write_synced-clause-known
 returns-in_err-write_synced-clause-known g c =
-    let laws = g.met.D.Disk g.world.𝓛 g.world.𝓜 g.world.𝓡 ((λ s x. x), (λ x. x), (λ x. x), λ x. x) in
+    let laws = g.met.D.Disk in
     let j = c.self.inside in
     let was = c.self.invariant.0 in
     let old = j.disk in
@@ -243,7 +243,7 @@ returns-in_err-write_synced-clause-known g c =
 
 pub invariant_of-self-then-is_err : goal.invariant_of-self-then-is_err
 invariant_of-self-then-is_err g c =
-    let laws = g.met.D.Disk g.world.𝓛 g.world.𝓜 g.world.𝓡 ((λ s x. x), (λ x. x), (λ x. x), λ x. x) in
+    let laws = g.met.D.Disk in
     let j = c.self.inside in
     let was = c.self.invariant.0 in
     let old = j.disk in
@@ -274,7 +274,7 @@ invariant_of-self-then-is_err g c =
 
 pub returns-then-is_err-clause-same_records : goal.returns-then-is_err-clause-same_records
 returns-then-is_err-clause-same_records g c =
-    let laws = g.met.D.Disk g.world.𝓛 g.world.𝓜 g.world.𝓡 ((λ s x. x), (λ x. x), (λ x. x), λ x. x) in
+    let laws = g.met.D.Disk in
     let j = c.self.inside in
     let was = c.self.invariant.0 in
     let old = j.disk in
@@ -291,7 +291,7 @@ returns-then-is_err-clause-same_records g c =
 
 pub returns-then-is_err-clause-doubt : goal.returns-then-is_err-clause-doubt
 returns-then-is_err-clause-doubt g c =
-    let laws = g.met.D.Disk g.world.𝓛 g.world.𝓜 g.world.𝓡 ((λ s x. x), (λ x. x), (λ x. x), λ x. x) in
+    let laws = g.met.D.Disk in
     let j = c.self.inside in
     let was = c.self.invariant.0 in
     let old = j.disk in
@@ -309,7 +309,7 @@ returns-then-is_err-clause-doubt g c =
 
 pub returns-then-is_err-clause-outside : goal.returns-then-is_err-clause-outside
 returns-then-is_err-clause-outside g c =
-    let laws = g.met.D.Disk g.world.𝓛 g.world.𝓜 g.world.𝓡 ((λ s x. x), (λ x. x), (λ x. x), λ x. x) in
+    let laws = g.met.D.Disk in
     let j = c.self.inside in
     let was = c.self.invariant.0 in
     let old = j.disk in
@@ -326,7 +326,7 @@ returns-then-is_err-clause-outside g c =
 
 pub returns-then-is_err-clause-time : goal.returns-then-is_err-clause-time
 returns-then-is_err-clause-time g c =
-    let laws = g.met.D.Disk g.world.𝓛 g.world.𝓜 g.world.𝓡 ((λ s x. x), (λ x. x), (λ x. x), λ x. x) in
+    let laws = g.met.D.Disk in
     let j = c.self.inside in
     let was = c.self.invariant.0 in
     let old = j.disk in
@@ -343,7 +343,7 @@ returns-then-is_err-clause-time g c =
 
 pub returns-then-is_err-clause-moments : goal.returns-then-is_err-clause-moments
 returns-then-is_err-clause-moments g c =
-    let laws = g.met.D.Disk g.world.𝓛 g.world.𝓜 g.world.𝓡 ((λ s x. x), (λ x. x), (λ x. x), λ x. x) in
+    let laws = g.met.D.Disk in
     let j = c.self.inside in
     let was = c.self.invariant.0 in
     let old = j.disk in
@@ -360,7 +360,7 @@ returns-then-is_err-clause-moments g c =
 
 pub returns-then-is_err-clause-behind : goal.returns-then-is_err-clause-behind
 returns-then-is_err-clause-behind g c =
-    let laws = g.met.D.Disk g.world.𝓛 g.world.𝓜 g.world.𝓡 ((λ s x. x), (λ x. x), (λ x. x), λ x. x) in
+    let laws = g.met.D.Disk in
     let j = c.self.inside in
     let was = c.self.invariant.0 in
     let old = j.disk in
@@ -377,7 +377,7 @@ returns-then-is_err-clause-behind g c =
 
 pub invariant_of-self-2 : goal.invariant_of-self-2
 invariant_of-self-2 g c =
-    let laws = g.met.D.Disk g.world.𝓛 g.world.𝓜 g.world.𝓡 ((λ s x. x), (λ x. x), (λ x. x), λ x. x) in
+    let laws = g.met.D.Disk in
     let j = c.self.inside in
     let was = c.self.invariant.0 in
     let old = j.disk in
@@ -407,7 +407,7 @@ invariant_of-self-2 g c =
 
 pub returns-clause-records : goal.returns-clause-records
 returns-clause-records g c =
-    let laws = g.met.D.Disk g.world.𝓛 g.world.𝓜 g.world.𝓡 ((λ s x. x), (λ x. x), (λ x. x), λ x. x) in
+    let laws = g.met.D.Disk in
     let j = c.self.inside in
     let was = c.self.invariant.0 in
     let old = j.disk in
@@ -424,7 +424,7 @@ returns-clause-records g c =
 
 pub returns-clause-outside : goal.returns-clause-outside
 returns-clause-outside g c =
-    let laws = g.met.D.Disk g.world.𝓛 g.world.𝓜 g.world.𝓡 ((λ s x. x), (λ x. x), (λ x. x), λ x. x) in
+    let laws = g.met.D.Disk in
     let j = c.self.inside in
     let was = c.self.invariant.0 in
     let old = j.disk in
@@ -441,7 +441,7 @@ returns-clause-outside g c =
 
 pub returns-clause-time : goal.returns-clause-time
 returns-clause-time g c =
-    let laws = g.met.D.Disk g.world.𝓛 g.world.𝓜 g.world.𝓡 ((λ s x. x), (λ x. x), (λ x. x), λ x. x) in
+    let laws = g.met.D.Disk in
     let j = c.self.inside in
     let was = c.self.invariant.0 in
     let old = j.disk in
@@ -458,7 +458,7 @@ returns-clause-time g c =
 
 pub returns-clause-moments : goal.returns-clause-moments
 returns-clause-moments g c =
-    let laws = g.met.D.Disk g.world.𝓛 g.world.𝓜 g.world.𝓡 ((λ s x. x), (λ x. x), (λ x. x), λ x. x) in
+    let laws = g.met.D.Disk in
     let j = c.self.inside in
     let was = c.self.invariant.0 in
     let old = j.disk in
@@ -475,7 +475,7 @@ returns-clause-moments g c =
 
 pub returns-clause-durable : goal.returns-clause-durable
 returns-clause-durable g c =
-    let laws = g.met.D.Disk g.world.𝓛 g.world.𝓜 g.world.𝓡 ((λ s x. x), (λ x. x), (λ x. x), λ x. x) in
+    let laws = g.met.D.Disk in
     let j = c.self.inside in
     let was = c.self.invariant.0 in
     let old = j.disk in

@@ -8,7 +8,7 @@ use Rattle.opfs_journal.proofs.journal.Journal.settle.Goals as goal
 
 pub invariant_of-self : goal.invariant_of-self
 invariant_of-self g c =
-    let laws = g.met.D.Disk g.world.𝓛 g.world.𝓜 g.world.𝓡 ((λ s x. x), (λ x. x), (λ x. x), λ x. x) in
+    let laws = g.met.D.Disk in
     let j = c.self.inside in
     let was = c.self.invariant.0 in
     let old = j.disk in
@@ -23,7 +23,7 @@ invariant_of-self g c =
 
 pub returns-in_err-write_synced-clause-records : goal.returns-in_err-write_synced-clause-records
 returns-in_err-write_synced-clause-records g c =
-    let laws = g.met.D.Disk g.world.𝓛 g.world.𝓜 g.world.𝓡 ((λ s x. x), (λ x. x), (λ x. x), λ x. x) in
+    let laws = g.met.D.Disk in
     let j = c.self.inside in
     let was = c.self.invariant.0 in
     let old = j.disk in
@@ -35,7 +35,7 @@ returns-in_err-write_synced-clause-records g c =
 
 pub returns-in_err-write_synced-clause-doubt : goal.returns-in_err-write_synced-clause-doubt
 returns-in_err-write_synced-clause-doubt g c =
-    let laws = g.met.D.Disk g.world.𝓛 g.world.𝓜 g.world.𝓡 ((λ s x. x), (λ x. x), (λ x. x), λ x. x) in
+    let laws = g.met.D.Disk in
     let j = c.self.inside in
     let was = c.self.invariant.0 in
     let old = j.disk in
@@ -51,7 +51,7 @@ returns-in_err-write_synced-clause-doubt g c =
 
 pub returns-in_err-write_synced-clause-moments : goal.returns-in_err-write_synced-clause-moments
 returns-in_err-write_synced-clause-moments g c =
-    let laws = g.met.D.Disk g.world.𝓛 g.world.𝓜 g.world.𝓡 ((λ s x. x), (λ x. x), (λ x. x), λ x. x) in
+    let laws = g.met.D.Disk in
     let j = c.self.inside in
     let was = c.self.invariant.0 in
     let old = j.disk in
@@ -62,7 +62,7 @@ returns-in_err-write_synced-clause-moments g c =
 
 pub returns-in_err-write_synced-clause-behind : goal.returns-in_err-write_synced-clause-behind
 returns-in_err-write_synced-clause-behind g c =
-    let laws = g.met.D.Disk g.world.𝓛 g.world.𝓜 g.world.𝓡 ((λ s x. x), (λ x. x), (λ x. x), λ x. x) in
+    let laws = g.met.D.Disk in
     let j = c.self.inside in
     let was = c.self.invariant.0 in
     let old = j.disk in
@@ -73,7 +73,7 @@ returns-in_err-write_synced-clause-behind g c =
 
 pub invariant_of-self-in-Some : goal.invariant_of-self-in-Some
 invariant_of-self-in-Some g c =
-    let laws = g.met.D.Disk g.world.𝓛 g.world.𝓜 g.world.𝓡 ((λ s x. x), (λ x. x), (λ x. x), λ x. x) in
+    let laws = g.met.D.Disk in
     let j = c.self.inside in
     let was = c.self.invariant.0 in
     let old = j.disk in
@@ -96,7 +96,7 @@ invariant_of-self-in-Some g c =
 
 pub returns-in_ok-write_synced-clause-records : goal.returns-in_ok-write_synced-clause-records
 returns-in_ok-write_synced-clause-records g c =
-    let laws = g.met.D.Disk g.world.𝓛 g.world.𝓜 g.world.𝓡 ((λ s x. x), (λ x. x), (λ x. x), λ x. x) in
+    let laws = g.met.D.Disk in
     let j = c.self.inside in
     let was = c.self.invariant.0 in
     let old = j.disk in
@@ -108,7 +108,7 @@ returns-in_ok-write_synced-clause-records g c =
 
 pub returns-in_ok-write_synced-clause-outside : goal.returns-in_ok-write_synced-clause-outside
 returns-in_ok-write_synced-clause-outside g c =
-    let laws = g.met.D.Disk g.world.𝓛 g.world.𝓜 g.world.𝓡 ((λ s x. x), (λ x. x), (λ x. x), λ x. x) in
+    let laws = g.met.D.Disk in
     let j = c.self.inside in
     let was = c.self.invariant.0 in
     let old = j.disk in
@@ -119,7 +119,7 @@ returns-in_ok-write_synced-clause-outside g c =
 
 pub returns-in_ok-write_synced-clause-moments : goal.returns-in_ok-write_synced-clause-moments
 returns-in_ok-write_synced-clause-moments g c =
-    let laws = g.met.D.Disk g.world.𝓛 g.world.𝓜 g.world.𝓡 ((λ s x. x), (λ x. x), (λ x. x), λ x. x) in
+    let laws = g.met.D.Disk in
     let j = c.self.inside in
     let was = c.self.invariant.0 in
     let old = j.disk in
@@ -130,7 +130,7 @@ returns-in_ok-write_synced-clause-moments g c =
 
 pub returns-in_ok-write_synced-clause-durable : goal.returns-in_ok-write_synced-clause-durable
 returns-in_ok-write_synced-clause-durable g c =
-    let laws = g.met.D.Disk g.world.𝓛 g.world.𝓜 g.world.𝓡 ((λ s x. x), (λ x. x), (λ x. x), λ x. x) in
+    let laws = g.met.D.Disk in
     let j = c.self.inside in
     let was = c.self.invariant.0 in
     let old = j.disk in
