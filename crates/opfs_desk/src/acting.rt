@@ -11,7 +11,7 @@ ghost use Rattle.opfs_machine.specs.Histories.{state_after};
 use crate::desk::Desk;
 use opfs_acts::Acted;
 use opfs_base::Name;
-use opfs_desk_acts::{Contents, act_call};
+use opfs_desk_acts::act_call;
 use opfs_desk_reads::handles_go_on;
 use opfs_hist::{Op, Pending, Room};
 use opfs_outside::Disk;
@@ -22,7 +22,7 @@ impl<D: Disk> Desk<D> {
     /// Makes one shared call of an agent: takes in its pending calls, clears units where it needs room, and enters it with its reply.
     /// Where the disk fails, the entry tells so. Where there is no memory nothing is entered, and the working copy has another room
     /// at most; abort, discard and end take none.
-    pub fn act<C: Contents<D>>(
+    pub fn act(
         &mut self,
         agent: u32,
         number: u32,
@@ -46,7 +46,7 @@ impl<D: Disk> Desk<D> {
         ensures ends { always_acts op ≡ true → IsTrue (is_ok result) }
     {
         handles_go_on::<D>();
-        let acted = act_call::<D, C>(
+        let acted = act_call(
             &mut self.parts,
             agent,
             number,

@@ -6,6 +6,7 @@ mod acting;
 mod desk;
 mod ending;
 mod making;
+mod serving;
 mod showing;
 mod standing;
 mod waiting;

@@ -14,7 +14,6 @@ ghost use Rattle.opfs_desk_steps.specs.Ready.{AskedCallsAreReady};
 ghost use Rattle.opfs_lengths.specs.Bridge.{LengthsFollowEachCall, LocalCallsAreKnownByTheirWord};
 ghost use Rattle.opfs_replay.specs.Built.{Built};
 
-use crate::contents::Contents;
 use crate::kinds::{CallKind, kind_of};
 use opfs_acts::Acted;
 use opfs_base::Name;
@@ -27,6 +26,7 @@ use opfs_desk_plain::{act_mode, act_next, act_told};
 use opfs_desk_puts::act_put;
 use opfs_desk_reads::{act_get_file, act_sync_read};
 use opfs_desk_steps::asked_calls_are_ready;
+use opfs_desk_stores::{act_content, act_idle_flush};
 use opfs_hist::Pending;
 use opfs_lengths::bridge::{lengths_follow_each_call, local_calls_are_known_by_their_word};
 use opfs_outside::Disk;
@@ -45,7 +45,7 @@ fn asking_laws<D: Disk>()
 }
 
 // Acts a call of a kind.
-fn act_as<D: Disk, C: Contents<D>>(
+fn act_as<D: Disk>(
     kind: CallKind,
     parts: &mut Parts<D>,
     call: InHand,
@@ -75,15 +75,15 @@ fn act_as<D: Disk, C: Contents<D>>(
         CallKind::Opened => Ok(act_open(parts, call, pending, work)?),
         CallKind::Put => Ok(act_put(parts, call, pending, work)?),
         CallKind::SyncRead => Ok(act_sync_read(parts, call, pending, work)?),
-        CallKind::Stored => Ok(C::act_content(parts, call, pending, work)?),
-        CallKind::Idle => Ok(C::act_idle_flush(parts, call, pending, work)?),
+        CallKind::Stored => Ok(act_content(parts, call, pending, work)?),
+        CallKind::Idle => Ok(act_idle_flush(parts, call, pending, work)?),
         CallKind::Left => Ok(act_leave(parts, call, pending, work)),
     }
 }
 
 /// Acts a call that is not refused, and for which all of the shared state stands ready: takes in its agent's pending calls, clears
 /// its units, and enters it. Where there is no memory nothing is entered; abort, discard and end take none.
-pub fn act_asked<D: Disk, C: Contents<D>>(
+pub fn act_asked<D: Disk>(
     parts: &mut Parts<D>,
     call: InHand,
     pending: &mut Pending,
@@ -102,5 +102,5 @@ pub fn act_asked<D: Disk, C: Contents<D>>(
 {
     asking_laws::<D>();
     let kind = kind_of(&parts.ledger.books.state, call.agent, &call.op);
-    act_as::<D, C>(kind, parts, call, pending, work, past)
+    act_as(kind, parts, call, pending, work, past)
 }

@@ -13,7 +13,6 @@ ghost use Rattle.opfs_desk_reads.specs.Reading.{HaveWholeHandles};
 ghost use Rattle.opfs_replay.specs.Built.{Built};
 
 use crate::acting::act_asked;
-use crate::contents::Contents;
 use opfs_acts::Acted;
 use opfs_base::Name;
 use opfs_book_laws::the_books_show_their_images;
@@ -33,7 +32,7 @@ fn cancel<D: Disk>(ledger: &mut Ledger<D>)
 }
 
 // Acts a call for which all stands ready; where there is no memory nothing stands ready afterwards.
-fn act_or_cancel<D: Disk, C: Contents<D>>(
+fn act_or_cancel<D: Disk>(
     parts: &mut Parts<D>,
     call: InHand,
     pending: &mut Pending,
@@ -50,7 +49,7 @@ fn act_or_cancel<D: Disk, C: Contents<D>>(
     ensures alone { OnErr result ((f : Fixed D) (recorded : Built) → AreHeldWhole D.Disk f recorded parts.old.ledger parts.old.pages → IsLeftAlone D.Disk f parts.old parts.new) }
     ensures ends { always_acts call.op ≡ true → IsTrue (is_ok result) }
 {
-    match act_asked::<D, C>(parts, call, pending, work, past) {
+    match act_asked(parts, call, pending, work, past) {
         Ok(acted) => Ok(acted),
         Err(error) => {
             cancel(&mut parts.ledger);
@@ -61,7 +60,7 @@ fn act_or_cancel<D: Disk, C: Contents<D>>(
 
 /// Makes one shared call of an agent: judges it, takes in the agent's pending calls, clears units where it needs room, and enters it
 /// with its reply. Where there is no memory nothing is entered and nothing stands ready; abort, discard and end take none.
-pub fn act_call<D: Disk, C: Contents<D>>(
+pub fn act_call<D: Disk>(
     parts: &mut Parts<D>,
     agent: u32,
     number: u32,
@@ -93,7 +92,7 @@ pub fn act_call<D: Disk, C: Contents<D>>(
                 sizes,
                 clearing,
             };
-            Ok(act_or_cancel::<D, C>(parts, call, pending, work, past)?)
+            Ok(act_or_cancel(parts, call, pending, work, past)?)
         }
         Err(error) => Err(error),
     }

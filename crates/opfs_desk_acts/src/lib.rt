@@ -3,9 +3,7 @@
 
 mod acting;
 mod calling;
-mod contents;
 mod kinds;
 
 pub use acting::act_asked;
 pub use calling::act_call;
-pub use contents::Contents;

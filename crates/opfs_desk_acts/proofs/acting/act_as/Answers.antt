@@ -150,30 +150,30 @@ pub returns-in_err-act_sync_read-in-SyncRead-clause-ends : goal.returns-in_err-a
 returns-in_err-act_sync_read-in-SyncRead-clause-ends g c end = absurd (never-ends kind.SyncRead (machine_in c.args.parts.now.ledger) c.args.call.agent c.args.call.op refl (as-kind _ kind.SyncRead (machine_in c.args.parts.now.ledger) c.args.call.agent c.args.call.op c.in-SyncRead.is c.requires.word) end)
 
 pub act_content-requires-clause-go : goal.act_content-requires-clause-go
-act_content-requires-clause-go g c =
+act_content-requires-clause-go g c κs within =
     plain-go g.D.Disk c.args.parts.now c.args.pending.now c.args.call c.args.work.now c.args.past.now (other-kind kind.Stored (machine_in c.args.parts.now.ledger) c.args.call.agent c.args.call.op refl (as-kind _ kind.Stored (machine_in c.args.parts.now.ledger) c.args.call.agent c.args.call.op c.in-Stored.is c.requires.word)) c.requires.go
 
 pub act_content-requires-clause-word : goal.act_content-requires-clause-word
-act_content-requires-clause-word g c = as-kind _ kind.Stored (machine_in c.args.parts.now.ledger) c.args.call.agent c.args.call.op c.in-Stored.is c.requires.word
+act_content-requires-clause-word g c κs within = as-kind _ kind.Stored (machine_in c.args.parts.now.ledger) c.args.call.agent c.args.call.op c.in-Stored.is c.requires.word
 
 pub returns-in_ok-act_content-in-Stored-clause-acted : goal.returns-in_ok-act_content-in-Stored-clause-acted
 returns-in_ok-act_content-in-Stored-clause-acted g c f recorded held whole asked =
-    c.in_ok-act_content-in-Stored.ensures.acted f recorded held
+    c.in_ok-act_content-in-Stored.ensures.acted f recorded held whole
     (plain-asked g.D.Disk.tells f.opening c.args.parts.now.ledger.books.history c.args.pending.now c.args.parts.now.ledger.books.state c.args.call c.args.work.now c.args.past.now (other-kind kind.Stored (machine_in c.args.parts.now.ledger) c.args.call.agent c.args.call.op refl (as-kind _ kind.Stored (machine_in c.args.parts.now.ledger) c.args.call.agent c.args.call.op c.in-Stored.is c.requires.word)) asked)
 
 pub returns-in_err-act_content-in-Stored-clause-ends : goal.returns-in_err-act_content-in-Stored-clause-ends
 returns-in_err-act_content-in-Stored-clause-ends g c end = absurd (never-ends kind.Stored (machine_in c.args.parts.now.ledger) c.args.call.agent c.args.call.op refl (as-kind _ kind.Stored (machine_in c.args.parts.now.ledger) c.args.call.agent c.args.call.op c.in-Stored.is c.requires.word) end)
 
 pub act_idle_flush-requires-clause-go : goal.act_idle_flush-requires-clause-go
-act_idle_flush-requires-clause-go g c =
+act_idle_flush-requires-clause-go g c κs within =
     plain-go g.D.Disk c.args.parts.now c.args.pending.now c.args.call c.args.work.now c.args.past.now (other-kind kind.Idle (machine_in c.args.parts.now.ledger) c.args.call.agent c.args.call.op refl (as-kind _ kind.Idle (machine_in c.args.parts.now.ledger) c.args.call.agent c.args.call.op c.in-Idle.is c.requires.word)) c.requires.go
 
 pub act_idle_flush-requires-clause-word : goal.act_idle_flush-requires-clause-word
-act_idle_flush-requires-clause-word g c = as-kind _ kind.Idle (machine_in c.args.parts.now.ledger) c.args.call.agent c.args.call.op c.in-Idle.is c.requires.word
+act_idle_flush-requires-clause-word g c κs within = as-kind _ kind.Idle (machine_in c.args.parts.now.ledger) c.args.call.agent c.args.call.op c.in-Idle.is c.requires.word
 
 pub returns-in_ok-act_idle_flush-in-Idle-clause-acted : goal.returns-in_ok-act_idle_flush-in-Idle-clause-acted
 returns-in_ok-act_idle_flush-in-Idle-clause-acted g c f recorded held whole asked =
-    c.in_ok-act_idle_flush-in-Idle.ensures.acted f recorded held
+    c.in_ok-act_idle_flush-in-Idle.ensures.acted f recorded held whole
     (plain-asked g.D.Disk.tells f.opening c.args.parts.now.ledger.books.history c.args.pending.now c.args.parts.now.ledger.books.state c.args.call c.args.work.now c.args.past.now (other-kind kind.Idle (machine_in c.args.parts.now.ledger) c.args.call.agent c.args.call.op refl (as-kind _ kind.Idle (machine_in c.args.parts.now.ledger) c.args.call.agent c.args.call.op c.in-Idle.is c.requires.word)) asked)
 
 pub returns-in_err-act_idle_flush-in-Idle-clause-ends : goal.returns-in_err-act_idle_flush-in-Idle-clause-ends

@@ -1,0 +1,40 @@
+//! The desk serves agents.
+
+ghost use Rattle.std.specs.Prelude.{refl};
+
+use crate::desk::Desk;
+use opfs_acts::{Acted, AwaitState, Store};
+use opfs_base::Name;
+use opfs_hist::{Op, Pending, Room};
+use opfs_outside::Disk;
+use opfs_work::Work;
+use std::alloc::AllocError;
+
+impl<D: Disk> Store for Desk<D> {
+    ghost tells = { D.tells };
+
+    ghost opened = { λ o. o.fixed.opening };
+
+    fn act(
+        &mut self,
+        agent: u32,
+        number: u32,
+        pending: &mut Pending,
+        room: Room,
+        op: Op,
+        work: &mut Work,
+        past: &[Name],
+    ) -> Result<Acted, AllocError> {
+        Desk::act(self, agent, number, pending, room, op, work, past)
+    }
+
+    fn await_state(&self, agent: u32, tag: &str) -> AwaitState {
+        Desk::await_state(self, agent, tag)
+    }
+
+    fn legal(&self) {
+        Desk::legal(self)
+    }
+
+    ghost owned = { λ e. refl };
+}
