@@ -7,4 +7,4 @@ use Rattle.opfs_codec.proofs.WritingLemmas.{change_fits}
 use Rattle.opfs_commit_tests.proofs.works.add_change.Goals as goal
 
 pub add-requires-clause-fits : goal.add-requires-clause-fits
-add-requires-clause-fits c κs = change_fits (plain c.borrowed-own.result) (subst (λ (x : Change). IsChange New x) (sym c.borrowed-own.ensures) c.requires.spelled)
+add-requires-clause-fits c = change_fits (plain c.borrowed-own.result) (subst (λ (x : Change). IsChange New x) (sym c.borrowed-own.ensures) c.requires.spelled)

@@ -12,7 +12,7 @@ bytes-requires g c =
     subst (λ (r : Run). IsWithin c.args.own.now c.args.given.now r) (sym c.run-item.is) (all_at (IsWithin c.args.own.now c.args.given.now) c.args.runs.now c.loop-run.run-index c.run-item.result c.loop-run-test.true c.requires.within)
 
 pub put-requires-clause-lies : goal.put-requires-clause-lies
-put-requires-clause-lies g c κs lives =
+put-requires-clause-lies g c =
     let at = c.loop-run.invariant in
     let r : Run = c.run-item.result in
     let ws : List PageWrite = writes_of c.args.own.now c.args.given.now c.args.runs.now in

@@ -3,15 +3,15 @@ use Rattle.opfs_data_tests.proofs.Again.{saved_for, first_pages, one_lies, page_
 use Rattle.opfs_data_tests.proofs.pages.a_page_is_written_and_read.Goals as goal
 
 pub write-requires-clause-lies : goal.write-requires-clause-lies
-write-requires-clause-lies g c κs = one_lies _ _ _ (c.in_ok-writes.ensures.pages []) (c.in_ok-prepare.ensures.reads.stays.length ∙ c.in_ok-journal.ensures.size)
+write-requires-clause-lies g c = one_lies _ _ _ (c.in_ok-writes.ensures.pages []) (c.in_ok-prepare.ensures.reads.stays.length ∙ c.in_ok-journal.ensures.size)
 
 pub write-requires-clause-within : goal.write-requires-clause-within
-write-requires-clause-within g c κs = c.in_ok-writes.ensures.bytes []
+write-requires-clause-within g c = c.in_ok-writes.ensures.bytes []
 
 pub write-requires-clause-saved : goal.write-requires-clause-saved
-write-requires-clause-saved g c κs = saved_for c.prepare.new.self.saved c.prepare.new.self.pages c.in_ok-writes.writes [] c.in_ok-prepare.ensures.saved
+write-requires-clause-saved g c = saved_for c.prepare.new.self.saved c.prepare.new.self.pages c.in_ok-writes.writes [] c.in_ok-prepare.ensures.saved
 
 pub read-requires-clause-lies : goal.read-requires-clause-lies
-read-requires-clause-lies g c κs =
+read-requires-clause-lies g c =
     page_lies _ _ (first_pages _ _ _ _ (c.in_ok-prepare.ensures.same ∙ c.in_ok-row.ensures.pages) (c.in_ok-writes.ensures.pages []) c.in_ok-write.ensures.pages)
     (c.in_ok-write.ensures.writes.stays.length ∙ c.in_ok-prepare.ensures.reads.stays.length ∙ c.in_ok-journal.ensures.size)

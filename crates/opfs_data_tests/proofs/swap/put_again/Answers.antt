@@ -14,7 +14,7 @@ returns-clause-one c =
     (c.in_ok-writes.ensures.pages []) (ok_holds c.write.result _ c.if-is_err.ensures.value c.write.ensures.pages)
 
 pub write-requires-clause-within : goal.write-requires-clause-within
-write-requires-clause-within c κs = c.in_ok-writes.ensures.bytes []
+write-requires-clause-within c = c.in_ok-writes.ensures.bytes []
 
 pub write-requires-clause-saved : goal.write-requires-clause-saved
-write-requires-clause-saved c κs = saved_for (row_at 1 1 c.prepare.new.self).saved (pages_at 1 1 c.prepare.new.self) c.in_ok-writes.writes [] c.in_ok-prepare.ensures.saved
+write-requires-clause-saved c = saved_for (row_at 1 1 c.prepare.new.self).saved (pages_at 1 1 c.prepare.new.self) c.in_ok-writes.writes [] c.in_ok-prepare.ensures.saved

@@ -4,10 +4,10 @@ use Rattle.opfs_data_tests.proofs.Again.{saved_for, one_first}
 use Rattle.opfs_data_tests.proofs.swap.put_first.Goals as goal
 
 pub write-requires-clause-within : goal.write-requires-clause-within
-write-requires-clause-within c κs = c.in_ok-writes.ensures.bytes []
+write-requires-clause-within c = c.in_ok-writes.ensures.bytes []
 
 pub write-requires-clause-saved : goal.write-requires-clause-saved
-write-requires-clause-saved c κs = saved_for (row_at 1 1 c.prepare.new.self).saved (pages_at 1 1 c.prepare.new.self) c.in_ok-writes.writes [] c.in_ok-prepare.ensures.saved
+write-requires-clause-saved c = saved_for (row_at 1 1 c.prepare.new.self).saved (pages_at 1 1 c.prepare.new.self) c.in_ok-writes.writes [] c.in_ok-prepare.ensures.saved
 
 pub returns-clause-one : goal.returns-clause-one
 returns-clause-one c =

@@ -6,7 +6,7 @@ use Rattle.opfs_desk_acts.proofs.Calls.{acted-before, alone-before, alone-now, r
 use Rattle.opfs_desk_acts.proofs.calling.act_call.Goals as goal
 
 pub ask_call-requires-clause-may : goal.ask_call-requires-clause-may
-ask_call-requires-clause-may g c κs within =
+ask_call-requires-clause-may g c =
     let may = c.requires.may in
     let called = may.called in
     record {
@@ -21,7 +21,7 @@ ask_call-requires-clause-may g c κs within =
     }
 
 pub act_refused-requires-clause-may : goal.act_refused-requires-clause-may
-act_refused-requires-clause-may g c κs within =
+act_refused-requires-clause-may g c =
     let may = c.requires.may in
     let called = may.called in
     let f = may.fixed in
@@ -42,7 +42,7 @@ act_refused-requires-clause-may g c κs within =
     }
 
 pub act_or_cancel-requires-clause-go : goal.act_or_cancel-requires-clause-go
-act_or_cancel-requires-clause-go g c κs within =
+act_or_cancel-requires-clause-go g c =
     let may = c.requires.may in
     let called = may.called in
     let f = may.fixed in
@@ -60,7 +60,7 @@ act_or_cancel-requires-clause-go g c κs within =
     }
 
 pub act_or_cancel-requires-clause-whole : goal.act_or_cancel-requires-clause-whole
-act_or_cancel-requires-clause-whole g c κs within =
+act_or_cancel-requires-clause-whole g c =
     let may = c.requires.may in
     let called = may.called in
     let f = may.fixed in

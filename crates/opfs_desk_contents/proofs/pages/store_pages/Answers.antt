@@ -22,7 +22,7 @@ use Rattle.opfs_desk_contents.proofs.Stowed.{bytes-stand, can-be-held, small-blo
 use Rattle.opfs_desk_contents.proofs.pages.store_pages.Goals as goal
 
 pub put_content-requires-clause-may : goal.put_content-requires-clause-may
-put_content-requires-clause-may g c κs lives = let may = c.requires.may in record { fixed = may.fixed; recorded = may.recorded; are = may.are; ready = may.ready; enough = may.enough }
+put_content-requires-clause-may g c = let may = c.requires.may in record { fixed = may.fixed; recorded = may.recorded; are = may.are; ready = may.ready; enough = may.enough }
 
 pub collect-requires-clause-there : goal.collect-requires-clause-there
 collect-requires-clause-there g c =
@@ -43,7 +43,7 @@ collect-requires-clause-small g c =
     (subst (λ (s : StateSeen). file_in (open_at s.store.machine c.args.agent c.args.row) ≡ Some c.args.plan.place) (sym is.state) may.opened) (subst (λ (s : StateSeen). IsInOrder s.store.tree) (sym is.state) c.step.ensures.order)
 
 pub fail_call-requires-clause-may : goal.fail_call-requires-clause-may
-fail_call-requires-clause-may g c κs lives =
+fail_call-requires-clause-may g c =
     let may = c.requires.may in
     let l = c.args.parts.now.ledger in
     let is = c.put_content.ensures in
@@ -77,7 +77,7 @@ returns-clause-failed g c f recorded bytes are stores =
     (c.fail_call.ensures.held f cleared.recorded (state_after f.opening l.books.history) [] q cleared.are refused)
 
 pub enter_content-requires-clause-may : goal.enter_content-requires-clause-may
-enter_content-requires-clause-may g c κs lives =
+enter_content-requires-clause-may g c =
     let w = g.D.Disk in
     let may = c.requires.may in
     let l = c.args.parts.now.ledger in

@@ -7,7 +7,7 @@ use Rattle.opfs_desk_contents.proofs.Going.{cleared-both, gotten-on, ready-put, 
 use Rattle.opfs_desk_contents.proofs.putting.put_content.Goals as goal
 
 pub find_room-requires-clause-may : goal.find_room-requires-clause-may
-find_room-requires-clause-may g c κs lives =
+find_room-requires-clause-may g c =
     let w = g.D.Disk in
     let may = c.requires.may in
     let l = c.args.parts.now.ledger in
@@ -29,7 +29,7 @@ find_room-requires-clause-may g c κs lives =
     }
 
 pub write_pages-requires-clause-may : goal.write_pages-requires-clause-may
-write_pages-requires-clause-may g c κs lives =
+write_pages-requires-clause-may g c =
     let w = g.D.Disk in
     let may = c.requires.may in
     let l = c.args.parts.now.ledger in

@@ -5,7 +5,7 @@ use Rattle.opfs_desk_contents.proofs.Written.{put-cleared, left-cleared, has-con
 use Rattle.opfs_desk_contents.proofs.putting.write_pages.Goals as goal
 
 pub write-requires-clause-part : goal.write-requires-clause-part
-write-requires-clause-part g c κs within = (c.parts_lie_inside.ensures c.requires.may.fixed c.requires.may.recorded c.args.parts.now.ledger c.args.parts.now.pages c.requires.may.are).part
+write-requires-clause-part g c = (c.parts_lie_inside.ensures c.requires.may.fixed c.requires.may.recorded c.args.parts.now.ledger c.args.parts.now.pages c.requires.may.are).part
 
 pub returns-in-Ok-clause-cleared : goal.returns-in-Ok-clause-cleared
 returns-in-Ok-clause-cleared g c f recorded work bytes are of =

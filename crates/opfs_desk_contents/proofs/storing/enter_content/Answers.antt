@@ -12,7 +12,7 @@ use Rattle.opfs_desk_contents.proofs.Entered.{content-again, may-be-stored}
 use Rattle.opfs_desk_contents.proofs.storing.enter_content.Goals as goal
 
 pub store_call-requires-clause-may : goal.store_call-requires-clause-may
-store_call-requires-clause-may g c κs lives =
+store_call-requires-clause-may g c =
     let may = c.requires.may in
     let l = c.args.ledger.now in
     let place = c.args.place.now in
@@ -24,13 +24,13 @@ store_call-requires-clause-may g c κs lives =
     record { answer = may.answer; stores = may-be-stored may.answer.fixed l own (content_now l c.args.last.entry place may.row c.args.size runs) same again may.holds }
 
 pub store_call-requires-clause-spelled : goal.store_call-requires-clause-spelled
-store_call-requires-clause-spelled g c κs lives =
+store_call-requires-clause-spelled g c =
     let may = c.requires.may in
     let place = c.args.place.now in
     may.spelled ∙ ap (λ (x : Spelled). Some x) (sym (c.content_of-own.ensures.is ∙ ap (λ n. Content place.0 place.1 n c.args.size c.args.runs.now) (c.stamp_of-stamp.ensures may.row may.there)))
 
 pub store_call-requires-clause-fits : goal.store_call-requires-clause-fits
-store_call-requires-clause-fits g c κs lives =
+store_call-requires-clause-fits g c =
     let may = c.requires.may in
     let is = c.content_of-own.ensures in
     change_fits (plain c.content_of-own.result) (subst (IsChange New) (sym is.is) (content-again c.args.place.now c.stamp_of-stamp.result c.args.size c.args.runs.now may.written is.moment is.small may.runs_are))

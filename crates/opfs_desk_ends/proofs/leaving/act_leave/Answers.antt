@@ -14,7 +14,7 @@ pub row_of-row-requires : goal.row_of-row-requires
 row_of-row-requires g c = word-is (machine_in c.args.parts.now.ledger) c.args.call.agent c.args.call.op c.requires.word
 
 pub take_in-requires-clause-may : goal.take_in-requires-clause-may
-take_in-requires-clause-may g c κs within =
+take_in-requires-clause-may g c =
     let go = c.requires.go in
     c.leaving_laws.ensures.asks.taken go.fixed go.recorded c.args.parts.now.ledger c.args.parts.now.pages c.args.pending.now c.args.call c.args.work.now [] go.are go.asked
 
@@ -37,7 +37,7 @@ rows-rows-requires g c =
     agent-is w laws.asks laws.answers laws.decide laws.follow laws.local go.fixed go.recorded l mid p c.args.pending.now c.args.call c.args.work.now [] begins c.requires.word took
 
 pub enter_leave-requires-clause-may : goal.enter_leave-requires-clause-may
-enter_leave-requires-clause-may g c κs within =
+enter_leave-requires-clause-may g c =
     let w = g.D.Disk in
     let go = c.requires.go in
     let laws = c.leaving_laws.ensures in
@@ -63,7 +63,7 @@ enter_leave-requires-clause-may g c κs within =
     }
 
 pub enter_leave-requires-clause-word : goal.enter_leave-requires-clause-word
-enter_leave-requires-clause-word g c κs within =
+enter_leave-requires-clause-word g c =
     let w = g.D.Disk in
     let go = c.requires.go in
     let laws = c.leaving_laws.ensures in

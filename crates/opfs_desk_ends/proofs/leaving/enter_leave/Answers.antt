@@ -4,7 +4,7 @@ use Rattle.opfs_desk_ends.proofs.Words.{silent}
 use Rattle.opfs_desk_ends.proofs.leaving.enter_leave.Goals as goal
 
 pub tell_in_hand-requires-clause-silent : goal.tell_in_hand-requires-clause-silent
-tell_in_hand-requires-clause-silent g c κs within = silent _ _ _ _ _ c.requires.word
+tell_in_hand-requires-clause-silent g c = silent _ _ _ _ _ c.requires.word
 
 pub returns-clause-order : goal.returns-clause-order
 returns-clause-order g c = record { before = c.step.ensures.order; after = subst IsInOrder c.tell_in_hand.ensures.tree c.step-2.ensures.order }

@@ -7,22 +7,22 @@ use Rattle.opfs_desk_grants.proofs.Stored.{own-is, may-be-stored, may-store-call
 use Rattle.opfs_desk_grants.proofs.entering.enter_mode.Goals as goal
 
 pub enter_change-requires-clause-may : goal.enter_change-requires-clause-may
-enter_change-requires-clause-may g c κs within =
+enter_change-requires-clause-may g c =
     may-store-call g.D.Disk c.args.ledger.now c.args.last.entry c.args.sizes c.requires.may c.requires.word c.requires.text c.requires.keys c.args.unit.now c.requires.unit (plain c.spelled-own.result) c.spelled-own.ensures
 
 pub enter_change-requires-clause-answered : goal.enter_change-requires-clause-answered
-enter_change-requires-clause-answered g c κs within = ap is_refusal c.requires.flag
+enter_change-requires-clause-answered g c = ap is_refusal c.requires.flag
 
 pub enter_change-requires-clause-spelled : goal.enter_change-requires-clause-spelled
-enter_change-requires-clause-spelled g c κs within =
+enter_change-requires-clause-spelled g c =
     spelled-own g.D.Disk c.args.ledger.now c.args.last.entry c.args.sizes c.requires.may c.requires.word c.requires.text c.requires.keys c.args.unit.now c.requires.unit (plain c.spelled-own.result) c.spelled-own.ensures
 
 pub enter_change-requires-clause-quiet : goal.enter_change-requires-clause-quiet
-enter_change-requires-clause-quiet g c κs within =
+enter_change-requires-clause-quiet g c =
     quiet-own g.D.Disk c.args.ledger.now c.args.last.entry c.args.sizes c.requires.may c.requires.word c.requires.text c.requires.keys c.args.unit.now c.requires.unit (plain c.spelled-own.result) c.spelled-own.ensures
 
 pub enter_change-requires-clause-fits : goal.enter_change-requires-clause-fits
-enter_change-requires-clause-fits g c κs within =
+enter_change-requires-clause-fits g c =
     fits-own g.D.Disk c.args.ledger.now c.args.last.entry c.args.sizes c.requires.may c.requires.word c.requires.text c.requires.keys c.args.unit.now c.requires.unit (plain c.spelled-own.result) c.spelled-own.ensures
 
 pub returns-in-Ok-clause-done : goal.returns-in-Ok-clause-done

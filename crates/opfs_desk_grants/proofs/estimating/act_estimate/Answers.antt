@@ -48,7 +48,7 @@ estimate-usage-requires-clause-small g c =
     small-quota g.D.Disk c.state_laws.ensures c.the_state_is_kept.ensures go.fixed go.recorded c.args.parts.now.ledger c.args.parts.now.pages go.are
 
 pub tell-rows-requires-clause-may : goal.tell-rows-requires-clause-may
-tell-rows-requires-clause-may g c κs within =
+tell-rows-requires-clause-may g c =
     let w = g.D.Disk in
     let go = c.requires.go in
     let laws = c.telling_laws.ensures in

@@ -35,7 +35,7 @@ unit_in-requires-clause-keyed g c =
     ap (λ (x : Option Text). is_some x) c.key-key.ensures ∙ gives-key (machine_in c.args.parts.now.ledger) c.args.call.agent c.args.call.op c.requires.word
 
 pub take_in-requires-clause-may : goal.take_in-requires-clause-may
-take_in-requires-clause-may g c κs within =
+take_in-requires-clause-may g c =
     let may = c.requires.go in
     c.granting_laws.ensures.asks.taken may.fixed may.recorded c.args.parts.now.ledger c.args.parts.now.pages c.args.pending.now c.args.call c.args.work.now [] may.are may.asked
 
@@ -55,7 +55,7 @@ rows-rows-requires g c =
     (ready w know.asks know.answers may.fixed may.recorded l mid l p c.args.pending.now call c.args.work.now (reply.Flag true) may.are may.asked took words).agent
 
 pub clear_way-requires-clause-may : goal.clear_way-requires-clause-may
-clear_way-requires-clause-may g c κs within =
+clear_way-requires-clause-may g c =
     let w = g.D.Disk in
     let may = c.requires.go in
     let l = c.args.parts.now.ledger in
@@ -72,7 +72,7 @@ clear_way-requires-clause-may g c κs within =
     know.answers.clearing may.fixed may.recorded mid p call (reply.Flag true) held then (words.disk (state_after may.fixed.opening mid.books.history))
 
 pub enter_mode-requires-clause-may : goal.enter_mode-requires-clause-may
-enter_mode-requires-clause-may g c κs within =
+enter_mode-requires-clause-may g c =
     let w = g.D.Disk in
     let may = c.requires.go in
     let l = c.args.parts.now.ledger in
@@ -107,7 +107,7 @@ enter_mode-requires-clause-may g c κs within =
     }
 
 pub enter_mode-requires-clause-word : goal.enter_mode-requires-clause-word
-enter_mode-requires-clause-word g c κs within =
+enter_mode-requires-clause-word g c =
     let w = g.D.Disk in
     let may = c.requires.go in
     let l = c.args.parts.now.ledger in
@@ -129,10 +129,10 @@ enter_mode-requires-clause-word g c κs within =
     (gives-now w know.follow know.local know.reads know.counts may.fixed may.recorded l mid p c.args.pending.now call c.args.work.now may.are may.asked agent took c.requires.word back way keyed)
 
 pub enter_mode-requires-clause-flag : goal.enter_mode-requires-clause-flag
-enter_mode-requires-clause-flag g c κs within = ap (λ (e : Entry). e.reply) c.in-Ok-clear_way.ensures.entry
+enter_mode-requires-clause-flag g c = ap (λ (e : Entry). e.reply) c.in-Ok-clear_way.ensures.entry
 
 pub enter_mode-requires-clause-unit : goal.enter_mode-requires-clause-unit
-enter_mode-requires-clause-unit g c κs within =
+enter_mode-requires-clause-unit g c =
     let w = g.D.Disk in
     let may = c.requires.go in
     let l = c.args.parts.now.ledger in
@@ -149,7 +149,7 @@ enter_mode-requires-clause-unit g c κs within =
     ∙ ap (λ (e : Entry). unit_named (agent_of (machine_in back) e.agent).key e.op) (sym c.in-Ok-clear_way.ensures.entry)
 
 pub enter_mode-requires-clause-keys : goal.enter_mode-requires-clause-keys
-enter_mode-requires-clause-keys g c κs within =
+enter_mode-requires-clause-keys g c =
     let w = g.D.Disk in
     let may = c.requires.go in
     let p = c.args.parts.now.pages in
@@ -163,7 +163,7 @@ enter_mode-requires-clause-keys g c κs within =
     (key-own w know.reads know.counts may.fixed may.recorded mid p held call.agent cleared.recorded (units_in call.clearing.items) back cleared.are)
 
 pub enter_mode-requires-clause-text : goal.enter_mode-requires-clause-text
-enter_mode-requires-clause-text g c κs within =
+enter_mode-requires-clause-text g c =
     subst (λ (e : Entry). is_utf8 (bucket_named e.op) ≡ true) (sym c.in-Ok-clear_way.ensures.entry) c.unit_in.ensures.text
 
 pub returns-in_default-clause-idle : goal.returns-in_default-clause-idle

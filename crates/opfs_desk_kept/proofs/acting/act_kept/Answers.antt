@@ -36,7 +36,7 @@ key-key-requires g c =
     (c.keeping_laws.ensures.asks.taken may.fixed may.recorded c.args.parts.now.ledger c.args.parts.now.pages c.args.pending.now c.args.call c.args.work.now [] may.are may.asked).agent
 
 pub take_in-requires-clause-may : goal.take_in-requires-clause-may
-take_in-requires-clause-may g c κs within =
+take_in-requires-clause-may g c =
     let may = c.requires.go in
     c.keeping_laws.ensures.asks.taken may.fixed may.recorded c.args.parts.now.ledger c.args.parts.now.pages c.args.pending.now c.args.call c.args.work.now [] may.are may.asked
 
@@ -59,7 +59,7 @@ rows-rows-requires g c =
     (ready w c.keeping_laws.ensures.asks c.keeping_laws.ensures.answers may.fixed may.recorded l mid l p c.args.pending.now c.args.call c.args.work.now begins took).agent
 
 pub clear_way-requires-clause-may : goal.clear_way-requires-clause-may
-clear_way-requires-clause-may g c κs within =
+clear_way-requires-clause-may g c =
     let w = g.D.Disk in
     let may = c.requires.go in
     let l = c.args.parts.now.ledger in
@@ -75,7 +75,7 @@ clear_way-requires-clause-may g c κs within =
     (on-disk (state_after may.fixed.opening mid.books.history) c.args.call.agent c.args.call.op (kept-word (machine_in l) c.args.call.agent c.args.call.op c.requires.word))
 
 pub enter_kept-requires-clause-may : goal.enter_kept-requires-clause-may
-enter_kept-requires-clause-may g c κs within =
+enter_kept-requires-clause-may g c =
     let w = g.D.Disk in
     let may = c.requires.go in
     let l = c.args.parts.now.ledger in
@@ -106,7 +106,7 @@ enter_kept-requires-clause-may g c κs within =
     }
 
 pub enter_kept-requires-clause-word : goal.enter_kept-requires-clause-word
-enter_kept-requires-clause-word g c κs within =
+enter_kept-requires-clause-word g c =
     let w = g.D.Disk in
     let may = c.requires.go in
     let l = c.args.parts.now.ledger in
@@ -126,10 +126,10 @@ enter_kept-requires-clause-word g c κs within =
     (keeps-now w c.keeping_laws.ensures.asks c.keeping_laws.ensures.answers may.fixed may.recorded l mid back p c.args.pending.now c.args.call c.args.work.now begins took way keyed c.lines-in-Ok-clear_way.ensures)
 
 pub enter_kept-requires-clause-done : goal.enter_kept-requires-clause-done
-enter_kept-requires-clause-done g c κs within = ap (λ (e : Entry). e.reply) c.in-Ok-clear_way.ensures.entry
+enter_kept-requires-clause-done g c = ap (λ (e : Entry). e.reply) c.in-Ok-clear_way.ensures.entry
 
 pub enter_kept-requires-clause-place : goal.enter_kept-requires-clause-place
-enter_kept-requires-clause-place g c κs within =
+enter_kept-requires-clause-place g c =
     let w = g.D.Disk in
     let may = c.requires.go in
     let l = c.args.parts.now.ledger in
@@ -146,7 +146,7 @@ enter_kept-requires-clause-place g c κs within =
     ∙ ap (λ (e : Entry). entry_place (agent_of (machine_in back) e.agent).key e.op) (sym c.in-Ok-clear_way.ensures.entry)
 
 pub enter_kept-requires-clause-keys : goal.enter_kept-requires-clause-keys
-enter_kept-requires-clause-keys g c κs within =
+enter_kept-requires-clause-keys g c =
     let w = g.D.Disk in
     let may = c.requires.go in
     let p = c.args.parts.now.pages in
@@ -160,7 +160,7 @@ enter_kept-requires-clause-keys g c κs within =
     (key-own w know.reads know.counts may.fixed may.recorded mid p held call.agent cleared.recorded (units_in call.clearing.items) back cleared.are)
 
 pub enter_kept-requires-clause-text : goal.enter_kept-requires-clause-text
-enter_kept-requires-clause-text g c κs within =
+enter_kept-requires-clause-text g c =
     subst (λ (e : Entry). is_utf8 (entry_name e.op) ≡ true) (sym c.in-Ok-clear_way.ensures.entry) c.entry_of.ensures.text
 
 pub returns-in_default-clause-idle : goal.returns-in_default-clause-idle

@@ -7,7 +7,7 @@ use Rattle.opfs_desk_ways.proofs.Held.{tied-same}
 use Rattle.opfs_desk_kept.proofs.entering.keep_call.Goals as goal
 
 pub keep-requires-clause-come : goal.keep-requires-clause-come
-keep-requires-clause-come g c κs within =
+keep-requires-clause-come g c =
     let may = c.requires.may.answer in
     record {
       come = record { known = record { fixed = may.fixed; recorded = may.recorded; base = may.base; gone = may.gone; are = may.are.books }; next = may.answered.next; sizes = may.answered.sizes };
@@ -15,14 +15,14 @@ keep-requires-clause-come g c κs within =
     }
 
 pub keep-requires-clause-may : goal.keep-requires-clause-may
-keep-requires-clause-may g c κs within =
+keep-requires-clause-may g c =
     let may = c.requires.may.answer in
     let l = c.args.ledger.now in
     let e = c.args.entering in
     may-apply g.D.Disk may.fixed may.recorded may.base may.gone l may.pages may.are (c.the_state_is_kept.ensures.short may.fixed may.recorded may.base may.gone (book_in l) l.journal may.are.books) e.last.entry e.sizes may.answered.change
 
 pub keep-requires-clause-room : goal.keep-requires-clause-room
-keep-requires-clause-room g c κs within =
+keep-requires-clause-room g c =
     let may = c.requires.may.answer in
     let l = c.args.ledger.now in
     let e = c.args.entering in

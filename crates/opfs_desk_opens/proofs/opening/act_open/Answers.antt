@@ -25,12 +25,12 @@ use Rattle.opfs_desk_opens.proofs.Words.{on-disk}
 use Rattle.opfs_desk_opens.proofs.opening.act_open.Goals as goal
 
 pub next_row-row-requires-clause-agent : goal.next_row-row-requires-clause-agent
-next_row-row-requires-clause-agent g c κs within =
+next_row-row-requires-clause-agent g c =
     let may = c.requires.go in
     (c.opening_laws.ensures.asks.taken may.fixed may.recorded c.args.parts.now.ledger c.args.parts.now.pages c.args.pending.now c.args.call c.args.work.now [] may.are may.asked).agent
 
 pub next_row-row-requires-clause-few : goal.next_row-row-requires-clause-few
-next_row-row-requires-clause-few g c κs within =
+next_row-row-requires-clause-few g c =
     let may = c.requires.go in
     (c.opening_laws.ensures.asks.taken may.fixed may.recorded c.args.parts.now.ledger c.args.parts.now.pages c.args.pending.now c.args.call c.args.work.now [] may.are may.asked).rows
 
@@ -44,12 +44,12 @@ open_pages-requires-clause-lies g c =
     extents-below may.fixed.geometry _ may.are.tied.range may.are.books.stored.sound.files c.args.call.op c.requires.word
 
 pub take_in-requires-clause-may : goal.take_in-requires-clause-may
-take_in-requires-clause-may g c κs within =
+take_in-requires-clause-may g c =
     let may = c.requires.go in
     c.opening_laws.ensures.asks.taken may.fixed may.recorded c.args.parts.now.ledger c.args.parts.now.pages c.args.pending.now c.args.call c.args.work.now [] may.are may.asked
 
 pub clear_call-requires-clause-may : goal.clear_call-requires-clause-may
-clear_call-requires-clause-may g c κs within =
+clear_call-requires-clause-may g c =
     let may = c.requires.go in
     let l = c.args.parts.now.ledger in
     let p = c.args.parts.now.pages in
@@ -64,7 +64,7 @@ clear_call-requires-clause-may g c κs within =
     (on-disk (state_after may.fixed.opening mid.books.history) c.args.call.agent c.args.call.op c.requires.word)
 
 pub enter_open-requires-clause-may : goal.enter_open-requires-clause-may
-enter_open-requires-clause-may g c κs within =
+enter_open-requires-clause-may g c =
     let may = c.requires.go in
     let l = c.args.parts.now.ledger in
     let p = c.args.parts.now.pages in

@@ -31,7 +31,7 @@ mode-requires-clause-key g c =
     (has-key s call.agent call.op _ c.requires.word go.asked.judged)
 
 pub tell-rows-requires-clause-may : goal.tell-rows-requires-clause-may
-tell-rows-requires-clause-may g c κs within =
+tell-rows-requires-clause-may g c =
     let w = g.D.Disk in
     let go = c.requires.go in
     let laws = c.telling_laws.ensures in

@@ -18,7 +18,7 @@ next_child-requires-clause-clean g c =
     go.asked.prepared.place ∙ next-makes-none _ c.args.call.agent c.args.call.op c.requires.word
 
 pub tell-rows-requires-clause-may : goal.tell-rows-requires-clause-may
-tell-rows-requires-clause-may g c κs within =
+tell-rows-requires-clause-may g c =
     let w = g.D.Disk in
     let go = c.requires.go in
     let laws = c.telling_laws.ensures in

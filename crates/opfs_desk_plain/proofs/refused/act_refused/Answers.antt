@@ -5,7 +5,7 @@ use Rattle.opfs_desk_plain.proofs.Refusing.{may-take, agent-mid, may-refuse, is-
 use Rattle.opfs_desk_plain.proofs.refused.act_refused.Goals as goal
 
 pub take_in-requires-clause-may : goal.take_in-requires-clause-may
-take_in-requires-clause-may g c κs within =
+take_in-requires-clause-may g c =
     let may = c.requires.may in
     let call : Call = record { agent = c.args.agent; number = c.args.number; op = c.args.op } in
     let l = c.args.parts.now.ledger in
@@ -20,7 +20,7 @@ rows-rows-requires g c =
     c.take_in.ensures.entries (c.take_in.ensures.held may.fixed may.recorded p may.are may.asked.may.pending)
 
 pub refuse_call-requires-clause-may : goal.refuse_call-requires-clause-may
-refuse_call-requires-clause-may g c κs within =
+refuse_call-requires-clause-may g c =
     let may = c.requires.may in
     let call : Call = record { agent = c.args.agent; number = c.args.number; op = c.args.op } in
     let p = c.args.parts.now.pages in

@@ -9,7 +9,7 @@ use Rattle.opfs_desk_plain.proofs.Words.{silent}
 use Rattle.opfs_desk_plain.proofs.telling.tell.Goals as goal
 
 pub take_in-requires-clause-may : goal.take_in-requires-clause-may
-take_in-requires-clause-may g c κs within =
+take_in-requires-clause-may g c =
     let may = c.requires.may in
     c.telling_laws.ensures.asks.taken may.fixed may.recorded c.args.parts.now.ledger c.args.parts.now.pages c.args.pending.now c.args.call may.work may.past may.are may.telling.asked
 
@@ -32,7 +32,7 @@ rows-rows-requires g c =
     agent-is w laws.asks laws.answers laws.decide laws.follow laws.local laws.noted may.fixed may.recorded l mid p c.args.pending.now c.args.call may.work may.past c.args.reply begins may.telling took
 
 pub tell_in_hand-requires-clause-may : goal.tell_in_hand-requires-clause-may
-tell_in_hand-requires-clause-may g c κs within =
+tell_in_hand-requires-clause-may g c =
     let w = g.D.Disk in
     let may = c.requires.may in
     let laws = c.telling_laws.ensures in
@@ -58,7 +58,7 @@ tell_in_hand-requires-clause-may g c κs within =
     }
 
 pub tell_in_hand-requires-clause-silent : goal.tell_in_hand-requires-clause-silent
-tell_in_hand-requires-clause-silent g c κs within =
+tell_in_hand-requires-clause-silent g c =
     let w = g.D.Disk in
     let may = c.requires.may in
     let laws = c.telling_laws.ensures in
@@ -77,7 +77,7 @@ tell_in_hand-requires-clause-silent g c κs within =
     (only w laws.asks laws.answers laws.decide laws.follow laws.local laws.noted may.fixed may.recorded l mid p c.args.pending.now c.args.call may.work may.past c.args.reply begins may.telling took)
 
 pub tell_in_hand-requires-clause-answered : goal.tell_in_hand-requires-clause-answered
-tell_in_hand-requires-clause-answered g c κs within = c.requires.may.telling.done
+tell_in_hand-requires-clause-answered g c = c.requires.may.telling.done
 
 pub returns-clause-acted : goal.returns-clause-acted
 returns-clause-acted g c f recorded work past gift are telling given =

@@ -22,7 +22,7 @@ use Rattle.opfs_desk_puts.proofs.Words.{on-disk}
 use Rattle.opfs_desk_puts.proofs.acting.enter_call.Goals as goal
 
 pub take_in-requires-clause-may : goal.take_in-requires-clause-may
-take_in-requires-clause-may g c κs within =
+take_in-requires-clause-may g c =
     let may = c.requires.go in
     c.putting_laws.ensures.asks.taken may.fixed may.recorded c.args.parts.now.ledger c.args.parts.now.pages c.args.pending.now c.args.call c.args.work.now [] may.are may.asked
 
@@ -46,7 +46,7 @@ rows-rows-requires g c =
     (ready w laws.asks laws.answers may.fixed may.recorded l mid p calls call work begins c.requires.word took).agent
 
 pub clear_way-requires-clause-may : goal.clear_way-requires-clause-may
-clear_way-requires-clause-may g c κs within =
+clear_way-requires-clause-may g c =
     let may = c.requires.go in
     let w = g.D.Disk in
     let l = c.args.parts.now.ledger in
@@ -90,7 +90,7 @@ returns-in_default-clause-acted g c f recorded held asked =
     (laws.acts.failed f recorded c.args.parts.now now mid calls call c.reply_of.result work work _ held asked.may.pending took.taken fail refl (omega (arith, c.rows-rows.ensures.count, c.rows-rows.ensures.few, count)))
 
 pub enter_put-requires-clause-may : goal.enter_put-requires-clause-may
-enter_put-requires-clause-may g c κs within =
+enter_put-requires-clause-may g c =
     let may = c.requires.go in
     let w = g.D.Disk in
     let l = c.args.parts.now.ledger in

@@ -13,18 +13,18 @@ use Rattle.opfs_desk_puts.proofs.Words.{on-disk}
 use Rattle.opfs_desk_puts.proofs.calling.put_bytes.Goals as goal
 
 pub plan_call-requires-clause-there : goal.plan_call-requires-clause-there
-plan_call-requires-clause-there g c κs within =
+plan_call-requires-clause-there g c =
     let may = c.requires.go in
     subst (λ (n : ℕ). is_some (row_of c.args.call.agent n c.args.parts.now.pages.swap) ≡ true) (sym c.target_of-target.ensures.row)
     (stored-copy g.D.Disk c.copies_are_stored.ensures.copies may.fixed may.recorded c.args.parts.now.ledger c.args.parts.now.pages c.args.pending.now c.args.call c.args.work.now [] may.are may.asked c.requires.word).there
 
 pub plan_call-requires-clause-lies : goal.plan_call-requires-clause-lies
-plan_call-requires-clause-lies g c κs within =
+plan_call-requires-clause-lies g c =
     let may = c.requires.go in
     (c.parts_lie_inside.ensures may.fixed may.recorded c.args.parts.now.ledger c.args.parts.now.pages may.are).lies c.args.call.agent c.target_of-target.result.row
 
 pub plan_call-requires-clause-ready : goal.plan_call-requires-clause-ready
-plan_call-requires-clause-ready g c κs within =
+plan_call-requires-clause-ready g c =
     let may = c.requires.go in
     let l = c.args.parts.now.ledger in
     let p = c.args.parts.now.pages in
@@ -32,13 +32,13 @@ plan_call-requires-clause-ready g c κs within =
     (stored-copy g.D.Disk c.copies_are_stored.ensures.copies may.fixed may.recorded l p c.args.pending.now c.args.call c.args.work.now [] may.are may.asked c.requires.word).ready
 
 pub plan_call-requires-clause-files : goal.plan_call-requires-clause-files
-plan_call-requires-clause-files g c κs within =
+plan_call-requires-clause-files g c =
     let may = c.requires.go in
     subst (λ (t : Tree). AreBelow (length c.args.parts.now.pages.space.used) (named t)) (sym (ap (λ x. x.rows) c.tree.ensures))
     (c.parts_lie_inside.ensures may.fixed may.recorded c.args.parts.now.ledger c.args.parts.now.pages may.are).files
 
 pub enter_call-requires-clause-go : goal.enter_call-requires-clause-go
-enter_call-requires-clause-go g c κs within =
+enter_call-requires-clause-go g c =
     let may = c.requires.go in
     let laws = g.met.D.Disk in
     let w = g.D.Disk in
@@ -60,7 +60,7 @@ enter_call-requires-clause-go g c κs within =
     }
 
 pub enter_call-requires-clause-plan : goal.enter_call-requires-clause-plan
-enter_call-requires-clause-plan g c κs within =
+enter_call-requires-clause-plan g c =
     let may = c.requires.go in
     let laws = g.met.D.Disk in
     let w = g.D.Disk in
@@ -81,7 +81,7 @@ enter_call-requires-clause-plan g c κs within =
     c.args.given.now c.requires.given c.plan_call.new.work c.in-Ok.planned.put c.in-Ok.planned.page.items c.requires.small is.count is.staged.staged.bytes is.ready is.gotten is.whole is.tail is.room
 
 pub enter_call-requires-clause-planned : goal.enter_call-requires-clause-planned
-enter_call-requires-clause-planned g c κs within f recorded held asked before row_is =
+enter_call-requires-clause-planned g c f recorded held asked before row_is =
     let laws = g.met.D.Disk in
     let w = g.D.Disk in
     let l = c.args.parts.now.ledger in
@@ -102,7 +102,7 @@ enter_call-requires-clause-planned g c κs within f recorded held asked before r
     c.args.given.now c.requires.given is.same is.pages refl (λ told. (is.reads.told told).same) paged c.in-Ok.planned.put.writes c.in-Ok.planned.page.items is.staged is.page before row_is
 
 pub fail_reading-requires-clause-may : goal.fail_reading-requires-clause-may
-fail_reading-requires-clause-may g c κs within =
+fail_reading-requires-clause-may g c =
     let may = c.requires.go in
     let laws = g.met.D.Disk in
     let w = g.D.Disk in

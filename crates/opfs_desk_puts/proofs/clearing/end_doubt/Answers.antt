@@ -15,7 +15,7 @@ use Rattle.opfs_desk_ways.proofs.Ways.{way-settled, way-told, way-same}
 use Rattle.opfs_desk_puts.proofs.clearing.end_doubt.Goals as goal
 
 pub fail_call-requires-clause-may : goal.fail_call-requires-clause-may
-fail_call-requires-clause-may g c κs within =
+fail_call-requires-clause-may g c =
     let laws = g.met.D.Disk in
     let may = c.requires.may in
     let l = c.args.ledger.now in

@@ -5,7 +5,7 @@ use Rattle.opfs_desk_puts.proofs.Entered.{answered-same, may-refuse, is-refused,
 use Rattle.opfs_desk_puts.proofs.entering.enter_put.Goals as goal
 
 pub tell_put-requires-clause-may : goal.tell_put-requires-clause-may
-tell_put-requires-clause-may g c κs within =
+tell_put-requires-clause-may g c =
     let may = c.requires.may in
     let put = c.in-Ok.ensures.put may.fixed may.recorded may.base may.gone may.to_put may.gotten in
     let same = put.written.same in
@@ -20,7 +20,7 @@ tell_put-requires-clause-may g c κs within =
     }
 
 pub fail_call-requires-clause-may : goal.fail_call-requires-clause-may
-fail_call-requires-clause-may g c κs within =
+fail_call-requires-clause-may g c =
     let may = c.requires.may in
     let not = c.in-Err.ensures.failed may.fixed may.recorded may.base may.gone may.to_put may.gotten in
     may-refuse g.D.Disk may.fixed may.base may.gone c.args.parts.now c.put_pages.new.parts c.args.last.entry not may.answered.change.placed may.answered.change.agent

@@ -10,7 +10,7 @@ use Rattle.opfs_desk_puts.proofs.Found.{files-below, pages-below, found-at-once,
 use Rattle.opfs_desk_puts.proofs.putting.find_room.Goals as goal
 
 pub commit_kept-requires-clause-may : goal.commit_kept-requires-clause-may
-commit_kept-requires-clause-may g c κs within =
+commit_kept-requires-clause-may g c =
     let may = c.requires.may.1 in
     record { fixed = may.fixed; recorded = may.recorded; base = may.base; gone = may.gone; pages = c.args.parts.now.pages; are = may.to_put.are; settled = may.to_put.settled }
 

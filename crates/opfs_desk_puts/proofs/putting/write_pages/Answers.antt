@@ -3,7 +3,7 @@ use Rattle.opfs_desk_puts.proofs.Wrote.{written, not-put}
 use Rattle.opfs_desk_puts.proofs.putting.write_pages.Goals as goal
 
 pub write-requires-clause-part : goal.write-requires-clause-part
-write-requires-clause-part g c κs within =
+write-requires-clause-part g c =
     let may = c.requires.may in
     data-part g.D.Disk may.fixed may.recorded may.base may.gone c.args.parts.now c.args.agent c.args.row c.args.put.now c.args.given.now may.to_put
 

@@ -10,30 +10,30 @@ use Rattle.opfs_desk_reads.proofs.Readied.{read-held, read-acted, read-unacted}
 use Rattle.opfs_desk_reads.proofs.getting.act_get_file.Goals as goal
 
 pub read_named-requires-clause-agents : goal.read_named-requires-clause-agents
-read_named-requires-clause-agents g c κs within =
+read_named-requires-clause-agents g c =
     let may = c.requires.whole in
     let laws = c.getting_laws.ensures in
     of-agents laws.states g.D.Disk laws.files laws.between c.parts_lie_inside.ensures may.fixed may.recorded c.args.parts.now.ledger c.args.parts.now.pages may.are
 
 pub read_named-requires-clause-lies : goal.read_named-requires-clause-lies
-read_named-requires-clause-lies g c κs within =
+read_named-requires-clause-lies g c =
     let may = c.requires.whole in
     let laws = c.getting_laws.ensures in
     pages-lie laws.states g.D.Disk laws.files laws.between c.parts_lie_inside.ensures may.fixed may.recorded c.args.parts.now.ledger c.args.parts.now.pages may.are
 
 pub read_named-requires-clause-may : goal.read_named-requires-clause-may
-read_named-requires-clause-may g c κs within found there =
+read_named-requires-clause-may g c found there =
     let may = c.requires.whole in
     let laws = c.getting_laws.ensures in
     may-read laws.states g.D.Disk laws.files laws.between c.parts_lie_inside.ensures may.fixed may.recorded c.args.parts.now.ledger c.args.parts.now.pages may.are c.lines.ensures may.whole (file_read c.args.call.op) found there
 
 pub read_named-requires-clause-part : goal.read_named-requires-clause-part
-read_named-requires-clause-part g c κs within =
+read_named-requires-clause-part g c =
     let may = c.requires.whole in
     (c.parts_lie_inside.ensures may.fixed may.recorded c.args.parts.now.ledger c.args.parts.now.pages may.are).part
 
 pub enter_get_file-requires-clause-go : goal.enter_get_file-requires-clause-go
-enter_get_file-requires-clause-go g c κs within =
+enter_get_file-requires-clause-go g c =
     let laws = g.met.D.Disk in
     let may = c.requires.go in
     let l = c.args.parts.now.ledger in
@@ -46,7 +46,7 @@ enter_get_file-requires-clause-go g c κs within =
     }
 
 pub enter_get_file-requires-clause-read : goal.enter_get_file-requires-clause-read
-enter_get_file-requires-clause-read g c κs within found there =
+enter_get_file-requires-clause-read g c found there =
     let is = c.in-Ok.ensures in
     let l = c.args.parts.now.ledger in
     let p = c.args.parts.now.pages in
@@ -60,7 +60,7 @@ enter_get_file-requires-clause-read g c κs within found there =
     }
 
 pub fail_reading-requires-clause-may : goal.fail_reading-requires-clause-may
-fail_reading-requires-clause-may g c κs within =
+fail_reading-requires-clause-may g c =
     let laws = g.met.D.Disk in
     let may = c.requires.go in
     let l = c.args.parts.now.ledger in

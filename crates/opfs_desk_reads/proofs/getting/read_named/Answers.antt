@@ -6,7 +6,7 @@ use Rattle.opfs_tree.specs.Rows.{file_at as file_in_tree}
 use Rattle.opfs_desk_reads.proofs.getting.read_named.Goals as goal
 
 pub read_file-requires-clause-may : goal.read_file-requires-clause-may
-read_file-requires-clause-may g c κs within =
+read_file-requires-clause-may g c =
     let found = c.in-Some.found.now in
     let tree = c.args.state.now.store.tree in
     let at = ap file_read c.in-GetFile.is in

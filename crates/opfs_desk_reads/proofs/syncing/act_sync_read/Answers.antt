@@ -9,18 +9,18 @@ use Rattle.opfs_desk_reads.proofs.Words.{on-disk}
 use Rattle.opfs_desk_reads.proofs.syncing.act_sync_read.Goals as goal
 
 pub read_open_row-requires-clause-far : goal.read_open_row-requires-clause-far
-read_open_row-requires-clause-far g c κs within =
+read_open_row-requires-clause-far g c =
     let may = c.requires.go in
     subst (λ (n : ℕ). HasFar c.args.work.now c.args.parts.now.pages.base (g.D.Disk.size c.args.parts.now.ledger.journal.disk) (pages_at c.args.call.agent n c.args.parts.now.pages.swap)) (sym c.span_of-span.ensures.row)
     (stored g.D.Disk c.copies_are_stored.ensures.copies may.fixed may.recorded c.args.parts.now.ledger c.args.parts.now.pages c.args.pending.now c.args.call c.args.work.now may.are may.asked c.requires.word).far
 
 pub read_open_row-requires-clause-part : goal.read_open_row-requires-clause-part
-read_open_row-requires-clause-part g c κs within =
+read_open_row-requires-clause-part g c =
     let may = c.requires.go in
     (c.parts_lie_inside.ensures may.fixed may.recorded c.args.parts.now.ledger c.args.parts.now.pages may.are).part
 
 pub enter_sync_read-requires-clause-go : goal.enter_sync_read-requires-clause-go
-enter_sync_read-requires-clause-go g c κs within =
+enter_sync_read-requires-clause-go g c =
     let laws = g.met.D.Disk in
     let may = c.requires.go in
     let l = c.args.parts.now.ledger in
@@ -33,7 +33,7 @@ enter_sync_read-requires-clause-go g c κs within =
     }
 
 pub enter_sync_read-requires-clause-read : goal.enter_sync_read-requires-clause-read
-enter_sync_read-requires-clause-read g c κs within f recorded held asked =
+enter_sync_read-requires-clause-read g c f recorded held asked =
     let l = c.args.parts.now.ledger in
     let now : Ledger g.row.D.Denot = record { journal = c.read_open_row.new.journal; books = l.books; freed = l.freed; alloc = l.alloc } in
     let is = c.in-Ok.ensures in
@@ -42,7 +42,7 @@ enter_sync_read-requires-clause-read g c κs within f recorded held asked =
     c.in-Ok.read.bytes c.in-Ok.read.copy c.in-Ok.read.cursor c.in-Ok.read.page.items is.size is.read is.copy is.cursor is.page
 
 pub fail_reading-requires-clause-may : goal.fail_reading-requires-clause-may
-fail_reading-requires-clause-may g c κs within =
+fail_reading-requires-clause-may g c =
     let laws = g.met.D.Disk in
     let may = c.requires.go in
     let l = c.args.parts.now.ledger in

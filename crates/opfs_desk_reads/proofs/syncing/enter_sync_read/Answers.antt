@@ -21,7 +21,7 @@ use Rattle.opfs_desk_reads.proofs.Words.{as-bytes, on-disk, silent}
 use Rattle.opfs_desk_reads.proofs.syncing.enter_sync_read.Goals as goal
 
 pub take_in-requires-clause-may : goal.take_in-requires-clause-may
-take_in-requires-clause-may g c κs within =
+take_in-requires-clause-may g c =
     let may = c.requires.go in
     c.reading_laws.ensures.asks.taken may.fixed may.recorded c.args.parts.now.ledger c.args.parts.now.pages c.args.pending.now c.args.call c.args.work.now [] may.are may.asked
 
@@ -34,7 +34,7 @@ rows-rows-requires g c =
     may.are may.asked is.entries held (is.prepared c.args.call.op may.asked.prepared)).agent
 
 pub clear_call-requires-clause-may : goal.clear_call-requires-clause-may
-clear_call-requires-clause-may g c κs within =
+clear_call-requires-clause-may g c =
     let may = c.requires.go in
     let l = c.args.parts.now.ledger in
     let p = c.args.parts.now.pages in
@@ -46,7 +46,7 @@ clear_call-requires-clause-may g c κs within =
     (on-disk (state_after may.fixed.opening mid.books.history) c.args.call.agent c.args.call.op c.requires.word)
 
 pub tell_last-requires-clause-silent : goal.tell_last-requires-clause-silent
-tell_last-requires-clause-silent g c κs within =
+tell_last-requires-clause-silent g c =
     let back = c.clear_call.new.ledger in
     let call = c.args.call in
     let z = c.in-Ok.sizes in
@@ -54,10 +54,10 @@ tell_last-requires-clause-silent g c κs within =
     (silent (machine_in back) (tree_in back) call.agent call.op z (as-bytes call.op c.requires.word))
 
 pub tell_last-requires-clause-answered : goal.tell_last-requires-clause-answered
-tell_last-requires-clause-answered g c κs within = ap (λ (e : Entry). is_refusal e.reply) c.in-Ok.ensures.entry
+tell_last-requires-clause-answered g c = ap (λ (e : Entry). is_refusal e.reply) c.in-Ok.ensures.entry
 
 pub tell_last-requires-clause-may : goal.tell_last-requires-clause-may
-tell_last-requires-clause-may g c κs within =
+tell_last-requires-clause-may g c =
     let may = c.requires.go in
     let l = c.args.parts.now.ledger in
     let p = c.args.parts.now.pages in

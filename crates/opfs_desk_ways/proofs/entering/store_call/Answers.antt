@@ -8,7 +8,7 @@ use Rattle.opfs_desk_ways.proofs.Held.{tied-moved, failed-held}
 use Rattle.opfs_desk_ways.proofs.entering.store_call.Goals as goal
 
 pub store-requires-clause-come : goal.store-requires-clause-come
-store-requires-clause-come g c κs within =
+store-requires-clause-come g c =
     let may = c.requires.may.answer in
     record {
       come = record { known = record { fixed = may.fixed; recorded = may.recorded; base = may.base; gone = may.gone; are = may.are.books }; next = may.answered.next; sizes = may.answered.sizes };
@@ -16,20 +16,20 @@ store-requires-clause-come g c κs within =
     }
 
 pub store-requires-clause-may : goal.store-requires-clause-may
-store-requires-clause-may g c κs within =
+store-requires-clause-may g c =
     let may = c.requires.may.answer in
     let l = c.args.ledger.now in
     let e = c.args.entering in
     may-apply g.D.Disk may.fixed may.recorded may.base may.gone l may.pages may.are (c.the_state_is_kept.ensures.short may.fixed may.recorded may.base may.gone (book_in l) l.journal may.are.books) e.last.entry e.sizes may.answered.change
 
 pub store-requires-clause-may_refuse : goal.store-requires-clause-may_refuse
-store-requires-clause-may_refuse g c κs within =
+store-requires-clause-may_refuse g c =
     let may = c.requires.may.answer in
     let l = c.args.ledger.now in
     may-refuse g.D.Disk may.fixed may.recorded may.base may.gone l may.pages may.are (c.the_state_is_kept.ensures.short may.fixed may.recorded may.base may.gone (book_in l) l.journal may.are.books) c.args.entering.last.entry.agent may.answered.change.agent
 
 pub store-requires-clause-room : goal.store-requires-clause-room
-store-requires-clause-room g c κs within =
+store-requires-clause-room g c =
     let may = c.requires.may.answer in
     let l = c.args.ledger.now in
     let e = c.args.entering in

@@ -9,19 +9,19 @@ use Rattle.opfs_desk_ways.proofs.Fresh.{told-fresh}
 use Rattle.opfs_desk_ways.proofs.entering.tell_call.Goals as goal
 
 pub tell-requires-clause-come : goal.tell-requires-clause-come
-tell-requires-clause-come g c κs within =
+tell-requires-clause-come g c =
     let may = c.requires.may in
     record { known = record { fixed = may.fixed; recorded = may.recorded; base = may.base; gone = may.gone; are = may.are.books }; next = may.answered.next; sizes = may.answered.sizes }
 
 pub tell-requires-clause-may : goal.tell-requires-clause-may
-tell-requires-clause-may g c κs within =
+tell-requires-clause-may g c =
     let may = c.requires.may in
     let l = c.args.ledger.now in
     let e = c.args.entering in
     may-apply g.D.Disk may.fixed may.recorded may.base may.gone l may.pages may.are (c.the_state_is_kept.ensures.short may.fixed may.recorded may.base may.gone (book_in l) l.journal may.are.books) e.last.entry e.sizes may.answered.change
 
 pub tell-requires-clause-room : goal.tell-requires-clause-room
-tell-requires-clause-room g c κs within =
+tell-requires-clause-room g c =
     let may = c.requires.may in
     let l = c.args.ledger.now in
     let e = c.args.entering in

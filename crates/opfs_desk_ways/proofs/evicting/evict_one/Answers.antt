@@ -10,13 +10,13 @@ use Rattle.opfs_desk_ways.proofs.Ready.{may-spell, still-ready}
 use Rattle.opfs_desk_ways.proofs.evicting.evict_one.Goals as goal
 
 pub evict-requires-clause-again : goal.evict-requires-clause-again
-evict-requires-clause-again g c κs within =
+evict-requires-clause-again g c =
     let may = c.requires.may in
     let l = c.args.ledger.now in
     may-spell c.args.clearing.unit (machine_in l) (tree_in l) may.are.books.stored.writable.0 c.lines.ensures may.turn.root
 
 pub evict-requires-clause-may : goal.evict-requires-clause-may
-evict-requires-clause-may g c κs within =
+evict-requires-clause-may g c =
     let may = c.requires.may in
     let l = c.args.ledger.now in
     record {
@@ -26,13 +26,13 @@ evict-requires-clause-may g c κs within =
     }
 
 pub evict-requires-clause-may_refuse : goal.evict-requires-clause-may_refuse
-evict-requires-clause-may_refuse g c κs within =
+evict-requires-clause-may_refuse g c =
     let may = c.requires.may in
     let l = c.args.ledger.now in
     may-refuse g.D.Disk may.fixed may.recorded may.base may.gone l may.pages may.are (c.the_state_is_kept.ensures.short may.fixed may.recorded may.base may.gone (book_in l) l.journal may.are.books) c.args.last.entry.agent may.ready.agent
 
 pub evict-requires-clause-room : goal.evict-requires-clause-room
-evict-requires-clause-room g c κs within =
+evict-requires-clause-room g c =
     let may = c.requires.may in
     let l = c.args.ledger.now in
     let room = room-within g.D.Disk may.fixed may.recorded may.base may.gone l may.pages may.are (c.args.clearing.unit, []) in

@@ -6,7 +6,7 @@ use Rattle.opfs_desk_ways.proofs.Held.{refused-held}
 use Rattle.opfs_desk_ways.proofs.refusing.refuse_call.Goals as goal
 
 pub refuse-requires-clause-may : goal.refuse-requires-clause-may
-refuse-requires-clause-may g c κs within =
+refuse-requires-clause-may g c =
     let may = c.requires.may in
     let l = c.args.ledger.now in
     may-refuse g.D.Disk may.fixed may.recorded may.base may.gone l may.pages may.are (c.the_state_is_kept.ensures.short may.fixed may.recorded may.base may.gone (book_in l) l.journal may.are.books) c.args.last.entry.agent may.agent

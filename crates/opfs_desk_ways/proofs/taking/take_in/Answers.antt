@@ -11,7 +11,7 @@ use Rattle.opfs_desk_ways.proofs.Ways.{way-here}
 use Rattle.opfs_desk_ways.proofs.taking.take_in.Goals as goal
 
 pub take_in-requires-clause-may : goal.take_in-requires-clause-may
-take_in-requires-clause-may g c κs within sum is =
+take_in-requires-clause-may g c sum is =
     let may = c.requires.may in
     let l = c.args.ledger.now in
     let o = may.fixed.opening in

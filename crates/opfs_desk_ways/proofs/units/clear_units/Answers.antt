@@ -24,7 +24,7 @@ loop-next-init g c =
     }
 
 pub evict_one-requires-clause-may : goal.evict_one-requires-clause-may
-evict_one-requires-clause-may g c κs within =
+evict_one-requires-clause-may g c =
     let may = c.requires.may.way in
     let l = c.args.ledger.now in
     let all = c.args.clearing.items in

@@ -10,7 +10,7 @@ use Rattle.opfs_dump.proofs.Rests.{text_whole}
 use Rattle.opfs_dump.proofs.dumping.dump.Goals as goal
 
 pub put_parts-requires-clause-lies : goal.put_parts-requires-clause-lies
-put_parts-requires-clause-lies g c κs within =
+put_parts-requires-clause-lies g c =
     let from = c.args.from.now in
     let fits : image_size from.geometry ≤ g.D.Disk.size from.journal.disk = from.journal_of.length in
     let base : c.data_base-base.result ≡ data_base from.geometry = c.data_base-base.ensures.same in

@@ -10,10 +10,10 @@ use Rattle.opfs_dump.proofs.Rests.{rest_more, rest_none}
 use Rattle.opfs_dump.proofs.rows.put_rows.Goals as goal
 
 pub put_next-requires-clause-stands : goal.put_next-requires-clause-stands
-put_next-requires-clause-stands g c κs within = stands c.step.new.walk (rows_above c.loop-row.walk c.args.tree.now) c.args.tree.now c.in-Some.row.now c.in-Some.ensures.next
+put_next-requires-clause-stands g c = stands c.step.new.walk (rows_above c.loop-row.walk c.args.tree.now) c.args.tree.now c.in-Some.row.now c.in-Some.ensures.next
 
 pub put_next-requires-clause-lies : goal.put_next-requires-clause-lies
-put_next-requires-clause-lies g c κs within =
+put_next-requires-clause-lies g c =
     let at = c.loop-row.invariant in
     subst (λ (end : ℕ). Lies c.args.base end c.in-Some.row.now) (sym at.so_far.reads.stays.length)
     (lies_next c.args.base (g.D.Disk.size c.args.journal.now.disk) c.step.new.walk (rows_above c.loop-row.walk c.args.tree.now) c.args.tree.now c.in-Some.row.now c.in-Some.ensures.next at.lies).0

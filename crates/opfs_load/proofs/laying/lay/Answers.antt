@@ -1,7 +1,7 @@
 use Rattle.opfs_load.proofs.laying.lay.Goals as goal
 
 pub lay_on-requires-clause-range : goal.lay_on-requires-clause-range
-lay_on-requires-clause-range g c κs within = c.args.dumped.now.range
+lay_on-requires-clause-range g c = c.args.dumped.now.range
 
 pub lay_on-requires-clause-fits : goal.lay_on-requires-clause-fits
-lay_on-requires-clause-fits g c κs within = c.args.dumped.now.room
+lay_on-requires-clause-fits g c = c.args.dumped.now.room

@@ -6,7 +6,7 @@ use Rattle.opfs_journal.specs.Format.{records_of}
 use Rattle.opfs_load.proofs.laying.lay_on.Goals as goal
 
 pub lay_over-requires-clause-empty : goal.lay_over-requires-clause-empty
-lay_over-requires-clause-empty g c κs within =
+lay_over-requires-clause-empty g c =
     let e = c.in-Ok.ensures in
     let gm = c.args.dumped.now.geometry in
     let areas = c.journal_areas.ensures in

@@ -10,7 +10,7 @@ use Rattle.opfs_migrate.proofs.Refused.{begun}
 use Rattle.opfs_migrate.proofs.raising.raise_image.Goals as goal
 
 pub raise_over-requires-clause-records : goal.raise_over-requires-clause-records
-raise_over-requires-clause-records g c κs within = λ told.
+raise_over-requires-clause-records g c = λ told.
     let areas = c.journal_areas-areas.ensures in
     let same = (c.in-Ok.ensures.only_read.told told).same in
     sym (λ i. records_of (areas i) ((sym same) i)) ∙ c.in-Ok.ensures.records told

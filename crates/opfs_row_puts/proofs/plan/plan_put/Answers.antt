@@ -24,7 +24,7 @@ returns-then-put-clause-gotten g c = λ m recorded was fits small.
     c.in_ok-put.ensures.pages was c.args.base (g.D.Disk.size c.args.journal.now.disk) c.in_ok-put.ensures.planned (c.in_ok-put.ensures.ready.count c.args.given.now) fits small c.in_ok-put.put.taken c.in_ok-put.ensures.taken (λ never. absurd (cc (c.if-put.true, never)))
 
 pub try_put-requires-2-clause-lies : goal.try_put-requires-2-clause-lies
-try_put-requires-2-clause-lies g c κs within =
+try_put-requires-2-clause-lies g c =
     lies-same c.args.base (g.D.Disk.size c.args.journal.now.disk) (g.D.Disk.size c.try_put.new.journal.disk) c.args.agent c.args.row c.args.swap.now c.try_put.new.swap c.in_ok-put.ensures.pages c.in_ok-put.ensures.reads.stays.length c.requires.lies
 
 pub returns-in_err-put-2-clause-spaced : goal.returns-in_err-put-2-clause-spaced

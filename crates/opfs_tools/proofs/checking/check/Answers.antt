@@ -5,7 +5,7 @@ use Rattle.opfs_tools.proofs.Keeping.{journal_kept, image_kept}
 use Rattle.opfs_tools.proofs.checking.check.Goals as goal
 
 pub check_text-requires-clause-lies : goal.check_text-requires-clause-lies
-check_text-requires-clause-lies g c κs within =
+check_text-requires-clause-lies g c =
     let from = c.args.from.now in
     let fits : image_size from.geometry ≤ g.D.Disk.size from.journal.disk = from.journal_of.length in
     let base : c.data_base-base.result ≡ data_base from.geometry = c.data_base-base.ensures.same in

@@ -18,10 +18,10 @@ loop-row-init g c = record {
 }
 
 pub add_row-requires-clause-stands : goal.add_row-requires-clause-stands
-add_row-requires-clause-stands g c κs within = stands c.step.new.walk (rows_above c.loop-row.walk c.args.tree.now) c.args.tree.now c.in-Some.row.now c.in-Some.ensures.next
+add_row-requires-clause-stands g c = stands c.step.new.walk (rows_above c.loop-row.walk c.args.tree.now) c.args.tree.now c.in-Some.row.now c.in-Some.ensures.next
 
 pub add_row-requires-clause-lies : goal.add_row-requires-clause-lies
-add_row-requires-clause-lies g c κs within =
+add_row-requires-clause-lies g c =
     let at = c.loop-row.invariant in
     subst (λ (end : ℕ). Lies c.args.base end c.in-Some.row.now) (sym at.reads.stays.length)
     (lies_next c.args.base (g.D.Disk.size c.args.journal.now.disk) c.step.new.walk (rows_above c.loop-row.walk c.args.tree.now) c.args.tree.now c.in-Some.row.now c.in-Some.ensures.next at.lies).0

@@ -9,7 +9,7 @@ returns-then-count-eq0-clause-shown g c f recorded base gone are =
     rest-shown g.D.Disk c.the_books_show_their_images.ensures f recorded base gone (book_of g.S.Shared c.args.self.now) c.args.journal.now are c.requires.settled
 
 pub commit_alone-requires-clause-may : goal.commit_alone-requires-clause-may
-commit_alone-requires-clause-may g c = λ κs lives.
+commit_alone-requires-clause-may g c =
     let known = c.requires.known in
     let b = c.args.self.now in
     may-alone c.lengths_follow_each_call.ensures c.calls_are_spelled.ensures g.D.Disk known.fixed known.recorded known.base known.gone b.history (g.S.Shared.machine b.state) (g.S.Shared.tree b.state) b.commits b.place c.args.journal.now known.are

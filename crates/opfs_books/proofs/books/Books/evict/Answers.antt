@@ -12,7 +12,7 @@ use Rattle.opfs_books.proofs.Evictions.{may-evict, evict-done, evict-failed, evi
 use Rattle.opfs_books.proofs.books.Books.evict.Goals as goal
 
 pub commit_own-requires-clause-may : goal.commit_own-requires-clause-may
-commit_own-requires-clause-may g c = λ κs lives.
+commit_own-requires-clause-may g c =
     let known = c.requires.known in
     let b = c.args.self.now in
     let m = g.S.Shared.machine b.state in

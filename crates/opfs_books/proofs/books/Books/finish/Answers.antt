@@ -5,7 +5,7 @@ use Rattle.opfs_books.proofs.Alone.{both-leave, both-shown, same-books}
 use Rattle.opfs_books.proofs.books.Books.finish.Goals as goal
 
 pub commit_kept-requires-clause-known : goal.commit_kept-requires-clause-known
-commit_kept-requires-clause-known g c κs within =
+commit_kept-requires-clause-known g c =
     let k = c.requires.known in
     record { fixed = k.fixed; recorded = k.recorded; base = k.base; gone = k.gone; are = c.settle.ensures.books k.fixed k.recorded k.base k.gone k.are }
 

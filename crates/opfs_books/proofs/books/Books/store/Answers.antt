@@ -8,7 +8,7 @@ use Rattle.opfs_books.proofs.Calls.{may-commit, store-done, store-failed, store-
 use Rattle.opfs_books.proofs.books.Books.store.Goals as goal
 
 pub commit_own-requires-clause-may : goal.commit_own-requires-clause-may
-commit_own-requires-clause-may g c = λ κs lives.
+commit_own-requires-clause-may g c =
     let known = c.requires.come.come.known in
     let next = c.requires.come.come.next in
     let sizes = c.requires.come.come.sizes in

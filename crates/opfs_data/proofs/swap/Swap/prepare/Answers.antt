@@ -7,7 +7,7 @@ use Rattle.opfs_data.proofs.SwapLemmas.{row_there, row_written, others_written}
 use Rattle.opfs_data.proofs.swap.Swap.prepare.Goals as goal
 
 pub prepare-requires-clause-lies : goal.prepare-requires-clause-lies
-prepare-requires-clause-lies g c = λ κs lives. subst (λ (r : RowSeen). AllByRecursion (λ (page : Page). LiesIn c.args.base (g.D.Disk.size c.args.journal.now.disk) page.block) r.pages) (row_there c.args.agent c.args.row _ _ _ c.in-Some.ensures.value c.self.view_is) c.requires.lies
+prepare-requires-clause-lies g c = subst (λ (r : RowSeen). AllByRecursion (λ (page : Page). LiesIn c.args.base (g.D.Disk.size c.args.journal.now.disk) page.block) r.pages) (row_there c.args.agent c.args.row _ _ _ c.in-Some.ensures.value c.self.view_is) c.requires.lies
 
 pub returns-in_err-prepare-clause-others : goal.returns-in_err-prepare-clause-others
 returns-in_err-prepare-clause-others g c = others_written c.args.agent c.args.row _ _ _ _ c.in-Some.ensures.value c.self.view_is (λ some. ((c.get_mut.follows.holds _).3 some).2)

@@ -9,16 +9,16 @@ use Rattle.opfs_data.proofs.SwapLemmas.{row_there, row_written, others_written, 
 use Rattle.opfs_data.proofs.swap.Swap.write.Goals as goal
 
 pub write-requires-clause-room : goal.write-requires-clause-room
-write-requires-clause-room g c = λ κs lives. subst (λ (r : RowSeen). c.args.pages ≤ r.room) (row_there c.args.agent c.args.row _ _ _ c.in-Some.ensures.value c.self.view_is) c.requires.room
+write-requires-clause-room g c = subst (λ (r : RowSeen). c.args.pages ≤ r.room) (row_there c.args.agent c.args.row _ _ _ c.in-Some.ensures.value c.self.view_is) c.requires.room
 
 pub write-requires-clause-saved : goal.write-requires-clause-saved
-write-requires-clause-saved g c = λ κs lives. subst (λ (r : RowSeen). MatchOption r.saved ⊥ (λ (saved : List SavedPage). AreSaved saved r.pages (page_writes c.args.writes.now c.args.given.now))) (row_there c.args.agent c.args.row _ _ _ c.in-Some.ensures.value c.self.view_is) c.requires.saved
+write-requires-clause-saved g c = subst (λ (r : RowSeen). MatchOption r.saved ⊥ (λ (saved : List SavedPage). AreSaved saved r.pages (page_writes c.args.writes.now c.args.given.now))) (row_there c.args.agent c.args.row _ _ _ c.in-Some.ensures.value c.self.view_is) c.requires.saved
 
 pub write-requires-clause-now : goal.write-requires-clause-now
-write-requires-clause-now g c = λ κs lives told. subst (λ (r : RowSeen). MatchOption r.saved ⊥ (λ (saved : List SavedPage). AreNow (g.D.Disk.content c.args.journal.now.disk) c.args.base r.pages saved)) (row_there c.args.agent c.args.row _ _ _ c.in-Some.ensures.value c.self.view_is) (c.requires.now told)
+write-requires-clause-now g c = λ told. subst (λ (r : RowSeen). MatchOption r.saved ⊥ (λ (saved : List SavedPage). AreNow (g.D.Disk.content c.args.journal.now.disk) c.args.base r.pages saved)) (row_there c.args.agent c.args.row _ _ _ c.in-Some.ensures.value c.self.view_is) (c.requires.now told)
 
 pub write-requires-clause-own : goal.write-requires-clause-own
-write-requires-clause-own g c = λ κs lives. subst (λ (r : RowSeen). AreOwn r.pages (page_writes c.args.writes.now c.args.given.now)) (row_there c.args.agent c.args.row _ _ _ c.in-Some.ensures.value c.self.view_is) c.requires.own
+write-requires-clause-own g c = subst (λ (r : RowSeen). AreOwn r.pages (page_writes c.args.writes.now c.args.given.now)) (row_there c.args.agent c.args.row _ _ _ c.in-Some.ensures.value c.self.view_is) c.requires.own
 
 pub returns-in_err-write-clause-others : goal.returns-in_err-write-clause-others
 returns-in_err-write-clause-others g c = others_written c.args.agent c.args.row _ _ _ _ c.in-Some.ensures.value c.self.view_is (λ some. ((c.get_mut.follows.holds _).3 some).2)

@@ -4,7 +4,7 @@ use Rattle.opfs_desk.proofs.Called.{is-called, rests-acted, rests-alone}
 use Rattle.opfs_desk.proofs.desk.Desk.act.Goals as goal
 
 pub act_call-requires-clause-may : goal.act_call-requires-clause-may
-act_call-requires-clause-may g c κs within =
+act_call-requires-clause-may g c =
     let f = fixed_by g.D.Disk c.self.inside.from.value c.self.inside.agents.value.items in
     let call : Call = record { agent = c.args.agent; number = c.args.number; op = c.args.op } in
     let old = c.self.inside.parts in

@@ -7,10 +7,10 @@ use Rattle.opfs_puts.proofs.Saving.{saved_placed}
 use Rattle.opfs_puts.proofs.put.Put.write.Goals as goal
 
 pub write-requires-clause-within : goal.write-requires-clause-within
-write-requires-clause-within g c κs within = (c.place_all.ensures.bytes c.args.given.now c.requires.bytes).runs
+write-requires-clause-within g c = (c.place_all.ensures.bytes c.args.given.now c.requires.bytes).runs
 
 pub write-requires-clause-saved : goal.write-requires-clause-saved
-write-requires-clause-saved g c κs within =
+write-requires-clause-saved g c =
     saved_placed (row_at c.args.agent c.args.row c.args.swap.now).saved (pages_at c.args.agent c.args.row c.args.swap.now) c.args.self.now.writes c.args.given.now (page_writes c.place_all.new.self c.args.given.now)
     (placed (page_moves c.args.self.now.writes c.args.given.now) (blocks_in c.args.self.now.extents.items))
     (c.place_all.ensures.placed c.args.given.now ∙ ap (λ (es : List Extent). page_writes c.args.self.now.writes c.args.given.now ++ placed (page_moves c.args.self.now.writes c.args.given.now) (blocks_in es)) c.deref.ensures.value)
