@@ -1,5 +1,5 @@
 -- The words of scripts: this project's own.
-use Rattle.std.specs.Prelude.{Bool, true, false, List, [], ◌∷◌, Option, Some, None, codes, map}
+use Rattle.std.specs.Prelude.{true, false, List, [], ◌∷◌, Option, Some, None, codes, map}
 use Rattle.std.specs.Borrow.{Bor}
 use Rattle.opfs_base.specs.Texts.{Text, same_text}
 use Rattle.opfs_hist.specs.declared.op.Word.{Word}
@@ -33,20 +33,9 @@ word_in (w ∷ words) name = elim (same_text name w.0) [ true ↦ Some w.1 | fal
 abbrev pub told : List (Bor Text × Word) → List (Text × Word)
 told words = map (λ w. (w.0.now, w.1)) words
 
--- Whether a word is served. The others are refused as unknown.
-abbrev pub is_built : Word → Bool
-is_built word.Post = false
-is_built word.Await = false
-is_built _ = true
-
--- A word, if it is served.
-abbrev pub if_built : Option Word → Option Word
-if_built None = None
-if_built (Some w) = elim (is_built w) [ true ↦ Some w | false ↦ None ]
-
--- The served word that a text is.
+-- The word that a text is.
 unfoldable pub word_named : Text → Option Word
-word_named name = if_built (word_in written_words name)
+word_named name = word_in written_words name
 
 -- The names of the members that a step of a word may have.
 abbrev pub members_of : Word → List Text

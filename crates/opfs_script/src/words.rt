@@ -1,20 +1,16 @@
 //! The words of scripts.
 
 ghost use Rattle.std.specs.Prelude.{◌≡◌, map};
-ghost use Rattle.opfs_script.specs.Words.{told, written_words, word_in, word_named};
-ghost use Rattle.opfs_script.specs.Words.{is_built, members_of};
+ghost use Rattle.opfs_script.specs.Words.{members_of, told, word_in, word_named, written_words};
 
 use opfs_hist::Word;
 
-/// The served word that a text is.
+/// The word that a text is.
 #[tactic(auto, unfolding(crate::specs::Words::word_named))]
 pub fn word_named(name: &str) -> Option<Word>
     ensures { result ≡ word_named name.now }
 {
-    match word_in(written_words(), name) {
-        Some(word) if is_built(word) => Some(word),
-        _ => None,
-    }
+    word_in(written_words(), name)
 }
 
 // The word that a text is in a list of words.
@@ -64,16 +60,6 @@ fn written_words() -> &'static [(&'static str, Word)]
         ("post", Word::Post),
         ("await", Word::Await),
     ]
-}
-
-// Whether a word is served.
-fn is_built(word: Word) -> bool
-    ensures { result ≡ is_built word }
-{
-    match word {
-        Word::Post | Word::Await => false,
-        _ => true,
-    }
 }
 
 /// The names of the members that a step of a word may have.
