@@ -117,6 +117,8 @@ fn every_word_has_its_members(rt: HostRuntime) -> Result<(), AllocError> {
         r#"{"do":"persisted","bucket":"drafts"}"#,
         r#"{"do":"estimate"}"#,
         r#"{"do":"moment","ms":1700000000000}"#,
+        r#"{"do":"post","tag":"p"}"#,
+        r#"{"do":"await","tag":"p"}"#,
     ];
     for step in good {
         assert_eq!(rt; step_refusal(rt.alloc(), step)?, None, "{step}");
@@ -154,6 +156,8 @@ fn steps_of_another_shape_are_refused(rt: HostRuntime) -> Result<(), AllocError>
         r#"{"do":"syncRead","sync":"h","len":65537}"#,
         r#"{"do":"createSyncAccessHandle","file":"f","mode":"read","as":"h"}"#,
         r#"{"do":"estimate","bucket":"x"}"#,
+        r#"{"do":"post","tag":""}"#,
+        r#"{"do":"await"}"#,
     ];
     for step in bad {
         assert_eq!(rt;
