@@ -5,8 +5,8 @@ use Rattle.opfs_machine.specs.Runs.{Call}
 use Rattle.opfs_desk_acts.proofs.Calls.{acted-before, alone-before, alone-now, readied-as, readied-now, refused-as, refused-now, whole-now}
 use Rattle.opfs_desk_acts.proofs.calling.act_call.Goals as goal
 
-pub ask_call-requires-clause-may : goal.ask_call-requires-clause-may
-ask_call-requires-clause-may g c =
+pub ask_call-requires : goal.ask_call-requires
+ask_call-requires g c =
     let may = c.requires.may in
     let called = may.called in
     record {
@@ -20,8 +20,8 @@ ask_call-requires-clause-may g c =
       may = called.may;
     }
 
-pub act_refused-requires-clause-may : goal.act_refused-requires-clause-may
-act_refused-requires-clause-may g c =
+pub act_refused-requires : goal.act_refused-requires
+act_refused-requires g c =
     let may = c.requires.may in
     let called = may.called in
     let f = may.fixed in

@@ -21,8 +21,8 @@ use Rattle.opfs_desk_contents.specs.Words.{size_stored, stamp_stored}
 use Rattle.opfs_desk_contents.proofs.Stowed.{bytes-stand, can-be-held, small-blocks, spelled-runs}
 use Rattle.opfs_desk_contents.proofs.pages.store_pages.Goals as goal
 
-pub put_content-requires-clause-may : goal.put_content-requires-clause-may
-put_content-requires-clause-may g c = let may = c.requires.may in record { fixed = may.fixed; recorded = may.recorded; are = may.are; ready = may.ready; enough = may.enough }
+pub put_content-requires : goal.put_content-requires
+put_content-requires g c = let may = c.requires.may in record { fixed = may.fixed; recorded = may.recorded; are = may.are; ready = may.ready; enough = may.enough }
 
 pub collect-requires-clause-there : goal.collect-requires-clause-there
 collect-requires-clause-there g c =
@@ -42,8 +42,8 @@ collect-requires-clause-small g c =
     small-blocks w c.storing_laws.ensures.states may.fixed cleared.recorded back q (whole-now w may.fixed l back q is.entries cleared) c.args.agent c.args.row c.args.plan.place
     (subst (λ (s : StateSeen). file_in (open_at s.store.machine c.args.agent c.args.row) ≡ Some c.args.plan.place) (sym is.state) may.opened) (subst (λ (s : StateSeen). IsInOrder s.store.tree) (sym is.state) c.step.ensures.order)
 
-pub fail_call-requires-clause-may : goal.fail_call-requires-clause-may
-fail_call-requires-clause-may g c =
+pub fail_call-requires : goal.fail_call-requires
+fail_call-requires g c =
     let may = c.requires.may in
     let l = c.args.parts.now.ledger in
     let is = c.put_content.ensures in

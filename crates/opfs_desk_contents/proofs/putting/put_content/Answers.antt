@@ -28,8 +28,8 @@ find_room-requires-clause-may g c =
       enough = enough-now l mid c.args.agent c.args.row put.pages is.state may.enough;
     }
 
-pub write_pages-requires-clause-may : goal.write_pages-requires-clause-may
-write_pages-requires-clause-may g c =
+pub write_pages-requires : goal.write_pages-requires
+write_pages-requires g c =
     let w = g.D.Disk in
     let may = c.requires.may in
     let l = c.args.parts.now.ledger in

@@ -47,8 +47,8 @@ estimate-usage-requires-clause-small g c =
     let go = c.requires.go in
     small-quota g.D.Disk c.state_laws.ensures c.the_state_is_kept.ensures go.fixed go.recorded c.args.parts.now.ledger c.args.parts.now.pages go.are
 
-pub tell-rows-requires-clause-may : goal.tell-rows-requires-clause-may
-tell-rows-requires-clause-may g c =
+pub tell-rows-requires : goal.tell-rows-requires
+tell-rows-requires g c =
     let w = g.D.Disk in
     let go = c.requires.go in
     let laws = c.telling_laws.ensures in

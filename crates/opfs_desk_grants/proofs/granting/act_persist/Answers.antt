@@ -34,8 +34,8 @@ pub unit_in-requires-clause-keyed : goal.unit_in-requires-clause-keyed
 unit_in-requires-clause-keyed g c =
     ap (λ (x : Option Text). is_some x) c.key-key.ensures ∙ gives-key (machine_in c.args.parts.now.ledger) c.args.call.agent c.args.call.op c.requires.word
 
-pub take_in-requires-clause-may : goal.take_in-requires-clause-may
-take_in-requires-clause-may g c =
+pub take_in-requires : goal.take_in-requires
+take_in-requires g c =
     let may = c.requires.go in
     c.granting_laws.ensures.asks.taken may.fixed may.recorded c.args.parts.now.ledger c.args.parts.now.pages c.args.pending.now c.args.call c.args.work.now [] may.are may.asked
 
@@ -54,8 +54,8 @@ rows-rows-requires g c =
     record { taken = record { entries = is.entries; journal = is.journal; place = is.place }; held = is.held may.fixed may.recorded p may.are may.asked.may.pending; prepared = is.prepared call.op may.asked.prepared; tree = is.tree } in
     (ready w know.asks know.answers may.fixed may.recorded l mid l p c.args.pending.now call c.args.work.now (reply.Flag true) may.are may.asked took words).agent
 
-pub clear_way-requires-clause-may : goal.clear_way-requires-clause-may
-clear_way-requires-clause-may g c =
+pub clear_way-requires : goal.clear_way-requires
+clear_way-requires g c =
     let w = g.D.Disk in
     let may = c.requires.go in
     let l = c.args.parts.now.ledger in

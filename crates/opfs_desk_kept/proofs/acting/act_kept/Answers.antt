@@ -35,8 +35,8 @@ key-key-requires g c =
     let may = c.requires.go in
     (c.keeping_laws.ensures.asks.taken may.fixed may.recorded c.args.parts.now.ledger c.args.parts.now.pages c.args.pending.now c.args.call c.args.work.now [] may.are may.asked).agent
 
-pub take_in-requires-clause-may : goal.take_in-requires-clause-may
-take_in-requires-clause-may g c =
+pub take_in-requires : goal.take_in-requires
+take_in-requires g c =
     let may = c.requires.go in
     c.keeping_laws.ensures.asks.taken may.fixed may.recorded c.args.parts.now.ledger c.args.parts.now.pages c.args.pending.now c.args.call c.args.work.now [] may.are may.asked
 
@@ -58,8 +58,8 @@ rows-rows-requires g c =
     } in
     (ready w c.keeping_laws.ensures.asks c.keeping_laws.ensures.answers may.fixed may.recorded l mid l p c.args.pending.now c.args.call c.args.work.now begins took).agent
 
-pub clear_way-requires-clause-may : goal.clear_way-requires-clause-may
-clear_way-requires-clause-may g c =
+pub clear_way-requires : goal.clear_way-requires
+clear_way-requires g c =
     let w = g.D.Disk in
     let may = c.requires.go in
     let l = c.args.parts.now.ledger in

@@ -43,13 +43,13 @@ open_pages-requires-clause-lies g c =
     let may = c.requires.go in
     extents-below may.fixed.geometry _ may.are.tied.range may.are.books.stored.sound.files c.args.call.op c.requires.word
 
-pub take_in-requires-clause-may : goal.take_in-requires-clause-may
-take_in-requires-clause-may g c =
+pub take_in-requires : goal.take_in-requires
+take_in-requires g c =
     let may = c.requires.go in
     c.opening_laws.ensures.asks.taken may.fixed may.recorded c.args.parts.now.ledger c.args.parts.now.pages c.args.pending.now c.args.call c.args.work.now [] may.are may.asked
 
-pub clear_call-requires-clause-may : goal.clear_call-requires-clause-may
-clear_call-requires-clause-may g c =
+pub clear_call-requires : goal.clear_call-requires
+clear_call-requires g c =
     let may = c.requires.go in
     let l = c.args.parts.now.ledger in
     let p = c.args.parts.now.pages in

@@ -30,8 +30,8 @@ mode-requires-clause-key g c =
     key-there (machine_in l) s call.agent (sum_of calls) agent (noted-is w laws.follow laws.local go.fixed go.recorded l p calls call c.args.work.now [] begins agent)
     (has-key s call.agent call.op _ c.requires.word go.asked.judged)
 
-pub tell-rows-requires-clause-may : goal.tell-rows-requires-clause-may
-tell-rows-requires-clause-may g c =
+pub tell-rows-requires : goal.tell-rows-requires
+tell-rows-requires g c =
     let w = g.D.Disk in
     let go = c.requires.go in
     let laws = c.telling_laws.ensures in

@@ -17,8 +17,8 @@ next_child-requires-clause-clean g c =
     let go = c.requires.go in
     go.asked.prepared.place ∙ next-makes-none _ c.args.call.agent c.args.call.op c.requires.word
 
-pub tell-rows-requires-clause-may : goal.tell-rows-requires-clause-may
-tell-rows-requires-clause-may g c =
+pub tell-rows-requires : goal.tell-rows-requires
+tell-rows-requires g c =
     let w = g.D.Disk in
     let go = c.requires.go in
     let laws = c.telling_laws.ensures in

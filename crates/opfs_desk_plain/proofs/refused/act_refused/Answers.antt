@@ -4,8 +4,8 @@ use Rattle.opfs_machine.specs.Runs.{Call}
 use Rattle.opfs_desk_plain.proofs.Refusing.{may-take, agent-mid, may-refuse, is-refused, has-acted}
 use Rattle.opfs_desk_plain.proofs.refused.act_refused.Goals as goal
 
-pub take_in-requires-clause-may : goal.take_in-requires-clause-may
-take_in-requires-clause-may g c =
+pub take_in-requires : goal.take_in-requires
+take_in-requires g c =
     let may = c.requires.may in
     let call : Call = record { agent = c.args.agent; number = c.args.number; op = c.args.op } in
     let l = c.args.parts.now.ledger in
@@ -19,8 +19,8 @@ rows-rows-requires g c =
     agent-mid g.D.Disk c.reads_leave_the_state.ensures c.lengths_follow_each_call.ensures c.local_calls_are_known_by_their_word.ensures may.fixed may.recorded c.args.parts.now.ledger c.take_in.new.ledger p c.args.pending.now call c.args.refusal may.work may.past may.are may.asked
     c.take_in.ensures.entries (c.take_in.ensures.held may.fixed may.recorded p may.are may.asked.may.pending)
 
-pub refuse_call-requires-clause-may : goal.refuse_call-requires-clause-may
-refuse_call-requires-clause-may g c =
+pub refuse_call-requires : goal.refuse_call-requires
+refuse_call-requires g c =
     let may = c.requires.may in
     let call : Call = record { agent = c.args.agent; number = c.args.number; op = c.args.op } in
     let p = c.args.parts.now.pages in

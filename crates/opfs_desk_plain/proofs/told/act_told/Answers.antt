@@ -6,8 +6,8 @@ use Rattle.opfs_machine.specs.Histories.{state_after}
 use Rattle.opfs_desk_plain.proofs.Done.{answers-done, no-gift}
 use Rattle.opfs_desk_plain.proofs.told.act_told.Goals as goal
 
-pub tell-rows-requires-clause-may : goal.tell-rows-requires-clause-may
-tell-rows-requires-clause-may g c =
+pub tell-rows-requires : goal.tell-rows-requires
+tell-rows-requires g c =
     let go = c.requires.go in
     let call = c.args.call in
     let done = answers-done (state_after go.fixed.opening (c.args.parts.now.ledger.books.history ++ c.args.pending.now)) call.sizes call.agent call.op c.requires.word in

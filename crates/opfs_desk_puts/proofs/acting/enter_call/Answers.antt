@@ -21,8 +21,8 @@ use Rattle.opfs_desk_puts.proofs.Begun.{answered, before-is, gotten, ready, to-p
 use Rattle.opfs_desk_puts.proofs.Words.{on-disk}
 use Rattle.opfs_desk_puts.proofs.acting.enter_call.Goals as goal
 
-pub take_in-requires-clause-may : goal.take_in-requires-clause-may
-take_in-requires-clause-may g c =
+pub take_in-requires : goal.take_in-requires
+take_in-requires g c =
     let may = c.requires.go in
     c.putting_laws.ensures.asks.taken may.fixed may.recorded c.args.parts.now.ledger c.args.parts.now.pages c.args.pending.now c.args.call c.args.work.now [] may.are may.asked
 
@@ -45,8 +45,8 @@ rows-rows-requires g c =
     record { taken = record { entries = is.entries; journal = is.journal; place = is.place }; tree = is.tree; held = then; prepared = is.prepared call.op may.asked.prepared } in
     (ready w laws.asks laws.answers may.fixed may.recorded l mid p calls call work begins c.requires.word took).agent
 
-pub clear_way-requires-clause-may : goal.clear_way-requires-clause-may
-clear_way-requires-clause-may g c =
+pub clear_way-requires : goal.clear_way-requires
+clear_way-requires g c =
     let may = c.requires.go in
     let w = g.D.Disk in
     let l = c.args.parts.now.ledger in

@@ -101,8 +101,8 @@ enter_call-requires-clause-planned g c f recorded held asked before row_is =
     t.result (record { row = t.ensures.row; at = t.ensures.at; size = t.ensures.size; position = t.ensures.position; writes = t.ensures.writes; counts = t.ensures.counts })
     c.args.given.now c.requires.given is.same is.pages refl (λ told. (is.reads.told told).same) paged c.in-Ok.planned.put.writes c.in-Ok.planned.page.items is.staged is.page before row_is
 
-pub fail_reading-requires-clause-may : goal.fail_reading-requires-clause-may
-fail_reading-requires-clause-may g c =
+pub fail_reading-requires : goal.fail_reading-requires
+fail_reading-requires g c =
     let may = c.requires.go in
     let laws = g.met.D.Disk in
     let w = g.D.Disk in

@@ -19,8 +19,8 @@ tell_put-requires-clause-may g c =
           (ap (λ (b : Books StateSeen). b.history) same ∙ put.found.history) (ap (λ (b : Books StateSeen). b.state) same ∙ put.found.state) may.answered;
     }
 
-pub fail_call-requires-clause-may : goal.fail_call-requires-clause-may
-fail_call-requires-clause-may g c =
+pub fail_call-requires : goal.fail_call-requires
+fail_call-requires g c =
     let may = c.requires.may in
     let not = c.in-Err.ensures.failed may.fixed may.recorded may.base may.gone may.to_put may.gotten in
     may-refuse g.D.Disk may.fixed may.base may.gone c.args.parts.now c.put_pages.new.parts c.args.last.entry not may.answered.change.placed may.answered.change.agent

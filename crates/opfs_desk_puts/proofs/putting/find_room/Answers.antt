@@ -9,8 +9,8 @@ use Rattle.opfs_desk_puts.specs.Putting.{IsUsed}
 use Rattle.opfs_desk_puts.proofs.Found.{files-below, pages-below, found-at-once, may-find, found-then}
 use Rattle.opfs_desk_puts.proofs.putting.find_room.Goals as goal
 
-pub commit_kept-requires-clause-may : goal.commit_kept-requires-clause-may
-commit_kept-requires-clause-may g c =
+pub commit_kept-requires : goal.commit_kept-requires
+commit_kept-requires g c =
     let may = c.requires.may.1 in
     record { fixed = may.fixed; recorded = may.recorded; base = may.base; gone = may.gone; pages = c.args.parts.now.pages; are = may.to_put.are; settled = may.to_put.settled }
 

@@ -5,8 +5,8 @@ use Rattle.opfs_machine.specs.Changes.{changes}
 use Rattle.opfs_desk_puts.proofs.Used.{used-both}
 use Rattle.opfs_desk_puts.proofs.putting.put_pages.Goals as goal
 
-pub write_pages-requires-clause-may : goal.write_pages-requires-clause-may
-write_pages-requires-clause-may g c =
+pub write_pages-requires : goal.write_pages-requires
+write_pages-requires g c =
     let may = c.requires.may in
     let found = c.in-Ok.ensures.found may.fixed may.recorded may.base may.gone c.args.given.now may.to_put may.gotten in
     record { fixed = may.fixed; recorded = found.recorded; base = may.base; gone = may.gone; to_put = found.to_put; have = found.have }

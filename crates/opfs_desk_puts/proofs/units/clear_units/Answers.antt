@@ -25,8 +25,8 @@ loop-next-init g c =
           (way-begins g.D.Disk l c.args.call.entry c.args.clearing.items c.the_books_show_their_images.ensures ready c.requires.may.settled may.evictions);
     }
 
-pub evict_one-requires-clause-may : goal.evict_one-requires-clause-may
-evict_one-requires-clause-may g c =
+pub evict_one-requires : goal.evict_one-requires
+evict_one-requires g c =
     let may = c.requires.may.way in
     let l = c.args.ledger.now in
     let all = c.args.clearing.items in

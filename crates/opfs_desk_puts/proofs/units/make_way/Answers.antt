@@ -6,11 +6,11 @@ use Rattle.opfs_desk_ways.proofs.Turns.{may-fail}
 use Rattle.opfs_desk_puts.proofs.Used.{leaves-both}
 use Rattle.opfs_desk_puts.proofs.units.make_way.Goals as goal
 
-pub end_doubt-requires-clause-may : goal.end_doubt-requires-clause-may
-end_doubt-requires-clause-may g c = may-end g.D.Disk c.args.ledger.now c.args.last.entry c.args.clearing.items c.requires.may
+pub end_doubt-requires : goal.end_doubt-requires
+end_doubt-requires g c = may-end g.D.Disk c.args.ledger.now c.args.last.entry c.args.clearing.items c.requires.may
 
-pub clear_units-requires-clause-may : goal.clear_units-requires-clause-may
-clear_units-requires-clause-may g c =
+pub clear_units-requires : goal.clear_units-requires
+clear_units-requires g c =
     let done = c.in-Ok.ensures in
     may-clear g.D.Disk c.args.ledger.now c.args.last.entry c.args.clearing.items c.end_doubt.new.ledger done.entries done.sure done.held c.requires.may done.state c.in-Ok.last.entry done.last
 

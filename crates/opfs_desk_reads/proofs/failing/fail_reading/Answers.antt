@@ -4,8 +4,8 @@ use Rattle.opfs_desk_steps.specs.Acting.{HasTaken}
 use Rattle.opfs_desk_reads.proofs.Faulted.{asked-now, agent-mid, may-refuse, is-refused, has-failed}
 use Rattle.opfs_desk_reads.proofs.failing.fail_reading.Goals as goal
 
-pub take_in-requires-clause-may : goal.take_in-requires-clause-may
-take_in-requires-clause-may g c =
+pub take_in-requires : goal.take_in-requires
+take_in-requires g c =
     let may = c.requires.may in
     let is = may.failed in
     c.asked_calls_are_ready.ensures.taken may.fixed may.recorded c.args.parts.now.ledger c.args.parts.now.pages c.args.pending.now c.args.call may.work may.past is.are
@@ -24,8 +24,8 @@ rows-rows-requires g c =
     agent-mid g.D.Disk asks may.fixed may.recorded may.start l mid may.before p c.args.pending.now c.args.call may.work may.past fail
     (record { entries = is.entries; journal = is.journal; place = is.place }) (is.held may.fixed may.recorded p fail.are asked.may.pending) (is.prepared c.args.call.op asked.prepared)
 
-pub fail_call-requires-clause-may : goal.fail_call-requires-clause-may
-fail_call-requires-clause-may g c =
+pub fail_call-requires : goal.fail_call-requires
+fail_call-requires g c =
     let may = c.requires.may in
     let fail = may.failed in
     let p = c.args.parts.now.pages in

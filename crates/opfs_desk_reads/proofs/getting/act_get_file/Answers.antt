@@ -59,8 +59,8 @@ enter_get_file-requires-clause-read g c found there =
           (subst (λ (x : List ℕ). IsReadOfFile g.D.Disk.tells (machine_in l) (file_read c.args.call.op) found p.swap x p.base c.in-Ok.read.bytes c.in-Ok.read.size c.in-Ok.read.stamp) (sym (is.reads.told t).same) first).read t;
     }
 
-pub fail_reading-requires-clause-may : goal.fail_reading-requires-clause-may
-fail_reading-requires-clause-may g c =
+pub fail_reading-requires : goal.fail_reading-requires
+fail_reading-requires g c =
     let laws = g.met.D.Disk in
     let may = c.requires.go in
     let l = c.args.parts.now.ledger in

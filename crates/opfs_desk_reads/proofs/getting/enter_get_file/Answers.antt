@@ -22,8 +22,8 @@ use Rattle.opfs_desk_reads.proofs.FileWords.{as-bytes, on-disk}
 use Rattle.opfs_desk_reads.proofs.Words.{silent}
 use Rattle.opfs_desk_reads.proofs.getting.enter_get_file.Goals as goal
 
-pub take_in-requires-clause-may : goal.take_in-requires-clause-may
-take_in-requires-clause-may g c =
+pub take_in-requires : goal.take_in-requires
+take_in-requires g c =
     let may = c.requires.go in
     c.getting_laws.ensures.asks.taken may.fixed may.recorded c.args.parts.now.ledger c.args.parts.now.pages c.args.pending.now c.args.call c.args.work.now [] may.are may.asked
 
@@ -35,8 +35,8 @@ rows-rows-requires g c =
     (c.getting_laws.ensures.asks.ready may.fixed may.recorded c.args.parts.now.ledger c.take_in.new.ledger c.args.parts.now.pages c.args.pending.now c.args.call c.args.work.now []
     may.are may.asked is.entries held (is.prepared c.args.call.op may.asked.prepared)).agent
 
-pub clear_call-requires-clause-may : goal.clear_call-requires-clause-may
-clear_call-requires-clause-may g c =
+pub clear_call-requires : goal.clear_call-requires
+clear_call-requires g c =
     let may = c.requires.go in
     let l = c.args.parts.now.ledger in
     let p = c.args.parts.now.pages in

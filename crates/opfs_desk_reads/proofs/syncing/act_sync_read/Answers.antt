@@ -41,8 +41,8 @@ enter_sync_read-requires-clause-read g c f recorded held asked =
     (g.D.Disk.content l.journal.disk) c.span_of-span.result.row c.span_of-span.result.start c.span_of-span.result.len (λ t. (is.reads.told t).same) c.span_of-span.ensures.row c.span_of-span.ensures.start c.span_of-span.ensures.len
     c.in-Ok.read.bytes c.in-Ok.read.copy c.in-Ok.read.cursor c.in-Ok.read.page.items is.size is.read is.copy is.cursor is.page
 
-pub fail_reading-requires-clause-may : goal.fail_reading-requires-clause-may
-fail_reading-requires-clause-may g c =
+pub fail_reading-requires : goal.fail_reading-requires
+fail_reading-requires g c =
     let laws = g.met.D.Disk in
     let may = c.requires.go in
     let l = c.args.parts.now.ledger in

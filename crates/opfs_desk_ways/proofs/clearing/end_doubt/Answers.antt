@@ -14,8 +14,8 @@ use Rattle.opfs_desk_ways.proofs.Held.{moved-held, fresh-same, refused-told}
 use Rattle.opfs_desk_ways.proofs.Ways.{way-settled, way-told, way-same}
 use Rattle.opfs_desk_ways.proofs.clearing.end_doubt.Goals as goal
 
-pub fail_call-requires-clause-may : goal.fail_call-requires-clause-may
-fail_call-requires-clause-may g c =
+pub fail_call-requires : goal.fail_call-requires
+fail_call-requires g c =
     let laws = g.met.D.Disk in
     let may = c.requires.may in
     let l = c.args.ledger.now in

@@ -3,8 +3,8 @@ use Rattle.opfs_openings.specs.Openings.{fixed_by}
 use Rattle.opfs_desk.proofs.Called.{is-called, rests-acted, rests-alone}
 use Rattle.opfs_desk.proofs.desk.Desk.act.Goals as goal
 
-pub act_call-requires-clause-may : goal.act_call-requires-clause-may
-act_call-requires-clause-may g c =
+pub act_call-requires : goal.act_call-requires
+act_call-requires g c =
     let f = fixed_by g.D.Disk c.self.inside.from.value c.self.inside.agents.value.items in
     let call : Call = record { agent = c.args.agent; number = c.args.number; op = c.args.op } in
     let old = c.self.inside.parts in
