@@ -1,0 +1,4 @@
+pub mod AllOrNone
+pub mod Alone
+pub mod Effects
+pub mod Kept
