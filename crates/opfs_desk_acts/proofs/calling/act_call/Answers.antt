@@ -6,40 +6,44 @@ use Rattle.opfs_desk_acts.proofs.Calls.{acted-before, alone-before, alone-now, r
 use Rattle.opfs_desk_acts.proofs.calling.act_call.Goals as goal
 
 pub ask_call-requires : goal.ask_call-requires
-ask_call-requires g c =
-    let may = c.requires.may in
-    let called = may.called in
-    record {
-      fixed = may.fixed;
-      recorded = called.held.recorded;
-      pages = c.args.parts.now.pages;
-      number = c.args.number;
-      past = c.args.past.now;
-      are = called.held.are;
-      idle = called.held.idle;
-      may = called.may;
-    }
+ask_call-requires g c = record {
+  may =
+      let may = c.requires.may in
+      let called = may.called in
+      record {
+        fixed = may.fixed;
+        recorded = called.held.recorded;
+        pages = c.args.parts.now.pages;
+        number = c.args.number;
+        past = c.args.past.now;
+        are = called.held.are;
+        idle = called.held.idle;
+        may = called.may;
+      };
+}
 
 pub act_refused-requires : goal.act_refused-requires
-act_refused-requires g c =
-    let may = c.requires.may in
-    let called = may.called in
-    let f = may.fixed in
-    let old = c.args.parts.now in
-    let recorded = called.held.recorded in
-    let call : Call = record { agent = c.args.agent; number = c.args.number; op = c.args.op } in
-    let asks = c.in-Ok-Refused.ensures in
-    record {
-      fixed = f;
-      recorded = recorded;
-      work = c.args.work.now;
-      past = c.args.past.now;
-      are = asks.held f recorded old.pages called.held.are;
-      asked =
-          refused-now g.D.Disk f old c.ask_call.new.ledger asks.journal asks.entries asks.place c.args.pending.now call _ c.args.work.now c.args.past.now called.may
-          (refused-as f.opening old.ledger.books.history c.args.pending.now c.ask_call.new.ledger.books.state c.args.agent c.args.op _ _ c.in-Ok-Refused.field-0-is
-          (asks.asked f recorded old.pages c.args.number c.args.past.now called.held.are called.may));
-    }
+act_refused-requires g c = record {
+  may =
+      let may = c.requires.may in
+      let called = may.called in
+      let f = may.fixed in
+      let old = c.args.parts.now in
+      let recorded = called.held.recorded in
+      let call : Call = record { agent = c.args.agent; number = c.args.number; op = c.args.op } in
+      let asks = c.in-Ok-Refused.ensures in
+      record {
+        fixed = f;
+        recorded = recorded;
+        work = c.args.work.now;
+        past = c.args.past.now;
+        are = asks.held f recorded old.pages called.held.are;
+        asked =
+            refused-now g.D.Disk f old c.ask_call.new.ledger asks.journal asks.entries asks.place c.args.pending.now call _ c.args.work.now c.args.past.now called.may
+            (refused-as f.opening old.ledger.books.history c.args.pending.now c.ask_call.new.ledger.books.state c.args.agent c.args.op _ _ c.in-Ok-Refused.field-0-is
+            (asks.asked f recorded old.pages c.args.number c.args.past.now called.held.are called.may));
+      };
+}
 
 pub act_or_cancel-requires-clause-go : goal.act_or_cancel-requires-clause-go
 act_or_cancel-requires-clause-go g c =

@@ -22,7 +22,7 @@ use Rattle.opfs_desk_contents.proofs.Stowed.{bytes-stand, can-be-held, small-blo
 use Rattle.opfs_desk_contents.proofs.pages.store_pages.Goals as goal
 
 pub put_content-requires : goal.put_content-requires
-put_content-requires g c = let may = c.requires.may in record { fixed = may.fixed; recorded = may.recorded; are = may.are; ready = may.ready; enough = may.enough }
+put_content-requires g c = record { may = let may = c.requires.may in record { fixed = may.fixed; recorded = may.recorded; are = may.are; ready = may.ready; enough = may.enough } }
 
 pub collect-requires-clause-there : goal.collect-requires-clause-there
 collect-requires-clause-there g c =
@@ -43,22 +43,24 @@ collect-requires-clause-small g c =
     (subst (λ (s : StateSeen). file_in (open_at s.store.machine c.args.agent c.args.row) ≡ Some c.args.plan.place) (sym is.state) may.opened) (subst (λ (s : StateSeen). IsInOrder s.store.tree) (sym is.state) c.step.ensures.order)
 
 pub fail_call-requires : goal.fail_call-requires
-fail_call-requires g c =
-    let may = c.requires.may in
-    let l = c.args.parts.now.ledger in
-    let is = c.put_content.ensures in
-    let cleared = is.cleared may.fixed may.recorded c.args.work.now may.bytes may.are may.stores.of_row in
-    record {
-      fixed = may.fixed;
-      recorded = cleared.recorded;
-      base = state_after may.fixed.opening l.books.history;
-      gone = [];
-      pages = c.put_content.new.parts.pages;
-      are = cleared.are;
-      refuses = refl;
-      placed = subst (λ (es : List Entry). IsPlaced es c.args.last.entry.agent) (sym is.entries) may.stores.answered.change.placed;
-      agent = subst (λ (s : StateSeen). IsAgent s.store.machine c.args.last.entry.agent) (sym is.state) may.stores.answered.change.agent;
-    }
+fail_call-requires g c = record {
+  may =
+      let may = c.requires.may in
+      let l = c.args.parts.now.ledger in
+      let is = c.put_content.ensures in
+      let cleared = is.cleared may.fixed may.recorded c.args.work.now may.bytes may.are may.stores.of_row in
+      record {
+        fixed = may.fixed;
+        recorded = cleared.recorded;
+        base = state_after may.fixed.opening l.books.history;
+        gone = [];
+        pages = c.put_content.new.parts.pages;
+        are = cleared.are;
+        refuses = refl;
+        placed = subst (λ (es : List Entry). IsPlaced es c.args.last.entry.agent) (sym is.entries) may.stores.answered.change.placed;
+        agent = subst (λ (s : StateSeen). IsAgent s.store.machine c.args.last.entry.agent) (sym is.state) may.stores.answered.change.agent;
+      };
+}
 
 pub returns-clause-failed : goal.returns-clause-failed
 returns-clause-failed g c f recorded bytes are stores =

@@ -29,38 +29,40 @@ find_room-requires-clause-may g c =
     }
 
 pub write_pages-requires : goal.write_pages-requires
-write_pages-requires g c =
-    let w = g.D.Disk in
-    let may = c.requires.may in
-    let l = c.args.parts.now.ledger in
-    let p = c.args.parts.now.pages in
-    let put = c.args.put.now in
-    let mid = c.settle_doubt.new.ledger in
-    let back = c.find_room.new.parts.ledger in
-    let q = c.find_room.new.parts.pages in
-    let next = c.find_room.new.put in
-    let is = c.settle_doubt.ensures in
-    let found = c.find_room.ensures in
-    let inside = c.parts_lie_inside.ensures may.fixed may.recorded l p may.are in
-    let held = is.held may.fixed may.recorded p may.are in
-    let within = c.parts_lie_inside.ensures may.fixed may.recorded mid p held in
-    let cleared = found.cleared may.fixed may.recorded held in
-    let alike = leaves-alike w l.journal mid.journal p.base p.swap inside.part.behind is.leaves in
-    let ready = ready-put w.tells (w.content l.journal.disk) (w.content mid.journal.disk) p.base p.base p.swap p.swap c.args.agent c.args.row put put refl refl refl refl refl (omega arith) alike may.ready.ready in
-    record {
-      fixed = may.fixed;
-      recorded = cleared.recorded;
-      are = whole-now w may.fixed mid back q found.entries cleared;
-      settled = c.in-Ok-find_room.ensures.sure;
-      ready =
-          ready-put w.tells (w.content mid.journal.disk) (w.content back.journal.disk) p.base q.base p.swap q.swap c.args.agent c.args.row put next found.swap found.base found.writes found.count found.moves found.capacity
-          (leaves-alike w mid.journal back.journal p.base p.swap within.part.behind found.leaves) ready;
-      bytes = subst (λ (x : WriteList). HasBytes x []) (sym found.writes) may.ready.bytes;
-      blocks = c.in-Ok-find_room.ensures.blocks;
-      enough =
-          subst (λ (n : ℕ). KeepsEnough back c.args.agent c.args.row n) (sym found.count)
-          (enough-now mid back c.args.agent c.args.row put.pages found.state (enough-now l mid c.args.agent c.args.row put.pages is.state may.enough));
-    }
+write_pages-requires g c = record {
+  may =
+      let w = g.D.Disk in
+      let may = c.requires.may in
+      let l = c.args.parts.now.ledger in
+      let p = c.args.parts.now.pages in
+      let put = c.args.put.now in
+      let mid = c.settle_doubt.new.ledger in
+      let back = c.find_room.new.parts.ledger in
+      let q = c.find_room.new.parts.pages in
+      let next = c.find_room.new.put in
+      let is = c.settle_doubt.ensures in
+      let found = c.find_room.ensures in
+      let inside = c.parts_lie_inside.ensures may.fixed may.recorded l p may.are in
+      let held = is.held may.fixed may.recorded p may.are in
+      let within = c.parts_lie_inside.ensures may.fixed may.recorded mid p held in
+      let cleared = found.cleared may.fixed may.recorded held in
+      let alike = leaves-alike w l.journal mid.journal p.base p.swap inside.part.behind is.leaves in
+      let ready = ready-put w.tells (w.content l.journal.disk) (w.content mid.journal.disk) p.base p.base p.swap p.swap c.args.agent c.args.row put put refl refl refl refl refl (omega arith) alike may.ready.ready in
+      record {
+        fixed = may.fixed;
+        recorded = cleared.recorded;
+        are = whole-now w may.fixed mid back q found.entries cleared;
+        settled = c.in-Ok-find_room.ensures.sure;
+        ready =
+            ready-put w.tells (w.content mid.journal.disk) (w.content back.journal.disk) p.base q.base p.swap q.swap c.args.agent c.args.row put next found.swap found.base found.writes found.count found.moves found.capacity
+            (leaves-alike w mid.journal back.journal p.base p.swap within.part.behind found.leaves) ready;
+        bytes = subst (λ (x : WriteList). HasBytes x []) (sym found.writes) may.ready.bytes;
+        blocks = c.in-Ok-find_room.ensures.blocks;
+        enough =
+            subst (λ (n : ℕ). KeepsEnough back c.args.agent c.args.row n) (sym found.count)
+            (enough-now mid back c.args.agent c.args.row put.pages found.state (enough-now l mid c.args.agent c.args.row put.pages is.state may.enough));
+      };
+}
 
 pub returns-in-Err-clause-cleared : goal.returns-in-Err-clause-cleared
 returns-in-Err-clause-cleared g c f recorded work bytes are of = c.settle_doubt.ensures.cleared f recorded c.args.parts.now.pages are

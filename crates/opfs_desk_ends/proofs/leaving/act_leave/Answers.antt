@@ -14,9 +14,11 @@ pub row_of-row-requires : goal.row_of-row-requires
 row_of-row-requires g c = word-is (machine_in c.args.parts.now.ledger) c.args.call.agent c.args.call.op c.requires.word
 
 pub take_in-requires : goal.take_in-requires
-take_in-requires g c =
-    let go = c.requires.go in
-    c.leaving_laws.ensures.asks.taken go.fixed go.recorded c.args.parts.now.ledger c.args.parts.now.pages c.args.pending.now c.args.call c.args.work.now [] go.are go.asked
+take_in-requires g c = record {
+  may =
+      let go = c.requires.go in
+      c.leaving_laws.ensures.asks.taken go.fixed go.recorded c.args.parts.now.ledger c.args.parts.now.pages c.args.pending.now c.args.call c.args.work.now [] go.are go.asked;
+}
 
 pub rows-rows-requires : goal.rows-rows-requires
 rows-rows-requires g c =

@@ -48,32 +48,34 @@ estimate-usage-requires-clause-small g c =
     small-quota g.D.Disk c.state_laws.ensures c.the_state_is_kept.ensures go.fixed go.recorded c.args.parts.now.ledger c.args.parts.now.pages go.are
 
 pub tell-rows-requires : goal.tell-rows-requires
-tell-rows-requires g c =
-    let w = g.D.Disk in
-    let go = c.requires.go in
-    let laws = c.telling_laws.ensures in
-    let call = c.args.call in
-    let l = c.args.parts.now.ledger in
-    let p = c.args.parts.now.pages in
-    let calls = c.args.pending.now in
-    let begins : BeginsCall w go.fixed go.recorded l p calls call c.args.work.now [] = record { held = go.are; asked = go.asked } in
-    let agent = (laws.asks.taken go.fixed go.recorded l p calls call c.args.work.now [] go.are go.asked).agent in
-    let s = state_after go.fixed.opening (l.books.history ++ calls) in
-    let noted = noted-is w laws.follow laws.local go.fixed go.recorded l p calls call c.args.work.now [] begins agent in
-    let its = estimate-answered laws.decide (machine_in l) s call.sizes call.agent call.op (sum_of calls) c.estimate-usage.result.0 c.estimate-usage.result.1 agent c.requires.word noted c.estimate-usage.ensures.usage c.estimate-usage.ensures.quota in
-    record {
-      fixed = go.fixed;
-      recorded = go.recorded;
-      work = c.args.work.now;
-      past = [];
-      are = go.are;
-      telling = record {
-        asked = go.asked;
-        only = tells-estimate (machine_in l) call.agent call.op c.requires.word;
-        reply = record { alike = ap unread its; told = λ t. its };
-        done = refl;
+tell-rows-requires g c = record {
+  may =
+      let w = g.D.Disk in
+      let go = c.requires.go in
+      let laws = c.telling_laws.ensures in
+      let call = c.args.call in
+      let l = c.args.parts.now.ledger in
+      let p = c.args.parts.now.pages in
+      let calls = c.args.pending.now in
+      let begins : BeginsCall w go.fixed go.recorded l p calls call c.args.work.now [] = record { held = go.are; asked = go.asked } in
+      let agent = (laws.asks.taken go.fixed go.recorded l p calls call c.args.work.now [] go.are go.asked).agent in
+      let s = state_after go.fixed.opening (l.books.history ++ calls) in
+      let noted = noted-is w laws.follow laws.local go.fixed go.recorded l p calls call c.args.work.now [] begins agent in
+      let its = estimate-answered laws.decide (machine_in l) s call.sizes call.agent call.op (sum_of calls) c.estimate-usage.result.0 c.estimate-usage.result.1 agent c.requires.word noted c.estimate-usage.ensures.usage c.estimate-usage.ensures.quota in
+      record {
+        fixed = go.fixed;
+        recorded = go.recorded;
+        work = c.args.work.now;
+        past = [];
+        are = go.are;
+        telling = record {
+          asked = go.asked;
+          only = tells-estimate (machine_in l) call.agent call.op c.requires.word;
+          reply = record { alike = ap unread its; told = λ t. its };
+          done = refl;
+        };
       };
-    }
+}
 
 pub returns-clause-acted : goal.returns-clause-acted
 returns-clause-acted g c f recorded held asked =

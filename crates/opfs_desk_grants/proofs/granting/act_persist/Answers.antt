@@ -35,9 +35,11 @@ unit_in-requires-clause-keyed g c =
     ap (λ (x : Option Text). is_some x) c.key-key.ensures ∙ gives-key (machine_in c.args.parts.now.ledger) c.args.call.agent c.args.call.op c.requires.word
 
 pub take_in-requires : goal.take_in-requires
-take_in-requires g c =
-    let may = c.requires.go in
-    c.granting_laws.ensures.asks.taken may.fixed may.recorded c.args.parts.now.ledger c.args.parts.now.pages c.args.pending.now c.args.call c.args.work.now [] may.are may.asked
+take_in-requires g c = record {
+  may =
+      let may = c.requires.go in
+      c.granting_laws.ensures.asks.taken may.fixed may.recorded c.args.parts.now.ledger c.args.parts.now.pages c.args.pending.now c.args.call c.args.work.now [] may.are may.asked;
+}
 
 pub rows-rows-requires : goal.rows-rows-requires
 rows-rows-requires g c =
@@ -55,21 +57,23 @@ rows-rows-requires g c =
     (ready w know.asks know.answers may.fixed may.recorded l mid l p c.args.pending.now call c.args.work.now (reply.Flag true) may.are may.asked took words).agent
 
 pub clear_way-requires : goal.clear_way-requires
-clear_way-requires g c =
-    let w = g.D.Disk in
-    let may = c.requires.go in
-    let l = c.args.parts.now.ledger in
-    let p = c.args.parts.now.pages in
-    let call = c.args.call in
-    let mid = c.take_in.new.ledger in
-    let is = c.take_in.ensures in
-    let know = c.granting_laws.ensures in
-    let held = is.held may.fixed may.recorded p may.are may.asked.may.pending in
-    let words = quiet-persist call.agent call.op (gives-word (machine_in l) call.agent call.op c.requires.word) in
-    let took : HasTakenIn w may.fixed may.recorded l mid p c.args.pending.now call =
-    record { taken = record { entries = is.entries; journal = is.journal; place = is.place }; held = held; prepared = is.prepared call.op may.asked.prepared; tree = is.tree } in
-    let then = ready w know.asks know.answers may.fixed may.recorded l mid l p c.args.pending.now call c.args.work.now (reply.Flag true) may.are may.asked took words in
-    know.answers.clearing may.fixed may.recorded mid p call (reply.Flag true) held then (words.disk (state_after may.fixed.opening mid.books.history))
+clear_way-requires g c = record {
+  may =
+      let w = g.D.Disk in
+      let may = c.requires.go in
+      let l = c.args.parts.now.ledger in
+      let p = c.args.parts.now.pages in
+      let call = c.args.call in
+      let mid = c.take_in.new.ledger in
+      let is = c.take_in.ensures in
+      let know = c.granting_laws.ensures in
+      let held = is.held may.fixed may.recorded p may.are may.asked.may.pending in
+      let words = quiet-persist call.agent call.op (gives-word (machine_in l) call.agent call.op c.requires.word) in
+      let took : HasTakenIn w may.fixed may.recorded l mid p c.args.pending.now call =
+      record { taken = record { entries = is.entries; journal = is.journal; place = is.place }; held = held; prepared = is.prepared call.op may.asked.prepared; tree = is.tree } in
+      let then = ready w know.asks know.answers may.fixed may.recorded l mid l p c.args.pending.now call c.args.work.now (reply.Flag true) may.are may.asked took words in
+      know.answers.clearing may.fixed may.recorded mid p call (reply.Flag true) held then (words.disk (state_after may.fixed.opening mid.books.history));
+}
 
 pub enter_mode-requires-clause-may : goal.enter_mode-requires-clause-may
 enter_mode-requires-clause-may g c =

@@ -36,9 +36,11 @@ key-key-requires g c =
     (c.keeping_laws.ensures.asks.taken may.fixed may.recorded c.args.parts.now.ledger c.args.parts.now.pages c.args.pending.now c.args.call c.args.work.now [] may.are may.asked).agent
 
 pub take_in-requires : goal.take_in-requires
-take_in-requires g c =
-    let may = c.requires.go in
-    c.keeping_laws.ensures.asks.taken may.fixed may.recorded c.args.parts.now.ledger c.args.parts.now.pages c.args.pending.now c.args.call c.args.work.now [] may.are may.asked
+take_in-requires g c = record {
+  may =
+      let may = c.requires.go in
+      c.keeping_laws.ensures.asks.taken may.fixed may.recorded c.args.parts.now.ledger c.args.parts.now.pages c.args.pending.now c.args.call c.args.work.now [] may.are may.asked;
+}
 
 pub rows-rows-requires : goal.rows-rows-requires
 rows-rows-requires g c =
@@ -59,20 +61,22 @@ rows-rows-requires g c =
     (ready w c.keeping_laws.ensures.asks c.keeping_laws.ensures.answers may.fixed may.recorded l mid l p c.args.pending.now c.args.call c.args.work.now begins took).agent
 
 pub clear_way-requires : goal.clear_way-requires
-clear_way-requires g c =
-    let w = g.D.Disk in
-    let may = c.requires.go in
-    let l = c.args.parts.now.ledger in
-    let p = c.args.parts.now.pages in
-    let mid = c.take_in.new.ledger in
-    let is = c.take_in.ensures in
-    let held = is.held may.fixed may.recorded p may.are may.asked.may.pending in
-    let begins : BeginsKeeping w may.fixed may.recorded l p c.args.pending.now c.args.call c.args.work.now = record { held = may.are; asked = may.asked; keeps = c.requires.word; lines = c.lines.ensures; keyed = key-held w c.keeping_laws.ensures.reads c.keeping_laws.ensures.counts may.fixed may.recorded l p may.are c.args.call.agent } in
-    let took : HasTakenIn w may.fixed may.recorded l mid p c.args.pending.now c.args.call =
-    record { taken = record { entries = is.entries; journal = is.journal; place = is.place }; held = held; prepared = is.prepared c.args.call.op may.asked.prepared; tree = is.tree } in
-    let then = ready w c.keeping_laws.ensures.asks c.keeping_laws.ensures.answers may.fixed may.recorded l mid l p c.args.pending.now c.args.call c.args.work.now begins took in
-    c.keeping_laws.ensures.answers.clearing may.fixed may.recorded mid p c.args.call reply.Done held then
-    (on-disk (state_after may.fixed.opening mid.books.history) c.args.call.agent c.args.call.op (kept-word (machine_in l) c.args.call.agent c.args.call.op c.requires.word))
+clear_way-requires g c = record {
+  may =
+      let w = g.D.Disk in
+      let may = c.requires.go in
+      let l = c.args.parts.now.ledger in
+      let p = c.args.parts.now.pages in
+      let mid = c.take_in.new.ledger in
+      let is = c.take_in.ensures in
+      let held = is.held may.fixed may.recorded p may.are may.asked.may.pending in
+      let begins : BeginsKeeping w may.fixed may.recorded l p c.args.pending.now c.args.call c.args.work.now = record { held = may.are; asked = may.asked; keeps = c.requires.word; lines = c.lines.ensures; keyed = key-held w c.keeping_laws.ensures.reads c.keeping_laws.ensures.counts may.fixed may.recorded l p may.are c.args.call.agent } in
+      let took : HasTakenIn w may.fixed may.recorded l mid p c.args.pending.now c.args.call =
+      record { taken = record { entries = is.entries; journal = is.journal; place = is.place }; held = held; prepared = is.prepared c.args.call.op may.asked.prepared; tree = is.tree } in
+      let then = ready w c.keeping_laws.ensures.asks c.keeping_laws.ensures.answers may.fixed may.recorded l mid l p c.args.pending.now c.args.call c.args.work.now begins took in
+      c.keeping_laws.ensures.answers.clearing may.fixed may.recorded mid p c.args.call reply.Done held then
+      (on-disk (state_after may.fixed.opening mid.books.history) c.args.call.agent c.args.call.op (kept-word (machine_in l) c.args.call.agent c.args.call.op c.requires.word));
+}
 
 pub enter_kept-requires-clause-may : goal.enter_kept-requires-clause-may
 enter_kept-requires-clause-may g c =

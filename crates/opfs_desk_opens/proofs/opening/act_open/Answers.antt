@@ -44,24 +44,28 @@ open_pages-requires-clause-lies g c =
     extents-below may.fixed.geometry _ may.are.tied.range may.are.books.stored.sound.files c.args.call.op c.requires.word
 
 pub take_in-requires : goal.take_in-requires
-take_in-requires g c =
-    let may = c.requires.go in
-    c.opening_laws.ensures.asks.taken may.fixed may.recorded c.args.parts.now.ledger c.args.parts.now.pages c.args.pending.now c.args.call c.args.work.now [] may.are may.asked
+take_in-requires g c = record {
+  may =
+      let may = c.requires.go in
+      c.opening_laws.ensures.asks.taken may.fixed may.recorded c.args.parts.now.ledger c.args.parts.now.pages c.args.pending.now c.args.call c.args.work.now [] may.are may.asked;
+}
 
 pub clear_call-requires : goal.clear_call-requires
-clear_call-requires g c =
-    let may = c.requires.go in
-    let l = c.args.parts.now.ledger in
-    let p = c.args.parts.now.pages in
-    let mid = c.take_in.new.ledger in
-    let is = c.take_in.ensures in
-    let held = is.held may.fixed may.recorded p may.are may.asked.may.pending in
-    let then = ready g.D.Disk c.opening_laws.ensures.asks c.opening_laws.ensures.answers may.fixed may.recorded l mid l p c.args.pending.now c.args.call c.args.work.now []
-    (record { held = may.are; asked = may.asked; opens = c.requires.word })
-    (record { taken = record { entries = is.entries; journal = is.journal; place = is.place }; held = held; prepared = is.prepared c.args.call.op may.asked.prepared; tree = is.tree })
-    in
-    c.opening_laws.ensures.answers.clearing may.fixed may.recorded mid p c.args.call reply.Done held then
-    (on-disk (state_after may.fixed.opening mid.books.history) c.args.call.agent c.args.call.op c.requires.word)
+clear_call-requires g c = record {
+  may =
+      let may = c.requires.go in
+      let l = c.args.parts.now.ledger in
+      let p = c.args.parts.now.pages in
+      let mid = c.take_in.new.ledger in
+      let is = c.take_in.ensures in
+      let held = is.held may.fixed may.recorded p may.are may.asked.may.pending in
+      let then = ready g.D.Disk c.opening_laws.ensures.asks c.opening_laws.ensures.answers may.fixed may.recorded l mid l p c.args.pending.now c.args.call c.args.work.now []
+      (record { held = may.are; asked = may.asked; opens = c.requires.word })
+      (record { taken = record { entries = is.entries; journal = is.journal; place = is.place }; held = held; prepared = is.prepared c.args.call.op may.asked.prepared; tree = is.tree })
+      in
+      c.opening_laws.ensures.answers.clearing may.fixed may.recorded mid p c.args.call reply.Done held then
+      (on-disk (state_after may.fixed.opening mid.books.history) c.args.call.agent c.args.call.op c.requires.word);
+}
 
 pub enter_open-requires-clause-may : goal.enter_open-requires-clause-may
 enter_open-requires-clause-may g c =

@@ -31,32 +31,34 @@ mode-requires-clause-key g c =
     (has-key s call.agent call.op _ c.requires.word go.asked.judged)
 
 pub tell-rows-requires : goal.tell-rows-requires
-tell-rows-requires g c =
-    let w = g.D.Disk in
-    let go = c.requires.go in
-    let laws = c.telling_laws.ensures in
-    let call = c.args.call in
-    let l = c.args.parts.now.ledger in
-    let p = c.args.parts.now.pages in
-    let calls = c.args.pending.now in
-    let begins : BeginsCall w go.fixed go.recorded l p calls call c.args.work.now [] = record { held = go.are; asked = go.asked } in
-    let agent = (laws.asks.taken go.fixed go.recorded l p calls call c.args.work.now [] go.are go.asked).agent in
-    let s = state_after go.fixed.opening (l.books.history ++ calls) in
-    let noted = noted-is w laws.follow laws.local go.fixed go.recorded l p calls call c.args.work.now [] begins agent in
-    let its = mode-answered (machine_in l) s call.sizes call.agent call.op (sum_of calls) c.in-Ok.flag agent c.requires.word noted c.in-Ok.ensures in
-    record {
-      fixed = go.fixed;
-      recorded = go.recorded;
-      work = c.args.work.now;
-      past = [];
-      are = go.are;
-      telling = record {
-        asked = go.asked;
-        only = c.requires.only;
-        reply = record { alike = ap unread its; told = λ t. its };
-        done = refl;
+tell-rows-requires g c = record {
+  may =
+      let w = g.D.Disk in
+      let go = c.requires.go in
+      let laws = c.telling_laws.ensures in
+      let call = c.args.call in
+      let l = c.args.parts.now.ledger in
+      let p = c.args.parts.now.pages in
+      let calls = c.args.pending.now in
+      let begins : BeginsCall w go.fixed go.recorded l p calls call c.args.work.now [] = record { held = go.are; asked = go.asked } in
+      let agent = (laws.asks.taken go.fixed go.recorded l p calls call c.args.work.now [] go.are go.asked).agent in
+      let s = state_after go.fixed.opening (l.books.history ++ calls) in
+      let noted = noted-is w laws.follow laws.local go.fixed go.recorded l p calls call c.args.work.now [] begins agent in
+      let its = mode-answered (machine_in l) s call.sizes call.agent call.op (sum_of calls) c.in-Ok.flag agent c.requires.word noted c.in-Ok.ensures in
+      record {
+        fixed = go.fixed;
+        recorded = go.recorded;
+        work = c.args.work.now;
+        past = [];
+        are = go.are;
+        telling = record {
+          asked = go.asked;
+          only = c.requires.only;
+          reply = record { alike = ap unread its; told = λ t. its };
+          done = refl;
+        };
       };
-    }
+}
 
 pub returns-in_default-clause-idle : goal.returns-in_default-clause-idle
 returns-in_default-clause-idle g c f recorded held = unacted g.D.Disk c.telling_laws.ensures.shown f recorded c.args.parts.now held

@@ -18,32 +18,34 @@ next_child-requires-clause-clean g c =
     go.asked.prepared.place ∙ next-makes-none _ c.args.call.agent c.args.call.op c.requires.word
 
 pub tell-rows-requires : goal.tell-rows-requires
-tell-rows-requires g c =
-    let w = g.D.Disk in
-    let go = c.requires.go in
-    let laws = c.telling_laws.ensures in
-    let call = c.args.call in
-    let l = c.args.parts.now.ledger in
-    let p = c.args.parts.now.pages in
-    let calls = c.args.pending.now in
-    let begins : BeginsCall w go.fixed go.recorded l p calls call c.args.work.now c.args.past.now = record { held = go.are; asked = go.asked } in
-    let agent = (laws.asks.taken go.fixed go.recorded l p calls call c.args.work.now c.args.past.now go.are go.asked).agent in
-    let s = state_after go.fixed.opening (l.books.history ++ calls) in
-    let rows = ap (λ (m : Machine). m.rows) (noted-is w laws.follow laws.local go.fixed go.recorded l p calls call c.args.work.now c.args.past.now begins agent) ∙ c.lines.ensures in
-    let its = next-told s (tree_in l) rows c.args.past.now call.sizes call.agent call.op c.in-Ok.next c.requires.word go.asked.may.given (record { reply = c.in-Ok.ensures.reply; told = c.in-Ok.ensures.told; gift = c.in-Ok.ensures.gift }) in
-    record {
-      fixed = go.fixed;
-      recorded = go.recorded;
-      work = c.args.work.now;
-      past = c.args.past.now;
-      are = go.are;
-      telling = record {
-        asked = go.asked;
-        only = next-only (machine_in l) call.agent call.op c.requires.word;
-        reply = record { alike = ap unread its.told; told = λ t. its.told };
-        done = its.done;
+tell-rows-requires g c = record {
+  may =
+      let w = g.D.Disk in
+      let go = c.requires.go in
+      let laws = c.telling_laws.ensures in
+      let call = c.args.call in
+      let l = c.args.parts.now.ledger in
+      let p = c.args.parts.now.pages in
+      let calls = c.args.pending.now in
+      let begins : BeginsCall w go.fixed go.recorded l p calls call c.args.work.now c.args.past.now = record { held = go.are; asked = go.asked } in
+      let agent = (laws.asks.taken go.fixed go.recorded l p calls call c.args.work.now c.args.past.now go.are go.asked).agent in
+      let s = state_after go.fixed.opening (l.books.history ++ calls) in
+      let rows = ap (λ (m : Machine). m.rows) (noted-is w laws.follow laws.local go.fixed go.recorded l p calls call c.args.work.now c.args.past.now begins agent) ∙ c.lines.ensures in
+      let its = next-told s (tree_in l) rows c.args.past.now call.sizes call.agent call.op c.in-Ok.next c.requires.word go.asked.may.given (record { reply = c.in-Ok.ensures.reply; told = c.in-Ok.ensures.told; gift = c.in-Ok.ensures.gift }) in
+      record {
+        fixed = go.fixed;
+        recorded = go.recorded;
+        work = c.args.work.now;
+        past = c.args.past.now;
+        are = go.are;
+        telling = record {
+          asked = go.asked;
+          only = next-only (machine_in l) call.agent call.op c.requires.word;
+          reply = record { alike = ap unread its.told; told = λ t. its.told };
+          done = its.done;
+        };
       };
-    }
+}
 
 pub returns-in_default-clause-idle : goal.returns-in_default-clause-idle
 returns-in_default-clause-idle g c f recorded held = unacted g.D.Disk c.telling_laws.ensures.shown f recorded c.args.parts.now held

@@ -5,11 +5,13 @@ use Rattle.opfs_desk_plain.proofs.Refusing.{may-take, agent-mid, may-refuse, is-
 use Rattle.opfs_desk_plain.proofs.refused.act_refused.Goals as goal
 
 pub take_in-requires : goal.take_in-requires
-take_in-requires g c =
-    let may = c.requires.may in
-    let call : Call = record { agent = c.args.agent; number = c.args.number; op = c.args.op } in
-    let l = c.args.parts.now.ledger in
-    may-take g.D.Disk c.reads_leave_the_state.ensures c.lengths_follow_each_call.ensures c.local_calls_are_known_by_their_word.ensures may.fixed may.recorded l l c.args.parts.now.pages c.args.pending.now call c.args.refusal may.work may.past may.are may.asked
+take_in-requires g c = record {
+  may =
+      let may = c.requires.may in
+      let call : Call = record { agent = c.args.agent; number = c.args.number; op = c.args.op } in
+      let l = c.args.parts.now.ledger in
+      may-take g.D.Disk c.reads_leave_the_state.ensures c.lengths_follow_each_call.ensures c.local_calls_are_known_by_their_word.ensures may.fixed may.recorded l l c.args.parts.now.pages c.args.pending.now call c.args.refusal may.work may.past may.are may.asked;
+}
 
 pub rows-rows-requires : goal.rows-rows-requires
 rows-rows-requires g c =
@@ -20,12 +22,14 @@ rows-rows-requires g c =
     c.take_in.ensures.entries (c.take_in.ensures.held may.fixed may.recorded p may.are may.asked.may.pending)
 
 pub refuse_call-requires : goal.refuse_call-requires
-refuse_call-requires g c =
-    let may = c.requires.may in
-    let call : Call = record { agent = c.args.agent; number = c.args.number; op = c.args.op } in
-    let p = c.args.parts.now.pages in
-    may-refuse g.D.Disk c.reads_leave_the_state.ensures c.lengths_follow_each_call.ensures c.local_calls_are_known_by_their_word.ensures may.fixed may.recorded c.args.parts.now.ledger c.take_in.new.ledger p c.args.pending.now call c.args.refusal may.work may.past may.are may.asked
-    c.take_in.ensures.entries (c.take_in.ensures.held may.fixed may.recorded p may.are may.asked.may.pending)
+refuse_call-requires g c = record {
+  may =
+      let may = c.requires.may in
+      let call : Call = record { agent = c.args.agent; number = c.args.number; op = c.args.op } in
+      let p = c.args.parts.now.pages in
+      may-refuse g.D.Disk c.reads_leave_the_state.ensures c.lengths_follow_each_call.ensures c.local_calls_are_known_by_their_word.ensures may.fixed may.recorded c.args.parts.now.ledger c.take_in.new.ledger p c.args.pending.now call c.args.refusal may.work may.past may.are may.asked
+      c.take_in.ensures.entries (c.take_in.ensures.held may.fixed may.recorded p may.are may.asked.may.pending);
+}
 
 pub returns-clause-acted : goal.returns-clause-acted
 returns-clause-acted g c f recorded work past are asked =

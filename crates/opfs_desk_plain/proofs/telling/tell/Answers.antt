@@ -9,9 +9,11 @@ use Rattle.opfs_desk_plain.proofs.Words.{silent}
 use Rattle.opfs_desk_plain.proofs.telling.tell.Goals as goal
 
 pub take_in-requires : goal.take_in-requires
-take_in-requires g c =
-    let may = c.requires.may in
-    c.telling_laws.ensures.asks.taken may.fixed may.recorded c.args.parts.now.ledger c.args.parts.now.pages c.args.pending.now c.args.call may.work may.past may.are may.telling.asked
+take_in-requires g c = record {
+  may =
+      let may = c.requires.may in
+      c.telling_laws.ensures.asks.taken may.fixed may.recorded c.args.parts.now.ledger c.args.parts.now.pages c.args.pending.now c.args.call may.work may.past may.are may.telling.asked;
+}
 
 pub rows-rows-requires : goal.rows-rows-requires
 rows-rows-requires g c =

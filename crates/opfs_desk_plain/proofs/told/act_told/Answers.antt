@@ -7,23 +7,25 @@ use Rattle.opfs_desk_plain.proofs.Done.{answers-done, no-gift}
 use Rattle.opfs_desk_plain.proofs.told.act_told.Goals as goal
 
 pub tell-rows-requires : goal.tell-rows-requires
-tell-rows-requires g c =
-    let go = c.requires.go in
-    let call = c.args.call in
-    let done = answers-done (state_after go.fixed.opening (c.args.parts.now.ledger.books.history ++ c.args.pending.now)) call.sizes call.agent call.op c.requires.word in
-    record {
-      fixed = go.fixed;
-      recorded = go.recorded;
-      work = c.args.work.now;
-      past = [];
-      are = go.are;
-      telling = record {
-        asked = go.asked;
-        only = c.requires.only;
-        reply = record { alike = ap unread (sym done); told = λ t. sym done };
-        done = refl;
+tell-rows-requires g c = record {
+  may =
+      let go = c.requires.go in
+      let call = c.args.call in
+      let done = answers-done (state_after go.fixed.opening (c.args.parts.now.ledger.books.history ++ c.args.pending.now)) call.sizes call.agent call.op c.requires.word in
+      record {
+        fixed = go.fixed;
+        recorded = go.recorded;
+        work = c.args.work.now;
+        past = [];
+        are = go.are;
+        telling = record {
+          asked = go.asked;
+          only = c.requires.only;
+          reply = record { alike = ap unread (sym done); told = λ t. sym done };
+          done = refl;
+        };
       };
-    }
+}
 
 pub returns-clause-acted : goal.returns-clause-acted
 returns-clause-acted g c f recorded are asked =

@@ -22,9 +22,11 @@ use Rattle.opfs_desk_puts.proofs.Words.{on-disk}
 use Rattle.opfs_desk_puts.proofs.acting.enter_call.Goals as goal
 
 pub take_in-requires : goal.take_in-requires
-take_in-requires g c =
-    let may = c.requires.go in
-    c.putting_laws.ensures.asks.taken may.fixed may.recorded c.args.parts.now.ledger c.args.parts.now.pages c.args.pending.now c.args.call c.args.work.now [] may.are may.asked
+take_in-requires g c = record {
+  may =
+      let may = c.requires.go in
+      c.putting_laws.ensures.asks.taken may.fixed may.recorded c.args.parts.now.ledger c.args.parts.now.pages c.args.pending.now c.args.call c.args.work.now [] may.are may.asked;
+}
 
 pub rows-rows-requires : goal.rows-rows-requires
 rows-rows-requires g c =
@@ -46,24 +48,26 @@ rows-rows-requires g c =
     (ready w laws.asks laws.answers may.fixed may.recorded l mid p calls call work begins c.requires.word took).agent
 
 pub clear_way-requires : goal.clear_way-requires
-clear_way-requires g c =
-    let may = c.requires.go in
-    let w = g.D.Disk in
-    let l = c.args.parts.now.ledger in
-    let p = c.args.parts.now.pages in
-    let call = c.args.call in
-    let calls = c.args.pending.now in
-    let work = c.args.work.now in
-    let mid = c.take_in.new.ledger in
-    let laws = c.putting_laws.ensures in
-    let is = c.take_in.ensures in
-    let plan = c.requires.plan in
-    let then = is.held may.fixed may.recorded p may.are may.asked.may.pending in
-    let begins : BeginsRead w may.fixed may.recorded l p calls call work = record { held = may.are; asked = may.asked } in
-    let took : HasTakenIn w may.fixed may.recorded l mid p calls call =
-    record { taken = record { entries = is.entries; journal = is.journal; place = is.place }; tree = is.tree; held = then; prepared = is.prepared call.op may.asked.prepared } in
-    let its-ready = ready w laws.asks laws.answers may.fixed may.recorded l mid p calls call work begins c.requires.word took in
-    laws.answers.clearing may.fixed may.recorded mid p call c.reply_of.result then its-ready (on-disk _ _ _ _ c.requires.word its-ready.judged)
+clear_way-requires g c = record {
+  may =
+      let may = c.requires.go in
+      let w = g.D.Disk in
+      let l = c.args.parts.now.ledger in
+      let p = c.args.parts.now.pages in
+      let call = c.args.call in
+      let calls = c.args.pending.now in
+      let work = c.args.work.now in
+      let mid = c.take_in.new.ledger in
+      let laws = c.putting_laws.ensures in
+      let is = c.take_in.ensures in
+      let plan = c.requires.plan in
+      let then = is.held may.fixed may.recorded p may.are may.asked.may.pending in
+      let begins : BeginsRead w may.fixed may.recorded l p calls call work = record { held = may.are; asked = may.asked } in
+      let took : HasTakenIn w may.fixed may.recorded l mid p calls call =
+      record { taken = record { entries = is.entries; journal = is.journal; place = is.place }; tree = is.tree; held = then; prepared = is.prepared call.op may.asked.prepared } in
+      let its-ready = ready w laws.asks laws.answers may.fixed may.recorded l mid p calls call work begins c.requires.word took in
+      laws.answers.clearing may.fixed may.recorded mid p call c.reply_of.result then its-ready (on-disk _ _ _ _ c.requires.word its-ready.judged);
+}
 
 pub returns-in_default-clause-acted : goal.returns-in_default-clause-acted
 returns-in_default-clause-acted g c f recorded held asked =

@@ -102,37 +102,39 @@ enter_call-requires-clause-planned g c f recorded held asked before row_is =
     c.args.given.now c.requires.given is.same is.pages refl (λ told. (is.reads.told told).same) paged c.in-Ok.planned.put.writes c.in-Ok.planned.page.items is.staged is.page before row_is
 
 pub fail_reading-requires : goal.fail_reading-requires
-fail_reading-requires g c =
-    let may = c.requires.go in
-    let laws = g.met.D.Disk in
-    let w = g.D.Disk in
-    let l = c.args.parts.now.ledger in
-    let p = c.args.parts.now.pages in
-    let call = c.args.call in
-    let is = c.in-Err-DiskFault.ensures in
-    let q : Pages = record { swap = c.plan_call.new.swap; space = c.plan_call.new.space; base = p.base } in
-    let now : Ledger g.row.D.Denot = record { journal = c.plan_call.new.journal; books = l.books; freed = l.freed; alloc = l.alloc } in
-    let tree_is : c.tree.result.now.rows ≡ l.books.state.store.tree = ap (λ x. x.rows) c.tree.ensures in
-    let go = c.requires.go in
-    let there : is_some (row_of call.agent c.target_of-target.result.row p.swap) ≡ true = subst (λ (n : ℕ). is_some (row_of call.agent n p.swap) ≡ true) (sym c.target_of-target.ensures.row)
-    (stored-copy w c.copies_are_stored.ensures.copies go.fixed go.recorded l p c.args.pending.now call c.args.work.now [] go.are go.asked c.requires.word).there in
-    record {
-      fixed = may.fixed;
-      recorded = may.recorded;
-      start = l;
-      before = p;
-      work = c.args.work.now;
-      past = [];
-      failed = record {
-        held = may.are;
-        are = read-parts w c.what_is_laid_goes_on.ensures.beside c.reads_leave_the_books.ensures laws.counted may.fixed may.recorded l p c.plan_call.new.journal q call may.are is.reads c.target_of-target.result.row there is.pages refl c.tree.result.now.rows tree_is is.spaced;
-        books = refl;
-        reads = is.reads;
-        asked = may.asked;
-        disk = on-disk _ _ _ _ c.requires.word may.asked.judged;
-        rose = is.cause (λ i. Err (c.in-Err-DiskFault.field-0-is i));
+fail_reading-requires g c = record {
+  may =
+      let may = c.requires.go in
+      let laws = g.met.D.Disk in
+      let w = g.D.Disk in
+      let l = c.args.parts.now.ledger in
+      let p = c.args.parts.now.pages in
+      let call = c.args.call in
+      let is = c.in-Err-DiskFault.ensures in
+      let q : Pages = record { swap = c.plan_call.new.swap; space = c.plan_call.new.space; base = p.base } in
+      let now : Ledger g.row.D.Denot = record { journal = c.plan_call.new.journal; books = l.books; freed = l.freed; alloc = l.alloc } in
+      let tree_is : c.tree.result.now.rows ≡ l.books.state.store.tree = ap (λ x. x.rows) c.tree.ensures in
+      let go = c.requires.go in
+      let there : is_some (row_of call.agent c.target_of-target.result.row p.swap) ≡ true = subst (λ (n : ℕ). is_some (row_of call.agent n p.swap) ≡ true) (sym c.target_of-target.ensures.row)
+      (stored-copy w c.copies_are_stored.ensures.copies go.fixed go.recorded l p c.args.pending.now call c.args.work.now [] go.are go.asked c.requires.word).there in
+      record {
+        fixed = may.fixed;
+        recorded = may.recorded;
+        start = l;
+        before = p;
+        work = c.args.work.now;
+        past = [];
+        failed = record {
+          held = may.are;
+          are = read-parts w c.what_is_laid_goes_on.ensures.beside c.reads_leave_the_books.ensures laws.counted may.fixed may.recorded l p c.plan_call.new.journal q call may.are is.reads c.target_of-target.result.row there is.pages refl c.tree.result.now.rows tree_is is.spaced;
+          books = refl;
+          reads = is.reads;
+          asked = may.asked;
+          disk = on-disk _ _ _ _ c.requires.word may.asked.judged;
+          rose = is.cause (λ i. Err (c.in-Err-DiskFault.field-0-is i));
+        };
       };
-    }
+}
 
 pub returns-in-Ok-clause-acted : goal.returns-in-Ok-clause-acted
 returns-in-Ok-clause-acted g c f recorded held asked =

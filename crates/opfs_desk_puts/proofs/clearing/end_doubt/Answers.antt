@@ -15,26 +15,28 @@ use Rattle.opfs_desk_ways.proofs.Ways.{way-settled, way-told, way-same}
 use Rattle.opfs_desk_puts.proofs.clearing.end_doubt.Goals as goal
 
 pub fail_call-requires : goal.fail_call-requires
-fail_call-requires g c =
-    let laws = g.met.D.Disk in
-    let may = c.requires.may in
-    let l = c.args.ledger.now in
-    let mid : Ledger g.row.D.Denot = record { journal = c.settle.new.journal; books = c.settle.new.self; freed = l.freed; alloc = l.alloc } in
-    let done = c.in-Err.ensures in
-    let base = state_after may.fixed.opening l.books.history in
-    record {
-      fixed = may.fixed;
-      recorded = may.recorded;
-      base = base;
-      gone = [];
-      pages = may.pages;
-      are =
-          moved-held g.D.Disk may.fixed c.what_is_laid_goes_on.ensures.beside laws.counted may.recorded may.recorded base [] l mid may.pages may.are (done.books may.fixed may.recorded base [] may.are.books) done.leaves done.history done.state (omega arith) may.are.laid.spaced
-          (fresh-same g.D.Disk may.fixed may.recorded l mid may.are.fresh done.commits (ap (λ (s : StateSeen). s.store.tree) done.state) (ap (λ (s : StateSeen). s.store.machine.persistent) done.state));
-      refuses = refl;
-      placed = subst (λ es. IsPlaced es c.args.last.entry.agent) (sym done.history) may.placed;
-      agent = subst (λ (s : StateSeen). IsAgent s.store.machine c.args.last.entry.agent) (sym done.state) may.agent;
-    }
+fail_call-requires g c = record {
+  may =
+      let laws = g.met.D.Disk in
+      let may = c.requires.may in
+      let l = c.args.ledger.now in
+      let mid : Ledger g.row.D.Denot = record { journal = c.settle.new.journal; books = c.settle.new.self; freed = l.freed; alloc = l.alloc } in
+      let done = c.in-Err.ensures in
+      let base = state_after may.fixed.opening l.books.history in
+      record {
+        fixed = may.fixed;
+        recorded = may.recorded;
+        base = base;
+        gone = [];
+        pages = may.pages;
+        are =
+            moved-held g.D.Disk may.fixed c.what_is_laid_goes_on.ensures.beside laws.counted may.recorded may.recorded base [] l mid may.pages may.are (done.books may.fixed may.recorded base [] may.are.books) done.leaves done.history done.state (omega arith) may.are.laid.spaced
+            (fresh-same g.D.Disk may.fixed may.recorded l mid may.are.fresh done.commits (ap (λ (s : StateSeen). s.store.tree) done.state) (ap (λ (s : StateSeen). s.store.machine.persistent) done.state));
+        refuses = refl;
+        placed = subst (λ es. IsPlaced es c.args.last.entry.agent) (sym done.history) may.placed;
+        agent = subst (λ (s : StateSeen). IsAgent s.store.machine c.args.last.entry.agent) (sym done.state) may.agent;
+      };
+}
 
 pub returns-in-Ok-clause-held : goal.returns-in-Ok-clause-held
 returns-in-Ok-clause-held g c f recorded p are =

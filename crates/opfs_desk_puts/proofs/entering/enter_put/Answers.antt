@@ -20,10 +20,12 @@ tell_put-requires-clause-may g c =
     }
 
 pub fail_call-requires : goal.fail_call-requires
-fail_call-requires g c =
-    let may = c.requires.may in
-    let not = c.in-Err.ensures.failed may.fixed may.recorded may.base may.gone may.to_put may.gotten in
-    may-refuse g.D.Disk may.fixed may.base may.gone c.args.parts.now c.put_pages.new.parts c.args.last.entry not may.answered.change.placed may.answered.change.agent
+fail_call-requires g c = record {
+  may =
+      let may = c.requires.may in
+      let not = c.in-Err.ensures.failed may.fixed may.recorded may.base may.gone may.to_put may.gotten in
+      may-refuse g.D.Disk may.fixed may.base may.gone c.args.parts.now c.put_pages.new.parts c.args.last.entry not may.answered.change.placed may.answered.change.agent;
+}
 
 pub returns-in-Ok-clause-put : goal.returns-in-Ok-clause-put
 returns-in-Ok-clause-put g c f recorded base gone to gotten answered =

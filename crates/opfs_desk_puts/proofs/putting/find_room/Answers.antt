@@ -10,9 +10,11 @@ use Rattle.opfs_desk_puts.proofs.Found.{files-below, pages-below, found-at-once,
 use Rattle.opfs_desk_puts.proofs.putting.find_room.Goals as goal
 
 pub commit_kept-requires : goal.commit_kept-requires
-commit_kept-requires g c =
-    let may = c.requires.may.1 in
-    record { fixed = may.fixed; recorded = may.recorded; base = may.base; gone = may.gone; pages = c.args.parts.now.pages; are = may.to_put.are; settled = may.to_put.settled }
+commit_kept-requires g c = record {
+  may =
+      let may = c.requires.may.1 in
+      record { fixed = may.fixed; recorded = may.recorded; base = may.base; gone = may.gone; pages = c.args.parts.now.pages; are = may.to_put.are; settled = may.to_put.settled };
+}
 
 pub returns-then-put-clause-found : goal.returns-then-put-clause-found
 returns-then-put-clause-found g c f recorded base gone given to gotten =

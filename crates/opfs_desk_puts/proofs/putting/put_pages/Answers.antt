@@ -6,10 +6,12 @@ use Rattle.opfs_desk_puts.proofs.Used.{used-both}
 use Rattle.opfs_desk_puts.proofs.putting.put_pages.Goals as goal
 
 pub write_pages-requires : goal.write_pages-requires
-write_pages-requires g c =
-    let may = c.requires.may in
-    let found = c.in-Ok.ensures.found may.fixed may.recorded may.base may.gone c.args.given.now may.to_put may.gotten in
-    record { fixed = may.fixed; recorded = found.recorded; base = may.base; gone = may.gone; to_put = found.to_put; have = found.have }
+write_pages-requires g c = record {
+  may =
+      let may = c.requires.may in
+      let found = c.in-Ok.ensures.found may.fixed may.recorded may.base may.gone c.args.given.now may.to_put may.gotten in
+      record { fixed = may.fixed; recorded = found.recorded; base = may.base; gone = may.gone; to_put = found.to_put; have = found.have };
+}
 
 pub returns-in-Ok-write_pages-clause-put : goal.returns-in-Ok-write_pages-clause-put
 returns-in-Ok-write_pages-clause-put g c f recorded base gone to gotten =

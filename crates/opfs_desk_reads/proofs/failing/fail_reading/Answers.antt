@@ -5,11 +5,13 @@ use Rattle.opfs_desk_reads.proofs.Faulted.{asked-now, agent-mid, may-refuse, is-
 use Rattle.opfs_desk_reads.proofs.failing.fail_reading.Goals as goal
 
 pub take_in-requires : goal.take_in-requires
-take_in-requires g c =
-    let may = c.requires.may in
-    let is = may.failed in
-    c.asked_calls_are_ready.ensures.taken may.fixed may.recorded c.args.parts.now.ledger c.args.parts.now.pages c.args.pending.now c.args.call may.work may.past is.are
-    (asked-now g.D.Disk c.asked_calls_are_ready.ensures may.fixed may.recorded may.start c.args.parts.now.ledger c.args.parts.now.ledger may.before c.args.parts.now.pages c.args.pending.now c.args.call may.work may.past is)
+take_in-requires g c = record {
+  may =
+      let may = c.requires.may in
+      let is = may.failed in
+      c.asked_calls_are_ready.ensures.taken may.fixed may.recorded c.args.parts.now.ledger c.args.parts.now.pages c.args.pending.now c.args.call may.work may.past is.are
+      (asked-now g.D.Disk c.asked_calls_are_ready.ensures may.fixed may.recorded may.start c.args.parts.now.ledger c.args.parts.now.ledger may.before c.args.parts.now.pages c.args.pending.now c.args.call may.work may.past is);
+}
 
 pub rows-rows-requires : goal.rows-rows-requires
 rows-rows-requires g c =
@@ -25,18 +27,20 @@ rows-rows-requires g c =
     (record { entries = is.entries; journal = is.journal; place = is.place }) (is.held may.fixed may.recorded p fail.are asked.may.pending) (is.prepared c.args.call.op asked.prepared)
 
 pub fail_call-requires : goal.fail_call-requires
-fail_call-requires g c =
-    let may = c.requires.may in
-    let fail = may.failed in
-    let p = c.args.parts.now.pages in
-    let l = c.args.parts.now.ledger in
-    let mid = c.take_in.new.ledger in
-    let is = c.take_in.ensures in
-    let asks = c.asked_calls_are_ready.ensures in
-    let asked = asked-now g.D.Disk asks may.fixed may.recorded may.start l mid may.before p c.args.pending.now c.args.call may.work may.past fail in
-    rw c.call_parts-last.ensures.entry
-    (may-refuse g.D.Disk asks may.fixed may.recorded may.start l mid may.before p c.args.pending.now c.args.call may.work may.past fail
-    (record { entries = is.entries; journal = is.journal; place = is.place }) (is.held may.fixed may.recorded p fail.are asked.may.pending) (is.prepared c.args.call.op asked.prepared))
+fail_call-requires g c = record {
+  may =
+      let may = c.requires.may in
+      let fail = may.failed in
+      let p = c.args.parts.now.pages in
+      let l = c.args.parts.now.ledger in
+      let mid = c.take_in.new.ledger in
+      let is = c.take_in.ensures in
+      let asks = c.asked_calls_are_ready.ensures in
+      let asked = asked-now g.D.Disk asks may.fixed may.recorded may.start l mid may.before p c.args.pending.now c.args.call may.work may.past fail in
+      rw c.call_parts-last.ensures.entry
+      (may-refuse g.D.Disk asks may.fixed may.recorded may.start l mid may.before p c.args.pending.now c.args.call may.work may.past fail
+      (record { entries = is.entries; journal = is.journal; place = is.place }) (is.held may.fixed may.recorded p fail.are asked.may.pending) (is.prepared c.args.call.op asked.prepared));
+}
 
 pub returns-clause-acted : goal.returns-clause-acted
 returns-clause-acted g c f recorded start before first work after past fail copy =

@@ -60,29 +60,31 @@ enter_get_file-requires-clause-read g c found there =
     }
 
 pub fail_reading-requires : goal.fail_reading-requires
-fail_reading-requires g c =
-    let laws = g.met.D.Disk in
-    let may = c.requires.go in
-    let l = c.args.parts.now.ledger in
-    let p = c.args.parts.now.pages in
-    let now : Ledger g.row.D.Denot = record { journal = c.read_named.new.journal; books = l.books; freed = l.freed; alloc = l.alloc } in
-    record {
-      fixed = may.fixed;
-      recorded = may.recorded;
-      start = l;
-      before = p;
-      work = c.args.work.now;
-      past = [];
-      failed = record {
-        held = may.are;
-        are = read-held g.D.Disk may.fixed l now refl c.in-Err-DiskFault.ensures.reads c.reads_leave_the_books.ensures laws.counted may.recorded (state_after may.fixed.opening l.books.history) [] p (omega arith) may.are;
-        books = refl;
-        reads = c.in-Err-DiskFault.ensures.reads;
-        asked = may.asked;
-        disk = on-disk _ _ _ c.requires.word;
-        rose = c.in-Err-DiskFault.ensures.cause (λ i. Err (c.in-Err-DiskFault.field-0-is i));
+fail_reading-requires g c = record {
+  may =
+      let laws = g.met.D.Disk in
+      let may = c.requires.go in
+      let l = c.args.parts.now.ledger in
+      let p = c.args.parts.now.pages in
+      let now : Ledger g.row.D.Denot = record { journal = c.read_named.new.journal; books = l.books; freed = l.freed; alloc = l.alloc } in
+      record {
+        fixed = may.fixed;
+        recorded = may.recorded;
+        start = l;
+        before = p;
+        work = c.args.work.now;
+        past = [];
+        failed = record {
+          held = may.are;
+          are = read-held g.D.Disk may.fixed l now refl c.in-Err-DiskFault.ensures.reads c.reads_leave_the_books.ensures laws.counted may.recorded (state_after may.fixed.opening l.books.history) [] p (omega arith) may.are;
+          books = refl;
+          reads = c.in-Err-DiskFault.ensures.reads;
+          asked = may.asked;
+          disk = on-disk _ _ _ c.requires.word;
+          rose = c.in-Err-DiskFault.ensures.cause (λ i. Err (c.in-Err-DiskFault.field-0-is i));
+        };
       };
-    }
+}
 
 pub returns-in-Ok-clause-acted : goal.returns-in-Ok-clause-acted
 returns-in-Ok-clause-acted g c f recorded held whole asked =

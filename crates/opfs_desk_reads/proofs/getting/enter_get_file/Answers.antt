@@ -23,9 +23,11 @@ use Rattle.opfs_desk_reads.proofs.Words.{silent}
 use Rattle.opfs_desk_reads.proofs.getting.enter_get_file.Goals as goal
 
 pub take_in-requires : goal.take_in-requires
-take_in-requires g c =
-    let may = c.requires.go in
-    c.getting_laws.ensures.asks.taken may.fixed may.recorded c.args.parts.now.ledger c.args.parts.now.pages c.args.pending.now c.args.call c.args.work.now [] may.are may.asked
+take_in-requires g c = record {
+  may =
+      let may = c.requires.go in
+      c.getting_laws.ensures.asks.taken may.fixed may.recorded c.args.parts.now.ledger c.args.parts.now.pages c.args.pending.now c.args.call c.args.work.now [] may.are may.asked;
+}
 
 pub rows-rows-requires : goal.rows-rows-requires
 rows-rows-requires g c =
@@ -36,16 +38,18 @@ rows-rows-requires g c =
     may.are may.asked is.entries held (is.prepared c.args.call.op may.asked.prepared)).agent
 
 pub clear_call-requires : goal.clear_call-requires
-clear_call-requires g c =
-    let may = c.requires.go in
-    let l = c.args.parts.now.ledger in
-    let p = c.args.parts.now.pages in
-    let mid = c.take_in.new.ledger in
-    let is = c.take_in.ensures in
-    let held = is.held may.fixed may.recorded p may.are may.asked.may.pending in
-    let then = c.getting_laws.ensures.asks.ready may.fixed may.recorded l mid p c.args.pending.now c.args.call c.args.work.now [] may.are may.asked is.entries held (is.prepared c.args.call.op may.asked.prepared) in
-    c.getting_laws.ensures.answers.clearing may.fixed may.recorded mid p c.args.call (reply.FileInfo c.args.read.size c.args.read.stamp) held then
-    (on-disk (state_after may.fixed.opening mid.books.history) c.args.call.agent c.args.call.op c.requires.word)
+clear_call-requires g c = record {
+  may =
+      let may = c.requires.go in
+      let l = c.args.parts.now.ledger in
+      let p = c.args.parts.now.pages in
+      let mid = c.take_in.new.ledger in
+      let is = c.take_in.ensures in
+      let held = is.held may.fixed may.recorded p may.are may.asked.may.pending in
+      let then = c.getting_laws.ensures.asks.ready may.fixed may.recorded l mid p c.args.pending.now c.args.call c.args.work.now [] may.are may.asked is.entries held (is.prepared c.args.call.op may.asked.prepared) in
+      c.getting_laws.ensures.answers.clearing may.fixed may.recorded mid p c.args.call (reply.FileInfo c.args.read.size c.args.read.stamp) held then
+      (on-disk (state_after may.fixed.opening mid.books.history) c.args.call.agent c.args.call.op c.requires.word);
+}
 
 pub tell_last-requires-clause-silent : goal.tell_last-requires-clause-silent
 tell_last-requires-clause-silent g c =

@@ -24,16 +24,18 @@ loop-next-init g c =
     }
 
 pub evict_one-requires : goal.evict_one-requires
-evict_one-requires g c =
-    let may = c.requires.may.way in
-    let l = c.args.ledger.now in
-    let all = c.args.clearing.items in
-    let e = c.args.call.entry in
-    let inv = c.loop-next.invariant in
-    let room = room-for g.D.Disk may.fixed may.recorded l may.pages may.are e (units_in all) may.judged c.state_laws.ensures.counts c.reads_leave_the_state.ensures c.evictions_make_room.ensures c.lengths_decide_each_ruling.ensures in
-    let on = subst (λ (rest : List Clearing). IsOnWay g.D.Disk l c.loop-next.ledger e all rest) c.in-Some.ensures.steps.0 inv.way in
-    subst (λ (x : Entry). MayEvict g.D.Disk c.loop-next.ledger x c.in-Some.next) (sym inv.entry)
-    (next-may g.D.Disk l e all c.loop-next.ledger c.in-Some.next (into_iter_items c.next.new.self) on c.lengths_follow_each_call.ensures may.fixed may.recorded may.pages may.are may.judged room)
+evict_one-requires g c = record {
+  may =
+      let may = c.requires.may.way in
+      let l = c.args.ledger.now in
+      let all = c.args.clearing.items in
+      let e = c.args.call.entry in
+      let inv = c.loop-next.invariant in
+      let room = room-for g.D.Disk may.fixed may.recorded l may.pages may.are e (units_in all) may.judged c.state_laws.ensures.counts c.reads_leave_the_state.ensures c.evictions_make_room.ensures c.lengths_decide_each_ruling.ensures in
+      let on = subst (λ (rest : List Clearing). IsOnWay g.D.Disk l c.loop-next.ledger e all rest) c.in-Some.ensures.steps.0 inv.way in
+      subst (λ (x : Entry). MayEvict g.D.Disk c.loop-next.ledger x c.in-Some.next) (sym inv.entry)
+      (next-may g.D.Disk l e all c.loop-next.ledger c.in-Some.next (into_iter_items c.next.new.self) on c.lengths_follow_each_call.ensures may.fixed may.recorded may.pages may.are may.judged room);
+}
 
 pub loop-next-preserved : goal.loop-next-preserved
 loop-next-preserved g c =

@@ -6,12 +6,14 @@ use Rattle.opfs_desk_ways.proofs.Turns.{may-fail}
 use Rattle.opfs_desk_ways.proofs.units.make_way.Goals as goal
 
 pub end_doubt-requires : goal.end_doubt-requires
-end_doubt-requires g c = may-end g.D.Disk c.args.ledger.now c.args.last.entry c.args.clearing.items c.requires.may
+end_doubt-requires g c = record { may = may-end g.D.Disk c.args.ledger.now c.args.last.entry c.args.clearing.items c.requires.may }
 
 pub clear_units-requires : goal.clear_units-requires
-clear_units-requires g c =
-    let done = c.in-Ok.ensures in
-    may-clear g.D.Disk c.args.ledger.now c.args.last.entry c.args.clearing.items c.end_doubt.new.ledger done.entries done.sure done.held c.requires.may done.state c.in-Ok.last.entry done.last
+clear_units-requires g c = record {
+  may =
+      let done = c.in-Ok.ensures in
+      may-clear g.D.Disk c.args.ledger.now c.args.last.entry c.args.clearing.items c.end_doubt.new.ledger done.entries done.sure done.held c.requires.may done.state c.in-Ok.last.entry done.last;
+}
 
 pub returns-in-Ok-clear_units-clause-cleared : goal.returns-in-Ok-clear_units-clause-cleared
 returns-in-Ok-clear_units-clause-cleared g c =
