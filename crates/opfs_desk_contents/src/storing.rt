@@ -56,7 +56,7 @@ pub(crate) fn copy_runs(runs: &[Extent], into: &mut Vec<Extent>)
 
 /// Commits the content of a file with what is kept back, and enters the call. Where the disk fails, the call is entered so, and the
 /// content may be in doubt. The pages are the caller's.
-pub(crate) fn enter_content<D: Disk>(
+pub fn enter_content<D: Disk>(
     ledger: &mut Ledger<D>,
     last: Last,
     sizes: Sizes,
