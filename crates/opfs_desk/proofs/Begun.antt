@@ -27,6 +27,7 @@ use Rattle.opfs_machine.specs.declared.own.Outline.{Outline}
 use Rattle.opfs_machine.specs.declared.state.Agent.{Agent}
 use Rattle.opfs_machine.specs.Agents.{agent_in, nobody, own_of}
 use Rattle.opfs_openings.specs.Openings.{fixed_by, limits_by, caller_by}
+use Rattle.opfs_outside.specs.Moments.{Elapses}
 use Rattle.opfs_outside.specs.declared.disk.Disk.{Ghosts as DiskWords}
 use Rattle.opfs_replay.specs.Built.{Built, all_extents, named, has_block, is_once, used_by, IsSound, IsSoundRow}
 use Rattle.opfs_replay.proofs.Holding.{all_both, are_below, is_within_size}
@@ -199,3 +200,8 @@ module _ {D : Type 0} (w : DiskWords D) (from : Recovered D w) (agents : List Wh
             (sym ((λ i. stored_built (tree i) (machine i).persistent) ∙ is.rows));
         idle = idle;
       }
+
+-- no time has gone by
+pub time-begun : {D : Type 0} (w : DiskWords D) (begun now : D) → now ≡ begun → Elapses w.moment w.since begun now
+time-begun w begun now same =
+    subst (λ x. Elapses w.moment w.since begun x) (sym same) (record { later = omega arith; split = λ t c le left. inl left; keeps = λ t c le left. left })

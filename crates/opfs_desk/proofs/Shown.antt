@@ -1,29 +1,39 @@
 -- What a desk shows, and what its end leaves.
-use Rattle.std.proofs.Common.{◌≡◌, List, [], ◌++◌, Some, sym, ap, subst, ◌∙◌}
+use Rattle.std.proofs.Common.{◌≡◌, ℕ, Bool, true, false, List, [], ◌++◌, Some, Ok, Option, None, refl, if◌then◌else◌, sym, ap, subst, ◌∙◌}
 use Rattle.opfs_book_laws.specs.Books.{account_of}
 use Rattle.opfs_book_laws.specs.Commits.{CommitLaws}
 use Rattle.opfs_book_laws.specs.Laws.{BooksShowTheirImages, told, doubt}
 use Rattle.opfs_book_laws.proofs.Told.{told-whole}
 use Rattle.opfs_books.specs.Seen.{IsFinished}
 use Rattle.opfs_commit.specs.Seen.{committing}
-use Rattle.opfs_commit.specs.Shown.{ShowsSince}
+use Rattle.opfs_commit.specs.Shown.{ShowsSince, IsShown}
 use Rattle.opfs_commit.specs.Trail.{IsTrail}
 use Rattle.opfs_hist.specs.declared.entry.Entry.{Entry}
 use Rattle.opfs_hist.specs.Faults.{disk_faults}
+use Rattle.opfs_histories.specs.Doubts.{doubted}
 use Rattle.opfs_histories.specs.Unread.{IsTold}
 use Rattle.opfs_image.specs.Filling.{Stands}
+use Rattle.opfs_image.specs.Superblock.{geometry_of}
 use Rattle.opfs_journal.specs.Format.{records_of}
 use Rattle.opfs_journal.specs.Seen.{kept}
-use Rattle.opfs_machine.specs.Changes.{floor, changes, durable}
+use Rattle.opfs_machine.specs.Changes.{Change, floor, changes, durable}
 use Rattle.opfs_machine.specs.Histories.{state_after}
+use Rattle.opfs_machine.specs.Openings.{Opening}
 use Rattle.opfs_outside.specs.Faults.{Rose, RoseBy}
+use Rattle.opfs_outside.specs.Moments.{Elapses}
 use Rattle.opfs_outside.specs.declared.disk.Disk.{Ghosts as DiskWords}
 use Rattle.opfs_replay.specs.Built.{Built}
 use Rattle.opfs_desk_parts.specs.Held.{AreHeldWhole}
 use Rattle.opfs_desk_parts.specs.Seen.{book_in}
 use Rattle.opfs_desk_parts.specs.declared.parts.Ledger.{Ledger}
 use Rattle.opfs_desk.specs.Seen.{DeskSeen, entries_of, disk_of, ShowsNow}
-use Rattle.opfs_desk.specs.Ending.{StandsWhole, ShowsEnding, EndsTrail}
+use Rattle.opfs_desk.proofs.Called.{Falls, time-on}
+use Rattle.opfs_desk.specs.Ending.{StandsWhole, ShowsEnding, EndsTime, EndsTrail, KeepsSizes, LeavesFront}
+
+-- the entry whose change is in doubt, if there is a doubt
+doubt-by : (b : Bool) (o : Opening) (h : List Entry) (place : Option ℕ) → (if b then doubted o h place else []) ≡ doubted o h (if b then place else None)
+doubt-by true o h place = refl
+doubt-by false o h place = refl
 
 module _ {D : Type 0} (w : DiskWords D) (d : DeskSeen D) (recorded : Built) (are : AreHeldWhole w d.fixed recorded d.parts.ledger d.parts.pages) where
   pub shows-now : BooksShowTheirImages w → ShowsNow w d
@@ -57,3 +67,21 @@ module _ {D : Type 0} (w : DiskWords D) (d : DeskSeen D) (recorded : Built) (are
     counts-all entries =
         subst (λ (x : D). RoseBy (disk_faults (entries_of d)) (w.faults d.fixed.begun) (w.faults x)) (sym same)
         (subst (λ (es : List Entry). RoseBy (disk_faults es) (w.faults d.fixed.begun) (w.faults new.journal.disk)) entries done.are.counted.faults)
+
+    pub leaves-front : BooksShowTheirImages w → new.books.history ≡ entries_of d → w.tells → LeavesFront w d.fixed.opening (entries_of d) disk
+    leaves-front law entries t =
+        subst (λ (x : D). LeavesFront w d.fixed.opening (entries_of d) x) (sym same)
+        (subst (λ (es : List Entry). LeavesFront w d.fixed.opening es new.journal.disk) entries
+        (record {
+          place = if new.journal.in_doubt then new.books.place else None;
+          shown = λ c since. subst (λ (more : List Change). IsShown d.fixed.opening (floor (changes d.fixed.opening new.books.history)) (changes d.fixed.opening new.books.history ++ more) c)
+          (doubt-by new.journal.in_doubt d.fixed.opening new.books.history new.books.place)
+          (law d.fixed done.after (state_after d.fixed.opening (entries_of d)) [] (book_in new) new.journal done.are t c since);
+        }))
+
+    pub keeps-sizes : KeepsSizes w d disk
+    keeps-sizes t = subst (λ (x : D). geometry_of (w.content x) ≡ Ok d.fixed.geometry) (sym same) (done.are.images t).here.geometry
+
+    pub ends-time : Falls w → (w.tells → Elapses w.moment w.since d.fixed.begun (disk_of d)) → (w.tells → Elapses w.moment w.since (disk_of d) new.journal.disk) → EndsTime w d disk
+    ends-time falls was is t =
+        subst (λ (x : D). Elapses w.moment w.since d.fixed.begun x) (sym same) (time-on w d.fixed.begun (disk_of d) new.journal.disk falls was is t)

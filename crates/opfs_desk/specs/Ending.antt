@@ -1,11 +1,16 @@
 -- What the end of a run leaves. This project's own.
-use Rattle.std.specs.Prelude.{◌++◌}
+use Rattle.std.specs.Prelude.{◌≡◌, ℕ, List, ◌++◌, Option, Ok}
 use Rattle.opfs_book_laws.specs.Laws.{told, doubt}
 use Rattle.opfs_commit.specs.Shown.{ShowsSince}
 use Rattle.opfs_commit.specs.Trail.{IsTrail}
+use Rattle.opfs_hist.specs.declared.entry.Entry.{Entry}
+use Rattle.opfs_histories.specs.Doubts.{doubted}
 use Rattle.opfs_image.specs.Filling.{Stands}
+use Rattle.opfs_image.specs.Superblock.{geometry_of}
 use Rattle.opfs_machine.specs.Changes.{floor, changes, durable}
+use Rattle.opfs_machine.specs.Openings.{Opening}
 use Rattle.opfs_outside.specs.Faults.{Rose}
+use Rattle.opfs_outside.specs.Moments.{Elapses}
 use Rattle.opfs_outside.specs.declared.disk.Disk.{Ghosts as DiskWords}
 use Rattle.opfs_desk_parts.specs.Seen.{book_in}
 use Rattle.opfs_desk.specs.Seen.{DeskSeen, entries_of, disk_of}
@@ -23,3 +28,17 @@ ShowsEnding w d disk = w.tells → ShowsSince w d.fixed.opening (floor (told d.f
 -- each content.
 abbrev pub EndsTrail : {D : Type 0} → DiskWords D → DeskSeen D → D → Type 0
 EndsTrail w d disk = w.tells → (Rose (w.faults d.fixed.begun) (w.faults disk) → ⊥) → IsTrail w d.fixed.opening (changes d.fixed.opening (entries_of d)) d.fixed.begun disk
+
+-- Each image that a crash may leave at the end shows a front of what the history stored, with what one entry of it may leave in doubt;
+-- it has all that was stored up to the last content.
+pub record LeavesFront {D : Type 0} (w : DiskWords D) (o : Opening) (h : List Entry) (disk : D) : Type 0 where
+  pub place : Option ℕ
+  pub shown : ShowsSince w o (floor (changes o h)) (changes o h ++ doubted o h place) disk disk
+
+-- The image has its sizes still.
+abbrev pub KeepsSizes : {D : Type 0} → DiskWords D → DeskSeen D → D → Type 0
+KeepsSizes w d disk = w.tells → geometry_of (w.content disk) ≡ Ok d.fixed.geometry
+
+-- An image since the run began, or before, is one of then, or one of since then, and none is lost.
+abbrev pub EndsTime : {D : Type 0} → DiskWords D → DeskSeen D → D → Type 0
+EndsTime w d disk = w.tells → Elapses w.moment w.since d.fixed.begun disk

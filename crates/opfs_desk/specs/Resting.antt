@@ -3,9 +3,12 @@ use Rattle.opfs_book_laws.specs.Books.{Fixed}
 use Rattle.opfs_desk_laws.specs.Handles.{AreHandlesWhole}
 use Rattle.opfs_desk_parts.specs.Held.{AreHeld}
 use Rattle.opfs_desk_parts.specs.declared.parts.Parts.{Parts}
+use Rattle.opfs_outside.specs.Moments.{Elapses}
 use Rattle.opfs_outside.specs.declared.disk.Disk.{Ghosts as DiskWords}
 
--- All parts are kept, and each page of each open access handle is one that the store tells.
+-- All parts are kept; each page of each open access handle is one that the store tells; and of the images since the run began, and before,
+-- none is lost.
 pub record IsAtRest {D : Type 0} (w : DiskWords D) (f : Fixed D) (p : Parts D) : Type 0 where
   pub held : AreHeld w f p
   pub whole : AreHandlesWhole f.opening p.ledger.books.history
+  pub time : w.tells → Elapses w.moment w.since f.begun p.ledger.journal.disk

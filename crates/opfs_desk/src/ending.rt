@@ -3,13 +3,13 @@
 ghost use Rattle.std.specs.Prelude.{◌≡◌, ◌≤◌, OnOk, OnErr};
 ghost use Rattle.opfs_desk.specs.Apart.{IsToldApart};
 ghost use Rattle.opfs_desk.specs.Seen.{entries_of, disk_of};
-ghost use Rattle.opfs_desk.specs.Ending.{ShowsEnding, StandsWhole, EndsTrail};
+ghost use Rattle.opfs_desk.specs.Ending.{EndsTime, EndsTrail, KeepsSizes, LeavesFront, ShowsEnding, StandsWhole};
 ghost use Rattle.opfs_hist.specs.Faults.{disk_faults};
 ghost use Rattle.opfs_outside.specs.Faults.{Rose, RoseBy};
 
 use crate::desk::Desk;
 use opfs_book_calls::calls_are_spelled;
-use opfs_book_laws::commit_laws;
+use opfs_book_laws::{commit_laws, the_books_show_their_images};
 use opfs_desk_parts::{Ledger, Pages, Parts};
 use opfs_hist::History;
 use opfs_journal::DiskFault;
@@ -25,11 +25,15 @@ impl<D: Disk> Desk<D> {
         ensures stands { OnOk result.2 (StandsWhole D.Disk self result.0) }
         ensures shown { ShowsEnding D.Disk self result.0 }
         ensures trail { EndsTrail D.Disk self result.0 }
+        ensures left { D.tells → LeavesFront D.Disk self.fixed.opening result.1 result.0 }
+        ensures sizes { KeepsSizes D.Disk self result.0 }
+        ensures time { EndsTime D.Disk self result.0 }
         ensures later { D.faults (disk_of self) ≤ D.faults result.0 }
         ensures counts { RoseBy (disk_faults (entries_of self)) (D.faults self.fixed.begun) (D.faults result.0) }
         ensures cause { OnErr result.2 (Rose (D.faults (disk_of self)) (D.faults result.0)) }
     {
         commit_laws::<D>();
+        the_books_show_their_images::<D>();
         each_party_runs_alone();
         let Desk {
             parts,
@@ -55,5 +59,30 @@ impl<D: Disk> Desk<D> {
         let (history, state) = books.end();
         state.end();
         (journal.give_back(), history, done)
+    }
+    /// Gives the disk back as it is, where no agent has begun. Takes no memory.
+    pub fn leave(self) -> D
+        ensures { result ≡ disk_of self }
+    {
+        let Desk {
+            parts,
+            from: _,
+            agents: _,
+        } = self;
+        let Parts { ledger, pages } = parts;
+        let Pages {
+            swap: _,
+            space: _,
+            base: _,
+        } = pages;
+        let Ledger {
+            journal,
+            books,
+            freed: _,
+            alloc: _,
+        } = ledger;
+        let (_history, state) = books.end();
+        state.end();
+        journal.give_back()
     }
 }

@@ -13,6 +13,7 @@ ghost use Rattle.opfs_desk_reads.specs.Reading.{HaveWholeHandles};
 ghost use Rattle.opfs_replay.specs.Built.{Built};
 
 use opfs_acts::Acted;
+use opfs_book_laws::the_books_show_their_images;
 use opfs_desk_parts::{InHand, Parts};
 use opfs_hist::Pending;
 use opfs_outside::Disk;
@@ -37,6 +38,7 @@ pub fn act_content<D: Disk>(
     ensures unacted { OnErr result ((pending.new ≡ pending.old) × IsSameCopy work.old work.new) }
     ensures idle { OnErr result ((f : Fixed D) (recorded : Built) → AreHeldWhole D.Disk f recorded parts.old.ledger parts.old.pages → IsUnacted D.Disk f parts.old parts.new) }
 {
+    the_books_show_their_images::<D>();
     Err(AllocError)
 }
 
@@ -57,5 +59,6 @@ pub fn act_idle_flush<D: Disk>(
     ensures unacted { OnErr result ((pending.new ≡ pending.old) × IsSameCopy work.old work.new) }
     ensures idle { OnErr result ((f : Fixed D) (recorded : Built) → AreHeldWhole D.Disk f recorded parts.old.ledger parts.old.pages → IsUnacted D.Disk f parts.old parts.new) }
 {
+    the_books_show_their_images::<D>();
     Err(AllocError)
 }

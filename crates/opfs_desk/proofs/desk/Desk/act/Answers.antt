@@ -4,12 +4,14 @@ use Rattle.opfs_desk.proofs.Called.{is-called, rests-acted, rests-alone}
 use Rattle.opfs_desk.proofs.desk.Desk.act.Goals as goal
 
 pub act_call-requires : goal.act_call-requires
-act_call-requires g c =
-    let f = fixed_by g.D.Disk c.self.inside.from.value c.self.inside.agents.value.items in
-    let call : Call = record { agent = c.args.agent; number = c.args.number; op = c.args.op } in
-    let old = c.self.inside.parts in
-    let may = rw (← c.self.view_is) at c.requires.may in
-    record { fixed = f; called = is-called g.D.Disk f old c.args.pending.now call c.args.work.now c.args.past.now c.self.invariant may }
+act_call-requires g c = record {
+  may =
+      let f = fixed_by g.D.Disk c.self.inside.from.value c.self.inside.agents.value.items in
+      let call : Call = record { agent = c.args.agent; number = c.args.number; op = c.args.op } in
+      let old = c.self.inside.parts in
+      let may = rw (← c.self.view_is) at c.requires.may in
+      record { fixed = f; called = is-called g.D.Disk f old c.args.pending.now call c.args.work.now c.args.past.now c.self.invariant may };
+}
 
 pub invariant_of-self : goal.invariant_of-self
 invariant_of-self g c =
@@ -17,7 +19,7 @@ invariant_of-self g c =
     let call : Call = record { agent = c.args.agent; number = c.args.number; op = c.args.op } in
     let old = c.self.inside.parts in
     let may = rw (← c.self.view_is) at c.requires.may in
-    rests-alone g.D.Disk f old c.act_call.new.parts c.args.pending.now call c.args.work.now c.args.past.now c.self.invariant may
+    rests-alone g.D.Disk (λ t. g.met.D.Disk.falls t) f old c.act_call.new.parts c.args.pending.now call c.args.work.now c.args.past.now c.self.invariant may
     (c.in_err-acted.ensures.alone f (is-called g.D.Disk f old c.args.pending.now call c.args.work.now c.args.past.now c.self.invariant may))
 
 pub invariant_of-self-2 : goal.invariant_of-self-2
@@ -26,7 +28,7 @@ invariant_of-self-2 g c =
     let call : Call = record { agent = c.args.agent; number = c.args.number; op = c.args.op } in
     let old = c.self.inside.parts in
     let may = rw (← c.self.view_is) at c.requires.may in
-    rests-acted g.D.Disk f old c.act_call.new.parts c.args.pending.now call c.args.work.now c.args.past.now c.self.invariant may
+    rests-acted g.D.Disk (λ t. g.met.D.Disk.falls t) f old c.act_call.new.parts c.args.pending.now call c.args.work.now c.args.past.now c.self.invariant may
     c.handles_go_on.ensures c.act_call.new.work c.in_ok-acted.acted
     (c.in_ok-acted.ensures.acted f (is-called g.D.Disk f old c.args.pending.now call c.args.work.now c.args.past.now c.self.invariant may))
 

@@ -4,7 +4,7 @@ use Rattle.opfs_openings.specs.Openings.{fixed_by}
 use Rattle.opfs_desk_parts.specs.declared.parts.Ledger.{Ledger}
 use Rattle.opfs_desk.specs.Seen.{DeskSeen, entries_of}
 use Rattle.opfs_desk.proofs.Apart.{told-apart}
-use Rattle.opfs_desk.proofs.Shown.{is-legal, stands-whole, shows-ending, ends-trail, counts-all}
+use Rattle.opfs_desk.proofs.Shown.{is-legal, stands-whole, shows-ending, ends-time, ends-trail, keeps-sizes, leaves-front, counts-all}
 use Rattle.opfs_desk.proofs.desk.Desk.finish.Goals as goal
 use Rattle.opfs_desk.proofs.desk.Desk.finish.Goals.{in-Ok, in-Err}
 
@@ -59,3 +59,34 @@ returns-clause-counts g c =
     let are = c.self.invariant.held.are in
     let done = c.finish.ensures.books d.fixed recorded (state_after d.fixed.opening (entries_of d)) [] are.books in
     rw (← c.self.view_is) (counts-all g.D.Disk d recorded are new c.give_back.result c.give_back.ensures.disk done c.finish.ensures.history)
+
+pub returns-clause-left : goal.returns-clause-left
+returns-clause-left g c = λ t.
+    let d : DeskSeen g.row.D.Denot = record { fixed = fixed_by g.D.Disk c.self.inside.from.value c.self.inside.agents.value.items; parts = c.self.inside.parts } in
+    let l = c.self.inside.parts.ledger in
+    let new : Ledger g.row.D.Denot = record { journal = c.finish.new.journal; books = c.finish.new.self; freed = l.freed; alloc = l.alloc } in
+    let recorded = c.self.invariant.held.recorded in
+    let are = c.self.invariant.held.are in
+    let done = c.finish.ensures.books d.fixed recorded (state_after d.fixed.opening (entries_of d)) [] are.books in
+    rw (← c.self.view_is, c.end-history.ensures.history, c.finish.ensures.history)
+    (leaves-front g.D.Disk d recorded are new c.give_back.result c.give_back.ensures.disk done c.the_books_show_their_images.ensures c.finish.ensures.history t)
+
+pub returns-clause-sizes : goal.returns-clause-sizes
+returns-clause-sizes g c =
+    let d : DeskSeen g.row.D.Denot = record { fixed = fixed_by g.D.Disk c.self.inside.from.value c.self.inside.agents.value.items; parts = c.self.inside.parts } in
+    let l = c.self.inside.parts.ledger in
+    let new : Ledger g.row.D.Denot = record { journal = c.finish.new.journal; books = c.finish.new.self; freed = l.freed; alloc = l.alloc } in
+    let recorded = c.self.invariant.held.recorded in
+    let are = c.self.invariant.held.are in
+    let done = c.finish.ensures.books d.fixed recorded (state_after d.fixed.opening (entries_of d)) [] are.books in
+    rw (← c.self.view_is) (keeps-sizes g.D.Disk d recorded are new c.give_back.result c.give_back.ensures.disk done)
+
+pub returns-clause-time : goal.returns-clause-time
+returns-clause-time g c =
+    let d : DeskSeen g.row.D.Denot = record { fixed = fixed_by g.D.Disk c.self.inside.from.value c.self.inside.agents.value.items; parts = c.self.inside.parts } in
+    let l = c.self.inside.parts.ledger in
+    let new : Ledger g.row.D.Denot = record { journal = c.finish.new.journal; books = c.finish.new.self; freed = l.freed; alloc = l.alloc } in
+    let recorded = c.self.invariant.held.recorded in
+    let are = c.self.invariant.held.are in
+    let done = c.finish.ensures.books d.fixed recorded (state_after d.fixed.opening (entries_of d)) [] are.books in
+    rw (← c.self.view_is) (ends-time g.D.Disk d recorded are new c.give_back.result c.give_back.ensures.disk done (λ t. g.met.D.Disk.falls t) c.self.invariant.time c.finish.ensures.leaves.time)

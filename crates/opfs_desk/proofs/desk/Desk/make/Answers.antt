@@ -14,7 +14,7 @@ use Rattle.opfs_desk_parts.specs.Held.{AreHeld}
 use Rattle.opfs_desk_parts.specs.declared.parts.Ledger.{Ledger}
 use Rattle.opfs_desk_parts.specs.declared.parts.Pages.{Pages}
 use Rattle.opfs_desk.specs.Resting.{IsAtRest}
-use Rattle.opfs_desk.proofs.Begun.{used-long, made-held}
+use Rattle.opfs_desk.proofs.Begun.{used-long, made-held, time-begun}
 use Rattle.opfs_desk.proofs.desk.Desk.make.Goals as goal
 
 pub make-requires : goal.make-requires
@@ -49,4 +49,4 @@ invariant_of-result g c =
     (ap (λ (j : Seen g.row.D.Denot). j.disk) done.journal) c.in-Ok.ensures c.make-in-Ok-make-3.ensures c.in-Ok-make.ensures.used c.in-Ok-make.ensures.own c.data_base.ensures.same in
     let whole : AreHandlesWhole f.opening l.books.history = subst (AreHandlesWhole f.opening) (sym done.history) (c.handles_stay_whole.ensures.begun f.opening) in
     subst (λ (x : Recovered g.row.D.Denot g.D.Disk). IsAtRest g.D.Disk (fixed_by g.D.Disk x c.of-who.result.value.items) (record { ledger = l; pages = p })) (sym c.of-told.ensures)
-    (rw (c.of-who.ensures) (record { held = held; whole = whole }))
+    (rw (c.of-who.ensures) (record { held = held; whole = whole; time = λ t. time-begun g.D.Disk from.journal.disk l.journal.disk (ap (λ (j : Seen g.row.D.Denot). j.disk) done.journal) }))

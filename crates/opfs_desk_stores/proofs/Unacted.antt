@@ -1,0 +1,19 @@
+-- There was no memory, and nothing was done.
+use Rattle.std.proofs.Common.{[], refl}
+use Rattle.opfs_book_laws.specs.Books.{Fixed}
+use Rattle.opfs_book_laws.specs.Laws.{BooksShowTheirImages}
+use Rattle.opfs_machine.specs.Histories.{state_after}
+use Rattle.opfs_outside.specs.declared.disk.Disk.{Ghosts as DiskWords}
+use Rattle.opfs_replay.specs.Built.{Built}
+use Rattle.opfs_desk_parts.specs.Acted.{IsUnacted}
+use Rattle.opfs_desk_parts.specs.Held.{AreHeldWhole}
+use Rattle.opfs_desk_parts.specs.declared.parts.Parts.{Parts}
+use Rattle.opfs_desk_ways.proofs.Ways.{way-here}
+
+pub unacted : {D : Type 0} (w : DiskWords D) → BooksShowTheirImages w → (f : Fixed D) (recorded : Built) (old : Parts D) → AreHeldWhole w f recorded old.ledger old.pages → IsUnacted w f old old
+unacted w show f recorded old held = record {
+  recorded = recorded;
+  are = held;
+  entries = refl;
+  way = way-here w f recorded (state_after f.opening old.ledger.books.history) [] old.ledger old.ledger _ show held.books refl;
+}
