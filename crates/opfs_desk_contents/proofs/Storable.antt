@@ -63,7 +63,7 @@ file-on l new e place reserve state is = subst (λ (s : StateSeen). StoresFile s
 
 -- ---- how it is told
 
-told-alike : (b : Text) (place : Place) (stamp n m : ℕ) (xs ys : List Extent) → told_as b (Content place.0 place.1 stamp n xs) ≡ told_as b (Content place.0 place.1 stamp m ys)
+pub told-alike : (b : Text) (place : Place) (stamp n m : ℕ) (xs ys : List Extent) → told_as b (Content place.0 place.1 stamp n xs) ≡ told_as b (Content place.0 place.1 stamp m ys)
 unfolding told_as
 told-alike b place stamp n m xs ys = refl
 

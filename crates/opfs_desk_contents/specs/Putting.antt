@@ -6,7 +6,7 @@ use Rattle.opfs_base.specs.Blocks.{blocks}
 use Rattle.opfs_book_laws.specs.Books.{Fixed}
 use Rattle.opfs_data.specs.Pages.{page_of}
 use Rattle.opfs_data.specs.Rows.{Rows, page_at}
-use Rattle.opfs_data.specs.Writes.{HasBytes}
+use Rattle.opfs_data.specs.Writes.{HasBytes, WriteList}
 use Rattle.opfs_machine.specs.declared.own.Outline.{Outline}
 use Rattle.opfs_machine.specs.Agents.{agent_of, own_of}
 use Rattle.opfs_machine.specs.Histories.{state_after}
@@ -16,7 +16,7 @@ use Rattle.opfs_pages.specs.Copies.{IsBegun}
 use Rattle.opfs_puts.specs.Puts.{IsReady as IsPutReady}
 use Rattle.opfs_puts.specs.declared.put.Put.{Put}
 use Rattle.opfs_replay.specs.Built.{Built}
-use Rattle.opfs_row_puts.specs.Plans.{AreGotten, HaveBlocks}
+use Rattle.opfs_row_puts.specs.Plans.{AreGotten, HaveBlocks, IsStagedFor}
 use Rattle.opfs_row_puts.specs.Rows.{Change, ArePlain, IsPutOf}
 use Rattle.opfs_steady.specs.Steady.{row_bytes}
 use Rattle.opfs_tree.specs.Rows.{Rows as Tree}
@@ -30,6 +30,10 @@ use Rattle.opfs_desk_parts.specs.declared.parts.Parts.{Parts}
 -- All of a row of so many bytes is to be stored.
 abbrev pub all_of : ℕ → Change
 all_of size = record { at = 0; given = []; size = size; whole = true }
+
+-- All pages of a row are staged, over parts as they are.
+abbrev pub IsStagedWhole : {D : Type 0} → DiskWords D → Parts D → ℕ → ℕ → WorkingCopy → WriteList → Type 0
+IsStagedWhole w p k n work writes = IsStagedFor w.tells work (w.content p.ledger.journal.disk) p.pages.base p.pages.swap k n 0 [] work.length true writes
 
 -- Pages of a row are ready to be put; they have their blocks, or wait for them.
 pub record IsReadyToPut {D : Type 0} (w : DiskWords D) (recorded : Tree) (l : Ledger D) (p : Pages) (agent row : ℕ) (put : Put) : Type 0 where

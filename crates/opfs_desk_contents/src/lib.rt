@@ -13,3 +13,4 @@ mod words;
 pub use laws::stored_contents_keep_blocks_right;
 pub use pages::store_pages;
 pub use planning::{Plan, plan_content};
+pub use words::{is_last, row_of};

@@ -5,13 +5,14 @@ ghost use Rattle.std.specs.Vec.{vec_capacity};
 ghost use Rattle.opfs_base.specs.Blocks.{blocks};
 ghost use Rattle.opfs_data.specs.Calls.{Reads};
 ghost use Rattle.opfs_data.specs.Rows.{row_of};
+ghost use Rattle.opfs_desk_contents.specs.Putting.{IsStagedWhole};
 ghost use Rattle.opfs_desk_laws.specs.Spaced.{AreSpaced};
 ghost use Rattle.opfs_desk_parts.specs.Seen.{machine_in, tree_in};
 ghost use Rattle.opfs_desk_rows.specs.Inside.{AreInside};
 ghost use Rattle.opfs_outside.specs.Faults.{Rose};
 ghost use Rattle.opfs_pages.specs.Stages.{IsReady};
 ghost use Rattle.opfs_puts.specs.Puts.{HasSamePages, IsReady as IsPutReady};
-ghost use Rattle.opfs_row_puts.specs.Plans.{shelf, IsStagedFor, AreGotten};
+ghost use Rattle.opfs_row_puts.specs.Plans.{shelf, AreGotten};
 ghost use Rattle.opfs_space.specs.Room.{Machine};
 ghost use Rattle.opfs_state.specs.Reading.{row_file};
 ghost use Rattle.opfs_tree.specs.Rows.{Rows as Tree};
@@ -79,7 +80,7 @@ pub fn plan_content<D: Disk>(
     ensures reads { Reads D.Disk parts.old.ledger.journal parts.new.ledger.journal }
     ensures pages { HasSamePages agent row parts.old.pages.swap parts.new.pages.swap }
     ensures spaced { (m : Machine) (recorded : Tree) → AreSpaced m (shelf recorded (tree_in parts.old.ledger) parts.old.pages.swap) parts.old.pages.space → AreSpaced m (shelf recorded (tree_in parts.old.ledger) parts.new.pages.swap) parts.new.pages.space }
-    ensures staged { IfOk result (λ plan. IsStagedFor D.tells work.now (D.content parts.old.ledger.journal.disk) parts.old.pages.base parts.old.pages.swap agent row 0 [] work.now.length true plan.put.writes) }
+    ensures staged { IfOk result (λ plan. IsStagedWhole D.Disk parts.old agent row work.now plan.put.writes) }
     ensures ready { IfOk result (λ plan. IsPutReady D.tells (D.content parts.new.ledger.journal.disk) parts.new.pages.base parts.new.pages.swap agent row (blocks work.now.length) plan.put.writes plan.put.moves (vec_capacity plan.put.extents)) }
     ensures count { IfOk result (λ plan. plan.put.pages ≡ blocks work.now.length) }
     ensures gotten { IfOk result (λ plan. (m : Machine) (recorded : Tree) → AreSpaced m (shelf recorded (tree_in parts.old.ledger) parts.old.pages.swap) parts.old.pages.space

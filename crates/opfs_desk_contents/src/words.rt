@@ -12,7 +12,7 @@ use opfs_machine::Place;
 use opfs_state::State;
 
 /// The row that such a call names.
-pub(crate) fn row_of(op: &Op) -> u32
+pub fn row_of(op: &Op) -> u32
     requires { is_storing op.now ≡ true }
     ensures { result ≡ row_named op.now }
 {
@@ -23,7 +23,7 @@ pub(crate) fn row_of(op: &Op) -> u32
 }
 
 /// Whether the row ends with it.
-pub(crate) fn is_last(op: &Op) -> bool
+pub fn is_last(op: &Op) -> bool
     ensures { result ≡ ends_row op.now }
 {
     match op {
