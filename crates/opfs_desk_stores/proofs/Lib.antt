@@ -1,1 +1,10 @@
-pub mod Unacted
+pub mod Words
+pub mod StoredRows
+pub mod Alone
+pub mod Changes
+pub mod Entered
+pub mod Asked
+pub mod Begun
+pub mod Planned
+pub mod Same
+pub mod More

@@ -1,6 +1,8 @@
-//! Calls that store a row's content: the close of a stream, and the flush and the close of an access handle.
+//! Calls that store a row's content: the close of a stream, and the flush and the close of an access handle that may write.
 #![tactic(auto)]
 
+mod leaving;
+mod pages;
 mod storing;
 
-pub use storing::{act_content, act_idle_flush};
+pub use storing::act_content;

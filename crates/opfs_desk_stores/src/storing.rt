@@ -3,22 +3,46 @@
 ghost use Rattle.std.specs.Prelude.{◌≡◌, [], true, IfOk, OnOk, OnErr};
 ghost use Rattle.opfs_acts.specs.Acting.{IsSameCopy};
 ghost use Rattle.opfs_book_laws.specs.Books.{Fixed};
-ghost use Rattle.opfs_desk_contents.specs.Words.{flushes_nothing, stores_row};
+ghost use Rattle.opfs_book_laws.specs.Commits.{StateLaws};
+ghost use Rattle.opfs_desk_contents.specs.Words.{stores_row};
 ghost use Rattle.opfs_desk_laws.specs.Handles.{AreHandlesWhole};
 ghost use Rattle.opfs_desk_parts.specs.Acted.{HasActed, IsUnacted};
 ghost use Rattle.opfs_desk_parts.specs.Asked.{IsAsked, MayGo};
 ghost use Rattle.opfs_desk_parts.specs.Held.{AreHeldWhole};
 ghost use Rattle.opfs_desk_parts.specs.Seen.{machine_in, call_in};
 ghost use Rattle.opfs_desk_reads.specs.Reading.{HaveWholeHandles};
+ghost use Rattle.opfs_desk_steps.specs.Ready.{AskedCallsAreReady};
+ghost use Rattle.opfs_laws.specs.GoingOn.{LegalHistoriesGoOn};
+ghost use Rattle.opfs_lengths.specs.Bridge.{LengthsFollowEachCall, LocalCallsAreKnownByTheirWord};
 ghost use Rattle.opfs_replay.specs.Built.{Built};
 
+use crate::pages::act_pages;
 use opfs_acts::Acted;
-use opfs_book_laws::the_books_show_their_images;
+use opfs_book_laws::state_laws;
+use opfs_desk_again::act_again;
 use opfs_desk_parts::{InHand, Parts};
+use opfs_desk_steps::asked_calls_are_ready;
 use opfs_hist::Pending;
+use opfs_laws::going_on::legal_histories_go_on;
+use opfs_lengths::bridge::{lengths_follow_each_call, local_calls_are_known_by_their_word};
 use opfs_outside::Disk;
 use opfs_work::Work;
 use std::alloc::AllocError;
+
+// What is known of the row that such a call names.
+fn going_laws<D: Disk>()
+    ensures asks { AskedCallsAreReady D.Disk }
+    ensures goes_on { LegalHistoriesGoOn }
+    ensures states { StateLaws }
+    ensures follow { LengthsFollowEachCall }
+    ensures local { LocalCallsAreKnownByTheirWord }
+{
+    asked_calls_are_ready::<D>();
+    legal_histories_go_on();
+    state_laws();
+    lengths_follow_each_call();
+    local_calls_are_known_by_their_word();
+}
 
 /// Acts a call that stores a row's content: the close of a stream, and the flush and the close of an access handle that may write.
 /// Where the disk fails, the entry tells so, and the row stays open with its bytes.
@@ -38,27 +62,12 @@ pub fn act_content<D: Disk>(
     ensures unacted { OnErr result ((pending.new ≡ pending.old) × IsSameCopy work.old work.new) }
     ensures idle { OnErr result ((f : Fixed D) (recorded : Built) → AreHeldWhole D.Disk f recorded parts.old.ledger parts.old.pages → IsUnacted D.Disk f parts.old parts.new) }
 {
-    the_books_show_their_images::<D>();
-    Err(AllocError)
+    going_laws::<D>();
+    if work.pages() > work.reserve() {
+        let acted = act_again(parts, call, pending, work)?;
+        return Ok(acted);
+    }
+    let acted = act_pages(parts, call, pending, work)?;
+    Ok(acted)
 }
 
-/// Acts the flush of a read-only access handle, which stores nothing.
-pub fn act_idle_flush<D: Disk>(
-    parts: &mut Parts<D>,
-    call: InHand,
-    pending: &mut Pending,
-    work: &mut Work,
-) -> Result<Acted, AllocError>
-    requires go { MayGo D.Disk parts.old call pending.old work.old [] }
-    requires whole { HaveWholeHandles D.Disk parts.old }
-    requires word { flushes_nothing (machine_in parts.old.ledger) call.agent call.op ≡ true }
-    ensures acted { IfOk result (λ acted. (f : Fixed D) (recorded : Built) → AreHeldWhole D.Disk f recorded parts.old.ledger parts.old.pages → AreHandlesWhole f.opening parts.old.ledger.books.history
-        → IsAsked D.tells f.opening parts.old.ledger.books.history pending.old parts.old.ledger.books.state call work.old []
-        → HasActed D.Disk f parts.old parts.new pending.old (call_in call) work.old work.new acted) }
-    ensures taken { OnOk result (pending.new ≡ []) }
-    ensures unacted { OnErr result ((pending.new ≡ pending.old) × IsSameCopy work.old work.new) }
-    ensures idle { OnErr result ((f : Fixed D) (recorded : Built) → AreHeldWhole D.Disk f recorded parts.old.ledger parts.old.pages → IsUnacted D.Disk f parts.old parts.new) }
-{
-    the_books_show_their_images::<D>();
-    Err(AllocError)
-}
