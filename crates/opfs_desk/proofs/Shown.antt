@@ -75,8 +75,8 @@ module _ {D : Type 0} (w : DiskWords D) (d : DeskSeen D) (recorded : Built) (are
         (record {
           place = if new.journal.in_doubt then new.books.place else None;
           shown = λ c since. subst (λ (more : List Change). IsShown d.fixed.opening (floor (changes d.fixed.opening new.books.history)) (changes d.fixed.opening new.books.history ++ more) c)
-          (doubt-by new.journal.in_doubt d.fixed.opening new.books.history new.books.place)
-          (law d.fixed done.after (state_after d.fixed.opening (entries_of d)) [] (book_in new) new.journal done.are t c since);
+              (doubt-by new.journal.in_doubt d.fixed.opening new.books.history new.books.place)
+              (law d.fixed done.after (state_after d.fixed.opening (entries_of d)) [] (book_in new) new.journal done.are t c since);
         }))
 
     pub keeps-sizes : KeepsSizes w d disk

@@ -42,7 +42,9 @@ use opfs_desk_laws::{
 };
 use opfs_desk_parts::{InHand, Parts};
 use opfs_desk_reads::fail_reading;
-use opfs_desk_rows::{copies_are_stored, files_are_stored, parts_lie_inside, rows_in_hand_are_laid};
+use opfs_desk_rows::{
+    copies_are_stored, files_are_stored, parts_lie_inside, rows_in_hand_are_laid,
+};
 use opfs_desk_steps::{
     CallParts, asked_calls_are_ready, call_parts, calls_are_acted, ready_calls_are_answered,
 };

@@ -70,4 +70,3 @@ pub fn act_content<D: Disk>(
     let acted = act_pages(parts, call, pending, work)?;
     Ok(acted)
 }
-

@@ -166,23 +166,25 @@ fail_reading-requires g c =
     let number = c.row_of-row.ensures in
     let there : is_some (row_of call.agent n p.swap) ≡ true = subst (λ (i : ℕ). is_some (row_of call.agent i p.swap) ≡ true) (sym number) (stored-copy w laws.follow laws.local go.fixed go.recorded l p calls call work begins agent c.requires.word c.copies_are_stored.ensures.copies).there in
     let freed : vec_capacity l.freed ≤ vec_capacity now.ledger.freed = omega (arith, ap (λ x. vec_capacity x) is.freed) in
-    record { may = record {
-      fixed = go.fixed;
-      recorded = go.recorded;
-      start = l;
-      before = p;
-      work = work;
-      past = [];
-      failed = record {
-        held = go.are;
-        are = read-parts w c.what_is_laid_goes_on.ensures.beside c.reading_laws.ensures.reads met.counted go.fixed go.recorded l now.ledger p now.pages call.agent n go.are is.books freed is.reads there is.pages is.base is.spaced;
-        books = is.books;
-        reads = is.reads;
-        asked = go.asked;
-        disk = on-disk (state_after go.fixed.opening (l.books.history ++ calls)) call.agent call.op (word-now w laws.follow laws.local go.fixed go.recorded l p calls call work begins agent c.requires.word);
-        rose = is.cause (λ i. Err (c.in-Err-DiskFault.field-0-is i));
+    record {
+      may = record {
+        fixed = go.fixed;
+        recorded = go.recorded;
+        start = l;
+        before = p;
+        work = work;
+        past = [];
+        failed = record {
+          held = go.are;
+          are = read-parts w c.what_is_laid_goes_on.ensures.beside c.reading_laws.ensures.reads met.counted go.fixed go.recorded l now.ledger p now.pages call.agent n go.are is.books freed is.reads there is.pages is.base is.spaced;
+          books = is.books;
+          reads = is.reads;
+          asked = go.asked;
+          disk = on-disk (state_after go.fixed.opening (l.books.history ++ calls)) call.agent call.op (word-now w laws.follow laws.local go.fixed go.recorded l p calls call work begins agent c.requires.word);
+          rose = is.cause (λ i. Err (c.in-Err-DiskFault.field-0-is i));
+        };
       };
-    } }
+    }
 
 pub returns-in-Ok-clause-acted : goal.returns-in-Ok-clause-acted
 returns-in-Ok-clause-acted g c f recorded held asked =
