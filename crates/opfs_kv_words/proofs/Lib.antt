@@ -4,4 +4,5 @@ pub mod Steps
 pub mod Fitted
 pub mod Indexed
 pub mod ByKey
+pub mod Growing
 pub mod Writing

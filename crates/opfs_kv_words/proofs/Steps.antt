@@ -71,10 +71,10 @@ cut-record key None tail enough = (None, refl, ap (λ (t : Text). front_of key N
 
 -- ---- one piece of reading after another
 
-log-append : (a b : List Record) → log_of (a ++ b) ≡ log_of a ++ log_of b
+pub log-append : (a b : List Record) → log_of (a ++ b) ≡ log_of a ++ log_of b
 log-append a b = flat_map-append spelled a b
 
-good-append : (a b : List Record) → AreGood a → AreGood b → AreGood (a ++ b)
+pub good-append : (a b : List Record) → AreGood a → AreGood b → AreGood (a ++ b)
 good-append [] b p q = q
 good-append (r ∷ a) b p q = (p.0, good-append a b p.1 q)
 

@@ -1,9 +1,9 @@
 -- The index of a key-value file: where each key's value is. This project's own.
-use Rattle.std.specs.Prelude.{ℕ, ◌+◌, ◌≤◌, List, [], ◌∷◌, length, map, sum_by, Option, Some, None}
+use Rattle.std.specs.Prelude.{◌≡◌, ℕ, ◌+◌, ◌≤◌, List, [], ◌∷◌, length, map, sum_by, Option, Some, None}
 use Rattle.std.specs.List.{AllByRecursion}
 use Rattle.opfs_base.specs.Texts.{Text}
 use Rattle.opfs_kv_words.specs.Maps.{Map, with_key, without_key}
-use Rattle.opfs_kv_words.specs.Records.{Record, IsKey, spelled}
+use Rattle.opfs_kv_words.specs.Records.{Record, IsKey, IsLog, spelled}
 use Rattle.opfs_kv_words.specs.declared.place.Place.{Place}
 use Rattle.opfs_splice.specs.Splicing.{window}
 
@@ -26,6 +26,12 @@ indexed at (r ∷ records) index = indexed (at + length (spelled r)) records (pl
 -- The map that an index reads out of bytes.
 abbrev pub read_out : Text → Places → Map
 read_out bytes index = map (λ e. (e.0, window bytes e.1.at e.1.len)) index
+
+-- Bytes are records, and the index has their keys and places.
+pub record IsIndexed (bytes : Text) (index : Places) : Type 0 where
+  pub records : List Record
+  pub log : IsLog bytes records
+  pub index_is : index ≡ indexed 0 records []
 
 -- How many bytes the records of an index take, and that each of them has a spelling.
 abbrev pub cost_of : Text × Place → ℕ

@@ -11,7 +11,7 @@ mod scanning;
 mod spell;
 
 pub use index::Index;
-pub use laws::{one_reading, the_index_reads_the_map, the_map_by_key};
+pub use laws::{a_file_grows, one_reading, the_index_reads_the_map, the_map_by_key};
 pub use miss::Miss;
 pub use packing::{Packed, pack};
 pub use place::Place;

@@ -105,6 +105,7 @@ pub fn scan(
     requires fitting { IsFitting at index.old }
     ensures next { IfOk result (λ next. (at ≤ next) × (next ≤ size) × IsFitting next index.new) }
     ensures far { IfOk result (λ next. next < size → at + length piece.now < next + 261) }
+    ensures ends { IfOk result (λ next. at + length piece.now ≡ size → next ≡ size) }
     ensures read { IfOk result (λ next. (whole : Text) → IsPiece whole size at piece.now → HasRead whole at index.old next index.new) }
     ensures bad { IfErr result (λ why. HasStopped size at piece.now index.old why) }
 {

@@ -1,0 +1,4 @@
+pub mod Entering
+pub mod Handled
+pub mod Told
+pub mod Used
