@@ -1,4 +1,0 @@
-pub mod Entering
-pub mod Handled
-pub mod Told
-pub mod Used
