@@ -1,4 +1,5 @@
 pub mod Commands
 pub mod Kinds
+pub mod Ran
 pub mod Sizes
 pub mod Telling

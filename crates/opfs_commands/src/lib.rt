@@ -1,5 +1,5 @@
 //! The commands on an image: they make one, tell what it holds, check it, bring it into the format of now, put its text out,
-//! and make one from such a text.
+//! make one from such a text, and run the agents of a script over one.
 #![tactic(auto)]
 
 mod answers;
@@ -9,9 +9,11 @@ mod hosts;
 mod loads;
 mod makers;
 mod running;
+mod runs;
 mod words;
 
 pub use answers::{ReadTool, ToolAnswer, ToolEnd};
 pub use loads::load_at;
 pub use running::run_command;
+pub use runs::run_at;
 pub use words::{Action, Command, read_command};

@@ -78,8 +78,8 @@ sized-takes key rest h fits good e =
     (record {
       rest = drop 4 rest;
       parts = ap (λ (t : Text). 1 ∷ (length key ∷ t))
-      (ap (λ (t : Text). key ++ t) (sym (take-append-drop 4 rest) ∙ ap (λ (t : Text). t ++ drop 4 rest) (sym back))
-      ∙ sym (append_assoc key (to_le_bytes w32 n) (drop 4 rest)));
+          (ap (λ (t : Text). key ++ t) (sym (take-append-drop 4 rest) ∙ ap (λ (t : Text). t ++ drop 4 rest) (sym back))
+          ∙ sym (append_assoc key (to_le_bytes w32 n) (drop 4 rest)));
       key = good;
       size = ltb-false _ _ few.0;
     })
@@ -91,9 +91,9 @@ kind-takes kind key rest h fits good e =
       | inl one ↦ subst (λ (k : ℕ). IsFront (k ∷ (length key ∷ (key ++ rest))) h) (sym (eqb-true kind 1 one.0)) (sized-takes key rest h fits good one.1)
       | inr other ↦ elim (chosen (eqb kind 2) (Some (key, None)) None (Some h) other.1) [
         | inl two ↦
-          subst (λ (k : ℕ). IsFront (k ∷ (length key ∷ (key ++ rest))) h) (sym (eqb-true kind 2 two.0))
-          (subst (IsFront (2 ∷ (length key ∷ (key ++ rest)))) (some-is (key, None) h two.1)
-          (record { rest = rest; parts = refl; key = good; size = tt }))
+            subst (λ (k : ℕ). IsFront (k ∷ (length key ∷ (key ++ rest))) h) (sym (eqb-true kind 2 two.0))
+            (subst (IsFront (2 ∷ (length key ∷ (key ++ rest)))) (some-is (key, None) h two.1)
+            (record { rest = rest; parts = refl; key = good; size = tt }))
         | inr none ↦ absurd (none-some h none.1)
       ]
     ]

@@ -47,9 +47,10 @@ same-option None (Some b) e is = absurd cc
 same-option None None e is = refl
 
 split-lists : (v w x y : Text) → length v ≡ length w → v ++ x ≡ w ++ y → (v ≡ w) × (x ≡ y)
-split-lists v w x y long is =
-    (sym (take_at v x (length w) long) ∙ ap (take (length w)) is ∙ take_at w y (length w) refl,
-     sym (drop_at v x (length w) long) ∙ ap (drop (length w)) is ∙ drop_at w y (length w) refl)
+split-lists v w x y long is = (
+  sym (take_at v x (length w) long) ∙ ap (take (length w)) is ∙ take_at w y (length w) refl,
+  sym (drop_at v x (length w) long) ∙ ap (drop (length w)) is ∙ drop_at w y (length w) refl,
+)
 
 same-head : (a b : Head) → a ≡ b → (a.0 ≡ b.0) × (a.1 ≡ b.1)
 same-head a b e = (ap (λ h. h.0) e, ap (λ h. h.1) e)

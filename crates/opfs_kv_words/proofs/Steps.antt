@@ -63,10 +63,12 @@ cut-record key (Some n) tail enough =
     let spelled-is : spelled_by key (Some value) ≡ front ++ value = front-by key (Some value) ∙ ap (λ (m : ℕ). front_of key (Some m) ++ value) is in
     let rest-is : drop (6 + length key + n) (front ++ tail) ≡ drop n tail =
     ap (λ (m : ℕ). drop (m + n) (front ++ tail)) (sym long) ∙ sym (drop-drop n (length front) (front ++ tail)) ∙ ap (drop n) (drop_at front tail (length front) refl)
-    in
-    (Some value, ap Some is,
-     ap (λ (t : Text). front ++ t) (sym (take-append-drop n tail)) ∙ sym (append_assoc front value (drop n tail))
-     ∙ (λ i. sym spelled-is i ++ sym rest-is i))
+    in (
+      Some value,
+      ap Some is,
+      ap (λ (t : Text). front ++ t) (sym (take-append-drop n tail)) ∙ sym (append_assoc front value (drop n tail))
+          ∙ (λ i. sym spelled-is i ++ sym rest-is i),
+    )
 cut-record key None tail enough = (None, refl, ap (λ (t : Text). front_of key None ++ t) (sym (drop_at (front_of key None) tail (2 + length key) (omega arith))))
 
 -- ---- one piece of reading after another
@@ -121,8 +123,8 @@ module _ (whole : Text) (size at : ℕ) (piece : Text) (is : IsPiece whole size 
       elim (cases_lt (length piece) 261) [
         | inl less ↦ elim (cases_eq (at + length piece) size) [
           | inl all ↦
-            let none : more ≡ [] = nil_from_length more (omega (arith, all, rest-long, length-drop (length piece) (drop at whole))) in
-            ap head_at (behind ∙ ap (λ (t : Text). piece ++ t) none ∙ append-nil piece) ∙ e
+              let none : more ≡ [] = nil_from_length more (omega (arith, all, rest-long, length-drop (length piece) (drop at whole))) in
+              ap head_at (behind ∙ ap (λ (t : Text). piece ++ t) none ∙ append-nil piece) ∙ e
           | inr not-all ↦ absurd (over (less, not-all))
         ]
         | inr long ↦ ap head_at behind ∙ head-same piece more fits long ∙ e

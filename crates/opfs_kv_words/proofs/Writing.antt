@@ -43,7 +43,7 @@ packed-next bytes all key place next made index made' index' p made-is index-is 
       good = p.good.1;
       short = omega (arith, p.short, sum_by-cons cost_of (key, place) next, long, less);
       fitting = subst (IsFitting (length made')) (sym index-is)
-      (fitting-with (length made) (length made') index key (record { at = length made + (6 + length key); len = length value }) p.fitting (p.good.0.0, omega (arith, less, small)) (omega (arith, long)));
+          (fitting-with (length made) (length made') index key (record { at = length made + (6 + length key); len = length value }) p.fitting (p.good.0.0, omega (arith, less, small)) (omega (arith, long)));
       bytes_are = ap (λ (t : Text). t ++ log_of (records_in bytes next)) made-is ∙ append_assoc made (spelled_by key (Some value)) (log_of (records_in bytes next)) ∙ p.bytes_are;
       index_is =
           (λ i. indexed ((long ∙ sym (ap (λ n. length made + n) (length-by key (Some value)))) i) (records_in bytes next) (index-is i))

@@ -26,13 +26,7 @@ fn size_of(key: usize, len: Option<u32>) -> u64
 }
 
 // Gives a key the place of its value in a record that begins here, or takes it out.
-fn note(
-    alloc: Global,
-    index: &mut Index,
-    key: &[u8],
-    len: Option<u32>,
-    at: u32,
-) -> Result<(), Miss>
+fn note(alloc: Global, index: &mut Index, key: &[u8], len: Option<u32>, at: u32) -> Result<(), Miss>
     requires small { at ≤ 16777216 }
     requires key { length key.now ≤ 255 }
     ensures placed { OnOk result (index.new ≡ put_in at index.old key.now len) }
@@ -61,13 +55,7 @@ fn may_be_short(len: usize, at: u32, size: u32) -> bool
 
 // Reads the record that begins the rest of a piece at a place of a file of so many bytes, and gives the place behind it; the same
 // place where the record's front is not whole in the piece.
-fn step(
-    alloc: Global,
-    index: &mut Index,
-    rest: &[u8],
-    at: u32,
-    size: u32,
-) -> Result<u32, Miss>
+fn step(alloc: Global, index: &mut Index, rest: &[u8], at: u32, size: u32) -> Result<u32, Miss>
     requires small { size ≤ 16777216 }
     requires inside { at + length rest.now ≤ size }
     requires some { 0 < length rest.now }
@@ -93,13 +81,7 @@ fn step(
 
 /// Reads a piece of a file of so many bytes, from a place on where a record begins, and gives the place up to which all was
 /// read. Values that end behind the piece are passed over. No value is kept.
-pub fn scan(
-    alloc: Global,
-    index: &mut Index,
-    piece: &[u8],
-    at: u32,
-    size: u32,
-) -> Result<u32, Miss>
+pub fn scan(alloc: Global, index: &mut Index, piece: &[u8], at: u32, size: u32) -> Result<u32, Miss>
     requires small { size ≤ 16777216 }
     requires inside { at + length piece.now ≤ size }
     requires fitting { IsFitting at index.old }

@@ -27,6 +27,6 @@ loop-next-preserved c =
       within = next.1;
       fitting = next.2;
       read = λ whole is.
-        read-then whole c.args.at c.args.index.now c.loop-next.next c.loop-next.index c.in-Ok.behind c.step.new.index (c.loop-next.invariant.read whole is)
-        (c.in-Ok.ensures.read whole (rest-piece whole c.args.size c.args.at c.loop-next.next c.args.piece.now c.loop-next.invariant.from inside is));
+          read-then whole c.args.at c.args.index.now c.loop-next.next c.loop-next.index c.in-Ok.behind c.step.new.index (c.loop-next.invariant.read whole is)
+          (c.in-Ok.ensures.read whole (rest-piece whole c.args.size c.args.at c.loop-next.next c.args.piece.now c.loop-next.invariant.from inside is));
     }

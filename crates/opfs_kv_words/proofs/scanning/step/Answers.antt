@@ -13,7 +13,7 @@ returns-in_default-clause-bad c whole is =
     fails-none whole c.args.size c.args.at c.args.rest.now is c.requires.inside c.args.index.now (λ i. omega (arith, c.type_inv.rest i)) none c.requires.some (λ short. true≢false (sym (c.may_be_short.ensures.1 short) ∙ c.if-may_be_short.false))
 
 pub size_of-taken-requires : goal.size_of-taken-requires
-size_of-taken-requires c = 
+size_of-taken-requires c =
     let there : head_at c.args.rest.now ≡ Some (c.in-Some.field-0.key.now, c.in-Some.field-0.len) = sym c.in-Some.ensures in
     omega (arith, (front-facts c.args.rest.now (c.in-Some.field-0.key.now, c.in-Some.field-0.len) (λ i. omega (arith, c.type_inv.rest i)) there).key.1)
 

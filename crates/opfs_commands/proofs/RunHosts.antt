@@ -1,0 +1,287 @@
+-- A run over a disk that was fetched and given back.
+use Rattle.std.proofs.Common.{◌≡◌, ◌≢◌, ◌⊎◌, ◌↔◌, ℕ, ◌+◌, ◌-◌, ◌^◌, ◌<◌, ◌≤◌, Bool, true, false, List, [], ◌++◌, inl, inr, refl, sym, ap, ◌∙◌, subst, arith}
+use Rattle.std.specs.Prelude.{Option, Some, Result, Ok, Err, IsOk, IsErr, OnOk, OnErr}
+use Rattle.std.specs.declared.alloc.AllocError.{AllocError}
+use Rattle.opfs_base.specs.Texts.{Text}
+use Rattle.opfs_desk_runs.specs.Runs.{IsFront, IsHistoryOf, IsImageOf, IsLeft, IsRunOn, opening_in}
+use Rattle.opfs_desk_runs.proofs.Sized.{stood-for}
+use Rattle.opfs_desk_runs.specs.declared.running.Completion.{Completion}
+use Rattle.opfs_hist.specs.Faults.{disk_faults}
+use Rattle.opfs_hist.specs.declared.entry.Entry.{Entry}
+use Rattle.opfs_journal.specs.Walking.{OnlyRead}
+use Rattle.opfs_journal.specs.declared.refusal.DiskFault.{DiskFault}
+use Rattle.opfs_machine.specs.Changes.{changes, durable}
+use Rattle.opfs_machine.specs.Openings.{Opening}
+use Rattle.opfs_outside.specs.Faults.{Rose, RoseBy}
+use Rattle.opfs_outside.specs.Turns.{of_host, GivenBack, HostFailed, HostServed, HostTurn, ImageStays, OthersAsBefore}
+use Rattle.opfs_outside.specs.declared.disk.Disk.{Ghosts as DiskWords}
+use Rattle.opfs_outside.specs.declared.host.Host.{Ghosts as HostWords}
+use Rattle.opfs_print.specs.Lines.{text_of}
+use Rattle.opfs_print.specs.Status.{status_text}
+use Rattle.opfs_print.specs.declared.end.End.TheVariants as end
+use Rattle.opfs_script.specs.Scripts.{Asked}
+use Rattle.opfs_commands.specs.Kinds.{NoneFailed}
+use Rattle.opfs_commands.specs.Ran.{HasImage, HasNotRun, HasRunOn, HasRunShort, IsAnswerOf, IsFaultBehind, IsFaultOf, IsGivenOr, IsNoRun, IsNotRun, IsRunAt, IsRunDone, IsRunFailed, IsRunFault, IsRunRefused, IsRunShort, LeavesFronts, RanAt, RanOn, RanTo}
+use Rattle.opfs_commands.specs.declared.answers.ToolAnswer.{ToolAnswer}
+use Rattle.opfs_commands.specs.declared.answers.ToolEnd.{ToolEnd}
+use Rattle.opfs_commands.specs.declared.answers.ToolEnd.TheVariants as tool_end
+use Rattle.opfs_commands.specs.declared.runs.RunEnd.{RunEnd}
+use Rattle.opfs_commands.specs.declared.runs.RunEnd.TheVariants as run_end
+use Rattle.opfs_commands.proofs.Hosting.{host_rose, one_since, only_read, others_stay, rose_later}
+
+-- ---- counts
+
+by_less : (n k old new : ℕ) → RoseBy (n + k) old new → RoseBy n old new
+by_less n k old new (inl h) = inl (omega (arith, h))
+by_less n k old new (inr h) = inr h
+
+by_rose : (n old new : ℕ) → RoseBy (n + 1) old new → Rose old new
+by_rose n old new (inl h) = inl (omega (arith, h))
+by_rose n old new (inr h) = inr h
+
+by_part : (n a b old new : ℕ) → a < b → RoseBy (n + (b - a)) old new → RoseBy (n + 1) old new
+by_part n a b old new less (inl h) = inl (omega (arith, less, h))
+by_part n a b old new less (inr h) = inr h
+
+-- the faults of a disk are counted among those of its host
+on-host : (n f0 f1 k old mid new : ℕ) → f0 ≡ 0 → (old ≤ mid) ⊎ (mid ≡ 2 ^ 64 - 1) → new ≤ 2 ^ 64 - 1 → RoseBy n f0 f1 → RoseBy (f1 + k) mid new → RoseBy (n + k) old new
+on-host n f0 f1 k old mid new fresh first most disk (inr full) = inr full
+on-host n f0 f1 k old mid new fresh first most (inr top) (inl more) = inr (omega (arith, top, more, most))
+on-host n f0 f1 k old mid new fresh (inr full) most (inl disk) (inl more) = inr (omega (arith, full, more, most))
+on-host n f0 f1 k old mid new fresh (inl le) most (inl disk) (inl more) = inl (omega (arith, fresh, le, disk, more))
+
+-- what is so of a result by its end
+ok-of : {A E P : Type 0} (r : Result A E) → IsOk r → OnOk r P → P
+ok-of (Ok a) ok is = is
+ok-of (Err e) ok is = let never : false ≡ true = ok in absurd (cc never)
+
+err-of : {A E P : Type 0} (r : Result A E) → IsErr r → OnErr r P → P
+err-of (Ok a) err is = let never : false ≡ true = err in absurd (cc never)
+err-of (Err e) err is = is
+
+unless-err : {A E P Q : Type 0} (r : Result A E) → OnOk r P → OnErr r Q → (Q → ⊥) → P
+unless-err (Ok a) ok err never = ok
+unless-err (Err e) ok err never = absurd (never err)
+
+-- where a host tells, its disks do
+told-less : (tells dtells : Type 0) (to : tells → dtells) (whole : Bool) (o : Opening) (script : List Asked) (h : List Entry) → IsHistoryOf dtells whole o script h → IsHistoryOf tells whole o script h
+told-less tells dtells to whole o script h is = record {
+  cut = is.cut;
+  runs = is.runs;
+  agents = is.agents;
+  apart = record { told = record { real = is.apart.told.real; legal = is.apart.told.legal; alike = is.apart.told.alike; told = λ t. is.apart.told.told (to t) }; alone = is.apart.alone };
+  legal = λ t. is.legal (to t);
+  alone = λ t. is.alone (to t);
+}
+
+-- A disk that was fetched and given back, with what the host's calls say.
+pub record IsFetched {H D : Type 0} (h : HostWords H D) (w : DiskWords D) (path : Text) (old mid : H) (disk : D) : Type 0 where
+  pub to_disk : h.tells → w.tells
+  pub crashes : h.tells → w.crashes
+  pub counted : (x : H) → h.faults x ≤ 2 ^ 64 - 1
+  pub disk_counted : (d : D) → w.faults d ≤ 2 ^ 64 - 1
+  pub fresh : w.faults disk ≡ 0
+  pub first : w.moment disk ≡ 0
+  pub one : w.tells → (c : Text) → w.since disk 0 c → c ≡ w.content disk
+  pub there : h.tells → h.image mid path ≡ Some (w.content disk)
+  pub images : h.tells → (p : Text) → h.image mid p ≡ h.image old p
+  pub trails : h.tells → (p c : Text) → h.trail mid p c ↔ h.trail old p c
+  pub own : h.own_faults old ≤ h.own_faults mid
+  pub later : (h.faults old ≤ h.faults mid) ⊎ (h.faults mid ≡ 2 ^ 64 - 1)
+
+module _ {H D : Type 0} (h : HostWords H D) (w : DiskWords D) (path : Text) (script : List Asked) (old mid new : H) (first now : D) (fetched : IsFetched h w path old mid first)
+    (later : RoseBy (w.faults now + (h.own_faults new - h.own_faults mid)) (h.faults mid) (h.faults new)) where
+  abbrev turn : HostTurn
+  turn = of_host h old new
+
+  abbrev Given : Type 0
+  Given = h.tells → GivenBack (of_host h mid new) path (w.content now) (w.since now 0)
+
+  disk-rose : Rose (w.faults first) (w.faults now) → Rose (h.faults old) (h.faults new)
+  disk-rose rose = elim (host_rose ⊥ (h.faults old) (h.faults mid) (h.faults new) (w.faults first) (w.faults now) fetched.fresh fetched.later (by_less (w.faults now) (h.own_faults new - h.own_faults mid) (h.faults mid) (h.faults new) later)
+      (fetched.counted mid) (fetched.counted new) (fetched.disk_counted now) rose) [
+        | inl never ↦ absurd never
+        | inr is ↦ is
+      ]
+
+  counted-on : (n : ℕ) → RoseBy n (w.faults first) (w.faults now) → RoseBy (n + (h.own_faults new - h.own_faults mid)) (h.faults old) (h.faults new)
+  counted-on n disk = on-host n (w.faults first) (w.faults now) (h.own_faults new - h.own_faults mid) (h.faults old) (h.faults mid) (h.faults new) fetched.fresh fetched.later (fetched.counted new) disk later
+
+  counted-all : (n : ℕ) → RoseBy n (w.faults first) (w.faults now) → RoseBy n (h.faults old) (h.faults new)
+  counted-all n disk = by_less n (h.own_faults new - h.own_faults mid) (h.faults old) (h.faults new) (counted-on n disk)
+
+  own-rose : Rose (h.own_faults mid) (h.own_faults new) → Rose (h.own_faults old) (h.own_faults new)
+  own-rose rose = rose_later (h.own_faults old) (h.own_faults mid) (h.own_faults new) fetched.own rose
+
+  served : HostServed turn → HostServed (of_host h mid new)
+  served quiet rose = quiet (own-rose rose)
+
+  -- ---- the disk was only read
+
+  module _ (only : OnlyRead w first now) (back : h.tells → HostServed (of_host h mid new) → GivenBack (of_host h mid new) path (w.content now) (w.since now 0)) where
+    stays-by : h.tells → GivenBack (of_host h mid new) path (w.content now) (w.since now 0) → ImageStays turn path
+    stays-by t given =
+        let read = only.told (fetched.to_disk t) in
+        only_read h old mid new path (w.content first) (w.content now) (w.since now 0) (fetched.images t) (fetched.trails t) (fetched.there t) read.same
+        (one_since (w.content first) (w.moment first) (w.since first) (w.since now) fetched.first (fetched.one (fetched.to_disk t)) read.moments) given
+
+    not-run : IsNotRun turn path
+    not-run t quiet = stays-by t (back t (served quiet))
+
+  -- ---- the agents ran
+
+  module _ (run : Completion D) (same : run.disk ≡ now) (on : IsRunOn w script first run) where
+    abbrev o : Opening
+    o = opening_in on.geometry on.before script
+
+    image-now : (P : Text → Type 0) → P (w.content run.disk) → P (w.content now)
+    image-now P is = subst (λ (d : D). P (w.content d)) same is
+
+    disk-now : (P : D → Type 0) → P run.disk → P now
+    disk-now P is = subst P same is
+
+    -- what the image stood for is the first front
+    first-front : h.tells → (c : Text) → w.since first 0 c → IsFront o run.history c
+    first-front t c left =
+        subst (λ (x : Text). IsFront o run.history x) (sym (fetched.one (fetched.to_disk t) c left))
+        (record { shown = []; rest = changes o run.history; split = refl; enough = omega arith; stands = stood-for on.geometry on.before (w.content first) (on.stood (fetched.to_disk t)) })
+
+    module _ (Back : Type 0) (given : h.tells → Back → GivenBack (of_host h mid new) path (w.content now) (w.since now 0)) where
+      stands-by : h.tells → Back → IsImageOf on.geometry (durable o (changes o run.history)) (w.content run.disk) → HasImage on.geometry (durable o (changes o run.history)) (h.image new path)
+      stands-by t back is = (w.content now, (given t back).image, image-now (IsImageOf on.geometry (durable o (changes o run.history))) is)
+
+      stops-by : h.tells → Back → (Rose (h.faults old) (h.faults new) → ⊥) → LeavesFronts turn path o run.history
+      stops-by t back never =
+          let left = on.over.stops (fetched.to_disk t) (λ rose. never (disk-rose (disk-now (λ (d : D). Rose (w.faults first) (w.faults d)) rose))) in
+          let g = given t back in
+          record {
+            fronts = λ c trail. elim ((g.trail c).0 trail) [
+              | inl was ↦ inl ((fetched.trails t path c).0 was)
+              | inr since ↦ elim (left.fronts 0 c (omega arith) (subst (λ (d : D). w.since d 0 c) (sym same) since)) [
+                | inl at ↦ inr (first-front t c at)
+                | inr front ↦ inr front
+              ]
+            ];
+            stores = λ n content.
+                let s = left.stores (fetched.crashes t) n content 0 (omega arith) in
+                (s.0, (g.trail s.0).1 (inr (disk-now (λ (d : D). w.since d 0 s.0) s.1)), s.2);
+          }
+
+      run-at : (whole : Bool) → run.whole ≡ whole → IsRunAt turn path Back whole script run.history
+      run-at whole is = record {
+        geometry = on.geometry;
+        before = on.before;
+        stood = λ t. (w.content first, sym (fetched.images t path) ∙ fetched.there t, on.stood (fetched.to_disk t));
+        is = told-less h.tells w.tells fetched.to_disk whole o script run.history (subst (λ (b : Bool). IsHistoryOf w.tells b o script run.history) is on.over.history);
+        left = λ t back. (w.content now, (given t back).image, image-now (λ c. IsLeft o run.history c) (on.over.left (fetched.to_disk t) (fetched.crashes t)));
+        stands = λ t back never.
+            stands-by t back
+            (unless-err run.done on.over.stands on.over.failed
+            (λ failed. never (by_rose (disk_faults run.history) (h.faults old) (h.faults new) (counted-all (disk_faults run.history + 1) (disk-now (λ (d : D). RoseBy (disk_faults run.history + 1) (w.faults first) (w.faults d)) failed)))) (fetched.to_disk t));
+        stops = stops-by;
+        faults = counted-all (disk_faults run.history) (disk-now (λ (d : D). RoseBy (disk_faults run.history) (w.faults first) (w.faults d)) on.over.faults);
+      }
+
+    -- where the end went well, and the disk was given back
+    run-done : (text answered : Text) → Given → run.whole ≡ true → IsOk run.done → text ≡ text_of run.history → answered ≡ text → IsRunDone turn path script answered
+    unfolding run-at
+    run-done text answered given whole ok printed is = record {
+      history = run.history;
+      at = run-at (Unit {0}) (λ t x. given t) true whole;
+      printed = is ∙ printed;
+      stands = λ t. stands-by (Unit {0}) (λ t2 y. given t2) t tt (ok-of run.done ok on.over.stands (fetched.to_disk t));
+    }
+
+    -- where it did not
+    run-failed : (text answered : Text) → (h.tells → HostServed (of_host h mid new) → GivenBack (of_host h mid new) path (w.content now) (w.since now 0)) → run.whole ≡ true → text ≡ text_of run.history → answered ≡ text ++ status_text end.Host
+        → HostFailed turn → RoseBy (disk_faults run.history + 1) turn.faults turn.faults_after ⊎ (turn.own_after ≡ 2 ^ 64 - 1) → IsRunFailed turn path script answered
+    run-failed text answered back whole printed is failed counted = record {
+      history = run.history;
+      at = run-at (HostServed turn) (λ t quiet. back t (served quiet)) true whole;
+      printed = is ∙ ap (λ (x : Text). x ++ status_text end.Host) printed;
+      failed = failed;
+      counted = counted;
+    }
+
+    run-short : (h.tells → HostServed (of_host h mid new) → GivenBack (of_host h mid new) path (w.content now) (w.since now 0)) → IsRunShort turn path script
+    run-short back = inr (run.whole, run.history, run-at (HostServed turn) (λ t quiet. back t (served quiet)) run.whole refl)
+
+    -- the fault of the end, and one of the host at giving back
+    end-fault : IsErr run.done → HostFailed turn × (RoseBy (disk_faults run.history + 1) turn.faults turn.faults_after ⊎ (turn.own_after ≡ 2 ^ 64 - 1))
+    end-fault err =
+        let counted = counted-all (disk_faults run.history + 1) (disk-now (λ (d : D). RoseBy (disk_faults run.history + 1) (w.faults first) (w.faults d)) (err-of run.done err on.over.failed)) in
+        (inr (by_rose (disk_faults run.history) (h.faults old) (h.faults new) counted), inl counted)
+
+    back-fault : Rose (h.own_faults mid) (h.own_faults new) → HostFailed turn × (RoseBy (disk_faults run.history + 1) turn.faults turn.faults_after ⊎ (turn.own_after ≡ 2 ^ 64 - 1))
+    back-fault rose = (
+      inl (own-rose rose),
+      elim rose [
+        | inl less ↦ inl (by_part (disk_faults run.history) (h.own_faults mid) (h.own_faults new) (h.faults old) (h.faults new) less
+            (counted-on (disk_faults run.history) (disk-now (λ (d : D). RoseBy (disk_faults run.history) (w.faults first) (w.faults d)) on.over.faults)))
+        | inr full ↦ inr full
+      ],
+    )
+
+  -- ---- the answer, by how the run ended
+
+  module _ (back : h.tells → HostServed (of_host h mid new) → GivenBack (of_host h mid new) path (w.content now) (w.since now 0)) where
+    abbrev Fault : Type 0
+    Fault = Rose (h.own_faults mid) (h.own_faults new)
+
+    -- no memory was found
+    short : (e : Result RunEnd AllocError) → RanOn w script first now e → IsRunShort turn path script
+    short (Ok (run_end.Done text)) is = run-short is.run is.same is.on back
+    short (Ok (run_end.Failed text)) is = run-short is.run is.same is.on back
+    short (Ok (run_end.Before a)) is = inl (not-run is.only back)
+    short (Err e) is = elim is [ inl only ↦ inl (not-run only back) | inr ran ↦ run-short ran.run ran.same ran.on back ]
+
+    failed-answer : (front : Text) (a : ToolAnswer) → IsFaultBehind front a → IsRunFailed turn path script a.text → RanTo turn path script a.end a.text
+    failed-answer front a is failed = subst (λ (e : ToolEnd). RanTo turn path script e a.text) (sym is.host) (inr failed)
+
+    no-run : (given : Given) (only : OnlyRead w first now) (e : ToolEnd) (text : Text) → IsNoRun w first now e text → RanTo turn path script e text
+    no-run given only tool_end.Done text is = absurd is
+    no-run given only tool_end.Image text is = record {
+      refused = λ t. record { image = w.content first; there = sym (fetched.images t path) ∙ fetched.there t; kind = is (fetched.to_disk t) };
+      stays = λ t. stays-by only back t (given t);
+    }
+    no-run given only tool_end.Host text is = inl (record { not = not-run only back; failed = inr (disk-rose is.0); line = is.1 })
+    no-run given only tool_end.Sink text is = absurd is
+
+    answered : (e : RunEnd) (a : ToolAnswer) → RanOn w script first now (Ok e) → (Given × IsAnswerOf e a) ⊎ (Fault × IsFaultOf e a) → RanTo turn path script a.end a.text
+    answered (run_end.Done text) a is (inl how) =
+        subst (λ (e : ToolEnd). RanTo turn path script e a.text) (sym how.1.0) (run-done is.run is.same is.on text a.text how.0 is.whole is.ended is.printed how.1.1)
+    answered (run_end.Done text) a is (inr how) =
+        let fault = back-fault is.run is.same is.on how.0 in
+        failed-answer text a how.1 (run-failed is.run is.same is.on text a.text back is.whole is.printed how.1.line fault.0 fault.1)
+    answered (run_end.Failed text) a is (inl how) =
+        let fault = end-fault is.run is.same is.on is.ended in
+        failed-answer text a how.1 (run-failed is.run is.same is.on text a.text back is.whole is.printed how.1.line fault.0 fault.1)
+    answered (run_end.Failed text) a is (inr how) =
+        let fault = end-fault is.run is.same is.on is.ended in
+        failed-answer text a how.1 (run-failed is.run is.same is.on text a.text back is.whole is.printed how.1.line fault.0 fault.1)
+    answered (run_end.Before b) a is (inl how) =
+        subst (λ (x : ToolAnswer). RanTo turn path script x.end x.text) (sym how.1) (no-run how.0 is.only b.end b.text is.answer)
+    answered (run_end.Before b) a is (inr how) =
+        subst (λ (e : ToolEnd). RanTo turn path script e a.text) (sym how.1.0) (inl (record { not = not-run is.only back; failed = inl (own-rose how.0); line = how.1.1 }))
+
+    pub ran-at : (e : Result RunEnd AllocError) (r : Result ToolAnswer AllocError) → RanOn w script first now e → IsGivenOr Given Fault e r → RanAt turn path script r
+    ran-at (Ok e) (Ok a) is how = answered e a is how
+    ran-at (Err e) (Ok a) is how = absurd how
+    ran-at e (Err x) is how = short e is
+
+    fault-host : (e : RunEnd) (a : ToolAnswer) → IsFaultOf e a → a.end ≡ tool_end.Host
+    fault-host (run_end.Done text) a is = is.host
+    fault-host (run_end.Failed text) a is = is.host
+    fault-host (run_end.Before b) a is = is.0
+
+    given-by : (e : Result RunEnd AllocError) (a : ToolAnswer) → a.end ≢ tool_end.Host → IsGivenOr Given Fault e (Ok a) → Given
+    given-by (Ok e) a other how = elim how [ inl is ↦ is.0 | inr fault ↦ absurd (other (fault-host e a fault.1)) ]
+    given-by (Err e) a other how = absurd how
+
+    pub others-at : (e : Result RunEnd AllocError) (r : Result ToolAnswer AllocError) → IsGivenOr Given Fault e r → h.tells → NoneFailed turn r → OthersAsBefore turn path
+    others-at e r how t none =
+        let given : GivenBack (of_host h mid new) path (w.content now) (w.since now 0) = elim none [
+          | inl quiet ↦ back t (served quiet)
+          | inr is ↦ given-by e is.0 is.2 (subst (λ (x : Result ToolAnswer AllocError). IsGivenOr Given Fault e x) is.1 how) t
+        ] in
+        others_stay h old mid new path (λ p other. record { image = fetched.images t p; trail = fetched.trails t p }) given.others

@@ -1,0 +1,184 @@
+-- A run of a script's agents over the image at a path of a host, and how it ended. This project's own.
+use Rattle.std.specs.Prelude.{◌≡◌, ◌≢◌, ◌⊎◌, ℕ, ◌+◌, ◌-◌, ◌^◌, Bool, true, List, ◌++◌, Option, Some, Result, Ok, Err, IsOk, IsErr}
+use Rattle.std.specs.declared.alloc.AllocError.{AllocError}
+use Rattle.opfs_base.specs.Texts.{Text}
+use Rattle.opfs_commit.specs.Trail.{IsContentAt}
+use Rattle.opfs_desk_runs.specs.Runs.{IsFront, IsHistoryOf, IsImageOf, IsLeft, IsRunOn, opening_in, stored_after}
+use Rattle.opfs_desk_runs.specs.declared.running.Completion.{Completion}
+use Rattle.opfs_hist.specs.Faults.{disk_faults}
+use Rattle.opfs_hist.specs.declared.entry.Entry.{Entry}
+use Rattle.opfs_image.specs.Filling.{Stands}
+use Rattle.opfs_image.specs.declared.geometry.Geometry.{Geometry}
+use Rattle.opfs_image.specs.declared.refusal.ImageRefusal.{ImageRefusal}
+use Rattle.opfs_image.specs.declared.refusal.ImageRefusal.TheVariants as image
+use Rattle.opfs_journal.specs.Walking.{OnlyRead}
+use Rattle.opfs_journal.specs.declared.refusal.DiskFault.{DiskFault}
+use Rattle.opfs_machine.specs.Changes.{changes, durable}
+use Rattle.opfs_machine.specs.Openings.{Map, Opening}
+use Rattle.opfs_outside.specs.Faults.{Rose, RoseBy}
+use Rattle.opfs_outside.specs.Turns.{HostFailed, HostServed, HostTurn, ImageStays}
+use Rattle.opfs_outside.specs.declared.disk.Disk.{Ghosts as DiskWords}
+use Rattle.opfs_print.specs.Lines.{text_of}
+use Rattle.opfs_print.specs.Status.{status_text}
+use Rattle.opfs_print.specs.declared.end.End.TheVariants as end
+use Rattle.opfs_script.specs.Scripts.{Asked}
+use Rattle.opfs_commands.specs.Telling.{IsLineOf, IsOfImage, IsRefusedLine}
+use Rattle.opfs_commands.specs.declared.answers.ToolAnswer.{ToolAnswer}
+use Rattle.opfs_commands.specs.declared.answers.ToolEnd.{ToolEnd}
+use Rattle.opfs_commands.specs.declared.answers.ToolEnd.TheVariants as tool_end
+use Rattle.opfs_commands.specs.declared.runs.RunEnd.{RunEnd}
+use Rattle.opfs_commands.specs.declared.runs.RunEnd.TheVariants as run_end
+
+-- ---- on a disk
+
+-- The agents ran over a disk that was so, which is now so; the end went like this, and the text is the transcript.
+pub record HasRunOn {D : Type 0} (w : DiskWords D) (script : List Asked) (old new : D) (End : Result (Unit {0}) DiskFault → Type 0) (text : Text) : Type 0 where
+  pub run : Completion D
+  pub same : run.disk ≡ new
+  pub on : IsRunOn w script old run
+  pub whole : run.whole ≡ true
+  pub ended : End run.done
+  pub printed : text ≡ text_of run.history
+
+-- The agents ran, but there was no memory for all that they asked, or for the transcript.
+pub record HasRunShort {D : Type 0} (w : DiskWords D) (script : List Asked) (old new : D) : Type 0 where
+  pub run : Completion D
+  pub same : run.disk ≡ new
+  pub on : IsRunOn w script old run
+
+-- What is put out where they did not run: why the image is refused, or that the disk failed.
+abbrev pub IsNoRun : {D : Type 0} → DiskWords D → D → D → ToolEnd → Text → Type 0
+IsNoRun w old new tool_end.Image text = w.tells → IsRefusedLine (w.content old) text
+IsNoRun w old new tool_end.Host text = Rose (w.faults old) (w.faults new) × (text ≡ status_text end.Host)
+IsNoRun w old new ended text = ⊥
+
+pub record HasNotRun {D : Type 0} (w : DiskWords D) (old new : D) (a : ToolAnswer) : Type 0 where
+  pub only : OnlyRead w old new
+  pub answer : IsNoRun w old new a.end a.text
+
+abbrev pub RanOn : {D : Type 0} → DiskWords D → List Asked → D → D → Result RunEnd AllocError → Type 0
+RanOn w script old new (Ok (run_end.Done text)) = HasRunOn w script old new (λ done. IsOk done) text
+RanOn w script old new (Ok (run_end.Failed text)) = HasRunOn w script old new (λ done. IsErr done) text
+RanOn w script old new (Ok (run_end.Before a)) = HasNotRun w old new a
+RanOn w script old new (Err e) = OnlyRead w old new ⊎ HasRunShort w script old new
+
+-- How the end of a run is put into words.
+abbrev pub IsEndOf : Bool → Result (Unit {0}) DiskFault → List Entry → RunEnd → Type 0
+IsEndOf whole done history (run_end.Done text) = (whole ≡ true) × IsOk done × (text ≡ text_of history)
+IsEndOf whole done history (run_end.Failed text) = (whole ≡ true) × IsErr done × (text ≡ text_of history)
+IsEndOf whole done history (run_end.Before a) = ⊥
+
+-- The answer where an image is refused, or the disk failed; there is none for want of memory.
+pub record IsRefusalAnswer (refusal : ImageRefusal) (a : ToolAnswer) : Type 0 where
+  pub fault : refusal ≡ image.DiskFault → (a.end ≡ tool_end.Host) × (a.text ≡ status_text end.Host)
+  pub memory : refusal ≢ image.NoMemory
+  pub refused : refusal ≢ image.DiskFault → (a.end ≡ tool_end.Image) × IsLineOf refusal a.text
+
+abbrev pub IsRefusedEnd : ImageRefusal → RunEnd → Type 0
+IsRefusedEnd refusal (run_end.Before a) = IsRefusalAnswer refusal a
+IsRefusedEnd refusal e = ⊥
+
+-- The line of a host's fault stands behind a front.
+pub record IsFaultBehind (front : Text) (a : ToolAnswer) : Type 0 where
+  pub host : a.end ≡ tool_end.Host
+  pub line : a.text ≡ front ++ status_text end.Host
+
+-- The answer where the disk was given back.
+abbrev pub IsAnswerOf : RunEnd → ToolAnswer → Type 0
+IsAnswerOf (run_end.Done text) a = (a.end ≡ tool_end.Done) × (a.text ≡ text)
+IsAnswerOf (run_end.Failed text) a = IsFaultBehind text a
+IsAnswerOf (run_end.Before b) a = a ≡ b
+
+-- The answer where it was not.
+abbrev pub IsFaultOf : RunEnd → ToolAnswer → Type 0
+IsFaultOf (run_end.Done text) a = IsFaultBehind text a
+IsFaultOf (run_end.Failed text) a = IsFaultBehind text a
+IsFaultOf (run_end.Before b) a = (a.end ≡ tool_end.Host) × (a.text ≡ status_text end.Host)
+
+-- The disk was given back, and the answer is that of the end; or it was not, and the answer is that of a fault. Nothing is answered for
+-- want of memory.
+abbrev pub IsGivenOr : Type 0 → Type 0 → Result RunEnd AllocError → Result ToolAnswer AllocError → Type 0
+IsGivenOr Back Fault (Ok e) (Ok a) = (Back × IsAnswerOf e a) ⊎ (Fault × IsFaultOf e a)
+IsGivenOr Back Fault (Err e) (Ok a) = ⊥
+IsGivenOr Back Fault r (Err e) = Unit {0}
+
+-- ---- at a path of a host
+
+-- With what a run begins: a map within the sizes of an image, and the agents of scripts.
+abbrev pub run_opening : Geometry → Map → List Asked → Opening
+run_opening g before script = opening_in g before script
+
+-- One history of a script's agents, and whether they were run whole.
+abbrev pub IsRunHistory : Type 0 → Bool → Opening → List Asked → List Entry → Type 0
+IsRunHistory tells whole o script history = IsHistoryOf tells whole o script history
+
+-- A host has an image of these sizes at a path, which stands for a map.
+abbrev pub HasImage : Geometry → Map → Option Text → Type 0
+HasImage g m found = (c : Text) × (found ≡ Some c) × IsImageOf g m c
+
+-- A host has an image at a path that a run may have left.
+abbrev pub HasLeft : Opening → List Entry → Option Text → Type 0
+HasLeft o history found = (c : Text) × (found ≡ Some c) × IsLeft o history c
+
+-- What a stop may have left at a path since: what it may have left there before, and fronts of the history; and for each content one
+-- that stands for what is stored after the changes up to and with that one.
+pub record LeavesFronts (h : HostTurn) (path : Text) (o : Opening) (history : List Entry) : Type 0 where
+  pub fronts : (c : Text) → h.trail_after path c → h.trail path c ⊎ IsFront o history c
+  pub stores : (n : ℕ) → IsContentAt (changes o history) n → (c : Text) × h.trail_after path c × Stands c (stored_after o history (n + 1))
+
+-- A run over the image at a path: its history over what the image stood for; and where the disk was given back, what is left there.
+pub record IsRunAt (h : HostTurn) (path : Text) (Back : Type 0) (whole : Bool) (script : List Asked) (history : List Entry) : Type 0 where
+  pub geometry : Geometry
+  pub before : Map
+  pub stood : h.tells → HasImage geometry before (h.image path)
+  pub is : IsRunHistory h.tells whole (run_opening geometry before script) script history
+  pub left : h.tells → Back → HasLeft (run_opening geometry before script) history (h.image_after path)
+  pub stands : h.tells → Back → (Rose h.faults h.faults_after → ⊥) → HasImage geometry (durable (run_opening geometry before script) (changes (run_opening geometry before script) history)) (h.image_after path)
+  pub stops : h.tells → Back → (Rose h.faults h.faults_after → ⊥) → LeavesFronts h path (run_opening geometry before script) history
+  pub faults : RoseBy (disk_faults history) h.faults h.faults_after
+
+-- The run and its end went well: the text is the transcript, and the image stands for all that the history stored.
+pub record IsRunDone (h : HostTurn) (path : Text) (script : List Asked) (text : Text) : Type 0 where
+  pub history : List Entry
+  pub at : IsRunAt h path (Unit {0}) true script history
+  pub printed : text ≡ text_of history
+  pub stands : h.tells → HasImage at.geometry (durable (run_opening at.geometry at.before script) (changes (run_opening at.geometry at.before script) history)) (h.image_after path)
+
+-- The run went well, but a disk or the host failed in its end: the line stands behind the transcript. That fault is one more than those
+-- of the history.
+pub record IsRunFailed (h : HostTurn) (path : Text) (script : List Asked) (text : Text) : Type 0 where
+  pub history : List Entry
+  pub at : IsRunAt h path (HostServed h) true script history
+  pub printed : text ≡ text_of history ++ status_text end.Host
+  pub failed : HostFailed h
+  pub counted : RoseBy (disk_faults history + 1) h.faults h.faults_after ⊎ (h.own_after ≡ 2 ^ 64 - 1)
+
+-- The agents did not run: the path has its image still, where the host itself did not fail.
+abbrev pub IsNotRun : HostTurn → Text → Type 0
+IsNotRun h path = h.tells → HostServed h → ImageStays h path
+
+-- The agents did not run, and a disk or the host failed.
+pub record IsRunFault (h : HostTurn) (path : Text) (text : Text) : Type 0 where
+  pub not : IsNotRun h path
+  pub failed : HostFailed h
+  pub line : text ≡ status_text end.Host
+
+-- They did not run, since the image is refused; it is there still.
+pub record IsRunRefused (h : HostTurn) (path : Text) (text : Text) : Type 0 where
+  pub refused : h.tells → IsOfImage IsRefusedLine (h.image path) text
+  pub stays : h.tells → ImageStays h path
+
+-- How a run over the image at a path ended, by its answer.
+abbrev pub RanTo : HostTurn → Text → List Asked → ToolEnd → Text → Type 0
+RanTo h path script tool_end.Done text = IsRunDone h path script text
+RanTo h path script tool_end.Image text = IsRunRefused h path text
+RanTo h path script tool_end.Host text = IsRunFault h path text ⊎ IsRunFailed h path script text
+RanTo h path script tool_end.Sink text = ⊥
+
+-- There was no memory: the agents did not run, or not to the end of their scripts, or their transcript has no room.
+abbrev pub IsRunShort : HostTurn → Text → List Asked → Type 0
+IsRunShort h path script = IsNotRun h path ⊎ ((whole : Bool) × (history : List Entry) × IsRunAt h path (HostServed h) whole script history)
+
+abbrev pub RanAt : HostTurn → Text → List Asked → Result ToolAnswer AllocError → Type 0
+RanAt h path script (Ok a) = RanTo h path script a.end a.text
+RanAt h path script (Err e) = IsRunShort h path script

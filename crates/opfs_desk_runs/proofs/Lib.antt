@@ -1,0 +1,5 @@
+pub mod Disks
+pub mod Keys
+pub mod Runs
+pub mod Sized
+pub mod Within

@@ -1,0 +1,7 @@
+//! A script that is run over an image which was recovered: the agents on threads of their own, over one desk, and what they leave.
+#![tactic(auto)]
+
+mod agents;
+mod running;
+
+pub use running::{Completion, run_disk, run_image};
