@@ -27,7 +27,7 @@ use Rattle.opfs_pages.proofs.Rest.{stored_is}
 use Rattle.opfs_lengths.specs.Bridge.{LengthsFollowEachCall, LocalCallsAreKnownByTheirWord}
 use Rattle.opfs_puts.specs.Puts.{HasSamePages, IsReady as IsPutReady}
 use Rattle.opfs_replay.specs.Built.{Built}
-use Rattle.opfs_row_puts.specs.Plans.{shelf, AreGotten, IsStagedFor}
+use Rattle.opfs_row_puts.specs.Plans.{shelf, AreGotten}
 use Rattle.opfs_row_puts.proofs.Getting.{pages-same}
 use Rattle.opfs_row_puts.specs.Rows.{IsPutOf}
 use Rattle.opfs_space.specs.Room.{Machine}
@@ -128,15 +128,15 @@ module _ {D : Type 0} (w : DiskWords D) (l now : Ledger D) (p q : Pages) (calls 
   same-row : pages_at c.agent row q.swap ≡ pages_at c.agent row p.swap
   same-row = subst (λ (i : ℕ). pages_at c.agent i q.swap ≡ pages_at c.agent i p.swap) number same.same
 
-  staged-row : IsStagedFor w.tells work (w.content l.journal.disk) p.base p.swap c.agent row 0 [] work.length true writes
-  staged-row = subst (λ (i : ℕ). IsStagedFor w.tells work (w.content l.journal.disk) p.base p.swap c.agent i 0 [] work.length true writes) number staged
+  staged-row : IsStagedWhole w (record { ledger = l; pages = p }) c.agent row work writes
+  staged-row = subst (λ (i : ℕ). IsStagedWhole w (record { ledger = l; pages = p }) c.agent i work writes) number staged
 
   pub content-of : (f : Fixed D) → IsStoredCopy w f now q calls c.agent row work → (text : Text) → row_bytes (state_after f.opening (now.books.history ++ calls)) c.agent row ≡ Some text → work.length ≡ length text
       → IsPutOf w.tells work (w.content now.journal.disk) q.base q.swap c.agent row (all_of work.length) writes text text
   content-of f stored text is size = record {
     was = p.swap;
     content = w.content l.journal.disk;
-    staged = subst (λ (b : ℕ). IsStagedFor w.tells work (w.content l.journal.disk) b p.swap c.agent row 0 [] work.length true writes) (sym base_is) staged-row;
+    staged = subst (λ (b : ℕ). IsStagedWhole w (record { ledger = l; pages = record p { base = b } }) c.agent row work writes) (sym base_is) staged-row;
     same = same-row;
     alike = λ t i. (λ j. page_of (read t j) q.base (slice_index_or (same-row j) i blank));
     paged = paged;
