@@ -2,13 +2,17 @@
 
 use crate::asking::answered;
 use opfs_top::Status;
-use std::alloc::{AllocError, Global};
+use std::alloc::AllocError;
+use std::sync::Wait;
 use std::test::Fail;
+use std::thread::Threads;
 
 // How the example ends, and what it prints.
-fn example(alloc: Global) -> Result<(Status, String), AllocError> {
+fn example<R: AllocGlobal + Threads + Wait + Sync>(
+    rt: &R,
+) -> Result<(Status, String), AllocError> {
     answered(
-        alloc,
+        rt,
         &["try"],
         r#"{"agents":[
             {"origin":"https://a.example","grants":["persistent-storage"],"steps":[
@@ -61,7 +65,7 @@ fn example(alloc: Global) -> Result<(Status, String), AllocError> {
 
 #[test]
 fn every_word_has_its_line(rt: HostRuntime) -> Result<(), Fail> {
-    let (status, text) = example(rt.alloc())?;
+    let (status, text) = example(&rt)?;
     assert_eq!(rt; status, Status::Done);
     assert_eq!(rt;
         text.as_str(),
