@@ -252,6 +252,13 @@ by_error h r result err none = elim none [
   | inr found ↦ let never : true ≡ false = sym err ∙ ap (λ x. is_err x) found.1 in absurd (cc never)
 ]
 
+-- an error that is passed on
+pub passed_on : (h : HostTurn) (r result : Result Answer AllocError) → IsErr result → NoneFailedBy h result → NoneFailedBy h r
+passed_on h r result err none = elim none [
+  | inl quiet ↦ inl quiet
+  | inr found ↦ let never : true ≡ false = sym err ∙ ap (λ x. is_err x) found.1 in absurd (cc never)
+]
+
 pub by_memory : (h : HostTurn) (r : Result Answer AllocError) → NoneFailed h status.Memory → NoneFailedBy h r
 by_memory h r (inl quiet) = inl quiet
 by_memory h r (inr (inl done)) = absurd (cc done)

@@ -187,9 +187,9 @@ image_late k h path action front status.Source text is early = is
 image_late k h path action front status.Sink text is early = early
 image_late k h path action front status.Memory text is early = early
 
-pub image_never_early : (k : SinkTurn) (h : HostTurn) (path : Text) (action : Action) (Begun : Text → Type 0) (r : Result Answer AllocError) → IsTold k Begun (ImageEnded h path action) r → {P : Type 0} → IfOk r (λ answer. IsEarly answer.status → P)
-image_never_early k h path action Begun (Ok a) told = λ early. absurd (image_late k h path action told.front a.status a.text told.ended early)
-image_never_early k h path action Begun (Err e) told = tt
+pub image_never_early : (k : SinkTurn) (h : HostTurn) (path : Text) (action : Action) (Begun : Text → Type 0) (r : Result Answer AllocError) → IsTold k Begun (ImageEnded h path action) r → (P : Type 0) → IfOk r (λ answer. IsEarly answer.status → P)
+image_never_early k h path action Begun (Ok a) told P = λ early. absurd (image_late k h path action told.front a.status a.text told.ended early)
+image_never_early k h path action Begun (Err e) told P = tt
 
 pub load_late : (h : HostTurn) (image from : Text) (ended : Status) (text : Text) → LoadEnded h image from ended text → IsEarly ended → ⊥
 load_late h image from status.Done text is early = early

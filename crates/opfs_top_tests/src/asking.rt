@@ -130,3 +130,15 @@ pub fn answered<R: AllocGlobal + Threads + Wait + Sync>(
 ) -> Result<(Status, String), AllocError> {
     answered_to(rt, words, bytes_of(rt.alloc(), script)?)
 }
+
+// The lines of a text that begin so.
+pub fn lines_with(alloc: Global, text: &str, front: &str) -> Result<String, AllocError> {
+    let mut some = String::new(alloc);
+    for line in text.lines() {
+        if line.starts_with(front) {
+            some.push_str(line)?;
+            some.push_str("\n")?;
+        }
+    }
+    Ok(some)
+}

@@ -1,6 +1,6 @@
 //! Runs over an image of a host.
 
-use crate::asking::{answered_at, answered_in, answered_within, bytes_of, host, host_with};
+use crate::asking::{answered_at, answered_in, answered_within, host, host_with, lines_with};
 use opfs_memory::MemHost;
 use opfs_top::Status;
 use std::alloc::{AllocError, Global};
@@ -101,18 +101,6 @@ fn what_a_run_stores_is_there_for_the_next(rt: HostRuntime) -> Result<(), Fail> 
         assert_eq!(rt; status, Status::Done);
     }
     Ok(())
-}
-
-// The lines of a text that begin so.
-fn lines_with(alloc: Global, text: &str, front: &str) -> Result<String, AllocError> {
-    let mut some = String::new(alloc);
-    for line in text.lines() {
-        if line.starts_with(front) {
-            some.push_str(line)?;
-            some.push_str("\n")?;
-        }
-    }
-    Ok(some)
 }
 
 #[test]

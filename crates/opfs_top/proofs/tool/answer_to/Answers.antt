@@ -43,7 +43,7 @@ pub returns-in-Some-OnImage-clause-left : goal.returns-in-Some-OnImage-clause-le
 returns-in-Some-OnImage-clause-left g c = left_of_image c.args.words.now (of_source g.S.Source c.args.source.now c.args.source.now) (of_host g.H.Host c.args.host.now c.answer_image.new.host) c.in-Some-OnImage.path.now c.in-Some-OnImage.action (subst (λ r. IsAsked c.args.words.now (meant r)) c.in-Some-OnImage.field-0-is c.in-Some-OnImage.ensures.some)
 
 pub returns-in-Some-OnImage-clause-early : goal.returns-in-Some-OnImage-clause-early
-returns-in-Some-OnImage-clause-early g c = image_never_early (of_sink g.K.Sink c.args.sink.now c.answer_image.new.sink) (of_host g.H.Host c.args.host.now c.answer_image.new.host) c.in-Some-OnImage.path.now c.in-Some-OnImage.action _ c.answer_image.result c.answer_image.ensures.told
+returns-in-Some-OnImage-clause-early g c = image_never_early (of_sink g.K.Sink c.args.sink.now c.answer_image.new.sink) (of_host g.H.Host c.args.host.now c.answer_image.new.host) c.in-Some-OnImage.path.now c.in-Some-OnImage.action _ c.answer_image.result c.answer_image.ensures.told _
 
 pub returns-in-Some-OnImage-clause-none : goal.returns-in-Some-OnImage-clause-none
 returns-in-Some-OnImage-clause-none g c = λ none. absurd (none (takes_image c.args.words.now c.in-Some-OnImage.path.now c.in-Some-OnImage.action (subst (λ r. IsAsked c.args.words.now (meant r)) c.in-Some-OnImage.field-0-is c.in-Some-OnImage.ensures.some)))
