@@ -214,12 +214,7 @@ fn read_three<'a>(word: &[u8], image: &'a [u8], text: &'a [u8]) -> Option<Comman
 }
 
 // The command that four words are.
-fn read_four<'a>(
-    word: &[u8],
-    seed: &[u8],
-    agents: &[u8],
-    rounds: &[u8],
-) -> Option<Command<'a>>
+fn read_four<'a>(word: &[u8], seed: &[u8], agents: &[u8], rounds: &[u8]) -> Option<Command<'a>>
     ensures some { IfSome result (λ command. IsAsked (word.now ∷ seed.now ∷ agents.now ∷ rounds.now ∷ []) (meant command)) }
     ensures none { IfNone result (AsksNothing (word.now ∷ seed.now ∷ agents.now ∷ rounds.now ∷ [])) }
 {
