@@ -3,7 +3,7 @@
 
 use opfs_base::{Bytes, Words};
 use opfs_files::{DirHost, StdinSource, StdoutSink};
-use opfs_top::{Status, opfs};
+use opfs_top::{OpenGate, Status, opfs};
 use std::alloc::AllocError;
 use std::env::{self, Env};
 use std::io::ErrorKind;
@@ -32,7 +32,7 @@ fn main(rt: HostRuntime) -> ExitCode {
     let mut source = StdinSource::make(rt.stdin());
     let mut sink = StdoutSink::make(rt.stdout());
     let status = match words_of(&rt) {
-        Ok(words) => opfs(rt.alloc(), &words, &mut host, &mut source, &mut sink),
+        Ok(words) => opfs(&rt, &words, &mut host, &mut source, &mut sink, &OpenGate),
         Err(_) => Status::Memory,
     };
     ExitCode::from(status.number())

@@ -1,8 +1,7 @@
 -- How a run over a disk ended.
-use Rattle.std.proofs.Common.{◌≡◌, ◌≢◌, inl, inr, refl, sym, ap, subst}
+use Rattle.std.proofs.Common.{◌≡◌, ◌≢◌, inl, inr, refl, sym, subst}
 use Rattle.std.specs.Prelude.{List, Result, Ok, Err, IfOk}
 use Rattle.std.specs.declared.alloc.AllocError.{AllocError}
-use Rattle.opfs_base.specs.Texts.{Text}
 use Rattle.opfs_codec.specs.declared.change.Format.TheVariants.{New}
 use Rattle.opfs_desk_runs.specs.Runs.{IsRunOn}
 use Rattle.opfs_desk_runs.specs.declared.running.Completion.{Completion}
@@ -13,10 +12,9 @@ use Rattle.opfs_journal.specs.Walking.{OnlyRead}
 use Rattle.opfs_outside.specs.Faults.{Rose}
 use Rattle.opfs_outside.specs.declared.disk.Disk.{Ghosts as DiskWords}
 use Rattle.opfs_script.specs.Scripts.{Asked}
-use Rattle.opfs_commands.specs.Ran.{HasNotRun, IsEndOf, IsNoRun, IsRefusalAnswer, IsRefusedEnd, RanOn}
+use Rattle.opfs_commands.specs.Ran.{IsEndOf, IsNoRun, IsRefusalAnswer, IsRefusedEnd, RanOn}
 use Rattle.opfs_commands.specs.declared.answers.ToolAnswer.{ToolAnswer}
 use Rattle.opfs_commands.specs.declared.answers.ToolEnd.{ToolEnd}
-use Rattle.opfs_commands.specs.declared.answers.ToolEnd.TheVariants as tool_end
 use Rattle.opfs_commands.specs.declared.runs.RunEnd.{RunEnd}
 use Rattle.opfs_commands.specs.declared.runs.RunEnd.TheVariants as run_end
 

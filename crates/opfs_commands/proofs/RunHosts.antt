@@ -1,6 +1,6 @@
 -- A run over a disk that was fetched and given back.
 use Rattle.std.proofs.Common.{◌≡◌, ◌≢◌, ◌⊎◌, ◌↔◌, ℕ, ◌+◌, ◌-◌, ◌^◌, ◌<◌, ◌≤◌, Bool, true, false, List, [], ◌++◌, inl, inr, refl, sym, ap, ◌∙◌, subst, arith}
-use Rattle.std.specs.Prelude.{Option, Some, Result, Ok, Err, IsOk, IsErr, OnOk, OnErr}
+use Rattle.std.specs.Prelude.{Some, Result, Ok, Err, IsOk, IsErr, OnOk, OnErr}
 use Rattle.std.specs.declared.alloc.AllocError.{AllocError}
 use Rattle.opfs_base.specs.Texts.{Text}
 use Rattle.opfs_desk_runs.specs.Runs.{IsFront, IsHistoryOf, IsImageOf, IsLeft, IsRunOn, opening_in}
@@ -9,7 +9,6 @@ use Rattle.opfs_desk_runs.specs.declared.running.Completion.{Completion}
 use Rattle.opfs_hist.specs.Faults.{disk_faults}
 use Rattle.opfs_hist.specs.declared.entry.Entry.{Entry}
 use Rattle.opfs_journal.specs.Walking.{OnlyRead}
-use Rattle.opfs_journal.specs.declared.refusal.DiskFault.{DiskFault}
 use Rattle.opfs_machine.specs.Changes.{changes, durable}
 use Rattle.opfs_machine.specs.Openings.{Opening}
 use Rattle.opfs_outside.specs.Faults.{Rose, RoseBy}
@@ -21,7 +20,7 @@ use Rattle.opfs_print.specs.Status.{status_text}
 use Rattle.opfs_print.specs.declared.end.End.TheVariants as end
 use Rattle.opfs_script.specs.Scripts.{Asked}
 use Rattle.opfs_commands.specs.Kinds.{NoneFailed}
-use Rattle.opfs_commands.specs.Ran.{HasImage, HasNotRun, HasRunOn, HasRunShort, IsAnswerOf, IsFaultBehind, IsFaultOf, IsGivenOr, IsNoRun, IsNotRun, IsRunAt, IsRunDone, IsRunFailed, IsRunFault, IsRunRefused, IsRunShort, LeavesFronts, RanAt, RanOn, RanTo}
+use Rattle.opfs_commands.specs.Ran.{HasImage, IsAnswerOf, IsFaultBehind, IsFaultOf, IsGivenOr, IsNoRun, IsNotRun, IsRunAt, IsRunDone, IsRunFailed, IsRunShort, LeavesFronts, RanAt, RanOn, RanTo}
 use Rattle.opfs_commands.specs.declared.answers.ToolAnswer.{ToolAnswer}
 use Rattle.opfs_commands.specs.declared.answers.ToolEnd.{ToolEnd}
 use Rattle.opfs_commands.specs.declared.answers.ToolEnd.TheVariants as tool_end

@@ -1,5 +1,5 @@
 //! The commands on an image: they make one, tell what it holds, check it, bring it into the format of now, put its text out,
-//! make one from such a text, and run the agents of a script over one.
+//! make one from such a text, and run the agents of a script over one; and which command words ask for.
 #![tactic(auto)]
 
 mod answers;
@@ -16,4 +16,4 @@ pub use answers::{ReadTool, ToolAnswer, ToolEnd};
 pub use loads::load_at;
 pub use running::run_command;
 pub use runs::run_at;
-pub use words::{Action, Command, read_command};
+pub use words::{Action, Command, Generation, read_command};

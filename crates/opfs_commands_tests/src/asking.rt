@@ -114,8 +114,7 @@ pub fn ask_with(
             let answer = load_at(alloc, host, image, text)?;
             told(alloc, &answer, b"")
         }
-        Some(Command::Try) => String::from_str(alloc, "no command on an image"),
-        Some(Command::Judge) => String::from_str(alloc, "no command on an image"),
+        Some(_) => String::from_str(alloc, "no command on an image"),
         None => String::from_str(alloc, "no command"),
     }
 }

@@ -1,7 +1,7 @@
 //! Which words are a command.
 
 use crate::asking::words_of;
-use opfs_commands::{Action, Command, read_command};
+use opfs_commands::{Action, Command, Generation, read_command};
 use opfs_image::Geometry;
 use std::alloc::{AllocError, Global};
 use std::test::Fail;
@@ -16,20 +16,24 @@ fn asked(alloc: Global, words: &[&str]) -> Result<Option<Action>, AllocError> {
             Ok(None)
         },
         Some(Command::Load(_, _)) => Ok(None),
+        Some(Command::Run(_)) => Ok(None),
         Some(Command::Try) => Ok(None),
         Some(Command::Judge) => Ok(None),
+        Some(Command::Generate(_)) => Ok(None),
         None => Ok(None),
     }
 }
 
 #[test]
 fn words_that_ask_for_nothing(rt: HostRuntime) -> Result<(), Fail> {
-    let rows: [&[&str]; 10] = [
+    let rows: [&[&str]; 12] = [
         &[],
         &["list"],
         &["list", ""],
         &["list", "I", "I"],
-        &["run", "I"],
+        &["run"],
+        &["run", ""],
+        &["run", "I", "I"],
         &["format", "I", "0", "4", "8"],
         &["format", "I", "16", "4", "08"],
         &["format", "I", "16", "4097", "8"],
@@ -60,6 +64,52 @@ fn words_that_ask_for_something(rt: HostRuntime) -> Result<(), Fail> {
     ];
     for (words, action) in rows {
         assert_eq!(rt; asked(alloc, words)?, Some(action));
+    }
+    Ok(())
+}
+
+#[test]
+fn run_names_an_image(rt: HostRuntime) -> Result<(), Fail> {
+    let words = words_of(rt.alloc(), &["run", "I"])?;
+    assert!(rt; matches!(read_command(&words), Some(Command::Run("I"))));
+    Ok(())
+}
+
+// The numbers that these words ask of a large run.
+fn generated(alloc: Global, words: &[&str]) -> Result<Option<Generation>, AllocError> {
+    let words = words_of(alloc, words)?;
+    match read_command(&words) {
+        Some(Command::Generate(generation)) => Ok(Some(generation)),
+        _ => Ok(None),
+    }
+}
+
+#[test]
+fn gen_has_three_numbers_in_their_ranges(rt: HostRuntime) -> Result<(), Fail> {
+    let least = Generation {
+        seed: 0,
+        agents: 1,
+        rounds: 1,
+    };
+    let greatest = Generation {
+        seed: 9_007_199_254_740_991,
+        agents: 16,
+        rounds: 200,
+    };
+    let rows: [(&[&str], Option<Generation>); 10] = [
+        (&["gen", "0", "1", "1"], Some(least)),
+        (&["gen", "9007199254740991", "16", "200"], Some(greatest)),
+        (&["gen", "9007199254740992", "1", "1"], None),
+        (&["gen", "0", "0", "1"], None),
+        (&["gen", "0", "17", "1"], None),
+        (&["gen", "0", "1", "0"], None),
+        (&["gen", "0", "1", "201"], None),
+        (&["gen", "00", "1", "1"], None),
+        (&["gen", "0", "1"], None),
+        (&["gen", "0", "1", "1", "1"], None),
+    ];
+    for (words, numbers) in rows {
+        assert_eq!(rt; generated(rt.alloc(), words)?, numbers);
     }
     Ok(())
 }

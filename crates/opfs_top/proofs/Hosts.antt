@@ -3,7 +3,7 @@ use Rattle.std.proofs.Common.{◌≡◌, ◌≢◌, ◌⊎◌, ◌++◌, [], inl
 use Rattle.std.specs.Prelude.{List, Result, Ok, Err, IfOk, IsErr, is_err, true, false}
 use Rattle.std.specs.declared.alloc.AllocError.{AllocError}
 use Rattle.opfs_base.specs.Texts.{Text}
-use Rattle.opfs_commands.specs.Commands.{Command, trial, judgement, on_image, loading, Asks, AsksNothing, IsAsked}
+use Rattle.opfs_commands.specs.Commands.{Command, trial, running, judgement, generating, on_image, loading, Asks, AsksNothing, IsAsked}
 use Rattle.opfs_commands.specs.Kinds.{IsDumping, IsReading, IsMigration}
 use Rattle.opfs_commands.specs.Kinds.{NoneFailed as ToolNoneFailed}
 use Rattle.opfs_commands.specs.Telling.{IsAnswer, IsBehind, IsLoaded, IsNoDump, IsOfImage, IsPut}
@@ -12,13 +12,15 @@ use Rattle.opfs_commands.specs.declared.answers.ToolAnswer.{ToolAnswer}
 use Rattle.opfs_commands.specs.declared.answers.ToolEnd.{ToolEnd}
 use Rattle.opfs_commands.specs.declared.answers.ToolEnd.TheVariants as tool_end
 use Rattle.opfs_commands.specs.declared.words.Action.{Action}
+use Rattle.opfs_commands.specs.declared.words.Generation.{Generation}
 use Rattle.opfs_commands.proofs.Spelled.{named}
+use Rattle.opfs_gen.specs.Summing.{gen_text}
 use Rattle.opfs_outside.specs.declared.host.Host.{Ghosts as HostWords}
 use Rattle.opfs_outside.specs.Turns.{of_host, AsBefore, HostFailed, HostTurn, SinkTurn, SourceTurn}
 use Rattle.opfs_print.specs.declared.end.End.TheVariants as end
 use Rattle.opfs_print.specs.Status.{status_text}
 use Rattle.opfs_top.specs.Answers.{Behind, ImageEnded, IsTold, LoadEnded, NoneFailedBy}
-use Rattle.opfs_top.specs.Doing.{Did, Dumped, Ended, IsFrontOf, IsTooLong, Migrates, Names, NoneFailed, OfSource, RefusedScript, TakesImage, TakesScript, TaskDone, TaskEnded, TaskRefused, Tells, ToolEnded}
+use Rattle.opfs_top.specs.Doing.{Did, Dumped, Ended, IsFrontOf, IsTool, IsTooLong, Migrates, Names, NoneFailed, OfSource, RefusedScript, TakesImage, TakesScript, TaskDone, TaskEnded, TaskRefused, Tells, ToolEnded}
 use Rattle.opfs_top.specs.Statuses.{status_of}
 use Rattle.opfs_top.specs.declared.answer.Answer.{Answer}
 use Rattle.opfs_top.specs.declared.answer.Task.{Task}
@@ -83,13 +85,13 @@ image_ends words s h path action asked status.Done text is = record { command = 
 image_ends words s h path action asked status.Usage text is = absurd is
 image_ends words s h path action asked status.Script text is = absurd is
 image_ends words s h path action asked status.Image text is = record { command = on_image path action; asked = asked; holds = is }
-image_ends words s h path action asked status.Host text is = record {
+image_ends words s h path action asked status.Host text is = inl (record {
   asked = record { command = on_image path action; asked = asked; holds = tt };
   failed = is.0;
   front = is.1.0;
   begun = front_by words h path action asked is.1.0 is.1.1;
   line = is.1.2;
-}
+})
 image_ends words s h path action asked status.Source text is = absurd is
 image_ends words s h path action asked status.Sink text is = absurd is
 image_ends words s h path action asked status.Memory text is = absurd is
@@ -117,7 +119,7 @@ load_ends words s h image from asked status.Done text is = record { command = lo
 load_ends words s h image from asked status.Usage text is = absurd is
 load_ends words s h image from asked status.Script text is = absurd is
 load_ends words s h image from asked status.Image text is = record { command = loading image from; asked = asked; holds = is }
-load_ends words s h image from asked status.Host text is = record { asked = record { command = loading image from; asked = asked; holds = tt }; failed = is.0; front = []; begun = inl refl; line = is.1 }
+load_ends words s h image from asked status.Host text is = inl (record { asked = record { command = loading image from; asked = asked; holds = tt }; failed = is.0; front = []; begun = inl refl; line = is.1 })
 load_ends words s h image from asked status.Source text is = absurd is
 load_ends words s h image from asked status.Sink text is = absurd is
 load_ends words s h image from asked status.Memory text is = absurd is
@@ -169,50 +171,25 @@ judgement_ends words s h asked ended text is = task_ends task.Judge words s h as
 pub nothing_ends : (words : List Text) (s : SourceTurn) (h : HostTurn) → AsksNothing words → (ended : Status) (text : Text) → ended ≡ status.Usage → text ≡ status_text end.Usage → Ended words s h ended text
 nothing_ends words s h nothing ended text is line = subst (λ e. Ended words s h e text) (sym is) (record { nothing = nothing; line = line })
 
-pub no_tool_ends : (words : List Text) (h : HostTurn) → (Asks words TakesImage → ⊥) → (ended : Status) (text : Text) → ended ≡ status.Usage → text ≡ status_text end.Usage → ToolEnded words h ended text
+pub no_tool_ends : (words : List Text) (h : HostTurn) → (Asks words IsTool → ⊥) → (ended : Status) (text : Text) → ended ≡ status.Usage → text ≡ status_text end.Usage → ToolEnded words h ended text
 no_tool_ends words h none ended text is line = subst (λ e. ToolEnded words h e text) (sym is) (record { none = none; line = line })
 
--- ---- words that ask for a trial, for a judgement, or for nothing, name no image
+large_run_ends : (words : List Text) (s : SourceTurn) (h : HostTurn) (g : Generation) → IsAsked words (generating g)
+    → (ended : Status) (text : Text) → ended ≡ status.Done → text ≡ gen_text g.seed g.agents g.rounds → Ended words s h ended text
+large_run_ends words s h g asked ended text is told = subst (λ e. Ended words s h e text) (sym is) (record { command = generating g; asked = asked; holds = told })
 
-pub no_image_of_trial : (words : List Text) → IsAsked words trial → Asks words TakesImage → ⊥
-no_image_of_trial words asked is = named words trial TakesImage asked is
+pub large_run_told : (words : List Text) (s : SourceTurn) (h : HostTurn) (g : Generation) → IsAsked words (generating g)
+    → (r : Result Answer AllocError) → IfOk r (λ a. a.status ≡ status.Done) → IfOk r (λ a. a.text ≡ gen_text g.seed g.agents g.rounds) → IfOk r (λ a. Ended words s h a.status a.text)
+large_run_told words s h g asked (Ok a) is told = large_run_ends words s h g asked a.status a.text is told
+large_run_told words s h g asked (Err e) is told = tt
 
-pub no_image_of_judgement : (words : List Text) → IsAsked words judgement → Asks words TakesImage → ⊥
-no_image_of_judgement words asked is = named words judgement TakesImage asked is
+-- ---- words that ask for no command on an image alone
 
-pub no_image_of_nothing : (words : List Text) → AsksNothing words → Asks words TakesImage → ⊥
-no_image_of_nothing words nothing is = nothing is.command is.asked
+pub no_tool_of : (words : List Text) (c : Command) → (IsTool c → ⊥) → IsAsked words c → Asks words IsTool → ⊥
+no_tool_of words c other asked is = other (named words c IsTool asked is)
 
-named_takes : (path : Text) (c : Command) → Names path c → TakesImage c
-named_takes path trial is = is
-named_takes path judgement is = is
-named_takes path (on_image image action) is = tt
-named_takes path (loading image from) is = tt
-
-told_takes : (path : Text) (c : Command) → Tells path c → TakesImage c
-told_takes path trial is = is
-told_takes path judgement is = is
-told_takes path (on_image image action) is = tt
-told_takes path (loading image from) is = tt
-
-migrated_takes : (path : Text) (c : Command) → Migrates path c → TakesImage c
-migrated_takes path trial is = is
-migrated_takes path judgement is = is
-migrated_takes path (on_image image action) is = tt
-migrated_takes path (loading image from) is = absurd is
-
-pub none_named : (words : List Text) (path : Text) → (Asks words TakesImage → ⊥) → Asks words (Names path) → ⊥
-none_named words path none is = none (record { command = is.command; asked = is.asked; holds = named_takes path is.command is.holds })
-
-pub none_told : (words : List Text) (path : Text) → (Asks words TakesImage → ⊥) → Asks words (Tells path) → ⊥
-none_told words path none is = none (record { command = is.command; asked = is.asked; holds = told_takes path is.command is.holds })
-
-pub none_migrated : (words : List Text) (path : Text) → (Asks words TakesImage → ⊥) → Asks words (Migrates path) → ⊥
-none_migrated words path none is = none (record { command = is.command; asked = is.asked; holds = migrated_takes path is.command is.holds })
-
--- a host that was not asked
-pub untouched : {H D : Type 0} (w : HostWords H D) (host : H) (path : Text) → AsBefore (of_host w host host) path
-untouched w host path = record { image = refl; trail = λ c. (λ x. x, λ x. x) }
+pub no_tool_of_nothing : (words : List Text) → AsksNothing words → Asks words IsTool → ⊥
+no_tool_of_nothing words nothing is = nothing is.command is.asked
 
 -- ---- a command on the image at a path
 
@@ -229,6 +206,9 @@ module _ (words : List Text) (image : Text) (action : Action) (asked : IsAsked w
   pub takes_image : Asks words TakesImage
   takes_image = record { command = on_image image action; asked = asked; holds = tt }
 
+  pub tool_image : Asks words IsTool
+  tool_image = record { command = on_image image action; asked = asked; holds = tt }
+
   pub not_named : (path : Text) → (Asks words (Names path) → ⊥) → path ≢ image
   not_named path none same = none (record { command = on_image image action; asked = asked; holds = same })
 
@@ -243,6 +223,9 @@ module _ (words : List Text) (image from : Text) (asked : IsAsked words (loading
 
   pub takes_load : Asks words TakesImage
   takes_load = record { command = loading image from; asked = asked; holds = tt }
+
+  pub tool_load : Asks words IsTool
+  tool_load = record { command = loading image from; asked = asked; holds = tt }
 
   pub not_image : (path : Text) → (Asks words (Names path) → ⊥) → path ≢ image
   not_image path none same = none (record { command = loading image from; asked = asked; holds = inl same })
@@ -265,6 +248,13 @@ by_run h r a result b is same told none = elim none [
 
 pub by_error : (h : HostTurn) (r : Result ToolAnswer AllocError) (result : Result Answer AllocError) → IsErr result → NoneFailedBy h result → ToolNoneFailed h r
 by_error h r result err none = elim none [
+  | inl quiet ↦ inl quiet
+  | inr found ↦ let never : true ≡ false = sym err ∙ ap (λ x. is_err x) found.1 in absurd (cc never)
+]
+
+-- an error that is passed on
+pub passed_on : (h : HostTurn) (r result : Result Answer AllocError) → IsErr result → NoneFailedBy h result → NoneFailedBy h r
+passed_on h r result err none = elim none [
   | inl quiet ↦ inl quiet
   | inr found ↦ let never : true ≡ false = sym err ∙ ap (λ x. is_err x) found.1 in absurd (cc never)
 ]

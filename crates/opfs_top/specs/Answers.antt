@@ -1,14 +1,17 @@
 -- What is said of a command before its text is put out. This project's own.
-use Rattle.std.specs.Prelude.{◌≡◌, ◌≢◌, ◌⊎◌, ◌++◌, [], Result, Ok, IfOk}
+use Rattle.std.specs.Prelude.{◌≡◌, ◌≢◌, ◌⊎◌, ◌++◌, [], List, Result, Ok, IfOk}
 use Rattle.std.specs.declared.alloc.AllocError.{AllocError}
 use Rattle.opfs_base.specs.Texts.{Text}
-use Rattle.opfs_outside.specs.Turns.{HostTurn, HostFailed, HostServed, SinkFailed, SinkTurn, Took}
+use Rattle.opfs_outside.specs.Turns.{HostTurn, HostFailed, HostServed, SinkFailed, SinkTurn, SourceFailed, SourceTurn, Took}
 use Rattle.opfs_commands.specs.Kinds.{DoneKind, IsDumping, RefusedKind}
+use Rattle.opfs_commands.specs.Ran.{IsRunRefused}
 use Rattle.opfs_commands.specs.Telling.{IsLoaded, IsNoDump, IsOfImage}
 use Rattle.opfs_commands.specs.declared.words.Action.{Action}
 use Rattle.opfs_print.specs.declared.end.End.TheVariants as end
 use Rattle.opfs_print.specs.Status.{status_text}
-use Rattle.opfs_top.specs.Doing.{IsFrontOf, TaskDone, TaskRefused}
+use Rattle.opfs_script.specs.Scripts.{Asked}
+use Rattle.opfs_top.specs.Doing.{IsFrontOf, IsRefused, IsTooLong, OfSource, TaskDone, TaskRefused}
+use Rattle.opfs_top.specs.Headline.{IsHeadline, IsRunStopped, OfScript}
 use Rattle.opfs_top.specs.declared.answer.Answer.{Answer}
 use Rattle.opfs_top.specs.declared.answer.Task.{Task}
 use Rattle.opfs_top.specs.declared.status.Status.{Status}
@@ -45,6 +48,30 @@ LoadEnded h image from status.Done text = h.tells → IsLoaded (h.image from) (h
 LoadEnded h image from status.Image text = h.tells → IsOfImage IsNoDump (h.image from) text
 LoadEnded h image from status.Host text = HostFailed h × (text ≡ status_text end.Host)
 LoadEnded h image from ended text = ⊥
+
+-- What a run over the image at a path puts out at each end.
+abbrev pub RunEnded : HostTurn → Text → List Asked → Status → Text → Type 0
+RunEnded h path script status.Done text = IsHeadline h path script text
+RunEnded h path script status.Image text = IsRunRefused h path text
+RunEnded h path script status.Host text = IsRunStopped h path script text
+RunEnded h path script ended text = ⊥
+
+-- The same, where bytes that were read whole are the script.
+abbrev pub BytesRan : HostTurn → Text → Text → Status → Text → Type 0
+BytesRan h path bytes status.Done text = OfScript (IsHeadline h path) bytes text
+BytesRan h path bytes status.Script text = IsRefused bytes text
+BytesRan h path bytes status.Image text = IsRunRefused h path text
+BytesRan h path bytes status.Host text = OfScript (IsRunStopped h path) bytes text
+BytesRan h path bytes ended text = ⊥
+
+-- The same, where a source gives the script.
+abbrev pub SourceRan : SourceTurn → HostTurn → Text → Status → Text → Type 0
+SourceRan s h path status.Done text = OfSource s (OfScript (IsHeadline h path)) text
+SourceRan s h path status.Script text = OfSource s IsRefused text ⊎ IsTooLong s text
+SourceRan s h path status.Image text = IsRunRefused h path text
+SourceRan s h path status.Host text = OfSource s (OfScript (IsRunStopped h path)) text
+SourceRan s h path status.Source text = SourceFailed s × (text ≡ status_text end.Source)
+SourceRan s h path ended text = ⊥
 
 -- No call of the host failed: its own count did not rise, or the command was answered without a fault.
 abbrev pub NoneFailedBy : HostTurn → Result Answer AllocError → Type 0

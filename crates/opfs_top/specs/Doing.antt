@@ -3,9 +3,11 @@
 -- A source, a sink and a host stand here as they are before the call and after it (`SourceTurn`, `SinkTurn`, `HostTurn`).
 use Rattle.std.specs.Prelude.{◌≡◌, ◌≢◌, ◌⊎◌, ◌++◌, ℕ, ◌+◌, ◌==◌, true, false, List, [], ◌∷◌, codes, drop, length, Option, Some, None, Ok, Err}
 use Rattle.opfs_base.specs.Texts.{Text}
-use Rattle.opfs_commands.specs.Commands.{Command, trial, judgement, on_image, loading, Asks, AsksNothing}
+use Rattle.opfs_commands.specs.Commands.{Command, trial, running, judgement, generating, on_image, loading, Asks, AsksNothing}
 use Rattle.opfs_commands.specs.Kinds.{DoneKind, RefusedKind, IsDumping, IsReading, IsMigration}
+use Rattle.opfs_commands.specs.Ran.{IsNotRun, IsRunRefused}
 use Rattle.opfs_commands.specs.Telling.{IsLoaded, IsNoDump, IsOfImage}
+use Rattle.opfs_gen.specs.Summing.{gen_text}
 use Rattle.opfs_hist.specs.declared.entry.Entry.{Entry}
 use Rattle.opfs_judge.specs.declared.verdict.Verdict.{Verdict}
 use Rattle.opfs_judge.specs.declared.verdict.Verdict.TheVariants as verdict
@@ -21,6 +23,7 @@ use Rattle.opfs_script.specs.declared.refusal.ScriptRefusal.TheVariants as refus
 use Rattle.opfs_script.specs.Reading.{reads}
 use Rattle.opfs_script.specs.Scripts.{Asked}
 use Rattle.opfs_trial.specs.Trials.{IsTrial}
+use Rattle.opfs_top.specs.Headline.{HasRun, IsHeadline, IsRunStopped, OfScript}
 use Rattle.opfs_top.specs.declared.answer.Task.{Task}
 use Rattle.opfs_top.specs.declared.answer.Task.TheVariants as task
 use Rattle.opfs_top.specs.declared.status.Status.{Status}
@@ -115,54 +118,87 @@ pub record IsTooLong (s : SourceTurn) (text : Text) : Type 0 where
   pub far : ReadTooFar s most_bytes
   pub line : text ≡ status_text (end.Script bad.TooMany)
 
--- What a command puts out that was done: a trial its transcript; a judgement the line of its verdict; a command on an image
--- what is told of the image before, or of the one that it made; a load the line of the image that it made.
+-- What a command puts out that was done: a trial its transcript; a run over an image the same, with all that the headline says;
+-- a judgement the line of its verdict; a large run its summary, which is a function of its numbers; a command on an image what is
+-- told of the image before, or of the one that it made; a load the line of the image that it made.
 abbrev pub Did : Command → SourceTurn → HostTurn → Text → Type 0
 Did trial s h text = OfSource s IsTranscript text
+Did (running path) s h text = OfSource s (OfScript (IsHeadline h path)) text
 Did judgement s h text = OfSource s IsJudgement text
+Did (generating g) s h text = text ≡ gen_text g.seed g.agents g.rounds
 Did (on_image path action) s h text = h.tells → DoneKind action (h.image path) (h.image_after path) text
 Did (loading image from) s h text = h.tells → IsLoaded (h.image from) (h.image_after image) text
 
 -- The same of a command on an image alone.
 abbrev pub DidWithImage : Command → HostTurn → Text → Type 0
 DidWithImage trial h text = ⊥
+DidWithImage (running path) h text = ⊥
 DidWithImage judgement h text = ⊥
+DidWithImage (generating g) h text = ⊥
 DidWithImage (on_image path action) h text = h.tells → DoneKind action (h.image path) (h.image_after path) text
 DidWithImage (loading image from) h text = h.tells → IsLoaded (h.image from) (h.image_after image) text
 
 -- The text of a command that puts it out itself: a dump. Where it ends early, a front of it was put out.
 abbrev pub Dumped : Command → HostTurn → Text → Type 0
 Dumped trial h text = ⊥
+Dumped (running path) h text = ⊥
 Dumped judgement h text = ⊥
+Dumped (generating g) h text = ⊥
 Dumped (on_image path action) h text = IsDumping action × (h.tells → DoneKind action (h.image path) (h.image_after path) text)
 Dumped (loading image from) h text = ⊥
 
 -- The command takes a script, which is refused.
 abbrev pub RefusedScript : Command → SourceTurn → Text → Type 0
 RefusedScript trial s text = OfSource s IsRefused text ⊎ IsTooLong s text
+RefusedScript (running path) s text = OfSource s IsRefused text ⊎ IsTooLong s text
 RefusedScript judgement s text = OfSource s IsRefusedBefore text ⊎ IsTooLong s text
+RefusedScript (generating g) s text = ⊥
 RefusedScript (on_image path action) s text = ⊥
 RefusedScript (loading image from) s text = ⊥
 
 -- The command takes an image, or the text of one, which is refused.
 abbrev pub RefusedImage : Command → HostTurn → Text → Type 0
 RefusedImage trial h text = ⊥
+RefusedImage (running path) h text = IsRunRefused h path text
 RefusedImage judgement h text = ⊥
+RefusedImage (generating g) h text = ⊥
 RefusedImage (on_image path action) h text = h.tells → RefusedKind action (h.image path) text
 RefusedImage (loading image from) h text = h.tells → IsOfImage IsNoDump (h.image from) text
 
 -- The command takes a script, or an image.
 abbrev pub TakesScript : Command → Type 0
 TakesScript trial = Unit {0}
+TakesScript (running path) = Unit {0}
 TakesScript judgement = Unit {0}
+TakesScript (generating g) = ⊥
 TakesScript (on_image path action) = ⊥
 TakesScript (loading image from) = ⊥
 
 abbrev pub TakesImage : Command → Type 0
 TakesImage trial = ⊥
+TakesImage (running path) = Unit {0}
 TakesImage judgement = ⊥
+TakesImage (generating g) = ⊥
 TakesImage (on_image path action) = Unit {0}
 TakesImage (loading image from) = Unit {0}
+
+-- The command is one of those on an image that ask for no agents.
+abbrev pub IsTool : Command → Type 0
+IsTool trial = ⊥
+IsTool (running path) = ⊥
+IsTool judgement = ⊥
+IsTool (generating g) = ⊥
+IsTool (on_image path action) = Unit {0}
+IsTool (loading image from) = Unit {0}
+
+-- The command runs a script over an image, and a call of the host or of a disk failed.
+abbrev pub FailedRun : Command → SourceTurn → HostTurn → Text → Type 0
+FailedRun trial s h text = ⊥
+FailedRun (running path) s h text = OfSource s (OfScript (IsRunStopped h path)) text
+FailedRun judgement s h text = ⊥
+FailedRun (generating g) s h text = ⊥
+FailedRun (on_image path action) s h text = ⊥
+FailedRun (loading image from) s h text = ⊥
 
 -- ---- the ends, each with its cause
 
@@ -175,7 +211,7 @@ pub record IsUsage (words : List Text) (text : Text) : Type 0 where
 
 -- The words ask for no command on an image.
 pub record IsNoTool (words : List Text) (text : Text) : Type 0 where
-  pub none : Asks words TakesImage → ⊥
+  pub none : Asks words IsTool → ⊥
   pub line : text ≡ status_text end.Usage
 
 abbrev pub IsBadScript : List Text → SourceTurn → Text → Type 0
@@ -188,13 +224,17 @@ IsBadImage words h text = Asks words (λ command. RefusedImage command h text)
 abbrev pub IsFrontOf : (Text → Type 0) → Text → Type 0
 IsFrontOf Kind front = (front ≡ []) ⊎ ((rest : Text) × Kind (front ++ rest))
 
--- A call of the host or of a disk failed. The line stands behind what a dump has put out.
+-- A call of the host or of a disk failed in a command on an image. The line stands behind what a dump has put out.
 pub record IsHostFault (words : List Text) (h : HostTurn) (text : Text) : Type 0 where
-  pub asked : Asks words TakesImage
+  pub asked : Asks words IsTool
   pub failed : HostFailed h
   pub front : Text
   pub begun : IsFrontOf (λ t. Asks words (λ command. Dumped command h t)) front
   pub line : text ≡ front ++ status_text end.Host
+
+-- A call of the host or of a disk failed, in a command on an image or in a run over one.
+abbrev pub IsFault : List Text → SourceTurn → HostTurn → Text → Type 0
+IsFault words s h text = IsHostFault words h text ⊎ Asks words (λ command. FailedRun command s h text)
 
 pub record IsSourceFault (words : List Text) (s : SourceTurn) (text : Text) : Type 0 where
   pub asked : Asks words TakesScript
@@ -207,7 +247,7 @@ Ended words s h status.Done text = IsDone words s h text
 Ended words s h status.Usage text = IsUsage words text
 Ended words s h status.Script text = IsBadScript words s text
 Ended words s h status.Image text = IsBadImage words h text
-Ended words s h status.Host text = IsHostFault words h text
+Ended words s h status.Host text = IsFault words s h text
 Ended words s h status.Source text = IsSourceFault words s text
 Ended words s h ended text = ⊥
 
@@ -239,27 +279,45 @@ pub record TookDumped (k : SinkTurn) (words : List Text) (h : HostTurn) : Type 0
 -- The command works on the image at a path, or reads it.
 abbrev pub Names : Text → Command → Type 0
 Names path trial = ⊥
+Names path (running image) = path ≡ image
 Names path judgement = ⊥
+Names path (generating g) = ⊥
 Names path (on_image image action) = path ≡ image
 Names path (loading image from) = (path ≡ image) ⊎ (path ≡ from)
 
 -- It only reads what is there: `list`, `check`, `dump`; or `load`, where its text is not at the path of its image.
 abbrev pub Tells : Text → Command → Type 0
 Tells path trial = ⊥
+Tells path (running image) = ⊥
 Tells path judgement = ⊥
+Tells path (generating g) = ⊥
 Tells path (on_image image action) = (path ≡ image) × IsReading action
 Tells path (loading image from) = (path ≡ from) × (from ≢ image)
 
 -- It brings that image into the format of now.
 abbrev pub Migrates : Text → Command → Type 0
 Migrates path trial = ⊥
+Migrates path (running image) = ⊥
 Migrates path judgement = ⊥
+Migrates path (generating g) = ⊥
 Migrates path (on_image image action) = (path ≡ image) × IsMigration action
 Migrates path (loading image from) = ⊥
+
+-- What a run leaves of its path, however it ends: its image still, where its agents did not run, unless a call of the host itself
+-- failed; else what one history of the script's agents leaves there.
+abbrev pub LeavesRun : SourceTurn → HostTurn → Text → Type 0
+LeavesRun s h path = IsNotRun h path ⊎ ((bytes : Text) × ReadWhole s most_bytes bytes × HasRun h path bytes)
 
 -- No call of the host failed: its own count did not rise, or the command was answered without a fault.
 abbrev pub NoneFailed : HostTurn → Status → Type 0
 NoneFailed h ended = HostServed h ⊎ (ended ≡ status.Done) ⊎ (ended ≡ status.Image)
+
+-- The status says that the host was not asked for anything.
+abbrev pub IsEarly : Status → Type 0
+IsEarly status.Usage = Unit {0}
+IsEarly status.Script = Unit {0}
+IsEarly status.Source = Unit {0}
+IsEarly ended = ⊥
 
 -- ---- one command
 

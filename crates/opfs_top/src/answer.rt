@@ -1,6 +1,8 @@
 //! What a command puts out, and how it ends.
 
-ghost use Rattle.std.specs.Prelude.{◌≡◌, IfOk, flat_map};
+ghost use Rattle.std.specs.Prelude.{◌≡◌, IfOk, flat_map, true};
+ghost use Rattle.opfs_commands.specs.Numbers.{may_generate};
+ghost use Rattle.opfs_gen.specs.Summing.{gen_text};
 ghost use Rattle.opfs_outside.specs.Turns.{of_source};
 ghost use Rattle.opfs_print.specs.Lines.{text_of};
 ghost use Rattle.opfs_print.specs.Status.{status_text};
@@ -12,13 +14,17 @@ use crate::input::{Input, read_all};
 use crate::parts::parts;
 use crate::status::Status;
 use opfs_base::Bytes;
+use opfs_commands::Generation;
+use opfs_gen_run::generate;
 use opfs_hist::Entry;
 use opfs_judge::{Verdict, judge};
-use opfs_outside::Source;
+use opfs_outside::{Gate, Source};
 use opfs_print::{BadScript, End, line, status_line};
 use opfs_script::{Script, ScriptRefusal, read_script};
 use opfs_trial::run_script;
 use std::alloc::{AllocError, Global};
+use std::sync::Wait;
+use std::thread::Threads;
 
 /// How a command ends, and what it is to put out.
 #[derive(Debug, Drop)]
@@ -73,16 +79,20 @@ fn lines_of(alloc: Global, entries: &[Entry]) -> Result<Bytes, AllocError>
 }
 
 /// The transcript of a trial of a script.
-fn trial_text(alloc: Global, script: &Script) -> Result<Bytes, AllocError>
+fn trial_text<R: AllocGlobal + Threads + Wait + Sync, G: Gate>(
+    rt: &R,
+    script: &Script,
+    _gate: &G,
+) -> Result<Bytes, AllocError>
     ensures { IfOk result (λ text. IsTrialText script.now text) }
 {
-    let history = run_script(alloc, script)?;
-    let text = lines_of(alloc, &history.items)?;
+    let history = run_script(rt.alloc(), script)?;
+    let text = lines_of(rt.alloc(), &history.items)?;
     Ok(text)
 }
 
 /// The answer to bytes that are refused as a script.
-fn refused(alloc: Global, why: ScriptRefusal) -> Result<Answer, AllocError>
+pub fn refused(alloc: Global, why: ScriptRefusal) -> Result<Answer, AllocError>
     ensures status { IfOk result (λ answer. answer.status ≡ Status.Script) }
     ensures text { IfOk result (λ answer. IsRefusal why answer.text) }
 {
@@ -93,20 +103,24 @@ fn refused(alloc: Global, why: ScriptRefusal) -> Result<Answer, AllocError>
     })
 }
 
-/// Runs the script that bytes are.
-fn run(alloc: Global, bytes: &[u8]) -> Result<Answer, AllocError>
+/// Runs the script that bytes are over an empty store.
+fn try_bytes<R: AllocGlobal + Threads + Wait + Sync, G: Gate>(
+    rt: &R,
+    bytes: &[u8],
+    gate: &G,
+) -> Result<Answer, AllocError>
     ensures { IfOk result (λ answer. Outcome Task.Try bytes.now answer.status answer.text) }
 {
-    match read_script(alloc, bytes) {
+    match read_script(rt.alloc(), bytes) {
         Ok(script) => {
-            let text = trial_text(alloc, &script)?;
+            let text = trial_text(rt, &script, gate)?;
             Ok(Answer {
                 status: Status::Done,
                 text,
             })
         }
         Err(why) => {
-            let answer = refused(alloc, why)?;
+            let answer = refused(rt.alloc(), why)?;
             Ok(answer)
         }
     }
@@ -155,31 +169,60 @@ fn judge_parts(alloc: Global, bytes: &[u8]) -> Result<Answer, AllocError>
 }
 
 /// Does with bytes that were read whole what they were read for.
-fn serve(alloc: Global, task: Task, bytes: &[u8]) -> Result<Answer, AllocError>
+fn serve<R: AllocGlobal + Threads + Wait + Sync, G: Gate>(
+    rt: &R,
+    task: Task,
+    bytes: &[u8],
+    gate: &G,
+) -> Result<Answer, AllocError>
     ensures { IfOk result (λ answer. Outcome task bytes.now answer.status answer.text) }
 {
     match task {
-        Task::Try => run(alloc, bytes),
-        Task::Judge => judge_parts(alloc, bytes),
+        Task::Try => try_bytes(rt, bytes, gate),
+        Task::Judge => judge_parts(rt.alloc(), bytes),
     }
 }
 
 /// How a command ends whose script the source gives, and what it is to put out.
-pub fn answer_script<S: Source>(
-    alloc: Global,
+pub fn answer_script<R: AllocGlobal + Threads + Wait + Sync, S: Source, G: Gate>(
+    rt: &R,
     task: Task,
     source: &mut S,
+    gate: &G,
 ) -> Result<Answer, AllocError>
     ensures { IfOk result (λ answer. TaskEnded task (of_source S.Source source.old source.new) answer.status answer.text) }
 {
+    let alloc = rt.alloc();
     let (status, end) = match read_all(alloc, source) {
-        Input::Whole(bytes) => return serve(alloc, task, bytes.as_slice()),
+        Input::Whole(bytes) => return serve(rt, task, bytes.as_slice(), gate),
         Input::TooFar => (Status::Script, End::Script(BadScript::TooMany)),
         Input::Failed => (Status::Source, End::Source),
         Input::NoMemory => return Err(AllocError),
     };
     let text = line_of(alloc, end)?;
     Ok(Answer { status, text })
+}
+
+/// The answer to words that ask for a large run.
+pub fn answer_large_run<R: AllocGlobal + Threads + Wait + Sync, G: Gate>(
+    rt: &R,
+    numbers: Generation,
+    _gate: &G,
+) -> Result<Answer, AllocError>
+    requires { may_generate numbers ≡ true }
+    ensures status { IfOk result (λ answer. answer.status ≡ Status.Done) }
+    ensures text { IfOk result (λ answer. answer.text ≡ gen_text numbers.seed numbers.agents numbers.rounds) }
+{
+    let Generation {
+        seed,
+        agents,
+        rounds,
+    } = numbers;
+    let text = generate(rt.alloc(), seed, agents, rounds)?;
+    Ok(Answer {
+        status: Status::Done,
+        text,
+    })
 }
 
 /// The answer to words that ask for nothing.

@@ -3,11 +3,14 @@
 
 mod answer;
 pub mod command;
+mod gate;
 mod input;
 mod output;
 mod parts;
+mod run;
 pub mod status;
 mod tool;
 
 pub use command::{opfs, opfs_tool};
+pub use gate::OpenGate;
 pub use status::Status;

@@ -1,7 +1,9 @@
 //! How a command ends.
 
 ghost use Rattle.std.specs.Prelude.{◌≡◌};
-ghost use Rattle.opfs_top.specs.Statuses.{number_of};
+ghost use Rattle.opfs_top.specs.Statuses.{number_of, status_of};
+
+use opfs_commands::ToolEnd;
 
 /// How a command ends.
 #[derive(Clone, Copy, Debug, PartialEq, Eq)]
@@ -39,5 +41,17 @@ impl Status {
             Status::Sink => 6,
             Status::Memory => 7,
         }
+    }
+}
+
+/// The status of a command on an image.
+pub fn status_of(end: ToolEnd) -> Status
+    ensures { result ≡ status_of end }
+{
+    match end {
+        ToolEnd::Done => Status::Done,
+        ToolEnd::Image => Status::Image,
+        ToolEnd::Host => Status::Host,
+        ToolEnd::Sink => Status::Sink,
     }
 }

@@ -2,34 +2,24 @@
 
 ghost use Rattle.std.specs.Prelude.{◌≡◌, ◌≢◌, ◌⊎◌, ◌≤◌, IfOk};
 ghost use Rattle.opfs_base.specs.Texts.{Text};
-ghost use Rattle.opfs_commands.specs.Commands.{AsksNothing, Asks, InRange};
+ghost use Rattle.opfs_commands.specs.Commands.{running, spelled, AsksNothing, Asks, InRange};
 ghost use Rattle.opfs_commands.specs.Kinds.{DoneKind, IsDumping, IsReading, IsMigration};
 ghost use Rattle.opfs_commands.specs.Telling.{IsStoodFor};
 ghost use Rattle.opfs_machine.specs.Openings.{Map};
 ghost use Rattle.opfs_migrate.specs.Migrating.{StandsEither};
 ghost use Rattle.opfs_outside.specs.Turns.{of_host, of_sink, of_source, AsBefore, ImageStays, OthersAsBefore};
 ghost use Rattle.opfs_top.specs.Answers.{ImageEnded, IsTold, LoadEnded, NoneFailedBy};
-ghost use Rattle.opfs_top.specs.Doing.{Dumped, Ended, Migrates, Names, TakesImage, Tells, ToolEnded};
-ghost use Rattle.opfs_top.specs.Statuses.{status_of};
+ghost use Rattle.opfs_top.specs.Doing.{Dumped, Ended, IsEarly, IsTool, LeavesRun, Migrates, Names, TakesImage, Tells, ToolEnded};
 
-use crate::answer::{Answer, Task, answer_nothing, answer_script};
-use crate::status::Status;
+use crate::answer::{Answer, Task, answer_large_run, answer_nothing, answer_script};
+use crate::run::run_script_at;
+use crate::status::{Status, status_of};
 use opfs_base::Words;
 use opfs_commands::{Action, Command, ToolEnd, load_at, read_command, run_command};
-use opfs_outside::{Host, Sink, Source};
+use opfs_outside::{Gate, Host, Sink, Source};
 use std::alloc::{AllocError, Global};
-
-// The status of a command on an image.
-fn status_of(end: ToolEnd) -> Status
-    ensures { result ≡ status_of end }
-{
-    match end {
-        ToolEnd::Done => Status::Done,
-        ToolEnd::Image => Status::Image,
-        ToolEnd::Host => Status::Host,
-        ToolEnd::Sink => Status::Sink,
-    }
-}
+use std::sync::Wait;
+use std::thread::Threads;
 
 // How a command on the image at a path ends, and what it is to put out.
 fn answer_image<H: Host, K: Sink>(
@@ -85,39 +75,47 @@ pub fn answer_tool<H: Host, K: Sink>(
     ensures reads { H.tells → NoneFailedBy (of_host H.Host host.old host.new) result → (path : Text) → Asks words.now (Tells path) → ImageStays (of_host H.Host host.old host.new) path }
     ensures refused { IfOk result (λ answer. answer.status ≡ Status.Image → H.tells → (path : Text) → Asks words.now (Names path) → ImageStays (of_host H.Host host.old host.new) path) }
     ensures trail { H.tells → NoneFailedBy (of_host H.Host host.old host.new) result → (path : Text) → Asks words.now (Migrates path) → (m : Map) → IsStoodFor m (H.image host.old path) → (c : Text) → H.trail host.new path c → H.trail host.old path c ⊎ StandsEither m c }
-    ensures none { (Asks words.now TakesImage → ⊥) → host.new ≡ host.old }
+    ensures none { (Asks words.now IsTool → ⊥) → host.new ≡ host.old }
     ensures later { K.faults sink.old ≤ K.faults sink.new }
 {
     match read_command(words) {
         Some(Command::OnImage(path, action)) => answer_image(alloc, host, path, action, sink),
         Some(Command::Load(image, text)) => answer_load(alloc, host, image, text),
+        Some(Command::Run(_)) => answer_nothing(alloc),
         Some(Command::Try) => answer_nothing(alloc),
         Some(Command::Judge) => answer_nothing(alloc),
+        Some(Command::Generate(_)) => answer_nothing(alloc),
         None => answer_nothing(alloc),
     }
 }
 
 /// How the command ends that words ask for, and what it is to put out behind what it has put out.
-pub fn answer_to<H: Host, S: Source, K: Sink>(
-    alloc: Global,
+pub fn answer_to<R: AllocGlobal + Threads + Wait + Sync, H: Host, S: Source, K: Sink, G: Gate>(
+    rt: &R,
     words: &Words,
     host: &mut H,
     source: &mut S,
     sink: &mut K,
+    gate: &G,
 ) -> Result<Answer, AllocError>
     ensures told { IsTold (of_sink K.Sink sink.old sink.new) (λ text. Asks words.now (λ command. Dumped command (of_host H.Host host.old host.new) text)) (Ended words.now (of_source S.Source source.old source.new) (of_host H.Host host.old host.new)) result }
     ensures others { H.tells → NoneFailedBy (of_host H.Host host.old host.new) result → (path : Text) → (Asks words.now (Names path) → ⊥) → AsBefore (of_host H.Host host.old host.new) path }
     ensures reads { H.tells → NoneFailedBy (of_host H.Host host.old host.new) result → (path : Text) → Asks words.now (Tells path) → ImageStays (of_host H.Host host.old host.new) path }
     ensures refused { IfOk result (λ answer. answer.status ≡ Status.Image → H.tells → (path : Text) → Asks words.now (Names path) → ImageStays (of_host H.Host host.old host.new) path) }
     ensures trail { H.tells → NoneFailedBy (of_host H.Host host.old host.new) result → (path : Text) → Asks words.now (Migrates path) → (m : Map) → IsStoodFor m (H.image host.old path) → (c : Text) → H.trail host.new path c → H.trail host.old path c ⊎ StandsEither m c }
+    ensures left { (path : Text) → words.now ≡ spelled (running path) → LeavesRun (of_source S.Source source.old source.new) (of_host H.Host host.old host.new) path }
+    ensures early { IfOk result (λ answer. IsEarly answer.status → host.new ≡ host.old) }
     ensures none { (Asks words.now TakesImage → ⊥) → host.new ≡ host.old }
     ensures later { K.faults sink.old ≤ K.faults sink.new }
 {
+    let alloc = rt.alloc();
     match read_command(words) {
         Some(Command::OnImage(path, action)) => answer_image(alloc, host, path, action, sink),
         Some(Command::Load(image, text)) => answer_load(alloc, host, image, text),
-        Some(Command::Try) => answer_script(alloc, Task::Try, source),
-        Some(Command::Judge) => answer_script(alloc, Task::Judge, source),
+        Some(Command::Run(path)) => run_script_at(rt, host, path, source, gate),
+        Some(Command::Try) => answer_script(rt, Task::Try, source, gate),
+        Some(Command::Judge) => answer_script(rt, Task::Judge, source, gate),
+        Some(Command::Generate(numbers)) => answer_large_run(rt, numbers, gate),
         None => answer_nothing(alloc),
     }
 }

@@ -3,25 +3,34 @@
 use crate::asking::{answered, answered_at, answered_over, bytes_of, host};
 use opfs_memory::{MemSink, MemSource};
 use opfs_top::Status;
-use std::alloc::{AllocError, Global};
+use std::alloc::AllocError;
+use std::sync::Wait;
 use std::test::Fail;
+use std::thread::Threads;
 
 // A script of one agent that makes a file.
 const SCRIPT: &str =
     r#"{"agents":[{"origin":"https://a.example","steps":[{"do":"getDirectory","as":"d"}]}]}"#;
 
 // How `try` ends with this room in the sink, where these reads fail.
-fn tried(alloc: Global, room: u64, fails: Vec<u64>) -> Result<(Status, String), AllocError> {
+fn tried<R: AllocGlobal + Threads + Wait + Sync>(
+    rt: &R,
+    room: u64,
+    fails: Vec<u64>,
+) -> Result<(Status, String), AllocError> {
+    let alloc = rt.alloc();
     let source = MemSource::make(bytes_of(alloc, SCRIPT)?, fails);
     let sink = MemSink::make(alloc, room, Vec::new(alloc))?;
-    answered_over(alloc, &["try"], source, sink)
+    answered_over(rt, &["try"], source, sink)
 }
 
 #[test]
 fn words_that_ask_for_nothing(rt: HostRuntime) -> Result<(), Fail> {
-    let cases: [&[&str]; 9] = [
+    let cases: [&[&str]; 11] = [
         &[],
         &["run"],
+        &["gen", "1", "1"],
+        &["gen", "1", "17", "1"],
         &["try", "try"],
         &["judge", "x"],
         &["Try"],
@@ -31,7 +40,7 @@ fn words_that_ask_for_nothing(rt: HostRuntime) -> Result<(), Fail> {
         &["load", "I"],
     ];
     for words in cases {
-        let (status, text) = answered(rt.alloc(), words, SCRIPT)?;
+        let (status, text) = answered(&rt, words, SCRIPT)?;
         assert_eq!(rt; status, Status::Usage);
         assert_eq!(rt; text.as_str(), "opfs: usage\n");
     }
@@ -40,7 +49,7 @@ fn words_that_ask_for_nothing(rt: HostRuntime) -> Result<(), Fail> {
 
 #[test]
 fn a_full_sink_has_a_front_of_the_text(rt: HostRuntime) -> Result<(), Fail> {
-    let (status, text) = tried(rt.alloc(), 10, Vec::new(rt.alloc()))?;
+    let (status, text) = tried(&rt, 10, Vec::new(rt.alloc()))?;
     assert_eq!(rt; status, Status::Sink);
     assert_eq!(rt; text.as_str(), "1.1 getDir");
     Ok(())
@@ -49,7 +58,7 @@ fn a_full_sink_has_a_front_of_the_text(rt: HostRuntime) -> Result<(), Fail> {
 #[test]
 fn a_source_that_fails_is_told(rt: HostRuntime) -> Result<(), Fail> {
     let fails = Vec::from_array(rt.alloc(), [1])?;
-    let (status, text) = tried(rt.alloc(), 100, fails)?;
+    let (status, text) = tried(&rt, 100, fails)?;
     assert_eq!(rt; status, Status::Source);
     assert_eq!(rt; text.as_str(), "opfs: source fault\n");
     Ok(())

@@ -1,14 +1,18 @@
 //! The script of `examples/every_word.json`, which has every word that is served, and its transcript.
 
-use crate::asking::answered;
+use crate::asking::{answered, lines_with};
 use opfs_top::Status;
-use std::alloc::{AllocError, Global};
+use std::alloc::AllocError;
+use std::sync::Wait;
 use std::test::Fail;
+use std::thread::Threads;
 
 // How the example ends, and what it prints.
-fn example(alloc: Global) -> Result<(Status, String), AllocError> {
+fn example<R: AllocGlobal + Threads + Wait + Sync>(
+    rt: &R,
+) -> Result<(Status, String), AllocError> {
     answered(
-        alloc,
+        rt,
         &["try"],
         r#"{"agents":[
             {"origin":"https://a.example","grants":["persistent-storage"],"steps":[
@@ -61,10 +65,10 @@ fn example(alloc: Global) -> Result<(Status, String), AllocError> {
 
 #[test]
 fn every_word_has_its_line(rt: HostRuntime) -> Result<(), Fail> {
-    let (status, text) = example(rt.alloc())?;
+    let (status, text) = example(&rt)?;
     assert_eq!(rt; status, Status::Done);
     assert_eq!(rt;
-        text.as_str(),
+        lines_with(rt.alloc(), text.as_str(), "1.")?.as_str(),
         "1.1 moment ok\n\
             1.2 getDirectory ok\n\
             1.3 getDirectory ok\n\
@@ -100,15 +104,21 @@ fn every_word_has_its_line(rt: HostRuntime) -> Result<(), Fail> {
             1.33 persisted ok false\n\
             1.34 estimate ok 4096 33554432\n\
             1.35 removeEntry ok\n\
-            1.36 end ok\n\
-            2.1 getDirectory ok\n\
+            1.36 end ok\n"
+    );
+    assert_eq!(rt;
+        lines_with(rt.alloc(), text.as_str(), "2.")?.as_str(),
+        "2.1 getDirectory ok\n\
             2.2 getFileHandle ok\n\
             2.3 createSyncAccessHandle ok\n\
             2.4 syncWrite NoModificationAllowedError taken-read-only 1\n\
             2.5 createWritable Unbound\n\
             2.6 discard ok\n\
-            2.7 end ok\n\
-            3.1 getDirectory SecurityError\n\
+            2.7 end ok\n"
+    );
+    assert_eq!(rt;
+        lines_with(rt.alloc(), text.as_str(), "3.")?.as_str(),
+        "3.1 getDirectory SecurityError\n\
             3.2 estimate TypeError\n\
             3.3 end ok\n"
     );

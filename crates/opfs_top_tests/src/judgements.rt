@@ -2,19 +2,21 @@
 
 use crate::asking::{answered, answered_to, bytes_of};
 use opfs_top::Status;
-use std::alloc::{AllocError, Global};
+use std::alloc::AllocError;
+use std::sync::Wait;
 use std::test::Fail;
+use std::thread::Threads;
 
 // How `judge` ends over a script and a transcript, and what it wrote.
-pub fn judged(
-    alloc: Global,
+pub fn judged<R: AllocGlobal + Threads + Wait + Sync>(
+    rt: &R,
     script: &str,
     transcript: &str,
 ) -> Result<(Status, String), AllocError> {
-    let mut bytes = bytes_of(alloc, script)?;
+    let mut bytes = bytes_of(rt.alloc(), script)?;
     bytes.push(0)?;
     bytes.extend_from_slice(transcript.as_bytes())?;
-    answered_to(alloc, &["judge"], bytes)
+    answered_to(rt, &["judge"], bytes)
 }
 
 // An agent that makes a file, writes it and reads it.
@@ -65,7 +67,7 @@ fn transcripts_are_judged(rt: HostRuntime) -> Result<(), Fail> {
         (r#"{"agents":[]}"#, "1.1 end ok\n", "no\n"),
     ];
     for (script, transcript, line) in rows {
-        let (status, text) = judged(rt.alloc(), script, transcript)?;
+        let (status, text) = judged(&rt, script, transcript)?;
         assert_eq!(rt; status, Status::Done, "{transcript}");
         assert_eq!(rt; text.as_str(), line, "{transcript}");
     }
@@ -74,7 +76,7 @@ fn transcripts_are_judged(rt: HostRuntime) -> Result<(), Fail> {
 
 #[test]
 fn where_no_0_stands_the_transcript_is_empty(rt: HostRuntime) -> Result<(), Fail> {
-    let (status, text) = answered(rt.alloc(), &["judge"], NOTE)?;
+    let (status, text) = answered(&rt, &["judge"], NOTE)?;
     assert_eq!(rt; status, Status::Done);
     assert_eq!(rt; text.as_str(), "no\n");
     Ok(())
@@ -96,7 +98,7 @@ fn what_stands_before_the_0_may_be_refused(rt: HostRuntime) -> Result<(), Fail> 
         ),
     ];
     for (script, transcript, line) in rows {
-        let (status, text) = judged(rt.alloc(), script, transcript)?;
+        let (status, text) = judged(&rt, script, transcript)?;
         assert_eq!(rt; status, Status::Script, "{script}");
         assert_eq!(rt; text.as_str(), line, "{script}");
     }
@@ -108,7 +110,7 @@ fn the_transcript_counts_among_the_bytes(rt: HostRuntime) -> Result<(), Fail> {
     let mut bytes = bytes_of(rt.alloc(), r#"{"agents":[]}"#)?;
     bytes.push(0)?;
     bytes.resize(16_777_217, b'x')?;
-    let (status, text) = answered_to(rt.alloc(), &["judge"], bytes)?;
+    let (status, text) = answered_to(&rt, &["judge"], bytes)?;
     assert_eq!(rt; status, Status::Script);
     assert_eq!(rt; text.as_str(), "opfs: script refused: TooMany\n");
     Ok(())

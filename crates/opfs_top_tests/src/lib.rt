@@ -1,4 +1,4 @@
-//! Tests of the program's one call: transcripts, verdicts, refusals, and the ends of a command.
+//! Tests of the program's one call: transcripts, verdicts, runs over an image, refusals, and the ends of a command.
 #![tactic(auto)]
 
 #[cfg(test)]
@@ -13,5 +13,9 @@ mod every_word;
 mod judgements;
 #[cfg(test)]
 mod refusals;
+#[cfg(test)]
+mod runs;
+#[cfg(test)]
+mod stops;
 #[cfg(test)]
 mod transcripts;

@@ -31,7 +31,7 @@ fn refused_scripts_are_told_with_their_places(rt: HostRuntime) -> Result<(), Fai
         ),
     ];
     for (script, line) in rows {
-        let (status, text) = answered(rt.alloc(), &["try"], script)?;
+        let (status, text) = answered(&rt, &["try"], script)?;
         assert_eq!(rt; status, Status::Script, "{script}");
         assert_eq!(rt; text.as_str(), line, "{script}");
     }
@@ -42,7 +42,7 @@ fn refused_scripts_are_told_with_their_places(rt: HostRuntime) -> Result<(), Fai
 fn too_many_bytes_are_refused_before_they_are_read(rt: HostRuntime) -> Result<(), Fail> {
     let mut bytes = Vec::new(rt.alloc());
     bytes.resize(17_825_792, b'[')?;
-    let (status, text) = answered_to(rt.alloc(), &["try"], bytes)?;
+    let (status, text) = answered_to(&rt, &["try"], bytes)?;
     assert_eq!(rt; status, Status::Script);
     assert_eq!(rt; text.as_str(), "opfs: script refused: TooMany\n");
     Ok(())
@@ -58,7 +58,7 @@ fn deep_nesting_has_an_end(rt: HostRuntime) -> Result<(), Fail> {
         let mut bytes = Vec::new(rt.alloc());
         bytes.resize(depth, b'[')?;
         bytes.resize(2 * depth, b']')?;
-        let (status, text) = answered_to(rt.alloc(), &["try"], bytes)?;
+        let (status, text) = answered_to(&rt, &["try"], bytes)?;
         assert_eq!(rt; status, Status::Script);
         assert_eq!(rt; text.as_str(), line, "{depth}");
     }
@@ -109,10 +109,10 @@ fn idle_agents(alloc: Global, count: u32) -> Result<Vec<u8>, AllocError> {
 #[test]
 fn all_read_lengths_together_have_an_end(rt: HostRuntime) -> Result<(), Fail> {
     let alloc = rt.alloc();
-    let (status, text) = answered_to(alloc, &["try"], slices(alloc, 1_024)?)?;
+    let (status, text) = answered_to(&rt, &["try"], slices(alloc, 1_024)?)?;
     assert_eq!(rt; status, Status::Done);
     assert_eq!(rt; text, unbound_slices(alloc, 1_024)?);
-    let (status, text) = answered_to(alloc, &["try"], slices(alloc, 1_025)?)?;
+    let (status, text) = answered_to(&rt, &["try"], slices(alloc, 1_025)?)?;
     assert_eq!(rt; status, Status::Script);
     assert_eq!(rt; text.as_str(), "opfs: script refused: TooMany\n");
     Ok(())
@@ -121,9 +121,9 @@ fn all_read_lengths_together_have_an_end(rt: HostRuntime) -> Result<(), Fail> {
 #[test]
 fn there_are_64_agents_at_most(rt: HostRuntime) -> Result<(), Fail> {
     let alloc = rt.alloc();
-    let (status, _) = answered_to(alloc, &["try"], idle_agents(alloc, 64)?)?;
+    let (status, _) = answered_to(&rt, &["try"], idle_agents(alloc, 64)?)?;
     assert_eq!(rt; status, Status::Done);
-    let (status, text) = answered_to(alloc, &["try"], idle_agents(alloc, 65)?)?;
+    let (status, text) = answered_to(&rt, &["try"], idle_agents(alloc, 65)?)?;
     assert_eq!(rt; status, Status::Script);
     assert_eq!(rt; text.as_str(), "opfs: script refused: TooMany\n");
     Ok(())

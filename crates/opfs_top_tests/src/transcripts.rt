@@ -458,10 +458,10 @@ const ROWS: [(&str, &str, &str); 22] = [
 #[test]
 fn try_prints_lines_that_are_judged_yes(rt: HostRuntime) -> Result<(), Fail> {
     for (name, script, lines) in ROWS {
-        let (status, text) = answered(rt.alloc(), &["try"], script)?;
+        let (status, text) = answered(&rt, &["try"], script)?;
         assert_eq!(rt; status, Status::Done, "{name}");
         assert_eq!(rt; text.as_str(), lines, "{name}");
-        let (_, verdict) = judged(rt.alloc(), script, lines)?;
+        let (_, verdict) = judged(&rt, script, lines)?;
         assert_eq!(rt; verdict.as_str(), "yes\n", "{name}");
     }
     Ok(())

@@ -1,19 +1,8 @@
-use Rattle.std.proofs.Common.{◌≡◌, sym, ◌∙◌, ap, subst, arith}
-use Rattle.std.specs.Prelude.{decimal}
-use Rattle.std.specs.Str.{IsUtf8}
-use Rattle.std.proofs.lemmas.Fmt.{IsAscii-decimal, parse-decimal}
-use Rattle.std.proofs.lemmas.Str.{IsUtf8-from_ascii}
-use Rattle.opfs_commands.proofs.Numbers.{not_other, ok_same}
+use Rattle.std.proofs.Common.{◌≡◌, sym, ◌∙◌, arith}
+use Rattle.std.proofs.lemmas.Fmt.{decimal_injective}
 use Rattle.opfs_commands.proofs.words.number.Goals as goal
 
-pub returns-in_default-clause-none : goal.returns-in_default-clause-none
-returns-in_default-clause-none c = λ n h e. c.in_default.ensures.cases.0 (subst IsUtf8 (sym e) (IsUtf8-from_ascii (decimal n) (IsAscii-decimal n (omega (arith, h)))))
-
-pub returns-in_default-parse-clause-none : goal.returns-in_default-parse-clause-none
-returns-in_default-parse-clause-none c = λ n h e. c.in_default-parse.not-Ok n (parse-decimal 32 n c.in-Ok.text.now c.parse.result (omega (arith, h)) (omega (arith, h)) (c.in-Ok.ensures.cases.0 ∙ e) c.parse.ensures.value.0)
-
-pub returns-then-ne-clause-none : goal.returns-then-ne-clause-none
-returns-then-ne-clause-none c = λ n h e.
-    let r = parse-decimal 32 n c.in-Ok.text.now c.parse.result (omega (arith, h)) (omega (arith, h)) (c.in-Ok.ensures.cases.0 ∙ e) c.parse.ensures.value.0 in
-    let same : c.in-Ok-parse.number ≡ n = ok_same c.parse.result c.in-Ok-parse.number n c.in-Ok-parse.is r in
-    not_other c.as_bytes.result.now c.args.word.now (c.as_bytes.ensures.value ∙ c.format.ensures.text ∙ ap decimal same ∙ sym e) (sym c.if-ne.true ∙ c.ne.ensures)
+pub returns-in-Err-clause-none : goal.returns-in-Err-clause-none
+returns-in-Err-clause-none c = λ n h e.
+    let same : c.in_ok-number.number ≡ n = decimal_injective c.in_ok-number.number n (omega arith) (omega (arith, h)) (sym c.in_ok-number.ensures.some ∙ e) in
+    grind (arith, same, h, c.try_from.ensures, c.in-Err.is)

@@ -1,5 +1,6 @@
-use Rattle.opfs_outside.specs.Turns.{of_host}
+use Rattle.opfs_outside.specs.Turns.{of_host, of_sink, of_source}
 use Rattle.opfs_top.proofs.Hosts.{by_memory, by_sink, by_status}
+use Rattle.opfs_top.proofs.Running.{headline_put}
 use Rattle.opfs_top.proofs.Telling.{cause_as, cut_as, front_as, never_as, puts_as, sink_after}
 use Rattle.opfs_top.specs.declared.status.Status.TheVariants as status
 use Rattle.opfs_top.proofs.command.opfs.Goals as goal
@@ -18,6 +19,11 @@ returns-in_default-clause-trail g c = λ told none. c.answer_to.ensures.trail to
 
 pub returns-in-Ok-put_all-clause-done : goal.returns-in-Ok-put_all-clause-done
 returns-in-Ok-put_all-clause-done g c = λ is. puts_as g.K.Sink c.args.sink.now c.answer_to.new.sink c.put_all.new.sink _ _ c.answer_to.result c.answer_to.ensures.told c.in-Ok.field-0 c.in-Ok.is _ c.as_slice.ensures status.Done (λ x. cc x) c.in-Ok-put_all.ensures.ok is
+
+pub returns-in-Ok-put_all-clause-headline : goal.returns-in-Ok-put_all-clause-headline
+returns-in-Ok-put_all-clause-headline g c = λ is path run.
+    headline_put c.args.words.now (of_source g.S.Source c.args.source.now c.answer_to.new.source) (of_host g.H.Host c.args.host.now c.answer_to.new.host) (of_sink g.K.Sink c.args.sink.now c.put_all.new.sink) path run
+    (puts_as g.K.Sink c.args.sink.now c.answer_to.new.sink c.put_all.new.sink _ _ c.answer_to.result c.answer_to.ensures.told c.in-Ok.field-0 c.in-Ok.is _ c.as_slice.ensures status.Done (λ x. cc x) c.in-Ok-put_all.ensures.ok is)
 
 pub returns-in-Ok-put_all-clause-usage : goal.returns-in-Ok-put_all-clause-usage
 returns-in-Ok-put_all-clause-usage g c = λ is. puts_as g.K.Sink c.args.sink.now c.answer_to.new.sink c.put_all.new.sink _ _ c.answer_to.result c.answer_to.ensures.told c.in-Ok.field-0 c.in-Ok.is _ c.as_slice.ensures status.Usage (λ x. cc x) c.in-Ok-put_all.ensures.ok is

@@ -1,11 +1,12 @@
-use Rattle.std.proofs.Common.{◌⊎◌, sym, subst}
+use Rattle.std.proofs.Common.{◌⊎◌, inl, sym, subst}
 use Rattle.std.proofs.lemmas.Result.{IfOk-weaker}
 use Rattle.opfs_commands.specs.Commands.{meant, on_image, IsAsked}
 use Rattle.opfs_commands.specs.Telling.{IsStoodFor}
 use Rattle.opfs_migrate.specs.Migrating.{StandsEither}
 use Rattle.opfs_outside.specs.Turns.{of_host, of_sink, of_source, ImageStays}
 use Rattle.opfs_top.specs.Doing.{Ended}
-use Rattle.opfs_top.proofs.Hosts.{image_ends, image_migrated, image_told, judgement_ends, load_ends, load_no_migration, load_told, not_image, not_named, not_text, nothing_ends, takes_load, trial_ends}
+use Rattle.opfs_top.proofs.Hosts.{image_ends, image_migrated, image_named, image_told, judgement_ends, large_run_told, load_ends, load_no_migration, load_told, not_image, not_named, not_text, nothing_ends, takes_image, takes_load, trial_ends}
+use Rattle.opfs_top.proofs.Running.{image_never_early, left_of_image, left_of_load, left_of_run, load_late, not_run, not_run_path, refused_stays, run_ends, run_named, run_no_migration, run_tells_none, takes_run}
 use Rattle.opfs_top.proofs.Telling.{told_nothing, told_wider, usage_ended}
 use Rattle.opfs_top.proofs.tool.answer_to.Goals as goal
 
@@ -31,6 +32,22 @@ returns-in-Some-OnImage-clause-trail g c = λ told none path is m stood c' left.
     subst (λ p. g.H.Host.trail c.answer_image.new.host p c' → g.H.Host.trail c.args.host.now p c' ⊎ StandsEither m c') (sym asked.0)
     (λ l. c.answer_image.ensures.trail asked.1 told none m (subst (λ p. IsStoodFor m (g.H.Host.image c.args.host.now p)) asked.0 stood) c' l) left
 
+pub returns-in-Some-OnImage-clause-refused : goal.returns-in-Some-OnImage-clause-refused
+returns-in-Some-OnImage-clause-refused g c =
+    let asked = (subst (λ r. IsAsked c.args.words.now (meant r)) c.in-Some-OnImage.field-0-is c.in-Some-OnImage.ensures.some) in
+    IfOk-weaker c.answer_image.result _ _
+    (λ a is same told path names. subst (λ p. ImageStays (of_host g.H.Host c.args.host.now c.answer_image.new.host) p) (sym (image_named c.args.words.now c.in-Some-OnImage.path.now c.in-Some-OnImage.action asked path names)) (is same told))
+    c.answer_image.ensures.refused
+
+pub returns-in-Some-OnImage-clause-left : goal.returns-in-Some-OnImage-clause-left
+returns-in-Some-OnImage-clause-left g c = left_of_image c.args.words.now (of_source g.S.Source c.args.source.now c.args.source.now) (of_host g.H.Host c.args.host.now c.answer_image.new.host) c.in-Some-OnImage.path.now c.in-Some-OnImage.action (subst (λ r. IsAsked c.args.words.now (meant r)) c.in-Some-OnImage.field-0-is c.in-Some-OnImage.ensures.some)
+
+pub returns-in-Some-OnImage-clause-early : goal.returns-in-Some-OnImage-clause-early
+returns-in-Some-OnImage-clause-early g c = image_never_early (of_sink g.K.Sink c.args.sink.now c.answer_image.new.sink) (of_host g.H.Host c.args.host.now c.answer_image.new.host) c.in-Some-OnImage.path.now c.in-Some-OnImage.action _ c.answer_image.result c.answer_image.ensures.told _
+
+pub returns-in-Some-OnImage-clause-none : goal.returns-in-Some-OnImage-clause-none
+returns-in-Some-OnImage-clause-none g c = λ none. absurd (none (takes_image c.args.words.now c.in-Some-OnImage.path.now c.in-Some-OnImage.action (subst (λ r. IsAsked c.args.words.now (meant r)) c.in-Some-OnImage.field-0-is c.in-Some-OnImage.ensures.some)))
+
 pub returns-in-Some-Load-clause-told : goal.returns-in-Some-Load-clause-told
 returns-in-Some-Load-clause-told g c =
     told_nothing g.K.Sink c.args.sink.now _ (Ended c.args.words.now (of_source g.S.Source c.args.source.now c.args.source.now) (of_host g.H.Host c.args.host.now c.answer_load.new.host)) (λ t x. x) c.answer_load.result
@@ -53,6 +70,38 @@ returns-in-Some-Load-clause-trail g c = λ told none path is. absurd (load_no_mi
 pub returns-in-Some-Load-clause-none : goal.returns-in-Some-Load-clause-none
 returns-in-Some-Load-clause-none g c = λ none. absurd (none (takes_load c.args.words.now c.in-Some-Load.image.now c.in-Some-Load.text.now (subst (λ r. IsAsked c.args.words.now (meant r)) c.in-Some-Load.field-0-is c.in-Some-Load.ensures.some)))
 
+pub returns-in-Some-Load-clause-left : goal.returns-in-Some-Load-clause-left
+returns-in-Some-Load-clause-left g c = left_of_load c.args.words.now (of_source g.S.Source c.args.source.now c.args.source.now) (of_host g.H.Host c.args.host.now c.answer_load.new.host) c.in-Some-Load.image.now c.in-Some-Load.text.now (subst (λ r. IsAsked c.args.words.now (meant r)) c.in-Some-Load.field-0-is c.in-Some-Load.ensures.some)
+
+pub returns-in-Some-Load-clause-early : goal.returns-in-Some-Load-clause-early
+returns-in-Some-Load-clause-early g c = IfOk-weaker c.answer_load.result _ _ (λ a is early. absurd (load_late (of_host g.H.Host c.args.host.now c.answer_load.new.host) c.in-Some-Load.image.now c.in-Some-Load.text.now a.status a.text is early)) c.answer_load.ensures.ended
+
+pub returns-in-Some-Run-clause-told : goal.returns-in-Some-Run-clause-told
+returns-in-Some-Run-clause-told g c =
+    told_nothing g.K.Sink c.args.sink.now _ (Ended c.args.words.now (of_source g.S.Source c.args.source.now c.run_script_at.new.source) (of_host g.H.Host c.args.host.now c.run_script_at.new.host)) (λ t x. x) c.run_script_at.result
+    (IfOk-weaker c.run_script_at.result _ _ (λ a is. run_ends c.args.words.now (of_source g.S.Source c.args.source.now c.run_script_at.new.source) (of_host g.H.Host c.args.host.now c.run_script_at.new.host) c.in-Some-Run.path.now (subst (λ r. IsAsked c.args.words.now (meant r)) c.in-Some-Run.field-0-is c.in-Some-Run.ensures.some) a.status a.text is) c.run_script_at.ensures.ended)
+
+pub returns-in-Some-Run-clause-others : goal.returns-in-Some-Run-clause-others
+returns-in-Some-Run-clause-others g c = λ told none path other. c.run_script_at.ensures.others told none path (not_run_path c.args.words.now c.in-Some-Run.path.now (subst (λ r. IsAsked c.args.words.now (meant r)) c.in-Some-Run.field-0-is c.in-Some-Run.ensures.some) path other)
+
+pub returns-in-Some-Run-clause-reads : goal.returns-in-Some-Run-clause-reads
+returns-in-Some-Run-clause-reads g c = λ told none path is. absurd (run_tells_none c.args.words.now c.in-Some-Run.path.now (subst (λ r. IsAsked c.args.words.now (meant r)) c.in-Some-Run.field-0-is c.in-Some-Run.ensures.some) path is)
+
+pub returns-in-Some-Run-clause-refused : goal.returns-in-Some-Run-clause-refused
+returns-in-Some-Run-clause-refused g c =
+    IfOk-weaker c.run_script_at.result _ _
+    (λ a is same told path names. subst (λ p. ImageStays (of_host g.H.Host c.args.host.now c.run_script_at.new.host) p) (sym (run_named c.args.words.now c.in-Some-Run.path.now (subst (λ r. IsAsked c.args.words.now (meant r)) c.in-Some-Run.field-0-is c.in-Some-Run.ensures.some) path names)) (refused_stays (of_source g.S.Source c.args.source.now c.run_script_at.new.source) (of_host g.H.Host c.args.host.now c.run_script_at.new.host) c.in-Some-Run.path.now a.status a.text is same told))
+    c.run_script_at.ensures.ended
+
+pub returns-in-Some-Run-clause-trail : goal.returns-in-Some-Run-clause-trail
+returns-in-Some-Run-clause-trail g c = λ told none path is. absurd (run_no_migration c.args.words.now c.in-Some-Run.path.now (subst (λ r. IsAsked c.args.words.now (meant r)) c.in-Some-Run.field-0-is c.in-Some-Run.ensures.some) path is)
+
+pub returns-in-Some-Run-clause-left : goal.returns-in-Some-Run-clause-left
+returns-in-Some-Run-clause-left g c = left_of_run c.args.words.now (of_source g.S.Source c.args.source.now c.run_script_at.new.source) (of_host g.H.Host c.args.host.now c.run_script_at.new.host) c.in-Some-Run.path.now (subst (λ r. IsAsked c.args.words.now (meant r)) c.in-Some-Run.field-0-is c.in-Some-Run.ensures.some) c.run_script_at.ensures.left
+
+pub returns-in-Some-Run-clause-none : goal.returns-in-Some-Run-clause-none
+returns-in-Some-Run-clause-none g c = λ none. absurd (none (takes_run c.args.words.now c.in-Some-Run.path.now (subst (λ r. IsAsked c.args.words.now (meant r)) c.in-Some-Run.field-0-is c.in-Some-Run.ensures.some)))
+
 pub returns-in-Some-Try-clause-told : goal.returns-in-Some-Try-clause-told
 returns-in-Some-Try-clause-told g c =
     told_nothing g.K.Sink c.args.sink.now _ (Ended c.args.words.now (of_source g.S.Source c.args.source.now c.answer_script.new.source) (of_host g.H.Host c.args.host.now c.args.host.now)) (λ t x. x) c.answer_script.result
@@ -62,6 +111,23 @@ pub returns-in-Some-Judge-clause-told : goal.returns-in-Some-Judge-clause-told
 returns-in-Some-Judge-clause-told g c =
     told_nothing g.K.Sink c.args.sink.now _ (Ended c.args.words.now (of_source g.S.Source c.args.source.now c.answer_script-in-Some-Judge.new.source) (of_host g.H.Host c.args.host.now c.args.host.now)) (λ t x. x) c.answer_script-in-Some-Judge.result
     (IfOk-weaker c.answer_script-in-Some-Judge.result _ _ (λ a is. judgement_ends c.args.words.now (of_source g.S.Source c.args.source.now c.answer_script-in-Some-Judge.new.source) (of_host g.H.Host c.args.host.now c.args.host.now) (subst (λ r. IsAsked c.args.words.now (meant r)) c.in-Some-Judge.field-0-is c.in-Some-Judge.ensures.some) a.status a.text is) c.answer_script-in-Some-Judge.ensures)
+
+pub returns-in-Some-Try-clause-left : goal.returns-in-Some-Try-clause-left
+returns-in-Some-Try-clause-left g c = λ path is. inl (not_run g.H.Host c.args.host.now path)
+
+pub returns-in-Some-Judge-clause-left : goal.returns-in-Some-Judge-clause-left
+returns-in-Some-Judge-clause-left g c = λ path is. inl (not_run g.H.Host c.args.host.now path)
+
+pub returns-in-Some-Generate-clause-told : goal.returns-in-Some-Generate-clause-told
+returns-in-Some-Generate-clause-told g c =
+    told_nothing g.K.Sink c.args.sink.now _ (Ended c.args.words.now (of_source g.S.Source c.args.source.now c.args.source.now) (of_host g.H.Host c.args.host.now c.args.host.now)) (λ t x. x) c.answer_large_run.result
+    (large_run_told c.args.words.now (of_source g.S.Source c.args.source.now c.args.source.now) (of_host g.H.Host c.args.host.now c.args.host.now) c.in-Some-Generate.numbers (subst (λ r. IsAsked c.args.words.now (meant r)) c.in-Some-Generate.field-0-is c.in-Some-Generate.ensures.some) c.answer_large_run.result c.answer_large_run.ensures.status c.answer_large_run.ensures.text)
+
+pub returns-in-Some-Generate-clause-left : goal.returns-in-Some-Generate-clause-left
+returns-in-Some-Generate-clause-left g c = λ path is. inl (not_run g.H.Host c.args.host.now path)
+
+pub returns-in-None-clause-left : goal.returns-in-None-clause-left
+returns-in-None-clause-left g c = λ path is. inl (not_run g.H.Host c.args.host.now path)
 
 pub returns-in-None-clause-told : goal.returns-in-None-clause-told
 returns-in-None-clause-told g c =
