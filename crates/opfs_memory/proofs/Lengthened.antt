@@ -1,8 +1,8 @@
 -- Bytes that stand for more, with zeros behind them.
-use Rattle.std.proofs.Common.{◌≡◌, ◌⊎◌, ℕ, ◌+◌, ◌-◌, ◌<◌, ◌≤◌, List, [], ◌∷◌, ◌++◌, append_assoc, length, length-append, replicate, inl, inr, refl, sym, ap, ◌∙◌, subst, arith}
+use Rattle.std.proofs.Common.{◌≡◌, ◌⊎◌, ℕ, ◌+◌, ◌-◌, ◌<◌, ◌≤◌, List, ◌++◌, append_assoc, length, length-append, replicate, inl, inr, refl, sym, ap, ◌∙◌, arith}
 use Rattle.std.specs.Prelude.{slice_index}
 use Rattle.std.proofs.lemmas.List.{get_or_append_left, get_or-append_right, length-replicate, replicate-append-replicate}
-use Rattle.opfs_outside.specs.Bytes.{Beside, Same, window}
+use Rattle.opfs_outside.specs.Bytes.{Beside, window}
 use Rattle.opfs_outside.specs.Windows.{same_window}
 use Rattle.opfs_memory.specs.Disks.{Overwritten}
 use Rattle.opfs_memory.specs.Lengthened.{with_zeros}

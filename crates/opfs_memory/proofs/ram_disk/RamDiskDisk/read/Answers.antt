@@ -1,4 +1,4 @@
-use Rattle.std.proofs.Common.{length, ◌+◌, ◌∙◌, refl, arith}
+use Rattle.std.proofs.Common.{length, arith}
 use Rattle.opfs_memory.specs.Overwrites.{is_window}
 use Rattle.opfs_memory.proofs.Lengthened.{read-out, reaches, stays}
 use Rattle.opfs_memory.proofs.ram_disk.RamDiskDisk.read.Goals as goal
