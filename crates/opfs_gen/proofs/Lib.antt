@@ -3,3 +3,4 @@ pub mod Keys
 pub mod Limits
 pub mod Looping
 pub mod Summed
+pub mod Walked

@@ -1,9 +1,9 @@
 -- What is counted of an agent's entries. This project's own.
-use Rattle.std.specs.Prelude.{◌≡◌, ℕ, ◌+◌, ◌&&◌, Bool, true, false, not, List, length}
+use Rattle.std.specs.Prelude.{◌≡◌, ℕ, ◌+◌, ◌&&◌, Bool, true, false, not, List, ◌++◌, length}
 use Rattle.opfs_hist.specs.declared.entry.Entry.{Entry}
 use Rattle.opfs_machine.specs.Steps.{is_refusal}
 use Rattle.opfs_print.specs.Lines.{text_of}
-use Rattle.opfs_runs.specs.Running.{is_wait}
+use Rattle.opfs_runs.specs.Running.{entries_of, is_wait}
 use Rattle.opfs_gen.specs.Summing.{accepted_among, lines_among, refused_among}
 use Rattle.opfs_gen.specs.declared.summing.Told.{Told}
 
@@ -24,3 +24,9 @@ pub record IsCounted (e : Entry) (old new : Told) : Type 0 where
   pub accepted : new.accepted ≡ old.accepted + one_where (not (is_wait e.op) && not (is_refusal e.reply))
   pub refused : new.refused ≡ old.refused + one_where (not (is_wait e.op) && is_refusal e.reply)
   pub text : new.text ≡ old.text
+
+-- Of an agent's entries those of a front of the history are told, and this rest is left.
+pub record IsToldTo (k : ℕ) (history rest : List Entry) (told : Told) : Type 0 where
+  pub front : List Entry
+  pub whole : front ++ rest ≡ history
+  pub so_far : IsTold (entries_of k front) told

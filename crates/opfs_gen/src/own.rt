@@ -9,7 +9,7 @@ ghost use Rattle.opfs_runs.specs.Running.{is_wait};
 ghost use Rattle.opfs_separation.specs.Apart.{is_shared};
 ghost use Rattle.opfs_gen.specs.Own.{SummariesAreOfOwnRuns, is_own, is_own_op};
 
-use opfs_hist::{Entry, Op, Refusal, Reply};
+use opfs_hist::{Entry, History, Op, Refusal, Reply};
 
 /// Whether an entry is neither an eviction nor a wait.
 fn is_own_op(op: &Op) -> bool
@@ -35,12 +35,19 @@ fn is_own(entry: &Entry) -> bool
     is_own_op(&entry.op) && !is_shared(&entry.reply)
 }
 
-/// Whether no entry is an eviction, a wait, or a refusal of shared room or of the disk.
-pub fn are_own(entries: &[Entry]) -> bool
-    ensures exact { result ≡ list_all is_own entries.now }
-    ensures own { IsTrue result → All IsOwnEntry entries.now }
+// Whether all entries of a history tell nothing of what is shared.
+fn tell_own(history: &History) -> bool
+    ensures { result ≡ list_all is_own history.now }
 {
-    entries.iter().all(|entry| is_own(entry))
+    history.iter().all(|entry| is_own(entry))
+}
+
+/// Whether no entry is an eviction, a wait, or a refusal of shared room or of the disk.
+pub fn are_own(history: &History) -> bool
+    ensures exact { result ≡ list_all is_own history.now }
+    ensures own { IsTrue result → All IsOwnEntry history.now }
+{
+    tell_own(history)
 }
 
 /// In a legal history of the script that is made of a number, which tells nothing of what is shared, the summary of its agents

@@ -9,7 +9,7 @@ ghost use Rattle.opfs_gen.specs.Summing.{agent_line, summary_of};
 ghost use Rattle.opfs_gen.specs.Telling.{IsCounted, IsTold};
 
 use hex::encode;
-use opfs_hist::{Entry, Op, Reply};
+use opfs_hist::{Entry, History, Op, Reply};
 use opfs_print::line;
 use sha2::{Digest, Sha256};
 use std::alloc::{AllocError, Global};
@@ -73,8 +73,8 @@ fn note(alloc: Global, entry: &Entry, told: &mut Told) -> Result<(), AllocError>
 }
 
 /// What the entries of an agent tell.
-fn told_of(alloc: Global, entries: &[Entry], agent: u32) -> Result<Told, AllocError>
-    ensures { IfOk result (IsTold (entries_of agent entries.now)) }
+fn told_of(alloc: Global, history: &History, agent: u32) -> Result<Told, AllocError>
+    ensures { IfOk result (IsTold (entries_of agent history.now)) }
 {
     let mut told = Told {
         lines: 0,
@@ -82,7 +82,7 @@ fn told_of(alloc: Global, entries: &[Entry], agent: u32) -> Result<Told, AllocEr
         refused: 0,
         text: Vec::new(alloc),
     };
-    for entry in entries {
+    for entry in history.iter() {
         if entry.agent == agent {
             note(alloc, entry, &mut told)?;
         }
@@ -118,26 +118,26 @@ fn agent_line(alloc: Global, agent: u32, told: &Told) -> Result<String, AllocErr
 /// Appends the line of an agent.
 fn add_agent(
     alloc: Global,
-    entries: &[Entry],
+    history: &History,
     agent: u32,
     text: &mut Vec<u8>,
 ) -> Result<(), AllocError>
-    ensures { OnOk result (text.new.items ≡ text.old.items ++ agent_line agent (entries_of agent entries.now)) }
+    ensures { OnOk result (text.new.items ≡ text.old.items ++ agent_line agent (entries_of agent history.now)) }
 {
-    let told = told_of(alloc, entries, agent)?;
+    let told = told_of(alloc, history, agent)?;
     let line = agent_line(alloc, agent, &told)?;
     text.extend_from_slice(line.as_bytes())?;
     Ok(())
 }
 
 /// The lines of so many agents.
-fn lines_of(alloc: Global, entries: &[Entry], agents: u32) -> Result<Vec<u8>, AllocError>
+fn lines_of(alloc: Global, history: &History, agents: u32) -> Result<Vec<u8>, AllocError>
     requires { agents + 1 < 2 ^ 32 }
-    ensures { IfOk result (λ text. text.items ≡ summary_of agents entries.now) }
+    ensures { IfOk result (λ text. text.items ≡ summary_of agents history.now) }
 {
     let mut text = Vec::new(alloc);
     for index in 0..agents {
-        add_agent(alloc, entries, index + 1, &mut text)?;
+        add_agent(alloc, history, index + 1, &mut text)?;
     }
     Ok(text)
 }
@@ -146,14 +146,14 @@ fn lines_of(alloc: Global, entries: &[Entry], agents: u32) -> Result<Vec<u8>, Al
 /// how many tell one, and the SHA-256 of these lines.
 pub fn summary(
     alloc: Global,
-    entries: &[Entry],
+    history: &History,
     agents: u32,
     into: &mut Vec<u8>,
 ) -> Result<(), AllocError>
     requires { agents + 1 < 2 ^ 32 }
-    ensures ok { OnOk result (into.new.items ≡ into.old.items ++ summary_of agents entries.now) }
+    ensures ok { OnOk result (into.new.items ≡ into.old.items ++ summary_of agents history.now) }
     ensures err { OnErr result (into.new.items ≡ into.old.items) }
 {
-    let text = lines_of(alloc, entries, agents)?;
+    let text = lines_of(alloc, history, agents)?;
     into.extend_from_slice(text.as_slice())
 }

@@ -5,24 +5,34 @@ ghost use Rattle.opfs_gen.specs.Making.{IsGenRange};
 ghost use Rattle.opfs_gen.specs.Summing.{gen_text};
 
 use opfs_base::Bytes;
+use opfs_desk_trial::try_script;
 use opfs_gen::{are_own, make_script, summaries_are_of_own_runs, summary};
-use opfs_trial::run_script;
-use std::alloc::{AllocError, Global};
+use opfs_outside::Gate;
+use std::alloc::AllocError;
+use std::sync::Wait;
+use std::thread::Threads;
 
-/// Runs the script of so many agents and rounds that a number makes, and gives a line an agent with the digest of its transcript. It is
-/// a function of the three numbers. A run that met what all agents share (a full pool or area, an eviction) is answered as want of
-/// memory is.
-pub fn generate(alloc: Global, seed: u64, agents: u32, rounds: u32) -> Result<Bytes, AllocError>
+/// Runs the script of so many agents and rounds that a number makes, each agent on a thread of its own, and gives a line an agent with
+/// the digest of its transcript. It is a function of the three numbers. A run that met what all agents share (a full pool or area, an
+/// eviction) is answered as want of memory is.
+pub fn generate<R: AllocGlobal + Threads + Wait + Sync, G: Gate>(
+    rt: &R,
+    seed: u64,
+    agents: u32,
+    rounds: u32,
+    gate: &G,
+) -> Result<Bytes, AllocError>
     requires { IsGenRange seed agents rounds }
     ensures { IfOk result (λ text. text ≡ gen_text seed agents rounds) }
 {
     summaries_are_of_own_runs();
+    let alloc = rt.alloc();
     let script = make_script(alloc, seed, agents, rounds)?;
-    let history = run_script(alloc, &script)?;
-    if !are_own(&history.items) {
+    let history = try_script(rt, &script, gate)?;
+    if !are_own(&history) {
         return Err(AllocError);
     }
     let mut text = Vec::new(alloc);
-    summary(alloc, &history.items, agents, &mut text)?;
+    summary(alloc, &history, agents, &mut text)?;
     Ok(Bytes::from_vec(text))
 }

@@ -1,31 +1,36 @@
-//! Large runs, with their agents one after another.
+//! Large runs, with their agents on threads.
 
-use opfs_gen::{are_own, make_script, summary};
-use opfs_script::Script;
-use opfs_trial::run_script;
-use std::alloc::{AllocError, Global};
+use opfs_base::Bytes;
+use opfs_gen_run::generate;
+use opfs_outside::Gate;
+use std::alloc::AllocError;
+use std::sync::Wait;
 use std::test::Fail;
+use std::thread::Threads;
 
-// The script of a number.
-fn script(alloc: Global, seed: u64, agents: u32, rounds: u32) -> Result<Script, AllocError> {
+// A gate that holds nobody.
+struct Open;
+
+impl Gate for Open {
+    fn before(&self, _agent: u32, _step: u32) {}
+
+    fn after(&self, _agent: u32, _step: u32) {}
+}
+
+// The summary of a run.
+fn summed<R: AllocGlobal + Threads + Wait + Sync>(
+    rt: &R,
+    seed: u64,
+    agents: u32,
+    rounds: u32,
+) -> Result<Bytes, AllocError> {
     if seed > 9_007_199_254_740_991 || agents < 1 || agents > 16 {
         return Err(AllocError);
     }
     if rounds < 1 || rounds > 200 {
         return Err(AllocError);
     }
-    make_script(alloc, seed, agents, rounds)
-}
-
-// The summary of a run; nothing where it tells of what is shared.
-fn summed(alloc: Global, seed: u64, agents: u32, rounds: u32) -> Result<Vec<u8>, AllocError> {
-    let mut text = Vec::new(alloc);
-    let script = script(alloc, seed, agents, rounds)?;
-    let history = run_script(alloc, &script)?;
-    if agents < 64 && are_own(&history.items) {
-        summary(alloc, &history.items, agents, &mut text)?;
-    }
-    Ok(text)
+    generate(rt, seed, agents, rounds, &Open)
 }
 
 // The digests were made by another program of the transcripts of these scripts.
@@ -67,7 +72,7 @@ fn a_run_is_summed_up(rt: HostRuntime) -> Result<(), Fail> {
         (7, 16, 200, LARGE),
     ];
     for (seed, agents, rounds, wanted) in rows {
-        let text = summed(rt.alloc(), seed, agents, rounds)?;
+        let text = summed(&rt, seed, agents, rounds)?;
         assert_eq!(rt;
             text.as_slice(),
             wanted.as_bytes(),

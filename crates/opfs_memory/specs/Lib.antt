@@ -6,6 +6,7 @@ pub mod Streams
 pub mod KeptCalls
 pub mod KeptEvents
 pub mod Laws
+pub mod Lengthened
 pub mod Overwrites
 pub mod Places
 pub mod Shelves

@@ -4,23 +4,30 @@ ghost use Rattle.std.specs.Prelude.{◌≡◌, ◌+◌, ◌-◌, ◌^◌, ◌<�
 ghost use Rattle.opfs_outside.specs.Bytes.{window};
 ghost use Rattle.opfs_memory.specs.Disks.{Overwritten};
 
-use crate::bytes::overwrite;
+use crate::bytes::{lengthen, overwrite};
 use opfs_outside::{Disk, Failed};
 use std::alloc::{AllocError, Global};
 use std::marker::Model;
 
-/// Bytes in memory that are first zeros. It tells its content, never fails and has no crash.
+/// Bytes in memory that are first zeros. It tells its content, never fails and has no crash. Memory for all of them is taken when it
+/// is made, but none is touched behind the last place that was read or written.
 #[derive(Drop)]
 pub struct RamDisk {
+    // The bytes up to that place. All behind them are zeros.
     bytes: Vec<u8>,
+    len: usize,
 }
 
 impl Model for RamDisk {
-    ghost use Rattle.std.specs.Prelude.{List, ℕ};
+    ghost use Rattle.std.specs.Prelude.{◌≤◌, List, ℕ, length};
+    ghost use Rattle.std.specs.Vec.{vec_capacity};
+    ghost use Rattle.opfs_memory.specs.Lengthened.{with_zeros};
 
     ghost Value = { List ℕ };
 
-    ghost view = { λ disk. disk.bytes.items };
+    ghost view = { λ disk. with_zeros disk.len disk.bytes.items };
+
+    ghost invariant = { λ disk. (length disk.bytes.items ≤ disk.len) × (disk.len ≤ vec_capacity disk.bytes) };
 }
 
 impl RamDisk {
@@ -28,8 +35,10 @@ impl RamDisk {
     pub fn make(alloc: Global, len: u64) -> Result<RamDisk, AllocError>
         ensures { IfOk result (λ disk. disk ≡ replicate len 0) }
     {
+        let len = len as usize;
         Ok(RamDisk {
-            bytes: vec![in alloc; 0; len as usize]?,
+            bytes: Vec::with_capacity(alloc, len)?,
+            len,
         })
     }
 }
@@ -54,7 +63,7 @@ impl Disk for RamDisk {
     fn len(&self) -> u64
         ensures { result ≡ length self.now }
     {
-        self.bytes.len() as u64
+        self.len as u64
     }
 
     fn read(&mut self, at: u64, buf: &mut [u8]) -> Result<(), Failed>
@@ -64,6 +73,7 @@ impl Disk for RamDisk {
         ensures reads { IsOk result }
     {
         let at = at as usize;
+        lengthen(&mut self.bytes, at + buf.len());
         buf.copy_from_slice(&self.bytes[at..at + buf.len()]);
         Ok(())
     }
@@ -73,7 +83,9 @@ impl Disk for RamDisk {
         ensures written { Overwritten at bytes.now self.old self.new }
         ensures writes { IsOk result }
     {
-        overwrite(&mut self.bytes, at as usize, bytes);
+        let at = at as usize;
+        lengthen(&mut self.bytes, at + bytes.len());
+        overwrite(&mut self.bytes, at, bytes);
         Ok(())
     }
 

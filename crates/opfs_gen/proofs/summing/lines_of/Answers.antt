@@ -6,7 +6,7 @@ use Rattle.opfs_gen.proofs.summing.lines_of.Goals as goal
 
 pub loop-index-preserved : goal.loop-index-preserved
 loop-index-preserved c =
-    let es = c.args.entries.now in
+    let es = c.args.history.now in
     let i = c.loop-index.index in
     part-next c.loop-index.text.items c.add_agent.new.text.items (agent_line (i + 1) (entries_of (i + 1) es)) (lines_from (λ k. entries_of k es) (i + 1 + 1) (c.args.agents - (i + 1)))
     (lines_from (λ k. entries_of k es) (i + 1) (c.args.agents - i)) (summary_of c.args.agents es)

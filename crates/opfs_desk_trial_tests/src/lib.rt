@@ -1,0 +1,7 @@
+//! Tests of trials whose agents run on threads.
+#![tactic(auto)]
+
+#[cfg(test)]
+mod gate;
+#[cfg(test)]
+mod trials;
