@@ -4,7 +4,6 @@ ghost use Rattle.std.specs.Prelude.{◌≡◌, IfOk, flat_map, true};
 ghost use Rattle.opfs_commands.specs.Numbers.{may_generate};
 ghost use Rattle.opfs_gen.specs.Summing.{gen_text};
 ghost use Rattle.opfs_outside.specs.Turns.{of_source};
-ghost use Rattle.opfs_print.specs.Lines.{text_of};
 ghost use Rattle.opfs_print.specs.Status.{status_text};
 ghost use Rattle.opfs_print.specs.declared.end.End.TheVariants as end;
 ghost use Rattle.opfs_top.specs.Answers.{Outcome};
@@ -15,13 +14,12 @@ use crate::parts::parts;
 use crate::status::Status;
 use opfs_base::Bytes;
 use opfs_commands::Generation;
+use opfs_desk_trial::try_script;
 use opfs_gen_run::generate;
-use opfs_hist::Entry;
 use opfs_judge::{Verdict, judge};
 use opfs_outside::{Gate, Source};
-use opfs_print::{BadScript, End, line, status_line};
+use opfs_print::{BadScript, End, status_line, transcript};
 use opfs_script::{Script, ScriptRefusal, read_script};
-use opfs_trial::run_script;
 use std::alloc::{AllocError, Global};
 use std::sync::Wait;
 use std::thread::Threads;
@@ -67,28 +65,18 @@ fn refusal(alloc: Global, why: ScriptRefusal) -> Result<Bytes, AllocError>
     Ok(text)
 }
 
-/// The lines of a history.
-fn lines_of(alloc: Global, entries: &[Entry]) -> Result<Bytes, AllocError>
-    ensures { IfOk result (λ text. text ≡ text_of entries.now) }
-{
-    let mut text = Vec::new(alloc);
-    for entry in entries {
-        line(alloc, entry, &mut text)?;
-    }
-    Ok(Bytes::from_vec(text))
-}
-
 /// The transcript of a trial of a script.
 fn trial_text<R: AllocGlobal + Threads + Wait + Sync, G: Gate>(
     rt: &R,
     script: &Script,
-    _gate: &G,
+    gate: &G,
 ) -> Result<Bytes, AllocError>
     ensures { IfOk result (λ text. IsTrialText script.now text) }
 {
-    let history = run_script(rt.alloc(), script)?;
-    let text = lines_of(rt.alloc(), &history.items)?;
-    Ok(text)
+    let history = try_script(rt, script, gate)?;
+    let mut text = Vec::new(rt.alloc());
+    transcript(rt.alloc(), &history, &mut text)?;
+    Ok(Bytes::from_vec(text))
 }
 
 /// The answer to bytes that are refused as a script.
@@ -207,7 +195,7 @@ pub fn answer_script<R: AllocGlobal + Threads + Wait + Sync, S: Source, G: Gate>
 pub fn answer_large_run<R: AllocGlobal + Threads + Wait + Sync, G: Gate>(
     rt: &R,
     numbers: Generation,
-    _gate: &G,
+    gate: &G,
 ) -> Result<Answer, AllocError>
     requires { may_generate numbers ≡ true }
     ensures status { IfOk result (λ answer. answer.status ≡ Status.Done) }
@@ -218,7 +206,7 @@ pub fn answer_large_run<R: AllocGlobal + Threads + Wait + Sync, G: Gate>(
         agents,
         rounds,
     } = numbers;
-    let text = generate(rt.alloc(), seed, agents, rounds)?;
+    let text = generate(rt, seed, agents, rounds, gate)?;
     Ok(Answer {
         status: Status::Done,
         text,

@@ -1,6 +1,0 @@
-use Rattle.std.proofs.Common.{◌≡◌, take}
-use Rattle.opfs_print.specs.Lines.{text_of}
-use Rattle.opfs_top.proofs.answer.lines_of.Given as goal
-
-abbrev pub invariant-loop-entry : goal.invariant-loop-entry
-invariant-loop-entry l = l.text.items ≡ text_of (take l.entry-index l.entries)
