@@ -3,7 +3,7 @@ use Rattle.std.proofs.Common.{◌≡◌, ◌≢◌, ◌⊎◌, ◌++◌, [], inl
 use Rattle.std.specs.Prelude.{List, Result, Ok, Err, IfOk, IsErr, is_err, true, false}
 use Rattle.std.specs.declared.alloc.AllocError.{AllocError}
 use Rattle.opfs_base.specs.Texts.{Text}
-use Rattle.opfs_commands.specs.Commands.{Command, trial, running, judgement, generating, on_image, loading, Asks, AsksNothing, IsAsked}
+use Rattle.opfs_commands.specs.Commands.{Command, trial, judgement, generating, on_image, loading, Asks, AsksNothing, IsAsked}
 use Rattle.opfs_commands.specs.Kinds.{IsDumping, IsReading, IsMigration}
 use Rattle.opfs_commands.specs.Kinds.{NoneFailed as ToolNoneFailed}
 use Rattle.opfs_commands.specs.Telling.{IsAnswer, IsBehind, IsLoaded, IsNoDump, IsOfImage, IsPut}
@@ -15,8 +15,7 @@ use Rattle.opfs_commands.specs.declared.words.Action.{Action}
 use Rattle.opfs_commands.specs.declared.words.Generation.{Generation}
 use Rattle.opfs_commands.proofs.Spelled.{named}
 use Rattle.opfs_gen.specs.Summing.{gen_text}
-use Rattle.opfs_outside.specs.declared.host.Host.{Ghosts as HostWords}
-use Rattle.opfs_outside.specs.Turns.{of_host, AsBefore, HostFailed, HostTurn, SinkTurn, SourceTurn}
+use Rattle.opfs_outside.specs.Turns.{HostFailed, HostTurn, SinkTurn, SourceTurn}
 use Rattle.opfs_print.specs.declared.end.End.TheVariants as end
 use Rattle.opfs_print.specs.Status.{status_text}
 use Rattle.opfs_top.specs.Answers.{Behind, ImageEnded, IsTold, LoadEnded, NoneFailedBy}

@@ -1,5 +1,5 @@
 -- A run over the image at a path: what it puts out, and what it leaves.
-use Rattle.std.proofs.Common.{◌≡◌, ◌≢◌, ◌⊎◌, ◌++◌, [], List, true, inl, inr, refl, sym, ◌∙◌, subst}
+use Rattle.std.proofs.Common.{◌≡◌, ◌≢◌, List, true, inl, inr, refl, subst}
 use Rattle.std.specs.Prelude.{Result, Ok, Err, IfOk}
 use Rattle.std.specs.declared.alloc.AllocError.{AllocError}
 use Rattle.opfs_base.specs.Texts.{Text}
@@ -13,13 +13,11 @@ use Rattle.opfs_commands.proofs.Spelled.{asked_run, named}
 use Rattle.opfs_hist.specs.declared.entry.Entry.{Entry}
 use Rattle.opfs_outside.specs.declared.host.Host.{Ghosts as HostWords}
 use Rattle.opfs_outside.specs.Turns.{of_host, HostServed, HostTurn, ImageStays, Puts, ReadWhole, SinkTurn, SourceTurn}
-use Rattle.opfs_print.specs.declared.end.End.TheVariants as end
-use Rattle.opfs_print.specs.Status.{status_text}
 use Rattle.opfs_script.specs.Reading.{reads}
 use Rattle.opfs_script.specs.Scripts.{Asked}
-use Rattle.opfs_top.specs.Answers.{Behind, BytesRan, ImageEnded, IsTold, LoadEnded, NoneFailedBy, RunEnded, SourceRan}
+use Rattle.opfs_top.specs.Answers.{Behind, BytesRan, ImageEnded, IsTold, LoadEnded, RunEnded, SourceRan}
 use Rattle.opfs_top.specs.Doing.{most_bytes, Did, Ended, IsDone, IsEarly, LeavesRun, Migrates, Names, OfSource, TakesImage, Tells}
-use Rattle.opfs_top.specs.Headline.{HasRun, IsHeadline, LeavesOf, OfScript}
+use Rattle.opfs_top.specs.Headline.{IsHeadline, LeavesOf, OfScript}
 use Rattle.opfs_top.specs.Statuses.{status_of}
 use Rattle.opfs_top.specs.declared.answer.Answer.{Answer}
 use Rattle.opfs_top.specs.declared.status.Status.{Status}

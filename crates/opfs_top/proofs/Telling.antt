@@ -1,15 +1,13 @@
 -- What was put out at each end.
-use Rattle.std.proofs.Common.{◌≡◌, ◌⊎◌, ℕ, ◌+◌, ◌-◌, ◌^◌, ◌<◌, ◌≤◌, List, [], ◌∷◌, ◌++◌, inl, inr, refl, sym, ap, subst, ◌∙◌, append_assoc, arith}
+use Rattle.std.proofs.Common.{◌≡◌, ◌-◌, ◌^◌, ◌≤◌, [], ◌∷◌, ◌++◌, inl, inr, refl, sym, ap, subst, ◌∙◌, append_assoc, arith}
 use Rattle.std.specs.Prelude.{Result, Ok, Err, IfOk}
 use Rattle.std.proofs.lemmas.List.{append-nil}
 use Rattle.std.proofs.lemmas.Result.{IfOk-weaker}
 use Rattle.std.specs.declared.alloc.AllocError.{AllocError}
 use Rattle.opfs_base.specs.Texts.{Text}
-use Rattle.opfs_outside.specs.Faults.{Rose}
 use Rattle.opfs_outside.specs.declared.stream.Sink.{Ghosts as SinkWords}
 use Rattle.opfs_outside.specs.Turns.{SinkTurn, of_sink, Puts, PutsFront, SinkFailed, Took, TookFront}
 use Rattle.opfs_top.specs.Answers.{Behind, IsTold}
-use Rattle.opfs_top.specs.Doing.{IsFrontOf}
 use Rattle.opfs_top.specs.declared.answer.Answer.{Answer}
 use Rattle.opfs_top.specs.declared.status.Status.{Status}
 use Rattle.opfs_top.specs.declared.status.Status.TheVariants as status

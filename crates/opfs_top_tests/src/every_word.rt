@@ -8,9 +8,7 @@ use std::test::Fail;
 use std::thread::Threads;
 
 // How the example ends, and what it prints.
-fn example<R: AllocGlobal + Threads + Wait + Sync>(
-    rt: &R,
-) -> Result<(Status, String), AllocError> {
+fn example<R: AllocGlobal + Threads + Wait + Sync>(rt: &R) -> Result<(Status, String), AllocError> {
     answered(
         rt,
         &["try"],

@@ -93,7 +93,11 @@ fn what_a_run_stores_is_there_for_the_next(rt: HostRuntime) -> Result<(), Fail> 
         (&["format", "I", "16", "4", "8"], "", "formatted 16 4 8\n"),
         (&["run", "I"], FLUSH, FLUSHED),
         (&["check", "I"], "", FLUSH_CHECKED),
-        (&["gen", "1", "1", "1"], "", "agent 1 6 6 0 b1cbc0bf7129a8ba2c603955e4d27f0623bc22a23652791ed4ddeba1e718dc7c\n"),
+        (
+            &["gen", "1", "1", "1"],
+            "",
+            "agent 1 6 6 0 b1cbc0bf7129a8ba2c603955e4d27f0623bc22a23652791ed4ddeba1e718dc7c\n",
+        ),
     ];
     for (words, script, told) in rows {
         let (status, text) = answered_in(&rt, words, &mut host, script)?;
