@@ -36,7 +36,8 @@ use Rattle.opfs_desk_parts.specs.declared.parts.Parts.{Parts}
 use Rattle.opfs_desk_ways.proofs.Evictions.{stored-named}
 use Rattle.opfs_desk_ways.proofs.Held.{behind}
 use Rattle.opfs_desk_puts.specs.Putting.{IsToPut, IsUsed, AreGottenIn, HasFound, HasRoomFor}
-use Rattle.opfs_desk_puts.proofs.Used.{used-here, leaves-here, page-alike, ready-alike}
+use Rattle.opfs_desk_ways.proofs.Leaves.{leaves-here}
+use Rattle.opfs_desk_puts.proofs.Used.{used-here, page-alike, ready-alike}
 
 -- ---- where blocks lie
 

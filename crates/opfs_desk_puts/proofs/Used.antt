@@ -24,13 +24,11 @@ use Rattle.opfs_puts.specs.Puts.{IsReady}
 use Rattle.opfs_replay.specs.Built.{Built}
 use Rattle.opfs_desk_parts.specs.Seen.{book_in}
 use Rattle.opfs_desk_parts.specs.declared.parts.Ledger.{Ledger}
+use Rattle.opfs_desk_ways.proofs.Leaves.{elapses-here}
 use Rattle.opfs_desk_ways.proofs.Loop.{Falls}
 use Rattle.opfs_desk_puts.specs.Putting.{IsUsed}
 
 -- ---- what the images show
-
-elapses-here : {J : Type 0} (moment : J → ℕ) (since : J → ℕ → List ℕ → Type 0) (j : J) → Elapses moment since j j
-elapses-here moment since j = record { later = omega arith; split = λ t c within left. inl left; keeps = λ t c within left. left }
 
 no-doubt : (b : Bool) → b ≡ false → (xs : List Change) → (if b then xs else []) ≡ []
 no-doubt true e xs = cc
@@ -58,26 +56,6 @@ module _ {D : Type 0} (w : DiskWords D) (f : Fixed D) where
         (first.time t) (second.time t) (first.shown t)
         (λ x left'. subst (λ (cs : List Change). IsShown f.opening (floor cs) cs x) same (second.shown t x left')) c left;
   }
-
-pub leaves-here : {D : Type 0} (w : DiskWords D) (j : Seen D) → LeavesPages w j j
-leaves-here w j = record {
-  stays = record { areas = refl; length = refl; spare = refl };
-  later = omega arith;
-  outside = λ t i is. refl;
-  time = λ t. elapses-here w.moment w.since j.disk;
-}
-
-pub leaves-both : {D : Type 0} (w : DiskWords D) → Falls w → (old mid new : Seen D) → LeavesPages w old mid → LeavesPages w mid new → LeavesPages w old new
-leaves-both w falls old mid new first second = record {
-  stays = record {
-    areas = second.stays.areas ∙ first.stays.areas;
-    length = second.stays.length ∙ first.stays.length;
-    spare = second.stays.spare ∙ first.stays.spare;
-  };
-  later = omega (arith, first.later, second.later);
-  outside = λ t i is. second.outside t i (subst (λ (a : Areas). Outside a i) (sym first.stays.areas) is) ∙ first.outside t i is;
-  time = λ t. elapses-trans w.moment w.since (falls t) old.disk mid.disk new.disk (first.time t) (second.time t);
-}
 
 -- ---- pages read as before
 

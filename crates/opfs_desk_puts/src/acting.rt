@@ -24,7 +24,6 @@ ghost use Rattle.opfs_replay.specs.Built.{Built};
 use crate::entering::enter_put;
 use crate::leaving::leave_put;
 use crate::target::Target;
-use crate::way::clear_way;
 use opfs_acts::{Acted, Gift};
 use opfs_book_calls::calls_are_spelled;
 use opfs_desk_laws::{
@@ -32,7 +31,9 @@ use opfs_desk_laws::{
 };
 use opfs_desk_parts::{InHand, Parts};
 use opfs_desk_rows::{parts_lie_inside, puts_have_room, rows_in_hand_are_laid};
-use opfs_desk_steps::{asked_calls_are_ready, calls_are_acted, ready_calls_are_answered};
+use opfs_desk_steps::{
+    asked_calls_are_ready, calls_are_acted, clear_way, ready_calls_are_answered,
+};
 use opfs_desk_ways::take_in;
 use opfs_hist::{Pending, Refusal, Reply};
 use opfs_outside::Disk;

@@ -4,13 +4,9 @@
 
 mod acting;
 mod calling;
-mod clearing;
 mod entering;
-mod evicting;
 mod leaving;
 mod putting;
 mod target;
-mod units;
-mod way;
 
 pub use calling::act_put;

@@ -3,6 +3,7 @@
 ghost use Rattle.std.specs.Prelude.{◌≡◌, ◌++◌, false, map, fold, IfOk, OnOk, OnErr};
 ghost use Rattle.opfs_acts.specs.Acting.{told_entry};
 ghost use Rattle.opfs_book_laws.specs.Books.{Fixed};
+ghost use Rattle.opfs_book_laws.specs.Laws.{LeavesPages};
 ghost use Rattle.opfs_desk_parts.specs.Acted.{AreCleared, HasFailed};
 ghost use Rattle.opfs_desk_parts.specs.Held.{AreHeldWhole};
 ghost use Rattle.opfs_desk_parts.specs.Seen.{tree_in, call_in, units_in};
@@ -37,6 +38,7 @@ pub fn clear_way<D: Disk>(
     ensures tree { OnOk result (tree_in ledger.new ≡ fold cleared_from (tree_in ledger.old) (units_in call.clearing.items)) }
     ensures prepared { OnOk result (IsPrepared ledger.new.books.state call.agent call.op) }
     ensures sure { OnOk result (ledger.new.journal.in_doubt ≡ false) }
+    ensures leaves { OnOk result (LeavesPages D.Disk ledger.old.journal ledger.new.journal) }
     ensures cleared { OnOk result ((f : Fixed D) (recorded : Built) (p : Pages) → AreHeldWhole D.Disk f recorded ledger.old p → AreCleared D.Disk f (units_in call.clearing.items) ledger.old ledger.new p) }
     ensures failed { OnErr result ((f : Fixed D) (recorded : Built) (p : Pages) → AreHeldWhole D.Disk f recorded ledger.old p
         → IsJudged (state_after f.opening ledger.old.books.history) (told_entry (call_in call) reply) (units_in call.clearing.items) → HasFailed D.Disk f (told_entry (call_in call) reply) ledger.old ledger.new p) }

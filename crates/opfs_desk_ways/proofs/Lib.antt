@@ -14,3 +14,4 @@ pub mod Books
 pub mod Loop
 pub mod Doubt
 pub mod Fresh
+pub mod Leaves

@@ -2,7 +2,7 @@
 
 ghost use Rattle.std.specs.Prelude.{◌≡◌, [], false, IfOk, OnOk, OnErr};
 ghost use Rattle.opfs_book_laws.specs.Books.{Fixed};
-ghost use Rattle.opfs_book_laws.specs.Laws.{failed};
+ghost use Rattle.opfs_book_laws.specs.Laws.{LeavesPages, failed};
 ghost use Rattle.opfs_desk_parts.specs.Acted.{HasFailed, IsWayNow};
 ghost use Rattle.opfs_desk_parts.specs.Held.{AreHeldWhole};
 ghost use Rattle.opfs_desk_parts.specs.declared.parts.Pages.{Pages};
@@ -26,6 +26,7 @@ pub fn end_doubt<D: Disk>(ledger: &mut Ledger<D>, last: Last) -> Result<Last, Di
     ensures entries { OnOk result (ledger.new.books.history ≡ ledger.old.books.history) }
     ensures state { OnOk result (ledger.new.books.state ≡ ledger.old.books.state) }
     ensures sure { OnOk result (ledger.new.journal.in_doubt ≡ false) }
+    ensures leaves { OnOk result (LeavesPages D.Disk ledger.old.journal ledger.new.journal) }
     ensures held { OnOk result ((f : Fixed D) (recorded : Built) (p : Pages) → AreHeldWhole D.Disk f recorded ledger.old p → AreHeldWhole D.Disk f recorded ledger.new p × IsWayNow D.Disk f ledger.old ledger.new) }
     ensures failed { OnErr result ((f : Fixed D) (recorded : Built) (p : Pages) → AreHeldWhole D.Disk f recorded ledger.old p → IsCall (state_after f.opening ledger.old.books.history) [] (failed last.entry)
         → HasFailed D.Disk f last.entry ledger.old ledger.new p) }

@@ -2,6 +2,7 @@
 
 ghost use Rattle.std.specs.Prelude.{◌≡◌, ◌++◌, List, map, fold, false, IfOk, OnOk, OnErr};
 ghost use Rattle.opfs_book_laws.specs.Books.{Fixed};
+ghost use Rattle.opfs_book_laws.specs.Laws.{LeavesPages};
 ghost use Rattle.opfs_desk_parts.specs.Acted.{AreCleared, HasFailed};
 ghost use Rattle.opfs_desk_parts.specs.Held.{AreHeldWhole};
 ghost use Rattle.opfs_desk_parts.specs.Seen.{machine_in, tree_in, units_in};
@@ -38,6 +39,7 @@ fn clear_units<D: Disk>(
     ensures tree { OnOk result (tree_in ledger.new ≡ fold cleared_from (tree_in ledger.old) (units_in clearing.items)) }
     ensures prepared { OnOk result (IsPrepared ledger.new.books.state call.entry.agent call.entry.op) }
     ensures sure { OnOk result (ledger.new.journal.in_doubt ≡ false) }
+    ensures leaves { OnOk result (LeavesPages D.Disk ledger.old.journal ledger.new.journal) }
     ensures cleared { OnOk result ((f : Fixed D) (recorded : Built) (p : Pages) → AreHeldWhole D.Disk f recorded ledger.old p → AreCleared D.Disk f (units_in clearing.items) ledger.old ledger.new p) }
     ensures failed { OnErr result ((f : Fixed D) (recorded : Built) (p : Pages) → AreHeldWhole D.Disk f recorded ledger.old p
         → IsJudged (state_after f.opening ledger.old.books.history) call.entry (units_in clearing.items) → HasFailed D.Disk f call.entry ledger.old ledger.new p) }
@@ -74,6 +76,7 @@ pub fn make_way<D: Disk>(
     ensures tree { OnOk result (tree_in ledger.new ≡ fold cleared_from (tree_in ledger.old) (units_in clearing.items)) }
     ensures prepared { OnOk result (IsPrepared ledger.new.books.state last.entry.agent last.entry.op) }
     ensures sure { OnOk result (ledger.new.journal.in_doubt ≡ false) }
+    ensures leaves { OnOk result (LeavesPages D.Disk ledger.old.journal ledger.new.journal) }
     ensures cleared { OnOk result ((f : Fixed D) (recorded : Built) (p : Pages) → AreHeldWhole D.Disk f recorded ledger.old p → AreCleared D.Disk f (units_in clearing.items) ledger.old ledger.new p) }
     ensures failed { OnErr result ((f : Fixed D) (recorded : Built) (p : Pages) → AreHeldWhole D.Disk f recorded ledger.old p
         → IsJudged (state_after f.opening ledger.old.books.history) last.entry (units_in clearing.items) → HasFailed D.Disk f last.entry ledger.old ledger.new p) }

@@ -7,6 +7,7 @@ use Rattle.opfs_machine.specs.Histories.{state_after}
 use Rattle.opfs_desk_ways.specs.Clearing.{IsOnWay, IsTurn, IsStillReady, MayEvict, IsEnteredFailed}
 use Rattle.opfs_desk_ways.proofs.Loop.{way-begins, next-may, way-goes-on, way-fails, ready-for, room-for, all-cleared}
 use Rattle.opfs_desk_ways.proofs.Turns.{turn}
+use Rattle.opfs_desk_ways.proofs.Leaves.{leaves-here, leaves-both}
 use Rattle.opfs_desk_ways.proofs.units.clear_units.Goals as goal
 
 pub loop-next-init : goal.loop-next-init
@@ -18,6 +19,7 @@ loop-next-init g c =
       next = tt;
       finite = tt;
       entry = refl;
+      leaves = leaves-here g.D.Disk l.journal;
       way =
           subst (λ (rest : List Clearing). IsOnWay g.D.Disk l l c.args.call.entry c.args.clearing.items rest) (sym c.into_iter-next-iterator.ensures.into_iter_gives.0)
           (way-begins g.D.Disk l c.args.call.entry c.args.clearing.items c.the_books_show_their_images.ensures ready c.requires.may.settled may.evictions);
@@ -47,7 +49,7 @@ loop-next-preserved g c =
     let on = subst (λ (rest : List Clearing). IsOnWay g.D.Disk l c.loop-next.ledger e all rest) c.in-Some.ensures.steps.0 inv.way in
     let done = c.in-Ok.ensures in
     let ready = subst (λ (x : Entry). IsStillReady c.evict_one.new.ledger x) inv.entry done.ready in
-    record { next = tt; finite = tt; entry = done.last ∙ inv.entry; way = way-goes-on g.D.Disk l e all c.loop-next.ledger c.in-Some.next (into_iter_items c.next.new.self) on laws.falls c.evict_one.new.ledger done.entries done.machine done.tree ready done.sure done.held done.leaves done.shown }
+    record { next = tt; finite = tt; entry = done.last ∙ inv.entry; leaves = leaves-both g.D.Disk laws.falls l.journal c.loop-next.ledger.journal c.evict_one.new.ledger.journal inv.leaves done.leaves; way = way-goes-on g.D.Disk l e all c.loop-next.ledger c.in-Some.next (into_iter_items c.next.new.self) on laws.falls c.evict_one.new.ledger done.entries done.machine done.tree ready done.sure done.held done.leaves done.shown }
 
 pub returns-in-Err-clause-failed : goal.returns-in-Err-clause-failed
 returns-in-Err-clause-failed g c f recorded p are judged =

@@ -1,5 +1,6 @@
 use Rattle.std.proofs.Common.{◌≡◌}
 use Rattle.std.specs.Vec.Iter.{into_iter_items}
+use Rattle.opfs_book_laws.specs.Laws.{LeavesPages}
 use Rattle.opfs_desk_ways.specs.Clearing.{IsOnWay}
 use Rattle.opfs_desk_ways.proofs.units.clear_units.Given as goal
 
@@ -8,5 +9,6 @@ invariant-loop-next g l = record {
   next : (goal.iterator-loop-next g).can_next l.next-iterator;
   finite : (goal.iterator-loop-next g).is_finite l.next-iterator;
   entry : l.last.entry ≡ l.fn.call.entry;
+  leaves : LeavesPages g.D.Disk l.fn.ledger.journal l.ledger.journal;
   way : IsOnWay g.D.Disk l.fn.ledger l.ledger l.fn.call.entry l.fn.clearing.items (into_iter_items l.next-iterator);
 }

@@ -3,6 +3,7 @@ use Rattle.opfs_desk_parts.specs.Seen.{units_in}
 use Rattle.opfs_machine.specs.Histories.{state_after}
 use Rattle.opfs_desk_ways.proofs.Doubt.{may-end, may-clear, then-cleared, then-failed}
 use Rattle.opfs_desk_ways.proofs.Turns.{may-fail}
+use Rattle.opfs_desk_ways.proofs.Leaves.{leaves-both}
 use Rattle.opfs_desk_ways.proofs.units.make_way.Goals as goal
 
 pub end_doubt-requires : goal.end_doubt-requires
@@ -33,3 +34,8 @@ returns-in-Err-clause-failed g c f recorded p are judged =
     let e = c.args.last.entry in
     let units = units_in c.args.clearing.items in
     c.in-Err.ensures.failed f recorded p are (may-fail (state_after f.opening c.args.ledger.now.books.history) e units [] units judged refl)
+
+pub returns-in-Ok-clear_units-clause-leaves : goal.returns-in-Ok-clear_units-clause-leaves
+returns-in-Ok-clear_units-clause-leaves g c =
+    let laws = g.met.D.Disk in
+    leaves-both g.D.Disk laws.falls c.args.ledger.now.journal c.end_doubt.new.ledger.journal c.clear_units.new.ledger.journal c.in-Ok.ensures.leaves c.in-Ok-clear_units.ensures.leaves
