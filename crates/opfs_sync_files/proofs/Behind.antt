@@ -118,7 +118,7 @@ module _ (u : State Text Own) (k n : ℕ) (h : HandleRow) (g : FileRow Text) (is
       ap (λ o. bytes_at (changes_file in_bytes u k n change cursor size o) h.file) opened
       ∙ ap bytes_in (changed-file (with_file u h.file (λ f. record f { present = change f.present; stamp = moment_of u k })) k n (λ r. moved_row r cursor (reserve_for h.reserve size)) h.file)
       ∙ ap bytes_in (file-changed u h.file (λ f. record f { present = change f.present; stamp = moment_of u k }))
-      ∙ ap (λ (o : Option (FileRow Text)). bytes_in (option_map (λ f. record f { present = change f.present; stamp = moment_of u k }) o)) there
+      ∙ ap (λ (o : Option (FileRow Text)). bytes_in (option_map {T = FileRow Text} (λ f. record f { present = change f.present; stamp = moment_of u k }) o)) there
       ∙ ap (λ (o : Option (FileRow Text)). change (bytes_in o)) (sym there)
 
   flushed-by : (m : Mode) → bytes_at (with_written u m h.file flushed) h.file ≡ bytes_at u h.file
@@ -268,7 +268,7 @@ module _ {O : Type 0} (tells : Type 0) (before after : AgentSeen O) (kept : IsAg
         let seen = before.pass.base ++ e.others in
         let after-pending : state_after o turn ≡ fold after_entry (state_after o seen) before.pending = fold-append after_entry (begun o) seen before.pending in
         let waits = pending-for tells (state_after o before.pass.base) (state_after o seen) k before.pending
-            (sym (told-seen tells o before.pass.base e.others k e.legal e.apart)) kept.local in
+        (sym (told-seen tells o before.pass.base e.others k e.legal e.apart)) kept.local in
         let others = told-none tells o f.h.file k x.row before.pass.base e.others e.legal e.apart held-before in
         let group : contents_at f.h.file (changes_from (state_after o turn) (map eviction e.gone ++ last ∷ [])) ≡ contents_at f.h.file (entry_changes u last) =
         ap (contents_at f.h.file) (changes-append (state_after o turn) (map eviction e.gone) (last ∷ []))

@@ -1,5 +1,5 @@
 -- An agent's access handle was open before its local calls.
-use Rattle.std.proofs.Common.{◌≡◌, ℕ, ◌-◌, zero, suc, Bool, true, false, List, [], ◌∷◌, ◌++◌, fold, Option, Some, None, slice_set, refl, sym, ap, ◌∙◌, subst, arith}
+use Rattle.std.proofs.Common.{◌≡◌, ℕ, ◌+◌, ◌-◌, min, zero, suc, Bool, true, false, List, [], ◌∷◌, ◌++◌, fold, length, Option, Some, None, slice_set, refl, sym, ap, ◌∙◌, subst, arith}
 use Rattle.std.specs.Prelude.{slice_get}
 use Rattle.std.proofs.lemmas.Bool.{false≢true}
 use Rattle.opfs_base.specs.Places.{Place}
@@ -134,9 +134,9 @@ module _ (s : State Text Own) (k n : ℕ) (number : IsNumber s k) (z : Sizes) wh
   effect-held (op.Abort m) local = ap (λ (o : Option StreamOutline). held (aborts_stream in_bytes s k m o) k n) (closed-stream (own_of (agent_of s k) m) local)
   effect-held (op.SyncRead m len at) local = changed-held s k n number m _ (λ r. moved-same (cursor_after_read z len at) (reserve_of (outline_of r)) r)
   effect-held (op.SyncWrite m bytes at) local =
-      ap (λ (o : Option HandleOutline). held (changes_file in_bytes s k m _ _ _ o) k n) (closed (own_of (agent_of s k) m) local)
+      ap (λ (o : Option HandleOutline). held (changes_file in_bytes s k m (λ f. in_bytes.overwritten f (start_of z at) bytes) (start_of z at + length bytes) (size_written z at bytes) o) k n) (closed (own_of (agent_of s k) m) local)
   effect-held (op.SyncTruncate m size) local =
-      ap (λ (o : Option HandleOutline). held (changes_file in_bytes s k m _ _ _ o) k n) (closed (own_of (agent_of s k) m) local)
+      ap (λ (o : Option HandleOutline). held (changes_file in_bytes s k m (λ f. in_bytes.cut f size) (min z.position size) size o) k n) (closed (own_of (agent_of s k) m) local)
   effect-held (op.SyncGetSize m) local = refl
   effect-held (op.SyncFlush m) local = ap (λ (o : Option HandleOutline). held (flushes in_bytes s z k m o) k n) (closed (own_of (agent_of s k) m) local)
   effect-held (op.SyncClose m) local = ap (λ (o : Option HandleOutline). held (closes_handle in_bytes s k m o) k n) (closed (own_of (agent_of s k) m) local)

@@ -1,7 +1,8 @@
 -- What each call on an access handle leaves of its file.
-use Rattle.std.proofs.Common.{◌≡◌, ℕ, ◌+◌, ◌≤◌, Bool, true, false, List, [], ◌∷◌, ◌++◌, append-nil, length, replicate, unwrap_or, Option, Some, None, Result, Ok, Err, IfOk, IfErr, OnOk, OnErr, refl, sym, ap, ◌∙◌, subst, inl, inr, arith}
+use Rattle.std.proofs.Common.{◌≡◌, ℕ, ◌+◌, ◌≤◌, min, Bool, true, false, List, [], ◌∷◌, ◌++◌, append-nil, length, replicate, unwrap_or, Option, Some, None, Result, Ok, Err, IfOk, IfErr, OnOk, OnErr, refl, sym, ap, ◌∙◌, subst, inl, inr, arith}
 use Rattle.std.proofs.lemmas.Bool.{false≢true}
 use Rattle.std.proofs.lemmas.List.{length-replicate}
+use Rattle.std.proofs.lemmas.List.Sums.{fold-append}
 use Rattle.opfs_acts.specs.declared.acted.Gift.{Gift}
 use Rattle.opfs_base.specs.Places.{Place, place_of}
 use Rattle.opfs_base.specs.Texts.{Text}
@@ -14,6 +15,7 @@ use Rattle.opfs_calls.proofs.Answered.{real_answered}
 use Rattle.opfs_calls.proofs.Entered.{s, t}
 use Rattle.opfs_calls.proofs.Granted.{granted-answer}
 use Rattle.opfs_calls.proofs.RowsAfter.{some-same}
+use Rattle.opfs_handles.specs.declared.handle.ClosedSync.{ClosedSync}
 use Rattle.opfs_handles.specs.Ends.{GivesBack, IsClosed, WasStopped}
 use Rattle.opfs_handles.proofs.Facts.{HandleFacts, facts, row-is}
 use Rattle.opfs_hist.specs.Sums.{asks_for_row}
@@ -34,6 +36,8 @@ use Rattle.opfs_machine.specs.Agents.{agent_of, own_of, of_row, handle_in, open_
 use Rattle.opfs_machine.specs.Changes.{stored_by, changes}
 use Rattle.opfs_machine.specs.Contents.{in_bytes, outline_of}
 use Rattle.opfs_machine.specs.Effects.{effect}
+use Rattle.opfs_machine.specs.Histories.{after_entry, state_after}
+use Rattle.opfs_machine.specs.Openings.{begun}
 use Rattle.opfs_machine.specs.Replies.{answer, bytes_at, handle_bytes, sizes_in, sizes_of}
 use Rattle.opfs_machine.specs.Ruled.{◌>>=◌, some_or}
 use Rattle.opfs_machine.specs.Rulings.{handle_ruling, ruling, size_written, start_of}
@@ -46,17 +50,13 @@ use Rattle.opfs_turns.specs.Agents.{AgentSeen, IsAgent, known, state_of, own_row
 use Rattle.opfs_turns.specs.Calls.{IsEntered, HasLooked, IsKept, IsLocal, kept_entry}
 use Rattle.opfs_turns.proofs.Keeping.{state-after}
 use Rattle.opfs_sync_files.specs.Entries.{IsIn, HasEntry, IsCaused, GoesOn}
-use Rattle.opfs_sync_files.specs.Files.{contents_at, file_bytes, flushed_by, stored_of, IsStill}
+use Rattle.opfs_sync_files.specs.Files.{contents_at, file_bytes, flushed_by, stored_of, written, IsStill}
 use Rattle.opfs_sync_files.proofs.Behind.{u, entered-entry, entered-goes, row-here, file-here, bytes-here, refused-bytes, accepted-bytes, refused-stored, accepted-stored, bytes-of, bytes-before, altered-bytes, flushed-bytes, handle-contents, read-leaves, size-leaves}
 use Rattle.opfs_sync_files.proofs.Holding.{file_held, held, pending-held}
 use Rattle.opfs_sync_files.proofs.Knowing.{in-left, in-right, in-either, in-last, goes-none, goes-most}
 use Rattle.opfs_sync_files.proofs.Storing.{told-none}
 
 -- ---- bytes in replies
-
-bytes_read : Reply → Text
-bytes_read (reply.Read bytes) = bytes
-bytes_read r = []
 
 same-read : (a b : Text) → reply.Read a ≡ reply.Read b → a ≡ b
 same-read a b is = ap by is
@@ -112,7 +112,7 @@ module _ {O : Type 0} (tells : Type 0) (before after : AgentSeen O) (kept : IsAg
   -- ---- a local call
 
   module _ (called : Op) (answered : Reply) (h : IsMade tells before after called answered 0) where
-    pub made-state : state_of after ≡ Rattle.opfs_machine.specs.Histories.after_entry (state_of before) (kept_entry before called answered)
+    pub made-state : state_of after ≡ after_entry (state_of before) (kept_entry before called answered)
     made-state = ap state_of h.kept ∙ state-after tells before kept called answered 0 h.local
 
     made-known : known after ≡ before.pass.base ++ (before.pending ++ kept_entry before called answered ∷ [])
@@ -169,6 +169,24 @@ module _ {O : Type 0} (tells : Type 0) (before after : AgentSeen O) (kept : IsAg
   local-stored called Gives (Err (stop.No r)) x y same h = made-stored called (reply.No r) h x y same
   local-stored called Gives (Err stop.NoMemory) x y same h = λ i. contents_at (place_of (same i)) (changes (h i).opening (h i).pass.base)
 
+  pub shared-cause : {T : Type 0} (called : Op) (Gives : T → Reply → Gift → Type 0) (r : Result T Stop) → Shared tells before after called Gives r → IfErr r (IsCaused before after)
+  shared-cause called Gives (Ok v) h = tt
+  shared-cause called Gives (Err why) h = shared-caused called Gives why h
+
+  pub local-cause : {T : Type 0} (called : Op) (Gives : T → Reply → Type 0) (r : Result T Stop) → Local tells before after called 0 Gives r → IfErr r (IsCaused before after)
+  local-cause called Gives (Ok v) h = tt
+  local-cause called Gives (Err why) h = local-caused called Gives why h
+
+  abbrev IsSame : HandleSeen → HandleSeen → Type 0
+  IsSame x y = (y.row ≡ x.row) × (y.file ≡ x.file) × (y.mode ≡ x.mode)
+
+  pub shared-still : {T : Type 0} (called : Op) (Gives : T → Reply → Gift → Type 0) (r : Result T Stop) → asks_for_row called ≡ false → Shared tells before after called Gives r → (x y : HandleSeen) → HasHandle tells after y → IsSame x y
+      → IsStill tells before after x y
+  shared-still called Gives r none h x y has same = record { has = has; row = same.0; file = same.1; mode_is = same.2; goes = shared-goes called Gives r none h }
+
+  pub local-still : {T : Type 0} (called : Op) (Gives : T → Reply → Type 0) (r : Result T Stop) → Local tells before after called 0 Gives r → (x y : HandleSeen) → HasHandle tells after y → IsSame x y → IsStill tells before after x y
+  local-still called Gives r h x y has same = record { has = has; row = same.0; file = same.1; mode_is = same.2; goes = local-goes called Gives r h }
+
   module _ (x : HandleSeen) (has : HasHandle tells before x) (y : HandleSeen) (same : y.file ≡ x.file) where
     abbrev f : HandleFacts tells (state_of before) has.stands.row x.work x.file x.mode
     f = facts tells before x has
@@ -193,9 +211,9 @@ module _ {O : Type 0} (tells : Type 0) (before after : AgentSeen O) (kept : IsAg
     looked-stored l =
         let opening : after.opening ≡ before.opening = ap (λ (a : AgentSeen O). a.opening) l.rest in
         let told : IsTold tells before.opening (before.pass.base ++ l.others) = subst (IsTold tells before.opening) l.grown (subst (λ o. IsTold tells o after.pass.base) opening later.legal) in
-        let waits : held (Rattle.opfs_machine.specs.Histories.state_after before.opening before.pass.base) k x.row ≡ Some f.h.file =
-        sym (pending-held tells (Rattle.opfs_machine.specs.Histories.state_after before.opening before.pass.base) k x.row before.pending kept.local)
-        ∙ ap (λ v. held v k x.row) (sym (Rattle.std.proofs.lemmas.List.Sums.fold-append Rattle.opfs_machine.specs.Histories.after_entry (Rattle.opfs_machine.specs.Openings.begun before.opening) before.pass.base before.pending))
+        let waits : held (state_after before.opening before.pass.base) k x.row ≡ Some f.h.file =
+        sym (pending-held tells (state_after before.opening before.pass.base) k x.row before.pending kept.local)
+        ∙ ap (λ v. held v k x.row) (sym (fold-append after_entry (begun before.opening) before.pass.base before.pending))
         ∙ ap (of_row file_held) (row-is tells before x has)
         in
         (λ i. contents_at (place_of (same i)) (changes (opening i) (l.grown i)))
@@ -251,7 +269,7 @@ module _ {O : Type 0} (tells : Type 0) (before after : AgentSeen O) (kept : IsAg
           let g = file-here tells before after kept later called h.answered h.given e x has in
           here (resize (file_bytes before x) size)
           (accepted-bytes tells before after kept later called h.answered h.given e x has h.accepted
-          ∙ altered-bytes w k x.row f.h g.0 (row-here tells before after kept later called h.answered h.given e x has) g.1 (λ c. resize c size) (Rattle.std.specs.Prelude.min z.position size) size
+          ∙ altered-bytes w k x.row f.h g.0 (row-here tells before after kept later called h.answered h.given e x has) g.1 (λ c. resize c size) (min z.position size) size
           ∙ ap (λ c. resize c size) (bytes-here tells before after kept later called h.answered h.given e x has ∙ there))
       cut-bytes (Err why) h = tt
 
@@ -401,3 +419,60 @@ module _ {O : Type 0} (tells : Type 0) (before after : AgentSeen O) (kept : IsAg
 
     pub size-is : (n : ℕ) → n ≡ x.work.length → n ≡ length (file_bytes before x)
     size-is n is = is ∙ f.size ∙ ap length there
+
+-- ---- a write, whatever number of bytes it tells
+
+pub written-ok : (r : Result ℕ Stop) (P : Type 0) → OnOk r P → OnOk (written r) P
+written-ok (Ok count) P h = h
+written-ok (Err why) P h = h
+
+pub written-err : (r : Result ℕ Stop) (P : Type 0) → OnErr r P → OnErr (written r) P
+written-err (Ok count) P h = h
+written-err (Err why) P h = h
+
+pub written-cause : (r : Result ℕ Stop) (P : Stop → Type 0) → IfErr r P → IfErr (written r) P
+written-cause (Ok count) P h = h
+written-cause (Err why) P h = h
+
+-- ---- close
+
+abbrev IsAnyDone : Unit {0} → Reply → Gift → Type 0
+IsAnyDone v answered given = answered ≡ reply.Done
+
+as-shared : {O : Type 0} (tells : Type 0) (before after : AgentSeen O) (called : Op) (why : Stop) → WasStopped tells before after called why → Shared tells before after called IsAnyDone (Err why)
+as-shared tells before after called (stop.No r) h = h
+as-shared tells before after called stop.NoMemory h = h
+
+module _ {O : Type 0} (tells : Type 0) (before after : AgentSeen O) (kept : IsAgent tells before) (later : IsAgent tells after) (x : HandleSeen) (has : HasHandle tells before x) where
+  abbrev closing : Op
+  closing = op.SyncClose x.row
+
+  abbrev Done : Result ClosedSync (HandleSeen × Stop) → Type 0
+  Done r = IfOk r (λ closed. IsClosed tells before after (op.SyncClose x.row) x.row closed.row)
+
+  abbrev Back : Result ClosedSync (HandleSeen × Stop) → Type 0
+  Back r = IfErr r (λ back. GivesBack tells before after (op.SyncClose x.row) x back.0 back.1)
+
+  pub close-goes : (r : Result ClosedSync (HandleSeen × Stop)) → Done r → Back r → GoesOn before after 1
+  close-goes (Ok closed) done back = entered-goes tells before after kept later (op.SyncClose x.row) reply.Done done.given done.entered refl
+  close-goes (Err e) done back = shared-goes tells before after kept later (op.SyncClose x.row) IsAnyDone (Err e.1) refl (as-shared tells before after (op.SyncClose x.row) e.1 back.stopped)
+
+  pub close-stores : (r : Result ClosedSync (HandleSeen × Stop)) → Done r → IfOk r (λ closed. stored_of after x ≡ stored_of before x ++ flushed_by x.mode (file_bytes before x))
+  close-stores (Ok closed) done = close-stored tells before after kept later x has x refl IsAnyDone closed.row done
+  close-stores (Err e) done = tt
+
+  pub close-still : (r : Result ClosedSync (HandleSeen × Stop)) → Back r → IfErr r (λ back. IsStill tells before after x back.0)
+  close-still (Ok closed) back = tt
+  close-still (Err e) back = record { has = back.open_still; row = back.row; file = back.file; mode_is = back.mode; goes = close-goes (Err e) tt back }
+
+  pub close-same : (r : Result ClosedSync (HandleSeen × Stop)) → Back r → IfErr r (λ back. file_bytes after back.0 ≡ file_bytes before x)
+  close-same (Ok closed) back = tt
+  close-same (Err e) back = stopped-bytes tells before after kept later x has e.0 back.file (op.SyncClose x.row) IsAnyDone e.1 refl (as-shared tells before after (op.SyncClose x.row) e.1 back.stopped)
+
+  pub close-unstored : (r : Result ClosedSync (HandleSeen × Stop)) → Back r → IfErr r (λ back. stored_of after back.0 ≡ stored_of before x)
+  close-unstored (Ok closed) back = tt
+  close-unstored (Err e) back = stopped-stored tells before after kept later x has e.0 back.file (op.SyncClose x.row) IsAnyDone e.1 (as-shared tells before after (op.SyncClose x.row) e.1 back.stopped)
+
+  pub close-cause : (r : Result ClosedSync (HandleSeen × Stop)) → Back r → IfErr r (λ back. IsCaused before after back.1)
+  close-cause (Ok closed) back = tt
+  close-cause (Err e) back = shared-caused tells before after kept later (op.SyncClose x.row) IsAnyDone e.1 (as-shared tells before after (op.SyncClose x.row) e.1 back.stopped)

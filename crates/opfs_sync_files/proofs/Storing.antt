@@ -34,7 +34,7 @@ use Rattle.opfs_machine.specs.Rulings.{is_read_write}
 use Rattle.opfs_machine.specs.Runs.{eviction}
 use Rattle.opfs_machine.specs.Steps.{is_refusal, evicted}
 use Rattle.opfs_machine.specs.Sums.{is_persistent}
-use Rattle.opfs_turns.proofs.Others.{Splits, alike-split, heads-alike, tails-alike, no-cons}
+use Rattle.opfs_turns.proofs.Others.{Splits, alike-split, heads-alike, tails-alike}
 use Rattle.opfs_sync_files.specs.Files.{contents_at}
 use Rattle.opfs_sync_files.proofs.Holding.{file_held, held, held-row}
 
@@ -130,6 +130,9 @@ others-none o p k n front (e ∷ more) rest legal all is =
     let then_none = others-none o p k n (front ++ e ∷ []) more rest legal_more (All-tail (λ x. x.agent ≢ k) e more all) there in
     contents-append p (entry_changes s e) (changes_from (after_entry s e) more)
     ∙ (λ i. here i ++ (ap (λ u. contents_at p (changes_from u more)) (sym next) ∙ then_none) i)
+
+no-cons : (e : Entry) (xs : List Entry) → e ∷ xs ≡ [] → ⊥
+no-cons e xs h = cc
 
 apart-alike : (k : ℕ) (more rest : List Entry) → map unread_entry more ≡ map unread_entry rest → All (λ e. e.agent ≢ k) more → All (λ e. e.agent ≢ k) rest
 apart-alike k [] [] alike all = all

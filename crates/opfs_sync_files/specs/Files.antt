@@ -1,5 +1,5 @@
 -- The bytes of an access handle's file (File System: FileSystemSyncAccessHandle). What was stored of it is this project's own.
-use Rattle.std.specs.Prelude.{◌≡◌, ◌⊎◌, ℕ, ◌++◌, if◌then◌else◌, List, [], ◌∷◌, Option, Some, Result}
+use Rattle.std.specs.Prelude.{◌≡◌, ◌⊎◌, ℕ, if◌then◌else◌, List, [], ◌∷◌, Some, Result, Ok, Err}
 use Rattle.std.specs.List.{flat_map}
 use Rattle.std.specs.Ordering.{eq_by_cmp}
 use Rattle.opfs_base.specs.Places.{Place, place_cmp, place_of}
@@ -51,3 +51,8 @@ abbrev pub ReadsOnce : {O : Type 0} → Type 0 → AgentSeen O → AgentSeen O �
 ReadsOnce tells before after row len at result =
     Local tells before after (op.SyncRead row len (Some at)) 0 (λ bytes answered. answered ≡ reply.Read bytes) result
     ⊎ Shared tells before after (op.SyncRead row len (Some at)) (λ bytes answered given. answered ≡ reply.Read bytes) result
+
+-- A write that was done, whatever number of bytes it tells.
+abbrev pub written : Result ℕ Stop → Result (Unit {0}) Stop
+written (Ok count) = Ok tt
+written (Err why) = Err why

@@ -5,7 +5,7 @@ ghost use Rattle.opfs_acts.specs.Asking.{IsSmall, IsSmallData};
 ghost use Rattle.opfs_calls.specs.Rows.{HasHandle};
 ghost use Rattle.opfs_splice.specs.Splicing.{resize, splice};
 ghost use Rattle.opfs_sync_files.specs.Entries.{IsCaused};
-ghost use Rattle.opfs_sync_files.specs.Files.{file_bytes, flushed_by, stored_of, IsStill};
+ghost use Rattle.opfs_sync_files.specs.Files.{file_bytes, flushed_by, stored_of, written, IsStill};
 ghost use Rattle.opfs_turns.specs.Calls.{HasRoom};
 
 use opfs_acts::Store;
@@ -15,6 +15,16 @@ use opfs_calls::Stop;
 use opfs_hall::Hall;
 use opfs_handles::SyncHandle;
 use std::sync::Wait;
+
+// A write that was done, whatever number of bytes it tells.
+fn written(done: Result<u64, Stop>) -> Result<(), Stop>
+    ensures { result ≡ written done }
+{
+    match done {
+        Ok(_) => Ok(()),
+        Err(stop) => Err(stop),
+    }
+}
 
 /// Writes bytes at a place of a file. A write that is refused leaves the file.
 pub fn write<S: Store, R: Wait>(
@@ -39,10 +49,7 @@ pub fn write<S: Store, R: Wait>(
     agent.kept();
     let done = agent.sync_write(rt, court, handle, bytes, Some(at));
     agent.kept();
-    match done {
-        Ok(_) => Ok(()),
-        Err(stop) => Err(stop),
-    }
+    written(done)
 }
 
 /// Cuts or extends a file to a size. A truncate that is refused leaves the file.
@@ -66,10 +73,7 @@ pub fn truncate<S: Store, R: Wait>(
     agent.kept();
     let done = agent.sync_truncate(rt, court, handle, size);
     agent.kept();
-    match done {
-        Ok(()) => Ok(()),
-        Err(stop) => Err(stop),
-    }
+    done
 }
 
 /// Stores the bytes of a file for good. A flush that is refused stores nothing.
@@ -91,8 +95,5 @@ pub fn flush<S: Store, R: Wait>(
     agent.kept();
     let done = agent.sync_flush(rt, court, handle);
     agent.kept();
-    match done {
-        Ok(()) => Ok(()),
-        Err(stop) => Err(stop),
-    }
+    done
 }
