@@ -40,6 +40,9 @@ found-none bytes index key is = found-out bytes index key ∙ ap (option_map (λ
 pub found-here : (bytes : Text) (index : Places) (key : Text) (p : Place) → found index key ≡ Some p → found (read_out bytes index) key ≡ Some (window bytes p.at p.len)
 found-here bytes index key p is = found-out bytes index key ∙ ap (option_map (λ (q : Place). window bytes q.at q.len)) is
 
+pub no-place : (p : Place) → ◌≡◌ {A = Option Place} (Some p) None → ⊥
+no-place p h = cc
+
 -- A key that is not there is taken out by nothing.
 pub out-none : (m : Map) (key : Text) → found m key ≡ None → without_key m key ≡ m
 out-none [] key is = refl
@@ -65,7 +68,7 @@ module _ (tells : Type 0) (bytes : Text) (live : ℕ) (tail : Bool) (index : Pla
     cut-is : new ≡ take live bytes
     cut-is = is ∙ resize-cut bytes live k.inside
 
-    same-front : take live new ≡ take live bytes
+    pub same-front : take live new ≡ take live bytes
     same-front = ap (take live) cut-is ∙ take-twice
 
     pub cut-keeps : Keeps tells new live false index
@@ -89,6 +92,30 @@ module _ (tells : Type 0) (bytes : Text) (live : ℕ) (tail : Bool) (index : Pla
 
   pub spells-map : tail ≡ false → tells → Spells bytes (read_out bytes index)
   spells-map none tell = let i = all-indexed none tell in record { records = i.records; log = i.log; stands_for = sym (reads-all bytes index i) }
+
+  -- ---- other bytes behind the live ones
+
+  module _ (none : tail ≡ false) (more new : Text) (is : new ≡ splice bytes live more) where
+    tail-is : new ≡ bytes ++ more
+    tail-is = is ∙ splice-end bytes more live (k.whole none)
+
+    tail-front : take live new ≡ take live bytes
+    tail-front = ap (take live) tail-is ∙ take-append-le live bytes more k.inside
+
+    pub tail-keeps : Keeps tells new live true index
+    tail-keeps = record {
+      inside = let long = ap length tail-is ∙ length-append bytes more in omega (arith, long, k.inside);
+      small = k.small;
+      whole = λ h. absurd (true-false h);
+      fitting = k.fitting;
+      indexed = λ tell. subst (λ (b : Text). IsIndexed b index) (sym tail-front) (k.indexed tell);
+    }
+      where
+        true-false : true ≡ false → ⊥
+        true-false h = cc
+
+    pub tail-map : tells → read_out new index ≡ read_out bytes index
+    tail-map tell = reads-same bytes new live index (k.indexed tell) tail-front
 
   -- ---- a record more
 
@@ -135,7 +162,7 @@ module _ (tells : Type 0) (bytes : Text) (live : ℕ) (tail : Bool) (index : Pla
     packed-new : new ≡ packed ++ drop (length packed) bytes
     packed-new = is ∙ splice-start bytes packed
 
-    packed-front : take (length packed) new ≡ packed
+    pub packed-front : take (length packed) new ≡ packed
     packed-front = ap (take (length packed)) packed-new ∙ take-first packed (drop (length packed) bytes)
       where
         take-first : (a b : Text) → take (length a) (a ++ b) ≡ a

@@ -1,10 +1,10 @@
 -- How a key-value file is read when it is opened, piece by piece. This project's own.
-use Rattle.std.specs.Prelude.{◌≡◌, ℕ, ◌+◌, ◌*◌, ◌<◌, ◌≤◌, []}
+use Rattle.std.specs.Prelude.{◌≡◌, ℕ, ◌≤◌}
 use Rattle.opfs_base.specs.Texts.{Text}
 use Rattle.opfs_calls.specs.Rows.{HandleSeen, HasHandle}
 use Rattle.opfs_calls.specs.declared.stop.Stop.TheVariants as stop
 use Rattle.opfs_kv_words.specs.Indexes.{IsFitting, Places}
-use Rattle.opfs_kv_words.specs.Scans.{HasFailed, HasRead}
+use Rattle.opfs_kv_words.specs.Scans.{HasFailed, HasRead, IsPiece}
 use Rattle.opfs_kv_words.specs.declared.miss.Miss.{Miss}
 use Rattle.opfs_kv_words.specs.declared.miss.Miss.TheVariants as miss
 use Rattle.opfs_sync_files.specs.Entries.{GoesOn, IsCaused}
@@ -25,6 +25,7 @@ pub record OnlyReads {O : Type 0} (tells : Type 0) (before after : AgentSeen O) 
 
 -- From a place on the file was read up to another.
 pub record IsScanned (tells : Type 0) (bytes : Text) (at : ℕ) (before : Places) (next size : ℕ) (index : Places) : Type 0 where
+  pub on : at ≤ next
   pub inside : next ≤ size
   pub fitting : IsFitting next index
   pub read : tells → HasRead bytes at before next index
@@ -38,3 +39,9 @@ HasScanCause tells before after bytes at index (kv_stop.Full long need) = ⊥
 abbrev pub stop_of : Miss → KvStop
 stop_of miss.Memory = kv_stop.Agent stop.NoMemory
 stop_of (miss.Bad place) = kv_stop.BadFile place
+
+-- What a piece's reading says where it ends early.
+abbrev pub HasEnded : ℕ → ℕ → Text → Places → KvStop → Type 0
+HasEnded size at piece before (kv_stop.BadFile place) = (whole : Text) → IsPiece whole size at piece → HasFailed whole at before place
+HasEnded size at piece before (kv_stop.Agent why) = why ≡ stop.NoMemory
+HasEnded size at piece before (kv_stop.Full long need) = ⊥

@@ -1,11 +1,13 @@
 //! How a file is written anew, by key.
 
-ghost use Rattle.std.specs.Prelude.{◌≡◌, ◌+◌, ◌≤◌, false, sum_by, IfErr, IfOk, OnOk};
+ghost use Rattle.std.specs.Prelude.{◌≡◌, ◌+◌, ◌≤◌, false, map, sum_by, take, IfErr, IfOk, OnOk};
 ghost use Rattle.std.specs.List.{AllByRecursion};
+ghost use Rattle.opfs_calls.specs.declared.stop.Stop.TheVariants as stop;
 ghost use Rattle.opfs_sync_files.specs.Entries.{IsCaused};
 ghost use Rattle.opfs_turns.specs.Calls.{HasRoom};
 ghost use Rattle.opfs_sync_files.specs.Files.{file_bytes};
 ghost use Rattle.opfs_kv_words.specs.Indexes.{IsEntry, cost_of};
+ghost use Rattle.opfs_kv_words.specs.Records.{log_of, put_of};
 ghost use Rattle.opfs_kv.specs.Packing.{IsAnew, IsAnewFor};
 ghost use Rattle.opfs_kv.specs.Seen.{HasPlaces, Serves, Stands, map_in, seen};
 
@@ -42,6 +44,19 @@ fn by_key(alloc: Global, bytes: &[u8], index: &Index) -> Result<Anew, AllocError
     Ok(Anew { bytes, len, index })
 }
 
+// The same, or want of memory.
+fn anew_of(alloc: Global, bytes: &[u8], index: &Index) -> Result<Anew, Stop>
+    requires good { AllByRecursion IsEntry index.now }
+    requires small { sum_by cost_of index.now ≤ 16777216 }
+    ensures anew { IfOk result (λ anew. IsAnew bytes.now index.now anew.bytes anew.len anew.index) }
+    ensures why { IfErr result (λ why. why ≡ stop.NoMemory) }
+{
+    match by_key(alloc, bytes, index) {
+        Ok(anew) => Ok(anew),
+        Err(_) => Err(Stop::NoMemory),
+    }
+}
+
 // The records of the map of a file without a tail, by key.
 fn read_anew<S: Store, R: Wait>(
     rt: &R,
@@ -59,13 +74,9 @@ fn read_anew<S: Store, R: Wait>(
     ensures anew { IfOk result (λ anew. IsAnewFor S.tells (file_bytes agent.old handle.old) notes.now.index anew.bytes anew.len anew.index) }
     ensures cause { IfErr result (IsCaused agent.old agent.new) }
 {
-    let bytes = match read(rt, court, agent, handle, notes.live as u64, 0) {
-        Ok(bytes) => bytes,
-        Err(stop) => return Err(stop),
-    };
-    match by_key(agent.alloc(), bytes.as_slice(), &notes.index) {
-        Ok(anew) => Ok(anew),
-        Err(_) => Err(Stop::NoMemory),
+    match read(rt, court, agent, handle, notes.live as u64, 0) {
+        Ok(bytes) => anew_of(agent.alloc(), bytes.as_slice(), &notes.index),
+        Err(stop) => Err(stop),
     }
 }
 
@@ -84,6 +95,7 @@ fn write_anew<S: Store, R: Wait>(
     requires none { notes.old.tail ≡ false }
     requires anew { IsAnewFor S.tells (file_bytes agent.old handle.old) notes.old.index anew.bytes anew.len anew.index }
     ensures serves { Serves S.tells agent.old agent.new (seen handle.old notes.old) (seen handle.new notes.new) 1 (map_in agent.old (seen handle.old notes.old)) }
+    ensures front { OnOk result (S.tells → take notes.new.live (file_bytes agent.new handle.new) ≡ log_of (map put_of (map_in agent.old (seen handle.old notes.old)))) }
     ensures cause { IfErr result (IsCaused agent.old agent.new) }
 {
     notes.index.kept();
@@ -113,10 +125,34 @@ fn rewrite<S: Store, R: Wait>(
     requires stands { Stands S.tells agent.old (seen handle.old notes.old) }
     requires none { notes.old.tail ≡ false }
     ensures serves { Serves S.tells agent.old agent.new (seen handle.old notes.old) (seen handle.new notes.new) 2 (map_in agent.old (seen handle.old notes.old)) }
+    ensures front { OnOk result (S.tells → take notes.new.live (file_bytes agent.new handle.new) ≡ log_of (map put_of (map_in agent.old (seen handle.old notes.old)))) }
     ensures cause { IfErr result (IsCaused agent.old agent.new) }
 {
     match read_anew(rt, court, agent, handle, notes) {
         Ok(anew) => write_anew(rt, court, agent, handle, notes, anew),
+        Err(stop) => Err(stop),
+    }
+}
+
+// The same, and cuts what is left behind them.
+fn pack_in<S: Store, R: Wait>(
+    rt: &R,
+    court: &Hall<S>,
+    agent: &mut Agent<S>,
+    handle: &mut SyncHandle,
+    notes: &mut Notes,
+) -> Result<(), Stop>
+    requires own { agent.old.pass.hall ≡ court.now }
+    requires room { HasRoom agent.old }
+    requires more { agent.old.entries + 2 ≤ 60000000 }
+    requires stands { Stands S.tells agent.old (seen handle.old notes.old) }
+    requires none { notes.old.tail ≡ false }
+    ensures serves { Serves S.tells agent.old agent.new (seen handle.old notes.old) (seen handle.new notes.new) 3 (map_in agent.old (seen handle.old notes.old)) }
+    ensures packed { OnOk result (S.tells → file_bytes agent.new handle.new ≡ log_of (map put_of (map_in agent.old (seen handle.old notes.old)))) }
+    ensures cause { IfErr result (IsCaused agent.old agent.new) }
+{
+    match rewrite(rt, court, agent, handle, notes) {
+        Ok(()) => cut(rt, court, agent, handle, notes),
         Err(stop) => Err(stop),
     }
 }
@@ -133,15 +169,11 @@ pub fn compact<S: Store, R: Wait>(
     requires few { HasPlaces agent.old }
     requires stands { Stands S.tells agent.old (seen handle.old notes.old) }
     ensures serves { Serves S.tells agent.old agent.new (seen handle.old notes.old) (seen handle.new notes.new) 4 (map_in agent.old (seen handle.old notes.old)) }
-    ensures packed { OnOk result (notes.new.tail ≡ false) }
+    ensures packed { OnOk result (S.tells → file_bytes agent.new handle.new ≡ log_of (map put_of (map_in agent.old (seen handle.old notes.old)))) }
     ensures cause { IfErr result (IsCaused agent.old agent.new) }
 {
     match cut(rt, court, agent, handle, notes) {
-        Ok(()) => {}
-        Err(stop) => return Err(stop),
-    }
-    match rewrite(rt, court, agent, handle, notes) {
-        Ok(()) => cut(rt, court, agent, handle, notes),
+        Ok(()) => pack_in(rt, court, agent, handle, notes),
         Err(stop) => Err(stop),
     }
 }

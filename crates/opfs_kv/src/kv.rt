@@ -1,16 +1,17 @@
 //! A key-value file.
 
-ghost use Rattle.std.specs.Prelude.{◌≡◌, ◌≢◌, ◌+◌, ◌<◌, ◌++◌, [], ◌∷◌, false, length, IfErr, IfOk, OnErr, OnOk, Ok, Err, None, is_some};
-ghost use Rattle.opfs_calls.specs.Rows.{HasClosedHandle, HasHandle};
+ghost use Rattle.std.specs.Prelude.{◌≡◌, ◌≢◌, ◌+◌, ◌<◌, false, length, map, IfErr, IfOk, OnErr, OnOk, Ok, Err, None, is_some};
+ghost use Rattle.opfs_calls.specs.Rows.{HasHandle};
 ghost use Rattle.opfs_hist.specs.declared.op.Mode.TheVariants as mode;
 ghost use Rattle.opfs_kv_words.specs.Maps.{found, with_key, without_key};
-ghost use Rattle.opfs_kv_words.specs.Records.{IsKey, IsValue};
-ghost use Rattle.opfs_sync_files.specs.Entries.{GoesOn, IsCaused};
-ghost use Rattle.opfs_sync_files.specs.Files.{file_bytes, stored_of};
+ghost use Rattle.opfs_kv_words.specs.Records.{IsKey, IsValue, log_of, put_of};
+ghost use Rattle.opfs_sync_files.specs.Entries.{IsCaused};
+ghost use Rattle.opfs_sync_files.specs.Files.{file_bytes};
+ghost use Rattle.opfs_turns.specs.Calls.{HasRoom};
 ghost use Rattle.opfs_kv.specs.Calls.{HasCause, HasOpenCause, HasPlainCause, IsGotten};
 ghost use Rattle.opfs_kv.specs.Keeping.{Spells};
 ghost use Rattle.opfs_kv.specs.Opening.{OnlyReads};
-ghost use Rattle.opfs_kv.specs.Seen.{HasPlaces, Serves, Stands, map_in, stored_in};
+ghost use Rattle.opfs_kv.specs.Seen.{Closes, Flushes, HasPlaces, Serves, Stands, map_in, seen};
 ghost use Rattle.opfs_kv.specs.declared.stop.KvStop.TheVariants as kv_stop;
 
 use crate::changing;
@@ -159,14 +160,11 @@ impl Kv {
         requires own { agent.old.pass.hall ≡ court.now }
         requires few { HasPlaces agent.old }
         requires stands { Stands S.tells agent.old self.old }
-        ensures flushed { OnOk result (Flushes S.tells agent.old agent.new self.old self.new 2) }
+        ensures flushed { OnOk result (Flushes S.tells agent.old agent.new self.old self.new 2 (map_in agent.old self.old)) }
         ensures left { OnErr result (Serves S.tells agent.old agent.new self.old self.new 2 (map_in agent.old self.old)) }
         ensures cause { IfErr result (HasPlainCause agent.old agent.new) }
     {
-        match storing::store(rt, court, agent, &mut self.handle, &mut self.notes) {
-            Ok(()) => Ok(()),
-            Err(stop) => Err(KvStop::Agent(stop)),
-        }
+        storing::flush_file(rt, court, agent, &mut self.handle, &mut self.notes)
     }
 
     /// Writes the map's records by key at the start of the file, in one write, and cuts what is left behind them.
@@ -180,7 +178,7 @@ impl Kv {
         requires few { HasPlaces agent.old }
         requires stands { Stands S.tells agent.old self.old }
         ensures serves { Serves S.tells agent.old agent.new self.old self.new 4 (map_in agent.old self.old) }
-        ensures packed { S.tells → OnOk result (IsCompact (file_bytes agent.new self.new.handle) (map_in agent.old self.old)) }
+        ensures packed { OnOk result (S.tells → file_bytes agent.new self.new.handle ≡ log_of (map put_of (map_in agent.old self.old))) }
         ensures cause { IfErr result (HasPlainCause agent.old agent.new) }
     {
         match compacting::compact(rt, court, agent, &mut self.handle, &mut self.notes) {
@@ -191,7 +189,7 @@ impl Kv {
 
     /// Closes the file, which is stored for good. Where that is refused it comes back open.
     pub fn close<S: Store, R: Wait>(
-        mut self,
+        self,
         rt: &R,
         court: &Hall<S>,
         agent: &mut Agent<S>,
@@ -199,19 +197,12 @@ impl Kv {
         requires own { agent.old.pass.hall ≡ court.now }
         requires few { HasPlaces agent.old }
         requires stands { Stands S.tells agent.old self }
-        ensures closed { IfOk result (λ closed. Closes S.tells agent.old agent.new self closed.row 2) }
+        ensures closed { IfOk result (λ closed. Closes S.tells agent.old agent.new self closed.row 2 (map_in agent.old self)) }
         ensures back { IfErr result (λ back. Serves S.tells agent.old agent.new self back.0 2 (map_in agent.old self)) }
         ensures cause { IfErr result (λ back. IsCaused agent.old agent.new back.1) }
     {
-        let Kv { mut handle, mut notes } = self;
-        match storing::cut(rt, court, agent, &mut handle, &mut notes) {
-            Ok(()) => {}
-            Err(stop) => return Err((Kv { handle, notes }, stop)),
-        }
-        match opfs_sync_files::close(rt, court, agent, handle) {
-            Ok(closed) => Ok(closed),
-            Err((handle, stop)) => Err((Kv { handle, notes }, stop)),
-        }
+        let Kv { handle, notes } = self;
+        cut_and_end(rt, court, agent, handle, notes)
     }
 
     /// The access handle, open as it is. Takes no memory, and adds no entry.
@@ -220,5 +211,48 @@ impl Kv {
     {
         let Kv { handle, notes: _ } = self;
         handle
+    }
+}
+
+// Closes a file without a tail.
+fn end<S: Store, R: Wait>(
+    rt: &R,
+    court: &Hall<S>,
+    agent: &mut Agent<S>,
+    handle: SyncHandle,
+    notes: Notes,
+) -> Result<ClosedSync, (Kv, Stop)>
+    requires own { agent.old.pass.hall ≡ court.now }
+    requires room { HasRoom agent.old }
+    requires stands { Stands S.tells agent.old (seen handle notes) }
+    requires none { notes.tail ≡ false }
+    ensures closed { IfOk result (λ closed. Closes S.tells agent.old agent.new (seen handle notes) closed.row 1 (map_in agent.old (seen handle notes))) }
+    ensures back { IfErr result (λ back. Serves S.tells agent.old agent.new (seen handle notes) back.0 1 (map_in agent.old (seen handle notes))) }
+    ensures cause { IfErr result (λ back. IsCaused agent.old agent.new back.1) }
+{
+    match opfs_sync_files::close(rt, court, agent, handle) {
+        Ok(closed) => Ok(closed),
+        Err((handle, stop)) => Err((Kv { handle, notes }, stop)),
+    }
+}
+
+// Cuts a pending tail, and closes the file.
+fn cut_and_end<S: Store, R: Wait>(
+    rt: &R,
+    court: &Hall<S>,
+    agent: &mut Agent<S>,
+    mut handle: SyncHandle,
+    mut notes: Notes,
+) -> Result<ClosedSync, (Kv, Stop)>
+    requires own { agent.old.pass.hall ≡ court.now }
+    requires few { HasPlaces agent.old }
+    requires stands { Stands S.tells agent.old (seen handle notes) }
+    ensures closed { IfOk result (λ closed. Closes S.tells agent.old agent.new (seen handle notes) closed.row 2 (map_in agent.old (seen handle notes))) }
+    ensures back { IfErr result (λ back. Serves S.tells agent.old agent.new (seen handle notes) back.0 2 (map_in agent.old (seen handle notes))) }
+    ensures cause { IfErr result (λ back. IsCaused agent.old agent.new back.1) }
+{
+    match storing::cut(rt, court, agent, &mut handle, &mut notes) {
+        Ok(()) => end(rt, court, agent, handle, notes),
+        Err(stop) => Err((Kv { handle, notes }, stop)),
     }
 }
