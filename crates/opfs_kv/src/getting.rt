@@ -35,14 +35,7 @@ fn value_at<S: Store, R: Wait>(
     ensures read { IsRead S.tells agent.old agent.new handle.old.row place result }
     ensures cause { IfErr result (HasPlainCause agent.old agent.new) }
 {
-    match read(
-        rt,
-        court,
-        agent,
-        handle,
-        place.len as u64,
-        place.at as u64,
-    ) {
+    match read(rt, court, agent, handle, place.len as u64, place.at as u64) {
         Ok(bytes) => Ok(Some(bytes)),
         Err(stop) => Err(KvStop::Agent(stop)),
     }

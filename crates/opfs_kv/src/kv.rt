@@ -14,13 +14,10 @@ ghost use Rattle.opfs_kv.specs.Opening.{OnlyReads};
 ghost use Rattle.opfs_kv.specs.Seen.{Closes, Flushes, HasPlaces, Serves, Stands, map_in, seen};
 ghost use Rattle.opfs_kv.specs.declared.stop.KvStop.TheVariants as kv_stop;
 
-use crate::changing;
-use crate::compacting;
-use crate::getting;
 use crate::notes::Notes;
 use crate::opening::read_notes;
 use crate::stop::KvStop;
-use crate::storing;
+use crate::{changing, compacting, getting, storing};
 use opfs_acts::Store;
 use opfs_agent::Agent;
 use opfs_base::Bytes;
@@ -140,14 +137,7 @@ impl Kv {
         ensures full { found self.old.index key.now ≢ None → 16777216 < self.old.live + (2 + length key.now) → result ≡ Err (kv_stop.Full self.old.live (2 + length key.now)) }
         ensures cause { IfErr result (HasCause agent.old agent.new self.old.live (2 + length key.now)) }
     {
-        changing::delete(
-            rt,
-            court,
-            agent,
-            &mut self.handle,
-            &mut self.notes,
-            key,
-        )
+        changing::delete(rt, court, agent, &mut self.handle, &mut self.notes, key)
     }
 
     /// Stores the file for good: its content is then records that stand for the map.

@@ -35,7 +35,13 @@ fn stop_of(miss: Miss) -> KvStop
 }
 
 // Reads the records of a piece.
-fn scanned(alloc: Global, index: &mut Index, piece: &[u8], at: u32, size: u32) -> Result<u32, KvStop>
+fn scanned(
+    alloc: Global,
+    index: &mut Index,
+    piece: &[u8],
+    at: u32,
+    size: u32,
+) -> Result<u32, KvStop>
     requires small { size ≤ 16777216 }
     requires inside { at + length piece.now ≤ size }
     requires fitting { IsFitting at index.old }

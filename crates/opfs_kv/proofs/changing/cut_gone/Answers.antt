@@ -25,11 +25,11 @@ pub write_gone-requires-clause-fits : goal.write_gone-requires-clause-fits
 write_gone-requires-clause-fits g c = omega (arith, c.in-Ok.ensures.same.1, c.requires.fits)
 
 pub returns-in-Ok-clause-gone : goal.returns-in-Ok-clause-gone
-returns-in-Ok-clause-gone g c = 
+returns-in-Ok-clause-gone g c =
     on-ok c.write_gone.result _ (Serves g.S.Store.tells c.args.agent.now c.write_gone.new.agent (seen c.args.handle.now c.args.notes.now) (seen c.write_gone.new.handle c.write_gone.new.notes) 2 (without_key (map_in c.args.agent.now (seen c.args.handle.now c.args.notes.now)) c.args.key.now)) (λ s. serves-then g.S.Store.tells c.args.agent.now c.cut.new.agent c.write_gone.new.agent (seen c.args.handle.now c.args.notes.now) (seen c.cut.new.handle c.cut.new.notes) (seen c.write_gone.new.handle c.write_gone.new.notes) 1 1 (λ (m : Map). without_key m c.args.key.now) c.in-Ok.ensures.serves s) c.write_gone.ensures.gone
 
 pub returns-in-Ok-clause-left : goal.returns-in-Ok-clause-left
-returns-in-Ok-clause-left g c = 
+returns-in-Ok-clause-left g c =
     on-err c.write_gone.result _ (Serves g.S.Store.tells c.args.agent.now c.write_gone.new.agent (seen c.args.handle.now c.args.notes.now) (seen c.write_gone.new.handle c.write_gone.new.notes) 2 (map_in c.args.agent.now (seen c.args.handle.now c.args.notes.now))) (λ s. serves-then g.S.Store.tells c.args.agent.now c.cut.new.agent c.write_gone.new.agent (seen c.args.handle.now c.args.notes.now) (seen c.cut.new.handle c.cut.new.notes) (seen c.write_gone.new.handle c.write_gone.new.notes) 1 1 (λ m. m) c.in-Ok.ensures.serves s) c.write_gone.ensures.left
 
 pub returns-in-Ok-clause-cause : goal.returns-in-Ok-clause-cause

@@ -25,11 +25,11 @@ pub write_put-requires-clause-fits : goal.write_put-requires-clause-fits
 write_put-requires-clause-fits g c = omega (arith, c.in-Ok.ensures.same.1, c.requires.fits)
 
 pub returns-in-Ok-clause-put : goal.returns-in-Ok-clause-put
-returns-in-Ok-clause-put g c = 
+returns-in-Ok-clause-put g c =
     on-ok c.write_put.result _ (Serves g.S.Store.tells c.args.agent.now c.write_put.new.agent (seen c.args.handle.now c.args.notes.now) (seen c.write_put.new.handle c.write_put.new.notes) 2 (with_key (map_in c.args.agent.now (seen c.args.handle.now c.args.notes.now)) c.args.key.now c.args.value.now)) (λ s. serves-then g.S.Store.tells c.args.agent.now c.cut.new.agent c.write_put.new.agent (seen c.args.handle.now c.args.notes.now) (seen c.cut.new.handle c.cut.new.notes) (seen c.write_put.new.handle c.write_put.new.notes) 1 1 (λ (m : Map). with_key m c.args.key.now c.args.value.now) c.in-Ok.ensures.serves s) c.write_put.ensures.put
 
 pub returns-in-Ok-clause-left : goal.returns-in-Ok-clause-left
-returns-in-Ok-clause-left g c = 
+returns-in-Ok-clause-left g c =
     on-err c.write_put.result _ (Serves g.S.Store.tells c.args.agent.now c.write_put.new.agent (seen c.args.handle.now c.args.notes.now) (seen c.write_put.new.handle c.write_put.new.notes) 2 (map_in c.args.agent.now (seen c.args.handle.now c.args.notes.now))) (λ s. serves-then g.S.Store.tells c.args.agent.now c.cut.new.agent c.write_put.new.agent (seen c.args.handle.now c.args.notes.now) (seen c.cut.new.handle c.cut.new.notes) (seen c.write_put.new.handle c.write_put.new.notes) 1 1 (λ m. m) c.in-Ok.ensures.serves s) c.write_put.ensures.left
 
 pub returns-in-Ok-clause-cause : goal.returns-in-Ok-clause-cause

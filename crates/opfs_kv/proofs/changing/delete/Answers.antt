@@ -9,7 +9,7 @@ use Rattle.opfs_kv.proofs.Serving.{serves-none}
 use Rattle.opfs_kv.proofs.changing.delete.Goals as goal
 
 pub returns-in-Some-clause-was : goal.returns-in-Some-clause-was
-returns-in-Some-clause-was g c = 
+returns-in-Some-clause-was g c =
     if-ok c.take_out.result (λ (w : Bool). w ≡ true) (λ (w : Bool). w ≡ is_some (found (map_in c.args.agent.now (seen c.args.handle.now c.args.notes.now)) c.args.key.now)) (λ w h. h ∙ sym (found-some (file_bytes c.args.agent.now c.args.handle.now) c.args.notes.now.index c.args.key.now ∙ ap is_some (sym c.in-Some.ensures))) c.take_out.ensures.was
 
 pub returns-in-Some-clause-none : goal.returns-in-Some-clause-none

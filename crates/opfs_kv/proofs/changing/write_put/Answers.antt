@@ -23,12 +23,12 @@ pub returns-in-Err-clause-left : goal.returns-in-Err-clause-left
 returns-in-Err-clause-left g c = still-serves g.S.Store.tells c.args.agent.now c.write.new.agent (seen c.args.handle.now c.args.notes.now) c.requires.stands c.write.new.handle c.in-Err.ensures.still c.in-Err.ensures.stored c.in-Err.ensures.same
 
 pub returns-in-Ok-clause-put : goal.returns-in-Ok-clause-put
-returns-in-Ok-clause-put g c = 
+returns-in-Ok-clause-put g c =
     on-ok c.note_put.result _ (Serves g.S.Store.tells c.args.agent.now c.write.new.agent (seen c.args.handle.now c.args.notes.now) (seen c.write.new.handle c.note_put.new.notes) 1 (with_key (map_in c.args.agent.now (seen c.args.handle.now c.args.notes.now)) c.args.key.now c.args.value.now)) (λ is. subst (λ (n : Notes). Serves g.S.Store.tells c.args.agent.now c.write.new.agent (seen c.args.handle.now c.args.notes.now) (seen c.write.new.handle n) 1 (with_key (map_in c.args.agent.now (seen c.args.handle.now c.args.notes.now)) c.args.key.now c.args.value.now)) (sym is)
     (put-serves g.S.Store.tells c.args.agent.now c.write.new.agent (seen c.args.handle.now c.args.notes.now) c.requires.stands c.write.new.handle c.in-Ok.ensures.still c.in-Ok.ensures.stored c.requires.none c.args.key.now c.args.value.now c.requires.key c.requires.value c.requires.fits (c.in-Ok.ensures.wrote ∙ ap (λ (t : Text). splice (file_bytes c.args.agent.now c.args.handle.now) c.args.notes.now.live t) c.requires.bytes) (c.args.notes.now.live + 6 + c.len.result) c.len-len.result ((c.args.notes.now.live + 6 + c.len.result) + c.len-len.result) (omega (arith, c.len.ensures)) (c.len-len.ensures) (omega (arith, c.len.ensures, c.len-len.ensures)))) c.note_put.ensures.ok
 
 pub returns-in-Ok-clause-left : goal.returns-in-Ok-clause-left
-returns-in-Ok-clause-left g c = 
+returns-in-Ok-clause-left g c =
     on-err c.note_put.result _ (Serves g.S.Store.tells c.args.agent.now c.write.new.agent (seen c.args.handle.now c.args.notes.now) (seen c.write.new.handle c.note_put.new.notes) 1 (map_in c.args.agent.now (seen c.args.handle.now c.args.notes.now))) (λ is. subst (λ (n : Notes). Serves g.S.Store.tells c.args.agent.now c.write.new.agent (seen c.args.handle.now c.args.notes.now) (seen c.write.new.handle n) 1 (map_in c.args.agent.now (seen c.args.handle.now c.args.notes.now))) (sym is)
     (tail-serves g.S.Store.tells c.args.agent.now c.write.new.agent (seen c.args.handle.now c.args.notes.now) c.requires.stands c.write.new.handle c.in-Ok.ensures.still c.in-Ok.ensures.stored c.requires.none c.args.bytes.now c.in-Ok.ensures.wrote)) c.note_put.ensures.err
 

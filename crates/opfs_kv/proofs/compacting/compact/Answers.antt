@@ -30,7 +30,7 @@ pub returns-in-Ok-clause-serves : goal.returns-in-Ok-clause-serves
 returns-in-Ok-clause-serves g c = serves-then g.S.Store.tells c.args.agent.now c.cut.new.agent c.pack_in.new.agent (seen c.args.handle.now c.args.notes.now) (seen c.cut.new.handle c.cut.new.notes) (seen c.pack_in.new.handle c.pack_in.new.notes) 1 3 (λ (m : Map). m) c.in-Ok.ensures.serves c.pack_in.ensures.serves
 
 pub returns-in-Ok-clause-packed : goal.returns-in-Ok-clause-packed
-returns-in-Ok-clause-packed g c = 
+returns-in-Ok-clause-packed g c =
     on-ok c.pack_in.result _ (g.S.Store.tells → file_bytes c.pack_in.new.agent c.pack_in.new.handle ≡ log_of (map put_of (map_in c.args.agent.now (seen c.args.handle.now c.args.notes.now)))) (λ f tell. f tell ∙ ap (λ (m : Map). log_of (map put_of m)) (c.in-Ok.ensures.serves.map tell)) c.pack_in.ensures.packed
 
 pub returns-in-Ok-clause-cause : goal.returns-in-Ok-clause-cause

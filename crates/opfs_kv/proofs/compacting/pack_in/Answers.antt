@@ -21,7 +21,7 @@ pub returns-in-Ok-clause-serves : goal.returns-in-Ok-clause-serves
 returns-in-Ok-clause-serves g c = serves-then g.S.Store.tells c.args.agent.now c.rewrite.new.agent c.cut.new.agent (seen c.args.handle.now c.args.notes.now) (seen c.rewrite.new.handle c.rewrite.new.notes) (seen c.cut.new.handle c.cut.new.notes) 2 1 (λ (m : Map). m) c.in-Ok.ensures.serves c.cut.ensures.serves
 
 pub returns-in-Ok-clause-packed : goal.returns-in-Ok-clause-packed
-returns-in-Ok-clause-packed g c = 
+returns-in-Ok-clause-packed g c =
     on-ok c.cut.result _ (g.S.Store.tells → file_bytes c.cut.new.agent c.cut.new.handle ≡ log_of (map put_of (map_in c.args.agent.now (seen c.args.handle.now c.args.notes.now)))) (λ none tell. all-cut g.S.Store.tells c.cut.new.agent (seen c.cut.new.handle c.cut.new.notes) c.cut.ensures.serves.stands none _ c.cut.ensures.same.1 ∙ c.cut.ensures.front ∙ c.in-Ok.ensures.front tell) c.cut.ensures.none
 
 pub returns-in-Ok-clause-cause : goal.returns-in-Ok-clause-cause

@@ -23,7 +23,7 @@ pub returns-in-Ok-clause-serves : goal.returns-in-Ok-clause-serves
 returns-in-Ok-clause-serves g c = still-serves g.S.Store.tells c.args.agent.now c.read.new.agent (seen c.args.handle.now c.args.notes.now) c.requires.stands c.read.new.handle c.in-Ok.ensures.still c.in-Ok.ensures.stored c.in-Ok.ensures.same
 
 pub returns-in-Ok-clause-anew : goal.returns-in-Ok-clause-anew
-returns-in-Ok-clause-anew g c = 
+returns-in-Ok-clause-anew g c =
     if-ok c.anew_of.result (λ (x : Anew). IsAnew c.as_slice.result.now c.args.notes.now.index x.bytes x.len x.index) (λ (x : Anew). IsAnewFor g.S.Store.tells (file_bytes c.args.agent.now c.args.handle.now) c.args.notes.now.index x.bytes x.len x.index)
     (λ x h. record { read = c.as_slice.result.now; told = λ tell. c.as_slice.ensures ∙ c.in-Ok.ensures.read tell ∙ read-whole g.S.Store.tells c.args.agent.now (seen c.args.handle.now c.args.notes.now) c.requires.stands c.requires.none; anew = h }) c.anew_of.ensures.anew
 

@@ -26,7 +26,7 @@ pub returns-in-Ok-clause-serves : goal.returns-in-Ok-clause-serves
 returns-in-Ok-clause-serves g c = serves-then g.S.Store.tells c.args.agent.now c.read_anew.new.agent c.write_anew.new.agent (seen c.args.handle.now c.args.notes.now) (seen c.read_anew.new.handle c.args.notes.now) (seen c.write_anew.new.handle c.write_anew.new.notes) 1 1 (λ (m : Map). m) c.in-Ok.ensures.serves c.write_anew.ensures.serves
 
 pub returns-in-Ok-clause-front : goal.returns-in-Ok-clause-front
-returns-in-Ok-clause-front g c = 
+returns-in-Ok-clause-front g c =
     on-ok c.write_anew.result _ (g.S.Store.tells → take c.write_anew.new.notes.live (file_bytes c.write_anew.new.agent c.write_anew.new.handle) ≡ log_of (map put_of (map_in c.args.agent.now (seen c.args.handle.now c.args.notes.now)))) (λ f tell. f tell ∙ ap (λ (m : Map). log_of (map put_of m)) (c.in-Ok.ensures.serves.map tell)) c.write_anew.ensures.front
 
 pub returns-in-Ok-clause-cause : goal.returns-in-Ok-clause-cause

@@ -13,7 +13,7 @@ use Rattle.std.proofs.Common.{◌∙◌}
 use Rattle.opfs_kv.proofs.getting.get.Goals as goal
 
 pub returns-in-Some-clause-value : goal.returns-in-Some-clause-value
-returns-in-Some-clause-value g c = 
+returns-in-Some-clause-value g c =
     if-ok c.value_at.result (λ (v : Option Text). g.S.Store.tells → v ≡ Some (window (file_bytes c.args.agent.now c.args.handle.now) c.in-Some.place.at c.in-Some.place.len)) (λ (v : Option Text). g.S.Store.tells → v ≡ found (map_in c.args.agent.now (seen c.args.handle.now c.args.notes.now)) c.args.key.now) (λ v h tell. h tell ∙ sym (found-here (file_bytes c.args.agent.now c.args.handle.now) c.args.notes.now.index c.args.key.now c.in-Some.place (sym c.in-Some.ensures))) c.value_at.ensures.value
 
 pub returns-in-Some-clause-once : goal.returns-in-Some-clause-once

@@ -27,15 +27,15 @@ pub end-requires-clause-none : goal.end-requires-clause-none
 end-requires-clause-none g c = c.in-Ok.ensures.none
 
 pub returns-in-Ok-clause-closed : goal.returns-in-Ok-clause-closed
-returns-in-Ok-clause-closed g c = 
+returns-in-Ok-clause-closed g c =
     if-ok c.end.result (λ (x : ClosedSync). Closes g.S.Store.tells c.cut.new.agent c.end.new.agent (seen c.cut.new.handle c.cut.new.notes) x.row 1 (map_in c.cut.new.agent (seen c.cut.new.handle c.cut.new.notes))) (λ (x : ClosedSync). Closes g.S.Store.tells c.args.agent.now c.end.new.agent (seen c.args.handle c.args.notes) x.row 2 (map_in c.args.agent.now (seen c.args.handle c.args.notes))) (λ x h. closes-later g.S.Store.tells c.args.agent.now c.cut.new.agent c.end.new.agent (seen c.args.handle c.args.notes) (seen c.cut.new.handle c.cut.new.notes) x.row c.in-Ok.ensures.serves h) c.end.ensures.closed
 
 pub returns-in-Ok-clause-back : goal.returns-in-Ok-clause-back
-returns-in-Ok-clause-back g c = 
+returns-in-Ok-clause-back g c =
     if-err c.end.result (λ (e : KvSeen × Stop). Serves g.S.Store.tells c.cut.new.agent c.end.new.agent (seen c.cut.new.handle c.cut.new.notes) e.0 1 (map_in c.cut.new.agent (seen c.cut.new.handle c.cut.new.notes))) (λ (e : KvSeen × Stop). Serves g.S.Store.tells c.args.agent.now c.end.new.agent (seen c.args.handle c.args.notes) e.0 2 (map_in c.args.agent.now (seen c.args.handle c.args.notes))) (λ e h. serves-then g.S.Store.tells c.args.agent.now c.cut.new.agent c.end.new.agent (seen c.args.handle c.args.notes) (seen c.cut.new.handle c.cut.new.notes) e.0 1 1 (λ (m : Map). m) c.in-Ok.ensures.serves h) c.end.ensures.back
 
 pub returns-in-Ok-clause-cause : goal.returns-in-Ok-clause-cause
-returns-in-Ok-clause-cause g c = 
+returns-in-Ok-clause-cause g c =
     if-err c.end.result (λ (e : KvSeen × Stop). IsCaused c.cut.new.agent c.end.new.agent e.1) (λ (e : KvSeen × Stop). IsCaused c.args.agent.now c.end.new.agent e.1) (λ e h. caused-later c.args.agent.now c.cut.new.agent c.end.new.agent 1 e.1 c.in-Ok.ensures.serves.goes h) c.end.ensures.cause
 
 pub returns-in-Err-clause-back : goal.returns-in-Err-clause-back
