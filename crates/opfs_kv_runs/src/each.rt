@@ -76,12 +76,7 @@ fn delete<S: Store, R: Wait>(
 }
 
 // What a flush answers.
-fn flush<S: Store, R: Wait>(
-    rt: &R,
-    court: &Hall<S>,
-    agent: &mut Agent<S>,
-    kv: &mut Kv,
-) -> KvReply
+fn flush<S: Store, R: Wait>(rt: &R, court: &Hall<S>, agent: &mut Agent<S>, kv: &mut Kv) -> KvReply
     requires own { agent.old.pass.hall ≡ court.now }
     requires few { HasPlaces agent.old }
     requires stands { Stands S.tells agent.old kv.old }
@@ -94,12 +89,7 @@ fn flush<S: Store, R: Wait>(
 }
 
 // What a compact answers.
-fn compact<S: Store, R: Wait>(
-    rt: &R,
-    court: &Hall<S>,
-    agent: &mut Agent<S>,
-    kv: &mut Kv,
-) -> KvReply
+fn compact<S: Store, R: Wait>(rt: &R, court: &Hall<S>, agent: &mut Agent<S>, kv: &mut Kv) -> KvReply
     requires own { agent.old.pass.hall ≡ court.now }
     requires few { HasPlaces agent.old }
     requires stands { Stands S.tells agent.old kv.old }

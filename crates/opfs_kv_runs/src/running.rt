@@ -40,7 +40,8 @@ pub fn kv_run<S: Store, R: Wait>(
     list.reserve(ops.len())?;
     let mut at = 0;
     while at < ops.len() {
-        let reply = run_one(rt, court, agent, kv, &ops[at]);
+        let called = &ops[at];
+        let reply = run_one(rt, court, agent, kv, called);
         list.push(reply).unwrap();
         at += 1;
     }
