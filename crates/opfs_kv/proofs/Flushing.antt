@@ -1,0 +1,68 @@
+-- A key-value file that is stored, or closed.
+use Rattle.std.proofs.Common.{◌≡◌, ℕ, Bool, false, List, [], ◌∷◌, ◌++◌, refl, sym, ap, subst, ◌∙◌}
+use Rattle.opfs_base.specs.Places.{place_of}
+use Rattle.opfs_base.specs.Texts.{Text}
+use Rattle.opfs_calls.specs.Rows.{HandleSeen, HasClosedHandle}
+use Rattle.opfs_kv_words.specs.Indexes.{read_out}
+use Rattle.opfs_kv_words.specs.Maps.{Map}
+use Rattle.opfs_machine.specs.Changes.{changes}
+use Rattle.opfs_sync_files.specs.Entries.{GoesOn}
+use Rattle.opfs_sync_files.specs.Files.{IsStill, contents_at, file_bytes, flushed_by, stored_of}
+use Rattle.opfs_sync_files.proofs.Knowing.{goes-then}
+use Rattle.opfs_turns.specs.Agents.{AgentSeen}
+use Rattle.opfs_kv.specs.Keeping.{Keeps, Spells}
+use Rattle.opfs_kv.specs.Opening.{OnlyReads}
+use Rattle.opfs_kv.specs.Seen.{Closes, Flushes, KvSeen, Serves, Stands, map_in, seen}
+use Rattle.opfs_kv.specs.declared.notes.Notes.{Notes}
+use Rattle.opfs_hist.specs.declared.op.Mode.{Mode}
+use Rattle.opfs_hist.specs.declared.op.Mode.TheVariants as mode
+use Rattle.opfs_kv.proofs.Kept.{spells-map}
+
+module _ {O : Type 0} (tells : Type 0) (a b : AgentSeen O) (x y : KvSeen) (s : Serves tells a b x y 1 (map_in a x)) (none : y.tail ≡ false) where
+  -- Its bytes are records that stand for the map.
+  spelled-now : tells → Spells (file_bytes b y.handle) (map_in a x)
+  spelled-now tell = subst (λ (m : Map). Spells (file_bytes b y.handle) m) (s.map tell) (spells-map tells (file_bytes b y.handle) y.live y.tail y.index s.stands.keeps none tell)
+
+  module _ (c : AgentSeen O) where
+    pub flushes-then : (h : HandleSeen) → IsStill tells b c y.handle h → file_bytes c h ≡ file_bytes b y.handle → stored_of c h ≡ stored_of b y.handle ++ flushed_by y.handle.mode (file_bytes b y.handle)
+        → Flushes tells a c x (record { handle = h; live = y.live; tail = y.tail; index = y.index }) 2 (map_in a x)
+    flushes-then h still same stored = record {
+      stands = record { has = still.has; writes = still.mode_is ∙ s.stands.writes; keeps = subst (λ (t : Text). Keeps tells t y.live y.tail y.index) (sym same) s.stands.keeps };
+      row = still.row ∙ s.row;
+      file = still.file ∙ s.file;
+      goes = goes-then a b c 1 1 s.goes still.goes;
+      map = λ tell. ap (λ (t : Text). read_out t y.index) same ∙ s.map tell;
+      stored = stored ∙ (λ i. s.stored i ++ flushed_by (s.stands.writes i) (sym same i));
+      spells = λ tell. subst (λ (t : Text). Spells t (map_in a x)) (sym same) (spelled-now tell);
+    }
+
+-- A file without a tail is closed.
+pub closes-one : {O : Type 0} (tells : Type 0) (b c : AgentSeen O) (y : KvSeen) (stands : Stands tells b y) → y.tail ≡ false → (row : ℕ) → (row ≡ y.handle.row) × HasClosedHandle c row → GoesOn b c 1
+    → stored_of c y.handle ≡ stored_of b y.handle ++ flushed_by y.handle.mode (file_bytes b y.handle) → Closes tells b c y row 1 (map_in b y)
+closes-one tells b c y stands none row closed goes stored = record {
+  same = closed.0;
+  closed = closed.1;
+  goes = goes;
+  bytes = file_bytes b y.handle;
+  stored = stored ∙ ap (λ (m : Mode). stored_of b y.handle ++ flushed_by m (file_bytes b y.handle)) stands.writes;
+  spells = spells-map tells (file_bytes b y.handle) y.live y.tail y.index stands.keeps none;
+}
+
+pub closes-later : {O : Type 0} (tells : Type 0) (a b c : AgentSeen O) (x y : KvSeen) (row : ℕ) → Serves tells a b x y 1 (map_in a x) → Closes tells b c y row 1 (map_in b y) → Closes tells a c x row 2 (map_in a x)
+closes-later tells a b c x y row s t = record {
+  same = t.same ∙ s.row;
+  closed = t.closed;
+  goes = goes-then a b c 1 1 s.goes t.goes;
+  bytes = t.bytes;
+  stored = ap (λ l. contents_at (place_of l) (changes c.opening c.pass.base)) (sym s.file) ∙ t.stored ∙ ap (λ (ts : List Text). ts ++ t.bytes ∷ []) s.stored;
+  spells = λ tell. subst (λ (m : Map). Spells t.bytes m) (s.map tell) (t.spells tell);
+}
+
+-- ---- opened
+
+pub opened-stands : {O : Type 0} (tells : Type 0) (a b : AgentSeen O) (x y : HandleSeen) (notes : Notes) → OnlyReads tells a b x y 261 → x.mode ≡ mode.ReadWrite → Keeps tells (file_bytes a x) notes.live notes.tail notes.index → Stands tells b (seen y notes)
+opened-stands tells a b x y notes reads writes keeps = record { has = reads.has; writes = reads.mode_is ∙ writes; keeps = subst (λ (t : Text). Keeps tells t notes.live notes.tail notes.index) (sym reads.bytes) keeps }
+
+pub opened-spells : {O : Type 0} (tells : Type 0) (a b : AgentSeen O) (x y : HandleSeen) (notes : Notes) → OnlyReads tells a b x y 261 → Keeps tells (file_bytes a x) notes.live notes.tail notes.index → notes.tail ≡ false → tells → Spells (file_bytes a x) (map_in b (seen y notes))
+opened-spells tells a b x y notes reads keeps none tell =
+    subst (λ (t : Text). Spells (file_bytes a x) (read_out t notes.index)) (sym reads.bytes) (spells-map tells (file_bytes a x) notes.live notes.tail notes.index keeps none tell)

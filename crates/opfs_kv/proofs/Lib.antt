@@ -1,0 +1,6 @@
+pub mod Kept
+pub mod Serving
+pub mod Flushing
+pub mod Scanned
+pub mod Rooms
+pub mod Results

@@ -1,0 +1,131 @@
+-- What calls on an access handle leave of a key-value file.
+use Rattle.std.proofs.Common.{◌≡◌, ℕ, ◌+◌, ◌≤◌, Bool, true, false, List, [], ◌∷◌, ◌++◌, length, map, take, Option, Some, None, refl, sym, ap, subst, ◌∙◌, arith}
+use Rattle.std.specs.List.Sorted.{IsStrictlySortedBy}
+use Rattle.std.specs.Map.{keys_of}
+use Rattle.opfs_base.specs.Texts.{Text}
+use Rattle.opfs_calls.specs.Rows.{HandleSeen, HasHandle}
+use Rattle.opfs_hist.specs.declared.op.Mode.{Mode}
+use Rattle.opfs_kv_words.specs.Indexes.{IsFitting, Places, read_out}
+use Rattle.opfs_kv_words.specs.Maps.{Map, key_cmp, with_key, without_key}
+use Rattle.opfs_kv_words.specs.Records.{IsKey, IsValue, log_of, put_of, spelled_by}
+use Rattle.opfs_splice.specs.Splicing.{resize, splice, window}
+use Rattle.opfs_sync_files.specs.Entries.{GoesOn}
+use Rattle.opfs_sync_files.specs.Files.{IsStill, file_bytes, flushed_by, stored_of}
+use Rattle.opfs_sync_files.proofs.Knowing.{goes-most, goes-none, goes-then}
+use Rattle.opfs_turns.specs.Agents.{AgentSeen}
+use Rattle.opfs_kv.specs.Keeping.{Keeps, Spells}
+use Rattle.opfs_kv.specs.Packing.{IsAnewFor}
+use Rattle.opfs_kv.specs.Seen.{Flushes, KvSeen, Serves, Stands, map_in, stored_in}
+use Rattle.opfs_kv.proofs.Kept.{all-live, cut-keeps, cut-map, more-keeps, more-reads, packed-front, packed-keeps, packed-reads, same-front, tail-keeps, tail-map}
+
+-- ---- one after another
+
+pub serves-most : {O : Type 0} (tells : Type 0) (a b : AgentSeen O) (x y : KvSeen) (m n : ℕ) (d : Map) → m ≤ n → Serves tells a b x y m d → Serves tells a b x y n d
+serves-most tells a b x y m n d few s = record { stands = s.stands; row = s.row; file = s.file; goes = goes-most a b m n few s.goes; map = s.map; stored = s.stored }
+
+-- A call that serves a file on the map that an earlier one left.
+pub serves-then : {O : Type 0} (tells : Type 0) (a b c : AgentSeen O) (x y z : KvSeen) (m n : ℕ) (change : Map → Map) → Serves tells a b x y m (map_in a x) → Serves tells b c y z n (change (map_in b y))
+    → Serves tells a c x z (m + n) (change (map_in a x))
+serves-then tells a b c x y z m n change s t = record {
+  stands = t.stands;
+  row = t.row ∙ s.row;
+  file = t.file ∙ s.file;
+  goes = goes-then a b c m n s.goes t.goes;
+  map = λ tell. t.map tell ∙ ap change (s.map tell);
+  stored = t.stored ∙ s.stored;
+}
+
+-- Nothing was done.
+pub serves-none : {O : Type 0} (tells : Type 0) (a : AgentSeen O) (x : KvSeen) (n : ℕ) → Stands tells a x → Serves tells a a x x n (map_in a x)
+serves-none tells a x n stands = record { stands = stands; row = refl; file = refl; goes = goes-most a a 0 n (omega arith) (goes-none a); map = λ tell. refl; stored = refl }
+
+-- A whole file is read.
+pub read-whole : {O : Type 0} (tells : Type 0) (a : AgentSeen O) (kv : KvSeen) (stands : Stands tells a kv) → kv.tail ≡ false → window (file_bytes a kv.handle) 0 kv.live ≡ file_bytes a kv.handle
+read-whole tells a kv stands none = all-live tells (file_bytes a kv.handle) kv.live kv.tail kv.index stands.keeps none
+
+-- Without a tail the live bytes are all, whatever their number was called before.
+pub all-cut : {O : Type 0} (tells : Type 0) (a : AgentSeen O) (kv : KvSeen) (stands : Stands tells a kv) → kv.tail ≡ false → (live : ℕ) → kv.live ≡ live → file_bytes a kv.handle ≡ take live (file_bytes a kv.handle)
+all-cut tells a kv stands none live is = sym (all-live tells (file_bytes a kv.handle) kv.live kv.tail kv.index stands.keeps none) ∙ ap (λ n. take n (file_bytes a kv.handle)) is
+
+-- ---- one call
+
+module _ {O : Type 0} (tells : Type 0) (a b : AgentSeen O) (kv : KvSeen) (stands : Stands tells a kv) (h : HandleSeen) (still : IsStill tells a b kv.handle h) (stored : stored_of b h ≡ stored_of a kv.handle) where
+  abbrev old : Text
+  old = file_bytes a kv.handle
+
+  abbrev new : Text
+  new = file_bytes b h
+
+  keeps-serves : (live : ℕ) (tail : Bool) (index : Places) (m : Map) → Keeps tells new live tail index → (tells → read_out new index ≡ m)
+      → Serves tells a b kv (record { handle = h; live = live; tail = tail; index = index }) 1 m
+  keeps-serves live tail index m keeps reads = record {
+    stands = record { has = still.has; writes = still.mode_is ∙ stands.writes; keeps = keeps };
+    row = still.row;
+    file = still.file;
+    goes = still.goes;
+    map = reads;
+    stored = stored;
+  }
+
+  pub still-serves : file_bytes b h ≡ file_bytes a kv.handle → Serves tells a b kv (record { handle = h; live = kv.live; tail = kv.tail; index = kv.index }) 1 (map_in a kv)
+  still-serves same =
+      keeps-serves kv.live kv.tail kv.index (map_in a kv) (subst (λ (t : Text). Keeps tells t kv.live kv.tail kv.index) (sym same) stands.keeps)
+      (λ tell. ap (λ (t : Text). read_out t kv.index) same)
+
+  pub cut-serves : file_bytes b h ≡ resize (file_bytes a kv.handle) kv.live → Serves tells a b kv (record { handle = h; live = kv.live; tail = false; index = kv.index }) 1 (map_in a kv)
+  cut-serves is =
+      keeps-serves kv.live false kv.index (map_in a kv) (cut-keeps tells old kv.live kv.tail kv.index stands.keeps new is) (cut-map tells old kv.live kv.tail kv.index stands.keeps new is)
+
+  pub cut-front : file_bytes b h ≡ resize (file_bytes a kv.handle) kv.live → take kv.live (file_bytes b h) ≡ take kv.live (file_bytes a kv.handle)
+  cut-front is = same-front tells old kv.live kv.tail kv.index stands.keeps new is
+
+  pub tail-serves : (none : kv.tail ≡ false) (more : Text) → file_bytes b h ≡ splice (file_bytes a kv.handle) kv.live more → Serves tells a b kv (record { handle = h; live = kv.live; tail = true; index = kv.index }) 1 (map_in a kv)
+  tail-serves none more is =
+      keeps-serves kv.live true kv.index (map_in a kv) (tail-keeps tells old kv.live kv.tail kv.index stands.keeps none more new is) (tail-map tells old kv.live kv.tail kv.index stands.keeps none more new is)
+
+  pub put-serves : (none : kv.tail ≡ false) (key value : Text) → IsKey key → IsValue value → kv.live + (6 + length key + length value) ≤ 16777216
+      → file_bytes b h ≡ splice (file_bytes a kv.handle) kv.live (spelled_by key (Some value)) → (at len live : ℕ) → at ≡ kv.live + (6 + length key) → len ≡ length value → live ≡ kv.live + (6 + length key + length value)
+      → Serves tells a b kv (record { handle = h; live = live; tail = kv.tail; index = with_key kv.index key (record { at = at; len = len }) }) 1 (with_key (map_in a kv) key value)
+  put-serves none key value good small fits is at len live at_is len_is live_is =
+      let keeps = more-keeps tells old kv.live kv.tail kv.index stands.keeps none key (Some value) (good, small) new is fits in
+      let reads = more-reads tells old kv.live kv.tail kv.index stands.keeps none key (Some value) (good, small) new is fits in
+      subst (λ (t : Bool). Serves tells a b kv (record { handle = h; live = live; tail = t; index = with_key kv.index key (record { at = at; len = len }) }) 1 (with_key (map_in a kv) key value)) (sym none)
+      (subst (λ (n : ℕ). Serves tells a b kv (record { handle = h; live = n; tail = false; index = with_key kv.index key (record { at = at; len = len }) }) 1 (with_key (map_in a kv) key value)) (sym live_is)
+      (subst (λ (n : ℕ). Serves tells a b kv (record { handle = h; live = kv.live + (6 + length key + length value); tail = false; index = with_key kv.index key (record { at = n; len = len }) }) 1 (with_key (map_in a kv) key value)) (sym at_is)
+      (subst (λ (n : ℕ). Serves tells a b kv (record { handle = h; live = kv.live + (6 + length key + length value); tail = false; index = with_key kv.index key (record { at = kv.live + (6 + length key); len = n }) }) 1 (with_key (map_in a kv) key value)) (sym len_is)
+      (keeps-serves (kv.live + (6 + length key + length value)) false (with_key kv.index key (record { at = kv.live + (6 + length key); len = length value })) (with_key (map_in a kv) key value) keeps reads))))
+
+  pub gone-serves : (none : kv.tail ≡ false) (key : Text) → IsKey key → kv.live + (2 + length key) ≤ 16777216
+      → file_bytes b h ≡ splice (file_bytes a kv.handle) kv.live (spelled_by key None) → (live : ℕ) → live ≡ kv.live + (2 + length key)
+      → Serves tells a b kv (record { handle = h; live = live; tail = kv.tail; index = without_key kv.index key }) 1 (without_key (map_in a kv) key)
+  gone-serves none key good fits is live live_is =
+      let keeps = more-keeps tells old kv.live kv.tail kv.index stands.keeps none key None (good, tt) new is fits in
+      let reads = more-reads tells old kv.live kv.tail kv.index stands.keeps none key None (good, tt) new is fits in
+      subst (λ (t : Bool). Serves tells a b kv (record { handle = h; live = live; tail = t; index = without_key kv.index key }) 1 (without_key (map_in a kv) key)) (sym none)
+      (subst (λ (n : ℕ). Serves tells a b kv (record { handle = h; live = n; tail = false; index = without_key kv.index key }) 1 (without_key (map_in a kv) key)) (sym live_is)
+      (keeps-serves (kv.live + (2 + length key)) false (without_key kv.index key) (without_key (map_in a kv) key) keeps reads))
+
+  -- ---- written anew
+
+  module _ (none : kv.tail ≡ false) (packed : Text) (len : ℕ) (made : Places) (anew : IsAnewFor tells (file_bytes a kv.handle) kv.index packed len made) (sorted : IsStrictlySortedBy key_cmp (keys_of kv.index))
+      (is : file_bytes b h ≡ splice (file_bytes a kv.handle) 0 packed) where
+    short : length packed ≤ kv.live
+    short = omega (arith, anew.anew.long, anew.anew.short, stands.keeps.fitting.fits)
+
+    pub anew-serves : (tail : Bool) → (tail ≡ false → len ≡ kv.live) → Serves tells a b kv (record { handle = h; live = len; tail = tail; index = made }) 1 (map_in a kv)
+    anew-serves tail all =
+        let n = anew.anew in
+        let fitting = subst (λ (k : ℕ). IsFitting k made) (sym n.long) n.fitting in
+        subst (λ (k : ℕ). Serves tells a b kv (record { handle = h; live = k; tail = tail; index = made }) 1 (map_in a kv)) n.long
+        (keeps-serves (length packed) tail made (map_in a kv)
+        (packed-keeps tells old kv.live kv.tail kv.index stands.keeps none anew.read packed made anew.told short fitting n.are n.made_is sorted new is tail (λ h. n.long ∙ all h))
+        (packed-reads tells old kv.live kv.tail kv.index stands.keeps none anew.read packed made anew.told short fitting n.are n.made_is sorted new is))
+
+    pub anew-front : tells → take len (file_bytes b h) ≡ log_of (map put_of (map_in a kv))
+    anew-front tell =
+        let n = anew.anew in
+        let fitting = subst (λ (k : ℕ). IsFitting k made) (sym n.long) n.fitting in
+        ap (λ (k : ℕ). take k new) (sym n.long)
+        ∙ packed-front tells old kv.live kv.tail kv.index stands.keeps none anew.read packed made anew.told short fitting n.are n.made_is sorted new is
+        ∙ n.are
+        ∙ ap (λ (t : Text). log_of (map put_of (read_out t kv.index))) (anew.told tell)

@@ -1,0 +1,11 @@
+use Rattle.std.proofs.Common.{OnErr, OnOk, subst}
+use Rattle.opfs_kv.specs.Seen.{Flushes, KvSeen, Serves, map_in, seen}
+use Rattle.opfs_kv.proofs.kv.Kv.flush.Goals as goal
+
+pub returns-clause-flushed : goal.returns-clause-flushed
+returns-clause-flushed g c =
+    subst (λ (x : KvSeen). OnOk c.flush_file.result (Flushes g.S.Store.tells c.args.agent.now c.flush_file.new.agent x (seen c.flush_file.new.handle c.flush_file.new.notes) 2 (map_in c.args.agent.now x))) c.self.view_is c.flush_file.ensures.flushed
+
+pub returns-clause-left : goal.returns-clause-left
+returns-clause-left g c =
+    subst (λ (x : KvSeen). OnErr c.flush_file.result (Serves g.S.Store.tells c.args.agent.now c.flush_file.new.agent x (seen c.flush_file.new.handle c.flush_file.new.notes) 2 (map_in c.args.agent.now x))) c.self.view_is c.flush_file.ensures.left

@@ -1,0 +1,8 @@
+use Rattle.opfs_kv.proofs.Flushing.{opened-spells, opened-stands}
+use Rattle.opfs_kv.proofs.kv.Kv.open.Goals as goal
+
+pub returns-in-Ok-clause-stands : goal.returns-in-Ok-clause-stands
+returns-in-Ok-clause-stands g c = opened-stands g.S.Store.tells c.args.agent.now c.read_notes.new.agent c.args.sync c.read_notes.new.handle c.in-Ok.notes c.in-Ok.ensures.reads c.requires.writes c.in-Ok.ensures.keeps
+
+pub returns-in-Ok-clause-map : goal.returns-in-Ok-clause-map
+returns-in-Ok-clause-map g c = opened-spells g.S.Store.tells c.args.agent.now c.read_notes.new.agent c.args.sync c.read_notes.new.handle c.in-Ok.notes c.in-Ok.ensures.reads c.in-Ok.ensures.keeps c.in-Ok.ensures.whole

@@ -1,0 +1,34 @@
+use Rattle.std.proofs.Common.{◌∙◌, arith}
+use Rattle.opfs_kv_words.specs.Maps.{Map}
+use Rattle.opfs_kv.specs.Seen.{seen}
+use Rattle.opfs_kv.proofs.Flushing.{flushes-then}
+use Rattle.opfs_kv.proofs.Rooms.{places-room, room-after}
+use Rattle.opfs_kv.proofs.Serving.{serves-most, serves-then, still-serves}
+use Rattle.opfs_sync_files.proofs.Knowing.{caused-later}
+use Rattle.opfs_kv.proofs.storing.store.Goals as goal
+
+pub cut-requires-clause-room : goal.cut-requires-clause-room
+cut-requires-clause-room g c = places-room c.args.agent.now c.requires.few
+
+pub flush-requires-clause-own : goal.flush-requires-clause-own
+flush-requires-clause-own g c = c.cut.ensures.serves.goes.hall ∙ c.requires.own
+
+pub flush-requires-clause-room : goal.flush-requires-clause-room
+flush-requires-clause-room g c = room-after c.args.agent.now c.cut.new.agent 1 c.requires.few c.cut.ensures.serves.goes (omega arith)
+
+pub flush-requires-clause-handle : goal.flush-requires-clause-handle
+flush-requires-clause-handle g c = c.cut.ensures.serves.stands.has
+
+pub returns-in-Err-clause-left : goal.returns-in-Err-clause-left
+returns-in-Err-clause-left g c = serves-most g.S.Store.tells c.args.agent.now c.cut.new.agent (seen c.args.handle.now c.args.notes.now) (seen c.cut.new.handle c.cut.new.notes) 1 2 _ (omega arith) c.in-Err.ensures.serves
+
+pub returns-in-Ok-flush-clause-flushed : goal.returns-in-Ok-flush-clause-flushed
+returns-in-Ok-flush-clause-flushed g c = flushes-then g.S.Store.tells c.args.agent.now c.cut.new.agent (seen c.args.handle.now c.args.notes.now) (seen c.cut.new.handle c.cut.new.notes) c.in-Ok.ensures.serves c.in-Ok.ensures.none c.flush.new.agent c.flush.new.handle c.in-Ok-flush.ensures.still c.in-Ok-flush.ensures.same c.in-Ok-flush.ensures.stored
+
+pub returns-in-Err-flush-clause-left : goal.returns-in-Err-flush-clause-left
+returns-in-Err-flush-clause-left g c =
+    serves-then g.S.Store.tells c.args.agent.now c.cut.new.agent c.flush.new.agent (seen c.args.handle.now c.args.notes.now) (seen c.cut.new.handle c.cut.new.notes) (seen c.flush.new.handle c.cut.new.notes) 1 1 (λ (m : Map). m) c.in-Ok.ensures.serves
+    (still-serves g.S.Store.tells c.cut.new.agent c.flush.new.agent (seen c.cut.new.handle c.cut.new.notes) c.in-Ok.ensures.serves.stands c.flush.new.handle c.in-Err-flush.ensures.still c.in-Err-flush.ensures.unstored c.in-Err-flush.ensures.same)
+
+pub returns-in-Err-flush-clause-cause : goal.returns-in-Err-flush-clause-cause
+returns-in-Err-flush-clause-cause g c = caused-later c.args.agent.now c.cut.new.agent c.flush.new.agent 1 c.in-Err-flush.unstored c.in-Ok.ensures.serves.goes c.in-Err-flush.ensures.cause

@@ -1,0 +1,70 @@
+-- What is seen of a key-value file, and how it stands over its agent. This project's own.
+use Rattle.std.specs.Prelude.{◌≡◌, ℕ, ◌≤◌, ◌++◌, Bool, List, [], ◌∷◌}
+use Rattle.opfs_base.specs.Texts.{Text}
+use Rattle.opfs_calls.specs.Rows.{HandleSeen, HasClosedHandle, HasHandle}
+use Rattle.opfs_hist.specs.declared.op.Mode.TheVariants as mode
+use Rattle.opfs_kv_words.specs.Indexes.{Places, read_out}
+use Rattle.opfs_kv_words.specs.Maps.{Map}
+use Rattle.opfs_sync_files.specs.Entries.{GoesOn}
+use Rattle.opfs_sync_files.specs.Files.{file_bytes, stored_of}
+use Rattle.opfs_turns.specs.Agents.{AgentSeen}
+use Rattle.opfs_kv.specs.Keeping.{Keeps, Spells}
+use Rattle.opfs_kv.specs.declared.notes.Notes.{Notes}
+
+-- Its access handle, how many of the file's bytes are live, whether others stand behind them still, and where each value is.
+pub record KvSeen : Type 0 where
+  pub handle : HandleSeen
+  pub live : ℕ
+  pub tail : Bool
+  pub index : Places
+
+-- A key-value file by its parts.
+abbrev pub seen : HandleSeen → Notes → KvSeen
+seen handle notes = record { handle = handle; live = notes.live; tail = notes.tail; index = notes.index }
+
+-- The handle is open and may write, and the file's bytes are kept in mind.
+pub record Stands {O : Type 0} (tells : Type 0) (a : AgentSeen O) (kv : KvSeen) : Type 0 where
+  pub has : HasHandle tells a kv.handle
+  pub writes : kv.handle.mode ≡ mode.ReadWrite
+  pub keeps : Keeps tells (file_bytes a kv.handle) kv.live kv.tail kv.index
+
+-- Its map: what the index reads out of the file.
+abbrev pub map_in : {O : Type 0} → AgentSeen O → KvSeen → Map
+map_in a kv = read_out (file_bytes a kv.handle) kv.index
+
+-- The contents of its file that were stored for good, as far as its agent has seen.
+abbrev pub stored_in : {O : Type 0} → AgentSeen O → KvSeen → List Text
+stored_in a kv = stored_of a kv.handle
+
+-- An agent has places for the entries of a call on a key-value file.
+pub record HasPlaces {O : Type 0} (a : AgentSeen O) : Type 0 where
+  pub rows : a.rows ≤ 60000000
+  pub entries : a.entries ≤ 59000000
+
+-- The file still stands after so many entries more at most, on the same handle, with this map. Nothing of it was stored.
+pub record Serves {O : Type 0} (tells : Type 0) (before after : AgentSeen O) (old new : KvSeen) (count : ℕ) (m : Map) : Type 0 where
+  pub stands : Stands tells after new
+  pub row : new.handle.row ≡ old.handle.row
+  pub file : new.handle.file ≡ old.handle.file
+  pub goes : GoesOn before after count
+  pub map : tells → map_in after new ≡ m
+  pub stored : stored_in after new ≡ stored_in before old
+
+-- The file was stored for good, as records that stand for this map.
+pub record Flushes {O : Type 0} (tells : Type 0) (before after : AgentSeen O) (old new : KvSeen) (count : ℕ) (m : Map) : Type 0 where
+  pub stands : Stands tells after new
+  pub row : new.handle.row ≡ old.handle.row
+  pub file : new.handle.file ≡ old.handle.file
+  pub goes : GoesOn before after count
+  pub map : tells → map_in after new ≡ m
+  pub stored : stored_in after new ≡ stored_in before old ++ file_bytes after new.handle ∷ []
+  pub spells : tells → Spells (file_bytes after new.handle) m
+
+-- The same, and its handle is closed.
+pub record Closes {O : Type 0} (tells : Type 0) (before after : AgentSeen O) (old : KvSeen) (row : ℕ) (count : ℕ) (m : Map) : Type 0 where
+  pub same : row ≡ old.handle.row
+  pub closed : HasClosedHandle after row
+  pub goes : GoesOn before after count
+  pub bytes : Text
+  pub stored : stored_of after old.handle ≡ stored_of before old.handle ++ bytes ∷ []
+  pub spells : tells → Spells bytes m

@@ -1,0 +1,248 @@
+//! A key-value file.
+
+ghost use Rattle.std.specs.Prelude.{◌≡◌, ◌≢◌, ◌+◌, ◌<◌, false, length, map, IfErr, IfOk, OnErr, OnOk, Ok, Err, None, is_some};
+ghost use Rattle.opfs_calls.specs.Rows.{HasHandle};
+ghost use Rattle.opfs_hist.specs.declared.op.Mode.TheVariants as mode;
+ghost use Rattle.opfs_kv_words.specs.Maps.{found, with_key, without_key};
+ghost use Rattle.opfs_kv_words.specs.Records.{IsKey, IsValue, log_of, put_of};
+ghost use Rattle.opfs_sync_files.specs.Entries.{IsCaused};
+ghost use Rattle.opfs_sync_files.specs.Files.{file_bytes};
+ghost use Rattle.opfs_turns.specs.Calls.{HasRoom};
+ghost use Rattle.opfs_kv.specs.Calls.{HasCause, HasOpenCause, HasPlainCause, IsGotten};
+ghost use Rattle.opfs_kv.specs.Keeping.{Spells};
+ghost use Rattle.opfs_kv.specs.Opening.{OnlyReads};
+ghost use Rattle.opfs_kv.specs.Seen.{Closes, Flushes, HasPlaces, Serves, Stands, map_in, seen};
+ghost use Rattle.opfs_kv.specs.declared.stop.KvStop.TheVariants as kv_stop;
+
+use crate::notes::Notes;
+use crate::opening::read_notes;
+use crate::stop::KvStop;
+use crate::{changing, compacting, getting, storing};
+use opfs_acts::Store;
+use opfs_agent::Agent;
+use opfs_base::Bytes;
+use opfs_calls::Stop;
+use opfs_hall::Hall;
+use opfs_handles::{ClosedSync, SyncHandle};
+use std::marker::Model;
+use std::sync::Wait;
+
+/// A map from keys to values in one file. It has to be spent, by a close or by giving its handle back: it cannot be dropped.
+pub struct Kv {
+    handle: SyncHandle,
+    notes: Notes,
+}
+
+impl Model for Kv {
+    ghost use Rattle.opfs_kv.specs.Seen.{KvSeen, seen};
+
+    ghost Value = { KvSeen };
+
+    ghost view = { λ kv. seen kv.handle kv.notes };
+}
+
+impl Kv {
+    /// Opens a file of records through an access handle that may write. It reads the file in pieces, and keeps the places of
+    /// the values alone. Where it does not open, the handle comes back.
+    pub fn open<S: Store, R: Wait>(
+        rt: &R,
+        court: &Hall<S>,
+        agent: &mut Agent<S>,
+        mut sync: SyncHandle,
+    ) -> Result<Kv, (SyncHandle, KvStop)>
+        requires own { agent.old.pass.hall ≡ court.now }
+        requires few { HasPlaces agent.old }
+        requires handle { HasHandle S.tells agent.old sync }
+        requires writes { sync.mode ≡ mode.ReadWrite }
+        ensures stands { IfOk result (λ kv. Stands S.tells agent.new kv) }
+        ensures reads { IfOk result (λ kv. OnlyReads S.tells agent.old agent.new sync kv.handle 261) }
+        ensures map { IfOk result (λ kv. S.tells → Spells (file_bytes agent.old sync) (map_in agent.new kv)) }
+        ensures back { IfErr result (λ back. OnlyReads S.tells agent.old agent.new sync back.0 261) }
+        ensures cause { IfErr result (λ back. HasOpenCause S.tells agent.old agent.new (file_bytes agent.old sync) back.1) }
+    {
+        match read_notes(rt, court, agent, &mut sync) {
+            Ok(notes) => Ok(Kv {
+                handle: sync,
+                notes,
+            }),
+            Err(stop) => Err((sync, stop)),
+        }
+    }
+
+    /// The value of a key. A key that is not there asks nothing of the agent; of one that is, the value is read alone.
+    pub fn get<S: Store, R: Wait>(
+        &mut self,
+        rt: &R,
+        court: &Hall<S>,
+        agent: &mut Agent<S>,
+        key: &Bytes,
+    ) -> Result<Option<Bytes>, KvStop>
+        requires own { agent.old.pass.hall ≡ court.now }
+        requires few { HasPlaces agent.old }
+        requires stands { Stands S.tells agent.old self.old }
+        ensures serves { Serves S.tells agent.old agent.new self.old self.new 1 (map_in agent.old self.old) }
+        ensures value { IfOk result (λ value. S.tells → value ≡ found (map_in agent.old self.old) key.now) }
+        ensures once { IsGotten S.tells agent.old agent.new self.old.handle.row (found self.old.index key.now) result }
+        ensures cause { IfErr result (HasPlainCause agent.old agent.new) }
+    {
+        getting::get(rt, court, agent, &mut self.handle, &self.notes, key)
+    }
+
+    /// Gives a key a value.
+    pub fn put<S: Store, R: Wait>(
+        &mut self,
+        rt: &R,
+        court: &Hall<S>,
+        agent: &mut Agent<S>,
+        key: &Bytes,
+        value: &Bytes,
+    ) -> Result<(), KvStop>
+        requires own { agent.old.pass.hall ≡ court.now }
+        requires few { HasPlaces agent.old }
+        requires stands { Stands S.tells agent.old self.old }
+        requires key { IsKey key.now }
+        requires value { IsValue value.now }
+        ensures put { OnOk result (Serves S.tells agent.old agent.new self.old self.new 2 (with_key (map_in agent.old self.old) key.now value.now)) }
+        ensures left { OnErr result (Serves S.tells agent.old agent.new self.old self.new 2 (map_in agent.old self.old)) }
+        ensures full { 16777216 < self.old.live + (6 + length key.now + length value.now) → result ≡ Err (kv_stop.Full self.old.live (6 + length key.now + length value.now)) }
+        ensures cause { IfErr result (HasCause agent.old agent.new self.old.live (6 + length key.now + length value.now)) }
+    {
+        changing::put(
+            rt,
+            court,
+            agent,
+            &mut self.handle,
+            &mut self.notes,
+            key,
+            value,
+        )
+    }
+
+    /// Takes out a key, and tells whether it was there. Where it was not, nothing is written.
+    pub fn delete<S: Store, R: Wait>(
+        &mut self,
+        rt: &R,
+        court: &Hall<S>,
+        agent: &mut Agent<S>,
+        key: &Bytes,
+    ) -> Result<bool, KvStop>
+        requires own { agent.old.pass.hall ≡ court.now }
+        requires few { HasPlaces agent.old }
+        requires stands { Stands S.tells agent.old self.old }
+        requires key { IsKey key.now }
+        ensures was { IfOk result (λ was. was ≡ is_some (found (map_in agent.old self.old) key.now)) }
+        ensures gone { OnOk result (Serves S.tells agent.old agent.new self.old self.new 2 (without_key (map_in agent.old self.old) key.now)) }
+        ensures left { OnErr result (Serves S.tells agent.old agent.new self.old self.new 2 (map_in agent.old self.old)) }
+        ensures none { found self.old.index key.now ≡ None → (result ≡ Ok false) × (agent.new ≡ agent.old) }
+        ensures full { found self.old.index key.now ≢ None → 16777216 < self.old.live + (2 + length key.now) → result ≡ Err (kv_stop.Full self.old.live (2 + length key.now)) }
+        ensures cause { IfErr result (HasCause agent.old agent.new self.old.live (2 + length key.now)) }
+    {
+        changing::delete(rt, court, agent, &mut self.handle, &mut self.notes, key)
+    }
+
+    /// Stores the file for good: its content is then records that stand for the map.
+    pub fn flush<S: Store, R: Wait>(
+        &mut self,
+        rt: &R,
+        court: &Hall<S>,
+        agent: &mut Agent<S>,
+    ) -> Result<(), KvStop>
+        requires own { agent.old.pass.hall ≡ court.now }
+        requires few { HasPlaces agent.old }
+        requires stands { Stands S.tells agent.old self.old }
+        ensures flushed { OnOk result (Flushes S.tells agent.old agent.new self.old self.new 2 (map_in agent.old self.old)) }
+        ensures left { OnErr result (Serves S.tells agent.old agent.new self.old self.new 2 (map_in agent.old self.old)) }
+        ensures cause { IfErr result (HasPlainCause agent.old agent.new) }
+    {
+        storing::flush_file(rt, court, agent, &mut self.handle, &mut self.notes)
+    }
+
+    /// Writes the map's records by key at the start of the file, in one write, and cuts what is left behind them.
+    pub fn compact<S: Store, R: Wait>(
+        &mut self,
+        rt: &R,
+        court: &Hall<S>,
+        agent: &mut Agent<S>,
+    ) -> Result<(), KvStop>
+        requires own { agent.old.pass.hall ≡ court.now }
+        requires few { HasPlaces agent.old }
+        requires stands { Stands S.tells agent.old self.old }
+        ensures serves { Serves S.tells agent.old agent.new self.old self.new 4 (map_in agent.old self.old) }
+        ensures packed { OnOk result (S.tells → file_bytes agent.new self.new.handle ≡ log_of (map put_of (map_in agent.old self.old))) }
+        ensures cause { IfErr result (HasPlainCause agent.old agent.new) }
+    {
+        match compacting::compact(rt, court, agent, &mut self.handle, &mut self.notes) {
+            Ok(()) => Ok(()),
+            Err(stop) => Err(KvStop::Agent(stop)),
+        }
+    }
+
+    /// Closes the file, which is stored for good. Where that is refused it comes back open.
+    pub fn close<S: Store, R: Wait>(
+        self,
+        rt: &R,
+        court: &Hall<S>,
+        agent: &mut Agent<S>,
+    ) -> Result<ClosedSync, (Kv, Stop)>
+        requires own { agent.old.pass.hall ≡ court.now }
+        requires few { HasPlaces agent.old }
+        requires stands { Stands S.tells agent.old self }
+        ensures closed { IfOk result (λ closed. Closes S.tells agent.old agent.new self closed.row 2 (map_in agent.old self)) }
+        ensures back { IfErr result (λ back. Serves S.tells agent.old agent.new self back.0 2 (map_in agent.old self)) }
+        ensures cause { IfErr result (λ back. IsCaused agent.old agent.new back.1) }
+    {
+        let Kv { handle, notes } = self;
+        cut_and_end(rt, court, agent, handle, notes)
+    }
+
+    /// The access handle, open as it is. Takes no memory, and adds no entry.
+    pub fn give_back(self) -> SyncHandle
+        ensures { result ≡ self.handle }
+    {
+        let Kv { handle, notes: _ } = self;
+        handle
+    }
+}
+
+// Closes a file without a tail.
+fn end<S: Store, R: Wait>(
+    rt: &R,
+    court: &Hall<S>,
+    agent: &mut Agent<S>,
+    handle: SyncHandle,
+    notes: Notes,
+) -> Result<ClosedSync, (Kv, Stop)>
+    requires own { agent.old.pass.hall ≡ court.now }
+    requires room { HasRoom agent.old }
+    requires stands { Stands S.tells agent.old (seen handle notes) }
+    requires none { notes.tail ≡ false }
+    ensures closed { IfOk result (λ closed. Closes S.tells agent.old agent.new (seen handle notes) closed.row 1 (map_in agent.old (seen handle notes))) }
+    ensures back { IfErr result (λ back. Serves S.tells agent.old agent.new (seen handle notes) back.0 1 (map_in agent.old (seen handle notes))) }
+    ensures cause { IfErr result (λ back. IsCaused agent.old agent.new back.1) }
+{
+    match opfs_sync_files::close(rt, court, agent, handle) {
+        Ok(closed) => Ok(closed),
+        Err((handle, stop)) => Err((Kv { handle, notes }, stop)),
+    }
+}
+
+// Cuts a pending tail, and closes the file.
+fn cut_and_end<S: Store, R: Wait>(
+    rt: &R,
+    court: &Hall<S>,
+    agent: &mut Agent<S>,
+    mut handle: SyncHandle,
+    mut notes: Notes,
+) -> Result<ClosedSync, (Kv, Stop)>
+    requires own { agent.old.pass.hall ≡ court.now }
+    requires few { HasPlaces agent.old }
+    requires stands { Stands S.tells agent.old (seen handle notes) }
+    ensures closed { IfOk result (λ closed. Closes S.tells agent.old agent.new (seen handle notes) closed.row 2 (map_in agent.old (seen handle notes))) }
+    ensures back { IfErr result (λ back. Serves S.tells agent.old agent.new (seen handle notes) back.0 2 (map_in agent.old (seen handle notes))) }
+    ensures cause { IfErr result (λ back. IsCaused agent.old agent.new back.1) }
+{
+    match storing::cut(rt, court, agent, &mut handle, &mut notes) {
+        Ok(()) => end(rt, court, agent, handle, notes),
+        Err(stop) => Err((Kv { handle, notes }, stop)),
+    }
+}

@@ -1,0 +1,14 @@
+//! What is kept in memory of a key-value file.
+
+use opfs_kv_words::Index;
+
+/// What is kept in memory of a key-value file beside its handle.
+#[derive(Drop)]
+pub struct Notes {
+    /// Where each value is.
+    pub index: Index,
+    /// How many bytes of the file are live.
+    pub live: u32,
+    /// Whether other bytes stand behind them still.
+    pub tail: bool,
+}

@@ -1,0 +1,93 @@
+//! How a pending tail is cut, and the file stored.
+
+ghost use Rattle.std.specs.Prelude.{◌≡◌, false, take, IfErr, OnErr, OnOk};
+ghost use Rattle.opfs_sync_files.specs.Entries.{IsCaused};
+ghost use Rattle.opfs_sync_files.specs.Files.{file_bytes};
+ghost use Rattle.opfs_turns.specs.Calls.{HasRoom};
+ghost use Rattle.opfs_kv.specs.Calls.{HasPlainCause};
+ghost use Rattle.opfs_kv.specs.Seen.{Flushes, HasPlaces, Serves, Stands, map_in, seen};
+
+use crate::notes::Notes;
+use crate::stop::KvStop;
+use opfs_acts::Store;
+use opfs_agent::Agent;
+use opfs_calls::Stop;
+use opfs_hall::Hall;
+use opfs_handles::SyncHandle;
+use opfs_sync_files::{flush, truncate};
+use std::sync::Wait;
+
+/// Cuts a pending tail, where there is one.
+pub fn cut<S: Store, R: Wait>(
+    rt: &R,
+    court: &Hall<S>,
+    agent: &mut Agent<S>,
+    handle: &mut SyncHandle,
+    notes: &mut Notes,
+) -> Result<(), Stop>
+    requires own { agent.old.pass.hall ≡ court.now }
+    requires room { HasRoom agent.old }
+    requires stands { Stands S.tells agent.old (seen handle.old notes.old) }
+    ensures serves { Serves S.tells agent.old agent.new (seen handle.old notes.old) (seen handle.new notes.new) 1 (map_in agent.old (seen handle.old notes.old)) }
+    ensures none { OnOk result (notes.new.tail ≡ false) }
+    ensures front { take notes.old.live (file_bytes agent.new handle.new) ≡ take notes.old.live (file_bytes agent.old handle.old) }
+    ensures same { (notes.new.index ≡ notes.old.index) × (notes.new.live ≡ notes.old.live) }
+    ensures cause { IfErr result (IsCaused agent.old agent.new) }
+{
+    if !notes.tail {
+        return Ok(());
+    }
+    match truncate(rt, court, agent, handle, notes.live as u64) {
+        Ok(()) => {
+            notes.tail = false;
+            Ok(())
+        }
+        Err(stop) => Err(stop),
+    }
+}
+
+// Stores the file for good, without a tail.
+fn store<S: Store, R: Wait>(
+    rt: &R,
+    court: &Hall<S>,
+    agent: &mut Agent<S>,
+    handle: &mut SyncHandle,
+    notes: &mut Notes,
+) -> Result<(), Stop>
+    requires own { agent.old.pass.hall ≡ court.now }
+    requires few { HasPlaces agent.old }
+    requires stands { Stands S.tells agent.old (seen handle.old notes.old) }
+    ensures flushed { OnOk result (Flushes S.tells agent.old agent.new (seen handle.old notes.old) (seen handle.new notes.new) 2 (map_in agent.old (seen handle.old notes.old))) }
+    ensures left { OnErr result (Serves S.tells agent.old agent.new (seen handle.old notes.old) (seen handle.new notes.new) 2 (map_in agent.old (seen handle.old notes.old))) }
+    ensures cause { IfErr result (IsCaused agent.old agent.new) }
+{
+    match cut(rt, court, agent, handle, notes) {
+        Ok(()) => {}
+        Err(stop) => return Err(stop),
+    }
+    match flush(rt, court, agent, handle) {
+        Ok(()) => Ok(()),
+        Err(unstored) => Err(unstored),
+    }
+}
+
+/// The same, with the reasons of a key-value file.
+pub fn flush_file<S: Store, R: Wait>(
+    rt: &R,
+    court: &Hall<S>,
+    agent: &mut Agent<S>,
+    handle: &mut SyncHandle,
+    notes: &mut Notes,
+) -> Result<(), KvStop>
+    requires own { agent.old.pass.hall ≡ court.now }
+    requires few { HasPlaces agent.old }
+    requires stands { Stands S.tells agent.old (seen handle.old notes.old) }
+    ensures flushed { OnOk result (Flushes S.tells agent.old agent.new (seen handle.old notes.old) (seen handle.new notes.new) 2 (map_in agent.old (seen handle.old notes.old))) }
+    ensures left { OnErr result (Serves S.tells agent.old agent.new (seen handle.old notes.old) (seen handle.new notes.new) 2 (map_in agent.old (seen handle.old notes.old))) }
+    ensures cause { IfErr result (HasPlainCause agent.old agent.new) }
+{
+    match store(rt, court, agent, handle, notes) {
+        Ok(()) => Ok(()),
+        Err(stop) => Err(KvStop::Agent(stop)),
+    }
+}

@@ -1,0 +1,63 @@
+-- What an agent's calls add to what it knows.
+use Rattle.std.proofs.Common.{◌≡◌, ◌⊎◌, ℕ, ◌+◌, ◌≤◌, List, [], ◌∷◌, ◌++◌, refl, sym, ◌∙◌, inl, inr, arith}
+use Rattle.opfs_hist.specs.declared.entry.Entry.{Entry}
+use Rattle.opfs_hist.specs.declared.reply.Reply.{Reply}
+use Rattle.opfs_turns.specs.Agents.{AgentSeen}
+use Rattle.opfs_sync_files.specs.Entries.{IsIn, HasEntry, IsCaused, GoesOn}
+use Rattle.opfs_calls.specs.declared.stop.Stop.{Stop}
+use Rattle.opfs_calls.specs.declared.stop.Stop.TheVariants as stop
+
+pub in-left : (e : Entry) (xs ys : List Entry) → IsIn e xs → IsIn e (xs ++ ys)
+in-left e [] ys h = absurd h
+in-left e (x ∷ xs) ys (inl is) = inl is
+in-left e (x ∷ xs) ys (inr more) = inr (in-left e xs ys more)
+
+pub in-right : (e : Entry) (xs ys : List Entry) → IsIn e ys → IsIn e (xs ++ ys)
+in-right e [] ys h = h
+in-right e (x ∷ xs) ys h = inr (in-right e xs ys h)
+
+or-first : (A B C : Type 0) → A ⊎ B → (C ⊎ A) ⊎ B
+or-first A B C (inl a) = inl (inr a)
+or-first A B C (inr b) = inr b
+
+pub in-either : (e : Entry) (xs ys : List Entry) → IsIn e (xs ++ ys) → IsIn e xs ⊎ IsIn e ys
+in-either e [] ys h = inr h
+in-either e (x ∷ xs) ys (inl is) = inl (inl is)
+in-either e (x ∷ xs) ys (inr more) = or-first (IsIn e xs) (IsIn e ys) (x ≡ e) (in-either e xs ys more)
+
+pub in-last : (e : Entry) (xs : List Entry) → IsIn e (xs ++ e ∷ [])
+in-last e xs = in-right e xs (e ∷ []) (inl refl)
+
+-- ---- one after another
+
+pub goes-none : {O : Type 0} (a : AgentSeen O) → GoesOn a a 0
+goes-none a = record { hall = refl; agent = refl; opening_is = refl; rows = refl; entries = omega arith; number = omega arith; knows = λ e h. h }
+
+pub goes-then : {O : Type 0} (a b c : AgentSeen O) (m n : ℕ) → GoesOn a b m → GoesOn b c n → GoesOn a c (m + n)
+goes-then a b c m n x y = record {
+  hall = y.hall ∙ x.hall;
+  agent = y.agent ∙ x.agent;
+  opening_is = y.opening_is ∙ x.opening_is;
+  rows = y.rows ∙ x.rows;
+  entries = omega (arith, x.entries, y.entries);
+  number = omega (arith, x.number, y.number);
+  knows = λ e h. y.knows e (x.knows e h);
+}
+
+pub goes-most : {O : Type 0} (a b : AgentSeen O) (m n : ℕ) → m ≤ n → GoesOn a b m → GoesOn a b n
+goes-most a b m n few x = record { hall = x.hall; agent = x.agent; opening_is = x.opening_is; rows = x.rows; entries = omega (arith, x.entries, few); number = x.number; knows = x.knows }
+
+-- An entry that a later call added, and one that an earlier call added.
+pub entry-later : {O : Type 0} (a b c : AgentSeen O) (m : ℕ) (r : Reply) → GoesOn a b m → HasEntry b c r → HasEntry a c r
+entry-later a b c m r x h = record { entry = h.entry; there = h.there; mine = h.mine ∙ x.agent; added = omega (arith, x.number, h.added); told = h.told }
+
+pub entry-earlier : {O : Type 0} (a b c : AgentSeen O) (n : ℕ) (r : Reply) → HasEntry a b r → GoesOn b c n → HasEntry a c r
+entry-earlier a b c n r h y = record { entry = h.entry; there = y.knows h.entry h.there; mine = h.mine; added = h.added; told = h.told }
+
+pub caused-later : {O : Type 0} (a b c : AgentSeen O) (m : ℕ) (why : Stop) → GoesOn a b m → IsCaused b c why → IsCaused a c why
+caused-later a b c m (stop.No r) x h = entry-later a b c m _ x h
+caused-later a b c m stop.NoMemory x h = tt
+
+pub caused-earlier : {O : Type 0} (a b c : AgentSeen O) (n : ℕ) (why : Stop) → IsCaused a b why → GoesOn b c n → IsCaused a c why
+caused-earlier a b c n (stop.No r) h y = entry-earlier a b c n _ h y
+caused-earlier a b c n stop.NoMemory h y = tt

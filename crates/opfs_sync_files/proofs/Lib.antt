@@ -1,0 +1,5 @@
+pub mod Knowing
+pub mod Holding
+pub mod Storing
+pub mod Behind
+pub mod Served

@@ -1,0 +1,39 @@
+//! How an access handle ends.
+
+ghost use Rattle.std.specs.Prelude.{◌≡◌, ◌++◌, IfOk, IfErr};
+ghost use Rattle.opfs_calls.specs.Rows.{HasClosedHandle, HasHandle};
+ghost use Rattle.opfs_sync_files.specs.Entries.{GoesOn, IsCaused};
+ghost use Rattle.opfs_sync_files.specs.Files.{file_bytes, flushed_by, stored_of, IsStill};
+ghost use Rattle.opfs_turns.specs.Calls.{HasRoom};
+
+use opfs_acts::Store;
+use opfs_agent::Agent;
+use opfs_calls::Stop;
+use opfs_hall::Hall;
+use opfs_handles::{ClosedSync, SyncHandle};
+use std::sync::Wait;
+
+/// Closes an access handle: the bytes of its file are stored for good. Where that is refused the handle comes back open, and
+/// nothing is stored.
+pub fn close<S: Store, R: Wait>(
+    rt: &R,
+    court: &Hall<S>,
+    agent: &mut Agent<S>,
+    handle: SyncHandle,
+) -> Result<ClosedSync, (SyncHandle, Stop)>
+    requires own { agent.old.pass.hall ≡ court.now }
+    requires room { HasRoom agent.old }
+    requires handle { HasHandle S.tells agent.old handle }
+    ensures closed { IfOk result (λ closed. (closed.row ≡ handle.row) × HasClosedHandle agent.new closed.row) }
+    ensures goes { GoesOn agent.old agent.new 1 }
+    ensures stored { IfOk result (λ closed. stored_of agent.new handle ≡ stored_of agent.old handle ++ flushed_by handle.mode (file_bytes agent.old handle)) }
+    ensures still { IfErr result (λ back. IsStill S.tells agent.old agent.new handle back.0) }
+    ensures same { IfErr result (λ back. file_bytes agent.new back.0 ≡ file_bytes agent.old handle) }
+    ensures unstored { IfErr result (λ back. stored_of agent.new back.0 ≡ stored_of agent.old handle) }
+    ensures cause { IfErr result (λ back. IsCaused agent.old agent.new back.1) }
+{
+    agent.kept();
+    let done = agent.close_sync(rt, court, handle);
+    agent.kept();
+    done
+}

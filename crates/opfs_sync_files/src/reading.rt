@@ -1,0 +1,114 @@
+//! How a file is read through its access handle.
+
+ghost use Rattle.std.specs.Prelude.{◌≡◌, length, IfOk, IfErr};
+ghost use Rattle.opfs_acts.specs.Asking.{IsSmall};
+ghost use Rattle.opfs_calls.specs.Rows.{HasHandle};
+ghost use Rattle.opfs_splice.specs.Splicing.{window};
+ghost use Rattle.opfs_sync_files.specs.Entries.{IsCaused};
+ghost use Rattle.opfs_sync_files.specs.Files.{file_bytes, stored_of, IsStill, ReadsOnce};
+ghost use Rattle.opfs_turns.specs.Calls.{HasRoom};
+ghost use Rattle.opfs_work.specs.Works.{IsNearRead};
+
+use opfs_acts::Store;
+use opfs_agent::Agent;
+use opfs_base::Bytes;
+use opfs_calls::Stop;
+use opfs_hall::Hall;
+use opfs_handles::SyncHandle;
+use std::sync::Wait;
+
+/// How many bytes a file has.
+pub fn size<S: Store>(agent: &mut Agent<S>, handle: &SyncHandle) -> Result<u64, Stop>
+    requires room { HasRoom agent.old }
+    requires handle { HasHandle S.tells agent.old handle.now }
+    ensures still { IsStill S.tells agent.old agent.new handle.now handle.now }
+    ensures size { IfOk result (λ size. size ≡ length (file_bytes agent.old handle.now)) }
+    ensures same { file_bytes agent.new handle.now ≡ file_bytes agent.old handle.now }
+    ensures stored { stored_of agent.new handle.now ≡ stored_of agent.old handle.now }
+    ensures cause { IfErr result (IsCaused agent.old agent.new) }
+{
+    agent.kept();
+    let done = agent.sync_size(handle);
+    agent.kept();
+    done
+}
+
+/// The bytes of a file from a place on, at most so many: one call, with a turn only where some bytes are elsewhere.
+pub fn read<S: Store, R: Wait>(
+    rt: &R,
+    court: &Hall<S>,
+    agent: &mut Agent<S>,
+    handle: &mut SyncHandle,
+    len: u64,
+    at: u64,
+) -> Result<Bytes, Stop>
+    requires own { agent.old.pass.hall ≡ court.now }
+    requires room { HasRoom agent.old }
+    requires handle { HasHandle S.tells agent.old handle.old }
+    requires len { IsSmall len }
+    requires at { IsSmall at }
+    ensures still { IsStill S.tells agent.old agent.new handle.old handle.new }
+    ensures once { ReadsOnce S.tells agent.old agent.new handle.old.row len at result }
+    ensures read { IfOk result (λ bytes. S.tells → bytes ≡ window (file_bytes agent.old handle.old) at len) }
+    ensures long { IfOk result (λ bytes. length bytes ≡ length (window (file_bytes agent.old handle.old) at len)) }
+    ensures same { file_bytes agent.new handle.new ≡ file_bytes agent.old handle.old }
+    ensures stored { stored_of agent.new handle.new ≡ stored_of agent.old handle.old }
+    ensures cause { IfErr result (IsCaused agent.old agent.new) }
+{
+    if handle.near(len, Some(at)) {
+        return read_near(agent, handle, len, at);
+    }
+    read_far(rt, court, agent, handle, len, at)
+}
+
+// The same where the handle has the bytes.
+fn read_near<S: Store>(
+    agent: &mut Agent<S>,
+    handle: &mut SyncHandle,
+    len: u64,
+    at: u64,
+) -> Result<Bytes, Stop>
+    requires room { HasRoom agent.old }
+    requires handle { HasHandle S.tells agent.old handle.old }
+    requires near { IsNearRead handle.old.work at len }
+    ensures still { IsStill S.tells agent.old agent.new handle.old handle.new }
+    ensures once { ReadsOnce S.tells agent.old agent.new handle.old.row len at result }
+    ensures read { IfOk result (λ bytes. S.tells → bytes ≡ window (file_bytes agent.old handle.old) at len) }
+    ensures long { IfOk result (λ bytes. length bytes ≡ length (window (file_bytes agent.old handle.old) at len)) }
+    ensures same { file_bytes agent.new handle.new ≡ file_bytes agent.old handle.old }
+    ensures stored { stored_of agent.new handle.new ≡ stored_of agent.old handle.old }
+    ensures cause { IfErr result (IsCaused agent.old agent.new) }
+{
+    agent.kept();
+    let done = agent.sync_read(handle, len, Some(at));
+    agent.kept();
+    done
+}
+
+// The same under the turn.
+fn read_far<S: Store, R: Wait>(
+    rt: &R,
+    court: &Hall<S>,
+    agent: &mut Agent<S>,
+    handle: &mut SyncHandle,
+    len: u64,
+    at: u64,
+) -> Result<Bytes, Stop>
+    requires own { agent.old.pass.hall ≡ court.now }
+    requires room { HasRoom agent.old }
+    requires handle { HasHandle S.tells agent.old handle.old }
+    requires len { IsSmall len }
+    requires at { IsSmall at }
+    ensures still { IsStill S.tells agent.old agent.new handle.old handle.new }
+    ensures once { ReadsOnce S.tells agent.old agent.new handle.old.row len at result }
+    ensures read { IfOk result (λ bytes. S.tells → bytes ≡ window (file_bytes agent.old handle.old) at len) }
+    ensures long { IfOk result (λ bytes. length bytes ≡ length (window (file_bytes agent.old handle.old) at len)) }
+    ensures same { file_bytes agent.new handle.new ≡ file_bytes agent.old handle.old }
+    ensures stored { stored_of agent.new handle.new ≡ stored_of agent.old handle.old }
+    ensures cause { IfErr result (IsCaused agent.old agent.new) }
+{
+    agent.kept();
+    let done = agent.sync_read_far(rt, court, handle, len, Some(at));
+    agent.kept();
+    done
+}
