@@ -3,7 +3,7 @@
 use crate::images::{Front, all_recover, are_within, place_left};
 use crate::lines::text_of;
 use crate::runs::{Outcome, SMALL, begun, empty_image, faults_told, run_over};
-use crate::saves::{NOTE, WORKS, Work, count_stored};
+use crate::saves::{NOTE, SAVES, SHORT, Work, count_stored};
 use opfs_judge::{Verdict, judge};
 use opfs_script::read_script;
 use std::alloc::{AllocError, Global};
@@ -250,7 +250,7 @@ fn first_other<R: AllocGlobal + Threads + Wait + Sync>(
 
 #[test]
 fn a_call_that_fails_once_is_told_and_the_others_go_on(rt: HostRuntime) -> Result<(), Fail> {
-    for work in WORKS {
+    for work in SHORT {
         let (other, calls) = first_other(&rt, work, true)?;
         assert_eq!(rt; other, None, "{}", work.script);
         assert!(rt; calls >= 6, "{}", work.script);
@@ -259,11 +259,27 @@ fn a_call_that_fails_once_is_told_and_the_others_go_on(rt: HostRuntime) -> Resul
 }
 
 #[test]
+fn a_call_that_fails_once_is_told_among_many(rt: HostRuntime) -> Result<(), Fail> {
+    let (other, calls) = first_other(&rt, SAVES, true)?;
+    assert_eq!(rt; other, None);
+    assert!(rt; calls > 20, "{calls}");
+    Ok(())
+}
+
+#[test]
 fn calls_that_fail_for_ever_leave_a_front(rt: HostRuntime) -> Result<(), Fail> {
-    for work in WORKS {
+    for work in SHORT {
         let (other, calls) = first_other(&rt, work, false)?;
         assert_eq!(rt; other, None, "{}", work.script);
         assert!(rt; calls >= 6, "{}", work.script);
     }
+    Ok(())
+}
+
+#[test]
+fn calls_that_fail_for_ever_leave_a_longer_front(rt: HostRuntime) -> Result<(), Fail> {
+    let (other, calls) = first_other(&rt, SAVES, false)?;
+    assert_eq!(rt; other, None);
+    assert!(rt; calls > 20, "{calls}");
     Ok(())
 }

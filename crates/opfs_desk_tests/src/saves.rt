@@ -93,8 +93,8 @@ pub const FLUSH: Work = Work {
     fronts: &[(0, 1), (1, 1)],
 };
 
-/// All of them.
-pub const WORKS: [Work; 4] = [NOTE, SAVES, STREAMS, FLUSH];
+/// The shorter ones.
+pub const SHORT: [Work; 3] = [NOTE, STREAMS, FLUSH];
 
 /// How many calls answered that a content is stored.
 pub fn count_stored(alloc: Global, text: &[u8]) -> Result<usize, AllocError> {

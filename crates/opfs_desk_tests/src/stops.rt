@@ -3,7 +3,7 @@
 
 use crate::images::{Front, are_within, place_left};
 use crate::runs::{SMALL, begun, empty_image, run_over};
-use crate::saves::{NOTE, WORKS, Work, count_stored};
+use crate::saves::{NOTE, SAVES, SHORT, Work, count_stored};
 use std::alloc::AllocError;
 use std::sync::Wait;
 use std::test::Fail;
@@ -53,11 +53,19 @@ fn first_other<R: AllocGlobal + Threads + Wait + Sync>(
 
 #[test]
 fn a_stop_within_each_call_leaves_a_front(rt: HostRuntime) -> Result<(), Fail> {
-    for work in WORKS {
+    for work in SHORT {
         let (other, calls) = first_other(&rt, work)?;
         assert_eq!(rt; other, None, "{}", work.script);
         assert!(rt; calls >= 6, "{}", work.script);
     }
+    Ok(())
+}
+
+#[test]
+fn a_stop_among_many_calls_leaves_a_front(rt: HostRuntime) -> Result<(), Fail> {
+    let (other, calls) = first_other(&rt, SAVES)?;
+    assert_eq!(rt; other, None);
+    assert!(rt; calls > 20, "{calls}");
     Ok(())
 }
 
