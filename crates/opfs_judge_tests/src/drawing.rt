@@ -137,13 +137,3 @@ pub fn script_text(alloc: Global, seed: u64, tags: bool) -> Result<String, Alloc
     text.push_str("]}")?;
     Ok(text)
 }
-
-// A script of three agents of as many origins, each with a file of half of all blocks: the last one's storing clears another
-// origin's root.
-pub const FULL: &str = r#"{"agents":[
-{"origin":"https://a.example","steps":[{"do":"getDirectory","as":"d"},{"do":"getFileHandle","dir":"d","name":"f","create":true,"as":"f"},
-{"do":"createWritable","file":"f","as":"w"},{"do":"truncate","stream":"w","size":33554432},{"do":"close","stream":"w"}]},
-{"origin":"https://b.example","steps":[{"do":"getDirectory","as":"d"},{"do":"getFileHandle","dir":"d","name":"f","create":true,"as":"f"},
-{"do":"createWritable","file":"f","as":"w"},{"do":"truncate","stream":"w","size":33554432},{"do":"close","stream":"w"}]},
-{"origin":"https://c.example","steps":[{"do":"getDirectory","as":"d"},{"do":"getFileHandle","dir":"d","name":"f","create":true,"as":"f"},
-{"do":"createWritable","file":"f","as":"w"},{"do":"truncate","stream":"w","size":4096},{"do":"close","stream":"w"}]}]}"#;

@@ -1,7 +1,7 @@
 //! Verdicts on drawn transcripts, and on those with a line changed.
 
-use crate::altering::{CHANGES, Change, altered, lines_of};
-use crate::drawing::{Draws, FULL, script_text};
+use crate::altering::{CHANGES, altered, lines_of};
+use crate::drawing::{Draws, script_text};
 use crate::examples::EXAMPLES;
 use crate::replaying::{is_printed, played};
 use opfs_judge::{Verdict, judge};
@@ -139,24 +139,5 @@ fn they_agree_on_each_line_of_the_examples(rt: HostRuntime) -> Result<(), Fail> 
         assert_eq!(rt; seen.apart, 0, "{text}");
         assert!(rt; seen.yes > 0 && seen.no > 10, "{text}");
     }
-    Ok(())
-}
-
-// The verdicts on the transcript of a trial that clears a root, and on that without the line that tells of it, the sixteenth.
-fn cleared(alloc: Global) -> Result<(Verdict, Verdict), AllocError> {
-    let script = read(alloc, FULL)?;
-    let text = trial_text(alloc, &script)?;
-    let lines = lines_of(alloc, text.as_slice())?;
-    let less = altered(alloc, lines.as_slice(), Change::LeftOut, 15)?;
-    let whole = judge(alloc, &script, text.as_slice())?;
-    let other = judge(alloc, &script, less.as_slice())?;
-    Ok((whole, other))
-}
-
-#[test]
-fn a_cleared_root_has_its_line(rt: HostRuntime) -> Result<(), Fail> {
-    let (whole, other) = cleared(rt.alloc())?;
-    assert_eq!(rt; whole, Verdict::Yes);
-    assert_eq!(rt; other, Verdict::No);
     Ok(())
 }
