@@ -31,13 +31,13 @@ struct Base {
     begun: u64,
 }
 
-fn base<R: AllocGlobal + Threads + Wait + Sync>(rt: &R) -> Result<Base, AllocError> {
-    let image = empty_image(rt.alloc(), SMALL)?;
-    let begun = begun(rt, image.as_slice())?;
-    Ok(Base { image, begun })
-}
-
 impl Base {
+    fn make<R: AllocGlobal + Threads + Wait + Sync>(rt: &R) -> Result<Base, AllocError> {
+        let image = empty_image(rt.alloc(), SMALL)?;
+        let begun = begun(rt, image.as_slice())?;
+        Ok(Base { image, begun })
+    }
+
     // The number of a call, counted from the first step on.
     fn call(&self, call: u64) -> u64 {
         self.begun.saturating_add(call)
@@ -67,7 +67,7 @@ impl Base {
 #[test]
 fn a_gate_that_fails_once_refuses_the_close(rt: HostRuntime) -> Result<(), Fail> {
     let alloc = rt.alloc();
-    let run = base(&rt)?.run(&rt, NOTE.script, Some(4), None)?;
+    let run = Base::make(&rt)?.run(&rt, NOTE.script, Some(4), None)?;
     let text = text_of(alloc, run.text.as_slice())?;
     let calls = run.disk.calls();
     let place = place_left(alloc, &run.disk, calls, run.disk.content(), &[EMPTY_NOTE])?;
@@ -80,7 +80,7 @@ fn a_gate_that_fails_once_refuses_the_close(rt: HostRuntime) -> Result<(), Fail>
 #[test]
 fn a_gate_that_fails_for_ever_leaves_either_image(rt: HostRuntime) -> Result<(), Fail> {
     let alloc = rt.alloc();
-    let base = base(&rt)?;
+    let base = Base::make(&rt)?;
     let run = base.run(&rt, NOTE.script, None, Some(3))?;
     let text = text_of(alloc, run.text.as_slice())?;
     let next = base.run(&rt, NOTE.script, None, Some(4))?;
@@ -114,7 +114,7 @@ const TWICE_LINES: &str = "1.1 getDirectory ok\n\
 #[test]
 fn a_close_after_a_doubt_settles_first(rt: HostRuntime) -> Result<(), Fail> {
     let alloc = rt.alloc();
-    let base = base(&rt)?;
+    let base = Base::make(&rt)?;
     let run = base.run(&rt, TWICE, Some(5), None)?;
     let text = text_of(alloc, run.text.as_slice())?;
     let image = base.image.as_slice();
@@ -152,7 +152,7 @@ fn settled<R: AllocGlobal + Threads + Wait + Sync>(
     call: u64,
 ) -> Result<(bool, bool), AllocError> {
     let alloc = rt.alloc();
-    let base = base(rt)?;
+    let base = Base::make(rt)?;
     let run = base.run(rt, FOLDER, Some(5), Some(call))?;
     let next = base.run(rt, NOTE.script, None, None)?;
     let calls = base.call(call);
@@ -165,7 +165,7 @@ fn settled<R: AllocGlobal + Threads + Wait + Sync>(
 #[test]
 fn a_directory_after_a_doubt_settles_first(rt: HostRuntime) -> Result<(), Fail> {
     let alloc = rt.alloc();
-    let run = base(&rt)?.run(&rt, FOLDER, Some(5), Some(7))?;
+    let run = Base::make(&rt)?.run(&rt, FOLDER, Some(5), Some(7))?;
     let text = text_of(alloc, run.text.as_slice())?;
     assert_eq!(rt; text.as_str(), FOLDER_LINES);
     for (call, old, new) in [(5, true, false), (6, true, false), (7, true, true)] {
@@ -231,7 +231,7 @@ fn first_other<R: AllocGlobal + Threads + Wait + Sync>(
     work: Work,
     once: bool,
 ) -> Result<(Option<u64>, u64), AllocError> {
-    let base = base(rt)?;
+    let base = Base::make(rt)?;
     let run = base.run(rt, work.script, None, None)?;
     let calls = run.disk.calls().saturating_sub(base.begun);
     for before in 0..calls {
