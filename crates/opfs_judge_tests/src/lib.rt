@@ -6,6 +6,8 @@ mod altering;
 #[cfg(test)]
 mod drawing;
 #[cfg(test)]
+mod examples;
+#[cfg(test)]
 mod judging;
 #[cfg(test)]
 mod replaying;

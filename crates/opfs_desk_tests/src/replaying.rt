@@ -1,0 +1,195 @@
+//! What scripts print on the plain machine when their agents run in an order, over a store of some limits.
+
+use crate::lines::lines_of;
+use opfs_hist::{Entry, Op};
+use opfs_image::Geometry;
+use opfs_machine::Limits;
+use opfs_plain::Plain;
+use opfs_print::line;
+use opfs_runs::Hand;
+use opfs_script::{AgentScript, Script, Step};
+use opfs_trial::opening::begin;
+use std::alloc::{AllocError, Global};
+use std::mem;
+
+// How far an agent's script is.
+#[derive(Drop)]
+struct Runner<'a> {
+    steps: &'a [Step],
+    hand: Hand,
+    made: usize,
+    closed: usize,
+    number: u32,
+    ended: bool,
+}
+
+// The agents of a script before their first steps.
+fn runners<'a>(alloc: Global, scripts: &'a [AgentScript]) -> Result<Vec<Runner<'a>>, AllocError> {
+    let mut runners = Vec::new(alloc);
+    for script in scripts {
+        runners.push(Runner {
+            steps: script.steps(),
+            hand: Hand::make(alloc, opfs_base::copy_key(alloc, script.key())?),
+            made: 0,
+            closed: 0,
+            number: 1,
+            ended: false,
+        })?;
+    }
+    Ok(runners)
+}
+
+// The hand after a step, whose entry is the last one.
+fn note(alloc: Global, entries: &[Entry], hand: &mut Hand, step: &Step) -> Result<(), AllocError> {
+    match entries.last() {
+        Some(entry) => hand.then(alloc, step, &entry.op, &entry.reply),
+        None => Err(AllocError),
+    }
+}
+
+// One step of an agent's script.
+fn step(
+    alloc: Global,
+    plain: &mut Plain,
+    agent: u32,
+    number: u32,
+    hand: &mut Hand,
+    step: &Step,
+) -> Result<(), AllocError> {
+    let op = hand.op_of(alloc, step)?;
+    plain.call(alloc, agent, number, op)?;
+    note(alloc, plain.entries.items.as_slice(), hand, step)
+}
+
+// One entry of an agent; false where it has ended.
+fn turn(
+    alloc: Global,
+    plain: &mut Plain,
+    agent: u32,
+    runner: &mut Runner<'_>,
+) -> Result<bool, AllocError> {
+    if runner.ended {
+        return Ok(false);
+    }
+    if let Some(next) = runner.steps.get(runner.made) {
+        step(alloc, plain, agent, runner.number, &mut runner.hand, next)?;
+        runner.made = runner.made.saturating_add(1);
+    } else if let Some(open) = runner.hand.opened().get(runner.closed) {
+        plain.call(alloc, agent, runner.number, open.ending())?;
+        runner.closed = runner.closed.saturating_add(1);
+    } else {
+        plain.call(alloc, agent, runner.number, Op::End)?;
+        runner.ended = true;
+    }
+    runner.number = runner.number.saturating_add(1);
+    Ok(true)
+}
+
+/// The plain machine over an empty store of these sizes, with the agents of a script.
+pub fn begun(alloc: Global, script: &Script, sizes: Geometry) -> Result<Plain, AllocError> {
+    let mut plain = begin(alloc, script)?;
+    plain.state.limits = Limits {
+        area: u64::from(sizes.areas) * 4_096,
+        blocks: u64::from(sizes.blocks),
+        quota: u64::from(sizes.quota),
+    };
+    Ok(plain)
+}
+
+/// The same over what another run left.
+pub fn begun_after(
+    alloc: Global,
+    script: &Script,
+    sizes: Geometry,
+    before: &mut Plain,
+) -> Result<Plain, AllocError> {
+    let mut plain = begun(alloc, script, sizes)?;
+    mem::swap(&mut plain.state.rows, &mut before.state.rows);
+    mem::swap(&mut plain.state.persistent, &mut before.state.persistent);
+    Ok(plain)
+}
+
+// The lines of all entries.
+fn text_of(alloc: Global, plain: &Plain) -> Result<Vec<u8>, AllocError> {
+    let mut text = Vec::new(alloc);
+    for entry in plain.entries.items.as_slice() {
+        line(alloc, entry, &mut text)?;
+    }
+    Ok(text)
+}
+
+// Runs agents in an order, each number a place in the script; whether none had ended too early, and all have in the end.
+fn replay(
+    alloc: Global,
+    plain: &mut Plain,
+    script: &Script,
+    order: &[usize],
+) -> Result<bool, AllocError> {
+    let mut runners = runners(alloc, script.agents())?;
+    for place in order {
+        if *place >= 64 {
+            return Ok(false);
+        }
+        let agent = *place as u32 + 1;
+        let Some(runner) = runners.get_mut(*place) else {
+            return Ok(false);
+        };
+        if !turn(alloc, plain, agent, runner)? {
+            return Ok(false);
+        }
+    }
+    Ok(runners.iter().all(|runner| runner.ended))
+}
+
+// The place of the agent whose line this is; None where it is no agent's.
+fn place_of(line: &[u8]) -> Option<usize> {
+    let mut number = 0usize;
+    for byte in line {
+        if *byte == b'.' {
+            return number.checked_sub(1);
+        }
+        if !byte.is_ascii_digit() {
+            return None;
+        }
+        number = number
+            .saturating_mul(10)
+            .saturating_add(byte.saturating_sub(b'0') as usize);
+    }
+    None
+}
+
+// The agents of a text's lines, by their places; None where a line is neither an agent's nor an eviction's.
+fn order_of(alloc: Global, lines: &[Vec<u8>]) -> Result<Option<Vec<usize>>, AllocError> {
+    let mut order = Vec::new(alloc);
+    for line in lines {
+        if line.starts_with("evict ".as_bytes()) {
+            continue;
+        }
+        match place_of(line.as_slice()) {
+            Some(place) => order.push(place)?,
+            None => return Ok(None),
+        }
+    }
+    Ok(Some(order))
+}
+
+/// Runs the agents on the plain machine in the order of a text's lines; nothing where they print another text.
+pub fn replayed(
+    alloc: Global,
+    script: &Script,
+    mut plain: Plain,
+    text: &[u8],
+) -> Result<Option<Plain>, AllocError> {
+    let lines = lines_of(alloc, text)?;
+    let Some(order) = order_of(alloc, lines.as_slice())? else {
+        return Ok(None);
+    };
+    if !replay(alloc, &mut plain, script, order.as_slice())? {
+        return Ok(None);
+    }
+    let printed = text_of(alloc, &plain)?;
+    if printed.as_slice() == text {
+        return Ok(Some(plain));
+    }
+    Ok(None)
+}
