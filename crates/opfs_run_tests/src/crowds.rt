@@ -21,7 +21,7 @@ const LINES: [&str; 8] = [
     "4 write ok",
     "5 close ok",
     "6 getFile ok 5 0",
-    "7 slice ok 656c6c",
+    "7 slice ok 3 656c6c",
     "8 end ok",
 ];
 

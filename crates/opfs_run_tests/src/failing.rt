@@ -68,19 +68,19 @@ fn may_leave(ending: Ending, told: &str) -> bool {
     }
 }
 
-// How the first script ends over an image where these calls fail, and whether it left what it may.
+// How the first script ends over an image where these calls fail, whether it left what it may, and what it printed.
 fn ended<R: AllocGlobal + Threads + Wait + Sync>(
     rt: &R,
     image: &[u8],
     fails: &[u64],
     stop: Option<u64>,
-) -> Result<(Ending, bool), AllocError> {
+) -> Result<(Ending, bool, String), AllocError> {
     let mut host: MemHost = host_of(rt.alloc(), image, fails, stop)?;
     let (status, text) = asked(rt, &mut host, &["run", "I"], FIRST)?;
     let ending = ending_of(status, text.as_str());
     let left = image_of(rt.alloc(), &host)?;
     let told = listed(rt, &left)?;
-    Ok((ending, may_leave(ending, told.as_str())))
+    Ok((ending, may_leave(ending, told.as_str()), text))
 }
 
 #[test]
@@ -88,8 +88,8 @@ fn a_call_that_fails_once_is_told_once(rt: HostRuntime) -> Result<(), Fail> {
     let image = formatted(&rt, "16", "4", "8")?;
     let mut refused = 0_u64;
     for call in 1..CALLS {
-        let (ending, fine) = ended(&rt, &image, &[call], None)?;
-        assert!(rt; fine, "{call} {ending:?}");
+        let (ending, fine, text) = ended(&rt, &image, &[call], None)?;
+        assert!(rt; fine, "{call} {ending:?} {text}");
         if ending == Ending::Refused {
             refused = refused.wrapping_add(1);
         }
@@ -103,8 +103,8 @@ fn a_disk_that_stops_is_told_at_the_end(rt: HostRuntime) -> Result<(), Fail> {
     let image = formatted(&rt, "16", "4", "8")?;
     let mut refused = 0_u64;
     for call in 0..CALLS {
-        let (ending, fine) = ended(&rt, &image, &[], Some(call))?;
-        assert!(rt; fine, "{call} {ending:?}");
+        let (ending, fine, text) = ended(&rt, &image, &[], Some(call))?;
+        assert!(rt; fine, "{call} {ending:?} {text}");
         if ending == Ending::RefusedAndFailed {
             refused = refused.wrapping_add(1);
         }

@@ -72,7 +72,7 @@ fn a_second_run_goes_on_from_the_first(rt: HostRuntime) -> Result<(), Fail> {
         {"do":"slice","snapshot":"s","at":0,"len":5}]}]}"#;
     let (status, text) = asked(&rt, &mut host, &["run", "I"], again)?;
     let wanted =
-        "1.1 getDirectory ok\n1.2 getFileHandle ok\n1.3 getFile ok 5 0\n1.4 slice ok 68656c6c6f\n1.5 end ok\n";
+        "1.1 getDirectory ok\n1.2 getFileHandle ok\n1.3 getFile ok 5 0\n1.4 slice ok 5 68656c6c6f\n1.5 end ok\n";
     assert_eq!(rt; (status, text.as_str()), (Status::Done, wanted));
     Ok(())
 }
