@@ -74,52 +74,19 @@ impl Draws {
     }
 }
 
-// What an agent may do next on tags.
-const TAGS: [&str; 8] = [
-    r#"{"do":"post","tag":"p"}"#,
-    r#"{"do":"post","tag":"q"}"#,
-    r#"{"do":"post","tag":"q"}"#,
-    r#"{"do":"post","tag":"r"}"#,
-    r#"{"do":"await","tag":"p"}"#,
-    r#"{"do":"await","tag":"p"}"#,
-    r#"{"do":"await","tag":"p"}"#,
-    r#"{"do":"await","tag":"q"}"#,
-];
-
-// The next step of an agent, which may be one on tags.
-fn drawn_step(draws: &mut Draws, tags: bool) -> &'static str {
-    if tags && draws.below(3) == 0 {
-        return TAGS[draws.below(8) as usize];
-    }
-    STEPS[draws.below(40) as usize]
-}
-
 // The steps of one agent.
-fn push_steps(text: &mut String, draws: &mut Draws, tags: bool) -> Result<(), AllocError> {
+fn push_steps(text: &mut String, draws: &mut Draws) -> Result<(), AllocError> {
     let count = draws.below(24);
     text.push_str(r#"{"do":"getDirectory","as":"d"}"#)?;
-    if tags {
-        text.push_str(",\n")?;
-        text.push_str(TAGS[draws.below(2) as usize])?;
-    }
     for _ in 0..count {
         text.push_str(",\n")?;
-        text.push_str(drawn_step(draws, tags))?;
+        text.push_str(STEPS[draws.below(40) as usize])?;
     }
     Ok(())
 }
 
-// The origin of an agent, one of three.
-fn origin_of(draw: u64) -> &'static str {
-    match draw {
-        0 => "https://a.example",
-        1 => "https://b.example",
-        _ => "https://c.example",
-    }
-}
-
-// A script of one to eight agents, with steps on tags or without.
-pub fn script_text(alloc: Global, seed: u64, tags: bool) -> Result<String, AllocError> {
+// A script of one to eight agents.
+pub fn script_text(alloc: Global, seed: u64) -> Result<String, AllocError> {
     let mut draws = Draws::make(seed);
     let agents = draws.below(8) + 1;
     let mut text = String::new(alloc);
@@ -128,12 +95,27 @@ pub fn script_text(alloc: Global, seed: u64, tags: bool) -> Result<String, Alloc
         if agent > 0 {
             text.push_str(",")?;
         }
+        let origin = match draws.below(3) {
+            0 => "https://a.example",
+            1 => "https://b.example",
+            _ => "https://c.example",
+        };
         text.push_str(r#"{"origin":""#)?;
-        text.push_str(origin_of(draws.below(3)))?;
+        text.push_str(origin)?;
         text.push_str(r#"","steps":["#)?;
-        push_steps(&mut text, &mut draws, tags)?;
+        push_steps(&mut text, &mut draws)?;
         text.push_str("]}")?;
     }
     text.push_str("]}")?;
     Ok(text)
 }
+
+// A script of three agents of as many origins, each with a file of half of all blocks: the last one's storing clears another
+// origin's root.
+pub const FULL: &str = r#"{"agents":[
+{"origin":"https://a.example","steps":[{"do":"getDirectory","as":"d"},{"do":"getFileHandle","dir":"d","name":"f","create":true,"as":"f"},
+{"do":"createWritable","file":"f","as":"w"},{"do":"truncate","stream":"w","size":33554432},{"do":"close","stream":"w"}]},
+{"origin":"https://b.example","steps":[{"do":"getDirectory","as":"d"},{"do":"getFileHandle","dir":"d","name":"f","create":true,"as":"f"},
+{"do":"createWritable","file":"f","as":"w"},{"do":"truncate","stream":"w","size":33554432},{"do":"close","stream":"w"}]},
+{"origin":"https://c.example","steps":[{"do":"getDirectory","as":"d"},{"do":"getFileHandle","dir":"d","name":"f","create":true,"as":"f"},
+{"do":"createWritable","file":"f","as":"w"},{"do":"truncate","stream":"w","size":4096},{"do":"close","stream":"w"}]}]}"#;

@@ -6,8 +6,6 @@ mod altering;
 #[cfg(test)]
 mod drawing;
 #[cfg(test)]
-mod examples;
-#[cfg(test)]
 mod judging;
 #[cfg(test)]
 mod replaying;

@@ -2,9 +2,7 @@
 
 use crate::altering::lines_of;
 use crate::drawing::Draws;
-use opfs_base::{Key, Text};
-use opfs_hist::{Entry, Op, Reply};
-use opfs_machine::{Party, Posted};
+use opfs_hist::{Entry, Op};
 use opfs_plain::Plain;
 use opfs_print::line;
 use opfs_runs::Hand;
@@ -47,43 +45,7 @@ fn note(alloc: Global, entries: &[Entry], hand: &mut Hand, step: &Step) -> Resul
     }
 }
 
-// Whether a tag is among those that agents of an origin have posted.
-fn is_posted(posted: &[Posted], key: Option<&Key>, tag: &[u8]) -> bool {
-    for one in posted {
-        if let (Party::Origin(origin), Some(key)) = (&one.party, key) {
-            if origin == key && one.tag.as_slice() == tag {
-                return true;
-            }
-        }
-    }
-    false
-}
-
-// Enters an await of a tag that is posted; false where it is not.
-fn enter_await(
-    alloc: Global,
-    plain: &mut Plain,
-    key: Option<&Key>,
-    agent: u32,
-    number: u32,
-    tag: &Text,
-) -> Result<bool, AllocError> {
-    if !is_posted(plain.state.posted.items.as_slice(), key, tag.as_bytes()) {
-        return Ok(false);
-    }
-    plain.entries.items.push(Entry {
-        agent,
-        number,
-        op: Op::Await {
-            tag: tag.copy(alloc)?,
-        },
-        reply: Reply::Done,
-        turn: true,
-    })?;
-    Ok(true)
-}
-
-// Makes the call of a step, and lets the hand take note; false where it waits.
+// One step of an agent's script.
 fn step(
     alloc: Global,
     plain: &mut Plain,
@@ -91,20 +53,13 @@ fn step(
     number: u32,
     hand: &mut Hand,
     step: &Step,
-) -> Result<bool, AllocError> {
-    if let Step::Await { tag } = step {
-        if !enter_await(alloc, plain, hand.key.as_ref(), agent, number, tag)? {
-            return Ok(false);
-        }
-    } else {
-        let op = hand.op_of(alloc, step)?;
-        plain.call(alloc, agent, number, op)?;
-    }
-    note(alloc, plain.entries.items.as_slice(), hand, step)?;
-    Ok(true)
+) -> Result<(), AllocError> {
+    let op = hand.op_of(alloc, step)?;
+    plain.call(alloc, agent, number, op)?;
+    note(alloc, plain.entries.items.as_slice(), hand, step)
 }
 
-// One entry of an agent; false where it has ended, or waits.
+// One entry of an agent; false where it has ended.
 fn turn(
     alloc: Global,
     plain: &mut Plain,
@@ -115,9 +70,7 @@ fn turn(
         return Ok(false);
     }
     if let Some(next) = runner.steps.get(runner.made) {
-        if !step(alloc, plain, agent, runner.number, &mut runner.hand, next)? {
-            return Ok(false);
-        }
+        step(alloc, plain, agent, runner.number, &mut runner.hand, next)?;
         runner.made = runner.made.saturating_add(1);
     } else if let Some(open) = runner.hand.opened().get(runner.closed) {
         plain.call(alloc, agent, runner.number, open.ending())?;
