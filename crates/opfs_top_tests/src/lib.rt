@@ -1,0 +1,21 @@
+//! Tests of the program's one call: transcripts, verdicts, runs over an image, refusals, and the ends of a command.
+#![tactic(auto)]
+
+#[cfg(test)]
+mod asking;
+#[cfg(test)]
+mod dumps;
+#[cfg(test)]
+mod endings;
+#[cfg(test)]
+mod every_word;
+#[cfg(test)]
+mod judgements;
+#[cfg(test)]
+mod refusals;
+#[cfg(test)]
+mod runs;
+#[cfg(test)]
+mod stops;
+#[cfg(test)]
+mod transcripts;
