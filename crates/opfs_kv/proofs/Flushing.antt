@@ -38,7 +38,7 @@ module _ {O : Type 0} (tells : Type 0) (a b : AgentSeen O) (x y : KvSeen) (s : S
 
 -- A file without a tail is closed.
 pub closes-one : {O : Type 0} (tells : Type 0) (b c : AgentSeen O) (y : KvSeen) (stands : Stands tells b y) → y.tail ≡ false → (row : ℕ) → (row ≡ y.handle.row) × HasClosedHandle c row → GoesOn b c 1
-    → stored_of c y.handle ≡ stored_of b y.handle ++ flushed_by y.handle.mode (file_bytes b y.handle) → Closes tells b c y row 1 (map_in b y)
+    → stored_of c y.handle ≡ stored_of b y.handle ++ flushed_by y.handle.mode (file_bytes b y.handle) → Closes tells b c y (row) 1 (map_in b y)
 closes-one tells b c y stands none row closed goes stored = record {
   same = closed.0;
   closed = closed.1;
@@ -48,7 +48,7 @@ closes-one tells b c y stands none row closed goes stored = record {
   spells = spells-map tells (file_bytes b y.handle) y.live y.tail y.index stands.keeps none;
 }
 
-pub closes-later : {O : Type 0} (tells : Type 0) (a b c : AgentSeen O) (x y : KvSeen) (row : ℕ) → Serves tells a b x y 1 (map_in a x) → Closes tells b c y row 1 (map_in b y) → Closes tells a c x row 2 (map_in a x)
+pub closes-later : {O : Type 0} (tells : Type 0) (a b c : AgentSeen O) (x y : KvSeen) (row : ℕ) → Serves tells a b x y 1 (map_in a x) → Closes tells b c y (row) 1 (map_in b y) → Closes tells a c x (row) 2 (map_in a x)
 closes-later tells a b c x y row s t = record {
   same = t.same ∙ s.row;
   closed = t.closed;

@@ -187,7 +187,7 @@ impl Kv {
         requires own { agent.old.pass.hall ≡ court.now }
         requires few { HasPlaces agent.old }
         requires stands { Stands S.tells agent.old self }
-        ensures closed { IfOk result (λ closed. Closes S.tells agent.old agent.new self closed.row 2 (map_in agent.old self)) }
+        ensures closed { IfOk result (λ closed. Closes S.tells agent.old agent.new self (closed.row) 2 (map_in agent.old self)) }
         ensures back { IfErr result (λ back. Serves S.tells agent.old agent.new self back.0 2 (map_in agent.old self)) }
         ensures cause { IfErr result (λ back. IsCaused agent.old agent.new back.1) }
     {
@@ -216,7 +216,7 @@ fn end<S: Store, R: Wait>(
     requires room { HasRoom agent.old }
     requires stands { Stands S.tells agent.old (seen handle notes) }
     requires none { notes.tail ≡ false }
-    ensures closed { IfOk result (λ closed. Closes S.tells agent.old agent.new (seen handle notes) closed.row 1 (map_in agent.old (seen handle notes))) }
+    ensures closed { IfOk result (λ closed. Closes S.tells agent.old agent.new (seen handle notes) (closed.row) 1 (map_in agent.old (seen handle notes))) }
     ensures back { IfErr result (λ back. Serves S.tells agent.old agent.new (seen handle notes) back.0 1 (map_in agent.old (seen handle notes))) }
     ensures cause { IfErr result (λ back. IsCaused agent.old agent.new back.1) }
 {
@@ -237,7 +237,7 @@ fn cut_and_end<S: Store, R: Wait>(
     requires own { agent.old.pass.hall ≡ court.now }
     requires few { HasPlaces agent.old }
     requires stands { Stands S.tells agent.old (seen handle notes) }
-    ensures closed { IfOk result (λ closed. Closes S.tells agent.old agent.new (seen handle notes) closed.row 2 (map_in agent.old (seen handle notes))) }
+    ensures closed { IfOk result (λ closed. Closes S.tells agent.old agent.new (seen handle notes) (closed.row) 2 (map_in agent.old (seen handle notes))) }
     ensures back { IfErr result (λ back. Serves S.tells agent.old agent.new (seen handle notes) back.0 2 (map_in agent.old (seen handle notes))) }
     ensures cause { IfErr result (λ back. IsCaused agent.old agent.new back.1) }
 {

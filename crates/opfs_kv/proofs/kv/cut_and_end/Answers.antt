@@ -28,7 +28,7 @@ end-requires-clause-none g c = c.in-Ok.ensures.none
 
 pub returns-in-Ok-clause-closed : goal.returns-in-Ok-clause-closed
 returns-in-Ok-clause-closed g c =
-    if-ok c.end.result (λ (x : ClosedSync). Closes g.S.Store.tells c.cut.new.agent c.end.new.agent (seen c.cut.new.handle c.cut.new.notes) x.row 1 (map_in c.cut.new.agent (seen c.cut.new.handle c.cut.new.notes))) (λ (x : ClosedSync). Closes g.S.Store.tells c.args.agent.now c.end.new.agent (seen c.args.handle c.args.notes) x.row 2 (map_in c.args.agent.now (seen c.args.handle c.args.notes))) (λ x h. closes-later g.S.Store.tells c.args.agent.now c.cut.new.agent c.end.new.agent (seen c.args.handle c.args.notes) (seen c.cut.new.handle c.cut.new.notes) x.row c.in-Ok.ensures.serves h) c.end.ensures.closed
+    if-ok c.end.result (λ (x : ClosedSync). Closes g.S.Store.tells c.cut.new.agent c.end.new.agent (seen c.cut.new.handle c.cut.new.notes) (x.row) 1 (map_in c.cut.new.agent (seen c.cut.new.handle c.cut.new.notes))) (λ (x : ClosedSync). Closes g.S.Store.tells c.args.agent.now c.end.new.agent (seen c.args.handle c.args.notes) (x.row) 2 (map_in c.args.agent.now (seen c.args.handle c.args.notes))) (λ x h. closes-later g.S.Store.tells c.args.agent.now c.cut.new.agent c.end.new.agent (seen c.args.handle c.args.notes) (seen c.cut.new.handle c.cut.new.notes) x.row c.in-Ok.ensures.serves h) c.end.ensures.closed
 
 pub returns-in-Ok-clause-back : goal.returns-in-Ok-clause-back
 returns-in-Ok-clause-back g c =
