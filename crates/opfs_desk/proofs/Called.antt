@@ -5,6 +5,7 @@ use Rattle.opfs_base.specs.Texts.{Text}
 use Rattle.opfs_book_laws.specs.Books.{Fixed}
 use Rattle.opfs_book_laws.proofs.Told.{told-whole}
 use Rattle.opfs_hist.specs.declared.entry.Entry.{Entry}
+use Rattle.opfs_histories.specs.Unread.{IsTold}
 use Rattle.opfs_machine.specs.Histories.{state_after}
 use Rattle.opfs_machine.specs.Runs.{Call}
 use Rattle.opfs_outside.specs.Moments.{Elapses, elapses-trans}
@@ -21,6 +22,9 @@ use Rattle.opfs_desk.specs.Resting.{IsAtRest}
 pub is-called : {D : Type 0} (w : DiskWords D) (f : Fixed D) (old : Parts D) (calls : List Entry) (c : Call) (work : WorkingCopy) (past : List Text) → IsAtRest w f old → MayAct w.tells f.opening old.ledger.books.history calls c work past → IsCalled w f old calls c work past
 is-called w f old calls c work past rest may = record { held = rest.held; whole = rest.whole; may = may }
 
+pub is-told : {D : Type 0} (w : DiskWords D) (f : Fixed D) (old : Parts D) → IsAtRest w f old → IsTold w.tells f.opening old.ledger.books.history
+is-told w f old rest = told-whole w.tells f.opening old.ledger.books.history (state_after f.opening old.ledger.books.history) rest.held.are.books.told
+
 -- what was left since a moment was left since an earlier one
 abbrev pub Falls : {D : Type 0} → DiskWords D → Type 0
 Falls {D} w = w.tells → (disk : D) (t u : ℕ) (c : List ℕ) → t ≤ u → w.since disk u c → w.since disk t c
@@ -34,7 +38,7 @@ module _ {D : Type 0} (w : DiskWords D) (falls : Falls w) (f : Fixed D) (old new
   rests-acted go after done has = record {
     held = has.held;
     whole =
-        go f.opening old.ledger.books.history calls new.ledger.books.history c done.reply (told-whole w.tells f.opening old.ledger.books.history (state_after f.opening old.ledger.books.history) rest.held.are.books.told) may.pending has.acted rest.whole;
+        go f.opening old.ledger.books.history calls new.ledger.books.history c done.reply (is-told w f old rest) may.pending has.acted rest.whole;
     time = time-on w f.begun old.ledger.journal.disk new.ledger.journal.disk falls rest.time has.way.time;
   }
 

@@ -3,6 +3,8 @@ use Rattle.opfs_book_laws.specs.Books.{Fixed}
 use Rattle.opfs_desk_laws.specs.Handles.{AreHandlesWhole}
 use Rattle.opfs_desk_parts.specs.Held.{AreHeld}
 use Rattle.opfs_desk_parts.specs.declared.parts.Parts.{Parts}
+use Rattle.opfs_iterating.specs.Known.{AreReached, Lasts}
+use Rattle.opfs_machine.specs.Histories.{state_after}
 use Rattle.opfs_outside.specs.Moments.{Elapses}
 use Rattle.opfs_outside.specs.declared.disk.Disk.{Ghosts as DiskWords}
 
@@ -12,3 +14,8 @@ pub record IsAtRest {D : Type 0} (w : DiskWords D) (f : Fixed D) (p : Parts D) :
   pub held : AreHeld w f p
   pub whole : AreHandlesWhole f.opening p.ledger.books.history
   pub time : w.tells → Elapses w.moment w.since f.begun p.ledger.journal.disk
+
+-- And what is known of iterators is so.
+pub record IsResting {D : Type 0} (w : DiskWords D) (f : Fixed D) (p : Parts D) (lasts : Lasts) : Type 0 where
+  pub rest : IsAtRest w f p
+  pub reached : AreReached (state_after f.opening p.ledger.books.history) lasts

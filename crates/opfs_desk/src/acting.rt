@@ -14,6 +14,8 @@ use opfs_base::Name;
 use opfs_desk_acts::act_call;
 use opfs_desk_reads::handles_go_on;
 use opfs_hist::{Op, Pending, Room};
+use opfs_iterating::going_on::iterators_go_on;
+use opfs_iterating::{Followed, asked_row, may_make};
 use opfs_outside::Disk;
 use opfs_work::Work;
 use std::alloc::AllocError;
@@ -46,6 +48,10 @@ impl<D: Disk> Desk<D> {
         ensures ends { always_acts op ≡ true → IsTrue (is_ok result) }
     {
         handles_go_on::<D>();
+        iterators_go_on::<D>();
+        let row = asked_row(&op);
+        let makes = may_make(&op);
+        let last = self.iterators.take(agent, row);
         let acted = act_call(
             &mut self.parts,
             agent,
@@ -55,7 +61,16 @@ impl<D: Disk> Desk<D> {
             op,
             work,
             past,
+            last.as_ref(),
         )?;
+        let call = Followed {
+            agent,
+            row,
+            makes,
+            known: last.is_some(),
+        };
+        let alloc = self.parts.ledger.alloc;
+        self.iterators.follow(alloc, call, &acted.gift, past);
         Ok(acted)
     }
 }

@@ -39,6 +39,7 @@ impl<D: Disk> Desk<D> {
             parts,
             from: _,
             agents: _,
+            iterators: _,
         } = self;
         let Parts { ledger, pages } = parts;
         let Pages {
@@ -68,6 +69,7 @@ impl<D: Disk> Desk<D> {
             parts,
             from: _,
             agents: _,
+            iterators: _,
         } = self;
         let Parts { ledger, pages } = parts;
         let Pages {

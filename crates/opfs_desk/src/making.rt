@@ -13,6 +13,7 @@ use opfs_desk_laws::handles_stay_whole;
 use opfs_desk_parts::{Ledger, Pages, Parts};
 use opfs_hall::Told;
 use opfs_image::Recovered;
+use opfs_iterating::Iterators;
 use opfs_openings::{a_recovered_image_opens_a_run, limits_of};
 use opfs_outside::Disk;
 use opfs_seats::Who;
@@ -81,6 +82,7 @@ impl<D: Disk> Desk<D> {
                 },
                 from: told,
                 agents: who,
+                iterators: Iterators::make(alloc),
             }),
             Err(state) => {
                 state.end();

@@ -1,5 +1,5 @@
 -- A call that is asked for over parts that are kept as between calls, and what want of memory leaves of them. This project's own.
-use Rattle.std.specs.Prelude.{◌≡◌, List, None}
+use Rattle.std.specs.Prelude.{◌≡◌, ◌++◌, List, Option, None}
 use Rattle.opfs_acts.specs.Asking.{MayAct}
 use Rattle.opfs_base.specs.Texts.{Text}
 use Rattle.opfs_book_laws.specs.Books.{Fixed}
@@ -10,6 +10,9 @@ use Rattle.opfs_desk_parts.specs.Seen.{machine_in, tree_in}
 use Rattle.opfs_desk_parts.specs.declared.parts.Ledger.{Ledger}
 use Rattle.opfs_desk_parts.specs.declared.parts.Parts.{Parts}
 use Rattle.opfs_hist.specs.declared.entry.Entry.{Entry}
+use Rattle.opfs_iterating.specs.Reached.{IsUpTo}
+use Rattle.opfs_machine.specs.Histories.{state_after}
+use Rattle.opfs_machine.specs.Rows.{children_of as names_of}
 use Rattle.opfs_machine.specs.Runs.{Call}
 use Rattle.opfs_outside.specs.declared.disk.Disk.{Ghosts as DiskWords}
 use Rattle.opfs_work.specs.Works.{WorkingCopy}
@@ -24,6 +27,11 @@ pub record IsCalled {D : Type 0} (w : DiskWords D) (f : Fixed D) (p : Parts D) (
 pub record MayCall {D : Type 0} (w : DiskWords D) (p : Parts D) (calls : List Entry) (c : Call) (work : WorkingCopy) (past : List Text) : Type 0 where
   pub fixed : Fixed D
   pub called : IsCalled w fixed p calls c work past
+
+-- The same, and a next's iterator has given all up to a name, if one is known.
+pub record MayCallFrom {D : Type 0} (w : DiskWords D) (p : Parts D) (calls : List Entry) (c : Call) (work : WorkingCopy) (past : List Text) (last : Option Text) : Type 0 where
+  pub may : MayCall w p calls c work past
+  pub reached : IsUpTo (names_of (state_after may.fixed.opening (p.ledger.books.history ++ calls))) c.op past last
 
 -- There was no memory: nothing was entered, and nothing stands ready; the disk may have been read.
 pub record IsLeftAlone {D : Type 0} (w : DiskWords D) (f : Fixed D) (old new : Parts D) : Type 0 where

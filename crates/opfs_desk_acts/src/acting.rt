@@ -1,5 +1,6 @@
 //! A call for which all stands ready, acted by its kind.
 
+ghost use Rattle.std.specs.Option.{option_copied};
 ghost use Rattle.std.specs.Prelude.{◌≡◌, true, [], IfOk, OnOk, OnErr, IsTrue, is_ok};
 ghost use Rattle.opfs_acts.specs.Acting.{IsSameCopy, always_acts};
 ghost use Rattle.opfs_book_laws.specs.Books.{Fixed};
@@ -9,6 +10,7 @@ ghost use Rattle.opfs_desk_parts.specs.Acted.{HasActed, IsUnacted};
 ghost use Rattle.opfs_desk_parts.specs.Asked.{IsAsked, MayGo};
 ghost use Rattle.opfs_desk_parts.specs.Held.{AreHeldWhole};
 ghost use Rattle.opfs_desk_parts.specs.Seen.{machine_in, call_in};
+ghost use Rattle.opfs_desk_plain.specs.Next.{MayGoFrom};
 ghost use Rattle.opfs_desk_reads.specs.Reading.{HaveWholeHandles};
 ghost use Rattle.opfs_desk_steps.specs.Ready.{AskedCallsAreReady};
 ghost use Rattle.opfs_lengths.specs.Bridge.{LengthsFollowEachCall, LocalCallsAreKnownByTheirWord};
@@ -53,8 +55,10 @@ fn act_as<D: Disk>(
     pending: &mut Pending,
     work: &mut Work,
     past: &[Name],
+    last: Option<&Name>,
 ) -> Result<Acted, AllocError>
     requires go { MayGo D.Disk parts.old call pending.old work.old past.now }
+    requires given { MayGoFrom D.Disk parts.old call pending.old work.old past.now (option_copied last) }
     requires whole { HaveWholeHandles D.Disk parts.old }
     requires word { IsOfKind kind (machine_in parts.old.ledger) call.agent call.op }
     ensures acted { IfOk result (λ acted. (f : Fixed D) (recorded : Built) → AreHeldWhole D.Disk f recorded parts.old.ledger parts.old.pages → AreHandlesWhole f.opening parts.old.ledger.books.history
@@ -69,7 +73,7 @@ fn act_as<D: Disk>(
         CallKind::Told => Ok(act_told(parts, call, pending, work)),
         CallKind::Asked => Ok(act_mode(parts, call, pending, work)?),
         CallKind::Given => Ok(act_persist(parts, call, pending, work)?),
-        CallKind::Next => Ok(act_next(parts, call, pending, work, past)?),
+        CallKind::Next => Ok(act_next(parts, call, pending, work, past, last)?),
         CallKind::Estimate => Ok(act_estimate(parts, call, pending, work)),
         CallKind::Kept => Ok(act_kept(parts, call, pending, work)?),
         CallKind::GetFile => Ok(act_get_file(parts, call, pending, work)?),
@@ -90,8 +94,10 @@ pub fn act_asked<D: Disk>(
     pending: &mut Pending,
     work: &mut Work,
     past: &[Name],
+    last: Option<&Name>,
 ) -> Result<Acted, AllocError>
     requires go { MayGo D.Disk parts.old call pending.old work.old past.now }
+    requires given { MayGoFrom D.Disk parts.old call pending.old work.old past.now (option_copied last) }
     requires whole { HaveWholeHandles D.Disk parts.old }
     ensures acted { IfOk result (λ acted. (f : Fixed D) (recorded : Built) → AreHeldWhole D.Disk f recorded parts.old.ledger parts.old.pages → AreHandlesWhole f.opening parts.old.ledger.books.history
         → IsAsked D.tells f.opening parts.old.ledger.books.history pending.old parts.old.ledger.books.state call work.old past.now
@@ -103,5 +109,5 @@ pub fn act_asked<D: Disk>(
 {
     asking_laws::<D>();
     let kind = kind_of(&parts.ledger.books.state, call.agent, &call.op);
-    act_as(kind, parts, call, pending, work, past)
+    act_as(kind, parts, call, pending, work, past, last)
 }

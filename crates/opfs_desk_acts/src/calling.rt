@@ -1,14 +1,16 @@
 //! A call from its words to its entry.
 
+ghost use Rattle.std.specs.Option.{option_copied};
 ghost use Rattle.std.specs.Prelude.{◌≡◌, true, [], IfOk, OnOk, OnErr, IsTrue, is_ok};
 ghost use Rattle.opfs_acts.specs.Acting.{IsSameCopy, always_acts};
 ghost use Rattle.opfs_book_laws.specs.Books.{Fixed};
-ghost use Rattle.opfs_desk_acts.specs.Calling.{HasNoneReady, IsCalled, IsLeftAlone, MayCall};
+ghost use Rattle.opfs_desk_acts.specs.Calling.{HasNoneReady, IsCalled, IsLeftAlone, MayCall, MayCallFrom};
 ghost use Rattle.opfs_desk_laws.specs.Handles.{AreHandlesWhole};
 ghost use Rattle.opfs_desk_parts.specs.Acted.{HasActed};
 ghost use Rattle.opfs_desk_parts.specs.Asked.{IsAsked, MayGo};
 ghost use Rattle.opfs_desk_parts.specs.Held.{AreHeldWhole};
 ghost use Rattle.opfs_desk_parts.specs.Seen.{call_in};
+ghost use Rattle.opfs_desk_plain.specs.Next.{MayGoFrom};
 ghost use Rattle.opfs_desk_reads.specs.Reading.{HaveWholeHandles};
 ghost use Rattle.opfs_replay.specs.Built.{Built};
 
@@ -38,8 +40,10 @@ fn act_or_cancel<D: Disk>(
     pending: &mut Pending,
     work: &mut Work,
     past: &[Name],
+    last: Option<&Name>,
 ) -> Result<Acted, AllocError>
     requires go { MayGo D.Disk parts.old call pending.old work.old past.now }
+    requires given { MayGoFrom D.Disk parts.old call pending.old work.old past.now (option_copied last) }
     requires whole { HaveWholeHandles D.Disk parts.old }
     ensures acted { IfOk result (λ acted. (f : Fixed D) (recorded : Built) → AreHeldWhole D.Disk f recorded parts.old.ledger parts.old.pages → AreHandlesWhole f.opening parts.old.ledger.books.history
         → IsAsked D.tells f.opening parts.old.ledger.books.history pending.old parts.old.ledger.books.state call work.old past.now
@@ -49,7 +53,7 @@ fn act_or_cancel<D: Disk>(
     ensures alone { OnErr result ((f : Fixed D) (recorded : Built) → AreHeldWhole D.Disk f recorded parts.old.ledger parts.old.pages → IsLeftAlone D.Disk f parts.old parts.new) }
     ensures ends { always_acts call.op ≡ true → IsTrue (is_ok result) }
 {
-    match act_asked(parts, call, pending, work, past) {
+    match act_asked(parts, call, pending, work, past, last) {
         Ok(acted) => Ok(acted),
         Err(error) => {
             cancel(&mut parts.ledger);
@@ -59,7 +63,8 @@ fn act_or_cancel<D: Disk>(
 }
 
 /// Makes one shared call of an agent: judges it, takes in the agent's pending calls, clears units where it needs room, and enters it
-/// with its reply. Where there is no memory nothing is entered and nothing stands ready; abort, discard and end take none.
+/// with its reply. Where it is known up to which name a next's iterator has given all, that name is the last one. Where there is no
+/// memory nothing is entered and nothing stands ready; abort, discard and end take none.
 pub fn act_call<D: Disk>(
     parts: &mut Parts<D>,
     agent: u32,
@@ -69,8 +74,10 @@ pub fn act_call<D: Disk>(
     op: Op,
     work: &mut Work,
     past: &[Name],
+    last: Option<&Name>,
 ) -> Result<Acted, AllocError>
     requires may { MayCall D.Disk parts.old pending.old (record { agent = agent; number = number; op = op }) work.old past.now }
+    requires given { MayCallFrom D.Disk parts.old pending.old (record { agent = agent; number = number; op = op }) work.old past.now (option_copied last) }
     ensures acted { IfOk result (λ acted. (f : Fixed D) → IsCalled D.Disk f parts.old pending.old (record { agent = agent; number = number; op = op }) work.old past.now
         → HasActed D.Disk f parts.old parts.new pending.old (record { agent = agent; number = number; op = op }) work.old work.new acted) }
     ensures taken { OnOk result (pending.new ≡ []) }
@@ -92,7 +99,7 @@ pub fn act_call<D: Disk>(
                 sizes,
                 clearing,
             };
-            Ok(act_or_cancel(parts, call, pending, work, past)?)
+            Ok(act_or_cancel(parts, call, pending, work, past, last)?)
         }
         Err(error) => Err(error),
     }

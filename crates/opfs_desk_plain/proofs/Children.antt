@@ -1,9 +1,10 @@
 -- The children of a directory, by the rows of the tree and by the machine's.
 use Rattle.std.proofs.Common.{◌≡◌, Bool, true, false, not, cond, List, [], ◌∷◌, ◌++◌, Option, Some, None, option_map, refl, sym, ap, ◌∙◌, inl, inr}
 use Rattle.std.proofs.lemmas.Bool.{cases_Bool, true≢false}
-use Rattle.std.specs.Ordering.{eq_by_cmp}
+use Rattle.std.specs.Ordering.{eq_by_cmp, is_lt, nat_cmp}
 use Rattle.std.specs.FinMap.Entries.{find as find_row}
-use Rattle.std.specs.List.{cons_option, filter_map, list_any}
+use Rattle.std.specs.Cmp.Lexicographic.{slice_cmp}
+use Rattle.std.specs.List.{AllByRecursion, cons_option, filter_map, list_any}
 use Rattle.opfs_base.specs.Places.{Place, child, child_name, only_name, place_cmp, rest_below}
 use Rattle.opfs_base.specs.Texts.{Text, same_text}
 use Rattle.opfs_base.specs.declared.locator.Kind.{Kind}
@@ -11,51 +12,11 @@ use Rattle.opfs_laws.proofs.Spots.{place_apart, place_itself}
 use Rattle.opfs_machine.specs.Contents.{next_of}
 use Rattle.opfs_standing.specs.Seen.{lines_of}
 use Rattle.opfs_standing.proofs.Units.{same_unit, unit_itself}
-use Rattle.opfs_tree.specs.Rows.{Rows as Tree, children_of, kind_of, least_not_in}
+use Rattle.opfs_tree.specs.Rows.{Rows as Tree, children_of, kind_of, least_above, least_not_in}
 use Rattle.opfs_tree.specs.declared.row.Row.{Row}
-
--- ---- a child's name and place
-
-rest-child : (path : List Text) (name : Text) → rest_below path (path ++ name ∷ []) ≡ Some (name ∷ [])
-rest-child [] name = refl
-rest-child (a ∷ path) name = ap (λ b. elim b as (λ y. Option (List Text)) [ true ↦ rest_below path (path ++ name ∷ []) | false ↦ None ]) (unit_itself a a refl) ∙ rest-child path name
-
-child-named : (dir : Place) (name : Text) → child_name dir (child dir name) ≡ Some name
-child-named dir name =
-    ap (λ b. elim b as (λ y. Option Text) [ true ↦ only_name (rest_below dir.1 (dir.1 ++ name ∷ [])) | false ↦ None ]) (unit_itself dir.0 dir.0 refl)
-    ∙ ap only_name (rest-child dir.1 name)
-
-only-path : (names : List Text) (name : Text) → only_name (Some names) ≡ Some name → names ≡ name ∷ []
-only-path [] name is = cc
-only-path (a ∷ []) name is = cc
-only-path (a ∷ b ∷ names) name is = cc
-
-rest-is : (path names : List Text) (name : Text) → only_name (rest_below path names) ≡ Some name → names ≡ path ++ name ∷ []
-rest-is [] names name is = only-path names name is
-rest-is (a ∷ path) [] name is = cc
-rest-is (a ∷ path) (b ∷ names) name is = elim (cases_Bool (same_text a b)) [
-  | inl same ↦
-      let rest = rest-is path names name (sym (ap (λ t. only_name (elim t as (λ y. Option (List Text)) [ true ↦ rest_below path names | false ↦ None ])) same) ∙ is) in
-      ap (λ (x : Text). x ∷ names) (sym (same_unit a b same)) ∙ ap (λ (xs : List Text). a ∷ xs) rest
-  | inr other ↦ absurd (none-some (sym (ap (λ t. only_name (elim t as (λ y. Option (List Text)) [ true ↦ rest_below path names | false ↦ None ])) other) ∙ is))
-]
-  where
-    none-some : ◌≡◌ {A = Option Text} None (Some name) → ⊥
-    none-some h = cc
-
-pair-is : (a b : Place) → a.0 ≡ b.0 → a.1 ≡ b.1 → a ≡ b
-pair-is (x, xs) (y, ys) first second = ap (λ (z : Text). (z, xs)) first ∙ ap (λ (zs : List Text). (y, zs)) second
-
-child-is : (dir place : Place) (name : Text) → child_name dir place ≡ Some name → place ≡ child dir name
-child-is dir place name is = elim (cases_Bool (same_text dir.0 place.0)) [
-  | inl same ↦
-      pair-is place (child dir name) (sym (same_unit dir.0 place.0 same))
-      (rest-is dir.1 place.1 name (sym (ap (λ t. elim t as (λ y. Option Text) [ true ↦ only_name (rest_below dir.1 place.1) | false ↦ None ]) same) ∙ is))
-  | inr other ↦ absurd (none-some (sym (ap (λ t. elim t as (λ y. Option Text) [ true ↦ only_name (rest_below dir.1 place.1) | false ↦ None ]) other) ∙ is))
-]
-  where
-    none-some : ◌≡◌ {A = Option Text} None (Some name) → ⊥
-    none-some h = cc
+use Rattle.opfs_iterating.specs.Reached.{AreGivenUpTo}
+use Rattle.opfs_iterating.proofs.Names.{child-is, child-named}
+use Rattle.opfs_desk_plain.specs.Next.{names_in}
 
 -- ---- the least child that was not given
 
@@ -143,3 +104,24 @@ least-kind past dir [] c is = absurd (none is)
     none : ◌≡◌ {A = Option (Text × Kind)} None (Some c) → ⊥
     none x = cc
 least-kind past dir (e ∷ rows) c is = kind-by past dir e rows c (child_name dir e.0) (least-kind past dir rows c) refl is
+
+-- ---- the least child above a name up to which all was given
+
+not-twice : (b : Bool) → not (not b) ≡ b
+not-twice true = refl
+not-twice false = refl
+
+pub least-up-to : (past : List Text) (last : Text) (dir : Place) (rows : Tree) → AreGivenUpTo past last (names_in rows dir) → least_above last (children_of dir rows) ≡ least_not_in past (children_of dir rows)
+least-up-to past last dir [] all = refl
+least-up-to past last dir (e ∷ rows) all =
+    let names = names_in rows dir in
+    let children = children_of dir rows in
+    let k = kind_of e.1 in
+    elim (child_name dir e.0) as (λ o. AllByRecursion (λ name. list_any (same_text name) past ≡ not (is_lt (slice_cmp nat_cmp last name))) (cons_option o names)
+    → least_above last (cons_option (option_map (λ name. (name, k)) o) children) ≡ least_not_in past (cons_option (option_map (λ name. (name, k)) o) children)) [
+      | None ↦ λ a. least-up-to past last dir rows a
+      | Some name ↦ λ a.
+          let above : is_lt (slice_cmp nat_cmp last name) ≡ is_new past name = sym (ap not a.0 ∙ not-twice (is_lt (slice_cmp nat_cmp last name))) in
+          ap (λ b. cond b (Some (name, k)) (least_above last children)) above
+          ∙ ap (cond (is_new past name) (Some (name, k))) (least-up-to past last dir rows a.1)
+    ] all

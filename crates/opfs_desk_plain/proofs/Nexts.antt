@@ -1,5 +1,5 @@
 -- What a next answers and gives: the machine's, by the rows of the tree.
-use Rattle.std.proofs.Common.{◌≡◌, ℕ, true, false, List, length, Option, Some, None, option_map, refl, sym, ap, ◌∙◌}
+use Rattle.std.proofs.Common.{◌≡◌, ℕ, true, false, List, length, Option, Some, None, option_map, refl, sym, ap, subst, ◌∙◌}
 use Rattle.std.proofs.lemmas.Bool.{false≢true}
 use Rattle.std.specs.FinMap.Entries.{find as find_row}
 use Rattle.std.specs.List.{filter_map}
@@ -31,7 +31,8 @@ use Rattle.opfs_standing.proofs.Lines.{lines-at}
 use Rattle.opfs_tree.specs.Rows.{Rows as Tree, least_not_in, kind_of, row_at as tree_row_at, children_of as tree_children}
 use Rattle.opfs_tree.specs.declared.row.Row.{Row}
 use Rattle.opfs_tree.specs.declared.row.Row.TheVariants as row
-use Rattle.opfs_desk_plain.specs.Next.{IsNextOf, found_gift, found_reply, is_next}
+use Rattle.opfs_iterating.specs.Reached.{AreGivenUpTo, IsUpTo}
+use Rattle.opfs_desk_plain.specs.Next.{IsNextOf, found_gift, found_reply, is_next, names_in}
 use Rattle.opfs_desk_plain.specs.Telling.{TellsOnly}
 use Rattle.opfs_desk_plain.specs.declared.next.NextChild.{NextChild}
 use Rattle.opfs_desk_plain.proofs.Children.{least-kind, least-name}
@@ -110,3 +111,14 @@ pub next-only : (m : Machine) (k : ℕ) (o : Op) → is_next o ≡ true → Tell
 unfolding growth_of made_at
 next-only m k (op.Next n dir) h = record { word = refl; nothing = refl }
 next-only m k o h = absurd (false≢true h)
+
+-- ---- up to which name all was given
+
+-- The names of a directory's children are the machine's.
+names-by : (s : State Text Own) (t : Tree) → (in_lengths_of s).rows ≡ lines_of t → (dir : Place) → children_of s dir ≡ names_in t dir
+names-by s t lines dir = sym (children-on length outline_of s dir) ∙ ap (λ rows. filter_map (λ e. child_name dir e.0) rows) lines
+
+pub up-to-by : (s : State Text Own) (t : Tree) → (in_lengths_of s).rows ≡ lines_of t → (o : Op) (past : List Text) (last : Option Text) → IsUpTo (children_of s) o past last → IsUpTo (names_in t) o past last
+up-to-by s t lines o past None is = is
+up-to-by s t lines (op.Next n dir) past (Some last) is = subst (λ names. AreGivenUpTo past last names) (names-by s t lines (place_of dir)) is
+up-to-by s t lines o past (Some last) is = tt

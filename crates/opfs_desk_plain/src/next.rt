@@ -1,6 +1,7 @@
 //! An iterator's next child.
 
-ghost use Rattle.std.specs.Prelude.{◌≡◌, [], true, None, Some, IfOk, OnOk, OnErr};
+ghost use Rattle.std.specs.Prelude.{◌≡◌, [], true, None, Some, IfOk, IfSome, OnOk, OnErr};
+ghost use Rattle.std.specs.Option.{option_copied};
 ghost use Rattle.opfs_acts.specs.Acting.{IsSameCopy};
 ghost use Rattle.opfs_base.specs.Places.{place_of};
 ghost use Rattle.opfs_book_laws.specs.Books.{Fixed};
@@ -8,7 +9,8 @@ ghost use Rattle.opfs_desk_parts.specs.Acted.{HasActed, IsUnacted};
 ghost use Rattle.opfs_desk_parts.specs.Asked.{IsAsked, MayGo};
 ghost use Rattle.opfs_desk_parts.specs.Held.{AreHeldWhole};
 ghost use Rattle.opfs_desk_parts.specs.Seen.{call_in};
-ghost use Rattle.opfs_desk_plain.specs.Next.{found_gift, found_reply, is_next, next_gift, next_least};
+ghost use Rattle.opfs_desk_plain.specs.Next.{found_gift, found_reply, is_next, next_gift, next_least, names_in, MayGoFrom};
+ghost use Rattle.opfs_iterating.specs.Reached.{AreGivenUpTo, IsUpTo};
 ghost use Rattle.opfs_replay.specs.Built.{Built};
 ghost use Rattle.opfs_tree.specs.Rows.{children_of, least_not_in};
 
@@ -48,19 +50,55 @@ fn given_child(
     Ok(NextChild { reply, told, gift })
 }
 
+// The least child above a name up to which all was given.
+fn child_above(
+    alloc: Global,
+    state: &State,
+    dir: &Locator,
+    past: &[Name],
+    last: &Name,
+) -> Result<Option<(Name, Kind)>, AllocError>
+    requires clean { state.now.store.prepared.place ≡ None }
+    requires given { AreGivenUpTo past.now last.now (names_in state.now.store.tree (place_of dir.now)) }
+    ensures { IfOk result (λ child. child ≡ least_not_in past.now (children_of (place_of dir.now) state.now.store.tree)) }
+{
+    let child = state.least_above(alloc, &dir.key, &dir.path, last)?;
+    Ok(child)
+}
+
+// The least child that was not given. Where it is known up to which name all was given, one look-up finds it.
+fn child_in(
+    alloc: Global,
+    state: &State,
+    dir: &Locator,
+    past: &[Name],
+    last: Option<&Name>,
+) -> Result<Option<(Name, Kind)>, AllocError>
+    requires clean { state.now.store.prepared.place ≡ None }
+    requires given { IfSome (option_copied last) (λ name. AreGivenUpTo past.now name (names_in state.now.store.tree (place_of dir.now))) }
+    ensures { IfOk result (λ child. child ≡ least_not_in past.now (children_of (place_of dir.now) state.now.store.tree)) }
+{
+    match last {
+        Some(last) => Ok(child_above(alloc, state, dir, past, last)?),
+        None => Ok(state.least_not_in(alloc, &dir.key, &dir.path, past)?),
+    }
+}
+
 // The next child of a directory.
 fn next_in(
     alloc: Global,
     state: &State,
     dir: &Locator,
     past: &[Name],
+    last: Option<&Name>,
 ) -> Result<NextChild, AllocError>
-    requires { state.now.store.prepared.place ≡ None }
+    requires clean { state.now.store.prepared.place ≡ None }
+    requires given { IfSome (option_copied last) (λ name. AreGivenUpTo past.now name (names_in state.now.store.tree (place_of dir.now))) }
     ensures reply { IfOk result (λ next. next.reply ≡ found_reply (least_not_in past.now (children_of (place_of dir.now) state.now.store.tree))) }
     ensures told { IfOk result (λ next. next.told ≡ found_reply (least_not_in past.now (children_of (place_of dir.now) state.now.store.tree))) }
     ensures gift { IfOk result (λ next. next.gift ≡ found_gift dir.now (least_not_in past.now (children_of (place_of dir.now) state.now.store.tree))) }
 {
-    match state.least_not_in(alloc, &dir.key, &dir.path, past)? {
+    match child_in(alloc, state, dir, past, last)? {
         Some((name, kind)) => given_child(alloc, dir, name, kind),
         None => Ok(NextChild {
             reply: Reply::Last,
@@ -71,29 +109,38 @@ fn next_in(
 }
 
 // The next child of a call's directory.
-fn next_child(alloc: Global, state: &State, op: &Op, past: &[Name]) -> Result<NextChild, AllocError>
+fn next_child(
+    alloc: Global,
+    state: &State,
+    op: &Op,
+    past: &[Name],
+    last: Option<&Name>,
+) -> Result<NextChild, AllocError>
     requires word { is_next op.now ≡ true }
     requires clean { state.now.store.prepared.place ≡ None }
+    requires given { IsUpTo (names_in state.now.store.tree) op.now past.now (option_copied last) }
     ensures reply { IfOk result (λ next. next.reply ≡ found_reply (next_least state.now.store.tree op.now past.now)) }
     ensures told { IfOk result (λ next. next.told ≡ found_reply (next_least state.now.store.tree op.now past.now)) }
     ensures gift { IfOk result (λ next. next.gift ≡ next_gift state.now.store.tree op.now past.now) }
 {
     match op {
-        Op::Next { dir, .. } => next_in(alloc, state, dir, past),
+        Op::Next { dir, .. } => next_in(alloc, state, dir, past, last),
         _ => unreachable!(),
     }
 }
 
-/// Acts a next: the least child of the iterator's directory whose name is not among those that it has given. Calls no disk. Where
-/// there is no memory nothing is entered.
+/// Acts a next: the least child of the iterator's directory whose name is not among those that it has given. Where it is known up to
+/// which name it has given all, one look-up finds it. Calls no disk. Where there is no memory nothing is entered.
 pub fn act_next<D: Disk>(
     parts: &mut Parts<D>,
     call: InHand,
     pending: &mut Pending,
     work: &mut Work,
     past: &[Name],
+    last: Option<&Name>,
 ) -> Result<Acted, AllocError>
     requires go { MayGo D.Disk parts.old call pending.old work.old past.now }
+    requires given { MayGoFrom D.Disk parts.old call pending.old work.old past.now (option_copied last) }
     requires word { is_next call.op ≡ true }
     ensures acted { IfOk result (λ acted. (f : Fixed D) (recorded : Built) → AreHeldWhole D.Disk f recorded parts.old.ledger parts.old.pages
         → IsAsked D.tells f.opening parts.old.ledger.books.history pending.old parts.old.ledger.books.state call work.old past.now
@@ -109,6 +156,7 @@ pub fn act_next<D: Disk>(
         &parts.ledger.books.state,
         &call.op,
         past,
+        last,
     ) else {
         return Err(AllocError);
     };

@@ -13,13 +13,16 @@ pub enum Change {
     Doubled,
     // It is exchanged with the next.
     Exchanged,
+    // It stands last.
+    Moved,
 }
 
-pub const CHANGES: [Change; 4] = [
+pub const CHANGES: [Change; 5] = [
     Change::Digit,
     Change::LeftOut,
     Change::Doubled,
     Change::Exchanged,
+    Change::Moved,
 ];
 
 // The lines of a text, each with its line feed.
@@ -57,8 +60,23 @@ fn with_digit(alloc: Global, line: &[u8]) -> Result<Vec<u8>, AllocError> {
     Ok(changed)
 }
 
+// Which line stands at a place of a text of so many whose line at a place stands last.
+fn moved(count: usize, at: usize, index: usize) -> usize {
+    let next = index.saturating_add(1);
+    if index < at {
+        index
+    } else if next == count {
+        at
+    } else {
+        next
+    }
+}
+
 // Which line stands at a place of the changed text.
 fn line_at(count: usize, change: Change, at: usize, index: usize) -> usize {
+    if change == Change::Moved {
+        return moved(count, at, index);
+    }
     if change == Change::Exchanged && index == at && at < count && count - at > 1 {
         return at + 1;
     }

@@ -74,8 +74,8 @@ fn seen_of(alloc: Global, count: u64) -> Result<Seen, AllocError> {
 
 #[test]
 fn the_judge_and_a_replay_agree(rt: HostRuntime) -> Result<(), Fail> {
-    let seen = seen_of(rt.alloc(), 120)?;
+    let seen = seen_of(rt.alloc(), 300)?;
     assert_eq!(rt; seen.apart, 0);
-    assert_eq!(rt; seen.yes > 120 && seen.no > 200, true);
+    assert_eq!(rt; seen.yes > 300 && seen.no > 600, true);
     Ok(())
 }

@@ -46,7 +46,7 @@ reads-within tells a b x y m n few r = record {
   row = r.row;
   file = r.file;
   mode_is = r.mode_is;
-  goes = record { hall = r.goes.hall; agent = r.goes.agent; opening_is = r.goes.opening_is; rows = r.goes.rows; entries = few; number = r.goes.number; knows = r.goes.knows };
+  goes = record { hall = r.goes.hall; agent = r.goes.agent; opening_is = r.goes.opening_is; rows = r.goes.rows; entries = few; number = r.goes.number; knows = r.goes.knows; newer = r.goes.newer; grown = r.goes.grown };
   bytes = r.bytes;
   stored = r.stored;
 }

@@ -43,6 +43,8 @@ caused-on a b c n o (kv_reply.Was was) goes h = tt
 
 pub record IsRunning {O : Type 0} (tells : Type 0) (before after : AgentSeen O) (old new : KvSeen) (ops : List KvOp) (replies : List KvReply) : Type 0 where
   pub stands : Stands tells after new
+  pub row : new.handle.row ≡ old.handle.row
+  pub file : new.handle.file ≡ old.handle.file
   pub many : AreAsMany ops replies
   pub goes : GoesOn before after (sum_by entries_of ops)
   pub told : tells → AreReplies (map_in before old) ops replies
@@ -53,6 +55,8 @@ pub record IsRunning {O : Type 0} (tells : Type 0) (before after : AgentSeen O) 
 pub run-none : {O : Type 0} (tells : Type 0) (a : AgentSeen O) (x : KvSeen) → Stands tells a x → IsRunning tells a a x x [] []
 run-none tells a x stands = record {
   stands = stands;
+  row = refl;
+  file = refl;
   many = tt;
   goes = goes-none a;
   told = λ tell. tt;
@@ -65,6 +69,8 @@ pub run-more : {O : Type 0} (tells : Type 0) (a b c : AgentSeen O) (x y z : KvSe
     → IsRunning tells a c x z (ops ++ o ∷ []) (rs ++ r ∷ [])
 run-more tells a b c x y z ops rs o r h one = record {
   stands = one.stands;
+  row = one.row ∙ h.row;
+  file = one.file ∙ h.file;
   many = many-more ops rs o r h.many;
   goes = goes-most a c (sum_by entries_of ops + entries_of o) (sum_by entries_of (ops ++ o ∷ [])) (omega (arith, sum-more ops o)) (goes-then a b c (sum_by entries_of ops) (entries_of o) h.goes one.goes);
   told = λ tell. replies-more (map_in a x) ops rs o r (h.told tell) (subst (λ (m : Map). IsReply m o r) (h.map tell) (one.told tell));

@@ -1,3 +1,4 @@
 pub mod Lists
 pub mod Ones
 pub mod Following
+pub mod Stopping

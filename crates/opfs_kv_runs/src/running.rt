@@ -4,6 +4,7 @@ ghost use Rattle.std.specs.Prelude.{◌≡◌, ◌≤◌, All, IfOk, OnErr, OnOk
 ghost use Rattle.opfs_sync_files.specs.Entries.{GoesOn};
 ghost use Rattle.opfs_kv.specs.Seen.{Stands, map_in};
 ghost use Rattle.opfs_kv_runs.specs.Runs.{AreCaused, AreReplies, HasRunRoom, HasStored, IsOp, entries_of, map_after};
+ghost use Rattle.opfs_kv_runs.specs.Stops.{LeavesFronts};
 
 use crate::commands::{KvOp, KvReplies};
 use crate::each::run_one;
@@ -32,10 +33,13 @@ pub fn kv_run<S: Store, R: Wait>(
     ensures replies { IfOk result (λ replies. S.tells → AreReplies (map_in agent.old kv.old) ops.now replies.list.items) }
     ensures map { IfOk result (λ replies. S.tells → map_in agent.new kv.new ≡ map_after (map_in agent.old kv.old) ops.now replies.list.items) }
     ensures contents { IfOk result (λ replies. HasStored S.tells agent.old agent.new kv.old kv.new ops.now replies.list.items) }
+    ensures stops { IfOk result (λ replies. S.tells → LeavesFronts agent.old agent.new kv.old ops.now replies.list.items) }
+    ensures same { OnOk result ((kv.new.handle.row ≡ kv.old.handle.row) × (kv.new.handle.file ≡ kv.old.handle.file)) }
     ensures caused { IfOk result (λ replies. AreCaused agent.old agent.new ops.now replies.list.items) }
     ensures entries { OnOk result (GoesOn agent.old agent.new (sum_by entries_of ops.now)) }
     ensures err { OnErr result ((agent.new ≡ agent.old) × (kv.new ≡ kv.old)) }
 {
+    agent.kept();
     let mut list = Vec::new(agent.alloc());
     list.reserve(ops.len())?;
     let mut at = 0;
@@ -45,5 +49,6 @@ pub fn kv_run<S: Store, R: Wait>(
         list.push(reply).unwrap();
         at += 1;
     }
+    agent.kept();
     Ok(KvReplies { list })
 }

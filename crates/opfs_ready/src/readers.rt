@@ -2,7 +2,7 @@
 
 ghost use Rattle.std.specs.Prelude.{◌≡◌, ◌<◌, ◌^◌, ◌∷◌, [], false, None, Some, IfOk, IfNone, IfSome, IsSomeAnd, length, option_map, sum_by};
 ghost use Rattle.std.specs.Option.{option_copied};
-ghost use Rattle.opfs_tree.specs.Rows.{row_at, file_at, kind_of, rows_within, extents_within, first_taken, none_taken, has_children, children_of, least_not_in, present_blocks, durable_blocks, rows_above, IsInOrder, IsClosed};
+ghost use Rattle.opfs_tree.specs.Rows.{row_at, file_at, kind_of, rows_within, extents_within, first_taken, none_taken, has_children, children_of, least_above, least_not_in, present_blocks, durable_blocks, rows_above, IsInOrder, IsClosed};
 ghost use Rattle.opfs_tree.specs.Sums.{row_charge, entries_within};
 ghost use Rattle.opfs_ready.specs.Ready.{ready_within};
 
@@ -98,6 +98,20 @@ impl ReadyTree {
         ensures { IfOk result (λ child. child ≡ least_not_in past.now (children_of (key.now, path.now) self.now.rows)) }
     {
         self.tree.least_not_in(alloc, key, path, past)
+    }
+
+    /// The least child of a directory whose name is above another, where no place stands ready; None where there is none.
+    pub fn least_above(
+        &self,
+        alloc: Global,
+        key: &Key,
+        path: &Path,
+        name: &Name,
+    ) -> Result<Option<(Name, Kind)>, AllocError>
+        requires { self.now.ready ≡ None }
+        ensures { IfOk result (λ child. child ≡ least_above name.now (children_of (key.now, path.now) self.now.rows)) }
+    {
+        self.tree.least_above(alloc, key, path, name)
     }
 
     /// Moves a walk on to the least place above its own where a row is, and gives that row; None where there is none.

@@ -6,7 +6,7 @@ ghost use Rattle.opfs_machine.specs.Rows.{row_at, file_at, kind_of, rows_within,
 ghost use Rattle.opfs_machine.specs.Sums.{is_persistent, usage, pool, charge, fits_quota, fits_area, fits_pool};
 ghost use Rattle.std.specs.Option.{option_copied};
 ghost use Rattle.opfs_tree.specs.Rows.{file_at as file_in_tree};
-ghost use Rattle.opfs_tree.specs.Rows.{extents_within, least_not_in, children_of, rows_above, IsInOrder};
+ghost use Rattle.opfs_tree.specs.Rows.{extents_within, least_above, least_not_in, children_of, rows_above, IsInOrder};
 ghost use Rattle.opfs_base.specs.Units.{origin_of};
 ghost use Rattle.opfs_standing.specs.Pooled.{IsPooled, registered};
 ghost use Rattle.opfs_standing.specs.Seen.{lines_of, persistent_in};
@@ -178,6 +178,20 @@ impl Standing {
         ensures { IfOk result (λ child. child ≡ least_not_in past.now (children_of (unit.now, path.now) self.now.tree)) }
     {
         self.tree.least_not_in(alloc, unit, path, past)
+    }
+
+    /// The least child of a directory whose name is above another, where no place stands ready; None where there is none.
+    pub fn least_above(
+        &self,
+        alloc: Global,
+        unit: &Key,
+        path: &Path,
+        name: &Name,
+    ) -> Result<Option<(Name, Kind)>, AllocError>
+        requires { self.now.prepared.place ≡ None }
+        ensures { IfOk result (λ child. child ≡ least_above name.now (children_of (unit.now, path.now) self.now.tree)) }
+    {
+        self.tree.least_above(alloc, unit, path, name)
     }
 
     /// Moves a walk on to the least place above its own where a row is, and gives that row; None where there is none.

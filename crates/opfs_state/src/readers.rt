@@ -11,7 +11,7 @@ ghost use Rattle.opfs_seats.specs.Seating.{most_agents};
 ghost use Rattle.opfs_seats.specs.Slots.{most_rows};
 ghost use Rattle.opfs_standing.specs.Seen.{lines_of, persistent_in};
 ghost use Rattle.opfs_state.specs.Reading.{row_file};
-ghost use Rattle.opfs_tree.specs.Rows.{extents_within, least_not_in, children_of, rows_above, IsInOrder};
+ghost use Rattle.opfs_tree.specs.Rows.{extents_within, least_above, least_not_in, children_of, rows_above, IsInOrder};
 ghost use Rattle.opfs_tree.specs.Rows.{file_at as file_in_tree};
 ghost use Rattle.opfs_verdicts.specs.Callers.{IsAgent};
 
@@ -92,6 +92,20 @@ impl State {
         ensures { IfOk result (λ child. child ≡ least_not_in past.now (children_of (key.now, path.now) self.now.store.tree)) }
     {
         self.store.least_not_in(alloc, key, path, past)
+    }
+
+    /// The least child of a directory whose name is above another, where no place stands ready; None where there is none.
+    pub fn least_above(
+        &self,
+        alloc: Global,
+        key: &Key,
+        path: &Path,
+        name: &Name,
+    ) -> Result<Option<(Name, Kind)>, AllocError>
+        requires { self.now.store.prepared.place ≡ None }
+        ensures { IfOk result (λ child. child ≡ least_above name.now (children_of (key.now, path.now) self.now.store.tree)) }
+    {
+        self.store.least_above(alloc, key, path, name)
     }
 
     /// Moves a walk on to the least place above its own where a row is, and gives that row; None where there is none.

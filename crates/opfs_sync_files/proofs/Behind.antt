@@ -222,6 +222,8 @@ module _ {O : Type 0} (tells : Type 0) (before after : AgentSeen O) (kept : IsAg
     number = let is = ap (λ (a : AgentSeen O). a.number) e.rest in omega (arith, is);
     knows = λ x h. subst (IsIn x) (sym (known-is tells before after kept called answered given e))
         (elim (in-either x before.pass.base before.pending h) [ inl a ↦ knows-in x a | inr b ↦ knows-pending x b ]);
+    newer = e.others ++ added before.pending e.gone last;
+    grown = e.grown ∙ append_assoc before.pass.base e.others (added before.pending e.gone last);
   }
 
   -- ---- the file of an open access handle

@@ -1,5 +1,5 @@
 -- What an agent's calls add to what it knows.
-use Rattle.std.proofs.Common.{◌≡◌, ◌⊎◌, ℕ, ◌+◌, ◌≤◌, List, [], ◌∷◌, ◌++◌, refl, sym, ◌∙◌, inl, inr, arith}
+use Rattle.std.proofs.Common.{◌≡◌, ◌⊎◌, ℕ, ◌+◌, ◌≤◌, List, [], ◌∷◌, ◌++◌, append_assoc, append-nil, refl, sym, ap, ◌∙◌, inl, inr, arith}
 use Rattle.opfs_hist.specs.declared.entry.Entry.{Entry}
 use Rattle.opfs_hist.specs.declared.reply.Reply.{Reply}
 use Rattle.opfs_turns.specs.Agents.{AgentSeen}
@@ -31,7 +31,7 @@ in-last e xs = in-right e xs (e ∷ []) (inl refl)
 -- ---- one after another
 
 pub goes-none : {O : Type 0} (a : AgentSeen O) → GoesOn a a 0
-goes-none a = record { hall = refl; agent = refl; opening_is = refl; rows = refl; entries = omega arith; number = omega arith; knows = λ e h. h }
+goes-none a = record { hall = refl; agent = refl; opening_is = refl; rows = refl; entries = omega arith; number = omega arith; knows = λ e h. h; newer = []; grown = sym (append-nil a.pass.base) }
 
 pub goes-then : {O : Type 0} (a b c : AgentSeen O) (m n : ℕ) → GoesOn a b m → GoesOn b c n → GoesOn a c (m + n)
 goes-then a b c m n x y = record {
@@ -42,10 +42,12 @@ goes-then a b c m n x y = record {
   entries = omega (arith, x.entries, y.entries);
   number = omega (arith, x.number, y.number);
   knows = λ e h. y.knows e (x.knows e h);
+  newer = x.newer ++ y.newer;
+  grown = y.grown ∙ ap (λ (es : List Entry). es ++ y.newer) x.grown ∙ append_assoc a.pass.base x.newer y.newer;
 }
 
 pub goes-most : {O : Type 0} (a b : AgentSeen O) (m n : ℕ) → m ≤ n → GoesOn a b m → GoesOn a b n
-goes-most a b m n few x = record { hall = x.hall; agent = x.agent; opening_is = x.opening_is; rows = x.rows; entries = omega (arith, x.entries, few); number = x.number; knows = x.knows }
+goes-most a b m n few x = record { hall = x.hall; agent = x.agent; opening_is = x.opening_is; rows = x.rows; entries = omega (arith, x.entries, few); number = x.number; knows = x.knows; newer = x.newer; grown = x.grown }
 
 -- An entry that a later call added, and one that an earlier call added.
 pub entry-later : {O : Type 0} (a b c : AgentSeen O) (m : ℕ) (r : Reply) → GoesOn a b m → HasEntry b c r → HasEntry a c r

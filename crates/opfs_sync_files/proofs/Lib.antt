@@ -3,3 +3,4 @@ pub mod Holding
 pub mod Storing
 pub mod Behind
 pub mod Served
+pub mod Staying

@@ -107,6 +107,8 @@ module _ {O : Type 0} (tells : Type 0) (before after : AgentSeen O) (kept : IsAg
           | inl a ↦ in-left x (before.pass.base ++ l.others) before.pending (in-left x before.pass.base l.others a)
           | inr b ↦ in-right x (before.pass.base ++ l.others) before.pending b
         ]);
+    newer = l.others;
+    grown = l.grown;
   }
 
   -- ---- a local call
@@ -130,6 +132,8 @@ module _ {O : Type 0} (tells : Type 0) (before after : AgentSeen O) (kept : IsAg
         | inl a ↦ in-left x before.pass.base (before.pending ++ kept_entry before called answered ∷ []) a
         | inr b ↦ in-right x before.pass.base (before.pending ++ kept_entry before called answered ∷ []) (in-left x before.pending (kept_entry before called answered ∷ []) b)
       ]);
+      newer = [];
+      grown = ap (λ (a : AgentSeen O). a.pass.base) h.kept ∙ sym (append-nil before.pass.base);
     }
 
     pub made-entry : HasEntry before after answered

@@ -1,5 +1,5 @@
 -- What an agent's calls add to what it knows. This project's own.
-use Rattle.std.specs.Prelude.{◌≡◌, ◌⊎◌, ℕ, ◌+◌, ◌≤◌, List, [], ◌∷◌}
+use Rattle.std.specs.Prelude.{◌≡◌, ◌⊎◌, ℕ, ◌+◌, ◌≤◌, List, [], ◌∷◌, ◌++◌}
 use Rattle.opfs_calls.specs.declared.stop.Stop.{Stop}
 use Rattle.opfs_calls.specs.declared.stop.Stop.TheVariants as stop
 use Rattle.opfs_hist.specs.declared.entry.Entry.{Entry}
@@ -26,7 +26,7 @@ IsCaused before after (stop.No r) = HasEntry before after (reply.No r)
 IsCaused before after stop.NoMemory = Unit {0}
 
 -- An agent after calls that made no row: it is the same agent of the same hall, with so many entries more at most, and it still
--- knows what it knew.
+-- knows what it knew. What it has seen has grown.
 pub record GoesOn {O : Type 0} (before after : AgentSeen O) (count : ℕ) : Type 0 where
   pub hall : after.pass.hall ≡ before.pass.hall
   pub agent : after.pass.agent ≡ before.pass.agent
@@ -35,3 +35,5 @@ pub record GoesOn {O : Type 0} (before after : AgentSeen O) (count : ℕ) : Type
   pub entries : after.entries ≤ before.entries + count
   pub number : before.number ≤ after.number
   pub knows : (e : Entry) → IsIn e (known before) → IsIn e (known after)
+  pub newer : List Entry
+  pub grown : after.pass.base ≡ before.pass.base ++ newer

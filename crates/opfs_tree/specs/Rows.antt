@@ -2,7 +2,8 @@
 -- is said at each.
 use Rattle.std.specs.Prelude.{◌≡◌, ℕ, Bool, true, false, not, ◌||◌, List, [], ◌∷◌, map, filter, Option, Some, None, IsSome, option_map, is_some, is_none, unwrap_or, IsTrue}
 use Rattle.std.specs.List.{list_any, list_all, filter_map, flat_map, find}
-use Rattle.std.specs.Ordering.{is_eq, is_lt}
+use Rattle.std.specs.Cmp.Lexicographic.{slice_cmp}
+use Rattle.std.specs.Ordering.{is_eq, is_lt, nat_cmp}
 use Rattle.std.specs.FinMap.Entries.{is_sorted}
 use Rattle.std.specs.FinMap.Entries as map
 use Rattle.opfs_base.specs.Blocks.{blocks}
@@ -78,6 +79,10 @@ has_children dir rows = list_any (λ e. is_some (child_name dir e.0)) rows
 -- The first of these children whose name is not among those given.
 abbrev pub least_not_in : List Text → List (Text × Kind) → Option (Text × Kind)
 least_not_in past children = find (λ c. not (list_any (same_text c.0) past)) children
+
+-- The first of these children whose name is above another.
+abbrev pub least_above : Text → List (Text × Kind) → Option (Text × Kind)
+least_above name children = find (λ c. is_lt (slice_cmp nat_cmp name c.0)) children
 
 -- The rows above a place in their order, or all of them.
 abbrev pub rows_above : Option Place → Rows → Rows

@@ -6,7 +6,7 @@ ghost use Rattle.std.specs.FinMap.Entries.{put};
 ghost use Rattle.opfs_base.specs.Places.{place_cmp};
 ghost use Rattle.opfs_locks.specs.Taking.{taken};
 ghost use Rattle.opfs_locks.specs.Holding.{IsTakenAs};
-ghost use Rattle.opfs_tree.specs.Rows.{row_at, kind_of, file_at, rows_within, extents_within, without, first_taken, children_of, has_children, least_not_in, rows_above, change_at, locked, unlocked, stored, written, none_taken, present_blocks, durable_blocks, HasParent, IsClosed, IsInOrder};
+ghost use Rattle.opfs_tree.specs.Rows.{row_at, kind_of, file_at, rows_within, extents_within, without, first_taken, children_of, has_children, least_above, least_not_in, rows_above, change_at, locked, unlocked, stored, written, none_taken, present_blocks, durable_blocks, HasParent, IsClosed, IsInOrder};
 ghost use Rattle.opfs_tree.specs.Sums.{row_charge, entries_within};
 ghost use Rattle.std.specs.List.Sorted.{IsStrictlySortedBy};
 ghost use Rattle.std.specs.Map.{keys_of, lookup};
@@ -171,6 +171,32 @@ impl Tree {
         ensures { option_map (λ c. (c.0.now, c.1)) result ≡ least_not_in past.now (children_of (key.now, path.now) self.now) }
     {
         self.unit(key)?.least_child(path, past)
+    }
+
+    /// The least child of a directory whose name is above another; None where there is none.
+    pub fn least_above(
+        &self,
+        alloc: Global,
+        key: &Key,
+        path: &Path,
+        name: &Name,
+    ) -> Result<Option<(Name, Kind)>, AllocError>
+        ensures { IfOk result (λ child. child ≡ least_above name.now (children_of (key.now, path.now) self.now)) }
+    {
+        let last = path.child(alloc, name)?;
+        let Some((name, kind)) = self.child_above(key, path, &last, name) else {
+            return Ok(None);
+        };
+        let name = name.copy(alloc)?;
+        Ok(Some((name, kind)))
+    }
+
+    // The same child, not copied. The last path is that of the other name.
+    fn child_above(&self, key: &Key, path: &Path, last: &Path, name: &Name) -> Option<(&Name, Kind)>
+        requires { last.now ≡ path.now ++ name.now ∷ [] }
+        ensures { option_map (λ c. (c.0.now, c.1)) result ≡ least_above name.now (children_of (key.now, path.now) self.now) }
+    {
+        self.unit(key)?.child_above(path, last, name)
     }
 
     /// Adds a row, or leaves all as it was.

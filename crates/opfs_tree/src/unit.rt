@@ -5,9 +5,10 @@ ghost use Rattle.std.specs.List.{flat_map, slice_get};
 ghost use Rattle.std.specs.Option.{option_copied, option_to_list};
 ghost use Rattle.std.specs.FinMap.Entries.{find, put};
 ghost use Rattle.std.specs.List.Sorted.{IsStrictlySortedBy};
+ghost use Rattle.std.specs.Map.{keys_of};
 ghost use Rattle.opfs_locks.specs.Taking.{taken};
 ghost use Rattle.opfs_locks.specs.Holding.{IsTakenAs};
-ghost use Rattle.opfs_tree.specs.Rows.{kind_of, file_of, extents_of, first_taken, least_not_in, stored, written, locked, unlocked, present_blocks, durable_blocks};
+ghost use Rattle.opfs_tree.specs.Rows.{kind_of, file_of, extents_of, first_taken, least_above, least_not_in, stored, written, locked, unlocked, present_blocks, durable_blocks};
 ghost use Rattle.opfs_tree.specs.Sums.{charge_in};
 ghost use Rattle.opfs_tree.specs.Units.{path_cmp, below, beside, from, front, values, children_in, has_children_in, above, change_in, first_key, taken_in, holds_at};
 
@@ -108,6 +109,7 @@ impl Unit {
     // The rows at a path and above it.
     fn from(&self, path: &Path) -> Range<'_, Path, Row>
         ensures rows { result ≡ from path.now self.now }
+        ensures order { IsStrictlySortedBy path_cmp (keys_of self.now) }
         ensures within { front path.now result ≡ below path.now self.now }
     {
         self.rows.range((Bound::Included(path), Bound::Unbounded))
@@ -214,6 +216,25 @@ impl Unit {
                 skipped = first_not_below(past, skipped, name);
                 if !is_given(past, skipped, name) {
                     return Some((name, row.kind()));
+                }
+            }
+        }
+        None
+    }
+
+    /// The first child of a path whose name is above another. It passes what is at and below that other, whose path is
+    /// the last one.
+    pub(crate) fn child_above(&self, dir: &Path, last: &Path, name: &Name) -> Option<(&Name, Kind)>
+        requires { last.now ≡ dir.now ++ name.now ∷ [] }
+        ensures { option_map (λ c. (c.0.now, c.1)) result ≡ least_above name.now (children_in dir.now (below dir.now self.now)) }
+    {
+        for (path, row) in self.from(last) {
+            if !is_within(dir, path) {
+                break;
+            }
+            if let Some(other) = name_below(dir, path) {
+                if name < other {
+                    return Some((other, row.kind()));
                 }
             }
         }

@@ -1,6 +1,11 @@
-use Rattle.std.proofs.Common.{refl, sym, subst}
+use Rattle.std.proofs.Common.{◌++◌, List, refl, sym, subst}
+use Rattle.std.specs.Option.{option_copied}
 use Rattle.opfs_data.proofs.SwapLemmas.{on_err}
 use Rattle.opfs_desk_laws.specs.Handles.{AreHandlesWhole}
+use Rattle.opfs_iterating.specs.Reached.{IsUpTo}
+use Rattle.opfs_hist.specs.declared.entry.Entry.{Entry}
+use Rattle.opfs_machine.specs.Histories.{state_after}
+use Rattle.opfs_machine.specs.Rows.{children_of as names_of}
 use Rattle.opfs_machine.specs.Runs.{Call}
 use Rattle.opfs_desk_acts.proofs.Calls.{acted-before, alone-before, alone-now, readied-as, readied-now, refused-as, refused-now, whole-now}
 use Rattle.opfs_desk_acts.proofs.calling.act_call.Goals as goal
@@ -117,3 +122,27 @@ returns-in-Err-clause-alone g c f called =
     let recorded = called.held.recorded in
     let asks = c.in-Err.ensures in
     alone-now g.D.Disk f old c.ask_call.new.ledger asks.journal asks.entries asks.place recorded c.the_books_show_their_images.ensures called.held.are (asks.held f recorded old.pages called.held.are) asks.idle
+
+pub act_or_cancel-requires-clause-given : goal.act_or_cancel-requires-clause-given
+act_or_cancel-requires-clause-given g c =
+    let from = c.requires.given in
+    let may = from.may in
+    let called = may.called in
+    let f = may.fixed in
+    let old = c.args.parts.now in
+    let recorded = called.held.recorded in
+    let asks = c.in-Ok-Ready.ensures in
+    record {
+      go = record {
+        fixed = f;
+        recorded = recorded;
+        are = asks.held f recorded old.pages called.held.are;
+        asked =
+            readied-now g.D.Disk f old c.ask_call.new.ledger asks.journal asks.entries asks.place c.args.pending.now _ _ c.args.work.now c.args.past.now refl refl called.may
+            (readied-as f.opening old.ledger.books.history c.args.pending.now c.ask_call.new.ledger.books.state c.args.agent c.args.op _ _ c.in-Ok-Ready.field-0-is
+            (asks.asked f recorded old.pages c.args.number c.args.past.now called.held.are called.may));
+      };
+      reached =
+          subst (λ (h : List Entry). IsUpTo (names_of (state_after f.opening (h ++ c.args.pending.now))) c.args.op c.args.past.now (option_copied c.args.last)) (sym asks.entries)
+          from.reached;
+    }

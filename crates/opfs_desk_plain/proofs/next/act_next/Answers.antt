@@ -1,4 +1,5 @@
 use Rattle.std.proofs.Common.{◌++◌, sym, ap, ◌∙◌, subst}
+use Rattle.std.specs.Option.{option_copied}
 use Rattle.opfs_acts.specs.Acting.{unread_gift}
 use Rattle.opfs_hist.specs.declared.reply.Reply.{Reply}
 use Rattle.opfs_histories.specs.Unread.{unread}
@@ -7,7 +8,7 @@ use Rattle.opfs_standing.specs.Seen.{Machine}
 use Rattle.opfs_desk_parts.specs.Acted.{HasActed}
 use Rattle.opfs_desk_parts.specs.Seen.{machine_in, tree_in, call_in}
 use Rattle.opfs_desk_plain.specs.Silent.{BeginsCall}
-use Rattle.opfs_desk_plain.proofs.Nexts.{next-makes-none, next-only, next-told}
+use Rattle.opfs_desk_plain.proofs.Nexts.{next-makes-none, next-only, next-told, up-to-by}
 use Rattle.opfs_desk_plain.proofs.Noted.{noted-is}
 use Rattle.opfs_desk_plain.proofs.Unacted.{unacted}
 use Rattle.opfs_desk_plain.proofs.next.act_next.Goals as goal
@@ -72,3 +73,19 @@ returns-clause-acted g c f recorded held asked =
       done = its.done;
     })
     (record { alike = ap unread_gift its.gift; told = λ t. its.gift }))
+
+pub next_child-requires-clause-given : goal.next_child-requires-clause-given
+next_child-requires-clause-given g c =
+    let w = g.D.Disk in
+    let from = c.requires.given in
+    let go = from.go in
+    let laws = c.telling_laws.ensures in
+    let call = c.args.call in
+    let l = c.args.parts.now.ledger in
+    let p = c.args.parts.now.pages in
+    let calls = c.args.pending.now in
+    let begins : BeginsCall w go.fixed go.recorded l p calls call c.args.work.now c.args.past.now = record { held = go.are; asked = go.asked } in
+    let agent = (laws.asks.taken go.fixed go.recorded l p calls call c.args.work.now c.args.past.now go.are go.asked).agent in
+    let s = state_after go.fixed.opening (l.books.history ++ calls) in
+    let rows = ap (λ (m : Machine). m.rows) (noted-is w laws.follow laws.local go.fixed go.recorded l p calls call c.args.work.now c.args.past.now begins agent) ∙ c.lines.ensures in
+    up-to-by s (tree_in l) rows call.op c.args.past.now (option_copied c.args.last) from.reached

@@ -1,8 +1,11 @@
 use Rattle.std.proofs.Common.{◌≡◌, ◌+◌, ◌*◌, ◌<◌, ◌≤◌, List, [], ◌∷◌, ◌++◌, length, get_or, take, rules, subst, sym, ap, ◌∙◌, arith}
-use Rattle.std.proofs.lemmas.List.{length-append, length-take, take_more}
+use Rattle.std.proofs.lemmas.List.{length-append, length-take, take_all, take_more}
+use Rattle.opfs_sync_files.proofs.Staying.{stays-since}
 use Rattle.opfs_kv_runs.specs.declared.commands.KvOp.{KvOp}
 use Rattle.opfs_kv_runs.specs.declared.commands.KvReply.{KvReply}
+use Rattle.opfs_kv_runs.specs.Stops.{LeavesFronts}
 use Rattle.opfs_kv_runs.proofs.Following.{IsRunning, run-more, sum-few}
+use Rattle.opfs_kv_runs.proofs.Stopping.{leaves-fronts}
 use Rattle.opfs_kv_runs.proofs.running.kv_run.Goals as goal
 
 pub run_one-reply-requires-clause-few : goal.run_one-reply-requires-clause-few
@@ -22,3 +25,12 @@ loop-at-preserved g c =
           (subst (λ (rs : List KvReply). IsRunning g.S.Store.tells c.args.agent.now c.run_one-reply.new.agent c.args.kv.now c.run_one-reply.new.kv (take c.loop-at.at c.args.ops.now ++ o ∷ []) rs) (sym items)
           (run-more g.S.Store.tells c.args.agent.now c.loop-at.agent c.run_one-reply.new.agent c.args.kv.now c.loop-at.kv c.run_one-reply.new.kv (take c.loop-at.at c.args.ops.now) c.loop-at.list.items o c.run_one-reply.result c.loop-at.invariant.running c.run_one-reply.ensures));
     }
+
+pub returns-clause-stops : goal.returns-clause-stops
+returns-clause-stops g c = λ tell.
+    let all : take c.loop-at.at c.args.ops.now ≡ c.args.ops.now = take_all c.loop-at.at c.args.ops.now (omega (arith, c.loop-at-test.false)) in
+    let run = c.loop-at.invariant.running in
+    subst (λ (xs : List KvOp). LeavesFronts c.args.agent.now c.loop-at.agent c.args.kv.now xs c.loop-at.list.items) all
+    (leaves-fronts g.S.Store.tells c.args.agent.now c.loop-at.agent c.args.kv.now c.loop-at.kv (take c.loop-at.at c.args.ops.now) c.loop-at.list.items run.file
+    (stays-since g.S.Store.tells c.args.agent.now c.loop-at.agent c.kept.ensures c.kept-2.ensures c.args.kv.now.handle c.loop-at.kv.handle _ c.requires.stands.has run.stands.has run.row run.goes)
+    run.stored tell)

@@ -1,17 +1,31 @@
+use Rattle.std.proofs.Common.{refl, ◌∙◌}
+use Rattle.std.specs.Option.{option_copied}
 use Rattle.opfs_machine.specs.Runs.{Call}
 use Rattle.opfs_openings.specs.Openings.{fixed_by}
-use Rattle.opfs_desk.proofs.Called.{is-called, rests-acted, rests-alone}
+use Rattle.opfs_desk.proofs.Called.{is-called, is-told, rests-acted, rests-alone}
+use Rattle.opfs_desk.proofs.Iterated.{reached-on, still-reached, up-to}
 use Rattle.opfs_desk.proofs.desk.Desk.act.Goals as goal
 
-pub act_call-requires : goal.act_call-requires
-act_call-requires g c = record {
-  may =
-      let f = fixed_by g.D.Disk c.self.inside.from.value c.self.inside.agents.value.items in
-      let call : Call = record { agent = c.args.agent; number = c.args.number; op = c.args.op } in
-      let old = c.self.inside.parts in
-      let may = rw (← c.self.view_is) at c.requires.may in
-      record { fixed = f; called = is-called g.D.Disk f old c.args.pending.now call c.args.work.now c.args.past.now c.self.invariant may };
-}
+pub act_call-requires-clause-may : goal.act_call-requires-clause-may
+act_call-requires-clause-may g c =
+    let f = fixed_by g.D.Disk c.self.inside.from.value c.self.inside.agents.value.items in
+    let call : Call = record { agent = c.args.agent; number = c.args.number; op = c.args.op } in
+    let old = c.self.inside.parts in
+    let may = rw (← c.self.view_is) at c.requires.may in
+    record { fixed = f; called = is-called g.D.Disk f old c.args.pending.now call c.args.work.now c.args.past.now c.self.invariant.rest may }
+
+pub act_call-requires-clause-given : goal.act_call-requires-clause-given
+act_call-requires-clause-given g c =
+    let f = fixed_by g.D.Disk c.self.inside.from.value c.self.inside.agents.value.items in
+    let call : Call = record { agent = c.args.agent; number = c.args.number; op = c.args.op } in
+    let old = c.self.inside.parts in
+    let may = rw (← c.self.view_is) at c.requires.may in
+    record {
+      may = record { fixed = f; called = is-called g.D.Disk f old c.args.pending.now call c.args.work.now c.args.past.now c.self.invariant.rest may };
+      reached =
+          up-to g.D.Disk.tells c.iterators_go_on.ensures f.opening old.ledger.books.history c.args.pending.now call c.args.work.now c.args.past.now may c.self.inside.iterators c.take-last.new.self c.self.invariant.reached c.asked_row-row.result c.asked_row-row.ensures
+          c.take-last.ensures.others (option_copied c.as_ref.result) (c.as_ref.ensures.value ∙ c.take-last.ensures.name);
+    }
 
 pub invariant_of-self : goal.invariant_of-self
 invariant_of-self g c =
@@ -19,8 +33,13 @@ invariant_of-self g c =
     let call : Call = record { agent = c.args.agent; number = c.args.number; op = c.args.op } in
     let old = c.self.inside.parts in
     let may = rw (← c.self.view_is) at c.requires.may in
-    rests-alone g.D.Disk (λ t. g.met.D.Disk.falls t) f old c.act_call.new.parts c.args.pending.now call c.args.work.now c.args.past.now c.self.invariant may
-    (c.in_err-acted.ensures.alone f (is-called g.D.Disk f old c.args.pending.now call c.args.work.now c.args.past.now c.self.invariant may))
+    let alone = c.in_err-acted.ensures.alone f (is-called g.D.Disk f old c.args.pending.now call c.args.work.now c.args.past.now c.self.invariant.rest may) in
+    record {
+      rest = rests-alone g.D.Disk (λ t. g.met.D.Disk.falls t) f old c.act_call.new.parts c.args.pending.now call c.args.work.now c.args.past.now c.self.invariant.rest may alone;
+      reached =
+          still-reached g.D.Disk.tells c.iterators_go_on.ensures f.opening old.ledger.books.history c.args.pending.now call c.args.work.now c.args.past.now may c.self.inside.iterators c.take-last.new.self c.self.invariant.reached c.asked_row-row.result
+          c.asked_row-row.ensures c.take-last.ensures.others c.act_call.new.parts.ledger.books.history alone.entries;
+    }
 
 pub invariant_of-self-2 : goal.invariant_of-self-2
 invariant_of-self-2 g c =
@@ -28,9 +47,23 @@ invariant_of-self-2 g c =
     let call : Call = record { agent = c.args.agent; number = c.args.number; op = c.args.op } in
     let old = c.self.inside.parts in
     let may = rw (← c.self.view_is) at c.requires.may in
-    rests-acted g.D.Disk (λ t. g.met.D.Disk.falls t) f old c.act_call.new.parts c.args.pending.now call c.args.work.now c.args.past.now c.self.invariant may
-    c.handles_go_on.ensures c.act_call.new.work c.in_ok-acted.acted
-    (c.in_ok-acted.ensures.acted f (is-called g.D.Disk f old c.args.pending.now call c.args.work.now c.args.past.now c.self.invariant may))
+    let has = c.in_ok-acted.ensures.acted f (is-called g.D.Disk f old c.args.pending.now call c.args.work.now c.args.past.now c.self.invariant.rest may) in
+    record {
+      rest =
+          rests-acted g.D.Disk (λ t. g.met.D.Disk.falls t) f old c.act_call.new.parts c.args.pending.now call c.args.work.now c.args.past.now c.self.invariant.rest may c.handles_go_on.ensures c.act_call.new.work c.in_ok-acted.acted has;
+      reached =
+          reached-on g.D.Disk.tells c.iterators_go_on.ensures f.opening old.ledger.books.history c.args.pending.now call c.args.work.now c.args.past.now may c.self.inside.iterators c.take-last.new.self c.self.invariant.reached c.asked_row-row.result
+          c.asked_row-row.ensures c.take-last.ensures.others c.self.invariant.rest.held.are.books.whole (is-told g.D.Disk f old c.self.invariant.rest) c.act_call.new.parts.ledger.books.history c.in_ok-acted.acted.reply c.in_ok-acted.acted.gift has.acted has.gift
+          (record { agent = c.args.agent; row = c.asked_row-row.result; makes = c.may_make-makes.result; known = c.is_some.result }) refl refl c.may_make-makes.ensures c.take-last.result c.take-last.ensures.name c.is_some.ensures c.follow.new.self c.follow.ensures;
+    }
+
+pub returns-clause-left : goal.returns-clause-left
+returns-clause-left g c =
+    let f = fixed_by g.D.Disk c.self.inside.from.value c.self.inside.agents.value.items in
+    let call : Call = record { agent = c.args.agent; number = c.args.number; op = c.args.op } in
+    let old = c.self.inside.parts in
+    let may = rw (← c.self.view_is) at c.requires.may in
+    rw (← c.self.view_is) ((c.in_ok-acted.ensures.acted f (is-called g.D.Disk f old c.args.pending.now call c.args.work.now c.args.past.now c.self.invariant.rest may)).left)
 
 pub returns-clause-gift : goal.returns-clause-gift
 returns-clause-gift g c =
@@ -38,7 +71,7 @@ returns-clause-gift g c =
     let call : Call = record { agent = c.args.agent; number = c.args.number; op = c.args.op } in
     let old = c.self.inside.parts in
     let may = rw (← c.self.view_is) at c.requires.may in
-    rw (← c.self.view_is) ((c.in_ok-acted.ensures.acted f (is-called g.D.Disk f old c.args.pending.now call c.args.work.now c.args.past.now c.self.invariant may)).gift)
+    rw (← c.self.view_is) ((c.in_ok-acted.ensures.acted f (is-called g.D.Disk f old c.args.pending.now call c.args.work.now c.args.past.now c.self.invariant.rest may)).gift)
 
 pub returns-clause-passes : goal.returns-clause-passes
 returns-clause-passes g c =
@@ -46,4 +79,4 @@ returns-clause-passes g c =
     let call : Call = record { agent = c.args.agent; number = c.args.number; op = c.args.op } in
     let old = c.self.inside.parts in
     let may = rw (← c.self.view_is) at c.requires.may in
-    rw (← c.self.view_is) ((c.in_ok-acted.ensures.acted f (is-called g.D.Disk f old c.args.pending.now call c.args.work.now c.args.past.now c.self.invariant may)).way)
+    rw (← c.self.view_is) ((c.in_ok-acted.ensures.acted f (is-called g.D.Disk f old c.args.pending.now call c.args.work.now c.args.past.now c.self.invariant.rest may)).way)

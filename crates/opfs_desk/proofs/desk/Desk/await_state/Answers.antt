@@ -14,7 +14,7 @@ returns-then-is_posted g c =
     let l = c.self.inside.parts.ledger in
     rw (← c.self.view_is)
     (subst (λ (x : Text). await.Posted ≡ awaited (state_after f.opening l.books.history) c.args.agent x) c.as_bytes.ensures.value
-    (sym (is-there c.lengths_decide_each_ruling.ensures (state_after f.opening l.books.history) (machine_in l) c.args.agent c.as_bytes.result.now c.self.invariant.held.are.books.machine (sym c.if-is_posted.ensures))))
+    (sym (is-there c.lengths_decide_each_ruling.ensures (state_after f.opening l.books.history) (machine_in l) c.args.agent c.as_bytes.result.now c.self.invariant.rest.held.are.books.machine (sym c.if-is_posted.ensures))))
 
 pub returns-then-others_stuck : goal.returns-then-others_stuck
 returns-then-others_stuck g c =
@@ -22,7 +22,7 @@ returns-then-others_stuck g c =
     let l = c.self.inside.parts.ledger in
     rw (← c.self.view_is)
     (subst (λ (x : Text). await.Stuck ≡ awaited (state_after f.opening l.books.history) c.args.agent x) c.as_bytes.ensures.value
-    (sym (is-stuck c.lengths_decide_each_ruling.ensures (state_after f.opening l.books.history) (machine_in l) c.args.agent c.as_bytes.result.now c.self.invariant.held.are.books.machine (sym c.if-is_posted.ensures) (sym c.if-others_stuck.ensures))))
+    (sym (is-stuck c.lengths_decide_each_ruling.ensures (state_after f.opening l.books.history) (machine_in l) c.args.agent c.as_bytes.result.now c.self.invariant.rest.held.are.books.machine (sym c.if-is_posted.ensures) (sym c.if-others_stuck.ensures))))
 
 pub returns-else-others_stuck : goal.returns-else-others_stuck
 returns-else-others_stuck g c =
@@ -30,16 +30,16 @@ returns-else-others_stuck g c =
     let l = c.self.inside.parts.ledger in
     rw (← c.self.view_is)
     (subst (λ (x : Text). await.Neither ≡ awaited (state_after f.opening l.books.history) c.args.agent x) c.as_bytes.ensures.value
-    (sym (is-neither c.lengths_decide_each_ruling.ensures (state_after f.opening l.books.history) (machine_in l) c.args.agent c.as_bytes.result.now c.self.invariant.held.are.books.machine (sym c.if-is_posted.ensures) (sym c.if-others_stuck.ensures))))
+    (sym (is-neither c.lengths_decide_each_ruling.ensures (state_after f.opening l.books.history) (machine_in l) c.args.agent c.as_bytes.result.now c.self.invariant.rest.held.are.books.machine (sym c.if-is_posted.ensures) (sym c.if-others_stuck.ensures))))
 
 pub is_posted-requires : goal.is_posted-requires
 is_posted-requires g c =
     let f = fixed_by g.D.Disk c.self.inside.from.value c.self.inside.agents.value.items in
     let l = c.self.inside.parts.ledger in
-    agent-there (state_after f.opening l.books.history) (machine_in l) c.args.agent c.self.invariant.held.are.books.machine (rw (← c.self.view_is) at c.requires)
+    agent-there (state_after f.opening l.books.history) (machine_in l) c.args.agent c.self.invariant.rest.held.are.books.machine (rw (← c.self.view_is) at c.requires)
 
 pub others_stuck-requires : goal.others_stuck-requires
 others_stuck-requires g c =
     let f = fixed_by g.D.Disk c.self.inside.from.value c.self.inside.agents.value.items in
     let l = c.self.inside.parts.ledger in
-    agent-there (state_after f.opening l.books.history) (machine_in l) c.args.agent c.self.invariant.held.are.books.machine (rw (← c.self.view_is) at c.requires)
+    agent-there (state_after f.opening l.books.history) (machine_in l) c.args.agent c.self.invariant.rest.held.are.books.machine (rw (← c.self.view_is) at c.requires)

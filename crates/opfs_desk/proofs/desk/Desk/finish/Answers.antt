@@ -13,8 +13,8 @@ returns-clause-stands g c =
     let d : DeskSeen g.row.D.Denot = record { fixed = fixed_by g.D.Disk c.self.inside.from.value c.self.inside.agents.value.items; parts = c.self.inside.parts } in
     let l = c.self.inside.parts.ledger in
     let new : Ledger g.row.D.Denot = record { journal = c.finish.new.journal; books = c.finish.new.self; freed = l.freed; alloc = l.alloc } in
-    let recorded = c.self.invariant.held.recorded in
-    let are = c.self.invariant.held.are in
+    let recorded = c.self.invariant.rest.held.recorded in
+    let are = c.self.invariant.rest.held.are in
     let done = c.finish.ensures.books d.fixed recorded (state_after d.fixed.opening (entries_of d)) [] are.books in
     elim c.match-finish.branch [
       | in-Ok w ↦
@@ -28,25 +28,25 @@ returns-clause-shown g c =
     let d : DeskSeen g.row.D.Denot = record { fixed = fixed_by g.D.Disk c.self.inside.from.value c.self.inside.agents.value.items; parts = c.self.inside.parts } in
     let l = c.self.inside.parts.ledger in
     let new : Ledger g.row.D.Denot = record { journal = c.finish.new.journal; books = c.finish.new.self; freed = l.freed; alloc = l.alloc } in
-    let recorded = c.self.invariant.held.recorded in
-    let are = c.self.invariant.held.are in
+    let recorded = c.self.invariant.rest.held.recorded in
+    let are = c.self.invariant.rest.held.are in
     let done = c.finish.ensures.books d.fixed recorded (state_after d.fixed.opening (entries_of d)) [] are.books in
     rw (← c.self.view_is) (shows-ending g.D.Disk d recorded are new c.give_back.result c.give_back.ensures.disk done)
 
 pub returns-clause-apart : goal.returns-clause-apart
 returns-clause-apart g c =
     let d : DeskSeen g.row.D.Denot = record { fixed = fixed_by g.D.Disk c.self.inside.from.value c.self.inside.agents.value.items; parts = c.self.inside.parts } in
-    let are = c.self.invariant.held.are in
+    let are = c.self.invariant.rest.held.are in
     rw (← c.self.view_is, c.end-history.ensures.history, c.finish.ensures.history)
-    (told-apart g.D.Disk.tells d.fixed.opening (entries_of d) are.books.whole are.tied.keys c.each_party_runs_alone.ensures (is-legal g.D.Disk d c.self.invariant.held.recorded are))
+    (told-apart g.D.Disk.tells d.fixed.opening (entries_of d) are.books.whole are.tied.keys c.each_party_runs_alone.ensures (is-legal g.D.Disk d c.self.invariant.rest.held.recorded are))
 
 pub returns-clause-trail : goal.returns-clause-trail
 returns-clause-trail g c =
     let d : DeskSeen g.row.D.Denot = record { fixed = fixed_by g.D.Disk c.self.inside.from.value c.self.inside.agents.value.items; parts = c.self.inside.parts } in
     let l = c.self.inside.parts.ledger in
     let new : Ledger g.row.D.Denot = record { journal = c.finish.new.journal; books = c.finish.new.self; freed = l.freed; alloc = l.alloc } in
-    let recorded = c.self.invariant.held.recorded in
-    let are = c.self.invariant.held.are in
+    let recorded = c.self.invariant.rest.held.recorded in
+    let are = c.self.invariant.rest.held.are in
     let done = c.finish.ensures.books d.fixed recorded (state_after d.fixed.opening (entries_of d)) [] are.books in
     rw (← c.self.view_is) (ends-trail g.D.Disk d recorded are new c.give_back.result c.give_back.ensures.disk done c.finish.ensures.history)
 
@@ -55,8 +55,8 @@ returns-clause-counts g c =
     let d : DeskSeen g.row.D.Denot = record { fixed = fixed_by g.D.Disk c.self.inside.from.value c.self.inside.agents.value.items; parts = c.self.inside.parts } in
     let l = c.self.inside.parts.ledger in
     let new : Ledger g.row.D.Denot = record { journal = c.finish.new.journal; books = c.finish.new.self; freed = l.freed; alloc = l.alloc } in
-    let recorded = c.self.invariant.held.recorded in
-    let are = c.self.invariant.held.are in
+    let recorded = c.self.invariant.rest.held.recorded in
+    let are = c.self.invariant.rest.held.are in
     let done = c.finish.ensures.books d.fixed recorded (state_after d.fixed.opening (entries_of d)) [] are.books in
     rw (← c.self.view_is) (counts-all g.D.Disk d recorded are new c.give_back.result c.give_back.ensures.disk done c.finish.ensures.history)
 
@@ -65,8 +65,8 @@ returns-clause-left g c = λ t.
     let d : DeskSeen g.row.D.Denot = record { fixed = fixed_by g.D.Disk c.self.inside.from.value c.self.inside.agents.value.items; parts = c.self.inside.parts } in
     let l = c.self.inside.parts.ledger in
     let new : Ledger g.row.D.Denot = record { journal = c.finish.new.journal; books = c.finish.new.self; freed = l.freed; alloc = l.alloc } in
-    let recorded = c.self.invariant.held.recorded in
-    let are = c.self.invariant.held.are in
+    let recorded = c.self.invariant.rest.held.recorded in
+    let are = c.self.invariant.rest.held.are in
     let done = c.finish.ensures.books d.fixed recorded (state_after d.fixed.opening (entries_of d)) [] are.books in
     rw (← c.self.view_is, c.end-history.ensures.history, c.finish.ensures.history)
     (leaves-front g.D.Disk d recorded are new c.give_back.result c.give_back.ensures.disk done c.the_books_show_their_images.ensures c.finish.ensures.history t)
@@ -76,8 +76,8 @@ returns-clause-sizes g c =
     let d : DeskSeen g.row.D.Denot = record { fixed = fixed_by g.D.Disk c.self.inside.from.value c.self.inside.agents.value.items; parts = c.self.inside.parts } in
     let l = c.self.inside.parts.ledger in
     let new : Ledger g.row.D.Denot = record { journal = c.finish.new.journal; books = c.finish.new.self; freed = l.freed; alloc = l.alloc } in
-    let recorded = c.self.invariant.held.recorded in
-    let are = c.self.invariant.held.are in
+    let recorded = c.self.invariant.rest.held.recorded in
+    let are = c.self.invariant.rest.held.are in
     let done = c.finish.ensures.books d.fixed recorded (state_after d.fixed.opening (entries_of d)) [] are.books in
     rw (← c.self.view_is) (keeps-sizes g.D.Disk d recorded are new c.give_back.result c.give_back.ensures.disk done)
 
@@ -86,7 +86,7 @@ returns-clause-time g c =
     let d : DeskSeen g.row.D.Denot = record { fixed = fixed_by g.D.Disk c.self.inside.from.value c.self.inside.agents.value.items; parts = c.self.inside.parts } in
     let l = c.self.inside.parts.ledger in
     let new : Ledger g.row.D.Denot = record { journal = c.finish.new.journal; books = c.finish.new.self; freed = l.freed; alloc = l.alloc } in
-    let recorded = c.self.invariant.held.recorded in
-    let are = c.self.invariant.held.are in
+    let recorded = c.self.invariant.rest.held.recorded in
+    let are = c.self.invariant.rest.held.are in
     let done = c.finish.ensures.books d.fixed recorded (state_after d.fixed.opening (entries_of d)) [] are.books in
-    rw (← c.self.view_is) (ends-time g.D.Disk d recorded are new c.give_back.result c.give_back.ensures.disk done (λ t. g.met.D.Disk.falls t) c.self.invariant.time c.finish.ensures.leaves.time)
+    rw (← c.self.view_is) (ends-time g.D.Disk d recorded are new c.give_back.result c.give_back.ensures.disk done (λ t. g.met.D.Disk.falls t) c.self.invariant.rest.time c.finish.ensures.leaves.time)

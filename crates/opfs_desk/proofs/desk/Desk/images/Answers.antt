@@ -6,4 +6,4 @@ use Rattle.opfs_desk.proofs.desk.Desk.images.Goals as goal
 pub returns : goal.returns
 returns g c =
     let d : DeskSeen g.row.D.Denot = record { fixed = fixed_by g.D.Disk c.self.inside.from.value c.self.inside.agents.value.items; parts = c.self.inside.parts } in
-    rw (← c.self.view_is) (shows-now g.D.Disk d c.self.invariant.held.recorded c.self.invariant.held.are c.the_books_show_their_images.ensures)
+    rw (← c.self.view_is) (shows-now g.D.Disk d c.self.invariant.rest.held.recorded c.self.invariant.rest.held.are c.the_books_show_their_images.ensures)

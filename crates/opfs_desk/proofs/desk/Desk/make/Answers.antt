@@ -1,8 +1,11 @@
-use Rattle.std.proofs.Common.{◌∙◌, sym, ap, subst}
+use Rattle.std.proofs.Common.{◌≡◌, ◌∙◌, [], Option, Some, None, sym, ap, subst}
+use Rattle.opfs_base.specs.Texts.{Text}
 use Rattle.opfs_books.specs.Opened.{IsOpened}
 use Rattle.opfs_image.specs.Agreeing.{built_in}
 use Rattle.opfs_image.specs.declared.recovered.Recovered.{Recovered}
+use Rattle.opfs_iterating.specs.Known.{AreReached}
 use Rattle.opfs_journal.specs.Seen.{Seen}
+use Rattle.opfs_machine.specs.Histories.{state_after}
 use Rattle.opfs_machine.specs.declared.state.Limits.{Limits}
 use Rattle.opfs_openings.specs.Openings.{fixed_by, limits_by}
 use Rattle.opfs_space.specs.Room.{Machine}
@@ -13,7 +16,7 @@ use Rattle.opfs_desk_laws.specs.Handles.{AreHandlesWhole}
 use Rattle.opfs_desk_parts.specs.Held.{AreHeld}
 use Rattle.opfs_desk_parts.specs.declared.parts.Ledger.{Ledger}
 use Rattle.opfs_desk_parts.specs.declared.parts.Pages.{Pages}
-use Rattle.opfs_desk.specs.Resting.{IsAtRest}
+use Rattle.opfs_desk.specs.Resting.{IsResting}
 use Rattle.opfs_desk.proofs.Begun.{used-long, made-held, time-begun}
 use Rattle.opfs_desk.proofs.desk.Desk.make.Goals as goal
 
@@ -48,5 +51,12 @@ invariant_of-result g c =
     (ap (λ (s : StateSeen). s.store.machine) same ∙ machine) (ap (λ (s : StateSeen). s.store.tree) same ∙ tree) (ap (λ (s : StateSeen). s.store.prepared.place) same ∙ c.in-Ok-make-2.ensures.place)
     (ap (λ (j : Seen g.row.D.Denot). j.disk) done.journal) c.in-Ok.ensures c.make-in-Ok-make-3.ensures c.in-Ok-make.ensures.used c.in-Ok-make.ensures.own c.data_base.ensures.same in
     let whole : AreHandlesWhole f.opening l.books.history = subst (AreHandlesWhole f.opening) (sym done.history) (c.handles_stay_whole.ensures.begun f.opening) in
-    subst (λ (x : Recovered g.row.D.Denot g.D.Disk). IsAtRest g.D.Disk (fixed_by g.D.Disk x c.of-who.result.value.items) (record { ledger = l; pages = p })) (sym c.of-told.ensures)
-    (rw (c.of-who.ensures) (record { held = held; whole = whole; time = λ t. time-begun g.D.Disk from.journal.disk l.journal.disk (ap (λ (j : Seen g.row.D.Denot). j.disk) done.journal) }))
+    let none : AreReached (state_after f.opening l.books.history) [] = λ k n last is. absurd (no-name last is) in
+    subst (λ (x : Recovered g.row.D.Denot g.D.Disk). IsResting g.D.Disk (fixed_by g.D.Disk x c.of-who.result.value.items) (record { ledger = l; pages = p }) c.make-in-Ok-make-3-2.result) (sym c.of-told.ensures)
+    (rw (c.of-who.ensures) (record {
+      rest = record { held = held; whole = whole; time = λ t. time-begun g.D.Disk from.journal.disk l.journal.disk (ap (λ (j : Seen g.row.D.Denot). j.disk) done.journal) };
+      reached = subst (AreReached (state_after f.opening l.books.history)) (sym c.make-in-Ok-make-3-2.ensures) none;
+    }))
+  where
+    no-name : (last : Text) → ◌≡◌ {A = Option Text} None (Some last) → ⊥
+    no-name last h = cc

@@ -1,0 +1,61 @@
+-- What is known of iterators, through a call of a desk.
+use Rattle.std.proofs.Common.{◌≡◌, ◌≢◌, ◌⊎◌, ℕ, ◌++◌, Bool, true, false, List, Option, Some, None, is_some, refl, sym, ap, ◌∙◌, subst, inl, inr}
+use Rattle.opfs_acts.specs.Acting.{IsActed, IsGift}
+use Rattle.opfs_acts.specs.Asking.{MayAct}
+use Rattle.opfs_acts.specs.declared.acted.Gift.{Gift}
+use Rattle.opfs_acts.specs.declared.acted.Gift.TheVariants as gift
+use Rattle.opfs_base.specs.Texts.{Text}
+use Rattle.opfs_hist.specs.declared.entry.Entry.{Entry}
+use Rattle.opfs_hist.specs.declared.reply.Reply.{Reply}
+use Rattle.opfs_histories.specs.Unread.{IsTold}
+use Rattle.opfs_iterating.specs.Below.{AreBelow}
+use Rattle.opfs_iterating.specs.GoingOn.{IteratorsGoOn, MayReach}
+use Rattle.opfs_iterating.specs.Known.{AreOthers, AreReached, IsFollowed, IsReachedBy, Lasts, last_of}
+use Rattle.opfs_iterating.specs.Reached.{HasReached, IsUpTo, asked_row, may_make}
+use Rattle.opfs_iterating.specs.declared.iterators.Followed.{Followed}
+use Rattle.opfs_laws.specs.Whole.{IsWholeOpening}
+use Rattle.opfs_machine.specs.Histories.{state_after}
+use Rattle.opfs_machine.specs.Openings.{Opening}
+use Rattle.opfs_machine.specs.Rows.{children_of}
+use Rattle.opfs_machine.specs.Runs.{Call}
+use Rattle.opfs_work.specs.Works.{WorkingCopy}
+
+module _ (tells : Type 0) (go : IteratorsGoOn tells) (o : Opening) (h calls : List Entry) (c : Call) (work : WorkingCopy) (past : List Text) (may : MayAct tells o h calls c work past) (old mid : Lasts)
+    (reached : AreReached (state_after o h) old) (row : ℕ) (asked : row ≡ asked_row c.op) (others_then : AreOthers c.agent row old mid) where
+  others : AreOthers c.agent (asked_row c.op) old mid
+  others = subst (λ (n : ℕ). AreOthers c.agent n old mid) asked others_then
+
+  -- What is known of the iterator that is asked.
+  pub up-to : (last : Option Text) → last ≡ last_of c.agent row old → IsUpTo (children_of (state_after o (h ++ calls))) c.op past last
+  up-to None is = tt
+  up-to (Some last) is = go.found o h calls c work past last may (reached c.agent (asked_row c.op) last (ap (λ (n : ℕ). last_of c.agent n old) (sym asked) ∙ sym is))
+
+  -- Nothing was entered.
+  pub still-reached : (new : List Entry) → new ≡ h → AreReached (state_after o new) mid
+  still-reached new same k n last is = subst (λ (es : List Entry). HasReached (state_after o es) k n last) (sym same) (reached k n last (others k n last is).1)
+
+  module _ (whole : IsWholeOpening o) (told : IsTold tells o h) (new : List Entry) (answered : Reply) (given : Gift) (acted : IsActed tells o h calls c answered new) (gives : IsGift tells (state_after o (h ++ calls)) c.op answered given)
+      (call : Followed) (agent : call.agent ≡ c.agent) (its_row : call.row ≡ row) (makes : call.makes ≡ may_make c.op) (last : Option Text) (taken : last ≡ last_of c.agent row old) (known : call.known ≡ is_some last) where
+    may-reach : (name : Text) → (call.known ≡ true) ⊎ AreBelow name past → MayReach o h calls c past name
+    may-reach name (inr below) = inr below
+    may-reach name (inl was) = there last taken (sym known ∙ was)
+      where
+        there : (x : Option Text) → x ≡ last_of c.agent row old → is_some x ≡ true → MayReach o h calls c past name
+        there None is h = absurd cc
+        there (Some text) is h = inl (text, up-to (Some text) is)
+
+    now : (k n : ℕ) (name : Text) → k ≡ call.agent → n ≡ call.row → IsReachedBy call.known given past name → HasReached (state_after o new) k n name
+    now k n name k_is n_is by =
+        let gift_is = subst (λ (g : Gift). IsGift tells (state_after o (h ++ calls)) c.op answered g) by.child gives in
+        let here = go.given o h calls new c work past answered by.at name whole told may acted gift_is (may-reach name by.may) in
+        subst (λ (a : ℕ). HasReached (state_after o new) a n name) (sym (k_is ∙ agent)) (subst (λ (b : ℕ). HasReached (state_after o new) c.agent b name) (sym (n_is ∙ (its_row ∙ asked))) here)
+
+    -- What is known after it.
+    pub reached-on : (after : Lasts) → IsFollowed call given past mid after → AreReached (state_after o new) after
+    reached-on after followed k n name is = by-one (followed k n name is)
+      where
+        by-one : ((k ≡ call.agent) × (n ≡ call.row) × IsReachedBy call.known given past name) ⊎ ((call.makes ≡ false) × (last_of k n mid ≡ Some name)) → HasReached (state_after o new) k n name
+        by-one (inl both) = now k n name both.0 both.1 both.2
+        by-one (inr before) =
+            go.stays o h calls new c work past answered mid may acted (sym makes ∙ before.0) (λ a b text there. (others a b text there).0)
+            (λ a b text there. reached a b text (others a b text there).1) k n name before.1

@@ -1,0 +1,28 @@
+//! Tests of the shared store by runs over an image: what a run tells, what a disk that fails or stops leaves, and which
+//! bytes stand in the journal.
+#![tactic(auto)]
+
+#[cfg(test)]
+mod asking;
+#[cfg(test)]
+mod calls;
+#[cfg(test)]
+mod crashes;
+#[cfg(test)]
+mod drawn;
+#[cfg(test)]
+mod each_call;
+#[cfg(test)]
+mod evictions;
+#[cfg(test)]
+mod faults;
+#[cfg(test)]
+mod first_close;
+#[cfg(test)]
+mod full;
+#[cfg(test)]
+mod kept_back;
+#[cfg(test)]
+mod records;
+#[cfg(test)]
+mod tags;

@@ -1,0 +1,4 @@
+pub mod Below
+pub mod GoingOn
+pub mod Known
+pub mod Reached

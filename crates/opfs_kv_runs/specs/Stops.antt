@@ -1,0 +1,44 @@
+-- What a stop leaves of a key-value file on which commands were run. This project's own.
+use Rattle.std.specs.Prelude.{◌≡◌, ℕ, ◌+◌, ◌≤◌, cond, List, [], ◌∷◌, ◌++◌, length, take, Option, Some, None}
+use Rattle.opfs_base.specs.Places.{place_of}
+use Rattle.opfs_file_laws.specs.Staying.{standing_at}
+use Rattle.opfs_kv_words.specs.Maps.{Map}
+use Rattle.opfs_machine.specs.Changes.{Change, changes, durable}
+use Rattle.opfs_machine.specs.Openings.{Stored, folder, document}
+use Rattle.opfs_sync_files.specs.Files.{contents_at}
+use Rattle.opfs_turns.specs.Agents.{AgentSeen}
+use Rattle.opfs_kv.specs.Keeping.{Spells}
+use Rattle.opfs_kv.specs.Seen.{KvSeen, map_in}
+use Rattle.opfs_kv_runs.specs.Runs.{map_after, stores}
+use Rattle.opfs_kv_runs.specs.declared.commands.KvOp.{KvOp}
+use Rattle.opfs_kv_runs.specs.declared.commands.KvReply.{KvReply}
+
+-- What stands at a file's place is this map: records of it, or nothing for the map without keys.
+abbrev pub IsStoredAs : Option Stored → Map → Type 0
+IsStoredAs None m = m ≡ []
+IsStoredAs (Some folder) m = ⊥
+IsStoredAs (Some (document bytes stamp)) m = Spells bytes m
+
+-- How many of the commands stored the file: the flushes that were done.
+abbrev pub flushes_in : List KvOp → List KvReply → ℕ
+flushes_in (o ∷ ops) (r ∷ replies) = cond (stores o r) 1 0 + flushes_in ops replies
+flushes_in ops replies = 0
+
+-- What stands there is the map after the first so many commands, with just so many flushes that were done.
+pub record IsAfterFront (m : Map) (ops : List KvOp) (replies : List KvReply) (flushes : ℕ) (stored : Option Stored) : Type 0 where
+  pub count : ℕ
+  pub within : count ≤ length ops
+  pub flushed : flushes_in (take count ops) (take count replies) ≡ flushes
+  pub stands_for : IsStoredAs stored (map_after m (take count ops) (take count replies))
+
+-- The changes that the agent has seen since are these. Where the map of the start was stored before them, then after each front of
+-- them the map after a front of the commands is stored, with as many of the flushes that were done as the front has contents of the file.
+pub record LeavesFronts {O : Type 0} (before after : AgentSeen O) (old : KvSeen) (ops : List KvOp) (replies : List KvReply) : Type 0 where
+  pub more : List Change
+  pub grown : changes after.opening after.pass.base ≡ changes before.opening before.pass.base ++ more
+  pub fronts : (front rest : List Change) → more ≡ front ++ rest
+      → IsStoredAs (standing_at (durable before.opening (changes before.opening before.pass.base)) (place_of old.handle.file)) (map_in before old)
+      → IsAfterFront (map_in before old) ops replies (length (contents_at (place_of old.handle.file) front))
+      (standing_at (durable before.opening (changes before.opening before.pass.base ++ front)) (place_of old.handle.file))
+  -- All flushes that were done have their contents there.
+  pub all : length (contents_at (place_of old.handle.file) more) ≡ flushes_in ops replies

@@ -1,0 +1,12 @@
+pub mod Calls
+pub mod Drains
+pub mod Filled
+pub mod Halts
+pub mod Joined
+pub mod Lists
+pub mod Opened
+pub mod Passes
+pub mod Piped
+pub mod Rooms
+pub mod Rows
+pub mod Stored

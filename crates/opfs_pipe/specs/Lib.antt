@@ -1,0 +1,5 @@
+pub mod Pieces
+pub mod Pipes
+pub mod Rounds
+pub mod Sides
+pub mod Streams

@@ -1,0 +1,103 @@
+-- What the two sides of a pipe do. This project's own.
+use Rattle.std.specs.Prelude.{◌≡◌, ℕ, ◌+◌, ◌<◌, List, [], ◌∷◌, ◌++◌, length, map, Result, Ok, Err}
+use Rattle.std.specs.List.{concat}
+use Rattle.opfs_base.specs.Texts.{Text}
+use Rattle.opfs_calls.specs.Rows.{HasClosedStream, HasSnapshot, HasStream, SnapshotSeen, StreamSeen}
+use Rattle.opfs_calls.specs.declared.stop.Stop.{Stop}
+use Rattle.opfs_calls.specs.declared.stop.Stop.TheVariants as stop
+use Rattle.opfs_hist.specs.declared.op.Op.{Op}
+use Rattle.opfs_hist.specs.declared.op.Op.TheVariants as op
+use Rattle.opfs_hist.specs.declared.reply.Reply.{Reply}
+use Rattle.opfs_hist.specs.declared.reply.Reply.TheVariants as reply
+use Rattle.opfs_sync_files.specs.Entries.{GoesOn}
+use Rattle.opfs_turns.specs.Agents.{AgentSeen}
+use Rattle.opfs_pipe.specs.Pieces.{IsCut, slices_of, write_of}
+use Rattle.opfs_pipe.specs.Streams.{LeavesRest, StoresLast, calls_of, stream_bytes, stream_offset}
+
+-- ---- the reader's side
+
+-- The agent has sliced these pieces out of its snapshot, from a place on, and made no other call.
+pub record Sliced {O : Type 0} (tells : Type 0) (before after : AgentSeen O) (x : SnapshotSeen) (at : ℕ) (pieces : List Text) : Type 0 where
+  pub has : HasSnapshot tells after x
+  pub goes : GoesOn before after (length pieces)
+  pub others : LeavesRest tells before after 0
+  pub calls : calls_of after ≡ calls_of before ++ slices_of x.row at pieces
+
+-- From a place on, up to the next one, the pieces were sliced and pushed. The bytes are cut from `at` to the end.
+pub record Filled {O : Type 0} (tells : Type 0) (before after : AgentSeen O) (x : SnapshotSeen) (at place end : ℕ) (old new : List Text) (next : ℕ) : Type 0 where
+  pub pieces : List Text
+  pub grown : new ≡ old ++ pieces
+  pub cut : IsCut x.bytes at next end new
+  pub sliced : Sliced tells before after x place pieces
+
+-- It gets on; or there was no memory.
+abbrev pub HasFilled : {O : Type 0} → Type 0 → AgentSeen O → AgentSeen O → SnapshotSeen → ℕ → ℕ → ℕ → List Text → List Text → Result ℕ Stop → Type 0
+HasFilled tells before after x at place end old new (Ok next) = (place < next) × Filled tells before after x at place end old new next
+HasFilled tells before after x at place end old new (Err why) = (why ≡ stop.NoMemory) × ((next : ℕ) × Filled tells before after x at place end old new next)
+
+-- ---- the writer's side
+
+-- The agent has written these pieces at the end of its stream, each by one call, and made no other call.
+pub record Written {O : Type 0} (tells : Type 0) (before after : AgentSeen O) (old new : StreamSeen) (pieces : List Text) : Type 0 where
+  pub has : HasStream tells after new
+  pub row : new.row ≡ old.row
+  pub file : new.file ≡ old.file
+  pub goes : GoesOn before after (length pieces)
+  pub others : LeavesRest tells before after old.row
+  pub bytes : stream_bytes after new ≡ stream_bytes before old ++ concat pieces
+  pub offset : stream_offset after new ≡ stream_offset before old + length (concat pieces)
+  pub calls : calls_of after ≡ calls_of before ++ map (write_of old.row) pieces
+
+-- A call on a stream's row that a pipe makes there.
+abbrev pub IsOn : ℕ → Op → Type 0
+IsOn row (op.Write n piece position) = n ≡ row
+IsOn row (op.Close n) = n ≡ row
+IsOn row called = ⊥
+
+-- The call that was refused, a write or the close; none for want of memory.
+abbrev pub IsLast : ℕ → Stop → List (Op × Reply) → Type 0
+IsLast row (stop.No r) last = (called : Op) × IsOn row called × (last ≡ (called, reply.No r) ∷ [])
+IsLast row stop.NoMemory last = last ≡ []
+
+-- It has written these pieces, and no more: the next call was refused, or there was no memory. The stream is open.
+pub record Failed {O : Type 0} (tells : Type 0) (before after : AgentSeen O) (old new : StreamSeen) (pieces : List Text) (why : Stop) : Type 0 where
+  pub has : HasStream tells after new
+  pub row : new.row ≡ old.row
+  pub file : new.file ≡ old.file
+  pub goes : GoesOn before after (length pieces + 1)
+  pub others : LeavesRest tells before after old.row
+  pub bytes : stream_bytes after new ≡ stream_bytes before old ++ concat pieces
+  pub last : List (Op × Reply)
+  pub is_last : IsLast old.row why last
+  pub calls : calls_of after ≡ (calls_of before ++ map (write_of old.row) pieces) ++ last
+
+-- One piece was written, or it was not.
+abbrev pub HasWritten : {O : Type 0} → Type 0 → AgentSeen O → AgentSeen O → StreamSeen → StreamSeen → Text → Result (Unit {0}) Stop → Type 0
+HasWritten tells before after old new piece (Ok done) = Written tells before after old new (piece ∷ [])
+HasWritten tells before after old new piece (Err why) = Failed tells before after old new [] why
+
+-- All pieces that were popped were written.
+pub record Drained {O : Type 0} (tells : Type 0) (before after : AgentSeen O) (old new : StreamSeen) (got gotten : List Text) : Type 0 where
+  pub pieces : List Text
+  pub grown : gotten ≡ got ++ pieces
+  pub written : Written tells before after old new pieces
+
+-- All but the last one were.
+pub record Lost {O : Type 0} (tells : Type 0) (before after : AgentSeen O) (old new : StreamSeen) (got gotten : List Text) (why : Stop) : Type 0 where
+  pub pieces : List Text
+  pub lost : Text
+  pub grown : gotten ≡ got ++ (pieces ++ lost ∷ [])
+  pub failed : Failed tells before after old new pieces why
+
+abbrev pub HasDrained : {O : Type 0} → Type 0 → AgentSeen O → AgentSeen O → StreamSeen → StreamSeen → List Text → List Text → Result (Unit {0}) Stop → Type 0
+HasDrained tells before after old new got gotten (Ok done) = Drained tells before after old new got gotten
+HasDrained tells before after old new got gotten (Err why) = Lost tells before after old new got gotten why
+
+-- The stream is closed, by the agent's one call, and its bytes are the content of its file for good.
+pub record IsStored {O : Type 0} (tells : Type 0) (before after : AgentSeen O) (w : StreamSeen) (row : ℕ) (bytes : Text) : Type 0 where
+  pub same : row ≡ w.row
+  pub closed : HasClosedStream after row
+  pub goes : GoesOn before after 1
+  pub others : LeavesRest tells before after w.row
+  pub calls : calls_of after ≡ calls_of before ++ (op.Close w.row, reply.Done) ∷ []
+  pub content : StoresLast before after w bytes

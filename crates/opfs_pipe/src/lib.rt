@@ -1,0 +1,16 @@
+//! A pipe between two agents: a range of one agent's snapshot becomes the content of another agent's file, over a ring of pieces,
+//! while both work.
+#![tactic(auto)]
+
+mod draining;
+mod ending;
+mod filling;
+mod moving;
+mod opening;
+mod pieces;
+mod piping;
+mod rounds;
+mod writing;
+
+pub use opening::open_target;
+pub use piping::pipe;

@@ -1,0 +1,57 @@
+//! How a piece is written at the end of a stream.
+
+ghost use Rattle.std.specs.Prelude.{◌≡◌, ◌≤◌, length};
+ghost use Rattle.opfs_calls.specs.Rows.{HasStream};
+ghost use Rattle.opfs_turns.specs.Calls.{HasRoom};
+ghost use Rattle.opfs_pipe.specs.Sides.{HasWritten};
+ghost use Rattle.opfs_pipe.specs.Streams.{stream_bytes, stream_offset};
+
+use opfs_acts::Store;
+use opfs_agent::Agent;
+use opfs_base::{Bytes, Data};
+use opfs_calls::Stop;
+use opfs_hall::Hall;
+use opfs_streams::Writable;
+use std::sync::Wait;
+
+// Writes bytes at the end of a stream, by one call.
+fn write_data<S: Store, R: Wait>(
+    rt: &R,
+    court: &Hall<S>,
+    writer: &mut Agent<S>,
+    to: &mut Writable,
+    bytes: &Data,
+) -> Result<(), Stop>
+    requires own { writer.old.pass.hall ≡ court.now }
+    requires room { HasRoom writer.old }
+    requires stream { HasStream S.tells writer.old to.old }
+    requires at_end { stream_offset writer.old to.old ≡ length (stream_bytes writer.old to.old) }
+    requires small { length bytes.now ≤ 4096 }
+    ensures { HasWritten S.tells writer.old writer.new to.old to.new bytes.now result }
+{
+    writer.kept();
+    let done = writer.write_growing(rt, court, to, bytes, None);
+    writer.kept();
+    done
+}
+
+/// Writes a piece at the end of a stream, by one call.
+pub(crate) fn write<S: Store, R: Wait>(
+    rt: &R,
+    court: &Hall<S>,
+    writer: &mut Agent<S>,
+    to: &mut Writable,
+    piece: Bytes,
+) -> Result<(), Stop>
+    requires own { writer.old.pass.hall ≡ court.now }
+    requires room { HasRoom writer.old }
+    requires stream { HasStream S.tells writer.old to.old }
+    requires at_end { stream_offset writer.old to.old ≡ length (stream_bytes writer.old to.old) }
+    requires small { length piece ≤ 4096 }
+    ensures { HasWritten S.tells writer.old writer.new to.old to.new piece result }
+{
+    match Data::given(writer.alloc(), piece) {
+        Ok(bytes) => write_data(rt, court, writer, to, &bytes),
+        Err(_) => Err(Stop::NoMemory),
+    }
+}

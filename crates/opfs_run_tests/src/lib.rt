@@ -1,0 +1,29 @@
+//! Tests of runs whose agents are on threads: what they print, when they run, and what they leave of an image.
+#![tactic(auto)]
+
+#[cfg(test)]
+mod altering;
+#[cfg(test)]
+mod asking;
+#[cfg(test)]
+mod crowds;
+#[cfg(test)]
+mod damage;
+#[cfg(test)]
+mod drawing;
+#[cfg(test)]
+mod faults;
+#[cfg(test)]
+mod folders;
+#[cfg(test)]
+mod gates;
+#[cfg(test)]
+mod judging;
+#[cfg(test)]
+mod meetings;
+#[cfg(test)]
+mod tags;
+#[cfg(test)]
+mod trails;
+#[cfg(test)]
+mod words;
