@@ -1,7 +1,6 @@
 -- How the hand of a script's run agrees with its rows. This project's own.
 use Rattle.std.specs.Prelude.{◌≡◌, ℕ, true, List, [], length, Option, Some}
 use Rattle.opfs_base.specs.Texts.{Text}
-use Rattle.opfs_hist.specs.declared.op.Op.{Op}
 use Rattle.opfs_hist.specs.declared.op.Op.TheVariants as op
 use Rattle.opfs_hist.specs.declared.entry.Entry.{Entry}
 use Rattle.opfs_hist.specs.declared.reply.Reply.{Reply}
@@ -12,7 +11,8 @@ use Rattle.opfs_runs.specs.declared.hand.Named.TheVariants as named
 use Rattle.opfs_runs.specs.Running.{empty_hand, named_by, op_of, hand_then, IsWait}
 use Rattle.opfs_script.specs.declared.step.Step.{Step}
 use Rattle.opfs_script.specs.Limits.{is_origin_key, keeps_bounds}
-use Rattle.opfs_run_laws.specs.Kinds.{RowKind, stream, handle, snapshot, iterator, sort_at, open_rows, kinds_after, Names, MayPerform}
+use Rattle.opfs_run_laws.specs.Kinds.{RowKind, stream, handle, snapshot, iterator, sort_at, open_rows, kinds_after, MayPerform}
+use Rattle.opfs_run_laws.specs.Leaving.{snapshot_bound, row_left, kinds_stepped}
 
 -- What a variable names is of the origin of a key, or a row of its kind.
 abbrev pub IsNamed : Option Text → List RowKind → Named → Type 0
@@ -23,19 +23,25 @@ IsNamed key kinds (named.Handle n) = sort_at kinds n ≡ Some handle
 IsNamed key kinds (named.Snapshot n) = sort_at kinds n ≡ Some snapshot
 IsNamed key kinds (named.Iterator n dir) = (sort_at kinds n ≡ Some (iterator dir)) × (is_of_origin key dir ≡ true)
 
--- The hand counts the rows and tells which are open, and its variables name what is there.
+-- The hand counts the rows and tells which are open, and its variables name what is there. A snapshot is named by one variable,
+-- and one that no variable names is not held.
 pub record Agrees (h : Hand) (kinds : List RowKind) : Type 0 where
   pub rows : h.rows ≡ length kinds
   pub still_open : h.opened ≡ open_rows 1 kinds
   pub bound : (variable : Text) (x : Named) → named_by h variable ≡ Some x → IsNamed h.key kinds x
+  pub once : (v w : Text) (n : ℕ) → named_by h v ≡ Some (named.Snapshot n) → named_by h w ≡ Some (named.Snapshot n) → v ≡ w
+  pub held : (n : ℕ) → sort_at kinds n ≡ Some snapshot → (v : Text) × (named_by h v ≡ Some (named.Snapshot n))
 
 pub record HandsAgreeWithRows : Type 0 where
   -- Before the first step.
   pub begin : (key : Option Text) → Agrees (empty_hand key) []
   -- Each step asks what it may.
   pub asks : (h : Hand) (kinds : List RowKind) (s : Step) → Agrees h kinds → keeps_bounds s ≡ true → MayPerform h.key kinds (op_of h s)
-  -- After a step.
-  pub goes : (h : Hand) (kinds : List RowKind) (s : Step) (o : Op) (answered : Reply) → is_origin_key h.key ≡ true → Agrees h kinds → Names h.key kinds o
-      → Agrees (hand_then h s o answered) (kinds_after kinds o answered)
+  -- After a step, with the snapshot gone that its variable no longer names.
+  pub goes : (h : Hand) (kinds : List RowKind) (s : Step) (answered : Reply) → is_origin_key h.key ≡ true → Agrees h kinds → keeps_bounds s ≡ true
+      → Agrees (hand_then h s (op_of h s) answered) (kinds_stepped h kinds s answered)
+  -- Only a snapshot goes, and it is there until then.
+  pub leaves : (h : Hand) (kinds : List RowKind) (s : Step) (answered : Reply) (now : Option ℕ) (n : ℕ) → Agrees h kinds → keeps_bounds s ≡ true
+      → row_left (snapshot_bound h s) now ≡ Some n → sort_at (kinds_after kinds (op_of h s) answered) n ≡ Some snapshot
   -- The wait of a step that asks for an await.
   pub waits : (h : Hand) (n : ℕ) (s : Step) (tag : Text) (e : Entry) → op_of h s ≡ op.Await tag → e.number ≡ n → e.op ≡ op.Wait tag → IsWait h n s e

@@ -13,7 +13,7 @@ use Rattle.opfs_runs.specs.declared.hand.Open.{Open}
 use Rattle.opfs_runs.specs.declared.hand.Open.TheVariants as opened
 
 -- A row: an open or closed stream or access handle, a snapshot, or an iterator over a directory. One that is taken is in a
--- call's hands.
+-- call's hands; one that is gone was a snapshot, and its bytes are no longer held.
 pub data RowKind : Type 0 where
   stream : RowKind
   closed_stream : RowKind
@@ -22,6 +22,7 @@ pub data RowKind : Type 0 where
   snapshot : RowKind
   iterator : Locator → RowKind
   taken : RowKind
+  gone : RowKind
 
 -- What it is, whether it is open or closed.
 abbrev pub sort_of : RowKind → RowKind
@@ -32,6 +33,7 @@ sort_of closed_handle = handle
 sort_of snapshot = snapshot
 sort_of (iterator dir) = iterator dir
 sort_of taken = taken
+sort_of gone = gone
 
 -- The row of a number. The first has the number 1.
 abbrev pub kind_at : List RowKind → ℕ → Option RowKind
