@@ -1,3 +1,4 @@
+pub mod Forgotten
 pub mod Grown
 pub mod Handed
 pub mod Resting

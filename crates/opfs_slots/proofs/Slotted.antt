@@ -52,6 +52,7 @@ module _ {O : Type 0} (tells : Type 0) (a b : AgentSeen O) (kept : IsAgent tells
   slot-stays m (slot.ClosedHandle c) apart has = (has.0, leaves.row c.row _ (λ is. apart (sym has.0 ∙ is)) has.1)
   slot-stays m (slot.Snapshot x) apart has =
       (has.0, record { bytes = has.1.bytes; there = leaves.row x.row _ (λ is. apart (sym has.0 ∙ is)) has.1.there; size = has.1.size; told = has.1.told })
+  slot-stays m slot.Gone apart has = (has.0, leaves.row m _ apart has.1)
   slot-stays m (slot.Iterator i) apart has = (
     has.0,
     record {
@@ -63,7 +64,7 @@ module _ {O : Type 0} (tells : Type 0) (a b : AgentSeen O) (kept : IsAgent tells
 
 -- ---- lists
 
-set-cases : {X : Type 0} (xs : List X) (i j : ℕ) (y t : X) → slice_get (slice_set xs i y) j ≡ Some t → ((j ≡ i) × (t ≡ y)) ⊎ ((j ≢ i) × (slice_get xs j ≡ Some t))
+pub set-cases : {X : Type 0} (xs : List X) (i j : ℕ) (y t : X) → slice_get (slice_set xs i y) j ≡ Some t → ((j ≡ i) × (t ≡ y)) ⊎ ((j ≢ i) × (slice_get xs j ≡ Some t))
 set-cases [] i j y t is = absurd cc
 set-cases (x ∷ xs) zero zero y t is = inl (refl, sym (some-same is))
 set-cases (x ∷ xs) zero (suc j) y t is = inr (λ e. absurd (omega (arith, e)), is)

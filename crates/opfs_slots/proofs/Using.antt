@@ -152,7 +152,7 @@ pub record IsSlotAt (slots : List Slot) (n : ℕ) (Fits : RowKind → Type 0) : 
   pub there : slice_get slots place ≡ Some slot
   pub fits : Fits (kind_of slot)
 
-sort-slot : (slots : List Slot) (n : ℕ) (k : RowKind) → sort_at (kinds_of slots) n ≡ Some k → IsSlotAt slots n (λ kind. sort_of kind ≡ k)
+pub sort-slot : (slots : List Slot) (n : ℕ) (k : RowKind) → sort_at (kinds_of slots) n ≡ Some k → IsSlotAt slots n (λ kind. sort_of kind ≡ k)
 sort-slot slots zero k is = absurd cc
 sort-slot slots (suc i) k is =
     let sorted = map-get sort_of (kinds_of slots) i k is in
@@ -166,7 +166,7 @@ iterator-sort : (dir : Locator) (kind : RowKind) → sort_of kind ≡ rows.itera
 iterator-sort dir (rows.iterator at) is = is
 iterator-sort dir kind is = absurd cc
 
-snapshot-sort : (kind : RowKind) → sort_of kind ≡ rows.snapshot → kind ≡ rows.snapshot
+pub snapshot-sort : (kind : RowKind) → sort_of kind ≡ rows.snapshot → kind ≡ rows.snapshot
 snapshot-sort rows.snapshot is = refl
 snapshot-sort kind is = absurd cc
 
@@ -194,7 +194,7 @@ module _ (key : Option Text) (slots : List Slot) (m : ℕ) where
 
 -- ---- the kinds after a row is put back
 
-map-set : {A B : Type 0} (f : A → B) (xs : List A) (i : ℕ) (x : A) → map f (slice_set xs i x) ≡ slice_set (map f xs) i (f x)
+pub map-set : {A B : Type 0} (f : A → B) (xs : List A) (i : ℕ) (x : A) → map f (slice_set xs i x) ≡ slice_set (map f xs) i (f x)
 map-set f [] i x = refl
 map-set f (y ∷ xs) zero x = refl
 map-set f (y ∷ xs) (suc i) x = ap (λ zs. f y ∷ zs) (map-set f xs i x)

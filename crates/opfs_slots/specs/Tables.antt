@@ -1,10 +1,12 @@
 -- The rows of an agent in the hands of what runs its script. This project's own.
 use Rattle.std.specs.Prelude.{◌≡◌, ℕ, suc, List, map, length, slice_get, Result, Ok, Err, Some}
+use Rattle.opfs_base.specs.Texts.{Text}
 use Rattle.opfs_hist.specs.declared.op.Op.{Op}
 use Rattle.opfs_hist.specs.declared.op.Op.TheVariants as op
 use Rattle.opfs_hist.specs.declared.reply.Reply.{Reply}
+use Rattle.opfs_machine.specs.declared.own.Own.TheVariants as own
 use Rattle.opfs_laws.specs.Leaving.{row_used}
-use Rattle.opfs_turns.specs.Agents.{AgentSeen}
+use Rattle.opfs_turns.specs.Agents.{AgentSeen, own_row}
 use Rattle.opfs_calls.specs.Rows.{HasStream, HasHandle, HasSnapshot, HasIterator, HasClosedStream, HasClosedHandle}
 use Rattle.opfs_calls.specs.declared.stop.Stop.{Stop}
 use Rattle.opfs_run_laws.specs.Kinds as rows
@@ -20,6 +22,7 @@ kind_of (slot.ClosedStream c) = rows.closed_stream
 kind_of (slot.Handle h) = rows.handle
 kind_of (slot.ClosedHandle c) = rows.closed_handle
 kind_of (slot.Snapshot s) = rows.snapshot
+kind_of slot.Gone = rows.gone
 kind_of (slot.Iterator i) = rows.iterator i.dir
 kind_of slot.Taken = rows.taken
 
@@ -33,6 +36,7 @@ HasSlot tells a n (slot.ClosedStream c) = (c.row ≡ n) × HasClosedStream a c.r
 HasSlot tells a n (slot.Handle h) = (h.row ≡ n) × HasHandle tells a h
 HasSlot tells a n (slot.ClosedHandle c) = (c.row ≡ n) × HasClosedHandle a c.row
 HasSlot tells a n (slot.Snapshot s) = (s.row ≡ n) × HasSnapshot tells a s
+HasSlot tells a n slot.Gone = (bytes : Text) × (own_row a n ≡ Some (own.Snapshot bytes))
 HasSlot tells a n (slot.Iterator i) = (i.row ≡ n) × HasIterator a i
 HasSlot tells a n slot.Taken = ⊥
 

@@ -142,7 +142,7 @@ fn on_slot<S: Store, R: Wait>(
         Slot::ClosedHandle(closed) => refuse_handle(agent, closed, op),
         Slot::Snapshot(snapshot) => on_snapshot(agent, snapshot, op),
         Slot::Iterator(iter) => on_iterator(rt, court, agent, iter, op),
-        Slot::Taken => unreachable!(),
+        Slot::Gone | Slot::Taken => unreachable!(),
     }
 }
 

@@ -4,6 +4,7 @@
 mod closed;
 mod dispatch;
 mod entries;
+mod forgets;
 mod handles;
 mod lends;
 pub mod makes;
@@ -14,4 +15,5 @@ pub mod table;
 pub mod uses;
 
 pub use dispatch::perform;
+pub use forgets::forget;
 pub use table::Slot;

@@ -136,7 +136,7 @@ fn spend_slot<S: Store, R: Wait>(
                 answer,
             }
         }
-        Slot::Snapshot(_) | Slot::Iterator(_) | Slot::Taken => unreachable!(),
+        Slot::Snapshot(_) | Slot::Gone | Slot::Iterator(_) | Slot::Taken => unreachable!(),
     }
 }
 

@@ -9,6 +9,8 @@ pub enum Slot {
     Handle(SyncHandle),
     ClosedHandle(ClosedSync),
     Snapshot(Snapshot),
+    /// A snapshot's row that no variable names: its bytes are not held.
+    Gone,
     Iterator(Iter),
     /// It is in a call's hands.
     Taken,
