@@ -1,5 +1,5 @@
 -- A call by its clause has its entry, the last, or has none.
-use Rattle.std.proofs.Common.{◌≡◌, ◌+◌, ◌≤◌, Bool, true, false, List, Some, None, Result, Ok, Err, refl, sym, ap, ◌∙◌, subst, inl, inr, arith}
+use Rattle.std.proofs.Common.{◌≡◌, ℕ, ◌+◌, ◌≤◌, Bool, true, false, List, Option, Some, None, IfSome, Result, Ok, Err, refl, sym, ap, ◌∙◌, subst, inl, inr, arith}
 use Rattle.opfs_base.specs.Texts.{Text}
 use Rattle.opfs_hist.specs.declared.op.Op.{Op}
 use Rattle.opfs_hist.specs.declared.op.Op.TheVariants as op
@@ -14,11 +14,16 @@ use Rattle.opfs_calls.specs.declared.stop.Stop.TheVariants as stop
 use Rattle.opfs_runs.specs.declared.hand.Hand.{Hand}
 use Rattle.opfs_runs.specs.Running.{op_of, hand_then}
 use Rattle.opfs_script.specs.declared.step.Step.{Step}
-use Rattle.opfs_run_laws.specs.Kinds.{kinds_after}
+use Rattle.opfs_script.specs.Limits.{keeps_bounds}
+use Rattle.opfs_run_laws.specs.Agreeing.{Agrees}
+use Rattle.opfs_run_laws.specs.Kinds as rows
+use Rattle.opfs_run_laws.specs.Kinds.{RowKind, sort_at, kinds_after}
+use Rattle.opfs_run_laws.specs.Leaving.{snapshot_bound, row_left, kinds_without}
+use Rattle.opfs_run_laws.proofs.Stepped.{leaves}
 use Rattle.opfs_slots.specs.Called.{Calls, IsCalled, IsStill}
 use Rattle.opfs_slots.specs.Tables.{kinds_of, kinds_told, HasTable}
 use Rattle.opfs_slots.specs.declared.table.Slot.{Slot}
-use Rattle.opfs_runner.specs.Stepping.{own_entries, IsWaitedFor, GoesOn, IsDone, IsNotDone, IsNoted, IsTaken, IsStepped}
+use Rattle.opfs_runner.specs.Stepping.{own_entries, IsWaitedFor, GoesOn, IsDone, IsNotDone, IsNoted, IsTaken, IsTried, IsPassed}
 use Rattle.opfs_runner.proofs.Counting.{entered-own, made-own, looked-own, turned-own, begun-wait}
 
 module _ {O : Type 0} (tells : Type 0) (a b : AgentSeen O) (kept : IsAgent tells a) (o : Op) where
@@ -141,7 +146,7 @@ module _ {O : Type 0} (tells : Type 0) (a b : AgentSeen O) (kept : IsAgent tells
 
   -- A step, by what its call answered and whether the hand has taken note.
   pub stepped : (answer : Result Reply Stop) (flag : Bool) → Calls tells a b o answer → kinds_of new ≡ kinds_told (kinds_of old) o answer → (flag ≡ true → IsTaken h then_h s o answer)
-      → IsStepped tells a b old new h then_h s flag
+      → IsTried tells a b old new h then_h s flag
   unfolding noted
   stepped (Ok r) true called kinds take = let t = take refl in (noted r called kinds, taken r t.answered (some-same t.told) t.noted)
   stepped (Ok r) false called kinds take = inl (noted r called kinds)
@@ -154,9 +159,38 @@ module _ {O : Type 0} (tells : Type 0) (a b : AgentSeen O) (kept : IsAgent tells
   stepped (Err stop.NoMemory) false called kinds take = inr (record { done = subst (IsNotDone a b) asked (still-not tells a b kept o called); table = table; kinds = kinds })
 
 -- Nothing was asked.
-pub not-asked : {O : Type 0} (tells : Type 0) (a : AgentSeen O) (slots : List Slot) (h : Hand) (s : Step) → HasTable tells a slots → IsStepped tells a a slots slots h h s false
+pub not-asked : {O : Type 0} (tells : Type 0) (a : AgentSeen O) (slots : List Slot) (h : Hand) (s : Step) → HasTable tells a slots → IsTried tells a a slots slots h h s false
 not-asked tells a slots h s table = inr (record {
   done = record { goes = record { same = refl; key = refl; few = omega arith }; waited = inl refl; next = refl };
   table = table;
   kinds = refl;
 })
+
+-- ---- the whole step
+
+left-fits : (kinds : List RowKind) (x : Option ℕ) → ((n : ℕ) → x ≡ Some n → sort_at kinds n ≡ Some rows.snapshot) → IfSome x (λ n. sort_at kinds n ≡ Some rows.snapshot)
+left-fits kinds None each = tt
+left-fits kinds (Some n) each = each n refl
+
+module _ {O : Type 0} (tells : Type 0) (a b : AgentSeen O) (old mid new : List Slot) (h then_h : Hand) (s : Step) (tried : IsTried tells a b old mid h then_h s true) where
+  -- What is left is a snapshot's row.
+  pub left-there : Agrees h (kinds_of old) → keeps_bounds s ≡ true → (before now row : Option ℕ) → before ≡ snapshot_bound h s → row ≡ row_left before now
+      → IfSome row (λ n. sort_at (kinds_of mid) n ≡ Some rows.snapshot)
+  left-there agrees bounds before now row was is =
+      left-fits (kinds_of mid) row (λ n some.
+      ap (λ ks. sort_at ks n) tried.0.kinds
+      ∙ leaves h (kinds_of old) agrees s tried.0.answered bounds now n (ap (λ x. row_left x now) (sym was) ∙ sym is ∙ some))
+
+  pub passed : (before now row : Option ℕ) → before ≡ snapshot_bound h s → now ≡ snapshot_bound then_h s → row ≡ row_left before now → HasTable tells b new
+      → kinds_of new ≡ kinds_without (kinds_of mid) row → IsPassed tells a b old new h then_h s
+  passed before now row was is_now is table kinds = record {
+    answered = tried.0.answered;
+    done = tried.0.done;
+    noted = tried.1;
+    table = table;
+    kinds =
+        kinds
+        ∙ ap (λ ks. kinds_without ks row) tried.0.kinds
+        ∙ ap (kinds_without (kinds_after (kinds_of old) (op_of h s) tried.0.answered))
+        (is ∙ (λ i. row_left (was i) ((is_now ∙ ap (λ x. snapshot_bound x s) tried.1) i)));
+  }

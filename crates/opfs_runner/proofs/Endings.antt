@@ -108,6 +108,10 @@ module _ {O : Type 0} (tells : Type 0) (a b : AgentSeen O) (kept : IsAgent tells
   ends-more (slot.Snapshot x) ends same =
       let has = ends.each 0 (slot.Snapshot x) refl in
       as-before (slot.Snapshot x) ends same (own.Snapshot has.1.bytes) (ap (own_row a) (sym (first-row x.row has.0)) ∙ has.1.there) refl
+  ends-more slot.Gone ends same =
+      let has = ends.each 0 slot.Gone refl in
+      let place : suc done ≡ suc (done + 0) = omega arith in
+      as-before slot.Gone ends same (own.Snapshot has.0) (ap (own_row a) place ∙ has.1) refl
   ends-more (slot.Iterator x) ends same =
       let has = ends.each 0 (slot.Iterator x) refl in
       as-before (slot.Iterator x) ends same (own.Iterator (record { dir = x.dir; given = x.given })) (ap (own_row a) (sym (first-row x.row has.0)) ∙ has.1.there) refl
@@ -127,6 +131,7 @@ module _ {O : Type 0} (tells : Type 0) (a b : AgentSeen O) (kept : IsAgent tells
   closes-on asked whole (slot.ClosedStream c) ends same closes = subst (λ (y : AgentSeen O). Closes asked whole (own_entries y) y.number (open_rows ((done + 1) + 1) (kinds_of rest))) (sym same) closes
   closes-on asked whole (slot.ClosedHandle c) ends same closes = subst (λ (y : AgentSeen O). Closes asked whole (own_entries y) y.number (open_rows ((done + 1) + 1) (kinds_of rest))) (sym same) closes
   closes-on asked whole (slot.Snapshot x) ends same closes = subst (λ (y : AgentSeen O). Closes asked whole (own_entries y) y.number (open_rows ((done + 1) + 1) (kinds_of rest))) (sym same) closes
+  closes-on asked whole slot.Gone ends same closes = subst (λ (y : AgentSeen O). Closes asked whole (own_entries y) y.number (open_rows ((done + 1) + 1) (kinds_of rest))) (sym same) closes
   closes-on asked whole (slot.Iterator x) ends same closes = subst (λ (y : AgentSeen O). Closes asked whole (own_entries y) y.number (open_rows ((done + 1) + 1) (kinds_of rest))) (sym same) closes
   closes-on asked whole slot.Taken ends same closes = subst (λ (y : AgentSeen O). Closes asked whole (own_entries y) y.number (open_rows ((done + 1) + 1) (kinds_of rest))) (sym same) closes
 
@@ -180,6 +185,7 @@ module _ {O : Type 0} (tells : Type 0) (a b : AgentSeen O) where
   ended-few (slot.ClosedStream c) same = let n = ap (λ (x : AgentSeen O). x.entries) same in omega (arith, n)
   ended-few (slot.ClosedHandle c) same = let n = ap (λ (x : AgentSeen O). x.entries) same in omega (arith, n)
   ended-few (slot.Snapshot x) same = let n = ap (λ (y : AgentSeen O). y.entries) same in omega (arith, n)
+  ended-few slot.Gone same = let n = ap (λ (y : AgentSeen O). y.entries) same in omega (arith, n)
   ended-few (slot.Iterator x) same = let n = ap (λ (y : AgentSeen O). y.entries) same in omega (arith, n)
   ended-few slot.Taken same = let n = ap (λ (y : AgentSeen O). y.entries) same in omega (arith, n)
 
@@ -192,6 +198,7 @@ module _ {O : Type 0} (tells : Type 0) (a b : AgentSeen O) where
   ended-pass (slot.ClosedStream c) same = as-is same
   ended-pass (slot.ClosedHandle c) same = as-is same
   ended-pass (slot.Snapshot x) same = as-is same
+  ended-pass slot.Gone same = as-is same
   ended-pass (slot.Iterator x) same = as-is same
   ended-pass slot.Taken same = as-is same
 

@@ -26,13 +26,14 @@ use Rattle.opfs_script.specs.Limits.{is_origin_key, is_formed, fits_alone, bytes
 use Rattle.opfs_script.specs.Scripts.{Asked}
 use Rattle.opfs_run_laws.specs.Agreeing.{Agrees}
 use Rattle.opfs_run_laws.specs.Kinds as rows
-use Rattle.opfs_run_laws.specs.Kinds.{RowKind, kinds_changed, kinds_after, open_rows, Names}
-use Rattle.opfs_run_laws.proofs.Hands.{begins, goes}
-use Rattle.opfs_run_laws.proofs.StepOps.{asks, waits}
+use Rattle.opfs_run_laws.specs.Kinds.{RowKind, kinds_changed, kinds_after, open_rows}
+use Rattle.opfs_run_laws.specs.Leaving.{row_left, snapshot_bound, kinds_without, kinds_stepped}
+use Rattle.opfs_run_laws.proofs.StepOps.{waits}
+use Rattle.opfs_run_laws.proofs.Stepped.{begins, goes, opened-then}
 use Rattle.opfs_slots.specs.Tables.{kind_of, kinds_of, HasTable}
 use Rattle.opfs_slots.specs.declared.table.Slot.{Slot}
 use Rattle.opfs_runner.specs.Ending.{Closes}
-use Rattle.opfs_runner.specs.Stepping.{own_entries, IsWaitedFor, IsDone, IsNoted, IsStepped}
+use Rattle.opfs_runner.specs.Stepping.{own_entries, IsWaitedFor, IsDone, IsNoted, IsPassed, IsStepped}
 
 -- So many steps were made, and their hand has taken note.
 pub record UnderWay {O : Type 0} (tells : Type 0) (asked : Asked) (start : PassSeen O Entry) (a : AgentSeen O) (slots : List Slot) (h : Hand) (done : ℕ) : Type 0 where
@@ -80,6 +81,22 @@ rows-after : (kinds : List RowKind) (o : Op) (r : Reply) → length (kinds_after
 rows-after kinds o (reply.No refusal) = omega arith
 rows-after kinds o r = more-rows kinds o
 
+rows-without : (kinds : List RowKind) (x : Option ℕ) → length (kinds_without kinds x) ≡ length kinds
+rows-without kinds None = refl
+rows-without kinds (Some n) = length-set kinds (n - 1) rows.gone
+
+rows-stepped : (h : Hand) (kinds : List RowKind) (s : Step) (r : Reply) → length (kinds_stepped h kinds s r) ≤ length kinds + 1
+rows-stepped h kinds s r =
+    let after = rows-after kinds (op_of h s) r in
+    let same = rows-without (kinds_after kinds (op_of h s) r) (row_left (snapshot_bound h s) (snapshot_bound (hand_then h s (op_of h s) r) s)) in
+    omega (arith, after, same)
+
+slots-stepped : (old new : List Slot) (h : Hand) (s : Step) (r : Reply) (done : ℕ) → kinds_of new ≡ kinds_stepped h (kinds_of old) s r → length old ≤ done → length new ≤ done + 1
+slots-stepped old new h s r done kinds few =
+    let after = rows-stepped h (kinds_of old) s r in
+    let long = ap length kinds in
+    omega (arith, after, long, few, length-map old kind_of, length-map new kind_of)
+
 slots-more : (old new : List Slot) (o : Op) (r : Reply) (done : ℕ) → kinds_of new ≡ kinds_after (kinds_of old) o r → length old ≤ done → length new ≤ done + 1
 slots-more old new o r done kinds few =
     let after = rows-after (kinds_of old) o r in
@@ -113,16 +130,18 @@ cut-closes asked so_far h n waited done left rows cuts same rest end = record {
 
 module _ {O : Type 0} (tells : Type 0) (asked : Asked) (start : PassSeen O Entry) (a b : AgentSeen O) (old new : List Slot) (h then_h : Hand) (done : ℕ) (s : Step) (left : List Step)
     (fine : is_origin_key asked.key ≡ true) (way : UnderWay tells asked start a old h done) (next : drop done asked.steps ≡ s ∷ left) (fits : keeps_bounds s ≡ true) where
-  names : Names h.key (kinds_of old) (op_of h s)
-  names = (asks h (kinds_of old) way.agrees s fits).names
-
   cuts : Cuts asked (own_entries a) h a.number false done (s ∷ left)
   cuts = subst (Cuts asked (own_entries a) h a.number false done) next way.cuts
 
-  then-agrees : (n : IsNoted tells a b old new h s) → Agrees (hand_then h s (op_of h s) n.answered) (kinds_of new)
-  then-agrees n =
-      subst (Agrees (hand_then h s (op_of h s) n.answered)) (sym n.kinds)
-      (goes h (kinds_of old) way.agrees s (op_of h s) n.answered (ap is_origin_key way.hand_key ∙ fine) names)
+  hand-fine : is_origin_key h.key ≡ true
+  hand-fine = ap is_origin_key way.hand_key ∙ fine
+
+  then-agrees : (p : IsPassed tells a b old new h then_h s) → Agrees (hand_then h s (op_of h s) p.answered) (kinds_of new)
+  then-agrees p = subst (Agrees (hand_then h s (op_of h s) p.answered)) (sym p.kinds) (goes h (kinds_of old) way.agrees s p.answered fits hand-fine)
+
+  -- What is open behind the call of the step.
+  then-opened : (n : IsNoted tells a b old new h s) → open_rows 1 (kinds_of new) ≡ (hand_then h s (op_of h s) n.answered).opened
+  then-opened n = ap (open_rows 1) n.kinds ∙ sym (opened-then h (kinds_of old) way.agrees s n.answered fits hand-fine)
 
   key-stays : (o : Op) (r : Reply) → (hand_then h s o r).key ≡ h.key
   key-stays o r = kept-key h s o r
@@ -131,25 +150,23 @@ module _ {O : Type 0} (tells : Type 0) (asked : Asked) (start : PassSeen O Entry
   then-same goes_on = goes_on ∙ (λ i. record (way.same i) { base = b.pass.base })
 
   pub way-more : drop (done + 1) asked.steps ≡ left → IsStepped tells a b old new h then_h s true → UnderWay tells asked start b new then_h (done + 1)
-  way-more later step =
-      let n = step.0 in
-      record {
-        cuts = subst (Cuts asked (own_entries b) then_h b.number false (done + 1)) (sym later) (done-cuts asked a b h then_h done s left n.answered cuts n.done step.1);
-        agrees = subst (λ x. Agrees x (kinds_of new)) (sym step.1) (then-agrees n);
-        hand_key = ap (λ (x : Hand). x.key) step.1 ∙ key-stays (op_of h s) n.answered ∙ way.hand_key;
-        own_key = n.done.goes.key ∙ way.own_key;
-        table = n.table;
-        same = then-same n.done.goes.same;
-        entries = let few = n.done.goes.few in omega (arith, few, way.entries);
-        rows = slots-more old new (op_of h s) n.answered done n.kinds way.rows;
-      }
+  way-more later p = record {
+    cuts = subst (Cuts asked (own_entries b) then_h b.number false (done + 1)) (sym later) (done-cuts asked a b h then_h done s left p.answered cuts p.done p.noted);
+    agrees = subst (λ x. Agrees x (kinds_of new)) (sym p.noted) (then-agrees p);
+    hand_key = ap (λ (x : Hand). x.key) p.noted ∙ key-stays (op_of h s) p.answered ∙ way.hand_key;
+    own_key = p.done.goes.key ∙ way.own_key;
+    table = p.table;
+    same = then-same p.done.goes.same;
+    entries = let few = p.done.goes.few in omega (arith, few, way.entries);
+    rows = slots-stepped old new h s p.answered done p.kinds way.rows;
+  }
 
   -- What is known where the run stops there.
   pub way-stops : IsStepped tells a b old new h then_h s false → Closes asked false (own_entries b) b.number (open_rows 1 (kinds_of new))
   way-stops (inl n) =
       let after = hand_then h s (op_of h s) n.answered in
       cut-closes asked (own_entries b) after b.number false (done + 1) left (open_rows 1 (kinds_of new))
-      (done-cuts asked a b h after done s left n.answered cuts n.done refl) (sym (then-agrees n).still_open)
+      (done-cuts asked a b h after done s left n.answered cuts n.done refl) (then-opened n)
   way-stops (inr l) =
       let before = waited-cuts asked (own_entries a) (own_entries b) h a.number done s left cuts l.done.waited in
       subst (λ m. Closes asked false (own_entries b) m (open_rows 1 (kinds_of new))) (sym l.done.next)

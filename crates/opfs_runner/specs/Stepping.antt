@@ -13,6 +13,7 @@ use Rattle.opfs_runs.specs.declared.hand.Hand.{Hand}
 use Rattle.opfs_runs.specs.Running.{entries_of, op_of, hand_then}
 use Rattle.opfs_script.specs.declared.step.Step.{Step}
 use Rattle.opfs_run_laws.specs.Kinds.{kinds_after}
+use Rattle.opfs_run_laws.specs.Leaving.{kinds_stepped}
 use Rattle.opfs_slots.specs.Tables.{kinds_of, HasTable}
 use Rattle.opfs_slots.specs.declared.table.Slot.{Slot}
 
@@ -69,7 +70,7 @@ pub record IsTaken (h then_h : Hand) (s : Step) (o : Op) (answer : Result Reply 
   pub told : reply_of answer ≡ Some answered
   pub noted : then_h ≡ hand_then h s o answered
 
--- A step was made, and the hand has taken note; or it was made alone; or it was not.
+-- The call of a step was made; or it was not.
 pub record IsNoted {O : Type 0} (tells : Type 0) (a b : AgentSeen O) (old new : List Slot) (h : Hand) (s : Step) : Type 0 where
   pub answered : Reply
   pub done : IsDone a b (op_of h s) answered
@@ -81,6 +82,20 @@ pub record IsLeft {O : Type 0} (tells : Type 0) (a b : AgentSeen O) (old new : L
   pub table : HasTable tells b new
   pub kinds : kinds_of new ≡ kinds_of old
 
+-- It was made, and the hand has taken note; or it was made alone; or it was not.
+abbrev pub IsTried : {O : Type 0} → Type 0 → AgentSeen O → AgentSeen O → List Slot → List Slot → Hand → Hand → Step → Bool → Type 0
+IsTried tells a b old new h then_h s true = (n : IsNoted tells a b old new h s) × (then_h ≡ hand_then h s (op_of h s) n.answered)
+IsTried tells a b old new h then_h s false = IsNoted tells a b old new h s ⊎ IsLeft tells a b old new h s
+
+-- The whole step was made: the hand has taken note, and the snapshot that the step's variable no longer names is gone.
+pub record IsPassed {O : Type 0} (tells : Type 0) (a b : AgentSeen O) (old new : List Slot) (h then_h : Hand) (s : Step) : Type 0 where
+  pub answered : Reply
+  pub done : IsDone a b (op_of h s) answered
+  pub noted : then_h ≡ hand_then h s (op_of h s) answered
+  pub table : HasTable tells b new
+  pub kinds : kinds_of new ≡ kinds_stepped h (kinds_of old) s answered
+
+-- It was made, or the run stops there.
 abbrev pub IsStepped : {O : Type 0} → Type 0 → AgentSeen O → AgentSeen O → List Slot → List Slot → Hand → Hand → Step → Bool → Type 0
-IsStepped tells a b old new h then_h s true = (n : IsNoted tells a b old new h s) × (then_h ≡ hand_then h s (op_of h s) n.answered)
+IsStepped tells a b old new h then_h s true = IsPassed tells a b old new h then_h s
 IsStepped tells a b old new h then_h s false = IsNoted tells a b old new h s ⊎ IsLeft tells a b old new h s

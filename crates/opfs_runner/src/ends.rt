@@ -34,6 +34,7 @@ fn end_slot<S: Store, R: Wait>(rt: &R, court: &Hall<S>, agent: &mut Agent<S>, sl
         Slot::ClosedStream(_)
         | Slot::ClosedHandle(_)
         | Slot::Snapshot(_)
+        | Slot::Gone
         | Slot::Iterator(_)
         | Slot::Taken => {}
     }

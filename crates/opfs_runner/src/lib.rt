@@ -5,6 +5,7 @@ mod closing;
 pub mod ended;
 mod ends;
 pub mod history;
+mod snapshots;
 mod steps;
 mod threads;
 

@@ -9,8 +9,9 @@ ghost use Rattle.opfs_run_laws.specs.Kinds.{open_rows, MayPerform};
 ghost use Rattle.opfs_slots.specs.Tables.{kinds_of, HasTable};
 ghost use Rattle.opfs_runner.specs.Ending.{Closes};
 ghost use Rattle.opfs_runner.specs.Runs.{IsReady};
-ghost use Rattle.opfs_runner.specs.Stepping.{own_entries, reply_of, IsTaken, IsStepped};
+ghost use Rattle.opfs_runner.specs.Stepping.{own_entries, reply_of, IsTaken, IsTried, IsStepped};
 
+use crate::snapshots::{row_left, snapshot_bound};
 use opfs_acts::Store;
 use opfs_agent::{Agent, Stop};
 use opfs_base::copy_key;
@@ -19,7 +20,7 @@ use opfs_hist::{Op, Reply};
 use opfs_outside::Gate;
 use opfs_runs::Hand;
 use opfs_script::{AgentScript, Step};
-use opfs_slots::{Slot, perform};
+use opfs_slots::{Slot, forget, perform};
 use std::alloc::Global;
 use std::sync::Wait;
 
@@ -59,7 +60,7 @@ fn run_asked<S: Store, R: Wait>(
     requires table { HasTable S.tells agent.old slots.old.items }
     requires may { MayPerform agent.old.key (kinds_of slots.old.items) op.now }
     requires asked { op.now ≡ op_of hand.old step.now }
-    ensures { IsStepped S.tells agent.old agent.new slots.old.items slots.new.items hand.old hand.new step.now result }
+    ensures { IsTried S.tells agent.old agent.new slots.old.items slots.new.items hand.old hand.new step.now result }
 {
     agent.kept();
     let alloc = agent.alloc();
@@ -83,7 +84,7 @@ fn run_step<S: Store, R: Wait>(
     requires agrees { Agrees hand.old (kinds_of slots.old.items) }
     requires key { hand.old.key ≡ agent.old.key }
     requires bounds { keeps_bounds step.now ≡ true }
-    ensures { IsStepped S.tells agent.old agent.new slots.old.items slots.new.items hand.old hand.new step.now result }
+    ensures { IsTried S.tells agent.old agent.new slots.old.items slots.new.items hand.old hand.new step.now result }
 {
     let Ok(op) = hand.op_of(agent.alloc(), step) else {
         return false;
@@ -91,6 +92,32 @@ fn run_step<S: Store, R: Wait>(
     let done = run_asked(rt, court, agent, slots, hand, step, &op);
     drop(op);
     done
+}
+
+// The same, and lets go of the snapshot that the step's variable named before and does not name now.
+fn make_step<S: Store, R: Wait>(
+    rt: &R,
+    court: &Hall<S>,
+    agent: &mut Agent<S>,
+    slots: &mut Vec<Slot>,
+    hand: &mut Hand,
+    step: &Step,
+) -> bool
+    requires own { agent.old.pass.hall ≡ court.now }
+    requires room { HasRoom agent.old }
+    requires table { HasTable S.tells agent.old slots.old.items }
+    requires agrees { Agrees hand.old (kinds_of slots.old.items) }
+    requires key { hand.old.key ≡ agent.old.key }
+    requires bounds { keeps_bounds step.now ≡ true }
+    ensures { IsStepped S.tells agent.old agent.new slots.old.items slots.new.items hand.old hand.new step.now result }
+{
+    let before = snapshot_bound(hand, step);
+    if !run_step(rt, court, agent, slots, hand, step) {
+        return false;
+    }
+    let now = snapshot_bound(hand, step);
+    forget(agent, slots, row_left(before, now));
+    true
 }
 
 // The same with the gate round it.
@@ -114,7 +141,7 @@ fn pass_step<S: Store, R: Wait, G: Gate>(
 {
     let agent_number = agent.number();
     gate.before(agent_number, number);
-    let done = run_step(rt, court, agent, slots, hand, step);
+    let done = make_step(rt, court, agent, slots, hand, step);
     gate.after(agent_number, number);
     done
 }
