@@ -18,12 +18,12 @@ use Rattle.opfs_script.specs.Limits.{keeps_bounds}
 use Rattle.opfs_run_laws.specs.Agreeing.{Agrees}
 use Rattle.opfs_run_laws.specs.Kinds as rows
 use Rattle.opfs_run_laws.specs.Kinds.{RowKind, sort_at, kinds_after}
-use Rattle.opfs_run_laws.specs.Leaving.{snapshot_bound, row_left, kinds_without}
+use Rattle.opfs_run_laws.specs.Leaving.{snapshot_bound, row_left}
 use Rattle.opfs_run_laws.proofs.Stepped.{leaves}
 use Rattle.opfs_slots.specs.Called.{Calls, IsCalled, IsStill}
 use Rattle.opfs_slots.specs.Tables.{kinds_of, kinds_told, HasTable}
 use Rattle.opfs_slots.specs.declared.table.Slot.{Slot}
-use Rattle.opfs_runner.specs.Stepping.{own_entries, IsWaitedFor, GoesOn, IsDone, IsNotDone, IsNoted, IsTaken, IsTried, IsPassed}
+use Rattle.opfs_runner.specs.Stepping.{own_entries, IsWaitedFor, GoesOn, IsDone, IsNotDone, IsNoted, IsTaken, IsTried}
 use Rattle.opfs_runner.proofs.Counting.{entered-own, made-own, looked-own, turned-own, begun-wait}
 
 module _ {O : Type 0} (tells : Type 0) (a b : AgentSeen O) (kept : IsAgent tells a) (o : Op) where
@@ -172,7 +172,7 @@ left-fits : (kinds : List RowKind) (x : Option ℕ) → ((n : ℕ) → x ≡ Som
 left-fits kinds None each = tt
 left-fits kinds (Some n) each = each n refl
 
-module _ {O : Type 0} (tells : Type 0) (a b : AgentSeen O) (old mid new : List Slot) (h then_h : Hand) (s : Step) (tried : IsTried tells a b old mid h then_h s true) where
+module _ {O : Type 0} (tells : Type 0) (a b : AgentSeen O) (old mid : List Slot) (h then_h : Hand) (s : Step) (tried : IsTried tells a b old mid h then_h s true) where
   -- What is left is a snapshot's row.
   pub left-there : Agrees h (kinds_of old) → keeps_bounds s ≡ true → (before now row : Option ℕ) → before ≡ snapshot_bound h s → row ≡ row_left before now
       → IfSome row (λ n. sort_at (kinds_of mid) n ≡ Some rows.snapshot)
@@ -180,17 +180,3 @@ module _ {O : Type 0} (tells : Type 0) (a b : AgentSeen O) (old mid new : List S
       left-fits (kinds_of mid) row (λ n some.
       ap (λ ks. sort_at ks n) tried.0.kinds
       ∙ leaves h (kinds_of old) agrees s tried.0.answered bounds now n (ap (λ x. row_left x now) (sym was) ∙ sym is ∙ some))
-
-  pub passed : (before now row : Option ℕ) → before ≡ snapshot_bound h s → now ≡ snapshot_bound then_h s → row ≡ row_left before now → HasTable tells b new
-      → kinds_of new ≡ kinds_without (kinds_of mid) row → IsPassed tells a b old new h then_h s
-  passed before now row was is_now is table kinds = record {
-    answered = tried.0.answered;
-    done = tried.0.done;
-    noted = tried.1;
-    table = table;
-    kinds =
-        kinds
-        ∙ ap (λ ks. kinds_without ks row) tried.0.kinds
-        ∙ ap (kinds_without (kinds_after (kinds_of old) (op_of h s) tried.0.answered))
-        (is ∙ (λ i. row_left (was i) ((is_now ∙ ap (λ x. snapshot_bound x s) tried.1) i)));
-  }
