@@ -1,14 +1,18 @@
 -- A key-value file that is stored, or closed.
-use Rattle.std.proofs.Common.{◌≡◌, ℕ, Bool, false, List, [], ◌∷◌, ◌++◌, refl, sym, ap, subst, ◌∙◌}
+use Rattle.std.proofs.Common.{◌≡◌, ℕ, false, List, [], ◌∷◌, ◌++◌, Result, Ok, Err, IfErr, IfOk, OnErr, OnOk, sym, ap, subst, ◌∙◌}
 use Rattle.opfs_base.specs.Places.{place_of}
 use Rattle.opfs_base.specs.Texts.{Text}
 use Rattle.opfs_calls.specs.Rows.{HandleSeen, HasClosedHandle}
+use Rattle.opfs_calls.specs.declared.stop.Stop.{Stop}
+use Rattle.opfs_handles.specs.declared.handle.ClosedSync.{ClosedSync}
 use Rattle.opfs_kv_words.specs.Indexes.{read_out}
 use Rattle.opfs_kv_words.specs.Maps.{Map}
 use Rattle.opfs_machine.specs.Changes.{changes}
 use Rattle.opfs_sync_files.specs.Entries.{GoesOn}
 use Rattle.opfs_sync_files.specs.Files.{IsStill, contents_at, file_bytes, flushed_by, stored_of}
+use Rattle.opfs_sync_files.specs.Resting.{LeavesRest}
 use Rattle.opfs_sync_files.proofs.Knowing.{goes-then}
+use Rattle.opfs_sync_files.proofs.Resting.{rest-next}
 use Rattle.opfs_turns.specs.Agents.{AgentSeen}
 use Rattle.opfs_kv.specs.Keeping.{Keeps, Spells}
 use Rattle.opfs_kv.specs.Opening.{OnlyReads}
@@ -31,18 +35,20 @@ module _ {O : Type 0} (tells : Type 0) (a b : AgentSeen O) (x y : KvSeen) (s : S
       row = still.row ∙ s.row;
       file = still.file ∙ s.file;
       goes = goes-then a b c 1 1 s.goes still.goes;
+      others = rest-next tells a b c x.handle.row y.handle.row s.row s.others still.others;
       map = λ tell. ap (λ (t : Text). read_out t y.index) same ∙ s.map tell;
       stored = stored ∙ (λ i. s.stored i ++ flushed_by (s.stands.writes i) (sym same i));
       spells = λ tell. subst (λ (t : Text). Spells t (map_in a x)) (sym same) (spelled-now tell);
     }
 
 -- A file without a tail is closed.
-pub closes-one : {O : Type 0} (tells : Type 0) (b c : AgentSeen O) (y : KvSeen) (stands : Stands tells b y) → y.tail ≡ false → (row : ℕ) → (row ≡ y.handle.row) × HasClosedHandle c row → GoesOn b c 1
+pub closes-one : {O : Type 0} (tells : Type 0) (b c : AgentSeen O) (y : KvSeen) (stands : Stands tells b y) → y.tail ≡ false → (row : ℕ) → (row ≡ y.handle.row) × HasClosedHandle c row → GoesOn b c 1 → LeavesRest tells b c y.handle.row
     → stored_of c y.handle ≡ stored_of b y.handle ++ flushed_by y.handle.mode (file_bytes b y.handle) → Closes tells b c y (row) 1 (map_in b y)
-closes-one tells b c y stands none row closed goes stored = record {
+closes-one tells b c y stands none row closed goes others stored = record {
   same = closed.0;
   closed = closed.1;
   goes = goes;
+  others = others;
   bytes = file_bytes b y.handle;
   stored = stored ∙ ap (λ (m : Mode). stored_of b y.handle ++ flushed_by m (file_bytes b y.handle)) stands.writes;
   spells = spells-map tells (file_bytes b y.handle) y.live y.tail y.index stands.keeps none;
@@ -53,6 +59,7 @@ closes-later tells a b c x y row s t = record {
   same = t.same ∙ s.row;
   closed = t.closed;
   goes = goes-then a b c 1 1 s.goes t.goes;
+  others = rest-next tells a b c x.handle.row y.handle.row s.row s.others t.others;
   bytes = t.bytes;
   stored = ap (λ l. contents_at (place_of l) (changes c.opening c.pass.base)) (sym s.file) ∙ t.stored ∙ ap (λ (ts : List Text). ts ++ t.bytes ∷ []) s.stored;
   spells = λ tell. subst (λ (m : Map). Spells t.bytes m) (s.map tell) (t.spells tell);
@@ -66,3 +73,19 @@ opened-stands tells a b x y notes reads writes keeps = record { has = reads.has;
 pub opened-spells : {O : Type 0} (tells : Type 0) (a b : AgentSeen O) (x y : HandleSeen) (notes : Notes) → OnlyReads tells a b x y 261 → Keeps tells (file_bytes a x) notes.live notes.tail notes.index → notes.tail ≡ false → tells → Spells (file_bytes a x) (map_in b (seen y notes))
 opened-spells tells a b x y notes reads keeps none tell =
     subst (λ (t : Text). Spells (file_bytes a x) (read_out t notes.index)) (sym reads.bytes) (spells-map tells (file_bytes a x) notes.live notes.tail notes.index keeps none tell)
+
+-- ---- whatever a call answered, the agent's other rows are as they were
+
+module _ {O E T : Type 0} (tells : Type 0) (a b : AgentSeen O) (x y : KvSeen) (n : ℕ) (d e : Map) where
+  pub served-rest : (r : Result T E) → OnOk r (Serves tells a b x y n d) → OnErr r (Serves tells a b x y n e) → LeavesRest tells a b x.handle.row
+  served-rest (Ok v) done left = done.others
+  served-rest (Err v) done left = left.others
+
+  pub flushed-rest : (r : Result T E) → OnOk r (Flushes tells a b x y n d) → OnErr r (Serves tells a b x y n e) → LeavesRest tells a b x.handle.row
+  flushed-rest (Ok v) done left = done.others
+  flushed-rest (Err v) done left = left.others
+
+pub closed-rest : {O : Type 0} (tells : Type 0) (a b : AgentSeen O) (x : KvSeen) (n : ℕ) (d : Map) (r : Result ClosedSync (KvSeen × Stop)) → IfOk r (λ closed. Closes tells a b x (closed.row) n d) → IfErr r (λ back. Serves tells a b x back.0 n d)
+    → LeavesRest tells a b x.handle.row
+closed-rest tells a b x n d (Ok closed) done back = done.others
+closed-rest tells a b x n d (Err e) done back = back.others

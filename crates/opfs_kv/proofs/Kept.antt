@@ -1,14 +1,14 @@
 -- What calls do to a key-value file, by its bytes and its index.
-use Rattle.std.proofs.Common.{◌≡◌, ℕ, ◌+◌, ◌-◌, ◌≤◌, Bool, true, false, cond, List, [], ◌∷◌, ◌++◌, length, take, drop, map, option_map, Option, Some, None, refl, sym, ap, subst, ◌∙◌, arith}
+use Rattle.std.proofs.Common.{◌≡◌, ℕ, ◌+◌, ◌≤◌, Bool, true, false, cond, [], ◌∷◌, ◌++◌, length, take, drop, map, option_map, Option, Some, None, refl, sym, ap, subst, ◌∙◌, arith}
 use Rattle.std.specs.Prelude.{is_some, IfSome}
-use Rattle.std.specs.Map.{keys_of, lookup}
+use Rattle.std.specs.Map.{keys_of}
 use Rattle.std.specs.List.Sorted.{IsStrictlySortedBy}
 use Rattle.std.proofs.lemmas.List.{length-append, length-drop, length-take, take-append-le, take_all, drop_all, append-nil}
 use Rattle.opfs_base.specs.Texts.{Text}
 use Rattle.opfs_kv_words.specs.Heads.{size_by}
-use Rattle.opfs_kv_words.specs.Indexes.{IsFitting, IsIndexed, Places, indexed, placed, placed_by, read_out}
-use Rattle.opfs_kv_words.specs.Maps.{Map, found, is_key, key_cmp, with_key, without_key}
-use Rattle.opfs_kv_words.specs.Records.{IsKey, IsLog, IsRecord, IsValue, Record, after_by, log_of, map_of, put_of, spelled_by}
+use Rattle.opfs_kv_words.specs.Indexes.{IsFitting, IsIndexed, Places, indexed, placed_by, read_out}
+use Rattle.opfs_kv_words.specs.Maps.{Map, found, is_key, key_cmp, without_key}
+use Rattle.opfs_kv_words.specs.Records.{IsRecord, IsValue, Record, after_by, log_of, put_of, spelled_by}
 use Rattle.opfs_kv_words.specs.Scans.{HasRead}
 use Rattle.opfs_kv_words.specs.declared.place.Place.{Place}
 use Rattle.opfs_kv_words.proofs.Fitted.{fitting-out, fitting-with}

@@ -1,6 +1,5 @@
 -- What is said of results.
-use Rattle.std.proofs.Common.{◌≡◌, List, Bool, Option, Some, None, Result, Ok, Err, IfOk, IfErr, OnOk, OnErr, refl, sym, ap, subst, ◌∙◌}
-use Rattle.opfs_base.specs.Texts.{Text}
+use Rattle.std.proofs.Common.{◌≡◌, Result, Ok, Err, IfOk, IfErr, OnOk, OnErr, sym, subst}
 use Rattle.opfs_calls.specs.declared.stop.Stop.{Stop}
 use Rattle.opfs_calls.specs.declared.stop.Stop.TheVariants as stop
 use Rattle.opfs_sync_files.specs.Entries.{GoesOn, IsCaused}

@@ -1,19 +1,19 @@
 -- A key-value file that is read when it is opened.
-use Rattle.std.proofs.Common.{◌≡◌, ℕ, ◌+◌, ◌-◌, ◌*◌, ◌<◌, ◌≤◌, List, [], ◌∷◌, ◌++◌, length, take, drop, min, Result, Ok, Err, IfOk, refl, sym, ap, subst, ◌∙◌, arith, inl, inr}
+use Rattle.std.proofs.Common.{◌≡◌, ℕ, ◌+◌, ◌-◌, ◌*◌, ◌<◌, ◌≤◌, [], length, take, drop, min, Result, Ok, Err, IfOk, refl, sym, ap, subst, ◌∙◌, arith, inl, inr}
 use Rattle.std.proofs.lemmas.Bool.{cases_lt}
 use Rattle.std.proofs.lemmas.List.{length-drop, length-take, take_all}
 use Rattle.opfs_base.specs.Texts.{Text}
 use Rattle.opfs_calls.specs.Rows.{HandleSeen, HasHandle}
-use Rattle.opfs_calls.specs.declared.stop.Stop.TheVariants as stop
 use Rattle.opfs_kv_words.specs.Indexes.{IsFitting, Places}
-use Rattle.opfs_kv_words.specs.Scans.{HasFailed, HasRead, HasStopped, IsPiece}
+use Rattle.opfs_kv_words.specs.Scans.{HasRead, HasStopped, IsPiece}
 use Rattle.opfs_kv_words.specs.declared.miss.Miss.{Miss}
 use Rattle.opfs_kv_words.specs.declared.miss.Miss.TheVariants as miss
 use Rattle.opfs_kv_words.proofs.Steps.{failed-then, read-then}
 use Rattle.opfs_splice.specs.Splicing.{window}
 use Rattle.opfs_sync_files.specs.Entries.{GoesOn, IsCaused}
 use Rattle.opfs_sync_files.specs.Files.{IsStill, file_bytes, stored_of}
-use Rattle.opfs_sync_files.proofs.Knowing.{caused-later, goes-most, goes-none, goes-then}
+use Rattle.opfs_sync_files.proofs.Knowing.{caused-later, goes-none, goes-then}
+use Rattle.opfs_sync_files.proofs.Resting.{rest-none, rest-next}
 use Rattle.opfs_turns.specs.Agents.{AgentSeen}
 use Rattle.opfs_kv.specs.Calls.{HasOpenCause}
 use Rattle.opfs_kv.specs.Opening.{HasEnded, HasScanCause, IsScanned, OnlyReads, stop_of}
@@ -23,10 +23,10 @@ use Rattle.opfs_kv.specs.declared.stop.KvStop.TheVariants as kv_stop
 -- ---- reads, one after another
 
 pub reads-none : {O : Type 0} (tells : Type 0) (a : AgentSeen O) (x : HandleSeen) → HasHandle tells a x → OnlyReads tells a a x x 0
-reads-none tells a x has = record { has = has; row = refl; file = refl; mode_is = refl; goes = goes-none a; bytes = refl; stored = refl }
+reads-none tells a x has = record { has = has; row = refl; file = refl; mode_is = refl; goes = goes-none a; others = rest-none tells a x.row; bytes = refl; stored = refl }
 
 pub reads-one : {O : Type 0} (tells : Type 0) (a b : AgentSeen O) (x y : HandleSeen) → IsStill tells a b x y → file_bytes b y ≡ file_bytes a x → stored_of b y ≡ stored_of a x → OnlyReads tells a b x y 1
-reads-one tells a b x y still same stored = record { has = still.has; row = still.row; file = still.file; mode_is = still.mode_is; goes = still.goes; bytes = same; stored = stored }
+reads-one tells a b x y still same stored = record { has = still.has; row = still.row; file = still.file; mode_is = still.mode_is; goes = still.goes; others = still.others; bytes = same; stored = stored }
 
 pub reads-then : {O : Type 0} (tells : Type 0) (a b c : AgentSeen O) (x y z : HandleSeen) (m n : ℕ) → OnlyReads tells a b x y m → OnlyReads tells b c y z n → OnlyReads tells a c x z (m + n)
 reads-then tells a b c x y z m n r s = record {
@@ -35,6 +35,7 @@ reads-then tells a b c x y z m n r s = record {
   file = s.file ∙ r.file;
   mode_is = s.mode_is ∙ r.mode_is;
   goes = goes-then a b c m n r.goes s.goes;
+  others = rest-next tells a b c x.row y.row r.row r.others s.others;
   bytes = s.bytes ∙ r.bytes;
   stored = s.stored ∙ r.stored;
 }
@@ -47,6 +48,7 @@ reads-within tells a b x y m n few r = record {
   file = r.file;
   mode_is = r.mode_is;
   goes = record { hall = r.goes.hall; agent = r.goes.agent; opening_is = r.goes.opening_is; rows = r.goes.rows; entries = few; number = r.goes.number; knows = r.goes.knows; newer = r.goes.newer; grown = r.goes.grown };
+  others = r.others;
   bytes = r.bytes;
   stored = r.stored;
 }

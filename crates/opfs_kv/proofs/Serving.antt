@@ -1,27 +1,26 @@
 -- What calls on an access handle leave of a key-value file.
-use Rattle.std.proofs.Common.{◌≡◌, ℕ, ◌+◌, ◌≤◌, Bool, true, false, List, [], ◌∷◌, ◌++◌, length, map, take, Option, Some, None, refl, sym, ap, subst, ◌∙◌, arith}
+use Rattle.std.proofs.Common.{◌≡◌, ℕ, ◌+◌, ◌≤◌, Bool, true, false, length, map, take, Some, None, refl, sym, ap, subst, ◌∙◌, arith}
 use Rattle.std.specs.List.Sorted.{IsStrictlySortedBy}
 use Rattle.std.specs.Map.{keys_of}
 use Rattle.opfs_base.specs.Texts.{Text}
-use Rattle.opfs_calls.specs.Rows.{HandleSeen, HasHandle}
-use Rattle.opfs_hist.specs.declared.op.Mode.{Mode}
+use Rattle.opfs_calls.specs.Rows.{HandleSeen}
 use Rattle.opfs_kv_words.specs.Indexes.{IsFitting, Places, read_out}
 use Rattle.opfs_kv_words.specs.Maps.{Map, key_cmp, with_key, without_key}
 use Rattle.opfs_kv_words.specs.Records.{IsKey, IsValue, log_of, put_of, spelled_by}
 use Rattle.opfs_splice.specs.Splicing.{resize, splice, window}
-use Rattle.opfs_sync_files.specs.Entries.{GoesOn}
-use Rattle.opfs_sync_files.specs.Files.{IsStill, file_bytes, flushed_by, stored_of}
+use Rattle.opfs_sync_files.specs.Files.{IsStill, file_bytes, stored_of}
 use Rattle.opfs_sync_files.proofs.Knowing.{goes-most, goes-none, goes-then}
+use Rattle.opfs_sync_files.proofs.Resting.{rest-next, rest-none}
 use Rattle.opfs_turns.specs.Agents.{AgentSeen}
-use Rattle.opfs_kv.specs.Keeping.{Keeps, Spells}
+use Rattle.opfs_kv.specs.Keeping.{Keeps}
 use Rattle.opfs_kv.specs.Packing.{IsAnewFor}
-use Rattle.opfs_kv.specs.Seen.{Flushes, KvSeen, Serves, Stands, map_in, stored_in}
+use Rattle.opfs_kv.specs.Seen.{KvSeen, Serves, Stands, map_in}
 use Rattle.opfs_kv.proofs.Kept.{all-live, cut-keeps, cut-map, more-keeps, more-reads, packed-front, packed-keeps, packed-reads, same-front, tail-keeps, tail-map}
 
 -- ---- one after another
 
 pub serves-most : {O : Type 0} (tells : Type 0) (a b : AgentSeen O) (x y : KvSeen) (m n : ℕ) (d : Map) → m ≤ n → Serves tells a b x y m d → Serves tells a b x y n d
-serves-most tells a b x y m n d few s = record { stands = s.stands; row = s.row; file = s.file; goes = goes-most a b m n few s.goes; map = s.map; stored = s.stored }
+serves-most tells a b x y m n d few s = record { stands = s.stands; row = s.row; file = s.file; goes = goes-most a b m n few s.goes; others = s.others; map = s.map; stored = s.stored }
 
 -- A call that serves a file on the map that an earlier one left.
 pub serves-then : {O : Type 0} (tells : Type 0) (a b c : AgentSeen O) (x y z : KvSeen) (m n : ℕ) (change : Map → Map) → Serves tells a b x y m (map_in a x) → Serves tells b c y z n (change (map_in b y))
@@ -31,13 +30,14 @@ serves-then tells a b c x y z m n change s t = record {
   row = t.row ∙ s.row;
   file = t.file ∙ s.file;
   goes = goes-then a b c m n s.goes t.goes;
+  others = rest-next tells a b c x.handle.row y.handle.row s.row s.others t.others;
   map = λ tell. t.map tell ∙ ap change (s.map tell);
   stored = t.stored ∙ s.stored;
 }
 
 -- Nothing was done.
 pub serves-none : {O : Type 0} (tells : Type 0) (a : AgentSeen O) (x : KvSeen) (n : ℕ) → Stands tells a x → Serves tells a a x x n (map_in a x)
-serves-none tells a x n stands = record { stands = stands; row = refl; file = refl; goes = goes-most a a 0 n (omega arith) (goes-none a); map = λ tell. refl; stored = refl }
+serves-none tells a x n stands = record { stands = stands; row = refl; file = refl; goes = goes-most a a 0 n (omega arith) (goes-none a); others = rest-none tells a x.handle.row; map = λ tell. refl; stored = refl }
 
 -- A whole file is read.
 pub read-whole : {O : Type 0} (tells : Type 0) (a : AgentSeen O) (kv : KvSeen) (stands : Stands tells a kv) → kv.tail ≡ false → window (file_bytes a kv.handle) 0 kv.live ≡ file_bytes a kv.handle
@@ -63,6 +63,7 @@ module _ {O : Type 0} (tells : Type 0) (a b : AgentSeen O) (kv : KvSeen) (stands
     row = still.row;
     file = still.file;
     goes = still.goes;
+    others = still.others;
     map = reads;
     stored = stored;
   }

@@ -9,17 +9,20 @@ use Rattle.opfs_kv_words.specs.declared.miss.Miss.{Miss}
 use Rattle.opfs_kv_words.specs.declared.miss.Miss.TheVariants as miss
 use Rattle.opfs_sync_files.specs.Entries.{GoesOn, IsCaused}
 use Rattle.opfs_sync_files.specs.Files.{file_bytes, stored_of}
+use Rattle.opfs_sync_files.specs.Resting.{LeavesRest}
 use Rattle.opfs_turns.specs.Agents.{AgentSeen}
 use Rattle.opfs_kv.specs.declared.stop.KvStop.{KvStop}
 use Rattle.opfs_kv.specs.declared.stop.KvStop.TheVariants as kv_stop
 
--- Reads alone: the handle is open on the same file, whose bytes are as before, and nothing of it was stored.
+-- Reads alone: the handle is open on the same file, whose bytes are as before, and nothing of it was stored. The agent's other own
+-- rows are as they were.
 pub record OnlyReads {O : Type 0} (tells : Type 0) (before after : AgentSeen O) (old new : HandleSeen) (count : ℕ) : Type 0 where
   pub has : HasHandle tells after new
   pub row : new.row ≡ old.row
   pub file : new.file ≡ old.file
   pub mode_is : new.mode ≡ old.mode
   pub goes : GoesOn before after count
+  pub others : LeavesRest tells before after old.row
   pub bytes : file_bytes after new ≡ file_bytes before old
   pub stored : stored_of after new ≡ stored_of before old
 

@@ -7,6 +7,7 @@ use Rattle.opfs_kv_words.specs.Indexes.{Places, read_out}
 use Rattle.opfs_kv_words.specs.Maps.{Map}
 use Rattle.opfs_sync_files.specs.Entries.{GoesOn}
 use Rattle.opfs_sync_files.specs.Files.{file_bytes, stored_of}
+use Rattle.opfs_sync_files.specs.Resting.{LeavesRest}
 use Rattle.opfs_turns.specs.Agents.{AgentSeen}
 use Rattle.opfs_kv.specs.Keeping.{Keeps, Spells}
 use Rattle.opfs_kv.specs.declared.notes.Notes.{Notes}
@@ -41,21 +42,24 @@ pub record HasPlaces {O : Type 0} (a : AgentSeen O) : Type 0 where
   pub rows : a.rows ≤ 60000000
   pub entries : a.entries ≤ 59000000
 
--- The file still stands after so many entries more at most, on the same handle, with this map. Nothing of it was stored.
+-- The file still stands after so many entries more at most, on the same handle, with this map. Nothing of it was stored, and the
+-- agent's other own rows are as they were.
 pub record Serves {O : Type 0} (tells : Type 0) (before after : AgentSeen O) (old new : KvSeen) (count : ℕ) (m : Map) : Type 0 where
   pub stands : Stands tells after new
   pub row : new.handle.row ≡ old.handle.row
   pub file : new.handle.file ≡ old.handle.file
   pub goes : GoesOn before after count
+  pub others : LeavesRest tells before after old.handle.row
   pub map : tells → map_in after new ≡ m
   pub stored : stored_in after new ≡ stored_in before old
 
--- The file was stored for good, as records that stand for this map.
+-- The file was stored for good, as records that stand for this map. The agent's other own rows are as they were.
 pub record Flushes {O : Type 0} (tells : Type 0) (before after : AgentSeen O) (old new : KvSeen) (count : ℕ) (m : Map) : Type 0 where
   pub stands : Stands tells after new
   pub row : new.handle.row ≡ old.handle.row
   pub file : new.handle.file ≡ old.handle.file
   pub goes : GoesOn before after count
+  pub others : LeavesRest tells before after old.handle.row
   pub map : tells → map_in after new ≡ m
   pub stored : stored_in after new ≡ stored_in before old ++ file_bytes after new.handle ∷ []
   pub spells : tells → Spells (file_bytes after new.handle) m
@@ -65,6 +69,7 @@ pub record Closes {O : Type 0} (tells : Type 0) (before after : AgentSeen O) (ol
   pub same : row ≡ old.handle.row
   pub closed : HasClosedHandle after row
   pub goes : GoesOn before after count
+  pub others : LeavesRest tells before after old.handle.row
   pub bytes : Text
   pub stored : stored_of after old.handle ≡ stored_of before old.handle ++ bytes ∷ []
   pub spells : tells → Spells bytes m

@@ -7,6 +7,7 @@ ghost use Rattle.opfs_kv_words.specs.Maps.{found, with_key, without_key};
 ghost use Rattle.opfs_kv_words.specs.Records.{IsKey, IsValue, log_of, put_of};
 ghost use Rattle.opfs_sync_files.specs.Entries.{IsCaused};
 ghost use Rattle.opfs_sync_files.specs.Files.{file_bytes};
+ghost use Rattle.opfs_sync_files.specs.Resting.{LeavesRest};
 ghost use Rattle.opfs_turns.specs.Calls.{HasRoom};
 ghost use Rattle.opfs_kv.specs.Calls.{HasCause, HasOpenCause, HasPlainCause, IsGotten};
 ghost use Rattle.opfs_kv.specs.Keeping.{Spells};
@@ -56,6 +57,7 @@ impl Kv {
         requires writes { sync.mode ≡ mode.ReadWrite }
         ensures stands { IfOk result (λ kv. Stands S.tells agent.new kv) }
         ensures reads { IfOk result (λ kv. OnlyReads S.tells agent.old agent.new sync kv.handle 261) }
+        ensures others { LeavesRest S.tells agent.old agent.new sync.row }
         ensures map { IfOk result (λ kv. S.tells → Spells (file_bytes agent.old sync) (map_in agent.new kv)) }
         ensures back { IfErr result (λ back. OnlyReads S.tells agent.old agent.new sync back.0 261) }
         ensures cause { IfErr result (λ back. HasOpenCause S.tells agent.old agent.new (file_bytes agent.old sync) back.1) }
@@ -81,6 +83,7 @@ impl Kv {
         requires few { HasPlaces agent.old }
         requires stands { Stands S.tells agent.old self.old }
         ensures serves { Serves S.tells agent.old agent.new self.old self.new 1 (map_in agent.old self.old) }
+        ensures others { LeavesRest S.tells agent.old agent.new self.old.handle.row }
         ensures value { IfOk result (λ value. S.tells → value ≡ found (map_in agent.old self.old) key.now) }
         ensures once { IsGotten S.tells agent.old agent.new self.old.handle.row (found self.old.index key.now) result }
         ensures cause { IfErr result (HasPlainCause agent.old agent.new) }
@@ -104,6 +107,7 @@ impl Kv {
         requires value { IsValue value.now }
         ensures put { OnOk result (Serves S.tells agent.old agent.new self.old self.new 2 (with_key (map_in agent.old self.old) key.now value.now)) }
         ensures left { OnErr result (Serves S.tells agent.old agent.new self.old self.new 2 (map_in agent.old self.old)) }
+        ensures others { LeavesRest S.tells agent.old agent.new self.old.handle.row }
         ensures full { 16777216 < self.old.live + (6 + length key.now + length value.now) → result ≡ Err (kv_stop.Full self.old.live (6 + length key.now + length value.now)) }
         ensures cause { IfErr result (HasCause agent.old agent.new self.old.live (6 + length key.now + length value.now)) }
     {
@@ -133,6 +137,7 @@ impl Kv {
         ensures was { IfOk result (λ was. was ≡ is_some (found (map_in agent.old self.old) key.now)) }
         ensures gone { OnOk result (Serves S.tells agent.old agent.new self.old self.new 2 (without_key (map_in agent.old self.old) key.now)) }
         ensures left { OnErr result (Serves S.tells agent.old agent.new self.old self.new 2 (map_in agent.old self.old)) }
+        ensures others { LeavesRest S.tells agent.old agent.new self.old.handle.row }
         ensures none { found self.old.index key.now ≡ None → (result ≡ Ok false) × (agent.new ≡ agent.old) }
         ensures full { found self.old.index key.now ≢ None → 16777216 < self.old.live + (2 + length key.now) → result ≡ Err (kv_stop.Full self.old.live (2 + length key.now)) }
         ensures cause { IfErr result (HasCause agent.old agent.new self.old.live (2 + length key.now)) }
@@ -152,6 +157,7 @@ impl Kv {
         requires stands { Stands S.tells agent.old self.old }
         ensures flushed { OnOk result (Flushes S.tells agent.old agent.new self.old self.new 2 (map_in agent.old self.old)) }
         ensures left { OnErr result (Serves S.tells agent.old agent.new self.old self.new 2 (map_in agent.old self.old)) }
+        ensures others { LeavesRest S.tells agent.old agent.new self.old.handle.row }
         ensures cause { IfErr result (HasPlainCause agent.old agent.new) }
     {
         storing::flush_file(rt, court, agent, &mut self.handle, &mut self.notes)
@@ -168,6 +174,7 @@ impl Kv {
         requires few { HasPlaces agent.old }
         requires stands { Stands S.tells agent.old self.old }
         ensures serves { Serves S.tells agent.old agent.new self.old self.new 4 (map_in agent.old self.old) }
+        ensures others { LeavesRest S.tells agent.old agent.new self.old.handle.row }
         ensures packed { OnOk result (S.tells → file_bytes agent.new self.new.handle ≡ log_of (map put_of (map_in agent.old self.old))) }
         ensures cause { IfErr result (HasPlainCause agent.old agent.new) }
     {
@@ -189,6 +196,7 @@ impl Kv {
         requires stands { Stands S.tells agent.old self }
         ensures closed { IfOk result (λ closed. Closes S.tells agent.old agent.new self (closed.row) 2 (map_in agent.old self)) }
         ensures back { IfErr result (λ back. Serves S.tells agent.old agent.new self back.0 2 (map_in agent.old self)) }
+        ensures others { LeavesRest S.tells agent.old agent.new self.handle.row }
         ensures cause { IfErr result (λ back. IsCaused agent.old agent.new back.1) }
     {
         let Kv { handle, notes } = self;

@@ -4,7 +4,9 @@ use Rattle.std.proofs.lemmas.List.Sums.{sum_by-cons}
 use Rattle.opfs_base.specs.Texts.{Text}
 use Rattle.opfs_kv_words.specs.Maps.{Map}
 use Rattle.opfs_sync_files.specs.Entries.{GoesOn}
+use Rattle.opfs_sync_files.specs.Resting.{LeavesRest}
 use Rattle.opfs_sync_files.proofs.Knowing.{entry-later, goes-most, goes-none, goes-then}
+use Rattle.opfs_sync_files.proofs.Resting.{rest-next, rest-none}
 use Rattle.opfs_turns.specs.Agents.{AgentSeen}
 use Rattle.opfs_kv.specs.Seen.{KvSeen, Stands, map_in, stored_in}
 use Rattle.opfs_kv_runs.specs.Runs.{AreCaused, AreReplies, AreStoredBy, HasStored, IsCausedReply, IsReply, IsRun, after_op, entries_of, map_after, stores}
@@ -47,6 +49,7 @@ pub record IsRunning {O : Type 0} (tells : Type 0) (before after : AgentSeen O) 
   pub file : new.handle.file ≡ old.handle.file
   pub many : AreAsMany ops replies
   pub goes : GoesOn before after (sum_by entries_of ops)
+  pub others : LeavesRest tells before after old.handle.row
   pub told : tells → AreReplies (map_in before old) ops replies
   pub map : tells → map_in after new ≡ map_after (map_in before old) ops replies
   pub stored : HasStored tells before after old new ops replies
@@ -59,6 +62,7 @@ run-none tells a x stands = record {
   file = refl;
   many = tt;
   goes = goes-none a;
+  others = rest-none tells a x.handle.row;
   told = λ tell. tt;
   map = λ tell. refl;
   stored = record { texts = []; stored = sym (append-nil (stored_in a x)); are = λ tell. refl };
@@ -73,6 +77,7 @@ run-more tells a b c x y z ops rs o r h one = record {
   file = one.file ∙ h.file;
   many = many-more ops rs o r h.many;
   goes = goes-most a c (sum_by entries_of ops + entries_of o) (sum_by entries_of (ops ++ o ∷ [])) (omega (arith, sum-more ops o)) (goes-then a b c (sum_by entries_of ops) (entries_of o) h.goes one.goes);
+  others = rest-next tells a b c x.handle.row y.handle.row h.row h.others one.others;
   told = λ tell. replies-more (map_in a x) ops rs o r (h.told tell) (subst (λ (m : Map). IsReply m o r) (h.map tell) (one.told tell));
   map = λ tell. one.map tell ∙ ap (λ (m : Map). after_op m o r) (h.map tell) ∙ sym (map-more (map_in a x) ops rs o r h.many);
   stored = record {

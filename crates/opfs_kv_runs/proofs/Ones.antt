@@ -38,6 +38,7 @@ module _ {O : Type 0} (tells : Type 0) (a b : AgentSeen O) (x y : KvSeen) where
     row = s.row;
     file = s.file;
     goes = subst (GoesOn a b) few s.goes;
+    others = s.others;
     told = told;
     map = λ tell. s.map tell ∙ map_is;
     texts = [];
@@ -70,6 +71,7 @@ module _ {O : Type 0} (tells : Type 0) (a b : AgentSeen O) (x y : KvSeen) where
     row = s.row;
     file = s.file;
     goes = s.goes;
+    others = s.others;
     told = λ tell. refl;
     map = s.map;
     texts = _;

@@ -6,6 +6,7 @@ use Rattle.opfs_hist.specs.declared.reply.Reply.TheVariants as reply
 use Rattle.opfs_kv_words.specs.Maps.{Map, found, with_key, without_key}
 use Rattle.opfs_kv_words.specs.Records.{IsKey, IsValue}
 use Rattle.opfs_sync_files.specs.Entries.{GoesOn, HasEntry}
+use Rattle.opfs_sync_files.specs.Resting.{LeavesRest}
 use Rattle.opfs_turns.specs.Agents.{AgentSeen}
 use Rattle.opfs_kv.specs.Keeping.{Spells}
 use Rattle.opfs_kv.specs.Seen.{KvSeen, Stands, map_in, stored_in}
@@ -99,12 +100,13 @@ pub record HasStored {O : Type 0} (tells : Type 0) (before after : AgentSeen O) 
   pub stored : stored_in after new ≡ stored_in before old ++ texts
   pub are : tells → AreStored (map_in before old) ops replies texts
 
--- One command with its reply.
+-- One command with its reply. The agent's other own rows are as they were.
 pub record IsRun {O : Type 0} (tells : Type 0) (before after : AgentSeen O) (old new : KvSeen) (called : KvOp) (answered : KvReply) : Type 0 where
   pub stands : Stands tells after new
   pub row : new.handle.row ≡ old.handle.row
   pub file : new.handle.file ≡ old.handle.file
   pub goes : GoesOn before after (entries_of called)
+  pub others : LeavesRest tells before after old.handle.row
   pub told : tells → IsReply (map_in before old) called answered
   pub map : tells → map_in after new ≡ after_op (map_in before old) called answered
   pub texts : List Text

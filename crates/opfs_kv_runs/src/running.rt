@@ -2,6 +2,7 @@
 
 ghost use Rattle.std.specs.Prelude.{◌≡◌, ◌≤◌, All, IfOk, OnErr, OnOk, length, sum_by};
 ghost use Rattle.opfs_sync_files.specs.Entries.{GoesOn};
+ghost use Rattle.opfs_sync_files.specs.Resting.{LeavesRest};
 ghost use Rattle.opfs_kv.specs.Seen.{Stands, map_in};
 ghost use Rattle.opfs_kv_runs.specs.Runs.{AreCaused, AreReplies, HasRunRoom, HasStored, IsOp, entries_of, map_after};
 ghost use Rattle.opfs_kv_runs.specs.Stops.{LeavesFronts};
@@ -36,6 +37,7 @@ pub fn kv_run<S: Store, R: Wait>(
     ensures stops { IfOk result (λ replies. S.tells → LeavesFronts agent.old agent.new kv.old ops.now replies.list.items) }
     ensures same { OnOk result ((kv.new.handle.row ≡ kv.old.handle.row) × (kv.new.handle.file ≡ kv.old.handle.file)) }
     ensures caused { IfOk result (λ replies. AreCaused agent.old agent.new ops.now replies.list.items) }
+    ensures others { LeavesRest S.tells agent.old agent.new kv.old.handle.row }
     ensures entries { OnOk result (GoesOn agent.old agent.new (sum_by entries_of ops.now)) }
     ensures err { OnErr result ((agent.new ≡ agent.old) × (kv.new ≡ kv.old)) }
 {

@@ -6,20 +6,16 @@ use Rattle.std.proofs.lemmas.List.Elements.{All-head, All-tail, filter-append}
 use Rattle.opfs_acts.specs.declared.acted.Gift.{Gift}
 use Rattle.opfs_acts.specs.Acting.{told_entry}
 use Rattle.opfs_base.specs.Texts.{Text}
-use Rattle.opfs_beside.proofs.Leaving.{Leaves, leaves-entered, leaves-made, leaves-looked, leaves-self}
 use Rattle.opfs_calls.specs.Locals.{IsMade}
 use Rattle.opfs_calls.proofs.Entered.{list, known-is}
 use Rattle.opfs_hist.specs.declared.entry.Entry.{Entry}
 use Rattle.opfs_hist.specs.declared.op.Op.{Op}
 use Rattle.opfs_hist.specs.declared.reply.Reply.{Reply}
 use Rattle.opfs_histories.specs.Opened.{added}
-use Rattle.opfs_laws.specs.Leaving.{row_used}
 use Rattle.opfs_machine.specs.Runs.{eviction}
-use Rattle.opfs_machine.specs.declared.own.Own.{Own}
 use Rattle.opfs_turns.specs.Agents.{AgentSeen, IsAgent, known}
 use Rattle.opfs_turns.specs.Calls.{call_of, IsEntered, HasLooked, kept_entry}
-use Rattle.opfs_pipe.specs.Streams.{LeavesRest, calls_of, told_in}
-use Rattle.opfs_work.specs.Works.{WorkingCopy}
+use Rattle.opfs_pipe.specs.Streams.{calls_of, told_in}
 
 other-number : (a b : ℕ) → a ≢ b → (a == b) ≡ false
 other-number a b apart = elim (a == b) as (λ t. (a == b) ≡ t → t ≡ false) [ true ↦ λ is. absurd (apart (eqb-true a b is)) | false ↦ λ is. refl ] refl
@@ -105,27 +101,3 @@ module _ {O : Type 0} (tells : Type 0) (a b : AgentSeen O) where
         (joined a.pass.agent (known a) (e ∷ []) ∙ ap (λ xs. own_entries a ++ xs) (one-of a.pass.agent e refl))
         in
         ap (map told_in) own ∙ told-more (own_entries a) e
-
--- ---- other rows
-
-rest-of : {O : Type 0} (tells : Type 0) (a b : AgentSeen O) (n : ℕ) → Leaves tells a b n → LeavesRest tells a b n
-rest-of tells a b n h = record { row = h.row; copy = h.copy }
-
-pub rest-none : {O : Type 0} (tells : Type 0) (a : AgentSeen O) (n : ℕ) → LeavesRest tells a a n
-rest-none tells a n = record { row = λ m r apart is. is; copy = λ m work apart stands. stands }
-
-pub rest-then : {O : Type 0} (tells : Type 0) (a b c : AgentSeen O) (n : ℕ) → LeavesRest tells a b n → LeavesRest tells b c n → LeavesRest tells a c n
-rest-then tells a b c n x y = record {
-  row = λ m r apart is. y.row m r apart (x.row m r apart is);
-  copy = λ m work apart stands. y.copy m work apart (x.copy m work apart stands);
-}
-
-module _ {O : Type 0} (tells : Type 0) (a b : AgentSeen O) (kept : IsAgent tells a) (later : IsAgent tells b) where
-  pub rest-looked : (n : ℕ) → HasLooked a b → LeavesRest tells a b n
-  rest-looked n h = rest-of tells a b n (leaves-looked tells a b kept later n h)
-
-  pub rest-entered : (called : Op) (answered : Reply) (given : Gift) → IsEntered tells a b called answered given → LeavesRest tells a b (row_used called)
-  rest-entered called answered given h = rest-of tells a b (row_used called) (leaves-entered tells a b kept later called answered given h)
-
-  pub rest-made : (called : Op) (answered : Reply) (made : ℕ) → IsMade tells a b called answered made → LeavesRest tells a b (row_used called)
-  rest-made called answered made h = rest-of tells a b (row_used called) (leaves-made tells a b kept later called answered made h)

@@ -31,8 +31,10 @@ use Rattle.opfs_turns.specs.Agents.{AgentSeen, IsAgent, own_row, state_of}
 use Rattle.opfs_turns.specs.Calls.{HasLooked}
 use Rattle.opfs_pipe.specs.Pieces.{slices_of, write_of}
 use Rattle.opfs_pipe.specs.Sides.{Failed, HasWritten, IsLast, IsOn, IsStored, Sliced, Written}
-use Rattle.opfs_pipe.specs.Streams.{LeavesRest, buffer_in, calls_of, offset_in, stream_bytes, stream_offset}
-use Rattle.opfs_pipe.proofs.Calls.{calls-entered, calls-looked, calls-made, rest-entered, rest-looked, rest-made, rest-none, rest-then}
+use Rattle.opfs_sync_files.specs.Resting.{LeavesRest}
+use Rattle.opfs_sync_files.proofs.Resting.{rest-entered, rest-looked, rest-made, rest-none, rest-then}
+use Rattle.opfs_pipe.specs.Streams.{buffer_in, calls_of, offset_in, stream_bytes, stream_offset}
+use Rattle.opfs_pipe.proofs.Calls.{calls-entered, calls-looked, calls-made}
 use Rattle.opfs_sync_files.proofs.Behind.{entered-goes}
 use Rattle.opfs_sync_files.proofs.Served.{made-goes, shared-goes}
 use Rattle.opfs_pipe.proofs.Lists.{concat-one, slices-join, writes-join}

@@ -21,8 +21,9 @@ use Rattle.opfs_pipe.specs.Pieces.{slices_of, write_of}
 use Rattle.opfs_pipe.specs.Pipes.{HasGivenBack, HasPiped}
 use Rattle.opfs_pipe.specs.Rounds.{Moved, MovedPart}
 use Rattle.opfs_pipe.specs.Sides.{Failed, IsLast, IsStored}
-use Rattle.opfs_pipe.specs.Streams.{LeavesRest, StoresLast, calls_of, stream_bytes}
-use Rattle.opfs_pipe.proofs.Calls.{rest-then}
+use Rattle.opfs_sync_files.specs.Resting.{LeavesRest}
+use Rattle.opfs_sync_files.proofs.Resting.{rest-then}
+use Rattle.opfs_pipe.specs.Streams.{StoresLast, calls_of, stream_bytes}
 
 pub if-ok : {T E : Type 0} (r : Result T E) (P Q : T → Type 0) → ((x : T) → P x → Q x) → IfOk r P → IfOk r Q
 if-ok (Ok x) P Q go h = go x h

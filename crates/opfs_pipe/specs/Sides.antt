@@ -10,9 +10,10 @@ use Rattle.opfs_hist.specs.declared.op.Op.TheVariants as op
 use Rattle.opfs_hist.specs.declared.reply.Reply.{Reply}
 use Rattle.opfs_hist.specs.declared.reply.Reply.TheVariants as reply
 use Rattle.opfs_sync_files.specs.Entries.{GoesOn}
+use Rattle.opfs_sync_files.specs.Resting.{LeavesRest}
 use Rattle.opfs_turns.specs.Agents.{AgentSeen}
 use Rattle.opfs_pipe.specs.Pieces.{IsCut, slices_of, write_of}
-use Rattle.opfs_pipe.specs.Streams.{LeavesRest, StoresLast, calls_of, stream_bytes, stream_offset}
+use Rattle.opfs_pipe.specs.Streams.{StoresLast, calls_of, stream_bytes, stream_offset}
 
 -- ---- the reader's side
 

@@ -5,7 +5,6 @@ use Rattle.std.specs.List.{filter}
 use Rattle.opfs_base.specs.Places.{place_of}
 use Rattle.opfs_base.specs.Texts.{Text}
 use Rattle.opfs_calls.specs.Rows.{StreamSeen}
-use Rattle.opfs_copies.specs.Copies.{StandsFor}
 use Rattle.opfs_hist.specs.declared.entry.Entry.{Entry}
 use Rattle.opfs_hist.specs.declared.op.Op.{Op}
 use Rattle.opfs_hist.specs.declared.op.Op.TheVariants as op
@@ -16,7 +15,6 @@ use Rattle.opfs_machine.specs.Histories.{state_after}
 use Rattle.opfs_machine.specs.declared.own.Own.{Own}
 use Rattle.opfs_machine.specs.declared.own.Own.TheVariants as own
 use Rattle.opfs_turns.specs.Agents.{AgentSeen, known, own_row}
-use Rattle.opfs_work.specs.Works.{WorkingCopy}
 
 -- The buffer of an own row that is an open stream, and its offset.
 abbrev pub buffer_in : Option Own → Text
@@ -41,12 +39,6 @@ told_in e = (e.op, e.reply)
 -- The calls of an agent with their answers, in order: those that are entered, as far as it has seen, and those that will be.
 abbrev pub calls_of : {O : Type 0} → AgentSeen O → List (Op × Reply)
 calls_of a = map told_in (filter (λ e. e.agent == a.pass.agent) (known a))
-
--- All own rows of an agent but that of a number are as they were, and what stood for one stands for it still.
-pub record LeavesRest {O : Type 0} (tells : Type 0) (before after : AgentSeen O) (n : ℕ) : Type 0 where
-  pub row : (m : ℕ) (r : Own) → m ≢ n → own_row before m ≡ Some r → own_row after m ≡ Some r
-  pub copy : (m : ℕ) (work : WorkingCopy) → m ≢ n → StandsFor tells before.opening (known before) before.pass.agent m work
-      → StandsFor tells after.opening (known after) after.pass.agent m work
 
 -- The last entry that an agent has seen is its own close of a stream, which stored these bytes as the content of the stream's
 -- file.

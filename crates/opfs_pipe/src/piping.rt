@@ -4,8 +4,9 @@ ghost use Rattle.std.specs.Prelude.{◌≡◌, ◌≤◌, [], length, IfErr, IfO
 ghost use Rattle.opfs_calls.specs.Rows.{HasClosedStream, HasSnapshot, HasStream};
 ghost use Rattle.opfs_splice.specs.Splicing.{window};
 ghost use Rattle.opfs_sync_files.specs.Entries.{GoesOn};
+ghost use Rattle.opfs_sync_files.specs.Resting.{LeavesRest};
 ghost use Rattle.opfs_pipe.specs.Pipes.{HasGivenBack, HasPiped};
-ghost use Rattle.opfs_pipe.specs.Streams.{LeavesRest, StoresLast, stream_bytes, stream_offset};
+ghost use Rattle.opfs_pipe.specs.Streams.{StoresLast, stream_bytes, stream_offset};
 
 use crate::ending::close;
 use crate::moving::move_range;

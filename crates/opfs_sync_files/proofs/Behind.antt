@@ -1,5 +1,5 @@
 -- The file of an access handle behind a shared call.
-use Rattle.std.proofs.Common.{◌≡◌, ◌≢◌, ℕ, ◌+◌, ◌≤◌, Bool, true, false, if◌then◌else◌, All, List, [], ◌∷◌, ◌++◌, append_assoc, append-nil, fold, map, option_map, unwrap_or, Option, Some, None, refl, sym, ap, ◌∙◌, subst, inl, inr, arith}
+use Rattle.std.proofs.Common.{◌≡◌, ◌≢◌, ℕ, Bool, true, false, if◌then◌else◌, All, List, [], ◌∷◌, ◌++◌, append_assoc, append-nil, fold, map, option_map, Option, Some, None, refl, sym, ap, ◌∙◌, subst, inl, inr, arith}
 use Rattle.std.proofs.lemmas.Bool.{false≢true}
 use Rattle.std.proofs.lemmas.List.Elements.{All-cons, All-map, All-nil}
 use Rattle.std.proofs.lemmas.List.Sums.{fold-append}
@@ -8,8 +8,8 @@ use Rattle.opfs_acts.specs.Acting.{told_entry}
 use Rattle.opfs_base.specs.Places.{Place, place_of}
 use Rattle.opfs_base.specs.Texts.{Text}
 use Rattle.opfs_calls.specs.Rows.{HandleSeen, HasHandle}
-use Rattle.opfs_calls.proofs.Entered.{s, t, list, known-is, opening-is, agent-is, accepted-state, refused-state, row-there}
-use Rattle.opfs_calls.proofs.Rowed.{own_agent, entered-moved}
+use Rattle.opfs_calls.proofs.Entered.{s, t, list, known-is, opening-is, accepted-state, refused-state, row-there}
+use Rattle.opfs_calls.proofs.Rowed.{entered-moved}
 use Rattle.opfs_calls.proofs.RowsAfter.{some-same}
 use Rattle.opfs_handles.proofs.Facts.{HandleFacts, facts, row-is}
 use Rattle.opfs_hist.specs.Sums.{asks_for_row}
@@ -29,31 +29,27 @@ use Rattle.opfs_laws.proofs.LocksEffect.{locks-begun}
 use Rattle.opfs_laws.proofs.Spots.{file-changed, place_itself}
 use Rattle.opfs_laws.proofs.Storing.{locks-at}
 use Rattle.opfs_laws.proofs.Wholes.{file-there}
-use Rattle.opfs_machine.specs.declared.own.HandleOutline.{HandleOutline}
 use Rattle.opfs_machine.specs.declared.own.HandleRow.{HandleRow}
 use Rattle.opfs_machine.specs.declared.own.Own.{Own}
 use Rattle.opfs_machine.specs.declared.own.Own.TheVariants as own
-use Rattle.opfs_machine.specs.declared.state.Agent.{Agent}
 use Rattle.opfs_machine.specs.declared.state.FileRow.{FileRow}
 use Rattle.opfs_machine.specs.declared.state.Sizes.{Sizes}
 use Rattle.opfs_machine.specs.declared.state.State.{State}
-use Rattle.opfs_machine.specs.Agents.{agent_of, own_of, of_row, handle_in, open_handle, with_own, counted}
-use Rattle.opfs_machine.specs.Changes.{Change, content, file_stored, handle_stored, stored_by, entry_changes, changes_from, changes}
+use Rattle.opfs_machine.specs.Agents.{agent_of, own_of, of_row, handle_in, open_handle, with_own}
+use Rattle.opfs_machine.specs.Changes.{Change, file_stored, handle_stored, stored_by, entry_changes, changes_from, changes}
 use Rattle.opfs_machine.specs.Contents.{in_bytes, outline_of, moved_row}
-use Rattle.opfs_machine.specs.Effects.{changes_file, cursor_after_read, effect, flushed, flushes, moment_of, refused, with_changed, with_written}
+use Rattle.opfs_machine.specs.Effects.{changes_file, effect, flushed, flushes, moment_of, refused, with_changed, with_written}
 use Rattle.opfs_machine.specs.Histories.{LegalFrom, after_entry, state_after}
 use Rattle.opfs_machine.specs.Openings.{begun}
 use Rattle.opfs_machine.specs.Replies.{bytes_at, bytes_in, sizes_of}
 use Rattle.opfs_machine.specs.Rows.{file_at, with_file}
-use Rattle.opfs_machine.specs.Rulings.{is_read_write, reserve_for, size_written, start_of, want_of}
+use Rattle.opfs_machine.specs.Rulings.{is_read_write, reserve_for, want_of}
 use Rattle.opfs_machine.specs.Runs.{eviction}
 use Rattle.opfs_machine.specs.Steps.{after_reply, evicted, is_refusal}
-use Rattle.opfs_machine.specs.Sums.{reserve_of}
-use Rattle.opfs_splice.specs.Splicing.{resize, splice}
 use Rattle.opfs_steady.specs.Settling.{BytesStay}
 use Rattle.opfs_steady.specs.Steady.{open_bytes, row_bytes}
 use Rattle.opfs_steady.proofs.Others.{bytes-alike}
-use Rattle.opfs_turns.specs.Agents.{AgentSeen, IsAgent, known, state_of, own_row}
+use Rattle.opfs_turns.specs.Agents.{AgentSeen, IsAgent, state_of}
 use Rattle.opfs_turns.specs.Calls.{call_of, before_call, IsEntered}
 use Rattle.opfs_turns.proofs.Others.{Splits, alike-split, pending-for, told-seen, told-stay-before}
 use Rattle.opfs_sync_files.specs.Entries.{IsIn, HasEntry, GoesOn}

@@ -1,5 +1,5 @@
 -- An agent's access handle was open before its local calls.
-use Rattle.std.proofs.Common.{◌≡◌, ℕ, ◌+◌, ◌-◌, min, zero, suc, Bool, true, false, List, [], ◌∷◌, ◌++◌, fold, length, Option, Some, None, slice_set, refl, sym, ap, ◌∙◌, subst, arith}
+use Rattle.std.proofs.Common.{◌≡◌, ℕ, ◌+◌, ◌-◌, min, zero, suc, true, false, List, [], ◌∷◌, ◌++◌, fold, length, Option, Some, None, slice_set, refl, sym, ap, ◌∙◌, subst, arith}
 use Rattle.std.specs.Prelude.{slice_get}
 use Rattle.std.proofs.lemmas.Bool.{false≢true}
 use Rattle.opfs_base.specs.Places.{Place}
@@ -20,7 +20,7 @@ use Rattle.opfs_machine.specs.declared.own.StreamOutline.{StreamOutline}
 use Rattle.opfs_machine.specs.declared.state.Agent.{Agent}
 use Rattle.opfs_machine.specs.declared.state.Sizes.{Sizes}
 use Rattle.opfs_machine.specs.declared.state.State.{State}
-use Rattle.opfs_machine.specs.Agents.{agent_of, own_of, of_row, stream_in, open_handle, open_stream, with_own, adds_own}
+use Rattle.opfs_machine.specs.Agents.{agent_of, own_of, of_row, stream_in, with_own, adds_own}
 use Rattle.opfs_machine.specs.Contents.{in_bytes, outline_of, moved_row, sought_row, truncated_row, written_row}
 use Rattle.opfs_machine.specs.Effects.{aborts_stream, changes_file, closes_handle, closes_stream, cursor_after_read, effect, flushes, refused, with_changed}
 use Rattle.opfs_machine.specs.Histories.{after_op, after_entry}

@@ -4,3 +4,4 @@ pub mod Storing
 pub mod Behind
 pub mod Served
 pub mod Staying
+pub mod Resting

@@ -1,18 +1,17 @@
 -- What each call on an access handle leaves of its file.
-use Rattle.std.proofs.Common.{◌≡◌, ℕ, ◌+◌, ◌≤◌, min, Bool, true, false, List, [], ◌∷◌, ◌++◌, append-nil, length, replicate, unwrap_or, Option, Some, None, Result, Ok, Err, IfOk, IfErr, OnOk, OnErr, refl, sym, ap, ◌∙◌, subst, inl, inr, arith}
-use Rattle.std.proofs.lemmas.Bool.{false≢true}
+use Rattle.std.proofs.Common.{◌≡◌, ℕ, ◌+◌, min, true, false, List, [], ◌∷◌, ◌++◌, append-nil, length, replicate, Option, Some, Result, Ok, Err, IfOk, IfErr, OnOk, OnErr, refl, sym, ap, ◌∙◌, subst, inl, inr, arith}
 use Rattle.std.proofs.lemmas.List.{length-replicate}
 use Rattle.std.proofs.lemmas.List.Sums.{fold-append}
 use Rattle.opfs_acts.specs.declared.acted.Gift.{Gift}
-use Rattle.opfs_base.specs.Places.{Place, place_of}
+use Rattle.opfs_base.specs.Places.{place_of}
 use Rattle.opfs_base.specs.Texts.{Text}
 use Rattle.opfs_calls.specs.Answers.{HasAnswer, Shared}
-use Rattle.opfs_calls.specs.Locals.{HasLocalAnswer, IsMade, Local}
+use Rattle.opfs_calls.specs.Locals.{IsMade, Local}
 use Rattle.opfs_calls.specs.Rows.{HandleSeen, HasHandle}
 use Rattle.opfs_calls.specs.declared.stop.Stop.{Stop}
 use Rattle.opfs_calls.specs.declared.stop.Stop.TheVariants as stop
 use Rattle.opfs_calls.proofs.Answered.{real_answered}
-use Rattle.opfs_calls.proofs.Entered.{s, t}
+use Rattle.opfs_calls.proofs.Entered.{s}
 use Rattle.opfs_calls.proofs.Granted.{granted-answer}
 use Rattle.opfs_calls.proofs.RowsAfter.{some-same}
 use Rattle.opfs_handles.specs.declared.handle.ClosedSync.{ClosedSync}
@@ -26,11 +25,10 @@ use Rattle.opfs_hist.specs.declared.reply.Refusal.TheVariants as refusal
 use Rattle.opfs_hist.specs.declared.reply.Reply.{Reply}
 use Rattle.opfs_hist.specs.declared.reply.Reply.TheVariants as reply
 use Rattle.opfs_histories.specs.Unread.{IsTold, unread}
-use Rattle.opfs_laws.specs.Leaving.{asks_nobody}
+use Rattle.opfs_laws.specs.Leaving.{asks_nobody, row_used}
 use Rattle.opfs_machine.specs.declared.own.HandleOutline.{HandleOutline}
 use Rattle.opfs_machine.specs.declared.own.Own.{Own}
 use Rattle.opfs_machine.specs.declared.own.Own.TheVariants as own
-use Rattle.opfs_machine.specs.declared.state.Sizes.{Sizes}
 use Rattle.opfs_machine.specs.declared.state.State.{State}
 use Rattle.opfs_machine.specs.Agents.{agent_of, own_of, of_row, handle_in, open_handle}
 use Rattle.opfs_machine.specs.Changes.{stored_by, changes}
@@ -38,22 +36,24 @@ use Rattle.opfs_machine.specs.Contents.{in_bytes, outline_of}
 use Rattle.opfs_machine.specs.Effects.{effect}
 use Rattle.opfs_machine.specs.Histories.{after_entry, state_after}
 use Rattle.opfs_machine.specs.Openings.{begun}
-use Rattle.opfs_machine.specs.Replies.{answer, bytes_at, handle_bytes, sizes_in, sizes_of}
+use Rattle.opfs_machine.specs.Replies.{answer, bytes_at, handle_bytes, sizes_of}
 use Rattle.opfs_machine.specs.Ruled.{◌>>=◌, some_or}
-use Rattle.opfs_machine.specs.Rulings.{handle_ruling, ruling, size_written, start_of}
+use Rattle.opfs_machine.specs.Rulings.{handle_ruling, ruling, size_written}
 use Rattle.opfs_machine.specs.Steps.{is_refusal, step}
 use Rattle.opfs_machine.specs.Sums.{no_need}
 use Rattle.opfs_splice.specs.Splicing.{resize, splice, window}
 use Rattle.opfs_steady.specs.Steady.{open_bytes}
 use Rattle.opfs_steady.proofs.Others.{bytes-alike}
-use Rattle.opfs_turns.specs.Agents.{AgentSeen, IsAgent, known, state_of, own_row}
-use Rattle.opfs_turns.specs.Calls.{IsEntered, HasLooked, IsKept, IsLocal, kept_entry}
+use Rattle.opfs_turns.specs.Agents.{AgentSeen, IsAgent, known, state_of}
+use Rattle.opfs_turns.specs.Calls.{IsEntered, HasLooked, kept_entry}
 use Rattle.opfs_turns.proofs.Keeping.{state-after}
 use Rattle.opfs_sync_files.specs.Entries.{IsIn, HasEntry, IsCaused, GoesOn}
 use Rattle.opfs_sync_files.specs.Files.{contents_at, file_bytes, flushed_by, stored_of, written, IsStill}
-use Rattle.opfs_sync_files.proofs.Behind.{u, entered-entry, entered-goes, row-here, file-here, bytes-here, refused-bytes, accepted-bytes, refused-stored, accepted-stored, bytes-of, bytes-before, altered-bytes, flushed-bytes, handle-contents, read-leaves, size-leaves}
+use Rattle.opfs_sync_files.specs.Resting.{LeavesRest}
+use Rattle.opfs_sync_files.proofs.Behind.{u, entered-entry, entered-goes, row-here, file-here, bytes-here, refused-bytes, accepted-bytes, refused-stored, accepted-stored, altered-bytes, flushed-bytes, handle-contents, read-leaves, size-leaves}
 use Rattle.opfs_sync_files.proofs.Holding.{file_held, held, pending-held}
 use Rattle.opfs_sync_files.proofs.Knowing.{in-left, in-right, in-either, in-last, goes-none, goes-most}
+use Rattle.opfs_sync_files.proofs.Resting.{rest-entered, rest-local, rest-shared}
 use Rattle.opfs_sync_files.proofs.Storing.{told-none}
 
 -- ---- bytes in replies
@@ -184,12 +184,15 @@ module _ {O : Type 0} (tells : Type 0) (before after : AgentSeen O) (kept : IsAg
   abbrev IsSame : HandleSeen → HandleSeen → Type 0
   IsSame x y = (y.row ≡ x.row) × (y.file ≡ x.file) × (y.mode ≡ x.mode)
 
-  pub shared-still : {T : Type 0} (called : Op) (Gives : T → Reply → Gift → Type 0) (r : Result T Stop) → asks_for_row called ≡ false → Shared tells before after called Gives r → (x y : HandleSeen) → HasHandle tells after y → IsSame x y
+  pub shared-still : {T : Type 0} (called : Op) (Gives : T → Reply → Gift → Type 0) (r : Result T Stop) → asks_for_row called ≡ false → Shared tells before after called Gives r → (x y : HandleSeen) → row_used called ≡ x.row → HasHandle tells after y → IsSame x y
       → IsStill tells before after x y
-  shared-still called Gives r none h x y has same = record { has = has; row = same.0; file = same.1; mode_is = same.2; goes = shared-goes called Gives r none h }
+  shared-still called Gives r none h x y used has same =
+      record { has = has; row = same.0; file = same.1; mode_is = same.2; goes = shared-goes called Gives r none h; others = subst (LeavesRest tells before after) used (rest-shared tells before after kept later called Gives r h) }
 
-  pub local-still : {T : Type 0} (called : Op) (Gives : T → Reply → Type 0) (r : Result T Stop) → Local tells before after called 0 Gives r → (x y : HandleSeen) → HasHandle tells after y → IsSame x y → IsStill tells before after x y
-  local-still called Gives r h x y has same = record { has = has; row = same.0; file = same.1; mode_is = same.2; goes = local-goes called Gives r h }
+  pub local-still : {T : Type 0} (called : Op) (Gives : T → Reply → Type 0) (r : Result T Stop) → Local tells before after called 0 Gives r → (x y : HandleSeen) → row_used called ≡ x.row → HasHandle tells after y → IsSame x y
+      → IsStill tells before after x y
+  local-still called Gives r h x y used has same =
+      record { has = has; row = same.0; file = same.1; mode_is = same.2; goes = local-goes called Gives r h; others = subst (LeavesRest tells before after) used (rest-local tells before after kept later called Gives r h) }
 
   module _ (x : HandleSeen) (has : HasHandle tells before x) (y : HandleSeen) (same : y.file ≡ x.file) where
     abbrev f : HandleFacts tells (state_of before) has.stands.row x.work x.file x.mode
@@ -461,13 +464,17 @@ module _ {O : Type 0} (tells : Type 0) (before after : AgentSeen O) (kept : IsAg
   close-goes (Ok closed) done back = entered-goes tells before after kept later (op.SyncClose x.row) reply.Done done.given done.entered refl
   close-goes (Err e) done back = shared-goes tells before after kept later (op.SyncClose x.row) IsAnyDone (Err e.1) refl (as-shared tells before after (op.SyncClose x.row) e.1 back.stopped)
 
+  pub close-leaves : (r : Result ClosedSync (HandleSeen × Stop)) → Done r → Back r → LeavesRest tells before after x.row
+  close-leaves (Ok closed) done back = rest-entered tells before after kept later (op.SyncClose x.row) reply.Done done.given done.entered
+  close-leaves (Err e) done back = rest-shared tells before after kept later (op.SyncClose x.row) IsAnyDone (Err e.1) (as-shared tells before after (op.SyncClose x.row) e.1 back.stopped)
+
   pub close-stores : (r : Result ClosedSync (HandleSeen × Stop)) → Done r → IfOk r (λ closed. stored_of after x ≡ stored_of before x ++ flushed_by x.mode (file_bytes before x))
   close-stores (Ok closed) done = close-stored tells before after kept later x has x refl IsAnyDone closed.row done
   close-stores (Err e) done = tt
 
   pub close-still : (r : Result ClosedSync (HandleSeen × Stop)) → Back r → IfErr r (λ back. IsStill tells before after x back.0)
   close-still (Ok closed) back = tt
-  close-still (Err e) back = record { has = back.open_still; row = back.row; file = back.file; mode_is = back.mode; goes = close-goes (Err e) tt back }
+  close-still (Err e) back = record { has = back.open_still; row = back.row; file = back.file; mode_is = back.mode; goes = close-goes (Err e) tt back; others = close-leaves (Err e) tt back }
 
   pub close-same : (r : Result ClosedSync (HandleSeen × Stop)) → Back r → IfErr r (λ back. file_bytes after back.0 ≡ file_bytes before x)
   close-same (Ok closed) back = tt

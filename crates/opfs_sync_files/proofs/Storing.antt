@@ -1,10 +1,9 @@
 -- Only the holder of an access handle stores its file.
-use Rattle.std.proofs.Common.{◌≡◌, ◌≢◌, ◌⊎◌, ℕ, Bool, true, false, if◌then◌else◌, not, ◌&&◌, All, List, [], ◌∷◌, ◌++◌, append_assoc, append-nil, map, fold, Option, Some, None, refl, sym, ap, ◌∙◌, subst, inl, inr}
-use Rattle.std.specs.Ordering.{eq_by_cmp}
+use Rattle.std.proofs.Common.{◌≡◌, ◌≢◌, ◌⊎◌, ℕ, Bool, true, false, if◌then◌else◌, not, ◌&&◌, All, List, [], ◌∷◌, ◌++◌, append_assoc, append-nil, map, Option, Some, None, refl, sym, ap, ◌∙◌, subst, inl, inr}
 use Rattle.std.proofs.lemmas.Grind.{flat_map-append}
 use Rattle.std.proofs.lemmas.List.Elements.{All-cons, All-head, All-tail, All-nil}
 use Rattle.std.proofs.lemmas.List.Sums.{fold-append}
-use Rattle.opfs_base.specs.Places.{Place, place_cmp, place_of, child}
+use Rattle.opfs_base.specs.Places.{Place, place_of, child}
 use Rattle.opfs_base.specs.Texts.{Text}
 use Rattle.opfs_base.specs.Units.{unit_of}
 use Rattle.opfs_hist.specs.declared.entry.Entry.{Entry}

@@ -16,6 +16,7 @@ use Rattle.opfs_machine.specs.Changes.{Change, content, changes}
 use Rattle.opfs_machine.specs.Replies.{bytes_at}
 use Rattle.opfs_turns.specs.Agents.{AgentSeen, state_of}
 use Rattle.opfs_sync_files.specs.Entries.{GoesOn}
+use Rattle.opfs_sync_files.specs.Resting.{LeavesRest}
 
 -- The present bytes of an access handle's file.
 abbrev pub file_bytes : {O : Type 0} → AgentSeen O → HandleSeen → Text
@@ -38,13 +39,15 @@ abbrev pub flushed_by : Mode → Text → List Text
 flushed_by mode.ReadWrite bytes = bytes ∷ []
 flushed_by mode.ReadOnly bytes = []
 
--- An access handle is still open after a call, on the same file, and its agent has at most one entry more.
+-- An access handle is still open after a call, on the same file, and its agent has at most one entry more. The agent's other own
+-- rows are as they were.
 pub record IsStill {O : Type 0} (tells : Type 0) (before after : AgentSeen O) (old new : HandleSeen) : Type 0 where
   pub has : HasHandle tells after new
   pub row : new.row ≡ old.row
   pub file : new.file ≡ old.file
   pub mode_is : new.mode ≡ old.mode
   pub goes : GoesOn before after 1
+  pub others : LeavesRest tells before after old.row
 
 -- A read of so many bytes from a place on is one call: under the turn, or of what the agent has.
 abbrev pub ReadsOnce : {O : Type 0} → Type 0 → AgentSeen O → AgentSeen O → ℕ → ℕ → ℕ → Result Text Stop → Type 0

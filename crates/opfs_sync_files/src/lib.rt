@@ -2,9 +2,11 @@
 #![tactic(auto)]
 
 mod ending;
+mod laws;
 mod reading;
 mod writing;
 
 pub use ending::close;
+pub use laws::a_resting_agent_may_end;
 pub use reading::{read, size};
 pub use writing::{flush, truncate, write};

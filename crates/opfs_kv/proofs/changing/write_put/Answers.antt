@@ -1,4 +1,4 @@
-use Rattle.std.proofs.Common.{◌≡◌, ◌+◌, ◌≤◌, true, refl, sym, ap, subst, ◌∙◌, arith}
+use Rattle.std.proofs.Common.{◌+◌, sym, ap, subst, ◌∙◌, arith}
 use Rattle.opfs_base.specs.Texts.{Text}
 use Rattle.opfs_kv_words.specs.Maps.{with_key}
 use Rattle.opfs_splice.specs.Splicing.{splice}

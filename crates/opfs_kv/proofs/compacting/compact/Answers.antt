@@ -1,4 +1,4 @@
-use Rattle.std.proofs.Common.{◌≡◌, ◌+◌, ◌≤◌, map, ap, ◌∙◌, arith}
+use Rattle.std.proofs.Common.{◌≡◌, map, ap, ◌∙◌, arith}
 use Rattle.opfs_kv_words.specs.Maps.{Map}
 use Rattle.opfs_kv_words.specs.Records.{log_of, put_of}
 use Rattle.opfs_sync_files.specs.Files.{file_bytes}

@@ -1,4 +1,4 @@
-use Rattle.std.proofs.Common.{◌≡◌, ◌≤◌, length, Result, Ok, Err, sym, subst, ◌∙◌, arith}
+use Rattle.std.proofs.Common.{◌∙◌, arith}
 use Rattle.opfs_sync_files.specs.Files.{file_bytes}
 use Rattle.opfs_kv.specs.Packing.{IsAnew, IsAnewFor}
 use Rattle.opfs_kv.specs.Seen.{seen}

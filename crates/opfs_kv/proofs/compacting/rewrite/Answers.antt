@@ -1,4 +1,4 @@
-use Rattle.std.proofs.Common.{◌≡◌, ◌+◌, ◌≤◌, OnOk, map, ap, subst, sym, ◌∙◌, arith, take}
+use Rattle.std.proofs.Common.{◌≡◌, map, ap, subst, sym, ◌∙◌, arith, take}
 use Rattle.opfs_base.specs.Texts.{Text}
 use Rattle.opfs_kv_words.specs.Maps.{Map}
 use Rattle.opfs_kv_words.specs.Records.{log_of, put_of}

@@ -1,4 +1,4 @@
-use Rattle.std.proofs.Common.{◌≡◌, ◌≤◌, false, arith}
+use Rattle.std.proofs.Common.{arith}
 use Rattle.opfs_kv.specs.Seen.{seen}
 use Rattle.opfs_kv.proofs.Rooms.{anew-small}
 use Rattle.opfs_kv.proofs.Serving.{anew-front, anew-serves, still-serves}

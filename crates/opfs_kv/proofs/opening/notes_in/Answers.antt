@@ -1,4 +1,4 @@
-use Rattle.std.proofs.Common.{◌≡◌, ◌≤◌, [], refl, arith}
+use Rattle.std.proofs.Common.{arith}
 use Rattle.opfs_sync_files.specs.Files.{file_bytes}
 use Rattle.opfs_sync_files.proofs.Knowing.{goes-none}
 use Rattle.opfs_kv.proofs.Kept.{opened-keeps}

@@ -1,10 +1,9 @@
-use Rattle.std.proofs.Common.{◌≡◌, ◌+◌, ◌≤◌, length, ap, sym, subst, ◌∙◌, arith}
+use Rattle.std.proofs.Common.{length, ap, sym, subst, ◌∙◌, arith}
 use Rattle.opfs_base.specs.Texts.{Text}
 use Rattle.opfs_sync_files.specs.Files.{file_bytes}
 use Rattle.opfs_kv.specs.Calls.{HasOpenCause}
 use Rattle.opfs_kv.specs.Keeping.{Keeps}
 use Rattle.opfs_kv.specs.declared.notes.Notes.{Notes}
-use Rattle.opfs_kv.specs.declared.stop.KvStop.{KvStop}
 use Rattle.opfs_kv.proofs.Results.{if-err, if-ok}
 use Rattle.opfs_kv.proofs.Rooms.{places-room, room-after}
 use Rattle.opfs_kv.proofs.Scanned.{open-later, reads-most, reads-one, reads-then}

@@ -1,4 +1,4 @@
-use Rattle.std.proofs.Common.{◌≡◌, ◌+◌, ◌*◌, ◌<◌, ◌≤◌, [], length, ap, subst, ◌∙◌, arith}
+use Rattle.std.proofs.Common.{[], length, ap, subst, ◌∙◌, arith}
 use Rattle.opfs_base.specs.Texts.{Text}
 use Rattle.opfs_sync_files.specs.Files.{file_bytes}
 use Rattle.opfs_kv.specs.Opening.{HasScanCause}

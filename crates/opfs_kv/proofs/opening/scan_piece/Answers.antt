@@ -1,10 +1,6 @@
-use Rattle.std.proofs.Common.{◌≡◌, ℕ, ◌+◌, ◌<◌, ◌≤◌, length, min, ap, ◌∙◌, arith}
-use Rattle.opfs_base.specs.Texts.{Text}
-use Rattle.opfs_kv_words.specs.Indexes.{IsFitting}
-use Rattle.opfs_kv_words.specs.Scans.{HasRead, IsPiece}
+use Rattle.std.proofs.Common.{length, ap, ◌∙◌, arith}
 use Rattle.opfs_sync_files.specs.Files.{file_bytes}
-use Rattle.opfs_kv.specs.Opening.{HasEnded, HasScanCause, IsScanned}
-use Rattle.opfs_kv.specs.declared.stop.KvStop.{KvStop}
+use Rattle.opfs_kv.specs.Opening.{HasEnded, HasScanCause}
 use Rattle.opfs_kv.proofs.Results.{if-err}
 use Rattle.opfs_kv.proofs.Scanned.{ends-cause, far-on, piece-is, reads-one, scans-on, window-long}
 use Rattle.opfs_kv.proofs.opening.scan_piece.Goals as goal

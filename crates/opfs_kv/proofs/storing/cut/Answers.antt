@@ -1,4 +1,4 @@
-use Rattle.std.proofs.Common.{◌≤◌, ap, arith, take}
+use Rattle.std.proofs.Common.{ap, arith, take}
 use Rattle.opfs_base.specs.Texts.{Text}
 use Rattle.opfs_kv.specs.Seen.{seen}
 use Rattle.opfs_kv.proofs.Serving.{cut-front, cut-serves, still-serves}

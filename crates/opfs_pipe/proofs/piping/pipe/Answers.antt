@@ -6,7 +6,8 @@ use Rattle.opfs_streams.specs.declared.stream.ClosedStream.{ClosedStream}
 use Rattle.opfs_sync_files.specs.Entries.{GoesOn}
 use Rattle.opfs_pipe.specs.Pipes.{HasGivenBack, HasPiped}
 use Rattle.opfs_pipe.specs.Sides.{Failed, IsStored}
-use Rattle.opfs_pipe.specs.Streams.{LeavesRest, StoresLast, stream_bytes}
+use Rattle.opfs_sync_files.specs.Resting.{LeavesRest}
+use Rattle.opfs_pipe.specs.Streams.{StoresLast, stream_bytes}
 use Rattle.opfs_pipe.proofs.Piped.{if-ok, if-err, if-either, moved-reads, part-back, part-goes, part-reads, piped-calls, piped-closed, piped-content, piped-goes, piped-rest, stopped-back, stopped-goes, stopped-rest}
 use Rattle.opfs_pipe.proofs.piping.pipe.Goals as goal
 

@@ -1,8 +1,11 @@
-use Rattle.opfs_sync_files.proofs.Served.{close-cause, close-goes, close-same, close-still, close-stores, close-unstored}
+use Rattle.opfs_sync_files.proofs.Served.{close-cause, close-goes, close-leaves, close-same, close-still, close-stores, close-unstored}
 use Rattle.opfs_sync_files.proofs.ending.close.Goals as goal
 
 pub returns-clause-goes : goal.returns-clause-goes
 returns-clause-goes g c = close-goes g.S.Store.tells c.args.agent.now c.close_sync-done.new.self c.kept.ensures c.kept-2.ensures c.args.handle c.requires.handle c.close_sync-done.result c.close_sync-done.ensures.closed c.close_sync-done.ensures.back
+
+pub returns-clause-others : goal.returns-clause-others
+returns-clause-others g c = close-leaves g.S.Store.tells c.args.agent.now c.close_sync-done.new.self c.kept.ensures c.kept-2.ensures c.args.handle c.requires.handle c.close_sync-done.result c.close_sync-done.ensures.closed c.close_sync-done.ensures.back
 
 pub returns-clause-stored : goal.returns-clause-stored
 returns-clause-stored g c = close-stores g.S.Store.tells c.args.agent.now c.close_sync-done.new.self c.kept.ensures c.kept-2.ensures c.args.handle c.requires.handle c.close_sync-done.result c.close_sync-done.ensures.closed

@@ -10,7 +10,7 @@ use Rattle.opfs_sync_files.proofs.Served.{shared-cause, shared-still, written-ca
 use Rattle.opfs_sync_files.proofs.writing.write.Goals as goal
 
 pub returns-clause-still : goal.returns-clause-still
-returns-clause-still g c = shared-still g.S.Store.tells c.args.agent.now c.sync_write-done.new.self c.kept.ensures c.kept-2.ensures (op.SyncWrite c.args.handle.now.row c.args.bytes.now (Some c.args.at)) (λ (count : ℕ) (answered : Reply) (given : Gift). answered ≡ reply.Length count) c.sync_write-done.result refl c.sync_write-done.ensures.shared c.args.handle.now c.sync_write-done.new.handle c.sync_write-done.ensures.handle c.sync_write-done.ensures.same
+returns-clause-still g c = shared-still g.S.Store.tells c.args.agent.now c.sync_write-done.new.self c.kept.ensures c.kept-2.ensures (op.SyncWrite c.args.handle.now.row c.args.bytes.now (Some c.args.at)) (λ (count : ℕ) (answered : Reply) (given : Gift). answered ≡ reply.Length count) c.sync_write-done.result refl c.sync_write-done.ensures.shared c.args.handle.now c.sync_write-done.new.handle refl c.sync_write-done.ensures.handle c.sync_write-done.ensures.same
 
 pub returns-clause-wrote : goal.returns-clause-wrote
 returns-clause-wrote g c =

@@ -1,5 +1,7 @@
 use Rattle.std.proofs.Common.{OnErr, OnOk, subst}
 use Rattle.opfs_kv.specs.Seen.{Flushes, KvSeen, Serves, map_in, seen}
+use Rattle.opfs_sync_files.specs.Resting.{LeavesRest}
+use Rattle.opfs_kv.proofs.Flushing.{flushed-rest}
 use Rattle.opfs_kv.proofs.kv.Kv.flush.Goals as goal
 
 pub returns-clause-flushed : goal.returns-clause-flushed
@@ -9,3 +11,7 @@ returns-clause-flushed g c =
 pub returns-clause-left : goal.returns-clause-left
 returns-clause-left g c =
     subst (λ (x : KvSeen). OnErr c.flush_file.result (Serves g.S.Store.tells c.args.agent.now c.flush_file.new.agent x (seen c.flush_file.new.handle c.flush_file.new.notes) 2 (map_in c.args.agent.now x))) c.self.view_is c.flush_file.ensures.left
+
+pub returns-clause-others : goal.returns-clause-others
+returns-clause-others g c = subst (λ (x : KvSeen). LeavesRest g.S.Store.tells c.args.agent.now c.flush_file.new.agent x.handle.row) c.self.view_is
+    (flushed-rest g.S.Store.tells c.args.agent.now c.flush_file.new.agent _ (seen c.flush_file.new.handle c.flush_file.new.notes) 2 _ _ c.flush_file.result c.flush_file.ensures.flushed c.flush_file.ensures.left)

@@ -6,3 +6,9 @@ returns-in-Ok-clause-stands g c = opened-stands g.S.Store.tells c.args.agent.now
 
 pub returns-in-Ok-clause-map : goal.returns-in-Ok-clause-map
 returns-in-Ok-clause-map g c = opened-spells g.S.Store.tells c.args.agent.now c.read_notes.new.agent c.args.sync c.read_notes.new.handle c.in-Ok.notes c.in-Ok.ensures.reads c.in-Ok.ensures.keeps c.in-Ok.ensures.whole
+
+pub returns-in-Ok-clause-others : goal.returns-in-Ok-clause-others
+returns-in-Ok-clause-others g c = c.in-Ok.ensures.reads.others
+
+pub returns-in-Err-clause-others : goal.returns-in-Err-clause-others
+returns-in-Err-clause-others g c = c.in-Err.ensures.reads.others
