@@ -1,6 +1,6 @@
 //! Scripts of one agent over an image: what they tell, and what the image then lists.
 
-use crate::asking::{host_with, new_image, run, tool};
+use opfs_asking::{done, host_with, new_image, run};
 use std::test::Fail;
 
 // The numbers of an image, a script, what it tells, and what the image lists behind it.
@@ -21,8 +21,8 @@ const ROWS: [(&str, &str, &str, &str); 7] = [
         {"do":"close","stream":"v"},
         {"do":"createSyncAccessHandle","file":"f","as":"h"},
         {"do":"getFile","file":"f","as":"s"}]}]}"#,
-        "1.1 getDirectory ok\n1.2 getFileHandle ok\n1.3 createWritable ok\n1.4 createWritable ok\n1.5 createSyncAccessHandle NoModificationAllowedError taken-shared 2\n1.6 write ok\n1.7 write ok\n1.8 close ok\n1.9 createSyncAccessHandle NoModificationAllowedError taken-shared 1\n1.10 getFile ok 3 0\n1.11 close ok\n1.12 createSyncAccessHandle ok\n1.13 getFile ok 4 0\n1.14 discard ok\n1.15 end ok\n0",
-        "key https://a.example best-effort 1\ndir []\nfile [\"f\"] 4 0\n0",
+        "0\n1.1 getDirectory ok\n1.2 getFileHandle ok\n1.3 createWritable ok\n1.4 createWritable ok\n1.5 createSyncAccessHandle NoModificationAllowedError taken-shared 2\n1.6 write ok\n1.7 write ok\n1.8 close ok\n1.9 createSyncAccessHandle NoModificationAllowedError taken-shared 1\n1.10 getFile ok 3 0\n1.11 close ok\n1.12 createSyncAccessHandle ok\n1.13 getFile ok 4 0\n1.14 discard ok\n1.15 end ok\n",
+        "0\nkey https://a.example best-effort 1\ndir []\nfile [\"f\"] 4 0\n",
     ),
     // An open stream keeps the file from an access handle and from removal, and an access handle from a stream.
     (
@@ -36,8 +36,8 @@ const ROWS: [(&str, &str, &str, &str); 7] = [
         {"do":"createSyncAccessHandle","file":"f","as":"h"},
         {"do":"createWritable","file":"f","as":"v"},
         {"do":"close","stream":"w"}]}]}"#,
-        "1.1 getDirectory ok\n1.2 getFileHandle ok\n1.3 createWritable ok\n1.4 createSyncAccessHandle NoModificationAllowedError taken-shared 1\n1.5 removeEntry NoModificationAllowedError taken-shared 1\n1.6 abort ok\n1.7 createSyncAccessHandle ok\n1.8 createWritable NoModificationAllowedError taken-exclusive 0\n1.9 close TypeError\n1.10 discard ok\n1.11 end ok\n0",
-        "key https://a.example best-effort 0\ndir []\nfile [\"f\"] 0 0\n0",
+        "0\n1.1 getDirectory ok\n1.2 getFileHandle ok\n1.3 createWritable ok\n1.4 createSyncAccessHandle NoModificationAllowedError taken-shared 1\n1.5 removeEntry NoModificationAllowedError taken-shared 1\n1.6 abort ok\n1.7 createSyncAccessHandle ok\n1.8 createWritable NoModificationAllowedError taken-exclusive 0\n1.9 close TypeError\n1.10 discard ok\n1.11 end ok\n",
+        "0\nkey https://a.example best-effort 0\ndir []\nfile [\"f\"] 0 0\n",
     ),
     // Each way to grow past the quota of two blocks.
     (
@@ -60,8 +60,8 @@ const ROWS: [(&str, &str, &str, &str); 7] = [
         {"do":"syncWrite","sync":"h","data":"x","at":4096},
         {"do":"syncClose","sync":"h"},
         {"do":"estimate"}]}]}"#,
-        "1.1 getDirectory ok\n1.2 getFileHandle ok\n1.3 createWritable ok\n1.4 write ok\n1.5 write QuotaExceededError 2 1 2\n1.6 truncate QuotaExceededError 2 1 2\n1.7 write QuotaExceededError 2 1 2\n1.8 seek ok\n1.9 write QuotaExceededError 2 1 2\n1.10 close ok\n1.11 createWritable QuotaExceededError 2 2 2\n1.12 createSyncAccessHandle ok\n1.13 syncWrite QuotaExceededError 2 1 2\n1.14 syncTruncate QuotaExceededError 2 2 2\n1.15 syncTruncate ok\n1.16 syncWrite ok 1\n1.17 syncClose ok\n1.18 estimate ok 8192 8192\n1.19 end ok\n0",
-        "key https://a.example best-effort 2\ndir []\nfile [\"f\"] 4097 0\n0",
+        "0\n1.1 getDirectory ok\n1.2 getFileHandle ok\n1.3 createWritable ok\n1.4 write ok\n1.5 write QuotaExceededError 2 1 2\n1.6 truncate QuotaExceededError 2 1 2\n1.7 write QuotaExceededError 2 1 2\n1.8 seek ok\n1.9 write QuotaExceededError 2 1 2\n1.10 close ok\n1.11 createWritable QuotaExceededError 2 2 2\n1.12 createSyncAccessHandle ok\n1.13 syncWrite QuotaExceededError 2 1 2\n1.14 syncTruncate QuotaExceededError 2 2 2\n1.15 syncTruncate ok\n1.16 syncWrite ok 1\n1.17 syncClose ok\n1.18 estimate ok 8192 8192\n1.19 end ok\n",
+        "0\nkey https://a.example best-effort 2\ndir []\nfile [\"f\"] 4097 0\n",
     ),
     // Each way to need more than the four data blocks, with nothing to evict.
     (
@@ -83,8 +83,8 @@ const ROWS: [(&str, &str, &str, &str); 7] = [
         {"do":"write","stream":"v","data":"x","position":12288},
         {"do":"abort","stream":"v"},
         {"do":"getFile","file":"f","as":"s"}]}]}"#,
-        "1.1 getDirectory ok\n1.2 getFileHandle ok\n1.3 createWritable ok\n1.4 write ok\n1.5 close ok\n1.6 createWritable DataFull 3 3 4\n1.7 createSyncAccessHandle ok\n1.8 syncTruncate DataFull 3 2 4\n1.9 syncWrite DataFull 3 3 4\n1.10 syncTruncate ok\n1.11 syncWrite DataFull 4 1 4\n1.12 syncClose ok\n1.13 createWritable ok\n1.14 write ok\n1.15 write DataFull 4 1 4\n1.16 abort ok\n1.17 getFile ok 4096 0\n1.18 end ok\n0",
-        "key https://a.example best-effort 1\ndir []\nfile [\"f\"] 4096 0\n0",
+        "0\n1.1 getDirectory ok\n1.2 getFileHandle ok\n1.3 createWritable ok\n1.4 write ok\n1.5 close ok\n1.6 createWritable DataFull 3 3 4\n1.7 createSyncAccessHandle ok\n1.8 syncTruncate DataFull 3 2 4\n1.9 syncWrite DataFull 3 3 4\n1.10 syncTruncate ok\n1.11 syncWrite DataFull 4 1 4\n1.12 syncClose ok\n1.13 createWritable ok\n1.14 write ok\n1.15 write DataFull 4 1 4\n1.16 abort ok\n1.17 getFile ok 4096 0\n1.18 end ok\n",
+        "0\nkey https://a.example best-effort 1\ndir []\nfile [\"f\"] 4096 0\n",
     ),
     // Buckets of one origin share its quota of two blocks.
     (
@@ -107,8 +107,8 @@ const ROWS: [(&str, &str, &str, &str); 7] = [
         {"do":"estimate"},
         {"do":"removeEntry","dir":"e","name":"b"},
         {"do":"estimate"}]}]}"#,
-        "1.1 getDirectory ok\n1.2 getDirectory ok\n1.3 getFileHandle ok\n1.4 getFileHandle ok\n1.5 createWritable ok\n1.6 write ok\n1.7 createWritable ok\n1.8 write ok\n1.9 write QuotaExceededError 2 1 2\n1.10 close ok\n1.11 close ok\n1.12 persist ok true\n1.13 persisted ok false\n1.14 persisted ok true\n1.15 getDirectory TypeError\n1.16 estimate ok 8192 8192\n1.17 removeEntry ok\n1.18 estimate ok 4096 8192\n1.19 end ok\n0",
-        "key https://a.example best-effort 1\ndir []\nfile [\"a\"] 4096 0\nkey https://a.example#x persistent 0\ndir []\n0",
+        "0\n1.1 getDirectory ok\n1.2 getDirectory ok\n1.3 getFileHandle ok\n1.4 getFileHandle ok\n1.5 createWritable ok\n1.6 write ok\n1.7 createWritable ok\n1.8 write ok\n1.9 write QuotaExceededError 2 1 2\n1.10 close ok\n1.11 close ok\n1.12 persist ok true\n1.13 persisted ok false\n1.14 persisted ok true\n1.15 getDirectory TypeError\n1.16 estimate ok 8192 8192\n1.17 removeEntry ok\n1.18 estimate ok 4096 8192\n1.19 end ok\n",
+        "0\nkey https://a.example best-effort 1\ndir []\nfile [\"a\"] 4096 0\nkey https://a.example#x persistent 0\ndir []\n",
     ),
     // Access handles that only read share a lock of their own.
     (
@@ -129,8 +129,8 @@ const ROWS: [(&str, &str, &str, &str); 7] = [
         {"do":"createSyncAccessHandle","file":"f","as":"h"},
         {"do":"syncClose","sync":"i"},
         {"do":"createWritable","file":"f","as":"v"}]}]}"#,
-        "1.1 getDirectory ok\n1.2 getFileHandle ok\n1.3 createWritable ok\n1.4 write ok\n1.5 close ok\n1.6 createSyncAccessHandle ok\n1.7 createSyncAccessHandle ok\n1.8 createWritable NoModificationAllowedError taken-read-only 2\n1.9 syncWrite NoModificationAllowedError taken-read-only 2\n1.10 syncRead ok 4 61626364\n1.11 syncFlush ok\n1.12 syncClose ok\n1.13 syncTruncate NoModificationAllowedError taken-read-only 1\n1.14 createSyncAccessHandle NoModificationAllowedError taken-read-only 1\n1.15 syncClose ok\n1.16 createWritable ok\n1.17 abort ok\n1.18 end ok\n0",
-        "key https://a.example best-effort 1\ndir []\nfile [\"f\"] 4 0\n0",
+        "0\n1.1 getDirectory ok\n1.2 getFileHandle ok\n1.3 createWritable ok\n1.4 write ok\n1.5 close ok\n1.6 createSyncAccessHandle ok\n1.7 createSyncAccessHandle ok\n1.8 createWritable NoModificationAllowedError taken-read-only 2\n1.9 syncWrite NoModificationAllowedError taken-read-only 2\n1.10 syncRead ok 4 61626364\n1.11 syncFlush ok\n1.12 syncClose ok\n1.13 syncTruncate NoModificationAllowedError taken-read-only 1\n1.14 createSyncAccessHandle NoModificationAllowedError taken-read-only 1\n1.15 syncClose ok\n1.16 createWritable ok\n1.17 abort ok\n1.18 end ok\n",
+        "0\nkey https://a.example best-effort 1\ndir []\nfile [\"f\"] 4 0\n",
     ),
     // Every call once, and some twice.
     (
@@ -174,8 +174,8 @@ const ROWS: [(&str, &str, &str, &str); 7] = [
         {"do":"await","tag":"t"},
         {"do":"getFile","file":"d","as":"s"},
         {"do":"removeEntry","dir":"e","name":"none"}]}]}"#,
-        "1.1 moment ok\n1.2 getDirectory ok\n1.3 getDirectory ok\n1.4 getDirectoryHandle ok\n1.5 getFileHandle ok\n1.6 resolve ok [\"p\",\"note\"]\n1.7 isSameEntry ok true\n1.8 createWritable ok\n1.9 write ok\n1.10 seek ok\n1.11 write ok\n1.12 truncate ok\n1.13 close ok\n1.14 getFile ok 15 1700000000000\n1.15 slice ok 10 2c20776f726c64000021\n1.16 createWritable ok\n1.17 createSyncAccessHandle NoModificationAllowedError taken-shared 1\n1.18 abort ok\n1.19 createSyncAccessHandle ok\n1.20 syncRead ok 5 68656c6c6f\n1.21 syncWrite ok 1\n1.22 syncTruncate ok\n1.23 syncGetSize ok 6\n1.24 syncFlush ok\n1.25 removeEntry NoModificationAllowedError taken-exclusive 0\n1.26 syncClose ok\n1.27 createSyncAccessHandle ok\n1.28 syncRead ok 3 6c6f21\n1.29 syncClose ok\n1.30 values ok\n1.31 next ok directory \"p\"\n1.32 next ok end\n1.33 persist ok true\n1.34 persisted ok true\n1.35 estimate ok 4096 32768\n1.36 post ok\n1.37 await ok\n1.38 getFile Unbound\n1.39 removeEntry NotFoundError\n1.40 end ok\n0",
-        "key https://a.example persistent 1\ndir []\ndir [\"p\"]\nfile [\"p\",\"note\"] 6 1700000000000\nkey https://a.example#drafts best-effort 0\ndir []\n0",
+        "0\n1.1 moment ok\n1.2 getDirectory ok\n1.3 getDirectory ok\n1.4 getDirectoryHandle ok\n1.5 getFileHandle ok\n1.6 resolve ok [\"p\",\"note\"]\n1.7 isSameEntry ok true\n1.8 createWritable ok\n1.9 write ok\n1.10 seek ok\n1.11 write ok\n1.12 truncate ok\n1.13 close ok\n1.14 getFile ok 15 1700000000000\n1.15 slice ok 10 2c20776f726c64000021\n1.16 createWritable ok\n1.17 createSyncAccessHandle NoModificationAllowedError taken-shared 1\n1.18 abort ok\n1.19 createSyncAccessHandle ok\n1.20 syncRead ok 5 68656c6c6f\n1.21 syncWrite ok 1\n1.22 syncTruncate ok\n1.23 syncGetSize ok 6\n1.24 syncFlush ok\n1.25 removeEntry NoModificationAllowedError taken-exclusive 0\n1.26 syncClose ok\n1.27 createSyncAccessHandle ok\n1.28 syncRead ok 3 6c6f21\n1.29 syncClose ok\n1.30 values ok\n1.31 next ok directory \"p\"\n1.32 next ok end\n1.33 persist ok true\n1.34 persisted ok true\n1.35 estimate ok 4096 32768\n1.36 post ok\n1.37 await ok\n1.38 getFile Unbound\n1.39 removeEntry NotFoundError\n1.40 end ok\n",
+        "0\nkey https://a.example persistent 1\ndir []\ndir [\"p\"]\nfile [\"p\",\"note\"] 6 1700000000000\nkey https://a.example#drafts best-effort 0\ndir []\n",
     ),
 ];
 
@@ -183,10 +183,10 @@ const ROWS: [(&str, &str, &str, &str); 7] = [
 fn a_run_tells_and_the_image_lists(rt: HostRuntime) -> Result<(), Fail> {
     let alloc = rt.alloc();
     for (numbers, script, told, listed) in ROWS {
-        let mut host = host_with(alloc, &new_image(alloc, numbers)?, &[], None)?;
+        let mut host = host_with(alloc, &new_image(alloc, numbers)?)?;
         let text = run(&rt, &mut host, script)?;
         assert_eq!(rt; text.as_str(), told);
-        let text = tool(alloc, "list I", &mut host)?;
+        let text = done(alloc, "list I", &mut host)?;
         assert_eq!(rt; text.as_str(), listed);
     }
     Ok(())

@@ -1,11 +1,11 @@
 //! What a crash leaves of a disk, in short.
 
-use crate::asking::{calls, checked, checked_after, content};
+use opfs_asking::{calls, checked, checked_after, content};
 use opfs_memory::MemHost;
 use std::alloc::{AllocError, Global};
 
 /// What `check` tells of an image that holds nothing, and the status.
-pub const NOTHING: &str = "ok 0 0 0 0 0\n0";
+pub const NOTHING: &str = "0\nok 0 0 0 0 0\n";
 
 /// The place of a text in a list, as a digit; `?` where it is not there.
 pub fn mark(text: &str, list: &[&str]) -> &'static str {

@@ -1,20 +1,26 @@
 //! Scripts of one agent that are drawn at random: what a run over an image tells, and what a later run reads there, is
 //! judged by the plain machine.
 
-use crate::asking::{host_with, judged, new_image, run};
+use opfs_asking::{Deck, Draws, host_with, judged, new_image, push_agent, run};
 use std::alloc::{AllocError, Global};
 use std::sync::Wait;
 use std::test::Fail;
 use std::thread::Threads;
 
-// How many scripts are drawn, and how many steps of each.
-const SCRIPTS: u64 = 150;
-
-const DRAWN: u64 = 40;
+// What scripts of one agent are drawn from: its directory, two files, and forty steps.
+const DECK: Deck = Deck {
+    agents: 1,
+    origins: &["https://a.example"],
+    apart: true,
+    front: FRONT,
+    least: 40,
+    more: 1,
+    steps: &STEPS,
+    tail: "]}",
+};
 
 // What each agent begins with.
-const FRONT: &str =
-    r#"{"origin":"https://a.example","grants":["persistent-storage"],"steps":[{"do":"getDirectory","as":"d"}
+const FRONT: &str = r#"","grants":["persistent-storage"],"steps":[{"do":"getDirectory","as":"d"}
 ,{"do":"getFileHandle","dir":"d","name":"a","create":true,"as":"f"}
 ,{"do":"getFileHandle","dir":"d","name":"b","create":true,"as":"g"}"#;
 
@@ -101,23 +107,10 @@ const READER: &str =
 ,{"do":"next","iterator":"i","as":"x"},{"do":"getFile","file":"x","as":"s"},{"do":"slice","snapshot":"s","at":0,"len":65536}
 ,{"do":"next","iterator":"i","as":"x"}]}"#;
 
-// The next number that is drawn behind this one.
-fn next(drawn: u64) -> u64 {
-    drawn
-        .wrapping_mul(6_364_136_223_846_793_005)
-        .wrapping_add(1_442_695_040_888_963_407)
-}
-
 // An agent with steps that are drawn from this number on.
 fn agent_of(alloc: Global, seed: u64) -> Result<String, AllocError> {
-    let mut agent = String::from_str(alloc, FRONT)?;
-    let mut drawn = next(seed);
-    for _ in 0..DRAWN {
-        drawn = next(drawn);
-        agent.push_str("\n,")?;
-        agent.push_str(STEPS[((drawn >> 33) % 64) as usize])?;
-    }
-    agent.push_str("]}")?;
+    let mut agent = String::new(alloc);
+    push_agent(&mut agent, &mut Draws::make(seed), &DECK, 0)?;
     Ok(agent)
 }
 
@@ -141,7 +134,7 @@ fn verdict<R: AllocGlobal + Threads + Wait + Sync>(
 ) -> Result<String, AllocError> {
     let alloc = rt.alloc();
     let agent = agent_of(alloc, seed)?;
-    let mut host = host_with(alloc, image, &[], None)?;
+    let mut host = host_with(alloc, image)?;
     let script = format!(in alloc; "{{\"agents\":[{agent}]}}")?;
     let mut lines = String::new(alloc);
     push_as(
@@ -168,7 +161,7 @@ fn first_wrong<R: AllocGlobal + Threads + Wait + Sync>(
     let image = new_image(rt.alloc(), "48 2 8192")?;
     for number in seed..seed.saturating_add(scripts) {
         let verdict = verdict(rt, &image, number)?;
-        if verdict.as_str() != "yes\n0" {
+        if verdict.as_str() != "0\nyes\n" {
             return Ok(Some(number));
         }
     }

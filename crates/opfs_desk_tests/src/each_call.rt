@@ -6,7 +6,7 @@ use crate::first_close::{EMPTY, STORE, STORED};
 use std::test::Fail;
 
 // The run is not begun, since the image cannot be read.
-const UNREAD: (&str, &str, &str) = ("opfs: host fault\n4", "0", "0");
+const UNREAD: (&str, &str, &str) = ("4\nopfs: host fault\n", "0", "0");
 
 // The close of a stream.
 const CLOSE: Case<'_> = Case {
@@ -17,12 +17,12 @@ const CLOSE: Case<'_> = Case {
     once: &[
         UNREAD,
         (
-            "1.1 getDirectory ok\n1.2 getFileHandle ok\n1.3 createWritable ok\n1.4 write DiskFault\n1.5 close ok\n1.6 end ok\n0",
+            "0\n1.1 getDirectory ok\n1.2 getFileHandle ok\n1.3 createWritable ok\n1.4 write DiskFault\n1.5 close ok\n1.6 end ok\n",
             "2",
             "02",
         ),
         (
-            "1.1 getDirectory ok\n1.2 getFileHandle ok\n1.3 createWritable ok\n1.4 write ok\n1.5 close DiskFault\n1.6 abort ok\n1.7 end ok\n0",
+            "0\n1.1 getDirectory ok\n1.2 getFileHandle ok\n1.3 createWritable ok\n1.4 write ok\n1.5 close DiskFault\n1.6 abort ok\n1.7 end ok\n",
             "2",
             "012",
         ),
@@ -30,12 +30,12 @@ const CLOSE: Case<'_> = Case {
     for_ever: &[
         UNREAD,
         (
-            "1.1 getDirectory ok\n1.2 getFileHandle ok\n1.3 createWritable ok\n1.4 write DiskFault\n1.5 close DiskFault\n1.6 abort ok\n1.7 end ok\nopfs: host fault\n4",
+            "4\n1.1 getDirectory ok\n1.2 getFileHandle ok\n1.3 createWritable ok\n1.4 write DiskFault\n1.5 close DiskFault\n1.6 abort ok\n1.7 end ok\nopfs: host fault\n",
             "0",
             "0",
         ),
         (
-            "1.1 getDirectory ok\n1.2 getFileHandle ok\n1.3 createWritable ok\n1.4 write ok\n1.5 close DiskFault\n1.6 abort ok\n1.7 end ok\nopfs: host fault\n4",
+            "4\n1.1 getDirectory ok\n1.2 getFileHandle ok\n1.3 createWritable ok\n1.4 write ok\n1.5 close DiskFault\n1.6 abort ok\n1.7 end ok\nopfs: host fault\n",
             "01",
             "01",
         ),
@@ -56,24 +56,24 @@ const QUOTA: Case<'_> = Case {
 {"do":"estimate"}]}]}"#,
     states: &[
         NOTHING,
-        "file f8ca02c69621dd84cd1212ebfd7d6cdc9ba6ad658854f29567723531912d1a35 https://a.example [\"f\"]\nok 1 1 1 2 134\n0",
-        "file e3b0c44298fc1c149afbf4c8996fb92427ae41e4649b934ca495991b7852b855 https://a.example [\"f\"]\nok 1 1 1 0 118\n0",
-        "file 2d711642b726b04401627ca9fbac32f5c8530fb1903cc4db02258717921a4881 https://a.example [\"f\"]\nok 1 1 1 1 126\n0",
+        "0\nfile f8ca02c69621dd84cd1212ebfd7d6cdc9ba6ad658854f29567723531912d1a35 https://a.example [\"f\"]\nok 1 1 1 2 134\n",
+        "0\nfile e3b0c44298fc1c149afbf4c8996fb92427ae41e4649b934ca495991b7852b855 https://a.example [\"f\"]\nok 1 1 1 0 118\n",
+        "0\nfile 2d711642b726b04401627ca9fbac32f5c8530fb1903cc4db02258717921a4881 https://a.example [\"f\"]\nok 1 1 1 1 126\n",
     ],
     once: &[
         UNREAD,
         (
-            "1.1 getDirectory ok\n1.2 getFileHandle ok\n1.3 createWritable ok\n1.4 write DiskFault\n1.5 write ok\n1.6 close ok\n1.7 getFile ok 1 0\n1.8 estimate ok 4096 8192\n1.9 end ok\n0",
+            "0\n1.1 getDirectory ok\n1.2 getFileHandle ok\n1.3 createWritable ok\n1.4 write DiskFault\n1.5 write ok\n1.6 close ok\n1.7 getFile ok 1 0\n1.8 estimate ok 4096 8192\n1.9 end ok\n",
             "3",
             "03",
         ),
         (
-            "1.1 getDirectory ok\n1.2 getFileHandle ok\n1.3 createWritable ok\n1.4 write ok\n1.5 write QuotaExceededError 2 1 2\n1.6 close DiskFault\n1.7 getFile ok 0 0\n1.8 estimate ok 8192 8192\n1.9 abort ok\n1.10 end ok\n0",
+            "0\n1.1 getDirectory ok\n1.2 getFileHandle ok\n1.3 createWritable ok\n1.4 write ok\n1.5 write QuotaExceededError 2 1 2\n1.6 close DiskFault\n1.7 getFile ok 0 0\n1.8 estimate ok 8192 8192\n1.9 abort ok\n1.10 end ok\n",
             "2",
             "012",
         ),
         (
-            "1.1 getDirectory ok\n1.2 getFileHandle ok\n1.3 createWritable ok\n1.4 write ok\n1.5 write QuotaExceededError 2 1 2\n1.6 close ok\n1.7 getFile DiskFault\n1.8 estimate ok 8192 8192\n1.9 end ok\n0",
+            "0\n1.1 getDirectory ok\n1.2 getFileHandle ok\n1.3 createWritable ok\n1.4 write ok\n1.5 write QuotaExceededError 2 1 2\n1.6 close ok\n1.7 getFile DiskFault\n1.8 estimate ok 8192 8192\n1.9 end ok\n",
             "1",
             "1",
         ),
@@ -81,17 +81,17 @@ const QUOTA: Case<'_> = Case {
     for_ever: &[
         UNREAD,
         (
-            "1.1 getDirectory ok\n1.2 getFileHandle ok\n1.3 createWritable ok\n1.4 write DiskFault\n1.5 write DiskFault\n1.6 close DiskFault\n1.7 getFile ok 0 0\n1.8 estimate ok 0 8192\n1.9 abort ok\n1.10 end ok\nopfs: host fault\n4",
+            "4\n1.1 getDirectory ok\n1.2 getFileHandle ok\n1.3 createWritable ok\n1.4 write DiskFault\n1.5 write DiskFault\n1.6 close DiskFault\n1.7 getFile ok 0 0\n1.8 estimate ok 0 8192\n1.9 abort ok\n1.10 end ok\nopfs: host fault\n",
             "0",
             "0",
         ),
         (
-            "1.1 getDirectory ok\n1.2 getFileHandle ok\n1.3 createWritable ok\n1.4 write ok\n1.5 write QuotaExceededError 2 1 2\n1.6 close DiskFault\n1.7 getFile ok 0 0\n1.8 estimate ok 8192 8192\n1.9 abort ok\n1.10 end ok\nopfs: host fault\n4",
+            "4\n1.1 getDirectory ok\n1.2 getFileHandle ok\n1.3 createWritable ok\n1.4 write ok\n1.5 write QuotaExceededError 2 1 2\n1.6 close DiskFault\n1.7 getFile ok 0 0\n1.8 estimate ok 8192 8192\n1.9 abort ok\n1.10 end ok\nopfs: host fault\n",
             "01",
             "01",
         ),
         (
-            "1.1 getDirectory ok\n1.2 getFileHandle ok\n1.3 createWritable ok\n1.4 write ok\n1.5 write QuotaExceededError 2 1 2\n1.6 close ok\n1.7 getFile DiskFault\n1.8 estimate ok 8192 8192\n1.9 end ok\n0",
+            "0\n1.1 getDirectory ok\n1.2 getFileHandle ok\n1.3 createWritable ok\n1.4 write ok\n1.5 write QuotaExceededError 2 1 2\n1.6 close ok\n1.7 getFile DiskFault\n1.8 estimate ok 8192 8192\n1.9 end ok\n",
             "1",
             "1",
         ),
@@ -111,28 +111,28 @@ const FLUSH: Case<'_> = Case {
 {"do":"getFile","file":"f","as":"s"}]}]}"#,
     states: &[
         NOTHING,
-        "file fb8e20fc2e4c3f248c60c39bd652f3c1347298bb977b8b4d5903b85055620603 https://a.example [\"f\"]\nok 1 1 1 1 126\n0",
-        "file e3b0c44298fc1c149afbf4c8996fb92427ae41e4649b934ca495991b7852b855 https://a.example [\"f\"]\nok 1 1 1 0 118\n0",
+        "0\nfile fb8e20fc2e4c3f248c60c39bd652f3c1347298bb977b8b4d5903b85055620603 https://a.example [\"f\"]\nok 1 1 1 1 126\n",
+        "0\nfile e3b0c44298fc1c149afbf4c8996fb92427ae41e4649b934ca495991b7852b855 https://a.example [\"f\"]\nok 1 1 1 0 118\n",
     ],
     once: &[
         UNREAD,
         (
-            "1.1 getDirectory ok\n1.2 getFileHandle ok\n1.3 createSyncAccessHandle ok\n1.4 syncWrite DiskFault\n1.5 syncFlush ok\n1.6 syncWrite ok 2\n1.7 getFile ok 2 0\n1.8 discard ok\n1.9 end ok\n0",
+            "0\n1.1 getDirectory ok\n1.2 getFileHandle ok\n1.3 createSyncAccessHandle ok\n1.4 syncWrite DiskFault\n1.5 syncFlush ok\n1.6 syncWrite ok 2\n1.7 getFile ok 2 0\n1.8 discard ok\n1.9 end ok\n",
             "2",
             "02",
         ),
         (
-            "1.1 getDirectory ok\n1.2 getFileHandle ok\n1.3 createSyncAccessHandle ok\n1.4 syncWrite ok 2\n1.5 syncFlush DiskFault\n1.6 syncWrite ok 2\n1.7 getFile ok 4 0\n1.8 discard ok\n1.9 end ok\n0",
+            "0\n1.1 getDirectory ok\n1.2 getFileHandle ok\n1.3 createSyncAccessHandle ok\n1.4 syncWrite ok 2\n1.5 syncFlush DiskFault\n1.6 syncWrite ok 2\n1.7 getFile ok 4 0\n1.8 discard ok\n1.9 end ok\n",
             "2",
             "012",
         ),
         (
-            "1.1 getDirectory ok\n1.2 getFileHandle ok\n1.3 createSyncAccessHandle ok\n1.4 syncWrite ok 2\n1.5 syncFlush ok\n1.6 syncWrite DiskFault\n1.7 getFile ok 2 0\n1.8 discard ok\n1.9 end ok\n0",
+            "0\n1.1 getDirectory ok\n1.2 getFileHandle ok\n1.3 createSyncAccessHandle ok\n1.4 syncWrite ok 2\n1.5 syncFlush ok\n1.6 syncWrite DiskFault\n1.7 getFile ok 2 0\n1.8 discard ok\n1.9 end ok\n",
             "1",
             "1",
         ),
         (
-            "1.1 getDirectory ok\n1.2 getFileHandle ok\n1.3 createSyncAccessHandle ok\n1.4 syncWrite ok 2\n1.5 syncFlush ok\n1.6 syncWrite ok 2\n1.7 getFile DiskFault\n1.8 discard ok\n1.9 end ok\n0",
+            "0\n1.1 getDirectory ok\n1.2 getFileHandle ok\n1.3 createSyncAccessHandle ok\n1.4 syncWrite ok 2\n1.5 syncFlush ok\n1.6 syncWrite ok 2\n1.7 getFile DiskFault\n1.8 discard ok\n1.9 end ok\n",
             "1",
             "1",
         ),
@@ -140,22 +140,22 @@ const FLUSH: Case<'_> = Case {
     for_ever: &[
         UNREAD,
         (
-            "1.1 getDirectory ok\n1.2 getFileHandle ok\n1.3 createSyncAccessHandle ok\n1.4 syncWrite DiskFault\n1.5 syncFlush DiskFault\n1.6 syncWrite DiskFault\n1.7 getFile ok 0 0\n1.8 discard ok\n1.9 end ok\nopfs: host fault\n4",
+            "4\n1.1 getDirectory ok\n1.2 getFileHandle ok\n1.3 createSyncAccessHandle ok\n1.4 syncWrite DiskFault\n1.5 syncFlush DiskFault\n1.6 syncWrite DiskFault\n1.7 getFile ok 0 0\n1.8 discard ok\n1.9 end ok\nopfs: host fault\n",
             "0",
             "0",
         ),
         (
-            "1.1 getDirectory ok\n1.2 getFileHandle ok\n1.3 createSyncAccessHandle ok\n1.4 syncWrite ok 2\n1.5 syncFlush DiskFault\n1.6 syncWrite DiskFault\n1.7 getFile DiskFault\n1.8 discard ok\n1.9 end ok\nopfs: host fault\n4",
+            "4\n1.1 getDirectory ok\n1.2 getFileHandle ok\n1.3 createSyncAccessHandle ok\n1.4 syncWrite ok 2\n1.5 syncFlush DiskFault\n1.6 syncWrite DiskFault\n1.7 getFile DiskFault\n1.8 discard ok\n1.9 end ok\nopfs: host fault\n",
             "01",
             "01",
         ),
         (
-            "1.1 getDirectory ok\n1.2 getFileHandle ok\n1.3 createSyncAccessHandle ok\n1.4 syncWrite ok 2\n1.5 syncFlush ok\n1.6 syncWrite DiskFault\n1.7 getFile DiskFault\n1.8 discard ok\n1.9 end ok\n0",
+            "0\n1.1 getDirectory ok\n1.2 getFileHandle ok\n1.3 createSyncAccessHandle ok\n1.4 syncWrite ok 2\n1.5 syncFlush ok\n1.6 syncWrite DiskFault\n1.7 getFile DiskFault\n1.8 discard ok\n1.9 end ok\n",
             "1",
             "1",
         ),
         (
-            "1.1 getDirectory ok\n1.2 getFileHandle ok\n1.3 createSyncAccessHandle ok\n1.4 syncWrite ok 2\n1.5 syncFlush ok\n1.6 syncWrite ok 2\n1.7 getFile DiskFault\n1.8 discard ok\n1.9 end ok\n0",
+            "0\n1.1 getDirectory ok\n1.2 getFileHandle ok\n1.3 createSyncAccessHandle ok\n1.4 syncWrite ok 2\n1.5 syncFlush ok\n1.6 syncWrite ok 2\n1.7 getFile DiskFault\n1.8 discard ok\n1.9 end ok\n",
             "1",
             "1",
         ),
@@ -184,19 +184,19 @@ const EVICTION: Case<'_> = Case {
 {"do":"write","stream":"w","data":{"fill":65,"count":8192}},
 {"do":"write","stream":"w","data":{"fill":65,"count":8192}}]}]}"#,
     states: &[
-        "file f8ca02c69621dd84cd1212ebfd7d6cdc9ba6ad658854f29567723531912d1a35 https://a.example [\"x\"]\nfile 725bcd6c66d02acf6ebeab9c92410e010ea22e336876256aaf05a211f4ce1902 https://b.example [\"y\"]\nok 2 2 2 3 288\n0",
-        "file 725bcd6c66d02acf6ebeab9c92410e010ea22e336876256aaf05a211f4ce1902 https://b.example [\"y\"]\nfile e3b0c44298fc1c149afbf4c8996fb92427ae41e4649b934ca495991b7852b855 https://c.example [\"z\"]\nok 2 2 2 1 272\n0",
-        "file f8ca02c69621dd84cd1212ebfd7d6cdc9ba6ad658854f29567723531912d1a35 https://a.example [\"x\"]\nfile 725bcd6c66d02acf6ebeab9c92410e010ea22e336876256aaf05a211f4ce1902 https://b.example [\"y\"]\nfile e3b0c44298fc1c149afbf4c8996fb92427ae41e4649b934ca495991b7852b855 https://c.example [\"z\"]\nok 3 3 3 3 406\n0",
+        "0\nfile f8ca02c69621dd84cd1212ebfd7d6cdc9ba6ad658854f29567723531912d1a35 https://a.example [\"x\"]\nfile 725bcd6c66d02acf6ebeab9c92410e010ea22e336876256aaf05a211f4ce1902 https://b.example [\"y\"]\nok 2 2 2 3 288\n",
+        "0\nfile 725bcd6c66d02acf6ebeab9c92410e010ea22e336876256aaf05a211f4ce1902 https://b.example [\"y\"]\nfile e3b0c44298fc1c149afbf4c8996fb92427ae41e4649b934ca495991b7852b855 https://c.example [\"z\"]\nok 2 2 2 1 272\n",
+        "0\nfile f8ca02c69621dd84cd1212ebfd7d6cdc9ba6ad658854f29567723531912d1a35 https://a.example [\"x\"]\nfile 725bcd6c66d02acf6ebeab9c92410e010ea22e336876256aaf05a211f4ce1902 https://b.example [\"y\"]\nfile e3b0c44298fc1c149afbf4c8996fb92427ae41e4649b934ca495991b7852b855 https://c.example [\"z\"]\nok 3 3 3 3 406\n",
     ],
     once: &[
         UNREAD,
         (
-            "1.1 getDirectory ok\n1.2 getFileHandle ok\n1.3 createWritable ok\n1.4 write DiskFault\nevict https://a.example\n1.5 write ok\n1.6 abort ok\n1.7 end ok\n0",
+            "0\n1.1 getDirectory ok\n1.2 getFileHandle ok\n1.3 createWritable ok\n1.4 write DiskFault\nevict https://a.example\n1.5 write ok\n1.6 abort ok\n1.7 end ok\n",
             "1",
             "01",
         ),
         (
-            "1.1 getDirectory ok\n1.2 getFileHandle ok\n1.3 createWritable ok\nevict https://a.example\n1.4 write DiskFault\n1.5 write ok\n1.6 abort ok\n1.7 end ok\n0",
+            "0\n1.1 getDirectory ok\n1.2 getFileHandle ok\n1.3 createWritable ok\nevict https://a.example\n1.4 write DiskFault\n1.5 write ok\n1.6 abort ok\n1.7 end ok\n",
             "1",
             "1",
         ),
@@ -204,12 +204,12 @@ const EVICTION: Case<'_> = Case {
     for_ever: &[
         UNREAD,
         (
-            "1.1 getDirectory ok\n1.2 getFileHandle ok\n1.3 createWritable ok\n1.4 write DiskFault\n1.5 write DiskFault\n1.6 abort ok\n1.7 end ok\nopfs: host fault\n4",
+            "4\n1.1 getDirectory ok\n1.2 getFileHandle ok\n1.3 createWritable ok\n1.4 write DiskFault\n1.5 write DiskFault\n1.6 abort ok\n1.7 end ok\nopfs: host fault\n",
             "01",
             "01",
         ),
         (
-            "1.1 getDirectory ok\n1.2 getFileHandle ok\n1.3 createWritable ok\nevict https://a.example\n1.4 write DiskFault\n1.5 write DiskFault\n1.6 abort ok\n1.7 end ok\n0",
+            "0\n1.1 getDirectory ok\n1.2 getFileHandle ok\n1.3 createWritable ok\nevict https://a.example\n1.4 write DiskFault\n1.5 write DiskFault\n1.6 abort ok\n1.7 end ok\n",
             "1",
             "1",
         ),
@@ -230,24 +230,24 @@ const KEPT_BACK: Case<'_> = Case {
     states: &[
         NOTHING,
         STORED,
-        "ok 1 2 0 0 59\n0",
+        "0\nok 1 2 0 0 59\n",
         EMPTY,
-        "file e3b0c44298fc1c149afbf4c8996fb92427ae41e4649b934ca495991b7852b855 https://a.example [\"note\"]\nok 1 2 1 0 155\n0",
+        "0\nfile e3b0c44298fc1c149afbf4c8996fb92427ae41e4649b934ca495991b7852b855 https://a.example [\"note\"]\nok 1 2 1 0 155\n",
     ],
     once: &[
         UNREAD,
         (
-            "1.1 getDirectory ok\n1.2 getFileHandle ok\n1.3 createWritable ok\n1.4 write DiskFault\n1.5 close ok\n1.6 getDirectoryHandle ok\n1.7 removeEntry ok\n1.8 end ok\n0",
+            "0\n1.1 getDirectory ok\n1.2 getFileHandle ok\n1.3 createWritable ok\n1.4 write DiskFault\n1.5 close ok\n1.6 getDirectoryHandle ok\n1.7 removeEntry ok\n1.8 end ok\n",
             "2",
             "02",
         ),
         (
-            "1.1 getDirectory ok\n1.2 getFileHandle ok\n1.3 createWritable ok\n1.4 write ok\n1.5 close DiskFault\n1.6 getDirectoryHandle ok\n1.7 removeEntry NoModificationAllowedError taken-shared 1\n1.8 abort ok\n1.9 end ok\n0",
+            "0\n1.1 getDirectory ok\n1.2 getFileHandle ok\n1.3 createWritable ok\n1.4 write ok\n1.5 close DiskFault\n1.6 getDirectoryHandle ok\n1.7 removeEntry NoModificationAllowedError taken-shared 1\n1.8 abort ok\n1.9 end ok\n",
             "4",
             "014",
         ),
         (
-            "1.1 getDirectory ok\n1.2 getFileHandle ok\n1.3 createWritable ok\n1.4 write ok\n1.5 close ok\n1.6 getDirectoryHandle ok\n1.7 removeEntry ok\n1.8 end ok\nopfs: host fault\n4",
+            "4\n1.1 getDirectory ok\n1.2 getFileHandle ok\n1.3 createWritable ok\n1.4 write ok\n1.5 close ok\n1.6 getDirectoryHandle ok\n1.7 removeEntry ok\n1.8 end ok\nopfs: host fault\n",
             "12",
             "12",
         ),
@@ -255,22 +255,22 @@ const KEPT_BACK: Case<'_> = Case {
     for_ever: &[
         UNREAD,
         (
-            "1.1 getDirectory ok\n1.2 getFileHandle ok\n1.3 createWritable ok\n1.4 write DiskFault\n1.5 close DiskFault\n1.6 getDirectoryHandle ok\n1.7 removeEntry NoModificationAllowedError taken-shared 1\n1.8 abort ok\n1.9 end ok\nopfs: host fault\n4",
+            "4\n1.1 getDirectory ok\n1.2 getFileHandle ok\n1.3 createWritable ok\n1.4 write DiskFault\n1.5 close DiskFault\n1.6 getDirectoryHandle ok\n1.7 removeEntry NoModificationAllowedError taken-shared 1\n1.8 abort ok\n1.9 end ok\nopfs: host fault\n",
             "0",
             "0",
         ),
         (
-            "1.1 getDirectory ok\n1.2 getFileHandle ok\n1.3 createWritable ok\n1.4 write ok\n1.5 close DiskFault\n1.6 getDirectoryHandle ok\n1.7 removeEntry NoModificationAllowedError taken-shared 1\n1.8 abort ok\n1.9 end ok\nopfs: host fault\n4",
+            "4\n1.1 getDirectory ok\n1.2 getFileHandle ok\n1.3 createWritable ok\n1.4 write ok\n1.5 close DiskFault\n1.6 getDirectoryHandle ok\n1.7 removeEntry NoModificationAllowedError taken-shared 1\n1.8 abort ok\n1.9 end ok\nopfs: host fault\n",
             "0",
             "0",
         ),
         (
-            "1.1 getDirectory ok\n1.2 getFileHandle ok\n1.3 createWritable ok\n1.4 write ok\n1.5 close DiskFault\n1.6 getDirectoryHandle DiskFault\n1.7 removeEntry NoModificationAllowedError taken-shared 1\n1.8 abort ok\n1.9 end ok\nopfs: host fault\n4",
+            "4\n1.1 getDirectory ok\n1.2 getFileHandle ok\n1.3 createWritable ok\n1.4 write ok\n1.5 close DiskFault\n1.6 getDirectoryHandle DiskFault\n1.7 removeEntry NoModificationAllowedError taken-shared 1\n1.8 abort ok\n1.9 end ok\nopfs: host fault\n",
             "01",
             "01",
         ),
         (
-            "1.1 getDirectory ok\n1.2 getFileHandle ok\n1.3 createWritable ok\n1.4 write ok\n1.5 close ok\n1.6 getDirectoryHandle ok\n1.7 removeEntry ok\n1.8 end ok\nopfs: host fault\n4",
+            "4\n1.1 getDirectory ok\n1.2 getFileHandle ok\n1.3 createWritable ok\n1.4 write ok\n1.5 close ok\n1.6 getDirectoryHandle ok\n1.7 removeEntry ok\n1.8 end ok\nopfs: host fault\n",
             "12",
             "12",
         ),

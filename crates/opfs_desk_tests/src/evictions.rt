@@ -1,6 +1,6 @@
 //! Origins that share the data blocks: buckets that are evicted, and bytes that are refused.
 
-use crate::asking::{host_with, new_image, run, tool};
+use opfs_asking::{done, host_with, new_image, run};
 use opfs_memory::MemHost;
 use std::alloc::{AllocError, Global};
 use std::sync::Wait;
@@ -16,7 +16,7 @@ const THREE: [(&str, &str); 3] = [
         {"do":"createWritable","file":"f","as":"w"},
         {"do":"write","stream":"w","data":{"fill":65,"count":8192}},
         {"do":"close","stream":"w"}]}]}"#,
-        "1.1 getDirectory ok\n1.2 getFileHandle ok\n1.3 createWritable ok\n1.4 write ok\n1.5 close ok\n1.6 end ok\n0",
+        "0\n1.1 getDirectory ok\n1.2 getFileHandle ok\n1.3 createWritable ok\n1.4 write ok\n1.5 close ok\n1.6 end ok\n",
     ),
     (
         r#"{"agents":[{"origin":"https://b.example","steps":[{"do":"persist"},
@@ -25,7 +25,7 @@ const THREE: [(&str, &str); 3] = [
         {"do":"createWritable","file":"f","as":"w"},
         {"do":"write","stream":"w","data":{"fill":66,"count":4096}},
         {"do":"close","stream":"w"}],"grants":["persistent-storage"]}]}"#,
-        "1.1 persist ok true\n1.2 getDirectory ok\n1.3 getFileHandle ok\n1.4 createWritable ok\n1.5 write ok\n1.6 close ok\n1.7 end ok\n0",
+        "0\n1.1 persist ok true\n1.2 getDirectory ok\n1.3 getFileHandle ok\n1.4 createWritable ok\n1.5 write ok\n1.6 close ok\n1.7 end ok\n",
     ),
     (
         r#"{"agents":[{"origin":"https://c.example","steps":[{"do":"getDirectory","as":"d"},
@@ -33,22 +33,22 @@ const THREE: [(&str, &str); 3] = [
         {"do":"createWritable","file":"f","as":"w"},
         {"do":"write","stream":"w","data":{"fill":65,"count":8192}},
         {"do":"write","stream":"w","data":{"fill":65,"count":8192}}]}]}"#,
-        "1.1 getDirectory ok\n1.2 getFileHandle ok\n1.3 createWritable ok\nevict https://a.example\n1.4 write ok\n1.5 write DataFull 3 2 4\n1.6 abort ok\n1.7 end ok\n0",
+        "0\n1.1 getDirectory ok\n1.2 getFileHandle ok\n1.3 createWritable ok\nevict https://a.example\n1.4 write ok\n1.5 write DataFull 3 2 4\n1.6 abort ok\n1.7 end ok\n",
     ),
 ];
 
 #[test]
 fn a_bucket_makes_way_for_a_write(rt: HostRuntime) -> Result<(), Fail> {
     let alloc = rt.alloc();
-    let mut host = host_with(alloc, &new_image(alloc, "4 4 4")?, &[], None)?;
+    let mut host = host_with(alloc, &new_image(alloc, "4 4 4")?)?;
     for (script, told) in THREE {
         let text = run(&rt, &mut host, script)?;
         assert_eq!(rt; text.as_str(), told);
     }
-    let listed = tool(alloc, "list I", &mut host)?;
+    let listed = done(alloc, "list I", &mut host)?;
     assert_eq!(rt;
         listed.as_str(),
-        "key https://b.example persistent 1\ndir []\nfile [\"y\"] 4096 0\nkey https://c.example best-effort 0\ndir []\nfile [\"z\"] 0 0\n0"
+        "0\nkey https://b.example persistent 1\ndir []\nfile [\"y\"] 4096 0\nkey https://c.example best-effort 0\ndir []\nfile [\"z\"] 0 0\n"
     );
     Ok(())
 }
@@ -64,8 +64,8 @@ const CASES: [(&[(&str, &str, u64)], &str, &str); 5] = [
             ("https://c.example", "default", 4_096),
             ("https://d.example", "default", 8_192),
         ],
-        "1.4 write ok\n1.5 close ok\n1.6 end ok\n0\n1.4 write ok\n1.5 close ok\n1.6 end ok\n0\n1.4 write ok\n1.5 close ok\n1.6 end ok\n0\nevict https://a.example\n1.4 write ok\n1.5 close ok\n1.6 end ok\n0\n",
-        "key https://b.example best-effort 1\ndir []\nfile [\"f\"] 4096 0\nkey https://c.example best-effort 1\ndir []\nfile [\"f\"] 4096 0\nkey https://d.example best-effort 2\ndir []\nfile [\"f\"] 8192 0\n0",
+        "1.4 write ok\n1.5 close ok\n1.6 end ok\n1.4 write ok\n1.5 close ok\n1.6 end ok\n1.4 write ok\n1.5 close ok\n1.6 end ok\nevict https://a.example\n1.4 write ok\n1.5 close ok\n1.6 end ok\n",
+        "0\nkey https://b.example best-effort 1\ndir []\nfile [\"f\"] 4096 0\nkey https://c.example best-effort 1\ndir []\nfile [\"f\"] 4096 0\nkey https://d.example best-effort 2\ndir []\nfile [\"f\"] 8192 0\n",
     ),
     // One that frees nothing goes with the others.
     (
@@ -75,8 +75,8 @@ const CASES: [(&[(&str, &str, u64)], &str, &str); 5] = [
             ("https://c.example", "default", 4_096),
             ("https://d.example", "default", 12_288),
         ],
-        "1.4 write ok\n1.5 close ok\n1.6 end ok\n0\n1.4 write ok\n1.5 close ok\n1.6 end ok\n0\n1.4 write ok\n1.5 close ok\n1.6 end ok\n0\nevict https://a.example\nevict https://b.example\n1.4 write ok\n1.5 close ok\n1.6 end ok\n0\n",
-        "key https://c.example best-effort 1\ndir []\nfile [\"f\"] 4096 0\nkey https://d.example best-effort 3\ndir []\nfile [\"f\"] 12288 0\n0",
+        "1.4 write ok\n1.5 close ok\n1.6 end ok\n1.4 write ok\n1.5 close ok\n1.6 end ok\n1.4 write ok\n1.5 close ok\n1.6 end ok\nevict https://a.example\nevict https://b.example\n1.4 write ok\n1.5 close ok\n1.6 end ok\n",
+        "0\nkey https://c.example best-effort 1\ndir []\nfile [\"f\"] 4096 0\nkey https://d.example best-effort 3\ndir []\nfile [\"f\"] 12288 0\n",
     ),
     // Buckets of one origin are evicted each by itself.
     (
@@ -86,8 +86,8 @@ const CASES: [(&[(&str, &str, u64)], &str, &str); 5] = [
             ("https://b.example", "default", 8_192),
             ("https://c.example", "default", 4_096),
         ],
-        "1.4 write ok\n1.5 close ok\n1.6 end ok\n0\n1.4 write ok\n1.5 close ok\n1.6 end ok\n0\nevict https://a.example\n1.4 write ok\n1.5 close ok\n1.6 end ok\n0\nevict https://a.example#x\n1.4 write ok\n1.5 close ok\n1.6 end ok\n0\n",
-        "key https://b.example best-effort 2\ndir []\nfile [\"f\"] 8192 0\nkey https://c.example best-effort 1\ndir []\nfile [\"f\"] 4096 0\n0",
+        "1.4 write ok\n1.5 close ok\n1.6 end ok\n1.4 write ok\n1.5 close ok\n1.6 end ok\nevict https://a.example\n1.4 write ok\n1.5 close ok\n1.6 end ok\nevict https://a.example#x\n1.4 write ok\n1.5 close ok\n1.6 end ok\n",
+        "0\nkey https://b.example best-effort 2\ndir []\nfile [\"f\"] 8192 0\nkey https://c.example best-effort 1\ndir []\nfile [\"f\"] 4096 0\n",
     ),
     // No bucket of the origin that asks.
     (
@@ -96,8 +96,8 @@ const CASES: [(&[(&str, &str, u64)], &str, &str); 5] = [
             ("https://b.example", "default", 8_192),
             ("https://a.example", "x", 8_192),
         ],
-        "1.4 write ok\n1.5 close ok\n1.6 end ok\n0\n1.4 write ok\n1.5 close ok\n1.6 end ok\n0\nevict https://b.example\n1.4 write ok\n1.5 close ok\n1.6 end ok\n0\n",
-        "key https://a.example best-effort 1\ndir []\nfile [\"f\"] 4096 0\nkey https://a.example#x best-effort 2\ndir []\nfile [\"f\"] 8192 0\n0",
+        "1.4 write ok\n1.5 close ok\n1.6 end ok\n1.4 write ok\n1.5 close ok\n1.6 end ok\nevict https://b.example\n1.4 write ok\n1.5 close ok\n1.6 end ok\n",
+        "0\nkey https://a.example best-effort 1\ndir []\nfile [\"f\"] 4096 0\nkey https://a.example#x best-effort 2\ndir []\nfile [\"f\"] 8192 0\n",
     ),
     // Nothing is evicted in vain.
     (
@@ -106,13 +106,13 @@ const CASES: [(&[(&str, &str, u64)], &str, &str); 5] = [
             ("https://b.example", "default", 4_096),
             ("https://a.example", "x", 12_288),
         ],
-        "1.4 write ok\n1.5 close ok\n1.6 end ok\n0\n1.4 write ok\n1.5 close ok\n1.6 end ok\n0\n1.4 write DataFull 3 3 4\n1.5 close ok\n1.6 end ok\n0\n",
-        "key https://a.example best-effort 2\ndir []\nfile [\"f\"] 8192 0\nkey https://a.example#x best-effort 0\ndir []\nfile [\"f\"] 0 0\nkey https://b.example best-effort 1\ndir []\nfile [\"f\"] 4096 0\n0",
+        "1.4 write ok\n1.5 close ok\n1.6 end ok\n1.4 write ok\n1.5 close ok\n1.6 end ok\n1.4 write DataFull 3 3 4\n1.5 close ok\n1.6 end ok\n",
+        "0\nkey https://a.example best-effort 2\ndir []\nfile [\"f\"] 8192 0\nkey https://a.example#x best-effort 0\ndir []\nfile [\"f\"] 0 0\nkey https://b.example best-effort 1\ndir []\nfile [\"f\"] 4096 0\n",
     ),
 ];
 
 // What each of these runs begins with.
-const FRONT: &str = "1.1 getDirectory ok\n1.2 getFileHandle ok\n1.3 createWritable ok\n";
+const FRONT: &str = "0\n1.1 getDirectory ok\n1.2 getFileHandle ok\n1.3 createWritable ok\n";
 
 // A script that stores so many bytes in the file `f` of a bucket.
 fn storing(alloc: Global, origin: &str, bucket: &str, count: u64) -> Result<String, AllocError> {
@@ -132,7 +132,6 @@ fn told_by<R: AllocGlobal + Threads + Wait + Sync>(
         let script = storing(rt.alloc(), origin, bucket, *count)?;
         let text = run(rt, host, script.as_str())?;
         told.push_str(text.as_str().strip_prefix(FRONT).unwrap_or("another front"))?;
-        told.push_str("\n")?;
     }
     Ok(told)
 }
@@ -141,10 +140,10 @@ fn told_by<R: AllocGlobal + Threads + Wait + Sync>(
 fn the_front_of_the_candidates_is_evicted(rt: HostRuntime) -> Result<(), Fail> {
     let alloc = rt.alloc();
     for (stores, wanted, listed) in CASES {
-        let mut host = host_with(alloc, &new_image(alloc, "4 4 8")?, &[], None)?;
+        let mut host = host_with(alloc, &new_image(alloc, "4 4 8")?)?;
         let told = told_by(&rt, &mut host, stores)?;
         assert_eq!(rt; told.as_str(), wanted);
-        let text = tool(alloc, "list I", &mut host)?;
+        let text = done(alloc, "list I", &mut host)?;
         assert_eq!(rt; text.as_str(), listed);
     }
     Ok(())

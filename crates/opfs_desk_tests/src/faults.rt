@@ -1,7 +1,7 @@
 //! Runs over an image in which a call of the disk fails, once or for ever, and what they may leave.
 
-use crate::asking::{calls, content, host_with, new_image, run};
 use crate::crashes::{mark_at_end, marks};
+use opfs_asking::{calls, content, host_of, host_with, new_image, run};
 use opfs_memory::MemHost;
 use std::alloc::{AllocError, Global};
 use std::sync::Wait;
@@ -31,7 +31,7 @@ pub fn image_of<R: AllocGlobal + Threads + Wait + Sync>(
     before: &[&str],
 ) -> Result<Vec<u8>, AllocError> {
     let alloc = rt.alloc();
-    let mut host = host_with(alloc, &new_image(alloc, numbers)?, &[], None)?;
+    let mut host = host_with(alloc, &new_image(alloc, numbers)?)?;
     let _ = run(rt, &mut host, r#"{"agents":[]}"#)?;
     for script in before {
         let _ = run(rt, &mut host, script)?;
@@ -113,9 +113,9 @@ fn tried<R: AllocGlobal + Threads + Wait + Sync>(
 ) -> Result<Option<String>, AllocError> {
     let alloc = rt.alloc();
     let mut host = if once {
-        host_with(alloc, image, &[number], None)?
+        host_of(alloc, image, &[number], None)?
     } else {
-        host_with(alloc, image, &[], Some(number.saturating_sub(1)))?
+        host_of(alloc, image, &[], Some(number.saturating_sub(1)))?
     };
     let told = run(rt, &mut host, case.script)?;
     if !has_failed(&host) {

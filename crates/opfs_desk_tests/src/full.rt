@@ -1,7 +1,7 @@
 //! An area that fills: what is refused for want of it, and records that a snapshot replaces.
 
-use crate::asking::{calls, content, host_with, new_image, run};
 use crate::crashes::{NOTHING, push_shown, shown_in_turn};
+use opfs_asking::{calls, content, host_with, new_image, run};
 use opfs_memory::MemHost;
 use std::alloc::{AllocError, Global};
 use std::test::Fail;
@@ -43,7 +43,7 @@ fn script_of(alloc: Global, letters: &str, steps: &str) -> Result<String, AllocE
 
 // What it tells: so many directories that are made, and then these lines.
 fn told_of(alloc: Global, made: u64, lines: &str) -> Result<String, AllocError> {
-    let mut told = String::from_str(alloc, "1.1 getDirectory ok\n")?;
+    let mut told = String::from_str(alloc, "0\n1.1 getDirectory ok\n")?;
     for number in 2..made.saturating_add(2) {
         let line = format!(in alloc; "1.{number} getDirectoryHandle ok\n")?;
         told.push_str(line.as_str())?;
@@ -65,12 +65,12 @@ const GROWN: &str = r#",{"do":"getFileHandle","dir":"d","name":"f","create":true
 {"do":"getFile","file":"f","as":"s"}"#;
 
 const GROWN_TOLD: &str =
-    "1.15 getFileHandle ok\n1.16 createWritable ok\n1.17 write MetaFull 3823 272 4096\n1.18 write ok\n1.19 persist MetaFull 4087 28 4096\n1.20 getDirectory MetaFull 4087 22 4096\n1.21 getFileHandle MetaFull 4087 90 4096\n1.22 getDirectoryHandle MetaFull 4087 31 4096\n1.23 close ok\n1.24 getFile ok 135168 0\n1.25 end ok\n0";
+    "1.15 getFileHandle ok\n1.16 createWritable ok\n1.17 write MetaFull 3823 272 4096\n1.18 write ok\n1.19 persist MetaFull 4087 28 4096\n1.20 getDirectory MetaFull 4087 22 4096\n1.21 getFileHandle MetaFull 4087 90 4096\n1.22 getDirectoryHandle MetaFull 4087 31 4096\n1.23 close ok\n1.24 getFile ok 135168 0\n1.25 end ok\n";
 
 #[test]
 fn what_the_area_has_no_room_for_is_refused(rt: HostRuntime) -> Result<(), Fail> {
     let alloc = rt.alloc();
-    let mut host = host_with(alloc, &new_image(alloc, "64 1 64")?, &[], None)?;
+    let mut host = host_with(alloc, &new_image(alloc, "64 1 64")?)?;
     let script = script_of(alloc, "abcdefghijklm", GROWN)?;
     let told = run(&rt, &mut host, script.as_str())?;
     let wanted = told_of(alloc, 13, GROWN_TOLD)?;
@@ -79,10 +79,10 @@ fn what_the_area_has_no_room_for_is_refused(rt: HostRuntime) -> Result<(), Fail>
 }
 
 // Nothing; the root and fourteen directories.
-const DIRECTORY_STATES: [&str; 2] = [NOTHING, "ok 1 15 0 0 4018\n0"];
+const DIRECTORY_STATES: [&str; 2] = [NOTHING, "0\nok 1 15 0 0 4018\n"];
 
 const EXCHANGED: &str =
-    "1.16 getDirectoryHandle MetaFull 4018 285 4096\n1.17 removeEntry ok\n1.18 getDirectoryHandle ok\n1.19 end ok\n0";
+    "1.16 getDirectoryHandle MetaFull 4018 285 4096\n1.17 removeEntry ok\n1.18 getDirectoryHandle ok\n1.19 end ok\n";
 
 // What the other area then begins with: a gate, a length and the next generation.
 const SNAPSHOT: [u8; 6] = [0xA5, 0xB3, 0x0F, 0, 0, 0x11];
@@ -92,7 +92,7 @@ fn changes_that_the_area_has_no_room_for_become_a_snapshot(rt: HostRuntime) -> R
     let alloc = rt.alloc();
     let old = new_image(alloc, "16 1 8")?;
     let others = vec![in alloc; 0xA5; old.len()]?;
-    let mut host = host_with(alloc, &old, &[], None)?;
+    let mut host = host_with(alloc, &old)?;
     let script = script_of(alloc, "abcdefghijklmnoAo", "")?;
     let told = run(&rt, &mut host, script.as_str())?;
     assert_eq!(rt; told, told_of(alloc, 14, EXCHANGED)?);
@@ -125,7 +125,7 @@ fn storing(alloc: Global) -> Result<String, AllocError> {
 
 // What it tells.
 fn stored(alloc: Global) -> Result<String, AllocError> {
-    let mut told = String::from_str(alloc, "1.1 getDirectory ok\n1.2 getFileHandle ok\n")?;
+    let mut told = String::from_str(alloc, "0\n1.1 getDirectory ok\n1.2 getFileHandle ok\n")?;
     let mut number: u64 = 3;
     for _ in 0..CLOSES {
         for word in ["createWritable", "write", "close"] {
@@ -134,7 +134,7 @@ fn stored(alloc: Global) -> Result<String, AllocError> {
             number = number.saturating_add(1);
         }
     }
-    let line = format!(in alloc; "1.{number} end ok\n0")?;
+    let line = format!(in alloc; "1.{number} end ok\n")?;
     told.push_str(line.as_str())?;
     Ok(told)
 }
@@ -142,7 +142,7 @@ fn stored(alloc: Global) -> Result<String, AllocError> {
 // Nothing; the file with its byte.
 const STORE_STATES: [&str; 2] = [
     NOTHING,
-    "file 559aead08264d5795d3909718cdd05abd49572e84fe55590eef31a88a08fdffd https://a.example [\"f\"]\nok 1 1 1 1 126\n0",
+    "0\nfile 559aead08264d5795d3909718cdd05abd49572e84fe55590eef31a88a08fdffd https://a.example [\"f\"]\nok 1 1 1 1 126\n",
 ];
 
 // What both areas begin with after that: the 63rd close replaces the records of area 0, and the 125th those of area 1.
@@ -165,7 +165,7 @@ fn areas_that_fill_take_turns(rt: HostRuntime) -> Result<(), Fail> {
     let alloc = rt.alloc();
     let old = new_image(alloc, "2 1 8")?;
     let others = vec![in alloc; 0xA5; old.len()]?;
-    let mut host = host_with(alloc, &old, &[], None)?;
+    let mut host = host_with(alloc, &old)?;
     let script = storing(alloc)?;
     let told = run(&rt, &mut host, script.as_str())?;
     assert_eq!(rt; told, stored(alloc)?);

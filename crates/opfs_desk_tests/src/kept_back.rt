@@ -1,8 +1,8 @@
 //! Changes that are kept back: when the disk is called for them, and what a failed close leaves of them.
 
-use crate::asking::{calls, host_with, new_image, run};
 use crate::crashes::{NOTHING, marks, shown_in_turn};
 use crate::first_close::{STORE, STORED, calls_of, content_after};
+use opfs_asking::{calls, host_of, host_with, new_image, run};
 use std::alloc::{AllocError, Global};
 use std::test::Fail;
 
@@ -35,7 +35,7 @@ fn making(alloc: Global, count: u64) -> Result<String, AllocError> {
 
 // What it tells where the calls from this number on fail, and none does where that is 0.
 fn made(alloc: Global, count: u64, failed: u64) -> Result<String, AllocError> {
-    let mut told = String::from_str(alloc, "1.1 getDirectory ok\n")?;
+    let mut told = String::from_str(alloc, "4\n1.1 getDirectory ok\n")?;
     for number in 2..count.saturating_add(2) {
         let reply = if failed != 0 && number >= failed {
             "DiskFault"
@@ -60,10 +60,10 @@ fn the_disk_is_first_called_for_the_64th_change(rt: HostRuntime) -> Result<(), F
         let script = making(alloc, count)?;
         let made_calls = calls_of(&rt, &image, script.as_str())?;
         assert_eq!(rt; made_calls, first.saturating_add(more), "{count}");
-        let mut host = host_with(alloc, &image, &[], Some(first))?;
+        let mut host = host_of(alloc, &image, &[], Some(first))?;
         let told = run(&rt, &mut host, script.as_str())?;
         let mut wanted = made(alloc, count, failed)?;
-        wanted.push_str("opfs: host fault\n4")?;
+        wanted.push_str("opfs: host fault\n")?;
         assert_eq!(rt; told, wanted, "{count}");
     }
     Ok(())
@@ -79,13 +79,13 @@ const STORE_AND_MAKE: &str =
 {"do":"getDirectoryHandle","dir":"d","name":"p","create":true,"as":"p"}]}]}"#;
 
 const STORED_AND_MADE: &str =
-    "1.1 getDirectory ok\n1.2 getFileHandle ok\n1.3 createWritable ok\n1.4 write ok\n1.5 close DiskFault\n1.6 getDirectoryHandle ok\n1.7 abort ok\n1.8 end ok\n0";
+    "0\n1.1 getDirectory ok\n1.2 getFileHandle ok\n1.3 createWritable ok\n1.4 write ok\n1.5 close DiskFault\n1.6 getDirectoryHandle ok\n1.7 abort ok\n1.8 end ok\n";
 
 // Nothing; the file with `hello`; the file without bytes, and the directory.
 const MAKE_STATES: [&str; 3] = [
     NOTHING,
     STORED,
-    "file e3b0c44298fc1c149afbf4c8996fb92427ae41e4649b934ca495991b7852b855 https://a.example [\"note\"]\nok 1 2 1 0 155\n0",
+    "0\nfile e3b0c44298fc1c149afbf4c8996fb92427ae41e4649b934ca495991b7852b855 https://a.example [\"note\"]\nok 1 2 1 0 155\n",
 ];
 
 // Behind how many calls a crash leaves what, for old bytes, new bytes and others, where the last call of the close fails:
@@ -107,7 +107,7 @@ fn a_directory_behind_a_failed_close_settles_first(rt: HostRuntime) -> Result<()
     let new = content_after(&rt, &old, STORE)?;
     let others = vec![in alloc; 0xA5; old.len()]?;
     let first = calls_of(&rt, &old, r#"{"agents":[]}"#)?;
-    let mut host = host_with(alloc, &old, &[first.saturating_add(5)], None)?;
+    let mut host = host_of(alloc, &old, &[first.saturating_add(5)], None)?;
     let told = run(&rt, &mut host, STORE_AND_MAKE)?;
     assert_eq!(rt; told.as_str(), STORED_AND_MADE);
     assert_eq!(rt; calls(&host), first.saturating_add(11));
@@ -137,13 +137,13 @@ const TWO_CLOSES: &str =
 {"do":"getFile","file":"f","as":"s"}]}]}"#;
 
 const CLOSED_TWICE: &str =
-    "1.1 getDirectory ok\n1.2 getFileHandle ok\n1.3 createWritable ok\n1.4 createWritable ok\n1.5 createSyncAccessHandle NoModificationAllowedError taken-shared 2\n1.6 write ok\n1.7 write ok\n1.8 close ok\n1.9 createSyncAccessHandle NoModificationAllowedError taken-shared 1\n1.10 getFile ok 3 0\n1.11 close ok\n1.12 createSyncAccessHandle ok\n1.13 getFile ok 4 0\n1.14 discard ok\n1.15 end ok\n0";
+    "0\n1.1 getDirectory ok\n1.2 getFileHandle ok\n1.3 createWritable ok\n1.4 createWritable ok\n1.5 createSyncAccessHandle NoModificationAllowedError taken-shared 2\n1.6 write ok\n1.7 write ok\n1.8 close ok\n1.9 createSyncAccessHandle NoModificationAllowedError taken-shared 1\n1.10 getFile ok 3 0\n1.11 close ok\n1.12 createSyncAccessHandle ok\n1.13 getFile ok 4 0\n1.14 discard ok\n1.15 end ok\n";
 
 // Nothing; the file with `one`; the file with `two!`.
 const CLOSE_STATES: [&str; 3] = [
     NOTHING,
-    "file 7692c3ad3540bb803c020b3aee66cd8887123234ea0c6e7143c0add73ff431ed https://a.example [\"f\"]\nok 1 1 1 1 126\n0",
-    "file a97b629a5b1da759586c3353a9bc284bf673970d8eca56e11e556b715c329614 https://a.example [\"f\"]\nok 1 1 1 1 126\n0",
+    "0\nfile 7692c3ad3540bb803c020b3aee66cd8887123234ea0c6e7143c0add73ff431ed https://a.example [\"f\"]\nok 1 1 1 1 126\n",
+    "0\nfile a97b629a5b1da759586c3353a9bc284bf673970d8eca56e11e556b715c329614 https://a.example [\"f\"]\nok 1 1 1 1 126\n",
 ];
 
 #[test]
@@ -152,7 +152,7 @@ fn each_of_two_closes_is_shown(rt: HostRuntime) -> Result<(), Fail> {
     let old = new_image(alloc, "4 1 8")?;
     let new = content_after(&rt, &old, TWO_CLOSES)?;
     let others = vec![in alloc; 0xA5; old.len()]?;
-    let mut host = host_with(alloc, &old, &[], None)?;
+    let mut host = host_with(alloc, &old)?;
     let told = run(&rt, &mut host, TWO_CLOSES)?;
     assert_eq!(rt; told.as_str(), CLOSED_TWICE);
     for choice in [old.as_slice(), new.as_slice(), others.as_slice()] {

@@ -3,8 +3,6 @@
 #![tactic(auto)]
 
 #[cfg(test)]
-mod asking;
-#[cfg(test)]
 mod calls;
 #[cfg(test)]
 mod crashes;
@@ -16,6 +14,8 @@ mod each_call;
 mod evictions;
 #[cfg(test)]
 mod faults;
+#[cfg(test)]
+mod filling;
 #[cfg(test)]
 mod first_close;
 #[cfg(test)]

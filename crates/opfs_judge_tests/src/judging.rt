@@ -1,12 +1,27 @@
 //! Verdicts on drawn transcripts, and on those with a line changed.
 
-use crate::altering::{CHANGES, altered, lines_of};
-use crate::drawing::{Draws, script_text};
 use crate::replaying::{is_printed, played};
+use opfs_asking::{CHANGES, Deck, Draws, FEW_NAMES, altered, lines_of, script_of};
 use opfs_judge::{Verdict, judge};
 use opfs_script::{Script, read_script};
 use std::alloc::{AllocError, Global};
 use std::test::Fail;
+
+// One to eight agents of three origins.
+const DECK: Deck = Deck {
+    agents: 8,
+    origins: &[
+        "https://a.example",
+        "https://b.example",
+        "https://c.example",
+    ],
+    apart: false,
+    front: r#"","steps":[{"do":"getDirectory","as":"d"}"#,
+    least: 0,
+    more: 24,
+    steps: &FEW_NAMES,
+    tail: "]}",
+};
 
 // How often the judge said yes and no, and how often a replay says otherwise.
 #[derive(Clone, Copy, Debug, PartialEq, Eq)]
@@ -50,8 +65,8 @@ fn look_at(alloc: Global, script: &Script, seed: u64, seen: &mut Seen) -> Result
 }
 
 // The script of a seed.
-fn script_of(alloc: Global, seed: u64) -> Result<Script, AllocError> {
-    let text = script_text(alloc, seed)?;
+fn script_at(alloc: Global, seed: u64) -> Result<Script, AllocError> {
+    let text = script_of(alloc, seed, &DECK)?;
     match read_script(alloc, text.as_bytes()) {
         Ok(script) => Ok(script),
         Err(_) => Err(AllocError),
@@ -66,7 +81,7 @@ fn seen_of(alloc: Global, count: u64) -> Result<Seen, AllocError> {
         apart: 0,
     };
     for seed in 0..count {
-        let script = script_of(alloc, seed)?;
+        let script = script_at(alloc, seed)?;
         look_at(alloc, &script, seed, &mut seen)?;
     }
     Ok(seen)

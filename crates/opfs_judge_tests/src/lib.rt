@@ -2,10 +2,6 @@
 #![tactic(auto)]
 
 #[cfg(test)]
-mod altering;
-#[cfg(test)]
-mod drawing;
-#[cfg(test)]
 mod judging;
 #[cfg(test)]
 mod replaying;

@@ -1,7 +1,6 @@
 //! What scripts print when their agents run in an order: a second way to tell whether a text is a transcript.
 
-use crate::altering::lines_of;
-use crate::drawing::Draws;
+use opfs_asking::{Draws, lines_of};
 use opfs_hist::{Entry, Op};
 use opfs_plain::Plain;
 use opfs_print::line;

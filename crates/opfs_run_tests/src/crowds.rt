@@ -1,7 +1,6 @@
 //! Many agents over one image: each one's lines are complete, in order, and those of its script alone.
 
-use crate::asking::{formatted, judged, lines_with, ran_over};
-use opfs_top::OpenGate;
+use opfs_asking::{judged, lines_with, new_image, run_over};
 use std::alloc::{AllocError, Global};
 use std::sync::Wait;
 use std::test::Fail;
@@ -159,9 +158,9 @@ fn printed<R: AllocGlobal + Threads + Wait + Sync>(
     rt: &R,
     crowd: &Crowd,
 ) -> Result<String, AllocError> {
-    let image = formatted(rt.alloc(), ["512", "16", "8192"])?;
+    let image = new_image(rt.alloc(), "512 16 8192")?;
     let script = script_of(rt.alloc(), crowd)?;
-    ran_over(rt, image, &OpenGate, script.as_str())
+    run_over(rt, &image, script.as_str())
 }
 
 const CROWDS: [Crowd; 6] = [

@@ -1,8 +1,7 @@
 //! Images with some bytes changed: a run is refused as `list` is, and leaves the image as it was.
 
-use crate::asking::{bytes_of, done, formatted, host_of, image_of, ran};
+use opfs_asking::{content, done, host_with, new_image, run, run_over};
 use opfs_memory::MemHost;
-use opfs_top::OpenGate;
 use std::alloc::{AllocError, Global};
 use std::sync::Wait;
 use std::test::Fail;
@@ -85,20 +84,11 @@ fn patch(image: &mut Vec<u8>, patch: &Patch) {
 
 // A host with such an image.
 fn patched(alloc: Global, patches: &[Patch]) -> Result<MemHost, AllocError> {
-    let mut image = formatted(alloc, ["16", "4", "8"])?;
+    let mut image = new_image(alloc, "16 4 8")?;
     for one in patches {
         patch(&mut image, one);
     }
-    host_of(alloc, image, &[], None)
-}
-
-// What a run is told over such an image.
-fn told<R: AllocGlobal + Threads + Wait + Sync>(
-    rt: &R,
-    host: &mut MemHost,
-) -> Result<String, AllocError> {
-    let input = bytes_of(rt.alloc(), STORE)?;
-    ran(rt, &["run", "I"], host, &OpenGate, input)
+    host_with(alloc, &image)
 }
 
 // Whether an image is refused, by a run and then by `list`, and is still as it was.
@@ -109,11 +99,10 @@ fn stays<R: AllocGlobal + Threads + Wait + Sync>(
 ) -> Result<bool, AllocError> {
     let alloc = rt.alloc();
     let mut host = patched(alloc, patches)?;
-    let listed = done(alloc, &["list", "I"], &mut host)?;
-    let before = image_of(alloc, &host)?;
-    let text = told(rt, &mut host)?;
-    let after = image_of(alloc, &host)?;
-    let same = before.as_slice() == after.as_slice();
+    let listed = done(alloc, "list I", &mut host)?;
+    let before = content(&host).to_vec(alloc)?;
+    let text = run(rt, &mut host, STORE)?;
+    let same = before.as_slice() == content(&host);
     let refused = wanted.starts_with("3\n");
     let fine = if refused {
         same && listed.as_str() == wanted
@@ -140,10 +129,9 @@ fn told_of_cut<R: AllocGlobal + Threads + Wait + Sync>(
     length: usize,
 ) -> Result<String, AllocError> {
     let alloc = rt.alloc();
-    let mut image = formatted(alloc, ["1", "1", "1"])?;
+    let mut image = new_image(alloc, "1 1 1")?;
     image.truncate(length);
-    let mut host = host_of(alloc, image, &[], None)?;
-    told(rt, &mut host)
+    run_over(rt, &image, STORE)
 }
 
 #[test]
@@ -164,14 +152,13 @@ fn a_cut_image_is_refused(rt: HostRuntime) -> Result<(), Fail> {
 #[test]
 fn an_image_may_hold_more_than_an_area_can(rt: HostRuntime) -> Result<(), Fail> {
     let alloc = rt.alloc();
-    let mut image = formatted(alloc, ["600", "1", "600"])?;
+    let mut image = new_image(alloc, "600 1 600")?;
     patch(&mut image, &(4_096, NEW));
     patch(
         &mut image,
         &(4_219, b"\0\x80\x25\0\0\0\0\0\x01\0\0\0\0\0\0\0\x58\x02\0\0"),
     );
-    let mut host = host_of(alloc, image, &[], None)?;
-    let text = told(&rt, &mut host)?;
+    let text = run_over(&rt, &image, STORE)?;
     assert_eq!(rt;
         text.as_str(),
         "3\nopfs: image refused: Overfull 4924 4096\n"

@@ -1,8 +1,7 @@
-//! Runs in which one call of the disk fails, once or from then on.
+//! Runs in which one call of the disk fails.
 
-use crate::asking::{bytes_of, checked, formatted, host_of, image_of, ran};
+use opfs_asking::{checked, content, host_of, new_image, run};
 use opfs_memory::MemHost;
-use opfs_top::OpenGate;
 use std::alloc::{AllocError, Global};
 use std::sync::Wait;
 use std::test::Fail;
@@ -35,9 +34,6 @@ const NOT_CLOSED: &str =
 const NOT_READ: &str =
     "0\n1.1 getDirectory ok\n1.2 getFileHandle ok\n1.3 createWritable ok\n1.4 write ok\n1.5 close ok\n1.6 getFile DiskFault\n1.7 end ok\n";
 
-const NEVER_CLOSED: &str =
-    "4\n1.1 getDirectory ok\n1.2 getFileHandle ok\n1.3 createWritable ok\n1.4 write ok\n1.5 close DiskFault\n1.6 getFile ok 0 0\n1.7 abort ok\n1.8 end ok\nopfs: host fault\n";
-
 // What `check` tells of an image without files, of one with an empty file, and of one with `hello` in it.
 const NOTHING: &str = "0\nok 0 0 0 0 0\n";
 
@@ -61,17 +57,15 @@ fn end_of<R: AllocGlobal + Threads + Wait + Sync>(
     rt: &R,
     host: &mut MemHost,
 ) -> Result<(String, String), AllocError> {
-    let alloc = rt.alloc();
-    let input = bytes_of(alloc, SCRIPT)?;
-    let text = ran(rt, &["run", "I"], host, &OpenGate, input)?;
-    let told = checked(alloc, image_of(alloc, host)?)?;
+    let text = run(rt, host, SCRIPT)?;
+    let told = checked(rt.alloc(), content(host))?;
     Ok((text, told))
 }
 
 // Which of the ends the run comes to where a call fails once; 5 where it is none of them.
 fn end_at<R: AllocGlobal + Threads + Wait + Sync>(rt: &R, call: u64) -> Result<usize, AllocError> {
     let alloc = rt.alloc();
-    let mut host = host_of(alloc, formatted(alloc, ["16", "4", "8"])?, &[call], None)?;
+    let mut host = host_of(alloc, &new_image(alloc, "16 4 8")?, &[call], None)?;
     let (text, told) = end_of(rt, &mut host)?;
     let found = ENDS
         .iter()
@@ -102,37 +96,5 @@ fn a_call_that_fails_is_told_where_it_was_made(rt: HostRuntime) -> Result<(), Fa
     assert!(rt; none > 0 && all > 0);
     assert_eq!(rt; (write, close), (1, 4));
     assert!(rt; read < 2);
-    Ok(())
-}
-
-// The number of the call that makes the close last, from 1: its gate; 0 where there is none.
-fn gate_of<R: AllocGlobal + Threads + Wait + Sync>(rt: &R) -> Result<u64, AllocError> {
-    for call in 1..CALLS {
-        if end_at(rt, call)? == 2 {
-            return Ok(call.saturating_add(2));
-        }
-    }
-    Ok(0)
-}
-
-// Whether a run whose calls all fail from the close's gate on tells so, and leaves nothing or all.
-fn fails_for_good<R: AllocGlobal + Threads + Wait + Sync>(
-    rt: &R,
-    gate: u64,
-) -> Result<bool, AllocError> {
-    let alloc = rt.alloc();
-    let image = formatted(alloc, ["16", "4", "8"])?;
-    let mut host = host_of(alloc, image, &[], Some(gate.saturating_sub(1)))?;
-    let (text, told) = end_of(rt, &mut host)?;
-    let left = told.as_str() == NOTHING || told.as_str() == HELLO;
-    Ok(text.as_str() == NEVER_CLOSED && left)
-}
-
-#[test]
-fn a_gate_that_fails_for_good_leaves_nothing_or_all(rt: HostRuntime) -> Result<(), Fail> {
-    let gate = gate_of(&rt)?;
-    assert!(rt; gate > 0);
-    let fine = fails_for_good(&rt, gate)?;
-    assert!(rt; fine);
     Ok(())
 }

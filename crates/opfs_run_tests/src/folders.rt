@@ -1,10 +1,10 @@
 //! Runs over images that are files of a folder.
 
-use crate::asking::{bytes_of, checked, done, ran};
-use crate::gates::Signal;
+use crate::gates::{Late, Signal};
+use opfs_asking::{Ask, asked, bytes_of, checked, done, first_other};
 use opfs_files::DirHost;
+use opfs_memory::MemSource;
 use opfs_outside::{Gate, Host};
-use opfs_top::OpenGate;
 use std::alloc::AllocError;
 use std::fs::{self, File, Files};
 use std::sync::Wait;
@@ -41,7 +41,7 @@ fn is_stored<R: Files<File = File> + AllocGlobal>(rt: &R) -> bool {
     let Ok(image) = fs::read(rt, SEEN) else {
         return false;
     };
-    match checked(rt.alloc(), image) {
+    match checked(rt.alloc(), &image) {
         Ok(text) => text.as_str() == CHECKED,
         Err(_) => false,
     }
@@ -72,8 +72,11 @@ fn ran_anew<R: AllocGlobal + Threads + Wait + Sync, H: Host, G: Gate>(
     gate: &G,
 ) -> Result<String, AllocError> {
     let alloc = rt.alloc();
-    let _ = done(alloc, &["format", path, "16", "4", "8"], host)?;
-    ran(rt, &["run", path], host, gate, bytes_of(alloc, SCRIPT)?)
+    let command = format!(in alloc; "format {path} 16 4 8")?;
+    let _ = done(alloc, command.as_str(), host)?;
+    let command = format!(in alloc; "run {path}")?;
+    let source = MemSource::make(bytes_of(alloc, SCRIPT)?, Vec::new(alloc));
+    asked(rt, command.as_str(), host, gate, source, 65_536)
 }
 
 #[test]
@@ -96,41 +99,43 @@ fn a_close_stands_in_the_file_while_the_agents_run(rt: HostRuntime) -> Result<()
     Ok(())
 }
 
-// How a run and `list` end over a host at a path whose file is out, or is not there.
-fn are_refused<R: AllocGlobal + Threads + Wait + Sync, H: Host>(
-    rt: &R,
-    host: &mut H,
-    path: &str,
-) -> Result<bool, AllocError> {
-    let alloc = rt.alloc();
-    let input = bytes_of(alloc, SCRIPT)?;
-    let text = ran(rt, &["run", path], host, &OpenGate, input)?;
-    let listed = done(alloc, &["list", path], host)?;
-    Ok(text.as_str() == "4\nopfs: host fault\n" && listed.as_str() == "4\nopfs: host fault\n")
-}
+// Over a host at a path whose file is out, or is not there.
+const SHARED_IS_OUT: [Ask; 2] = [
+    ("run opfs_run_shared.image", SCRIPT, "4\nopfs: host fault\n"),
+    ("list opfs_run_shared.image", "", "4\nopfs: host fault\n"),
+];
 
-// How `check` ends over a host.
-fn check_of<H: Host>(
-    alloc: std::alloc::Global,
-    host: &mut H,
-    path: &str,
-) -> Result<String, AllocError> {
-    done(alloc, &["check", path], host)
-}
+const NOWHERE: [Ask; 2] = [
+    (
+        "run opfs_run_nowhere/image",
+        SCRIPT,
+        "4\nopfs: host fault\n",
+    ),
+    ("list opfs_run_nowhere/image", "", "4\nopfs: host fault\n"),
+];
+
+// The same where another host has it.
+const SHARED_IS_THERE: [Ask; 1] = [("check opfs_run_shared.image", "", CHECKED)];
 
 #[test]
 fn an_image_serves_one_run_at_a_time(rt: HostRuntime) -> Result<(), Fail> {
     let mut first = DirHost::make(&rt);
     let mut second = DirHost::make(&rt);
-    let text = ran_anew(&rt, &mut first, SHARED, &OpenGate)?;
+    let open = Late {
+        before: &[],
+        after: &[],
+    };
+    let text = ran_anew(&rt, &mut first, SHARED, &open)?;
     assert!(rt; text.as_str().starts_with("0\n"), "{text}");
     let out = first.fetch(SHARED, None)?;
-    assert!(rt; are_refused(&rt, &mut second, SHARED)?);
+    assert_eq!(rt; first_other(&rt, &mut second, &SHARED_IS_OUT)?.as_str(), "");
     first.give_back(SHARED, out)?;
-    let told = check_of(rt.alloc(), &mut second, SHARED)?;
-    assert_eq!(rt; told.as_str(), CHECKED);
+    assert_eq!(rt;
+        first_other(&rt, &mut second, &SHARED_IS_THERE)?.as_str(),
+        ""
+    );
     fs::remove_file(&rt, SHARED)?;
-    assert!(rt; are_refused(&rt, &mut second, SHARED)?);
-    assert!(rt; are_refused(&rt, &mut first, "opfs_run_nowhere/image")?);
+    assert_eq!(rt; first_other(&rt, &mut second, &SHARED_IS_OUT)?.as_str(), "");
+    assert_eq!(rt; first_other(&rt, &mut first, &NOWHERE)?.as_str(), "");
     Ok(())
 }

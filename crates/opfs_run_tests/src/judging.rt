@@ -1,9 +1,10 @@
 //! What `try` and `run` print for drawn scripts is judged, as it is and with a line changed.
 
-use crate::altering::{CHANGES, altered, is_still, lines_of};
-use crate::asking::{bytes_of, formatted, host_of, judged, ran, ran_over};
-use crate::drawing::{Draws, script_text};
-use opfs_top::OpenGate;
+use crate::altering::is_still;
+use opfs_asking::{
+    CHANGES, Deck, Draws, FEW_NAMES, altered, judged, lines_of, new_image, run_over, script_of,
+    tried,
+};
 use std::alloc::AllocError;
 use std::sync::Wait;
 use std::test::Fail;
@@ -11,6 +12,38 @@ use std::thread::Threads;
 
 // How many scripts are drawn at once.
 const SCRIPTS: u64 = 25;
+
+// Agents of as many origins, and of one.
+const APART: Deck = Deck {
+    agents: 8,
+    origins: &[
+        "https://a.example",
+        "https://b.example",
+        "https://c.example",
+        "http://a.example",
+        "https://a.example:8080",
+        "https://www.a.example",
+        "http://localhost",
+        "data:,x",
+    ],
+    apart: true,
+    front: r#"","steps":[{"do":"getDirectory","as":"d"}"#,
+    least: 0,
+    more: 24,
+    steps: &FEW_NAMES,
+    tail: "]}",
+};
+
+const TOGETHER: Deck = Deck {
+    agents: 8,
+    origins: &["https://a.example"],
+    apart: false,
+    front: r#"","steps":[{"do":"getDirectory","as":"d"}"#,
+    least: 0,
+    more: 24,
+    steps: &FEW_NAMES,
+    tail: "]}",
+};
 
 // How often a text was judged to be a transcript, and not to be one, and how often otherwise than it is to be.
 #[derive(Drop)]
@@ -39,16 +72,6 @@ impl Seen {
             self.no = self.no.saturating_add(1);
         }
     }
-}
-
-// What `try` prints for a script.
-fn tried<R: AllocGlobal + Threads + Wait + Sync>(
-    rt: &R,
-    script: &str,
-) -> Result<String, AllocError> {
-    let alloc = rt.alloc();
-    let mut host = host_of(alloc, Vec::new(alloc), &[], None)?;
-    ran(rt, &["try"], &mut host, &OpenGate, bytes_of(alloc, script)?)
 }
 
 // Judges what a script printed.
@@ -98,7 +121,7 @@ fn seen_apart<R: AllocGlobal + Threads + Wait + Sync>(
     let mut seen = Seen::none();
     for index in 0..SCRIPTS {
         let seed = index.wrapping_add(first);
-        let script = script_text(rt.alloc(), seed, true)?;
+        let script = script_of(rt.alloc(), seed, &APART)?;
         let text = tried(rt, script.as_str())?;
         look(rt, script.as_str(), text.as_str(), true, &mut seen)?;
         let mut draws = Draws::make(seed);
@@ -112,15 +135,14 @@ fn seen_together<R: AllocGlobal + Threads + Wait + Sync>(
     rt: &R,
     first: u64,
 ) -> Result<Seen, AllocError> {
-    let image = formatted(rt.alloc(), ["128", "8", "8192"])?;
+    let image = new_image(rt.alloc(), "128 8 8192")?;
     let mut seen = Seen::none();
     for index in 0..SCRIPTS {
         let seed = index.wrapping_add(first);
-        let script = script_text(rt.alloc(), seed, false)?;
+        let script = script_of(rt.alloc(), seed, &TOGETHER)?;
         let text = tried(rt, script.as_str())?;
         look(rt, script.as_str(), text.as_str(), true, &mut seen)?;
-        let image = image.as_slice().to_vec(rt.alloc())?;
-        let text = ran_over(rt, image, &OpenGate, script.as_str())?;
+        let text = run_over(rt, &image, script.as_str())?;
         look(rt, script.as_str(), text.as_str(), true, &mut seen)?;
     }
     Ok(seen)

@@ -4,13 +4,9 @@
 #[cfg(test)]
 mod altering;
 #[cfg(test)]
-mod asking;
-#[cfg(test)]
 mod crowds;
 #[cfg(test)]
 mod damage;
-#[cfg(test)]
-mod drawing;
 #[cfg(test)]
 mod faults;
 #[cfg(test)]
@@ -23,7 +19,3 @@ mod judging;
 mod meetings;
 #[cfg(test)]
 mod tags;
-#[cfg(test)]
-mod trails;
-#[cfg(test)]
-mod words;

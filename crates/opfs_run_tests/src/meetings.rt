@@ -1,7 +1,7 @@
 //! Two agents that run at the same time.
 
-use crate::asking::{formatted, ran_over};
 use crate::gates::{Hold, Signal};
+use opfs_asking::{new_image, run_behind};
 use std::alloc::AllocError;
 use std::sync::Wait;
 use std::test::Fail;
@@ -21,8 +21,8 @@ fn held<R: AllocGlobal + Threads + Wait + Sync>(
         held,
         signal: Signal::make(),
     };
-    let image = formatted(rt.alloc(), ["16", "4", "8"])?;
-    let text = ran_over(rt, image, &gate, TWO)?;
+    let image = new_image(rt.alloc(), "16 4 8")?;
+    let text = run_behind(rt, &image, &gate, TWO)?;
     Ok(if gate.signal.is_kept() {
         Some(text)
     } else {

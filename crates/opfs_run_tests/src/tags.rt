@@ -1,7 +1,7 @@
 //! Agents that post and await.
 
-use crate::asking::{formatted, judged, lines_with, ran_over};
 use crate::gates::{Delay, Late};
+use opfs_asking::{judged, lines_with, new_image, run_behind, run_over};
 use std::alloc::AllocError;
 use std::sync::Wait;
 use std::test::Fail;
@@ -86,8 +86,8 @@ fn is_met<R: AllocGlobal + Threads + Wait + Sync>(
     };
     let mut seen = false;
     for _ in 0..runs {
-        let image = formatted(rt.alloc(), ["1", "1", "1"])?;
-        let text = ran_over(rt, image, &gate, meeting.0)?;
+        let image = new_image(rt.alloc(), "1 1 1")?;
+        let text = run_behind(rt, &image, &gate, meeting.0)?;
         if !is_among(text.as_str(), meeting.1) {
             return Ok(false);
         }
@@ -189,7 +189,7 @@ fn who_awaits_in_vain_is_stuck(rt: HostRuntime) -> Result<(), Fail> {
         after: &[],
     };
     for (script, front, lines) in AWAITS {
-        let text = ran_over(&rt, formatted(alloc, ["1", "1", "1"])?, &gate, script)?;
+        let text = run_over(&rt, &new_image(alloc, "1 1 1")?, script)?;
         let some = lines_with(alloc, text.as_str(), front)?;
         assert_eq!(rt; some.as_str(), lines, "{script}");
     }

@@ -1,97 +1,94 @@
 //! The ends of a command other than a transcript or a refused script.
 
-use crate::asking::{answered, answered_at, answered_over, bytes_of, host};
-use opfs_memory::{MemSink, MemSource};
-use opfs_top::Status;
+use opfs_asking::{Ask, bytes_of, done, failing_host, first_other, host, ran, ran_within};
+use opfs_memory::MemSource;
 use std::alloc::AllocError;
 use std::sync::Wait;
 use std::test::Fail;
 use std::thread::Threads;
 
-// A script of one agent that makes a file.
+// A script of one agent that makes its directory.
 const SCRIPT: &str =
     r#"{"agents":[{"origin":"https://a.example","steps":[{"do":"getDirectory","as":"d"}]}]}"#;
 
 // How `try` ends with this room in the sink, where these reads fail.
-fn tried<R: AllocGlobal + Threads + Wait + Sync>(
+fn tried_within<R: AllocGlobal + Threads + Wait + Sync>(
     rt: &R,
     room: u64,
-    fails: Vec<u64>,
-) -> Result<(Status, String), AllocError> {
+    fails: &[u64],
+) -> Result<String, AllocError> {
     let alloc = rt.alloc();
-    let source = MemSource::make(bytes_of(alloc, SCRIPT)?, fails);
-    let sink = MemSink::make(alloc, room, Vec::new(alloc))?;
-    answered_over(rt, &["try"], source, sink)
+    let mut host = host(alloc)?;
+    let source = MemSource::make(bytes_of(alloc, SCRIPT)?, fails.to_vec(alloc)?);
+    ran_within(rt, "try", &mut host, source, room)
 }
+
+// What asks for nothing.
+const NOTHING: [&str; 11] = [
+    "",
+    "run",
+    "gen 1 1",
+    "gen 1 17 1",
+    "try try",
+    "judge x",
+    "Try",
+    "list",
+    "format I 0 4 8",
+    "dump",
+    "load I",
+];
 
 #[test]
 fn words_that_ask_for_nothing(rt: HostRuntime) -> Result<(), Fail> {
-    let cases: [&[&str]; 11] = [
-        &[],
-        &["run"],
-        &["gen", "1", "1"],
-        &["gen", "1", "17", "1"],
-        &["try", "try"],
-        &["judge", "x"],
-        &["Try"],
-        &["list"],
-        &["format", "I", "0", "4", "8"],
-        &["dump"],
-        &["load", "I"],
-    ];
-    for words in cases {
-        let (status, text) = answered(&rt, words, SCRIPT)?;
-        assert_eq!(rt; status, Status::Usage);
-        assert_eq!(rt; text.as_str(), "opfs: usage\n");
+    let mut host = host(rt.alloc())?;
+    for command in NOTHING {
+        let told = ran(&rt, command, &mut host, SCRIPT.as_bytes())?;
+        assert_eq!(rt; told.as_str(), "1\nopfs: usage\n", "{command}");
     }
     Ok(())
 }
 
 #[test]
 fn a_full_sink_has_a_front_of_the_text(rt: HostRuntime) -> Result<(), Fail> {
-    let (status, text) = tried(&rt, 10, Vec::new(rt.alloc()))?;
-    assert_eq!(rt; status, Status::Sink);
-    assert_eq!(rt; text.as_str(), "1.1 getDir");
+    assert_eq!(rt; tried_within(&rt, 10, &[])?.as_str(), "6\n1.1 getDir");
     Ok(())
 }
 
 #[test]
 fn a_source_that_fails_is_told(rt: HostRuntime) -> Result<(), Fail> {
-    let fails = Vec::from_array(rt.alloc(), [1])?;
-    let (status, text) = tried(&rt, 100, fails)?;
-    assert_eq!(rt; status, Status::Source);
-    assert_eq!(rt; text.as_str(), "opfs: source fault\n");
+    assert_eq!(rt;
+        tried_within(&rt, 100, &[1])?.as_str(),
+        "5\nopfs: source fault\n"
+    );
     Ok(())
 }
 
-#[test]
-fn statuses_have_their_numbers(rt: HostRuntime) -> Result<(), Fail> {
-    assert_eq!(rt; Status::Done.number(), 0);
-    assert_eq!(rt; Status::Memory.number(), 7);
-    Ok(())
-}
+// An image that is made and told.
+const MADE: [Ask; 4] = [
+    ("format I 2 1 3", "", "0\nformatted 2 1 3\n"),
+    ("list I", "", "0\n"),
+    ("check I", "", "0\nok 0 0 0 0 0\n"),
+    ("migrate I", "", "3\nopfs: image refused: NotOld\n"),
+];
 
 #[test]
 fn an_image_is_made_and_told(rt: HostRuntime) -> Result<(), Fail> {
-    let mut host = host(rt.alloc(), Vec::new(rt.alloc()))?;
-    let made = answered_at(rt.alloc(), &["format", "I", "2", "1", "3"], &mut host)?;
-    assert!(rt; made.0 == Status::Done && made.1.as_str() == "formatted 2 1 3\n");
-    let told = answered_at(rt.alloc(), &["list", "I"], &mut host)?;
-    assert!(rt; told.0 == Status::Done && told.1.as_str() == "");
-    let checked = answered_at(rt.alloc(), &["check", "I"], &mut host)?;
-    assert!(rt; checked.0 == Status::Done && checked.1.as_str() == "ok 0 0 0 0 0\n");
-    let newer = answered_at(rt.alloc(), &["migrate", "I"], &mut host)?;
-    assert!(rt; newer.0 == Status::Image && newer.1.as_str() == "opfs: image refused: NotOld\n");
+    let mut made = host(rt.alloc())?;
+    assert_eq!(rt; first_other(&rt, &mut made, &MADE)?.as_str(), "");
+    let told = done(rt.alloc(), "check I", &mut made)?;
+    assert_eq!(rt; told.as_str(), "0\nok 0 0 0 0 0\n");
     Ok(())
 }
 
+// What is told of a path without an image, and of a host whose second call fails.
+const FAILED: [Ask; 2] = [
+    ("check J", "", "4\nopfs: host fault\n"),
+    ("format J 1 1 1", "", "4\nopfs: host fault\n"),
+];
+
 #[test]
 fn a_host_that_fails_is_told(rt: HostRuntime) -> Result<(), Fail> {
-    let fails = Vec::from_array(rt.alloc(), [2])?;
-    let mut host = host(rt.alloc(), fails)?;
-    let missing = answered_at(rt.alloc(), &["check", "I"], &mut host)?;
-    assert!(rt; missing.0 == Status::Host && missing.1.as_str() == "opfs: host fault\n");
-    let failed = answered_at(rt.alloc(), &["format", "I", "1", "1", "1"], &mut host)?;
-    assert!(rt; failed.0 == Status::Host && failed.1.as_str() == "opfs: host fault\n");
+    let mut failing = failing_host(rt.alloc(), &[], &[2])?;
+    assert_eq!(rt; first_other(&rt, &mut failing, &FAILED)?.as_str(), "");
     Ok(())
 }

@@ -2,20 +2,18 @@
 #![tactic(auto)]
 
 #[cfg(test)]
-mod asking;
-#[cfg(test)]
 mod dumps;
 #[cfg(test)]
 mod endings;
 #[cfg(test)]
 mod every_word;
 #[cfg(test)]
+mod examples;
+#[cfg(test)]
 mod judgements;
 #[cfg(test)]
 mod refusals;
 #[cfg(test)]
 mod runs;
-#[cfg(test)]
-mod stops;
 #[cfg(test)]
 mod transcripts;

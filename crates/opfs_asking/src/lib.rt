@@ -1,0 +1,22 @@
+//! What crates of tests share: commands of the program over hosts in memory, the images that these leave, verdicts on
+//! transcripts, and scripts that are drawn from numbers.
+#![tactic(auto)]
+
+mod altering;
+mod asking;
+mod asks;
+mod drawing;
+mod images;
+mod judging;
+
+pub use altering::{CHANGES, Change, altered, lines_of};
+pub use asking::{
+    asked, bytes_of, done, ran, ran_alone, ran_within, run, run_behind, run_over, tried,
+};
+pub use asks::{Ask, first_other};
+pub use drawing::{Deck, Draws, FEW_NAMES, push_agent, script_of};
+pub use images::{
+    calls, checked, checked_after, content, failing_host, host, host_of, host_with, image_after,
+    new_image,
+};
+pub use judging::{judged, lines_with};
