@@ -9,7 +9,9 @@ use Rattle.opfs_kv_words.specs.Indexes.{read_out}
 use Rattle.opfs_kv_words.specs.Maps.{Map}
 use Rattle.opfs_machine.specs.Changes.{changes}
 use Rattle.opfs_sync_files.specs.Entries.{GoesOn}
-use Rattle.opfs_sync_files.specs.Files.{IsStill, contents_at, file_bytes, flushed_by, stored_of}
+use Rattle.opfs_sync_files.specs.Files.{contents_at, file_bytes, flushed_by, stored_of}
+use Rattle.opfs_sync_files.specs.Still.{TheBytes, IsStill}
+use Rattle.opfs_sync_files.proofs.Faulted.{doubts-may, doubts-next}
 use Rattle.opfs_sync_files.specs.Resting.{LeavesRest}
 use Rattle.opfs_sync_files.proofs.Knowing.{goes-then}
 use Rattle.opfs_sync_files.proofs.Resting.{rest-next}
@@ -21,6 +23,15 @@ use Rattle.opfs_kv.specs.declared.notes.Notes.{Notes}
 use Rattle.opfs_hist.specs.declared.op.Mode.{Mode}
 use Rattle.opfs_hist.specs.declared.op.Mode.TheVariants as mode
 use Rattle.opfs_kv.proofs.Kept.{spells-map}
+use Rattle.opfs_kv.proofs.Serving.{kept-serves, serves-then}
+
+-- A flush or a close that is refused leaves a file without a tail as it is.
+pub left-one : {O : Type 0} (tells : Type 0) (b c : AgentSeen O) (y : KvSeen) (stands : Stands tells b y) → y.tail ≡ false → (h : HandleSeen) → IsStill tells b c y.handle h (TheBytes (file_bytes b y.handle))
+    → file_bytes c h ≡ file_bytes b y.handle → stored_of c h ≡ stored_of b y.handle → Serves tells b c y (record { handle = h; live = y.live; tail = y.tail; index = y.index }) 1 (map_in b y)
+left-one tells b c y stands none h still same stored =
+    kept-serves tells b c y stands h (TheBytes (file_bytes b y.handle)) still stored
+    (λ tell bytes is. subst (λ (t : Text). Spells t (map_in b y)) (sym is) (spells-map tells (file_bytes b y.handle) y.live y.tail y.index stands.keeps none tell))
+    y.live y.tail y.index (map_in b y) (subst (λ (t : Text). Keeps tells t y.live y.tail y.index) (sym same) stands.keeps) (λ tell. ap (λ (t : Text). read_out t y.index) same)
 
 module _ {O : Type 0} (tells : Type 0) (a b : AgentSeen O) (x y : KvSeen) (s : Serves tells a b x y 1 (map_in a x)) (none : y.tail ≡ false) where
   -- Its bytes are records that stand for the map.
@@ -28,7 +39,7 @@ module _ {O : Type 0} (tells : Type 0) (a b : AgentSeen O) (x y : KvSeen) (s : S
   spelled-now tell = subst (λ (m : Map). Spells (file_bytes b y.handle) m) (s.map tell) (spells-map tells (file_bytes b y.handle) y.live y.tail y.index s.stands.keeps none tell)
 
   module _ (c : AgentSeen O) where
-    pub flushes-then : (h : HandleSeen) → IsStill tells b c y.handle h → file_bytes c h ≡ file_bytes b y.handle → stored_of c h ≡ stored_of b y.handle ++ flushed_by y.handle.mode (file_bytes b y.handle)
+    pub flushes-then : (h : HandleSeen) → IsStill tells b c y.handle h (TheBytes (file_bytes b y.handle)) → file_bytes c h ≡ file_bytes b y.handle → stored_of c h ≡ stored_of b y.handle ++ flushed_by y.handle.mode (file_bytes b y.handle)
         → Flushes tells a c x (record { handle = h; live = y.live; tail = y.tail; index = y.index }) 2 (map_in a x)
     flushes-then h still same stored = record {
       stands = record { has = still.has; writes = still.mode_is ∙ s.stands.writes; keeps = subst (λ (t : Text). Keeps tells t y.live y.tail y.index) (sym same) s.stands.keeps };
@@ -39,7 +50,15 @@ module _ {O : Type 0} (tells : Type 0) (a b : AgentSeen O) (x y : KvSeen) (s : S
       map = λ tell. ap (λ (t : Text). read_out t y.index) same ∙ s.map tell;
       stored = stored ∙ (λ i. s.stored i ++ flushed_by (s.stands.writes i) (sym same i));
       spells = λ tell. subst (λ (t : Text). Spells t (map_in a x)) (sym same) (spelled-now tell);
+      doubts = λ tell. doubts-next a b c x.handle y.handle (λ (bytes : Text). Spells bytes (map_in a x)) still.goes.newer s.goes.opening_is s.file still.goes.grown (s.doubts tell)
+          (doubts-may b.opening b.pass.base c.pass.base (place_of y.handle.file) (TheBytes (file_bytes b y.handle)) (λ (bytes : Text). Spells bytes (map_in a x)) (λ bytes is. subst (λ (t : Text). Spells t (map_in a x)) (sym is) (spelled-now tell)) (still.doubts tell))
+          s.stored;
     }
+
+    pub flush-left : (h : HandleSeen) → IsStill tells b c y.handle h (TheBytes (file_bytes b y.handle)) → file_bytes c h ≡ file_bytes b y.handle → stored_of c h ≡ stored_of b y.handle
+        → Serves tells a c x (record { handle = h; live = y.live; tail = y.tail; index = y.index }) 2 (map_in a x)
+    flush-left h still same stored =
+        serves-then tells a b c x y (record { handle = h; live = y.live; tail = y.tail; index = y.index }) 1 1 (λ (m : Map). m) s (left-one tells b c y s.stands none h still same stored)
 
 -- A file without a tail is closed.
 pub closes-one : {O : Type 0} (tells : Type 0) (b c : AgentSeen O) (y : KvSeen) (stands : Stands tells b y) → y.tail ≡ false → (row : ℕ) → (row ≡ y.handle.row) × HasClosedHandle c row → GoesOn b c 1 → LeavesRest tells b c y.handle.row

@@ -11,7 +11,8 @@ use Rattle.opfs_kv_words.specs.declared.miss.Miss.TheVariants as miss
 use Rattle.opfs_kv_words.proofs.Steps.{failed-then, read-then}
 use Rattle.opfs_splice.specs.Splicing.{window}
 use Rattle.opfs_sync_files.specs.Entries.{GoesOn, IsCaused}
-use Rattle.opfs_sync_files.specs.Files.{IsStill, file_bytes, stored_of}
+use Rattle.opfs_sync_files.specs.Files.{file_bytes, stored_of}
+use Rattle.opfs_sync_files.specs.Still.{NoBytes, IsStill}
 use Rattle.opfs_sync_files.proofs.Knowing.{caused-later, goes-none, goes-then}
 use Rattle.opfs_sync_files.proofs.Resting.{rest-none, rest-next}
 use Rattle.opfs_turns.specs.Agents.{AgentSeen}
@@ -25,7 +26,7 @@ use Rattle.opfs_kv.specs.declared.stop.KvStop.TheVariants as kv_stop
 pub reads-none : {O : Type 0} (tells : Type 0) (a : AgentSeen O) (x : HandleSeen) → HasHandle tells a x → OnlyReads tells a a x x 0
 reads-none tells a x has = record { has = has; row = refl; file = refl; mode_is = refl; goes = goes-none a; others = rest-none tells a x.row; bytes = refl; stored = refl }
 
-pub reads-one : {O : Type 0} (tells : Type 0) (a b : AgentSeen O) (x y : HandleSeen) → IsStill tells a b x y → file_bytes b y ≡ file_bytes a x → stored_of b y ≡ stored_of a x → OnlyReads tells a b x y 1
+pub reads-one : {O : Type 0} (tells : Type 0) (a b : AgentSeen O) (x y : HandleSeen) → IsStill tells a b x y NoBytes → file_bytes b y ≡ file_bytes a x → stored_of b y ≡ stored_of a x → OnlyReads tells a b x y 1
 reads-one tells a b x y still same stored = record { has = still.has; row = still.row; file = still.file; mode_is = still.mode_is; goes = still.goes; others = still.others; bytes = same; stored = stored }
 
 pub reads-then : {O : Type 0} (tells : Type 0) (a b c : AgentSeen O) (x y z : HandleSeen) (m n : ℕ) → OnlyReads tells a b x y m → OnlyReads tells b c y z n → OnlyReads tells a c x z (m + n)

@@ -2,25 +2,28 @@
 use Rattle.std.proofs.Common.{◌≡◌, ℕ, ◌+◌, ◌≤◌, Bool, true, false, length, map, take, Some, None, refl, sym, ap, subst, ◌∙◌, arith}
 use Rattle.std.specs.List.Sorted.{IsStrictlySortedBy}
 use Rattle.std.specs.Map.{keys_of}
+use Rattle.opfs_base.specs.Places.{place_of}
 use Rattle.opfs_base.specs.Texts.{Text}
 use Rattle.opfs_calls.specs.Rows.{HandleSeen}
 use Rattle.opfs_kv_words.specs.Indexes.{IsFitting, Places, read_out}
 use Rattle.opfs_kv_words.specs.Maps.{Map, key_cmp, with_key, without_key}
 use Rattle.opfs_kv_words.specs.Records.{IsKey, IsValue, log_of, put_of, spelled_by}
 use Rattle.opfs_splice.specs.Splicing.{resize, splice, window}
-use Rattle.opfs_sync_files.specs.Files.{IsStill, file_bytes, stored_of}
+use Rattle.opfs_sync_files.specs.Files.{file_bytes, stored_of}
+use Rattle.opfs_sync_files.specs.Still.{NoBytes, IsStill}
+use Rattle.opfs_sync_files.proofs.Faulted.{doubts-may, doubts-next, doubts-none}
 use Rattle.opfs_sync_files.proofs.Knowing.{goes-most, goes-none, goes-then}
 use Rattle.opfs_sync_files.proofs.Resting.{rest-next, rest-none}
 use Rattle.opfs_turns.specs.Agents.{AgentSeen}
-use Rattle.opfs_kv.specs.Keeping.{Keeps}
+use Rattle.opfs_kv.specs.Keeping.{Keeps, Spells}
 use Rattle.opfs_kv.specs.Packing.{IsAnewFor}
-use Rattle.opfs_kv.specs.Seen.{KvSeen, Serves, Stands, map_in}
+use Rattle.opfs_kv.specs.Seen.{DoubtsSpell, KvSeen, Serves, Stands, map_in}
 use Rattle.opfs_kv.proofs.Kept.{all-live, cut-keeps, cut-map, more-keeps, more-reads, packed-front, packed-keeps, packed-reads, same-front, tail-keeps, tail-map}
 
 -- ---- one after another
 
 pub serves-most : {O : Type 0} (tells : Type 0) (a b : AgentSeen O) (x y : KvSeen) (m n : ℕ) (d : Map) → m ≤ n → Serves tells a b x y m d → Serves tells a b x y n d
-serves-most tells a b x y m n d few s = record { stands = s.stands; row = s.row; file = s.file; goes = goes-most a b m n few s.goes; others = s.others; map = s.map; stored = s.stored }
+serves-most tells a b x y m n d few s = record { stands = s.stands; row = s.row; file = s.file; goes = goes-most a b m n few s.goes; others = s.others; map = s.map; stored = s.stored; doubts = s.doubts }
 
 -- A call that serves a file on the map that an earlier one left.
 pub serves-then : {O : Type 0} (tells : Type 0) (a b c : AgentSeen O) (x y z : KvSeen) (m n : ℕ) (change : Map → Map) → Serves tells a b x y m (map_in a x) → Serves tells b c y z n (change (map_in b y))
@@ -33,11 +36,12 @@ serves-then tells a b c x y z m n change s t = record {
   others = rest-next tells a b c x.handle.row y.handle.row s.row s.others t.others;
   map = λ tell. t.map tell ∙ ap change (s.map tell);
   stored = t.stored ∙ s.stored;
+  doubts = λ tell. doubts-next a b c x.handle y.handle (λ (bytes : Text). Spells bytes (map_in a x)) t.goes.newer s.goes.opening_is s.file t.goes.grown (s.doubts tell) (subst (DoubtsSpell b c y) (s.map tell) (t.doubts tell)) s.stored;
 }
 
 -- Nothing was done.
 pub serves-none : {O : Type 0} (tells : Type 0) (a : AgentSeen O) (x : KvSeen) (n : ℕ) → Stands tells a x → Serves tells a a x x n (map_in a x)
-serves-none tells a x n stands = record { stands = stands; row = refl; file = refl; goes = goes-most a a 0 n (omega arith) (goes-none a); others = rest-none tells a x.handle.row; map = λ tell. refl; stored = refl }
+serves-none tells a x n stands = record { stands = stands; row = refl; file = refl; goes = goes-most a a 0 n (omega arith) (goes-none a); others = rest-none tells a x.handle.row; map = λ tell. refl; stored = refl; doubts = λ tell. doubts-none a.opening a.pass.base a.pass.base (place_of x.handle.file) (λ (bytes : Text). Spells bytes (map_in a x)) refl }
 
 -- A whole file is read.
 pub read-whole : {O : Type 0} (tells : Type 0) (a : AgentSeen O) (kv : KvSeen) (stands : Stands tells a kv) → kv.tail ≡ false → window (file_bytes a kv.handle) 0 kv.live ≡ file_bytes a kv.handle
@@ -49,7 +53,23 @@ all-cut tells a kv stands none live is = sym (all-live tells (file_bytes a kv.ha
 
 -- ---- one call
 
-module _ {O : Type 0} (tells : Type 0) (a b : AgentSeen O) (kv : KvSeen) (stands : Stands tells a kv) (h : HandleSeen) (still : IsStill tells a b kv.handle h) (stored : stored_of b h ≡ stored_of a kv.handle) where
+module _ {O : Type 0} (tells : Type 0) (a b : AgentSeen O) (kv : KvSeen) (stands : Stands tells a kv) (h : HandleSeen) (May : Text → Type 0) (still : IsStill tells a b kv.handle h May) (stored : stored_of b h ≡ stored_of a kv.handle)
+    (may : tells → (bytes : Text) → May bytes → Spells bytes (map_in a kv)) where
+  pub kept-serves : (live : ℕ) (tail : Bool) (index : Places) (m : Map) → Keeps tells (file_bytes b h) live tail index → (tells → read_out (file_bytes b h) index ≡ m)
+      → Serves tells a b kv (record { handle = h; live = live; tail = tail; index = index }) 1 m
+  kept-serves live tail index m keeps reads = record {
+    stands = record { has = still.has; writes = still.mode_is ∙ stands.writes; keeps = keeps };
+    row = still.row;
+    file = still.file;
+    goes = still.goes;
+    others = still.others;
+    map = reads;
+    stored = stored;
+    doubts = λ tell. doubts-may a.opening a.pass.base b.pass.base (place_of kv.handle.file) May (λ (bytes : Text). Spells bytes (map_in a kv)) (may tell) (still.doubts tell);
+  }
+
+-- The same of a call that stores nothing.
+module _ {O : Type 0} (tells : Type 0) (a b : AgentSeen O) (kv : KvSeen) (stands : Stands tells a kv) (h : HandleSeen) (still : IsStill tells a b kv.handle h NoBytes) (stored : stored_of b h ≡ stored_of a kv.handle) where
   abbrev old : Text
   old = file_bytes a kv.handle
 
@@ -58,15 +78,7 @@ module _ {O : Type 0} (tells : Type 0) (a b : AgentSeen O) (kv : KvSeen) (stands
 
   keeps-serves : (live : ℕ) (tail : Bool) (index : Places) (m : Map) → Keeps tells new live tail index → (tells → read_out new index ≡ m)
       → Serves tells a b kv (record { handle = h; live = live; tail = tail; index = index }) 1 m
-  keeps-serves live tail index m keeps reads = record {
-    stands = record { has = still.has; writes = still.mode_is ∙ stands.writes; keeps = keeps };
-    row = still.row;
-    file = still.file;
-    goes = still.goes;
-    others = still.others;
-    map = reads;
-    stored = stored;
-  }
+  keeps-serves live tail index m keeps reads = kept-serves tells a b kv stands h NoBytes still stored (λ tell bytes no. absurd no) live tail index m keeps reads
 
   pub still-serves : file_bytes b h ≡ file_bytes a kv.handle → Serves tells a b kv (record { handle = h; live = kv.live; tail = kv.tail; index = kv.index }) 1 (map_in a kv)
   still-serves same =

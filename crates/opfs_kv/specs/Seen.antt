@@ -1,10 +1,12 @@
 -- What is seen of a key-value file, and how it stands over its agent. This project's own.
 use Rattle.std.specs.Prelude.{◌≡◌, ℕ, ◌≤◌, ◌++◌, Bool, List, [], ◌∷◌}
+use Rattle.opfs_base.specs.Places.{place_of}
 use Rattle.opfs_base.specs.Texts.{Text}
 use Rattle.opfs_calls.specs.Rows.{HandleSeen, HasClosedHandle, HasHandle}
 use Rattle.opfs_hist.specs.declared.op.Mode.TheVariants as mode
 use Rattle.opfs_kv_words.specs.Indexes.{Places, read_out}
 use Rattle.opfs_kv_words.specs.Maps.{Map}
+use Rattle.opfs_sync_files.specs.Doubts.{DoubtsStore}
 use Rattle.opfs_sync_files.specs.Entries.{GoesOn}
 use Rattle.opfs_sync_files.specs.Files.{file_bytes, stored_of}
 use Rattle.opfs_sync_files.specs.Resting.{LeavesRest}
@@ -37,13 +39,17 @@ map_in a kv = read_out (file_bytes a kv.handle) kv.index
 abbrev pub stored_in : {O : Type 0} → AgentSeen O → KvSeen → List Text
 stored_in a kv = stored_of a kv.handle
 
+-- What a disk fault in between leaves in doubt leaves the file, or stores records of it that stand for this map.
+abbrev pub DoubtsSpell : {O : Type 0} → AgentSeen O → AgentSeen O → KvSeen → Map → Type 0
+DoubtsSpell before after kv m = DoubtsStore before.opening before.pass.base after.pass.base (place_of kv.handle.file) (λ bytes. Spells bytes m)
+
 -- An agent has places for the entries of a call on a key-value file.
 pub record HasPlaces {O : Type 0} (a : AgentSeen O) : Type 0 where
   pub rows : a.rows ≤ 60000000
   pub entries : a.entries ≤ 59000000
 
--- The file still stands after so many entries more at most, on the same handle, with this map. Nothing of it was stored, and the
--- agent's other own rows are as they were.
+-- The file still stands after so many entries more at most, on the same handle, with this map. Nothing of it was stored, a disk fault
+-- left nothing of it in doubt but the map of before, and the agent's other own rows are as they were.
 pub record Serves {O : Type 0} (tells : Type 0) (before after : AgentSeen O) (old new : KvSeen) (count : ℕ) (m : Map) : Type 0 where
   pub stands : Stands tells after new
   pub row : new.handle.row ≡ old.handle.row
@@ -52,6 +58,7 @@ pub record Serves {O : Type 0} (tells : Type 0) (before after : AgentSeen O) (ol
   pub others : LeavesRest tells before after old.handle.row
   pub map : tells → map_in after new ≡ m
   pub stored : stored_in after new ≡ stored_in before old
+  pub doubts : tells → DoubtsSpell before after old (map_in before old)
 
 -- The file was stored for good, as records that stand for this map. The agent's other own rows are as they were.
 pub record Flushes {O : Type 0} (tells : Type 0) (before after : AgentSeen O) (old new : KvSeen) (count : ℕ) (m : Map) : Type 0 where
@@ -63,6 +70,7 @@ pub record Flushes {O : Type 0} (tells : Type 0) (before after : AgentSeen O) (o
   pub map : tells → map_in after new ≡ m
   pub stored : stored_in after new ≡ stored_in before old ++ file_bytes after new.handle ∷ []
   pub spells : tells → Spells (file_bytes after new.handle) m
+  pub doubts : tells → DoubtsSpell before after old (map_in before old)
 
 -- The same, and its handle is closed.
 pub record Closes {O : Type 0} (tells : Type 0) (before after : AgentSeen O) (old : KvSeen) (row : ℕ) (count : ℕ) (m : Map) : Type 0 where

@@ -16,6 +16,15 @@ use Rattle.opfs_kv_runs.specs.declared.commands.KvReply.{KvReply}
 use Rattle.opfs_kv_runs.specs.declared.commands.KvReply.TheVariants as kv_reply
 use Rattle.opfs_calls.specs.declared.stop.Stop.TheVariants as stop
 use Rattle.opfs_kv.specs.declared.stop.KvStop.TheVariants as kv_stop
+use Rattle.opfs_base.specs.Places.{place_of}
+use Rattle.opfs_kv.specs.Keeping.{Spells}
+use Rattle.opfs_kv.specs.Seen.{DoubtsSpell}
+use Rattle.opfs_machine.specs.Changes.{changes}
+use Rattle.opfs_machine.specs.Openings.{Opening}
+use Rattle.opfs_sync_files.specs.Doubts.{DoubtsStore}
+use Rattle.opfs_sync_files.specs.Files.{contents_at}
+use Rattle.opfs_kv_runs.proofs.Doubted.{RunDoubts, doubted-more, doubted-none}
+use Rattle.opfs_kv_runs.proofs.Stopping.{all-flushed}
 use Rattle.opfs_kv_runs.proofs.Lists.{AreAsMany, causes-more, many-more, map-more, replies-more, stored-more}
 
 pub sum-more : (ops : List KvOp) (o : KvOp) → sum_by entries_of (ops ++ o ∷ []) ≡ sum_by entries_of ops + entries_of o
@@ -54,6 +63,7 @@ pub record IsRunning {O : Type 0} (tells : Type 0) (before after : AgentSeen O) 
   pub map : tells → map_in after new ≡ map_after (map_in before old) ops replies
   pub stored : HasStored tells before after old new ops replies
   pub caused : AreCaused before after ops replies
+  pub doubts : tells → RunDoubts (map_in before old) ops replies before.opening before.pass.base after.pass.base (place_of old.handle.file)
 
 pub run-none : {O : Type 0} (tells : Type 0) (a : AgentSeen O) (x : KvSeen) → Stands tells a x → IsRunning tells a a x x [] []
 run-none tells a x stands = record {
@@ -67,6 +77,7 @@ run-none tells a x stands = record {
   map = λ tell. refl;
   stored = record { texts = []; stored = sym (append-nil (stored_in a x)); are = λ tell. refl };
   caused = tt;
+  doubts = λ tell. doubted-none (map_in a x) a.opening a.pass.base (place_of x.handle.file);
 }
 
 pub run-more : {O : Type 0} (tells : Type 0) (a b c : AgentSeen O) (x y z : KvSeen) (ops : List KvOp) (rs : List KvReply) (o : KvOp) (r : KvReply) → IsRunning tells a b x y ops rs → IsRun tells b c y z o r
@@ -87,4 +98,11 @@ run-more tells a b c x y z ops rs o r h one = record {
         (subst (λ (m : Map). AreStoredBy (stores o r) (after_op m o r) one.texts (λ rest. rest ≡ [])) (h.map tell) (one.are tell));
   };
   caused = causes-more a b c (entries_of o) ops rs o r h.many one.goes h.caused (caused-on a b c (sum_by entries_of ops) o r h.goes one.cause);
+  doubts = λ tell.
+      doubted-more (map_in a x) ops rs o r h.many a.opening a.pass.base b.pass.base c.pass.base one.goes.newer (place_of x.handle.file) h.stored.texts one.goes.grown (h.doubts tell)
+      (subst (λ l. DoubtsStore a.opening b.pass.base c.pass.base (place_of l) (λ (bytes : Text). Spells bytes (map_after (map_in a x) ops rs))) h.file
+      (subst (λ (q : Opening). DoubtsStore q b.pass.base c.pass.base (place_of y.handle.file) (λ (bytes : Text). Spells bytes (map_after (map_in a x) ops rs))) h.goes.opening_is
+      (subst (DoubtsSpell b c y) (h.map tell) (one.doubts tell))))
+      ((λ i. contents_at (place_of (sym h.file i)) (changes (sym h.goes.opening_is i) b.pass.base)) ∙ h.stored.stored)
+      (all-flushed (map_in a x) ops rs h.stored.texts (h.stored.are tell));
 }

@@ -1,3 +1,4 @@
+pub mod Doubted
 pub mod Lists
 pub mod Ones
 pub mod Following

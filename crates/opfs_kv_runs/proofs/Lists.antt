@@ -1,11 +1,10 @@
 -- A list of commands with one command more.
-use Rattle.std.proofs.Common.{◌≡◌, ℕ, ◌+◌, ◌≤◌, Bool, true, false, List, [], ◌∷◌, ◌++◌, append-nil, append_assoc, length, refl, sym, ap, subst, ◌∙◌, arith}
+use Rattle.std.proofs.Common.{◌≡◌, ℕ, Bool, true, false, List, [], ◌∷◌, ◌++◌, refl, sym, subst}
 use Rattle.opfs_base.specs.Texts.{Text}
 use Rattle.opfs_kv_words.specs.Maps.{Map}
-use Rattle.opfs_sync_files.specs.Entries.{GoesOn, HasEntry}
+use Rattle.opfs_sync_files.specs.Entries.{GoesOn}
 use Rattle.opfs_sync_files.proofs.Knowing.{entry-earlier}
 use Rattle.opfs_turns.specs.Agents.{AgentSeen}
-use Rattle.opfs_kv.specs.declared.stop.KvStop.{KvStop}
 use Rattle.opfs_kv.specs.declared.stop.KvStop.TheVariants as kv_stop
 use Rattle.opfs_calls.specs.declared.stop.Stop.TheVariants as stop
 use Rattle.opfs_kv_runs.specs.Runs.{AreCaused, AreReplies, AreStored, AreStoredBy, IsCausedReply, IsReply, after_op, map_after, stores}

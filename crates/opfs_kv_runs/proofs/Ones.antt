@@ -1,5 +1,5 @@
 -- One command with its reply.
-use Rattle.std.proofs.Common.{◌≡◌, ℕ, ◌+◌, ◌<◌, Bool, true, false, List, [], ◌∷◌, ◌++◌, append-nil, length, Option, Some, None, Result, Ok, Err, refl, sym, ap, subst, ◌∙◌, arith}
+use Rattle.std.proofs.Common.{◌≡◌, ℕ, ◌+◌, Bool, false, [], append-nil, length, Option, refl, sym, ap, subst, ◌∙◌, arith}
 use Rattle.std.specs.Prelude.{is_some}
 use Rattle.opfs_base.specs.Texts.{Text}
 use Rattle.opfs_calls.specs.declared.stop.Stop.TheVariants as stop
@@ -45,6 +45,7 @@ module _ {O : Type 0} (tells : Type 0) (a b : AgentSeen O) (x y : KvSeen) where
     stored = s.stored ∙ sym (append-nil (stored_in a x));
     are = λ tell. subst (λ (z : Bool). AreStoredBy z (after_op (map_in a x) called answered) [] (λ rest. rest ≡ [])) (sym none) refl;
     cause = cause;
+    doubts = s.doubts;
   }
 
   pub got : (key : Text) (value : Option Text) → Serves tells a b x y 1 (map_in a x) → (tells → value ≡ found (map_in a x) key) → IsRun tells a b x y (op.Get key) (kv_reply.Value value)
@@ -78,6 +79,7 @@ module _ {O : Type 0} (tells : Type 0) (a b : AgentSeen O) (x y : KvSeen) where
     stored = s.stored;
     are = λ tell. (s.spells tell, refl);
     cause = tt;
+    doubts = s.doubts;
   }
 
   pub not-flushed : (why : KvStop) → Serves tells a b x y 2 (map_in a x) → HasPlainCause a b why → IsRun tells a b x y op.Flush (kv_reply.No why)

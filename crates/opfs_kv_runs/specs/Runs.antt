@@ -9,12 +9,11 @@ use Rattle.opfs_sync_files.specs.Entries.{GoesOn, HasEntry}
 use Rattle.opfs_sync_files.specs.Resting.{LeavesRest}
 use Rattle.opfs_turns.specs.Agents.{AgentSeen}
 use Rattle.opfs_kv.specs.Keeping.{Spells}
-use Rattle.opfs_kv.specs.Seen.{KvSeen, Stands, map_in, stored_in}
+use Rattle.opfs_kv.specs.Seen.{DoubtsSpell, KvSeen, Stands, map_in, stored_in}
 use Rattle.opfs_kv_runs.specs.declared.commands.KvOp.{KvOp}
 use Rattle.opfs_kv_runs.specs.declared.commands.KvOp.TheVariants as op
 use Rattle.opfs_kv_runs.specs.declared.commands.KvReply.{KvReply}
 use Rattle.opfs_kv_runs.specs.declared.commands.KvReply.TheVariants as kv_reply
-use Rattle.opfs_kv.specs.declared.stop.KvStop.{KvStop}
 use Rattle.opfs_kv.specs.declared.stop.KvStop.TheVariants as kv_stop
 
 -- Keys have 1 to 255 bytes, and values at most 65,536.
@@ -113,6 +112,7 @@ pub record IsRun {O : Type 0} (tells : Type 0) (before after : AgentSeen O) (old
   pub stored : stored_in after new ≡ stored_in before old ++ texts
   pub are : tells → AreStoredBy (stores called answered) (after_op (map_in before old) called answered) texts (λ rest. rest ≡ [])
   pub cause : IsCausedReply before after called answered
+  pub doubts : tells → DoubtsSpell before after old (map_in before old)
 
 -- An agent has places for the entries of a list of commands.
 pub record HasRunRoom {O : Type 0} (a : AgentSeen O) : Type 0 where

@@ -68,7 +68,7 @@ evictions-fold : (u : State Text Own) (gone : List Text) → fold after_entry u 
 evictions-fold u [] = refl
 evictions-fold u (unit ∷ gone) = evictions-fold (evicted u unit) gone
 
-evictions-apart : (k : ℕ) → k ≢ 0 → (gone : List Text) → All (λ e. e.agent ≢ k) (map eviction gone)
+pub evictions-apart : (k : ℕ) → k ≢ 0 → (gone : List Text) → All (λ e. e.agent ≢ k) (map eviction gone)
 evictions-apart k real gone = All-map (λ e. e.agent ≢ k) eviction gone (all gone)
   where
     all : (gone : List Text) → All (λ unit. (eviction unit).agent ≢ k) gone
@@ -100,7 +100,7 @@ size-leaves u k n answered p =
       | false ↦ refl
     ]
 
-nobody-stuck : (u : State Text Own) (k : ℕ) (o : Op) → asks_nobody o ≡ true → refused u k o ≡ u
+pub nobody-stuck : (u : State Text Own) (k : ℕ) (o : Op) → asks_nobody o ≡ true → refused u k o ≡ u
 nobody-stuck u k (op.Await tag) h = absurd (false≢true h)
 nobody-stuck u k o h = refl
 
@@ -150,10 +150,10 @@ module _ {O : Type 0} (tells : Type 0) (before after : AgentSeen O) (kept : IsAg
   abbrev pub u : State Text Own
   u = t tells before after kept called answered given e
 
-  abbrev turn : List Entry
+  abbrev pub turn : List Entry
   turn = before_call before e.others
 
-  abbrev last : Entry
+  abbrev pub last : Entry
   last = told_entry (call_of before called) answered
 
   abbrev whole : List Entry
@@ -162,15 +162,15 @@ module _ {O : Type 0} (tells : Type 0) (before after : AgentSeen O) (kept : IsAg
   pub state-is : state_of after ≡ state_after before.opening whole
   state-is = λ i. state_after (opening-is tells before after kept called answered given e i) (known-is tells before after kept called answered given e i)
 
-  whole-is : whole ≡ (turn ++ map eviction e.gone) ++ last ∷ []
+  pub whole-is : whole ≡ (turn ++ map eviction e.gone) ++ last ∷ []
   whole-is =
       sym (append_assoc (before.pass.base ++ e.others) before.pending (map eviction e.gone ++ last ∷ []))
       ∙ sym (append_assoc turn (map eviction e.gone) (last ∷ []))
 
-  told-whole : IsTold tells before.opening ((turn ++ map eviction e.gone) ++ last ∷ [])
+  pub told-whole : IsTold tells before.opening ((turn ++ map eviction e.gone) ++ last ∷ [])
   told-whole = subst (IsTold tells before.opening) (e.grown ∙ whole-is) (subst (λ (a : AgentSeen O). IsTold tells a.opening after.pass.base) e.rest later.legal)
 
-  evicted-is : state_after before.opening (turn ++ map eviction e.gone) ≡ u
+  pub evicted-is : state_after before.opening (turn ++ map eviction e.gone) ≡ u
   evicted-is = fold-append after_entry (begun before.opening) turn (map eviction e.gone) ∙ evictions-fold (state_after before.opening turn) e.gone
 
   -- Each lock tells its holders there.
@@ -260,26 +260,30 @@ module _ {O : Type 0} (tells : Type 0) (before after : AgentSeen O) (kept : IsAg
         ∙ ap (λ v. held v k x.row) (sym (fold-append after_entry (begun before.opening) before.pass.base before.pending))
         ∙ ap (of_row file_held) (row-is tells before x has)
 
+    -- What the agent has seen before its entry stores nothing of the file.
+    pub turn-stores : contents_at f.h.file (changes before.opening (before_call before e.others ++ map eviction e.gone)) ≡ contents_at f.h.file (changes before.opening before.pass.base)
+    turn-stores =
+        let o = before.opening in
+        let seen = before.pass.base ++ e.others in
+        let waits = pending-for tells (state_after o before.pass.base) (state_after o seen) k before.pending
+        (sym (told-seen tells o before.pass.base e.others k e.legal e.apart)) kept.local in
+        ap (contents_at f.h.file) (changes-append (begun o) turn (map eviction e.gone))
+        ∙ contents-append f.h.file (changes o turn) (changes_from (state_after o turn) (map eviction e.gone))
+        ∙ ap (λ (ts : List Text). contents_at f.h.file (changes o turn) ++ ts) (evictions-store f.h.file (state_after o turn) e.gone)
+        ∙ append-nil (contents_at f.h.file (changes o turn))
+        ∙ ap (contents_at f.h.file) (changes-append (begun o) seen before.pending)
+        ∙ ap (λ (cs : List Change). contents_at f.h.file (changes o seen ++ cs)) (pending-stores tells (state_after o seen) k before.pending waits.0)
+        ∙ ap (contents_at f.h.file) (append-nil (changes o seen))
+        ∙ told-none tells o f.h.file k x.row before.pass.base e.others e.legal e.apart held-before
+
     pub stored-here : contents_at f.h.file (changes after.opening after.pass.base) ≡ contents_at f.h.file (changes before.opening before.pass.base) ++ contents_at f.h.file (entry_changes u last)
     stored-here =
         let o = before.opening in
-        let seen = before.pass.base ++ e.others in
-        let after-pending : state_after o turn ≡ fold after_entry (state_after o seen) before.pending = fold-append after_entry (begun o) seen before.pending in
-        let waits = pending-for tells (state_after o before.pass.base) (state_after o seen) k before.pending
-        (sym (told-seen tells o before.pass.base e.others k e.legal e.apart)) kept.local in
-        let others = told-none tells o f.h.file k x.row before.pass.base e.others e.legal e.apart held-before in
-        let group : contents_at f.h.file (changes_from (state_after o turn) (map eviction e.gone ++ last ∷ [])) ≡ contents_at f.h.file (entry_changes u last) =
-        ap (contents_at f.h.file) (changes-append (state_after o turn) (map eviction e.gone) (last ∷ []))
-        ∙ contents-append f.h.file (changes_from (state_after o turn) (map eviction e.gone)) (changes_from (fold after_entry (state_after o turn) (map eviction e.gone)) (last ∷ []))
-        ∙ (λ i. evictions-store f.h.file (state_after o turn) e.gone i ++ contents_at f.h.file (entry_changes (evictions-fold (state_after o turn) e.gone i) last ++ []))
-        ∙ ap (contents_at f.h.file) (append-nil (entry_changes u last))
-        in
-        (λ i. contents_at f.h.file (changes (opening-is tells before after kept called answered given e i) (e.grown i)))
-        ∙ ap (contents_at f.h.file) (changes-append (begun o) seen (before.pending ++ (map eviction e.gone ++ last ∷ [])))
-        ∙ contents-append f.h.file (changes o seen) (changes_from (state_after o seen) (before.pending ++ (map eviction e.gone ++ last ∷ [])))
-        ∙ (λ i. others i ++ contents_at f.h.file (changes-append (state_after o seen) before.pending (map eviction e.gone ++ last ∷ []) i))
-        ∙ (λ i. contents_at f.h.file (changes o before.pass.base) ++ contents_at f.h.file (pending-stores tells (state_after o seen) k before.pending waits.0 i ++ changes_from (sym after-pending i) (map eviction e.gone ++ last ∷ [])))
-        ∙ ap (λ (ts : List Text). contents_at f.h.file (changes o before.pass.base) ++ ts) group
+        let front = turn ++ map eviction e.gone in
+        (λ i. contents_at f.h.file (changes (opening-is tells before after kept called answered given e i) ((e.grown ∙ whole-is) i)))
+        ∙ ap (contents_at f.h.file) (changes-append (begun o) front (last ∷ []))
+        ∙ contents-append f.h.file (changes o front) (changes_from (state_after o front) (last ∷ []))
+        ∙ (λ i. turn-stores i ++ contents_at f.h.file (append-nil (entry_changes (evicted-is i) last) i))
 
     refused-stores : is_refusal answered ≡ true → contents_at f.h.file (entry_changes u last) ≡ []
     refused-stores is = ap (λ (b : Bool). contents_at f.h.file (elim b as (λ y. List Change) [ true ↦ [] | false ↦ stored_by u k called ])) is

@@ -5,3 +5,5 @@ pub mod Behind
 pub mod Served
 pub mod Staying
 pub mod Resting
+pub mod Doubting
+pub mod Faulted

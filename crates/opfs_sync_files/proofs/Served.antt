@@ -48,9 +48,11 @@ use Rattle.opfs_turns.specs.Agents.{AgentSeen, IsAgent, known, state_of}
 use Rattle.opfs_turns.specs.Calls.{IsEntered, HasLooked, kept_entry}
 use Rattle.opfs_turns.proofs.Keeping.{state-after}
 use Rattle.opfs_sync_files.specs.Entries.{IsIn, HasEntry, IsCaused, GoesOn}
-use Rattle.opfs_sync_files.specs.Files.{contents_at, file_bytes, flushed_by, stored_of, written, IsStill}
+use Rattle.opfs_sync_files.specs.Files.{contents_at, file_bytes, flushed_by, stored_of, written}
+use Rattle.opfs_sync_files.specs.Still.{TheBytes, IsStill}
 use Rattle.opfs_sync_files.specs.Resting.{LeavesRest}
 use Rattle.opfs_sync_files.proofs.Behind.{u, entered-entry, entered-goes, row-here, file-here, bytes-here, refused-bytes, accepted-bytes, refused-stored, accepted-stored, altered-bytes, flushed-bytes, handle-contents, read-leaves, size-leaves}
+use Rattle.opfs_sync_files.proofs.Faulted.{Decides, close-decides, local-doubts, shared-doubts}
 use Rattle.opfs_sync_files.proofs.Holding.{file_held, held, pending-held}
 use Rattle.opfs_sync_files.proofs.Knowing.{in-left, in-right, in-either, in-last, goes-none, goes-most}
 use Rattle.opfs_sync_files.proofs.Resting.{rest-entered, rest-local, rest-shared}
@@ -185,14 +187,28 @@ module _ {O : Type 0} (tells : Type 0) (before after : AgentSeen O) (kept : IsAg
   IsSame x y = (y.row ≡ x.row) × (y.file ≡ x.file) × (y.mode ≡ x.mode)
 
   pub shared-still : {T : Type 0} (called : Op) (Gives : T → Reply → Gift → Type 0) (r : Result T Stop) → asks_for_row called ≡ false → Shared tells before after called Gives r → (x y : HandleSeen) → row_used called ≡ x.row → HasHandle tells after y → IsSame x y
-      → IsStill tells before after x y
-  shared-still called Gives r none h x y used has same =
-      record { has = has; row = same.0; file = same.1; mode_is = same.2; goes = shared-goes called Gives r none h; others = subst (LeavesRest tells before after) used (rest-shared tells before after kept later called Gives r h) }
+      → HasHandle tells before x → (May : Text → Type 0) → Decides before x May called → IsStill tells before after x y May
+  shared-still called Gives r none h x y used has same had May decides = record {
+    has = has;
+    row = same.0;
+    file = same.1;
+    mode_is = same.2;
+    goes = shared-goes called Gives r none h;
+    others = subst (LeavesRest tells before after) used (rest-shared tells before after kept later called Gives r h);
+    doubts = shared-doubts tells before kept x had May after later called Gives r decides h;
+  }
 
   pub local-still : {T : Type 0} (called : Op) (Gives : T → Reply → Type 0) (r : Result T Stop) → Local tells before after called 0 Gives r → (x y : HandleSeen) → row_used called ≡ x.row → HasHandle tells after y → IsSame x y
-      → IsStill tells before after x y
-  local-still called Gives r h x y used has same =
-      record { has = has; row = same.0; file = same.1; mode_is = same.2; goes = local-goes called Gives r h; others = subst (LeavesRest tells before after) used (rest-local tells before after kept later called Gives r h) }
+      → (May : Text → Type 0) → IsStill tells before after x y May
+  local-still called Gives r h x y used has same May = record {
+    has = has;
+    row = same.0;
+    file = same.1;
+    mode_is = same.2;
+    goes = local-goes called Gives r h;
+    others = subst (LeavesRest tells before after) used (rest-local tells before after kept later called Gives r h);
+    doubts = λ tell. local-doubts tells before after called Gives r (place_of x.file) May h;
+  }
 
   module _ (x : HandleSeen) (has : HasHandle tells before x) (y : HandleSeen) (same : y.file ≡ x.file) where
     abbrev f : HandleFacts tells (state_of before) has.stands.row x.work x.file x.mode
@@ -472,9 +488,17 @@ module _ {O : Type 0} (tells : Type 0) (before after : AgentSeen O) (kept : IsAg
   close-stores (Ok closed) done = close-stored tells before after kept later x has x refl IsAnyDone closed.row done
   close-stores (Err e) done = tt
 
-  pub close-still : (r : Result ClosedSync (HandleSeen × Stop)) → Back r → IfErr r (λ back. IsStill tells before after x back.0)
+  pub close-still : (r : Result ClosedSync (HandleSeen × Stop)) → Back r → IfErr r (λ back. IsStill tells before after x back.0 (TheBytes (file_bytes before x)))
   close-still (Ok closed) back = tt
-  close-still (Err e) back = record { has = back.open_still; row = back.row; file = back.file; mode_is = back.mode; goes = close-goes (Err e) tt back; others = close-leaves (Err e) tt back }
+  close-still (Err e) back = record {
+    has = back.open_still;
+    row = back.row;
+    file = back.file;
+    mode_is = back.mode;
+    goes = close-goes (Err e) tt back;
+    others = close-leaves (Err e) tt back;
+    doubts = shared-doubts tells before kept x has (TheBytes (file_bytes before x)) after later (op.SyncClose x.row) IsAnyDone (Err e.1) (close-decides before x) (as-shared tells before after (op.SyncClose x.row) e.1 back.stopped);
+  }
 
   pub close-same : (r : Result ClosedSync (HandleSeen × Stop)) → Back r → IfErr r (λ back. file_bytes after back.0 ≡ file_bytes before x)
   close-same (Ok closed) back = tt

@@ -24,7 +24,7 @@ pub record StaysSince {O : Type 0} (tells : Type 0) (before after : AgentSeen O)
   pub fronts : tells → (front rest : List Change) → more ≡ front ++ rest → (m : Map) → standing_at (fold changed m front) p ≡ fold (kept_by p) (standing_at m p) front
 
 -- A handle that is open behind local calls was open before them.
-base-held : {O : Type 0} (tells : Type 0) (a : AgentSeen O) (kept : IsAgent tells a) (x : HandleSeen) (has : HasHandle tells a x)
+pub base-held : {O : Type 0} (tells : Type 0) (a : AgentSeen O) (kept : IsAgent tells a) (x : HandleSeen) (has : HasHandle tells a x)
     → (h : HandleRow) × (own_of (agent_of (state_after a.opening a.pass.base) a.pass.agent) x.row ≡ Some (own.Handle h)) × (h.file ≡ place_of x.file)
 base-held tells a kept x has =
     let f : HandleFacts tells (state_of a) has.stands.row x.work x.file x.mode = facts tells a x has in

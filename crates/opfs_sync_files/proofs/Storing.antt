@@ -40,7 +40,7 @@ use Rattle.opfs_sync_files.proofs.Holding.{file_held, held, held-row}
 -- ---- what one entry stores
 
 -- No content of a place, or one that is all.
-abbrev Stores : Place → List Change → Type 0
+abbrev pub Stores : Place → List Change → Type 0
 Stores p cs = (contents_at p cs ≡ []) ⊎ ((stamp : ℕ) × (bytes : Text) × (cs ≡ content p stamp bytes ∷ []))
 
 one-content : (p q : Place) (stamp : ℕ) (bytes : Text) → Stores p (content q stamp bytes ∷ [])
@@ -83,7 +83,7 @@ handle-stores p s (Some h) =
       | false ↦ inl refl
     ]
 
-call-stores : (p : Place) (s : State Text Own) (k : ℕ) (o : Op) → Stores p (stored_by s k o)
+pub call-stores : (p : Place) (s : State Text Own) (k : ℕ) (o : Op) → Stores p (stored_by s k o)
 unfolding stored_by
 call-stores p s k (op.GetDirectory bucket) = root-stores p s bucket (agent_of s k).key
 call-stores p s k (op.GetDirectoryHandle dir name create) = missing-stores p (row_at s (child (place_of dir) name)) (make_directory (child (place_of dir) name)) refl

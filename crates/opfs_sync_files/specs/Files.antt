@@ -6,7 +6,7 @@ use Rattle.opfs_base.specs.Places.{Place, place_cmp, place_of}
 use Rattle.opfs_base.specs.Texts.{Text}
 use Rattle.opfs_calls.specs.Answers.{Shared}
 use Rattle.opfs_calls.specs.Locals.{Local}
-use Rattle.opfs_calls.specs.Rows.{HandleSeen, HasHandle}
+use Rattle.opfs_calls.specs.Rows.{HandleSeen}
 use Rattle.opfs_calls.specs.declared.stop.Stop.{Stop}
 use Rattle.opfs_hist.specs.declared.op.Mode.{Mode}
 use Rattle.opfs_hist.specs.declared.op.Mode.TheVariants as mode
@@ -15,8 +15,6 @@ use Rattle.opfs_hist.specs.declared.reply.Reply.TheVariants as reply
 use Rattle.opfs_machine.specs.Changes.{Change, content, changes}
 use Rattle.opfs_machine.specs.Replies.{bytes_at}
 use Rattle.opfs_turns.specs.Agents.{AgentSeen, state_of}
-use Rattle.opfs_sync_files.specs.Entries.{GoesOn}
-use Rattle.opfs_sync_files.specs.Resting.{LeavesRest}
 
 -- The present bytes of an access handle's file.
 abbrev pub file_bytes : {O : Type 0} → AgentSeen O → HandleSeen → Text
@@ -38,16 +36,6 @@ stored_of a h = contents_at (place_of h.file) (changes a.opening a.pass.base)
 abbrev pub flushed_by : Mode → Text → List Text
 flushed_by mode.ReadWrite bytes = bytes ∷ []
 flushed_by mode.ReadOnly bytes = []
-
--- An access handle is still open after a call, on the same file, and its agent has at most one entry more. The agent's other own
--- rows are as they were.
-pub record IsStill {O : Type 0} (tells : Type 0) (before after : AgentSeen O) (old new : HandleSeen) : Type 0 where
-  pub has : HasHandle tells after new
-  pub row : new.row ≡ old.row
-  pub file : new.file ≡ old.file
-  pub mode_is : new.mode ≡ old.mode
-  pub goes : GoesOn before after 1
-  pub others : LeavesRest tells before after old.row
 
 -- A read of so many bytes from a place on is one call: under the turn, or of what the agent has.
 abbrev pub ReadsOnce : {O : Type 0} → Type 0 → AgentSeen O → AgentSeen O → ℕ → ℕ → ℕ → Result Text Stop → Type 0

@@ -1,3 +1,5 @@
+pub mod Doubts
 pub mod Entries
 pub mod Files
 pub mod Resting
+pub mod Still

@@ -3,8 +3,9 @@
 ghost use Rattle.std.specs.Prelude.{◌≡◌, ◌++◌, IfOk, IfErr};
 ghost use Rattle.opfs_calls.specs.Rows.{HasClosedHandle, HasHandle};
 ghost use Rattle.opfs_sync_files.specs.Entries.{GoesOn, IsCaused};
-ghost use Rattle.opfs_sync_files.specs.Files.{file_bytes, flushed_by, stored_of, IsStill};
+ghost use Rattle.opfs_sync_files.specs.Files.{file_bytes, flushed_by, stored_of};
 ghost use Rattle.opfs_sync_files.specs.Resting.{LeavesRest};
+ghost use Rattle.opfs_sync_files.specs.Still.{TheBytes, IsStill};
 ghost use Rattle.opfs_turns.specs.Calls.{HasRoom};
 
 use opfs_acts::Store;
@@ -29,7 +30,7 @@ pub fn close<S: Store, R: Wait>(
     ensures goes { GoesOn agent.old agent.new 1 }
     ensures others { LeavesRest S.tells agent.old agent.new handle.row }
     ensures stored { IfOk result (λ closed. stored_of agent.new handle ≡ stored_of agent.old handle ++ flushed_by handle.mode (file_bytes agent.old handle)) }
-    ensures still { IfErr result (λ back. IsStill S.tells agent.old agent.new handle back.0) }
+    ensures still { IfErr result (λ back. IsStill S.tells agent.old agent.new handle back.0 (TheBytes (file_bytes agent.old handle))) }
     ensures same { IfErr result (λ back. file_bytes agent.new back.0 ≡ file_bytes agent.old handle) }
     ensures unstored { IfErr result (λ back. stored_of agent.new back.0 ≡ stored_of agent.old handle) }
     ensures cause { IfErr result (λ back. IsCaused agent.old agent.new back.1) }

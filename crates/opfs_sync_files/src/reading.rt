@@ -5,7 +5,8 @@ ghost use Rattle.opfs_acts.specs.Asking.{IsSmall};
 ghost use Rattle.opfs_calls.specs.Rows.{HasHandle};
 ghost use Rattle.opfs_splice.specs.Splicing.{window};
 ghost use Rattle.opfs_sync_files.specs.Entries.{IsCaused};
-ghost use Rattle.opfs_sync_files.specs.Files.{file_bytes, stored_of, IsStill, ReadsOnce};
+ghost use Rattle.opfs_sync_files.specs.Files.{file_bytes, stored_of, ReadsOnce};
+ghost use Rattle.opfs_sync_files.specs.Still.{NoBytes, IsStill};
 ghost use Rattle.opfs_turns.specs.Calls.{HasRoom};
 ghost use Rattle.opfs_work.specs.Works.{IsNearRead};
 
@@ -21,7 +22,7 @@ use std::sync::Wait;
 pub fn size<S: Store>(agent: &mut Agent<S>, handle: &SyncHandle) -> Result<u64, Stop>
     requires room { HasRoom agent.old }
     requires handle { HasHandle S.tells agent.old handle.now }
-    ensures still { IsStill S.tells agent.old agent.new handle.now handle.now }
+    ensures still { IsStill S.tells agent.old agent.new handle.now handle.now NoBytes }
     ensures size { IfOk result (λ size. size ≡ length (file_bytes agent.old handle.now)) }
     ensures same { file_bytes agent.new handle.now ≡ file_bytes agent.old handle.now }
     ensures stored { stored_of agent.new handle.now ≡ stored_of agent.old handle.now }
@@ -47,7 +48,7 @@ pub fn read<S: Store, R: Wait>(
     requires handle { HasHandle S.tells agent.old handle.old }
     requires len { IsSmall len }
     requires at { IsSmall at }
-    ensures still { IsStill S.tells agent.old agent.new handle.old handle.new }
+    ensures still { IsStill S.tells agent.old agent.new handle.old handle.new NoBytes }
     ensures once { ReadsOnce S.tells agent.old agent.new handle.old.row len at result }
     ensures read { IfOk result (λ bytes. S.tells → bytes ≡ window (file_bytes agent.old handle.old) at len) }
     ensures long { IfOk result (λ bytes. length bytes ≡ length (window (file_bytes agent.old handle.old) at len)) }
@@ -71,7 +72,7 @@ fn read_near<S: Store>(
     requires room { HasRoom agent.old }
     requires handle { HasHandle S.tells agent.old handle.old }
     requires near { IsNearRead handle.old.work at len }
-    ensures still { IsStill S.tells agent.old agent.new handle.old handle.new }
+    ensures still { IsStill S.tells agent.old agent.new handle.old handle.new NoBytes }
     ensures once { ReadsOnce S.tells agent.old agent.new handle.old.row len at result }
     ensures read { IfOk result (λ bytes. S.tells → bytes ≡ window (file_bytes agent.old handle.old) at len) }
     ensures long { IfOk result (λ bytes. length bytes ≡ length (window (file_bytes agent.old handle.old) at len)) }
@@ -99,7 +100,7 @@ fn read_far<S: Store, R: Wait>(
     requires handle { HasHandle S.tells agent.old handle.old }
     requires len { IsSmall len }
     requires at { IsSmall at }
-    ensures still { IsStill S.tells agent.old agent.new handle.old handle.new }
+    ensures still { IsStill S.tells agent.old agent.new handle.old handle.new NoBytes }
     ensures once { ReadsOnce S.tells agent.old agent.new handle.old.row len at result }
     ensures read { IfOk result (λ bytes. S.tells → bytes ≡ window (file_bytes agent.old handle.old) at len) }
     ensures long { IfOk result (λ bytes. length bytes ≡ length (window (file_bytes agent.old handle.old) at len)) }

@@ -5,7 +5,8 @@ ghost use Rattle.opfs_acts.specs.Asking.{IsSmall, IsSmallData};
 ghost use Rattle.opfs_calls.specs.Rows.{HasHandle};
 ghost use Rattle.opfs_splice.specs.Splicing.{resize, splice};
 ghost use Rattle.opfs_sync_files.specs.Entries.{IsCaused};
-ghost use Rattle.opfs_sync_files.specs.Files.{file_bytes, flushed_by, stored_of, written, IsStill};
+ghost use Rattle.opfs_sync_files.specs.Files.{file_bytes, flushed_by, stored_of, written};
+ghost use Rattle.opfs_sync_files.specs.Still.{NoBytes, TheBytes, IsStill};
 ghost use Rattle.opfs_turns.specs.Calls.{HasRoom};
 
 use opfs_acts::Store;
@@ -40,7 +41,7 @@ pub fn write<S: Store, R: Wait>(
     requires handle { HasHandle S.tells agent.old handle.old }
     requires bytes { IsSmallData bytes.now }
     requires at { IsSmall at }
-    ensures still { IsStill S.tells agent.old agent.new handle.old handle.new }
+    ensures still { IsStill S.tells agent.old agent.new handle.old handle.new NoBytes }
     ensures wrote { OnOk result (file_bytes agent.new handle.new ≡ splice (file_bytes agent.old handle.old) at bytes.now) }
     ensures same { OnErr result (file_bytes agent.new handle.new ≡ file_bytes agent.old handle.old) }
     ensures stored { stored_of agent.new handle.new ≡ stored_of agent.old handle.old }
@@ -64,7 +65,7 @@ pub fn truncate<S: Store, R: Wait>(
     requires room { HasRoom agent.old }
     requires handle { HasHandle S.tells agent.old handle.old }
     requires size { IsSmall size }
-    ensures still { IsStill S.tells agent.old agent.new handle.old handle.new }
+    ensures still { IsStill S.tells agent.old agent.new handle.old handle.new NoBytes }
     ensures cut { OnOk result (file_bytes agent.new handle.new ≡ resize (file_bytes agent.old handle.old) size) }
     ensures same { OnErr result (file_bytes agent.new handle.new ≡ file_bytes agent.old handle.old) }
     ensures stored { stored_of agent.new handle.new ≡ stored_of agent.old handle.old }
@@ -86,7 +87,7 @@ pub fn flush<S: Store, R: Wait>(
     requires own { agent.old.pass.hall ≡ court.now }
     requires room { HasRoom agent.old }
     requires handle { HasHandle S.tells agent.old handle.old }
-    ensures still { IsStill S.tells agent.old agent.new handle.old handle.new }
+    ensures still { IsStill S.tells agent.old agent.new handle.old handle.new (TheBytes (file_bytes agent.old handle.old)) }
     ensures same { file_bytes agent.new handle.new ≡ file_bytes agent.old handle.old }
     ensures stored { OnOk result (stored_of agent.new handle.new ≡ stored_of agent.old handle.old ++ flushed_by handle.old.mode (file_bytes agent.old handle.old)) }
     ensures unstored { OnErr result (stored_of agent.new handle.new ≡ stored_of agent.old handle.old) }

@@ -1,9 +1,8 @@
 use Rattle.std.proofs.Common.{◌∙◌, arith}
-use Rattle.opfs_kv_words.specs.Maps.{Map}
 use Rattle.opfs_kv.specs.Seen.{seen}
-use Rattle.opfs_kv.proofs.Flushing.{flushes-then}
+use Rattle.opfs_kv.proofs.Flushing.{flush-left, flushes-then}
 use Rattle.opfs_kv.proofs.Rooms.{places-room, room-after}
-use Rattle.opfs_kv.proofs.Serving.{serves-most, serves-then, still-serves}
+use Rattle.opfs_kv.proofs.Serving.{serves-most}
 use Rattle.opfs_sync_files.proofs.Knowing.{caused-later}
 use Rattle.opfs_kv.proofs.storing.store.Goals as goal
 
@@ -26,9 +25,7 @@ pub returns-in-Ok-flush-clause-flushed : goal.returns-in-Ok-flush-clause-flushed
 returns-in-Ok-flush-clause-flushed g c = flushes-then g.S.Store.tells c.args.agent.now c.cut.new.agent (seen c.args.handle.now c.args.notes.now) (seen c.cut.new.handle c.cut.new.notes) c.in-Ok.ensures.serves c.in-Ok.ensures.none c.flush.new.agent c.flush.new.handle c.in-Ok-flush.ensures.still c.in-Ok-flush.ensures.same c.in-Ok-flush.ensures.stored
 
 pub returns-in-Err-flush-clause-left : goal.returns-in-Err-flush-clause-left
-returns-in-Err-flush-clause-left g c =
-    serves-then g.S.Store.tells c.args.agent.now c.cut.new.agent c.flush.new.agent (seen c.args.handle.now c.args.notes.now) (seen c.cut.new.handle c.cut.new.notes) (seen c.flush.new.handle c.cut.new.notes) 1 1 (λ (m : Map). m) c.in-Ok.ensures.serves
-    (still-serves g.S.Store.tells c.cut.new.agent c.flush.new.agent (seen c.cut.new.handle c.cut.new.notes) c.in-Ok.ensures.serves.stands c.flush.new.handle c.in-Err-flush.ensures.still c.in-Err-flush.ensures.unstored c.in-Err-flush.ensures.same)
+returns-in-Err-flush-clause-left g c = flush-left g.S.Store.tells c.args.agent.now c.cut.new.agent (seen c.args.handle.now c.args.notes.now) (seen c.cut.new.handle c.cut.new.notes) c.in-Ok.ensures.serves c.in-Ok.ensures.none c.flush.new.agent c.flush.new.handle c.in-Err-flush.ensures.still c.in-Err-flush.ensures.same c.in-Err-flush.ensures.unstored
 
 pub returns-in-Err-flush-clause-cause : goal.returns-in-Err-flush-clause-cause
 returns-in-Err-flush-clause-cause g c = caused-later c.args.agent.now c.cut.new.agent c.flush.new.agent 1 c.in-Err-flush.unstored c.in-Ok.ensures.serves.goes c.in-Err-flush.ensures.cause

@@ -1,4 +1,4 @@
-use Rattle.std.proofs.Common.{◌≡◌, ◌+◌, ◌*◌, ◌<◌, ◌≤◌, List, [], ◌∷◌, ◌++◌, length, get_or, take, rules, subst, sym, ap, ◌∙◌, arith}
+use Rattle.std.proofs.Common.{◌≡◌, ◌+◌, List, [], ◌∷◌, ◌++◌, length, take, rules, subst, sym, ap, ◌∙◌, arith}
 use Rattle.std.proofs.lemmas.List.{length-append, length-take, take_all, take_more}
 use Rattle.opfs_sync_files.proofs.Staying.{stays-since}
 use Rattle.opfs_kv_runs.specs.declared.commands.KvOp.{KvOp}
@@ -33,4 +33,4 @@ returns-clause-stops g c = λ tell.
     subst (λ (xs : List KvOp). LeavesFronts c.args.agent.now c.loop-at.agent c.args.kv.now xs c.loop-at.list.items) all
     (leaves-fronts g.S.Store.tells c.args.agent.now c.loop-at.agent c.args.kv.now c.loop-at.kv (take c.loop-at.at c.args.ops.now) c.loop-at.list.items run.file
     (stays-since g.S.Store.tells c.args.agent.now c.loop-at.agent c.kept.ensures c.kept-2.ensures c.args.kv.now.handle c.loop-at.kv.handle _ c.requires.stands.has run.stands.has run.row run.goes)
-    run.stored tell)
+    run.stored run.goes run.doubts tell)

@@ -4,11 +4,13 @@ use Rattle.opfs_base.specs.Texts.{Text}
 use Rattle.opfs_hist.specs.declared.op.Op.TheVariants as op
 use Rattle.opfs_hist.specs.declared.reply.Reply.{Reply}
 use Rattle.opfs_hist.specs.declared.reply.Reply.TheVariants as reply
+use Rattle.opfs_sync_files.specs.Still.{NoBytes}
+use Rattle.opfs_sync_files.proofs.Faulted.{read-decides}
 use Rattle.opfs_sync_files.proofs.Served.{far-long, far-read, far-same, far-stored, shared-cause, shared-still}
 use Rattle.opfs_sync_files.proofs.reading.read_far.Goals as goal
 
 pub returns-clause-still : goal.returns-clause-still
-returns-clause-still g c = shared-still g.S.Store.tells c.args.agent.now c.sync_read_far-done.new.self c.kept.ensures c.kept-2.ensures (op.SyncRead c.args.handle.now.row c.args.len (Some c.args.at)) (λ (bytes : Text) (answered : Reply) (given : Gift). answered ≡ reply.Read bytes) c.sync_read_far-done.result refl c.sync_read_far-done.ensures.shared c.args.handle.now c.sync_read_far-done.new.handle refl c.sync_read_far-done.ensures.handle c.sync_read_far-done.ensures.same
+returns-clause-still g c = shared-still g.S.Store.tells c.args.agent.now c.sync_read_far-done.new.self c.kept.ensures c.kept-2.ensures (op.SyncRead c.args.handle.now.row c.args.len (Some c.args.at)) (λ (bytes : Text) (answered : Reply) (given : Gift). answered ≡ reply.Read bytes) c.sync_read_far-done.result refl c.sync_read_far-done.ensures.shared c.args.handle.now c.sync_read_far-done.new.handle refl c.sync_read_far-done.ensures.handle c.sync_read_far-done.ensures.same c.requires.handle NoBytes (read-decides c.args.agent.now c.args.handle.now c.args.len (Some c.args.at))
 
 pub returns-clause-read : goal.returns-clause-read
 returns-clause-read g c = far-read g.S.Store.tells c.args.agent.now c.sync_read_far-done.new.self c.kept.ensures c.kept-2.ensures c.args.handle.now c.requires.handle c.sync_read_far-done.new.handle c.sync_read_far-done.ensures.same.1 c.args.len c.args.at c.sync_read_far-done.result c.sync_read_far-done.ensures.shared

@@ -3,11 +3,12 @@ use Rattle.opfs_base.specs.Texts.{Text}
 use Rattle.opfs_hist.specs.declared.op.Op.TheVariants as op
 use Rattle.opfs_hist.specs.declared.reply.Reply.{Reply}
 use Rattle.opfs_hist.specs.declared.reply.Reply.TheVariants as reply
+use Rattle.opfs_sync_files.specs.Still.{NoBytes}
 use Rattle.opfs_sync_files.proofs.Served.{local-cause, local-still, local-stored, near-long, near-read, near-same}
 use Rattle.opfs_sync_files.proofs.reading.read_near.Goals as goal
 
 pub returns-clause-still : goal.returns-clause-still
-returns-clause-still g c = local-still g.S.Store.tells c.args.agent.now c.sync_read-done.new.self c.kept.ensures c.kept-2.ensures (op.SyncRead c.args.handle.now.row c.args.len (Some c.args.at)) (λ (bytes : Text) (answered : Reply). answered ≡ reply.Read bytes) c.sync_read-done.result c.sync_read-done.ensures.local c.args.handle.now c.sync_read-done.new.handle refl c.sync_read-done.ensures.handle c.sync_read-done.ensures.same
+returns-clause-still g c = local-still g.S.Store.tells c.args.agent.now c.sync_read-done.new.self c.kept.ensures c.kept-2.ensures (op.SyncRead c.args.handle.now.row c.args.len (Some c.args.at)) (λ (bytes : Text) (answered : Reply). answered ≡ reply.Read bytes) c.sync_read-done.result c.sync_read-done.ensures.local c.args.handle.now c.sync_read-done.new.handle refl c.sync_read-done.ensures.handle c.sync_read-done.ensures.same NoBytes
 
 pub returns-clause-read : goal.returns-clause-read
 returns-clause-read g c = near-read g.S.Store.tells c.args.agent.now c.sync_read-done.new.self c.kept.ensures c.kept-2.ensures c.args.handle.now c.requires.handle c.sync_read-done.new.handle c.sync_read-done.ensures.same.1 c.args.len c.args.at c.sync_read-done.result c.sync_read-done.ensures.local

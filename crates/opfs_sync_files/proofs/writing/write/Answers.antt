@@ -6,11 +6,13 @@ use Rattle.opfs_hist.specs.declared.reply.Reply.TheVariants as reply
 use Rattle.opfs_splice.specs.Splicing.{splice}
 use Rattle.opfs_sync_files.specs.Entries.{IsCaused}
 use Rattle.opfs_sync_files.specs.Files.{file_bytes}
+use Rattle.opfs_sync_files.specs.Still.{NoBytes}
+use Rattle.opfs_sync_files.proofs.Faulted.{write-decides}
 use Rattle.opfs_sync_files.proofs.Served.{shared-cause, shared-still, written-cause, written-err, written-ok, wrote-bytes, wrote-same, wrote-stored}
 use Rattle.opfs_sync_files.proofs.writing.write.Goals as goal
 
 pub returns-clause-still : goal.returns-clause-still
-returns-clause-still g c = shared-still g.S.Store.tells c.args.agent.now c.sync_write-done.new.self c.kept.ensures c.kept-2.ensures (op.SyncWrite c.args.handle.now.row c.args.bytes.now (Some c.args.at)) (λ (count : ℕ) (answered : Reply) (given : Gift). answered ≡ reply.Length count) c.sync_write-done.result refl c.sync_write-done.ensures.shared c.args.handle.now c.sync_write-done.new.handle refl c.sync_write-done.ensures.handle c.sync_write-done.ensures.same
+returns-clause-still g c = shared-still g.S.Store.tells c.args.agent.now c.sync_write-done.new.self c.kept.ensures c.kept-2.ensures (op.SyncWrite c.args.handle.now.row c.args.bytes.now (Some c.args.at)) (λ (count : ℕ) (answered : Reply) (given : Gift). answered ≡ reply.Length count) c.sync_write-done.result refl c.sync_write-done.ensures.shared c.args.handle.now c.sync_write-done.new.handle refl c.sync_write-done.ensures.handle c.sync_write-done.ensures.same c.requires.handle NoBytes (write-decides c.args.agent.now c.args.handle.now c.args.bytes.now (Some c.args.at))
 
 pub returns-clause-wrote : goal.returns-clause-wrote
 returns-clause-wrote g c =
