@@ -9,7 +9,7 @@ use std::alloc::{AllocError, Global};
 use std::sync::Wait;
 use std::test::Fail;
 
-const COUNT: u32 = 1_000;
+const COUNT: u32 = 10_000;
 
 // The value of a number's key: 100 bytes.
 fn value_of(alloc: Global, number: u32) -> Result<Bytes, AllocError> {
@@ -76,8 +76,8 @@ fn finds_all<R: AllocGlobal + Wait>(rt: &R) -> Result<bool, AllocError> {
     let (disk, _, puts) = visit_of(rt, disk, COUNT, true)?;
     let (disk, none, _) = visit_of(rt, disk, 0, false)?;
     let (_, some, gets) = visit_of(rt, disk, COUNT, false)?;
-    let all = puts.len() == 1_000 && gets.len() == 1_000;
-    Ok(all && are_values(&gets) && some <= none.saturating_add(1_000))
+    let all = puts.len() == 10_000 && gets.len() == 10_000;
+    Ok(all && are_values(&gets) && some <= none.saturating_add(10_000))
 }
 
 #[test]
