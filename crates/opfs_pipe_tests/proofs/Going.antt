@@ -220,11 +220,11 @@ module _ {O : Type 0} (tells : Type 0) (hall : HallSeen O) (a b : AgentSeen O) (
   opened-has at (Err why) h = tt
 
   -- A close or an abort.
-  pub spent-ready : (called : Op) (row closed : ℕ) → asks_for_row called ≡ false → row_used called ≡ row → IsClosed tells a b called row closed → IsReady hall a row → IsReady hall b 0
-  spent-ready called row closed plain used h ready =
-      let on = ready-on row 1 (entered-goes tells a b kept later called reply.Done h.given h.entered plain)
+  pub spent-ready : (called : Op) (n closed : ℕ) → asks_for_row called ≡ false → row_used called ≡ n → IsClosed tells a b called n closed → IsReady hall a n → IsReady hall b 0
+  spent-ready called n closed plain used h ready =
+      let on = ready-on n 1 (entered-goes tells a b kept later called reply.Done h.given h.entered plain)
       (subst (LeavesRest tells a b) used (rest-entered tells a b kept later called reply.Done h.given h.entered)) ready in
-      ready-closed row closed h.same h.has on
+      ready-closed n closed h.same h.has on
 
   pub spent-more : (called : Op) (row closed : ℕ) → IsClosed tells a b called row closed → Goes a b 1
   spent-more called row closed h = entered-more called reply.Done h.given h.entered
