@@ -64,13 +64,14 @@ is_grant value =
 abbrev pub grant_among : List json.Data → Option Bool
 grant_among items = elim (list_all is_grant items) [ true ↦ Some (nat_lt 0 (length items)) | false ↦ None ]
 
--- The grant of an agent: none where it has no such member.
+-- The grant that a member tells: none where there is no such member.
+abbrev pub granted_by : Option json.Data → Option Bool
+granted_by None = Some false
+granted_by (Some member) = option_and_then grant_among (option_map values_of (as_array member))
+
+-- The grant of an agent.
 abbrev pub grant_of : json.Data → Option Bool
-grant_of value =
-    elim (get (codes "grants") value) [
-      | None ↦ Some false
-      | Some member ↦ option_and_then grant_among (option_map values_of (as_array member))
-    ]
+grant_of value = granted_by (get (codes "grants") value)
 
 -- What an agent says besides its steps' members: its origin, its grant, and its steps as they stand.
 abbrev pub Head : Type 0

@@ -8,7 +8,7 @@ ghost use Rattle.opfs_script.specs.Reading.{agent_of, each_from};
 ghost use Rattle.opfs_script.specs.Answers.{Answers};
 
 use crate::draft::Draft;
-use crate::head::{head_of, key_of};
+use crate::head::{head_of, read_origin};
 use crate::limits::bytes_asked;
 use crate::refusal::ScriptRefusal;
 use crate::script::AgentScript;
@@ -46,7 +46,7 @@ fn agent_of(alloc: Global, agent: u64, value: &Value) -> Result<Draft, ScriptRef
     let Some(head) = head_of(value) else {
         return Err(ScriptRefusal::BadShape(agent, 0));
     };
-    let key = key_of(alloc, agent, head.origin)?;
+    let key = read_origin(alloc, agent, head.origin)?;
     let steps = steps_of(alloc, agent, head.steps)?;
     Ok(Draft::make(key, head.grant, steps))
 }

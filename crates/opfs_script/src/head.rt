@@ -7,7 +7,7 @@ ghost use Rattle.opfs_script.specs.Heads.{seen};
 ghost use Rattle.opfs_script.specs.Limits.{is_origin_key};
 ghost use Rattle.opfs_script.specs.Members.{values, values_of};
 ghost use Rattle.serde_json.specs.Find.{as_array};
-ghost use Rattle.opfs_script.specs.Reading.{is_grant, grant_among, grant_of, head_of, key_of_agent};
+ghost use Rattle.opfs_script.specs.Reading.{is_grant, grant_among, granted_by, head_of, key_of_agent};
 ghost use Rattle.opfs_script.specs.Answers.{Answers};
 
 use crate::members::{has_only, text_of};
@@ -35,7 +35,7 @@ pub fn head_of(value: &Value) -> Option<Head<'_>>
         return None;
     }
     let origin = text_of(value, "origin")?;
-    let grant = grant_of(value)?;
+    let grant = read_grant(value.get("grants"))?;
     let steps = values(value, "steps")?;
     Some(Head {
         origin,
@@ -64,11 +64,12 @@ fn items_of(value: &Value) -> Option<&[Value]>
     }
 }
 
-// The grant of an agent.
-fn grant_of(value: &Value) -> Option<bool>
-    ensures { result ≡ grant_of (view value.now) }
+/// Whether an agent has the grant, by its member `grants`: not, where it has no such member. None where that is no array that
+/// names the one grant alone.
+pub fn read_grant(member: Option<&Value>) -> Option<bool>
+    ensures { result ≡ granted_by (option_map (λ value. view value.now) member.entry) }
 {
-    match value.get("grants") {
+    match member {
         None => Some(false),
         Some(member) => match items_of(member) {
             Some(items) => grant_among(items),
@@ -105,8 +106,9 @@ fn is_grant(item: &Value) -> bool
     }
 }
 
-/// The key of an agent: none where its origin is opaque.
-pub fn key_of(alloc: Global, agent: u64, origin: &str) -> Result<Option<Key>, ScriptRefusal>
+/// The key of an agent by the URL of its origin: none where that is opaque. An error is that it is no origin's, or want of
+/// memory.
+pub fn read_origin(alloc: Global, agent: u64, origin: &str) -> Result<Option<Key>, ScriptRefusal>
     ensures key { Answers result (key_of_agent agent origin.now) }
     ensures origin { IfOk result (λ key. IsTrue (is_origin_key key)) }
 {

@@ -16,7 +16,10 @@ mod steps;
 mod telling;
 mod words;
 
+pub use head::{read_grant, read_origin};
+pub use limits::bytes_asked;
 pub use reader::read_script;
 pub use refusal::ScriptRefusal;
 pub use script::{AgentScript, Script};
 pub use step::Step;
+pub use steps::read_step;

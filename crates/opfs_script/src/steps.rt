@@ -33,7 +33,7 @@ fn each_step(alloc: Global, agent: u64, values: &[Value]) -> Result<Vec<Step>, S
 {
     let mut steps = Vec::new(alloc);
     for (place, value) in values.iter().enumerate() {
-        let step = step_of(alloc, agent, place as u64 + 1, value)?;
+        let step = read_step(alloc, agent, place as u64 + 1, value)?;
         push(&mut steps, step)?;
     }
     Ok(steps)
@@ -50,9 +50,15 @@ pub fn push<T: Drop>(list: &mut Vec<T>, item: T) -> Result<(), ScriptRefusal>
     }
 }
 
-// A step of an agent.
+/// The step of an agent that a JSON value is; its number counts from one on, and stands in a refusal. An error is that the
+/// word is unknown, that the value is of another shape or passes a bound, or want of memory.
 #[tactic(auto, unfolding(crate::specs::Reading::step_of))]
-fn step_of(alloc: Global, agent: u64, number: u64, value: &Value) -> Result<Step, ScriptRefusal>
+pub fn read_step(
+    alloc: Global,
+    agent: u64,
+    number: u64,
+    value: &Value,
+) -> Result<Step, ScriptRefusal>
     ensures step { Answers result (step_of agent number (view value.now)) }
     ensures bounded { IfOk result (λ step. IsTrue (keeps_bounds step)) }
 {
