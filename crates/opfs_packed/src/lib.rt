@@ -8,5 +8,5 @@ mod texts;
 
 pub use script::{PackedAgent, PackedScript};
 pub use steps::StepsAhead;
-pub use telling::step_told;
+pub use telling::{bytes_told, step_told};
 pub use texts::{Texts, TextsAhead};

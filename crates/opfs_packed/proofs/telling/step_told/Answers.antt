@@ -12,7 +12,7 @@ pub returns-in-Ok-from_str : goal.returns-in-Ok-from_str
 unfolding step_told
 returns-in-Ok-from_str c =
     let read = json_of-text c.args.text.now c.in-Ok.ensures.cases.1 ∙ (rw c.in-Ok.ensures.cases.0 at c.in-Ok-from_str.ensures.ok) in
-    subst (λ value. IfOk c.step_of.result (λ step. step ≡ told_by value)) (sym read) c.step_of.ensures
+    subst (λ value. IfOk c.step_in.result (λ step. step ≡ told_by value)) (sym read) c.step_in.ensures
 
 pub returns-in-Err-2 : goal.returns-in-Err-2
 unfolding step_told

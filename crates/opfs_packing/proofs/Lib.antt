@@ -1,0 +1,9 @@
+pub mod Grammar
+pub mod Values
+pub mod Telling
+pub mod Stepping
+pub mod Naming
+pub mod Gathering
+pub mod Heading
+pub mod Listing
+pub mod Topping

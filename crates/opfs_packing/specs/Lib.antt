@@ -1,0 +1,5 @@
+pub mod Agents
+pub mod Members
+pub mod Steps
+pub mod Sums
+pub mod Values

@@ -1,0 +1,10 @@
+//! The reader of scripts that keeps each step as its text: it goes over the tokens of a JSON text once, and holds no tree of it.
+#![tactic(auto)]
+
+mod agent;
+mod agents;
+mod members;
+mod reading;
+mod steps;
+mod sums;
+mod value;
