@@ -71,7 +71,7 @@ impl Texts {
 }
 
 /// The texts that are still to come, seen as the list of them.
-#[derive(Debug)]
+#[derive(Debug, Drop)]
 pub struct TextsAhead<'a> {
     lengths: &'a [u32],
     bytes: &'a [u8],
