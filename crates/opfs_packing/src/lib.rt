@@ -8,3 +8,5 @@ mod reading;
 mod steps;
 mod sums;
 mod value;
+
+pub use reading::read_packed;
