@@ -1,4 +1,5 @@
 pub mod Apart
+pub mod Beginning
 pub mod Calling
 pub mod Entering
 pub mod Finding

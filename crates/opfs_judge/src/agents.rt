@@ -9,6 +9,7 @@ ghost use Rattle.opfs_judge.specs.Players.{is_gone, starting};
 
 use crate::player::Player;
 use opfs_base::Bytes;
+use opfs_packed::PackedAgent;
 use opfs_script::AgentScript;
 use std::alloc::{AllocError, Global};
 
@@ -22,6 +23,20 @@ pub fn players_of<'a>(
     let mut players = Vec::new(alloc);
     for script in scripts {
         players.push(Player::make(alloc, script)?)?;
+    }
+    Ok(players)
+}
+
+/// The agents of a script whose steps are texts, before their first steps.
+pub fn packed_players_of<'a>(
+    alloc: Global,
+    scripts: &'a [PackedAgent],
+) -> Result<Vec<Player<'a>>, AllocError>
+    ensures { IfOk result (λ players. players.items ≡ map starting scripts.now) }
+{
+    let mut players = Vec::new(alloc);
+    for script in scripts {
+        players.push(Player::make_packed(alloc, script)?)?;
     }
     Ok(players)
 }

@@ -43,6 +43,31 @@ fn read_groups(
     Ok(all_gone(players.as_slice()))
 }
 
+/// The machine over an empty store, with the agents of a script.
+pub(crate) fn state_of(alloc: Global, script: &Script) -> Result<State<Bytes, Own>, AllocError>
+    ensures state { IfOk result (λ state. state ≡ begun (trial_opening script.now)) }
+    ensures keys { OnOk result (All (λ a. IsTrue (is_origin_key a.key)) script.now) }
+{
+    let Plain { state, entries } = begin(alloc, script)?;
+    drop(entries);
+    Ok(state)
+}
+
+/// Whether a transcript is the text of entries in which nobody begins to wait, from a state and these agents on.
+pub(crate) fn is_told_by(
+    alloc: Global,
+    state: &mut State<Bytes, Own>,
+    players: &mut Vec<Player<'_>>,
+    transcript: &[u8],
+) -> Result<bool, AllocError>
+    requires few { length players.old.items ≤ 64 }
+    ensures { IfOk result (λ found. IsRead state.old players.old.items transcript.now found) }
+{
+    let fronts = fronts(alloc, players.len())?;
+    let found = read_groups(alloc, state, players, fronts.as_slice(), transcript)?;
+    Ok(found)
+}
+
 /// Whether a transcript is the text of entries in which nobody begins to wait.
 fn is_told(alloc: Global, script: &Script, transcript: &[u8]) -> Result<bool, AllocError>
     ensures read { IfOk result (λ found. IsRead (begun (trial_opening script.now)) (map starting script.now) transcript.now found) }
@@ -50,22 +75,14 @@ fn is_told(alloc: Global, script: &Script, transcript: &[u8]) -> Result<bool, Al
     ensures few { length script.now ≤ 64 }
 {
     let agents = script.agents();
-    let Plain { mut state, entries } = begin(alloc, script)?;
-    drop(entries);
+    let mut state = state_of(alloc, script)?;
     let mut players = players_of(alloc, agents)?;
-    let fronts = fronts(alloc, agents.len())?;
-    let found = read_groups(
-        alloc,
-        &mut state,
-        &mut players,
-        fronts.as_slice(),
-        transcript,
-    )?;
+    let found = is_told_by(alloc, &mut state, &mut players, transcript)?;
     Ok(found)
 }
 
 /// What is said of a transcript where nothing is left open.
-fn verdict_of(found: bool) -> Verdict
+pub(crate) fn verdict_of(found: bool) -> Verdict
     ensures { result ≡ verdict_of found }
 {
     if found { Verdict::Yes } else { Verdict::No }

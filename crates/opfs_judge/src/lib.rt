@@ -3,9 +3,11 @@
 #![tactic(auto)]
 
 pub mod agents;
+mod ahead;
 pub mod asking;
 mod front;
 pub mod judging;
+mod packed;
 mod player;
 pub mod settling;
 mod standing;
@@ -13,4 +15,5 @@ pub mod turn;
 pub mod verdict;
 
 pub use judging::judge;
+pub use packed::judge_packed;
 pub use verdict::Verdict;

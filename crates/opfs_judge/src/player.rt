@@ -1,13 +1,16 @@
 //! How far the run of an agent's script is.
 
-ghost use Rattle.std.specs.Prelude.{◌≡◌, ◌+◌, drop, Some, IfOk, OnOk};
-ghost use Rattle.opfs_told.specs.Goings.{asked, going_on};
-ghost use Rattle.opfs_judge.specs.Players.{starting, is_gone, end_of};
+ghost use Rattle.std.specs.Prelude.{◌≡◌, ◌+◌, List, drop, Some, IfOk, OnOk};
+ghost use Rattle.opfs_script.specs.declared.step.Step.{Step};
+ghost use Rattle.opfs_told.specs.Goings.{after_end, asked, going_on};
+ghost use Rattle.opfs_judge.specs.Players.{starting, standing, is_gone, end_of};
 
+use crate::ahead::Ahead;
 use opfs_base::copy_key;
 use opfs_hist::{Entry, Op};
+use opfs_packed::PackedAgent;
 use opfs_runs::{Hand, Open};
-use opfs_script::{AgentScript, Step};
+use opfs_script::AgentScript;
 use std::alloc::{AllocError, Global};
 use std::marker::Model;
 
@@ -24,17 +27,18 @@ pub enum Stage {
 pub struct Player<'a> {
     hand: Hand,
     number: u32,
-    steps: &'a [Step],
+    steps: Ahead<'a>,
     stage: Stage,
 }
 
 impl<'a> Model for Player<'a> {
     ghost use Rattle.opfs_told.specs.Goings.{Going};
     ghost use Rattle.opfs_judge.specs.Players.{standing};
+    ghost use Rattle.opfs_judge.specs.Steps.{steps_of};
 
     ghost Value = { Going };
 
-    ghost view = { λ player. standing player.hand player.number player.steps.now player.stage };
+    ghost view = { λ player. standing player.hand player.number (steps_of player.steps) player.stage };
 }
 
 /// The next number. One that 32 bits don't hold is want of memory.
@@ -57,6 +61,18 @@ fn ending(opened: &[Open], ended: usize) -> Op
     }
 }
 
+/// What an agent does behind an end, where so many of its open rows were ended before it.
+fn after_ending(hand: &Hand, number: &mut u32, ended: usize) -> Result<Stage, AllocError>
+    ensures { IfOk result (λ stage. (steps : List Step) → standing hand.now number.new steps stage ≡ after_end number.old (drop ended hand.now.opened)) }
+{
+    if ended < hand.opened().len() {
+        *number = next(*number)?;
+        Ok(Stage::Closing(ended + 1))
+    } else {
+        Ok(Stage::Gone)
+    }
+}
+
 impl<'a> Player<'a> {
     /// An agent before its first step.
     pub fn make(alloc: Global, script: &'a AgentScript) -> Result<Player<'a>, AllocError>
@@ -65,7 +81,19 @@ impl<'a> Player<'a> {
         Ok(Player {
             hand: Hand::make(alloc, copy_key(alloc, script.key())?),
             number: 1,
-            steps: script.steps(),
+            steps: Ahead::Read(script.steps()),
+            stage: Stage::Stepping,
+        })
+    }
+
+    /// An agent before its first step, where its steps are texts.
+    pub fn make_packed(alloc: Global, script: &'a PackedAgent) -> Result<Player<'a>, AllocError>
+        ensures { IfOk result (λ player. player ≡ starting script.now) }
+    {
+        Ok(Player {
+            hand: Hand::make(alloc, copy_key(alloc, script.key())?),
+            number: 1,
+            steps: Ahead::Told(script.steps()),
             stage: Stage::Stepping,
         })
     }
@@ -75,8 +103,8 @@ impl<'a> Player<'a> {
         ensures { IfOk result (λ next. next ≡ asked self.now) }
     {
         match self.stage {
-            Stage::Stepping => match self.steps.first() {
-                Some(step) => Ok(Some((self.number, self.hand.op_of(alloc, step)?))),
+            Stage::Stepping => match self.steps.op(alloc, &self.hand)? {
+                Some(op) => Ok(Some((self.number, op))),
                 None => Ok(Some((self.number, ending(self.hand.opened(), 0)))),
             },
             Stage::Closing(row) => Ok(Some((self.number, ending(self.hand.opened(), row)))),
@@ -96,25 +124,20 @@ impl<'a> Player<'a> {
         requires { asked self.old ≡ Some (entry.now.number, entry.now.op) }
         ensures { OnOk result (self.new ≡ going_on self.old entry.now.reply) }
     {
-        let row = match self.stage {
-            Stage::Stepping => match self.steps {
-                [step, more @ ..] => {
-                    self.hand.then(alloc, step, &entry.op, &entry.reply)?;
-                    self.steps = more;
+        match self.stage {
+            Stage::Stepping => {
+                if self.steps.go_on(alloc, &mut self.hand, entry)? {
                     self.number = next(self.number)?;
                     return Ok(());
                 }
-                [] => 0,
-            },
-            Stage::Closing(row) => row,
-            Stage::Gone => return Ok(()),
-        };
-        if row < self.hand.opened().len() {
-            self.number = next(self.number)?;
-            self.stage = Stage::Closing(row + 1);
-        } else {
-            self.stage = Stage::Gone;
+                self.stage = after_ending(&self.hand, &mut self.number, 0)?;
+                Ok(())
+            }
+            Stage::Closing(row) => {
+                self.stage = after_ending(&self.hand, &mut self.number, row)?;
+                Ok(())
+            }
+            Stage::Gone => Ok(()),
         }
-        Ok(())
     }
 }

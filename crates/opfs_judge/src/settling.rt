@@ -1,13 +1,15 @@
 //! Whether a transcript is settled: whether its text alone tells in what order its agents came to wait.
 
-ghost use Rattle.std.specs.Prelude.{◌≡◌, ◌+◌, ◌≤◌, drop, length};
+ghost use Rattle.std.specs.Prelude.{◌≡◌, ◌+◌, ◌≤◌, drop, length, IfOk};
 ghost use Rattle.std.specs.List.{list_any};
 ghost use Rattle.opfs_told.specs.Reading.{is_evict_line, is_stuck_line, tells_room_or_stuck};
 ghost use Rattle.opfs_judge.specs.Fronts.{first_line};
 ghost use Rattle.opfs_judge.specs.Verdicts.{is_unsettled};
-ghost use Rattle.opfs_waiting.specs.Fixed.{has_await};
+ghost use Rattle.opfs_waiting.specs.Fixed.{has_await, is_await};
 
+use opfs_packed::{PackedAgent, PackedScript};
 use opfs_script::{AgentScript, Script, Step};
+use std::alloc::{AllocError, Global};
 
 /// How many bytes stand in a text before its first line feed; all, where there is none.
 pub fn line_length(text: &[u8]) -> usize
@@ -65,14 +67,18 @@ fn tells_room_or_stuck(text: &[u8]) -> bool
     false
 }
 
+/// Whether a step is an await.
+fn is_await(step: &Step) -> bool
+    ensures { result ≡ is_await step.now }
+{
+    matches!(step, Step::Await { .. })
+}
+
 /// Whether an agent has an await.
 fn awaits(agent: &AgentScript) -> bool
     ensures { result ≡ has_await agent.now }
 {
-    agent
-        .steps()
-        .iter()
-        .any(|step| matches!(step, Step::Await { .. }))
+    agent.steps().iter().any(|step| is_await(step))
 }
 
 /// Whether one of these agents has an await.
@@ -82,9 +88,59 @@ fn one_awaits(agents: &[AgentScript]) -> bool
     agents.iter().any(|agent| awaits(agent))
 }
 
+/// Whether a step that is not wanted afterwards is an await.
+fn was_await(step: Step) -> bool
+    ensures { result ≡ is_await step }
+{
+    let found = is_await(&step);
+    drop(step);
+    found
+}
+
+/// Whether an agent whose steps are texts has an await.
+fn packed_awaits(alloc: Global, agent: &PackedAgent) -> Result<bool, AllocError>
+    ensures { IfOk result (λ found. found ≡ has_await agent.now) }
+{
+    let mut ahead = agent.steps();
+    while let Some(step) = ahead.next(alloc)? {
+        if was_await(step) {
+            return Ok(true);
+        }
+    }
+    Ok(false)
+}
+
+/// Whether one of these agents has an await.
+fn one_packed_awaits(alloc: Global, agents: &[PackedAgent]) -> Result<bool, AllocError>
+    ensures { IfOk result (λ found. found ≡ list_any has_await agents.now) }
+{
+    for agent in agents {
+        if packed_awaits(alloc, agent)? {
+            return Ok(true);
+        }
+    }
+    Ok(false)
+}
+
 /// Whether a script has an await and a transcript a line of an eviction, or of an agent that was stuck.
 pub fn is_unsettled(script: &Script, transcript: &[u8]) -> bool
     ensures { result ≡ is_unsettled script.now transcript.now }
 {
-    one_awaits(script.agents()) && tells_room_or_stuck(transcript)
+    tells_room_or_stuck(transcript) && one_awaits(script.agents())
+}
+
+/// The same of a script whose steps are texts: they are read only where the transcript has such a line.
+pub fn packed_is_unsettled(
+    alloc: Global,
+    script: &PackedScript,
+    transcript: &[u8],
+) -> Result<bool, AllocError>
+    ensures { IfOk result (λ unsettled. unsettled ≡ is_unsettled script.now transcript.now) }
+{
+    let told = tells_room_or_stuck(transcript);
+    if !told {
+        return Ok(false);
+    }
+    let found = one_packed_awaits(alloc, script.agents())?;
+    Ok(found)
 }
