@@ -16,4 +16,6 @@ mod measures;
 #[cfg(test)]
 mod names;
 #[cfg(test)]
+mod packed;
+#[cfg(test)]
 mod scripts;
