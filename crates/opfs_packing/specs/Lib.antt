@@ -1,4 +1,5 @@
 pub mod Agents
+pub mod Kept
 pub mod Members
 pub mod Steps
 pub mod Sums

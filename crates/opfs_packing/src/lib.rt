@@ -3,10 +3,11 @@
 
 mod agent;
 mod agents;
+mod kept;
 mod members;
 mod reading;
 mod steps;
 mod sums;
 mod value;
 
-pub use reading::read_packed;
+pub use kept::{KeptScript, read_kept};

@@ -53,9 +53,8 @@ fn read_script(alloc: Global, reader: &mut Reader<'_>) -> Result<Option<PackedSc
     }
 }
 
-/// The script that bytes are, with its steps kept as their texts. It takes, beside what it gives, as many bytes as the text has and
-/// the memory of one step. None where the bytes are no script that may be run, and where one is written so that the reader of whole
-/// texts alone can tell: where an agent's steps are given twice, the first time wrongly.
+/// The script that bytes are, with its steps kept as their texts; None where they are no script that may be run, or one that is
+/// written otherwise than plainly.
 pub fn read_packed(alloc: Global, bytes: &[u8]) -> Result<Option<PackedScript>, AllocError>
     ensures { IfOk result (λ found. IfSome found (λ script. reads bytes.now ≡ Ok script)) }
 {

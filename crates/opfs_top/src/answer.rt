@@ -4,6 +4,8 @@ ghost use Rattle.std.specs.Prelude.{◌≡◌, IfOk, flat_map, true};
 ghost use Rattle.opfs_commands.specs.Numbers.{may_generate};
 ghost use Rattle.opfs_gen.specs.Summing.{gen_text};
 ghost use Rattle.opfs_outside.specs.Turns.{of_source};
+ghost use Rattle.opfs_packing.specs.Kept.{seen};
+ghost use Rattle.opfs_judge.specs.Verdicts.{IsJudged};
 ghost use Rattle.opfs_print.specs.Status.{status_text};
 ghost use Rattle.opfs_print.specs.declared.end.End.TheVariants as end;
 ghost use Rattle.opfs_top.specs.Answers.{Outcome};
@@ -16,8 +18,9 @@ use opfs_base::Bytes;
 use opfs_commands::Generation;
 use opfs_desk_trial::try_script;
 use opfs_gen_run::generate;
-use opfs_judge::{Verdict, judge};
+use opfs_judge::{Verdict, judge, judge_packed};
 use opfs_outside::{Gate, Source};
+use opfs_packing::{KeptScript, read_kept};
 use opfs_print::{BadScript, End, status_line, transcript};
 use opfs_script::{Script, ScriptRefusal, read_script};
 use std::alloc::{AllocError, Global};
@@ -127,11 +130,25 @@ fn verdict_text(alloc: Global, verdict: Verdict) -> Result<Bytes, AllocError>
     Ok(text)
 }
 
-/// The line of the verdict on a script's transcript.
-fn judgement_text(alloc: Global, script: &Script, transcript: &[u8]) -> Result<Bytes, AllocError>
-    ensures { IfOk result (λ text. IsVerdictText script.now transcript.now text) }
+/// The verdict on a script's transcript, however the script is kept.
+fn judged(alloc: Global, script: &KeptScript, transcript: &[u8]) -> Result<Verdict, AllocError>
+    ensures { IfOk result (λ verdict. IsJudged (seen script.now) transcript.now verdict) }
 {
-    let verdict = judge(alloc, script, transcript)?;
+    match script {
+        KeptScript::Packed(script) => judge_packed(alloc, script, transcript),
+        KeptScript::Whole(script) => judge(alloc, script, transcript),
+    }
+}
+
+/// The line of the verdict on a script's transcript.
+fn judgement_text(
+    alloc: Global,
+    script: &KeptScript,
+    transcript: &[u8],
+) -> Result<Bytes, AllocError>
+    ensures { IfOk result (λ text. IsVerdictText (seen script.now) transcript.now text) }
+{
+    let verdict = judged(alloc, script, transcript)?;
     let text = verdict_text(alloc, verdict)?;
     Ok(text)
 }
@@ -141,7 +158,7 @@ fn judge_parts(alloc: Global, bytes: &[u8]) -> Result<Answer, AllocError>
     ensures { IfOk result (λ answer. Outcome Task.Judge bytes.now answer.status answer.text) }
 {
     let (script, transcript) = parts(bytes);
-    match read_script(alloc, script) {
+    match read_kept(alloc, script) {
         Ok(script) => {
             let text = judgement_text(alloc, &script, transcript)?;
             Ok(Answer {

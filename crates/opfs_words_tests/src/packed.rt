@@ -1,7 +1,7 @@
 //! Scripts that are kept as the texts of their steps.
 
 use opfs_packed::{PackedScript, StepsAhead, step_told};
-use opfs_packing::read_packed;
+use opfs_packing::{KeptScript, read_kept};
 use opfs_script::Step;
 use std::alloc::{AllocError, Global};
 
@@ -28,12 +28,25 @@ fn counts_of(alloc: Global, script: &PackedScript) -> Result<(usize, usize), All
     Ok((agents.len(), steps))
 }
 
-// The same of a text, where it is read.
+// The script of a text, where its steps are kept as texts.
+fn packed(alloc: Global, text: &[u8]) -> Option<PackedScript> {
+    match read_kept(alloc, text) {
+        Ok(KeptScript::Packed(script)) => Some(script),
+        _ => None,
+    }
+}
+
+// How many agents such a script has, and how many steps the first one has.
 fn counts(alloc: Global, text: &str) -> Result<Option<(usize, usize)>, AllocError> {
-    match read_packed(alloc, text.as_bytes())? {
+    match packed(alloc, text.as_bytes()) {
         Some(script) => Ok(Some(counts_of(alloc, &script)?)),
         None => Ok(None),
     }
+}
+
+// Whether a text is a script that was read whole.
+fn is_whole(alloc: Global, text: &str) -> bool {
+    matches!(read_kept(alloc, text.as_bytes()), Ok(KeptScript::Whole(_)))
 }
 
 #[test]
@@ -90,9 +103,28 @@ fn other_texts_are_left_to_the_reader_of_whole_texts(rt: HostRuntime) -> Result<
     for text in cases {
         assert_eq!(rt; counts(rt.alloc(), text)?, None, "{text}");
     }
-    let found = read_packed(rt.alloc(), b"{\"agents\":[]}\xff")?;
-    assert!(rt; found.is_none());
+    assert!(rt; packed(rt.alloc(), b"{\"agents\":[]}\xff").is_none());
     Ok(())
+}
+
+#[test]
+fn a_member_given_twice_is_read_whole(rt: HostRuntime) {
+    let cases = [
+        (r#"{"agents":1,"agents":[]}"#, true),
+        (
+            r#"{"agents":[{"origin":"nonsense","origin":"data:,x","steps":[]}]}"#,
+            true,
+        ),
+        (
+            r#"{"agents":[{"origin":"data:,x","steps":1,"steps":[]}]}"#,
+            true,
+        ),
+        (r#"{"agents":[]}"#, false),
+        (r#"{"agents":[1]}"#, false),
+    ];
+    for (text, wanted) in cases {
+        assert_eq!(rt; is_whole(rt.alloc(), text), wanted, "{text}");
+    }
 }
 
 // A script of so many agents, each with so many steps.
@@ -158,7 +190,7 @@ fn is_as_told(alloc: Global, script: &PackedScript) -> Result<bool, AllocError> 
 fn a_step_is_read_when_its_turn_comes(rt: HostRuntime) -> Result<(), AllocError> {
     let text =
         r#"{"agents":[{"origin":"https://a.example","grants":["persistent-storage"],"steps":[{"do":"truncate","stream":"w","size":7},{"do":"estimate"}]}]}"#;
-    let is_told = match read_packed(rt.alloc(), text.as_bytes())? {
+    let is_told = match packed(rt.alloc(), text.as_bytes()) {
         Some(script) => is_as_told(rt.alloc(), &script)?,
         None => false,
     };
