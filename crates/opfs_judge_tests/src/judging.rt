@@ -2,7 +2,9 @@
 
 use crate::replaying::{is_printed, played};
 use opfs_asking::{CHANGES, Deck, Draws, FEW_NAMES, altered, lines_of, script_of};
-use opfs_judge::{Verdict, judge};
+use opfs_judge::{Verdict, judge, judge_packed};
+use opfs_packed::PackedScript;
+use opfs_packing::{KeptScript, read_kept};
 use opfs_script::{Script, read_script};
 use std::alloc::{AllocError, Global};
 use std::test::Fail;
@@ -23,7 +25,7 @@ const DECK: Deck = Deck {
     tail: "]}",
 };
 
-// How often the judge said yes and no, and how often a replay says otherwise.
+// How often the judge said yes and no, and how often a replay, or the judge over the steps' texts, says otherwise.
 #[derive(Clone, Copy, Debug, PartialEq, Eq)]
 struct Seen {
     yes: u32,
@@ -31,12 +33,20 @@ struct Seen {
     apart: u32,
 }
 
-// The verdict on a text beside what a replay says.
-fn look(alloc: Global, script: &Script, text: &[u8], seen: &mut Seen) -> Result<(), AllocError> {
-    let printed = is_printed(alloc, script, text)?;
-    let verdict = judge(alloc, script, text)?;
+// A script as it was read whole, and with the texts of its steps.
+#[derive(Drop)]
+struct Both {
+    whole: Script,
+    packed: PackedScript,
+}
+
+// The verdicts on a text beside what a replay says.
+fn look(alloc: Global, script: &Both, text: &[u8], seen: &mut Seen) -> Result<(), AllocError> {
+    let printed = is_printed(alloc, &script.whole, text)?;
+    let verdict = judge(alloc, &script.whole, text)?;
+    let packed = judge_packed(alloc, &script.packed, text)?;
     let wanted = if printed { Verdict::Yes } else { Verdict::No };
-    if verdict != wanted {
+    if verdict != wanted || packed != wanted {
         seen.apart = seen.apart.saturating_add(1);
     }
     if verdict == Verdict::Yes {
@@ -48,9 +58,9 @@ fn look(alloc: Global, script: &Script, text: &[u8], seen: &mut Seen) -> Result<
 }
 
 // The verdicts on what a drawn script prints in a drawn order, and on that with a line changed, each change at a drawn place.
-fn look_at(alloc: Global, script: &Script, seed: u64, seen: &mut Seen) -> Result<(), AllocError> {
+fn look_at(alloc: Global, script: &Both, seed: u64, seen: &mut Seen) -> Result<(), AllocError> {
     let mut draws = Draws::make(seed);
-    let text = played(alloc, script, &mut draws)?;
+    let text = played(alloc, &script.whole, &mut draws)?;
     look(alloc, script, text.as_slice(), seen)?;
     let lines = lines_of(alloc, text.as_slice())?;
     if lines.is_empty() {
@@ -64,12 +74,16 @@ fn look_at(alloc: Global, script: &Script, seed: u64, seen: &mut Seen) -> Result
     Ok(())
 }
 
-// The script of a seed.
-fn script_at(alloc: Global, seed: u64) -> Result<Script, AllocError> {
+// The script of a seed. Its text is plain, so that both readers read it.
+fn script_at(alloc: Global, seed: u64) -> Result<Both, AllocError> {
     let text = script_of(alloc, seed, &DECK)?;
-    match read_script(alloc, text.as_bytes()) {
-        Ok(script) => Ok(script),
-        Err(_) => Err(AllocError),
+    let bytes = text.as_bytes();
+    let Ok(whole) = read_script(alloc, bytes) else {
+        return Err(AllocError);
+    };
+    match read_kept(alloc, bytes) {
+        Ok(KeptScript::Packed(packed)) => Ok(Both { whole, packed }),
+        _ => Err(AllocError),
     }
 }
 
