@@ -2,7 +2,7 @@
 use Rattle.std.proofs.Common.{◌≡◌, List, [], ◌∷◌, map, All, IsTrue, refl, ap}
 use Rattle.std.proofs.lemmas.List.Elements.{All-nil, All-cons, All-head, All-tail}
 use Rattle.opfs_machine.specs.Openings.{begun, empty_map}
-use Rattle.opfs_packed.specs.Telling.{without_steps}
+use Rattle.opfs_script_kept.specs.Packed.Telling.{without_steps}
 use Rattle.opfs_script.specs.Limits.{is_origin_key}
 use Rattle.opfs_script.specs.Scripts.{Asked}
 use Rattle.opfs_stage.specs.Openings.{trial_limits, trial_opening, who_of}

@@ -9,8 +9,8 @@ ghost use Rattle.opfs_judge.specs.Players.{is_gone, starting};
 
 use crate::player::Player;
 use opfs_base::Bytes;
-use opfs_packed::PackedAgent;
 use opfs_script::AgentScript;
+use opfs_script_kept::PackedAgent;
 use std::alloc::{AllocError, Global};
 
 /// The agents of a script, before their first steps.

@@ -5,9 +5,9 @@ ghost use Rattle.opfs_runs.specs.Running.{hand_then, op_of};
 ghost use Rattle.opfs_judge.specs.Steps.{IsPast, first_op, steps_of};
 
 use opfs_hist::{Entry, Op};
-use opfs_packed::StepsAhead;
 use opfs_runs::Hand;
 use opfs_script::Step;
+use opfs_script_kept::StepsAhead;
 use std::alloc::{AllocError, Global};
 
 /// Steps in order, as they were read before, or as texts that are read when their turn comes.

@@ -14,7 +14,7 @@ use crate::settling::packed_is_unsettled;
 use crate::verdict::Verdict;
 use opfs_base::Bytes;
 use opfs_machine::{Own, State};
-use opfs_packed::PackedScript;
+use opfs_script_kept::PackedScript;
 use std::alloc::{AllocError, Global};
 
 /// The machine over an empty store, with the agents of a script. No step is read for it.

@@ -7,8 +7,8 @@ ghost use Rattle.opfs_judge.specs.Fronts.{first_line};
 ghost use Rattle.opfs_judge.specs.Verdicts.{is_unsettled};
 ghost use Rattle.opfs_waiting.specs.Fixed.{has_await, is_await};
 
-use opfs_packed::{PackedAgent, PackedScript};
 use opfs_script::{AgentScript, Script, Step};
+use opfs_script_kept::{PackedAgent, PackedScript};
 use std::alloc::{AllocError, Global};
 
 /// How many bytes stand in a text before its first line feed; all, where there is none.

@@ -3,9 +3,8 @@
 use crate::replaying::{is_printed, played};
 use opfs_asking::{CHANGES, Deck, Draws, FEW_NAMES, altered, lines_of, script_of};
 use opfs_judge::{Verdict, judge, judge_packed};
-use opfs_packed::PackedScript;
-use opfs_packing::{KeptScript, read_kept};
 use opfs_script::{Script, read_script};
+use opfs_script_kept::{KeptScript, PackedScript, read_kept};
 use std::alloc::{AllocError, Global};
 use std::test::Fail;
 

@@ -1,8 +1,7 @@
 //! Scripts that are kept as the texts of their steps.
 
-use opfs_packed::{PackedScript, StepsAhead, step_told};
-use opfs_packing::{KeptScript, read_kept};
 use opfs_script::Step;
+use opfs_script_kept::{KeptScript, PackedScript, StepsAhead, read_kept, step_told};
 use std::alloc::{AllocError, Global};
 
 // How many steps there are.
