@@ -17,8 +17,8 @@ use Rattle.opfs_machine.specs.Openings.{Opening}
 use Rattle.opfs_machine.specs.Replies.{bytes_at}
 use Rattle.opfs_machine.specs.Runs.{Call}
 use Rattle.opfs_machine.specs.Steps.{is_refusal}
-use Rattle.opfs_histories.specs.Opened.{added}
-use Rattle.opfs_histories.specs.Unread.{unread_entry}
+use Rattle.opfs_laws.specs.Histories.Opened.{added}
+use Rattle.opfs_laws.specs.Histories.Unread.{unread_entry}
 use Rattle.opfs_outside.specs.Faults.{Rose}
 use Rattle.opfs_copies.specs.Copies.{StandsFor}
 use Rattle.opfs_work.specs.Pages.{page_at, is_far}

@@ -13,7 +13,7 @@ use Rattle.opfs_machine.specs.Histories.{may_enter, state_after}
 use Rattle.opfs_machine.specs.Openings.{Opening}
 use Rattle.opfs_machine.specs.Replies.{given_in, row_named}
 use Rattle.opfs_machine.specs.Runs.{Call}
-use Rattle.opfs_histories.specs.Unread.{ArePendingFor}
+use Rattle.opfs_laws.specs.Histories.Unread.{ArePendingFor}
 use Rattle.opfs_copies.specs.Copies.{StandsFor}
 use Rattle.opfs_work.specs.Works.{WorkingCopy}
 

@@ -14,7 +14,7 @@ pub trait Store: Chronicle<Entry = Entry> {
     ghost use Rattle.opfs_machine.specs.Agents.{agent_of};
     ghost use Rattle.opfs_machine.specs.Histories.{state_after};
     ghost use Rattle.opfs_machine.specs.Openings.{Opening};
-    ghost use Rattle.opfs_histories.specs.Unread.{IsTold};
+    ghost use Rattle.opfs_laws.specs.Histories.Unread.{IsTold};
     ghost use Rattle.opfs_acts.specs.Asking.{MayAct, IsThere};
     ghost use Rattle.opfs_acts.specs.Acting.{IsActed, IsGift, IsLeft, IsSameCopy, always_acts, awaited};
 

@@ -21,11 +21,11 @@ use Rattle.opfs_laws.proofs.LocksEffect.{locks-fold, gone-untaken, call-allowed,
 use Rattle.opfs_laws.proofs.Moved.{call-moves}
 use Rattle.opfs_laws.proofs.Others.{others-seen}
 use Rattle.opfs_laws.proofs.Reaching.{Stands, found-at}
-use Rattle.opfs_histories.specs.Unread.{unread_entry}
-use Rattle.opfs_histories.proofs.Reading.{unread-state}
-use Rattle.opfs_steady.specs.Settling.{BytesStay}
-use Rattle.opfs_steady.specs.Steady.{open_bytes, row_bytes}
-use Rattle.opfs_steady.proofs.Others.{bytes-alike}
+use Rattle.opfs_laws.specs.Histories.Unread.{unread_entry}
+use Rattle.opfs_laws.proofs.histories.Reading.{unread-state}
+use Rattle.opfs_laws.specs.Steady.Settling.{BytesStay}
+use Rattle.opfs_laws.specs.Steady.Steady.{open_bytes, row_bytes}
+use Rattle.opfs_laws.proofs.steady.Others.{bytes-alike}
 use Rattle.opfs_copies.specs.Copies.{StandsFor}
 use Rattle.opfs_copies.proofs.Copying.{stands-kept}
 use Rattle.opfs_work.specs.Works.{WorkingCopy}

@@ -13,8 +13,8 @@ use Rattle.opfs_laws.specs.Leaving.{row_used}
 use Rattle.opfs_laws.proofs.Going.{go-on}
 use Rattle.opfs_laws.proofs.Local.{pending-legal}
 use Rattle.opfs_laws.specs.GoingOn.{ArePending}
-use Rattle.opfs_histories.specs.Unread.{IsTold}
-use Rattle.opfs_histories.proofs.Reading.{pending-told, told-more, unread-state}
+use Rattle.opfs_laws.specs.Histories.Unread.{IsTold}
+use Rattle.opfs_laws.proofs.histories.Reading.{pending-told, told-more, unread-state}
 use Rattle.opfs_acts.specs.declared.acted.Gift.{Gift}
 use Rattle.opfs_acts.specs.Acting.{told_entry}
 use Rattle.opfs_copies.specs.Copies.{StandsFor}

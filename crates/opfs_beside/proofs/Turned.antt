@@ -9,8 +9,8 @@ use Rattle.opfs_machine.specs.Histories.{state_after}
 use Rattle.opfs_machine.specs.Openings.{Opening}
 use Rattle.opfs_machine.specs.Runs.{eviction}
 use Rattle.opfs_laws.specs.Leaving.{row_used}
-use Rattle.opfs_histories.specs.Opened.{added}
-use Rattle.opfs_histories.specs.Unread.{IsTold, ArePendingFor}
+use Rattle.opfs_laws.specs.Histories.Opened.{added}
+use Rattle.opfs_laws.specs.Histories.Unread.{IsTold, ArePendingFor}
 use Rattle.opfs_copies.specs.Copies.{StandsFor}
 use Rattle.opfs_turns.proofs.Standing.{known-same, stands-there}
 use Rattle.opfs_beside.specs.Staying.{IsBesideRow, GoesBeside}

@@ -6,7 +6,7 @@ use Rattle.opfs_machine.specs.Agents.{agent_of, own_of}
 use Rattle.opfs_machine.specs.Histories.{state_after}
 use Rattle.opfs_machine.specs.Openings.{Opening}
 use Rattle.opfs_laws.specs.Leaving.{row_used}
-use Rattle.opfs_histories.specs.Unread.{IsTold}
+use Rattle.opfs_laws.specs.Histories.Unread.{IsTold}
 use Rattle.opfs_copies.specs.Copies.{StandsFor}
 use Rattle.opfs_work.specs.Works.{WorkingCopy}
 

@@ -12,10 +12,10 @@ use Rattle.opfs_codec.specs.declared.change.Change.TheVariants.{Persist}
 use Rattle.opfs_commit.specs.Making.{told_as}
 use Rattle.opfs_hist.specs.declared.op.Op.{Op}
 use Rattle.opfs_hist.specs.declared.op.Op.TheVariants as op
-use Rattle.opfs_lengths.specs.Kept.{Kept}
-use Rattle.opfs_lengths.specs.Outlines.{on_file, on_row, in_lengths_of}
-use Rattle.opfs_lengths.proofs.Instance.{lengths-fit}
-use Rattle.opfs_lengths.proofs.Readers.{agent-on, key-on, row-at-on, row-on, file-on, stream-on, handle-on}
+use Rattle.opfs_laws.specs.Lengths.Kept.{Kept}
+use Rattle.opfs_laws.specs.Lengths.Outlines.{on_file, on_row, in_lengths_of}
+use Rattle.opfs_laws.proofs.lengths.Instance.{lengths-fit}
+use Rattle.opfs_laws.proofs.lengths.Readers.{agent-on, key-on, row-at-on, row-on, file-on, stream-on, handle-on}
 use Rattle.opfs_locks.specs.declared.Want.TheVariants as want
 use Rattle.opfs_machine.specs.declared.own.HandleOutline.{HandleOutline}
 use Rattle.opfs_machine.specs.declared.own.Outline.TheVariants as outline

@@ -12,16 +12,16 @@ use Rattle.opfs_hist.specs.Faults.{is_disk_fault, disk_faults}
 use Rattle.opfs_hist.specs.declared.entry.Entry.{Entry}
 use Rattle.opfs_hist.specs.declared.reply.Reply.{Reply}
 use Rattle.opfs_hist.specs.declared.reply.Reply.TheVariants as reply
-use Rattle.opfs_histories.specs.Doubts.{doubted}
-use Rattle.opfs_histories.specs.Opened.{IsOpenAt}
-use Rattle.opfs_histories.proofs.Doubting.{doubt-next}
-use Rattle.opfs_histories.proofs.Opening.{open-whole}
-use Rattle.opfs_histories.proofs.Reading.{unread-state}
+use Rattle.opfs_laws.specs.Histories.Doubts.{doubted}
+use Rattle.opfs_laws.specs.Histories.Opened.{IsOpenAt}
+use Rattle.opfs_laws.proofs.histories.Doubting.{doubt-next}
+use Rattle.opfs_laws.proofs.histories.Opening.{open-whole}
+use Rattle.opfs_laws.proofs.histories.Reading.{unread-state}
 use Rattle.opfs_image.specs.Superblock.{area_bytes, data_base}
 use Rattle.opfs_journal.specs.Seen.{Seen}
 use Rattle.opfs_laws.specs.Whole.{IsWhole}
-use Rattle.opfs_lengths.specs.Kept.{Kept}
-use Rattle.opfs_lengths.specs.Outlines.{in_lengths_of}
+use Rattle.opfs_laws.specs.Lengths.Kept.{Kept}
+use Rattle.opfs_laws.specs.Lengths.Outlines.{in_lengths_of}
 use Rattle.opfs_machine.specs.declared.own.Own.{Own}
 use Rattle.opfs_machine.specs.declared.state.State.{State}
 use Rattle.opfs_machine.specs.Changes.{Change, stored_by, entry_changes, changes, evict}

@@ -6,11 +6,11 @@ use Rattle.opfs_commit.specs.Images.{AreImages}
 use Rattle.opfs_commit.specs.Seen.{KeptBack, committing}
 use Rattle.opfs_commit.specs.Trail.{IsTrail}
 use Rattle.opfs_hist.specs.declared.entry.Entry.{Entry}
-use Rattle.opfs_histories.specs.Doubts.{doubted}
-use Rattle.opfs_histories.proofs.Doubting.{doubt-stays}
+use Rattle.opfs_laws.specs.Histories.Doubts.{doubted}
+use Rattle.opfs_laws.proofs.histories.Doubting.{doubt-stays}
 use Rattle.opfs_image.specs.Superblock.{area_bytes}
 use Rattle.opfs_journal.specs.Seen.{Seen}
-use Rattle.opfs_lengths.specs.Outlines.{in_lengths_of}
+use Rattle.opfs_laws.specs.Lengths.Outlines.{in_lengths_of}
 use Rattle.opfs_machine.specs.declared.own.Own.{Own}
 use Rattle.opfs_machine.specs.declared.state.State.{State}
 use Rattle.opfs_machine.specs.Changes.{entry_changes, changes}

@@ -10,16 +10,16 @@ use Rattle.opfs_hist.specs.Faults.{is_disk_fault, disk_faults}
 use Rattle.opfs_hist.specs.declared.entry.Entry.{Entry}
 use Rattle.opfs_hist.specs.declared.reply.Reply.{Reply}
 use Rattle.opfs_hist.specs.declared.reply.Reply.TheVariants as reply
-use Rattle.opfs_histories.specs.Doubts.{doubted}
-use Rattle.opfs_histories.specs.Unread.{unread, IsTold, ArePendingFor}
-use Rattle.opfs_histories.proofs.Adding.{changes-append}
-use Rattle.opfs_histories.proofs.Reading.{pending-told, told-more, unread-state}
+use Rattle.opfs_laws.specs.Histories.Doubts.{doubted}
+use Rattle.opfs_laws.specs.Histories.Unread.{unread, IsTold, ArePendingFor}
+use Rattle.opfs_laws.proofs.histories.Adding.{changes-append}
+use Rattle.opfs_laws.proofs.histories.Reading.{pending-told, told-more, unread-state}
 use Rattle.opfs_image.specs.Superblock.{area_bytes}
 use Rattle.opfs_laws.specs.GoingOn.{ArePending}
 use Rattle.opfs_laws.proofs.Building.{local-none}
 use Rattle.opfs_laws.proofs.Going.{not_evict, go-on}
 use Rattle.opfs_laws.proofs.Local.{pending-legal}
-use Rattle.opfs_lengths.specs.Outlines.{in_lengths_of}
+use Rattle.opfs_laws.specs.Lengths.Outlines.{in_lengths_of}
 use Rattle.opfs_machine.specs.declared.own.Own.{Own}
 use Rattle.opfs_machine.specs.declared.state.State.{State}
 use Rattle.opfs_machine.specs.Changes.{changes, changes_from}

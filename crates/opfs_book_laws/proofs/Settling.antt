@@ -12,7 +12,7 @@ use Rattle.opfs_commit.specs.Seen.{KeptBack, committing}
 use Rattle.opfs_commit.specs.Shown.{ShowsSince}
 use Rattle.opfs_commit.specs.Trail.{IsTrail}
 use Rattle.opfs_data.specs.Calls.{Reads}
-use Rattle.opfs_histories.specs.Doubts.{doubted}
+use Rattle.opfs_laws.specs.Histories.Doubts.{doubted}
 use Rattle.opfs_journal.specs.Format.{Stored}
 use Rattle.opfs_journal.specs.Seen.{Seen}
 use Rattle.opfs_machine.specs.declared.own.Own.{Own}

@@ -2,11 +2,11 @@
 use Rattle.std.proofs.Common.{◌≡◌, List, [], ◌∷◌, ◌++◌, map, fold, Some, None, refl, sym, ap, ◌∙◌, subst, append-nil}
 use Rattle.opfs_base.specs.Texts.{Text}
 use Rattle.opfs_hist.specs.declared.entry.Entry.{Entry}
-use Rattle.opfs_histories.specs.Opened.{LegalTo, IsOpenAt}
-use Rattle.opfs_histories.specs.Unread.{unread_entry, IsTold}
-use Rattle.opfs_histories.proofs.Adding.{changes-append}
-use Rattle.opfs_histories.proofs.Opening.{NextTo, open-more, open-state, open-begin, open-whole}
-use Rattle.opfs_histories.proofs.Reading.{entry-same, unread-state}
+use Rattle.opfs_laws.specs.Histories.Opened.{LegalTo, IsOpenAt}
+use Rattle.opfs_laws.specs.Histories.Unread.{unread_entry, IsTold}
+use Rattle.opfs_laws.proofs.histories.Adding.{changes-append}
+use Rattle.opfs_laws.proofs.histories.Opening.{NextTo, open-more, open-state, open-begin, open-whole}
+use Rattle.opfs_laws.proofs.histories.Reading.{entry-same, unread-state}
 use Rattle.opfs_laws.proofs.Going.{not_evict}
 use Rattle.opfs_machine.specs.declared.own.Own.{Own}
 use Rattle.opfs_machine.specs.declared.state.State.{State}

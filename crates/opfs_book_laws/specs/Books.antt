@@ -8,14 +8,14 @@ use Rattle.opfs_commit.specs.Seen.{KeptBack, committing}
 use Rattle.opfs_commit.specs.Trail.{IsTrail}
 use Rattle.opfs_hist.specs.Faults.{disk_faults}
 use Rattle.opfs_hist.specs.declared.entry.Entry.{Entry}
-use Rattle.opfs_histories.specs.Doubts.{doubted}
-use Rattle.opfs_histories.specs.Opened.{IsOpenAt}
-use Rattle.opfs_histories.specs.Unread.{unread_entry}
+use Rattle.opfs_laws.specs.Histories.Doubts.{doubted}
+use Rattle.opfs_laws.specs.Histories.Opened.{IsOpenAt}
+use Rattle.opfs_laws.specs.Histories.Unread.{unread_entry}
 use Rattle.opfs_image.specs.Superblock.{area_bytes, areas_of}
 use Rattle.opfs_image.specs.declared.geometry.Geometry.{Geometry}
 use Rattle.opfs_journal.specs.Seen.{Seen}
 use Rattle.opfs_laws.specs.Whole.{IsWholeOpening}
-use Rattle.opfs_lengths.specs.Outlines.{in_lengths_of}
+use Rattle.opfs_laws.specs.Lengths.Outlines.{in_lengths_of}
 use Rattle.opfs_machine.specs.declared.own.Outline.{Outline}
 use Rattle.opfs_machine.specs.declared.own.Own.{Own}
 use Rattle.opfs_machine.specs.declared.state.State.{State}

@@ -5,7 +5,7 @@ use Rattle.opfs_commit.specs.Laws.{ReadsLeaveImages, ReadsShowFronts, PagesBesid
 use Rattle.opfs_laws.specs.Counting.{AStateCountsItsHistory}
 use Rattle.opfs_laws.specs.Faults.{TheMachineNeverFaults}
 use Rattle.opfs_laws.specs.Whole.{WhatEveryReachedStateKeeps}
-use Rattle.opfs_lengths.specs.Kept.{LengthsAreKept}
+use Rattle.opfs_laws.specs.Lengths.Kept.{LengthsAreKept}
 use Rattle.opfs_outside.specs.declared.disk.Disk.{Ghosts as DiskWords}
 
 pub record CommitLaws {D : Type 0} (w : DiskWords D) : Type 0 where

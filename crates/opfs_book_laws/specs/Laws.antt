@@ -15,14 +15,14 @@ use Rattle.opfs_hist.specs.Faults.{is_disk_fault, disk_faults}
 use Rattle.opfs_hist.specs.declared.entry.Entry.{Entry}
 use Rattle.opfs_hist.specs.declared.reply.Refusal.TheVariants as refusal
 use Rattle.opfs_hist.specs.declared.reply.Reply.TheVariants as reply
-use Rattle.opfs_histories.specs.Doubts.{doubted, faulted}
-use Rattle.opfs_histories.specs.Unread.{ArePendingFor}
+use Rattle.opfs_laws.specs.Histories.Doubts.{doubted, faulted}
+use Rattle.opfs_laws.specs.Histories.Unread.{ArePendingFor}
 use Rattle.opfs_image.specs.Superblock.{area_bytes, data_base}
 use Rattle.opfs_journal.specs.Clauses.{Outside}
 use Rattle.opfs_journal.specs.Seen.{Seen, Stays}
 use Rattle.opfs_laws.specs.Whole.{IsWhole}
-use Rattle.opfs_lengths.specs.Kept.{Kept}
-use Rattle.opfs_lengths.specs.Outlines.{in_lengths_of}
+use Rattle.opfs_laws.specs.Lengths.Kept.{Kept}
+use Rattle.opfs_laws.specs.Lengths.Outlines.{in_lengths_of}
 use Rattle.opfs_machine.specs.declared.own.Own.{Own}
 use Rattle.opfs_machine.specs.declared.state.State.{State}
 use Rattle.opfs_machine.specs.Changes.{Change, entry_changes, changes, floor}

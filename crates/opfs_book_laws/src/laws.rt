@@ -12,8 +12,8 @@ use opfs_commit::{
 };
 use opfs_laws::counted::a_state_counts_its_history;
 use opfs_laws::going_on::the_machine_never_faults;
+use opfs_laws::lengths::kept::lengths_are_kept;
 use opfs_laws::whole::what_every_reached_state_keeps;
-use opfs_lengths::kept::lengths_are_kept;
 use opfs_outside::Disk;
 
 /// The laws of commits, together.

@@ -12,7 +12,7 @@ use Rattle.opfs_commit.proofs.Holding.{shown_more}
 use Rattle.opfs_journal.specs.Clauses.{Outside}
 use Rattle.opfs_outside.specs.Bytes.{Same}
 use Rattle.opfs_outside.specs.Moments.{Elapses, elapses-trans, each_of_both}
-use Rattle.opfs_histories.specs.Doubts.{doubted}
+use Rattle.opfs_laws.specs.Histories.Doubts.{doubted}
 use Rattle.opfs_codec.specs.declared.change.Change.{Change as Spelled}
 use Rattle.opfs_journal.specs.Format.{Stored}
 use Rattle.opfs_journal.specs.Seen.{Seen}

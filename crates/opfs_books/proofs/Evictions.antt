@@ -15,13 +15,13 @@ use Rattle.opfs_commit.specs.Calls.{IsAnyOf, IsNoneOf, IsNext as IsNextRecord}
 use Rattle.opfs_commit.specs.Making.{told_as, new_bytes}
 use Rattle.opfs_commit.specs.Seen.{KeptBack, committing}
 use Rattle.opfs_hist.specs.declared.entry.Entry.{Entry}
-use Rattle.opfs_histories.specs.Unread.{ArePendingFor}
+use Rattle.opfs_laws.specs.Histories.Unread.{ArePendingFor}
 use Rattle.opfs_image.specs.Superblock.{area_bytes, data_base}
 use Rattle.opfs_journal.specs.Seen.{Seen}
-use Rattle.opfs_lengths.specs.Bridge.{LengthsFollowEachCall, LocalCallsAreKnownByTheirWord}
+use Rattle.opfs_laws.specs.Lengths.Bridge.{LengthsFollowEachCall, LocalCallsAreKnownByTheirWord}
 use Rattle.opfs_hist.specs.declared.op.Op.{Op}
 use Rattle.opfs_hist.specs.declared.op.Op.TheVariants as op
-use Rattle.opfs_lengths.specs.Outlines.{in_lengths_of, local_change}
+use Rattle.opfs_laws.specs.Lengths.Outlines.{in_lengths_of, local_change}
 use Rattle.opfs_machine.specs.declared.own.Own.{Own}
 use Rattle.opfs_machine.specs.declared.state.State.{State}
 use Rattle.opfs_machine.specs.Agents.{counted}

@@ -8,7 +8,7 @@ use Rattle.opfs_image.specs.Filling.{filled}
 use Rattle.opfs_image.specs.Superblock.{area_bytes, data_base}
 use Rattle.opfs_journal.specs.Seen.{Seen}
 use Rattle.opfs_laws.specs.Whole.{IsWholeOpening}
-use Rattle.opfs_lengths.specs.Outlines.{in_lengths_of}
+use Rattle.opfs_laws.specs.Lengths.Outlines.{in_lengths_of}
 use Rattle.opfs_machine.specs.Openings.{begun}
 use Rattle.opfs_outside.specs.declared.disk.Disk.{Ghosts as DiskWords}
 use Rattle.opfs_replay.specs.Built.{Built, IsSound}

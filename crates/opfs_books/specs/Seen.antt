@@ -14,9 +14,9 @@ use Rattle.opfs_books.specs.declared.books.Books.{Books}
 use Rattle.opfs_sharing.specs.declared.shared.Shared.{Ghosts as SharedWords}
 use Rattle.opfs_commit.specs.Seen.{KeptBack}
 use Rattle.opfs_hist.specs.declared.entry.Entry.{Entry}
-use Rattle.opfs_histories.specs.Unread.{ArePendingFor}
+use Rattle.opfs_laws.specs.Histories.Unread.{ArePendingFor}
 use Rattle.opfs_journal.specs.Seen.{Seen}
-use Rattle.opfs_lengths.specs.Kept.{Kept}
+use Rattle.opfs_laws.specs.Lengths.Kept.{Kept}
 use Rattle.opfs_machine.specs.declared.own.Own.{Own}
 use Rattle.opfs_machine.specs.declared.state.Need.{Need}
 use Rattle.opfs_machine.specs.declared.state.Sizes.{Sizes}

@@ -23,7 +23,7 @@ use opfs_book_laws::{telling_keeps_the_books, the_state_is_kept};
 use opfs_commit::Commits;
 use opfs_hist::History;
 use opfs_journal::Journal;
-use opfs_lengths::bridge::lengths_follow_each_call;
+use opfs_laws::lengths::bridge::lengths_follow_each_call;
 use opfs_outside::Disk;
 use opfs_sharing::Shared;
 use std::alloc::Global;

@@ -12,7 +12,7 @@ ghost use Rattle.opfs_codec.specs.Spelling.{IsChange};
 ghost use Rattle.opfs_codec.specs.declared.change.Change.TheVariants.{Evict};
 ghost use Rattle.opfs_codec.specs.declared.change.Format.TheVariants.{New};
 ghost use Rattle.opfs_hist.specs.declared.history.PendingSum.{PendingSum};
-ghost use Rattle.opfs_histories.specs.Unread.{ArePendingFor};
+ghost use Rattle.opfs_laws.specs.Histories.Unread.{ArePendingFor};
 ghost use Rattle.opfs_machine.specs.declared.own.Own.{Own};
 ghost use Rattle.opfs_machine.specs.declared.state.State.{State};
 ghost use Rattle.opfs_machine.specs.Agents.{counted};
@@ -36,7 +36,7 @@ use opfs_book_laws::{commits_keep_the_books, telling_keeps_the_books, the_state_
 use opfs_codec::ChangeRef;
 use opfs_hist::Pending;
 use opfs_journal::{DiskFault, Journal};
-use opfs_lengths::bridge::{lengths_follow_each_call, local_calls_are_known_by_their_word};
+use opfs_laws::lengths::bridge::{lengths_follow_each_call, local_calls_are_known_by_their_word};
 use opfs_outside::Disk;
 use opfs_sharing::Shared;
 use std::alloc::Global;

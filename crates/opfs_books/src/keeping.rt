@@ -25,7 +25,7 @@ use opfs_book_calls::calls_are_spelled;
 use opfs_book_laws::{keeping_back_keeps_the_books, the_state_is_kept};
 use opfs_codec::ChangeRef;
 use opfs_journal::Journal;
-use opfs_lengths::bridge::lengths_follow_each_call;
+use opfs_laws::lengths::bridge::lengths_follow_each_call;
 use opfs_outside::Disk;
 use opfs_sharing::Shared;
 use std::alloc::Global;

@@ -19,7 +19,7 @@ use opfs_book_laws::{
 };
 use opfs_commit::settle;
 use opfs_journal::{DiskFault, Journal};
-use opfs_lengths::bridge::lengths_follow_each_call;
+use opfs_laws::lengths::bridge::lengths_follow_each_call;
 use opfs_outside::Disk;
 use opfs_sharing::Shared;
 

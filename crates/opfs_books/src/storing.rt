@@ -27,7 +27,7 @@ use opfs_book_calls::{calls_are_spelled, calls_may_fail};
 use opfs_book_laws::{commits_keep_the_books, state_laws, the_state_is_kept};
 use opfs_codec::ChangeRef;
 use opfs_journal::{DiskFault, Journal};
-use opfs_lengths::bridge::lengths_follow_each_call;
+use opfs_laws::lengths::bridge::lengths_follow_each_call;
 use opfs_outside::Disk;
 use opfs_sharing::Shared;
 use std::alloc::Global;

@@ -18,8 +18,8 @@ use Rattle.opfs_hist.specs.declared.reply.Refusal.{Refusal}
 use Rattle.opfs_hist.specs.declared.op.Op.TheVariants as op
 use Rattle.opfs_base.specs.Names.{is_valid_name}
 use Rattle.opfs_machine.specs.Steps.{is_refusal, outcome_of, step, judged}
-use Rattle.opfs_histories.specs.Unread.{unread}
-use Rattle.opfs_histories.proofs.Reading.{refuses-same}
+use Rattle.opfs_laws.specs.Histories.Unread.{unread}
+use Rattle.opfs_laws.proofs.histories.Reading.{refuses-same}
 use Rattle.opfs_acts.specs.declared.acted.Acted.{Acted}
 use Rattle.opfs_acts.specs.declared.acted.Gift.{Gift}
 use Rattle.opfs_turns.specs.Agents.{AgentSeen}

@@ -14,10 +14,10 @@ use Rattle.opfs_machine.specs.Histories.{state_after}
 use Rattle.opfs_machine.specs.Replies.{sizes_of}
 use Rattle.opfs_machine.specs.Runs.{eviction}
 use Rattle.opfs_machine.specs.Steps.{evicted, after_reply, is_refusal}
-use Rattle.opfs_histories.specs.Opened.{added}
-use Rattle.opfs_histories.specs.Unread.{unread_entry}
-use Rattle.opfs_histories.proofs.Adding.{added-state}
-use Rattle.opfs_histories.proofs.Reading.{unread-state, refuses-same}
+use Rattle.opfs_laws.specs.Histories.Opened.{added}
+use Rattle.opfs_laws.specs.Histories.Unread.{unread_entry}
+use Rattle.opfs_laws.proofs.histories.Adding.{added-state}
+use Rattle.opfs_laws.proofs.histories.Reading.{unread-state, refuses-same}
 use Rattle.opfs_laws.specs.Leaving.{IsMoved}
 use Rattle.opfs_laws.proofs.Allowed.{IsAllowed}
 use Rattle.opfs_laws.proofs.LocksEffect.{call-allowed}

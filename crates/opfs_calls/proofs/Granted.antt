@@ -20,7 +20,7 @@ use Rattle.opfs_machine.specs.Ruled.{Ruled, ◌>>=◌}
 use Rattle.opfs_machine.specs.Rulings.{ruling}
 use Rattle.opfs_machine.specs.Steps.{step, judged, outcome_of, room_for, after_reply, evicted, is_refusal, Outcome}
 use Rattle.opfs_machine.specs.Sums.{no_need}
-use Rattle.opfs_histories.specs.Unread.{unread}
+use Rattle.opfs_laws.specs.Histories.Unread.{unread}
 use Rattle.opfs_laws.specs.Leaving.{IsMoved}
 use Rattle.opfs_laws.proofs.Accepted.{answer-accepted}
 use Rattle.opfs_laws.proofs.Local.{none_victims, room_for_nothing}

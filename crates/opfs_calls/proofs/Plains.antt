@@ -27,7 +27,7 @@ use Rattle.opfs_machine.specs.Rulings.{ruling, stream_ruling, grow_stream_ruling
 use Rattle.opfs_machine.specs.Steps.{step}
 use Rattle.opfs_machine.specs.Sums.{no_need, keeps_blocks}
 use Rattle.opfs_splice.specs.Splicing.{window}
-use Rattle.opfs_histories.specs.Unread.{unread}
+use Rattle.opfs_laws.specs.Histories.Unread.{unread}
 use Rattle.opfs_laws.proofs.Local.{grown}
 use Rattle.opfs_laws.proofs.Numbers.{number-of}
 use Rattle.opfs_turns.specs.Agents.{AgentSeen, IsAgent, state_of}

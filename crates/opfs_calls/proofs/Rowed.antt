@@ -27,7 +27,7 @@ use Rattle.opfs_calls.specs.Answers.{Shared}
 use Rattle.opfs_calls.specs.declared.stop.Stop.{Stop}
 use Rattle.opfs_calls.specs.declared.stop.Stop.TheVariants as stop
 use Rattle.opfs_calls.proofs.Entered.{s, t, list, known-is, opening-is, agent-is, accepted-state, refused-state, agent-same, real-agent, real-op, same-refusal, moved}
-use Rattle.opfs_histories.specs.Unread.{unread}
+use Rattle.opfs_laws.specs.Histories.Unread.{unread}
 use Rattle.opfs_calls.proofs.Answered.{is_read, unread-is, unread-plain}
 use Rattle.opfs_calls.proofs.Granted.{granted}
 

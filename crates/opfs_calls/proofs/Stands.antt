@@ -21,15 +21,15 @@ use Rattle.opfs_machine.specs.Openings.{Opening, begun}
 use Rattle.opfs_machine.specs.Runs.{eviction}
 use Rattle.opfs_machine.specs.Steps.{evicted, is_refusal}
 use Rattle.opfs_laws.specs.Leaving.{asks_nobody}
-use Rattle.opfs_steady.specs.Settling.{BytesStay}
-use Rattle.opfs_steady.specs.Steady.{row_bytes, page_in, has_page, is_front, goes_on, is_steady, steady_by}
+use Rattle.opfs_laws.specs.Steady.Settling.{BytesStay}
+use Rattle.opfs_laws.specs.Steady.Steady.{row_bytes, page_in, has_page, is_front, goes_on, is_steady, steady_by}
 use Rattle.std.proofs.Math.Seq.{take-length}
 use Rattle.std.specs.Cmp.Lexicographic.{nat_list_eq_equiv}
-use Rattle.opfs_steady.proofs.GoingOn.{steady-append, steady-has}
-use Rattle.opfs_steady.proofs.Leaving.{local-leave}
+use Rattle.opfs_laws.proofs.steady.GoingOn.{steady-append, steady-has}
+use Rattle.opfs_laws.proofs.steady.Leaving.{local-leave}
 use Rattle.opfs_copies.specs.Copies.{IsCopyOf, StandsFor}
 use Rattle.opfs_copies.proofs.Copying.{stands-kept}
-use Rattle.opfs_histories.specs.Unread.{IsTold}
+use Rattle.opfs_laws.specs.Histories.Unread.{IsTold}
 use Rattle.opfs_acts.specs.declared.acted.Gift.{Gift}
 use Rattle.opfs_acts.specs.Acting.{told_entry, IsSameCopy}
 use Rattle.opfs_turns.specs.Agents.{AgentSeen, IsAgent, known, state_of}

@@ -8,7 +8,7 @@ use Rattle.opfs_hist.specs.declared.op.Mode.{Mode}
 use Rattle.opfs_hist.specs.declared.op.Mode.TheVariants as mode
 use Rattle.opfs_laws.specs.Covered.{now_of, stored_of}
 use Rattle.opfs_laws.specs.Holders.{counts, AreHolders, IsLockOf}
-use Rattle.opfs_lengths.specs.Kept.{Kept, hold_in, holders_in, writer_kept, kept_at}
+use Rattle.opfs_laws.specs.Lengths.Kept.{Kept, hold_in, holders_in, writer_kept, kept_at}
 use Rattle.opfs_locks.specs.Holding.{IsTakenAs}
 use Rattle.opfs_locks.specs.Taking.{Lock}
 use Rattle.opfs_locks.specs.declared.LockValue.TheVariants as value

@@ -12,7 +12,7 @@ use Rattle.opfs_machine.specs.Agents.{agent_of, own_of, with_own, open_stream, c
 use Rattle.opfs_machine.specs.Contents.{in_lengths}
 use Rattle.opfs_machine.specs.Effects.{effect, aborts_stream, closes_stream, unlocked, replaced, moment_of, content_of}
 use Rattle.opfs_base.specs.Units.{origin_of}
-use Rattle.opfs_lengths.specs.Kept.{Kept}
+use Rattle.opfs_laws.specs.Lengths.Kept.{Kept}
 use Rattle.opfs_machine.specs.Rows.{with_file}
 use Rattle.opfs_machine.specs.Sums.{usage, pool}
 use Rattle.opfs_machine.specs.declared.state.Limits.{Limits}

@@ -6,7 +6,7 @@ use Rattle.std.proofs.lemmas.List.Sums.{sum_by-cons}
 use Rattle.std.specs.Ordering.{eq_by_cmp}
 use Rattle.opfs_base.specs.Places.{Place, place_cmp}
 use Rattle.opfs_laws.specs.Holders.{counts, AreHolders, IsLockOf}
-use Rattle.opfs_lengths.specs.Kept.{Kept, hold_in, holders_in}
+use Rattle.opfs_laws.specs.Lengths.Kept.{Kept, hold_in, holders_in}
 use Rattle.opfs_locks.specs.Taking.{Lock}
 use Rattle.opfs_locks.specs.declared.LockValue.TheVariants as value
 use Rattle.opfs_locks.specs.declared.Want.{Want}

@@ -6,7 +6,7 @@ use Rattle.std.specs.Ordering.{eq_by_cmp}
 use Rattle.opfs_laws.proofs.Spots.{place_itself}
 use Rattle.opfs_laws.proofs.OwnSums.{row-part}
 use Rattle.opfs_laws.specs.Holders.{same_want, counts, AreHolders, IsLockOf}
-use Rattle.opfs_lengths.specs.Kept.{Kept, hold_in, holders_in}
+use Rattle.opfs_laws.specs.Lengths.Kept.{Kept, hold_in, holders_in}
 use Rattle.opfs_locks.specs.Holding.{IsTakenAs}
 use Rattle.opfs_locks.specs.Taking.{Lock}
 use Rattle.opfs_locks.specs.declared.LockValue.TheVariants as value

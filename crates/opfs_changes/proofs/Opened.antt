@@ -9,7 +9,7 @@ use Rattle.opfs_base.specs.declared.locator.Locator.{Locator}
 use Rattle.opfs_hist.specs.declared.op.Mode.{Mode}
 use Rattle.opfs_hist.specs.declared.op.Op.TheVariants as op
 use Rattle.opfs_laws.proofs.Spots.{file-changed}
-use Rattle.opfs_lengths.specs.Kept.{Kept}
+use Rattle.opfs_laws.specs.Lengths.Kept.{Kept}
 use Rattle.opfs_locks.specs.Taking.{Lock, taken}
 use Rattle.opfs_locks.specs.declared.Want.{Want}
 use Rattle.opfs_locks.specs.declared.Want.TheVariants as want

@@ -9,7 +9,7 @@ ghost use Rattle.opfs_changes.specs.Asking.{target_of};
 ghost use Rattle.opfs_changes.specs.Changed.{IsDone, freed_by, changed_by, flushed_in, replaced_at};
 ghost use Rattle.opfs_changes.specs.Growing.{IsWriting};
 ghost use Rattle.opfs_hist.specs.declared.op.Op.TheVariants as op;
-ghost use Rattle.opfs_lengths.specs.Kept.{Kept};
+ghost use Rattle.opfs_laws.specs.Lengths.Kept.{Kept};
 ghost use Rattle.opfs_machine.specs.Agents.{open_handle, counted};
 ghost use Rattle.opfs_machine.specs.Contents.{in_lengths, handle_with};
 ghost use Rattle.opfs_machine.specs.Effects.{with_changed, with_written, flushed, undone, moment_of};

@@ -8,7 +8,7 @@ ghost use Rattle.opfs_changes.specs.Asking.{target_of};
 ghost use Rattle.opfs_changes.specs.Changed.{IsDone};
 ghost use Rattle.opfs_changes.specs.Growing.{IsLockGiven};
 ghost use Rattle.opfs_hist.specs.declared.op.Op.TheVariants as op;
-ghost use Rattle.opfs_lengths.specs.Kept.{Kept};
+ghost use Rattle.opfs_laws.specs.Lengths.Kept.{Kept};
 ghost use Rattle.opfs_machine.specs.Agents.{agent_of};
 ghost use Rattle.opfs_machine.specs.Contents.{in_lengths};
 ghost use Rattle.opfs_machine.specs.Effects.{with_lock};

@@ -5,7 +5,7 @@ ghost use Rattle.opfs_base.specs.declared.extents.Extent.{Extent};
 ghost use Rattle.opfs_hist.specs.declared.op.Op.TheVariants as op;
 ghost use Rattle.opfs_changes.specs.Allowed.{MayDo};
 ghost use Rattle.opfs_changes.specs.Growing.{IsGrowing};
-ghost use Rattle.opfs_lengths.specs.Kept.{Kept};
+ghost use Rattle.opfs_laws.specs.Lengths.Kept.{Kept};
 ghost use Rattle.opfs_machine.specs.Agents.{counted};
 ghost use Rattle.opfs_machine.specs.Contents.{stream_with};
 ghost use Rattle.opfs_machine.specs.Effects.{with_changed};

@@ -16,11 +16,11 @@ use Rattle.opfs_machine.specs.Agents.{agent_of, own_of}
 use Rattle.opfs_machine.specs.Histories.{Legal, after_entry, state_after}
 use Rattle.opfs_machine.specs.Openings.{Opening, begun}
 use Rattle.opfs_machine.specs.Replies.{block_bytes, sizes_in}
-use Rattle.opfs_steady.specs.Settling.{BytesStay}
-use Rattle.opfs_steady.specs.Steady.{open_bytes, row_bytes, has_page, settles}
+use Rattle.opfs_laws.specs.Steady.Settling.{BytesStay}
+use Rattle.opfs_laws.specs.Steady.Steady.{open_bytes, row_bytes, has_page, settles}
 use Rattle.opfs_laws.proofs.Others.{others-left}
-use Rattle.opfs_steady.proofs.GoingOn.{steady-settled, steady-kept}
-use Rattle.opfs_steady.proofs.Others.{others-stay}
+use Rattle.opfs_laws.proofs.steady.GoingOn.{steady-settled, steady-kept}
+use Rattle.opfs_laws.proofs.steady.Others.{others-stay}
 use Rattle.opfs_work.specs.declared.pages.Page.{Page}
 use Rattle.opfs_work.specs.declared.pages.Page.TheVariants.{Zero, Near, Clean, Far}
 use Rattle.opfs_work.specs.Pages.{page_at, page_byte, byte_at, bytes_of}

@@ -11,7 +11,7 @@ use Rattle.opfs_machine.specs.Histories.{state_after}
 use Rattle.opfs_machine.specs.Openings.{Opening}
 use Rattle.opfs_machine.specs.Replies.{sizes_in}
 use Rattle.opfs_machine.specs.Sums.{reserve_of}
-use Rattle.opfs_steady.specs.Steady.{open_bytes, is_steady}
+use Rattle.opfs_laws.specs.Steady.Steady.{open_bytes, is_steady}
 use Rattle.opfs_work.specs.Works.{WorkingCopy, contents, IsStored}
 
 -- A working copy of an own row: as many bytes, the same position, and the same blocks kept. Where the disk tells, it has

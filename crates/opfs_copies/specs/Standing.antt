@@ -6,8 +6,8 @@ use Rattle.opfs_machine.specs.declared.own.Own.{Own}
 use Rattle.opfs_machine.specs.Agents.{agent_of, own_of}
 use Rattle.opfs_machine.specs.Histories.{Legal, state_after}
 use Rattle.opfs_machine.specs.Openings.{Opening}
-use Rattle.opfs_steady.specs.Settling.{BytesStay}
-use Rattle.opfs_steady.specs.Steady.{settles}
+use Rattle.opfs_laws.specs.Steady.Settling.{BytesStay}
+use Rattle.opfs_laws.specs.Steady.Steady.{settles}
 use Rattle.opfs_work.specs.Works.{WorkingCopy, contents}
 use Rattle.opfs_copies.specs.Copies.{IsCopyOf, StandsFor, IsPaged}
 

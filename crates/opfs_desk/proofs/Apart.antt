@@ -12,11 +12,11 @@ use Rattle.opfs_codec.specs.Spelling.{is_key_text}
 use Rattle.opfs_desk.specs.Apart.{IsToldApart}
 use Rattle.opfs_desk_parts.specs.Held.{HaveOwnKeys}
 use Rattle.opfs_hist.specs.declared.entry.Entry.{Entry}
-use Rattle.opfs_histories.specs.Unread.{IsTold}
+use Rattle.opfs_laws.specs.Histories.Unread.{IsTold}
 use Rattle.opfs_laws.specs.Whole.{IsWholeOpening}
 use Rattle.opfs_machine.specs.Agents.{nobody}
 use Rattle.opfs_machine.specs.Openings.{Opening, Stored, Who, agent_begun, row_of}
-use Rattle.opfs_separation.specs.Apart.{EachPartyRunsAlone, IsInOrder, has_origin_key}
+use Rattle.opfs_laws.specs.Separation.Apart.{EachPartyRunsAlone, IsInOrder, has_origin_key}
 
 rows-begun : (x : Place) (rows : List (Place × Stored)) → below_all place_cmp x (map (λ e. (e.0, row_of e.1)) rows) ≡ below_all place_cmp x rows
 rows-begun x [] = refl

@@ -38,7 +38,7 @@ use Rattle.opfs_space.specs.Holders.{Holders, AreBlocks, IsFirst}
 use Rattle.opfs_space.specs.Room.{Machine}
 use Rattle.opfs_space.specs.Spaces.{SpaceSeen}
 use Rattle.opfs_state.specs.Applied.{opened}
-use Rattle.opfs_steady.specs.Steady.{is_steady}
+use Rattle.opfs_laws.specs.Steady.Steady.{is_steady}
 use Rattle.opfs_space.proofs.FileBlocks.{has_named, has_once}
 use Rattle.opfs_tree.specs.Rows.{Rows as Tree, extents_of}
 use Rattle.opfs_tree.specs.declared.row.Row.{Row}

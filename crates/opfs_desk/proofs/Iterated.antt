@@ -7,7 +7,7 @@ use Rattle.opfs_acts.specs.declared.acted.Gift.TheVariants as gift
 use Rattle.opfs_base.specs.Texts.{Text}
 use Rattle.opfs_hist.specs.declared.entry.Entry.{Entry}
 use Rattle.opfs_hist.specs.declared.reply.Reply.{Reply}
-use Rattle.opfs_histories.specs.Unread.{IsTold}
+use Rattle.opfs_laws.specs.Histories.Unread.{IsTold}
 use Rattle.opfs_iterating.specs.Below.{AreBelow}
 use Rattle.opfs_iterating.specs.GoingOn.{IteratorsGoOn, MayReach}
 use Rattle.opfs_iterating.specs.Known.{AreOthers, AreReached, IsFollowed, IsReachedBy, Lasts, last_of}

@@ -10,8 +10,8 @@ use Rattle.opfs_commit.specs.Shown.{ShowsSince, IsShown}
 use Rattle.opfs_commit.specs.Trail.{IsTrail}
 use Rattle.opfs_hist.specs.declared.entry.Entry.{Entry}
 use Rattle.opfs_hist.specs.Faults.{disk_faults}
-use Rattle.opfs_histories.specs.Doubts.{doubted}
-use Rattle.opfs_histories.specs.Unread.{IsTold}
+use Rattle.opfs_laws.specs.Histories.Doubts.{doubted}
+use Rattle.opfs_laws.specs.Histories.Unread.{IsTold}
 use Rattle.opfs_image.specs.Filling.{Stands}
 use Rattle.opfs_image.specs.Superblock.{geometry_of}
 use Rattle.opfs_journal.specs.Format.{records_of}

@@ -6,9 +6,9 @@ use Rattle.opfs_acts.specs.Asking.{IsThere}
 use Rattle.opfs_acts.specs.declared.acted.AwaitState.{AwaitState}
 use Rattle.opfs_acts.specs.declared.acted.AwaitState.TheVariants as await
 use Rattle.opfs_base.specs.Texts.{Text}
-use Rattle.opfs_lengths.specs.Bridge.{LengthsDecideEachRuling}
-use Rattle.opfs_lengths.specs.Outlines.{in_lengths_of, on_agent}
-use Rattle.opfs_lengths.proofs.Readers.{agent-on}
+use Rattle.opfs_laws.specs.Lengths.Bridge.{LengthsDecideEachRuling}
+use Rattle.opfs_laws.specs.Lengths.Outlines.{in_lengths_of, on_agent}
+use Rattle.opfs_laws.proofs.lengths.Readers.{agent-on}
 use Rattle.opfs_machine.specs.Contents.{outline_of}
 use Rattle.opfs_machine.specs.declared.own.Own.{Own}
 use Rattle.opfs_machine.specs.declared.state.State.{State}

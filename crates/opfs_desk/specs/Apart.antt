@@ -1,7 +1,7 @@
 -- A party alone in a history that was given. This project's own.
 use Rattle.std.specs.Prelude.{List}
 use Rattle.opfs_hist.specs.declared.entry.Entry.{Entry}
-use Rattle.opfs_histories.specs.Unread.{IsTold}
+use Rattle.opfs_laws.specs.Histories.Unread.{IsTold}
 use Rattle.opfs_machine.specs.declared.state.Party.{Party}
 use Rattle.opfs_machine.specs.Alone.{IsAlone, project}
 use Rattle.opfs_machine.specs.Openings.{Opening}

@@ -4,7 +4,7 @@ use Rattle.opfs_book_laws.specs.Laws.{told, doubt}
 use Rattle.opfs_commit.specs.Shown.{ShowsSince}
 use Rattle.opfs_commit.specs.Trail.{IsTrail}
 use Rattle.opfs_hist.specs.declared.entry.Entry.{Entry}
-use Rattle.opfs_histories.specs.Doubts.{doubted}
+use Rattle.opfs_laws.specs.Histories.Doubts.{doubted}
 use Rattle.opfs_image.specs.Filling.{Stands}
 use Rattle.opfs_image.specs.Superblock.{geometry_of}
 use Rattle.opfs_machine.specs.Changes.{floor, changes, durable}

@@ -13,8 +13,8 @@ use opfs_book_laws::{commit_laws, the_books_show_their_images};
 use opfs_desk_parts::{Ledger, Pages, Parts};
 use opfs_hist::History;
 use opfs_journal::DiskFault;
+use opfs_laws::separation::apart::each_party_runs_alone;
 use opfs_outside::Disk;
-use opfs_separation::apart::each_party_runs_alone;
 
 impl<D: Disk> Desk<D> {
     /// Ends the run: ends the doubt, commits what is kept back, and gives the disk and the history, in which each party's replies are

@@ -3,7 +3,7 @@
 ghost use Rattle.std.specs.Prelude.{◌<◌, ◌^◌, length};
 ghost use Rattle.opfs_commit.specs.Trail.{IsTrail};
 ghost use Rattle.opfs_desk.specs.Seen.{entries_of, disk_of, ShowsNow, CountsFaults};
-ghost use Rattle.opfs_histories.specs.Unread.{IsTold};
+ghost use Rattle.opfs_laws.specs.Histories.Unread.{IsTold};
 ghost use Rattle.opfs_machine.specs.Changes.{changes};
 ghost use Rattle.opfs_outside.specs.Faults.{Rose};
 

@@ -8,7 +8,7 @@ ghost use Rattle.opfs_machine.specs.Histories.{state_after};
 
 use crate::desk::Desk;
 use opfs_acts::AwaitState;
-use opfs_lengths::bridge::lengths_decide_each_ruling;
+use opfs_laws::lengths::bridge::lengths_decide_each_ruling;
 use opfs_outside::Disk;
 
 impl<D: Disk> Desk<D> {

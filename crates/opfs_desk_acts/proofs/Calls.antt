@@ -10,7 +10,7 @@ use Rattle.opfs_commit.specs.Shown.{ShowsEither}
 use Rattle.opfs_hist.specs.declared.entry.Entry.{Entry}
 use Rattle.opfs_hist.specs.declared.op.Op.{Op}
 use Rattle.opfs_hist.specs.declared.reply.Refusal.{Refusal}
-use Rattle.opfs_histories.specs.Doubts.{doubted}
+use Rattle.opfs_laws.specs.Histories.Doubts.{doubted}
 use Rattle.opfs_journal.specs.Seen.{Seen}
 use Rattle.opfs_machine.specs.Changes.{Change, changes, floor}
 use Rattle.opfs_machine.specs.Histories.{state_after}

@@ -8,9 +8,9 @@ use Rattle.opfs_hist.specs.declared.entry.Entry.{Entry}
 use Rattle.opfs_hist.specs.declared.history.PendingSum.{PendingSum}
 use Rattle.opfs_hist.specs.declared.op.Op.{Op}
 use Rattle.opfs_hist.specs.declared.op.Op.TheVariants as op
-use Rattle.opfs_lengths.specs.Bridge.{LengthsFollowEachCall, LocalCallsAreKnownByTheirWord}
-use Rattle.opfs_lengths.specs.Outlines.{in_lengths_of}
-use Rattle.opfs_lengths.proofs.Readers.{row-at-on}
+use Rattle.opfs_laws.specs.Lengths.Bridge.{LengthsFollowEachCall, LocalCallsAreKnownByTheirWord}
+use Rattle.opfs_laws.specs.Lengths.Outlines.{in_lengths_of}
+use Rattle.opfs_laws.proofs.lengths.Readers.{row-at-on}
 use Rattle.opfs_machine.specs.declared.own.Outline.{Outline}
 use Rattle.opfs_machine.specs.declared.own.Own.{Own}
 use Rattle.opfs_machine.specs.declared.state.Agent.{Agent}

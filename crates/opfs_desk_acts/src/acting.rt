@@ -13,7 +13,7 @@ ghost use Rattle.opfs_desk_parts.specs.Seen.{machine_in, call_in};
 ghost use Rattle.opfs_desk_plain.specs.Next.{MayGoFrom};
 ghost use Rattle.opfs_desk_reads.specs.Reading.{HaveWholeHandles};
 ghost use Rattle.opfs_desk_steps.specs.Ready.{AskedCallsAreReady};
-ghost use Rattle.opfs_lengths.specs.Bridge.{LengthsFollowEachCall, LocalCallsAreKnownByTheirWord};
+ghost use Rattle.opfs_laws.specs.Lengths.Bridge.{LengthsFollowEachCall, LocalCallsAreKnownByTheirWord};
 ghost use Rattle.opfs_replay.specs.Built.{Built};
 
 use crate::kinds::{CallKind, kind_of};
@@ -31,7 +31,7 @@ use opfs_desk_reads::{act_get_file, act_sync_read};
 use opfs_desk_steps::asked_calls_are_ready;
 use opfs_desk_stores::act_content;
 use opfs_hist::Pending;
-use opfs_lengths::bridge::{lengths_follow_each_call, local_calls_are_known_by_their_word};
+use opfs_laws::lengths::bridge::{lengths_follow_each_call, local_calls_are_known_by_their_word};
 use opfs_outside::Disk;
 use opfs_work::Work;
 use std::alloc::AllocError;

@@ -24,7 +24,7 @@ use Rattle.opfs_desk_laws.proofs.Leaving.{open-is}
 use Rattle.opfs_hist.specs.declared.entry.Entry.{Entry}
 use Rattle.opfs_hist.specs.declared.op.Op.{Op}
 use Rattle.opfs_hist.specs.declared.op.Op.TheVariants as op
-use Rattle.opfs_lengths.specs.Outlines.{in_lengths_of}
+use Rattle.opfs_laws.specs.Lengths.Outlines.{in_lengths_of}
 use Rattle.opfs_machine.specs.declared.own.HandleRow.{HandleRow}
 use Rattle.opfs_machine.specs.declared.own.Outline.{Outline}
 use Rattle.opfs_machine.specs.declared.own.Own.{Own}
@@ -46,7 +46,7 @@ use Rattle.opfs_space.specs.Files.{file_has, extents_in}
 use Rattle.opfs_space.specs.Holders.{HasPage}
 use Rattle.opfs_space.specs.Room.{Machine}
 use Rattle.opfs_space.specs.Spaces.{SpaceSeen}
-use Rattle.opfs_steady.specs.Steady.{is_steady, open_bytes, row_bytes}
+use Rattle.opfs_laws.specs.Steady.Steady.{is_steady, open_bytes, row_bytes}
 use Rattle.opfs_tree.specs.Rows.{Rows as Tree, IsInOrder, row_at}
 use Rattle.opfs_tree.specs.declared.row.Row.{Row}
 use Rattle.opfs_tree.specs.declared.row.Row.TheVariants as tree_row

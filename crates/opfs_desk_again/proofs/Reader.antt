@@ -13,12 +13,12 @@ use Rattle.opfs_hist.specs.declared.entry.Entry.{Entry}
 use Rattle.opfs_hist.specs.declared.op.Mode.{Mode}
 use Rattle.opfs_hist.specs.declared.op.Mode.TheVariants as mode
 use Rattle.opfs_hist.specs.declared.reply.Reply.TheVariants as reply
-use Rattle.opfs_histories.specs.Unread.{unread}
+use Rattle.opfs_laws.specs.Histories.Unread.{unread}
 use Rattle.opfs_journal.specs.Seen.{Seen}
 use Rattle.opfs_laws.specs.Leaving.{ACallMovesItsAgent}
-use Rattle.opfs_lengths.specs.Bridge.{LengthsDecideEachRuling, LengthsFollowEachCall, LocalCallsAreKnownByTheirWord}
-use Rattle.opfs_lengths.specs.Kept.{Kept}
-use Rattle.opfs_lengths.proofs.Readers.{row-at-on}
+use Rattle.opfs_laws.specs.Lengths.Bridge.{LengthsDecideEachRuling, LengthsFollowEachCall, LocalCallsAreKnownByTheirWord}
+use Rattle.opfs_laws.specs.Lengths.Kept.{Kept}
+use Rattle.opfs_laws.proofs.lengths.Readers.{row-at-on}
 use Rattle.opfs_machine.specs.declared.own.HandleOutline.{HandleOutline}
 use Rattle.opfs_machine.specs.declared.own.HandleRow.{HandleRow}
 use Rattle.opfs_machine.specs.declared.own.Outline.TheVariants as outline

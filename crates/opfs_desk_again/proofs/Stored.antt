@@ -21,12 +21,12 @@ use Rattle.opfs_data.specs.Places.{bytes_of}
 use Rattle.opfs_desk_laws.specs.Handles.{AreHandlesWhole, HandlesStayWhole}
 use Rattle.opfs_hist.specs.declared.entry.Entry.{Entry}
 use Rattle.opfs_hist.specs.declared.reply.Reply.TheVariants as reply
-use Rattle.opfs_histories.specs.Unread.{unread}
+use Rattle.opfs_laws.specs.Histories.Unread.{unread}
 use Rattle.opfs_laws.specs.Covered.{now_of, stored_of}
 use Rattle.opfs_laws.specs.Leaving.{ACallMovesItsAgent}
 use Rattle.opfs_laws.specs.Whole.{IsWhole}
-use Rattle.opfs_lengths.specs.Outlines.{in_lengths_of, on_file}
-use Rattle.opfs_lengths.proofs.Readers.{file-on}
+use Rattle.opfs_laws.specs.Lengths.Outlines.{in_lengths_of, on_file}
+use Rattle.opfs_laws.proofs.lengths.Readers.{file-on}
 use Rattle.opfs_machine.specs.declared.own.HandleOutline.{HandleOutline}
 use Rattle.opfs_machine.specs.declared.own.HandleRow.{HandleRow}
 use Rattle.opfs_machine.specs.declared.own.Outline.TheVariants as outline
@@ -45,7 +45,7 @@ use Rattle.opfs_machine.specs.Steps.{after_reply, evicted}
 use Rattle.opfs_outside.specs.declared.disk.Disk.{Ghosts as DiskWords}
 use Rattle.opfs_replay.specs.Applying.{can_hold}
 use Rattle.opfs_replay.specs.Built.{Built, named_beside}
-use Rattle.opfs_reserves.specs.Reserves.{FitsOrIsStored, ReservesFitOrNothingIsUnflushed}
+use Rattle.opfs_laws.specs.Reserves.Reserves.{FitsOrIsStored, ReservesFitOrNothingIsUnflushed}
 use Rattle.opfs_snapshot.specs.Written.{stored_file, stored_rows}
 use Rattle.opfs_standing.specs.Seen.{Machine, lines_of}
 use Rattle.opfs_state.specs.Reading.{row_file}

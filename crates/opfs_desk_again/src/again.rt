@@ -27,7 +27,7 @@ ghost use Rattle.opfs_hist.specs.declared.reply.Reply.TheVariants as reply;
 ghost use Rattle.opfs_machine.specs.declared.own.Own.{Own};
 ghost use Rattle.opfs_machine.specs.declared.state.State.{State};
 ghost use Rattle.opfs_replay.specs.Built.{Built};
-ghost use Rattle.opfs_reserves.specs.Reserves.{ReservesFitOrNothingIsUnflushed};
+ghost use Rattle.opfs_laws.specs.Reserves.Reserves.{ReservesFitOrNothingIsUnflushed};
 ghost use Rattle.opfs_tree.specs.Rows.{IsInOrder, file_at as file_in_tree};
 ghost use Rattle.opfs_tree.specs.declared.row.FileRow.{FileRow};
 
@@ -46,9 +46,9 @@ use opfs_desk_steps::clear_way;
 use opfs_desk_ways::take_in;
 use opfs_hist::{Pending, Refusal, Reply};
 use opfs_journal::DiskFault;
+use opfs_laws::reserves::fitting::reserves_fit_or_nothing_is_unflushed;
 use opfs_machine::Sizes;
 use opfs_outside::Disk;
-use opfs_reserves::fitting::reserves_fit_or_nothing_is_unflushed;
 use opfs_work::Work;
 use std::alloc::AllocError;
 

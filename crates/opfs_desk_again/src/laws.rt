@@ -13,7 +13,7 @@ ghost use Rattle.opfs_desk_steps.specs.Answering.{ReadyCallsAreAnswered};
 ghost use Rattle.opfs_desk_steps.specs.Ready.{AskedCallsAreReady};
 ghost use Rattle.opfs_hist.specs.declared.entry.Entry.{Entry};
 ghost use Rattle.opfs_laws.specs.Leaving.{ACallMovesItsAgent};
-ghost use Rattle.opfs_lengths.specs.Bridge.{LengthsDecideEachRuling, LengthsFollowEachCall, LocalCallsAreKnownByTheirWord};
+ghost use Rattle.opfs_laws.specs.Lengths.Bridge.{LengthsDecideEachRuling, LengthsFollowEachCall, LocalCallsAreKnownByTheirWord};
 ghost use Rattle.opfs_machine.specs.declared.own.HandleRow.{HandleRow};
 ghost use Rattle.opfs_machine.specs.declared.own.Own.TheVariants as own;
 ghost use Rattle.opfs_machine.specs.Histories.{state_after};
@@ -27,10 +27,10 @@ use opfs_desk_laws::{
 };
 use opfs_desk_rows::rows_in_hand_are_laid;
 use opfs_desk_steps::{asked_calls_are_ready, calls_are_acted, ready_calls_are_answered};
-use opfs_laws::owned::a_call_moves_its_agent;
-use opfs_lengths::bridge::{
+use opfs_laws::lengths::bridge::{
     lengths_decide_each_ruling, lengths_follow_each_call, local_calls_are_known_by_their_word,
 };
+use opfs_laws::owned::a_call_moves_its_agent;
 use opfs_outside::Disk;
 
 /// What is known of the steps of a call.

@@ -13,15 +13,15 @@ use Rattle.opfs_hist.specs.Sums.{makes_row, last_moment}
 use Rattle.opfs_hist.specs.declared.entry.Entry.{Entry}
 use Rattle.opfs_hist.specs.declared.history.PendingSum.{PendingSum}
 use Rattle.opfs_hist.specs.declared.op.Op.{Op}
-use Rattle.opfs_histories.proofs.Reading.{pending-told, told-more, unread-state}
-use Rattle.opfs_histories.specs.Unread.{ReadsLeaveTheState}
+use Rattle.opfs_laws.proofs.histories.Reading.{pending-told, told-more, unread-state}
+use Rattle.opfs_laws.specs.Histories.Unread.{ReadsLeaveTheState}
 use Rattle.opfs_laws.proofs.Going.{go-on}
 use Rattle.opfs_laws.proofs.Local.{pending-legal}
 use Rattle.opfs_laws.specs.GoingOn.{ArePending}
-use Rattle.opfs_lengths.proofs.Readers.{agent-on}
-use Rattle.opfs_lengths.specs.Bridge.{LengthsDecideEachRuling, LengthsFollowEachCall, LocalCallsAreKnownByTheirWord, judged_in}
-use Rattle.opfs_lengths.specs.Kept.{Kept}
-use Rattle.opfs_lengths.specs.Outlines.{in_lengths_of}
+use Rattle.opfs_laws.proofs.lengths.Readers.{agent-on}
+use Rattle.opfs_laws.specs.Lengths.Bridge.{LengthsDecideEachRuling, LengthsFollowEachCall, LocalCallsAreKnownByTheirWord, judged_in}
+use Rattle.opfs_laws.specs.Lengths.Kept.{Kept}
+use Rattle.opfs_laws.specs.Lengths.Outlines.{in_lengths_of}
 use Rattle.opfs_machine.specs.declared.own.Own.{Own}
 use Rattle.opfs_machine.specs.declared.state.Sizes.{Sizes}
 use Rattle.opfs_machine.specs.declared.state.State.{State}

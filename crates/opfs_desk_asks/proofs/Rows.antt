@@ -11,7 +11,7 @@ use Rattle.opfs_machine.specs.Agents.{agent_of, own_of}
 use Rattle.opfs_machine.specs.Histories.{state_after}
 use Rattle.opfs_machine.specs.Openings.{Opening}
 use Rattle.opfs_machine.specs.Replies.{row_named, sizes_in, sizes_of}
-use Rattle.opfs_steady.specs.Steady.{open_bytes}
+use Rattle.opfs_laws.specs.Steady.Steady.{open_bytes}
 use Rattle.opfs_work.specs.Works.{WorkingCopy}
 use Rattle.opfs_desk_asks.specs.Sizes.{sizes_at, sizes_by}
 

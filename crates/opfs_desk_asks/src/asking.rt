@@ -17,8 +17,8 @@ use crate::sizes::sizes_for;
 use opfs_book_laws::state_laws;
 use opfs_desk_parts::Ledger;
 use opfs_hist::{Op, Pending};
-use opfs_histories::unread::reads_leave_the_state;
-use opfs_lengths::bridge::{
+use opfs_laws::histories::unread::reads_leave_the_state;
+use opfs_laws::lengths::bridge::{
     lengths_decide_each_ruling, lengths_follow_each_call, local_calls_are_known_by_their_word,
 };
 use opfs_outside::Disk;

@@ -15,7 +15,7 @@ use Rattle.opfs_desk_parts.specs.declared.parts.Ledger.{Ledger}
 use Rattle.opfs_desk_parts.specs.declared.parts.Pages.{Pages}
 use Rattle.opfs_desk_rows.specs.Puts.{TreesNameStoredBlocks}
 use Rattle.opfs_desk_ways.proofs.Evictions.{stored-named}
-use Rattle.opfs_lengths.specs.Kept.{Kept}
+use Rattle.opfs_laws.specs.Lengths.Kept.{Kept}
 use Rattle.opfs_machine.specs.Agents.{agent_of, own_of}
 use Rattle.opfs_machine.specs.Histories.{state_after}
 use Rattle.opfs_machine.specs.Sums.{reserve_of}

@@ -29,7 +29,7 @@ use Rattle.opfs_row_puts.specs.Plans.{AreGotten, shelf}
 use Rattle.opfs_row_puts.specs.Rows.{IsPutOf}
 use Rattle.opfs_state.specs.Applied.{StateSeen}
 use Rattle.opfs_tree.specs.Rows.{Rows as Tree}
-use Rattle.opfs_steady.specs.Steady.{row_bytes}
+use Rattle.opfs_laws.specs.Steady.Steady.{row_bytes}
 use Rattle.opfs_work.specs.Works.{WorkingCopy}
 use Rattle.opfs_desk_contents.specs.Putting.{IsRowToPut, all_of}
 

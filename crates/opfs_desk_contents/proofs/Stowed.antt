@@ -34,7 +34,7 @@ use Rattle.opfs_machine.specs.Agents.{open_handle, open_stream}
 use Rattle.opfs_machine.specs.Contents.{in_lengths}
 use Rattle.opfs_machine.specs.Effects.{moment_of}
 use Rattle.opfs_machine.specs.Histories.{state_after}
-use Rattle.opfs_lengths.specs.Kept.{Kept}
+use Rattle.opfs_laws.specs.Lengths.Kept.{Kept}
 use Rattle.opfs_machine.specs.Sums.{durable_blocks, reserve_of}
 use Rattle.opfs_outside.specs.declared.disk.Disk.{Ghosts as DiskWords}
 use Rattle.opfs_laws.proofs.Spots.{exact_places}

@@ -44,7 +44,7 @@ use Rattle.opfs_row_puts.proofs.Written.{put-begins, put-plain}
 use Rattle.opfs_space.specs.Holders.{AreMine, Writes}
 use Rattle.opfs_space.specs.Room.{Machine}
 use Rattle.opfs_space.proofs.Mine.{mine_unnamed}
-use Rattle.opfs_steady.specs.Steady.{row_bytes}
+use Rattle.opfs_laws.specs.Steady.Steady.{row_bytes}
 use Rattle.opfs_work.specs.Works.{WorkingCopy}
 use Rattle.opfs_desk_contents.specs.Putting.{HasContent, IsRowToPut, all_of}
 use Rattle.opfs_desk_contents.proofs.Beside.{beside-named}

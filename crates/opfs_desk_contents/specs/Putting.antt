@@ -18,7 +18,7 @@ use Rattle.opfs_puts.specs.declared.put.Put.{Put}
 use Rattle.opfs_replay.specs.Built.{Built}
 use Rattle.opfs_row_puts.specs.Plans.{AreGotten, HaveBlocks, IsStagedFor}
 use Rattle.opfs_row_puts.specs.Rows.{Change, ArePlain, IsPutOf}
-use Rattle.opfs_steady.specs.Steady.{row_bytes}
+use Rattle.opfs_laws.specs.Steady.Steady.{row_bytes}
 use Rattle.opfs_tree.specs.Rows.{Rows as Tree}
 use Rattle.opfs_work.specs.Works.{WorkingCopy}
 use Rattle.opfs_desk_parts.specs.Held.{AreHeldWhole}

@@ -19,10 +19,10 @@ use Rattle.opfs_desk_laws.proofs.Begun.{other-or}
 use Rattle.opfs_hist.specs.Sums.{asks_for_row}
 use Rattle.opfs_hist.specs.declared.entry.Entry.{Entry}
 use Rattle.opfs_hist.specs.declared.reply.Reply.TheVariants as reply
-use Rattle.opfs_histories.specs.Unread.{unread}
+use Rattle.opfs_laws.specs.Histories.Unread.{unread}
 use Rattle.opfs_laws.specs.Leaving.{ACallMovesItsAgent, IsMoved}
-use Rattle.opfs_lengths.specs.Bridge.{LengthsDecideEachRuling, LengthsFollowEachCall, LocalCallsAreKnownByTheirWord}
-use Rattle.opfs_lengths.specs.Outlines.{in_lengths_of}
+use Rattle.opfs_laws.specs.Lengths.Bridge.{LengthsDecideEachRuling, LengthsFollowEachCall, LocalCallsAreKnownByTheirWord}
+use Rattle.opfs_laws.specs.Lengths.Outlines.{in_lengths_of}
 use Rattle.opfs_machine.specs.declared.own.Own.{Own}
 use Rattle.opfs_machine.specs.declared.state.State.{State}
 use Rattle.opfs_machine.specs.Agents.{agent_of}

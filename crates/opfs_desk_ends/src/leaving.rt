@@ -21,7 +21,7 @@ ghost use Rattle.opfs_desk_steps.specs.Going.{HasTold};
 ghost use Rattle.opfs_desk_steps.specs.Ready.{AskedCallsAreReady};
 ghost use Rattle.opfs_hist.specs.declared.reply.Reply.TheVariants as reply;
 ghost use Rattle.opfs_laws.specs.Leaving.{ACallMovesItsAgent};
-ghost use Rattle.opfs_lengths.specs.Bridge.{LengthsDecideEachRuling, LengthsFollowEachCall, LocalCallsAreKnownByTheirWord};
+ghost use Rattle.opfs_laws.specs.Lengths.Bridge.{LengthsDecideEachRuling, LengthsFollowEachCall, LocalCallsAreKnownByTheirWord};
 ghost use Rattle.opfs_machine.specs.declared.own.Own.{Own};
 ghost use Rattle.opfs_machine.specs.declared.state.State.{State};
 ghost use Rattle.opfs_machine.specs.Replies.{row_named};
@@ -39,10 +39,10 @@ use opfs_desk_steps::{
 };
 use opfs_desk_ways::take_in;
 use opfs_hist::{Op, Pending, Reply};
-use opfs_laws::owned::a_call_moves_its_agent;
-use opfs_lengths::bridge::{
+use opfs_laws::lengths::bridge::{
     lengths_decide_each_ruling, lengths_follow_each_call, local_calls_are_known_by_their_word,
 };
+use opfs_laws::owned::a_call_moves_its_agent;
 use opfs_outside::Disk;
 use opfs_tree::Walk;
 use opfs_work::Work;

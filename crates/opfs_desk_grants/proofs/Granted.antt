@@ -4,13 +4,13 @@ use Rattle.opfs_base.specs.Texts.{Text}
 use Rattle.opfs_book_laws.specs.Books.{Fixed}
 use Rattle.opfs_hist.specs.declared.entry.Entry.{Entry}
 use Rattle.opfs_hist.specs.declared.reply.Reply.TheVariants as reply
-use Rattle.opfs_histories.specs.Unread.{ReadsLeaveTheState, unread}
+use Rattle.opfs_laws.specs.Histories.Unread.{ReadsLeaveTheState, unread}
 use Rattle.opfs_laws.specs.Counting.{AStateCountsItsHistory, key_of}
 use Rattle.opfs_laws.proofs.Bounded.{modes-gone}
 use Rattle.opfs_laws.proofs.OwnKept.{evicted-agents}
-use Rattle.opfs_lengths.specs.Bridge.{LengthsFollowEachCall, LocalCallsAreKnownByTheirWord}
-use Rattle.opfs_lengths.specs.Outlines.{in_lengths_of}
-use Rattle.opfs_lengths.proofs.Readers.{agent-on}
+use Rattle.opfs_laws.specs.Lengths.Bridge.{LengthsFollowEachCall, LocalCallsAreKnownByTheirWord}
+use Rattle.opfs_laws.specs.Lengths.Outlines.{in_lengths_of}
+use Rattle.opfs_laws.proofs.lengths.Readers.{agent-on}
 use Rattle.opfs_machine.specs.declared.own.Own.{Own}
 use Rattle.opfs_machine.specs.declared.state.State.{State}
 use Rattle.opfs_machine.specs.Agents.{agent_in, agent_of}

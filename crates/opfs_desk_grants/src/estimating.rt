@@ -18,7 +18,7 @@ use opfs_book_laws::{state_laws, the_state_is_kept};
 use opfs_desk_parts::{InHand, Parts};
 use opfs_desk_plain::{tell, telling_laws};
 use opfs_hist::{Pending, Reply};
-use opfs_histories::unread::reads_leave_the_state;
+use opfs_laws::histories::unread::reads_leave_the_state;
 use opfs_outside::Disk;
 use opfs_state::State;
 use opfs_work::Work;

@@ -14,9 +14,9 @@ ghost use Rattle.opfs_desk_parts.specs.Seen.{machine_in, call_in};
 ghost use Rattle.opfs_desk_steps.specs.Acting.{CallsAreActed};
 ghost use Rattle.opfs_desk_steps.specs.Answering.{ReadyCallsAreAnswered};
 ghost use Rattle.opfs_desk_steps.specs.Ready.{AskedCallsAreReady};
-ghost use Rattle.opfs_histories.specs.Unread.{ReadsLeaveTheState};
+ghost use Rattle.opfs_laws.specs.Histories.Unread.{ReadsLeaveTheState};
 ghost use Rattle.opfs_laws.specs.Counting.{AStateCountsItsHistory};
-ghost use Rattle.opfs_lengths.specs.Bridge.{LengthsFollowEachCall, LocalCallsAreKnownByTheirWord};
+ghost use Rattle.opfs_laws.specs.Lengths.Bridge.{LengthsFollowEachCall, LocalCallsAreKnownByTheirWord};
 ghost use Rattle.opfs_replay.specs.Built.{Built};
 
 use crate::entering::{enter_mode, unit_in};
@@ -30,9 +30,9 @@ use opfs_desk_steps::{
 };
 use opfs_desk_ways::take_in;
 use opfs_hist::{Pending, Refusal, Reply};
-use opfs_histories::unread::reads_leave_the_state;
 use opfs_laws::counted::a_state_counts_its_history;
-use opfs_lengths::bridge::{lengths_follow_each_call, local_calls_are_known_by_their_word};
+use opfs_laws::histories::unread::reads_leave_the_state;
+use opfs_laws::lengths::bridge::{lengths_follow_each_call, local_calls_are_known_by_their_word};
 use opfs_outside::Disk;
 use opfs_work::Work;
 use std::alloc::AllocError;

@@ -24,7 +24,7 @@ use Rattle.opfs_replay.specs.Built.{Built}
 use Rattle.opfs_row_puts.specs.Plans.{shelf}
 use Rattle.opfs_snapshot.specs.Written.{stored_rows}
 use Rattle.opfs_space.specs.Room.{Machine}
-use Rattle.opfs_steady.specs.Steady.{settles, concerns}
+use Rattle.opfs_laws.specs.Steady.Steady.{settles, concerns}
 use Rattle.opfs_tree.specs.Rows.{Rows as Tree}
 use Rattle.opfs_desk_parts.specs.Held.{AreHeldAt, AreHeldWhole}
 use Rattle.opfs_desk_parts.specs.Seen.{machine_in, tree_in}

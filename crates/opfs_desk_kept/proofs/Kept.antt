@@ -10,9 +10,9 @@ use Rattle.opfs_changes.specs.Changed.{tree_by}
 use Rattle.opfs_desk_laws.specs.Laws.{BlocksGoOn}
 use Rattle.opfs_hist.specs.declared.entry.Entry.{Entry}
 use Rattle.opfs_hist.specs.declared.reply.Reply.TheVariants as reply
-use Rattle.opfs_histories.specs.Unread.{unread}
+use Rattle.opfs_laws.specs.Histories.Unread.{unread}
 use Rattle.opfs_laws.specs.Counting.{key_of}
-use Rattle.opfs_lengths.specs.Kept.{Kept}
+use Rattle.opfs_laws.specs.Lengths.Kept.{Kept}
 use Rattle.opfs_machine.specs.declared.own.Own.{Own}
 use Rattle.opfs_machine.specs.declared.state.State.{State}
 use Rattle.opfs_machine.specs.Agents.{agent_of}

@@ -2,7 +2,7 @@
 use Rattle.std.proofs.Common.{◌≡◌, ℕ, [], List, sym, ap, ◌∙◌}
 use Rattle.opfs_base.specs.Texts.{Text}
 use Rattle.opfs_book_laws.specs.Books.{Fixed}
-use Rattle.opfs_histories.specs.Unread.{ReadsLeaveTheState}
+use Rattle.opfs_laws.specs.Histories.Unread.{ReadsLeaveTheState}
 use Rattle.opfs_laws.specs.Counting.{AStateCountsItsHistory, key_of}
 use Rattle.opfs_machine.specs.declared.own.Own.{Own}
 use Rattle.opfs_machine.specs.declared.state.State.{State}

@@ -14,9 +14,9 @@ ghost use Rattle.opfs_desk_parts.specs.Seen.{machine_in, call_in};
 ghost use Rattle.opfs_desk_steps.specs.Acting.{CallsAreActed};
 ghost use Rattle.opfs_desk_steps.specs.Answering.{ReadyCallsAreAnswered};
 ghost use Rattle.opfs_desk_steps.specs.Ready.{AskedCallsAreReady};
-ghost use Rattle.opfs_histories.specs.Unread.{ReadsLeaveTheState};
+ghost use Rattle.opfs_laws.specs.Histories.Unread.{ReadsLeaveTheState};
 ghost use Rattle.opfs_laws.specs.Counting.{AStateCountsItsHistory};
-ghost use Rattle.opfs_lengths.specs.Bridge.{LengthsDecideEachRuling};
+ghost use Rattle.opfs_laws.specs.Lengths.Bridge.{LengthsDecideEachRuling};
 ghost use Rattle.opfs_replay.specs.Built.{Built};
 
 use crate::changing::enter_kept;
@@ -31,9 +31,9 @@ use opfs_desk_steps::{
 };
 use opfs_desk_ways::take_in;
 use opfs_hist::{Pending, Refusal, Reply};
-use opfs_histories::unread::reads_leave_the_state;
 use opfs_laws::counted::a_state_counts_its_history;
-use opfs_lengths::bridge::lengths_decide_each_ruling;
+use opfs_laws::histories::unread::reads_leave_the_state;
+use opfs_laws::lengths::bridge::lengths_decide_each_ruling;
 use opfs_outside::Disk;
 use opfs_work::Work;
 use std::alloc::AllocError;

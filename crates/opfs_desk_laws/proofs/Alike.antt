@@ -5,8 +5,8 @@ use Rattle.opfs_data.specs.Rows.{Rows, pages_at}
 use Rattle.opfs_hist.specs.declared.entry.Entry.{Entry}
 use Rattle.opfs_machine.specs.Histories.{state_after}
 use Rattle.opfs_machine.specs.Openings.{Opening}
-use Rattle.opfs_steady.specs.Settling.{NoneSettles}
-use Rattle.opfs_steady.specs.Steady.{row_bytes}
+use Rattle.opfs_laws.specs.Steady.Settling.{NoneSettles}
+use Rattle.opfs_laws.specs.Steady.Steady.{row_bytes}
 use Rattle.opfs_desk_laws.specs.Told.{AreThere, AreTold}
 use Rattle.opfs_desk_laws.specs.Putting.{AllReadAlike}
 use Rattle.opfs_desk_laws.proofs.Telling.{there-goes-on, told-goes-on}

@@ -7,7 +7,7 @@ use Rattle.std.proofs.lemmas.Grind.{same_number_lists}
 use Rattle.opfs_base.specs.Texts.{Text}
 use Rattle.opfs_data.specs.Rows.{IsOther}
 use Rattle.opfs_pages.specs.Copies.{IsBegun}
-use Rattle.opfs_steady.specs.Steady.{page_in, has_page, BeginsAs}
+use Rattle.opfs_laws.specs.Steady.Steady.{page_in, has_page, BeginsAs}
 
 page-length : (bytes : List ℕ) (i : ℕ) → length (page_in bytes i) ≡ min 4096 (length bytes - 4096 * i)
 page-length bytes i = length-take 4096 (drop (4096 * i) bytes) ∙ ap (min 4096) (length-drop (4096 * i) bytes)

@@ -17,7 +17,7 @@ use Rattle.opfs_machine.specs.Histories.{state_after}
 use Rattle.opfs_machine.specs.Openings.{Opening}
 use Rattle.opfs_machine.specs.Replies.{row_named, bytes_at}
 use Rattle.opfs_machine.specs.Steps.{is_refusal}
-use Rattle.opfs_steady.specs.Steady.{concerns, settles}
+use Rattle.opfs_laws.specs.Steady.Steady.{concerns, settles}
 use Rattle.opfs_work.specs.Works.{WorkingCopy}
 use Rattle.opfs_desk_laws.specs.Copies.{NamesRow, IsStreamCopy, IsHandleCopy}
 

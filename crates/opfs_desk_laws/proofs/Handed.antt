@@ -9,7 +9,7 @@ use Rattle.opfs_hist.specs.declared.entry.Entry.{Entry}
 use Rattle.opfs_machine.specs.Histories.{state_after}
 use Rattle.opfs_machine.specs.Openings.{Opening}
 use Rattle.opfs_pages.specs.Copies.{IsCopy, AreHeld, HasFar}
-use Rattle.opfs_steady.specs.Steady.{open_bytes, row_bytes}
+use Rattle.opfs_laws.specs.Steady.Steady.{open_bytes, row_bytes}
 use Rattle.opfs_work.specs.declared.pages.Page.{Page}
 use Rattle.opfs_work.specs.declared.pages.Page.TheVariants.{Zero, Near, Clean, Far}
 use Rattle.opfs_work.specs.Pages.{page_at, is_far, is_held}

@@ -40,8 +40,8 @@ use Rattle.opfs_laws.proofs.LocksKept.{locks-evicted}
 use Rattle.opfs_laws.proofs.Allowed.{agent-stays}
 use Rattle.opfs_laws.proofs.Numbers.{IsNumber, number-of, agent-set}
 use Rattle.opfs_laws.proofs.Reaching.{kept-all}
-use Rattle.opfs_steady.specs.Steady.{open_bytes, row_bytes, has_page, concerns, settles, is_steady}
-use Rattle.opfs_steady.proofs.GoingOn.{steady-settled, steady-has, steady-kept}
+use Rattle.opfs_laws.specs.Steady.Steady.{open_bytes, row_bytes, has_page, concerns, settles, is_steady}
+use Rattle.opfs_laws.proofs.steady.GoingOn.{steady-settled, steady-has, steady-kept}
 use Rattle.opfs_desk_laws.specs.Handles.{handle_on, AreHandlesWhole, HandlesStayWhole}
 use Rattle.opfs_desk_laws.specs.Hands.{row_in_hand}
 use Rattle.opfs_desk_laws.proofs.Begun.{other-or}

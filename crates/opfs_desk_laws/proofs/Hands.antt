@@ -16,8 +16,8 @@ use Rattle.opfs_base.specs.Texts.{Text}
 use Rattle.opfs_machine.specs.Agents.{agent_of, own_of}
 use Rattle.opfs_machine.specs.Replies.{row_named}
 use Rattle.opfs_machine.specs.Steps.{is_refusal}
-use Rattle.opfs_steady.specs.Steady.{concerns, settles}
-use Rattle.opfs_steady.proofs.Leaving.{other-leaves}
+use Rattle.opfs_laws.specs.Steady.Steady.{concerns, settles}
+use Rattle.opfs_laws.proofs.steady.Leaving.{other-leaves}
 use Rattle.opfs_desk_laws.specs.Hands.{row_in_hand}
 
 not-equal : (a b : ℕ) → a ≢ b → (a == b) ≡ false

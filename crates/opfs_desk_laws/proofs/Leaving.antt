@@ -11,8 +11,8 @@ use Rattle.opfs_laws.specs.Leaving.{row_used}
 use Rattle.opfs_laws.proofs.Moved.{call-moves}
 use Rattle.opfs_laws.proofs.Numbers.{number-of}
 use Rattle.opfs_laws.proofs.OwnKept.{evicted-agents}
-use Rattle.opfs_lengths.specs.Outlines.{in_lengths_of}
-use Rattle.opfs_lengths.proofs.Readers.{own-on, agent-on}
+use Rattle.opfs_laws.specs.Lengths.Outlines.{in_lengths_of}
+use Rattle.opfs_laws.proofs.lengths.Readers.{own-on, agent-on}
 use Rattle.opfs_machine.specs.declared.own.Own.{Own}
 use Rattle.opfs_machine.specs.declared.state.State.{State}
 use Rattle.opfs_machine.specs.Agents.{agent_of, agent_in, own_of}

@@ -7,8 +7,8 @@ use Rattle.opfs_hist.specs.declared.entry.Entry.{Entry}
 use Rattle.opfs_machine.specs.Histories.{state_after}
 use Rattle.opfs_machine.specs.Openings.{Opening}
 use Rattle.opfs_pages.specs.Copies.{IsBegun}
-use Rattle.opfs_steady.specs.Steady.{row_bytes, is_steady, BeginsAs}
-use Rattle.opfs_steady.proofs.GoingOn.{steady-has, steady-was, begins-more}
+use Rattle.opfs_laws.specs.Steady.Steady.{row_bytes, is_steady, BeginsAs}
+use Rattle.opfs_laws.proofs.steady.GoingOn.{steady-has, steady-was, begins-more}
 use Rattle.opfs_desk_laws.specs.Told.{AreThere, AreTold, IsToldAt, NoOtherSettles, OthersHavePages, OthersReadAlike, HasAllPages, AllAreTold}
 use Rattle.opfs_desk_laws.proofs.Begun.{begins-begun, begun-begins, has-bytes, other-or}
 

@@ -12,7 +12,7 @@ use Rattle.opfs_machine.specs.Histories.{Legal, IsCall, state_after}
 use Rattle.opfs_machine.specs.Openings.{Opening}
 use Rattle.opfs_machine.specs.Replies.{bytes_at}
 use Rattle.opfs_machine.specs.Runs.{eviction}
-use Rattle.opfs_steady.specs.Steady.{is_steady, has_page}
+use Rattle.opfs_laws.specs.Steady.Steady.{is_steady, has_page}
 
 -- The file of an own row, where it is an open access handle.
 abbrev pub handle_on : Option Own → Option Place

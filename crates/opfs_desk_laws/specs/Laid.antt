@@ -9,7 +9,7 @@ use Rattle.opfs_machine.specs.Openings.{Opening}
 use Rattle.opfs_pages.specs.Copies.{IsBegun}
 use Rattle.opfs_space.specs.Room.{Machine}
 use Rattle.opfs_space.specs.Spaces.{SpaceSeen}
-use Rattle.opfs_steady.specs.Steady.{row_bytes}
+use Rattle.opfs_laws.specs.Steady.Steady.{row_bytes}
 use Rattle.opfs_desk_laws.specs.Hands.{row_in_hand}
 use Rattle.opfs_desk_laws.specs.Laws.{AllGoOn}
 use Rattle.opfs_desk_laws.specs.Open.{open_at, OthersStayOpen}

@@ -13,7 +13,7 @@ use Rattle.opfs_data.specs.Writes.{PageWrite}
 use Rattle.opfs_hist.specs.declared.entry.Entry.{Entry}
 use Rattle.opfs_hist.specs.declared.op.Op.{Op}
 use Rattle.opfs_hist.specs.declared.reply.Reply.{Reply}
-use Rattle.opfs_lengths.specs.Outlines.{in_lengths_of}
+use Rattle.opfs_laws.specs.Lengths.Outlines.{in_lengths_of}
 use Rattle.opfs_machine.specs.declared.own.Own.{Own}
 use Rattle.opfs_machine.specs.declared.state.State.{State}
 use Rattle.opfs_machine.specs.Agents.{agent_of}
@@ -26,8 +26,8 @@ use Rattle.opfs_space.specs.Files.{file_has}
 use Rattle.opfs_space.specs.Holders.{HasPage, AreMine}
 use Rattle.opfs_space.specs.Room.{Machine}
 use Rattle.opfs_space.specs.Spaces.{SpaceSeen}
-use Rattle.opfs_steady.specs.Settling.{NoneSettles}
-use Rattle.opfs_steady.specs.Steady.{settles}
+use Rattle.opfs_laws.specs.Steady.Settling.{NoneSettles}
+use Rattle.opfs_laws.specs.Steady.Steady.{settles}
 use Rattle.opfs_tree.specs.Rows.{Rows as Tree, row_at, extents_of, change_at, IsInOrder}
 use Rattle.opfs_tree.specs.declared.row.FileRow.{FileRow}
 use Rattle.opfs_tree.specs.declared.row.Row.{Row}

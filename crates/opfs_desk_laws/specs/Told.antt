@@ -4,13 +4,13 @@ use Rattle.opfs_base.specs.Texts.{Text}
 use Rattle.opfs_data.specs.Pages.{page_of}
 use Rattle.opfs_data.specs.Rows.{Rows, row_of, pages_at, page_at, IsOther}
 use Rattle.opfs_hist.specs.declared.entry.Entry.{Entry}
-use Rattle.opfs_lengths.specs.Outlines.{in_lengths_of}
+use Rattle.opfs_laws.specs.Lengths.Outlines.{in_lengths_of}
 use Rattle.opfs_machine.specs.Histories.{state_after}
 use Rattle.opfs_machine.specs.Openings.{Opening}
 use Rattle.opfs_pages.specs.Copies.{IsBegun}
 use Rattle.opfs_space.specs.Room.{Machine}
-use Rattle.opfs_steady.specs.Settling.{NoneSettles}
-use Rattle.opfs_steady.specs.Steady.{row_bytes, is_steady}
+use Rattle.opfs_laws.specs.Steady.Settling.{NoneSettles}
+use Rattle.opfs_laws.specs.Steady.Steady.{row_bytes, is_steady}
 use Rattle.opfs_desk_laws.specs.Open.{open_at}
 
 -- There are pages for just the open rows.

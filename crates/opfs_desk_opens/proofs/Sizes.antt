@@ -6,8 +6,8 @@ use Rattle.opfs_base.specs.Places.{Place, place_cmp, place_of}
 use Rattle.opfs_base.specs.Texts.{Text}
 use Rattle.opfs_hist.specs.declared.op.Op.{Op}
 use Rattle.opfs_hist.specs.declared.op.Op.TheVariants as op
-use Rattle.opfs_lengths.specs.Outlines.{in_lengths_of, on_file}
-use Rattle.opfs_lengths.proofs.Readers.{file-on}
+use Rattle.opfs_laws.specs.Lengths.Outlines.{in_lengths_of, on_file}
+use Rattle.opfs_laws.proofs.lengths.Readers.{file-on}
 use Rattle.opfs_machine.specs.declared.own.Own.{Own}
 use Rattle.opfs_machine.specs.declared.state.FileRow.{FileRow as File}
 use Rattle.opfs_machine.specs.declared.state.Row.{Row as Line}

@@ -7,7 +7,7 @@ use Rattle.opfs_book_laws.specs.Books.{Fixed}
 use Rattle.opfs_book_laws.specs.Laws.{told, doubt, failed}
 use Rattle.opfs_commit.specs.Shown.{ShowsEither}
 use Rattle.opfs_hist.specs.declared.entry.Entry.{Entry}
-use Rattle.opfs_histories.specs.Doubts.{doubted}
+use Rattle.opfs_laws.specs.Histories.Doubts.{doubted}
 use Rattle.opfs_machine.specs.Agents.{agent_of}
 use Rattle.opfs_machine.specs.Changes.{Change, floor}
 use Rattle.opfs_machine.specs.Histories.{IsCall, state_after}

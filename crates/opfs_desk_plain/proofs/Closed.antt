@@ -4,14 +4,14 @@ use Rattle.opfs_base.specs.Texts.{Text}
 use Rattle.opfs_data.specs.Rows.{Rows, row_of}
 use Rattle.opfs_desk_laws.specs.Open.{if_open, open_at}
 use Rattle.opfs_desk_laws.proofs.Leaving.{open-is}
-use Rattle.opfs_lengths.specs.Outlines.{in_lengths_of}
+use Rattle.opfs_laws.specs.Lengths.Outlines.{in_lengths_of}
 use Rattle.opfs_machine.specs.Contents.{outline_of}
 use Rattle.opfs_machine.specs.declared.own.Own.{Own}
 use Rattle.opfs_machine.specs.declared.own.Own.TheVariants as own
 use Rattle.opfs_machine.specs.declared.state.State.{State}
 use Rattle.opfs_machine.specs.Agents.{agent_of, own_of}
 use Rattle.opfs_space.specs.Room.{Machine}
-use Rattle.opfs_steady.specs.Steady.{open_bytes, row_bytes}
+use Rattle.opfs_laws.specs.Steady.Steady.{open_bytes, row_bytes}
 
 -- A row with bytes is open.
 open-by : (s : State Text Own) (o : Option Own) (bytes : Text) → open_bytes s o ≡ Some bytes → is_some (if_open (option_map outline_of o)) ≡ true

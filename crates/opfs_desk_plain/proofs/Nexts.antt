@@ -14,8 +14,8 @@ use Rattle.opfs_hist.specs.declared.op.Op.{Op}
 use Rattle.opfs_hist.specs.declared.op.Op.TheVariants as op
 use Rattle.opfs_hist.specs.declared.reply.Reply.{Reply}
 use Rattle.opfs_hist.specs.declared.reply.Reply.TheVariants as reply
-use Rattle.opfs_lengths.specs.Outlines.{in_lengths_of, on_row}
-use Rattle.opfs_lengths.proofs.Readers.{children-on, row-on}
+use Rattle.opfs_laws.specs.Lengths.Outlines.{in_lengths_of, on_row}
+use Rattle.opfs_laws.proofs.lengths.Readers.{children-on, row-on}
 use Rattle.opfs_machine.specs.declared.own.Own.{Own}
 use Rattle.opfs_machine.specs.declared.state.Row.{Row as Line}
 use Rattle.opfs_machine.specs.declared.state.Row.TheVariants as line

@@ -9,8 +9,8 @@ use Rattle.opfs_changes.specs.Asking.{growth_of}
 use Rattle.opfs_hist.specs.Sums.{last_moment, makes_row}
 use Rattle.opfs_hist.specs.declared.entry.Entry.{Entry}
 use Rattle.opfs_hist.specs.declared.history.PendingSum.{PendingSum}
-use Rattle.opfs_lengths.specs.Bridge.{LengthsFollowEachCall, LocalCallsAreKnownByTheirWord}
-use Rattle.opfs_lengths.specs.Outlines.{in_lengths_of}
+use Rattle.opfs_laws.specs.Lengths.Bridge.{LengthsFollowEachCall, LocalCallsAreKnownByTheirWord}
+use Rattle.opfs_laws.specs.Lengths.Outlines.{in_lengths_of}
 use Rattle.opfs_machine.specs.Histories.{after_entry, state_after}
 use Rattle.opfs_machine.specs.Openings.{begun}
 use Rattle.opfs_outside.specs.declared.disk.Disk.{Ghosts as DiskWords}

@@ -15,10 +15,10 @@ use Rattle.opfs_hist.specs.declared.op.Op.TheVariants as op
 use Rattle.opfs_hist.specs.declared.reply.Refusal.{Refusal}
 use Rattle.opfs_hist.specs.declared.reply.Reply.TheVariants as reply
 use Rattle.opfs_hist.specs.Faults.{is_disk_fault}
-use Rattle.opfs_histories.specs.Unread.{ReadsLeaveTheState}
+use Rattle.opfs_laws.specs.Histories.Unread.{ReadsLeaveTheState}
 use Rattle.opfs_laws.specs.Faults.{TheMachineNeverFaults}
 use Rattle.opfs_laws.proofs.Numbers.{IsNumber, agent-set, number-of}
-use Rattle.opfs_lengths.specs.Bridge.{LengthsFollowEachCall, LocalCallsAreKnownByTheirWord}
+use Rattle.opfs_laws.specs.Lengths.Bridge.{LengthsFollowEachCall, LocalCallsAreKnownByTheirWord}
 use Rattle.opfs_machine.specs.declared.own.Own.{Own}
 use Rattle.opfs_machine.specs.declared.state.State.{State}
 use Rattle.opfs_machine.specs.Agents.{agent_of, counted}

@@ -18,7 +18,7 @@ use Rattle.opfs_hist.specs.declared.entry.Entry.{Entry}
 use Rattle.opfs_hist.specs.declared.reply.Reply.{Reply}
 use Rattle.opfs_hist.specs.declared.reply.Reply.TheVariants as reply
 use Rattle.opfs_journal.specs.Seen.{Seen}
-use Rattle.opfs_lengths.specs.Outlines.{in_lengths_of}
+use Rattle.opfs_laws.specs.Lengths.Outlines.{in_lengths_of}
 use Rattle.opfs_machine.specs.declared.own.Own.{Own}
 use Rattle.opfs_machine.specs.declared.state.State.{State}
 use Rattle.opfs_machine.specs.Agents.{agent_of}

@@ -22,8 +22,8 @@ use Rattle.opfs_hist.specs.declared.reply.Refusal.{Refusal}
 use Rattle.opfs_laws.specs.Leaving.{row_used}
 use Rattle.opfs_laws.proofs.Local.{room_for_nothing}
 use Rattle.opfs_laws.proofs.Numbers.{IsNumber, agent-set, agent-other}
-use Rattle.opfs_lengths.specs.Bridge.{LengthsDecideEachRuling}
-use Rattle.opfs_lengths.specs.Outlines.{in_lengths_of}
+use Rattle.opfs_laws.specs.Lengths.Bridge.{LengthsDecideEachRuling}
+use Rattle.opfs_laws.specs.Lengths.Outlines.{in_lengths_of}
 use Rattle.opfs_machine.specs.declared.own.Outline.{Outline}
 use Rattle.opfs_machine.specs.declared.own.Own.{Own}
 use Rattle.opfs_machine.specs.declared.own.Own.TheVariants as own

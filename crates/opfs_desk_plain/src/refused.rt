@@ -16,8 +16,8 @@ use opfs_desk_parts::Parts;
 use opfs_desk_steps::calls_are_acted;
 use opfs_desk_ways::{refuse_call, take_in};
 use opfs_hist::{Entry, Op, Pending, Refusal, Reply, Room};
-use opfs_histories::unread::reads_leave_the_state;
-use opfs_lengths::bridge::{lengths_follow_each_call, local_calls_are_known_by_their_word};
+use opfs_laws::histories::unread::reads_leave_the_state;
+use opfs_laws::lengths::bridge::{lengths_follow_each_call, local_calls_are_known_by_their_word};
 use opfs_outside::Disk;
 
 /// Enters a call that the machine refuses, after its agent's pending calls. Calls no disk.

@@ -16,7 +16,7 @@ ghost use Rattle.opfs_desk_rows.specs.InHand.{RowsInHandAreLaid};
 ghost use Rattle.opfs_desk_steps.specs.Acting.{CallsAreActed};
 ghost use Rattle.opfs_desk_steps.specs.Answering.{ReadyCallsAreAnswered};
 ghost use Rattle.opfs_desk_steps.specs.Ready.{AskedCallsAreReady};
-ghost use Rattle.opfs_lengths.specs.Bridge.{LengthsDecideEachRuling, LengthsFollowEachCall, LocalCallsAreKnownByTheirWord};
+ghost use Rattle.opfs_laws.specs.Lengths.Bridge.{LengthsDecideEachRuling, LengthsFollowEachCall, LocalCallsAreKnownByTheirWord};
 ghost use Rattle.opfs_machine.specs.Histories.{state_after};
 ghost use Rattle.opfs_replay.specs.Built.{Built};
 ghost use Rattle.opfs_state_laws.specs.Readied.{StaysReadyAsNoted};
@@ -31,7 +31,7 @@ use opfs_desk_steps::{
 };
 use opfs_desk_ways::take_in;
 use opfs_hist::{Pending, Reply};
-use opfs_lengths::bridge::{
+use opfs_laws::lengths::bridge::{
     lengths_decide_each_ruling, lengths_follow_each_call, local_calls_are_known_by_their_word,
 };
 use opfs_outside::Disk;

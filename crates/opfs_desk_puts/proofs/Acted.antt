@@ -42,7 +42,7 @@ use Rattle.opfs_puts.specs.declared.put.Put.{Put}
 use Rattle.opfs_replay.specs.Built.{Built}
 use Rattle.opfs_row_puts.specs.Rows.{IsPutOf}
 use Rattle.opfs_space.specs.Room.{Machine}
-use Rattle.opfs_steady.specs.Steady.{open_bytes}
+use Rattle.opfs_laws.specs.Steady.Steady.{open_bytes}
 use Rattle.opfs_work.specs.Pages.{page_at, is_far}
 use Rattle.opfs_work.specs.Works.{WorkingCopy}
 use Rattle.opfs_desk_parts.specs.Acted.{HasActed, HasFailed, IsWay, IsWayNow, last_doubt}

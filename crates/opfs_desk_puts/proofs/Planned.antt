@@ -32,7 +32,7 @@ use Rattle.opfs_row_puts.specs.Plans.{shelf, AreGotten, IsStagedFor}
 use Rattle.opfs_row_puts.proofs.Getting.{pages-same}
 use Rattle.opfs_space.specs.Room.{Machine}
 use Rattle.opfs_state.specs.Applied.{StateSeen}
-use Rattle.opfs_steady.specs.Steady.{row_bytes}
+use Rattle.opfs_laws.specs.Steady.Steady.{row_bytes}
 use Rattle.opfs_tree.specs.Rows.{Rows as Tree}
 use Rattle.opfs_work.specs.Works.{WorkingCopy}
 use Rattle.opfs_desk_parts.specs.Acted.{HasActed}

@@ -26,8 +26,8 @@ use Rattle.opfs_hist.specs.declared.entry.Entry.{Entry}
 use Rattle.opfs_hist.specs.declared.op.Op.{Op}
 use Rattle.opfs_hist.specs.declared.op.Op.TheVariants as op
 use Rattle.opfs_journal.specs.Seen.{Seen}
-use Rattle.opfs_lengths.specs.Kept.{Kept}
-use Rattle.opfs_lengths.specs.Outlines.{in_lengths_of}
+use Rattle.opfs_laws.specs.Lengths.Kept.{Kept}
+use Rattle.opfs_laws.specs.Lengths.Outlines.{in_lengths_of}
 use Rattle.opfs_machine.specs.declared.own.HandleOutline.{HandleOutline}
 use Rattle.opfs_machine.specs.declared.own.HandleRow.{HandleRow}
 use Rattle.opfs_machine.specs.declared.own.Own.{Own}
@@ -57,7 +57,7 @@ use Rattle.opfs_space.specs.Room.{Machine}
 use Rattle.opfs_space.specs.Spaces.{SpaceSeen}
 use Rattle.opfs_splice.specs.Splicing.{splice}
 use Rattle.opfs_state.specs.Applied.{StateSeen}
-use Rattle.opfs_steady.specs.Steady.{open_bytes, row_bytes}
+use Rattle.opfs_laws.specs.Steady.Steady.{open_bytes, row_bytes}
 use Rattle.opfs_tree.specs.declared.row.FileRow.{FileRow}
 use Rattle.opfs_tree.specs.Rows.{Rows as Tree}
 use Rattle.opfs_work.specs.Works.{WorkingCopy}

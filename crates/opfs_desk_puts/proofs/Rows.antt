@@ -19,7 +19,7 @@ use Rattle.opfs_hist.specs.declared.reply.Reply.{Reply}
 use Rattle.opfs_laws.proofs.Acting.{changed-acts}
 use Rattle.opfs_laws.proofs.Moved.{call-moves}
 use Rattle.opfs_laws.proofs.Numbers.{number-of}
-use Rattle.opfs_lengths.specs.Outlines.{in_lengths_of}
+use Rattle.opfs_laws.specs.Lengths.Outlines.{in_lengths_of}
 use Rattle.opfs_machine.specs.declared.own.HandleRow.{HandleRow}
 use Rattle.opfs_machine.specs.declared.own.Own.{Own}
 use Rattle.opfs_machine.specs.declared.own.Own.TheVariants as own
@@ -37,7 +37,7 @@ use Rattle.opfs_machine.specs.Steps.{after_reply}
 use Rattle.opfs_machine.specs.Sums.{reserve_of}
 use Rattle.opfs_pages.proofs.Rest.{written_is, resized_is}
 use Rattle.opfs_splice.specs.Splicing.{splice, resize}
-use Rattle.opfs_steady.specs.Steady.{open_bytes, row_bytes}
+use Rattle.opfs_laws.specs.Steady.Steady.{open_bytes, row_bytes}
 use Rattle.opfs_desk_puts.specs.Words.{position_put, text_put}
 use Rattle.opfs_desk_puts.proofs.Words.{in-hand, plain, asks-none}
 

@@ -6,12 +6,12 @@ use Rattle.opfs_book_laws.specs.Laws.{BooksShowTheirImages, told}
 use Rattle.opfs_book_laws.proofs.Told.{whole-told, told-whole}
 use Rattle.opfs_changes.specs.Allowed.{MayApply}
 use Rattle.opfs_hist.specs.declared.entry.Entry.{Entry}
-use Rattle.opfs_histories.specs.Unread.{IsTold, ReadsLeaveTheState}
-use Rattle.opfs_histories.proofs.Reading.{pending-told, told-more, unread-state}
+use Rattle.opfs_laws.specs.Histories.Unread.{IsTold, ReadsLeaveTheState}
+use Rattle.opfs_laws.proofs.histories.Reading.{pending-told, told-more, unread-state}
 use Rattle.opfs_laws.specs.Counting.{AStateCountsItsHistory}
 use Rattle.opfs_laws.specs.GoingOn.{ArePending, LegalHistoriesGoOn}
-use Rattle.opfs_lengths.specs.Bridge.{LengthsDecideEachRuling}
-use Rattle.opfs_lengths.specs.Outlines.{in_lengths_of}
+use Rattle.opfs_laws.specs.Lengths.Bridge.{LengthsDecideEachRuling}
+use Rattle.opfs_laws.specs.Lengths.Outlines.{in_lengths_of}
 use Rattle.opfs_machine.specs.declared.own.Own.{Own}
 use Rattle.opfs_machine.specs.declared.state.Sizes.{Sizes}
 use Rattle.opfs_machine.specs.declared.state.State.{State}

@@ -7,9 +7,9 @@ use Rattle.opfs_base.specs.Texts.{Text}
 use Rattle.opfs_blocks.specs.Sets.{blocks_of}
 use Rattle.opfs_data.specs.Rows.{Rows}
 use Rattle.opfs_laws.proofs.Spots.{exact_places, row-without}
-use Rattle.opfs_lengths.specs.Kept.{Kept}
-use Rattle.opfs_lengths.specs.Outlines.{in_lengths_of}
-use Rattle.opfs_lengths.proofs.Readers.{agent-on, own-on, file-on}
+use Rattle.opfs_laws.specs.Lengths.Kept.{Kept}
+use Rattle.opfs_laws.specs.Lengths.Outlines.{in_lengths_of}
+use Rattle.opfs_laws.proofs.lengths.Readers.{agent-on, own-on, file-on}
 use Rattle.opfs_locks.specs.declared.Want.TheVariants as want
 use Rattle.opfs_machine.specs.declared.own.HandleRow.{HandleRow}
 use Rattle.opfs_machine.specs.declared.own.Outline.{Outline}

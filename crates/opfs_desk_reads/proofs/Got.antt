@@ -21,9 +21,9 @@ use Rattle.opfs_desk_laws.proofs.Leaving.{open-is}
 use Rattle.opfs_hist.specs.declared.entry.Entry.{Entry}
 use Rattle.opfs_hist.specs.declared.reply.Reply.{Reply}
 use Rattle.opfs_hist.specs.declared.reply.Reply.TheVariants as reply
-use Rattle.opfs_histories.specs.Unread.{unread}
+use Rattle.opfs_laws.specs.Histories.Unread.{unread}
 use Rattle.opfs_journal.specs.Seen.{Seen}
-use Rattle.opfs_lengths.specs.Outlines.{in_lengths_of}
+use Rattle.opfs_laws.specs.Lengths.Outlines.{in_lengths_of}
 use Rattle.opfs_machine.specs.declared.own.Outline.{Outline}
 use Rattle.opfs_machine.specs.declared.own.Own.{Own}
 use Rattle.opfs_machine.specs.declared.own.Own.TheVariants as own
@@ -39,7 +39,7 @@ use Rattle.opfs_outside.specs.declared.disk.Disk.{Ghosts as DiskWords}
 use Rattle.opfs_replay.specs.Built.{Built}
 use Rattle.opfs_row_puts.specs.Plans.{shelf}
 use Rattle.opfs_space.specs.Room.{Machine}
-use Rattle.opfs_steady.specs.Steady.{row_bytes, open_bytes}
+use Rattle.opfs_laws.specs.Steady.Steady.{row_bytes, open_bytes}
 use Rattle.opfs_tree.specs.Rows.{Rows as Tree}
 use Rattle.opfs_work.specs.Works.{WorkingCopy}
 use Rattle.opfs_desk_parts.specs.Acted.{HasActed, IsWayEnded}

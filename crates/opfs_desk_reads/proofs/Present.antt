@@ -30,14 +30,14 @@ use Rattle.opfs_desk_rows.proofs.Opens.{file-back, room-count}
 use Rattle.opfs_desk_rows.proofs.Staying.{open-with-bytes, pending-stays}
 use Rattle.opfs_desk_rows.proofs.Inside.{limits-are}
 use Rattle.opfs_hist.specs.declared.entry.Entry.{Entry}
-use Rattle.opfs_histories.specs.Unread.{ArePendingFor}
+use Rattle.opfs_laws.specs.Histories.Unread.{ArePendingFor}
 use Rattle.opfs_image.proofs.Formatted.{range_parts}
 use Rattle.opfs_laws.specs.Holders.{IsLockOf, holders}
 use Rattle.opfs_laws.specs.Whole.{IsWhole}
-use Rattle.opfs_lengths.proofs.Readers.{file-on}
-use Rattle.opfs_lengths.specs.Kept.{Kept}
-use Rattle.opfs_lengths.specs.Bridge.{LengthsFollowEachCall, LocalCallsAreKnownByTheirWord}
-use Rattle.opfs_lengths.specs.Outlines.{in_lengths_of, on_file}
+use Rattle.opfs_laws.proofs.lengths.Readers.{file-on}
+use Rattle.opfs_laws.specs.Lengths.Kept.{Kept}
+use Rattle.opfs_laws.specs.Lengths.Bridge.{LengthsFollowEachCall, LocalCallsAreKnownByTheirWord}
+use Rattle.opfs_laws.specs.Lengths.Outlines.{in_lengths_of, on_file}
 use Rattle.opfs_locks.specs.Taking.{Lock}
 use Rattle.opfs_locks.specs.declared.LockValue.TheVariants as value
 use Rattle.opfs_locks.specs.declared.Want.{Want}
@@ -62,7 +62,7 @@ use Rattle.opfs_pages.specs.Copies.{IsBegun}
 use Rattle.opfs_replay.specs.Built.{Built}
 use Rattle.opfs_standing.specs.Seen.{Machine, lines_of}
 use Rattle.opfs_standing.proofs.Lines.{file_line}
-use Rattle.opfs_steady.specs.Steady.{is_steady, open_bytes}
+use Rattle.opfs_laws.specs.Steady.Steady.{is_steady, open_bytes}
 use Rattle.opfs_tree.specs.Rows.{file_at as file_in_tree}
 use Rattle.opfs_tree.specs.declared.row.FileRow.{FileRow}
 

@@ -8,7 +8,7 @@ use Rattle.opfs_base.specs.Places.{Place, place_cmp}
 use Rattle.opfs_base.specs.Texts.{same_text}
 use Rattle.opfs_base.specs.Units.{origin_of}
 use Rattle.opfs_laws.proofs.Spots.{same_place}
-use Rattle.opfs_lengths.specs.Kept.{Kept}
+use Rattle.opfs_laws.specs.Lengths.Kept.{Kept}
 use Rattle.opfs_machine.specs.declared.state.FileRow.{FileRow as File}
 use Rattle.opfs_machine.specs.declared.state.Row.{Row}
 use Rattle.opfs_machine.specs.declared.state.Row.TheVariants as row

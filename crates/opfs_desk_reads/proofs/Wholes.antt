@@ -6,8 +6,8 @@ use Rattle.opfs_base.specs.Texts.{Text}
 use Rattle.opfs_desk_laws.specs.Handles.{HandlesStayWhole, AreHandlesWhole, handle_on}
 use Rattle.opfs_desk_reads.specs.Handles.{HandlesGoOn}
 use Rattle.opfs_hist.specs.declared.entry.Entry.{Entry}
-use Rattle.opfs_histories.specs.Unread.{ArePendingFor, unread_entry}
-use Rattle.opfs_histories.proofs.Reading.{entry-same, refuses-same, pending-told, unread-state}
+use Rattle.opfs_laws.specs.Histories.Unread.{ArePendingFor, unread_entry}
+use Rattle.opfs_laws.proofs.histories.Reading.{entry-same, refuses-same, pending-told, unread-state}
 use Rattle.opfs_laws.specs.GoingOn.{ArePending, LegalHistoriesGoOn}
 use Rattle.opfs_machine.specs.declared.own.Own.{Own}
 use Rattle.opfs_machine.specs.declared.state.State.{State}
@@ -16,7 +16,7 @@ use Rattle.opfs_machine.specs.Histories.{IsCall, after_entry, state_after}
 use Rattle.opfs_machine.specs.Openings.{Opening, begun}
 use Rattle.opfs_machine.specs.Replies.{bytes_at}
 use Rattle.opfs_machine.specs.Runs.{eviction}
-use Rattle.opfs_steady.specs.Steady.{concerns, settles, is_steady, steady_by, steady_from, has_page, row_bytes}
+use Rattle.opfs_laws.specs.Steady.Steady.{concerns, settles, is_steady, steady_by, steady_from, has_page, row_bytes}
 
 settles-same : (s : State Text Own) (k n : ℕ) (e : Entry) → settles s k n (unread_entry e) ≡ settles s k n e
 settles-same s k n e = ap (λ b. e.turn && not b && (e.agent == k && concerns s k n e.op)) (refuses-same e.reply)

@@ -16,8 +16,8 @@ use Rattle.opfs_hist.specs.declared.op.Mode.{Mode}
 use Rattle.opfs_hist.specs.declared.op.Mode.TheVariants as mode
 use Rattle.opfs_laws.proofs.Spots.{exact_places}
 use Rattle.opfs_laws.specs.Holders.{counts, hold_of, holders, same_want}
-use Rattle.opfs_lengths.proofs.Readers.{row-at-on}
-use Rattle.opfs_lengths.specs.Outlines.{in_lengths_of}
+use Rattle.opfs_laws.proofs.lengths.Readers.{row-at-on}
+use Rattle.opfs_laws.specs.Lengths.Outlines.{in_lengths_of}
 use Rattle.opfs_locks.specs.declared.Want.TheVariants as want
 use Rattle.opfs_machine.specs.declared.own.HandleRow.{HandleRow}
 use Rattle.opfs_machine.specs.declared.own.Outline.{Outline}

@@ -4,7 +4,7 @@ use Rattle.opfs_acts.specs.Acting.{IsActed}
 use Rattle.opfs_desk_laws.specs.Handles.{AreHandlesWhole}
 use Rattle.opfs_hist.specs.declared.entry.Entry.{Entry}
 use Rattle.opfs_hist.specs.declared.reply.Reply.{Reply}
-use Rattle.opfs_histories.specs.Unread.{IsTold, ArePendingFor}
+use Rattle.opfs_laws.specs.Histories.Unread.{IsTold, ArePendingFor}
 use Rattle.opfs_machine.specs.Histories.{state_after}
 use Rattle.opfs_machine.specs.Openings.{Opening}
 use Rattle.opfs_machine.specs.Runs.{Call}

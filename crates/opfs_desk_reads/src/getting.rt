@@ -22,7 +22,7 @@ ghost use Rattle.opfs_desk_rows.specs.Stored.{FilesAreStored, HistoriesAreCleare
 ghost use Rattle.opfs_desk_steps.specs.Acting.{CallsAreActed};
 ghost use Rattle.opfs_desk_steps.specs.Answering.{ReadyCallsAreAnswered};
 ghost use Rattle.opfs_desk_steps.specs.Ready.{AskedCallsAreReady};
-ghost use Rattle.opfs_lengths.specs.Bridge.{LengthsFollowEachCall, LocalCallsAreKnownByTheirWord};
+ghost use Rattle.opfs_laws.specs.Lengths.Bridge.{LengthsFollowEachCall, LocalCallsAreKnownByTheirWord};
 ghost use Rattle.opfs_outside.specs.Faults.{Rose};
 ghost use Rattle.opfs_replay.specs.Built.{Built};
 ghost use Rattle.opfs_tree.specs.Rows.{file_at as file_in_tree};
@@ -43,7 +43,7 @@ use opfs_desk_steps::{
 use opfs_desk_ways::take_in;
 use opfs_hist::{Op, Pending, Refusal, Reply};
 use opfs_journal::Journal;
-use opfs_lengths::bridge::{lengths_follow_each_call, local_calls_are_known_by_their_word};
+use opfs_laws::lengths::bridge::{lengths_follow_each_call, local_calls_are_known_by_their_word};
 use opfs_outside::Disk;
 use opfs_state::State;
 use opfs_work::Work;

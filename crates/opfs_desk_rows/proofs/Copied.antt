@@ -9,20 +9,20 @@ use Rattle.opfs_data.specs.Rows.{pages_at}
 use Rattle.opfs_desk_laws.specs.Laws.{PagesAreLeft, AllGoOn}
 use Rattle.opfs_desk_laws.specs.Open.{open_at}
 use Rattle.opfs_hist.specs.declared.entry.Entry.{Entry}
-use Rattle.opfs_histories.specs.Unread.{ArePendingFor}
+use Rattle.opfs_laws.specs.Histories.Unread.{ArePendingFor}
 use Rattle.opfs_machine.specs.declared.own.Own.{Own}
 use Rattle.opfs_machine.specs.declared.state.State.{State}
 use Rattle.opfs_machine.specs.Histories.{state_after, after_entry}
 use Rattle.opfs_outside.specs.declared.disk.Disk.{Ghosts as DiskWords}
 use Rattle.opfs_pages.specs.Copies.{HasFar}
-use Rattle.opfs_steady.specs.Settling.{NoneSettles}
-use Rattle.opfs_steady.specs.Steady.{settles, row_bytes, open_bytes}
+use Rattle.opfs_laws.specs.Steady.Settling.{NoneSettles}
+use Rattle.opfs_laws.specs.Steady.Steady.{settles, row_bytes, open_bytes}
 use Rattle.opfs_work.specs.declared.pages.Page.{Page}
 use Rattle.opfs_work.specs.declared.pages.Page.TheVariants.{Zero, Near, Clean, Far}
 use Rattle.opfs_work.specs.Pages.{page_at, is_far, is_held}
 use Rattle.opfs_work.specs.Works.{WorkingCopy, IsStored, contents}
-use Rattle.opfs_lengths.specs.Bridge.{LengthsFollowEachCall, LocalCallsAreKnownByTheirWord}
-use Rattle.opfs_lengths.specs.Outlines.{in_lengths_of}
+use Rattle.opfs_laws.specs.Lengths.Bridge.{LengthsFollowEachCall, LocalCallsAreKnownByTheirWord}
+use Rattle.opfs_laws.specs.Lengths.Outlines.{in_lengths_of}
 use Rattle.opfs_machine.specs.Openings.{begun}
 use Rattle.opfs_standing.specs.Seen.{Machine}
 use Rattle.std.proofs.lemmas.Bool.{false≢true}

@@ -13,7 +13,7 @@ use Rattle.opfs_desk_laws.specs.Open.{open_at, OthersStayOpen}
 use Rattle.opfs_desk_laws.specs.Spaced.{Shelf, AreSpaced}
 use Rattle.opfs_desk_laws.specs.Told.{OthersReadAlike}
 use Rattle.opfs_hist.specs.declared.entry.Entry.{Entry}
-use Rattle.opfs_lengths.specs.Outlines.{in_lengths_of}
+use Rattle.opfs_laws.specs.Lengths.Outlines.{in_lengths_of}
 use Rattle.opfs_machine.specs.declared.own.Own.{Own}
 use Rattle.opfs_machine.specs.declared.state.State.{State}
 use Rattle.opfs_machine.specs.Histories.{evicted_by, after_entry, after_op, state_after}
@@ -24,7 +24,7 @@ use Rattle.opfs_pages.specs.Copies.{IsBegun}
 use Rattle.opfs_replay.specs.Built.{Built}
 use Rattle.opfs_space.specs.Room.{Machine}
 use Rattle.opfs_space.specs.Spaces.{SpaceSeen}
-use Rattle.opfs_steady.specs.Steady.{row_bytes}
+use Rattle.opfs_laws.specs.Steady.Steady.{row_bytes}
 use Rattle.opfs_desk_parts.specs.Held.{AreHeldAt}
 use Rattle.opfs_desk_parts.specs.Seen.{machine_in, shelf_in, book_in}
 use Rattle.opfs_desk_parts.specs.declared.parts.Ledger.{Ledger}

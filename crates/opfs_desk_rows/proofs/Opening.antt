@@ -8,7 +8,7 @@ use Rattle.opfs_data.specs.Places.{bytes_of, room_of}
 use Rattle.opfs_data.specs.Rows.{Rows, row_of, pages_at, page_at, no_row}
 use Rattle.opfs_desk_laws.specs.Laws.{BlocksTellAFile, BlocksGoOn, CallsLeaveOtherRows}
 use Rattle.opfs_desk_laws.specs.Open.{OthersStayOpen}
-use Rattle.opfs_lengths.specs.Outlines.{in_lengths_of}
+use Rattle.opfs_laws.specs.Lengths.Outlines.{in_lengths_of}
 use Rattle.opfs_machine.specs.Steps.{evicted, after_reply}
 use Rattle.opfs_outside.specs.declared.disk.Disk.{Ghosts as DiskWords}
 use Rattle.opfs_pages.specs.Copies.{IsBegun}

@@ -28,8 +28,8 @@ use Rattle.opfs_hist.specs.declared.op.Op.{Op}
 use Rattle.opfs_hist.specs.declared.op.Op.TheVariants as op
 use Rattle.opfs_hist.specs.declared.reply.Reply.{Reply}
 use Rattle.opfs_laws.proofs.Spots.{file-changed}
-use Rattle.opfs_lengths.proofs.Readers.{own-on, agent-on, file-on}
-use Rattle.opfs_lengths.specs.Outlines.{in_lengths_of, on_file}
+use Rattle.opfs_laws.proofs.lengths.Readers.{own-on, agent-on, file-on}
+use Rattle.opfs_laws.specs.Lengths.Outlines.{in_lengths_of, on_file}
 use Rattle.opfs_locks.specs.Taking.{taken}
 use Rattle.opfs_locks.specs.declared.Want.{Want}
 use Rattle.opfs_locks.specs.declared.Want.TheVariants as want
@@ -56,7 +56,7 @@ use Rattle.opfs_replay.specs.Built.{Built, block_count, has_block, is_once, name
 use Rattle.opfs_snapshot.specs.Written.{stored_rows, stored_row}
 use Rattle.opfs_space.specs.Files.{extents_in, file_has}
 use Rattle.opfs_standing.specs.Seen.{Machine, lines_of}
-use Rattle.opfs_steady.specs.Steady.{open_bytes}
+use Rattle.opfs_laws.specs.Steady.Steady.{open_bytes}
 use Rattle.opfs_tree.specs.declared.row.Row.{Row}
 use Rattle.opfs_tree.specs.declared.row.Row.TheVariants as row
 use Rattle.opfs_tree.specs.Rows.{Rows as Tree, row_at, extents_of, change_at, locked, IsInOrder}

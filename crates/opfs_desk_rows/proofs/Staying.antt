@@ -9,10 +9,10 @@ use Rattle.opfs_desk_laws.specs.Open.{open_at, if_open}
 use Rattle.opfs_hist.specs.declared.entry.Entry.{Entry}
 use Rattle.opfs_hist.specs.declared.op.Op.{Op}
 use Rattle.opfs_hist.specs.declared.op.Op.TheVariants as op
-use Rattle.opfs_histories.specs.Unread.{ArePendingFor}
-use Rattle.opfs_lengths.proofs.Readers.{own-on, agent-on}
-use Rattle.opfs_lengths.specs.Bridge.{LengthsFollowEachCall, LocalCallsAreKnownByTheirWord}
-use Rattle.opfs_lengths.specs.Outlines.{in_lengths_of, local_change}
+use Rattle.opfs_laws.specs.Histories.Unread.{ArePendingFor}
+use Rattle.opfs_laws.proofs.lengths.Readers.{own-on, agent-on}
+use Rattle.opfs_laws.specs.Lengths.Bridge.{LengthsFollowEachCall, LocalCallsAreKnownByTheirWord}
+use Rattle.opfs_laws.specs.Lengths.Outlines.{in_lengths_of, local_change}
 use Rattle.opfs_machine.specs.declared.own.Outline.{Outline}
 use Rattle.opfs_machine.specs.declared.own.Outline.TheVariants as outline
 use Rattle.opfs_machine.specs.declared.own.Own.{Own}
@@ -26,7 +26,7 @@ use Rattle.opfs_machine.specs.Steps.{is_refusal}
 use Rattle.opfs_sharing.specs.Noting.{noted, AreNotes}
 use Rattle.opfs_sharing.proofs.Pending.{does, IsQuiet}
 use Rattle.opfs_standing.specs.Seen.{Machine}
-use Rattle.opfs_steady.specs.Steady.{open_bytes}
+use Rattle.opfs_laws.specs.Steady.Steady.{open_bytes}
 
 abbrev open_in : Agent Outline → ℕ → Option Outline
 open_in a n = if_open (own_of a n)

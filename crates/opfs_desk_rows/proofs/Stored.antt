@@ -16,11 +16,11 @@ use Rattle.opfs_data.specs.Places.{bytes_of}
 use Rattle.opfs_hist.specs.declared.entry.Entry.{Entry}
 use Rattle.opfs_image.specs.Filling.{filled, filled_row}
 use Rattle.opfs_image.specs.Superblock.{data_base}
-use Rattle.opfs_histories.proofs.Adding.{changes-append}
+use Rattle.opfs_laws.proofs.histories.Adding.{changes-append}
 use Rattle.opfs_laws.specs.Builds.{ChangesBuildTheDurablePart, IsOpeningInOrder}
 use Rattle.opfs_laws.proofs.Durables.{map-without}
-use Rattle.opfs_lengths.specs.Outlines.{on_file}
-use Rattle.opfs_lengths.proofs.Readers.{file-on}
+use Rattle.opfs_laws.specs.Lengths.Outlines.{on_file}
+use Rattle.opfs_laws.proofs.lengths.Readers.{file-on}
 use Rattle.opfs_machine.specs.Changes.{Change, evict, stored_by, entry_changes, changes_from, changes, changed, durable, durable_row, durable_part}
 use Rattle.opfs_machine.specs.Contents.{outline_of}
 use Rattle.opfs_machine.specs.declared.own.Own.{Own}

@@ -4,13 +4,13 @@ use Rattle.opfs_book_laws.specs.Books.{Fixed}
 use Rattle.opfs_copies.specs.Copies.{StandsFor}
 use Rattle.opfs_data.specs.Rows.{row_of, pages_at}
 use Rattle.opfs_hist.specs.declared.entry.Entry.{Entry}
-use Rattle.opfs_histories.specs.Unread.{ArePendingFor}
+use Rattle.opfs_laws.specs.Histories.Unread.{ArePendingFor}
 use Rattle.opfs_machine.specs.Histories.{state_after}
 use Rattle.opfs_outside.specs.declared.disk.Disk.{Ghosts as DiskWords}
 use Rattle.opfs_pages.specs.Copies.{IsCopy, AreHeld, HasFar}
 use Rattle.opfs_pages.specs.Stages.{IsReady}
 use Rattle.opfs_replay.specs.Built.{Built}
-use Rattle.opfs_steady.specs.Steady.{row_bytes}
+use Rattle.opfs_laws.specs.Steady.Steady.{row_bytes}
 use Rattle.opfs_work.specs.Works.{WorkingCopy}
 use Rattle.opfs_desk_laws.specs.Told.{AreThere, AreTold}
 use Rattle.opfs_desk_parts.specs.Held.{AreHeldWhole}

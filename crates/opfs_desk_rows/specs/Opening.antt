@@ -13,7 +13,7 @@ use Rattle.opfs_desk_laws.specs.Laid.{AreLaid}
 use Rattle.opfs_desk_laws.specs.Open.{open_at, file_in, reserve_in, is_stream}
 use Rattle.opfs_desk_laws.specs.Shelves.{HasSameFiles}
 use Rattle.opfs_hist.specs.declared.entry.Entry.{Entry}
-use Rattle.opfs_lengths.specs.Outlines.{in_lengths_of}
+use Rattle.opfs_laws.specs.Lengths.Outlines.{in_lengths_of}
 use Rattle.opfs_machine.specs.declared.own.Own.{Own}
 use Rattle.opfs_machine.specs.declared.state.State.{State}
 use Rattle.opfs_machine.specs.Agents.{agent_of}
@@ -23,7 +23,7 @@ use Rattle.opfs_outside.specs.declared.disk.Disk.{Ghosts as DiskWords}
 use Rattle.opfs_replay.specs.Built.{Built, has_block}
 use Rattle.opfs_row_puts.specs.Plans.{shelf}
 use Rattle.opfs_space.specs.Files.{file_has}
-use Rattle.opfs_steady.specs.Steady.{row_bytes}
+use Rattle.opfs_laws.specs.Steady.Steady.{row_bytes}
 use Rattle.opfs_tree.specs.Rows.{Rows as Tree}
 use Rattle.opfs_desk_parts.specs.Held.{AreHeldAt}
 use Rattle.opfs_desk_parts.specs.Seen.{tree_in, shelf_in}

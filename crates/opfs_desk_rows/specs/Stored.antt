@@ -5,7 +5,7 @@ use Rattle.opfs_base.specs.Texts.{Text}
 use Rattle.opfs_book_laws.specs.Books.{Fixed}
 use Rattle.opfs_data.specs.Places.{bytes_of}
 use Rattle.opfs_hist.specs.declared.entry.Entry.{Entry}
-use Rattle.opfs_histories.specs.Unread.{IsTold}
+use Rattle.opfs_laws.specs.Histories.Unread.{IsTold}
 use Rattle.opfs_machine.specs.declared.own.Own.{Own}
 use Rattle.opfs_machine.specs.declared.state.FileRow.{FileRow as File}
 use Rattle.opfs_machine.specs.declared.state.State.{State}

@@ -4,7 +4,7 @@ use Rattle.std.proofs.lemmas.List.{length-map, length-set}
 use Rattle.std.proofs.lemmas.List.Elements.{All-cons, All-head, All-nil, All-tail}
 use Rattle.opfs_base.specs.Texts.{Text}
 use Rattle.opfs_hist.specs.declared.entry.Entry.{Entry}
-use Rattle.opfs_histories.specs.Unread.{unread_entry}
+use Rattle.opfs_laws.specs.Histories.Unread.{unread_entry}
 use Rattle.opfs_laws.proofs.Acting.{changed-acts}
 use Rattle.opfs_laws.proofs.Going.{NextFrom}
 use Rattle.opfs_laws.proofs.LocksEffect.{number-after}

@@ -8,11 +8,11 @@ use Rattle.opfs_book_laws.proofs.Counting.{count-append, count-cons}
 use Rattle.opfs_changes.specs.Allowed.{MayApply}
 use Rattle.opfs_hist.specs.declared.entry.Entry.{Entry}
 use Rattle.opfs_hist.specs.declared.reply.Reply.{Reply}
-use Rattle.opfs_histories.specs.Unread.{ReadsLeaveTheState, unread}
+use Rattle.opfs_laws.specs.Histories.Unread.{ReadsLeaveTheState, unread}
 use Rattle.opfs_laws.specs.Counting.{AStateCountsItsHistory}
-use Rattle.opfs_lengths.specs.Bridge.{LengthsDecideEachRuling}
-use Rattle.opfs_lengths.specs.Kept.{Kept}
-use Rattle.opfs_lengths.specs.Outlines.{in_lengths_of}
+use Rattle.opfs_laws.specs.Lengths.Bridge.{LengthsDecideEachRuling}
+use Rattle.opfs_laws.specs.Lengths.Kept.{Kept}
+use Rattle.opfs_laws.specs.Lengths.Outlines.{in_lengths_of}
 use Rattle.opfs_machine.specs.declared.own.Own.{Own}
 use Rattle.opfs_machine.specs.declared.state.Sizes.{Sizes}
 use Rattle.opfs_machine.specs.declared.state.State.{State}

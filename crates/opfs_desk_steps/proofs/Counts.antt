@@ -11,10 +11,10 @@ use Rattle.opfs_books.proofs.Following.{notes-follow, pending-notes}
 use Rattle.opfs_hist.specs.Sums.{makes_row, last_moment}
 use Rattle.opfs_hist.specs.declared.entry.Entry.{Entry}
 use Rattle.opfs_hist.specs.declared.history.PendingSum.{PendingSum}
-use Rattle.opfs_histories.specs.Unread.{ArePendingFor}
-use Rattle.opfs_lengths.proofs.Readers.{agent-on}
-use Rattle.opfs_lengths.specs.Bridge.{LengthsFollowEachCall, LocalCallsAreKnownByTheirWord}
-use Rattle.opfs_lengths.specs.Outlines.{in_lengths_of}
+use Rattle.opfs_laws.specs.Histories.Unread.{ArePendingFor}
+use Rattle.opfs_laws.proofs.lengths.Readers.{agent-on}
+use Rattle.opfs_laws.specs.Lengths.Bridge.{LengthsFollowEachCall, LocalCallsAreKnownByTheirWord}
+use Rattle.opfs_laws.specs.Lengths.Outlines.{in_lengths_of}
 use Rattle.opfs_machine.specs.declared.own.Own.{Own}
 use Rattle.opfs_machine.specs.declared.own.Outline.TheVariants as outline
 use Rattle.opfs_machine.specs.declared.state.State.{State}

@@ -4,10 +4,10 @@ ghost use Rattle.opfs_desk_steps.specs.Acting.{CallsAreActed};
 ghost use Rattle.opfs_desk_steps.specs.Answering.{ReadyCallsAreAnswered};
 ghost use Rattle.opfs_desk_steps.specs.Ready.{AskedCallsAreReady};
 
-use opfs_histories::doubts::a_doubt_stays;
-use opfs_histories::unread::reads_leave_the_state;
 use opfs_laws::counted::a_state_counts_its_history;
-use opfs_lengths::bridge::{
+use opfs_laws::histories::doubts::a_doubt_stays;
+use opfs_laws::histories::unread::reads_leave_the_state;
+use opfs_laws::lengths::bridge::{
     lengths_decide_each_ruling, lengths_follow_each_call, local_calls_are_known_by_their_word,
 };
 use opfs_outside::Disk;

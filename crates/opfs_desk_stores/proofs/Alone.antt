@@ -12,7 +12,7 @@ use Rattle.opfs_hist.specs.declared.op.Op.TheVariants as op
 use Rattle.opfs_laws.proofs.OwnSums.{agent-get, own_sum, part_of, parts_of, row-part, two-parts}
 use Rattle.opfs_laws.proofs.Spots.{place_itself}
 use Rattle.opfs_laws.specs.Holders.{counts, same_want, IsLockOf}
-use Rattle.opfs_lengths.specs.Kept.{Kept, hold_in, holders_in}
+use Rattle.opfs_laws.specs.Lengths.Kept.{Kept, hold_in, holders_in}
 use Rattle.opfs_locks.specs.Taking.{Lock}
 use Rattle.opfs_locks.specs.declared.LockValue.TheVariants as value
 use Rattle.opfs_locks.specs.declared.Want.{Want}

@@ -10,10 +10,10 @@ use Rattle.opfs_book_laws.specs.Laws.{BooksKeepTheState}
 use Rattle.opfs_copies.specs.Copies.{StandsFor}
 use Rattle.opfs_desk_laws.specs.Open.{file_in, if_open, open_at}
 use Rattle.opfs_hist.specs.declared.entry.Entry.{Entry}
-use Rattle.opfs_lengths.specs.Bridge.{LengthsFollowEachCall, LocalCallsAreKnownByTheirWord}
-use Rattle.opfs_lengths.specs.Kept.{hold_in}
+use Rattle.opfs_laws.specs.Lengths.Bridge.{LengthsFollowEachCall, LocalCallsAreKnownByTheirWord}
+use Rattle.opfs_laws.specs.Lengths.Kept.{hold_in}
 use Rattle.opfs_locks.specs.declared.Want.{Want}
-use Rattle.opfs_lengths.specs.Outlines.{in_lengths_of}
+use Rattle.opfs_laws.specs.Lengths.Outlines.{in_lengths_of}
 use Rattle.opfs_machine.specs.declared.own.Outline.{Outline}
 use Rattle.opfs_machine.specs.declared.own.Outline.TheVariants as outline
 use Rattle.opfs_machine.specs.declared.own.Own.{Own}
@@ -30,7 +30,7 @@ use Rattle.opfs_outside.specs.declared.disk.Disk.{Ghosts as DiskWords}
 use Rattle.opfs_replay.specs.Built.{Built}
 use Rattle.opfs_space.specs.Room.{Machine}
 use Rattle.opfs_state.specs.Reading.{file_of_row, row_file}
-use Rattle.opfs_steady.specs.Steady.{open_bytes, row_bytes}
+use Rattle.opfs_laws.specs.Steady.Steady.{open_bytes, row_bytes}
 use Rattle.opfs_verdicts.specs.Callers.{IsAgent}
 use Rattle.opfs_work.specs.Works.{WorkingCopy}
 use Rattle.opfs_desk_contents.specs.Putting.{KeepsEnough}

@@ -11,11 +11,11 @@ use Rattle.opfs_changes.specs.Allowed.{IsSized}
 use Rattle.opfs_desk_laws.specs.Open.{file_in, open_at}
 use Rattle.opfs_hist.specs.declared.entry.Entry.{Entry}
 use Rattle.opfs_hist.specs.declared.reply.Reply.TheVariants as reply
-use Rattle.opfs_histories.specs.Unread.{unread}
+use Rattle.opfs_laws.specs.Histories.Unread.{unread}
 use Rattle.opfs_journal.specs.Seen.{Seen}
-use Rattle.opfs_lengths.specs.Bridge.{LengthsDecideEachRuling, LengthsFollowEachCall, LocalCallsAreKnownByTheirWord}
-use Rattle.opfs_lengths.specs.Kept.{Kept}
-use Rattle.opfs_lengths.specs.Outlines.{in_lengths_of}
+use Rattle.opfs_laws.specs.Lengths.Bridge.{LengthsDecideEachRuling, LengthsFollowEachCall, LocalCallsAreKnownByTheirWord}
+use Rattle.opfs_laws.specs.Lengths.Kept.{Kept}
+use Rattle.opfs_laws.specs.Lengths.Outlines.{in_lengths_of}
 use Rattle.opfs_machine.specs.declared.own.Outline.{Outline}
 use Rattle.opfs_machine.specs.declared.own.Outline.TheVariants as outline
 use Rattle.opfs_machine.specs.declared.own.Own.{Own}
@@ -35,7 +35,7 @@ use Rattle.opfs_row_puts.specs.Plans.{shelf, AreGotten}
 use Rattle.opfs_row_puts.specs.Rows.{IsPutOf}
 use Rattle.opfs_space.specs.Room.{Machine}
 use Rattle.opfs_standing.specs.Seen.{lines_of}
-use Rattle.opfs_steady.specs.Steady.{row_bytes}
+use Rattle.opfs_laws.specs.Steady.Steady.{row_bytes}
 use Rattle.opfs_tree.specs.Rows.{Rows as Tree, file_at as file_in_tree}
 use Rattle.opfs_tree.specs.declared.row.FileRow.{FileRow}
 use Rattle.opfs_verdicts.specs.Callers.{IsAgent}

@@ -9,13 +9,13 @@ use Rattle.opfs_book_laws.proofs.Told.{told-whole}
 use Rattle.opfs_hist.specs.declared.entry.Entry.{Entry}
 use Rattle.opfs_hist.specs.declared.op.Op.{Op}
 use Rattle.opfs_hist.specs.declared.op.Op.TheVariants as op
-use Rattle.opfs_histories.specs.Unread.{IsTold}
-use Rattle.opfs_histories.proofs.Reading.{pending-told, told-more, unread-state}
+use Rattle.opfs_laws.specs.Histories.Unread.{IsTold}
+use Rattle.opfs_laws.proofs.histories.Reading.{pending-told, told-more, unread-state}
 use Rattle.opfs_laws.specs.GoingOn.{ArePending, LegalHistoriesGoOn}
 use Rattle.opfs_laws.specs.Whole.{IsWhole}
-use Rattle.opfs_lengths.specs.Bridge.{LengthsFollowEachCall, LocalCallsAreKnownByTheirWord}
-use Rattle.opfs_lengths.specs.Outlines.{in_lengths_of, on_file}
-use Rattle.opfs_lengths.proofs.Readers.{file-on}
+use Rattle.opfs_laws.specs.Lengths.Bridge.{LengthsFollowEachCall, LocalCallsAreKnownByTheirWord}
+use Rattle.opfs_laws.specs.Lengths.Outlines.{in_lengths_of, on_file}
+use Rattle.opfs_laws.proofs.lengths.Readers.{file-on}
 use Rattle.opfs_machine.specs.declared.own.HandleOutline.{HandleOutline}
 use Rattle.opfs_machine.specs.declared.own.Own.{Own}
 use Rattle.opfs_machine.specs.declared.own.Own.TheVariants as own

@@ -24,7 +24,7 @@ use Rattle.opfs_outside.specs.declared.disk.Disk.{Ghosts as DiskWords}
 use Rattle.opfs_pages.specs.Copies.{AreHeld}
 use Rattle.opfs_pages.specs.Stages.{changed}
 use Rattle.opfs_pages.proofs.Rest.{stored_is}
-use Rattle.opfs_lengths.specs.Bridge.{LengthsFollowEachCall, LocalCallsAreKnownByTheirWord}
+use Rattle.opfs_laws.specs.Lengths.Bridge.{LengthsFollowEachCall, LocalCallsAreKnownByTheirWord}
 use Rattle.opfs_puts.specs.Puts.{HasSamePages, IsReady as IsPutReady}
 use Rattle.opfs_replay.specs.Built.{Built}
 use Rattle.opfs_row_puts.specs.Plans.{shelf, AreGotten}
@@ -33,7 +33,7 @@ use Rattle.opfs_row_puts.specs.Rows.{IsPutOf}
 use Rattle.opfs_space.specs.Room.{Machine}
 use Rattle.opfs_state.specs.Applied.{StateSeen}
 use Rattle.opfs_state.specs.Reading.{row_file}
-use Rattle.opfs_steady.specs.Steady.{row_bytes}
+use Rattle.opfs_laws.specs.Steady.Steady.{row_bytes}
 use Rattle.opfs_tree.specs.Rows.{Rows as Tree}
 use Rattle.opfs_work.specs.Works.{WorkingCopy}
 use Rattle.opfs_desk_contents.specs.Putting.{IsStagedWhole, all_of}

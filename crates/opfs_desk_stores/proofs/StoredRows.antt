@@ -12,9 +12,9 @@ use Rattle.opfs_hist.specs.declared.op.Op.{Op}
 use Rattle.opfs_hist.specs.declared.op.Op.TheVariants as op
 use Rattle.opfs_hist.specs.declared.reply.Reply.{Reply}
 use Rattle.opfs_laws.proofs.Spots.{file-changed}
-use Rattle.opfs_lengths.specs.Kept.{Kept, hold_in}
-use Rattle.opfs_lengths.specs.Outlines.{in_lengths_of}
-use Rattle.opfs_lengths.proofs.Readers.{file-on, row-at-on}
+use Rattle.opfs_laws.specs.Lengths.Kept.{Kept, hold_in}
+use Rattle.opfs_laws.specs.Lengths.Outlines.{in_lengths_of}
+use Rattle.opfs_laws.proofs.lengths.Readers.{file-on, row-at-on}
 use Rattle.opfs_locks.specs.declared.Want.{Want}
 use Rattle.opfs_locks.specs.declared.Want.TheVariants as want
 use Rattle.opfs_machine.specs.declared.own.HandleOutline.{HandleOutline}
@@ -35,7 +35,7 @@ use Rattle.opfs_machine.specs.Rows.{file_at, with_file}
 use Rattle.opfs_machine.specs.Rulings.{is_read_write, want_of}
 use Rattle.opfs_machine.specs.Steps.{after_reply, is_refusal}
 use Rattle.opfs_machine.specs.Sums.{reserve_of}
-use Rattle.opfs_steady.specs.Steady.{open_bytes, row_bytes}
+use Rattle.opfs_laws.specs.Steady.Steady.{open_bytes, row_bytes}
 use Rattle.opfs_tree.specs.declared.row.FileRow.{FileRow}
 use Rattle.opfs_desk_contents.specs.Rows.{IsStreamOf, IsWriterOf, StoresFile}
 use Rattle.opfs_desk_contents.specs.Words.{ends_row, may_write, size_stored, stores_row}

@@ -19,7 +19,7 @@ use Rattle.opfs_replay.specs.Built.{Built}
 use Rattle.opfs_row_puts.specs.Plans.{shelf, AreGotten}
 use Rattle.opfs_row_puts.specs.Rows.{IsPutOf}
 use Rattle.opfs_state.specs.Reading.{row_file}
-use Rattle.opfs_steady.specs.Steady.{row_bytes}
+use Rattle.opfs_laws.specs.Steady.Steady.{row_bytes}
 use Rattle.opfs_work.specs.Works.{WorkingCopy}
 use Rattle.opfs_desk_contents.specs.Putting.{all_of}
 use Rattle.opfs_desk_contents.specs.declared.planning.Plan.{Plan}

@@ -23,7 +23,7 @@ ghost use Rattle.opfs_desk_steps.specs.Ready.{AskedCallsAreReady};
 ghost use Rattle.opfs_desk_stores.specs.Fits.{FitsReserve};
 ghost use Rattle.opfs_desk_stores.specs.Steps.{IsContentFor, IsContentPlanned};
 ghost use Rattle.opfs_laws.specs.Leaving.{ACallMovesItsAgent};
-ghost use Rattle.opfs_lengths.specs.Bridge.{LengthsDecideEachRuling, LengthsFollowEachCall, LocalCallsAreKnownByTheirWord};
+ghost use Rattle.opfs_laws.specs.Lengths.Bridge.{LengthsDecideEachRuling, LengthsFollowEachCall, LocalCallsAreKnownByTheirWord};
 ghost use Rattle.opfs_machine.specs.Replies.{row_named};
 ghost use Rattle.opfs_replay.specs.Built.{Built};
 
@@ -50,10 +50,10 @@ use opfs_desk_steps::{
 };
 use opfs_desk_ways::take_in;
 use opfs_hist::{Pending, Refusal, Reply};
-use opfs_laws::owned::a_call_moves_its_agent;
-use opfs_lengths::bridge::{
+use opfs_laws::lengths::bridge::{
     lengths_decide_each_ruling, lengths_follow_each_call, local_calls_are_known_by_their_word,
 };
+use opfs_laws::owned::a_call_moves_its_agent;
 use opfs_outside::Disk;
 use opfs_work::Work;
 use std::alloc::AllocError;

@@ -13,7 +13,7 @@ ghost use Rattle.opfs_desk_parts.specs.Seen.{machine_in, call_in};
 ghost use Rattle.opfs_desk_reads.specs.Reading.{HaveWholeHandles};
 ghost use Rattle.opfs_desk_steps.specs.Ready.{AskedCallsAreReady};
 ghost use Rattle.opfs_laws.specs.GoingOn.{LegalHistoriesGoOn};
-ghost use Rattle.opfs_lengths.specs.Bridge.{LengthsFollowEachCall, LocalCallsAreKnownByTheirWord};
+ghost use Rattle.opfs_laws.specs.Lengths.Bridge.{LengthsFollowEachCall, LocalCallsAreKnownByTheirWord};
 ghost use Rattle.opfs_replay.specs.Built.{Built};
 
 use crate::pages::act_pages;
@@ -24,7 +24,7 @@ use opfs_desk_parts::{InHand, Parts};
 use opfs_desk_steps::asked_calls_are_ready;
 use opfs_hist::Pending;
 use opfs_laws::going_on::legal_histories_go_on;
-use opfs_lengths::bridge::{lengths_follow_each_call, local_calls_are_known_by_their_word};
+use opfs_laws::lengths::bridge::{lengths_follow_each_call, local_calls_are_known_by_their_word};
 use opfs_outside::Disk;
 use opfs_work::Work;
 use std::alloc::AllocError;

@@ -5,7 +5,7 @@ use Rattle.opfs_book_laws.specs.Books.{Fixed, IsPlaced}
 use Rattle.opfs_book_laws.specs.Laws.{told, failed}
 use Rattle.opfs_book_laws.proofs.Counting.{rose-before}
 use Rattle.opfs_hist.specs.declared.entry.Entry.{Entry}
-use Rattle.opfs_histories.proofs.Adding.{changes-append}
+use Rattle.opfs_laws.proofs.histories.Adding.{changes-append}
 use Rattle.opfs_machine.specs.Changes.{changes, changes_from}
 use Rattle.opfs_machine.specs.Histories.{state_after, IsCall}
 use Rattle.opfs_machine.specs.Openings.{begun}

@@ -6,12 +6,12 @@ use Rattle.std.proofs.lemmas.List.Sums.{fold-append}
 use Rattle.opfs_base.specs.Texts.{Text}
 use Rattle.opfs_book_laws.specs.Books.{IsToldAt}
 use Rattle.opfs_hist.specs.declared.entry.Entry.{Entry}
-use Rattle.opfs_histories.specs.Opened.{LegalTo}
-use Rattle.opfs_histories.specs.Unread.{unread_entry}
+use Rattle.opfs_laws.specs.Histories.Opened.{LegalTo}
+use Rattle.opfs_laws.specs.Histories.Unread.{unread_entry}
 use Rattle.opfs_laws.proofs.Acting.{changed-acts}
 use Rattle.opfs_laws.proofs.Numbers.{number-of}
 use Rattle.opfs_laws.proofs.OwnKept.{evicted-agents}
-use Rattle.opfs_lengths.specs.Outlines.{in_lengths_of}
+use Rattle.opfs_laws.specs.Lengths.Outlines.{in_lengths_of}
 use Rattle.opfs_machine.specs.declared.own.Own.{Own}
 use Rattle.opfs_machine.specs.declared.state.State.{State}
 use Rattle.opfs_machine.specs.Agents.{agent_in}

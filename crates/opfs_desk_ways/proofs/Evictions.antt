@@ -12,7 +12,7 @@ use Rattle.opfs_desk_laws.specs.Spaced.{AreSpaced}
 use Rattle.opfs_desk_laws.specs.Storing.{HasFewerFiles}
 use Rattle.opfs_desk_laws.proofs.Holding.{spaced-blocks}
 use Rattle.opfs_laws.proofs.Spots.{row-without}
-use Rattle.opfs_lengths.specs.Kept.{Kept}
+use Rattle.opfs_laws.specs.Lengths.Kept.{Kept}
 use Rattle.opfs_machine.specs.declared.own.Outline.{Outline}
 use Rattle.opfs_machine.specs.declared.own.Outline.TheVariants as outline
 use Rattle.opfs_machine.specs.declared.state.FileRow.{FileRow as File}

@@ -18,7 +18,7 @@ use Rattle.opfs_desk_laws.specs.Open.{open_at}
 use Rattle.opfs_desk_laws.specs.Putting.{AllReadAlike}
 use Rattle.opfs_desk_laws.specs.Spaced.{AreSpaced}
 use Rattle.opfs_hist.specs.declared.entry.Entry.{Entry}
-use Rattle.opfs_histories.specs.Unread.{ArePendingFor}
+use Rattle.opfs_laws.specs.Histories.Unread.{ArePendingFor}
 use Rattle.opfs_image.specs.Superblock.{areas_of, data_base, image_size}
 use Rattle.opfs_image.specs.declared.geometry.Geometry.{Geometry}
 use Rattle.opfs_journal.specs.Seen.{Seen}
@@ -29,9 +29,9 @@ use Rattle.opfs_machine.specs.Agents.{counted}
 use Rattle.opfs_machine.specs.Changes.{changes_from, changes, evict, stored_by}
 use Rattle.opfs_machine.specs.Effects.{refused}
 use Rattle.opfs_machine.specs.Histories.{after_entry, state_after}
-use Rattle.opfs_histories.proofs.Adding.{changes-append}
+use Rattle.opfs_laws.proofs.histories.Adding.{changes-append}
 use Rattle.opfs_machine.specs.Openings.{Opening, begun}
-use Rattle.opfs_lengths.specs.Kept.{Kept}
+use Rattle.opfs_laws.specs.Lengths.Kept.{Kept}
 use Rattle.opfs_machine.specs.Runs.{eviction}
 use Rattle.opfs_machine.specs.Steps.{is_refusal, evicted}
 use Rattle.opfs_outside.specs.Faults.{Rose}
@@ -42,8 +42,8 @@ use Rattle.opfs_sharing.specs.Noting.{noted}
 use Rattle.opfs_snapshot.specs.Written.{stored_rows}
 use Rattle.opfs_space.specs.Room.{Machine}
 use Rattle.opfs_state.specs.Applied.{StateSeen}
-use Rattle.opfs_steady.specs.Settling.{NoneSettles, OnlyItsOwnCallsSettleARow}
-use Rattle.opfs_steady.specs.Steady.{concerns}
+use Rattle.opfs_laws.specs.Steady.Settling.{NoneSettles, OnlyItsOwnCallsSettleARow}
+use Rattle.opfs_laws.specs.Steady.Steady.{concerns}
 use Rattle.opfs_tree.specs.Rows.{Rows as Tree, IsInOrder, without}
 use Rattle.opfs_verdicts.specs.Callers.{IsAgent}
 use Rattle.opfs_desk_parts.specs.Held.{AreTied, AreHeldAt, AreHeldWhole}

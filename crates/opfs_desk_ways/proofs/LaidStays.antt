@@ -13,7 +13,7 @@ use Rattle.opfs_machine.specs.Openings.{Opening}
 use Rattle.opfs_row_puts.specs.Plans.{shelf}
 use Rattle.opfs_space.specs.Room.{Machine}
 use Rattle.opfs_space.specs.Spaces.{SpaceSeen}
-use Rattle.opfs_steady.specs.Settling.{NoneSettles}
+use Rattle.opfs_laws.specs.Steady.Settling.{NoneSettles}
 use Rattle.opfs_tree.specs.Rows.{Rows as Tree}
 
 -- The law of what is laid down, by entries that settle no row.

@@ -9,9 +9,9 @@ use Rattle.opfs_book_laws.specs.Laws.{LeavesPages, ShowsTold, told, failed, Book
 use Rattle.opfs_book_laws.proofs.Counting.{rose-before}
 use Rattle.opfs_changes.specs.Asking.{AreOwnUnits}
 use Rattle.opfs_hist.specs.declared.entry.Entry.{Entry}
-use Rattle.opfs_histories.specs.Unread.{ReadsLeaveTheState}
+use Rattle.opfs_laws.specs.Histories.Unread.{ReadsLeaveTheState}
 use Rattle.opfs_laws.specs.Counting.{AStateCountsItsHistory}
-use Rattle.opfs_lengths.specs.Bridge.{LengthsFollowEachCall, LengthsDecideEachRuling}
+use Rattle.opfs_laws.specs.Lengths.Bridge.{LengthsFollowEachCall, LengthsDecideEachRuling}
 use Rattle.opfs_machine.specs.declared.own.Own.{Own}
 use Rattle.opfs_machine.specs.declared.state.State.{State}
 use Rattle.opfs_machine.specs.Changes.{evict}

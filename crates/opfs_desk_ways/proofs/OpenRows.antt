@@ -8,7 +8,7 @@ use Rattle.opfs_hist.specs.declared.entry.Entry.{Entry}
 use Rattle.opfs_hist.specs.declared.op.Op.{Op}
 use Rattle.opfs_hist.specs.declared.op.Op.TheVariants as op
 use Rattle.opfs_laws.proofs.Numbers.{IsNumber, agent-set, agent-other}
-use Rattle.opfs_lengths.specs.Outlines.{local_change}
+use Rattle.opfs_laws.specs.Lengths.Outlines.{local_change}
 use Rattle.opfs_machine.specs.declared.own.Outline.{Outline}
 use Rattle.opfs_machine.specs.declared.own.Outline.TheVariants as outline
 use Rattle.opfs_machine.specs.declared.state.Agent.{Agent}

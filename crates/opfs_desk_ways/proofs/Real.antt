@@ -12,12 +12,12 @@ use Rattle.opfs_book_laws.proofs.Told.{told-whole}
 use Rattle.opfs_codec.specs.Spelling.{is_key_text}
 use Rattle.opfs_hist.specs.declared.entry.Entry.{Entry}
 use Rattle.opfs_hist.specs.declared.op.Op.{Op}
-use Rattle.opfs_histories.specs.Unread.{IsTold, ReadsLeaveTheState}
+use Rattle.opfs_laws.specs.Histories.Unread.{IsTold, ReadsLeaveTheState}
 use Rattle.opfs_laws.specs.Counting.{AStateCountsItsHistory, key_of}
 use Rattle.opfs_laws.specs.Whole.{IsWholeOpening}
 use Rattle.opfs_laws.proofs.Numbers.{number-of}
-use Rattle.opfs_lengths.specs.Bridge.{LengthsDecideEachRuling, judged_in}
-use Rattle.opfs_lengths.specs.Outlines.{in_lengths_of}
+use Rattle.opfs_laws.specs.Lengths.Bridge.{LengthsDecideEachRuling, judged_in}
+use Rattle.opfs_laws.specs.Lengths.Outlines.{in_lengths_of}
 use Rattle.opfs_machine.specs.declared.own.Own.{Own}
 use Rattle.opfs_machine.specs.declared.state.State.{State}
 use Rattle.opfs_machine.specs.Agents.{agent_of}

@@ -6,8 +6,8 @@ use Rattle.opfs_hist.specs.Sums.{makes_row, last_moment}
 use Rattle.opfs_hist.specs.declared.entry.Entry.{Entry}
 use Rattle.opfs_hist.specs.declared.history.PendingSum.{PendingSum}
 use Rattle.opfs_hist.specs.declared.op.Op.{Op}
-use Rattle.opfs_histories.specs.Unread.{ArePendingFor}
-use Rattle.opfs_histories.proofs.Adding.{changes-append}
+use Rattle.opfs_laws.specs.Histories.Unread.{ArePendingFor}
+use Rattle.opfs_laws.proofs.histories.Adding.{changes-append}
 use Rattle.opfs_laws.proofs.Building.{local-none}
 use Rattle.opfs_machine.specs.declared.own.Own.{Own}
 use Rattle.opfs_machine.specs.declared.state.State.{State}

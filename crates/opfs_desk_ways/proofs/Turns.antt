@@ -9,10 +9,10 @@ use Rattle.opfs_hist.specs.declared.entry.Entry.{Entry}
 use Rattle.opfs_hist.specs.declared.op.Op.{Op}
 use Rattle.opfs_laws.proofs.Accepted.{answer-accepted}
 use Rattle.opfs_laws.proofs.OwnKept.{evicted-agents}
-use Rattle.opfs_lengths.proofs.Readers.{agent-on}
-use Rattle.opfs_lengths.specs.Bridge.{LengthsFollowEachCall}
-use Rattle.opfs_lengths.specs.Kept.{Kept}
-use Rattle.opfs_lengths.specs.Outlines.{in_lengths_of}
+use Rattle.opfs_laws.proofs.lengths.Readers.{agent-on}
+use Rattle.opfs_laws.specs.Lengths.Bridge.{LengthsFollowEachCall}
+use Rattle.opfs_laws.specs.Lengths.Kept.{Kept}
+use Rattle.opfs_laws.specs.Lengths.Outlines.{in_lengths_of}
 use Rattle.opfs_machine.specs.Contents.{outline_of}
 use Rattle.opfs_machine.specs.declared.own.Own.{Own}
 use Rattle.opfs_machine.specs.declared.state.State.{State}

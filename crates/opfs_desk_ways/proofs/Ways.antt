@@ -7,9 +7,9 @@ use Rattle.opfs_book_laws.specs.Laws.{told, doubt, ShowsTold, BooksShowTheirImag
 use Rattle.opfs_commit.specs.Shown.{IsShown}
 use Rattle.opfs_commit.proofs.Holding.{shown_more, shown_least}
 use Rattle.opfs_hist.specs.declared.entry.Entry.{Entry}
-use Rattle.opfs_histories.specs.Doubts.{doubted, faulted}
-use Rattle.opfs_histories.proofs.Doubting.{doubt-next}
-use Rattle.opfs_histories.specs.Opened.{IsOpenAt}
+use Rattle.opfs_laws.specs.Histories.Doubts.{doubted, faulted}
+use Rattle.opfs_laws.proofs.histories.Doubting.{doubt-next}
+use Rattle.opfs_laws.specs.Histories.Opened.{IsOpenAt}
 use Rattle.opfs_journal.specs.Seen.{Seen}
 use Rattle.opfs_machine.specs.declared.own.Own.{Own}
 use Rattle.opfs_machine.specs.declared.state.State.{State}

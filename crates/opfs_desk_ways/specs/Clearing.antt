@@ -5,7 +5,7 @@ use Rattle.opfs_book_laws.specs.Books.{Fixed, IsPlaced}
 use Rattle.opfs_book_laws.specs.Laws.{failed}
 use Rattle.opfs_changes.specs.Asking.{AreOwnUnits}
 use Rattle.opfs_hist.specs.declared.entry.Entry.{Entry}
-use Rattle.opfs_lengths.specs.Kept.{Kept}
+use Rattle.opfs_laws.specs.Lengths.Kept.{Kept}
 use Rattle.opfs_machine.specs.declared.own.Own.{Own}
 use Rattle.opfs_machine.specs.declared.state.State.{State}
 use Rattle.opfs_machine.specs.Agents.{agent_of}

@@ -3,7 +3,7 @@ use Rattle.std.specs.Prelude.{ℕ, ◌+◌, ◌≤◌, List, length, count_by}
 use Rattle.opfs_book_laws.specs.Books.{Fixed, calls_of}
 use Rattle.opfs_hist.specs.Sums.{makes_row}
 use Rattle.opfs_hist.specs.declared.entry.Entry.{Entry}
-use Rattle.opfs_histories.specs.Unread.{ArePendingFor}
+use Rattle.opfs_laws.specs.Histories.Unread.{ArePendingFor}
 use Rattle.opfs_machine.specs.Agents.{agent_of}
 use Rattle.opfs_machine.specs.Histories.{state_after}
 use Rattle.opfs_outside.specs.declared.disk.Disk.{Ghosts as DiskWords}

@@ -9,7 +9,7 @@ ghost use Rattle.opfs_desk_parts.specs.Seen.{tree_in, book_in};
 ghost use Rattle.opfs_desk_parts.specs.declared.parts.Pages.{Pages};
 ghost use Rattle.opfs_desk_ways.specs.Taking.{MayTakeInto};
 ghost use Rattle.opfs_hist.specs.declared.op.Op.{Op};
-ghost use Rattle.opfs_histories.specs.Unread.{ArePendingFor};
+ghost use Rattle.opfs_laws.specs.Histories.Unread.{ArePendingFor};
 ghost use Rattle.opfs_machine.specs.Histories.{state_after};
 ghost use Rattle.opfs_replay.specs.Built.{Built};
 ghost use Rattle.opfs_state.specs.Applied.{IsPrepared};
@@ -18,7 +18,7 @@ use opfs_book_laws::{the_books_show_their_images, the_state_is_kept};
 use opfs_desk_laws::{blocks_go_on, what_is_laid_goes_on};
 use opfs_desk_parts::Ledger;
 use opfs_hist::Pending;
-use opfs_lengths::bridge::{lengths_follow_each_call, local_calls_are_known_by_their_word};
+use opfs_laws::lengths::bridge::{lengths_follow_each_call, local_calls_are_known_by_their_word};
 use opfs_outside::Disk;
 use opfs_state_laws::readied::what_is_ready_stays_as_calls_are_noted;
 

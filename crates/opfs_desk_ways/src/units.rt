@@ -20,9 +20,9 @@ use opfs_book_calls::calls_may_fail;
 use opfs_book_laws::{state_laws, the_books_show_their_images};
 use opfs_books::Last;
 use opfs_desk_parts::{Clearing, Ledger};
-use opfs_histories::unread::reads_leave_the_state;
 use opfs_journal::DiskFault;
-use opfs_lengths::bridge::{lengths_decide_each_ruling, lengths_follow_each_call};
+use opfs_laws::histories::unread::reads_leave_the_state;
+use opfs_laws::lengths::bridge::{lengths_decide_each_ruling, lengths_follow_each_call};
 use opfs_outside::Disk;
 use opfs_state_laws::room::{calls_are_about_own_units, evictions_make_room};
 

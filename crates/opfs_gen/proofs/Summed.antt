@@ -19,7 +19,7 @@ use Rattle.opfs_machine.specs.Steps.{is_refusal}
 use Rattle.opfs_print.specs.Lines.{call_text, joined, line_of, text_of}
 use Rattle.opfs_runs.specs.Running.{entries_of, is_wait, IsRun}
 use Rattle.opfs_script.specs.Scripts.{Asked}
-use Rattle.opfs_separation.specs.Apart.{IsInOrder, has_origin_key}
+use Rattle.opfs_laws.specs.Separation.Apart.{IsInOrder, has_origin_key}
 use Rattle.opfs_stage.specs.Openings.{trial_opening, who_of}
 use Rattle.opfs_stage.specs.Runs.{EachRuns}
 use Rattle.opfs_told.specs.Goings.{as_told}

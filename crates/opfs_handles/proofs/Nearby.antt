@@ -25,10 +25,10 @@ use Rattle.opfs_machine.specs.Rulings.{ruling, handle_ruling, start_of}
 use Rattle.opfs_machine.specs.Steps.{is_refusal, step}
 use Rattle.opfs_machine.specs.Sums.{no_need, reserve_of}
 use Rattle.opfs_splice.specs.Splicing.{window}
-use Rattle.opfs_histories.specs.Unread.{unread}
+use Rattle.opfs_laws.specs.Histories.Unread.{unread}
 use Rattle.opfs_laws.proofs.Numbers.{number-of}
 use Rattle.opfs_copies.specs.Copies.{IsCopyOf}
-use Rattle.opfs_steady.specs.Steady.{row_bytes, open_bytes}
+use Rattle.opfs_laws.specs.Steady.Steady.{row_bytes, open_bytes}
 use Rattle.opfs_turns.specs.Agents.{AgentSeen, IsAgent, state_of}
 use Rattle.opfs_turns.specs.Calls.{IsKept, IsLocal}
 use Rattle.opfs_work.specs.Pages.{bytes_of, byte_at}

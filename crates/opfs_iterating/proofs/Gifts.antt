@@ -14,8 +14,8 @@ use Rattle.opfs_hist.specs.declared.op.Op.{Op}
 use Rattle.opfs_hist.specs.declared.op.Op.TheVariants as op
 use Rattle.opfs_hist.specs.declared.reply.Reply.{Reply}
 use Rattle.opfs_hist.specs.declared.reply.Reply.TheVariants as reply
-use Rattle.opfs_histories.specs.Unread.{ArePendingFor, IsTold, unread}
-use Rattle.opfs_histories.proofs.Reading.{pending-told, told-more, unread-state}
+use Rattle.opfs_laws.specs.Histories.Unread.{ArePendingFor, IsTold, unread}
+use Rattle.opfs_laws.proofs.histories.Reading.{pending-told, told-more, unread-state}
 use Rattle.opfs_laws.specs.GoingOn.{ArePending}
 use Rattle.opfs_laws.specs.Whole.{IsInOrder, IsWholeOpening}
 use Rattle.opfs_laws.proofs.Going.{go-on, not_evict}

@@ -8,7 +8,7 @@ use Rattle.opfs_base.specs.declared.locator.Locator.{Locator}
 use Rattle.opfs_data.specs.Rows.{IsOther}
 use Rattle.opfs_hist.specs.declared.entry.Entry.{Entry}
 use Rattle.opfs_hist.specs.declared.reply.Reply.{Reply}
-use Rattle.opfs_histories.specs.Unread.{IsTold}
+use Rattle.opfs_laws.specs.Histories.Unread.{IsTold}
 use Rattle.opfs_laws.specs.Whole.{IsWholeOpening}
 use Rattle.opfs_machine.specs.Histories.{state_after}
 use Rattle.opfs_machine.specs.Openings.{Opening}

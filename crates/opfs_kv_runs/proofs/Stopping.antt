@@ -5,12 +5,12 @@ use Rattle.std.proofs.lemmas.List.{append_cancel_left, length-append}
 use Rattle.std.proofs.lemmas.List.Sums.{fold-append}
 use Rattle.opfs_base.specs.Places.{Place, place_cmp, place_of}
 use Rattle.opfs_base.specs.Texts.{Text}
-use Rattle.opfs_file_laws.specs.Staying.{kept_by, standing_at}
+use Rattle.opfs_laws.specs.Files.Staying.{kept_by, standing_at}
 use Rattle.opfs_hist.specs.Faults.{is_disk_fault}
 use Rattle.opfs_hist.specs.declared.entry.Entry.{Entry}
-use Rattle.opfs_histories.specs.Doubts.{doubted}
-use Rattle.opfs_histories.proofs.Adding.{changes-append}
-use Rattle.opfs_histories.proofs.Doubting.{doubt-stays}
+use Rattle.opfs_laws.specs.Histories.Doubts.{doubted}
+use Rattle.opfs_laws.proofs.histories.Adding.{changes-append}
+use Rattle.opfs_laws.proofs.histories.Doubting.{doubt-stays}
 use Rattle.opfs_kv_words.specs.Maps.{Map}
 use Rattle.opfs_machine.specs.Changes.{Change, make_root, make_directory, make_file, remove, content, persist, evict, changed, changes, changes_from, durable}
 use Rattle.opfs_machine.specs.Histories.{state_after}

@@ -1,10 +1,10 @@
 -- What a stop leaves of a key-value file on which commands were run. This project's own.
 use Rattle.std.specs.Prelude.{◌≡◌, ℕ, ◌+◌, ◌≤◌, true, cond, List, [], ◌∷◌, ◌++◌, length, take, Option, Some, None}
 use Rattle.opfs_base.specs.Places.{Place, place_of}
-use Rattle.opfs_file_laws.specs.Staying.{standing_at}
+use Rattle.opfs_laws.specs.Files.Staying.{standing_at}
 use Rattle.opfs_hist.specs.Faults.{is_disk_fault}
 use Rattle.opfs_hist.specs.declared.entry.Entry.{Entry}
-use Rattle.opfs_histories.specs.Doubts.{doubted}
+use Rattle.opfs_laws.specs.Histories.Doubts.{doubted}
 use Rattle.opfs_kv_words.specs.Maps.{Map}
 use Rattle.opfs_machine.specs.Changes.{Change, changes, durable}
 use Rattle.opfs_machine.specs.Openings.{Opening, Stored, folder, document}

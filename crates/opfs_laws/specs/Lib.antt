@@ -9,3 +9,9 @@ pub mod Leaving
 pub mod LockRefusals
 pub mod OwnRowsLaw
 pub mod Whole
+pub mod Separation
+pub mod Lengths
+pub mod Histories
+pub mod Reserves
+pub mod Steady
+pub mod Files

@@ -3,8 +3,14 @@
 #![tactic(auto)]
 
 pub mod counted;
+pub mod files;
 pub mod going_on;
+pub mod histories;
+pub mod lengths;
 pub mod locked;
 pub mod owned;
+pub mod reserves;
+pub mod separation;
+pub mod steady;
 pub mod stored;
 pub mod whole;

@@ -25,8 +25,8 @@ use Rattle.opfs_runs.specs.declared.hand.Open.{Open}
 use Rattle.opfs_runs.specs.Running.{empty_hand, ending, entries_of, hand_then, op_of, IsEnd, IsRunFrom, IsStep, IsWait}
 use Rattle.opfs_script.specs.declared.step.Step.{Step}
 use Rattle.opfs_script.specs.Scripts.{Asked}
-use Rattle.opfs_separation.specs.Apart.{is_shared}
-use Rattle.opfs_separation.proofs.Separation.{each-alone}
+use Rattle.opfs_laws.specs.Separation.Apart.{is_shared}
+use Rattle.opfs_laws.proofs.separation.Separation.{each-alone}
 use Rattle.opfs_told.specs.Goings.{as_told}
 use Rattle.opfs_told.proofs.Goes.{from-test}
 use Rattle.opfs_lone.specs.Lone.{IsLone, IsOwnEntry, LoneRunsAreTheirOwn, answered_by, own_end, own_entry, own_reply, own_steps}

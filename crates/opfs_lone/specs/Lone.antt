@@ -21,7 +21,7 @@ use Rattle.opfs_runs.specs.declared.hand.Open.{Open}
 use Rattle.opfs_runs.specs.Running.{empty_hand, ending, entries_of, hand_then, is_wait, op_of, IsRun}
 use Rattle.opfs_script.specs.declared.step.Step.{Step}
 use Rattle.opfs_script.specs.Scripts.{Asked}
-use Rattle.opfs_separation.specs.Apart.{IsInOrder, is_shared}
+use Rattle.opfs_laws.specs.Separation.Apart.{IsInOrder, is_shared}
 use Rattle.opfs_told.specs.Goings.{as_told}
 
 abbrev pub answered_by : State Text Own → ℕ → Op → Ruled Need → Reply

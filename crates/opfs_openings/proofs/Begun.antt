@@ -12,7 +12,7 @@ use Rattle.opfs_base.specs.declared.extents.Extent.{Extent}
 use Rattle.opfs_data.specs.Places.{bytes_of, run_bytes, run_place, run_room}
 use Rattle.opfs_image.specs.Filling.{filled_row}
 use Rattle.opfs_laws.specs.Whole.{IsInOrder, IsClosed}
-use Rattle.opfs_lengths.specs.Outlines.{on_entry, on_row, on_agent}
+use Rattle.opfs_laws.specs.Lengths.Outlines.{on_entry, on_row, on_agent}
 use Rattle.opfs_machine.specs.Contents.{outline_of}
 use Rattle.opfs_machine.specs.Openings.{Stored, row_of, agent_begun as begun_agent}
 use Rattle.opfs_machine.specs.declared.own.Outline.{Outline}

@@ -12,9 +12,9 @@ use Rattle.opfs_image.specs.Agreeing.{built_in, Agrees}
 use Rattle.opfs_image.specs.Superblock.{area_bytes, data_base, is_in_range}
 use Rattle.opfs_image.specs.declared.geometry.Geometry.{Geometry}
 use Rattle.opfs_laws.specs.Whole.{IsWholeOpening, is_below, is_rising}
-use Rattle.opfs_lengths.proofs.Instance.{lengths-fit}
-use Rattle.opfs_lengths.proofs.SameRoom.{pool-on, charge-on}
-use Rattle.opfs_lengths.specs.Outlines.{in_lengths_of}
+use Rattle.opfs_laws.proofs.lengths.Instance.{lengths-fit}
+use Rattle.opfs_laws.proofs.lengths.SameRoom.{pool-on, charge-on}
+use Rattle.opfs_laws.specs.Lengths.Outlines.{in_lengths_of}
 use Rattle.opfs_machine.specs.Contents.{in_bytes, in_lengths, outline_of}
 use Rattle.opfs_machine.specs.Openings.{Opening, begun}
 use Rattle.opfs_machine.specs.Sums.{all_own, reserve_of, pool, charge}

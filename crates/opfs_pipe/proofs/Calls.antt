@@ -11,7 +11,7 @@ use Rattle.opfs_calls.proofs.Entered.{list, known-is}
 use Rattle.opfs_hist.specs.declared.entry.Entry.{Entry}
 use Rattle.opfs_hist.specs.declared.op.Op.{Op}
 use Rattle.opfs_hist.specs.declared.reply.Reply.{Reply}
-use Rattle.opfs_histories.specs.Opened.{added}
+use Rattle.opfs_laws.specs.Histories.Opened.{added}
 use Rattle.opfs_machine.specs.Runs.{eviction}
 use Rattle.opfs_turns.specs.Agents.{AgentSeen, IsAgent, known}
 use Rattle.opfs_turns.specs.Calls.{call_of, IsEntered, HasLooked, kept_entry}

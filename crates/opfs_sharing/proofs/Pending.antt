@@ -21,7 +21,7 @@ use Rattle.opfs_hist.specs.declared.reply.Reply.{Reply}
 use Rattle.opfs_hist.specs.declared.reply.Reply.TheVariants as reply
 use Rattle.opfs_base.specs.declared.locator.Locator.{Locator}
 use Rattle.opfs_hist.specs.Sums.{is_refusal as told_refusal, asks_for_row, makes_row, set_moment, later_moment, last_moment}
-use Rattle.opfs_lengths.specs.Outlines.{local_change}
+use Rattle.opfs_laws.specs.Lengths.Outlines.{local_change}
 use Rattle.opfs_machine.specs.declared.own.Outline.{Outline}
 use Rattle.opfs_machine.specs.declared.own.Outline.TheVariants as outline
 use Rattle.opfs_machine.specs.declared.state.Agent.{Agent}

@@ -5,7 +5,7 @@ use Rattle.opfs_changes.specs.Asking.{makes_slot}
 use Rattle.opfs_hist.specs.Sums.{makes_row, set_moment, last_moment}
 use Rattle.opfs_hist.specs.declared.entry.Entry.{Entry}
 use Rattle.opfs_hist.specs.declared.history.PendingSum.{PendingSum}
-use Rattle.opfs_lengths.specs.Outlines.{local_change}
+use Rattle.opfs_laws.specs.Lengths.Outlines.{local_change}
 use Rattle.opfs_machine.specs.Agents.{counted}
 use Rattle.opfs_machine.specs.Steps.{is_refusal}
 use Rattle.opfs_standing.specs.Seen.{Machine}

@@ -4,7 +4,7 @@ use Rattle.opfs_base.specs.Texts.{Text}
 use Rattle.opfs_changes.specs.Allowed.{MayApply, IsSized}
 use Rattle.opfs_hist.specs.declared.history.PendingSum.{PendingSum}
 use Rattle.opfs_hist.specs.declared.op.Op.{Op}
-use Rattle.opfs_lengths.specs.Kept.{Kept}
+use Rattle.opfs_laws.specs.Lengths.Kept.{Kept}
 use Rattle.opfs_machine.specs.declared.state.Sizes.{Sizes}
 use Rattle.opfs_machine.specs.Agents.{agent_of}
 use Rattle.opfs_machine.specs.Rows.{row_at}

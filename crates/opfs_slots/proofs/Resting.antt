@@ -17,7 +17,7 @@ use Rattle.opfs_machine.specs.Histories.{asks_stuck}
 use Rattle.opfs_machine.specs.Replies.{sizes_of}
 use Rattle.opfs_machine.specs.Steps.{step, is_refusal}
 use Rattle.opfs_laws.proofs.Left.{local-plain}
-use Rattle.opfs_histories.proofs.Reading.{refuses-same}
+use Rattle.opfs_laws.proofs.histories.Reading.{refuses-same}
 use Rattle.opfs_turns.specs.Agents.{AgentSeen, IsAgent, state_of, own_row}
 use Rattle.opfs_calls.specs.Locals.{IsMade, Local, Stopped}
 use Rattle.opfs_calls.specs.Rows.{HasSnapshot, SnapshotSeen, HasClosedHandle, HasClosedStream}

@@ -14,7 +14,7 @@ use Rattle.opfs_hist.specs.declared.op.Mode.{Mode}
 use Rattle.opfs_hist.specs.declared.op.Op.{Op}
 use Rattle.opfs_hist.specs.declared.op.Op.TheVariants as op
 use Rattle.opfs_laws.proofs.Gone.{then-gave, bind-gave, unless-gave}
-use Rattle.opfs_lengths.specs.Bridge.{judged_in}
+use Rattle.opfs_laws.specs.Lengths.Bridge.{judged_in}
 use Rattle.opfs_machine.specs.declared.state.Need.{Need}
 use Rattle.opfs_machine.specs.declared.state.Row.TheVariants as line
 use Rattle.opfs_machine.specs.Agents.{agent_of, open_handle, party_of}

@@ -4,7 +4,7 @@ ghost use Rattle.std.specs.Prelude.{◌≡◌, ◌+◌, ◌-◌, ◌<◌, ◌≤
 ghost use Rattle.opfs_changes.specs.Allowed.{MayApply, IsSized};
 ghost use Rattle.opfs_changes.specs.Asking.{IsAccepted, ends};
 ghost use Rattle.opfs_changes.specs.Changed.{freed_by, tree_after};
-ghost use Rattle.opfs_lengths.specs.Kept.{Kept};
+ghost use Rattle.opfs_laws.specs.Lengths.Kept.{Kept};
 ghost use Rattle.opfs_machine.specs.Agents.{agent_of, counted};
 ghost use Rattle.opfs_machine.specs.Contents.{in_lengths};
 ghost use Rattle.opfs_machine.specs.Effects.{effect, refused};

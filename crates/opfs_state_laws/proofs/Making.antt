@@ -22,14 +22,14 @@ use Rattle.opfs_laws.proofs.OwnKept.{evicted-agents, keeps-row}
 use Rattle.opfs_laws.proofs.Spots.{place_itself}
 use Rattle.opfs_laws.proofs.Wholes.{map-gone, file-there}
 use Rattle.opfs_laws.specs.Whole.{IsWhole, is_rising}
-use Rattle.opfs_lengths.proofs.Instance.{lengths-fit}
-use Rattle.opfs_lengths.proofs.Judged.{judged-on}
-use Rattle.opfs_lengths.proofs.Keeping.{kept-lengths}
-use Rattle.opfs_lengths.proofs.Readers.{find-on}
-use Rattle.opfs_lengths.proofs.SameRoom.{pool-on, charge-on}
-use Rattle.opfs_lengths.proofs.SameRulings.{ruling-on}
-use Rattle.opfs_lengths.specs.Bridge.{judged_in}
-use Rattle.opfs_lengths.specs.Outlines.{in_lengths_of, on_row}
+use Rattle.opfs_laws.proofs.lengths.Instance.{lengths-fit}
+use Rattle.opfs_laws.proofs.lengths.Judged.{judged-on}
+use Rattle.opfs_laws.proofs.lengths.Keeping.{kept-lengths}
+use Rattle.opfs_laws.proofs.lengths.Readers.{find-on}
+use Rattle.opfs_laws.proofs.lengths.SameRoom.{pool-on, charge-on}
+use Rattle.opfs_laws.proofs.lengths.SameRulings.{ruling-on}
+use Rattle.opfs_laws.specs.Lengths.Bridge.{judged_in}
+use Rattle.opfs_laws.specs.Lengths.Outlines.{in_lengths_of, on_row}
 use Rattle.opfs_machine.specs.declared.own.HandleRow.{HandleRow}
 use Rattle.opfs_machine.specs.declared.own.Own.{Own}
 use Rattle.opfs_machine.specs.declared.own.Own.TheVariants as own
@@ -50,13 +50,13 @@ use Rattle.opfs_machine.specs.Rulings.{ruling}
 use Rattle.opfs_machine.specs.Steps.{evicted, room_for}
 use Rattle.opfs_machine.specs.Sums.{fits_pool, fits_area, is_persistent, pool, charge}
 use Rattle.opfs_machine.specs.Victims.{is_candidate, is_callers, candidates, cleared, shortest_front, victims, root_units, root_unit, none_taken}
-use Rattle.opfs_separation.proofs.Alike.{Alike, alike-same, alike-then, alike-back}
-use Rattle.opfs_separation.proofs.Clearing.{Evictable, may-evict, may-others, evictable-after, evicted-apart, evicted-ordered}
-use Rattle.opfs_separation.proofs.Fronts.{Fine, front-fine}
-use Rattle.opfs_separation.proofs.Reading.{Reads, ours-reads}
-use Rattle.opfs_separation.proofs.SameRuling.{ruling-same}
-use Rattle.opfs_separation.proofs.Sides.{Ours}
-use Rattle.opfs_separation.proofs.Small.{InOrder}
+use Rattle.opfs_laws.proofs.separation.Alike.{Alike, alike-same, alike-then, alike-back}
+use Rattle.opfs_laws.proofs.separation.Clearing.{Evictable, may-evict, may-others, evictable-after, evicted-apart, evicted-ordered}
+use Rattle.opfs_laws.proofs.separation.Fronts.{Fine, front-fine}
+use Rattle.opfs_laws.proofs.separation.Reading.{Reads, ours-reads}
+use Rattle.opfs_laws.proofs.separation.SameRuling.{ruling-same}
+use Rattle.opfs_laws.proofs.separation.Sides.{Ours}
+use Rattle.opfs_laws.proofs.separation.Small.{InOrder}
 use Rattle.opfs_state_laws.specs.Room.{HasOwnBuckets, MayClear, HasRoom}
 
 told : (b : Bool) → b ≡ true → T b

@@ -8,9 +8,9 @@ use Rattle.opfs_changes.specs.Asking.{AreOwnUnits, units_of, unit_in, bucket_uni
 use Rattle.opfs_hist.specs.declared.op.Op.{Op}
 use Rattle.opfs_hist.specs.declared.op.Op.TheVariants as op
 use Rattle.opfs_laws.proofs.OwnFiles.{OwnFiles, callers-own}
-use Rattle.opfs_lengths.proofs.Instance.{lengths-fit}
-use Rattle.opfs_lengths.proofs.Readers.{key-on, stream-on, handle-on}
-use Rattle.opfs_lengths.specs.Outlines.{in_lengths_of}
+use Rattle.opfs_laws.proofs.lengths.Instance.{lengths-fit}
+use Rattle.opfs_laws.proofs.lengths.Readers.{key-on, stream-on, handle-on}
+use Rattle.opfs_laws.specs.Lengths.Outlines.{in_lengths_of}
 use Rattle.opfs_machine.specs.declared.own.HandleOutline.{HandleOutline}
 use Rattle.opfs_machine.specs.declared.own.Own.{Own}
 use Rattle.opfs_machine.specs.declared.own.StreamOutline.{StreamOutline}
@@ -19,7 +19,7 @@ use Rattle.opfs_machine.specs.Agents.{agent_of, open_stream, open_handle}
 use Rattle.opfs_machine.specs.Contents.{in_bytes, in_lengths, outline_of}
 use Rattle.opfs_machine.specs.Histories.{may_enter, is_own}
 use Rattle.opfs_machine.specs.Victims.{is_callers}
-use Rattle.opfs_separation.proofs.Follows.{open-stream-file, open-handle-file}
+use Rattle.opfs_laws.proofs.separation.Follows.{open-stream-file, open-handle-file}
 use Rattle.opfs_state_laws.specs.Room.{HasOwnBuckets}
 
 abbrev AllOwn : Option Text → List Text → Type 0

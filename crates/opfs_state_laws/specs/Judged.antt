@@ -2,7 +2,7 @@
 use Rattle.std.specs.Prelude.{◌≡◌, ℕ, ◌-◌}
 use Rattle.opfs_hist.specs.declared.history.PendingSum.{PendingSum}
 use Rattle.opfs_hist.specs.declared.op.Op.{Op}
-use Rattle.opfs_lengths.specs.Bridge.{judged_in}
+use Rattle.opfs_laws.specs.Lengths.Bridge.{judged_in}
 use Rattle.opfs_machine.specs.declared.state.Sizes.{Sizes}
 use Rattle.opfs_machine.specs.Contents.{in_lengths}
 use Rattle.opfs_standing.specs.Noted.{with_sum}

@@ -3,7 +3,7 @@ use Rattle.std.specs.Prelude.{ℕ, List, IsTrue}
 use Rattle.opfs_changes.specs.Asking.{AreOwnUnits}
 use Rattle.opfs_hist.specs.declared.entry.Entry.{Entry}
 use Rattle.opfs_hist.specs.declared.op.Op.{Op}
-use Rattle.opfs_lengths.specs.Outlines.{in_lengths_of}
+use Rattle.opfs_laws.specs.Lengths.Outlines.{in_lengths_of}
 use Rattle.opfs_machine.specs.Histories.{Legal, may_enter, state_after}
 use Rattle.opfs_machine.specs.Openings.{Opening}
 use Rattle.opfs_state_laws.specs.Room.{HasOwnBuckets}

@@ -31,8 +31,8 @@ use Rattle.opfs_splice.specs.Splicing.{splice, resize}
 use Rattle.opfs_laws.proofs.Numbers.{number-of}
 use Rattle.opfs_copies.specs.Copies.{IsCopyOf, IsPaged}
 use Rattle.opfs_copies.proofs.Copying.{contents-own}
-use Rattle.opfs_steady.specs.Steady.{goes_on, has_page, page_in, row_bytes, open_bytes}
-use Rattle.opfs_steady.proofs.GoingOn.{steady-has}
+use Rattle.opfs_laws.specs.Steady.Steady.{goes_on, has_page, page_in, row_bytes, open_bytes}
+use Rattle.opfs_laws.proofs.steady.GoingOn.{steady-has}
 use Rattle.opfs_turns.specs.Agents.{AgentSeen, IsAgent, known, state_of}
 use Rattle.opfs_turns.specs.Calls.{IsKept, IsLocal}
 use Rattle.opfs_work.proofs.Laws.{length-splice, length-resize, splice_before, splice_behind, resize_at}

@@ -19,10 +19,10 @@ use Rattle.opfs_hist.specs.declared.op.Mode.TheVariants as mode
 use Rattle.opfs_hist.specs.declared.op.Op.{Op}
 use Rattle.opfs_hist.specs.declared.op.Op.TheVariants as op
 use Rattle.opfs_hist.specs.declared.reply.Reply.{Reply}
-use Rattle.opfs_histories.specs.Opened.{added}
-use Rattle.opfs_histories.specs.Unread.{IsTold}
-use Rattle.opfs_histories.proofs.Adding.{changes-append}
-use Rattle.opfs_histories.proofs.Reading.{unread-state}
+use Rattle.opfs_laws.specs.Histories.Opened.{added}
+use Rattle.opfs_laws.specs.Histories.Unread.{IsTold}
+use Rattle.opfs_laws.proofs.histories.Adding.{changes-append}
+use Rattle.opfs_laws.proofs.histories.Reading.{unread-state}
 use Rattle.opfs_laws.specs.Holders.{AreLocksOfHolders}
 use Rattle.opfs_laws.specs.Leaving.{asks_nobody}
 use Rattle.opfs_laws.proofs.LocksEffect.{locks-begun}
@@ -46,9 +46,9 @@ use Rattle.opfs_machine.specs.Rows.{file_at, with_file}
 use Rattle.opfs_machine.specs.Rulings.{is_read_write, reserve_for, want_of}
 use Rattle.opfs_machine.specs.Runs.{eviction}
 use Rattle.opfs_machine.specs.Steps.{after_reply, evicted, is_refusal}
-use Rattle.opfs_steady.specs.Settling.{BytesStay}
-use Rattle.opfs_steady.specs.Steady.{open_bytes, row_bytes}
-use Rattle.opfs_steady.proofs.Others.{bytes-alike}
+use Rattle.opfs_laws.specs.Steady.Settling.{BytesStay}
+use Rattle.opfs_laws.specs.Steady.Steady.{open_bytes, row_bytes}
+use Rattle.opfs_laws.proofs.steady.Others.{bytes-alike}
 use Rattle.opfs_turns.specs.Agents.{AgentSeen, IsAgent, state_of}
 use Rattle.opfs_turns.specs.Calls.{call_of, before_call, IsEntered}
 use Rattle.opfs_turns.proofs.Others.{Splits, alike-split, pending-for, told-seen, told-stay-before}

@@ -7,14 +7,14 @@ use Rattle.std.specs.FinMap.Entries.{find-put, find-where_key}
 use Rattle.std.specs.Ordering.{eq_by_cmp}
 use Rattle.opfs_base.specs.Places.{Place, place_cmp, is_within}
 use Rattle.opfs_base.specs.Texts.{Text}
-use Rattle.opfs_file_laws.specs.Staying.{kept_by, standing_at}
-use Rattle.opfs_file_laws.proofs.Held.{open-file-stays}
+use Rattle.opfs_laws.specs.Files.Staying.{kept_by, standing_at}
+use Rattle.opfs_laws.proofs.files.Held.{open-file-stays}
 use Rattle.opfs_hist.specs.Faults.{is_disk_fault}
 use Rattle.opfs_hist.specs.declared.entry.Entry.{Entry}
-use Rattle.opfs_histories.specs.Doubts.{next_stored}
-use Rattle.opfs_histories.specs.Opened.{LegalTo}
-use Rattle.opfs_histories.proofs.Doubting.{doubt-next}
-use Rattle.opfs_histories.proofs.Opening.{NextTo, open-ended, open-more, open-state}
+use Rattle.opfs_laws.specs.Histories.Doubts.{next_stored}
+use Rattle.opfs_laws.specs.Histories.Opened.{LegalTo}
+use Rattle.opfs_laws.proofs.histories.Doubting.{doubt-next}
+use Rattle.opfs_laws.proofs.histories.Opening.{NextTo, open-ended, open-more, open-state}
 use Rattle.opfs_laws.specs.Leaving.{asks_nobody}
 use Rattle.opfs_laws.proofs.Going.{NextFrom, not_evict}
 use Rattle.opfs_laws.proofs.NeverFaults.{step_sound}

@@ -18,7 +18,7 @@ use Rattle.opfs_hist.specs.declared.op.Op.{Op}
 use Rattle.opfs_hist.specs.declared.op.Op.TheVariants as op
 use Rattle.opfs_hist.specs.declared.reply.Reply.{Reply}
 use Rattle.opfs_hist.specs.declared.reply.Reply.TheVariants as reply
-use Rattle.opfs_histories.specs.Unread.{ArePendingFor}
+use Rattle.opfs_laws.specs.Histories.Unread.{ArePendingFor}
 use Rattle.opfs_laws.specs.Leaving.{asks_nobody}
 use Rattle.opfs_laws.proofs.NeverFaults.{step_sound}
 use Rattle.opfs_laws.proofs.Others.{others-left}

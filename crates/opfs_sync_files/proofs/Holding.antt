@@ -8,7 +8,7 @@ use Rattle.opfs_hist.specs.declared.entry.Entry.{Entry}
 use Rattle.opfs_hist.specs.declared.op.Op.{Op}
 use Rattle.opfs_hist.specs.declared.op.Op.TheVariants as op
 use Rattle.opfs_hist.specs.declared.reply.Reply.{Reply}
-use Rattle.opfs_histories.specs.Unread.{ArePendingFor}
+use Rattle.opfs_laws.specs.Histories.Unread.{ArePendingFor}
 use Rattle.opfs_laws.proofs.Going.{not_evict}
 use Rattle.opfs_laws.proofs.Local.{closed}
 use Rattle.opfs_laws.proofs.Numbers.{IsNumber, agent-set, number-of}

@@ -24,7 +24,7 @@ use Rattle.opfs_hist.specs.declared.op.Op.TheVariants as op
 use Rattle.opfs_hist.specs.declared.reply.Refusal.TheVariants as refusal
 use Rattle.opfs_hist.specs.declared.reply.Reply.{Reply}
 use Rattle.opfs_hist.specs.declared.reply.Reply.TheVariants as reply
-use Rattle.opfs_histories.specs.Unread.{IsTold, unread}
+use Rattle.opfs_laws.specs.Histories.Unread.{IsTold, unread}
 use Rattle.opfs_laws.specs.Leaving.{asks_nobody, row_used}
 use Rattle.opfs_machine.specs.declared.own.HandleOutline.{HandleOutline}
 use Rattle.opfs_machine.specs.declared.own.Own.{Own}
@@ -42,8 +42,8 @@ use Rattle.opfs_machine.specs.Rulings.{handle_ruling, ruling, size_written}
 use Rattle.opfs_machine.specs.Steps.{is_refusal, step}
 use Rattle.opfs_machine.specs.Sums.{no_need}
 use Rattle.opfs_splice.specs.Splicing.{resize, splice, window}
-use Rattle.opfs_steady.specs.Steady.{open_bytes}
-use Rattle.opfs_steady.proofs.Others.{bytes-alike}
+use Rattle.opfs_laws.specs.Steady.Steady.{open_bytes}
+use Rattle.opfs_laws.proofs.steady.Others.{bytes-alike}
 use Rattle.opfs_turns.specs.Agents.{AgentSeen, IsAgent, known, state_of}
 use Rattle.opfs_turns.specs.Calls.{IsEntered, HasLooked, kept_entry}
 use Rattle.opfs_turns.proofs.Keeping.{state-after}

@@ -3,10 +3,10 @@ use Rattle.std.proofs.Common.{◌≡◌, ℕ, List, ◌++◌, fold, Some, sym, a
 use Rattle.std.proofs.lemmas.List.Sums.{fold-append}
 use Rattle.opfs_base.specs.Places.{Place, place_of}
 use Rattle.opfs_calls.specs.Rows.{HandleSeen, HasHandle}
-use Rattle.opfs_file_laws.specs.Staying.{kept_by, standing_at}
-use Rattle.opfs_file_laws.proofs.Held.{open-file-stays}
+use Rattle.opfs_laws.specs.Files.Staying.{kept_by, standing_at}
+use Rattle.opfs_laws.proofs.files.Held.{open-file-stays}
 use Rattle.opfs_handles.proofs.Facts.{HandleFacts, facts, row-is}
-use Rattle.opfs_histories.proofs.Adding.{changes-append}
+use Rattle.opfs_laws.proofs.histories.Adding.{changes-append}
 use Rattle.opfs_machine.specs.declared.own.HandleRow.{HandleRow}
 use Rattle.opfs_machine.specs.declared.own.Own.TheVariants as own
 use Rattle.opfs_machine.specs.Agents.{agent_of, own_of, of_row}

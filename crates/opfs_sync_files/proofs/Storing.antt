@@ -9,9 +9,9 @@ use Rattle.opfs_base.specs.Units.{unit_of}
 use Rattle.opfs_hist.specs.declared.entry.Entry.{Entry}
 use Rattle.opfs_hist.specs.declared.op.Op.{Op}
 use Rattle.opfs_hist.specs.declared.op.Op.TheVariants as op
-use Rattle.opfs_histories.specs.Unread.{unread_entry, IsTold, ArePendingFor}
-use Rattle.opfs_histories.proofs.Adding.{changes-append}
-use Rattle.opfs_histories.proofs.Reading.{unread-changes, unread-state}
+use Rattle.opfs_laws.specs.Histories.Unread.{unread_entry, IsTold, ArePendingFor}
+use Rattle.opfs_laws.proofs.histories.Adding.{changes-append}
+use Rattle.opfs_laws.proofs.histories.Reading.{unread-changes, unread-state}
 use Rattle.opfs_laws.proofs.Building.{local-none}
 use Rattle.opfs_laws.proofs.Others.{others-left}
 use Rattle.opfs_laws.proofs.Spots.{same_or_apart, place_apart}

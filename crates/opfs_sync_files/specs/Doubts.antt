@@ -2,10 +2,10 @@
 use Rattle.std.specs.Prelude.{◌≡◌, ◌⊎◌, ℕ, ◌≤◌, true, fold, List, [], ◌∷◌, ◌++◌, length, Some}
 use Rattle.opfs_base.specs.Places.{Place}
 use Rattle.opfs_base.specs.Texts.{Text}
-use Rattle.opfs_file_laws.specs.Staying.{standing_at}
+use Rattle.opfs_laws.specs.Files.Staying.{standing_at}
 use Rattle.opfs_hist.specs.Faults.{is_disk_fault}
 use Rattle.opfs_hist.specs.declared.entry.Entry.{Entry}
-use Rattle.opfs_histories.specs.Doubts.{doubted}
+use Rattle.opfs_laws.specs.Histories.Doubts.{doubted}
 use Rattle.opfs_machine.specs.Changes.{Change, changed, changes}
 use Rattle.opfs_machine.specs.Openings.{Map, Opening, document}
 use Rattle.opfs_sync_files.specs.Files.{contents_at}

@@ -19,7 +19,7 @@ use Rattle.opfs_machine.specs.declared.state.State.{State}
 use Rattle.opfs_machine.specs.Openings.{begun}
 use Rattle.opfs_plain.specs.declared.plain.Plain.{Plain}
 use Rattle.opfs_script.specs.Limits.{is_origin_key, is_short_key}
-use Rattle.opfs_separation.specs.Apart.{EachPartyRunsAlone, IsInOrder, has_origin_key}
+use Rattle.opfs_laws.specs.Separation.Apart.{EachPartyRunsAlone, IsInOrder, has_origin_key}
 use Rattle.opfs_stage.specs.Openings.{trial_opening, who_of}
 use Rattle.opfs_stage.specs.Runs.{EachRuns}
 use Rattle.opfs_trial.specs.Trials.{IsTrial}

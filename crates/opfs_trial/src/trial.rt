@@ -12,10 +12,10 @@ use crate::numbers::next;
 use crate::opening::begin;
 use crate::runner::run_agent;
 use opfs_hist::Entry;
+use opfs_laws::separation::apart::each_party_runs_alone;
 use opfs_machine::Many;
 use opfs_plain::Plain;
 use opfs_script::{AgentScript, Script};
-use opfs_separation::apart::each_party_runs_alone;
 use std::alloc::{AllocError, Global};
 
 /// Runs the agents one after another, in the order of their numbers.

@@ -16,8 +16,8 @@ use Rattle.opfs_machine.specs.Openings.{Opening}
 use Rattle.opfs_machine.specs.Runs.{Call, eviction}
 use Rattle.opfs_laws.specs.Leaving.{asks_nobody, is_end}
 use Rattle.opfs_laws.proofs.Numbers.{number-of}
-use Rattle.opfs_histories.specs.Opened.{added}
-use Rattle.opfs_histories.specs.Unread.{IsTold, ArePendingFor}
+use Rattle.opfs_laws.specs.Histories.Opened.{added}
+use Rattle.opfs_laws.specs.Histories.Unread.{IsTold, ArePendingFor}
 use Rattle.opfs_acts.specs.declared.acted.Gift.{Gift}
 use Rattle.opfs_acts.specs.Acting.{told_entry, IsCallFor, IsActed, IsGift}
 use Rattle.opfs_acts.specs.Asking.{MayAct, IsThere}

@@ -24,7 +24,7 @@ use Rattle.opfs_machine.specs.Sums.{no_need}
 use Rattle.opfs_laws.specs.Leaving.{is_end}
 use Rattle.opfs_laws.proofs.Local.{room_for_nothing}
 use Rattle.opfs_laws.proofs.Numbers.{IsNumber, agent-set}
-use Rattle.opfs_histories.specs.Unread.{unread}
+use Rattle.opfs_laws.specs.Histories.Unread.{unread}
 use Rattle.opfs_acts.specs.declared.acted.AwaitState.{AwaitState}
 use Rattle.opfs_acts.specs.declared.acted.AwaitState.TheVariants as await
 use Rattle.opfs_acts.specs.Acting.{awaited}

@@ -25,7 +25,7 @@ use Rattle.opfs_machine.specs.Replies.{sizes_of}
 use Rattle.opfs_machine.specs.Steps.{after_reply, is_refusal}
 use Rattle.opfs_laws.proofs.Local.{closed}
 use Rattle.opfs_laws.proofs.Moved.{call-moves}
-use Rattle.opfs_histories.specs.Unread.{IsPendingFor, ArePendingFor}
+use Rattle.opfs_laws.specs.Histories.Unread.{IsPendingFor, ArePendingFor}
 use Rattle.opfs_acts.specs.declared.acted.AwaitState.{AwaitState}
 use Rattle.opfs_acts.specs.declared.acted.AwaitState.TheVariants as await
 use Rattle.opfs_acts.specs.Acting.{awaited}

@@ -16,7 +16,7 @@ use Rattle.opfs_laws.specs.Leaving.{IsMoved}
 use Rattle.opfs_laws.proofs.Going.{not_evict}
 use Rattle.opfs_laws.proofs.Left.{local-plain, pending-after}
 use Rattle.opfs_laws.proofs.Moved.{call-moves}
-use Rattle.opfs_histories.specs.Unread.{unread_entry, IsPendingFor, ArePendingFor}
+use Rattle.opfs_laws.specs.Histories.Unread.{unread_entry, IsPendingFor, ArePendingFor}
 use Rattle.opfs_turns.specs.Agents.{AgentSeen, IsAgent, state_of}
 use Rattle.opfs_turns.specs.Calls.{HasRoom, IsLocal, kept_entry}
 use Rattle.opfs_turns.proofs.Counts.{count-append, count-one, one_if}

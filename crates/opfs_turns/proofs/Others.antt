@@ -12,12 +12,12 @@ use Rattle.opfs_laws.specs.GoingOn.{IsPending, ArePending}
 use Rattle.opfs_laws.specs.Leaving.{seen_by}
 use Rattle.opfs_laws.proofs.Left.{pending-left}
 use Rattle.opfs_laws.proofs.Others.{others-left}
-use Rattle.opfs_histories.specs.Unread.{unread, unread_entry, IsTold, IsPendingFor, ArePendingFor}
-use Rattle.opfs_histories.proofs.Reading.{entry-same, unread-state}
-use Rattle.opfs_steady.specs.Settling.{BytesStay}
-use Rattle.opfs_steady.specs.Steady.{row_bytes, settles, goes_on, steady_by, steady_from}
-use Rattle.opfs_steady.proofs.Leaving.{local-leave}
-use Rattle.opfs_steady.proofs.Others.{bytes-alike, others-stay}
+use Rattle.opfs_laws.specs.Histories.Unread.{unread, unread_entry, IsTold, IsPendingFor, ArePendingFor}
+use Rattle.opfs_laws.proofs.histories.Reading.{entry-same, unread-state}
+use Rattle.opfs_laws.specs.Steady.Settling.{BytesStay}
+use Rattle.opfs_laws.specs.Steady.Steady.{row_bytes, settles, goes_on, steady_by, steady_from}
+use Rattle.opfs_laws.proofs.steady.Leaving.{local-leave}
+use Rattle.opfs_laws.proofs.steady.Others.{bytes-alike, others-stay}
 
 -- ---- lists that are alike but for the bytes of reads
 

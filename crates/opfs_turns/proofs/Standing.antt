@@ -9,10 +9,10 @@ use Rattle.opfs_machine.specs.Agents.{agent_of, own_of}
 use Rattle.opfs_machine.specs.Histories.{after_entry, state_after}
 use Rattle.opfs_machine.specs.Openings.{Opening, begun}
 use Rattle.opfs_laws.specs.Leaving.{seen_by}
-use Rattle.opfs_histories.specs.Unread.{IsTold, ArePendingFor}
-use Rattle.opfs_steady.specs.Steady.{open_bytes, is_steady, steady_from}
-use Rattle.opfs_steady.proofs.GoingOn.{steady-append, steady-kept}
-use Rattle.opfs_steady.proofs.Others.{bytes-alike}
+use Rattle.opfs_laws.specs.Histories.Unread.{IsTold, ArePendingFor}
+use Rattle.opfs_laws.specs.Steady.Steady.{open_bytes, is_steady, steady_from}
+use Rattle.opfs_laws.proofs.steady.GoingOn.{steady-append, steady-kept}
+use Rattle.opfs_laws.proofs.steady.Others.{bytes-alike}
 use Rattle.opfs_copies.specs.Copies.{StandsFor}
 use Rattle.opfs_copies.proofs.Copying.{copy-alike}
 use Rattle.opfs_acts.specs.Asking.{IsHandedIn}

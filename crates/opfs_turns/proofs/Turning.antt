@@ -20,10 +20,10 @@ use Rattle.opfs_laws.proofs.Left.{may-left}
 use Rattle.opfs_laws.proofs.Allowed.{agent-stays}
 use Rattle.opfs_laws.proofs.Moved.{call-moves}
 use Rattle.opfs_laws.proofs.Numbers.{number-of}
-use Rattle.opfs_histories.specs.Opened.{added}
-use Rattle.opfs_histories.specs.Unread.{unread, unread_entry, IsTold}
-use Rattle.opfs_histories.proofs.Adding.{added-state}
-use Rattle.opfs_histories.proofs.Reading.{unread-state}
+use Rattle.opfs_laws.specs.Histories.Opened.{added}
+use Rattle.opfs_laws.specs.Histories.Unread.{unread, unread_entry, IsTold}
+use Rattle.opfs_laws.proofs.histories.Adding.{added-state}
+use Rattle.opfs_laws.proofs.histories.Reading.{unread-state}
 use Rattle.opfs_acts.specs.declared.acted.Gift.{Gift}
 use Rattle.opfs_acts.specs.Acting.{told_entry, IsCallFor, IsGift}
 use Rattle.opfs_acts.specs.Asking.{MayAct, HasPlace, given_by, is_open_own}

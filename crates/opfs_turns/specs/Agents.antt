@@ -10,7 +10,7 @@ use Rattle.opfs_machine.specs.declared.state.State.{State}
 use Rattle.opfs_machine.specs.Agents.{agent_of, own_of}
 use Rattle.opfs_machine.specs.Histories.{state_after}
 use Rattle.opfs_machine.specs.Openings.{Opening}
-use Rattle.opfs_histories.specs.Unread.{IsTold, ArePendingFor}
+use Rattle.opfs_laws.specs.Histories.Unread.{IsTold, ArePendingFor}
 use Rattle.opfs_turns.specs.declared.notes.Notes.{Notes}
 
 -- Its pass with the list that it has seen, the machine's opening of its store, its local calls that are not entered yet, its

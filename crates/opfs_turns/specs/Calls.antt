@@ -11,11 +11,11 @@ use Rattle.opfs_machine.specs.Histories.{may_enter, state_after}
 use Rattle.opfs_machine.specs.Openings.{Opening, begun}
 use Rattle.opfs_machine.specs.OwnRows.{is_local}
 use Rattle.opfs_machine.specs.Steps.{step}
-use Rattle.opfs_histories.specs.Unread.{unread, IsTold}
+use Rattle.opfs_laws.specs.Histories.Unread.{unread, IsTold}
 use Rattle.opfs_machine.specs.Replies.{row_named}
 use Rattle.opfs_machine.specs.Runs.{Call}
 use Rattle.opfs_laws.specs.Leaving.{seen_by, asks_nobody}
-use Rattle.opfs_histories.specs.Opened.{added}
+use Rattle.opfs_laws.specs.Histories.Opened.{added}
 use Rattle.opfs_acts.specs.declared.acted.Gift.{Gift}
 use Rattle.opfs_acts.specs.Acting.{told_entry, IsCallFor, IsGift}
 use Rattle.opfs_acts.specs.Asking.{is_shared, names_open, given_by, HasSmallNumbers, IsHandedIn}

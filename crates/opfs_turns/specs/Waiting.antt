@@ -10,8 +10,8 @@ use Rattle.opfs_hist.specs.declared.reply.Reply.TheVariants as reply
 use Rattle.opfs_machine.specs.Agents.{waits_for}
 use Rattle.opfs_machine.specs.Histories.{state_after}
 use Rattle.opfs_laws.specs.Leaving.{seen_by}
-use Rattle.opfs_histories.specs.Opened.{added}
-use Rattle.opfs_histories.specs.Unread.{IsTold}
+use Rattle.opfs_laws.specs.Histories.Opened.{added}
+use Rattle.opfs_laws.specs.Histories.Unread.{IsTold}
 use Rattle.opfs_acts.specs.declared.acted.AwaitState.{AwaitState}
 use Rattle.opfs_acts.specs.declared.acted.AwaitState.TheVariants as state
 use Rattle.opfs_acts.specs.Acting.{told_entry, IsCallFor}

@@ -3,7 +3,7 @@
 ghost use Rattle.std.specs.Prelude.{◌≡◌, ◌++◌, false, true, length, IfOk, OnErr, is_ok, IsTrue};
 ghost use Rattle.opfs_machine.specs.Histories.{state_after};
 ghost use Rattle.opfs_laws.specs.Leaving.{is_end};
-ghost use Rattle.opfs_histories.specs.Unread.{IsTold};
+ghost use Rattle.opfs_laws.specs.Histories.Unread.{IsTold};
 ghost use Rattle.opfs_acts.specs.Acting.{IsLeft, IsSameCopy, always_acts};
 ghost use Rattle.opfs_turns.specs.Agents.{IsAgent, seen};
 ghost use Rattle.opfs_turns.specs.Calls.{HasRoom, MayAsk, call_of, before_call, IsEntered, HasLooked};

@@ -2,7 +2,7 @@
 
 ghost use Rattle.std.specs.Prelude.{◌≡◌, ◌⊎◌, Bool, IfOk, OnErr};
 ghost use Rattle.opfs_machine.specs.Agents.{waits_for};
-ghost use Rattle.opfs_histories.specs.Unread.{IsTold};
+ghost use Rattle.opfs_laws.specs.Histories.Unread.{IsTold};
 ghost use Rattle.opfs_turns.specs.Agents.{IsAgent, seen};
 ghost use Rattle.opfs_turns.specs.Calls.{HasRoom, HasLooked};
 ghost use Rattle.opfs_turns.specs.Waiting.{HasWaitRoom, HasWaited, HasAwaited, IsAwaitTurn, await_reply, planned};

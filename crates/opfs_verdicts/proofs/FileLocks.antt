@@ -13,7 +13,7 @@ use Rattle.opfs_base.specs.declared.locator.Kind.TheVariants as kind
 use Rattle.opfs_laws.proofs.Spots.{place_total, same_place}
 use Rattle.opfs_laws.specs.Holders.{IsLockOf}
 use Rattle.opfs_laws.specs.Whole.{IsClosed}
-use Rattle.opfs_lengths.specs.Kept.{Kept, holders_in}
+use Rattle.opfs_laws.specs.Lengths.Kept.{Kept, holders_in}
 use Rattle.opfs_locks.specs.Taking.{Lock, open_lock, is_open}
 use Rattle.opfs_locks.specs.declared.LockValue.TheVariants as value
 use Rattle.opfs_locks.specs.declared.Want.{Want}

@@ -10,8 +10,8 @@ use Rattle.std.specs.declared.cmp.Ordering.TheVariants.{Less}
 use Rattle.opfs_base.specs.Texts.{Text, same_text}
 use Rattle.opfs_base.specs.Units.{origin_of, same_origin}
 use Rattle.opfs_laws.specs.Whole.{IsInOrder}
-use Rattle.opfs_lengths.proofs.Adding.{sum-same}
-use Rattle.opfs_lengths.specs.Kept.{reserve_where as kept_where}
+use Rattle.opfs_laws.proofs.lengths.Adding.{sum-same}
+use Rattle.opfs_laws.specs.Lengths.Kept.{reserve_where as kept_where}
 use Rattle.opfs_machine.specs.declared.own.Outline.{Outline}
 use Rattle.opfs_machine.specs.declared.own.Outline.TheVariants as outline
 use Rattle.opfs_machine.specs.Agents.{last_use}

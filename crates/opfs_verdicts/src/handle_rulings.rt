@@ -2,7 +2,7 @@
 #![tactic(auto, unfolding(opfs_machine::specs::Machine::machine))]
 
 ghost use Rattle.std.specs.Prelude.{◌≡◌, IfOk};
-ghost use Rattle.opfs_lengths.specs.Kept.{Kept};
+ghost use Rattle.opfs_laws.specs.Lengths.Kept.{Kept};
 ghost use Rattle.opfs_machine.specs.Contents.{in_lengths};
 ghost use Rattle.opfs_machine.specs.Rulings.{create_sync_ruling, grow_handle_ruling, handle_ruling};
 ghost use Rattle.opfs_verdicts.specs.Callers.{IsAgent};

@@ -2,10 +2,10 @@
 #![tactic(auto, unfolding(opfs_machine::specs::Machine::machine))]
 
 ghost use Rattle.std.specs.Prelude.{◌≡◌, None, IfOk};
-ghost use Rattle.opfs_lengths.specs.Kept.{Kept};
+ghost use Rattle.opfs_laws.specs.Lengths.Kept.{Kept};
 ghost use Rattle.opfs_machine.specs.Contents.{in_lengths};
 ghost use Rattle.opfs_machine.specs.Rulings.{ruling};
-ghost use Rattle.opfs_lengths.specs.Bridge.{judged_in};
+ghost use Rattle.opfs_laws.specs.Lengths.Bridge.{judged_in};
 ghost use Rattle.opfs_verdicts.specs.Callers.{IsAgent, IsCaller};
 ghost use Rattle.opfs_verdicts.specs.Judged.{KeylessAskNothing};
 
@@ -93,7 +93,7 @@ pub fn ruling(alloc: Global, standing: &Standing, sizes: Sizes, agent: u32, op: 
 }
 
 /// The refusal of a call, or the units that are cleared for it, where no place stands ready for a row.
-#[tactic(auto, unfolding(opfs_machine::specs::Ruled::binding, opfs_lengths::specs::Bridge::judged_in))]
+#[tactic(auto, unfolding(opfs_machine::specs::Ruled::binding, opfs_laws::specs::Lengths::Bridge::judged_in))]
 pub fn judge(alloc: Global, standing: &Standing, agent: u32, op: &Op, sizes: Sizes) -> Ruled<Keys>
     requires caller { IsCaller standing.now.machine agent }
     requires keyless { KeylessAskNothing standing.now.machine sizes agent op.now }

@@ -1,7 +1,7 @@
 //! The lock of a file.
 
 ghost use Rattle.std.specs.Prelude.{◌≡◌, is_some};
-ghost use Rattle.opfs_lengths.specs.Kept.{Kept};
+ghost use Rattle.opfs_laws.specs.Lengths.Kept.{Kept};
 ghost use Rattle.opfs_locks.specs.Taking.{taken};
 ghost use Rattle.opfs_machine.specs.Rows.{file_at};
 ghost use Rattle.opfs_machine.specs.Rulings.{lock_in};

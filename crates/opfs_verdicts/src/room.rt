@@ -2,7 +2,7 @@
 
 ghost use Rattle.std.specs.Prelude.{◌≡◌, ◌+◌, ◌||◌, nat_le, IfOk};
 ghost use Rattle.std.specs.Option.{option_copied};
-ghost use Rattle.opfs_lengths.specs.Kept.{Kept};
+ghost use Rattle.opfs_laws.specs.Lengths.Kept.{Kept};
 ghost use Rattle.opfs_machine.specs.Contents.{in_lengths};
 ghost use Rattle.opfs_machine.specs.Replies.{origin_in};
 ghost use Rattle.opfs_machine.specs.Ruled.{some_or};

@@ -4,7 +4,7 @@
 ghost use Rattle.std.specs.Prelude.{◌≡◌, IfOk, if◌then◌else◌, is_some};
 ghost use Rattle.opfs_base.specs.Places.{place_of};
 ghost use Rattle.opfs_locks.specs.Taking.{taken};
-ghost use Rattle.opfs_lengths.specs.Kept.{Kept};
+ghost use Rattle.opfs_laws.specs.Lengths.Kept.{Kept};
 ghost use Rattle.opfs_machine.specs.Contents.{in_lengths};
 ghost use Rattle.opfs_machine.specs.Rows.{file_at};
 ghost use Rattle.opfs_machine.specs.Rulings.{create_writable_ruling, grow_stream_ruling, stream_ruling, lock_in, first_reserve};

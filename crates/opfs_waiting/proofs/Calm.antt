@@ -14,10 +14,10 @@ use Rattle.std.specs.Cmp.Lexicographic.{slice_cmp}
 use Rattle.opfs_machine.specs.Ordered.{insert_by}
 use Rattle.opfs_machine.specs.Victims.{is_callers}
 use Rattle.opfs_machine.specs.Sums.{present_blocks, row_reserve}
-use Rattle.opfs_separation.proofs.Follows.{Follows}
-use Rattle.opfs_separation.proofs.Numbered.{agent_at}
-use Rattle.opfs_separation.proofs.Reading.{Reads}
-use Rattle.opfs_separation.proofs.Small.{key-acts}
+use Rattle.opfs_laws.proofs.separation.Follows.{Follows}
+use Rattle.opfs_laws.proofs.separation.Numbered.{agent_at}
+use Rattle.opfs_laws.proofs.separation.Reading.{Reads}
+use Rattle.opfs_laws.proofs.separation.Small.{key-acts}
 use Rattle.opfs_base.specs.Units.{origin_of}
 use Rattle.opfs_waiting.proofs.Room.{SameRoom}
 

@@ -27,12 +27,12 @@ use Rattle.opfs_script.specs.Scripts.{Asked}
 use Rattle.opfs_laws.proofs.Gone.{ran-by}
 use Rattle.opfs_laws.proofs.OwnFiles.{may-after}
 use Rattle.opfs_laws.proofs.Wholes.{call-placed}
-use Rattle.opfs_separation.specs.Apart.{IsInOrder}
-use Rattle.opfs_separation.proofs.Calls.{Kept, kept-after, kept-evicted, live-above}
-use Rattle.opfs_separation.proofs.Follows.{IsPlain}
-use Rattle.opfs_separation.proofs.Fronts.{call-front, front-fine}
-use Rattle.opfs_separation.proofs.Numbered.{agent_at}
-use Rattle.opfs_separation.proofs.Separation.{begun-kept, keys-plain}
+use Rattle.opfs_laws.specs.Separation.Apart.{IsInOrder}
+use Rattle.opfs_laws.proofs.separation.Calls.{Kept, kept-after, kept-evicted, live-above}
+use Rattle.opfs_laws.proofs.separation.Follows.{IsPlain}
+use Rattle.opfs_laws.proofs.separation.Fronts.{call-front, front-fine}
+use Rattle.opfs_laws.proofs.separation.Numbered.{agent_at}
+use Rattle.opfs_laws.proofs.separation.Separation.{begun-kept, keys-plain}
 use Rattle.opfs_told.specs.Goings.{IsFixed, has_no, is_line}
 use Rattle.opfs_told.proofs.Goes.{nobody-here, other-entry, own-entry, self-here}
 use Rattle.opfs_waiting.specs.Fixed.{HistoriesAreFixed, IsInLines, NobodyWaitsUnasked, has_await, is_await}

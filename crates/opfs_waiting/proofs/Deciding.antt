@@ -24,12 +24,12 @@ use Rattle.opfs_machine.specs.Rows.{row_at, children_of, with_row, with_file, wi
 use Rattle.opfs_machine.specs.Steps.{after_reply, is_refusal}
 use Rattle.opfs_runs.specs.Running.{entries_of, is_wait, empty_hand, IsRun}
 use Rattle.opfs_script.specs.Scripts.{Asked}
-use Rattle.opfs_separation.proofs.Calls.{IsAbove, live-above, Kept, kept-after, changed-follows}
-use Rattle.opfs_separation.proofs.Follows.{Follows, IsPlain}
-use Rattle.opfs_separation.proofs.Numbered.{agent_at}
-use Rattle.opfs_separation.proofs.SameRuling.{sizes-same}
-use Rattle.opfs_separation.proofs.Separation.{keys-plain, begun-kept}
-use Rattle.opfs_separation.proofs.Small.{key-acts}
+use Rattle.opfs_laws.proofs.separation.Calls.{IsAbove, live-above, Kept, kept-after, changed-follows}
+use Rattle.opfs_laws.proofs.separation.Follows.{Follows, IsPlain}
+use Rattle.opfs_laws.proofs.separation.Numbered.{agent_at}
+use Rattle.opfs_laws.proofs.separation.SameRuling.{sizes-same}
+use Rattle.opfs_laws.proofs.separation.Separation.{keys-plain, begun-kept}
+use Rattle.opfs_laws.proofs.separation.Small.{key-acts}
 use Rattle.opfs_stage.specs.Runs.{EachRuns}
 use Rattle.opfs_told.specs.Reading.{is_stuck, is_stuck_await, IsPlainEntry}
 use Rattle.opfs_told.proofs.CallKinds.{Kind, kind_of, a_wait, an_eviction, an_await, a_call}

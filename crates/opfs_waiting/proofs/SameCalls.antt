@@ -25,10 +25,10 @@ use Rattle.opfs_machine.specs.Steps.{room_for, judged, outcome_of, step}
 use Rattle.opfs_machine.specs.Sums.{no_need, usage, charge, pool, fits_quota, fits_area, present_blocks, row_reserve}
 use Rattle.std.specs.List.{filter, sum_by}
 use Rattle.opfs_machine.specs.Victims.{victims}
-use Rattle.opfs_separation.proofs.Follows.{IsPlain}
-use Rattle.opfs_separation.proofs.Reading.{Reads}
-use Rattle.opfs_separation.proofs.SameAnswer.{answer-same}
-use Rattle.opfs_separation.proofs.SameRuling.{ruling-same, sizes-same, may-same, disk-same}
+use Rattle.opfs_laws.proofs.separation.Follows.{IsPlain}
+use Rattle.opfs_laws.proofs.separation.Reading.{Reads}
+use Rattle.opfs_laws.proofs.separation.SameAnswer.{answer-same}
+use Rattle.opfs_laws.proofs.separation.SameRuling.{ruling-same, sizes-same, may-same, disk-same}
 use Rattle.opfs_told.specs.Reading.{is_stuck}
 use Rattle.opfs_waiting.proofs.Room.{SameRoom, charge-same, pool-same, none-same, some-same}
 use Rattle.opfs_waiting.proofs.Calm.{Calm, calm-quiet}

@@ -8,7 +8,7 @@ use Rattle.opfs_runs.specs.Running.{is_wait}
 use Rattle.opfs_script.specs.declared.step.Step.{Step}
 use Rattle.opfs_script.specs.declared.step.Step.TheVariants as step
 use Rattle.opfs_script.specs.Scripts.{Asked}
-use Rattle.opfs_separation.specs.Apart.{IsInOrder}
+use Rattle.opfs_laws.specs.Separation.Apart.{IsInOrder}
 use Rattle.opfs_told.specs.Goings.{IsFixed, has_no, is_line}
 use Rattle.opfs_waiting.specs.Waiting.{IsHistory}
 

@@ -6,7 +6,7 @@ use Rattle.opfs_machine.specs.Openings.{Opening}
 use Rattle.opfs_print.specs.Lines.{text_of}
 use Rattle.opfs_runs.specs.Running.{is_wait}
 use Rattle.opfs_script.specs.Scripts.{Asked}
-use Rattle.opfs_separation.specs.Apart.{IsInOrder}
+use Rattle.opfs_laws.specs.Separation.Apart.{IsInOrder}
 use Rattle.opfs_stage.specs.Runs.{EachRuns}
 use Rattle.opfs_told.specs.Reading.{IsPlainEntry}
 

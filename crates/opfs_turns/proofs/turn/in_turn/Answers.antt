@@ -4,7 +4,7 @@ use Rattle.opfs_hall.specs.History.{Adds}
 use Rattle.opfs_hall.specs.Seen.{at_rest}
 use Rattle.opfs_machine.specs.Agents.{agent_of}
 use Rattle.opfs_machine.specs.Histories.{state_after}
-use Rattle.opfs_histories.specs.Unread.{IsTold}
+use Rattle.opfs_laws.specs.Histories.Unread.{IsTold}
 use Rattle.opfs_acts.specs.Acting.{IsActed}
 use Rattle.opfs_acts.specs.Asking.{MayAct}
 use Rattle.opfs_turns.proofs.Acted.{acts, unacted-agent, unacted-looked, acted-agent, acted-entered, adds}

@@ -7,7 +7,7 @@ use Rattle.opfs_hist.specs.declared.op.Op.TheVariants as op
 use Rattle.opfs_hist.specs.declared.reply.Reply.TheVariants as reply
 use Rattle.opfs_machine.specs.Agents.{agent_of}
 use Rattle.opfs_machine.specs.Histories.{state_after}
-use Rattle.opfs_histories.specs.Unread.{IsTold}
+use Rattle.opfs_laws.specs.Histories.Unread.{IsTold}
 use Rattle.opfs_acts.specs.Acting.{IsActed, awaited}
 use Rattle.opfs_acts.specs.Asking.{MayAct, IsThere}
 use Rattle.opfs_turns.specs.Agents.{IsAgent, seen}

@@ -1,4 +1,0 @@
-//! What is stored of a file while an access handle of it is open. A law alone; the contract of a function that does nothing.
-#![tactic(auto)]
-
-pub mod staying;

@@ -1,4 +1,0 @@
-//! Separation of origins: a law over every legal history. It speaks of the definitions of `opfs_machine` alone.
-#![tactic(auto)]
-
-pub mod apart;

@@ -1,5 +1,0 @@
-//! Steady pages: which pages of an open row the store still tells. Laws alone; each is the contract of a function that
-//! does nothing.
-#![tactic(auto)]
-
-pub mod settling;
