@@ -15,7 +15,7 @@ use Rattle.opfs_machine.specs.Openings.{Who, agent_begun}
 use Rattle.opfs_base.specs.Keys.{is_origin, is_one_line}
 use Rattle.opfs_script.specs.Limits.{fits_alone, is_origin_key, is_short_key, keeps_bounds, keeps_limits}
 use Rattle.opfs_script.specs.Scripts.{Asked}
-use Rattle.opfs_stage.specs.Openings.{who_of}
+use Rattle.opfs_script_run.specs.Stage.Openings.{who_of}
 use Rattle.opfs_desk_runs.specs.Agents.{IsOwnKey}
 
 -- one item more of a front

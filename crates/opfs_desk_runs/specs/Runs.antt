@@ -22,8 +22,8 @@ use Rattle.opfs_outside.specs.Faults.{Rose, RoseBy}
 use Rattle.opfs_replay.specs.Built.{Built}
 use Rattle.opfs_outside.specs.declared.disk.Disk.{Ghosts as DiskWords}
 use Rattle.opfs_script.specs.Scripts.{Asked}
-use Rattle.opfs_stage.specs.Openings.{opening_of}
-use Rattle.opfs_stage.specs.Runs.{EachAlone, EachCut, EachRuns}
+use Rattle.opfs_script_run.specs.Stage.Openings.{opening_of}
+use Rattle.opfs_script_run.specs.Stage.Runs.{EachAlone, EachCut, EachRuns}
 
 -- With what a run begins over an image: what that stands for, whatever its disk tells, within its sizes, and the agents of the scripts.
 abbrev pub opening_over : {D : Type 0} (w : DiskWords D) → Recovered D w → List Asked → Opening

@@ -11,7 +11,7 @@ ghost use Rattle.opfs_image.specs.Reading.{read_as};
 ghost use Rattle.opfs_journal.specs.Walking.{OnlyRead};
 ghost use Rattle.opfs_outside.specs.Faults.{Rose, RoseBy};
 ghost use Rattle.opfs_run.specs.Begun.{AreAgentsOf};
-ghost use Rattle.opfs_stage.specs.Runs.{EachCut, EachRuns};
+ghost use Rattle.opfs_script_run.specs.Stage.Runs.{EachCut, EachRuns};
 
 use crate::agents::agents_of;
 use opfs_desk::Desk;

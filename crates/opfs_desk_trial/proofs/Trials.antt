@@ -23,8 +23,8 @@ use Rattle.opfs_outside.specs.Faults.{Rose, RoseBy}
 use Rattle.opfs_outside.specs.declared.disk.Disk.{Ghosts as DiskWords}
 use Rattle.opfs_replay.specs.Built.{Built, nothing_built}
 use Rattle.opfs_script.specs.Scripts.{Asked}
-use Rattle.opfs_stage.specs.Openings.{opening_of, trial_opening}
-use Rattle.opfs_stage.specs.Runs.{EachAlone}
+use Rattle.opfs_script_run.specs.Stage.Openings.{opening_of, trial_opening}
+use Rattle.opfs_script_run.specs.Stage.Runs.{EachAlone}
 use Rattle.opfs_trial.specs.Trials.{IsTrial}
 
 -- nothing rose where the counts are 0

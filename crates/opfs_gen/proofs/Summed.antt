@@ -17,11 +17,11 @@ use Rattle.opfs_machine.specs.Histories.{Legal, evicted_by}
 use Rattle.opfs_machine.specs.Openings.{agent_begun}
 use Rattle.opfs_machine.specs.Steps.{is_refusal}
 use Rattle.opfs_print.specs.Lines.{call_text, joined, line_of, text_of}
-use Rattle.opfs_runs.specs.Running.{entries_of, is_wait, IsRun}
+use Rattle.opfs_script_run.specs.Runs.Running.{entries_of, is_wait, IsRun}
 use Rattle.opfs_script.specs.Scripts.{Asked}
 use Rattle.opfs_laws.specs.Separation.Apart.{IsInOrder, has_origin_key}
-use Rattle.opfs_stage.specs.Openings.{trial_opening, who_of}
-use Rattle.opfs_stage.specs.Runs.{EachRuns}
+use Rattle.opfs_script_run.specs.Stage.Openings.{trial_opening, who_of}
+use Rattle.opfs_script_run.specs.Stage.Runs.{EachRuns}
 use Rattle.opfs_told.specs.Goings.{as_told}
 use Rattle.opfs_told.proofs.Fixing.{Line, of_unit, of_call, line-is}
 use Rattle.opfs_gen.specs.declared.summing.Told.{Told}

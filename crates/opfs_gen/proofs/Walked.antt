@@ -8,7 +8,7 @@ use Rattle.opfs_hist.specs.declared.op.Op.{Op}
 use Rattle.opfs_hist.specs.declared.op.Op.TheVariants as op
 use Rattle.opfs_lone.specs.Lone.{IsOwnEntry}
 use Rattle.opfs_machine.specs.Histories.{evicted_by}
-use Rattle.opfs_runs.specs.Running.{entries_of, is_wait}
+use Rattle.opfs_script_run.specs.Runs.Running.{entries_of, is_wait}
 use Rattle.opfs_laws.specs.Separation.Apart.{is_shared}
 use Rattle.opfs_gen.specs.Own.{is_own, is_own_op}
 use Rattle.opfs_gen.specs.Telling.{IsTold, IsToldTo}

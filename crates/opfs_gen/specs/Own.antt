@@ -6,8 +6,8 @@ use Rattle.opfs_hist.specs.declared.op.Op.TheVariants as op
 use Rattle.opfs_lone.specs.Lone.{IsOwnEntry}
 use Rattle.opfs_machine.specs.Histories.{Legal}
 use Rattle.opfs_laws.specs.Separation.Apart.{is_shared}
-use Rattle.opfs_stage.specs.Openings.{trial_opening}
-use Rattle.opfs_stage.specs.Runs.{EachRuns}
+use Rattle.opfs_script_run.specs.Stage.Openings.{trial_opening}
+use Rattle.opfs_script_run.specs.Stage.Runs.{EachRuns}
 use Rattle.opfs_gen.specs.Making.{IsGenRange, gen_script}
 use Rattle.opfs_gen.specs.Summing.{gen_text, summary_of}
 

@@ -3,7 +3,7 @@ use Rattle.std.specs.Prelude.{◌≡◌, ℕ, ◌+◌, ◌&&◌, Bool, true, fal
 use Rattle.opfs_hist.specs.declared.entry.Entry.{Entry}
 use Rattle.opfs_machine.specs.Steps.{is_refusal}
 use Rattle.opfs_print.specs.Lines.{text_of}
-use Rattle.opfs_runs.specs.Running.{entries_of, is_wait}
+use Rattle.opfs_script_run.specs.Runs.Running.{entries_of, is_wait}
 use Rattle.opfs_gen.specs.Summing.{accepted_among, lines_among, refused_among}
 use Rattle.opfs_gen.specs.declared.summing.Told.{Told}
 

@@ -4,7 +4,7 @@ ghost use Rattle.std.specs.Prelude.{◌≡◌, ◌++◌, ◌∷◌, [], List, �
 ghost use Rattle.sha2.specs.Sha256.{sha256};
 ghost use Rattle.opfs_hist.specs.declared.entry.Entry.{Entry as AnEntry};
 ghost use Rattle.opfs_machine.specs.Steps.{is_refusal};
-ghost use Rattle.opfs_runs.specs.Running.{entries_of, is_wait};
+ghost use Rattle.opfs_script_run.specs.Runs.Running.{entries_of, is_wait};
 ghost use Rattle.opfs_gen.specs.Summing.{agent_line, summary_of};
 ghost use Rattle.opfs_gen.specs.Telling.{IsCounted, IsTold};
 

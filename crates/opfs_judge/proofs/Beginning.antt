@@ -5,7 +5,7 @@ use Rattle.opfs_machine.specs.Openings.{begun, empty_map}
 use Rattle.opfs_script_kept.specs.Packed.Telling.{without_steps}
 use Rattle.opfs_script.specs.Limits.{is_origin_key}
 use Rattle.opfs_script.specs.Scripts.{Asked}
-use Rattle.opfs_stage.specs.Openings.{trial_limits, trial_opening, who_of}
+use Rattle.opfs_script_run.specs.Stage.Openings.{trial_limits, trial_opening, who_of}
 
 same-agents : (script : List Asked) → map who_of (map without_steps script) ≡ map who_of script
 same-agents [] = refl

@@ -10,12 +10,12 @@ use Rattle.opfs_hist.specs.declared.entry.Entry.{Entry}
 use Rattle.opfs_machine.specs.declared.own.Own.{Own}
 use Rattle.opfs_machine.specs.declared.state.State.{State}
 use Rattle.opfs_machine.specs.Openings.{begun}
-use Rattle.opfs_runs.specs.Running.{entries_of, is_wait, IsRun}
+use Rattle.opfs_script_run.specs.Runs.Running.{entries_of, is_wait, IsRun}
 use Rattle.opfs_script.specs.Limits.{is_origin_key, is_short_key}
 use Rattle.opfs_script.specs.Scripts.{Asked}
 use Rattle.opfs_laws.specs.Separation.Apart.{IsInOrder, has_origin_key}
-use Rattle.opfs_stage.specs.Openings.{trial_opening, who_of}
-use Rattle.opfs_stage.specs.Runs.{EachRuns}
+use Rattle.opfs_script_run.specs.Stage.Openings.{trial_opening, who_of}
+use Rattle.opfs_script_run.specs.Stage.Runs.{EachRuns}
 use Rattle.opfs_told.specs.Goings.{Going, gone, has_no, is_line, IsGoing}
 use Rattle.opfs_told.specs.Reading.{tells_room_or_stuck}
 use Rattle.opfs_told.specs.Turns.{HasRest, HasTurn}

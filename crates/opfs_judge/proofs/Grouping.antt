@@ -16,7 +16,7 @@ use Rattle.opfs_machine.specs.Histories.{may_enter, Agrees, IsCall}
 use Rattle.opfs_machine.specs.Runs.{Call, eviction}
 use Rattle.opfs_machine.specs.Steps.{step}
 use Rattle.opfs_print.specs.Lines.{call_text, line_of, text_of}
-use Rattle.opfs_runs.specs.Running.{is_wait}
+use Rattle.opfs_script_run.specs.Runs.Running.{is_wait}
 use Rattle.opfs_told.specs.Goings.{Going, asked, going_on, gone, moved}
 use Rattle.opfs_told.specs.Reading.{begins}
 use Rattle.opfs_told.specs.Turns.{HasTurn}

@@ -3,12 +3,12 @@ use Rattle.std.proofs.Common.{◌≡◌, ℕ, false, List, [], ◌∷◌, Option
 use Rattle.opfs_hist.specs.declared.op.Op.{Op}
 use Rattle.opfs_hist.specs.declared.op.Op.TheVariants as op
 use Rattle.opfs_hist.specs.declared.op.Word.{Word}
-use Rattle.opfs_runs.specs.declared.hand.Hand.{Hand}
-use Rattle.opfs_runs.specs.declared.hand.Named.{Named}
-use Rattle.opfs_runs.specs.declared.hand.Named.TheVariants as named
-use Rattle.opfs_runs.specs.declared.hand.Open.{Open}
-use Rattle.opfs_runs.specs.declared.hand.Open.TheVariants as opened
-use Rattle.opfs_runs.specs.Running.{a_directory, a_file, a_handle, a_snapshot, a_stream, an_entry, called, called_by_two, ending, is_wait, named_by, next_op, op_of}
+use Rattle.opfs_script_run.specs.declared.runs.hand.Hand.{Hand}
+use Rattle.opfs_script_run.specs.declared.runs.hand.Named.{Named}
+use Rattle.opfs_script_run.specs.declared.runs.hand.Named.TheVariants as named
+use Rattle.opfs_script_run.specs.declared.runs.hand.Open.{Open}
+use Rattle.opfs_script_run.specs.declared.runs.hand.Open.TheVariants as opened
+use Rattle.opfs_script_run.specs.Runs.Running.{a_directory, a_file, a_handle, a_snapshot, a_stream, an_entry, called, called_by_two, ending, is_wait, named_by, next_op, op_of}
 use Rattle.opfs_script.specs.declared.step.Step.{Step}
 use Rattle.opfs_script.specs.declared.step.Step.TheVariants as step
 use Rattle.opfs_told.specs.Goings.{Going, stepping, closing, gone, asked}

@@ -1,6 +1,6 @@
 -- What the rest of an agent's run is.
 use Rattle.std.proofs.Common.{◌≡◌, ◌+◌, ◌<◌, ℕ, zero, suc, List, [], ◌∷◌, drop, length, refl, subst, arith}
-use Rattle.opfs_runs.specs.declared.hand.Open.{Open}
+use Rattle.opfs_script_run.specs.declared.runs.hand.Open.{Open}
 use Rattle.opfs_told.specs.Goings.{closing, after_end}
 
 -- Behind an end there is one open row less.

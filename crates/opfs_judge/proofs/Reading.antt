@@ -14,7 +14,7 @@ use Rattle.opfs_machine.specs.Runs.{eviction}
 use Rattle.opfs_machine.specs.Steps.{after_reply, evicted}
 use Rattle.opfs_machine.proofs.GoOn.{legal-append}
 use Rattle.opfs_print.specs.Lines.{text_of}
-use Rattle.opfs_runs.specs.Running.{entries_of, is_wait}
+use Rattle.opfs_script_run.specs.Runs.Running.{entries_of, is_wait}
 use Rattle.opfs_laws.specs.Separation.Apart.{IsInOrder}
 use Rattle.opfs_told.specs.Goings.{Going, stepping, closing, gone, has_no, IsFixed, IsGoing}
 use Rattle.opfs_told.specs.Turns.{AreLines, HasRest, HasTurn}

@@ -6,7 +6,7 @@ use Rattle.opfs_machine.specs.declared.own.Own.{Own}
 use Rattle.opfs_machine.specs.declared.state.State.{State}
 use Rattle.opfs_machine.specs.Histories.{Legal, state_after}
 use Rattle.opfs_machine.specs.Openings.{Opening}
-use Rattle.opfs_runs.specs.Running.{is_wait}
+use Rattle.opfs_script_run.specs.Runs.Running.{is_wait}
 use Rattle.opfs_laws.specs.Separation.Apart.{IsInOrder}
 use Rattle.opfs_told.specs.Goings.{Going}
 use Rattle.opfs_told.specs.Turns.{HasRest}

@@ -2,8 +2,8 @@
 use Rattle.std.specs.Prelude.{◌≡◌, Bool, true, false, List, [], ◌∷◌, Option, Some, None}
 use Rattle.opfs_hist.specs.declared.entry.Entry.{Entry}
 use Rattle.opfs_hist.specs.declared.op.Op.{Op}
-use Rattle.opfs_runs.specs.declared.hand.Hand.{Hand}
-use Rattle.opfs_runs.specs.Running.{hand_then, op_of}
+use Rattle.opfs_script_run.specs.declared.runs.hand.Hand.{Hand}
+use Rattle.opfs_script_run.specs.Runs.Running.{hand_then, op_of}
 use Rattle.opfs_script.specs.declared.step.Step.{Step}
 use Rattle.opfs_judge.specs.declared.ahead.Ahead.{Ahead}
 use Rattle.opfs_judge.specs.declared.ahead.Ahead.TheVariants as ahead

@@ -1,13 +1,13 @@
 //! The steps of an agent that are still to come.
 
 ghost use Rattle.std.specs.Prelude.{◌≡◌, Some, IfOk, OnOk};
-ghost use Rattle.opfs_runs.specs.Running.{hand_then, op_of};
+ghost use Rattle.opfs_script_run.specs.Runs.Running.{hand_then, op_of};
 ghost use Rattle.opfs_judge.specs.Steps.{IsPast, first_op, steps_of};
 
 use opfs_hist::{Entry, Op};
-use opfs_runs::Hand;
 use opfs_script::Step;
 use opfs_script_kept::StepsAhead;
+use opfs_script_run::Hand;
 use std::alloc::{AllocError, Global};
 
 /// Steps in order, as they were read before, or as texts that are read when their turn comes.

@@ -3,7 +3,7 @@
 ghost use Rattle.std.specs.Prelude.{◌≡◌, ◌≤◌, All, length, map, IfOk, IsTrue, OnOk};
 ghost use Rattle.opfs_machine.specs.Openings.{begun};
 ghost use Rattle.opfs_script.specs.Limits.{is_origin_key};
-ghost use Rattle.opfs_stage.specs.Openings.{trial_opening};
+ghost use Rattle.opfs_script_run.specs.Stage.Openings.{trial_opening};
 ghost use Rattle.opfs_judge.specs.Agents.{AreFronts};
 ghost use Rattle.opfs_judge.specs.Judging.{IsRead};
 ghost use Rattle.opfs_judge.specs.Players.{starting};

@@ -8,9 +8,9 @@ ghost use Rattle.opfs_judge.specs.Players.{starting, standing, is_gone, end_of};
 use crate::ahead::Ahead;
 use opfs_base::copy_key;
 use opfs_hist::{Entry, Op};
-use opfs_runs::{Hand, Open};
 use opfs_script::AgentScript;
 use opfs_script_kept::PackedAgent;
+use opfs_script_run::{Hand, Open};
 use std::alloc::{AllocError, Global};
 use std::marker::Model;
 

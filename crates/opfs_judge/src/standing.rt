@@ -4,7 +4,7 @@
 ghost use Rattle.std.specs.Prelude.{◌≡◌, ◌&&◌, false, IsTrue};
 ghost use Rattle.std.specs.Option.{option_copied};
 ghost use Rattle.std.specs.List.{list_all, enumerate_from};
-ghost use Rattle.opfs_runs.specs.Running.{is_wait};
+ghost use Rattle.opfs_script_run.specs.Runs.Running.{is_wait};
 ghost use Rattle.opfs_machine.specs.Agents.{agent_of, is_no_help, is_posted, is_unposted, others_stuck, party_of, party_with, same_party};
 ghost use Rattle.opfs_machine.specs.Histories.{may_enter};
 ghost use Rattle.opfs_rulings.specs.Known.{IsAgent};

@@ -7,7 +7,7 @@ ghost use Rattle.opfs_machine.specs.Histories.{may_enter};
 ghost use Rattle.opfs_machine.specs.Runs.{eviction};
 ghost use Rattle.opfs_print.specs.Lines.{line_of, text_of};
 ghost use Rattle.opfs_rulings.specs.Known.{IsAgent};
-ghost use Rattle.opfs_runs.specs.Running.{is_wait};
+ghost use Rattle.opfs_script_run.specs.Runs.Running.{is_wait};
 ghost use Rattle.opfs_told.specs.Reading.{begins};
 ghost use Rattle.opfs_told.specs.Goings.{asked, going_on};
 ghost use Rattle.opfs_told.specs.Turns.{HasTurn};

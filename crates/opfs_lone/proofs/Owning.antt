@@ -20,9 +20,9 @@ use Rattle.opfs_machine.specs.Histories.{evicted_by}
 use Rattle.opfs_machine.specs.Openings.{Opening}
 use Rattle.opfs_machine.specs.Ruled.{Ruled}
 use Rattle.opfs_machine.specs.Steps.{after_reply, evicted}
-use Rattle.opfs_runs.specs.declared.hand.Hand.{Hand}
-use Rattle.opfs_runs.specs.declared.hand.Open.{Open}
-use Rattle.opfs_runs.specs.Running.{empty_hand, ending, entries_of, hand_then, op_of, IsEnd, IsRunFrom, IsStep, IsWait}
+use Rattle.opfs_script_run.specs.declared.runs.hand.Hand.{Hand}
+use Rattle.opfs_script_run.specs.declared.runs.hand.Open.{Open}
+use Rattle.opfs_script_run.specs.Runs.Running.{empty_hand, ending, entries_of, hand_then, op_of, IsEnd, IsRunFrom, IsStep, IsWait}
 use Rattle.opfs_script.specs.declared.step.Step.{Step}
 use Rattle.opfs_script.specs.Scripts.{Asked}
 use Rattle.opfs_laws.specs.Separation.Apart.{is_shared}

@@ -16,9 +16,9 @@ use Rattle.opfs_machine.specs.Openings.{Opening}
 use Rattle.opfs_machine.specs.Replies.{answer, sizes_of}
 use Rattle.opfs_machine.specs.Ruled.{Ruled}
 use Rattle.opfs_machine.specs.Steps.{after_reply}
-use Rattle.opfs_runs.specs.declared.hand.Hand.{Hand}
-use Rattle.opfs_runs.specs.declared.hand.Open.{Open}
-use Rattle.opfs_runs.specs.Running.{empty_hand, ending, entries_of, hand_then, is_wait, op_of, IsRun}
+use Rattle.opfs_script_run.specs.declared.runs.hand.Hand.{Hand}
+use Rattle.opfs_script_run.specs.declared.runs.hand.Open.{Open}
+use Rattle.opfs_script_run.specs.Runs.Running.{empty_hand, ending, entries_of, hand_then, is_wait, op_of, IsRun}
 use Rattle.opfs_script.specs.declared.step.Step.{Step}
 use Rattle.opfs_script.specs.Scripts.{Asked}
 use Rattle.opfs_laws.specs.Separation.Apart.{IsInOrder, is_shared}

@@ -11,8 +11,8 @@ use Rattle.opfs_machine.specs.Agents.{agent_of, nobody}
 use Rattle.opfs_machine.specs.Openings.{Opening, agent_begun, begun}
 use Rattle.opfs_runner.specs.Runs.{IsReadyFor}
 use Rattle.opfs_script.specs.Scripts.{Asked}
-use Rattle.opfs_stage.specs.Openings.{who_of}
-use Rattle.opfs_stage.specs.Runs.{EachCut, EachRuns}
+use Rattle.opfs_script_run.specs.Stage.Openings.{who_of}
+use Rattle.opfs_script_run.specs.Stage.Runs.{EachCut, EachRuns}
 use Rattle.opfs_turns.specs.Agents.{AgentSeen}
 use Rattle.opfs_turns.specs.Calls.{MayBegin, new_agent}
 use Rattle.opfs_run.specs.declared.agents.Starter.{Starter}

@@ -5,7 +5,7 @@ use Rattle.opfs_hall.specs.Seen.{HallSeen, PassSeen, new_pass}
 use Rattle.opfs_hist.specs.declared.entry.Entry.{Entry}
 use Rattle.opfs_machine.specs.Openings.{Opening}
 use Rattle.opfs_script.specs.Scripts.{Asked}
-use Rattle.opfs_stage.specs.Openings.{who_of}
+use Rattle.opfs_script_run.specs.Stage.Openings.{who_of}
 use Rattle.opfs_turns.specs.Agents.{AgentSeen}
 use Rattle.opfs_turns.specs.Calls.{MayBegin, new_agent}
 

@@ -2,7 +2,7 @@
 
 ghost use Rattle.std.specs.Prelude.{◌≡◌, ◌≤◌, [], length, true, IfOk, IfErr};
 ghost use Rattle.opfs_run.specs.Begun.{AreAgentsOf};
-ghost use Rattle.opfs_stage.specs.Runs.{EachCut, EachRuns};
+ghost use Rattle.opfs_script_run.specs.Stage.Runs.{EachCut, EachRuns};
 
 use crate::agents::{Starter, begin_all, starters_of};
 use opfs_acts::Store;

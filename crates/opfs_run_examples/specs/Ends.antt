@@ -10,7 +10,7 @@ use Rattle.opfs_hist.specs.declared.op.Op.TheVariants as op
 use Rattle.opfs_hist.specs.declared.reply.Reply.TheVariants as reply
 use Rattle.opfs_script.specs.Scripts.{Asked}
 use Rattle.opfs_script.specs.declared.step.Step.TheVariants as step
-use Rattle.opfs_runs.specs.Running.{IsRun, IsCut}
+use Rattle.opfs_script_run.specs.Runs.Running.{IsRun, IsCut}
 
 abbrev pub a_example : Text
 a_example = codes "https://a.example"

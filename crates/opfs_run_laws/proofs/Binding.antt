@@ -12,9 +12,9 @@ use Rattle.opfs_hist.specs.declared.op.Op.{Op}
 use Rattle.opfs_hist.specs.declared.op.Op.TheVariants as op
 use Rattle.opfs_hist.specs.declared.reply.Reply.{Reply}
 use Rattle.opfs_hist.specs.declared.reply.Reply.TheVariants as reply
-use Rattle.opfs_runs.specs.declared.hand.Hand.{Hand}
-use Rattle.opfs_runs.specs.declared.hand.Named.{Named}
-use Rattle.opfs_runs.specs.Running.{named_by, binds, binds_root, binds_child, bind_name, hand_after, hand_then}
+use Rattle.opfs_script_run.specs.declared.runs.hand.Hand.{Hand}
+use Rattle.opfs_script_run.specs.declared.runs.hand.Named.{Named}
+use Rattle.opfs_script_run.specs.Runs.Running.{named_by, binds, binds_root, binds_child, bind_name, hand_after, hand_then}
 use Rattle.opfs_script.specs.declared.step.Step.{Step}
 
 some-same : {X : Type 0} {x y : X} → Some x ≡ Some y → x ≡ y

@@ -20,10 +20,10 @@ use Rattle.opfs_hist.specs.declared.op.Op.TheVariants as op
 use Rattle.opfs_hist.specs.declared.reply.Reply.{Reply}
 use Rattle.opfs_hist.specs.declared.reply.Reply.TheVariants as reply
 use Rattle.opfs_machine.specs.Histories.{is_of_origin}
-use Rattle.opfs_runs.specs.declared.hand.Hand.{Hand}
-use Rattle.opfs_runs.specs.declared.hand.Named.{Named}
-use Rattle.opfs_runs.specs.declared.hand.Named.TheVariants as named
-use Rattle.opfs_runs.specs.Running.{named_by, binds, binds_root, binds_child, handle_named, closes_row, bind_name, hand_after, hand_then, is_row}
+use Rattle.opfs_script_run.specs.declared.runs.hand.Hand.{Hand}
+use Rattle.opfs_script_run.specs.declared.runs.hand.Named.{Named}
+use Rattle.opfs_script_run.specs.declared.runs.hand.Named.TheVariants as named
+use Rattle.opfs_script_run.specs.Runs.Running.{named_by, binds, binds_root, binds_child, handle_named, closes_row, bind_name, hand_after, hand_then, is_row}
 use Rattle.opfs_script.specs.declared.step.Step.{Step}
 use Rattle.opfs_script.specs.Limits.{is_origin_key, is_short_key}
 use Rattle.opfs_run_laws.specs.Kinds.{RowKind, stream, closed_stream, handle, closed_handle, snapshot, iterator, sort_of, kind_at, sort_at, open_rows, kinds_changed, kinds_after, Names}

@@ -2,9 +2,9 @@
 use Rattle.std.proofs.Common.{◌≡◌, ◌≢◌, ℕ, zero, suc, ◌+◌, ◌-◌, ◌<◌, ◌==◌, true, false, not, cond, List, [], ◌∷◌, ◌++◌, length, filter, map, slice_set, Some, refl, sym, ap, ◌∙◌, arith}
 use Rattle.std.specs.Prelude.{slice_get}
 use Rattle.std.proofs.lemmas.Bool.{eq-eqb, eqb-true}
-use Rattle.opfs_runs.specs.declared.hand.Open.{Open}
-use Rattle.opfs_runs.specs.declared.hand.Open.TheVariants as opened
-use Rattle.opfs_runs.specs.Running.{is_row}
+use Rattle.opfs_script_run.specs.declared.runs.hand.Open.{Open}
+use Rattle.opfs_script_run.specs.declared.runs.hand.Open.TheVariants as opened
+use Rattle.opfs_script_run.specs.Runs.Running.{is_row}
 use Rattle.opfs_run_laws.specs.Kinds.{RowKind, stream, closed_stream, handle, closed_handle, snapshot, iterator, taken, gone, sort_of, sort_at, open_rows}
 
 -- One more, behind so many.

@@ -7,10 +7,10 @@ use Rattle.opfs_hist.specs.declared.op.Word.{Word}
 use Rattle.opfs_hist.specs.declared.op.Word.TheVariants as word
 use Rattle.opfs_hist.specs.declared.reply.Reply.{Reply}
 use Rattle.opfs_hist.specs.declared.reply.Reply.TheVariants as reply
-use Rattle.opfs_runs.specs.declared.hand.Hand.{Hand}
-use Rattle.opfs_runs.specs.declared.hand.Named.{Named}
-use Rattle.opfs_runs.specs.declared.hand.Named.TheVariants as named
-use Rattle.opfs_runs.specs.Running.{named_by, op_of, called, called_by_two, a_directory, an_entry, a_stream, a_handle, a_snapshot, bind_name, hand_after, hand_then}
+use Rattle.opfs_script_run.specs.declared.runs.hand.Hand.{Hand}
+use Rattle.opfs_script_run.specs.declared.runs.hand.Named.{Named}
+use Rattle.opfs_script_run.specs.declared.runs.hand.Named.TheVariants as named
+use Rattle.opfs_script_run.specs.Runs.Running.{named_by, op_of, called, called_by_two, a_directory, an_entry, a_stream, a_handle, a_snapshot, bind_name, hand_after, hand_then}
 use Rattle.opfs_script.specs.declared.step.Step.{Step}
 use Rattle.opfs_script.specs.declared.step.Step.TheVariants as step
 use Rattle.opfs_run_laws.specs.Leaving.{snapshot_bound}

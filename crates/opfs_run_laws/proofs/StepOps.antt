@@ -10,10 +10,10 @@ use Rattle.opfs_hist.specs.declared.op.Word.{Word}
 use Rattle.opfs_hist.specs.declared.op.Word.TheVariants as word
 use Rattle.opfs_machine.specs.Histories.{is_of_origin}
 use Rattle.opfs_acts.specs.Asking.{HasSmallNumbers}
-use Rattle.opfs_runs.specs.declared.hand.Hand.{Hand}
-use Rattle.opfs_runs.specs.declared.hand.Named.{Named}
-use Rattle.opfs_runs.specs.declared.hand.Named.TheVariants as named
-use Rattle.opfs_runs.specs.Running.{named_by, op_of, next_op, called, called_by_two, a_directory, a_file, an_entry, a_stream, a_handle, a_snapshot, mode_of, IsWait}
+use Rattle.opfs_script_run.specs.declared.runs.hand.Hand.{Hand}
+use Rattle.opfs_script_run.specs.declared.runs.hand.Named.{Named}
+use Rattle.opfs_script_run.specs.declared.runs.hand.Named.TheVariants as named
+use Rattle.opfs_script_run.specs.Runs.Running.{named_by, op_of, next_op, called, called_by_two, a_directory, a_file, an_entry, a_stream, a_handle, a_snapshot, mode_of, IsWait}
 use Rattle.opfs_script.specs.declared.step.Step.{Step}
 use Rattle.opfs_script.specs.declared.step.Step.TheVariants as step
 use Rattle.opfs_script.specs.Limits.{keeps_bounds, is_number, is_optional_number, is_read_length, is_write, is_variable}

@@ -7,10 +7,10 @@ use Rattle.opfs_hist.specs.declared.op.Op.{Op}
 use Rattle.opfs_hist.specs.declared.op.Op.TheVariants as op
 use Rattle.opfs_hist.specs.declared.reply.Reply.{Reply}
 use Rattle.opfs_hist.specs.declared.reply.Reply.TheVariants as reply
-use Rattle.opfs_runs.specs.declared.hand.Hand.{Hand}
-use Rattle.opfs_runs.specs.declared.hand.Named.{Named}
-use Rattle.opfs_runs.specs.declared.hand.Named.TheVariants as named
-use Rattle.opfs_runs.specs.Running.{empty_hand, named_by, a_snapshot, bind_name, op_of, hand_after, hand_then}
+use Rattle.opfs_script_run.specs.declared.runs.hand.Hand.{Hand}
+use Rattle.opfs_script_run.specs.declared.runs.hand.Named.{Named}
+use Rattle.opfs_script_run.specs.declared.runs.hand.Named.TheVariants as named
+use Rattle.opfs_script_run.specs.Runs.Running.{empty_hand, named_by, a_snapshot, bind_name, op_of, hand_after, hand_then}
 use Rattle.opfs_script.specs.declared.step.Step.{Step}
 use Rattle.opfs_script.specs.Limits.{is_origin_key, keeps_bounds}
 use Rattle.opfs_run_laws.specs.Kinds.{RowKind, stream, closed_stream, handle, closed_handle, snapshot, iterator, gone, sort_of, kind_at, sort_at, open_rows, kinds_changed, kinds_after, Names}

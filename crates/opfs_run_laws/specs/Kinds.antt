@@ -9,8 +9,8 @@ use Rattle.opfs_hist.specs.declared.reply.Reply.{Reply}
 use Rattle.opfs_hist.specs.declared.reply.Reply.TheVariants as reply
 use Rattle.opfs_machine.specs.Histories.{is_of_origin}
 use Rattle.opfs_acts.specs.Asking.{HasSmallNumbers}
-use Rattle.opfs_runs.specs.declared.hand.Open.{Open}
-use Rattle.opfs_runs.specs.declared.hand.Open.TheVariants as opened
+use Rattle.opfs_script_run.specs.declared.runs.hand.Open.{Open}
+use Rattle.opfs_script_run.specs.declared.runs.hand.Open.TheVariants as opened
 
 -- A row: an open or closed stream or access handle, a snapshot, or an iterator over a directory. One that is taken is in a
 -- call's hands; one that is gone was a snapshot, and its bytes are no longer held.

@@ -2,8 +2,8 @@
 use Rattle.std.specs.Prelude.{ℕ, ◌-◌, ◌==◌, cond, List, Option, Some, None}
 use Rattle.std.specs.List.{slice_set}
 use Rattle.opfs_hist.specs.declared.reply.Reply.{Reply}
-use Rattle.opfs_runs.specs.declared.hand.Hand.{Hand}
-use Rattle.opfs_runs.specs.Running.{named_by, a_snapshot, op_of, hand_then}
+use Rattle.opfs_script_run.specs.declared.runs.hand.Hand.{Hand}
+use Rattle.opfs_script_run.specs.Runs.Running.{named_by, a_snapshot, op_of, hand_then}
 use Rattle.opfs_script.specs.declared.step.Step.{Step}
 use Rattle.opfs_script.specs.declared.step.Step.TheVariants as step
 use Rattle.opfs_run_laws.specs.Kinds.{RowKind, gone, kinds_after}

@@ -17,7 +17,7 @@ use Rattle.opfs_turns.specs.Calls.{call_of, IsEntered, HasLooked, HasEnded, kept
 use Rattle.opfs_turns.specs.Waiting.{IsTurned, HasBegun}
 use Rattle.opfs_calls.specs.Locals.{IsMade}
 use Rattle.opfs_calls.proofs.Entered.{list, known-is}
-use Rattle.opfs_runs.specs.Running.{entries_of}
+use Rattle.opfs_script_run.specs.Runs.Running.{entries_of}
 use Rattle.opfs_runner.specs.Stepping.{own_entries, IsWaitOf}
 
 other-number : (a b : ℕ) → a ≢ b → (a == b) ≡ false

@@ -23,9 +23,9 @@ use Rattle.opfs_acts.specs.Acting.{told_entry}
 use Rattle.opfs_turns.specs.Agents.{AgentSeen, IsAgent, state_of, own_row}
 use Rattle.opfs_turns.specs.Calls.{call_of, IsEntered, HasEnded}
 use Rattle.opfs_beside.proofs.Leaving.{Leaves, leaves-self, leaves-entered}
-use Rattle.opfs_runs.specs.declared.hand.Open.{Open}
-use Rattle.opfs_runs.specs.declared.hand.Open.TheVariants as opened
-use Rattle.opfs_runs.specs.Running.{IsEnd, ending, entries_of}
+use Rattle.opfs_script_run.specs.declared.runs.hand.Open.{Open}
+use Rattle.opfs_script_run.specs.declared.runs.hand.Open.TheVariants as opened
+use Rattle.opfs_script_run.specs.Runs.Running.{IsEnd, ending, entries_of}
 use Rattle.opfs_script.specs.Scripts.{Asked}
 use Rattle.opfs_run_laws.specs.Kinds.{open_rows}
 use Rattle.opfs_slots.specs.Tables.{kinds_of, HasSlot, HasTable}

@@ -10,9 +10,9 @@ use Rattle.opfs_hall.specs.History.{HasEnded}
 use Rattle.opfs_hall.specs.Seen.{HallSeen, PassSeen, new_pass, joined, HasAll}
 use Rattle.opfs_hist.specs.declared.entry.Entry.{Entry}
 use Rattle.opfs_turns.specs.Agents.{AgentSeen}
-use Rattle.opfs_runs.specs.Running.{entries_of}
+use Rattle.opfs_script_run.specs.Runs.Running.{entries_of}
 use Rattle.opfs_script.specs.Scripts.{Asked}
-use Rattle.opfs_stage.specs.Runs.{EachRuns, EachCut}
+use Rattle.opfs_script_run.specs.Stage.Runs.{EachRuns, EachCut}
 use Rattle.opfs_runner.specs.Laws.{ScriptsMakeTheHistory}
 use Rattle.opfs_runner.specs.Runs.{HasEntries, IsReady, IsReadyFor, HasRun, RanOf, AllRan, HasRunAll, pairs}
 

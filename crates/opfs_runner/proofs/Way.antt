@@ -16,11 +16,11 @@ use Rattle.opfs_hist.specs.declared.reply.Reply.{Reply}
 use Rattle.opfs_hist.specs.declared.reply.Reply.TheVariants as reply
 use Rattle.opfs_turns.specs.Agents.{AgentSeen}
 use Rattle.opfs_turns.specs.Calls.{HasRoom}
-use Rattle.opfs_runs.specs.declared.hand.Hand.{Hand}
-use Rattle.opfs_runs.specs.declared.hand.Open.{Open}
-use Rattle.opfs_runs.specs.Cuts.{Cuts}
-use Rattle.opfs_runs.specs.Running.{op_of, hand_after, hand_then, bind_name, binds_root, binds_child, empty_hand, entries_of, IsEnd}
-use Rattle.opfs_runs.proofs.Cuts.{cuts_begin, cuts_more, cuts_wait, cuts_end, cuts_run}
+use Rattle.opfs_script_run.specs.declared.runs.hand.Hand.{Hand}
+use Rattle.opfs_script_run.specs.declared.runs.hand.Open.{Open}
+use Rattle.opfs_script_run.specs.Runs.Cuts.{Cuts}
+use Rattle.opfs_script_run.specs.Runs.Running.{op_of, hand_after, hand_then, bind_name, binds_root, binds_child, empty_hand, entries_of, IsEnd}
+use Rattle.opfs_script_run.proofs.runs.Cuts.{cuts_begin, cuts_more, cuts_wait, cuts_end, cuts_run}
 use Rattle.opfs_script.specs.declared.step.Step.{Step}
 use Rattle.opfs_script.specs.Limits.{is_origin_key, is_formed, fits_alone, bytes_of_agent, keeps_bounds, keeps_limits}
 use Rattle.opfs_script.specs.Scripts.{Asked}

@@ -3,8 +3,8 @@ use Rattle.std.specs.Prelude.{◌≡◌, ℕ, Bool, List, ◌++◌}
 use Rattle.opfs_hist.specs.declared.entry.Entry.{Entry}
 use Rattle.opfs_hist.specs.declared.op.Op.TheVariants as op
 use Rattle.opfs_turns.specs.Agents.{AgentSeen}
-use Rattle.opfs_runs.specs.declared.hand.Open.{Open}
-use Rattle.opfs_runs.specs.Running.{IsEnd}
+use Rattle.opfs_script_run.specs.declared.runs.hand.Open.{Open}
+use Rattle.opfs_script_run.specs.Runs.Running.{IsEnd}
 use Rattle.opfs_script.specs.Scripts.{Asked}
 use Rattle.opfs_streams.specs.Ends as streams
 use Rattle.opfs_handles.specs.Ends as handles

@@ -3,7 +3,7 @@ use Rattle.std.specs.Prelude.{ℕ, true, Bool, List, length, All}
 use Rattle.opfs_hall.specs.History.{HasEnded}
 use Rattle.opfs_hist.specs.declared.entry.Entry.{Entry}
 use Rattle.opfs_script.specs.Scripts.{Asked}
-use Rattle.opfs_stage.specs.Runs.{EachRuns, EachCut}
+use Rattle.opfs_script_run.specs.Stage.Runs.{EachRuns, EachCut}
 use Rattle.opfs_runner.specs.Runs.{AllRan}
 
 -- The passes of all agents, with these numbers and lists, were joined into the pass with which the hall was closed: each

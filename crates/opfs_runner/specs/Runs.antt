@@ -3,7 +3,7 @@ use Rattle.std.specs.Prelude.{◌≡◌, ◌≢◌, ℕ, suc, ◌<◌, ◌≤◌
 use Rattle.opfs_hall.specs.Seen.{HallSeen, PassSeen}
 use Rattle.opfs_hist.specs.declared.entry.Entry.{Entry}
 use Rattle.opfs_turns.specs.Agents.{AgentSeen}
-use Rattle.opfs_runs.specs.Running.{IsCut, IsRun, entries_of}
+use Rattle.opfs_script_run.specs.Runs.Running.{IsCut, IsRun, entries_of}
 use Rattle.opfs_script.specs.Scripts.{Asked}
 
 -- Entries are those of a front of a script, as want of memory leaves it; and all of the script where it was run whole.

@@ -9,8 +9,8 @@ use Rattle.opfs_hist.specs.declared.reply.Reply.TheVariants as reply
 use Rattle.opfs_calls.specs.declared.stop.Stop.{Stop}
 use Rattle.opfs_calls.specs.declared.stop.Stop.TheVariants as stop
 use Rattle.opfs_turns.specs.Agents.{AgentSeen, known}
-use Rattle.opfs_runs.specs.declared.hand.Hand.{Hand}
-use Rattle.opfs_runs.specs.Running.{entries_of, op_of, hand_then}
+use Rattle.opfs_script_run.specs.declared.runs.hand.Hand.{Hand}
+use Rattle.opfs_script_run.specs.Runs.Running.{entries_of, op_of, hand_then}
 use Rattle.opfs_script.specs.declared.step.Step.{Step}
 use Rattle.opfs_run_laws.specs.Kinds.{kinds_after}
 use Rattle.opfs_run_laws.specs.Leaving.{kinds_stepped}

@@ -2,7 +2,7 @@
 
 ghost use Rattle.std.specs.Prelude.{◌≡◌, [], true, length};
 ghost use Rattle.opfs_hall.specs.Seen.{new_pass};
-ghost use Rattle.opfs_stage.specs.Runs.{EachRuns, EachCut};
+ghost use Rattle.opfs_script_run.specs.Stage.Runs.{EachRuns, EachCut};
 ghost use Rattle.opfs_runner.specs.Runs.{HasRunAll};
 
 use crate::ended::Ended;

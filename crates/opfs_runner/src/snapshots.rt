@@ -1,12 +1,12 @@
 //! The snapshot that a step's variable names, before the step and behind it.
 
 ghost use Rattle.std.specs.Prelude.{◌≡◌};
-ghost use Rattle.opfs_runs.specs.Running.{named_by, a_snapshot};
+ghost use Rattle.opfs_script_run.specs.Runs.Running.{named_by, a_snapshot};
 ghost use Rattle.opfs_run_laws.specs.Leaving.{snapshot_bound, row_left};
 
 use opfs_base::Text;
-use opfs_runs::{Hand, Named};
 use opfs_script::Step;
+use opfs_script_run::{Hand, Named};
 
 // The row of the snapshot that a variable names.
 fn snapshot_named(hand: &Hand, variable: &Text) -> Option<u32>

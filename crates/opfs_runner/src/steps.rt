@@ -1,7 +1,7 @@
 //! The steps of an agent's script.
 
 ghost use Rattle.std.specs.Prelude.{◌≡◌, ◌≤◌, [], true, length};
-ghost use Rattle.opfs_runs.specs.Running.{op_of};
+ghost use Rattle.opfs_script_run.specs.Runs.Running.{op_of};
 ghost use Rattle.opfs_script.specs.Limits.{keeps_bounds};
 ghost use Rattle.opfs_turns.specs.Calls.{HasRoom};
 ghost use Rattle.opfs_run_laws.specs.Agreeing.{Agrees};
@@ -18,8 +18,8 @@ use opfs_base::copy_key;
 use opfs_hall::Hall;
 use opfs_hist::{Op, Reply};
 use opfs_outside::Gate;
-use opfs_runs::Hand;
 use opfs_script::{AgentScript, Step};
+use opfs_script_run::Hand;
 use opfs_slots::{Slot, forget, perform};
 use std::alloc::Global;
 use std::sync::Wait;

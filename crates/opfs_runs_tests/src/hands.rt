@@ -2,8 +2,8 @@
 
 use opfs_base::{Key, Text};
 use opfs_hist::{Op, Refusal, Reply, Word};
-use opfs_runs::{Hand, Named, Open};
 use opfs_script::{Script, Step, read_script};
+use opfs_script_run::{Hand, Named, Open};
 use std::alloc::{AllocError, Global};
 
 // Steps of one agent that bind each kind of variable, and of another that name each.

@@ -7,7 +7,7 @@ use Rattle.opfs_hist.specs.declared.op.Op.TheVariants as op
 use Rattle.opfs_hist.specs.declared.reply.Reply.{Reply}
 use Rattle.opfs_machine.specs.Histories.{asks_stuck, evicted_by}
 use Rattle.opfs_print.specs.Lines.{call_text, line_by}
-use Rattle.opfs_runs.specs.Running.{is_wait}
+use Rattle.opfs_script_run.specs.Runs.Running.{is_wait}
 use Rattle.opfs_told.specs.Reading.{is_stuck_await}
 
 -- A call that has a line of its own, and is no await.

@@ -14,7 +14,7 @@ use Rattle.opfs_machine.specs.Agents.{agent_of}
 use Rattle.opfs_machine.specs.Histories.{evicted_by, Agrees, IsCall, IsEviction, LegalFrom}
 use Rattle.opfs_machine.specs.Steps.{after_reply, evicted, step}
 use Rattle.opfs_print.specs.Lines.{call_text, line_by, line_of, op_text, reply_text, text_of}
-use Rattle.opfs_runs.specs.Running.{is_wait}
+use Rattle.opfs_script_run.specs.Runs.Running.{is_wait}
 use Rattle.opfs_told.specs.Goings.{Going, asked, moved, has_no, is_line, IsFixed, IsRest, as_told, TextsFixHistories}
 use Rattle.opfs_told.proofs.Apart.{front-same, same-number, no-letter, no-text, true-false, tail-same}
 use Rattle.opfs_told.proofs.CallKinds.{Kind, kind_of, a_wait, an_eviction, an_await, a_call}

@@ -10,7 +10,7 @@ use Rattle.opfs_machine.specs.Histories.{evicted_by, IsCall, LegalFrom}
 use Rattle.opfs_machine.specs.Runs.{eviction}
 use Rattle.opfs_machine.specs.Steps.{after_reply, evicted}
 use Rattle.opfs_print.specs.Lines.{call_text, line_of, text_of}
-use Rattle.opfs_runs.specs.Running.{entries_of, is_wait}
+use Rattle.opfs_script_run.specs.Runs.Running.{entries_of, is_wait}
 use Rattle.opfs_told.specs.Goings.{Going, IsGoing, asked, going_on, moved, has_no, is_line, IsFixed, IsRest}
 use Rattle.opfs_told.specs.Turns.{AreLines, TurnedFrom, Turned, HasTurn, front_text, HasFront, HasRest, TextsAreReadInTurns}
 use Rattle.opfs_told.proofs.Apart.{front-same, same-number, no-letter, no-text}

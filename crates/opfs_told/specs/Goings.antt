@@ -9,9 +9,9 @@ use Rattle.opfs_machine.specs.declared.own.Own.{Own}
 use Rattle.opfs_machine.specs.declared.state.State.{State}
 use Rattle.opfs_machine.specs.Histories.{evicted_by, LegalFrom}
 use Rattle.opfs_print.specs.Lines.{text_of}
-use Rattle.opfs_runs.specs.declared.hand.Hand.{Hand}
-use Rattle.opfs_runs.specs.declared.hand.Open.{Open}
-use Rattle.opfs_runs.specs.Running.{ending, entries_of, hand_then, is_wait, op_of, IsEnd, IsRunFrom}
+use Rattle.opfs_script_run.specs.declared.runs.hand.Hand.{Hand}
+use Rattle.opfs_script_run.specs.declared.runs.hand.Open.{Open}
+use Rattle.opfs_script_run.specs.Runs.Running.{ending, entries_of, hand_then, is_wait, op_of, IsEnd, IsRunFrom}
 use Rattle.opfs_script.specs.declared.step.Step.{Step}
 
 -- An agent makes its steps from one on, where no wait for it stands; ends what is still in its hand, from a number on; or has ended.

@@ -8,7 +8,7 @@ use Rattle.opfs_machine.specs.Histories.{evicted_by, IsCall}
 use Rattle.opfs_machine.specs.Runs.{eviction}
 use Rattle.opfs_machine.specs.Steps.{after_reply, evicted}
 use Rattle.opfs_print.specs.Lines.{text_of}
-use Rattle.opfs_runs.specs.Running.{is_wait}
+use Rattle.opfs_script_run.specs.Runs.Running.{is_wait}
 use Rattle.opfs_told.specs.Goings.{Going, IsRest, asked, has_no, moved}
 
 -- None of these units has a line feed.

@@ -13,7 +13,7 @@ use Rattle.opfs_outside.specs.Turns.{HostServed, HostTurn}
 use Rattle.opfs_print.specs.Lines.{text_of}
 use Rattle.opfs_script.specs.Reading.{reads}
 use Rattle.opfs_script.specs.Scripts.{Asked}
-use Rattle.opfs_stage.specs.Runs.{EachAlone, EachRuns}
+use Rattle.opfs_script_run.specs.Stage.Runs.{EachAlone, EachRuns}
 
 -- One legal history of the machine: the calls of each agent stand in it once, in its order; no other entry stands in it but
 -- evictions, which are those of agent 0; and each party's part of it is a run of that party's own machine. The text is its

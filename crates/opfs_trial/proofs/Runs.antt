@@ -2,10 +2,10 @@
 use Rattle.std.proofs.Common.{◌≡◌, ℕ, ◌+◌, ◌-◌, ◌<◌, false, true, Bool, List, [], ◌∷◌, ◌++◌, Some, slice_get, length, refl, sym, ap, ◌∙◌, subst, append_assoc}
 use Rattle.opfs_hist.specs.declared.entry.Entry.{Entry}
 use Rattle.opfs_hist.specs.declared.op.Op.TheVariants as op
-use Rattle.opfs_runs.specs.declared.hand.Hand.{Hand}
-use Rattle.opfs_runs.specs.declared.hand.Open.{Open}
-use Rattle.opfs_runs.specs.Running.{IsRun, IsRunFrom, IsEnd, IsStep, IsWait, op_of, hand_then, is_wait, ending}
-use Rattle.opfs_runs.proofs.Waits.{never_waits}
+use Rattle.opfs_script_run.specs.declared.runs.hand.Hand.{Hand}
+use Rattle.opfs_script_run.specs.declared.runs.hand.Open.{Open}
+use Rattle.opfs_script_run.specs.Runs.Running.{IsRun, IsRunFrom, IsEnd, IsStep, IsWait, op_of, hand_then, is_wait, ending}
+use Rattle.opfs_script_run.proofs.runs.Waits.{never_waits}
 use Rattle.opfs_script.specs.declared.step.Step.{Step}
 use Rattle.opfs_script.specs.Scripts.{Asked}
 use Rattle.opfs_plain.specs.Keeping.{IsEntered}

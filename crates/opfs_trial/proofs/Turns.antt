@@ -12,7 +12,7 @@ use Rattle.opfs_hist.specs.declared.op.Op.{Op}
 use Rattle.opfs_machine.specs.Runs.{eviction}
 use Rattle.opfs_hist.specs.Faults.{is_disk_fault}
 use Rattle.opfs_plain.specs.Keeping.{IsEntered, IsKept}
-use Rattle.opfs_runs.specs.Running.{IsRun, entries_of}
+use Rattle.opfs_script_run.specs.Runs.Running.{IsRun, entries_of}
 use Rattle.opfs_script.specs.Scripts.{Asked}
 use Rattle.opfs_machine.specs.declared.own.Own.{Own}
 use Rattle.opfs_machine.specs.declared.state.State.{State}
@@ -20,8 +20,8 @@ use Rattle.opfs_machine.specs.Openings.{begun}
 use Rattle.opfs_plain.specs.declared.plain.Plain.{Plain}
 use Rattle.opfs_script.specs.Limits.{is_origin_key, is_short_key}
 use Rattle.opfs_laws.specs.Separation.Apart.{EachPartyRunsAlone, IsInOrder, has_origin_key}
-use Rattle.opfs_stage.specs.Openings.{trial_opening, who_of}
-use Rattle.opfs_stage.specs.Runs.{EachRuns}
+use Rattle.opfs_script_run.specs.Stage.Openings.{trial_opening, who_of}
+use Rattle.opfs_script_run.specs.Stage.Runs.{EachRuns}
 use Rattle.opfs_trial.specs.Trials.{IsTrial}
 use Rattle.opfs_trial.specs.Stepping.{IsBeside}
 

@@ -4,8 +4,8 @@ use Rattle.opfs_hist.specs.declared.entry.Entry.{Entry}
 use Rattle.opfs_hist.specs.Faults.{is_disk_fault}
 use Rattle.opfs_machine.specs.Histories.{Legal}
 use Rattle.opfs_script.specs.Scripts.{Asked}
-use Rattle.opfs_stage.specs.Openings.{trial_opening}
-use Rattle.opfs_stage.specs.Runs.{EachRuns, EachAlone}
+use Rattle.opfs_script_run.specs.Stage.Openings.{trial_opening}
+use Rattle.opfs_script_run.specs.Stage.Runs.{EachRuns, EachAlone}
 
 -- A history of a trial: it is legal, the entries of each agent are its script's run, no other agent has an entry but 0,
 -- whose entries are the evictions, no entry is a disk fault, and each party's part of it is a run of its own.

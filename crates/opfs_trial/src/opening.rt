@@ -3,7 +3,7 @@
 ghost use Rattle.std.specs.Prelude.{◌≡◌, [], All, map, IfOk, OnOk, IsTrue};
 ghost use Rattle.opfs_machine.specs.Openings.{agent_begun, begun};
 ghost use Rattle.opfs_script.specs.Limits.{is_origin_key};
-ghost use Rattle.opfs_stage.specs.Openings.{who_of, trial_opening};
+ghost use Rattle.opfs_script_run.specs.Stage.Openings.{who_of, trial_opening};
 
 use opfs_base::copy_key;
 use opfs_machine::{Agent, Limits, Many, Own, State};

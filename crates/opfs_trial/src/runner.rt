@@ -6,7 +6,7 @@ ghost use Rattle.opfs_hist.specs.declared.entry.Entry.{Entry};
 ghost use Rattle.opfs_machine.specs.declared.own.Own.{Own};
 ghost use Rattle.opfs_machine.specs.declared.state.State.{State};
 ghost use Rattle.opfs_plain.specs.Keeping.{IsKept};
-ghost use Rattle.opfs_runs.specs.Running.{IsRun, IsEnd, entries_of, empty_hand, hand_then};
+ghost use Rattle.opfs_script_run.specs.Runs.Running.{IsRun, IsEnd, entries_of, empty_hand, hand_then};
 ghost use Rattle.opfs_script.specs.Scripts.{Asked};
 ghost use Rattle.opfs_trial.specs.Stepping.{IsBeside, IsStepped, Begins};
 
@@ -14,8 +14,8 @@ use crate::numbers::next;
 use opfs_base::copy_key;
 use opfs_hist::{Entry, Op};
 use opfs_plain::Plain;
-use opfs_runs::Hand;
 use opfs_script::{AgentScript, Step};
+use opfs_script_run::Hand;
 use std::alloc::{AllocError, Global};
 
 /// Takes note of a step's entry, which is the last one.

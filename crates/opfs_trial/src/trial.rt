@@ -5,7 +5,7 @@ ghost use Rattle.opfs_base.specs.Texts.{Text};
 ghost use Rattle.opfs_machine.specs.declared.own.Own.{Own};
 ghost use Rattle.opfs_machine.specs.declared.state.State.{State};
 ghost use Rattle.opfs_plain.specs.Keeping.{IsKept};
-ghost use Rattle.opfs_stage.specs.Runs.{EachRuns};
+ghost use Rattle.opfs_script_run.specs.Stage.Runs.{EachRuns};
 ghost use Rattle.opfs_trial.specs.Trials.{IsTrial};
 
 use crate::numbers::next;

@@ -17,10 +17,10 @@ use Rattle.opfs_machine.specs.Openings.{Opening, Stored, Who, agent_begun, begun
 use Rattle.opfs_machine.specs.Replies.{sizes_of}
 use Rattle.opfs_machine.specs.Steps.{after_reply, evicted, is_refusal}
 use Rattle.opfs_machine.specs.Victims.{candidates}
-use Rattle.opfs_runs.specs.declared.hand.Hand.{Hand}
-use Rattle.opfs_runs.specs.declared.hand.Open.{Open}
-use Rattle.opfs_runs.specs.declared.hand.Open.TheVariants as opened
-use Rattle.opfs_runs.specs.Running.{empty_hand, ending, entries_of, hand_then, is_wait, IsEnd, IsRun, IsRunFrom, IsStep, IsWait}
+use Rattle.opfs_script_run.specs.declared.runs.hand.Hand.{Hand}
+use Rattle.opfs_script_run.specs.declared.runs.hand.Open.{Open}
+use Rattle.opfs_script_run.specs.declared.runs.hand.Open.TheVariants as opened
+use Rattle.opfs_script_run.specs.Runs.Running.{empty_hand, ending, entries_of, hand_then, is_wait, IsEnd, IsRun, IsRunFrom, IsStep, IsWait}
 use Rattle.opfs_script.specs.declared.step.Step.{Step}
 use Rattle.opfs_script.specs.declared.step.Step.TheVariants as step
 use Rattle.opfs_script.specs.Scripts.{Asked}

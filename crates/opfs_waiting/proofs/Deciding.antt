@@ -22,7 +22,7 @@ use Rattle.opfs_machine.specs.Openings.{Who, agent_begun, begun}
 use Rattle.opfs_machine.specs.Replies.{sizes_of}
 use Rattle.opfs_machine.specs.Rows.{row_at, children_of, with_row, with_file, without}
 use Rattle.opfs_machine.specs.Steps.{after_reply, is_refusal}
-use Rattle.opfs_runs.specs.Running.{entries_of, is_wait, empty_hand, IsRun}
+use Rattle.opfs_script_run.specs.Runs.Running.{entries_of, is_wait, empty_hand, IsRun}
 use Rattle.opfs_script.specs.Scripts.{Asked}
 use Rattle.opfs_laws.proofs.separation.Calls.{IsAbove, live-above, Kept, kept-after, changed-follows}
 use Rattle.opfs_laws.proofs.separation.Follows.{Follows, IsPlain}
@@ -30,7 +30,7 @@ use Rattle.opfs_laws.proofs.separation.Numbered.{agent_at}
 use Rattle.opfs_laws.proofs.separation.SameRuling.{sizes-same}
 use Rattle.opfs_laws.proofs.separation.Separation.{keys-plain, begun-kept}
 use Rattle.opfs_laws.proofs.separation.Small.{key-acts}
-use Rattle.opfs_stage.specs.Runs.{EachRuns}
+use Rattle.opfs_script_run.specs.Stage.Runs.{EachRuns}
 use Rattle.opfs_told.specs.Reading.{is_stuck, is_stuck_await, IsPlainEntry}
 use Rattle.opfs_told.proofs.CallKinds.{Kind, kind_of, a_wait, an_eviction, an_await, a_call}
 use Rattle.opfs_told.proofs.Fixing.{NextIs, next-is}

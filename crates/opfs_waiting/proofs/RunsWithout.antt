@@ -5,10 +5,10 @@ use Rattle.opfs_hist.specs.declared.entry.Entry.{Entry}
 use Rattle.opfs_hist.specs.declared.op.Op.{Op}
 use Rattle.opfs_machine.specs.Histories.{asks_stuck}
 use Rattle.opfs_print.specs.Lines.{line_by, line_of, text_of}
-use Rattle.opfs_runs.specs.declared.hand.Hand.{Hand}
-use Rattle.opfs_runs.specs.declared.hand.Open.{Open}
-use Rattle.opfs_runs.specs.declared.hand.Open.TheVariants as opened
-use Rattle.opfs_runs.specs.Running.{ending, entries_of, hand_then, is_wait, op_of, IsEnd, IsRunFrom, IsStep, IsWait}
+use Rattle.opfs_script_run.specs.declared.runs.hand.Hand.{Hand}
+use Rattle.opfs_script_run.specs.declared.runs.hand.Open.{Open}
+use Rattle.opfs_script_run.specs.declared.runs.hand.Open.TheVariants as opened
+use Rattle.opfs_script_run.specs.Runs.Running.{ending, entries_of, hand_then, is_wait, op_of, IsEnd, IsRunFrom, IsStep, IsWait}
 use Rattle.opfs_script.specs.declared.step.Step.{Step}
 use Rattle.opfs_script.specs.declared.step.Step.TheVariants as step
 use Rattle.opfs_told.proofs.CallKinds.{Kind, kind_of, a_wait, an_eviction, an_await, a_call}

@@ -4,7 +4,7 @@ use Rattle.std.specs.List.{list_any}
 use Rattle.opfs_hist.specs.declared.entry.Entry.{Entry}
 use Rattle.opfs_machine.specs.Histories.{Legal}
 use Rattle.opfs_machine.specs.Openings.{Opening}
-use Rattle.opfs_runs.specs.Running.{is_wait}
+use Rattle.opfs_script_run.specs.Runs.Running.{is_wait}
 use Rattle.opfs_script.specs.declared.step.Step.{Step}
 use Rattle.opfs_script.specs.declared.step.Step.TheVariants as step
 use Rattle.opfs_script.specs.Scripts.{Asked}

@@ -4,10 +4,10 @@ use Rattle.opfs_hist.specs.declared.entry.Entry.{Entry}
 use Rattle.opfs_machine.specs.Histories.{Legal}
 use Rattle.opfs_machine.specs.Openings.{Opening}
 use Rattle.opfs_print.specs.Lines.{text_of}
-use Rattle.opfs_runs.specs.Running.{is_wait}
+use Rattle.opfs_script_run.specs.Runs.Running.{is_wait}
 use Rattle.opfs_script.specs.Scripts.{Asked}
 use Rattle.opfs_laws.specs.Separation.Apart.{IsInOrder}
-use Rattle.opfs_stage.specs.Runs.{EachRuns}
+use Rattle.opfs_script_run.specs.Stage.Runs.{EachRuns}
 use Rattle.opfs_told.specs.Reading.{IsPlainEntry}
 
 abbrev pub without_waits : List Entry → List Entry

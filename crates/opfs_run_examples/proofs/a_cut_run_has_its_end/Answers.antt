@@ -2,7 +2,7 @@ use Rattle.std.proofs.Common.{◌≡◌, ℕ, zero, suc, [], true, false}
 use Rattle.opfs_base.specs.Texts.{Text}
 use Rattle.opfs_base.specs.declared.locator.Locator.{Locator}
 use Rattle.opfs_hist.specs.declared.op.Op.TheVariants as op
-use Rattle.opfs_runs.specs.Running.{IsCutFrom, empty_hand}
+use Rattle.opfs_script_run.specs.Runs.Running.{IsCutFrom, empty_hand}
 use Rattle.opfs_run_examples.specs.Ends.{two_streams, three_done}
 use Rattle.opfs_run_examples.proofs.a_cut_run_has_its_end.Goals as goal
 

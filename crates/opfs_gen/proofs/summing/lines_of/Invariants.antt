@@ -1,5 +1,5 @@
 use Rattle.std.proofs.Common.{◌≡◌, ◌++◌, ◌+◌, ◌-◌}
-use Rattle.opfs_runs.specs.Running.{entries_of}
+use Rattle.opfs_script_run.specs.Runs.Running.{entries_of}
 use Rattle.opfs_gen.specs.Summing.{lines_from, summary_of}
 use Rattle.opfs_gen.proofs.summing.lines_of.Given as goal
 

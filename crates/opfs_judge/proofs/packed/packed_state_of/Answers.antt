@@ -1,6 +1,6 @@
 use Rattle.std.proofs.Common.{◌∙◌, All, ap, subst}
 use Rattle.opfs_machine.specs.Openings.{begun}
-use Rattle.opfs_stage.specs.Openings.{trial_opening}
+use Rattle.opfs_script_run.specs.Stage.Openings.{trial_opening}
 use Rattle.opfs_judge.proofs.Beginning.{HasKey, begins-without, keys-without}
 use Rattle.opfs_judge.proofs.packed.packed_state_of.Goals as goal
 

@@ -1,7 +1,7 @@
 use Rattle.std.proofs.Common.{◌≡◌, All, IsTrue, map, take}
 use Rattle.opfs_machine.specs.Openings.{agent_begun}
 use Rattle.opfs_script.specs.Limits.{is_origin_key}
-use Rattle.opfs_stage.specs.Openings.{who_of}
+use Rattle.opfs_script_run.specs.Stage.Openings.{who_of}
 use Rattle.opfs_trial.proofs.opening.agents_of.Given as goal
 
 abbrev pub invariant-loop-script : goal.invariant-loop-script

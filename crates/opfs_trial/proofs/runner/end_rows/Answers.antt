@@ -1,8 +1,8 @@
 use Rattle.std.proofs.Common.{◌≡◌, ◌+◌, ◌∷◌, sym, refl, subst, true, drop, get_or, drop-cons, add-one}
 use Rattle.opfs_hist.specs.declared.entry.Entry.{Entry}
-use Rattle.opfs_runs.specs.declared.hand.Open.{Open}
-use Rattle.opfs_runs.specs.declared.hand.Open.TheVariants as opened
-use Rattle.opfs_runs.specs.Running.{entries_of, IsEnd}
+use Rattle.opfs_script_run.specs.declared.runs.hand.Open.{Open}
+use Rattle.opfs_script_run.specs.declared.runs.hand.Open.TheVariants as opened
+use Rattle.opfs_script_run.specs.Runs.Running.{entries_of, IsEnd}
 use Rattle.opfs_trial.specs.Stepping.{Begins}
 use Rattle.opfs_trial.proofs.Runs.{ends_more}
 use Rattle.opfs_trial.proofs.Turns.{entered_own, entered_beside, beside_then}

@@ -3,7 +3,7 @@ use Rattle.opfs_hist.specs.declared.entry.Entry.{Entry}
 use Rattle.opfs_hist.specs.declared.op.Op.TheVariants.{End}
 use Rattle.opfs_trial.proofs.Runs.{run_whole}
 use Rattle.opfs_trial.proofs.Turns.{entered_own, entered_beside, beside_then}
-use Rattle.opfs_runs.specs.Running.{entries_of}
+use Rattle.opfs_script_run.specs.Runs.Running.{entries_of}
 use Rattle.opfs_trial.proofs.runner.end_script.Goals as goal
 
 pub returns-clause-run : goal.returns-clause-run

@@ -1,7 +1,7 @@
 use Rattle.std.proofs.Common.{rules, ◌≡◌, ◌-◌, subst, Some, slice_get, length}
 use Rattle.opfs_hist.specs.declared.entry.Entry.{Entry}
 use Rattle.opfs_plain.specs.Keeping.{IsEntered}
-use Rattle.opfs_runs.specs.Running.{op_of, hand_then}
+use Rattle.opfs_script_run.specs.Runs.Running.{op_of, hand_then}
 use Rattle.opfs_trial.proofs.Runs.{stepped}
 use Rattle.opfs_trial.proofs.runner.run_step.Goals as goal
 

@@ -1,6 +1,6 @@
 use Rattle.std.proofs.Common.{◌≡◌, false, drop, [], subst, arith}
 use Rattle.std.proofs.lemmas.List.{drop_all}
-use Rattle.opfs_runs.specs.Running.{entries_of, IsRunFrom}
+use Rattle.opfs_script_run.specs.Runs.Running.{entries_of, IsRunFrom}
 use Rattle.opfs_trial.specs.Stepping.{Begins}
 use Rattle.opfs_trial.proofs.Runs.{begins_end}
 use Rattle.opfs_trial.proofs.runner.run_steps.Goals as goal

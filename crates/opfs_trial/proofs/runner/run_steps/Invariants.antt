@@ -3,7 +3,7 @@ use Rattle.opfs_base.specs.Texts.{Text}
 use Rattle.opfs_machine.specs.declared.own.Own.{Own}
 use Rattle.opfs_machine.specs.declared.state.State.{State}
 use Rattle.opfs_plain.specs.Keeping.{IsKept}
-use Rattle.opfs_runs.specs.Running.{IsRunFrom, entries_of}
+use Rattle.opfs_script_run.specs.Runs.Running.{IsRunFrom, entries_of}
 use Rattle.opfs_trial.specs.Stepping.{IsBeside, Begins}
 use Rattle.opfs_trial.proofs.runner.run_steps.Given as goal
 

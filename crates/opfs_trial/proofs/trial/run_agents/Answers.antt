@@ -1,6 +1,6 @@
 use Rattle.std.proofs.Common.{◌≡◌, ◌≤◌, ◌+◌, ◌∙◌, ap, sym, subst, [], All, Some, slice_get, add-one, arith}
 use Rattle.std.proofs.lemmas.Option.{slice_get-get_or}
-use Rattle.opfs_runs.specs.Running.{IsRun, entries_of}
+use Rattle.opfs_script_run.specs.Runs.Running.{IsRun, entries_of}
 use Rattle.opfs_script.specs.Scripts.{Asked}
 use Rattle.opfs_trial.specs.Stepping.{IsBeside}
 use Rattle.opfs_trial.proofs.Turns.{RunsTo, fresh_next, runs_more, runs_all, within_next}

@@ -1,5 +1,5 @@
 use Rattle.std.proofs.Common.{◌≤◌, All, length, subst}
-use Rattle.opfs_stage.specs.Runs.{EachRuns}
+use Rattle.opfs_script_run.specs.Stage.Runs.{EachRuns}
 use Rattle.opfs_trial.proofs.Turns.{trial_of}
 use Rattle.opfs_trial.proofs.trial.run_script.Goals as goal
 
