@@ -10,7 +10,7 @@ use Rattle.std.specs.Cmp.Lexicographic.{nat_list_eq_equiv, same_text as equal_te
 use Rattle.opfs_base.specs.Keys.{is_origin}
 use Rattle.opfs_base.specs.Texts.{Text, same_text}
 use Rattle.opfs_script.specs.Limits.{is_origin_key, is_short_key}
-use Rattle.opfs_told.proofs.Apart.{tail-same, same-number}
+use Rattle.opfs_transcripts.proofs.told.Apart.{tail-same, same-number}
 use Rattle.opfs_gen.specs.Making.{gen_key}
 
 -- No byte of such a text is this one.

@@ -8,8 +8,8 @@ use Rattle.hex.specs.Hex.{encode_lower}
 use Rattle.sha2.specs.Sha256.{sha256}
 use Rattle.opfs_base.specs.Texts.{Text, same_text}
 use Rattle.opfs_hist.specs.declared.entry.Entry.{Entry}
-use Rattle.opfs_lone.specs.Lone.{IsLone, IsOwnEntry, own_run}
-use Rattle.opfs_lone.proofs.Owning.{lone-runs-are-their-own}
+use Rattle.opfs_transcripts.specs.Lone.Lone.{IsLone, IsOwnEntry, own_run}
+use Rattle.opfs_transcripts.proofs.lone.Owning.{lone-runs-are-their-own}
 use Rattle.opfs_machine.specs.declared.state.Party.TheVariants.{Origin}
 use Rattle.opfs_machine.specs.Agents.{agent_in, party_with, same_party}
 use Rattle.opfs_machine.specs.Alone.{is_member}
@@ -22,8 +22,8 @@ use Rattle.opfs_script.specs.Scripts.{Asked}
 use Rattle.opfs_laws.specs.Separation.Apart.{IsInOrder, has_origin_key}
 use Rattle.opfs_script_run.specs.Stage.Openings.{trial_opening, who_of}
 use Rattle.opfs_script_run.specs.Stage.Runs.{EachRuns}
-use Rattle.opfs_told.specs.Goings.{as_told}
-use Rattle.opfs_told.proofs.Fixing.{Line, of_unit, of_call, line-is}
+use Rattle.opfs_transcripts.specs.Told.Goings.{as_told}
+use Rattle.opfs_transcripts.proofs.told.Fixing.{Line, of_unit, of_call, line-is}
 use Rattle.opfs_gen.specs.declared.summing.Told.{Told}
 use Rattle.opfs_gen.specs.Making.{IsGenRange, agents_from, gen_asked, gen_key, gen_script}
 use Rattle.opfs_gen.specs.Own.{SummariesAreOfOwnRuns}

@@ -6,7 +6,7 @@ use Rattle.std.specs.List.{list_all}
 use Rattle.opfs_hist.specs.declared.entry.Entry.{Entry}
 use Rattle.opfs_hist.specs.declared.op.Op.{Op}
 use Rattle.opfs_hist.specs.declared.op.Op.TheVariants as op
-use Rattle.opfs_lone.specs.Lone.{IsOwnEntry}
+use Rattle.opfs_transcripts.specs.Lone.Lone.{IsOwnEntry}
 use Rattle.opfs_machine.specs.Histories.{evicted_by}
 use Rattle.opfs_script_run.specs.Runs.Running.{entries_of, is_wait}
 use Rattle.opfs_laws.specs.Separation.Apart.{is_shared}

@@ -3,7 +3,7 @@ use Rattle.std.specs.Prelude.{◌≡◌, ℕ, ◌&&◌, Bool, true, false, not, 
 use Rattle.opfs_hist.specs.declared.entry.Entry.{Entry}
 use Rattle.opfs_hist.specs.declared.op.Op.{Op}
 use Rattle.opfs_hist.specs.declared.op.Op.TheVariants as op
-use Rattle.opfs_lone.specs.Lone.{IsOwnEntry}
+use Rattle.opfs_transcripts.specs.Lone.Lone.{IsOwnEntry}
 use Rattle.opfs_machine.specs.Histories.{Legal}
 use Rattle.opfs_laws.specs.Separation.Apart.{is_shared}
 use Rattle.opfs_script_run.specs.Stage.Openings.{trial_opening}

@@ -7,7 +7,7 @@ use Rattle.opfs_hist.specs.declared.entry.Entry.{Entry}
 use Rattle.opfs_machine.specs.Steps.{is_refusal}
 use Rattle.opfs_print.specs.Lines.{joined, text_of}
 use Rattle.opfs_script_run.specs.Runs.Running.{entries_of, is_wait}
-use Rattle.opfs_lone.specs.Lone.{own_run}
+use Rattle.opfs_transcripts.specs.Lone.Lone.{own_run}
 use Rattle.opfs_script_run.specs.Stage.Openings.{trial_opening}
 use Rattle.opfs_gen.specs.Making.{gen_asked, gen_script}
 

@@ -3,7 +3,7 @@
 ghost use Rattle.std.specs.Prelude.{All, IsTrue};
 ghost use Rattle.std.specs.List.{list_all};
 ghost use Rattle.std.specs.Prelude.{◌≡◌, not};
-ghost use Rattle.opfs_lone.specs.Lone.{IsOwnEntry};
+ghost use Rattle.opfs_transcripts.specs.Lone.Lone.{IsOwnEntry};
 ghost use Rattle.opfs_machine.specs.Histories.{evicted_by};
 ghost use Rattle.opfs_script_run.specs.Runs.Running.{is_wait};
 ghost use Rattle.opfs_laws.specs.Separation.Apart.{is_shared};

@@ -13,8 +13,8 @@ use Rattle.opfs_machine.specs.declared.own.Own.{Own}
 use Rattle.opfs_machine.specs.declared.state.State.{State}
 use Rattle.opfs_machine.specs.Steps.{is_refusal, step}
 use Rattle.opfs_print.specs.Lines.{refusal_text, reply_text}
-use Rattle.opfs_told.proofs.Apart.{head-same, tail-same}
-use Rattle.opfs_told.proofs.Replies.{fault-apart, step-said}
+use Rattle.opfs_transcripts.proofs.told.Apart.{head-same, tail-same}
+use Rattle.opfs_transcripts.proofs.told.Replies.{fault-apart, step-said}
 
 first-apart : (a : ℕ) (x y : Text) → (a < 68) ⊎ (68 < a) → a ∷ x ≡ 68 ∷ y → ⊥
 first-apart a x y (inl h) e = let same = head-same a 68 x y e in omega (arith, h, same)

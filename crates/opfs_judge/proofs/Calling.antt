@@ -13,12 +13,12 @@ use Rattle.opfs_machine.specs.Agents.{agent_of}
 use Rattle.opfs_machine.specs.Histories.{may_enter}
 use Rattle.opfs_machine.specs.Runs.{eviction}
 use Rattle.opfs_print.specs.Lines.{line_of, text_of}
-use Rattle.opfs_told.specs.Goings.{Going, asked}
-use Rattle.opfs_told.specs.Reading.{begins}
-use Rattle.opfs_told.specs.Turns.{HasTurn}
-use Rattle.opfs_told.proofs.Apart.{number-first, same-number}
-use Rattle.opfs_told.proofs.Goes.{this_call}
-use Rattle.opfs_told.proofs.Turning.{turn-front}
+use Rattle.opfs_transcripts.specs.Told.Goings.{Going, asked}
+use Rattle.opfs_transcripts.specs.Told.Reading.{begins}
+use Rattle.opfs_transcripts.specs.Told.Turns.{HasTurn}
+use Rattle.opfs_transcripts.proofs.told.Apart.{number-first, same-number}
+use Rattle.opfs_transcripts.proofs.told.Goes.{this_call}
+use Rattle.opfs_transcripts.proofs.told.Turning.{turn-front}
 use Rattle.opfs_judge.specs.Agents.{AreFronts, front_of}
 use Rattle.opfs_judge.specs.Fronts.{is_other, IsScanned}
 use Rattle.opfs_judge.specs.Players.{going_at, goings_of}

@@ -18,8 +18,8 @@ use Rattle.opfs_machine.specs.Steps.{after_reply, evicted, outcome_of, step}
 use Rattle.opfs_print.specs.Lines.{call_text, line_of, op_text, reply_text}
 use Rattle.opfs_plain.specs.Faults.{IsFaulted, MayFault}
 use Rattle.opfs_script_run.specs.Runs.Running.{is_wait}
-use Rattle.opfs_told.specs.Reading.{begins}
-use Rattle.opfs_told.proofs.Fixing.{Line, of_unit, of_call, line-is}
+use Rattle.opfs_transcripts.specs.Told.Reading.{begins}
+use Rattle.opfs_transcripts.proofs.told.Fixing.{Line, of_unit, of_call, line-is}
 use Rattle.opfs_judge.specs.Turns.{IsEnteredAs, IsToldCall, entry_with}
 use Rattle.opfs_judge.proofs.Apart.{answer-apart}
 use Rattle.opfs_judge.proofs.Texts.{begins-front, begins-true, same-front}

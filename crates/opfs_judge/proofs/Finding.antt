@@ -16,14 +16,14 @@ use Rattle.opfs_script.specs.Scripts.{Asked}
 use Rattle.opfs_laws.specs.Separation.Apart.{IsInOrder, has_origin_key}
 use Rattle.opfs_script_run.specs.Stage.Openings.{trial_opening, who_of}
 use Rattle.opfs_script_run.specs.Stage.Runs.{EachRuns}
-use Rattle.opfs_told.specs.Goings.{Going, gone, has_no, is_line, IsGoing}
-use Rattle.opfs_told.specs.Reading.{tells_room_or_stuck}
-use Rattle.opfs_told.specs.Turns.{HasRest, HasTurn}
-use Rattle.opfs_told.proofs.PlainTexts.{settled-plain}
-use Rattle.opfs_waiting.specs.Fixed.{IsInLines, has_await}
-use Rattle.opfs_waiting.specs.Waiting.{IsHistory, without_waits}
-use Rattle.opfs_waiting.proofs.Cleared.{histories-are-fixed, nobody-beyond, nobody-waits-unasked}
-use Rattle.opfs_waiting.proofs.Deciding.{waits-decide-nothing}
+use Rattle.opfs_transcripts.specs.Told.Goings.{Going, gone, has_no, is_line, IsGoing}
+use Rattle.opfs_transcripts.specs.Told.Reading.{tells_room_or_stuck}
+use Rattle.opfs_transcripts.specs.Told.Turns.{HasRest, HasTurn}
+use Rattle.opfs_transcripts.proofs.told.PlainTexts.{settled-plain}
+use Rattle.opfs_transcripts.specs.Waiting.Fixed.{IsInLines, has_await}
+use Rattle.opfs_transcripts.specs.Waiting.Waiting.{IsHistory, without_waits}
+use Rattle.opfs_transcripts.proofs.waiting.Cleared.{histories-are-fixed, nobody-beyond, nobody-waits-unasked}
+use Rattle.opfs_transcripts.proofs.waiting.Deciding.{waits-decide-nothing}
 use Rattle.opfs_judge.specs.Judging.{IsFound, IsReached, IsRead}
 use Rattle.opfs_judge.specs.Players.{going_at, goings_of, starting}
 use Rattle.opfs_judge.specs.Turns.{IsTurn}

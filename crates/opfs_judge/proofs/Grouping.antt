@@ -17,11 +17,11 @@ use Rattle.opfs_machine.specs.Runs.{Call, eviction}
 use Rattle.opfs_machine.specs.Steps.{step}
 use Rattle.opfs_print.specs.Lines.{call_text, line_of, text_of}
 use Rattle.opfs_script_run.specs.Runs.Running.{is_wait}
-use Rattle.opfs_told.specs.Goings.{Going, asked, going_on, gone, moved}
-use Rattle.opfs_told.specs.Reading.{begins}
-use Rattle.opfs_told.specs.Turns.{HasTurn}
-use Rattle.opfs_told.proofs.Apart.{number-first}
-use Rattle.opfs_told.proofs.Goes.{from-test}
+use Rattle.opfs_transcripts.specs.Told.Goings.{Going, asked, going_on, gone, moved}
+use Rattle.opfs_transcripts.specs.Told.Reading.{begins}
+use Rattle.opfs_transcripts.specs.Told.Turns.{HasTurn}
+use Rattle.opfs_transcripts.proofs.told.Apart.{number-first}
+use Rattle.opfs_transcripts.proofs.told.Goes.{from-test}
 use Rattle.opfs_judge.specs.declared.asking.Asking.{Asking}
 use Rattle.opfs_judge.specs.Asking.{IsAsking, IsAskedBy}
 use Rattle.opfs_judge.specs.Players.{going_at, goings_of}

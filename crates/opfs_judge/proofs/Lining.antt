@@ -8,7 +8,7 @@ use Rattle.std.proofs.lemmas.List.{length-drop, take_all}
 use Rattle.std.proofs.lemmas.Slice.Eq.{ends_is}
 use Rattle.std.specs.Cmp.Lexicographic.{nat_list_eq_equiv, same_text as equal_texts}
 use Rattle.opfs_base.specs.Texts.{Text, same_text}
-use Rattle.opfs_told.specs.Reading.{ends, lines_of, lines_by, in_front}
+use Rattle.opfs_transcripts.specs.Told.Reading.{ends, lines_of, lines_by, in_front}
 use Rattle.opfs_judge.specs.Fronts.{first_line}
 
 -- The first line of a text that is not empty, and those behind it.

@@ -11,8 +11,8 @@ use Rattle.opfs_script_run.specs.declared.runs.hand.Open.TheVariants as opened
 use Rattle.opfs_script_run.specs.Runs.Running.{a_directory, a_file, a_handle, a_snapshot, a_stream, an_entry, called, called_by_two, ending, is_wait, named_by, next_op, op_of}
 use Rattle.opfs_script.specs.declared.step.Step.{Step}
 use Rattle.opfs_script.specs.declared.step.Step.TheVariants as step
-use Rattle.opfs_told.specs.Goings.{Going, stepping, closing, gone, asked}
-use Rattle.opfs_told.proofs.Goes.{this_call, op-of}
+use Rattle.opfs_transcripts.specs.Told.Goings.{Going, stepping, closing, gone, asked}
+use Rattle.opfs_transcripts.proofs.told.Goes.{this_call, op-of}
 
 abbrev Moves : Op → Type 0
 Moves o = is_wait o ≡ false

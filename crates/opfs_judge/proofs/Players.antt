@@ -1,7 +1,7 @@
 -- What the rest of an agent's run is.
 use Rattle.std.proofs.Common.{◌≡◌, ◌+◌, ◌<◌, ℕ, zero, suc, List, [], ◌∷◌, drop, length, refl, subst, arith}
 use Rattle.opfs_script_run.specs.declared.runs.hand.Open.{Open}
-use Rattle.opfs_told.specs.Goings.{closing, after_end}
+use Rattle.opfs_transcripts.specs.Told.Goings.{closing, after_end}
 
 -- Behind an end there is one open row less.
 pub row-ended : (n i : ℕ) (rows : List Open) → i < length rows → closing (n + 1) (drop (i + 1) rows) ≡ after_end n (drop i rows)

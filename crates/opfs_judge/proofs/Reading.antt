@@ -16,13 +16,13 @@ use Rattle.opfs_machine.proofs.GoOn.{legal-append}
 use Rattle.opfs_print.specs.Lines.{text_of}
 use Rattle.opfs_script_run.specs.Runs.Running.{entries_of, is_wait}
 use Rattle.opfs_laws.specs.Separation.Apart.{IsInOrder}
-use Rattle.opfs_told.specs.Goings.{Going, stepping, closing, gone, has_no, IsFixed, IsGoing}
-use Rattle.opfs_told.specs.Turns.{AreLines, HasRest, HasTurn}
-use Rattle.opfs_told.proofs.Apart.{no-text}
-use Rattle.opfs_told.proofs.Fixing.{Line, of_unit, of_call, NextIs, agent-line, behind_agent, call-text, line-is, unit-text}
-use Rattle.opfs_told.proofs.Turning.{turn-back, turn-first, turn-on}
-use Rattle.opfs_waiting.specs.Fixed.{IsInLines}
-use Rattle.opfs_waiting.proofs.Cleared.{histories-are-fixed}
+use Rattle.opfs_transcripts.specs.Told.Goings.{Going, stepping, closing, gone, has_no, IsFixed, IsGoing}
+use Rattle.opfs_transcripts.specs.Told.Turns.{AreLines, HasRest, HasTurn}
+use Rattle.opfs_transcripts.proofs.told.Apart.{no-text}
+use Rattle.opfs_transcripts.proofs.told.Fixing.{Line, of_unit, of_call, NextIs, agent-line, behind_agent, call-text, line-is, unit-text}
+use Rattle.opfs_transcripts.proofs.told.Turning.{turn-back, turn-first, turn-on}
+use Rattle.opfs_transcripts.specs.Waiting.Fixed.{IsInLines}
+use Rattle.opfs_transcripts.proofs.waiting.Cleared.{histories-are-fixed}
 use Rattle.opfs_judge.proofs.Entering.{not-evict}
 use Rattle.opfs_judge.specs.Judging.{IsFound, IsReached, IsRead}
 use Rattle.opfs_judge.specs.Players.{going_at, goings_of, is_gone}

@@ -8,10 +8,10 @@ use Rattle.std.proofs.lemmas.List.Elements.{All-head, All-tail}
 use Rattle.opfs_base.specs.Texts.{Text}
 use Rattle.opfs_machine.specs.Runs.{eviction}
 use Rattle.opfs_print.specs.Lines.{text_of}
-use Rattle.opfs_told.specs.Goings.{has_no}
-use Rattle.opfs_told.specs.Reading.{begins}
-use Rattle.opfs_told.specs.Turns.{AreLines}
-use Rattle.opfs_told.proofs.Fixing.{unit-line}
+use Rattle.opfs_transcripts.specs.Told.Goings.{has_no}
+use Rattle.opfs_transcripts.specs.Told.Reading.{begins}
+use Rattle.opfs_transcripts.specs.Told.Turns.{AreLines}
+use Rattle.opfs_transcripts.proofs.told.Fixing.{unit-line}
 use Rattle.opfs_judge.specs.Fronts.{first_line, after_eviction, is_other, IsScanned}
 
 -- So many evictions are read, and the rest has the others.

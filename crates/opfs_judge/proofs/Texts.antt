@@ -7,8 +7,8 @@ use Rattle.std.proofs.lemmas.Bool.Decides.{Decides-eqb, nat_tests}
 use Rattle.std.proofs.lemmas.List.{append_cancel_left}
 use Rattle.std.proofs.lemmas.Slice.Eq.{starts_is}
 use Rattle.opfs_base.specs.Texts.{Text}
-use Rattle.opfs_told.specs.Reading.{begins}
-use Rattle.opfs_told.proofs.Goes.{from-test}
+use Rattle.opfs_transcripts.specs.Told.Reading.{begins}
+use Rattle.opfs_transcripts.proofs.told.Goes.{from-test}
 
 itself : (c : ℕ) → (c == c) ≡ true
 itself c = grind (arith, nat_tests)

@@ -8,8 +8,8 @@ use Rattle.opfs_machine.specs.Histories.{may_enter}
 use Rattle.opfs_print.specs.Lines.{line_of}
 use Rattle.opfs_rulings.specs.Known.{IsAgent}
 use Rattle.opfs_script_run.specs.Runs.Running.{is_wait}
-use Rattle.opfs_told.specs.Goings.{Going, asked}
-use Rattle.opfs_told.specs.Turns.{HasTurn}
+use Rattle.opfs_transcripts.specs.Told.Goings.{Going, asked}
+use Rattle.opfs_transcripts.specs.Told.Turns.{HasTurn}
 use Rattle.opfs_judge.specs.declared.asking.Asking.{Asking}
 use Rattle.opfs_judge.specs.Players.{going_at}
 

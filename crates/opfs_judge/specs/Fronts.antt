@@ -3,8 +3,8 @@ use Rattle.std.specs.Prelude.{◌≡◌, ℕ, ◌+◌, ◌==◌, ◌&&◌, nat_l
 use Rattle.opfs_base.specs.Texts.{Text}
 use Rattle.opfs_machine.specs.Runs.{eviction}
 use Rattle.opfs_print.specs.Lines.{text_of}
-use Rattle.opfs_told.specs.Reading.{begins}
-use Rattle.opfs_told.specs.Turns.{AreLines}
+use Rattle.opfs_transcripts.specs.Told.Reading.{begins}
+use Rattle.opfs_transcripts.specs.Told.Turns.{AreLines}
 
 -- What stands before a text's first line feed; all of it, where there is none.
 abbrev pub first_line : Text → Text

@@ -8,9 +8,9 @@ use Rattle.opfs_machine.specs.Histories.{Legal, state_after}
 use Rattle.opfs_machine.specs.Openings.{Opening}
 use Rattle.opfs_script_run.specs.Runs.Running.{is_wait}
 use Rattle.opfs_laws.specs.Separation.Apart.{IsInOrder}
-use Rattle.opfs_told.specs.Goings.{Going}
-use Rattle.opfs_told.specs.Turns.{HasRest}
-use Rattle.opfs_waiting.specs.Fixed.{IsInLines}
+use Rattle.opfs_transcripts.specs.Told.Goings.{Going}
+use Rattle.opfs_transcripts.specs.Told.Turns.{HasRest}
+use Rattle.opfs_transcripts.specs.Waiting.Fixed.{IsInLines}
 use Rattle.opfs_judge.specs.Players.{goings_of}
 
 -- A state that a legal history in which nobody begins to wait leaves.

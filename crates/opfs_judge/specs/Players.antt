@@ -7,7 +7,7 @@ use Rattle.opfs_script_run.specs.declared.runs.hand.Open.{Open}
 use Rattle.opfs_script_run.specs.Runs.Running.{empty_hand, ending}
 use Rattle.opfs_script.specs.declared.step.Step.{Step}
 use Rattle.opfs_script.specs.Scripts.{Asked}
-use Rattle.opfs_told.specs.Goings.{Going, stepping, closing, gone}
+use Rattle.opfs_transcripts.specs.Told.Goings.{Going, stepping, closing, gone}
 use Rattle.opfs_judge.specs.declared.player.Stage.{Stage}
 use Rattle.opfs_judge.specs.declared.player.Stage.TheVariants as stage
 

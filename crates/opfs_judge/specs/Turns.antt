@@ -10,8 +10,8 @@ use Rattle.opfs_machine.specs.Runs.{Call, eviction}
 use Rattle.opfs_machine.specs.Steps.{after_reply, evicted}
 use Rattle.opfs_print.specs.Lines.{line_of, text_of}
 use Rattle.opfs_script_run.specs.Runs.Running.{is_wait}
-use Rattle.opfs_told.specs.Goings.{Going, going_on}
-use Rattle.opfs_told.specs.Turns.{AreLines, Turned}
+use Rattle.opfs_transcripts.specs.Told.Goings.{Going, going_on}
+use Rattle.opfs_transcripts.specs.Told.Turns.{AreLines, Turned}
 use Rattle.opfs_judge.specs.declared.asking.Asking.{Asking}
 use Rattle.opfs_judge.specs.Players.{going_at, goings_of}
 

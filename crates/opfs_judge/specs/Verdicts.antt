@@ -8,8 +8,8 @@ use Rattle.opfs_print.specs.Lines.{text_of}
 use Rattle.opfs_script.specs.Scripts.{Asked}
 use Rattle.opfs_script_run.specs.Stage.Openings.{trial_opening}
 use Rattle.opfs_script_run.specs.Stage.Runs.{EachRuns}
-use Rattle.opfs_told.specs.Reading.{tells_room_or_stuck}
-use Rattle.opfs_waiting.specs.Fixed.{has_await}
+use Rattle.opfs_transcripts.specs.Told.Reading.{tells_room_or_stuck}
+use Rattle.opfs_transcripts.specs.Waiting.Fixed.{has_await}
 use Rattle.opfs_judge.specs.declared.verdict.Verdict.{Verdict}
 use Rattle.opfs_judge.specs.declared.verdict.Verdict.TheVariants as verdict
 

@@ -3,7 +3,7 @@
 ghost use Rattle.std.specs.Prelude.{◌≡◌, ℕ, ◌+◌, ◌≤◌, ◌<◌, ◌^◌, true, false, [], map, length, None, IfOk, IfSome};
 ghost use Rattle.std.specs.List.{list_all};
 ghost use Rattle.std.proofs.Common.{get_or};
-ghost use Rattle.opfs_told.specs.Reading.{begins};
+ghost use Rattle.opfs_transcripts.specs.Told.Reading.{begins};
 ghost use Rattle.opfs_judge.specs.Agents.{AreFronts, front_of};
 ghost use Rattle.opfs_judge.specs.Players.{is_gone, starting};
 

@@ -1,7 +1,7 @@
 //! Which call stands at the front of a transcript.
 
 ghost use Rattle.std.specs.Prelude.{◌≡◌, ◌≤◌, length, None, IfOk, IfSome};
-ghost use Rattle.opfs_told.specs.Turns.{HasTurn};
+ghost use Rattle.opfs_transcripts.specs.Told.Turns.{HasTurn};
 ghost use Rattle.opfs_judge.specs.Agents.{AreFronts};
 ghost use Rattle.opfs_judge.specs.Asking.{IsAsking, IsAskedBy};
 ghost use Rattle.opfs_judge.specs.Players.{goings_of};

@@ -2,7 +2,7 @@
 
 ghost use Rattle.std.specs.Prelude.{◌≡◌, ◌+◌, List, drop, Some, IfOk, OnOk};
 ghost use Rattle.opfs_script.specs.declared.step.Step.{Step};
-ghost use Rattle.opfs_told.specs.Goings.{after_end, asked, going_on};
+ghost use Rattle.opfs_transcripts.specs.Told.Goings.{after_end, asked, going_on};
 ghost use Rattle.opfs_judge.specs.Players.{starting, standing, is_gone, end_of};
 
 use crate::ahead::Ahead;
@@ -32,7 +32,7 @@ pub struct Player<'a> {
 }
 
 impl<'a> Model for Player<'a> {
-    ghost use Rattle.opfs_told.specs.Goings.{Going};
+    ghost use Rattle.opfs_transcripts.specs.Told.Goings.{Going};
     ghost use Rattle.opfs_judge.specs.Players.{standing};
     ghost use Rattle.opfs_judge.specs.Steps.{steps_of};
 

@@ -2,10 +2,10 @@
 
 ghost use Rattle.std.specs.Prelude.{◌≡◌, ◌+◌, ◌≤◌, drop, length, IfOk};
 ghost use Rattle.std.specs.List.{list_any};
-ghost use Rattle.opfs_told.specs.Reading.{is_evict_line, is_stuck_line, tells_room_or_stuck};
+ghost use Rattle.opfs_transcripts.specs.Told.Reading.{is_evict_line, is_stuck_line, tells_room_or_stuck};
 ghost use Rattle.opfs_judge.specs.Fronts.{first_line};
 ghost use Rattle.opfs_judge.specs.Verdicts.{is_unsettled};
-ghost use Rattle.opfs_waiting.specs.Fixed.{has_await, is_await};
+ghost use Rattle.opfs_transcripts.specs.Waiting.Fixed.{has_await, is_await};
 
 use opfs_script::{AgentScript, Script, Step};
 use opfs_script_kept::{PackedAgent, PackedScript};

@@ -1,5 +1,5 @@
 use Rattle.std.proofs.Common.{◌∙◌, ap}
-use Rattle.opfs_told.specs.Reading.{begins}
+use Rattle.opfs_transcripts.specs.Told.Reading.{begins}
 use Rattle.opfs_judge.proofs.Texts.{bytes-begin}
 use Rattle.opfs_judge.proofs.agents.begins_with.Goals as goal
 

@@ -1,5 +1,5 @@
 use Rattle.std.proofs.Common.{◌≡◌, ◌<◌, ℕ, false, [], get_or}
-use Rattle.opfs_told.specs.Reading.{begins}
+use Rattle.opfs_transcripts.specs.Told.Reading.{begins}
 use Rattle.opfs_judge.proofs.agents.caller.Given as goal
 
 abbrev pub invariant-loop-index : goal.invariant-loop-index

@@ -1,7 +1,7 @@
 use Rattle.std.proofs.Common.{◌≡◌, ◌∙◌, ◌+◌, ◌<◌, length, refl, sym, ap, arith}
 use Rattle.std.proofs.lemmas.Bool.{false≢true}
-use Rattle.opfs_told.specs.Goings.{asked}
-use Rattle.opfs_told.proofs.Goes.{this_call, number-of, op-of}
+use Rattle.opfs_transcripts.specs.Told.Goings.{asked}
+use Rattle.opfs_transcripts.proofs.told.Goes.{this_call, number-of, op-of}
 use Rattle.opfs_judge.specs.Players.{going_at, goings_of}
 use Rattle.opfs_judge.proofs.Calling.{behind, both-so, called-in, going-got, no-caller-in, none-call, rest-is, stands-so}
 use Rattle.opfs_judge.proofs.Moves.{asked-moves}

@@ -1,5 +1,5 @@
 use Rattle.std.proofs.Common.{◌+◌, ◌∙◌, drop, ap, rules}
-use Rattle.opfs_told.specs.Goings.{closing}
+use Rattle.opfs_transcripts.specs.Told.Goings.{closing}
 use Rattle.opfs_judge.proofs.Players.{row-ended}
 use Rattle.opfs_judge.proofs.player.after_ending.Goals as goal
 

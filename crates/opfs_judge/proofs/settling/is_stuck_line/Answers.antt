@@ -1,5 +1,5 @@
 use Rattle.std.proofs.Common.{◌∙◌, ap}
-use Rattle.opfs_told.specs.Reading.{ends}
+use Rattle.opfs_transcripts.specs.Told.Reading.{ends}
 use Rattle.opfs_judge.proofs.Lining.{bytes-end}
 use Rattle.opfs_judge.proofs.settling.is_stuck_line.Goals as goal
 

@@ -1,6 +1,6 @@
 use Rattle.std.proofs.Common.{◌≡◌, length}
 use Rattle.std.specs.List.{list_any}
-use Rattle.opfs_waiting.specs.Fixed.{has_await, is_await}
+use Rattle.opfs_transcripts.specs.Waiting.Fixed.{has_await, is_await}
 use Rattle.opfs_judge.proofs.settling.packed_awaits.Given as goal
 
 abbrev pub invariant-loop-step : goal.invariant-loop-step

@@ -1,5 +1,5 @@
 use Rattle.std.proofs.Common.{◌∙◌}
-use Rattle.opfs_told.specs.Reading.{is_evict_line, is_stuck_line, tells_room, tells_stuck}
+use Rattle.opfs_transcripts.specs.Told.Reading.{is_evict_line, is_stuck_line, tells_room, tells_stuck}
 use Rattle.opfs_judge.proofs.Lining.{told, untold, first_tells, second_tells}
 use Rattle.opfs_judge.proofs.settling.tells_room_or_stuck.Goals as goal
 use Rattle.opfs_judge.proofs.settling.tells_room_or_stuck.Goals.{then-is_evict_line-via-then-is_evict_line, then-is_evict_line-via-else-is_evict_line+then-is_stuck_line}

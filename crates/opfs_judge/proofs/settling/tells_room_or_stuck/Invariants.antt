@@ -1,5 +1,5 @@
 use Rattle.std.proofs.Common.{◌≡◌, length}
-use Rattle.opfs_told.specs.Reading.{tells_room, tells_stuck}
+use Rattle.opfs_transcripts.specs.Told.Reading.{tells_room, tells_stuck}
 use Rattle.opfs_judge.proofs.settling.tells_room_or_stuck.Given as goal
 
 abbrev pub invariant-loop-rest : goal.invariant-loop-rest

@@ -1,7 +1,7 @@
 use Rattle.std.proofs.Common.{◌≡◌, ◌∙◌, ◌-◌, sym, ap, length, slice_get, List, Some}
 use Rattle.opfs_hist.specs.declared.entry.Entry.{Entry}
 use Rattle.opfs_print.specs.Lines.{text_of}
-use Rattle.opfs_told.specs.Reading.{begins}
+use Rattle.opfs_transcripts.specs.Told.Reading.{begins}
 use Rattle.opfs_judge.specs.Turns.{call_asked}
 use Rattle.opfs_judge.proofs.Grouping.{group-entered, group-told, told-in}
 use Rattle.opfs_judge.proofs.turn.enter_group.Goals as goal

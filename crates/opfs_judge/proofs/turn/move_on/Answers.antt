@@ -1,5 +1,5 @@
 use Rattle.std.proofs.Common.{◌∙◌, sym, ap, slice_set}
-use Rattle.opfs_told.specs.Goings.{asked, going_on}
+use Rattle.opfs_transcripts.specs.Told.Goings.{asked, going_on}
 use Rattle.opfs_judge.proofs.Calling.{going-got}
 use Rattle.opfs_judge.proofs.turn.move_on.Goals as goal
 
