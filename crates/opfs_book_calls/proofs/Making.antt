@@ -35,7 +35,7 @@ use Rattle.opfs_machine.specs.Rows.{is_located, holds_kind, wants}
 use Rattle.opfs_machine.specs.Rows.{row_at as machine_row_at}
 use Rattle.opfs_machine.specs.Rulings.{ruling, is_read_write, want_of}
 use Rattle.opfs_machine.specs.Sums.{is_persistent}
-use Rattle.opfs_ready.specs.Ready.{new_row}
+use Rattle.opfs_tree.specs.Ready.Ready.{new_row}
 use Rattle.opfs_replay.specs.Applying.{can_apply, can_make, is_directory, applied, tried}
 use Rattle.opfs_replay.specs.Applying.{is_root as is_root_path}
 use Rattle.opfs_replay.specs.Built.{Built}

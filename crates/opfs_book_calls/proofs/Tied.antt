@@ -27,7 +27,7 @@ use Rattle.opfs_machine.specs.Effects.{unlocked as line_unlocked}
 use Rattle.opfs_machine.specs.Rows.{with_file, row_at}
 use Rattle.opfs_machine.specs.Rows.{change_at as line_change_at}
 use Rattle.opfs_machine.specs.Rulings.{is_read_write}
-use Rattle.opfs_ready.specs.Ready.{new_row}
+use Rattle.opfs_tree.specs.Ready.Ready.{new_row}
 use Rattle.opfs_standing.specs.Seen.{Machine, line_of, lines_of}
 use Rattle.opfs_standing.proofs.GoneMoves.{lines-without}
 use Rattle.opfs_standing.proofs.Lines.{lines-changed}

@@ -27,7 +27,7 @@ use Rattle.opfs_replay.specs.Applying.{can_apply, can_hold, can_make, can_make_n
 use Rattle.opfs_replay.specs.Built.{Built, has_block, named, named_beside, IsSound, IsSoundRow}
 use Rattle.opfs_replay.specs.Kept.{times}
 use Rattle.opfs_replay.specs.Sums.{charge_of, row_charge}
-use Rattle.opfs_ready.proofs.Clear.{same_place, within_itself}
+use Rattle.opfs_tree.proofs.ready.Clear.{same_place, within_itself}
 use Rattle.std.proofs.lemmas.List.Sums.{sum_by-cons}
 use Rattle.opfs_replay.proofs.Counts.{once_from_times, once_times, times_none, at_each}
 use Rattle.opfs_replay.proofs.Holding.{holds, all_of, all_more, is_within_size, four}

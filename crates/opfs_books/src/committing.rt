@@ -11,8 +11,8 @@ use opfs_codec::ChangeRef;
 use opfs_commit::Commits;
 use opfs_journal::{DiskFault, Journal, JournalRefusal};
 use opfs_outside::Disk;
-use opfs_ready::ReadyTree;
 use opfs_shed::Shed;
+use opfs_tree::ReadyTree;
 
 /// Commits a change with what is kept back.
 pub(crate) fn commit_own<D: Disk>(

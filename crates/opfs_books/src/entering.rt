@@ -7,8 +7,7 @@ ghost use Rattle.opfs_tree.specs.Rows.{IsInOrder};
 use opfs_base::Extents;
 use opfs_hist::{Entry, History, Pending, Refusal, Reply, Room};
 use opfs_machine::Sizes;
-use opfs_ready::ReadyTree;
-use opfs_tree::Walk;
+use opfs_tree::{ReadyTree, Walk};
 use std::alloc::Global;
 
 /// A call's entry, and the memory for it.

@@ -14,10 +14,10 @@ use opfs_commit::Commits;
 use opfs_hist::History;
 use opfs_journal::Journal;
 use opfs_outside::Disk;
-use opfs_ready::ReadyTree;
 use opfs_sharing::Shared;
 use opfs_shed::Shed;
 use opfs_snapshot::snapshot;
+use opfs_tree::ReadyTree;
 use std::alloc::{AllocError, Global};
 
 // Room for what is kept back, and for a record that stands alone, of so many bytes. What stands ready has a spelling: an

@@ -27,7 +27,7 @@ use Rattle.opfs_machine.specs.Rows.{row_at, with_row, without}
 use Rattle.opfs_machine.specs.Ruled.{Ruled}
 use Rattle.opfs_machine.specs.Rulings.{ruling, get_directory_ruling, get_handle_ruling, child_ruling, remove_entry_ruling, persist_ruling, making, persisting}
 use Rattle.opfs_machine.specs.Sums.{charge, is_persistent, charges, no_need}
-use Rattle.opfs_ready.specs.Ready.{new_row as new_tree_row}
+use Rattle.opfs_tree.specs.Ready.Ready.{new_row as new_tree_row}
 use Rattle.opfs_standing.proofs.Lines.{there-at}
 use Rattle.opfs_standing.specs.Coming.{IsReadyFor}
 use Rattle.opfs_standing.specs.Seen.{Machine, Seen, Prepared, lines_of}

@@ -15,7 +15,7 @@ use Rattle.opfs_machine.specs.Agents.{open_stream, open_handle, counted}
 use Rattle.opfs_machine.specs.Contents.{in_lengths}
 use Rattle.opfs_machine.specs.Effects.{effect, moment_of}
 use Rattle.opfs_machine.specs.Rulings.{start_of, want_of, is_read_write}
-use Rattle.opfs_ready.specs.Ready.{new_row}
+use Rattle.opfs_tree.specs.Ready.Ready.{new_row}
 use Rattle.opfs_standing.specs.Contents.{undone_row}
 use Rattle.opfs_standing.specs.Seen.{Machine, Seen}
 use Rattle.opfs_changes.specs.Asking.{place_for}

@@ -13,9 +13,9 @@ use crate::records::{add_record, put_record};
 use opfs_codec::{ChangeRef, charge, write};
 use opfs_journal::{Journal, JournalRefusal};
 use opfs_outside::Disk;
-use opfs_ready::ReadyTree;
 use opfs_shed::Shed;
 use opfs_snapshot::{snapshot, snapshot_after};
+use opfs_tree::ReadyTree;
 use std::alloc::{AllocError, Global};
 use std::marker::Model;
 

@@ -11,8 +11,8 @@ use opfs_commit::{Commits, settle};
 use opfs_image::{Geometry, Recovered, format, recover};
 use opfs_journal::Journal;
 use opfs_memory::MemDisk;
-use opfs_ready::ReadyTree;
 use opfs_replay::{Rebuilt, Replay};
+use opfs_tree::ReadyTree;
 use std::alloc::{AllocError, Global};
 
 /// The changes, each as it is spelled: a root, a file in it, five bytes of the file, a directory, that the unit is

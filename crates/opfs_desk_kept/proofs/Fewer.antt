@@ -30,7 +30,7 @@ use Rattle.opfs_machine.specs.Contents.{in_lengths}
 use Rattle.opfs_machine.specs.Effects.{effect, moment_of}
 use Rattle.opfs_machine.specs.Rows.{file_of, without as machine_without}
 use Rattle.opfs_machine.specs.Rows.{file_at as machine_file, row_at as machine_row}
-use Rattle.opfs_ready.specs.Ready.{new_row}
+use Rattle.opfs_tree.specs.Ready.Ready.{new_row}
 use Rattle.opfs_replay.specs.Built.{named, has_block}
 use Rattle.opfs_row_puts.specs.Plans.{shelf}
 use Rattle.opfs_snapshot.specs.Written.{stored_rows}

@@ -15,10 +15,9 @@ use crate::following::{is_behind, stands};
 use opfs_base::{Extent, Extents, Key, blocks};
 use opfs_dump_text::{Dumped, DumpedFile, DumpedRow};
 use opfs_locks::FileLock;
-use opfs_ready::ReadyTree;
 use opfs_shed::Shed;
 use opfs_snapshot::snapshot;
-use opfs_tree::{FileRow, Row, Tree};
+use opfs_tree::{FileRow, ReadyTree, Row, Tree};
 use std::alloc::{AllocError, Global};
 
 // So many blocks from one on.

@@ -16,9 +16,9 @@ use crate::counting::count_files;
 use opfs_codec::Format;
 use opfs_image::{Geometry, ImageRefusal, ReadImage, read_image};
 use opfs_outside::Disk;
-use opfs_ready::ReadyTree;
 use opfs_replay::Rebuilt;
 use opfs_snapshot::snapshot;
+use opfs_tree::ReadyTree;
 use std::alloc::{AllocError, Global};
 
 /// What a migration writes: one record that builds the same, and how many files that has.

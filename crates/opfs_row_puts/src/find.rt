@@ -13,8 +13,8 @@ ghost use Rattle.std.specs.Prelude.{true};
 
 use opfs_data::Swap;
 use opfs_puts::Put;
-use opfs_ready::ReadyTree;
 use opfs_space::Space;
+use opfs_tree::ReadyTree;
 
 // Finds anew which blocks are used, and which one page alone has.
 fn sweep_anew(space: &mut Space, tree: &ReadyTree, swap: &Swap)

@@ -3,8 +3,8 @@
 use opfs_base::{Extent, Extents, Key};
 use opfs_hist::{Op, PendingSum};
 use opfs_machine::Sizes;
-use opfs_ready::ReadyTree;
 use opfs_shed::Shed;
+use opfs_tree::ReadyTree;
 
 /// What the shared state does for the books: it lends its rows and buckets to a commit, and changes as the machine says.
 pub trait Shared {

@@ -4,9 +4,9 @@ use crate::shared::Shared;
 use opfs_base::{Extent, Extents, Key};
 use opfs_hist::{Op, PendingSum};
 use opfs_machine::Sizes;
-use opfs_ready::ReadyTree;
 use opfs_shed::Shed;
 use opfs_state::State;
+use opfs_tree::ReadyTree;
 
 impl Shared for State {
     ghost use Rattle.opfs_sharing.specs.Serving.{MayApplyTo, MayRefuseTo, MayNoteTo, MayClearOf};

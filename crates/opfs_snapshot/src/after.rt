@@ -16,8 +16,8 @@ use crate::rows::in_directories;
 use crate::rows_after::write_rows_after;
 use crate::units::write_units;
 use opfs_codec::{ChangeRef, write};
-use opfs_ready::ReadyTree;
 use opfs_shed::Shed;
+use opfs_tree::ReadyTree;
 use std::alloc::AllocError;
 
 /// Writes the body of a checkpoint's one record in place of what the buffer holds: a list of changes in format 2 that

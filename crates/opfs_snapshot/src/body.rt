@@ -9,8 +9,8 @@ ghost use Rattle.opfs_snapshot.specs.Written.{AreWritable, built_bytes, stored_r
 
 use crate::rows::{in_directories, write_rows};
 use crate::units::write_units;
-use opfs_ready::ReadyTree;
 use opfs_shed::Shed;
+use opfs_tree::ReadyTree;
 use std::alloc::AllocError;
 
 /// Writes the body of a checkpoint's one record in place of what the buffer holds: a list of changes in format 2 that

@@ -16,8 +16,7 @@ use crate::checks::is_writable;
 use crate::content::FileContent;
 use opfs_base::{Key, Path};
 use opfs_codec::{ChangeRef, write};
-use opfs_ready::ReadyTree;
-use opfs_tree::{Row, Walk};
+use opfs_tree::{ReadyTree, Row, Walk};
 use std::alloc::AllocError;
 
 /// Appends the changes that build the rows. A row that has no spelling is answered as want of memory; an image has none.

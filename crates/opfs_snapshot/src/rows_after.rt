@@ -17,8 +17,7 @@ use crate::content::FileContent;
 use crate::rows::{write_file, write_row};
 use opfs_base::{Key, Path, begins_with};
 use opfs_codec::ChangeRef;
-use opfs_ready::ReadyTree;
-use opfs_tree::{Row, Walk};
+use opfs_tree::{ReadyTree, Row, Walk};
 use std::alloc::AllocError;
 
 /// Appends the changes that build the rows which a change leaves, with the content that it gives. A row that has no

@@ -2,10 +2,9 @@
 
 use crate::growing::{add_child, add_root, empty_file, persist, short_file};
 use opfs_base::{Key, Path};
-use opfs_ready::ReadyTree;
 use opfs_shed::Shed;
 use opfs_snapshot::snapshot;
-use opfs_tree::{Row, Tree};
+use opfs_tree::{ReadyTree, Row, Tree};
 use std::alloc::{AllocError, Global};
 use std::test::Fail;
 

@@ -7,7 +7,7 @@ use Rattle.opfs_base.specs.Measures.{place_charge}
 use Rattle.opfs_base.specs.declared.locator.Kind.{Kind}
 use Rattle.opfs_base.specs.declared.locator.Kind.TheVariants as kind
 use Rattle.opfs_machine.specs.Effects.{new_row as machine_row}
-use Rattle.opfs_ready.specs.Ready.{new_row}
+use Rattle.opfs_tree.specs.Ready.Ready.{new_row}
 use Rattle.std.specs.List.{list_any}
 use Rattle.std.specs.Map.{keys_of}
 use Rattle.opfs_machine.specs.Contents.{in_lengths}

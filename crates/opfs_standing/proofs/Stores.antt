@@ -11,7 +11,7 @@ use Rattle.opfs_shed.proofs.Values.{lookup-set_same, lookup-set_other, is_some-s
 use Rattle.opfs_shed.specs.declared.shed.Bucket.{Bucket}
 use Rattle.opfs_shed.specs.Buckets as shed_words
 use Rattle.opfs_shed.specs.Buckets.{Storage, Buckets, has_unit, bucket_at, with_bucket, usage_of, part_of}
-use Rattle.opfs_ready.specs.Ready.{Ready}
+use Rattle.opfs_tree.specs.Ready.Ready.{Ready}
 use Rattle.opfs_machine.specs.declared.own.Outline.{Outline}
 use Rattle.opfs_machine.specs.declared.state.Agent.{Agent}
 use Rattle.opfs_seats.specs.Registers.{Registered}

@@ -10,7 +10,7 @@ use Rattle.opfs_machine.specs.declared.state.Row.{Row as Line}
 use Rattle.opfs_machine.specs.declared.state.State.{State}
 use Rattle.opfs_machine.specs.Rows.{Rows as Lines}
 use Rattle.opfs_pool.specs.Shares.{Shares}
-use Rattle.opfs_ready.specs.Ready.{Ready}
+use Rattle.opfs_tree.specs.Ready.Ready.{Ready}
 use Rattle.opfs_seats.specs.Slots.{with_slot}
 use Rattle.opfs_shed.specs.Buckets.{Buckets, bucket_at}
 use Rattle.opfs_seats.specs.Registers.{Registered}

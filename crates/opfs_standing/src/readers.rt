@@ -15,10 +15,9 @@ use crate::standing::Standing;
 use opfs_base::{BLOCK_CHARGE, Key, Kind, Name, Path};
 use opfs_locks::LockValue;
 use opfs_pool::Pool;
-use opfs_ready::ReadyTree;
 use opfs_seats::Register;
 use opfs_shed::Shed;
-use opfs_tree::{FileRow, Row, Walk};
+use opfs_tree::{FileRow, ReadyTree, Row, Walk};
 use std::alloc::{AllocError, Global};
 
 impl Standing {

@@ -15,11 +15,11 @@ ghost use Rattle.opfs_machine.specs.Rows.{with_row, without};
 ghost use Rattle.opfs_machine.specs.Sums.{is_persistent};
 ghost use Rattle.opfs_machine.specs.Sums.{charge as charge_of};
 ghost use Rattle.opfs_machine.specs.Steps.{evicted};
-ghost use Rattle.opfs_ready.specs.Ready.{new_row as new_tree_row};
+ghost use Rattle.opfs_tree.specs.Ready.Ready.{new_row as new_tree_row};
 ghost use Rattle.opfs_standing.specs.Coming.{IsReadyFor};
 ghost use Rattle.opfs_standing.specs.Seen.{is_known};
 ghost use Rattle.opfs_tree.specs.Rows.{HasParent};
-ghost use Rattle.opfs_ready.specs.Ready.{ready_within};
+ghost use Rattle.opfs_tree.specs.Ready.Ready.{ready_within};
 ghost use Rattle.opfs_tree.specs.Rows.{row_at, extents_within};
 ghost use Rattle.opfs_tree.specs.Rows.{without as without_rows};
 

@@ -7,9 +7,9 @@ ghost use Rattle.opfs_tree.specs.Rows.{row_at, none_taken};
 
 use opfs_base::{Key, Path};
 use opfs_pool::Pool;
-use opfs_ready::ReadyTree;
 use opfs_seats::Register;
 use opfs_shed::Shed;
+use opfs_tree::ReadyTree;
 use std::marker::Model;
 
 /// The shared store, seen as the machine in lengths, as the rows of its tree with their blocks, and as what is prepared.

@@ -18,9 +18,8 @@ ghost use Rattle.opfs_verdicts.specs.Callers.{IsAgent};
 use crate::state::State;
 use opfs_base::{Key, Kind, Name, Path, Text};
 use opfs_machine::{HandleOutline, Place};
-use opfs_ready::ReadyTree;
 use opfs_shed::Shed;
-use opfs_tree::{FileRow, Row, Walk};
+use opfs_tree::{FileRow, ReadyTree, Row, Walk};
 use std::alloc::{AllocError, Global};
 
 impl State {

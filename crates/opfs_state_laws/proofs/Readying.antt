@@ -24,7 +24,7 @@ use Rattle.opfs_machine.specs.Rows.{row_at}
 use Rattle.opfs_machine.specs.Steps.{evicted}
 use Rattle.opfs_machine.specs.Victims.{is_callers}
 use Rattle.opfs_machine.specs.declared.state.Row.{Row}
-use Rattle.opfs_ready.specs.Ready.{ready_within}
+use Rattle.opfs_tree.specs.Ready.Ready.{ready_within}
 use Rattle.opfs_seats.proofs.KeptRows.{get-set}
 use Rattle.opfs_seats.specs.Seating.{noted}
 use Rattle.opfs_standing.proofs.AgentMoves.{number}

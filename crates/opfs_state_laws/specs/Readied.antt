@@ -8,7 +8,7 @@ use Rattle.opfs_hist.specs.declared.op.Op.{Op}
 use Rattle.opfs_machine.specs.Agents.{agent_of}
 use Rattle.opfs_machine.specs.Steps.{evicted}
 use Rattle.opfs_machine.specs.Victims.{is_callers}
-use Rattle.opfs_ready.specs.Ready.{ready_within}
+use Rattle.opfs_tree.specs.Ready.Ready.{ready_within}
 use Rattle.opfs_standing.specs.Noted.{with_sum}
 use Rattle.opfs_standing.specs.Seen.{Seen}
 use Rattle.opfs_state.specs.Applied.{IsReady}

@@ -4,12 +4,14 @@
 mod counted;
 mod given;
 mod paths;
+pub mod ready;
 mod row;
 mod sums;
 mod tree;
 mod unit;
 mod walk;
 
+pub use ready::ReadyTree;
 pub use row::{FileRow, Row};
 pub use sums::Sums;
 pub use tree::Tree;

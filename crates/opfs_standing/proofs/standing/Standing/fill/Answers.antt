@@ -3,7 +3,7 @@ use Rattle.opfs_machine.specs.declared.state.Row.{Row as Line}
 use Rattle.opfs_machine.specs.Contents.{in_lengths}
 use Rattle.opfs_machine.specs.Effects.{new_row as machine_row}
 use Rattle.opfs_machine.specs.Rows.{with_row}
-use Rattle.opfs_ready.specs.Ready.{new_row}
+use Rattle.opfs_tree.specs.Ready.Ready.{new_row}
 use Rattle.opfs_standing.specs.Seen.{Seen, machine_of, is_known}
 use Rattle.opfs_standing.specs.Tied.{IsTied}
 use Rattle.opfs_standing.proofs.Made.{made-machine, made-tied, line-new, charge-new, bare-new, known-unit}

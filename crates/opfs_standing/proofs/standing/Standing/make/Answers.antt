@@ -1,6 +1,6 @@
 use Rattle.std.proofs.Common.{ℕ, ◌-◌, ◌*◌, List, [], sym, ap, subst, ◌∙◌}
 use Rattle.opfs_base.specs.Texts.{Text}
-use Rattle.opfs_ready.specs.Ready.{ReadyRows}
+use Rattle.opfs_tree.specs.Ready.Ready.{ReadyRows}
 use Rattle.opfs_machine.specs.declared.state.Limits.{Limits}
 use Rattle.opfs_tree.specs.Rows.{Rows}
 use Rattle.opfs_standing.specs.Beginnings.{IsBegun}

@@ -1,8 +1,0 @@
-//! A tree of rows in which a place stands ready for one more row.
-#![tactic(auto)]
-
-mod changes;
-mod readers;
-mod ready;
-
-pub use ready::ReadyTree;
