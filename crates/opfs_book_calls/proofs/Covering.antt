@@ -9,9 +9,9 @@ use Rattle.opfs_machine.specs.Contents.{in_lengths}
 use Rattle.opfs_machine.specs.Rows.{row_at}
 use Rattle.opfs_machine.specs.Sums.{durable_blocks, charge, is_persistent}
 use Rattle.opfs_machine.specs.Sums.{row_charge as line_charge}
-use Rattle.opfs_replay.specs.Applying.{can_apply, applied, tried}
-use Rattle.opfs_replay.specs.Sums.{row_charge, charge_of}
-use Rattle.opfs_snapshot.specs.Written.{stored_row, stored_rows}
+use Rattle.opfs_records.specs.Replay.Applying.{can_apply, applied, tried}
+use Rattle.opfs_records.specs.Replay.Sums.{row_charge, charge_of}
+use Rattle.opfs_records.specs.Checkpoint.Written.{stored_row, stored_rows}
 use Rattle.opfs_standing.specs.Seen.{Machine, line_of, lines_of}
 use Rattle.opfs_tree.specs.declared.row.Row.{Row}
 use Rattle.opfs_tree.specs.declared.row.Row.TheVariants as row

@@ -36,12 +36,12 @@ use Rattle.opfs_machine.specs.Rows.{row_at as machine_row_at}
 use Rattle.opfs_machine.specs.Rulings.{ruling, is_read_write, want_of}
 use Rattle.opfs_machine.specs.Sums.{is_persistent}
 use Rattle.opfs_tree.specs.Ready.Ready.{new_row}
-use Rattle.opfs_replay.specs.Applying.{can_apply, can_make, is_directory, applied, tried}
-use Rattle.opfs_replay.specs.Applying.{is_root as is_root_path}
-use Rattle.opfs_replay.specs.Built.{Built}
-use Rattle.opfs_replay.proofs.Parents.{can_make_at}
-use Rattle.opfs_snapshot.specs.Written.{stored_file, stored_row, stored_rows}
-use Rattle.opfs_snapshot.proofs.StoredRows.{stored_at}
+use Rattle.opfs_records.specs.Replay.Applying.{can_apply, can_make, is_directory, applied, tried}
+use Rattle.opfs_records.specs.Replay.Applying.{is_root as is_root_path}
+use Rattle.opfs_records.specs.Replay.Built.{Built}
+use Rattle.opfs_records.proofs.replay.Parents.{can_make_at}
+use Rattle.opfs_records.specs.Checkpoint.Written.{stored_file, stored_row, stored_rows}
+use Rattle.opfs_records.proofs.checkpoint.StoredRows.{stored_at}
 use Rattle.opfs_standing.specs.Contents.{undone_row}
 use Rattle.opfs_standing.specs.Seen.{Machine, line_of, lines_of}
 use Rattle.opfs_standing.proofs.Lines.{lines-at, there-at}

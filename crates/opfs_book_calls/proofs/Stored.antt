@@ -6,9 +6,9 @@ use Rattle.std.specs.declared.cmp.Ordering.TheVariants.{Less, Equal, Greater}
 use Rattle.opfs_base.specs.Places.{Place, place_cmp}
 use Rattle.opfs_base.specs.declared.extents.Extent.{Extent}
 use Rattle.opfs_codec.specs.declared.change.Change.TheVariants.{Remove}
-use Rattle.opfs_snapshot.specs.Written.{stored_file, stored_row, stored_rows}
-use Rattle.opfs_snapshot.proofs.Remaining.{stored_kept}
-use Rattle.opfs_snapshot.proofs.StoredRows.{stored_at}
+use Rattle.opfs_records.specs.Checkpoint.Written.{stored_file, stored_row, stored_rows}
+use Rattle.opfs_records.proofs.checkpoint.Remaining.{stored_kept}
+use Rattle.opfs_records.proofs.checkpoint.StoredRows.{stored_at}
 use Rattle.opfs_tree.specs.declared.row.FileRow.{FileRow}
 use Rattle.opfs_tree.specs.declared.row.Row.{Row}
 use Rattle.opfs_tree.specs.declared.row.Row.TheVariants as row

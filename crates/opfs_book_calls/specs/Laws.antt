@@ -26,8 +26,8 @@ use Rattle.opfs_machine.specs.Rows.{row_at}
 use Rattle.opfs_machine.specs.Rulings.{ruling}
 use Rattle.opfs_machine.specs.Steps.{evicted, step, is_refusal}
 use Rattle.opfs_machine.specs.Sums.{charge, is_persistent}
-use Rattle.opfs_replay.specs.Applying.{tried}
-use Rattle.opfs_replay.specs.Sums.{charge_of}
+use Rattle.opfs_records.specs.Replay.Applying.{tried}
+use Rattle.opfs_records.specs.Replay.Sums.{charge_of}
 use Rattle.opfs_standing.specs.Seen.{Machine, lines_of}
 use Rattle.opfs_tree.specs.Rows.{Rows, without}
 use Rattle.opfs_book_calls.specs.Spelled.{spelled_by, bytes_stored, told_list, stored_built, Makes}

@@ -26,9 +26,9 @@ use Rattle.opfs_machine.specs.Rows.{file_at}
 use Rattle.opfs_machine.specs.Rulings.{is_read_write}
 use Rattle.opfs_machine.specs.Sums.{is_persistent}
 use Rattle.opfs_codec.specs.declared.change.Format.TheVariants.{New}
-use Rattle.opfs_replay.specs.Applying.{can_hold, tried}
-use Rattle.opfs_replay.specs.Built.{Built, named_beside}
-use Rattle.opfs_snapshot.specs.Written.{stored_rows}
+use Rattle.opfs_records.specs.Replay.Applying.{can_hold, tried}
+use Rattle.opfs_records.specs.Replay.Built.{Built, named_beside}
+use Rattle.opfs_records.specs.Checkpoint.Written.{stored_rows}
 use Rattle.opfs_standing.specs.Seen.{Machine}
 use Rattle.opfs_tree.specs.Rows.{Rows}
 use Rattle.opfs_tree.specs.Rows.{file_at as tree_file_at}

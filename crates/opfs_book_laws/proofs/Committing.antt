@@ -30,8 +30,8 @@ use Rattle.opfs_machine.specs.Openings.{Opening, begun}
 use Rattle.opfs_machine.specs.Runs.{eviction}
 use Rattle.opfs_machine.specs.Steps.{evicted, is_refusal}
 use Rattle.opfs_outside.specs.declared.disk.Disk.{Ghosts as DiskWords}
-use Rattle.opfs_replay.specs.Built.{Built}
-use Rattle.opfs_replay.specs.Sums.{charge_of}
+use Rattle.opfs_records.specs.Replay.Built.{Built}
+use Rattle.opfs_records.specs.Replay.Sums.{charge_of}
 use Rattle.opfs_book_laws.specs.Books.{Fixed, Book, IsToldAt, IsNext, AreCounted, AreFew, HasRoom, account_of, AreBooksAt, roots}
 use Rattle.opfs_book_laws.specs.Commits.{CommitLaws, StateLaws}
 use Rattle.opfs_book_laws.specs.Laws.{told, IsEntered, IsCovered, CommittedCallsKeepTheBooks, CommittedEvictionsKeepTheBooks, FailedCommitsKeepTheBooks, KeepingBackKeepsTheBooks}

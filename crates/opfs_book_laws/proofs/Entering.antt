@@ -18,7 +18,7 @@ use Rattle.opfs_machine.specs.Histories.{state_after}
 use Rattle.opfs_machine.specs.Openings.{Opening, begun}
 use Rattle.opfs_machine.specs.Steps.{evicted, after_reply}
 use Rattle.opfs_outside.specs.declared.disk.Disk.{Ghosts as DiskWords}
-use Rattle.opfs_replay.specs.Built.{Built}
+use Rattle.opfs_records.specs.Replay.Built.{Built}
 use Rattle.opfs_book_laws.specs.Books.{Fixed, Book, IsToldAt, IsNext, AreCounted, AreFew, HasRoom, account_of, AreBooksAt, AreBooks, is_eviction, roots}
 use Rattle.opfs_book_laws.specs.Laws.{IsEntered, HasRisen, TellsKeepTheBooks}
 use Rattle.opfs_book_laws.proofs.Counting.{counted-entry}

@@ -6,7 +6,7 @@ use Rattle.std.proofs.lemmas.Bool.{eqb-true, eq-eqb, leb-true, leb-false, falseâ
 use Rattle.opfs_base.specs.Texts.{Text}
 use Rattle.opfs_hist.specs.declared.entry.Entry.{Entry}
 use Rattle.opfs_machine.specs.Runs.{eviction}
-use Rattle.opfs_replay.specs.Built.{Built}
+use Rattle.opfs_records.specs.Replay.Built.{Built}
 use Rattle.opfs_book_laws.specs.Books.{AreFew, IsPlaced, is_eviction, calls_of, calls, evictions, roots}
 use Rattle.opfs_book_laws.proofs.Counting.{one_if, count-more, count-cons, one_true, one_false}
 

@@ -28,7 +28,7 @@ use Rattle.opfs_machine.specs.Openings.{begun}
 use Rattle.opfs_machine.specs.Steps.{step}
 use Rattle.opfs_outside.specs.Faults.{RoseBy}
 use Rattle.opfs_outside.specs.declared.disk.Disk.{Ghosts as DiskWords}
-use Rattle.opfs_replay.specs.Built.{Built}
+use Rattle.opfs_records.specs.Replay.Built.{Built}
 use Rattle.opfs_book_laws.specs.Books.{IsToldAt, AreFew, HasRoom, account_of, is_eviction}
 use Rattle.opfs_book_laws.specs.Commits.{StateLaws}
 use Rattle.opfs_book_laws.specs.Laws.{PendingKeepsTheBooks, BooksKeepTheState, FaultsAreCounted}

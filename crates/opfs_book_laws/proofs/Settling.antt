@@ -21,7 +21,7 @@ use Rattle.opfs_machine.specs.Changes.{floor}
 use Rattle.opfs_outside.specs.Faults.{Rose}
 use Rattle.opfs_outside.specs.Moments.{Elapses}
 use Rattle.opfs_outside.specs.declared.disk.Disk.{Ghosts as DiskWords}
-use Rattle.opfs_replay.specs.Built.{Built}
+use Rattle.opfs_records.specs.Replay.Built.{Built}
 use Rattle.opfs_book_laws.specs.Books.{Fixed, Book, account_of, AreBooksAt}
 use Rattle.opfs_book_laws.specs.Commits.{CommitLaws}
 use Rattle.opfs_book_laws.specs.Laws.{told, doubt, ShowsTold, SettlingKeepsTheBooks, UnsettledKeepsTheBooks, SettlingShows, CommittedAloneKeepsTheBooks, FailedAloneKeepsTheBooks, AloneShows, ReadsKeepTheBooks, PagesKeepTheBooks, BooksShowTheirImages, CommitsShow}

@@ -23,17 +23,17 @@ use Rattle.opfs_tree.specs.Rows.{Rows, row_at, file_at, without, change_at, chan
 use Rattle.opfs_tree.specs.declared.row.FileRow.{FileRow}
 use Rattle.opfs_tree.specs.declared.row.Row.{Row}
 use Rattle.opfs_tree.specs.declared.row.Row.TheVariants as row
-use Rattle.opfs_replay.specs.Applying.{can_apply, can_hold, can_make, can_make_named, parted, is_directory, is_persistent, applied, tried, empty_file}
-use Rattle.opfs_replay.specs.Built.{Built, has_block, named, named_beside, IsSound, IsSoundRow}
-use Rattle.opfs_replay.specs.Kept.{times}
-use Rattle.opfs_replay.specs.Sums.{charge_of, row_charge}
+use Rattle.opfs_records.specs.Replay.Applying.{can_apply, can_hold, can_make, can_make_named, parted, is_directory, is_persistent, applied, tried, empty_file}
+use Rattle.opfs_records.specs.Replay.Built.{Built, has_block, named, named_beside, IsSound, IsSoundRow}
+use Rattle.opfs_records.specs.Replay.Kept.{times}
+use Rattle.opfs_records.specs.Replay.Sums.{charge_of, row_charge}
 use Rattle.opfs_tree.proofs.ready.Clear.{same_place, within_itself}
 use Rattle.std.proofs.lemmas.List.Sums.{sum_by-cons}
-use Rattle.opfs_replay.proofs.Counts.{once_from_times, once_times, times_none, at_each}
-use Rattle.opfs_replay.proofs.Holding.{holds, all_of, all_more, is_within_size, four}
-use Rattle.opfs_replay.proofs.Parents.{has_parent}
-use Rattle.opfs_replay.proofs.Rows.{all_filter, all_put, all_change, put_times, without_times, store_times, old_times, found_file}
-use Rattle.opfs_snapshot.specs.Written.{AreWritable, IsWritableRow}
+use Rattle.opfs_records.proofs.replay.Counts.{once_from_times, once_times, times_none, at_each}
+use Rattle.opfs_records.proofs.replay.Holding.{holds, all_of, all_more, is_within_size, four}
+use Rattle.opfs_records.proofs.replay.Parents.{has_parent}
+use Rattle.opfs_records.proofs.replay.Rows.{all_filter, all_put, all_change, put_times, without_times, store_times, old_times, found_file}
+use Rattle.opfs_records.specs.Checkpoint.Written.{AreWritable, IsWritableRow}
 use Rattle.opfs_book_laws.specs.Books.{roots}
 use Rattle.opfs_book_laws.proofs.Counting.{one_if, count-cons}
 

@@ -18,8 +18,8 @@ use Rattle.opfs_machine.specs.Changes.{Change, changed, floor}
 use Rattle.opfs_outside.specs.Faults.{Rose}
 use Rattle.opfs_outside.specs.Moments.{Elapses}
 use Rattle.opfs_outside.specs.declared.disk.Disk.{Ghosts as DiskWords}
-use Rattle.opfs_replay.specs.Built.{Built}
-use Rattle.opfs_replay.specs.Sums.{charge_of}
+use Rattle.opfs_records.specs.Replay.Built.{Built}
+use Rattle.opfs_records.specs.Replay.Sums.{charge_of}
 use Rattle.opfs_book_laws.specs.Books.{Fixed, Book, HasRoom, account_of, AreBooksAt}
 use Rattle.opfs_book_laws.specs.Commits.{CommitLaws}
 use Rattle.opfs_book_laws.specs.Laws.{told, ShowsTold, IsMade}

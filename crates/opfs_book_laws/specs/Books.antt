@@ -25,9 +25,9 @@ use Rattle.opfs_machine.specs.Openings.{Opening}
 use Rattle.opfs_machine.specs.Steps.{evicted}
 use Rattle.opfs_outside.specs.Faults.{Rose, RoseBy}
 use Rattle.opfs_outside.specs.declared.disk.Disk.{Ghosts as DiskWords}
-use Rattle.opfs_replay.specs.Built.{Built, IsSound}
-use Rattle.opfs_replay.specs.Sums.{charge_of}
-use Rattle.opfs_snapshot.specs.Written.{AreWritable}
+use Rattle.opfs_records.specs.Replay.Built.{Built, IsSound}
+use Rattle.opfs_records.specs.Replay.Sums.{charge_of}
+use Rattle.opfs_records.specs.Checkpoint.Written.{AreWritable}
 use Rattle.opfs_base.specs.Measures.{is_root}
 
 -- What never changes in a run: its opening as the machine has it, over the disk as it was then; the sizes of the image; and

@@ -35,9 +35,9 @@ use Rattle.opfs_outside.specs.Bytes.{Same}
 use Rattle.opfs_outside.specs.Faults.{Rose, RoseBy}
 use Rattle.opfs_outside.specs.Moments.{Elapses}
 use Rattle.opfs_outside.specs.declared.disk.Disk.{Ghosts as DiskWords}
-use Rattle.opfs_replay.specs.Applying.{tried}
-use Rattle.opfs_replay.specs.Built.{Built}
-use Rattle.opfs_replay.specs.Sums.{charge_of}
+use Rattle.opfs_records.specs.Replay.Applying.{tried}
+use Rattle.opfs_records.specs.Replay.Built.{Built}
+use Rattle.opfs_records.specs.Replay.Sums.{charge_of}
 use Rattle.opfs_tree.specs.Rows.{IsInOrder}
 use Rattle.opfs_book_laws.specs.Books.{Fixed, Book, IsNext, IsPlaced, AreCounted, AreBooksAt, AreBooks, calls_of}
 

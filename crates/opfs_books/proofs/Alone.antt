@@ -21,8 +21,8 @@ use Rattle.opfs_machine.specs.Changes.{Change, floor}
 use Rattle.opfs_machine.specs.declared.own.Own.{Own}
 use Rattle.opfs_machine.specs.declared.state.State.{State}
 use Rattle.opfs_outside.specs.declared.disk.Disk.{Ghosts as DiskWords}
-use Rattle.opfs_replay.specs.Built.{Built}
-use Rattle.opfs_replay.specs.Sums.{persistent_in}
+use Rattle.opfs_records.specs.Replay.Built.{Built}
+use Rattle.opfs_records.specs.Replay.Sums.{persistent_in}
 use Rattle.opfs_shed.specs.Buckets.{Storage}
 use Rattle.opfs_standing.specs.Seen.{Machine}
 use Rattle.opfs_tree.specs.Rows.{Rows}

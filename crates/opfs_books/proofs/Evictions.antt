@@ -35,12 +35,12 @@ use Rattle.opfs_machine.specs.Steps.{evicted, is_refusal}
 use Rattle.opfs_machine.specs.Sums.{is_persistent}
 use Rattle.opfs_outside.specs.Faults.{Rose}
 use Rattle.opfs_outside.specs.declared.disk.Disk.{Ghosts as DiskWords}
-use Rattle.opfs_replay.specs.Applying.{tried}
-use Rattle.opfs_replay.specs.Built.{Built, IsSound}
-use Rattle.opfs_replay.specs.Sums.{charge_of, persistent_in}
+use Rattle.opfs_records.specs.Replay.Applying.{tried}
+use Rattle.opfs_records.specs.Replay.Built.{Built, IsSound}
+use Rattle.opfs_records.specs.Replay.Sums.{charge_of, persistent_in}
 use Rattle.opfs_shed.specs.Buckets.{Storage}
-use Rattle.opfs_snapshot.specs.Written.{AreWritable, stored_rows}
-use Rattle.opfs_snapshot.proofs.StoredRows.{stored_order}
+use Rattle.opfs_records.specs.Checkpoint.Written.{AreWritable, stored_rows}
+use Rattle.opfs_records.proofs.checkpoint.StoredRows.{stored_order}
 use Rattle.opfs_standing.specs.Seen.{Machine, lines_of}
 use Rattle.opfs_tree.specs.Rows.{Rows, IsInOrder, without}
 use Rattle.opfs_books.specs.Committing.{MayCommit, MayCommitAlone}

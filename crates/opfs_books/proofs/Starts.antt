@@ -18,11 +18,11 @@ use Rattle.opfs_image.specs.Superblock.{area_bytes}
 use Rattle.opfs_journal.specs.Seen.{Seen}
 use Rattle.opfs_machine.specs.Changes.{floor}
 use Rattle.opfs_outside.specs.declared.disk.Disk.{Ghosts as DiskWords}
-use Rattle.opfs_replay.specs.Built.{Built, IsSound}
-use Rattle.opfs_replay.specs.Sums.{row_charge, charge_of, persistent_in}
+use Rattle.opfs_records.specs.Replay.Built.{Built, IsSound}
+use Rattle.opfs_records.specs.Replay.Sums.{row_charge, charge_of, persistent_in}
 use Rattle.opfs_shed.specs.Buckets.{Storage}
-use Rattle.opfs_snapshot.specs.Written.{AreWritable, stored_rows}
-use Rattle.opfs_snapshot.proofs.StoredRows.{stored_writable}
+use Rattle.opfs_records.specs.Checkpoint.Written.{AreWritable, stored_rows}
+use Rattle.opfs_records.proofs.checkpoint.StoredRows.{stored_writable}
 use Rattle.opfs_standing.specs.Seen.{Machine}
 use Rattle.opfs_tree.specs.Rows.{Rows}
 use Rattle.opfs_tree.specs.declared.row.Row.{Row}

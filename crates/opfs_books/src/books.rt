@@ -14,7 +14,7 @@ ghost use Rattle.opfs_machine.specs.Contents.{in_lengths};
 ghost use Rattle.opfs_machine.specs.Effects.{effect, refused};
 ghost use Rattle.opfs_machine.specs.Replies.{sizes_of};
 ghost use Rattle.opfs_machine.specs.Steps.{evicted, is_refusal};
-ghost use Rattle.opfs_replay.specs.Built.{Built};
+ghost use Rattle.opfs_records.specs.Replay.Built.{Built};
 
 use crate::entering::{Entering, Last, enter};
 use opfs_base::Extent;

@@ -24,7 +24,7 @@ ghost use Rattle.opfs_machine.specs.Runs.{eviction};
 ghost use Rattle.opfs_machine.specs.Steps.{evicted};
 ghost use Rattle.opfs_machine.specs.Sums.{is_persistent};
 ghost use Rattle.opfs_outside.specs.Faults.{Rose};
-ghost use Rattle.opfs_replay.specs.Built.{Built};
+ghost use Rattle.opfs_records.specs.Replay.Built.{Built};
 ghost use Rattle.opfs_tree.specs.Rows.{extents_within, without};
 
 use crate::books::Books;

@@ -16,7 +16,7 @@ ghost use Rattle.opfs_machine.specs.Contents.{in_lengths};
 ghost use Rattle.opfs_machine.specs.Effects.{effect};
 ghost use Rattle.opfs_machine.specs.Replies.{sizes_of};
 ghost use Rattle.opfs_machine.specs.Steps.{evicted, is_refusal};
-ghost use Rattle.opfs_replay.specs.Built.{Built};
+ghost use Rattle.opfs_records.specs.Replay.Built.{Built};
 
 use crate::books::Books;
 use crate::entering::{Entering, enter, in_order};

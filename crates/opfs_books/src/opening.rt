@@ -4,9 +4,9 @@ ghost use Rattle.std.specs.Prelude.{◌≡◌, ◌≤◌, ◌+◌, ℕ, [], fals
 ghost use Rattle.opfs_book_laws.specs.Books.{Fixed, AreBooks};
 ghost use Rattle.opfs_books.specs.Opened.{IsOpened};
 ghost use Rattle.opfs_books.specs.Seen.{book_of};
-ghost use Rattle.opfs_replay.specs.Built.{Built};
-ghost use Rattle.opfs_replay.specs.Sums.{persistent_in};
-ghost use Rattle.opfs_snapshot.specs.Written.{AreWritable};
+ghost use Rattle.opfs_records.specs.Replay.Built.{Built};
+ghost use Rattle.opfs_records.specs.Replay.Sums.{persistent_in};
+ghost use Rattle.opfs_records.specs.Checkpoint.Written.{AreWritable};
 
 use crate::books::Books;
 use opfs_book_laws::commit_laws;
@@ -14,9 +14,9 @@ use opfs_commit::Commits;
 use opfs_hist::History;
 use opfs_journal::Journal;
 use opfs_outside::Disk;
+use opfs_records::snapshot;
 use opfs_sharing::Shared;
 use opfs_shed::Shed;
-use opfs_snapshot::snapshot;
 use opfs_tree::ReadyTree;
 use std::alloc::{AllocError, Global};
 

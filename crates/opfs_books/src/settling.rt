@@ -9,7 +9,7 @@ ghost use Rattle.opfs_commit.specs.Calls.{IsSettled, IsUnsettled};
 ghost use Rattle.opfs_machine.specs.declared.own.Own.{Own};
 ghost use Rattle.opfs_machine.specs.declared.state.State.{State};
 ghost use Rattle.opfs_outside.specs.Faults.{Rose};
-ghost use Rattle.opfs_replay.specs.Built.{Built};
+ghost use Rattle.opfs_records.specs.Replay.Built.{Built};
 
 use crate::books::Books;
 use crate::committing::commit_alone;

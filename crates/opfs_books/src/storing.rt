@@ -17,7 +17,7 @@ ghost use Rattle.opfs_machine.specs.Effects.{effect, refused};
 ghost use Rattle.opfs_machine.specs.Replies.{sizes_of};
 ghost use Rattle.opfs_machine.specs.Steps.{evicted, is_refusal};
 ghost use Rattle.opfs_outside.specs.Faults.{Rose};
-ghost use Rattle.opfs_replay.specs.Built.{Built};
+ghost use Rattle.opfs_records.specs.Replay.Built.{Built};
 
 use crate::books::Books;
 use crate::committing::commit_own;

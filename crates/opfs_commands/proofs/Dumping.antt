@@ -23,7 +23,7 @@ use Rattle.opfs_outside.specs.declared.disk.Disk.{Ghosts as DiskWords}
 use Rattle.opfs_outside.specs.declared.stream.Sink.{Ghosts as SinkWords}
 use Rattle.opfs_print.specs.Status.{status_text}
 use Rattle.opfs_print.specs.declared.end.End.TheVariants as end
-use Rattle.opfs_replay.specs.Built.{Built}
+use Rattle.opfs_records.specs.Replay.Built.{Built}
 use Rattle.opfs_commands.specs.Telling.{IsAnswer, IsBegun, IsBehind, IsDumped, IsPut}
 use Rattle.opfs_commands.specs.declared.answers.ToolAnswer.{ToolAnswer}
 use Rattle.opfs_commands.specs.declared.answers.ToolEnd.{ToolEnd}

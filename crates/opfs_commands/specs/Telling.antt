@@ -14,7 +14,7 @@ use Rattle.opfs_image.specs.Reading.{Image, read_as}
 use Rattle.opfs_image.specs.declared.geometry.Geometry.{Geometry}
 use Rattle.opfs_image.specs.declared.refusal.ImageRefusal.{ImageRefusal}
 use Rattle.opfs_image.specs.declared.refusal.ImageRefusal.TheVariants as image
-use Rattle.opfs_replay.specs.Built.{nothing_built}
+use Rattle.opfs_records.specs.Replay.Built.{nothing_built}
 use Rattle.opfs_migrate.specs.Migrating.{AreMigrated}
 use Rattle.opfs_dump_text.specs.Reading.{Dump, reads_dump}
 use Rattle.opfs_dump_text.specs.Texts.{dump_text, loaded_line, refused_line}

@@ -18,13 +18,13 @@ use Rattle.opfs_data.specs.Places.{bytes_of}
 use Rattle.opfs_image.specs.Filling.{filled, filled_row}
 use Rattle.opfs_machine.specs.Changes.{Change, changed, is_content}
 use Rattle.opfs_machine.specs.Openings.{Map, Stored, document}
-use Rattle.opfs_replay.specs.Applying.{tried, can_apply, applied, can_hold}
-use Rattle.opfs_replay.specs.Built.{Built, named_beside}
+use Rattle.opfs_records.specs.Replay.Applying.{tried, can_apply, applied, can_hold}
+use Rattle.opfs_records.specs.Replay.Built.{Built, named_beside}
 use Rattle.opfs_tree.specs.Rows.{Rows, row_at, file_at, file_of, file_in, without, change_at, changed_row, stored}
 use Rattle.opfs_tree.specs.declared.row.Row.{Row}
 use Rattle.opfs_tree.specs.declared.row.Row.TheVariants as row
-use Rattle.opfs_snapshot.proofs.Last.{none_below}
-use Rattle.opfs_snapshot.proofs.OneMore.{told_by}
+use Rattle.opfs_records.proofs.checkpoint.Last.{none_below}
+use Rattle.opfs_records.proofs.checkpoint.OneMore.{told_by}
 
 module _ (base : ℕ) (c : List ℕ) where
   abbrev fill : Place × Row → Place × Stored

@@ -21,7 +21,7 @@ use Rattle.opfs_journal.specs.Format.{Stored, records_of}
 use Rattle.opfs_machine.specs.Changes.{Change, changed, durable, is_content, floor, floor_from}
 use Rattle.opfs_machine.specs.Openings.{Opening, Map}
 use Rattle.opfs_outside.specs.Bytes.{Same}
-use Rattle.opfs_replay.specs.Built.{Built, all_extents}
+use Rattle.opfs_records.specs.Replay.Built.{Built, all_extents}
 
 aside_below : (g : Geometry) (es : List Extent) (i : ℕ) → i < data_base g → Aside (data_base g) es i
 aside_below g [] i lt = tt

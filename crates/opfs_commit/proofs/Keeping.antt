@@ -27,11 +27,11 @@ use Rattle.opfs_journal.specs.Seen.{Seen, kept, with_record, one_record}
 use Rattle.opfs_machine.specs.Changes.{Change, changed, durable, is_content}
 use Rattle.opfs_machine.specs.Openings.{Opening}
 use Rattle.opfs_outside.specs.declared.disk.Disk.{Ghosts as DiskWords}
-use Rattle.opfs_replay.specs.Applying.{tried, rows_of}
-use Rattle.opfs_replay.specs.Built.{Built, IsSound}
-use Rattle.opfs_replay.specs.Sums.{charge_of}
-use Rattle.opfs_snapshot.specs.Building.{Builds}
-use Rattle.opfs_snapshot.proofs.Building.{builds_one, builds_both, rows_more}
+use Rattle.opfs_records.specs.Replay.Applying.{tried, rows_of}
+use Rattle.opfs_records.specs.Replay.Built.{Built, IsSound}
+use Rattle.opfs_records.specs.Replay.Sums.{charge_of}
+use Rattle.opfs_records.specs.Checkpoint.Building.{Builds}
+use Rattle.opfs_records.proofs.checkpoint.Building.{builds_one, builds_both, rows_more}
 
 quiet_more : (later : List Change) (change : Change) → AllQuiet later → is_content change ≡ false → AllQuiet (later ++ change ∷ [])
 quiet_more [] change quiet is = (is, tt)

@@ -18,8 +18,8 @@ use Rattle.opfs_image.specs.Superblock.{areas_of}
 use Rattle.opfs_machine.specs.Changes.{Change, durable, floor}
 use Rattle.opfs_outside.specs.Bytes.{Same}
 use Rattle.opfs_outside.specs.declared.disk.Disk.{Ghosts as DiskWords}
-use Rattle.opfs_replay.specs.Built.{Built}
-use Rattle.opfs_snapshot.proofs.Building.{builds_nothing}
+use Rattle.opfs_records.specs.Replay.Built.{Built}
+use Rattle.opfs_records.proofs.checkpoint.Building.{builds_nothing}
 
 abbrev pub IsFull : {D : Type 0} → DiskWords D → Type 0
 IsFull {D} w = (d : D) → length (w.content d) ≡ w.size d

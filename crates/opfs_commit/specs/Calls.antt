@@ -12,11 +12,11 @@ use Rattle.opfs_journal.specs.Seen.{Seen, Stays, kept, one_record}
 use Rattle.opfs_outside.specs.Bytes.{Same}
 use Rattle.opfs_outside.specs.Moments.{Elapses}
 use Rattle.opfs_outside.specs.declared.disk.Disk.{Ghosts as DiskWords}
-use Rattle.opfs_replay.specs.Applying.{tried, rows_of}
-use Rattle.opfs_replay.specs.Built.{Built, IsSound}
-use Rattle.opfs_replay.specs.Sums.{charge_of, persistent_in}
+use Rattle.opfs_records.specs.Replay.Applying.{tried, rows_of}
+use Rattle.opfs_records.specs.Replay.Built.{Built, IsSound}
+use Rattle.opfs_records.specs.Replay.Sums.{charge_of, persistent_in}
 use Rattle.opfs_shed.specs.Buckets.{Storage}
-use Rattle.opfs_snapshot.specs.Written.{AreWritable, stored_rows}
+use Rattle.opfs_records.specs.Checkpoint.Written.{AreWritable, stored_rows}
 use Rattle.opfs_tree.specs.Rows.{Rows}
 
 -- Each image since the start has the records of before, or these in their place over the bytes of the content.

@@ -10,7 +10,7 @@ use Rattle.opfs_journal.specs.Seen.{Seen, kept}
 use Rattle.opfs_machine.specs.Changes.{Change, durable}
 use Rattle.opfs_machine.specs.Openings.{Opening}
 use Rattle.opfs_outside.specs.declared.disk.Disk.{Ghosts as DiskWords}
-use Rattle.opfs_replay.specs.Built.{Built}
+use Rattle.opfs_records.specs.Replay.Built.{Built}
 
 -- What the images are spoken of by: what was stored when the run began, the image's geometry, the changes that were told
 -- since, those that a gate in doubt may add, what the journal's records build, and the present rows, which have the changes

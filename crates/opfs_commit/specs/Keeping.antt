@@ -3,8 +3,8 @@ use Rattle.std.specs.Prelude.{◌≡◌, ℕ, Bool, false, List, fold}
 use Rattle.std.specs.List.{AllByRecursion}
 use Rattle.opfs_image.specs.Filling.{filled}
 use Rattle.opfs_machine.specs.Changes.{Change, changed, is_content}
-use Rattle.opfs_replay.specs.Built.{Built}
-use Rattle.opfs_snapshot.specs.Building.{Builds}
+use Rattle.opfs_records.specs.Replay.Built.{Built}
+use Rattle.opfs_records.specs.Checkpoint.Building.{Builds}
 
 -- These bytes, unless they are too long, spell changes that make the present rows of those that the records build. In any
 -- image the present rows hold what these changes make of what the others hold. None of them is a content.

@@ -20,9 +20,9 @@ use Rattle.opfs_machine.specs.Changes.{Change, changed, durable, is_content, flo
 use Rattle.opfs_machine.specs.Openings.{Opening}
 use Rattle.opfs_outside.specs.Moments.{Elapses}
 use Rattle.opfs_outside.specs.declared.disk.Disk.{Ghosts as DiskWords}
-use Rattle.opfs_replay.specs.Applying.{tried}
-use Rattle.opfs_replay.specs.Built.{Built, IsSound}
-use Rattle.opfs_replay.specs.Sums.{charge_of}
+use Rattle.opfs_records.specs.Replay.Applying.{tried}
+use Rattle.opfs_records.specs.Replay.Built.{Built, IsSound}
+use Rattle.opfs_records.specs.Replay.Sums.{charge_of}
 use Rattle.opfs_tree.specs.Rows.{IsInOrder}
 
 -- Each image that a crash may leave now shows a front of what was told, with what is in doubt, at least up to the last

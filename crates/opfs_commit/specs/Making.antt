@@ -20,9 +20,9 @@ use Rattle.opfs_journal.specs.Seen.{Seen}
 use Rattle.opfs_machine.specs.Changes.{Change, make_root, make_directory, make_file, remove, content, persist, evict, changed, durable, is_content}
 use Rattle.opfs_machine.specs.Openings.{Opening}
 use Rattle.opfs_outside.specs.declared.disk.Disk.{Ghosts as DiskWords}
-use Rattle.opfs_replay.specs.Applying.{tried, rows_of}
-use Rattle.opfs_replay.specs.Built.{Built}
-use Rattle.opfs_replay.specs.Sums.{charge_of}
+use Rattle.opfs_records.specs.Replay.Applying.{tried, rows_of}
+use Rattle.opfs_records.specs.Replay.Built.{Built}
+use Rattle.opfs_records.specs.Replay.Sums.{charge_of}
 
 -- The records build rows that hold, in the content, all that was told with these changes.
 pub record IsToStore {D : Type 0} (w : DiskWords D) (a : Account) (own : List Change) (next : Stored) (built : Built) (j : Seen D) : Type 0 where

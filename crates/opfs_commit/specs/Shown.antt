@@ -8,9 +8,9 @@ use Rattle.opfs_journal.specs.Format.{Stored}
 use Rattle.opfs_machine.specs.Changes.{Change, durable}
 use Rattle.opfs_machine.specs.Openings.{Opening, Map}
 use Rattle.opfs_outside.specs.declared.disk.Disk.{Ghosts as DiskWords}
-use Rattle.opfs_replay.specs.Applying.{rows_of}
-use Rattle.opfs_replay.specs.Built.{Built}
-use Rattle.opfs_replay.specs.Sums.{charge_of}
+use Rattle.opfs_records.specs.Replay.Applying.{rows_of}
+use Rattle.opfs_records.specs.Replay.Built.{Built}
+use Rattle.opfs_records.specs.Replay.Sums.{charge_of}
 
 -- The image stands for what is stored after a front of these changes, with so many of them at least.
 pub record IsShown (o : Opening) (least : ℕ) (all : List Change) (c : List ℕ) : Type 0 where

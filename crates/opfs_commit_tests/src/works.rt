@@ -11,7 +11,7 @@ use opfs_commit::{Commits, settle};
 use opfs_image::{Geometry, Recovered, format, recover};
 use opfs_journal::Journal;
 use opfs_memory::MemDisk;
-use opfs_replay::{Rebuilt, Replay};
+use opfs_records::{Rebuilt, Replay};
 use opfs_tree::ReadyTree;
 use std::alloc::{AllocError, Global};
 

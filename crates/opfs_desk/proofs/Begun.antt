@@ -29,8 +29,8 @@ use Rattle.opfs_machine.specs.Agents.{agent_in, nobody, own_of}
 use Rattle.opfs_openings.specs.Openings.{fixed_by, limits_by, caller_by}
 use Rattle.opfs_outside.specs.Moments.{Elapses}
 use Rattle.opfs_outside.specs.declared.disk.Disk.{Ghosts as DiskWords}
-use Rattle.opfs_replay.specs.Built.{Built, all_extents, named, has_block, is_once, used_by, IsSound, IsSoundRow}
-use Rattle.opfs_replay.proofs.Holding.{all_both, are_below, is_within_size}
+use Rattle.opfs_records.specs.Replay.Built.{Built, all_extents, named, has_block, is_once, used_by, IsSound, IsSoundRow}
+use Rattle.opfs_records.proofs.replay.Holding.{all_both, are_below, is_within_size}
 use Rattle.opfs_row_puts.specs.Plans.{shelf}
 use Rattle.opfs_seats.specs.Seating.{agent_begun}
 use Rattle.opfs_seats.specs.declared.seat.Who.{Who}

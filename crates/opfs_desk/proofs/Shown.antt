@@ -22,7 +22,7 @@ use Rattle.opfs_machine.specs.Openings.{Opening}
 use Rattle.opfs_outside.specs.Faults.{Rose, RoseBy}
 use Rattle.opfs_outside.specs.Moments.{Elapses}
 use Rattle.opfs_outside.specs.declared.disk.Disk.{Ghosts as DiskWords}
-use Rattle.opfs_replay.specs.Built.{Built}
+use Rattle.opfs_records.specs.Replay.Built.{Built}
 use Rattle.opfs_desk_parts.specs.Held.{AreHeldWhole}
 use Rattle.opfs_desk_parts.specs.Seen.{book_in}
 use Rattle.opfs_desk_parts.specs.declared.parts.Ledger.{Ledger}

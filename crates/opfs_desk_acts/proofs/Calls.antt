@@ -19,7 +19,7 @@ use Rattle.opfs_machine.specs.Runs.{Call}
 use Rattle.opfs_machine.specs.Steps.{judged}
 use Rattle.opfs_outside.specs.Moments.{Elapses}
 use Rattle.opfs_outside.specs.declared.disk.Disk.{Ghosts as DiskWords}
-use Rattle.opfs_replay.specs.Built.{Built}
+use Rattle.opfs_records.specs.Replay.Built.{Built}
 use Rattle.opfs_state.specs.Applied.{StateSeen}
 use Rattle.opfs_work.specs.Works.{WorkingCopy}
 use Rattle.opfs_desk_asks.specs.Asking.{IsAskedAs, IsReadied}

@@ -19,7 +19,7 @@ use Rattle.opfs_machine.specs.Agents.{agent_of, handle_in, of_row, open_handle, 
 use Rattle.opfs_machine.specs.Contents.{in_lengths, outline_of}
 use Rattle.opfs_machine.specs.Histories.{is_handle, may_enter, state_after}
 use Rattle.opfs_outside.specs.declared.disk.Disk.{Ghosts as DiskWords}
-use Rattle.opfs_replay.specs.Built.{Built}
+use Rattle.opfs_records.specs.Replay.Built.{Built}
 use Rattle.opfs_standing.specs.Noted.{with_sum}
 use Rattle.opfs_standing.specs.Seen.{Machine}
 use Rattle.opfs_state_laws.proofs.Readying.{agent-noted, handle-noted}

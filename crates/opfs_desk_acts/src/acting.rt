@@ -14,7 +14,7 @@ ghost use Rattle.opfs_desk_plain.specs.Next.{MayGoFrom};
 ghost use Rattle.opfs_desk_reads.specs.Reading.{HaveWholeHandles};
 ghost use Rattle.opfs_desk_steps.specs.Ready.{AskedCallsAreReady};
 ghost use Rattle.opfs_laws.specs.Lengths.Bridge.{LengthsFollowEachCall, LocalCallsAreKnownByTheirWord};
-ghost use Rattle.opfs_replay.specs.Built.{Built};
+ghost use Rattle.opfs_records.specs.Replay.Built.{Built};
 
 use crate::kinds::{CallKind, kind_of};
 use opfs_acts::Acted;

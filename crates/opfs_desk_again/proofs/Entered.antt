@@ -39,9 +39,9 @@ use Rattle.opfs_machine.specs.Replies.{bytes_at, row_named}
 use Rattle.opfs_machine.specs.Steps.{after_reply, is_refusal}
 use Rattle.opfs_outside.specs.declared.disk.Disk.{Ghosts as DiskWords}
 use Rattle.opfs_pages.specs.Copies.{IsBegun}
-use Rattle.opfs_replay.specs.Built.{Built, has_block}
+use Rattle.opfs_records.specs.Replay.Built.{Built, has_block}
 use Rattle.opfs_row_puts.specs.Plans.{shelf}
-use Rattle.opfs_snapshot.specs.Written.{stored_row, stored_rows}
+use Rattle.opfs_records.specs.Checkpoint.Written.{stored_row, stored_rows}
 use Rattle.opfs_space.specs.Files.{file_has, extents_in}
 use Rattle.opfs_space.specs.Holders.{HasPage}
 use Rattle.opfs_space.specs.Room.{Machine}

@@ -25,7 +25,7 @@ use Rattle.opfs_machine.specs.Histories.{state_after}
 use Rattle.opfs_machine.specs.Replies.{bytes_at, row_named}
 use Rattle.opfs_machine.specs.Rulings.{want_of}
 use Rattle.opfs_outside.specs.declared.disk.Disk.{Ghosts as DiskWords}
-use Rattle.opfs_replay.specs.Built.{Built}
+use Rattle.opfs_records.specs.Replay.Built.{Built}
 use Rattle.opfs_laws.specs.Reserves.Reserves.{FitsOrIsStored}
 use Rattle.opfs_standing.specs.Seen.{Machine, lines_of}
 use Rattle.opfs_state.specs.Reading.{file_of_row, row_file}

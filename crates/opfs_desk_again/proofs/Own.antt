@@ -11,12 +11,12 @@ use Rattle.opfs_blocks.proofs.SetLemmas.{blocks_of-append}
 use Rattle.opfs_codec.specs.Spelling.{AreExtents}
 use Rattle.opfs_machine.specs.declared.state.FileRow.{FileRow as File}
 use Rattle.opfs_machine.specs.Rows.{file_at}
-use Rattle.opfs_replay.specs.Applying.{can_hold}
-use Rattle.opfs_replay.specs.Built.{all_extents, has_block, is_once, named, named_beside, IsSoundFile}
-use Rattle.opfs_replay.proofs.Counts.{each_of, once_from_times, once_times, times_append, times_some}
-use Rattle.opfs_replay.proofs.Holding.{all_both, is_within_size, of_all}
-use Rattle.opfs_replay.specs.Kept.{times}
-use Rattle.opfs_snapshot.specs.Written.{IsWritableRow, stored_file, stored_row, stored_rows}
+use Rattle.opfs_records.specs.Replay.Applying.{can_hold}
+use Rattle.opfs_records.specs.Replay.Built.{all_extents, has_block, is_once, named, named_beside, IsSoundFile}
+use Rattle.opfs_records.proofs.replay.Counts.{each_of, once_from_times, once_times, times_append, times_some}
+use Rattle.opfs_records.proofs.replay.Holding.{all_both, is_within_size, of_all}
+use Rattle.opfs_records.specs.Replay.Kept.{times}
+use Rattle.opfs_records.specs.Checkpoint.Written.{IsWritableRow, stored_file, stored_row, stored_rows}
 use Rattle.opfs_standing.proofs.Lines.{file-at, file_line}
 use Rattle.opfs_standing.specs.Seen.{Machine, lines_of}
 use Rattle.opfs_tree.specs.Rows.{Rows as Tree, extents_of, file_at as file_in_tree, file_of, row_at}

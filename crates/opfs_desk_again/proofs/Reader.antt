@@ -32,7 +32,7 @@ use Rattle.opfs_machine.specs.Replies.{bytes_at, row_named}
 use Rattle.opfs_machine.specs.Rulings.{is_read_write}
 use Rattle.opfs_machine.specs.Steps.{after_reply}
 use Rattle.opfs_outside.specs.declared.disk.Disk.{Ghosts as DiskWords}
-use Rattle.opfs_replay.specs.Built.{Built}
+use Rattle.opfs_records.specs.Replay.Built.{Built}
 use Rattle.opfs_standing.specs.Seen.{Machine}
 use Rattle.opfs_tree.specs.Rows.{IsInOrder}
 use Rattle.opfs_verdicts.specs.Callers.{IsAgent}

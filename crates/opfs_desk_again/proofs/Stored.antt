@@ -43,10 +43,10 @@ use Rattle.opfs_machine.specs.Rulings.{is_read_write, size_in, want_of}
 use Rattle.opfs_machine.specs.Runs.{eviction}
 use Rattle.opfs_machine.specs.Steps.{after_reply, evicted}
 use Rattle.opfs_outside.specs.declared.disk.Disk.{Ghosts as DiskWords}
-use Rattle.opfs_replay.specs.Applying.{can_hold}
-use Rattle.opfs_replay.specs.Built.{Built, named_beside}
+use Rattle.opfs_records.specs.Replay.Applying.{can_hold}
+use Rattle.opfs_records.specs.Replay.Built.{Built, named_beside}
 use Rattle.opfs_laws.specs.Reserves.Reserves.{FitsOrIsStored, ReservesFitOrNothingIsUnflushed}
-use Rattle.opfs_snapshot.specs.Written.{stored_file, stored_rows}
+use Rattle.opfs_records.specs.Checkpoint.Written.{stored_file, stored_rows}
 use Rattle.opfs_standing.specs.Seen.{Machine, lines_of}
 use Rattle.opfs_state.specs.Reading.{row_file}
 use Rattle.opfs_tree.specs.Rows.{Rows as Tree, IsInOrder, file_at as file_in_tree, row_at}

@@ -26,7 +26,7 @@ ghost use Rattle.opfs_desk_rows.specs.Stored.{FilesAreStored, HistoriesAreCleare
 ghost use Rattle.opfs_hist.specs.declared.reply.Reply.TheVariants as reply;
 ghost use Rattle.opfs_machine.specs.declared.own.Own.{Own};
 ghost use Rattle.opfs_machine.specs.declared.state.State.{State};
-ghost use Rattle.opfs_replay.specs.Built.{Built};
+ghost use Rattle.opfs_records.specs.Replay.Built.{Built};
 ghost use Rattle.opfs_laws.specs.Reserves.Reserves.{ReservesFitOrNothingIsUnflushed};
 ghost use Rattle.opfs_tree.specs.Rows.{IsInOrder, file_at as file_in_tree};
 ghost use Rattle.opfs_tree.specs.declared.row.FileRow.{FileRow};

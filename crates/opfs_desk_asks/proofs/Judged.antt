@@ -33,7 +33,7 @@ use Rattle.opfs_machine.specs.Replies.{sizes_of}
 use Rattle.opfs_machine.specs.Runs.{Call}
 use Rattle.opfs_machine.specs.Steps.{judged}
 use Rattle.opfs_outside.specs.declared.disk.Disk.{Ghosts as DiskWords}
-use Rattle.opfs_replay.specs.Built.{Built}
+use Rattle.opfs_records.specs.Replay.Built.{Built}
 use Rattle.opfs_sharing.proofs.Pending.{sum-noted}
 use Rattle.opfs_sharing.specs.Noting.{noted}
 use Rattle.opfs_standing.specs.Noted.{with_sum}

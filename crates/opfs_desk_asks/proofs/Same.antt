@@ -6,7 +6,7 @@ use Rattle.opfs_books.specs.Seen.{book}
 use Rattle.opfs_desk_laws.specs.Laid.{AreLaid}
 use Rattle.opfs_machine.specs.Histories.{state_after}
 use Rattle.opfs_outside.specs.declared.disk.Disk.{Ghosts as DiskWords}
-use Rattle.opfs_replay.specs.Built.{Built}
+use Rattle.opfs_records.specs.Replay.Built.{Built}
 use Rattle.opfs_row_puts.specs.Plans.{shelf}
 use Rattle.opfs_space.specs.Room.{Machine}
 use Rattle.opfs_state.specs.Applied.{StateSeen}

@@ -8,7 +8,7 @@ ghost use Rattle.opfs_book_laws.specs.Books.{Fixed};
 ghost use Rattle.opfs_desk_asks.specs.Asking.{MayAsk, IsAskedAs};
 ghost use Rattle.opfs_desk_parts.specs.Held.{AreHeldWhole};
 ghost use Rattle.opfs_desk_parts.specs.declared.parts.Pages.{Pages};
-ghost use Rattle.opfs_replay.specs.Built.{Built};
+ghost use Rattle.opfs_records.specs.Replay.Built.{Built};
 
 use crate::asked::{Asked, Readied};
 use crate::clearings::clearings_for;

@@ -8,7 +8,7 @@ use Rattle.opfs_data.specs.Pages.{runs_of}
 use Rattle.opfs_data.specs.Places.{Aside}
 use Rattle.opfs_data.specs.Writes.{PageWrite}
 use Rattle.opfs_image.specs.Filling.{AreIn}
-use Rattle.opfs_replay.specs.Built.{has_block}
+use Rattle.opfs_records.specs.Replay.Built.{has_block}
 use Rattle.opfs_space.specs.Holders.{Writes}
 use Rattle.opfs_space.proofs.Others.{member_left, member_right}
 

@@ -17,10 +17,10 @@ use Rattle.opfs_desk_laws.specs.Laws.{BlocksGoOn}
 use Rattle.opfs_desk_laws.specs.Spaced.{AreSpaced}
 use Rattle.opfs_desk_laws.proofs.Holding.{spaced-blocks}
 use Rattle.opfs_desk_ways.proofs.Evictions.{spaced-recorded, stored-named}
-use Rattle.opfs_replay.specs.Built.{block_count, has_block, is_once}
-use Rattle.opfs_replay.proofs.Counts.{distinct_once}
+use Rattle.opfs_records.specs.Replay.Built.{block_count, has_block, is_once}
+use Rattle.opfs_records.proofs.replay.Counts.{distinct_once}
 use Rattle.opfs_row_puts.specs.Plans.{shelf}
-use Rattle.opfs_snapshot.specs.Written.{stored_rows}
+use Rattle.opfs_records.specs.Checkpoint.Written.{stored_rows}
 use Rattle.opfs_space.specs.Holders.{HasPage}
 use Rattle.opfs_space.specs.Room.{Machine}
 use Rattle.opfs_space.specs.Spaces.{SpaceSeen, page_blocks, with_block}

@@ -9,7 +9,7 @@ use Rattle.opfs_codec.specs.Spelling.{IsChange, AreExtents}
 use Rattle.opfs_codec.specs.declared.change.Change.{Change as Spelled}
 use Rattle.opfs_codec.specs.declared.change.Change.TheVariants.{Content}
 use Rattle.opfs_codec.specs.declared.change.Format.TheVariants.{New}
-use Rattle.opfs_snapshot.specs.Written.{IsWritablePlace}
+use Rattle.opfs_records.specs.Checkpoint.Written.{IsWritablePlace}
 use Rattle.opfs_desk_parts.specs.Seen.{book_in}
 use Rattle.opfs_desk_parts.specs.declared.parts.Ledger.{Ledger}
 

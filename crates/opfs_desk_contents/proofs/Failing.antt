@@ -17,7 +17,7 @@ use Rattle.opfs_machine.specs.Changes.{Change}
 use Rattle.opfs_machine.specs.Histories.{IsCall, state_after}
 use Rattle.opfs_outside.specs.Faults.{Rose, RoseBy}
 use Rattle.opfs_outside.specs.declared.disk.Disk.{Ghosts as DiskWords}
-use Rattle.opfs_replay.specs.Built.{Built}
+use Rattle.opfs_records.specs.Replay.Built.{Built}
 
 module _ {D : Type 0} (w : DiskWords D) (f : Fixed D) (counts : FaultsAreCounted w) (recorded : Built) (l back new : Ledger D) (p q : Pages) (e : Entry) (are : AreHeldWhole w f recorded l p) (cleared : AreCleared w f [] l back q) (entries : back.books.history ≡ l.books.history)
     (fault : IsCall (state_after f.opening l.books.history) [] (failed e)) (rose : Rose (w.faults l.journal.disk) (w.faults back.journal.disk)) where

@@ -21,9 +21,9 @@ use Rattle.opfs_machine.specs.Histories.{state_after}
 use Rattle.opfs_machine.specs.Sums.{reserve_of}
 use Rattle.opfs_outside.specs.declared.disk.Disk.{Ghosts as DiskWords}
 use Rattle.opfs_puts.specs.declared.put.Put.{Put}
-use Rattle.opfs_replay.specs.Built.{Built, has_block, named}
+use Rattle.opfs_records.specs.Replay.Built.{Built, has_block, named}
 use Rattle.opfs_row_puts.specs.Plans.{shelf, AreGotten, KnowsOwn, MayFindBlocks, WaitForBlocks}
-use Rattle.opfs_snapshot.specs.Written.{stored_rows}
+use Rattle.opfs_records.specs.Checkpoint.Written.{stored_rows}
 use Rattle.opfs_space.specs.Room.{Machine}
 use Rattle.opfs_space.specs.Spaces.{SpaceSeen}
 use Rattle.opfs_standing.specs.Seen.{lines_of}

@@ -15,11 +15,11 @@ use Rattle.opfs_data.specs.Rows.{Rows}
 use Rattle.opfs_desk_laws.specs.Open.{open_at, file_in}
 use Rattle.opfs_desk_laws.specs.Spaced.{AreSpaced}
 use Rattle.opfs_desk_laws.proofs.Holding.{spaced-blocks}
-use Rattle.opfs_replay.specs.Applying.{can_hold}
-use Rattle.opfs_replay.specs.Built.{all_extents, block_count, has_block, is_once, named, named_beside}
-use Rattle.opfs_replay.proofs.Holding.{all_both, is_within_size, of_all}
+use Rattle.opfs_records.specs.Replay.Applying.{can_hold}
+use Rattle.opfs_records.specs.Replay.Built.{all_extents, block_count, has_block, is_once, named, named_beside}
+use Rattle.opfs_records.proofs.replay.Holding.{all_both, is_within_size, of_all}
 use Rattle.opfs_row_puts.specs.Plans.{shelf}
-use Rattle.opfs_snapshot.specs.Written.{stored_row, stored_rows}
+use Rattle.opfs_records.specs.Checkpoint.Written.{stored_row, stored_rows}
 use Rattle.opfs_space.specs.Files.{extents_in, file_has}
 use Rattle.opfs_space.specs.Holders.{HasPage}
 use Rattle.opfs_space.specs.Room.{Machine}

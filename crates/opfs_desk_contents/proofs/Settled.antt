@@ -17,7 +17,7 @@ use Rattle.opfs_machine.specs.declared.state.State.{State}
 use Rattle.opfs_machine.specs.Changes.{changes}
 use Rattle.opfs_machine.specs.Histories.{state_after}
 use Rattle.opfs_outside.specs.declared.disk.Disk.{Ghosts as DiskWords}
-use Rattle.opfs_replay.specs.Built.{Built}
+use Rattle.opfs_records.specs.Replay.Built.{Built}
 use Rattle.opfs_state.specs.Applied.{StateSeen}
 
 module _ {D : Type 0} (w : DiskWords D) (f : Fixed D) (l new : Ledger D) (entries : new.books.history ≡ l.books.history) where

@@ -38,11 +38,11 @@ use Rattle.opfs_laws.specs.Lengths.Kept.{Kept}
 use Rattle.opfs_machine.specs.Sums.{durable_blocks, reserve_of}
 use Rattle.opfs_outside.specs.declared.disk.Disk.{Ghosts as DiskWords}
 use Rattle.opfs_laws.proofs.Spots.{exact_places}
-use Rattle.opfs_replay.specs.Applying.{can_hold}
-use Rattle.opfs_replay.specs.Built.{Built, named_beside}
-use Rattle.opfs_replay.proofs.Holding.{all_more}
+use Rattle.opfs_records.specs.Replay.Applying.{can_hold}
+use Rattle.opfs_records.specs.Replay.Built.{Built, named_beside}
+use Rattle.opfs_records.proofs.replay.Holding.{all_more}
 use Rattle.opfs_row_puts.specs.Rows.{ArePlain}
-use Rattle.opfs_snapshot.specs.Written.{IsWritablePlace, IsWritableRow, stored_row, stored_rows}
+use Rattle.opfs_records.specs.Checkpoint.Written.{IsWritablePlace, IsWritableRow, stored_row, stored_rows}
 use Rattle.opfs_space.specs.Room.{Machine}
 use Rattle.opfs_space.proofs.Others.{others_fewer}
 use Rattle.opfs_tree.specs.Rows.{Rows as Tree, IsInOrder, file_at as file_in_tree, file_of, row_at}

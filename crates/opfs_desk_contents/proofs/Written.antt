@@ -37,7 +37,7 @@ use Rattle.opfs_outside.specs.declared.disk.Disk.{Ghosts as DiskWords}
 use Rattle.opfs_pages.specs.Copies.{IsBegun}
 use Rattle.opfs_puts.specs.Puts.{IsPut, IsNotPut, all_writes}
 use Rattle.opfs_puts.specs.declared.put.Put.{Put}
-use Rattle.opfs_replay.specs.Built.{Built, all_extents, has_block, named}
+use Rattle.opfs_records.specs.Replay.Built.{Built, all_extents, has_block, named}
 use Rattle.opfs_row_puts.specs.Plans.{shelf}
 use Rattle.opfs_row_puts.proofs.Placing.{put-spaced, left-spaced}
 use Rattle.opfs_row_puts.proofs.Written.{put-begins, put-plain}

@@ -8,7 +8,7 @@ use Rattle.opfs_desk_laws.specs.Open.{open_at, file_in, is_stream, OthersStayOpe
 use Rattle.opfs_desk_laws.specs.Spaced.{AreSpaced}
 use Rattle.opfs_row_puts.specs.Plans.{shelf}
 use Rattle.opfs_row_puts.specs.Rows.{ArePlain}
-use Rattle.opfs_snapshot.specs.Written.{stored_rows}
+use Rattle.opfs_records.specs.Checkpoint.Written.{stored_rows}
 use Rattle.opfs_space.specs.Files.{IsChangedAt}
 use Rattle.opfs_space.specs.Room.{Machine}
 use Rattle.opfs_space.specs.Spaces.{SpaceSeen}

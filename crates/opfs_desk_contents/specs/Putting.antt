@@ -15,7 +15,7 @@ use Rattle.opfs_outside.specs.declared.disk.Disk.{Ghosts as DiskWords}
 use Rattle.opfs_pages.specs.Copies.{IsBegun}
 use Rattle.opfs_puts.specs.Puts.{IsReady as IsPutReady}
 use Rattle.opfs_puts.specs.declared.put.Put.{Put}
-use Rattle.opfs_replay.specs.Built.{Built}
+use Rattle.opfs_records.specs.Replay.Built.{Built}
 use Rattle.opfs_row_puts.specs.Plans.{AreGotten, HaveBlocks, IsStagedFor}
 use Rattle.opfs_row_puts.specs.Rows.{Change, ArePlain, IsPutOf}
 use Rattle.opfs_laws.specs.Steady.Steady.{row_bytes}

@@ -28,9 +28,9 @@ use Rattle.opfs_machine.specs.Histories.{IsCall, state_after}
 use Rattle.opfs_outside.specs.declared.disk.Disk.{Ghosts as DiskWords}
 use Rattle.opfs_pages.specs.Copies.{IsBegun}
 use Rattle.opfs_puts.specs.declared.put.Put.{Put}
-use Rattle.opfs_replay.specs.Built.{Built, block_count, has_block, is_once}
+use Rattle.opfs_records.specs.Replay.Built.{Built, block_count, has_block, is_once}
 use Rattle.opfs_row_puts.specs.Rows.{ArePlain}
-use Rattle.opfs_snapshot.specs.Written.{IsWritablePlace}
+use Rattle.opfs_records.specs.Checkpoint.Written.{IsWritablePlace}
 use Rattle.opfs_space.specs.Holders.{HasPage}
 use Rattle.opfs_tree.specs.Rows.{IsInOrder, file_at as file_in_tree}
 use Rattle.opfs_tree.specs.declared.row.FileRow.{FileRow}

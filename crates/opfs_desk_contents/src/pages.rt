@@ -14,7 +14,7 @@ ghost use Rattle.opfs_desk_parts.specs.Acted.{HasFailed};
 ghost use Rattle.opfs_desk_parts.specs.Held.{AreHeldWhole};
 ghost use Rattle.opfs_desk_rows.specs.Inside.{PartsLieInside};
 ghost use Rattle.opfs_hist.specs.declared.reply.Reply.TheVariants as reply;
-ghost use Rattle.opfs_replay.specs.Built.{Built};
+ghost use Rattle.opfs_records.specs.Replay.Built.{Built};
 
 use crate::planning::Plan;
 use crate::putting::put_content;

@@ -10,7 +10,7 @@ ghost use Rattle.opfs_desk_parts.specs.Acted.{AreCleared};
 ghost use Rattle.opfs_desk_parts.specs.Held.{AreHeldWhole};
 ghost use Rattle.opfs_desk_parts.specs.declared.parts.Pages.{Pages};
 ghost use Rattle.opfs_outside.specs.Faults.{Rose};
-ghost use Rattle.opfs_replay.specs.Built.{Built};
+ghost use Rattle.opfs_records.specs.Replay.Built.{Built};
 ghost use Rattle.opfs_row_puts.specs.Plans.{HaveBlocks};
 ghost use Rattle.opfs_work.specs.Works.{WorkingCopy};
 

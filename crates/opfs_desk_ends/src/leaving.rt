@@ -25,7 +25,7 @@ ghost use Rattle.opfs_laws.specs.Lengths.Bridge.{LengthsDecideEachRuling, Length
 ghost use Rattle.opfs_machine.specs.declared.own.Own.{Own};
 ghost use Rattle.opfs_machine.specs.declared.state.State.{State};
 ghost use Rattle.opfs_machine.specs.Replies.{row_named};
-ghost use Rattle.opfs_replay.specs.Built.{Built};
+ghost use Rattle.opfs_records.specs.Replay.Built.{Built};
 
 use opfs_acts::{Acted, Gift};
 use opfs_book_laws::the_books_show_their_images;

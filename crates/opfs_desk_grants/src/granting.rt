@@ -17,7 +17,7 @@ ghost use Rattle.opfs_desk_steps.specs.Ready.{AskedCallsAreReady};
 ghost use Rattle.opfs_laws.specs.Histories.Unread.{ReadsLeaveTheState};
 ghost use Rattle.opfs_laws.specs.Counting.{AStateCountsItsHistory};
 ghost use Rattle.opfs_laws.specs.Lengths.Bridge.{LengthsFollowEachCall, LocalCallsAreKnownByTheirWord};
-ghost use Rattle.opfs_replay.specs.Built.{Built};
+ghost use Rattle.opfs_records.specs.Replay.Built.{Built};
 
 use crate::entering::{enter_mode, unit_in};
 use opfs_acts::{Acted, Gift};

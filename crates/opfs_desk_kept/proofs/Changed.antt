@@ -20,9 +20,9 @@ use Rattle.opfs_machine.specs.Agents.{agent_in, own_of}
 use Rattle.opfs_machine.specs.Histories.{state_after}
 use Rattle.opfs_machine.specs.Steps.{is_refusal}
 use Rattle.opfs_outside.specs.declared.disk.Disk.{Ghosts as DiskWords}
-use Rattle.opfs_replay.specs.Built.{Built}
+use Rattle.opfs_records.specs.Replay.Built.{Built}
 use Rattle.opfs_row_puts.specs.Plans.{shelf}
-use Rattle.opfs_snapshot.specs.Written.{stored_rows}
+use Rattle.opfs_records.specs.Checkpoint.Written.{stored_rows}
 use Rattle.opfs_space.specs.Room.{Machine}
 use Rattle.opfs_laws.specs.Steady.Steady.{settles, concerns}
 use Rattle.opfs_tree.specs.Rows.{Rows as Tree}

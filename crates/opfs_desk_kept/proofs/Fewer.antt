@@ -31,9 +31,9 @@ use Rattle.opfs_machine.specs.Effects.{effect, moment_of}
 use Rattle.opfs_machine.specs.Rows.{file_of, without as machine_without}
 use Rattle.opfs_machine.specs.Rows.{file_at as machine_file, row_at as machine_row}
 use Rattle.opfs_tree.specs.Ready.Ready.{new_row}
-use Rattle.opfs_replay.specs.Built.{named, has_block}
+use Rattle.opfs_records.specs.Replay.Built.{named, has_block}
 use Rattle.opfs_row_puts.specs.Plans.{shelf}
-use Rattle.opfs_snapshot.specs.Written.{stored_rows}
+use Rattle.opfs_records.specs.Checkpoint.Written.{stored_rows}
 use Rattle.opfs_space.specs.Files.{file_has}
 use Rattle.opfs_space.specs.Room.{Machine}
 use Rattle.opfs_space.specs.Spaces.{SpaceSeen}

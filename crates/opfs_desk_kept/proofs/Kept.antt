@@ -18,7 +18,7 @@ use Rattle.opfs_machine.specs.declared.state.State.{State}
 use Rattle.opfs_machine.specs.Agents.{agent_of}
 use Rattle.opfs_machine.specs.Histories.{state_after}
 use Rattle.opfs_outside.specs.declared.disk.Disk.{Ghosts as DiskWords}
-use Rattle.opfs_replay.specs.Built.{Built}
+use Rattle.opfs_records.specs.Replay.Built.{Built}
 use Rattle.opfs_standing.specs.Seen.{lines_of}
 use Rattle.opfs_tree.specs.Rows.{Rows as Tree, IsInOrder}
 use Rattle.opfs_work.specs.Works.{WorkingCopy}

@@ -44,8 +44,8 @@ use Rattle.opfs_machine.specs.Replies.{sizes_of}
 use Rattle.opfs_machine.specs.Rows.{row_at}
 use Rattle.opfs_machine.specs.Rulings.{ruling, get_directory_ruling, get_handle_ruling, remove_entry_ruling}
 use Rattle.opfs_machine.specs.Steps.{judged, room_for}
-use Rattle.opfs_replay.specs.Built.{Built}
-use Rattle.opfs_snapshot.specs.Written.{IsWritablePlace, IsWritableRow, stored_row, stored_rows}
+use Rattle.opfs_records.specs.Replay.Built.{Built}
+use Rattle.opfs_records.specs.Checkpoint.Written.{IsWritablePlace, IsWritableRow, stored_row, stored_rows}
 use Rattle.opfs_space.specs.Room.{Machine}
 use Rattle.opfs_standing.specs.Seen.{line_of, lines_of}
 use Rattle.opfs_tree.specs.Rows.{Rows as Tree}

@@ -11,7 +11,7 @@ use Rattle.opfs_laws.specs.Counting.{key_of}
 use Rattle.opfs_machine.specs.Agents.{agent_of}
 use Rattle.opfs_machine.specs.Effects.{moment_of}
 use Rattle.opfs_outside.specs.declared.disk.Disk.{Ghosts as DiskWords}
-use Rattle.opfs_replay.specs.Built.{Built}
+use Rattle.opfs_records.specs.Replay.Built.{Built}
 use Rattle.opfs_standing.specs.Seen.{lines_of}
 use Rattle.opfs_work.specs.Works.{WorkingCopy}
 use Rattle.std.specs.Prelude.{ℕ}

@@ -20,7 +20,7 @@ ghost use Rattle.opfs_machine.specs.Agents.{counted};
 ghost use Rattle.opfs_machine.specs.Contents.{in_lengths};
 ghost use Rattle.opfs_machine.specs.Effects.{effect};
 ghost use Rattle.opfs_machine.specs.Steps.{is_refusal};
-ghost use Rattle.opfs_replay.specs.Built.{Built};
+ghost use Rattle.opfs_records.specs.Replay.Built.{Built};
 
 use opfs_book_laws::{the_books_show_their_images, the_state_is_kept};
 use opfs_books::Entering;

@@ -5,7 +5,7 @@ use Rattle.std.specs.Ordering.{is_eq, eq_by_cmp}
 use Rattle.opfs_base.specs.Places.{Place, place_cmp}
 use Rattle.opfs_base.specs.declared.extents.Extent.{Extent}
 use Rattle.opfs_blocks.specs.Sets.{blocks_of}
-use Rattle.opfs_replay.specs.Built.{named, has_block}
+use Rattle.opfs_records.specs.Replay.Built.{named, has_block}
 use Rattle.opfs_space.specs.Files.{extents_in, file_has}
 use Rattle.opfs_laws.proofs.Spots.{same_place}
 use Rattle.opfs_space.proofs.FileBlocks.{has_named, named_has}

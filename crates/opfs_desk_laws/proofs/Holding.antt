@@ -2,7 +2,7 @@
 use Rattle.std.proofs.Common.{ℕ, refl, sym, subst, ◌∙◌, arith}
 use Rattle.opfs_blocks.specs.Sets.{Used}
 use Rattle.opfs_data.specs.Rows.{Rows}
-use Rattle.opfs_replay.specs.Built.{named, has_block}
+use Rattle.opfs_records.specs.Replay.Built.{named, has_block}
 use Rattle.opfs_space.specs.Files.{file_has}
 use Rattle.opfs_space.specs.Holders.{Holders, HasPage, KeepsRow, AreBlocks}
 use Rattle.opfs_space.specs.Room.{Machine}

@@ -7,7 +7,7 @@ use Rattle.opfs_data.specs.Pages.{resized, with_writes, pages_in, AreOnce}
 use Rattle.opfs_data.specs.Rows.{pages_at, OthersStay}
 use Rattle.opfs_data.specs.Writes.{PageWrite}
 use Rattle.opfs_machine.specs.declared.own.Outline.{Outline}
-use Rattle.opfs_replay.specs.Built.{has_block}
+use Rattle.opfs_records.specs.Replay.Built.{has_block}
 use Rattle.opfs_space.specs.Files.{file_has}
 use Rattle.opfs_space.specs.Holders.{HasPage, KeepsRow, KeepsOthers, HasFiles, AreMine}
 use Rattle.opfs_space.specs.Room.{Machine}

@@ -21,7 +21,7 @@ use Rattle.opfs_machine.specs.Histories.{state_after}
 use Rattle.opfs_machine.specs.Openings.{Opening}
 use Rattle.opfs_machine.specs.Steps.{after_reply, evicted}
 use Rattle.opfs_pages.specs.Copies.{IsBegun}
-use Rattle.opfs_replay.specs.Built.{has_block}
+use Rattle.opfs_records.specs.Replay.Built.{has_block}
 use Rattle.opfs_space.specs.Files.{file_has}
 use Rattle.opfs_space.specs.Holders.{HasPage, AreMine}
 use Rattle.opfs_space.specs.Room.{Machine}

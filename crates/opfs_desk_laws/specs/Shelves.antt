@@ -1,7 +1,7 @@
 -- What happens to the store's rows and pages, as far as blocks go. This project's own.
 use Rattle.std.specs.Prelude.{◌≡◌, ℕ, Option}
 use Rattle.opfs_base.specs.Places.{Place}
-use Rattle.opfs_replay.specs.Built.{named, has_block}
+use Rattle.opfs_records.specs.Replay.Built.{named, has_block}
 use Rattle.opfs_space.specs.Files.{file_has}
 use Rattle.opfs_space.specs.Holders.{HasPage}
 use Rattle.opfs_space.specs.Room.{Machine}

@@ -2,7 +2,7 @@
 use Rattle.std.specs.Prelude.{◌≡◌, ℕ, length, Option}
 use Rattle.opfs_base.specs.Places.{Place}
 use Rattle.opfs_data.specs.Rows.{Rows}
-use Rattle.opfs_replay.specs.Built.{named, has_block}
+use Rattle.opfs_records.specs.Replay.Built.{named, has_block}
 use Rattle.opfs_space.specs.Files.{file_has}
 use Rattle.opfs_space.specs.Holders.{Holders, AreBlocks}
 use Rattle.opfs_space.specs.Room.{Machine}

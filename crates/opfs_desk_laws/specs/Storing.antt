@@ -4,7 +4,7 @@ use Rattle.opfs_base.specs.Places.{Place}
 use Rattle.opfs_base.specs.declared.extents.Extent.{Extent}
 use Rattle.opfs_blocks.specs.Sets.{blocks_of}
 use Rattle.opfs_data.specs.Rows.{IsOther}
-use Rattle.opfs_replay.specs.Built.{named, has_block}
+use Rattle.opfs_records.specs.Replay.Built.{named, has_block}
 use Rattle.opfs_space.specs.Files.{file_has, IsChangedAt}
 use Rattle.opfs_space.specs.Holders.{HasPage}
 use Rattle.opfs_space.specs.Room.{Machine}

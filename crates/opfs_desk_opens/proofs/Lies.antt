@@ -7,8 +7,8 @@ use Rattle.opfs_hist.specs.declared.op.Op.{Op}
 use Rattle.opfs_hist.specs.declared.op.Op.TheVariants as op
 use Rattle.opfs_image.specs.Superblock.{is_in_range}
 use Rattle.opfs_image.specs.declared.geometry.Geometry.{Geometry}
-use Rattle.opfs_replay.specs.Built.{IsSoundRow}
-use Rattle.opfs_snapshot.specs.Written.{stored_rows}
+use Rattle.opfs_records.specs.Replay.Built.{IsSoundRow}
+use Rattle.opfs_records.specs.Checkpoint.Written.{stored_rows}
 use Rattle.opfs_tree.specs.declared.row.Row.{Row}
 use Rattle.opfs_tree.specs.declared.row.Row.TheVariants as row
 use Rattle.opfs_tree.specs.Rows.{Rows as Tree, row_at}

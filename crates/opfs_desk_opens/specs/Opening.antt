@@ -8,7 +8,7 @@ use Rattle.opfs_data.specs.Rows.{kept_count}
 use Rattle.opfs_hist.specs.declared.entry.Entry.{Entry}
 use Rattle.opfs_hist.specs.declared.reply.Reply.TheVariants as reply
 use Rattle.opfs_outside.specs.declared.disk.Disk.{Ghosts as DiskWords}
-use Rattle.opfs_replay.specs.Built.{Built}
+use Rattle.opfs_records.specs.Replay.Built.{Built}
 use Rattle.opfs_work.specs.Works.{WorkingCopy}
 use Rattle.opfs_desk_parts.specs.Asked.{IsAsked}
 use Rattle.opfs_desk_parts.specs.Held.{AreHeldWhole}

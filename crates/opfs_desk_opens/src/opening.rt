@@ -25,7 +25,7 @@ ghost use Rattle.opfs_desk_steps.specs.Acting.{CallsAreActed};
 ghost use Rattle.opfs_desk_steps.specs.Answering.{ReadyCallsAreAnswered};
 ghost use Rattle.opfs_desk_steps.specs.Going.{HasTold, IsTidy};
 ghost use Rattle.opfs_desk_steps.specs.Ready.{AskedCallsAreReady};
-ghost use Rattle.opfs_replay.specs.Built.{Built};
+ghost use Rattle.opfs_records.specs.Replay.Built.{Built};
 ghost use Rattle.opfs_tree.specs.Rows.{IsInOrder};
 
 use crate::pages::{next_row, open_pages};

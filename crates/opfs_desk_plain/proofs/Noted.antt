@@ -14,7 +14,7 @@ use Rattle.opfs_laws.specs.Lengths.Outlines.{in_lengths_of}
 use Rattle.opfs_machine.specs.Histories.{after_entry, state_after}
 use Rattle.opfs_machine.specs.Openings.{begun}
 use Rattle.opfs_outside.specs.declared.disk.Disk.{Ghosts as DiskWords}
-use Rattle.opfs_replay.specs.Built.{Built}
+use Rattle.opfs_records.specs.Replay.Built.{Built}
 use Rattle.opfs_sharing.specs.Noting.{noted}
 use Rattle.opfs_sharing.proofs.Pending.{sum-noted}
 use Rattle.opfs_standing.specs.Noted.{with_sum}

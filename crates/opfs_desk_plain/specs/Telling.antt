@@ -15,7 +15,7 @@ use Rattle.opfs_machine.specs.Replies.{origin_in}
 use Rattle.opfs_machine.specs.Steps.{is_refusal}
 use Rattle.opfs_machine.specs.Sums.{is_persistent}
 use Rattle.opfs_outside.specs.declared.disk.Disk.{Ghosts as DiskWords}
-use Rattle.opfs_replay.specs.Built.{Built}
+use Rattle.opfs_records.specs.Replay.Built.{Built}
 use Rattle.opfs_standing.specs.Seen.{Machine}
 use Rattle.opfs_state.specs.Applied.{StateSeen}
 use Rattle.opfs_work.specs.Works.{WorkingCopy}

@@ -12,7 +12,7 @@ ghost use Rattle.opfs_desk_plain.specs.Telling.{TellsOnly, is_of_mode, mode_answ
 ghost use Rattle.opfs_machine.specs.Agents.{agent_of};
 ghost use Rattle.opfs_machine.specs.Replies.{origin_in};
 ghost use Rattle.opfs_machine.specs.Sums.{is_persistent};
-ghost use Rattle.opfs_replay.specs.Built.{Built};
+ghost use Rattle.opfs_records.specs.Replay.Built.{Built};
 ghost use Rattle.opfs_verdicts.specs.Callers.{IsAgent};
 
 use crate::telling::{tell, telling_laws};

@@ -11,7 +11,7 @@ ghost use Rattle.opfs_desk_parts.specs.Held.{AreHeldWhole};
 ghost use Rattle.opfs_desk_parts.specs.Seen.{call_in};
 ghost use Rattle.opfs_desk_plain.specs.Next.{found_gift, found_reply, is_next, next_gift, next_least, names_in, MayGoFrom};
 ghost use Rattle.opfs_iterating.specs.Reached.{AreGivenUpTo, IsUpTo};
-ghost use Rattle.opfs_replay.specs.Built.{Built};
+ghost use Rattle.opfs_records.specs.Replay.Built.{Built};
 ghost use Rattle.opfs_tree.specs.Rows.{children_of, least_not_in};
 
 use crate::telling::{tell, telling_laws};

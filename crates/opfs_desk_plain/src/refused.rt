@@ -6,7 +6,7 @@ ghost use Rattle.opfs_book_laws.specs.Books.{Fixed};
 ghost use Rattle.opfs_desk_parts.specs.Acted.{HasActed};
 ghost use Rattle.opfs_desk_parts.specs.Held.{AreHeldWhole};
 ghost use Rattle.opfs_desk_plain.specs.Refused.{MayActRefused, IsRefusedCall};
-ghost use Rattle.opfs_replay.specs.Built.{Built};
+ghost use Rattle.opfs_records.specs.Replay.Built.{Built};
 ghost use Rattle.opfs_work.specs.Works.{WorkingCopy};
 
 use opfs_acts::{Acted, Gift};

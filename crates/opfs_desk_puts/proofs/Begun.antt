@@ -34,7 +34,7 @@ use Rattle.opfs_machine.specs.Rows.{file_at}
 use Rattle.opfs_machine.specs.Steps.{evicted}
 use Rattle.opfs_outside.specs.declared.disk.Disk.{Ghosts as DiskWords}
 use Rattle.opfs_puts.specs.declared.put.Put.{Put}
-use Rattle.opfs_replay.specs.Built.{Built}
+use Rattle.opfs_records.specs.Replay.Built.{Built}
 use Rattle.opfs_row_puts.specs.Plans.{shelf, AreGotten, HaveBlocks, KnowsOwn}
 use Rattle.opfs_space.specs.Room.{Machine}
 use Rattle.opfs_space.specs.Spaces.{SpaceSeen}

@@ -16,7 +16,7 @@ use Rattle.opfs_machine.specs.Histories.{IsCall}
 use Rattle.opfs_outside.specs.Faults.{Rose, RoseBy}
 use Rattle.opfs_outside.specs.Moments.{Elapses}
 use Rattle.opfs_outside.specs.declared.disk.Disk.{Ghosts as DiskWords}
-use Rattle.opfs_replay.specs.Built.{Built}
+use Rattle.opfs_records.specs.Replay.Built.{Built}
 use Rattle.opfs_seats.specs.Slots.{most_rows}
 use Rattle.opfs_sharing.specs.Serving.{MayApplyTo}
 use Rattle.opfs_state.specs.Applied.{StateSeen, IsPrepared}

@@ -21,7 +21,7 @@ use Rattle.opfs_machine.specs.declared.state.State.{State}
 use Rattle.opfs_outside.specs.declared.disk.Disk.{Ghosts as DiskWords}
 use Rattle.opfs_puts.specs.Puts.{IsReady}
 use Rattle.opfs_puts.specs.declared.put.Put.{Put}
-use Rattle.opfs_replay.specs.Built.{Built, named, has_block}
+use Rattle.opfs_records.specs.Replay.Built.{Built, named, has_block}
 use Rattle.opfs_row_puts.specs.Plans.{shelf, AreGotten, HaveBlocks, KnowsOwn, MayFindBlocks, WaitForBlocks}
 use Rattle.opfs_space.specs.Holders.{AreAllBelow, AreBlocks, HasPage}
 use Rattle.opfs_space.specs.Room.{Machine}

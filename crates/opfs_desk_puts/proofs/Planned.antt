@@ -27,7 +27,7 @@ use Rattle.opfs_pages.specs.Copies.{AreHeld, IsCopy, IsPageOf}
 use Rattle.opfs_pages.specs.Stages.{changed}
 use Rattle.opfs_puts.specs.Puts.{HasSamePages, IsReady}
 use Rattle.opfs_puts.specs.declared.put.Put.{Put}
-use Rattle.opfs_replay.specs.Built.{Built}
+use Rattle.opfs_records.specs.Replay.Built.{Built}
 use Rattle.opfs_row_puts.specs.Plans.{shelf, AreGotten, IsStagedFor}
 use Rattle.opfs_row_puts.proofs.Getting.{pages-same}
 use Rattle.opfs_space.specs.Room.{Machine}

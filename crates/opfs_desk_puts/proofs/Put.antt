@@ -47,7 +47,7 @@ use Rattle.opfs_machine.specs.Sums.{reserve_of}
 use Rattle.opfs_outside.specs.declared.disk.Disk.{Ghosts as DiskWords}
 use Rattle.opfs_puts.specs.Puts.{all_writes}
 use Rattle.opfs_puts.specs.declared.put.Put.{Put}
-use Rattle.opfs_replay.specs.Built.{Built}
+use Rattle.opfs_records.specs.Replay.Built.{Built}
 use Rattle.opfs_row_puts.specs.Plans.{shelf}
 use Rattle.opfs_row_puts.specs.Rows.{Change, IsPutOf}
 use Rattle.opfs_row_puts.proofs.Placing.{put-spaced}

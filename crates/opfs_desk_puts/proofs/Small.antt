@@ -21,7 +21,7 @@ use Rattle.opfs_machine.specs.Openings.{Opening}
 use Rattle.opfs_machine.specs.Steps.{evicted}
 use Rattle.opfs_machine.specs.Sums.{all_own, pool, reserve_of}
 use Rattle.opfs_outside.specs.declared.disk.Disk.{Ghosts as DiskWords}
-use Rattle.opfs_replay.specs.Built.{Built}
+use Rattle.opfs_records.specs.Replay.Built.{Built}
 use Rattle.opfs_space.specs.Room.{Machine, HasRoom}
 use Rattle.opfs_space.proofs.Others.{others_fewer}
 use Rattle.opfs_state_laws.specs.Room.{EvictionsMakeRoom, HasRoom as HasRoomAfter}

@@ -24,7 +24,7 @@ use Rattle.opfs_machine.specs.Contents.{outline_of}
 use Rattle.opfs_machine.specs.Rows.{file_of, file_at, row_at as line_at}
 use Rattle.opfs_machine.specs.Rulings.{want_of}
 use Rattle.opfs_machine.specs.Steps.{evicted}
-use Rattle.opfs_replay.specs.Built.{named, has_block}
+use Rattle.opfs_records.specs.Replay.Built.{named, has_block}
 use Rattle.opfs_row_puts.specs.Plans.{shelf, KnowsOwn}
 use Rattle.opfs_space.specs.Files.{file_has, extents_in}
 use Rattle.opfs_space.specs.Holders.{HasPage, AreBlocks}

@@ -30,7 +30,7 @@ use Rattle.opfs_outside.specs.Faults.{Rose}
 use Rattle.opfs_outside.specs.declared.disk.Disk.{Ghosts as DiskWords}
 use Rattle.opfs_puts.specs.Puts.{IsPut, IsNotPut, all_writes}
 use Rattle.opfs_puts.specs.declared.put.Put.{Put}
-use Rattle.opfs_replay.specs.Built.{Built, named, has_block}
+use Rattle.opfs_records.specs.Replay.Built.{Built, named, has_block}
 use Rattle.opfs_row_puts.specs.Plans.{shelf}
 use Rattle.opfs_row_puts.proofs.Placing.{left-spaced}
 use Rattle.opfs_space.specs.Holders.{AreBlocks, Writes}

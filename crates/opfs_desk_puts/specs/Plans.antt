@@ -11,7 +11,7 @@ use Rattle.opfs_machine.specs.Replies.{row_named}
 use Rattle.opfs_machine.specs.Runs.{eviction}
 use Rattle.opfs_outside.specs.declared.disk.Disk.{Ghosts as DiskWords}
 use Rattle.opfs_puts.specs.declared.put.Put.{Put}
-use Rattle.opfs_replay.specs.Built.{Built}
+use Rattle.opfs_records.specs.Replay.Built.{Built}
 use Rattle.opfs_standing.specs.Seen.{lines_of}
 use Rattle.opfs_state.specs.Applied.{IsPrepared}
 use Rattle.opfs_work.specs.Works.{WorkingCopy}

@@ -12,7 +12,7 @@ use Rattle.opfs_outside.specs.Moments.{Elapses}
 use Rattle.opfs_outside.specs.declared.disk.Disk.{Ghosts as DiskWords}
 use Rattle.opfs_puts.specs.Puts.{IsReady, IsPut, all_writes}
 use Rattle.opfs_puts.specs.declared.put.Put.{Put}
-use Rattle.opfs_replay.specs.Built.{Built}
+use Rattle.opfs_records.specs.Replay.Built.{Built}
 use Rattle.opfs_row_puts.specs.Plans.{shelf, AreGotten, HaveBlocks}
 use Rattle.opfs_space.specs.Room.{Machine, HasRoom}
 use Rattle.opfs_standing.specs.Seen.{lines_of}

@@ -19,7 +19,7 @@ ghost use Rattle.opfs_desk_steps.specs.Acting.{CallsAreActed, failed_act};
 ghost use Rattle.opfs_desk_steps.specs.Answering.{ReadyCallsAreAnswered};
 ghost use Rattle.opfs_desk_steps.specs.Ready.{AskedCallsAreReady};
 ghost use Rattle.opfs_hist.specs.declared.reply.Reply.TheVariants as reply;
-ghost use Rattle.opfs_replay.specs.Built.{Built};
+ghost use Rattle.opfs_records.specs.Replay.Built.{Built};
 
 use crate::entering::enter_put;
 use crate::leaving::leave_put;

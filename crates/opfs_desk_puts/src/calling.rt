@@ -15,7 +15,7 @@ ghost use Rattle.opfs_laws.specs.Histories.Unread.{ReadsLeaveTheState};
 ghost use Rattle.opfs_laws.specs.Counting.{AStateCountsItsHistory};
 ghost use Rattle.opfs_laws.specs.GoingOn.{LegalHistoriesGoOn};
 ghost use Rattle.opfs_laws.specs.Lengths.Bridge.{LengthsDecideEachRuling};
-ghost use Rattle.opfs_replay.specs.Built.{Built};
+ghost use Rattle.opfs_records.specs.Replay.Built.{Built};
 ghost use Rattle.opfs_state_laws.specs.Room.{EvictionsMakeRoom};
 
 use crate::acting::enter_call;

@@ -13,7 +13,7 @@ ghost use Rattle.opfs_machine.specs.declared.own.Own.{Own};
 ghost use Rattle.opfs_machine.specs.declared.state.State.{State};
 ghost use Rattle.opfs_machine.specs.Histories.{IsCall};
 ghost use Rattle.opfs_machine.specs.Steps.{is_refusal};
-ghost use Rattle.opfs_replay.specs.Built.{Built};
+ghost use Rattle.opfs_records.specs.Replay.Built.{Built};
 
 use crate::putting::put_pages;
 use opfs_book_laws::{a_fault_is_counted, the_state_is_kept};

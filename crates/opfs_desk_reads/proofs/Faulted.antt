@@ -42,7 +42,7 @@ use Rattle.opfs_machine.specs.Effects.{refused}
 use Rattle.opfs_machine.specs.Histories.{IsCall, is_disk_op, state_after}
 use Rattle.opfs_outside.specs.Faults.{Rose, RoseBy}
 use Rattle.opfs_outside.specs.declared.disk.Disk.{Ghosts as DiskWords}
-use Rattle.opfs_replay.specs.Built.{Built}
+use Rattle.opfs_records.specs.Replay.Built.{Built}
 use Rattle.opfs_space.specs.Room.{Machine}
 use Rattle.opfs_state.specs.Applied.{IsPrepared, StateSeen}
 use Rattle.opfs_verdicts.specs.Callers.{IsAgent}

@@ -59,7 +59,7 @@ use Rattle.opfs_machine.specs.Rows.{file_at}
 use Rattle.opfs_machine.specs.Rulings.{lock_in}
 use Rattle.opfs_outside.specs.declared.disk.Disk.{Ghosts as DiskWords}
 use Rattle.opfs_pages.specs.Copies.{IsBegun}
-use Rattle.opfs_replay.specs.Built.{Built}
+use Rattle.opfs_records.specs.Replay.Built.{Built}
 use Rattle.opfs_standing.specs.Seen.{Machine, lines_of}
 use Rattle.opfs_standing.proofs.Lines.{file_line}
 use Rattle.opfs_laws.specs.Steady.Steady.{is_steady, open_bytes}

@@ -30,7 +30,7 @@ use Rattle.opfs_machine.specs.Histories.{state_after}
 use Rattle.opfs_machine.specs.Runs.{Call}
 use Rattle.opfs_outside.specs.Moments.{elapses-trans, each_of_both}
 use Rattle.opfs_outside.specs.declared.disk.Disk.{Ghosts as DiskWords}
-use Rattle.opfs_replay.specs.Built.{Built}
+use Rattle.opfs_records.specs.Replay.Built.{Built}
 use Rattle.opfs_row_puts.specs.Plans.{shelf}
 use Rattle.opfs_state.specs.Applied.{StateSeen}
 use Rattle.opfs_work.specs.Works.{WorkingCopy}

@@ -9,7 +9,7 @@ ghost use Rattle.opfs_desk_parts.specs.Seen.{call_in};
 ghost use Rattle.opfs_desk_parts.specs.declared.parts.Ledger.{Ledger};
 ghost use Rattle.opfs_desk_parts.specs.declared.parts.Pages.{Pages};
 ghost use Rattle.opfs_desk_reads.specs.Reading.{HasFailedToRead, MayFailToRead};
-ghost use Rattle.opfs_replay.specs.Built.{Built};
+ghost use Rattle.opfs_records.specs.Replay.Built.{Built};
 ghost use Rattle.opfs_work.specs.Works.{WorkingCopy};
 
 use opfs_acts::{Acted, Gift};

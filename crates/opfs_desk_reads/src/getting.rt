@@ -24,7 +24,7 @@ ghost use Rattle.opfs_desk_steps.specs.Answering.{ReadyCallsAreAnswered};
 ghost use Rattle.opfs_desk_steps.specs.Ready.{AskedCallsAreReady};
 ghost use Rattle.opfs_laws.specs.Lengths.Bridge.{LengthsFollowEachCall, LocalCallsAreKnownByTheirWord};
 ghost use Rattle.opfs_outside.specs.Faults.{Rose};
-ghost use Rattle.opfs_replay.specs.Built.{Built};
+ghost use Rattle.opfs_records.specs.Replay.Built.{Built};
 ghost use Rattle.opfs_tree.specs.Rows.{file_at as file_in_tree};
 ghost use Rattle.opfs_tree.specs.declared.row.FileRow.{FileRow};
 

@@ -20,7 +20,7 @@ ghost use Rattle.opfs_desk_steps.specs.Answering.{ReadyCallsAreAnswered};
 ghost use Rattle.opfs_desk_steps.specs.Ready.{AskedCallsAreReady};
 ghost use Rattle.opfs_laws.specs.GoingOn.{LegalHistoriesGoOn};
 ghost use Rattle.opfs_machine.specs.Replies.{row_named};
-ghost use Rattle.opfs_replay.specs.Built.{Built};
+ghost use Rattle.opfs_records.specs.Replay.Built.{Built};
 
 use crate::bytes::{RowRead, leave_cursor, read_open_row};
 use crate::failing::fail_reading;

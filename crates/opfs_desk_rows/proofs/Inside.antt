@@ -21,7 +21,7 @@ use Rattle.opfs_machine.specs.declared.state.Limits.{Limits}
 use Rattle.opfs_machine.specs.declared.state.State.{State}
 use Rattle.opfs_machine.specs.Histories.{state_after}
 use Rattle.opfs_outside.specs.declared.disk.Disk.{Ghosts as DiskWords}
-use Rattle.opfs_replay.specs.Built.{Built, named, has_block}
+use Rattle.opfs_records.specs.Replay.Built.{Built, named, has_block}
 use Rattle.opfs_space.specs.Files.{file_has}
 use Rattle.opfs_space.specs.Holders.{Holders, AreBlocks, AreAllBelow}
 use Rattle.opfs_space.specs.Room.{Machine}

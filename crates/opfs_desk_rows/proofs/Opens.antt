@@ -52,8 +52,8 @@ use Rattle.opfs_machine.specs.Steps.{evicted, after_reply, is_refusal}
 use Rattle.opfs_openings.proofs.Counted.{length-blocks, blocks-append, distinct, has-append, not-true}
 use Rattle.opfs_outside.specs.declared.disk.Disk.{Ghosts as DiskWords}
 use Rattle.opfs_row_puts.specs.Plans.{shelf}
-use Rattle.opfs_replay.specs.Built.{Built, block_count, has_block, is_once, named, all_extents}
-use Rattle.opfs_snapshot.specs.Written.{stored_rows, stored_row}
+use Rattle.opfs_records.specs.Replay.Built.{Built, block_count, has_block, is_once, named, all_extents}
+use Rattle.opfs_records.specs.Checkpoint.Written.{stored_rows, stored_row}
 use Rattle.opfs_space.specs.Files.{extents_in, file_has}
 use Rattle.opfs_standing.specs.Seen.{Machine, lines_of}
 use Rattle.opfs_laws.specs.Steady.Steady.{open_bytes}

@@ -6,7 +6,7 @@ use Rattle.opfs_book_laws.specs.Books.{Fixed}
 use Rattle.opfs_data.specs.Pages.{LiesIn, IsDataPart}
 use Rattle.opfs_data.specs.Rows.{pages_at}
 use Rattle.opfs_outside.specs.declared.disk.Disk.{Ghosts as DiskWords}
-use Rattle.opfs_replay.specs.Built.{Built, named}
+use Rattle.opfs_records.specs.Replay.Built.{Built, named}
 use Rattle.opfs_space.specs.Holders.{AreAllBelow}
 use Rattle.opfs_desk_parts.specs.Held.{AreHeldWhole}
 use Rattle.opfs_desk_parts.specs.Seen.{tree_in}

@@ -14,7 +14,7 @@ use Rattle.opfs_machine.specs.Contents.{in_bytes}
 use Rattle.opfs_machine.specs.Rulings.{first_reserve}
 use Rattle.opfs_machine.specs.Steps.{evicted}
 use Rattle.opfs_outside.specs.declared.disk.Disk.{Ghosts as DiskWords}
-use Rattle.opfs_replay.specs.Built.{Built}
+use Rattle.opfs_records.specs.Replay.Built.{Built}
 use Rattle.opfs_work.specs.Pages.{page_at, is_far}
 use Rattle.opfs_work.specs.Works.{WorkingCopy}
 use Rattle.opfs_desk_parts.specs.declared.parts.Ledger.{Ledger}

@@ -17,7 +17,7 @@ use Rattle.opfs_machine.specs.Agents.{agent_of}
 use Rattle.opfs_machine.specs.Replies.{bytes_at}
 use Rattle.opfs_machine.specs.Steps.{evicted, is_refusal}
 use Rattle.opfs_outside.specs.declared.disk.Disk.{Ghosts as DiskWords}
-use Rattle.opfs_replay.specs.Built.{Built}
+use Rattle.opfs_records.specs.Replay.Built.{Built}
 use Rattle.opfs_space.specs.Files.{extents_in}
 use Rattle.opfs_standing.specs.Seen.{lines_of}
 use Rattle.opfs_tree.specs.Rows.{Rows as Tree, row_at, IsInOrder}

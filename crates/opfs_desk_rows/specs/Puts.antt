@@ -10,8 +10,8 @@ use Rattle.opfs_machine.specs.Contents.{in_lengths}
 use Rattle.opfs_machine.specs.Replies.{row_named}
 use Rattle.opfs_machine.specs.Rulings.{size_written}
 use Rattle.opfs_machine.specs.Sums.{durable_blocks}
-use Rattle.opfs_replay.specs.Built.{IsSound, named}
-use Rattle.opfs_snapshot.specs.Written.{stored_rows}
+use Rattle.opfs_records.specs.Replay.Built.{IsSound, named}
+use Rattle.opfs_records.specs.Checkpoint.Written.{stored_rows}
 use Rattle.opfs_space.specs.Room.{Machine, HasRoom}
 use Rattle.opfs_standing.specs.Seen.{lines_of}
 use Rattle.opfs_tree.specs.Rows.{Rows as Tree}

@@ -15,8 +15,8 @@ use Rattle.opfs_machine.specs.Runs.{eviction}
 use Rattle.opfs_machine.specs.Steps.{evicted}
 use Rattle.opfs_machine.specs.Rows.{file_at}
 use Rattle.opfs_outside.specs.declared.disk.Disk.{Ghosts as DiskWords}
-use Rattle.opfs_replay.specs.Built.{Built, IsSoundFile}
-use Rattle.opfs_snapshot.specs.Written.{stored_file}
+use Rattle.opfs_records.specs.Replay.Built.{Built, IsSoundFile}
+use Rattle.opfs_records.specs.Checkpoint.Written.{stored_file}
 use Rattle.opfs_standing.specs.Seen.{lines_of}
 use Rattle.opfs_tree.specs.declared.row.FileRow.{FileRow}
 use Rattle.opfs_tree.specs.Rows.{file_at as file_in_tree}

@@ -9,7 +9,7 @@ use Rattle.opfs_image.specs.declared.geometry.Geometry.{Geometry}
 use Rattle.opfs_image.specs.declared.refusal.ImageRefusal.{ImageRefusal}
 use Rattle.opfs_journal.specs.Format.{chosen_in}
 use Rattle.opfs_machine.specs.Openings.{Map}
-use Rattle.opfs_replay.specs.Built.{Built}
+use Rattle.opfs_records.specs.Replay.Built.{Built}
 use Rattle.opfs_desk_runs.specs.Runs.{IsImageOf}
 
 of-some : {A : Type 0} (a b : A) → Some a ≡ Some b → a ≡ b

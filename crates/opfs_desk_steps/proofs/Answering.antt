@@ -30,7 +30,7 @@ use Rattle.opfs_desk_parts.specs.Held.{AreHeldWhole}
 use Rattle.opfs_desk_parts.specs.declared.call.InHand.{InHand}
 use Rattle.opfs_desk_parts.specs.declared.parts.Ledger.{Ledger}
 use Rattle.opfs_desk_parts.specs.declared.parts.Pages.{Pages}
-use Rattle.opfs_replay.specs.Built.{Built}
+use Rattle.opfs_records.specs.Replay.Built.{Built}
 use Rattle.opfs_desk_ways.proofs.Real.{has-room, agent-there}
 use Rattle.opfs_desk_ways.proofs.Turns.{step-victims, step-answer}
 use Rattle.opfs_desk_steps.specs.Answering.{IsReply, ReadyCallsAreAnswered}

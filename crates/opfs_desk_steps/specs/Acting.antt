@@ -15,7 +15,7 @@ use Rattle.opfs_machine.specs.Changes.{Change}
 use Rattle.opfs_machine.specs.Histories.{state_after}
 use Rattle.opfs_machine.specs.Runs.{eviction}
 use Rattle.opfs_outside.specs.declared.disk.Disk.{Ghosts as DiskWords}
-use Rattle.opfs_replay.specs.Built.{Built}
+use Rattle.opfs_records.specs.Replay.Built.{Built}
 use Rattle.opfs_work.specs.Works.{WorkingCopy}
 use Rattle.opfs_desk_parts.specs.Acted.{IsWay, IsWayNow, IsWayEnded, HasActed, HasFailed}
 use Rattle.opfs_desk_parts.specs.Held.{AreHeldWhole}

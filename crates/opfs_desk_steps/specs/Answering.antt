@@ -14,7 +14,7 @@ use Rattle.opfs_machine.specs.Histories.{is_disk_op, state_after}
 use Rattle.opfs_machine.specs.Replies.{answer}
 use Rattle.opfs_machine.specs.Runs.{eviction}
 use Rattle.opfs_outside.specs.declared.disk.Disk.{Ghosts as DiskWords}
-use Rattle.opfs_replay.specs.Built.{Built}
+use Rattle.opfs_records.specs.Replay.Built.{Built}
 use Rattle.opfs_state.specs.Applied.{IsPrepared}
 use Rattle.opfs_desk_parts.specs.Answered.{IsAnswered}
 use Rattle.opfs_desk_parts.specs.Held.{AreHeldAt, AreHeldWhole}

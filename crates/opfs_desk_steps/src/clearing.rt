@@ -11,7 +11,7 @@ ghost use Rattle.opfs_desk_parts.specs.declared.parts.Pages.{Pages};
 ghost use Rattle.opfs_desk_ways.specs.Clearing.{IsJudged, MayMakeWay, cleared_from};
 ghost use Rattle.opfs_machine.specs.Histories.{state_after};
 ghost use Rattle.opfs_machine.specs.Runs.{eviction};
-ghost use Rattle.opfs_replay.specs.Built.{Built};
+ghost use Rattle.opfs_records.specs.Replay.Built.{Built};
 ghost use Rattle.opfs_state.specs.Applied.{IsPrepared};
 
 use crate::apart::{CallParts, call_parts};

@@ -14,7 +14,7 @@ ghost use Rattle.opfs_desk_steps.specs.Going.{HasTold};
 ghost use Rattle.opfs_machine.specs.declared.own.Own.{Own};
 ghost use Rattle.opfs_machine.specs.declared.state.State.{State};
 ghost use Rattle.opfs_machine.specs.Steps.{is_refusal};
-ghost use Rattle.opfs_replay.specs.Built.{Built};
+ghost use Rattle.opfs_records.specs.Replay.Built.{Built};
 
 use crate::apart::{CallParts, call_parts};
 use opfs_books::{Entering, Last};

@@ -27,7 +27,7 @@ use Rattle.opfs_machine.specs.Openings.{begun}
 use Rattle.opfs_machine.specs.Replies.{bytes_at, row_named, sizes_in}
 use Rattle.opfs_machine.specs.Sums.{reserve_of}
 use Rattle.opfs_outside.specs.declared.disk.Disk.{Ghosts as DiskWords}
-use Rattle.opfs_replay.specs.Built.{Built}
+use Rattle.opfs_records.specs.Replay.Built.{Built}
 use Rattle.opfs_space.specs.Room.{Machine}
 use Rattle.opfs_state.specs.Reading.{file_of_row, row_file}
 use Rattle.opfs_laws.specs.Steady.Steady.{open_bytes, row_bytes}

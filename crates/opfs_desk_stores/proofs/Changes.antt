@@ -19,7 +19,7 @@ use Rattle.opfs_machine.specs.Agents.{agent_of, open_handle, open_stream, own_of
 use Rattle.opfs_machine.specs.Contents.{in_lengths}
 use Rattle.opfs_machine.specs.Effects.{closes_handle, closes_stream, effect, flushed, flushes, moment_of, with_changed, with_written}
 use Rattle.opfs_machine.specs.Rulings.{is_read_write}
-use Rattle.opfs_replay.specs.Built.{has_block}
+use Rattle.opfs_records.specs.Replay.Built.{has_block}
 use Rattle.opfs_space.specs.Files.{extents_in, file_has, IsChangedAt}
 use Rattle.opfs_space.specs.Room.{Machine}
 use Rattle.opfs_space.proofs.FileBlocks.{content_changed}

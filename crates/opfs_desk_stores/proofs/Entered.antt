@@ -50,9 +50,9 @@ use Rattle.opfs_machine.specs.Replies.{bytes_at, row_named, sizes_in, sizes_of}
 use Rattle.opfs_machine.specs.Steps.{after_reply}
 use Rattle.opfs_outside.specs.declared.disk.Disk.{Ghosts as DiskWords}
 use Rattle.opfs_pages.specs.Copies.{IsBegun}
-use Rattle.opfs_replay.specs.Built.{Built, has_block}
+use Rattle.opfs_records.specs.Replay.Built.{Built, has_block}
 use Rattle.opfs_row_puts.specs.Plans.{shelf}
-use Rattle.opfs_snapshot.specs.Written.{stored_rows}
+use Rattle.opfs_records.specs.Checkpoint.Written.{stored_rows}
 use Rattle.opfs_space.specs.Files.{IsChangedAt}
 use Rattle.opfs_space.specs.Room.{Machine}
 use Rattle.opfs_space.specs.Spaces.{SpaceSeen}

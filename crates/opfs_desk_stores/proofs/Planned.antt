@@ -26,7 +26,7 @@ use Rattle.opfs_pages.specs.Stages.{changed}
 use Rattle.opfs_pages.proofs.Rest.{stored_is}
 use Rattle.opfs_laws.specs.Lengths.Bridge.{LengthsFollowEachCall, LocalCallsAreKnownByTheirWord}
 use Rattle.opfs_puts.specs.Puts.{HasSamePages, IsReady as IsPutReady}
-use Rattle.opfs_replay.specs.Built.{Built}
+use Rattle.opfs_records.specs.Replay.Built.{Built}
 use Rattle.opfs_row_puts.specs.Plans.{shelf, AreGotten}
 use Rattle.opfs_row_puts.proofs.Getting.{pages-same}
 use Rattle.opfs_row_puts.specs.Rows.{IsPutOf}

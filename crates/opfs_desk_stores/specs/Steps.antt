@@ -15,7 +15,7 @@ use Rattle.opfs_machine.specs.Replies.{row_named}
 use Rattle.opfs_outside.specs.declared.disk.Disk.{Ghosts as DiskWords}
 use Rattle.opfs_pages.specs.Copies.{IsCopy}
 use Rattle.opfs_puts.specs.Puts.{IsReady as IsPutReady}
-use Rattle.opfs_replay.specs.Built.{Built}
+use Rattle.opfs_records.specs.Replay.Built.{Built}
 use Rattle.opfs_row_puts.specs.Plans.{shelf, AreGotten}
 use Rattle.opfs_row_puts.specs.Rows.{IsPutOf}
 use Rattle.opfs_state.specs.Reading.{row_file}

@@ -25,7 +25,7 @@ ghost use Rattle.opfs_desk_stores.specs.Steps.{IsContentFor, IsContentPlanned};
 ghost use Rattle.opfs_laws.specs.Leaving.{ACallMovesItsAgent};
 ghost use Rattle.opfs_laws.specs.Lengths.Bridge.{LengthsDecideEachRuling, LengthsFollowEachCall, LocalCallsAreKnownByTheirWord};
 ghost use Rattle.opfs_machine.specs.Replies.{row_named};
-ghost use Rattle.opfs_replay.specs.Built.{Built};
+ghost use Rattle.opfs_records.specs.Replay.Built.{Built};
 
 use crate::leaving::leave_row;
 use opfs_acts::{Acted, Gift};

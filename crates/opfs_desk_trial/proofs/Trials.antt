@@ -21,7 +21,7 @@ use Rattle.opfs_machine.specs.Openings.{Map, Opening, empty_map}
 use Rattle.opfs_openings.specs.Openings.{limits_by}
 use Rattle.opfs_outside.specs.Faults.{Rose, RoseBy}
 use Rattle.opfs_outside.specs.declared.disk.Disk.{Ghosts as DiskWords}
-use Rattle.opfs_replay.specs.Built.{Built, nothing_built}
+use Rattle.opfs_records.specs.Replay.Built.{Built, nothing_built}
 use Rattle.opfs_script.specs.Scripts.{Asked}
 use Rattle.opfs_script_run.specs.Stage.Openings.{opening_of, trial_opening}
 use Rattle.opfs_script_run.specs.Stage.Runs.{EachAlone}

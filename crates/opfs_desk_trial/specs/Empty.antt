@@ -4,7 +4,7 @@ use Rattle.opfs_codec.specs.declared.change.Format.TheVariants.{New}
 use Rattle.opfs_image.specs.Reading.{read_as}
 use Rattle.opfs_image.specs.declared.geometry.Geometry.{Geometry}
 use Rattle.opfs_outside.specs.declared.disk.Disk.{Ghosts as DiskWords}
-use Rattle.opfs_replay.specs.Built.{nothing_built}
+use Rattle.opfs_records.specs.Replay.Built.{nothing_built}
 
 -- The sizes of a trial's image: journal areas of 256 blocks, 16,384 data blocks, and 8,192 blocks an origin.
 abbrev pub trial_geometry : Geometry

@@ -13,7 +13,7 @@ use Rattle.opfs_machine.specs.declared.own.Own.{Own}
 use Rattle.opfs_machine.specs.declared.state.Sizes.{Sizes}
 use Rattle.opfs_machine.specs.declared.state.State.{State}
 use Rattle.opfs_outside.specs.declared.disk.Disk.{Ghosts as DiskWords}
-use Rattle.opfs_replay.specs.Built.{Built, named, is_once}
+use Rattle.opfs_records.specs.Replay.Built.{Built, named, is_once}
 use Rattle.opfs_sharing.specs.Serving.{MayApplyTo, MayRefuseTo}
 use Rattle.opfs_tree.specs.Rows.{extents_within}
 use Rattle.opfs_verdicts.specs.Callers.{IsAgent}

@@ -11,7 +11,7 @@ use Rattle.opfs_machine.specs.Histories.{state_after, IsCall}
 use Rattle.opfs_machine.specs.Openings.{begun}
 use Rattle.opfs_machine.specs.Runs.{eviction}
 use Rattle.opfs_outside.specs.declared.disk.Disk.{Ghosts as DiskWords}
-use Rattle.opfs_replay.specs.Built.{Built}
+use Rattle.opfs_records.specs.Replay.Built.{Built}
 use Rattle.opfs_space.specs.Room.{Machine}
 use Rattle.opfs_state.specs.Applied.{StateSeen, IsPrepared}
 use Rattle.opfs_verdicts.specs.Callers.{IsAgent}

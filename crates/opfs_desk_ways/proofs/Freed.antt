@@ -24,12 +24,12 @@ use Rattle.opfs_machine.specs.declared.own.StreamOutline.{StreamOutline}
 use Rattle.opfs_machine.specs.Agents.{open_stream, open_handle}
 use Rattle.opfs_machine.specs.Contents.{in_lengths}
 use Rattle.opfs_machine.specs.Rulings.{is_read_write}
-use Rattle.opfs_replay.specs.Built.{IsSoundRow, named, all_extents, has_block, is_once}
-use Rattle.opfs_replay.specs.Kept.{extent_count}
-use Rattle.opfs_replay.proofs.Counts.{distinct_once}
-use Rattle.opfs_replay.proofs.Rows.{within_few}
+use Rattle.opfs_records.specs.Replay.Built.{IsSoundRow, named, all_extents, has_block, is_once}
+use Rattle.opfs_records.specs.Replay.Kept.{extent_count}
+use Rattle.opfs_records.proofs.replay.Counts.{distinct_once}
+use Rattle.opfs_records.proofs.replay.Rows.{within_few}
 use Rattle.opfs_row_puts.specs.Plans.{shelf}
-use Rattle.opfs_snapshot.specs.Written.{stored_row, stored_rows}
+use Rattle.opfs_records.specs.Checkpoint.Written.{stored_row, stored_rows}
 use Rattle.opfs_space.specs.Room.{Machine}
 use Rattle.opfs_space.specs.Spaces.{SpaceSeen}
 use Rattle.opfs_tree.specs.Rows.{Rows as Tree, row_at, file_in, file_of, file_at, extents_of, extents_within}

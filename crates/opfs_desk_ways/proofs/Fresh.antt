@@ -16,7 +16,7 @@ use Rattle.opfs_machine.specs.Agents.{counted}
 use Rattle.opfs_machine.specs.Contents.{in_lengths}
 use Rattle.opfs_machine.specs.Effects.{effect}
 use Rattle.opfs_outside.specs.declared.disk.Disk.{Ghosts as DiskWords}
-use Rattle.opfs_replay.specs.Built.{Built}
+use Rattle.opfs_records.specs.Replay.Built.{Built}
 use Rattle.opfs_standing.specs.Seen.{lines_of}
 use Rattle.opfs_desk_parts.specs.Held.{AreHeldAt}
 use Rattle.opfs_desk_parts.specs.Seen.{machine_in, tree_in, book_in}

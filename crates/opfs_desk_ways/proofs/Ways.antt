@@ -18,7 +18,7 @@ use Rattle.opfs_machine.specs.Histories.{IsCall}
 use Rattle.opfs_machine.specs.Openings.{Opening, begun}
 use Rattle.opfs_outside.specs.Moments.{Elapses, elapses-trans, each_of_both}
 use Rattle.opfs_outside.specs.declared.disk.Disk.{Ghosts as DiskWords}
-use Rattle.opfs_replay.specs.Built.{Built}
+use Rattle.opfs_records.specs.Replay.Built.{Built}
 use Rattle.opfs_desk_parts.specs.Acted.{IsWay, last_doubt}
 use Rattle.opfs_desk_parts.specs.Seen.{book_in}
 use Rattle.opfs_desk_parts.specs.declared.parts.Ledger.{Ledger}

@@ -16,7 +16,7 @@ use Rattle.opfs_machine.specs.Steps.{judged, evicted, step}
 use Rattle.opfs_machine.specs.Sums.{is_persistent}
 use Rattle.opfs_machine.specs.Victims.{is_callers}
 use Rattle.opfs_outside.specs.declared.disk.Disk.{Ghosts as DiskWords}
-use Rattle.opfs_replay.specs.Built.{Built}
+use Rattle.opfs_records.specs.Replay.Built.{Built}
 use Rattle.opfs_tree.specs.Rows.{Rows as Tree, without}
 use Rattle.opfs_state.specs.Applied.{IsPrepared}
 use Rattle.opfs_verdicts.specs.Callers.{IsAgent}

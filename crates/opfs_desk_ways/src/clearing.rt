@@ -8,7 +8,7 @@ ghost use Rattle.opfs_desk_parts.specs.Held.{AreHeldWhole};
 ghost use Rattle.opfs_desk_parts.specs.declared.parts.Pages.{Pages};
 ghost use Rattle.opfs_desk_ways.specs.Clearing.{MayEndDoubt};
 ghost use Rattle.opfs_machine.specs.Histories.{IsCall, state_after};
-ghost use Rattle.opfs_replay.specs.Built.{Built};
+ghost use Rattle.opfs_records.specs.Replay.Built.{Built};
 
 use crate::refusing::fail_call;
 use opfs_book_laws::a_fault_is_counted;

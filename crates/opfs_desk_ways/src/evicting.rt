@@ -14,7 +14,7 @@ ghost use Rattle.opfs_machine.specs.Changes.{evict};
 ghost use Rattle.opfs_machine.specs.Runs.{eviction};
 ghost use Rattle.opfs_machine.specs.Steps.{evicted};
 ghost use Rattle.opfs_outside.specs.Faults.{Rose};
-ghost use Rattle.opfs_replay.specs.Built.{Built};
+ghost use Rattle.opfs_records.specs.Replay.Built.{Built};
 ghost use Rattle.opfs_tree.specs.Rows.{without};
 
 use opfs_book_laws::the_state_is_kept;

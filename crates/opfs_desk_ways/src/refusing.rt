@@ -10,7 +10,7 @@ ghost use Rattle.opfs_desk_parts.specs.declared.parts.Pages.{Pages};
 ghost use Rattle.opfs_desk_ways.specs.Refusing.{IsRefused, MayRefuse};
 ghost use Rattle.opfs_machine.specs.declared.own.Own.{Own};
 ghost use Rattle.opfs_machine.specs.declared.state.State.{State};
-ghost use Rattle.opfs_replay.specs.Built.{Built};
+ghost use Rattle.opfs_records.specs.Replay.Built.{Built};
 
 use opfs_book_laws::the_state_is_kept;
 use opfs_books::Last;

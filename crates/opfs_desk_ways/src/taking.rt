@@ -11,7 +11,7 @@ ghost use Rattle.opfs_desk_ways.specs.Taking.{MayTakeInto};
 ghost use Rattle.opfs_hist.specs.declared.op.Op.{Op};
 ghost use Rattle.opfs_laws.specs.Histories.Unread.{ArePendingFor};
 ghost use Rattle.opfs_machine.specs.Histories.{state_after};
-ghost use Rattle.opfs_replay.specs.Built.{Built};
+ghost use Rattle.opfs_records.specs.Replay.Built.{Built};
 ghost use Rattle.opfs_state.specs.Applied.{IsPrepared};
 
 use opfs_book_laws::{the_books_show_their_images, the_state_is_kept};

@@ -11,7 +11,7 @@ ghost use Rattle.opfs_desk_ways.specs.Clearing.{IsJudged, MayMakeWay, MayClearAl
 ghost use Rattle.opfs_machine.specs.Histories.{state_after};
 ghost use Rattle.opfs_machine.specs.Runs.{eviction};
 ghost use Rattle.opfs_machine.specs.Steps.{evicted};
-ghost use Rattle.opfs_replay.specs.Built.{Built};
+ghost use Rattle.opfs_records.specs.Replay.Built.{Built};
 ghost use Rattle.opfs_state.specs.Applied.{IsPrepared};
 
 use crate::clearing::end_doubt;

@@ -13,7 +13,7 @@ use Rattle.opfs_base.specs.Places.{Place}
 use Rattle.opfs_image.specs.Filling.{filled, filled_row}
 use Rattle.opfs_image.specs.declared.geometry.Geometry.{Geometry}
 use Rattle.opfs_print.specs.Lines.{joined}
-use Rattle.opfs_replay.specs.Built.{Built}
+use Rattle.opfs_records.specs.Replay.Built.{Built}
 use Rattle.opfs_tools.proofs.Walking.{gathered_more, gathered_all}
 use Rattle.opfs_tree.specs.Rows.{Rows, rows_above}
 use Rattle.opfs_tree.specs.declared.row.Row.{Row}

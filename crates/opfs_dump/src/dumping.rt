@@ -4,7 +4,7 @@ ghost use Rattle.std.specs.Prelude.{◌≡◌, ◌+◌, ◌*◌, ◌^◌, ◌<�
 ghost use Rattle.opfs_image.specs.Agreeing.{built_in};
 ghost use Rattle.opfs_image.specs.Filling.{filled};
 ghost use Rattle.opfs_image.specs.Superblock.{data_base};
-ghost use Rattle.opfs_replay.specs.Sums.{persistent_in};
+ghost use Rattle.opfs_records.specs.Replay.Sums.{persistent_in};
 ghost use Rattle.opfs_tools.specs.Reading.{RowsLie};
 ghost use Rattle.opfs_dump_text.specs.Texts.{dump_text};
 ghost use Rattle.opfs_dump.specs.Pieces.{head_text, rest_text};

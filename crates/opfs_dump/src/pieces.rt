@@ -4,7 +4,7 @@ ghost use Rattle.std.specs.Prelude.{◌≡◌, false, map, IfOk, string_bytes};
 ghost use Rattle.serde_json.specs.Data.{string, array};
 ghost use Rattle.serde_json.specs.View.{view, items_of};
 ghost use Rattle.serde_json.specs.Written.{compact_text, items_have_float};
-ghost use Rattle.opfs_replay.specs.Sums.{persistent_in};
+ghost use Rattle.opfs_records.specs.Replay.Sums.{persistent_in};
 ghost use Rattle.opfs_dump_text.specs.Texts.{texts_value};
 ghost use Rattle.opfs_dump.specs.Pieces.{behind_digits, folder_text, head_by, head_text, place_text};
 

@@ -26,11 +26,11 @@ use Rattle.opfs_journal.specs.declared.areas.Areas.{Areas}
 use Rattle.opfs_journal.specs.declared.refusal.OpenRefusal.{OpenRefusal}
 use Rattle.opfs_machine.specs.Ordered.{insert_by}
 use Rattle.opfs_outside.specs.Bytes.{window}
-use Rattle.opfs_replay.specs.Applying.{applied, built_by, built_by_all, built_within, can_apply, tried, empty_file}
-use Rattle.opfs_replay.specs.Built.{Built, IsSound, nothing_built}
-use Rattle.opfs_replay.proofs.Parents.{has_parent}
-use Rattle.opfs_snapshot.proofs.Remaining.{kept_order, kept_closed}
-use Rattle.opfs_snapshot.specs.Written.{AreWritable}
+use Rattle.opfs_records.specs.Replay.Applying.{applied, built_by, built_by_all, built_within, can_apply, tried, empty_file}
+use Rattle.opfs_records.specs.Replay.Built.{Built, IsSound, nothing_built}
+use Rattle.opfs_records.proofs.replay.Parents.{has_parent}
+use Rattle.opfs_records.proofs.checkpoint.Remaining.{kept_order, kept_closed}
+use Rattle.opfs_records.specs.Checkpoint.Written.{AreWritable}
 use Rattle.opfs_tree.proofs.Closed.{closed_put}
 use Rattle.opfs_tree.proofs.Orders.{place_total}
 use Rattle.opfs_tree.specs.Rows.{Rows, HasParent, IsClosed, row_at}

@@ -32,12 +32,12 @@ use Rattle.opfs_image.proofs.Layering.{layered}
 use Rattle.opfs_machine.specs.Openings.{Map, Stored}
 use Rattle.opfs_openings.proofs.Begun.{length-bytes}
 use Rattle.opfs_openings.proofs.Counted.{blocks-append, length-blocks, named-fit}
-use Rattle.opfs_replay.specs.Applying.{can_make, can_make_named, is_directory, parted}
-use Rattle.opfs_replay.specs.Built.{IsSoundRow, all_extents, named}
-use Rattle.opfs_replay.specs.Sums.{charge_of, row_charge}
-use Rattle.opfs_replay.proofs.Parents.{parted_push}
-use Rattle.opfs_snapshot.specs.Written.{IsWritablePlace, IsWritableRow}
-use Rattle.opfs_snapshot.proofs.Last.{AllBefore, all_before, before_child, find_front, find_here, find_none}
+use Rattle.opfs_records.specs.Replay.Applying.{can_make, can_make_named, is_directory, parted}
+use Rattle.opfs_records.specs.Replay.Built.{IsSoundRow, all_extents, named}
+use Rattle.opfs_records.specs.Replay.Sums.{charge_of, row_charge}
+use Rattle.opfs_records.proofs.replay.Parents.{parted_push}
+use Rattle.opfs_records.specs.Checkpoint.Written.{IsWritablePlace, IsWritableRow}
+use Rattle.opfs_records.proofs.checkpoint.Last.{AllBefore, all_before, before_child, find_front, find_here, find_none}
 use Rattle.opfs_tree.specs.Rows.{Rows, IsClosed, extents_of, row_at}
 use Rattle.opfs_tree.specs.declared.row.Row.{Row}
 use Rattle.opfs_tree.specs.declared.row.Row.TheVariants as row

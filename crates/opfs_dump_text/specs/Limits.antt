@@ -12,9 +12,9 @@ use Rattle.opfs_codec.specs.Spelling.{is_key_text}
 use Rattle.opfs_codec.specs.declared.change.Format.TheVariants.{New}
 use Rattle.opfs_locks.specs.Taking.{open_lock}
 use Rattle.opfs_machine.specs.Openings.{Map, Stored, folder, document}
-use Rattle.opfs_replay.specs.Applying.{can_make}
-use Rattle.opfs_replay.specs.Built.{Built}
-use Rattle.opfs_replay.specs.Sums.{charge_of}
+use Rattle.opfs_records.specs.Replay.Applying.{can_make}
+use Rattle.opfs_records.specs.Replay.Built.{Built}
+use Rattle.opfs_records.specs.Replay.Sums.{charge_of}
 use Rattle.opfs_tree.specs.Rows.{Rows, row_at}
 use Rattle.opfs_tree.specs.declared.row.Row.{Row}
 use Rattle.opfs_tree.specs.declared.row.Row.TheVariants as row

@@ -5,8 +5,8 @@ use Rattle.opfs_codec.specs.declared.change.Format.{Format}
 use Rattle.opfs_outside.specs.Bytes.{window}
 use Rattle.opfs_journal.specs.Format.{Chain, chain, with_body, is_open, number_at}
 use Rattle.opfs_codec.specs.Reading.{◌>>=◌}
-use Rattle.opfs_replay.specs.Applying.{built_by, built_by_all}
-use Rattle.opfs_replay.specs.Built.{Built}
+use Rattle.opfs_records.specs.Replay.Applying.{built_by, built_by_all}
+use Rattle.opfs_records.specs.Replay.Built.{Built}
 use Rattle.opfs_image.specs.Reading.{replayed, then_built, or_bad_at}
 
 -- the bodies with so many bytes of the first one left out

@@ -11,9 +11,9 @@ use Rattle.opfs_outside.specs.Windows.{slice_index-window}
 use Rattle.opfs_journal.specs.Format.{is_open, number_at, chosen, chosen_in, format_of}
 use Rattle.opfs_journal.specs.declared.areas.Areas.{Areas}
 use Rattle.opfs_journal.proofs.Frames.{number_of}
-use Rattle.opfs_replay.specs.Applying.{built_by, built_within}
-use Rattle.opfs_replay.specs.Built.{nothing_built}
-use Rattle.opfs_replay.specs.Sums.{charge_of}
+use Rattle.opfs_records.specs.Replay.Applying.{built_by, built_within}
+use Rattle.opfs_records.specs.Replay.Built.{nothing_built}
+use Rattle.opfs_records.specs.Replay.Sums.{charge_of}
 use Rattle.opfs_image.specs.Empty.{head_bytes, IsEmptyJournal}
 use Rattle.opfs_image.specs.Filling.{Stands, map_of}
 use Rattle.opfs_image.specs.Reading.{read_as, area_built}

@@ -4,8 +4,8 @@ use Rattle.std.specs.Prelude.{Ok, Err, nat_lt, ◌==◌}
 use Rattle.opfs_codec.specs.declared.change.Format.{Format}
 use Rattle.opfs_codec.specs.declared.change.Format.TheVariants.{Old, New}
 use Rattle.opfs_journal.specs.Format.{chosen_in}
-use Rattle.opfs_replay.specs.Built.{Built}
-use Rattle.opfs_replay.specs.Sums.{charge_of}
+use Rattle.opfs_records.specs.Replay.Built.{Built}
+use Rattle.opfs_records.specs.Replay.Sums.{charge_of}
 use Rattle.opfs_image.specs.Reading.{area_built, area_format, format_number, read_as, unless_overfull, image_of}
 use Rattle.opfs_image.specs.Answers.{refused_first, not_of}
 use Rattle.opfs_image.specs.Superblock.{areas_of, area_bytes, geometry_of}

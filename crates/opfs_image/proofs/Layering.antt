@@ -9,9 +9,9 @@ use Rattle.opfs_journal.specs.Format.{Chain, chain, chosen_in, Stored, stored_in
 use Rattle.opfs_journal.specs.declared.areas.Areas.{Areas}
 use Rattle.opfs_journal.specs.declared.refusal.OpenRefusal.{OpenRefusal}
 use Rattle.opfs_journal.proofs.Choices.{chosen_second, chosen_first, head_parts}
-use Rattle.opfs_replay.specs.Applying.{built_by_all}
-use Rattle.opfs_replay.specs.Built.{Built, nothing_built}
-use Rattle.opfs_replay.specs.Sums.{charge_of}
+use Rattle.opfs_records.specs.Replay.Applying.{built_by_all}
+use Rattle.opfs_records.specs.Replay.Built.{Built, nothing_built}
+use Rattle.opfs_records.specs.Replay.Sums.{charge_of}
 use Rattle.opfs_image.specs.Layers.{IsLayered}
 use Rattle.opfs_image.specs.Reading.{Image, area_built, area_format, format_number, read_as, read_from, built_in_area, unless_overfull, image_of}
 use Rattle.opfs_image.specs.Superblock.{geometry_of, areas_of, area_bytes}

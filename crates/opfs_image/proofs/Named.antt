@@ -11,7 +11,7 @@ use Rattle.opfs_machine.specs.Openings.{Stored, document}
 use Rattle.opfs_tree.specs.Rows.{Rows, extents_of}
 use Rattle.opfs_tree.specs.declared.row.Row.{Row}
 use Rattle.opfs_tree.specs.declared.row.Row.TheVariants as row
-use Rattle.opfs_replay.specs.Built.{Built, all_extents}
+use Rattle.opfs_records.specs.Replay.Built.{Built, all_extents}
 use Rattle.opfs_image.specs.Filling.{filled, filled_row, AreIn, Names}
 
 in_left : (base : ℕ) (xs ys : List Extent) (i : ℕ) → AreIn base xs i → AreIn base (xs ++ ys) i

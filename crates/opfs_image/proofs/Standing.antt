@@ -2,7 +2,7 @@
 use Rattle.std.proofs.Common.{◌≡◌, ℕ, List, ap}
 use Rattle.std.specs.Prelude.{Ok}
 use Rattle.opfs_codec.specs.declared.change.Format.TheVariants.{New}
-use Rattle.opfs_replay.specs.Built.{Built}
+use Rattle.opfs_records.specs.Replay.Built.{Built}
 use Rattle.opfs_image.specs.Filling.{Stands, filled, map_of}
 use Rattle.opfs_image.specs.Reading.{read_as}
 use Rattle.opfs_image.specs.Superblock.{data_base}

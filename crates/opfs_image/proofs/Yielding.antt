@@ -5,8 +5,8 @@ use Rattle.opfs_codec.specs.declared.change.Format.{Format}
 use Rattle.opfs_outside.specs.Bytes.{window}
 use Rattle.opfs_journal.specs.Format.{is_open, number_at, begin_of}
 use Rattle.opfs_journal.specs.declared.areas.Areas.{Areas}
-use Rattle.opfs_replay.specs.Applying.{built_by}
-use Rattle.opfs_replay.specs.Built.{Built, nothing_built}
+use Rattle.opfs_records.specs.Replay.Applying.{built_by}
+use Rattle.opfs_records.specs.Replay.Built.{Built, nothing_built}
 use Rattle.opfs_image.specs.Reading.{replayed, area_built}
 use Rattle.opfs_image.specs.Walking.{Yields, IsRecord}
 

@@ -4,8 +4,8 @@ use Rattle.opfs_base.specs.Texts.{Text}
 use Rattle.opfs_codec.specs.declared.change.Format.TheVariants.{New}
 use Rattle.opfs_journal.specs.Format.{records_of}
 use Rattle.opfs_journal.specs.Seen.{Seen, kept}
-use Rattle.opfs_replay.specs.Built.{Built, IsSound, used_by}
-use Rattle.opfs_replay.specs.Sums.{charge_of, usage_in, persistent_in}
+use Rattle.opfs_records.specs.Replay.Built.{Built, IsSound, used_by}
+use Rattle.opfs_records.specs.Replay.Sums.{charge_of, usage_in, persistent_in}
 use Rattle.opfs_shed.specs.Buckets.{Storage, bucket_at}
 use Rattle.opfs_tree.specs.Rows.{Rows}
 use Rattle.opfs_image.specs.Reading.{read_as}

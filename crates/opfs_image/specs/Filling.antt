@@ -8,7 +8,7 @@ use Rattle.opfs_data.specs.Places.{bytes_of, run_place, run_room}
 use Rattle.opfs_machine.specs.Openings.{Map, Stored, folder, document}
 use Rattle.opfs_tree.specs.declared.row.Row.{Row}
 use Rattle.opfs_tree.specs.declared.row.Row.TheVariants as row
-use Rattle.opfs_replay.specs.Built.{Built, all_extents}
+use Rattle.opfs_records.specs.Replay.Built.{Built, all_extents}
 use Rattle.opfs_image.specs.Superblock.{data_base}
 use Rattle.opfs_image.specs.Reading.{Image, read_as}
 use Rattle.opfs_image.specs.declared.refusal.ImageRefusal.{ImageRefusal}

@@ -2,8 +2,8 @@
 use Rattle.std.specs.Prelude.{◌≡◌, ℕ, ◌+◌, ◌≤◌, List, Some, Ok}
 use Rattle.opfs_codec.specs.declared.change.Format.{Format}
 use Rattle.opfs_journal.specs.Format.{Stored, records_of}
-use Rattle.opfs_replay.specs.Applying.{rows_of}
-use Rattle.opfs_replay.specs.Sums.{charge_of}
+use Rattle.opfs_records.specs.Replay.Applying.{rows_of}
+use Rattle.opfs_records.specs.Replay.Sums.{charge_of}
 use Rattle.opfs_image.specs.Reading.{Image, format_number}
 use Rattle.opfs_image.specs.Superblock.{geometry_of, areas_of, area_bytes}
 

@@ -1,7 +1,7 @@
 -- That the facts of a recovered image are propositions.
 use Rattle.std.specs.Prelude.{ℕ}
 use Rattle.std.proofs.Props.{props}
-use Rattle.opfs_replay.specs.Built.{IsSoundRow}
+use Rattle.opfs_records.specs.Replay.Built.{IsSoundRow}
 use Rattle.opfs_tree.specs.declared.row.Row.{Row}
 use Rattle.opfs_tree.specs.declared.row.Row.TheVariants as row
 

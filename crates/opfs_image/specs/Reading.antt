@@ -6,9 +6,9 @@ use Rattle.opfs_codec.specs.declared.change.Format.TheVariants.{Old, New}
 use Rattle.opfs_journal.specs.Format.{is_open, number_at, begin_of, format_of, chosen_in}
 use Rattle.opfs_journal.specs.declared.areas.Areas.{Areas}
 use Rattle.opfs_journal.specs.declared.refusal.OpenRefusal.{OpenRefusal}
-use Rattle.opfs_replay.specs.Built.{Built, nothing_built}
-use Rattle.opfs_replay.specs.Applying.{built_by}
-use Rattle.opfs_replay.specs.Sums.{charge_of}
+use Rattle.opfs_records.specs.Replay.Built.{Built, nothing_built}
+use Rattle.opfs_records.specs.Replay.Applying.{built_by}
+use Rattle.opfs_records.specs.Replay.Sums.{charge_of}
 use Rattle.opfs_image.specs.Answers.{refused_first, not_of}
 use Rattle.opfs_image.specs.Superblock.{geometry_of, area_bytes, areas_of}
 use Rattle.opfs_image.specs.declared.geometry.Geometry.{Geometry}

@@ -3,7 +3,7 @@ use Rattle.std.specs.Prelude.{◌≡◌, ℕ, ◌+◌, ◌<◌, ◌≤◌, Bool,
 use Rattle.opfs_outside.specs.Bytes.{window}
 use Rattle.opfs_journal.specs.Format.{is_open, number_at, chosen_in}
 use Rattle.opfs_codec.specs.declared.change.Format.{Format}
-use Rattle.opfs_replay.specs.Built.{Built}
+use Rattle.opfs_records.specs.Replay.Built.{Built}
 use Rattle.opfs_image.specs.Reading.{replayed, area_format, format_number}
 use Rattle.opfs_image.specs.Superblock.{geometry_of, areas_of}
 use Rattle.opfs_image.specs.declared.geometry.Geometry.{Geometry}

@@ -5,7 +5,7 @@ ghost use Rattle.opfs_codec.specs.declared.change.Format.TheVariants.{New};
 ghost use Rattle.opfs_machine.specs.Openings.{empty_map};
 ghost use Rattle.opfs_outside.specs.Faults.{Rose};
 ghost use Rattle.opfs_outside.specs.Bytes.{Same, window};
-ghost use Rattle.opfs_replay.specs.Built.{nothing_built};
+ghost use Rattle.opfs_records.specs.Replay.Built.{nothing_built};
 ghost use Rattle.opfs_image.specs.Empty.{head_bytes, IsEmptyJournal};
 ghost use Rattle.opfs_image.specs.Filling.{Stands};
 ghost use Rattle.opfs_image.specs.Reading.{read_as};

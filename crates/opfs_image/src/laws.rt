@@ -2,7 +2,7 @@
 ghost use Rattle.std.specs.Prelude.{◌≡◌, ◌↔◌, ℕ, List, Ok};
 ghost use Rattle.opfs_codec.specs.declared.change.Format.{Format};
 ghost use Rattle.opfs_outside.specs.Bytes.{Same};
-ghost use Rattle.opfs_replay.specs.Built.{Built};
+ghost use Rattle.opfs_records.specs.Replay.Built.{Built};
 ghost use Rattle.opfs_image.specs.Filling.{Names, filled};
 ghost use Rattle.opfs_image.specs.Layers.{IsLayered};
 ghost use Rattle.opfs_image.specs.Reading.{Image, read_as};

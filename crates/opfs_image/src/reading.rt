@@ -19,7 +19,7 @@ use opfs_base::BLOCK_SIZE;
 use opfs_codec::Format;
 use opfs_journal::{Ruling, find_ruling};
 use opfs_outside::Disk;
-use opfs_replay::{Rebuilt, Replay};
+use opfs_records::{Rebuilt, Replay};
 use std::alloc::Global;
 
 /// An image that was read: its sizes, and what its records build.

@@ -7,13 +7,13 @@ ghost use Rattle.opfs_outside.specs.Bytes.{window};
 ghost use Rattle.opfs_journal.specs.Format.{is_open, number_at};
 ghost use Rattle.opfs_journal.specs.Walking.{OnlyRead};
 ghost use Rattle.opfs_image.specs.Walking.{Yields, IsRecord, IsTooLong};
-ghost use Rattle.opfs_replay.specs.Applying.{built_by};
+ghost use Rattle.opfs_records.specs.Replay.Applying.{built_by};
 
 use crate::ImageRefusal;
 use opfs_codec::Format;
 use opfs_journal::read_gate;
 use opfs_outside::Disk;
-use opfs_replay::Replay;
+use opfs_records::Replay;
 use std::alloc::Global;
 
 // Reads a record's body into the buffer, in the place of what it had.

@@ -14,9 +14,9 @@ use Rattle.opfs_journal.specs.Format.{is_open, number_at, chosen_in}
 use Rattle.opfs_machine.specs.Openings.{folder, document}
 use Rattle.opfs_outside.specs.Bytes.{window}
 use Rattle.opfs_outside.specs.Windows.{window_is, window-append, length-window}
-use Rattle.opfs_replay.specs.Applying.{can_apply, applied, built_within, built_by, tried}
-use Rattle.opfs_replay.specs.Built.{Built, nothing_built}
-use Rattle.opfs_replay.specs.Sums.{charge_of}
+use Rattle.opfs_records.specs.Replay.Applying.{can_apply, applied, built_within, built_by, tried}
+use Rattle.opfs_records.specs.Replay.Built.{Built, nothing_built}
+use Rattle.opfs_records.specs.Replay.Sums.{charge_of}
 use Rattle.opfs_image.specs.Filling.{map_in, map_of}
 use Rattle.opfs_image.specs.Reading.{read_as, area_built, area_format, format_number}
 use Rattle.opfs_image.specs.Superblock.{geometry_of, areas_of}

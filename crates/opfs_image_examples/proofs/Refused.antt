@@ -6,8 +6,8 @@ use Rattle.opfs_codec.specs.declared.change.Format.TheVariants.{New}
 use Rattle.opfs_journal.specs.Format.{is_open, number_at, chosen_in}
 use Rattle.opfs_journal.specs.declared.refusal.OpenRefusal.TheVariants as opening
 use Rattle.opfs_outside.specs.Bytes.{window}
-use Rattle.opfs_replay.specs.Applying.{built_within, built_by}
-use Rattle.opfs_replay.specs.Built.{nothing_built}
+use Rattle.opfs_records.specs.Replay.Applying.{built_within, built_by}
+use Rattle.opfs_records.specs.Replay.Built.{nothing_built}
 use Rattle.opfs_image.specs.Reading.{read_as, read_from, area_built, area_format, format_number}
 use Rattle.opfs_image.specs.Superblock.{geometry_of, areas_of}
 use Rattle.opfs_image.specs.Walking.{Yields}

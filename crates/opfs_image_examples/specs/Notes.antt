@@ -9,7 +9,7 @@ use Rattle.opfs_locks.specs.Taking.{open_lock}
 use Rattle.opfs_machine.specs.Openings.{Map, folder, document}
 use Rattle.opfs_tree.specs.declared.row.Row.{Row}
 use Rattle.opfs_tree.specs.declared.row.Row.TheVariants as row
-use Rattle.opfs_replay.specs.Built.{Built}
+use Rattle.opfs_records.specs.Replay.Built.{Built}
 use Rattle.opfs_image.specs.Empty.{head_bytes}
 use Rattle.opfs_image.specs.declared.geometry.Geometry.{Geometry}
 

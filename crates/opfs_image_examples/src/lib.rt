@@ -8,9 +8,9 @@ ghost use Rattle.opfs_codec.specs.declared.change.Format.TheVariants.{Old, New};
 ghost use Rattle.opfs_image.specs.Filling.{Stands, StandsOld};
 ghost use Rattle.opfs_image.specs.Reading.{read_as};
 ghost use Rattle.opfs_image.specs.declared.refusal.ImageRefusal.TheVariants as refusal;
-ghost use Rattle.opfs_replay.specs.Applying.{built_by};
-ghost use Rattle.opfs_replay.specs.Built.{nothing_built};
-ghost use Rattle.opfs_replay.specs.Sums.{charge_of};
+ghost use Rattle.opfs_records.specs.Replay.Applying.{built_by};
+ghost use Rattle.opfs_records.specs.Replay.Built.{nothing_built};
+ghost use Rattle.opfs_records.specs.Replay.Sums.{charge_of};
 ghost use Rattle.opfs_image_examples.specs.Notes.{changes, note_built, note_image, note_map};
 ghost use Rattle.opfs_image_examples.specs.Refused.{cut_image, other_image, old_image, shut_image, bad_image, cut_record_image};
 

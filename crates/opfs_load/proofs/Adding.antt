@@ -7,7 +7,7 @@ use Rattle.opfs_base.specs.Places.{Place}
 use Rattle.opfs_base.specs.Texts.{Text}
 use Rattle.opfs_codec.specs.declared.change.Format.TheVariants.{New}
 use Rattle.opfs_machine.specs.Openings.{Stored, folder, document}
-use Rattle.opfs_replay.specs.Sums.{charge_of, row_charge}
+use Rattle.opfs_records.specs.Replay.Sums.{charge_of, row_charge}
 use Rattle.opfs_tree.specs.Rows.{kind_of}
 use Rattle.opfs_tree.specs.declared.row.Row.{Row}
 use Rattle.opfs_dump_text.specs.declared.dumped.DumpedRow.{DumpedRow}

@@ -17,10 +17,10 @@ use Rattle.opfs_image.proofs.Beside.{in_data}
 use Rattle.opfs_image.proofs.Named.{same_filled}
 use Rattle.opfs_machine.specs.Openings.{Map, Stored, folder, document}
 use Rattle.opfs_outside.specs.Bytes.{Same}
-use Rattle.opfs_replay.specs.Built.{Built, IsSound, IsSoundRow, all_extents, named, block_count, has_block, is_once}
-use Rattle.opfs_replay.specs.Sums.{charge_of, row_charge}
-use Rattle.opfs_snapshot.specs.Written.{stored_row, stored_rows}
-use Rattle.opfs_snapshot.proofs.Last.{put_last}
+use Rattle.opfs_records.specs.Replay.Built.{Built, IsSound, IsSoundRow, all_extents, named, block_count, has_block, is_once}
+use Rattle.opfs_records.specs.Replay.Sums.{charge_of, row_charge}
+use Rattle.opfs_records.specs.Checkpoint.Written.{stored_row, stored_rows}
+use Rattle.opfs_records.proofs.checkpoint.Last.{put_last}
 use Rattle.opfs_tree.specs.Rows.{Rows, extents_of}
 use Rattle.opfs_tree.specs.declared.row.Row.{Row}
 use Rattle.opfs_dump_text.specs.Limits.{places_of, last_of, is_behind, bare_row, bare_rows, blocks_needed, stored_blocks, charge_of_map}

@@ -8,15 +8,15 @@ use Rattle.std.proofs.lemmas.Bool.{and_parts}
 use Rattle.opfs_base.specs.Texts.{Text}
 use Rattle.opfs_base.specs.Places.{Place, place_cmp}
 use Rattle.opfs_machine.specs.Openings.{Stored, folder, document}
-use Rattle.opfs_replay.specs.Applying.{can_make}
-use Rattle.opfs_replay.proofs.Parents.{has_parent}
+use Rattle.opfs_records.specs.Replay.Applying.{can_make}
+use Rattle.opfs_records.proofs.replay.Parents.{has_parent}
 use Rattle.std.specs.Cmp.{IsTotalOrder, on_total, then_total}
 use Rattle.std.specs.Cmp.Lexicographic.{nat_list_cmp_total, lists_total}
 use Rattle.std.proofs.lemmas.List.{length-map, drop_more, take_more, map-append}
 use Rattle.std.proofs.lemmas.Option.{slice_get-map}
 use Rattle.std.specs.declared.cmp.Ordering.{Ordering}
-use Rattle.opfs_snapshot.proofs.Last.{AllBefore, put_last}
-use Rattle.opfs_snapshot.proofs.Ordered.{lt_less}
+use Rattle.opfs_records.proofs.checkpoint.Last.{AllBefore, put_last}
+use Rattle.opfs_records.proofs.checkpoint.Ordered.{lt_less}
 use Rattle.opfs_tree.specs.declared.row.Row.{Row}
 use Rattle.opfs_tree.specs.Rows.{Rows, row_at, HasParent}
 use Rattle.opfs_dump_text.specs.Limits.{places_of, last_of, is_behind, is_unit, can_stand, may_follow, bare_row, bare_rows}

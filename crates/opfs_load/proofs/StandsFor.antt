@@ -16,8 +16,8 @@ use Rattle.opfs_journal.specs.declared.areas.Areas.{Areas}
 use Rattle.opfs_machine.specs.Openings.{Map, Stored}
 use Rattle.opfs_outside.specs.Bytes.{Same}
 use Rattle.opfs_outside.specs.declared.disk.Disk.{Ghosts as DiskWords}
-use Rattle.opfs_replay.specs.Applying.{rows_of}
-use Rattle.opfs_replay.specs.Built.{nothing_built}
+use Rattle.opfs_records.specs.Replay.Applying.{rows_of}
+use Rattle.opfs_records.specs.Replay.Built.{nothing_built}
 use Rattle.opfs_dump_text.specs.Limits.{charge_of_map}
 use Rattle.opfs_load.specs.Laid.{IsWritten, StandsAs, StoresBehind, filled_rows, laid, laid_map}
 use Rattle.opfs_load.proofs.Lying.{laid_charge, rows_same}

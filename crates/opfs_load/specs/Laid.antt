@@ -16,7 +16,7 @@ use Rattle.opfs_locks.specs.Taking.{open_lock}
 use Rattle.opfs_machine.specs.Openings.{Map, Stored, folder, document}
 use Rattle.opfs_outside.specs.Bytes.{Same}
 use Rattle.opfs_outside.specs.declared.disk.Disk.{Ghosts as DiskWords}
-use Rattle.opfs_replay.specs.Built.{Built, nothing_built}
+use Rattle.opfs_records.specs.Replay.Built.{Built, nothing_built}
 use Rattle.opfs_tree.specs.Rows.{Rows}
 use Rattle.opfs_tree.specs.declared.row.Row.{Row}
 use Rattle.opfs_tree.specs.declared.row.Row.TheVariants as row

@@ -8,7 +8,7 @@ ghost use Rattle.opfs_base.specs.Places.{place_cmp};
 ghost use Rattle.opfs_dump_text.specs.Limits.{bare_row, bare_rows, can_stand, is_behind, last_of, may_follow, places_of};
 ghost use Rattle.opfs_dump_text.specs.Reading.{next_row};
 ghost use Rattle.opfs_dump_text.specs.Seen.{row_of, stored_of};
-ghost use Rattle.opfs_replay.specs.Applying.{can_make, is_directory};
+ghost use Rattle.opfs_records.specs.Replay.Applying.{can_make, is_directory};
 ghost use Rattle.opfs_tree.specs.Rows.{row_at, IsInOrder};
 ghost use Rattle.opfs_load.specs.Answers.{Follows};
 

@@ -13,8 +13,8 @@ ghost use Rattle.opfs_journal.specs.Clauses.{Outside};
 ghost use Rattle.opfs_journal.specs.Seen.{kept, one_record};
 ghost use Rattle.opfs_outside.specs.Bytes.{Same};
 ghost use Rattle.opfs_outside.specs.Faults.{Rose};
-ghost use Rattle.opfs_replay.specs.Applying.{rows_of};
-ghost use Rattle.opfs_replay.specs.Built.{nothing_built};
+ghost use Rattle.opfs_records.specs.Replay.Applying.{rows_of};
+ghost use Rattle.opfs_records.specs.Replay.Built.{nothing_built};
 ghost use Rattle.opfs_load.specs.Laid.{IsEmptyOver, IsWritten, StandsAs, StoresBehind, filled_rows, laid, laid_map, laid_row};
 
 use crate::planning::body_of;

@@ -5,18 +5,18 @@ ghost use Rattle.opfs_codec.specs.declared.change.Format.TheVariants.{New};
 ghost use Rattle.opfs_dump_text.specs.Limits.{blocks_needed, stored_blocks};
 ghost use Rattle.opfs_dump_text.specs.Seen.{row_of, stored_of};
 ghost use Rattle.opfs_dump_text.specs.Whole.{dump_of};
-ghost use Rattle.opfs_replay.specs.Applying.{rows_of};
-ghost use Rattle.opfs_replay.specs.Built.{IsSound};
-ghost use Rattle.opfs_replay.specs.Sums.{persistent_in};
-ghost use Rattle.opfs_snapshot.specs.Written.{stored_rows};
+ghost use Rattle.opfs_records.specs.Replay.Applying.{rows_of};
+ghost use Rattle.opfs_records.specs.Replay.Built.{IsSound};
+ghost use Rattle.opfs_records.specs.Replay.Sums.{persistent_in};
+ghost use Rattle.opfs_records.specs.Checkpoint.Written.{stored_rows};
 ghost use Rattle.opfs_load.specs.Laid.{laid, laid_map, laid_row, laid_run};
 
 use crate::following::{is_behind, stands};
 use opfs_base::{Extent, Extents, Key, blocks};
 use opfs_dump_text::{Dumped, DumpedFile, DumpedRow};
 use opfs_locks::FileLock;
+use opfs_records::snapshot;
 use opfs_shed::Shed;
-use opfs_snapshot::snapshot;
 use opfs_tree::{FileRow, ReadyTree, Row, Tree};
 use std::alloc::{AllocError, Global};
 

@@ -5,7 +5,7 @@ ghost use Rattle.opfs_base.specs.Measures.{mode_charge};
 ghost use Rattle.opfs_codec.specs.declared.change.Format.TheVariants.{New};
 ghost use Rattle.opfs_dump_text.specs.Limits.{bare_row, blocks_needed, charge_of_map, stored_blocks};
 ghost use Rattle.opfs_dump_text.specs.Seen.{map_of, row_of, stored_of};
-ghost use Rattle.opfs_replay.specs.Sums.{row_charge};
+ghost use Rattle.opfs_records.specs.Replay.Sums.{row_charge};
 ghost use Rattle.opfs_tree.specs.Rows.{kind_of};
 
 use opfs_base::{BLOCK_CHARGE, Key, Kind, blocks, mode_charge, place_charge, plus, times};

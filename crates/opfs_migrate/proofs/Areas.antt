@@ -10,9 +10,9 @@ use Rattle.opfs_outside.specs.Windows.{same_window}
 use Rattle.opfs_journal.specs.Clauses.{Outside}
 use Rattle.opfs_journal.specs.Format.{records_of}
 use Rattle.opfs_journal.specs.Seen.{one_record}
-use Rattle.opfs_replay.specs.Applying.{rows_of}
-use Rattle.opfs_replay.specs.Built.{all_extents}
-use Rattle.opfs_replay.specs.Sums.{charge_of}
+use Rattle.opfs_records.specs.Replay.Applying.{rows_of}
+use Rattle.opfs_records.specs.Replay.Built.{all_extents}
+use Rattle.opfs_records.specs.Replay.Sums.{charge_of}
 use Rattle.opfs_image.specs.Filling.{filled, AreIn, map_of, Stands, StandsOld}
 use Rattle.opfs_image.specs.Layers.{IsLayered}
 use Rattle.opfs_image.specs.Reading.{Image, read_as}

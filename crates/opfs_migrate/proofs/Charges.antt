@@ -8,8 +8,8 @@ use Rattle.opfs_base.specs.Texts.{Text}
 use Rattle.opfs_base.specs.Units.{hash_sign, default_bucket, origin_of}
 use Rattle.opfs_base.proofs.UnitLemmas.{origin_of-plain}
 use Rattle.opfs_codec.specs.declared.change.Format.TheVariants.{Old, New}
-use Rattle.opfs_replay.specs.Built.{Built}
-use Rattle.opfs_replay.specs.Sums.{key_bytes, row_charge, charge_of}
+use Rattle.opfs_records.specs.Replay.Built.{Built}
+use Rattle.opfs_records.specs.Replay.Sums.{key_bytes, row_charge, charge_of}
 use Rattle.opfs_tree.specs.declared.row.Row.{Row}
 use Rattle.opfs_tree.specs.declared.row.Row.TheVariants as row
 

@@ -4,8 +4,8 @@ use Rattle.opfs_codec.specs.declared.change.Format.TheVariants.{Old, New}
 use Rattle.opfs_machine.specs.Openings.{Map, Stored, folder, document}
 use Rattle.opfs_outside.specs.Moments.{Elapses}
 use Rattle.opfs_outside.specs.declared.disk.Disk.{Ghosts as DiskWords}
-use Rattle.opfs_replay.specs.Applying.{rows_of}
-use Rattle.opfs_replay.specs.Built.{Built}
+use Rattle.opfs_records.specs.Replay.Applying.{rows_of}
+use Rattle.opfs_records.specs.Replay.Built.{Built}
 use Rattle.opfs_tree.specs.Rows.{file_in}
 use Rattle.opfs_image.specs.Filling.{Stands, StandsOld}
 use Rattle.opfs_image.specs.Reading.{Image, read_as}

@@ -7,17 +7,16 @@ ghost use Rattle.opfs_image.specs.Reading.{read_as};
 ghost use Rattle.opfs_image.specs.Superblock.{area_bytes, image_size, is_in_range};
 ghost use Rattle.opfs_journal.specs.Walking.{OnlyRead};
 ghost use Rattle.opfs_migrate.specs.Migrating.{IsPlanned};
-ghost use Rattle.opfs_replay.specs.Applying.{rows_of};
-ghost use Rattle.opfs_replay.specs.Built.{IsSound};
-ghost use Rattle.opfs_replay.specs.Sums.{charge_of, persistent_in};
-ghost use Rattle.opfs_snapshot.specs.Written.{stored_rows};
+ghost use Rattle.opfs_records.specs.Replay.Applying.{rows_of};
+ghost use Rattle.opfs_records.specs.Replay.Built.{IsSound};
+ghost use Rattle.opfs_records.specs.Replay.Sums.{charge_of, persistent_in};
+ghost use Rattle.opfs_records.specs.Checkpoint.Written.{stored_rows};
 
 use crate::counting::count_files;
 use opfs_codec::Format;
 use opfs_image::{Geometry, ImageRefusal, ReadImage, read_image};
 use opfs_outside::Disk;
-use opfs_replay::Rebuilt;
-use opfs_snapshot::snapshot;
+use opfs_records::{Rebuilt, snapshot};
 use opfs_tree::ReadyTree;
 use std::alloc::{AllocError, Global};
 

@@ -16,8 +16,8 @@ use Rattle.opfs_codec.specs.declared.change.Format.TheVariants.{New}
 use Rattle.opfs_machine.specs.Contents.{in_lengths}
 use Rattle.opfs_machine.specs.Sums.{durable_blocks, present_blocks}
 use Rattle.opfs_machine.specs.Sums.{row_charge as line_charge}
-use Rattle.opfs_replay.specs.Built.{block_count, has_block, is_once, named, all_extents, IsSound, IsSoundRow}
-use Rattle.opfs_replay.specs.Sums.{row_charge, row_blocks, usage_in}
+use Rattle.opfs_records.specs.Replay.Built.{block_count, has_block, is_once, named, all_extents, IsSound, IsSoundRow}
+use Rattle.opfs_records.specs.Replay.Sums.{row_charge, row_blocks, usage_in}
 use Rattle.opfs_standing.specs.Seen.{line_of, lines_of}
 use Rattle.opfs_standing.specs.Sums.{where_unit}
 use Rattle.opfs_tree.specs.declared.row.Row.{Row}

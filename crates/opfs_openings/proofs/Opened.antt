@@ -18,9 +18,9 @@ use Rattle.opfs_laws.specs.Lengths.Outlines.{in_lengths_of}
 use Rattle.opfs_machine.specs.Contents.{in_bytes, in_lengths, outline_of}
 use Rattle.opfs_machine.specs.Openings.{Opening, begun}
 use Rattle.opfs_machine.specs.Sums.{all_own, reserve_of, pool, charge}
-use Rattle.opfs_replay.specs.Built.{named}
-use Rattle.opfs_replay.specs.Sums.{charge_of}
-use Rattle.opfs_replay.specs.Sums.{persistent_in as listed}
+use Rattle.opfs_records.specs.Replay.Built.{named}
+use Rattle.opfs_records.specs.Replay.Sums.{charge_of}
+use Rattle.opfs_records.specs.Replay.Sums.{persistent_in as listed}
 use Rattle.opfs_seats.specs.declared.seat.Who.{Who}
 use Rattle.opfs_sharing.proofs.Modes.{modes-alike}
 use Rattle.opfs_shed.specs.declared.shed.Bucket.{Bucket}

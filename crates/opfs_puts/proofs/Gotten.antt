@@ -12,7 +12,7 @@ use Rattle.opfs_data.specs.Pages.{runs_of, IsAgain, AreOnce}
 use Rattle.opfs_data.specs.Places.{AllLie}
 use Rattle.opfs_data.specs.Rows.{pages_at}
 use Rattle.opfs_data.specs.Writes.{PageWrite, WriteList, page_writes, page_moves, placed, blocks_in}
-use Rattle.opfs_replay.specs.Built.{has_block}
+use Rattle.opfs_records.specs.Replay.Built.{has_block}
 use Rattle.opfs_space.specs.Holders.{Holders, AreBlocks, AreMine, Writes}
 use Rattle.opfs_space.specs.Plans.{ArePlanned}
 use Rattle.opfs_space.specs.Spaces.{SpaceSeen}

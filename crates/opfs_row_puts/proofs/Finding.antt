@@ -8,7 +8,7 @@ use Rattle.opfs_data.specs.Rows.{Rows, page_at}
 use Rattle.opfs_data.specs.Writes.{PageWrite, WriteList, page_writes, page_moves}
 use Rattle.opfs_puts.specs.Puts.{IsTaken}
 use Rattle.opfs_puts.proofs.Gotten.{gotten-mine, gotten-placed}
-use Rattle.opfs_replay.specs.Built.{named, has_block}
+use Rattle.opfs_records.specs.Replay.Built.{named, has_block}
 use Rattle.opfs_space.specs.Holders.{Holders, HasPage, AreBlocks, AreSwept}
 use Rattle.opfs_space.specs.Plans.{ArePlanned, own_block, if_own}
 use Rattle.opfs_space.specs.Room.{Machine, IsExact, AreMoves, is_own_block, IsOfMachine}

@@ -13,7 +13,7 @@ use Rattle.opfs_data.specs.Pages.{page_of, blank, is_plain}
 use Rattle.opfs_data.specs.Places.{bytes_of}
 use Rattle.opfs_data.specs.Rows.{Rows, pages_at, page_at}
 use Rattle.opfs_pages.specs.Copies.{IsBegun}
-use Rattle.opfs_replay.specs.Built.{block_count, has_block, is_once}
+use Rattle.opfs_records.specs.Replay.Built.{block_count, has_block, is_once}
 use Rattle.opfs_space.specs.Spaces.{page_blocks, with_block}
 use Rattle.opfs_space.proofs.Others.{member_left, member_right}
 use Rattle.opfs_desk_laws.proofs.Contents.{content-bytes}

@@ -9,7 +9,7 @@ use Rattle.opfs_machine.specs.Contents.{in_lengths}
 use Rattle.opfs_machine.specs.Sums.{durable_blocks}
 use Rattle.opfs_pages.specs.Stages.{IsStaged}
 use Rattle.opfs_puts.specs.Puts.{IsPlaced, IsTaken, all_writes}
-use Rattle.opfs_replay.specs.Built.{named, has_block}
+use Rattle.opfs_records.specs.Replay.Built.{named, has_block}
 use Rattle.opfs_space.specs.Holders.{Holders, AreMine}
 use Rattle.opfs_space.specs.Plans.{ArePlanned}
 use Rattle.opfs_space.specs.Room.{Machine, IsExact, HasRoom}

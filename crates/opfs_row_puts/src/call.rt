@@ -12,7 +12,7 @@ ghost use Rattle.opfs_outside.specs.Faults.{Rose};
 ghost use Rattle.opfs_pages.specs.Copies.{IsCopy, AreHeld, HasFar, IsPageOf};
 ghost use Rattle.opfs_pages.specs.Stages.{changed, IsReady};
 ghost use Rattle.opfs_puts.specs.Puts.{HasSamePages, IsReady as IsPutReady};
-ghost use Rattle.opfs_replay.specs.Built.{named};
+ghost use Rattle.opfs_records.specs.Replay.Built.{named};
 ghost use Rattle.opfs_row_puts.specs.Plans.{shelf, IsStagedFor, AreGotten};
 ghost use Rattle.opfs_space.specs.Room.{Machine};
 ghost use Rattle.opfs_tree.specs.Rows.{Rows as Tree};

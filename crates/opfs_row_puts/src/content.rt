@@ -9,7 +9,7 @@ ghost use Rattle.opfs_data.specs.Pages.{page_of};
 ghost use Rattle.opfs_data.specs.Places.{bytes_of};
 ghost use Rattle.opfs_data.specs.Rows.{pages_at, page_at};
 ghost use Rattle.opfs_pages.specs.Copies.{IsBegun};
-ghost use Rattle.opfs_replay.specs.Built.{block_count, has_block, is_once};
+ghost use Rattle.opfs_records.specs.Replay.Built.{block_count, has_block, is_once};
 ghost use Rattle.opfs_row_puts.specs.Rows.{ArePlain};
 ghost use Rattle.opfs_space.specs.Holders.{HasPage};
 ghost use Rattle.opfs_space.specs.Spaces.{page_blocks, with_block};

@@ -4,7 +4,7 @@ ghost use Rattle.std.specs.Vec.{vec_capacity};
 ghost use Rattle.opfs_blocks.specs.Sets.{AreBelow};
 ghost use Rattle.opfs_data.specs.Writes.{page_moves};
 ghost use Rattle.opfs_desk_laws.specs.Spaced.{AreSpaced};
-ghost use Rattle.opfs_replay.specs.Built.{named, has_block};
+ghost use Rattle.opfs_records.specs.Replay.Built.{named, has_block};
 ghost use Rattle.opfs_row_puts.specs.Plans.{shelf, MayFindBlocks, WaitForBlocks, HaveBlocks};
 ghost use Rattle.opfs_space.specs.Holders.{AreAllBelow, AreSwept};
 ghost use Rattle.opfs_space.specs.Room.{Machine};

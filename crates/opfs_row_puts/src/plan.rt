@@ -11,7 +11,7 @@ ghost use Rattle.opfs_desk_laws.specs.Spaced.{AreSpaced};
 ghost use Rattle.opfs_outside.specs.Faults.{Rose};
 ghost use Rattle.opfs_pages.specs.Stages.{IsReady, IsStaged};
 ghost use Rattle.opfs_puts.specs.Puts.{HasSamePages, IsReady as IsPutReady};
-ghost use Rattle.opfs_replay.specs.Built.{named, has_block};
+ghost use Rattle.opfs_records.specs.Replay.Built.{named, has_block};
 ghost use Rattle.opfs_space.specs.Holders.{AreAllBelow, AreSwept};
 ghost use Rattle.opfs_row_puts.specs.Plans.{shelf, IsStagedFor, HasTaken, AreGotten};
 ghost use Rattle.opfs_space.specs.Plans.{ArePlanned};

@@ -9,7 +9,7 @@ use Rattle.std.specs.Ordering.{is_eq, ordering_reverse}
 use Rattle.std.specs.declared.cmp.Ordering.{Ordering}
 use Rattle.std.specs.declared.cmp.Ordering.TheVariants.{Less, Equal, Greater}
 use Rattle.opfs_base.specs.Texts.{Text}
-use Rattle.opfs_replay.specs.Sums.{persistent_in as listed}
+use Rattle.opfs_records.specs.Replay.Sums.{persistent_in as listed}
 use Rattle.opfs_shed.specs.declared.shed.Bucket.{Bucket}
 use Rattle.opfs_shed.specs.Buckets.{Buckets, text_cmp, is_unit, bucket_at, first_bucket}
 use Rattle.opfs_standing.specs.Seen.{persistent_in}

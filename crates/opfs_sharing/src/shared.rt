@@ -19,7 +19,7 @@ pub trait Shared {
     ghost use Rattle.opfs_machine.specs.Effects.{effect, refused};
     ghost use Rattle.opfs_machine.specs.Steps.{evicted};
     ghost use Rattle.opfs_machine.specs.declared.state.Sizes.{Sizes};
-    ghost use Rattle.opfs_replay.specs.Sums.{persistent_in};
+    ghost use Rattle.opfs_records.specs.Replay.Sums.{persistent_in};
     ghost use Rattle.opfs_standing.specs.Seen.{Machine, lines_of};
     ghost use Rattle.opfs_sharing.specs.Noting.{noted, IsSumOf, AreNotes};
     ghost use Rattle.opfs_sharing.specs.Standing.{Standby};

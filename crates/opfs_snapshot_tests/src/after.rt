@@ -3,8 +3,8 @@
 use crate::growing::{add_child, add_root, persist, short_file};
 use opfs_base::{Extents, Key, Name, Path};
 use opfs_codec::ChangeRef;
+use opfs_records::snapshot_after;
 use opfs_shed::Shed;
-use opfs_snapshot::snapshot_after;
 use opfs_tree::{ReadyTree, Row, Tree};
 use std::alloc::{AllocError, Global};
 use std::test::Fail;

@@ -2,8 +2,8 @@
 
 use crate::growing::{add_child, add_root, empty_file, persist, short_file};
 use opfs_base::{Key, Path};
+use opfs_records::snapshot;
 use opfs_shed::Shed;
-use opfs_snapshot::snapshot;
 use opfs_tree::{ReadyTree, Row, Tree};
 use std::alloc::{AllocError, Global};
 use std::test::Fail;

@@ -13,7 +13,7 @@ use Rattle.opfs_machine.specs.Contents.{in_lengths}
 use Rattle.opfs_machine.specs.Sums.{reserve_of, pool, fits_pool, all_own}
 use Rattle.opfs_machine.specs.declared.own.Outline.{Outline}
 use Rattle.opfs_machine.specs.declared.own.Outline.TheVariants as outline
-use Rattle.opfs_replay.specs.Built.{has_block, named}
+use Rattle.opfs_records.specs.Replay.Built.{has_block, named}
 use Rattle.opfs_space.specs.Spaces.{is_own}
 use Rattle.opfs_space.specs.Holders.{HasPage, Holders, AreBlocks, HasLess, HasFewer, AreSwept}
 use Rattle.opfs_space.specs.Room.{Machine, is_own_block, IsExact, AreMoves, IsOfMachine, HasRoom}

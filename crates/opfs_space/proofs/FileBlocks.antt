@@ -15,7 +15,7 @@ use Rattle.opfs_base.specs.Places.{Place, place_cmp, is_within}
 use Rattle.opfs_base.specs.declared.extents.Extent.{Extent}
 use Rattle.opfs_blocks.specs.Sets.{blocks_of}
 use Rattle.opfs_blocks.proofs.SetLemmas.{blocks_of-append}
-use Rattle.opfs_replay.specs.Built.{has_block, is_once, named, all_extents, block_count}
+use Rattle.opfs_records.specs.Replay.Built.{has_block, is_once, named, all_extents, block_count}
 use Rattle.opfs_space.specs.Files.{extents_in, blocks_at, file_has, IsChangedAt}
 use Rattle.opfs_space.proofs.Keeping.{both}
 use Rattle.opfs_space.proofs.Others.{member_left, member_right}

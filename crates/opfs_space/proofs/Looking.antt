@@ -4,7 +4,7 @@ use Rattle.std.proofs.lemmas.List.{length-replicate}
 use Rattle.opfs_blocks.specs.Sets.{marked}
 use Rattle.opfs_data.specs.declared.page.Page.{Page}
 use Rattle.opfs_data.specs.Rows.{Rows, AreInOrder}
-use Rattle.opfs_replay.specs.Built.{has_block}
+use Rattle.opfs_records.specs.Replay.Built.{has_block}
 use Rattle.opfs_space.specs.Spaces.{SpaceSeen, block_seen, pages_seen, files_seen}
 use Rattle.opfs_space.specs.Holders.{all_pages, AreSwept}
 use Rattle.opfs_space.proofs.Sweeping.{swept, own_length, seen_length, marked_length}

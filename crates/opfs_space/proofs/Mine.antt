@@ -6,7 +6,7 @@ use Rattle.opfs_blocks.specs.Sets.{Used, is_used, marked, free_from, free_blocks
 use Rattle.opfs_data.specs.Pages.{AreOnce, AreOwn, NamesPage, NamesBlock}
 use Rattle.opfs_data.specs.Rows.{Rows, page_at, pages_at, AreFree}
 use Rattle.opfs_data.specs.Writes.{PageWrite, placed}
-use Rattle.opfs_replay.specs.Built.{has_block}
+use Rattle.opfs_records.specs.Replay.Built.{has_block}
 use Rattle.opfs_space.specs.Spaces.{is_own}
 use Rattle.opfs_space.specs.Holders.{HasPage, Holders, AreBlocks, Writes, IsMine, AreMine}
 use Rattle.opfs_space.specs.Plans.{if_own, own_block, ArePlanned}

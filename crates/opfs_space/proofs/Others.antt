@@ -11,7 +11,7 @@ use Rattle.opfs_machine.specs.Sums.{reserve_of}
 use Rattle.opfs_machine.specs.declared.own.Outline.{Outline}
 use Rattle.opfs_machine.specs.declared.own.Outline.TheVariants as outline
 use Rattle.opfs_machine.specs.declared.state.Agent.{Agent}
-use Rattle.opfs_replay.specs.Built.{has_block}
+use Rattle.opfs_records.specs.Replay.Built.{has_block}
 use Rattle.opfs_space.specs.Holders.{HasPage}
 
 -- ---- lists of blocks

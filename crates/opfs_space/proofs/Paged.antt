@@ -13,7 +13,7 @@ use Rattle.opfs_data.specs.declared.page.Page.{Page}
 use Rattle.opfs_data.specs.Pages.{RowSeen, blank}
 use Rattle.opfs_data.specs.Rows.{Rows, row_cmp, row_of, no_row, AreInOrder}
 use Rattle.opfs_data.proofs.Behind.{none_twice, found_first}
-use Rattle.opfs_replay.specs.Built.{has_block}
+use Rattle.opfs_records.specs.Replay.Built.{has_block}
 use Rattle.opfs_space.specs.Spaces.{SpaceSeen, is_own, with_block, page_blocks, times, IsSwept}
 use Rattle.opfs_space.specs.Holders.{HasPage, IsPaged, IsAlone, all_pages, AreSwept}
 use Rattle.opfs_space.proofs.Keeping.{both}

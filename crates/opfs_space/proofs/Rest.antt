@@ -6,7 +6,7 @@ use Rattle.opfs_base.specs.Places.{Place}
 use Rattle.opfs_blocks.specs.Sets.{Used, marked, blocks_of, AreBelow}
 use Rattle.opfs_tree.specs.Rows.{Rows as Tree, rows_above, extents_of}
 use Rattle.opfs_tree.specs.declared.row.Row.{Row}
-use Rattle.opfs_replay.specs.Built.{named, all_extents}
+use Rattle.opfs_records.specs.Replay.Built.{named, all_extents}
 use Rattle.opfs_blocks.proofs.SetLemmas.{blocks_of-append}
 use Rattle.opfs_data.specs.declared.page.Page.{Page}
 use Rattle.opfs_data.specs.Pages.{blank}

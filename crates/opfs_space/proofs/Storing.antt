@@ -5,7 +5,7 @@ use Rattle.opfs_base.specs.Places.{Place}
 use Rattle.opfs_blocks.specs.Sets.{Used, is_used}
 use Rattle.opfs_data.specs.declared.page.Page.{Page}
 use Rattle.opfs_data.specs.Rows.{IsOther}
-use Rattle.opfs_replay.specs.Built.{has_block}
+use Rattle.opfs_records.specs.Replay.Built.{has_block}
 use Rattle.opfs_space.specs.Spaces.{is_own}
 use Rattle.opfs_space.specs.Holders.{HasPage, Holders, AreBlocks, KeepsRow, HasFiles, IsOpened, IsStored}
 use Rattle.opfs_space.proofs.Keeping.{both}

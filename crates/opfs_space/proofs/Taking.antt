@@ -4,7 +4,7 @@ use Rattle.std.proofs.lemmas.Bool.{cases_eq, eqb-true, eq-eqb}
 use Rattle.std.proofs.lemmas.List.{length-set, get_or-set_same, get_or-set_other}
 use Rattle.opfs_blocks.specs.Sets.{Used, is_used, marked, free_from, free_blocks}
 use Rattle.opfs_data.specs.Rows.{Rows}
-use Rattle.opfs_replay.specs.Built.{has_block}
+use Rattle.opfs_records.specs.Replay.Built.{has_block}
 use Rattle.opfs_space.specs.Spaces.{is_own}
 use Rattle.opfs_space.specs.Holders.{HasPage, Holders, AreBlocks, IsMine, IsFirst}
 use Rattle.opfs_space.proofs.Keeping.{both}

@@ -7,7 +7,7 @@ use Rattle.opfs_blocks.specs.Sets.{Used, is_used}
 use Rattle.opfs_data.specs.declared.page.Page.{Page}
 use Rattle.opfs_data.specs.Rows.{Rows, page_at, IsOther, OthersStay}
 use Rattle.opfs_data.specs.Writes.{PageWrite}
-use Rattle.opfs_replay.specs.Built.{has_block}
+use Rattle.opfs_records.specs.Replay.Built.{has_block}
 use Rattle.opfs_space.specs.Spaces.{is_own}
 
 -- A page of an open row has a block.

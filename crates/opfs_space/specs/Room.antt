@@ -10,7 +10,7 @@ use Rattle.opfs_machine.specs.Sums.{reserve_of, durable_blocks, pool, fits_pool}
 use Rattle.opfs_machine.specs.declared.own.Outline.{Outline}
 use Rattle.opfs_machine.specs.declared.own.Outline.TheVariants as outline
 use Rattle.opfs_machine.specs.declared.state.State.{State}
-use Rattle.opfs_replay.specs.Built.{has_block, named}
+use Rattle.opfs_records.specs.Replay.Built.{has_block, named}
 use Rattle.opfs_space.specs.Spaces.{is_own}
 use Rattle.opfs_space.specs.Holders.{HasPage, Holders}
 use Rattle.opfs_tree.specs.Rows.{Rows as Tree}

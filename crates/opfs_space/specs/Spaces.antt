@@ -1,6 +1,6 @@
 -- Free data blocks: which ones are used, and which one page alone has. This project's own.
 use Rattle.std.specs.Prelude.{◌≡◌, ℕ, ◌+◌, ◌<◌, ◌≤◌, ◌++◌, not, nat_eq, cond, replicate, Bool, true, false, Option, Some, None, List, [], ◌∷◌, slice_index_or, slice_set, length}
-use Rattle.opfs_replay.specs.Built.{has_block}
+use Rattle.opfs_records.specs.Replay.Built.{has_block}
 use Rattle.opfs_blocks.specs.Sets.{Used, is_used, marked}
 use Rattle.opfs_data.specs.declared.page.Page.{Page}
 

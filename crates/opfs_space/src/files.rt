@@ -4,7 +4,7 @@ ghost use Rattle.std.specs.List.{AllByRecursion};
 ghost use Rattle.opfs_base.specs.Places.{Place, is_within};
 ghost use Rattle.opfs_base.specs.declared.extents.Extent.{Extent};
 ghost use Rattle.opfs_blocks.specs.Sets.{blocks_of};
-ghost use Rattle.opfs_replay.specs.Built.{has_block, is_once, named, block_count};
+ghost use Rattle.opfs_records.specs.Replay.Built.{has_block, is_once, named, block_count};
 ghost use Rattle.opfs_space.specs.Files.{file_has, IsChangedAt};
 ghost use Rattle.opfs_tree.specs.declared.row.FileRow.{FileRow};
 ghost use Rattle.opfs_tree.specs.Rows.{Rows, file_at, extents_of, change_at, stored, without, durable_blocks, IsInOrder};

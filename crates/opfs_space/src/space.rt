@@ -5,7 +5,7 @@ ghost use Rattle.std.specs.List.{AllByRecursion};
 ghost use Rattle.std.specs.Vec.{vec_capacity};
 ghost use Rattle.opfs_blocks.specs.Sets.{free_blocks, marked, blocks_of, AreBelow, AreJoined};
 ghost use Rattle.opfs_data.specs.Rows.{pages_at, AreInOrder};
-ghost use Rattle.opfs_replay.specs.Built.{named, has_block};
+ghost use Rattle.opfs_records.specs.Replay.Built.{named, has_block};
 ghost use Rattle.opfs_space.specs.Spaces.{is_own, block_seen, pages_seen, IsBelow};
 ghost use Rattle.opfs_space.specs.Holders.{AreAllBelow, AreSwept, all_pages};
 

@@ -7,7 +7,7 @@ ghost use Rattle.opfs_data.specs.Pages.{resized, with_writes, pages_in, AreOnce}
 ghost use Rattle.opfs_data.specs.Rows.{pages_at};
 ghost use Rattle.opfs_data.specs.Writes.{PageWrite};
 ghost use Rattle.opfs_space.specs.Holders.{Holders, AreBlocks, HasPage, HasFiles, HasFewer, KeepsRow, KeepsOthers, HasLess, AreMine, IsMine, IsOpened, IsStored, IsFirst, AreSwept};
-ghost use Rattle.opfs_replay.specs.Built.{has_block};
+ghost use Rattle.opfs_records.specs.Replay.Built.{has_block};
 ghost use Rattle.opfs_space.specs.Spaces.{is_own};
 
 /// The law of blocks taken: free ones that are marked used and own leave all right, and each of them may then be written

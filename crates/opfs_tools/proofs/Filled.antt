@@ -13,12 +13,12 @@ use Rattle.opfs_data.specs.Places.{run_bytes, run_place, run_room, room_of, byte
 use Rattle.opfs_image.specs.Filling.{filled, filled_row}
 use Rattle.opfs_image.specs.Superblock.{area_bytes, is_between, is_in_range}
 use Rattle.opfs_image.specs.declared.geometry.Geometry.{Geometry}
-use Rattle.opfs_replay.specs.Built.{IsSoundRow, IsSoundFile, block_count}
+use Rattle.opfs_records.specs.Replay.Built.{IsSoundRow, IsSoundFile, block_count}
 use Rattle.opfs_codec.specs.Charges.{unit_bytes}
 use Rattle.opfs_codec.specs.declared.change.Format.TheVariants.{New}
 use Rattle.opfs_image.specs.Agreeing.{built_in}
-use Rattle.opfs_replay.specs.Sums.{charge_of, persistent_in}
-use Rattle.opfs_replay.specs.Sums.{row_charge as built_charge}
+use Rattle.opfs_records.specs.Replay.Sums.{charge_of, persistent_in}
+use Rattle.opfs_records.specs.Replay.Sums.{row_charge as built_charge}
 use Rattle.opfs_shed.specs.Buckets.{Storage}
 use Rattle.opfs_tree.specs.Rows.{Rows}
 use Rattle.opfs_tree.specs.declared.row.FileRow.{FileRow}

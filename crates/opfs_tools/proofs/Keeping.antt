@@ -9,7 +9,7 @@ use Rattle.opfs_image.specs.Superblock.{areas_of, image_size}
 use Rattle.opfs_image.specs.declared.geometry.Geometry.{Geometry}
 use Rattle.opfs_journal.specs.Format.{records_of}
 use Rattle.opfs_journal.specs.Seen.{Seen}
-use Rattle.opfs_replay.specs.Built.{Built}
+use Rattle.opfs_records.specs.Replay.Built.{Built}
 use Rattle.opfs_outside.specs.declared.disk.Disk.{Ghosts as DiskWords}
 
 module _ {D : Type 0} (w : DiskWords D) where

@@ -7,7 +7,7 @@ ghost use Rattle.opfs_image.specs.Agreeing.{built_in};
 ghost use Rattle.opfs_image.specs.Filling.{filled};
 ghost use Rattle.opfs_image.specs.Superblock.{data_base};
 ghost use Rattle.opfs_outside.specs.Faults.{Rose};
-ghost use Rattle.opfs_replay.specs.Sums.{charge_of, persistent_in};
+ghost use Rattle.opfs_records.specs.Replay.Sums.{charge_of, persistent_in};
 ghost use Rattle.opfs_tools.specs.Checking.{counts_line, check_text};
 ghost use Rattle.opfs_tools.specs.Reading.{RowsLie, stored_lines};
 ghost use Rattle.opfs_tools.specs.Sights.{sights_in};

@@ -3,7 +3,7 @@
 ghost use Rattle.std.specs.Prelude.{◌≡◌, ◌^◌, ◌<◌, length, IfOk, string_bytes};
 ghost use Rattle.opfs_codec.specs.declared.change.Format.TheVariants.{New};
 ghost use Rattle.opfs_image.specs.Agreeing.{built_in};
-ghost use Rattle.opfs_replay.specs.Sums.{charge_of, persistent_in};
+ghost use Rattle.opfs_records.specs.Replay.Sums.{charge_of, persistent_in};
 ghost use Rattle.opfs_tools.specs.Checking.{is_directory, is_file, count_of, ok_line, counts_line};
 ghost use Rattle.opfs_tools.specs.Sights.{sights_in, used_blocks};
 

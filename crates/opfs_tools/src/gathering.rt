@@ -1,7 +1,7 @@
 //! The rows of a tree, and the persistent units of a shed.
 
 ghost use Rattle.std.specs.Prelude.{◌≡◌, IfOk};
-ghost use Rattle.opfs_replay.specs.Sums.{persistent_in};
+ghost use Rattle.opfs_records.specs.Replay.Sums.{persistent_in};
 ghost use Rattle.opfs_tools.specs.Sights.{sights_in};
 
 use crate::sights::{Entry, Sight};

@@ -5,7 +5,7 @@ ghost use Rattle.std.specs.List.{flat_map};
 ghost use Rattle.opfs_image.specs.Agreeing.{built_in};
 ghost use Rattle.opfs_image.specs.Filling.{filled};
 ghost use Rattle.opfs_image.specs.Superblock.{data_base};
-ghost use Rattle.opfs_replay.specs.Sums.{persistent_in};
+ghost use Rattle.opfs_records.specs.Replay.Sums.{persistent_in};
 ghost use Rattle.opfs_tools.specs.Listing.{list_of, list_text, row_line, unit_text};
 ghost use Rattle.opfs_tools.specs.Sights.{sights_in, used_blocks};
 

@@ -3,7 +3,7 @@ use Rattle.opfs_base.specs.Blocks.{blocks}
 use Rattle.opfs_blocks.specs.Sets.{AreBelow}
 use Rattle.opfs_data.specs.Rows.{row_of}
 use Rattle.opfs_pages.specs.Stages.{IsReady}
-use Rattle.opfs_replay.specs.Built.{named}
+use Rattle.opfs_records.specs.Replay.Built.{named}
 use Rattle.opfs_tree.specs.Rows.{Rows as Tree}
 use Rattle.opfs_desk_parts.specs.declared.parts.Ledger.{Ledger}
 use Rattle.opfs_desk_parts.specs.declared.parts.Pages.{Pages}

@@ -1,7 +1,7 @@
 use Rattle.std.proofs.Common.{ℕ, ◌≡◌, ◌≤◌, ◌++◌, ap, ◌∙◌, false, arith}
 use Rattle.opfs_image.specs.Agreeing.{built_in}
 use Rattle.opfs_image.specs.Superblock.{data_base, image_size}
-use Rattle.opfs_replay.specs.Sums.{persistent_in}
+use Rattle.opfs_records.specs.Replay.Sums.{persistent_in}
 use Rattle.opfs_tools.proofs.Filled.{rows_lie}
 use Rattle.opfs_tools.proofs.Keeping.{journal_kept, image_kept}
 use Rattle.opfs_dump.specs.Pieces.{head_text, rest_text}

@@ -3,7 +3,7 @@ use Rattle.std.specs.Prelude.{map}
 use Rattle.std.specs.Option.{option_copied}
 use Rattle.serde_json.specs.Data.{string}
 use Rattle.serde_json.specs.View.{view}
-use Rattle.opfs_replay.specs.Sums.{persistent_in}
+use Rattle.opfs_records.specs.Replay.Sums.{persistent_in}
 use Rattle.opfs_tools.proofs.Walking.{persistent_behind}
 use Rattle.opfs_dump.proofs.pieces.unit_values.Given as goal
 

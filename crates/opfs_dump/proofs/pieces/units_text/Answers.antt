@@ -1,7 +1,7 @@
 use Rattle.std.proofs.Common.{ap, ◌∙◌}
 use Rattle.serde_json.specs.View.{items_of}
 use Rattle.serde_json.specs.Written.{items_have_float}
-use Rattle.opfs_replay.specs.Sums.{persistent_in}
+use Rattle.opfs_records.specs.Replay.Sums.{persistent_in}
 use Rattle.opfs_print.proofs.NamesLemmas.{no_float}
 use Rattle.opfs_dump.proofs.pieces.units_text.Goals as goal
 

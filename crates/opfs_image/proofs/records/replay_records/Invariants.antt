@@ -1,7 +1,7 @@
 use Rattle.std.proofs.Common.{◌≡◌, ◌-◌, ◌<◌, ◌≤◌, ℕ}
 use Rattle.std.specs.Prelude.{Result}
 use Rattle.opfs_journal.specs.Walking.{OnlyRead}
-use Rattle.opfs_replay.specs.Built.{Built}
+use Rattle.opfs_records.specs.Replay.Built.{Built}
 use Rattle.opfs_image.specs.Walking.{Yields}
 use Rattle.opfs_image.proofs.records.replay_records.Given as goal
 

@@ -1,6 +1,6 @@
 use Rattle.std.proofs.Common.{◌≡◌, ◌++◌, ◌∷◌, [], sym, ap, ◌∙◌}
 use Rattle.std.proofs.lemmas.Bool.{and_right, and_from}
-use Rattle.opfs_replay.proofs.Parents.{can_make_at}
+use Rattle.opfs_records.proofs.replay.Parents.{can_make_at}
 use Rattle.opfs_load.proofs.following.free_path.Goals as goal
 
 pub returns-then-not-can_hold : goal.returns-then-not-can_hold

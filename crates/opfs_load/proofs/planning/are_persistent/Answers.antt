@@ -4,7 +4,7 @@ use Rattle.std.specs.Cmp.Lexicographic.{same_text}
 use Rattle.std.proofs.lemmas.List.{append-nil, take_all}
 use Rattle.opfs_base.specs.Texts.{Text}
 use Rattle.opfs_shed.specs.Buckets.{persistent_past}
-use Rattle.opfs_snapshot.proofs.Ordered.{persistent_behind, behind_next, behind_none}
+use Rattle.opfs_records.proofs.checkpoint.Ordered.{persistent_behind, behind_next, behind_none}
 use Rattle.opfs_load.proofs.Orders.{take_next}
 use Rattle.opfs_load.proofs.Persistent.{nothing}
 use Rattle.opfs_load.proofs.planning.are_persistent.Goals as goal

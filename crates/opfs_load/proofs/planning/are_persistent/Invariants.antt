@@ -1,7 +1,7 @@
 use Rattle.std.proofs.Common.{◌≡◌, ◌++◌, take}
 use Rattle.std.specs.Option.{option_copied}
-use Rattle.opfs_replay.specs.Sums.{persistent_in}
-use Rattle.opfs_snapshot.proofs.Ordered.{persistent_behind}
+use Rattle.opfs_records.specs.Replay.Sums.{persistent_in}
+use Rattle.opfs_records.proofs.checkpoint.Ordered.{persistent_behind}
 use Rattle.opfs_load.proofs.planning.are_persistent.Given as goal
 
 abbrev pub invariant-loop-unit : goal.invariant-loop-unit

@@ -2,9 +2,9 @@ use Rattle.std.proofs.Common.{◌≡◌, ℕ, ◌≤◌, List, Some, sym, ap, su
 use Rattle.std.specs.Prelude.{map}
 use Rattle.opfs_base.specs.Places.{Place}
 use Rattle.opfs_machine.specs.Openings.{Stored}
-use Rattle.opfs_replay.specs.Built.{IsSound}
-use Rattle.opfs_replay.specs.Sums.{persistent_in}
-use Rattle.opfs_snapshot.specs.Written.{stored_rows}
+use Rattle.opfs_records.specs.Replay.Built.{IsSound}
+use Rattle.opfs_records.specs.Replay.Sums.{persistent_in}
+use Rattle.opfs_records.specs.Checkpoint.Written.{stored_rows}
 use Rattle.opfs_tree.specs.Rows.{Rows}
 use Rattle.opfs_dump_text.specs.Limits.{blocks_needed}
 use Rattle.opfs_dump_text.specs.Seen.{row_of}

@@ -3,7 +3,7 @@ use Rattle.std.specs.Prelude.{sum_by}
 use Rattle.opfs_codec.specs.declared.change.Format.TheVariants.{New}
 use Rattle.opfs_dump_text.specs.Limits.{bare_row}
 use Rattle.opfs_dump_text.specs.Seen.{stored_of}
-use Rattle.opfs_replay.specs.Sums.{row_charge}
+use Rattle.opfs_records.specs.Replay.Sums.{row_charge}
 use Rattle.opfs_load.proofs.sums.rows_charge.Given as goal
 
 abbrev pub invariant-loop-row : goal.invariant-loop-row

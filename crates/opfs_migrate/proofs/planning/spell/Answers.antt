@@ -1,9 +1,9 @@
 use Rattle.std.proofs.Common.{◌≤◌, length, sym, ap, subst}
 use Rattle.opfs_codec.specs.declared.change.Format.TheVariants.{New}
 use Rattle.opfs_tree.specs.Ready.Ready.{ReadyRows}
-use Rattle.opfs_replay.specs.Built.{IsSound}
-use Rattle.opfs_replay.specs.Sums.{charge_of, persistent_in}
-use Rattle.opfs_snapshot.specs.Written.{stored_rows}
+use Rattle.opfs_records.specs.Replay.Built.{IsSound}
+use Rattle.opfs_records.specs.Replay.Sums.{charge_of, persistent_in}
+use Rattle.opfs_records.specs.Checkpoint.Written.{stored_rows}
 use Rattle.opfs_tree.specs.Rows.{Rows}
 use Rattle.opfs_migrate.proofs.planning.spell.Goals as goal
 

@@ -1,6 +1,6 @@
 use Rattle.std.proofs.Common.{◌≡◌, ◌++◌, length}
 use Rattle.std.specs.Option.{option_copied}
-use Rattle.opfs_replay.specs.Sums.{persistent_in}
+use Rattle.opfs_records.specs.Replay.Sums.{persistent_in}
 use Rattle.opfs_tools.proofs.Walking.{persistent_behind}
 use Rattle.opfs_tools.proofs.gathering.persistent_of.Given as goal
 

@@ -1,6 +1,6 @@
 use Rattle.std.proofs.Common.{ap, sym, ◌∙◌, List, ℕ}
 use Rattle.opfs_image.specs.Superblock.{data_base}
-use Rattle.opfs_replay.specs.Sums.{persistent_in}
+use Rattle.opfs_records.specs.Replay.Sums.{persistent_in}
 use Rattle.opfs_tools.specs.Listing.{list_of}
 use Rattle.opfs_tools.specs.Sights.{Sights}
 use Rattle.opfs_tools.proofs.Filled.{same_sights, appended, used_fits, charge_small}

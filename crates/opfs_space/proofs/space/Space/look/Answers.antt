@@ -1,4 +1,4 @@
-use Rattle.opfs_replay.specs.Built.{named}
+use Rattle.opfs_records.specs.Replay.Built.{named}
 use Rattle.opfs_space.proofs.Looking.{look_used, look_found}
 use Rattle.opfs_space.proofs.space.Space.look.Goals as goal
 

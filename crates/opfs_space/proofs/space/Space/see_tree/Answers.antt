@@ -1,7 +1,7 @@
 use Rattle.std.proofs.Common.{length}
 use Rattle.opfs_blocks.specs.Sets.{blocks_of}
 use Rattle.opfs_tree.specs.Rows.{extents_of, rows_above}
-use Rattle.opfs_replay.specs.Built.{named}
+use Rattle.opfs_records.specs.Replay.Built.{named}
 use Rattle.opfs_space.proofs.Rest.{named_next, file_below, rest_files_below, marked_next}
 use Rattle.opfs_space.proofs.space.Space.see_tree.Goals as goal
 

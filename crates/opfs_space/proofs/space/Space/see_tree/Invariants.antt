@@ -1,7 +1,7 @@
 use Rattle.std.proofs.Common.{◌≡◌, length, true}
 use Rattle.opfs_blocks.specs.Sets.{marked, AreBelow}
 use Rattle.opfs_tree.specs.Rows.{rows_above}
-use Rattle.opfs_replay.specs.Built.{named}
+use Rattle.opfs_records.specs.Replay.Built.{named}
 use Rattle.opfs_space.proofs.space.Space.see_tree.Given as goal
 
 abbrev pub invariant-loop-row : goal.invariant-loop-row

@@ -1,6 +1,0 @@
-use Rattle.std.proofs.Common.{◌≡◌, drop}
-use Rattle.opfs_replay.specs.Kept.{has_blocks}
-use Rattle.opfs_replay.proofs.stores.has_blocks.Given as goal
-
-abbrev pub invariant-loop-extent : goal.invariant-loop-extent
-invariant-loop-extent l = has_blocks (drop l.extent-index l.extents) l.left ≡ has_blocks l.extents l.count
