@@ -7,10 +7,10 @@ use Rattle.std.specs.declared.alloc.AllocError.{AllocError}
 use Rattle.opfs_base.specs.Texts.{Text}
 use Rattle.opfs_codec.specs.declared.change.Format.TheVariants.{New}
 use Rattle.opfs_data.specs.Calls.{Reads}
-use Rattle.opfs_dump.specs.Putting.{Dumps}
-use Rattle.opfs_dump.specs.declared.stop.DumpStop.{DumpStop}
-use Rattle.opfs_dump.specs.declared.stop.DumpStop.TheVariants as stop
-use Rattle.opfs_dump_text.specs.Texts.{dump_text}
+use Rattle.opfs_dump.specs.Dumping.Putting.{Dumps}
+use Rattle.opfs_dump.specs.declared.dumping.stop.DumpStop.{DumpStop}
+use Rattle.opfs_dump.specs.declared.dumping.stop.DumpStop.TheVariants as stop
+use Rattle.opfs_dump.specs.Text.Texts.{dump_text}
 use Rattle.opfs_image.specs.Filling.{filled}
 use Rattle.opfs_image.specs.Reading.{read_as}
 use Rattle.opfs_image.specs.Superblock.{data_base}

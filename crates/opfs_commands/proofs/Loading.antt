@@ -7,11 +7,11 @@ use Rattle.std.proofs.lemmas.Result.{IfOk-weaker}
 use Rattle.std.specs.Cmp.Lexicographic.{same_text as equal_texts, nat_list_eq_equiv}
 use Rattle.std.specs.declared.alloc.AllocError.{AllocError}
 use Rattle.opfs_base.specs.Texts.{Text, same_text}
-use Rattle.opfs_dump_text.specs.Reading.{Dump, Read, if_json, most_bytes, reads_dump}
-use Rattle.opfs_dump_text.specs.Texts.{refused_line}
-use Rattle.opfs_dump_text.specs.Whole.{dump_of}
-use Rattle.opfs_dump_text.specs.declared.dumped.Dumped.{Dumped}
-use Rattle.opfs_dump_text.specs.declared.refusal.DumpRefusal.TheVariants as refusal
+use Rattle.opfs_dump.specs.Text.Reading.{Dump, Read, if_json, most_bytes, reads_dump}
+use Rattle.opfs_dump.specs.Text.Texts.{refused_line}
+use Rattle.opfs_dump.specs.Text.Whole.{dump_of}
+use Rattle.opfs_dump.specs.declared.text.dumped.Dumped.{Dumped}
+use Rattle.opfs_dump.specs.declared.text.refusal.DumpRefusal.TheVariants as refusal
 use Rattle.opfs_outside.specs.Bytes.{window}
 use Rattle.opfs_outside.specs.Windows.{window_is}
 use Rattle.opfs_outside.specs.Faults.{Rose, RoseBy}

@@ -16,10 +16,10 @@ use Rattle.opfs_image.specs.declared.refusal.ImageRefusal.{ImageRefusal}
 use Rattle.opfs_image.specs.declared.refusal.ImageRefusal.TheVariants as image
 use Rattle.opfs_records.specs.Replay.Built.{nothing_built}
 use Rattle.opfs_migrate.specs.Migrating.{AreMigrated}
-use Rattle.opfs_dump_text.specs.Reading.{Dump, reads_dump}
-use Rattle.opfs_dump_text.specs.Texts.{dump_text, loaded_line, refused_line}
-use Rattle.opfs_dump_text.specs.declared.refusal.DumpRefusal.{DumpRefusal}
-use Rattle.opfs_load.specs.Laid.{StandsAs}
+use Rattle.opfs_dump.specs.Text.Reading.{Dump, reads_dump}
+use Rattle.opfs_dump.specs.Text.Texts.{dump_text, loaded_line, refused_line}
+use Rattle.opfs_dump.specs.declared.text.refusal.DumpRefusal.{DumpRefusal}
+use Rattle.opfs_dump.specs.Loading.Laid.{StandsAs}
 use Rattle.opfs_outside.specs.Turns.{SinkTurn, SinkFailed, Took}
 use Rattle.opfs_tools.specs.Listing.{list_text}
 use Rattle.opfs_tools.specs.Checking.{check_text}

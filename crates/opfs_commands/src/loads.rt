@@ -1,9 +1,9 @@
 //! An image that is made anew from a text.
 ghost use Rattle.std.specs.Prelude.{◌≡◌, ◌≢◌, ◌≤◌, Ok, IfOk, IfErr, IsOk, IsErrOf, length};
 ghost use Rattle.opfs_base.specs.Texts.{Text};
-ghost use Rattle.opfs_dump_text.specs.Reading.{reads_dump};
-ghost use Rattle.opfs_dump_text.specs.Texts.{loaded_line, refused_line};
-ghost use Rattle.opfs_dump_text.specs.Whole.{dump_of};
+ghost use Rattle.opfs_dump.specs.Text.Reading.{reads_dump};
+ghost use Rattle.opfs_dump.specs.Text.Texts.{loaded_line, refused_line};
+ghost use Rattle.opfs_dump.specs.Text.Whole.{dump_of};
 ghost use Rattle.opfs_image.specs.Superblock.{image_size};
 ghost use Rattle.opfs_journal.specs.Walking.{OnlyRead};
 ghost use Rattle.opfs_outside.specs.Faults.{Rose, RoseBy};
@@ -17,8 +17,7 @@ use crate::answers::{ToolAnswer, ToolEnd, host_answer};
 use crate::hosts::give_back;
 use crate::makers::done;
 use opfs_base::Bytes;
-use opfs_dump_text::{DumpRefusal, Dumped, loaded_line, refused_line};
-use opfs_load::{LayStop, lay, read_dump};
+use opfs_dump::{DumpRefusal, Dumped, LayStop, lay, loaded_line, read_dump, refused_line};
 use opfs_outside::{Disk, Host, HostStop};
 use std::alloc::{AllocError, Global};
 

@@ -1,2 +1,3 @@
-pub mod Pieces
-pub mod Putting
+pub mod Text
+pub mod Dumping
+pub mod Loading

@@ -38,7 +38,7 @@ use Rattle.opfs_tree.specs.Units.{text_cmp}
 use Rattle.opfs_tree.specs.declared.row.Row.{Row}
 use Rattle.opfs_tree.specs.declared.row.Row.TheVariants as row
 use Rattle.opfs_book_laws.proofs.Sound.{next_good}
-use Rattle.opfs_dump_text.specs.Limits.{is_rising}
+use Rattle.opfs_dump.specs.Text.Limits.{is_rising}
 
 pub record IsGood (size : ℕ) (b : Built) : Type 0 where
   pub sound : IsSound size b.rows

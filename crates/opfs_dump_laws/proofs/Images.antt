@@ -41,9 +41,9 @@ use Rattle.opfs_records.proofs.checkpoint.Last.{AllBefore, all_before, before_ch
 use Rattle.opfs_tree.specs.Rows.{Rows, IsClosed, extents_of, row_at}
 use Rattle.opfs_tree.specs.declared.row.Row.{Row}
 use Rattle.opfs_tree.specs.declared.row.Row.TheVariants as row
-use Rattle.opfs_dump_text.specs.Limits.{is_unit, is_behind, last_of, places_of, may_follow, can_stand, bare_row, bare_rows, blocks_needed, stored_blocks}
-use Rattle.opfs_dump_text.specs.Reading.{most_bytes, reads_dump}
-use Rattle.opfs_dump_text.specs.Texts.{dump_text}
+use Rattle.opfs_dump.specs.Text.Limits.{is_unit, is_behind, last_of, places_of, may_follow, can_stand, bare_row, bare_rows, blocks_needed, stored_blocks}
+use Rattle.opfs_dump.specs.Text.Reading.{most_bytes, reads_dump}
+use Rattle.opfs_dump.specs.Text.Texts.{dump_text}
 use Rattle.opfs_dump_laws.specs.Dumpable.{IsNamed, IsToldRow, AllFollow, IsDumpable}
 use Rattle.opfs_dump_laws.proofs.Built.{good-image, window-bytes}
 use Rattle.opfs_dump_laws.proofs.Texts.{text-back}

@@ -9,9 +9,9 @@ use Rattle.opfs_base.specs.Places.{Place}
 use Rattle.opfs_base.specs.Texts.{Text}
 use Rattle.opfs_machine.specs.Openings.{Stored, folder, document}
 use Rattle.opfs_script.specs.Members.{◌>>=◌, values_of}
-use Rattle.opfs_dump_text.specs.Limits.{may_follow}
-use Rattle.opfs_dump_text.specs.Reading.{texts_of, names_of, file_in, row_in, next_row, rows_from}
-use Rattle.opfs_dump_text.specs.Texts.{document_value, row_value}
+use Rattle.opfs_dump.specs.Text.Limits.{may_follow}
+use Rattle.opfs_dump.specs.Text.Reading.{texts_of, names_of, file_in, row_in, next_row, rows_from}
+use Rattle.opfs_dump.specs.Text.Texts.{document_value, row_value}
 use Rattle.opfs_dump_laws.specs.Dumpable.{IsNamed, IsToldRow, AllFollow}
 
 -- What is put into an array comes out of it.
@@ -49,5 +49,5 @@ pub rows-back : (at : ℕ) (done rest : List (Place × Stored)) → AllByRecursi
 unfolding rows_from
 rows-back at done [] told follow = ap Ok (sym (append-nil done))
 rows-back at done (e ∷ more) told follow =
-    ap (λ o. elim o [ None ↦ Rattle.std.specs.Prelude.Err (Rattle.opfs_dump_text.specs.declared.refusal.DumpRefusal.TheVariants.BadDump at) | Some x ↦ rows_from (at + 1) (done ++ x ∷ []) (map row_value more) ]) (next-back done e told.0 follow.0)
+    ap (λ o. elim o [ None ↦ Rattle.std.specs.Prelude.Err (Rattle.opfs_dump.specs.declared.text.refusal.DumpRefusal.TheVariants.BadDump at) | Some x ↦ rows_from (at + 1) (done ++ x ∷ []) (map row_value more) ]) (next-back done e told.0 follow.0)
     ∙ rows-back (at + 1) (done ++ e ∷ []) more told.1 follow.1 ∙ ap Ok (append_assoc done (e ∷ []) more)

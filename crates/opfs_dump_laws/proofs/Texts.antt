@@ -10,10 +10,10 @@ use Rattle.opfs_image.specs.declared.geometry.Geometry.{Geometry}
 use Rattle.opfs_machine.specs.Openings.{Map}
 use Rattle.opfs_script.specs.Members.{◌>>=◌, values_of}
 use Rattle.opfs_script.specs.Reading.{json_of}
-use Rattle.opfs_dump_text.specs.Limits.{are_units, blocks_needed, charge_of_map}
-use Rattle.opfs_dump_text.specs.Reading.{Dump, Top, texts_of, top_in, if_fits, if_rows, if_topped, if_json, most_bytes, reads_dump}
-use Rattle.opfs_dump_text.specs.Texts.{row_value, dump_value, dump_text}
-use Rattle.opfs_dump_text.specs.declared.refusal.DumpRefusal.TheVariants as refusal
+use Rattle.opfs_dump.specs.Text.Limits.{are_units, blocks_needed, charge_of_map}
+use Rattle.opfs_dump.specs.Text.Reading.{Dump, Top, texts_of, top_in, if_fits, if_rows, if_topped, if_json, most_bytes, reads_dump}
+use Rattle.opfs_dump.specs.Text.Texts.{row_value, dump_value, dump_text}
+use Rattle.opfs_dump.specs.declared.text.refusal.DumpRefusal.TheVariants as refusal
 use Rattle.opfs_dump_laws.specs.Dumpable.{IsDumpable}
 use Rattle.opfs_dump_laws.proofs.Back.{read-back, line-utf8}
 use Rattle.opfs_dump_laws.proofs.Rows.{items-back, texts-back, rows-back}

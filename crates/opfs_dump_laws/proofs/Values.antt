@@ -15,7 +15,7 @@ use Rattle.opfs_image.proofs.Formatted.{range_parts}
 use Rattle.opfs_image.specs.Superblock.{is_in_range}
 use Rattle.opfs_image.specs.declared.geometry.Geometry.{Geometry}
 use Rattle.opfs_machine.specs.Openings.{Map, Stored, folder, document}
-use Rattle.opfs_dump_text.specs.Texts.{row_value, dump_value}
+use Rattle.opfs_dump.specs.Text.Texts.{row_value, dump_value}
 use Rattle.opfs_dump_laws.specs.Dumpable.{IsNamed, IsToldRow, IsDumpable}
 use Rattle.opfs_dump_laws.specs.Plain.{IsPlain, ArePlainItems}
 

@@ -6,7 +6,7 @@ use Rattle.hex.specs.Hex.{IsBytes}
 use Rattle.opfs_base.specs.Names.{is_valid_name}
 use Rattle.opfs_base.specs.Places.{Place}
 use Rattle.opfs_base.specs.Texts.{Text}
-use Rattle.opfs_dump_text.specs.Limits.{are_units, may_follow, blocks_needed, charge_of_map}
+use Rattle.opfs_dump.specs.Text.Limits.{are_units, may_follow, blocks_needed, charge_of_map}
 use Rattle.opfs_image.specs.Superblock.{area_bytes, is_in_range}
 use Rattle.opfs_image.specs.declared.geometry.Geometry.{Geometry}
 use Rattle.opfs_machine.specs.Openings.{Map, Stored, folder, document}

@@ -1,8 +1,8 @@
 -- What is dumped is read back. This project's own.
 use Rattle.std.specs.Prelude.{◌≡◌, ℕ, ◌≤◌, List, length, Ok}
 use Rattle.hex.specs.Hex.{IsBytes}
-use Rattle.opfs_dump_text.specs.Reading.{most_bytes, reads_dump}
-use Rattle.opfs_dump_text.specs.Texts.{dump_text}
+use Rattle.opfs_dump.specs.Text.Reading.{most_bytes, reads_dump}
+use Rattle.opfs_dump.specs.Text.Texts.{dump_text}
 use Rattle.opfs_image.specs.Filling.{Stands}
 use Rattle.opfs_image.specs.Superblock.{geometry_of}
 use Rattle.opfs_image.specs.declared.geometry.Geometry.{Geometry}

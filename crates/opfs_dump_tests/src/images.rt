@@ -1,9 +1,7 @@
 //! Images in memory, and their texts.
 
-use opfs_dump::dump;
-use opfs_dump_text::{Dumped, loaded_line, refused_line};
+use opfs_dump::{Dumped, dump, lay, loaded_line, read_dump, refused_line};
 use opfs_image::recover;
-use opfs_load::{lay, read_dump};
 use opfs_memory::{MemDisk, MemSink};
 use opfs_outside::Disk;
 use std::alloc::{AllocError, Global};

@@ -1,0 +1,7 @@
+use Rattle.opfs_dump.proofs.loading.laying.lay.Goals as goal
+
+pub lay_on-requires-clause-range : goal.lay_on-requires-clause-range
+lay_on-requires-clause-range g c = c.args.dumped.now.range
+
+pub lay_on-requires-clause-fits : goal.lay_on-requires-clause-fits
+lay_on-requires-clause-fits g c = c.args.dumped.now.room

@@ -1,0 +1,35 @@
+//! What was read of a text.
+
+ghost use Rattle.std.specs.Prelude.{◌≡◌, ◌+◌, ◌≤◌, true};
+ghost use Rattle.opfs_dump.specs.Text.Limits.{charge_of_map};
+ghost use Rattle.opfs_dump.specs.Text.Seen.{map_of};
+ghost use Rattle.opfs_image.specs.Superblock.{area_bytes, is_in_range};
+
+use opfs_base::{Bytes, Key};
+use opfs_image::Geometry;
+use opfs_machine::Place;
+
+/// A file's bytes and its time stamp in milliseconds.
+#[derive(Debug, Drop)]
+pub struct DumpedFile {
+    pub bytes: Bytes,
+    pub stamp: u64,
+}
+
+/// A row: a directory, or a file.
+#[derive(Debug, Drop)]
+pub struct DumpedRow {
+    pub place: Place,
+    pub file: Option<DumpedFile>,
+}
+
+/// The sizes of an image, its rows in the order of their places, and its persistent units in order. The sizes are in range,
+/// and the charge, with a record's 7 bytes, fits an area.
+#[derive(Debug, Drop)]
+pub struct Dumped {
+    pub geometry: Geometry,
+    pub rows: Vec<DumpedRow>,
+    pub persistent: Vec<Key>,
+    pub ghost range: { is_in_range geometry ≡ true },
+    pub ghost room: { charge_of_map (map_of rows.items persistent.items) + 7 ≤ area_bytes geometry },
+}
