@@ -25,7 +25,7 @@ use Rattle.opfs_machine.specs.Contents.{in_lengths}
 use Rattle.opfs_machine.specs.Rows.{file_at}
 use Rattle.opfs_machine.specs.Rulings.{lock_in, want_of, is_read_write}
 use Rattle.opfs_machine.specs.Sums.{all_own, reserve_of, usage, pool, charge}
-use Rattle.opfs_seats.specs.Slots.{slot_in, handle_at, with_slot}
+use Rattle.opfs_register.specs.Slots.{slot_in, handle_at, with_slot}
 use Rattle.opfs_standing.proofs.Counted.{pool-is, charge-is}
 use Rattle.opfs_standing.proofs.OpenHandles.{slot-is-handle}
 use Rattle.opfs_standing.proofs.SlotMoves.{IsRowOf, sum-slot, closed-handle-row, handle-row}

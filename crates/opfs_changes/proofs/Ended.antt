@@ -17,7 +17,7 @@ use Rattle.opfs_machine.specs.Rows.{with_file}
 use Rattle.opfs_machine.specs.Sums.{usage, pool}
 use Rattle.opfs_machine.specs.declared.state.Limits.{Limits}
 use Rattle.opfs_changes.proofs.Reckoned.{Reckons, closed-reckons}
-use Rattle.opfs_seats.specs.Slots.{stream_at}
+use Rattle.opfs_register.specs.Slots.{stream_at}
 use Rattle.opfs_standing.specs.Seen.{Machine, Seen}
 use Rattle.opfs_changes.proofs.Found.{stream-place, stream-own, numbered}
 use Rattle.opfs_changes.specs.Changed.{IsDone, tree_by, aborted_by, closed_by, stored_in, freed_in, stream_frees, replaced_at}

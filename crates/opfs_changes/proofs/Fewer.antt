@@ -18,7 +18,7 @@ use Rattle.opfs_machine.specs.Agents.{agent_of, nobody}
 use Rattle.opfs_machine.specs.Rows.{file_at}
 use Rattle.opfs_machine.specs.Rulings.{lock_in}
 use Rattle.opfs_machine.specs.Sums.{all_own}
-use Rattle.opfs_seats.specs.Slots.{most_rows}
+use Rattle.opfs_register.specs.Slots.{most_rows}
 use Rattle.opfs_standing.specs.Seen.{Machine}
 
 pub below-or-last : (k n : ℕ) → k < n + 1 → (k < n) ⊎ (k ≡ n)

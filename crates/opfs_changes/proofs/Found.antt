@@ -23,7 +23,7 @@ use Rattle.opfs_machine.specs.Agents.{agent_of, own_of, open_stream, open_handle
 use Rattle.opfs_machine.specs.Contents.{in_lengths}
 use Rattle.opfs_machine.specs.Rows.{row_at, file_of, file_at}
 use Rattle.opfs_machine.specs.Rulings.{lock_in, want_of}
-use Rattle.opfs_seats.specs.Slots.{slot_of, slot_in, stream_at, handle_at}
+use Rattle.opfs_register.specs.Slots.{slot_of, slot_in, stream_at, handle_at}
 use Rattle.opfs_standing.proofs.Lines.{file_line, file-at}
 use Rattle.opfs_standing.specs.Open.{IsStreamAt, IsHandleAt}
 use Rattle.opfs_standing.specs.Seen.{Machine, lines_of}

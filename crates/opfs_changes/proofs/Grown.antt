@@ -14,7 +14,7 @@ use Rattle.opfs_machine.specs.Contents.{in_lengths, stream_with, handle_with}
 use Rattle.opfs_machine.specs.Effects.{with_changed}
 use Rattle.opfs_machine.specs.Rulings.{reserve_for}
 use Rattle.opfs_machine.specs.Sums.{reserve_of, usage, pool}
-use Rattle.opfs_seats.specs.Slots.{stream_at, handle_at}
+use Rattle.opfs_register.specs.Slots.{stream_at, handle_at}
 use Rattle.opfs_standing.specs.Seen.{Machine}
 use Rattle.opfs_changes.proofs.Found.{some-is, stream-place, handle-place, stream-own, handle-own}
 

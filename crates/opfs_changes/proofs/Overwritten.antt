@@ -19,7 +19,7 @@ use Rattle.opfs_machine.specs.Effects.{effect, with_changed, changes_file, momen
 use Rattle.opfs_machine.specs.Rows as machine
 use Rattle.opfs_machine.specs.Rulings.{ruling, reserve_for, start_of, size_written}
 use Rattle.opfs_machine.specs.Sums.{usage, pool}
-use Rattle.opfs_seats.specs.Slots.{handle_at}
+use Rattle.opfs_register.specs.Slots.{handle_at}
 use Rattle.opfs_standing.proofs.Flushed.{row-change, line-change}
 use Rattle.opfs_standing.proofs.Lines.{file_line}
 use Rattle.opfs_standing.proofs.SlotMoves.{handle-row}

@@ -17,7 +17,7 @@ use Rattle.opfs_machine.specs.Contents.{in_lengths}
 use Rattle.opfs_machine.specs.Effects.{effect, takes_snapshot, with_waiting}
 use Rattle.opfs_machine.specs.Rows.{file_at}
 use Rattle.opfs_machine.specs.Rulings.{ruling}
-use Rattle.opfs_seats.specs.Seating.{noted}
+use Rattle.opfs_register.specs.Seating.{noted}
 use Rattle.opfs_standing.proofs.AgentMoves.{number}
 use Rattle.opfs_standing.specs.Noted.{with_sum}
 use Rattle.opfs_standing.specs.Seen.{Machine, Seen}

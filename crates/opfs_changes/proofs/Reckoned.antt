@@ -13,7 +13,7 @@ use Rattle.opfs_machine.specs.Agents.{with_own}
 use Rattle.opfs_machine.specs.Contents.{in_lengths}
 use Rattle.opfs_machine.specs.Rows.{file_at, with_file}
 use Rattle.opfs_machine.specs.Sums.{usage, pool, charge}
-use Rattle.opfs_seats.specs.Slots.{slot_in, stream_at, handle_at}
+use Rattle.opfs_register.specs.Slots.{slot_in, stream_at, handle_at}
 use Rattle.opfs_standing.proofs.AgentMoves.{own-slots}
 use Rattle.opfs_standing.proofs.Counted.{usage-is, pool-is, charge-is}
 use Rattle.opfs_standing.proofs.FileMoves.{amounts_of, file-moves}

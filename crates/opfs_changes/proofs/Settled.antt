@@ -14,7 +14,7 @@ use Rattle.opfs_machine.specs.Agents.{agent_of, own_of, with_own, open_handle, c
 use Rattle.opfs_machine.specs.Contents.{in_lengths, handle_with}
 use Rattle.opfs_machine.specs.Effects.{effect, with_changed, with_written, flushed, undone, unlocked, flushes, closes_handle, discards}
 use Rattle.opfs_machine.specs.Rows.{with_file}
-use Rattle.opfs_seats.specs.Slots.{handle_at}
+use Rattle.opfs_register.specs.Slots.{handle_at}
 use Rattle.opfs_standing.specs.Contents.{undone_row}
 use Rattle.opfs_standing.specs.Seen.{Machine, Seen}
 use Rattle.opfs_changes.proofs.Found.{handle-place, handle-own}

@@ -12,7 +12,7 @@ use Rattle.opfs_machine.specs.Agents.{agent_of, open_stream}
 use Rattle.opfs_machine.specs.Contents.{in_lengths}
 use Rattle.opfs_machine.specs.Rulings.{ruling, start_of}
 use Rattle.opfs_machine.specs.Sums.{pool, charge}
-use Rattle.opfs_seats.specs.Slots.{most_rows}
+use Rattle.opfs_register.specs.Slots.{most_rows}
 use Rattle.opfs_standing.specs.Seen.{Machine}
 
 pub record MayApply (m : Machine) (z : Sizes) (k : ℕ) (o : Op) : Type 0 where

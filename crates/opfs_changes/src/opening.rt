@@ -14,7 +14,7 @@ ghost use Rattle.opfs_machine.specs.Contents.{in_lengths};
 ghost use Rattle.opfs_machine.specs.Effects.{with_lock};
 ghost use Rattle.opfs_machine.specs.Rows.{with_file};
 ghost use Rattle.opfs_machine.specs.Rulings.{first_reserve, want_of};
-ghost use Rattle.opfs_seats.specs.Slots.{most_rows};
+ghost use Rattle.opfs_register.specs.Slots.{most_rows};
 ghost use Rattle.opfs_tree.specs.Rows.{change_at, locked};
 
 use crate::storing::data_blocks;
@@ -22,7 +22,7 @@ use opfs_base::{Locator, blocks};
 use opfs_hist::Mode;
 use opfs_locks::{Held, Want};
 use opfs_machine::{Place, Sizes};
-use opfs_seats::{OpenHandle, OpenStream};
+use opfs_register::{OpenHandle, OpenStream};
 use opfs_standing::Standing;
 
 /// getFile.

@@ -32,8 +32,8 @@ use Rattle.opfs_outside.specs.declared.disk.Disk.{Ghosts as DiskWords}
 use Rattle.opfs_records.specs.Replay.Built.{Built, all_extents, named, has_block, is_once, used_by, IsSound, IsSoundRow}
 use Rattle.opfs_records.proofs.replay.Holding.{all_both, are_below, is_within_size}
 use Rattle.opfs_row_puts.specs.Plans.{shelf}
-use Rattle.opfs_seats.specs.Seating.{agent_begun}
-use Rattle.opfs_seats.specs.declared.seat.Who.{Who}
+use Rattle.opfs_register.specs.Seating.{agent_begun}
+use Rattle.opfs_register.specs.declared.seat.Who.{Who}
 use Rattle.opfs_space.specs.Holders.{Holders, AreBlocks, IsFirst}
 use Rattle.opfs_space.specs.Room.{Machine}
 use Rattle.opfs_space.specs.Spaces.{SpaceSeen}

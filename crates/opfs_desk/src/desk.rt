@@ -5,7 +5,7 @@ use opfs_hall::Told;
 use opfs_image::Recovered;
 use opfs_iterating::Iterators;
 use opfs_outside::Disk;
-use opfs_seats::Who;
+use opfs_register::Who;
 use std::marker::Model;
 
 /// The shared store of many agents over a disk: the journal with what is kept back, the shared state, the pages of open rows, the

@@ -16,7 +16,7 @@ use opfs_image::Recovered;
 use opfs_iterating::Iterators;
 use opfs_openings::{a_recovered_image_opens_a_run, limits_of};
 use opfs_outside::Disk;
-use opfs_seats::Who;
+use opfs_register::Who;
 use opfs_space::{Space, first_blocks_are_right};
 use opfs_state::State;
 use std::alloc::{AllocError, Global};

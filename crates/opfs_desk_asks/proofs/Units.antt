@@ -14,7 +14,7 @@ use Rattle.opfs_machine.specs.declared.state.Agent.{Agent}
 use Rattle.opfs_machine.specs.Agents.{agent_of, own_of, of_row, stream_in, handle_in, open_stream, open_handle}
 use Rattle.opfs_machine.specs.Contents.{in_lengths}
 use Rattle.opfs_machine.specs.Victims.{is_callers}
-use Rattle.opfs_seats.specs.Seating.{noted}
+use Rattle.opfs_register.specs.Seating.{noted}
 use Rattle.opfs_standing.specs.Noted.{with_sum}
 use Rattle.opfs_standing.specs.Seen.{Machine}
 use Rattle.opfs_state_laws.proofs.Readying.{agent-noted}

@@ -17,7 +17,7 @@ use Rattle.opfs_hist.specs.declared.op.Op.TheVariants as op
 use Rattle.opfs_machine.specs.Histories.{evicted_by}
 use Rattle.opfs_laws.specs.Lengths.Kept.{Kept}
 use Rattle.opfs_machine.specs.Agents.{agent_of}
-use Rattle.opfs_seats.specs.Slots.{most_rows}
+use Rattle.opfs_register.specs.Slots.{most_rows}
 use Rattle.opfs_machine.specs.declared.own.Own.{Own}
 use Rattle.opfs_machine.specs.declared.state.Sizes.{Sizes}
 use Rattle.opfs_machine.specs.declared.state.State.{State}

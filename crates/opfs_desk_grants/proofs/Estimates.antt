@@ -38,7 +38,7 @@ use Rattle.opfs_machine.specs.Steps.{judged, room_for}
 use Rattle.opfs_machine.specs.Sums.{row_reserve, usage}
 use Rattle.opfs_outside.specs.declared.disk.Disk.{Ghosts as DiskWords}
 use Rattle.opfs_records.specs.Replay.Built.{Built}
-use Rattle.opfs_seats.specs.Seating.{noted}
+use Rattle.opfs_register.specs.Seating.{noted}
 use Rattle.opfs_standing.proofs.AgentMoves.{own-set}
 use Rattle.opfs_standing.specs.Noted.{with_sum}
 use Rattle.opfs_standing.specs.Seen.{Machine}

@@ -12,7 +12,7 @@ ghost use Rattle.opfs_desk_rows.specs.Opens.{opens_row, file_extents, opened_ext
 ghost use Rattle.opfs_tree.specs.Rows.{file_at};
 ghost use Rattle.opfs_hist.specs.Sums.{makes_row};
 ghost use Rattle.opfs_machine.specs.Agents.{agent_of};
-ghost use Rattle.opfs_seats.specs.Slots.{most_rows};
+ghost use Rattle.opfs_register.specs.Slots.{most_rows};
 ghost use Rattle.opfs_verdicts.specs.Callers.{IsAgent};
 
 use opfs_base::Locator;

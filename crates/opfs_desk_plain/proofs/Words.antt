@@ -43,7 +43,7 @@ use Rattle.opfs_machine.specs.Ruled.{Ruled, ◌>>=◌, ◌>>◌, unless, some_or
 use Rattle.opfs_machine.specs.Rulings.{child_ruling, estimate_ruling, await_ruling, get_directory_ruling, get_handle_ruling, located_ruling, making, persist_ruling, persisted_ruling, persisting, ruling}
 use Rattle.opfs_machine.specs.Steps.{judged, room_for}
 use Rattle.opfs_machine.specs.Sums.{charges, is_persistent, no_need}
-use Rattle.opfs_seats.proofs.KeptRows.{set-same}
+use Rattle.opfs_register.proofs.KeptRows.{set-same}
 use Rattle.opfs_standing.specs.Seen.{Machine}
 use Rattle.opfs_tree.specs.Rows.{Rows as Tree}
 use Rattle.opfs_desk_laws.specs.Hands.{row_in_hand}

@@ -17,7 +17,7 @@ use Rattle.opfs_outside.specs.Faults.{Rose, RoseBy}
 use Rattle.opfs_outside.specs.Moments.{Elapses}
 use Rattle.opfs_outside.specs.declared.disk.Disk.{Ghosts as DiskWords}
 use Rattle.opfs_records.specs.Replay.Built.{Built}
-use Rattle.opfs_seats.specs.Slots.{most_rows}
+use Rattle.opfs_register.specs.Slots.{most_rows}
 use Rattle.opfs_sharing.specs.Serving.{MayApplyTo}
 use Rattle.opfs_state.specs.Applied.{StateSeen, IsPrepared}
 use Rattle.opfs_verdicts.specs.Callers.{IsAgent}

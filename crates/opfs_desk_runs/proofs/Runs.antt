@@ -19,7 +19,7 @@ use Rattle.opfs_openings.specs.Openings.{caller_by, fixed_by}
 use Rattle.opfs_outside.specs.Faults.{Rose, RoseBy}
 use Rattle.opfs_outside.specs.declared.disk.Disk.{Ghosts as DiskWords}
 use Rattle.opfs_script.specs.Scripts.{Asked}
-use Rattle.opfs_seats.specs.declared.seat.Who.{Who}
+use Rattle.opfs_register.specs.declared.seat.Who.{Who}
 use Rattle.opfs_script_run.specs.Stage.Openings.{who_of}
 use Rattle.opfs_script_run.specs.Stage.Runs.{EachAlone, EachCut, EachRuns}
 use Rattle.opfs_desk_runs.specs.Runs.{IsHistoryOf, IsImageOf, IsLeft, IsRunOver, LeavesFronts, opening_over}

@@ -7,8 +7,8 @@ ghost use Rattle.opfs_openings.specs.Openings.{caller_by};
 ghost use Rattle.opfs_script_run.specs.Stage.Openings.{who_of};
 
 use opfs_base::Key;
+use opfs_register::Who;
 use opfs_script::AgentScript;
-use opfs_seats::Who;
 use std::alloc::{AllocError, Global};
 
 // The key of an agent, in memory of its own. It is the text of an origin.

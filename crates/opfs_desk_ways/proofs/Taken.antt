@@ -17,7 +17,7 @@ use Rattle.opfs_machine.specs.Openings.{Opening, begun}
 use Rattle.opfs_sharing.specs.Noting.{noted, AreNotes, IsSumOf}
 use Rattle.opfs_sharing.specs.Serving.{MayNoteTo}
 use Rattle.opfs_sharing.proofs.Pending.{sum-noted}
-use Rattle.opfs_seats.specs.Slots.{most_rows}
+use Rattle.opfs_register.specs.Slots.{most_rows}
 use Rattle.opfs_standing.specs.Noted.{with_sum}
 use Rattle.opfs_standing.specs.Seen.{Seen}
 use Rattle.opfs_state.specs.Applied.{StateSeen, IsReady, IsPrepared}

@@ -17,7 +17,7 @@ use opfs_hist::{Mode, Room};
 use opfs_image::{Geometry, format, recover};
 use opfs_memory::RamDisk;
 use opfs_outside::Disk;
-use opfs_seats::Who;
+use opfs_register::Who;
 use opfs_sync_files::a_resting_agent_may_end;
 use std::alloc::{AllocError, Global};
 use std::sync::Wait;

@@ -21,8 +21,8 @@ use Rattle.opfs_machine.specs.declared.state.Row.{Row as Line}
 use Rattle.opfs_machine.specs.declared.state.Row.TheVariants as line
 use Rattle.opfs_outside.specs.Windows.{length-window}
 use Rattle.opfs_records.specs.Replay.Built.{block_count, IsSoundRow, IsSoundFile}
-use Rattle.opfs_seats.specs.Seating.{agent_begun}
-use Rattle.opfs_seats.specs.declared.seat.Who.{Who}
+use Rattle.opfs_register.specs.Seating.{agent_begun}
+use Rattle.opfs_register.specs.declared.seat.Who.{Who}
 use Rattle.opfs_records.specs.Checkpoint.Written.{stored_row, stored_rows}
 use Rattle.opfs_standing.specs.Seen.{line_of, lines_of}
 use Rattle.opfs_tree.specs.declared.row.FileRow.{FileRow}

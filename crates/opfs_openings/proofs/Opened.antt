@@ -21,7 +21,7 @@ use Rattle.opfs_machine.specs.Sums.{all_own, reserve_of, pool, charge}
 use Rattle.opfs_records.specs.Replay.Built.{named}
 use Rattle.opfs_records.specs.Replay.Sums.{charge_of}
 use Rattle.opfs_records.specs.Replay.Sums.{persistent_in as listed}
-use Rattle.opfs_seats.specs.declared.seat.Who.{Who}
+use Rattle.opfs_register.specs.declared.seat.Who.{Who}
 use Rattle.opfs_sharing.proofs.Modes.{modes-alike}
 use Rattle.opfs_shed.specs.declared.shed.Bucket.{Bucket}
 use Rattle.opfs_shed.specs.Buckets.{Buckets, Storage, text_cmp}

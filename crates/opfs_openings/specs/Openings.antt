@@ -12,7 +12,7 @@ use Rattle.opfs_machine.specs.Openings.{Opening}
 use Rattle.opfs_machine.specs.Openings.{Who as Caller}
 use Rattle.opfs_outside.specs.declared.disk.Disk.{Ghosts as DiskWords}
 use Rattle.opfs_records.specs.Replay.Built.{Built}
-use Rattle.opfs_seats.specs.declared.seat.Who.{Who}
+use Rattle.opfs_register.specs.declared.seat.Who.{Who}
 
 -- How much a store over an image of these sizes may hold.
 abbrev pub limits_by : Geometry → Limits

@@ -27,7 +27,7 @@ use Rattle.opfs_machine.specs.declared.own.Outline.TheVariants as outline
 use Rattle.opfs_machine.specs.declared.state.Agent.{Agent}
 use Rattle.opfs_machine.specs.Agents.{agent_of, agent_in, counted, nobody, used_now, with_agent}
 use Rattle.opfs_machine.specs.Steps.{is_refusal}
-use Rattle.opfs_seats.specs.Seating.{noted as noted_agent, used_by}
+use Rattle.opfs_register.specs.Seating.{noted as noted_agent, used_by}
 use Rattle.opfs_standing.proofs.AgentMoves.{number, agent-set}
 use Rattle.opfs_standing.specs.Noted.{with_sum, used_more}
 use Rattle.opfs_standing.specs.Seen.{Machine}

@@ -9,8 +9,8 @@ use Rattle.opfs_machine.specs.declared.own.Outline.TheVariants as outline
 use Rattle.opfs_machine.specs.declared.state.Agent.{Agent}
 use Rattle.opfs_machine.specs.Agents.{nobody, agent_in, with_agent, with_own}
 use Rattle.opfs_pool.specs.Shares.{Blocks, share_at}
-use Rattle.opfs_seats.specs.Registers.{Registered}
-use Rattle.opfs_seats.specs.Slots.{slot_set}
+use Rattle.opfs_register.specs.Registers.{Registered}
+use Rattle.opfs_register.specs.Slots.{slot_set}
 use Rattle.opfs_shed.specs.Buckets.{Storage}
 use Rattle.opfs_tree.specs.Rows as tree
 use Rattle.opfs_standing.specs.Seen.{Machine, machine_of, with_slot_at, persistent_in}

@@ -14,7 +14,7 @@ use Rattle.opfs_machine.specs.Sums.{all_own, present_blocks}
 use Rattle.opfs_machine.specs.Sums as machine
 use Rattle.opfs_pool.specs.declared.pool.Share.{Share}
 use Rattle.opfs_pool.specs.Shares.{Blocks, has_share, share_at, first_share, touched, changed, held, is_unit}
-use Rattle.opfs_seats.specs.Registers.{Registered}
+use Rattle.opfs_register.specs.Registers.{Registered}
 use Rattle.opfs_shed.specs.declared.shed.Bucket.{Bucket}
 use Rattle.opfs_shed.specs.Buckets.{Storage, text_cmp, has_unit, bucket_at, with_unit, usage_of}
 use Rattle.opfs_tree.specs.declared.row.Row.{Row}

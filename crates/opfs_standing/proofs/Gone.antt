@@ -6,7 +6,7 @@ use Rattle.opfs_pool.specs.Shares.{Blocks, has_share, share_at, changed, held}
 use Rattle.opfs_shed.specs.Buckets.{Storage, has_unit, bucket_at, usage_of, part_of}
 use Rattle.opfs_shed.specs.Buckets as shed_words
 use Rattle.opfs_tree.specs.Rows as tree
-use Rattle.opfs_seats.specs.Registers.{Registered}
+use Rattle.opfs_register.specs.Registers.{Registered}
 use Rattle.opfs_standing.specs.Seen.{Machine, machine_of, persistent_in}
 use Rattle.opfs_standing.specs.Sums.{clearable}
 use Rattle.opfs_standing.specs.Tied.{IsKnown, IsTied}

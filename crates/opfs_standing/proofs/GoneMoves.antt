@@ -17,7 +17,7 @@ use Rattle.opfs_tree.specs.declared.row.Row.TheVariants as row
 use Rattle.opfs_tree.specs.Rows as tree
 use Rattle.opfs_tree.specs.Sums as tree_sums
 use Rattle.opfs_tree.proofs.Closed.{exact_places}
-use Rattle.opfs_seats.specs.Registers.{Registered}
+use Rattle.opfs_register.specs.Registers.{Registered}
 use Rattle.opfs_standing.specs.Seen.{Machine, line_of, lines_of, machine_of}
 use Rattle.opfs_standing.specs.Sums.{where_unit, clearable}
 use Rattle.opfs_standing.specs.Moves.{Amounts, Moves}

@@ -20,7 +20,7 @@ use Rattle.opfs_tree.specs.declared.row.Row.{Row}
 use Rattle.opfs_tree.specs.declared.row.Row.TheVariants as row
 use Rattle.opfs_tree.specs.Rows as tree
 use Rattle.opfs_standing.specs.Seen.{line_of, lines_of, persistent_in, machine_of}
-use Rattle.opfs_seats.specs.Registers.{Registered}
+use Rattle.opfs_register.specs.Registers.{Registered}
 use Rattle.opfs_standing.specs.Sums.{clearable}
 use Rattle.opfs_standing.proofs.Units.{same_unit}
 

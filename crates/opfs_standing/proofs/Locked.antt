@@ -9,7 +9,7 @@ use Rattle.opfs_shed.specs.Buckets.{Storage, bucket_at}
 use Rattle.opfs_tree.specs.declared.row.FileRow.{FileRow}
 use Rattle.opfs_tree.specs.Rows as tree
 use Rattle.opfs_standing.specs.Seen.{Machine, machine_of, lines_of}
-use Rattle.opfs_seats.specs.Registers.{Registered}
+use Rattle.opfs_register.specs.Registers.{Registered}
 use Rattle.opfs_standing.specs.Tied.{IsKnown, IsTied}
 use Rattle.opfs_standing.specs.Moves.{Amounts, Moves}
 use Rattle.opfs_standing.specs.Sums.{clearable}

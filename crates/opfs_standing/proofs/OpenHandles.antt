@@ -9,10 +9,10 @@ use Rattle.opfs_machine.specs.Contents.{in_lengths}
 use Rattle.opfs_machine.specs.Rows.{row_at}
 use Rattle.opfs_machine.specs.Sums.{pool}
 use Rattle.opfs_pool.specs.Shares.{Blocks, share_at, changed, held}
-use Rattle.opfs_seats.specs.Slots.{slot_in, handle_at, with_slot, keeping}
+use Rattle.opfs_register.specs.Slots.{slot_in, handle_at, with_slot, keeping}
 use Rattle.opfs_shed.specs.Buckets.{Storage}
 use Rattle.opfs_tree.specs.Rows as tree
-use Rattle.opfs_seats.specs.Registers.{Registered}
+use Rattle.opfs_register.specs.Registers.{Registered}
 use Rattle.opfs_standing.specs.Seen.{Machine, machine_of, with_slot_at}
 use Rattle.opfs_standing.specs.Sums.{reserve_where}
 use Rattle.opfs_standing.specs.Tied.{IsKnown, IsTied}

@@ -9,11 +9,11 @@ use Rattle.opfs_machine.specs.Contents.{in_lengths}
 use Rattle.opfs_machine.specs.Rows.{row_at}
 use Rattle.opfs_machine.specs.Sums.{usage, pool}
 use Rattle.opfs_pool.specs.Shares.{Blocks, share_at, changed, held}
-use Rattle.opfs_seats.specs.Slots.{slot_in, stream_at, with_slot, keeping}
+use Rattle.opfs_register.specs.Slots.{slot_in, stream_at, with_slot, keeping}
 use Rattle.opfs_shed.specs.Buckets.{Storage, has_unit, bucket_at, usage_of, part_of}
 use Rattle.opfs_shed.specs.Buckets as shed_words
 use Rattle.opfs_tree.specs.Rows as tree
-use Rattle.opfs_seats.specs.Registers.{Registered}
+use Rattle.opfs_register.specs.Registers.{Registered}
 use Rattle.opfs_standing.specs.Seen.{Machine, machine_of, with_slot_at, persistent_in}
 use Rattle.opfs_standing.specs.Sums.{stream_where, reserve_where, of_origin}
 use Rattle.opfs_standing.specs.Tied.{IsKnown, IsTied}

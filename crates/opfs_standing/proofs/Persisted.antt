@@ -10,7 +10,7 @@ use Rattle.opfs_machine.specs.Rows.{row_at}
 use Rattle.opfs_machine.specs.Sums.{is_persistent}
 use Rattle.opfs_machine.specs.Victims.{none_taken}
 use Rattle.opfs_pool.specs.Shares.{Blocks, has_share, share_at, changed}
-use Rattle.opfs_seats.specs.Registers.{Registered}
+use Rattle.opfs_register.specs.Registers.{Registered}
 use Rattle.opfs_shed.specs.declared.shed.Bucket.{Bucket}
 use Rattle.opfs_shed.specs.Buckets.{Storage, text_cmp, has_unit, bucket_at, with_bucket, is_unit, usage_of}
 use Rattle.opfs_shed.specs.Buckets as shed_words

@@ -6,10 +6,10 @@ use Rattle.opfs_machine.specs.declared.own.Outline.TheVariants as outline
 use Rattle.opfs_machine.specs.declared.own.StreamOutline.{StreamOutline}
 use Rattle.opfs_machine.specs.Agents.{of_row, stream_in}
 use Rattle.opfs_pool.specs.Shares.{Blocks, share_at}
-use Rattle.opfs_seats.specs.Slots.{slot_in, stream_at, with_slot}
+use Rattle.opfs_register.specs.Slots.{slot_in, stream_at, with_slot}
 use Rattle.opfs_shed.specs.Buckets.{Storage}
 use Rattle.opfs_tree.specs.Rows as tree
-use Rattle.opfs_seats.specs.Registers.{Registered}
+use Rattle.opfs_register.specs.Registers.{Registered}
 use Rattle.opfs_standing.specs.Seen.{Machine, machine_of, with_slot_at, persistent_in}
 use Rattle.opfs_standing.specs.Tied.{IsKnown, IsTied}
 use Rattle.opfs_standing.specs.Moves.{ShedMoves, PoolMoves, kept_amounts}

@@ -9,7 +9,7 @@ use Rattle.opfs_machine.specs.declared.own.Outline.{Outline}
 use Rattle.opfs_machine.specs.declared.own.Outline.TheVariants as outline
 use Rattle.opfs_machine.specs.declared.own.StreamOutline.{StreamOutline}
 use Rattle.opfs_machine.specs.declared.state.Agent.{Agent}
-use Rattle.opfs_seats.specs.Slots.{slot_of, slot_in, slot_set, with_slot}
+use Rattle.opfs_register.specs.Slots.{slot_of, slot_in, slot_set, with_slot}
 use Rattle.opfs_standing.specs.Seen.{Machine, with_slot_at}
 use Rattle.opfs_standing.specs.Sums.{stream_where, reserve_where}
 use Rattle.opfs_standing.specs.Moves.{Moves, kept_amounts}

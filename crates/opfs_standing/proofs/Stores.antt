@@ -14,7 +14,7 @@ use Rattle.opfs_shed.specs.Buckets.{Storage, Buckets, has_unit, bucket_at, with_
 use Rattle.opfs_tree.specs.Ready.Ready.{Ready}
 use Rattle.opfs_machine.specs.declared.own.Outline.{Outline}
 use Rattle.opfs_machine.specs.declared.state.Agent.{Agent}
-use Rattle.opfs_seats.specs.Registers.{Registered}
+use Rattle.opfs_register.specs.Registers.{Registered}
 use Rattle.opfs_standing.specs.Seen.{Prepared, prepared_of, persistent_in}
 use Rattle.opfs_standing.specs.Moves.{ShedMoves, PoolMoves}
 use Rattle.opfs_standing.specs.Sums.{of_origin}

@@ -7,7 +7,7 @@ use Rattle.std.specs.Cmp.Lexicographic.{texts_ties}
 use Rattle.opfs_base.specs.Texts.{Text, same_text}
 use Rattle.opfs_pool.specs.declared.pool.Share.{Share}
 use Rattle.opfs_pool.specs.Shares.{Blocks, has_share, share_at, first_share, touched, held}
-use Rattle.opfs_seats.specs.Registers.{Registered}
+use Rattle.opfs_register.specs.Registers.{Registered}
 use Rattle.opfs_shed.specs.declared.shed.Bucket.{Bucket}
 use Rattle.opfs_shed.specs.Buckets.{Storage, text_cmp, has_unit, bucket_at, first_bucket, with_unit, usage_of}
 use Rattle.opfs_tree.specs.Rows as tree

@@ -3,8 +3,8 @@ use Rattle.std.specs.Prelude.{ℕ, suc, ◌+◌, ◌==◌, true, false, slice_se
 use Rattle.opfs_base.specs.Texts.{Text}
 use Rattle.opfs_hist.specs.declared.history.PendingSum.{PendingSum}
 use Rattle.opfs_machine.specs.Agents.{agent_of}
-use Rattle.opfs_seats.specs.LastUses.{Counts}
-use Rattle.opfs_seats.specs.Seating.{noted, used_by}
+use Rattle.opfs_register.specs.LastUses.{Counts}
+use Rattle.opfs_register.specs.Seating.{noted, used_by}
 use Rattle.opfs_standing.specs.Seen.{Machine}
 
 -- The last uses after so many entries more of an agent with this key.

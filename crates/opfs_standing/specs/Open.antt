@@ -3,7 +3,7 @@ use Rattle.std.specs.Prelude.{◌≡◌, ℕ, true, Some, IsSome, is_some}
 use Rattle.opfs_machine.specs.declared.own.HandleOutline.{HandleOutline}
 use Rattle.opfs_machine.specs.declared.own.StreamOutline.{StreamOutline}
 use Rattle.opfs_machine.specs.Rows.{row_at}
-use Rattle.opfs_seats.specs.Slots.{stream_at, handle_at}
+use Rattle.opfs_register.specs.Slots.{stream_at, handle_at}
 use Rattle.opfs_standing.specs.Seen.{Machine}
 
 -- The own row at a place is an open stream, or an open access handle, and something is where its file stands.

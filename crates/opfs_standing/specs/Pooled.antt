@@ -6,7 +6,7 @@ use Rattle.opfs_base.specs.Texts.{Text, same_text}
 use Rattle.opfs_machine.specs.Contents.{in_lengths}
 use Rattle.opfs_machine.specs.Sums as machine
 use Rattle.opfs_pool.specs.Shares.{Blocks, text_cmp, share_at, held}
-use Rattle.opfs_seats.specs.Registers.{Registered}
+use Rattle.opfs_register.specs.Registers.{Registered}
 use Rattle.opfs_standing.specs.Seen.{Machine, Seen}
 use Rattle.opfs_standing.specs.Sums.{blocks_where, clearable}
 

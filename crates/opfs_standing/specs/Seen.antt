@@ -11,9 +11,9 @@ use Rattle.opfs_machine.specs.declared.state.State.{State}
 use Rattle.opfs_machine.specs.Rows.{Rows as Lines}
 use Rattle.opfs_pool.specs.Shares.{Shares}
 use Rattle.opfs_tree.specs.Ready.Ready.{Ready}
-use Rattle.opfs_seats.specs.Slots.{with_slot}
+use Rattle.opfs_register.specs.Slots.{with_slot}
 use Rattle.opfs_shed.specs.Buckets.{Buckets, bucket_at}
-use Rattle.opfs_seats.specs.Registers.{Registered}
+use Rattle.opfs_register.specs.Registers.{Registered}
 use Rattle.opfs_tree.specs.Rows.{Rows}
 use Rattle.opfs_tree.specs.declared.row.Row.{Row}
 use Rattle.opfs_tree.specs.declared.row.Row.TheVariants as row

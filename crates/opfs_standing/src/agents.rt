@@ -5,7 +5,7 @@ ghost use Rattle.opfs_machine.specs.Agents.{agent_of, with_agent, adds_own, coun
 ghost use Rattle.opfs_machine.specs.Effects.{with_waiting};
 ghost use Rattle.opfs_machine.specs.declared.own.Outline.TheVariants as outline;
 ghost use Rattle.opfs_machine.specs.declared.state.Posted.{Posted};
-ghost use Rattle.opfs_seats.specs.Slots.{most_rows};
+ghost use Rattle.opfs_register.specs.Slots.{most_rows};
 ghost use Rattle.opfs_standing.specs.Noted.{with_sum};
 
 use crate::standing::Standing;

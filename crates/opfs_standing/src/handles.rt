@@ -3,15 +3,15 @@
 ghost use Rattle.std.specs.Prelude.{None, length, ◌≡◌, ◌+◌, ◌≤◌, Some, ◌<◌, suc};
 ghost use Rattle.opfs_machine.specs.Agents.{agent_of, adds_own, with_own};
 ghost use Rattle.opfs_machine.specs.Contents.{in_lengths};
-ghost use Rattle.opfs_seats.specs.Slots.{most_rows};
+ghost use Rattle.opfs_register.specs.Slots.{most_rows};
 ghost use Rattle.opfs_machine.specs.Sums.{pool};
 ghost use Rattle.opfs_machine.specs.declared.own.Outline.TheVariants as outline;
 ghost use Rattle.opfs_machine.specs.declared.own.HandleOutline.{HandleOutline};
-ghost use Rattle.opfs_seats.specs.Slots.{handle_at};
+ghost use Rattle.opfs_register.specs.Slots.{handle_at};
 ghost use Rattle.opfs_standing.specs.Open.{IsHandleAt};
 
 use crate::standing::Standing;
-use opfs_seats::OpenHandle;
+use opfs_register::OpenHandle;
 
 impl Standing {
     /// Gives an agent that has room an open access handle that keeps no block. Takes no memory.

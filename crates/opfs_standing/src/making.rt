@@ -12,7 +12,7 @@ ghost use Rattle.opfs_tree.specs.Rows.{Rows, durable_blocks};
 use crate::standing::{Standing, mark};
 use opfs_base::{BLOCK_CHARGE, Key, Path, blocks};
 use opfs_pool::Pool;
-use opfs_seats::Register;
+use opfs_register::Register;
 use opfs_shed::Shed;
 use opfs_tree::{ReadyTree, Row, Tree, Walk};
 use std::alloc::{AllocError, Global};

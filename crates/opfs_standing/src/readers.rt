@@ -15,7 +15,7 @@ use crate::standing::Standing;
 use opfs_base::{BLOCK_CHARGE, Key, Kind, Name, Path};
 use opfs_locks::LockValue;
 use opfs_pool::Pool;
-use opfs_seats::Register;
+use opfs_register::Register;
 use opfs_shed::Shed;
 use opfs_tree::{FileRow, ReadyTree, Row, Walk};
 use std::alloc::{AllocError, Global};

@@ -7,7 +7,7 @@ ghost use Rattle.opfs_tree.specs.Rows.{row_at, none_taken};
 
 use opfs_base::{Key, Path};
 use opfs_pool::Pool;
-use opfs_seats::Register;
+use opfs_register::Register;
 use opfs_shed::Shed;
 use opfs_tree::ReadyTree;
 use std::marker::Model;

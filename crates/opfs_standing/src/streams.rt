@@ -5,15 +5,15 @@ ghost use Rattle.opfs_base.specs.Units.{origin_of};
 ghost use Rattle.opfs_machine.specs.Agents.{agent_of, adds_own, with_own};
 ghost use Rattle.opfs_machine.specs.Contents.{in_lengths};
 ghost use Rattle.opfs_machine.specs.Rows.{row_at};
-ghost use Rattle.opfs_seats.specs.Slots.{most_rows};
+ghost use Rattle.opfs_register.specs.Slots.{most_rows};
 ghost use Rattle.opfs_machine.specs.Sums.{usage, pool};
 ghost use Rattle.opfs_machine.specs.declared.own.Outline.TheVariants as outline;
 ghost use Rattle.opfs_machine.specs.declared.own.StreamOutline.{StreamOutline};
-ghost use Rattle.opfs_seats.specs.Slots.{stream_at};
+ghost use Rattle.opfs_register.specs.Slots.{stream_at};
 ghost use Rattle.opfs_standing.specs.Open.{IsStreamAt};
 
 use crate::standing::Standing;
-use opfs_seats::OpenStream;
+use opfs_register::OpenStream;
 
 impl Standing {
     /// Gives an agent that has room an open stream, whose file is there, and keeps its blocks. Takes no memory.

@@ -6,8 +6,8 @@ use Rattle.opfs_changes.specs.Asking.{place_for, target_of, growth_of, makes_slo
 use Rattle.opfs_hist.specs.declared.op.Op.{Op}
 use Rattle.opfs_machine.specs.declared.state.Limits.{Limits}
 use Rattle.opfs_machine.specs.Agents.{party_of}
-use Rattle.opfs_seats.specs.Seating.{agent_begun}
-use Rattle.opfs_seats.specs.declared.seat.Who.{Who}
+use Rattle.opfs_register.specs.Seating.{agent_begun}
+use Rattle.opfs_register.specs.declared.seat.Who.{Who}
 use Rattle.opfs_shed.specs.Buckets.{Storage}
 use Rattle.opfs_standing.specs.Seen.{Machine, Seen, is_known, lines_of, persistent_in}
 use Rattle.opfs_tree.specs.Rows.{Rows}

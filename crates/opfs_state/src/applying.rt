@@ -11,7 +11,7 @@ ghost use Rattle.opfs_machine.specs.Effects.{effect, refused};
 ghost use Rattle.opfs_machine.specs.Rows.{row_at};
 ghost use Rattle.opfs_machine.specs.Steps.{evicted};
 ghost use Rattle.opfs_tree.specs.Ready.Ready.{ready_within};
-ghost use Rattle.opfs_seats.specs.Slots.{most_rows};
+ghost use Rattle.opfs_register.specs.Slots.{most_rows};
 ghost use Rattle.opfs_standing.specs.Noted.{with_sum};
 ghost use Rattle.opfs_state.specs.Applied.{IsPrepared};
 ghost use Rattle.opfs_tree.specs.Rows.{extents_within, without};

@@ -1,13 +1,13 @@
 //! How the shared state begins and ends.
 
 ghost use Rattle.std.specs.Prelude.{◌≡◌, ◌≤◌, None, IfOk, length};
-ghost use Rattle.opfs_seats.specs.Seating.{most_agents};
+ghost use Rattle.opfs_register.specs.Seating.{most_agents};
 ghost use Rattle.opfs_standing.specs.Beginnings.{IsBegun};
 ghost use Rattle.opfs_state.specs.Applied.{opened};
 
 use crate::state::State;
 use opfs_machine::Limits;
-use opfs_seats::{Register, Who};
+use opfs_register::{Register, Who};
 use opfs_shed::Shed;
 use opfs_standing::Standing;
 use opfs_tree::Tree;

@@ -7,8 +7,8 @@ ghost use Rattle.opfs_machine.specs.Agents.{agent_of, open_handle, party_of, is_
 ghost use Rattle.opfs_machine.specs.Contents.{in_lengths};
 ghost use Rattle.opfs_machine.specs.Rows.{row_at, file_at, kind_of};
 ghost use Rattle.opfs_machine.specs.Sums.{is_persistent, usage};
-ghost use Rattle.opfs_seats.specs.Seating.{most_agents};
-ghost use Rattle.opfs_seats.specs.Slots.{most_rows};
+ghost use Rattle.opfs_register.specs.Seating.{most_agents};
+ghost use Rattle.opfs_register.specs.Slots.{most_rows};
 ghost use Rattle.opfs_standing.specs.Seen.{lines_of, persistent_in};
 ghost use Rattle.opfs_state.specs.Reading.{row_file};
 ghost use Rattle.opfs_tree.specs.Rows.{extents_within, least_above, least_not_in, children_of, rows_above, IsInOrder};

@@ -25,8 +25,8 @@ use Rattle.opfs_machine.specs.Steps.{evicted}
 use Rattle.opfs_machine.specs.Victims.{is_callers}
 use Rattle.opfs_machine.specs.declared.state.Row.{Row}
 use Rattle.opfs_tree.specs.Ready.Ready.{ready_within}
-use Rattle.opfs_seats.proofs.KeptRows.{get-set}
-use Rattle.opfs_seats.specs.Seating.{noted}
+use Rattle.opfs_register.proofs.KeptRows.{get-set}
+use Rattle.opfs_register.specs.Seating.{noted}
 use Rattle.opfs_standing.proofs.AgentMoves.{number}
 use Rattle.opfs_standing.proofs.Units.{same_unit}
 use Rattle.opfs_standing.specs.Noted.{with_sum}

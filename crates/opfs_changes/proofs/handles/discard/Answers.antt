@@ -11,7 +11,7 @@ use Rattle.opfs_machine.specs.Agents.{open_handle}
 use Rattle.opfs_machine.specs.Contents.{in_lengths}
 use Rattle.opfs_machine.specs.Rulings.{want_of}
 use Rattle.opfs_machine.specs.Sums.{usage}
-use Rattle.opfs_seats.specs.Slots.{handle_at}
+use Rattle.opfs_register.specs.Slots.{handle_at}
 use Rattle.opfs_standing.proofs.SlotMoves.{closed-handle-row}
 use Rattle.opfs_changes.proofs.Covering.{undo-room}
 use Rattle.opfs_changes.proofs.Found.{numbered, place-number, handle-above, is-handle-at, handle-held, held-in, none-open, some-open}

@@ -9,7 +9,7 @@ use Rattle.opfs_machine.specs.Rows.{with_file}
 use Rattle.opfs_machine.specs.Rows.{file_at as file-of}
 use Rattle.opfs_machine.specs.Rulings.{reserve_for, want_of}
 use Rattle.opfs_machine.specs.Sums.{usage}
-use Rattle.opfs_seats.specs.Slots.{handle_at}
+use Rattle.opfs_register.specs.Slots.{handle_at}
 use Rattle.opfs_standing.specs.Contents.{showing}
 use Rattle.opfs_standing.specs.Seen.{Machine, Seen}
 use Rattle.opfs_changes.proofs.Found.{numbered, place-number, handle-above, handle-place, is-handle-at, handle-held, held-in, some-is}

@@ -9,7 +9,7 @@ use Rattle.opfs_machine.specs.Contents.{in_lengths}
 use Rattle.opfs_machine.specs.Effects.{with_written, flushed}
 use Rattle.opfs_machine.specs.Rulings.{want_of}
 use Rattle.opfs_machine.specs.Sums.{pool}
-use Rattle.opfs_seats.specs.Slots.{handle_at}
+use Rattle.opfs_register.specs.Slots.{handle_at}
 use Rattle.opfs_standing.proofs.SlotMoves.{handle-row}
 use Rattle.opfs_standing.specs.Seen.{Machine}
 use Rattle.opfs_changes.proofs.Covering.{flush-room}

@@ -1,6 +1,6 @@
 use Rattle.std.proofs.Common.{◌≡◌, ℕ, suc, ◌+◌, ◌<◌, ◌≤◌, length, inl, inr, sym, ap, subst, ◌∙◌, arith}
 use Rattle.opfs_machine.specs.Agents.{agent_of}
-use Rattle.opfs_seats.specs.Slots.{most_rows}
+use Rattle.opfs_register.specs.Slots.{most_rows}
 use Rattle.opfs_changes.proofs.Fewer.{below-or-last}
 use Rattle.opfs_changes.proofs.opening.few_rows.Goals as goal
 

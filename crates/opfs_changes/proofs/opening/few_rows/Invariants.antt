@@ -1,6 +1,6 @@
 use Rattle.std.proofs.Common.{ℕ, suc, ◌<◌, ◌≤◌, length}
 use Rattle.opfs_machine.specs.Agents.{agent_of}
-use Rattle.opfs_seats.specs.Slots.{most_rows}
+use Rattle.opfs_register.specs.Slots.{most_rows}
 use Rattle.opfs_changes.proofs.opening.few_rows.Given as goal
 
 abbrev pub invariant-loop-at : goal.invariant-loop-at

@@ -5,7 +5,7 @@ use Rattle.opfs_locks.specs.Holding.{IsTakenAs}
 use Rattle.opfs_locks.specs.declared.Want.{Want}
 use Rattle.opfs_locks.specs.declared.Want.TheVariants as want
 use Rattle.opfs_machine.specs.declared.own.StreamOutline.{StreamOutline}
-use Rattle.opfs_seats.specs.Slots.{stream_at}
+use Rattle.opfs_register.specs.Slots.{stream_at}
 use Rattle.opfs_changes.proofs.Ended.{opened-stream, aborted}
 use Rattle.opfs_changes.proofs.Found.{numbered, place-number, stream-above, is-stream-at, stream-held, held-in}
 use Rattle.opfs_changes.proofs.Told.{stream-told}

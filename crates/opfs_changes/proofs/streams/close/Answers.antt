@@ -9,7 +9,7 @@ use Rattle.opfs_locks.specs.declared.Want.TheVariants as want
 use Rattle.opfs_machine.specs.declared.own.StreamOutline.{StreamOutline}
 use Rattle.opfs_machine.specs.Contents.{in_lengths}
 use Rattle.opfs_machine.specs.Sums.{usage, pool}
-use Rattle.opfs_seats.specs.Slots.{stream_at}
+use Rattle.opfs_register.specs.Slots.{stream_at}
 use Rattle.opfs_changes.proofs.Ended.{opened-stream, stored-closed, sized-as, frees-as, close-quota, close-room}
 use Rattle.opfs_changes.proofs.Found.{numbered, place-number, stream-above, is-stream-at, stream-held, held-in}
 use Rattle.opfs_changes.proofs.Told.{stream-told}

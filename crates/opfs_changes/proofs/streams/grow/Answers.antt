@@ -5,7 +5,7 @@ use Rattle.opfs_machine.specs.Contents.{stream_with}
 use Rattle.opfs_machine.specs.Effects.{with_changed}
 use Rattle.opfs_machine.specs.Rulings.{reserve_for}
 use Rattle.opfs_machine.specs.Sums.{reserve_of}
-use Rattle.opfs_seats.specs.Slots.{stream_at}
+use Rattle.opfs_register.specs.Slots.{stream_at}
 use Rattle.opfs_standing.specs.Seen.{Machine, Seen}
 use Rattle.opfs_changes.proofs.Found.{numbered, place-number, stream-above, is-stream-at}
 use Rattle.opfs_changes.proofs.Grown.{stream-grown, stream-many, stream-entries, same-stream, fits-usage}

@@ -1,7 +1,7 @@
 use Rattle.std.proofs.Common.{◌<◌, List, length, refl, sym, ap, subst}
 use Rattle.opfs_machine.specs.declared.own.Outline.{Outline}
 use Rattle.opfs_machine.specs.declared.state.Agent.{Agent}
-use Rattle.opfs_seats.specs.Registers.{Registered}
+use Rattle.opfs_register.specs.Registers.{Registered}
 use Rattle.opfs_standing.proofs.AgentMoves.{KeepsAll, iterators-kept, rest-tied}
 use Rattle.opfs_standing.proofs.standing.Standing.add_iterator.Goals as goal
 

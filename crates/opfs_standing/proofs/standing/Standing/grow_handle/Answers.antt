@@ -2,7 +2,7 @@ use Rattle.std.proofs.Common.{◌≡◌, ◌+◌, Some, sym, ap, subst, ◌∙�
 use Rattle.opfs_machine.specs.declared.own.HandleOutline.{HandleOutline}
 use Rattle.opfs_machine.specs.declared.own.Outline.TheVariants as outline
 use Rattle.opfs_pool.proofs.Sums.{share_at-le}
-use Rattle.opfs_seats.specs.Slots.{handle_at}
+use Rattle.opfs_register.specs.Slots.{handle_at}
 use Rattle.opfs_standing.specs.Open.{IsHandleAt}
 use Rattle.opfs_standing.specs.Seen.{Seen, machine_of, with_slot_at}
 use Rattle.opfs_standing.proofs.OpenHandles.{one_handle, handle-blocks, handle-grown-machine, handle-grown-tied, slot-is-handle}

@@ -4,7 +4,7 @@ use Rattle.opfs_machine.specs.declared.own.Outline.TheVariants as outline
 use Rattle.opfs_machine.specs.declared.own.StreamOutline.{StreamOutline}
 use Rattle.opfs_machine.specs.Contents.{in_lengths}
 use Rattle.opfs_machine.specs.Sums.{usage}
-use Rattle.opfs_seats.specs.Slots.{stream_at}
+use Rattle.opfs_register.specs.Slots.{stream_at}
 use Rattle.opfs_standing.specs.Open.{IsStreamAt}
 use Rattle.opfs_standing.specs.Seen.{Seen, machine_of, with_slot_at}
 use Rattle.opfs_standing.proofs.OpenStreams.{stream-in-usage, usage-known, one_stream, grown-machine, grown-tied}

@@ -1,7 +1,7 @@
 use Rattle.std.proofs.Common.{◌<◌, List, length, refl, sym, ap, subst, ◌∙◌}
 use Rattle.opfs_machine.specs.declared.own.Outline.{Outline}
 use Rattle.opfs_machine.specs.declared.state.Agent.{Agent}
-use Rattle.opfs_seats.specs.Registers.{Registered}
+use Rattle.opfs_register.specs.Registers.{Registered}
 use Rattle.opfs_standing.specs.Noted.{with_sum}
 use Rattle.opfs_standing.specs.Seen.{Seen, machine_of, prepared_of}
 use Rattle.opfs_standing.proofs.AgentMoves.{KeepsAll, iterators-kept, rest-tied}

@@ -7,7 +7,7 @@ use Rattle.opfs_machine.specs.Agents.{agent_in, adds_own}
 use Rattle.opfs_machine.specs.Contents.{in_lengths}
 use Rattle.opfs_machine.specs.Rows.{row_at}
 use Rattle.opfs_machine.specs.Sums.{usage}
-use Rattle.opfs_seats.specs.Registers.{Registered}
+use Rattle.opfs_register.specs.Registers.{Registered}
 use Rattle.opfs_shed.specs.Buckets.{Storage}
 use Rattle.opfs_standing.specs.Seen.{Seen, machine_of, persistent_in}
 use Rattle.opfs_standing.specs.Tied.{IsKnown}

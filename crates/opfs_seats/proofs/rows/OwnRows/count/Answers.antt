@@ -1,9 +1,0 @@
-use Rattle.std.proofs.Common.{sym}
-use Rattle.opfs_seats.specs.Slots.{row_in}
-use Rattle.opfs_seats.proofs.FirstValues.{length-first}
-use Rattle.opfs_seats.proofs.rows.OwnRows.count.Goals as goal
-
-pub returns-clause-count : goal.returns-clause-count
-returns-clause-count c =
-    let rows = c.self.inside in
-    rw (← c.self.view_is) (sym (length-first (row_in rows.numbers.items rows.slots.items) rows.count))

@@ -1,5 +1,0 @@
-use Rattle.std.proofs.Common.{length}
-use Rattle.opfs_seats.proofs.seats.end_all.Given as goal
-
-abbrev pub decreases-loop-seats : goal.decreases-loop-seats
-decreases-loop-seats l = length l.seats.items
