@@ -12,7 +12,7 @@ use Rattle.opfs_machine.specs.Sums.{row_charge as line_charge}
 use Rattle.opfs_records.specs.Replay.Applying.{can_apply, applied, tried}
 use Rattle.opfs_records.specs.Replay.Sums.{row_charge, charge_of}
 use Rattle.opfs_records.specs.Checkpoint.Written.{stored_row, stored_rows}
-use Rattle.opfs_standing.specs.Seen.{Machine, line_of, lines_of}
+use Rattle.opfs_state_rows.specs.Standing.Seen.{Machine, line_of, lines_of}
 use Rattle.opfs_tree.specs.declared.row.Row.{Row}
 use Rattle.opfs_tree.specs.declared.row.Row.TheVariants as row
 use Rattle.opfs_tree.specs.Rows.{Rows, without}

@@ -12,8 +12,8 @@ use Rattle.opfs_base.specs.declared.extents.Extent.{Extent}
 use Rattle.opfs_base.specs.declared.locator.Kind.{Kind}
 use Rattle.opfs_base.specs.declared.locator.Kind.TheVariants as kind
 use Rattle.opfs_base.specs.declared.locator.Locator.{Locator}
-use Rattle.opfs_changes.specs.Asking.{root_in, made_at, where_free, free_in}
-use Rattle.opfs_changes.specs.Changed.{stored_in, flushed_in, grown_by, closed_by, aborted_by, overwritten_by, changed_by, flushed_by, ended_by, tree_by}
+use Rattle.opfs_state_rows.specs.Changes.Asking.{root_in, made_at, where_free, free_in}
+use Rattle.opfs_state_rows.specs.Changes.Changed.{stored_in, flushed_in, grown_by, closed_by, aborted_by, overwritten_by, changed_by, flushed_by, ended_by, tree_by}
 use Rattle.opfs_codec.specs.declared.change.Change.{Change as Spelled}
 use Rattle.opfs_codec.specs.declared.change.Change.TheVariants.{MakeRoot, MakeDir, MakeFile, Remove, Content, Persist}
 use Rattle.opfs_codec.specs.declared.change.Format.TheVariants.{New}
@@ -42,9 +42,9 @@ use Rattle.opfs_records.specs.Replay.Built.{Built}
 use Rattle.opfs_records.proofs.replay.Parents.{can_make_at}
 use Rattle.opfs_records.specs.Checkpoint.Written.{stored_file, stored_row, stored_rows}
 use Rattle.opfs_records.proofs.checkpoint.StoredRows.{stored_at}
-use Rattle.opfs_standing.specs.Contents.{undone_row}
-use Rattle.opfs_standing.specs.Seen.{Machine, line_of, lines_of}
-use Rattle.opfs_standing.proofs.Lines.{lines-at, there-at}
+use Rattle.opfs_state_rows.specs.Standing.Contents.{undone_row}
+use Rattle.opfs_state_rows.specs.Standing.Seen.{Machine, line_of, lines_of}
+use Rattle.opfs_state_rows.proofs.standing.Lines.{lines-at, there-at}
 use Rattle.opfs_tree.specs.declared.row.FileRow.{FileRow}
 use Rattle.opfs_tree.specs.declared.row.Row.{Row}
 use Rattle.opfs_tree.specs.declared.row.Row.TheVariants as row

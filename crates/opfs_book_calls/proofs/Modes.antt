@@ -19,7 +19,7 @@ use Rattle.opfs_machine.specs.Contents.{in_lengths}
 use Rattle.opfs_machine.specs.Effects.{made, with_written, with_changed, opens_bucket, opens_stream, takes_snapshot, closes_stream, aborts_stream, changes_file, flushes, closes_handle, discards, effect}
 use Rattle.opfs_machine.specs.Rows.{row_at, with_row, file_at, with_file}
 use Rattle.opfs_machine.specs.Rulings.{is_read_write, first_reserve}
-use Rattle.opfs_standing.specs.Seen.{Machine}
+use Rattle.opfs_state_rows.specs.Standing.Seen.{Machine}
 
 made-modes : (m : Machine) (place : Place) (r : Row ℕ) → (made m place r).persistent ≡ m.persistent
 made-modes m place r = by (row_at m place)

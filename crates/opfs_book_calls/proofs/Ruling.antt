@@ -14,7 +14,7 @@ use Rattle.opfs_machine.specs.declared.state.Row.{Row}
 use Rattle.opfs_machine.specs.Rows.{row_at, is_located}
 use Rattle.opfs_machine.specs.Ruled.{Ruled, ◌>>◌, unless}
 use Rattle.opfs_machine.specs.Rulings.{child_ruling, get_handle_ruling, remove_entry_ruling}
-use Rattle.opfs_standing.specs.Seen.{Machine}
+use Rattle.opfs_state_rows.specs.Standing.Seen.{Machine}
 
 bad_err : {A : Type 0} (r : Refusal) (x : A) → ◌≡◌ {A = Ruled A} (Err r) (Ok x) → ⊥
 bad_err r x h = cc

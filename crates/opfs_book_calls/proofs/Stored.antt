@@ -13,7 +13,7 @@ use Rattle.opfs_tree.specs.declared.row.FileRow.{FileRow}
 use Rattle.opfs_tree.specs.declared.row.Row.{Row}
 use Rattle.opfs_tree.specs.declared.row.Row.TheVariants as row
 use Rattle.opfs_tree.specs.Rows.{Rows, row_at, file_of, file_at, without, change_at, changed_row, stored}
-use Rattle.opfs_changes.specs.Changed.{stored_in, flushed_in}
+use Rattle.opfs_state_rows.specs.Changes.Changed.{stored_in, flushed_in}
 
 pub stored-put : (place : Place) (r : Row) (rows : Rows) → stored_rows (put place_cmp place r rows) ≡ put place_cmp place (stored_row r) (stored_rows rows)
 stored-put place r [] = refl

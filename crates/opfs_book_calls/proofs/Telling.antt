@@ -7,7 +7,7 @@ use Rattle.opfs_base.specs.Units.{unit_of}
 use Rattle.opfs_base.specs.declared.extents.Extent.{Extent}
 use Rattle.opfs_base.specs.declared.locator.Kind.{Kind}
 use Rattle.opfs_base.specs.declared.locator.Kind.TheVariants as kind
-use Rattle.opfs_changes.specs.Asking.{root_in, made_at, where_free, free_in}
+use Rattle.opfs_state_rows.specs.Changes.Asking.{root_in, made_at, where_free, free_in}
 use Rattle.opfs_codec.specs.declared.change.Change.TheVariants.{Persist}
 use Rattle.opfs_commit.specs.Making.{told_as}
 use Rattle.opfs_hist.specs.declared.op.Op.{Op}
@@ -33,8 +33,8 @@ use Rattle.opfs_machine.specs.Histories.{evicted_by}
 use Rattle.opfs_machine.specs.Rows.{row_at, file_at}
 use Rattle.opfs_machine.specs.Rulings.{is_read_write}
 use Rattle.opfs_machine.specs.Sums.{is_persistent}
-use Rattle.opfs_standing.specs.Seen.{Machine, lines_of}
-use Rattle.opfs_standing.proofs.Lines.{file_line, file-at}
+use Rattle.opfs_state_rows.specs.Standing.Seen.{Machine, lines_of}
+use Rattle.opfs_state_rows.proofs.standing.Lines.{file_line, file-at}
 use Rattle.opfs_tree.specs.Rows.{Rows}
 use Rattle.opfs_tree.specs.Rows.{file_at as tree_file_at}
 use Rattle.opfs_tree.specs.declared.row.FileRow.{FileRow}

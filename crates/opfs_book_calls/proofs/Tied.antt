@@ -8,8 +8,8 @@ use Rattle.opfs_base.specs.Units.{unit_of}
 use Rattle.opfs_base.specs.declared.extents.Extent.{Extent}
 use Rattle.opfs_base.specs.declared.locator.Kind.{Kind}
 use Rattle.opfs_base.specs.declared.locator.Kind.TheVariants as kind
-use Rattle.opfs_changes.specs.Asking.{root_in, bucket_unit, made_at, where_free, free_in, place_for}
-use Rattle.opfs_changes.specs.Changed.{stored_in, flushed_in, grown_by, closed_by, flushed_by, ended_by, tree_by}
+use Rattle.opfs_state_rows.specs.Changes.Asking.{root_in, bucket_unit, made_at, where_free, free_in, place_for}
+use Rattle.opfs_state_rows.specs.Changes.Changed.{stored_in, flushed_in, grown_by, closed_by, flushed_by, ended_by, tree_by}
 use Rattle.opfs_codec.specs.declared.change.Change.{Change as Spelled}
 use Rattle.opfs_hist.specs.declared.op.Mode.{Mode}
 use Rattle.opfs_hist.specs.declared.op.Op.{Op}
@@ -28,10 +28,10 @@ use Rattle.opfs_machine.specs.Rows.{with_file, row_at}
 use Rattle.opfs_machine.specs.Rows.{change_at as line_change_at}
 use Rattle.opfs_machine.specs.Rulings.{is_read_write}
 use Rattle.opfs_tree.specs.Ready.Ready.{new_row}
-use Rattle.opfs_standing.specs.Seen.{Machine, line_of, lines_of}
-use Rattle.opfs_standing.proofs.GoneMoves.{lines-without}
-use Rattle.opfs_standing.proofs.Lines.{lines-changed}
-use Rattle.opfs_standing.proofs.RowMoves.{lines-put}
+use Rattle.opfs_state_rows.specs.Standing.Seen.{Machine, line_of, lines_of}
+use Rattle.opfs_state_rows.proofs.standing.GoneMoves.{lines-without}
+use Rattle.opfs_state_rows.proofs.standing.Lines.{lines-changed}
+use Rattle.opfs_state_rows.proofs.standing.RowMoves.{lines-put}
 use Rattle.opfs_tree.specs.Rows.{Rows, change_at, unlocked, without}
 use Rattle.opfs_book_calls.specs.Spelled.{spelled_by}
 

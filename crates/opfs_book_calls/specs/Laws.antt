@@ -4,7 +4,7 @@ use Rattle.opfs_base.specs.Texts.{Text}
 use Rattle.opfs_base.specs.declared.extents.Extent.{Extent}
 use Rattle.opfs_book_laws.specs.Books.{IsNext}
 use Rattle.opfs_book_laws.specs.Laws.{failed}
-use Rattle.opfs_changes.specs.Changed.{tree_by}
+use Rattle.opfs_state_rows.specs.Changes.Changed.{tree_by}
 use Rattle.opfs_codec.specs.declared.change.Change.{Change as Spelled}
 use Rattle.opfs_codec.specs.declared.change.Change.TheVariants.{Evict}
 use Rattle.opfs_codec.specs.declared.change.Format.TheVariants.{New}
@@ -28,7 +28,7 @@ use Rattle.opfs_machine.specs.Steps.{evicted, step, is_refusal}
 use Rattle.opfs_machine.specs.Sums.{charge, is_persistent}
 use Rattle.opfs_records.specs.Replay.Applying.{tried}
 use Rattle.opfs_records.specs.Replay.Sums.{charge_of}
-use Rattle.opfs_standing.specs.Seen.{Machine, lines_of}
+use Rattle.opfs_state_rows.specs.Standing.Seen.{Machine, lines_of}
 use Rattle.opfs_tree.specs.Rows.{Rows, without}
 use Rattle.opfs_book_calls.specs.Spelled.{spelled_by, bytes_stored, told_list, stored_built, Makes}
 

@@ -6,7 +6,7 @@ use Rattle.opfs_base.specs.Units.{unit_of}
 use Rattle.opfs_base.specs.declared.extents.Extent.{Extent}
 use Rattle.opfs_base.specs.declared.locator.Kind.{Kind}
 use Rattle.opfs_base.specs.declared.locator.Kind.TheVariants as kind
-use Rattle.opfs_changes.specs.Asking.{place_for}
+use Rattle.opfs_state_rows.specs.Changes.Asking.{place_for}
 use Rattle.opfs_codec.specs.declared.change.Change.{Change as Spelled}
 use Rattle.opfs_codec.specs.declared.change.Change.TheVariants.{MakeRoot, MakeDir, MakeFile, Remove, Content, Persist}
 use Rattle.opfs_commit.specs.Making.{told_as}
@@ -29,7 +29,7 @@ use Rattle.opfs_codec.specs.declared.change.Format.TheVariants.{New}
 use Rattle.opfs_records.specs.Replay.Applying.{can_hold, tried}
 use Rattle.opfs_records.specs.Replay.Built.{Built, named_beside}
 use Rattle.opfs_records.specs.Checkpoint.Written.{stored_rows}
-use Rattle.opfs_standing.specs.Seen.{Machine}
+use Rattle.opfs_state_rows.specs.Standing.Seen.{Machine}
 use Rattle.opfs_tree.specs.Rows.{Rows}
 use Rattle.opfs_tree.specs.Rows.{file_at as tree_file_at}
 use Rattle.opfs_tree.specs.declared.row.FileRow.{FileRow}

@@ -24,7 +24,7 @@ use Rattle.opfs_outside.specs.declared.disk.Disk.{Ghosts as DiskWords}
 use Rattle.opfs_records.specs.Replay.Built.{Built}
 use Rattle.opfs_records.specs.Replay.Sums.{persistent_in}
 use Rattle.opfs_shed.specs.Buckets.{Storage}
-use Rattle.opfs_standing.specs.Seen.{Machine}
+use Rattle.opfs_state_rows.specs.Standing.Seen.{Machine}
 use Rattle.opfs_tree.specs.Rows.{Rows}
 
 module _ {D : Type 0} (w : DiskWords D) (m : Machine) (t : Rows) (rows : Rows) (shed : Storage) (same : rows ≡ t) (modes : persistent_in shed.buckets ≡ m.persistent) where

@@ -13,7 +13,7 @@ use Rattle.opfs_book_laws.specs.Books.{Fixed, IsNext, IsPlaced, AreBooksAt, AreB
 use Rattle.opfs_book_laws.specs.Commits.{StateLaws}
 use Rattle.opfs_book_laws.specs.Laws.{failed, IsEntered, IsMade, IsCovered, HasRisen, TellsKeepTheBooks, KeepingBackKeepsTheBooks, CommittedCallsKeepTheBooks, FailedCommitsKeepTheBooks, CommitsShow, ShowsTold, told}
 use Rattle.opfs_book_laws.proofs.Committing.{fault-refuses, covered-fits}
-use Rattle.opfs_changes.specs.Changed.{tree_by}
+use Rattle.opfs_state_rows.specs.Changes.Changed.{tree_by}
 use Rattle.opfs_codec.specs.Spelling.{IsChange}
 use Rattle.opfs_codec.specs.declared.change.Change.{Change as Spelled}
 use Rattle.opfs_codec.specs.declared.change.Format.TheVariants.{New}
@@ -46,7 +46,7 @@ use Rattle.opfs_records.specs.Replay.Sums.{charge_of, persistent_in}
 use Rattle.opfs_shed.specs.Buckets.{Storage}
 use Rattle.opfs_records.specs.Checkpoint.Written.{AreWritable, IsWritableRow, stored_row, stored_rows}
 use Rattle.opfs_records.proofs.checkpoint.StoredRows.{stored_order}
-use Rattle.opfs_standing.specs.Seen.{Machine, lines_of}
+use Rattle.opfs_state_rows.specs.Standing.Seen.{Machine, lines_of}
 use Rattle.opfs_tree.specs.Rows.{Rows, IsInOrder}
 use Rattle.opfs_tree.specs.declared.row.Row.{Row}
 use Rattle.opfs_tree.specs.declared.row.Row.TheVariants as row

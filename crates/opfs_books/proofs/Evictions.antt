@@ -41,7 +41,7 @@ use Rattle.opfs_records.specs.Replay.Sums.{charge_of, persistent_in}
 use Rattle.opfs_shed.specs.Buckets.{Storage}
 use Rattle.opfs_records.specs.Checkpoint.Written.{AreWritable, stored_rows}
 use Rattle.opfs_records.proofs.checkpoint.StoredRows.{stored_order}
-use Rattle.opfs_standing.specs.Seen.{Machine, lines_of}
+use Rattle.opfs_state_rows.specs.Standing.Seen.{Machine, lines_of}
 use Rattle.opfs_tree.specs.Rows.{Rows, IsInOrder, without}
 use Rattle.opfs_books.specs.Committing.{MayCommit, MayCommitAlone}
 use Rattle.opfs_sharing.specs.Noting.{noted}

@@ -2,7 +2,7 @@
 use Rattle.std.proofs.Common.{◌≡◌, ℕ, Bool, true, false, List, [], ◌∷◌, fold, is_some, refl, sym, ap, ◌∙◌}
 use Rattle.std.proofs.lemmas.Bool.{false≢true}
 use Rattle.opfs_base.specs.Texts.{Text}
-use Rattle.opfs_changes.specs.Asking.{makes_slot}
+use Rattle.opfs_state_rows.specs.Changes.Asking.{makes_slot}
 use Rattle.opfs_hist.specs.declared.entry.Entry.{Entry}
 use Rattle.opfs_hist.specs.declared.op.Op.{Op}
 use Rattle.opfs_hist.specs.declared.op.Op.TheVariants as op
@@ -27,7 +27,7 @@ use Rattle.opfs_machine.specs.Histories.{after_entry, after_op}
 use Rattle.opfs_machine.specs.OwnRows.{is_local}
 use Rattle.opfs_machine.specs.Replies.{sizes_of, answer}
 use Rattle.opfs_machine.specs.Steps.{after_reply, is_refusal, step, judged, outcome_of}
-use Rattle.opfs_standing.specs.Seen.{Machine}
+use Rattle.opfs_state_rows.specs.Standing.Seen.{Machine}
 use Rattle.opfs_sharing.specs.Noting.{noted, AreNotes, IsNote}
 
 abbrev after_by : State Text Own → ℕ → Op → Bool → State Text Own

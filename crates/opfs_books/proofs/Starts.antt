@@ -23,7 +23,7 @@ use Rattle.opfs_records.specs.Replay.Sums.{row_charge, charge_of, persistent_in}
 use Rattle.opfs_shed.specs.Buckets.{Storage}
 use Rattle.opfs_records.specs.Checkpoint.Written.{AreWritable, stored_rows}
 use Rattle.opfs_records.proofs.checkpoint.StoredRows.{stored_writable}
-use Rattle.opfs_standing.specs.Seen.{Machine}
+use Rattle.opfs_state_rows.specs.Standing.Seen.{Machine}
 use Rattle.opfs_tree.specs.Rows.{Rows}
 use Rattle.opfs_tree.specs.declared.row.Row.{Row}
 use Rattle.opfs_tree.specs.declared.row.Row.TheVariants as row

@@ -13,7 +13,7 @@ use Rattle.opfs_machine.specs.Openings.{begun}
 use Rattle.opfs_outside.specs.declared.disk.Disk.{Ghosts as DiskWords}
 use Rattle.opfs_records.specs.Replay.Built.{Built, IsSound}
 use Rattle.opfs_records.specs.Replay.Sums.{charge_of}
-use Rattle.opfs_standing.specs.Seen.{Machine}
+use Rattle.opfs_state_rows.specs.Standing.Seen.{Machine}
 use Rattle.opfs_tree.specs.Rows.{Rows}
 use Rattle.std.specs.Prelude.{ℕ, ◌+◌, ◌≤◌}
 

@@ -28,7 +28,7 @@ use Rattle.opfs_machine.specs.Rulings.{ruling}
 use Rattle.opfs_machine.specs.Steps.{evicted, step}
 use Rattle.opfs_outside.specs.declared.disk.Disk.{Ghosts as DiskWords}
 use Rattle.opfs_records.specs.Replay.Built.{Built}
-use Rattle.opfs_standing.specs.Seen.{Machine}
+use Rattle.opfs_state_rows.specs.Standing.Seen.{Machine}
 use Rattle.opfs_tree.specs.Rows.{Rows}
 
 -- The books with these parts.

@@ -6,7 +6,7 @@ ghost use Rattle.opfs_book_calls.specs.Spelled.{spelled_by};
 ghost use Rattle.opfs_book_laws.specs.Books.{Fixed, IsNext, IsPlaced, AreBooks, AreBooksAt};
 ghost use Rattle.opfs_book_laws.specs.Laws.{HasRisen};
 ghost use Rattle.opfs_books.specs.Seen.{book_of, AreKnown, MayAnswer, MayCome};
-ghost use Rattle.opfs_changes.specs.Changed.{tree_by, freed_in};
+ghost use Rattle.opfs_state_rows.specs.Changes.Changed.{tree_by, freed_in};
 ghost use Rattle.opfs_machine.specs.declared.own.Own.{Own};
 ghost use Rattle.opfs_machine.specs.declared.state.State.{State};
 ghost use Rattle.opfs_machine.specs.Agents.{counted};

@@ -6,7 +6,7 @@ ghost use Rattle.opfs_book_calls.specs.Spelled.{spelled_by};
 ghost use Rattle.opfs_book_laws.specs.Books.{Fixed, IsNext, AreBooks, AreBooksAt};
 ghost use Rattle.opfs_book_laws.specs.Laws.{told};
 ghost use Rattle.opfs_books.specs.Seen.{book_of, MayAnswer, MayCommitCall, MayStore};
-ghost use Rattle.opfs_changes.specs.Changed.{tree_by, freed_in};
+ghost use Rattle.opfs_state_rows.specs.Changes.Changed.{tree_by, freed_in};
 ghost use Rattle.opfs_codec.specs.Fields.{plain, Fits};
 ghost use Rattle.opfs_commit.specs.Seen.{with_kept, IsQuiet};
 ghost use Rattle.opfs_machine.specs.declared.own.Own.{Own};

@@ -20,8 +20,8 @@ use Rattle.opfs_machine.specs.Contents.{in_lengths, outline_of}
 use Rattle.opfs_machine.specs.Histories.{is_handle, may_enter, state_after}
 use Rattle.opfs_outside.specs.declared.disk.Disk.{Ghosts as DiskWords}
 use Rattle.opfs_records.specs.Replay.Built.{Built}
-use Rattle.opfs_standing.specs.Noted.{with_sum}
-use Rattle.opfs_standing.specs.Seen.{Machine}
+use Rattle.opfs_state_rows.specs.Standing.Noted.{with_sum}
+use Rattle.opfs_state_rows.specs.Standing.Seen.{Machine}
 use Rattle.opfs_state_laws.proofs.Readying.{agent-noted, handle-noted}
 use Rattle.opfs_verdicts.specs.Callers.{IsAgent}
 use Rattle.opfs_work.specs.Works.{WorkingCopy}

@@ -17,7 +17,7 @@ use Rattle.opfs_desk_parts.specs.Asked.{IsAsked, MayGo}
 use Rattle.opfs_desk_parts.specs.declared.call.InHand.{InHand}
 use Rattle.opfs_desk_parts.specs.declared.parts.Parts.{Parts}
 use Rattle.opfs_desk_plain.specs.Next.{is_next}
-use Rattle.opfs_standing.specs.Seen.{Machine}
+use Rattle.opfs_state_rows.specs.Standing.Seen.{Machine}
 use Rattle.opfs_desk_acts.specs.Kinds.{IsOfKind}
 use Rattle.opfs_desk_acts.specs.declared.kinds.CallKind.{CallKind}
 

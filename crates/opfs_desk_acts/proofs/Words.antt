@@ -9,7 +9,7 @@ use Rattle.opfs_base.specs.Units.{unit_of}
 use Rattle.opfs_base.specs.declared.locator.Kind.{Kind}
 use Rattle.opfs_base.specs.declared.locator.Kind.TheVariants as sort
 use Rattle.opfs_base.specs.declared.locator.Locator.{Locator}
-use Rattle.opfs_changes.specs.Asking.{free_in, growth_of, made_at, makes_row, mode_growth, root_in, root_place, row_growth, target_of, where_free}
+use Rattle.opfs_state_rows.specs.Changes.Asking.{free_in, growth_of, made_at, makes_row, mode_growth, root_in, root_place, row_growth, target_of, where_free}
 use Rattle.opfs_desk_contents.specs.Words.{flushes_nothing, stores_row}
 use Rattle.opfs_desk_ends.specs.Leaving.{leaves_row}
 use Rattle.opfs_desk_grants.specs.Estimating.{is_estimate}
@@ -26,7 +26,7 @@ use Rattle.opfs_machine.specs.declared.state.Row.{Row}
 use Rattle.opfs_machine.specs.Agents.{agent_of}
 use Rattle.opfs_machine.specs.Rows.{row_at}
 use Rattle.opfs_machine.specs.Sums.{is_persistent}
-use Rattle.opfs_standing.specs.Seen.{Machine}
+use Rattle.opfs_state_rows.specs.Standing.Seen.{Machine}
 use Rattle.opfs_desk_acts.specs.Kinds.{IsOfKind}
 use Rattle.opfs_desk_acts.specs.declared.kinds.CallKind.{CallKind}
 use Rattle.opfs_desk_acts.specs.declared.kinds.CallKind.TheVariants as kind

@@ -16,7 +16,7 @@ use Rattle.opfs_hist.specs.declared.op.Op.{Op}
 use Rattle.opfs_hist.specs.declared.op.Op.TheVariants as op
 use Rattle.opfs_machine.specs.Agents.{open_handle}
 use Rattle.opfs_machine.specs.Contents.{in_lengths}
-use Rattle.opfs_standing.specs.Seen.{Machine}
+use Rattle.opfs_state_rows.specs.Standing.Seen.{Machine}
 
 -- The access handle that a call flushes or closes is open.
 abbrev pub has_handle : Machine → ℕ → Op → Bool

@@ -2,7 +2,7 @@
 
 ghost use Rattle.std.specs.Prelude.{◌≡◌, true, is_some, IsTrue};
 ghost use Rattle.opfs_acts.specs.Asking.{is_shared};
-ghost use Rattle.opfs_changes.specs.Asking.{makes_row};
+ghost use Rattle.opfs_state_rows.specs.Changes.Asking.{makes_row};
 ghost use Rattle.opfs_desk_acts.specs.Kinds.{IsOfKind, has_handle};
 ghost use Rattle.opfs_desk_contents.specs.Words.{may_write};
 ghost use Rattle.opfs_hist.specs.declared.op.Op.TheVariants as op;

@@ -27,7 +27,7 @@ use Rattle.opfs_machine.specs.Rulings.{want_of}
 use Rattle.opfs_outside.specs.declared.disk.Disk.{Ghosts as DiskWords}
 use Rattle.opfs_records.specs.Replay.Built.{Built}
 use Rattle.opfs_laws.specs.Reserves.Reserves.{FitsOrIsStored}
-use Rattle.opfs_standing.specs.Seen.{Machine, lines_of}
+use Rattle.opfs_state_rows.specs.Standing.Seen.{Machine, lines_of}
 use Rattle.opfs_state.specs.Reading.{file_of_row, row_file}
 use Rattle.opfs_tree.specs.Rows.{file_at as file_in_tree}
 use Rattle.opfs_tree.specs.declared.row.FileRow.{FileRow}

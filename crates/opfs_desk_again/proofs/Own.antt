@@ -17,8 +17,8 @@ use Rattle.opfs_records.proofs.replay.Counts.{each_of, once_from_times, once_tim
 use Rattle.opfs_records.proofs.replay.Holding.{all_both, is_within_size, of_all}
 use Rattle.opfs_records.specs.Replay.Kept.{times}
 use Rattle.opfs_records.specs.Checkpoint.Written.{IsWritableRow, stored_file, stored_row, stored_rows}
-use Rattle.opfs_standing.proofs.Lines.{file-at, file_line}
-use Rattle.opfs_standing.specs.Seen.{Machine, lines_of}
+use Rattle.opfs_state_rows.proofs.standing.Lines.{file-at, file_line}
+use Rattle.opfs_state_rows.specs.Standing.Seen.{Machine, lines_of}
 use Rattle.opfs_tree.specs.Rows.{Rows as Tree, extents_of, file_at as file_in_tree, file_of, row_at}
 use Rattle.opfs_tree.specs.declared.row.FileRow.{FileRow}
 use Rattle.opfs_tree.specs.declared.row.Row.{Row}

@@ -38,8 +38,8 @@ use Rattle.opfs_machine.specs.Steps.{after_reply, is_refusal}
 use Rattle.opfs_outside.specs.declared.disk.Disk.{Ghosts as DiskWords}
 use Rattle.opfs_pages.specs.Copies.{IsCopy}
 use Rattle.opfs_records.specs.Replay.Built.{Built}
-use Rattle.opfs_standing.specs.Noted.{with_sum}
-use Rattle.opfs_standing.specs.Seen.{Machine}
+use Rattle.opfs_state_rows.specs.Standing.Noted.{with_sum}
+use Rattle.opfs_state_rows.specs.Standing.Seen.{Machine}
 use Rattle.opfs_state_laws.proofs.Readying.{agent-noted, handle-noted}
 use Rattle.opfs_verdicts.specs.Callers.{IsAgent}
 use Rattle.opfs_work.specs.Works.{WorkingCopy}

@@ -47,7 +47,7 @@ use Rattle.opfs_records.specs.Replay.Applying.{can_hold}
 use Rattle.opfs_records.specs.Replay.Built.{Built, named_beside}
 use Rattle.opfs_laws.specs.Reserves.Reserves.{FitsOrIsStored, ReservesFitOrNothingIsUnflushed}
 use Rattle.opfs_records.specs.Checkpoint.Written.{stored_file, stored_rows}
-use Rattle.opfs_standing.specs.Seen.{Machine, lines_of}
+use Rattle.opfs_state_rows.specs.Standing.Seen.{Machine, lines_of}
 use Rattle.opfs_state.specs.Reading.{row_file}
 use Rattle.opfs_tree.specs.Rows.{Rows as Tree, IsInOrder, file_at as file_in_tree, row_at}
 use Rattle.opfs_tree.specs.declared.row.FileRow.{FileRow}

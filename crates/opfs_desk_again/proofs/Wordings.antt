@@ -6,8 +6,8 @@ use Rattle.opfs_acts.specs.declared.acted.Gift.TheVariants as gift
 use Rattle.opfs_base.specs.Places.{Place}
 use Rattle.opfs_base.specs.Texts.{Text}
 use Rattle.opfs_book_calls.specs.Spelled.{flush_spelled, handle_spelled, spelled_by}
-use Rattle.opfs_changes.specs.Allowed.{IsSized}
-use Rattle.opfs_changes.specs.Changed.{changed_by as tree_changed_by, ended_by, flushed_by, flushed_in, tree_by}
+use Rattle.opfs_state_rows.specs.Changes.Allowed.{IsSized}
+use Rattle.opfs_state_rows.specs.Changes.Changed.{changed_by as tree_changed_by, ended_by, flushed_by, flushed_in, tree_by}
 use Rattle.opfs_desk_contents.specs.Words.{ends_row, flushes_nothing, may_only_read, may_write, stores_row}
 use Rattle.opfs_desk_laws.specs.Hands.{row_in_hand}
 use Rattle.opfs_desk_laws.specs.Laws.{TreesKeepBlocks}
@@ -45,7 +45,7 @@ use Rattle.opfs_machine.specs.Rulings.{handle_ruling, is_read_write, ruling}
 use Rattle.opfs_machine.specs.Steps.{after_reply, judged}
 use Rattle.opfs_machine.specs.Sums.{no_need}
 use Rattle.opfs_space.specs.Files.{file_has}
-use Rattle.opfs_standing.specs.Seen.{Machine}
+use Rattle.opfs_state_rows.specs.Standing.Seen.{Machine}
 use Rattle.opfs_tree.specs.Rows.{Rows as Tree, file_at as tree_file_at, unlocked}
 use Rattle.opfs_tree.specs.declared.row.FileRow.{FileRow}
 use Rattle.opfs_desk_again.specs.Saving.{saves_handle}

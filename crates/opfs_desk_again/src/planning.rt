@@ -3,7 +3,7 @@
 ghost use Rattle.std.specs.Prelude.{◌≡◌, true, Some, is_some, IfOk};
 ghost use Rattle.opfs_base.specs.Places.{Place};
 ghost use Rattle.opfs_desk_parts.specs.Seen.{machine_in, tree_in};
-ghost use Rattle.opfs_standing.specs.Seen.{lines_of};
+ghost use Rattle.opfs_state_rows.specs.Standing.Seen.{lines_of};
 ghost use Rattle.opfs_state.specs.Reading.{row_file};
 ghost use Rattle.opfs_tree.specs.Rows.{file_at as file_in_tree};
 ghost use Rattle.opfs_tree.specs.declared.row.FileRow.{FileRow};

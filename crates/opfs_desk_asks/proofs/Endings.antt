@@ -5,7 +5,7 @@ use Rattle.std.proofs.lemmas.Bool.{false≢true}
 use Rattle.opfs_acts.specs.Acting.{always_acts}
 use Rattle.opfs_acts.specs.Asking.{names_open}
 use Rattle.opfs_base.specs.Texts.{Text}
-use Rattle.opfs_changes.specs.Asking.{ends}
+use Rattle.opfs_state_rows.specs.Changes.Asking.{ends}
 use Rattle.opfs_hist.specs.declared.op.Op.{Op}
 use Rattle.opfs_hist.specs.declared.op.Op.TheVariants as op
 use Rattle.opfs_hist.specs.declared.reply.Refusal.TheVariants as refusal

@@ -8,7 +8,7 @@ use Rattle.opfs_book_laws.proofs.Told.{told-whole, whole-told}
 use Rattle.opfs_book_laws.specs.Books.{Fixed, IsToldAt}
 use Rattle.opfs_book_laws.specs.Commits.{StateLaws}
 use Rattle.opfs_books.proofs.Following.{notes-follow, pending-notes}
-use Rattle.opfs_changes.specs.Asking.{AreOwnUnits}
+use Rattle.opfs_state_rows.specs.Changes.Asking.{AreOwnUnits}
 use Rattle.opfs_hist.specs.Sums.{makes_row, last_moment}
 use Rattle.opfs_hist.specs.declared.entry.Entry.{Entry}
 use Rattle.opfs_hist.specs.declared.history.PendingSum.{PendingSum}
@@ -36,8 +36,8 @@ use Rattle.opfs_outside.specs.declared.disk.Disk.{Ghosts as DiskWords}
 use Rattle.opfs_records.specs.Replay.Built.{Built}
 use Rattle.opfs_sharing.proofs.Pending.{sum-noted}
 use Rattle.opfs_sharing.specs.Noting.{noted}
-use Rattle.opfs_standing.specs.Noted.{with_sum}
-use Rattle.opfs_standing.specs.Seen.{Machine}
+use Rattle.opfs_state_rows.specs.Standing.Noted.{with_sum}
+use Rattle.opfs_state_rows.specs.Standing.Seen.{Machine}
 use Rattle.opfs_state_laws.specs.Judged.{NotesDecideNothing}
 use Rattle.opfs_state_laws.specs.Owned.{CallsAreAboutOwnUnits}
 use Rattle.opfs_verdicts.specs.Callers.{IsAgent, IsCaller}

@@ -4,7 +4,7 @@ use Rattle.std.specs.Prelude.{slice_get, replicate}
 use Rattle.std.specs.List.{AllByRecursion}
 use Rattle.opfs_base.specs.Texts.{Text}
 use Rattle.opfs_base.specs.Units.{unit_of}
-use Rattle.opfs_changes.specs.Asking.{AreOwnUnits, units_of, unit_in, stream_unit, handle_unit, bucket_unit}
+use Rattle.opfs_state_rows.specs.Changes.Asking.{AreOwnUnits, units_of, unit_in, stream_unit, handle_unit, bucket_unit}
 use Rattle.opfs_hist.specs.declared.history.PendingSum.{PendingSum}
 use Rattle.opfs_hist.specs.declared.op.Op.{Op}
 use Rattle.opfs_hist.specs.declared.op.Op.TheVariants as op
@@ -15,8 +15,8 @@ use Rattle.opfs_machine.specs.Agents.{agent_of, own_of, of_row, stream_in, handl
 use Rattle.opfs_machine.specs.Contents.{in_lengths}
 use Rattle.opfs_machine.specs.Victims.{is_callers}
 use Rattle.opfs_register.specs.Seating.{noted}
-use Rattle.opfs_standing.specs.Noted.{with_sum}
-use Rattle.opfs_standing.specs.Seen.{Machine}
+use Rattle.opfs_state_rows.specs.Standing.Noted.{with_sum}
+use Rattle.opfs_state_rows.specs.Standing.Seen.{Machine}
 use Rattle.opfs_state_laws.proofs.Readying.{agent-noted}
 use Rattle.opfs_verdicts.specs.Callers.{IsAgent}
 

@@ -8,7 +8,7 @@ use Rattle.opfs_book_laws.specs.Books.{Fixed, IsPlaced}
 use Rattle.opfs_book_laws.specs.Commits.{StateLaws}
 use Rattle.opfs_book_calls.specs.Spelled.{bytes_stored}
 use Rattle.opfs_book_laws.specs.Laws.{BooksKeepTheState, ShowsTold, told}
-use Rattle.opfs_changes.specs.Allowed.{MayApply, IsSized}
+use Rattle.opfs_state_rows.specs.Changes.Allowed.{MayApply, IsSized}
 use Rattle.opfs_codec.specs.declared.change.Change.TheVariants.{Content}
 use Rattle.opfs_commit.specs.Making.{told_as}
 use Rattle.opfs_hist.specs.declared.entry.Entry.{Entry}

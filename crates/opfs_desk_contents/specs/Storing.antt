@@ -9,7 +9,7 @@ use Rattle.opfs_blocks.specs.Sets.{blocks_of}
 use Rattle.opfs_book_calls.specs.Spelled.{bytes_stored, spelled_by, CanHold}
 use Rattle.opfs_book_laws.specs.Books.{Fixed, AreBooks}
 use Rattle.opfs_book_laws.specs.Laws.{LeavesPages, failed}
-use Rattle.opfs_changes.specs.Changed.{tree_by}
+use Rattle.opfs_state_rows.specs.Changes.Changed.{tree_by}
 use Rattle.opfs_codec.specs.Spelling.{AreExtents}
 use Rattle.opfs_codec.specs.declared.change.Change.{Change as Spelled}
 use Rattle.opfs_codec.specs.declared.change.Change.TheVariants.{Content}

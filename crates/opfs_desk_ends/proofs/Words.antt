@@ -8,9 +8,9 @@ use Rattle.opfs_acts.specs.declared.acted.Gift.TheVariants as gift
 use Rattle.opfs_base.specs.Places.{Place}
 use Rattle.opfs_base.specs.Texts.{Text}
 use Rattle.opfs_book_calls.specs.Spelled.{flush_spelled, handle_spelled, spelled_by}
-use Rattle.opfs_changes.specs.Allowed.{IsSized}
-use Rattle.opfs_changes.specs.Asking.{made_at}
-use Rattle.opfs_changes.specs.Changed.{aborted_by, changed_by, ended_by, flushed_in, tree_by}
+use Rattle.opfs_state_rows.specs.Changes.Allowed.{IsSized}
+use Rattle.opfs_state_rows.specs.Changes.Asking.{made_at}
+use Rattle.opfs_state_rows.specs.Changes.Changed.{aborted_by, changed_by, ended_by, flushed_in, tree_by}
 use Rattle.opfs_desk_laws.specs.Hands.{row_in_hand}
 use Rattle.opfs_desk_laws.specs.Laws.{TreesKeepBlocks}
 use Rattle.opfs_desk_laws.specs.Open.{if_open, open_at}
@@ -47,9 +47,9 @@ use Rattle.opfs_machine.specs.Rulings.{is_read_write, ruling, stream_ruling}
 use Rattle.opfs_machine.specs.Steps.{after_reply, judged}
 use Rattle.opfs_machine.specs.Sums.{no_need}
 use Rattle.opfs_space.specs.Files.{file_has}
-use Rattle.opfs_standing.specs.Contents.{undone_row}
-use Rattle.opfs_standing.specs.Noted.{with_sum}
-use Rattle.opfs_standing.specs.Seen.{Machine}
+use Rattle.opfs_state_rows.specs.Standing.Contents.{undone_row}
+use Rattle.opfs_state_rows.specs.Standing.Noted.{with_sum}
+use Rattle.opfs_state_rows.specs.Standing.Seen.{Machine}
 use Rattle.opfs_state_laws.proofs.Readying.{agent-noted, handle-noted}
 use Rattle.opfs_tree.specs.Rows.{Rows as Tree, file_at as tree_file_at, unlocked}
 use Rattle.opfs_tree.specs.declared.row.FileRow.{FileRow}

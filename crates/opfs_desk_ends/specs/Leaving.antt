@@ -1,6 +1,6 @@
 -- Calls that end an open row and store nothing: abort, discard, and the close of a read-only access handle. This project's own.
 use Rattle.std.specs.Prelude.{ℕ, Bool, true, false, not, Option, Some, None}
-use Rattle.opfs_changes.specs.Changed.{tree_by}
+use Rattle.opfs_state_rows.specs.Changes.Changed.{tree_by}
 use Rattle.opfs_hist.specs.declared.op.Op.{Op}
 use Rattle.opfs_hist.specs.declared.op.Op.TheVariants as op
 use Rattle.opfs_machine.specs.declared.own.HandleOutline.{HandleOutline}
@@ -8,7 +8,7 @@ use Rattle.opfs_machine.specs.declared.state.Sizes.{Sizes}
 use Rattle.opfs_machine.specs.Agents.{open_handle}
 use Rattle.opfs_machine.specs.Contents.{in_lengths}
 use Rattle.opfs_machine.specs.Rulings.{is_read_write}
-use Rattle.opfs_standing.specs.Seen.{Machine}
+use Rattle.opfs_state_rows.specs.Standing.Seen.{Machine}
 use Rattle.opfs_tree.specs.Rows.{IsInOrder}
 use Rattle.opfs_desk_parts.specs.Seen.{machine_in, tree_in}
 use Rattle.opfs_desk_parts.specs.declared.parts.Ledger.{Ledger}

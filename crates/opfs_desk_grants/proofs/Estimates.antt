@@ -13,7 +13,7 @@ use Rattle.opfs_base.proofs.UnitLemmas.{origin_of-plain, plain-from_is_origin}
 use Rattle.opfs_book_laws.specs.Books.{Fixed}
 use Rattle.opfs_book_laws.specs.Commits.{StateLaws}
 use Rattle.opfs_book_laws.specs.Laws.{BooksKeepTheState}
-use Rattle.opfs_changes.specs.Asking.{growth_of, made_at}
+use Rattle.opfs_state_rows.specs.Changes.Asking.{growth_of, made_at}
 use Rattle.opfs_codec.specs.Spelling.{is_key_text}
 use Rattle.opfs_hist.specs.declared.history.PendingSum.{PendingSum}
 use Rattle.opfs_hist.specs.declared.op.Op.{Op}
@@ -39,9 +39,9 @@ use Rattle.opfs_machine.specs.Sums.{row_reserve, usage}
 use Rattle.opfs_outside.specs.declared.disk.Disk.{Ghosts as DiskWords}
 use Rattle.opfs_records.specs.Replay.Built.{Built}
 use Rattle.opfs_register.specs.Seating.{noted}
-use Rattle.opfs_standing.proofs.AgentMoves.{own-set}
-use Rattle.opfs_standing.specs.Noted.{with_sum}
-use Rattle.opfs_standing.specs.Seen.{Machine}
+use Rattle.opfs_state_rows.proofs.standing.AgentMoves.{own-set}
+use Rattle.opfs_state_rows.specs.Standing.Noted.{with_sum}
+use Rattle.opfs_state_rows.specs.Standing.Seen.{Machine}
 use Rattle.opfs_verdicts.specs.Callers.{IsAgent}
 use Rattle.opfs_desk_parts.specs.Held.{AreHeldWhole}
 use Rattle.opfs_desk_parts.specs.Seen.{machine_in, book_in}

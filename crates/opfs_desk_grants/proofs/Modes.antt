@@ -6,9 +6,9 @@ use Rattle.opfs_acts.specs.Acting.{gift_of}
 use Rattle.opfs_base.specs.Texts.{Text}
 use Rattle.opfs_base.specs.Units.{is_bucket_name, unit_of}
 use Rattle.opfs_book_calls.specs.Spelled.{mode_spelled, spelled_by}
-use Rattle.opfs_changes.specs.Allowed.{IsSized}
-use Rattle.opfs_changes.specs.Asking.{made_at}
-use Rattle.opfs_changes.specs.Changed.{tree_by}
+use Rattle.opfs_state_rows.specs.Changes.Allowed.{IsSized}
+use Rattle.opfs_state_rows.specs.Changes.Asking.{made_at}
+use Rattle.opfs_state_rows.specs.Changes.Changed.{tree_by}
 use Rattle.opfs_codec.specs.Spelling.{IsChange, IsKey}
 use Rattle.opfs_codec.specs.declared.change.Change.TheVariants.{Persist}
 use Rattle.opfs_codec.specs.declared.change.Format.TheVariants.{New}
@@ -28,7 +28,7 @@ use Rattle.opfs_machine.specs.Histories.{is_disk_op}
 use Rattle.opfs_machine.specs.Replies.{answer, origin_in}
 use Rattle.opfs_machine.specs.Rulings.{persist_ruling, ruling}
 use Rattle.opfs_machine.specs.Sums.{is_persistent}
-use Rattle.opfs_standing.specs.Seen.{Machine}
+use Rattle.opfs_state_rows.specs.Standing.Seen.{Machine}
 use Rattle.opfs_tree.specs.Rows.{Rows as Tree}
 use Rattle.opfs_desk_kept.specs.Keeping.{HasOwnKey}
 use Rattle.opfs_desk_kept.specs.Words.{IsQuietCall}

@@ -8,7 +8,7 @@ use Rattle.opfs_machine.specs.Agents.{agent_of}
 use Rattle.opfs_machine.specs.Contents.{in_lengths}
 use Rattle.opfs_machine.specs.Replies.{block_bytes, origin_in}
 use Rattle.opfs_machine.specs.Sums.{usage}
-use Rattle.opfs_standing.specs.Seen.{Machine}
+use Rattle.opfs_state_rows.specs.Standing.Seen.{Machine}
 
 abbrev pub is_estimate : Op → Bool
 is_estimate op.Estimate = true

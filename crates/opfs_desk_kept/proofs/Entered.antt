@@ -6,7 +6,7 @@ use Rattle.opfs_book_laws.specs.Laws.{BooksShowTheirImages, LeavesPages, ShowsTo
 use Rattle.opfs_book_calls.specs.Spelled.{bytes_stored}
 use Rattle.opfs_books.specs.Seen.{BytesStand, stored_change}
 use Rattle.opfs_books.proofs.Calls.{quiet-told}
-use Rattle.opfs_changes.specs.Changed.{tree_by}
+use Rattle.opfs_state_rows.specs.Changes.Changed.{tree_by}
 use Rattle.opfs_codec.specs.declared.change.Change.{Change as Spelled}
 use Rattle.opfs_commit.specs.Making.{new_bytes}
 use Rattle.opfs_commit.specs.Seen.{KeptBack, with_kept, IsQuiet}

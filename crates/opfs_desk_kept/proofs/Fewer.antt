@@ -8,9 +8,9 @@ use Rattle.opfs_base.specs.Texts.{Text}
 use Rattle.opfs_base.specs.Units.{unit_of}
 use Rattle.opfs_base.specs.declared.locator.Kind.{Kind}
 use Rattle.opfs_base.specs.declared.locator.Kind.TheVariants as kind
-use Rattle.opfs_changes.specs.Asking.{made_at, where_free, root_in}
-use Rattle.opfs_changes.specs.Asking.{free_in as free_of}
-use Rattle.opfs_changes.specs.Changed.{tree_by, grown_by}
+use Rattle.opfs_state_rows.specs.Changes.Asking.{made_at, where_free, root_in}
+use Rattle.opfs_state_rows.specs.Changes.Asking.{free_in as free_of}
+use Rattle.opfs_state_rows.specs.Changes.Changed.{tree_by, grown_by}
 use Rattle.opfs_data.specs.Rows.{Rows}
 use Rattle.opfs_desk_laws.specs.Laws.{BlocksGoOn}
 use Rattle.opfs_desk_laws.specs.Open.{if_open, open_at, file_in}
@@ -38,8 +38,8 @@ use Rattle.opfs_space.specs.Files.{file_has}
 use Rattle.opfs_space.specs.Room.{Machine}
 use Rattle.opfs_space.specs.Spaces.{SpaceSeen}
 use Rattle.opfs_space.proofs.FileBlocks.{has_named, named_has, less_has, stays_has}
-use Rattle.opfs_standing.specs.Seen.{lines_of}
-use Rattle.opfs_standing.proofs.Lines.{there-at}
+use Rattle.opfs_state_rows.specs.Standing.Seen.{lines_of}
+use Rattle.opfs_state_rows.proofs.standing.Lines.{there-at}
 use Rattle.opfs_tree.specs.Rows.{Rows as Tree, IsInOrder, row_at, extents_of, without}
 use Rattle.opfs_desk_ways.proofs.Evictions.{stored-named, recorded-has}
 use Rattle.opfs_desk_kept.specs.Keeping.{makes_root, keeps_back}

@@ -11,8 +11,8 @@ use Rattle.opfs_laws.proofs.Spots.{exact_places}
 use Rattle.opfs_machine.specs.Agents.{agent_of}
 use Rattle.opfs_machine.specs.Rows.{row_at as machine_row}
 use Rattle.opfs_space.specs.Room.{Machine}
-use Rattle.opfs_standing.specs.Seen.{lines_of}
-use Rattle.opfs_standing.proofs.Lines.{there-at}
+use Rattle.opfs_state_rows.specs.Standing.Seen.{lines_of}
+use Rattle.opfs_state_rows.proofs.standing.Lines.{there-at}
 use Rattle.opfs_tree.specs.Rows.{Rows as Tree, row_at, without}
 use Rattle.opfs_tree.specs.declared.row.Row.{Row}
 use Rattle.opfs_desk_ways.specs.Clearing.{cleared_from}

@@ -21,8 +21,8 @@ use Rattle.opfs_base.specs.declared.locator.Kind.TheVariants as kind
 use Rattle.opfs_base.specs.declared.locator.Locator.{Locator}
 use Rattle.opfs_book_calls.specs.Spelled.{spelled_by, made_spelled, dir_spelled, CanHold}
 use Rattle.opfs_book_calls.proofs.Ruling.{MayMake, may-make, may-remove}
-use Rattle.opfs_changes.specs.Asking.{made_at, where_free, free_in, root_in}
-use Rattle.opfs_changes.proofs.Told.{located-directory}
+use Rattle.opfs_state_rows.specs.Changes.Asking.{made_at, where_free, free_in, root_in}
+use Rattle.opfs_state_rows.proofs.changes.Told.{located-directory}
 use Rattle.opfs_codec.specs.Spelling.{IsText, is_key_text, is_origin_text, IsKey, IsName, IsPath, IsChange}
 use Rattle.opfs_codec.specs.declared.change.Change.{Change as Spelled}
 use Rattle.opfs_codec.specs.declared.change.Change.TheVariants.{MakeRoot, MakeDir}
@@ -47,7 +47,7 @@ use Rattle.opfs_machine.specs.Steps.{judged, room_for}
 use Rattle.opfs_records.specs.Replay.Built.{Built}
 use Rattle.opfs_records.specs.Checkpoint.Written.{IsWritablePlace, IsWritableRow, stored_row, stored_rows}
 use Rattle.opfs_space.specs.Room.{Machine}
-use Rattle.opfs_standing.specs.Seen.{line_of, lines_of}
+use Rattle.opfs_state_rows.specs.Standing.Seen.{line_of, lines_of}
 use Rattle.opfs_tree.specs.Rows.{Rows as Tree}
 use Rattle.opfs_tree.specs.declared.row.Row.{Row}
 use Rattle.opfs_tree.specs.declared.row.Row.TheVariants as row

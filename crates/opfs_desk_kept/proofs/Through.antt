@@ -8,7 +8,7 @@ use Rattle.opfs_book_calls.specs.Spelled.{spelled_by}
 use Rattle.opfs_book_laws.specs.Books.{Fixed}
 use Rattle.opfs_book_laws.specs.Laws.{BooksKeepTheState, failed}
 use Rattle.opfs_book_laws.proofs.Told.{next-state, next-reply}
-use Rattle.opfs_changes.specs.Changed.{tree_by}
+use Rattle.opfs_state_rows.specs.Changes.Changed.{tree_by}
 use Rattle.opfs_codec.specs.declared.change.Change.{Change as Spelled}
 use Rattle.opfs_desk_laws.specs.Laws.{BlocksGoOn}
 use Rattle.opfs_hist.specs.Faults.{is_disk_fault}

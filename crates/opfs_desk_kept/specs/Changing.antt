@@ -4,7 +4,7 @@ use Rattle.opfs_base.specs.Texts.{Text}
 use Rattle.opfs_book_laws.specs.Books.{Fixed, AreBooks}
 use Rattle.opfs_book_laws.specs.Laws.{ShowsTold, told, failed}
 use Rattle.opfs_books.specs.Seen.{stored_change}
-use Rattle.opfs_changes.specs.Changed.{tree_by}
+use Rattle.opfs_state_rows.specs.Changes.Changed.{tree_by}
 use Rattle.opfs_codec.specs.declared.change.Change.{Change as Spelled}
 use Rattle.opfs_desk_laws.specs.Putting.{AllReadAlike}
 use Rattle.opfs_hist.specs.declared.entry.Entry.{Entry}

@@ -3,7 +3,7 @@ use Rattle.std.specs.Prelude.{◌≡◌, ℕ, false, None, IsTrue}
 use Rattle.opfs_acts.specs.Acting.{brings_position, gift_of, row_left}
 use Rattle.opfs_acts.specs.declared.acted.Gift.TheVariants as gift
 use Rattle.opfs_base.specs.Texts.{Text}
-use Rattle.opfs_changes.specs.Allowed.{IsSized}
+use Rattle.opfs_state_rows.specs.Changes.Allowed.{IsSized}
 use Rattle.opfs_desk_laws.specs.Hands.{row_in_hand}
 use Rattle.opfs_hist.specs.declared.op.Op.{Op}
 use Rattle.opfs_hist.specs.declared.reply.Reply.{Reply}
@@ -14,7 +14,7 @@ use Rattle.opfs_machine.specs.Contents.{in_bytes, in_lengths}
 use Rattle.opfs_machine.specs.Effects.{effect, refused}
 use Rattle.opfs_machine.specs.Histories.{evicted_by, is_disk_op}
 use Rattle.opfs_machine.specs.Steps.{is_refusal}
-use Rattle.opfs_standing.specs.Seen.{Machine}
+use Rattle.opfs_state_rows.specs.Standing.Seen.{Machine}
 
 -- An agent's call with its answer, in whatever state it is made: the disk may fail in it, it asks nothing of the sizes, gives
 -- nothing, has no row in hand and leaves none open, and leaves all agents and the limits as they are.

@@ -5,7 +5,7 @@ ghost use Rattle.opfs_base.specs.Texts.{Text};
 ghost use Rattle.opfs_book_calls.specs.Spelled.{spelled_by};
 ghost use Rattle.opfs_book_laws.specs.Books.{Fixed, AreBooks};
 ghost use Rattle.opfs_books.specs.Seen.{MayStore};
-ghost use Rattle.opfs_changes.specs.Changed.{tree_by};
+ghost use Rattle.opfs_state_rows.specs.Changes.Changed.{tree_by};
 ghost use Rattle.opfs_codec.specs.Fields.{plain, Fits};
 ghost use Rattle.opfs_commit.specs.Seen.{with_kept, IsQuiet};
 ghost use Rattle.opfs_desk_kept.specs.Changing.{HasChanged, HasNotChanged};

@@ -16,8 +16,8 @@ use Rattle.opfs_machine.specs.Contents.{in_bytes, outline_of}
 use Rattle.opfs_machine.specs.Replies.{bytes_in, bytes_at}
 use Rattle.opfs_machine.specs.Rows.{file_at as file_of_state, file_of}
 use Rattle.opfs_machine.specs.Rulings.{size_in}
-use Rattle.opfs_standing.proofs.Lines.{file-at, file_line}
-use Rattle.opfs_standing.specs.Seen.{Machine, lines_of}
+use Rattle.opfs_state_rows.proofs.standing.Lines.{file-at, file_line}
+use Rattle.opfs_state_rows.specs.Standing.Seen.{Machine, lines_of}
 use Rattle.opfs_tree.specs.declared.row.FileRow.{FileRow}
 use Rattle.opfs_tree.specs.declared.row.Row.{Row}
 use Rattle.opfs_tree.specs.Rows.{Rows as Tree, file_at, row_at}

@@ -7,8 +7,8 @@ use Rattle.opfs_base.specs.Places.{Place, place_of}
 use Rattle.opfs_base.specs.Texts.{Text}
 use Rattle.opfs_base.specs.declared.locator.Locator.{Locator}
 use Rattle.opfs_book_calls.specs.Spelled.{spelled_by}
-use Rattle.opfs_changes.specs.Allowed.{IsSized}
-use Rattle.opfs_changes.specs.Asking.{made_at}
+use Rattle.opfs_state_rows.specs.Changes.Allowed.{IsSized}
+use Rattle.opfs_state_rows.specs.Changes.Asking.{made_at}
 use Rattle.opfs_hist.specs.declared.op.Op.{Op}
 use Rattle.opfs_hist.specs.declared.op.Op.TheVariants as op
 use Rattle.opfs_hist.specs.declared.reply.Reply.TheVariants as reply
@@ -20,7 +20,7 @@ use Rattle.opfs_machine.specs.Histories.{is_disk_op, is_of_origin, may_enter}
 use Rattle.opfs_machine.specs.Replies.{answer}
 use Rattle.opfs_machine.specs.Victims.{is_callers}
 use Rattle.opfs_space.specs.Files.{extents_in}
-use Rattle.opfs_standing.specs.Seen.{Machine}
+use Rattle.opfs_state_rows.specs.Standing.Seen.{Machine}
 use Rattle.opfs_tree.specs.Rows.{Rows as Tree, row_at}
 use Rattle.opfs_desk_rows.specs.Opens.{opens_row, opened_extents}
 

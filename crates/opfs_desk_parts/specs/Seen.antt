@@ -6,7 +6,7 @@ use Rattle.opfs_books.specs.Seen.{book}
 use Rattle.opfs_desk_laws.specs.Spaced.{Shelf}
 use Rattle.opfs_machine.specs.Runs.{Call}
 use Rattle.opfs_row_puts.specs.Plans.{shelf}
-use Rattle.opfs_standing.specs.Seen.{Machine}
+use Rattle.opfs_state_rows.specs.Standing.Seen.{Machine}
 use Rattle.opfs_tree.specs.Rows.{Rows as Tree}
 use Rattle.opfs_desk_parts.specs.declared.call.Clearing.{Clearing}
 use Rattle.opfs_desk_parts.specs.declared.call.InHand.{InHand}

@@ -10,8 +10,8 @@ use Rattle.opfs_base.specs.Texts.{Text, same_text}
 use Rattle.opfs_base.specs.declared.locator.Kind.{Kind}
 use Rattle.opfs_laws.proofs.Spots.{place_apart, place_itself}
 use Rattle.opfs_machine.specs.Contents.{next_of}
-use Rattle.opfs_standing.specs.Seen.{lines_of}
-use Rattle.opfs_standing.proofs.Units.{same_unit, unit_itself}
+use Rattle.opfs_state_rows.specs.Standing.Seen.{lines_of}
+use Rattle.opfs_state_rows.proofs.standing.Units.{same_unit, unit_itself}
 use Rattle.opfs_tree.specs.Rows.{Rows as Tree, children_of, kind_of, least_above, least_not_in}
 use Rattle.opfs_tree.specs.declared.row.Row.{Row}
 use Rattle.opfs_iterating.specs.Reached.{AreGivenUpTo}

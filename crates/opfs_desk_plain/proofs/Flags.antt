@@ -24,8 +24,8 @@ use Rattle.opfs_machine.specs.Ruled.{Ruled, ◌>>=◌}
 use Rattle.opfs_machine.specs.Rulings.{persist_ruling, persisted_ruling, ruling}
 use Rattle.opfs_machine.specs.Steps.{judged, room_for}
 use Rattle.opfs_machine.specs.Sums.{is_persistent}
-use Rattle.opfs_standing.specs.Noted.{with_sum}
-use Rattle.opfs_standing.specs.Seen.{Machine}
+use Rattle.opfs_state_rows.specs.Standing.Noted.{with_sum}
+use Rattle.opfs_state_rows.specs.Standing.Seen.{Machine}
 use Rattle.opfs_state_laws.proofs.Readying.{agent-noted}
 use Rattle.opfs_verdicts.specs.Callers.{IsAgent}
 use Rattle.opfs_desk_plain.specs.Telling.{is_of_mode, mode_answer}

@@ -9,7 +9,7 @@ use Rattle.opfs_base.specs.Places.{Place, child, child_name, place_cmp, place_of
 use Rattle.opfs_base.specs.Texts.{Text}
 use Rattle.opfs_base.specs.declared.locator.Kind.{Kind}
 use Rattle.opfs_base.specs.declared.locator.Locator.{Locator}
-use Rattle.opfs_changes.specs.Asking.{growth_of, made_at, place_for}
+use Rattle.opfs_state_rows.specs.Changes.Asking.{growth_of, made_at, place_for}
 use Rattle.opfs_hist.specs.declared.op.Op.{Op}
 use Rattle.opfs_hist.specs.declared.op.Op.TheVariants as op
 use Rattle.opfs_hist.specs.declared.reply.Reply.{Reply}
@@ -26,8 +26,8 @@ use Rattle.opfs_machine.specs.Contents.{next_of, outline_of}
 use Rattle.opfs_machine.specs.Replies.{answer, child_reply, given_in, kind_in}
 use Rattle.opfs_machine.specs.Rows.{row_at, children_of}
 use Rattle.opfs_machine.specs.Steps.{is_refusal}
-use Rattle.opfs_standing.specs.Seen.{Machine, line_of, lines_of}
-use Rattle.opfs_standing.proofs.Lines.{lines-at}
+use Rattle.opfs_state_rows.specs.Standing.Seen.{Machine, line_of, lines_of}
+use Rattle.opfs_state_rows.proofs.standing.Lines.{lines-at}
 use Rattle.opfs_tree.specs.Rows.{Rows as Tree, least_not_in, kind_of, row_at as tree_row_at, children_of as tree_children}
 use Rattle.opfs_tree.specs.declared.row.Row.{Row}
 use Rattle.opfs_tree.specs.declared.row.Row.TheVariants as row

@@ -7,7 +7,7 @@ use Rattle.opfs_base.specs.Texts.{Text}
 use Rattle.opfs_book_laws.specs.Books.{Fixed}
 use Rattle.opfs_book_laws.specs.Laws.{BooksShowTheirImages}
 use Rattle.opfs_book_laws.proofs.Told.{next-state, next-reply}
-use Rattle.opfs_changes.specs.Allowed.{IsSized}
+use Rattle.opfs_state_rows.specs.Changes.Allowed.{IsSized}
 use Rattle.opfs_data.specs.Pages.{page_of, blank}
 use Rattle.opfs_data.specs.Rows.{no_row}
 use Rattle.opfs_desk_laws.specs.Laid.{AreLaid}

@@ -12,9 +12,9 @@ use Rattle.opfs_base.specs.declared.locator.Kind.{Kind}
 use Rattle.opfs_base.specs.declared.locator.Kind.TheVariants as kind
 use Rattle.opfs_base.specs.declared.locator.Locator.{Locator}
 use Rattle.opfs_book_calls.specs.Spelled.{spelled_by, made_spelled, mode_spelled}
-use Rattle.opfs_changes.specs.Allowed.{IsSized}
-use Rattle.opfs_changes.specs.Asking.{bucket_unit, free_in, growth_of, made_at, mode_growth, place_for, root_in, root_place, row_growth, target_of, where_free}
-use Rattle.opfs_changes.specs.Changed.{tree_by, grown_by}
+use Rattle.opfs_state_rows.specs.Changes.Allowed.{IsSized}
+use Rattle.opfs_state_rows.specs.Changes.Asking.{bucket_unit, free_in, growth_of, made_at, mode_growth, place_for, root_in, root_place, row_growth, target_of, where_free}
+use Rattle.opfs_state_rows.specs.Changes.Changed.{tree_by, grown_by}
 use Rattle.opfs_codec.specs.declared.change.Change.TheVariants.{Persist}
 use Rattle.opfs_hist.specs.declared.op.Op.{Op}
 use Rattle.opfs_hist.specs.declared.op.Op.TheVariants as op
@@ -44,7 +44,7 @@ use Rattle.opfs_machine.specs.Rulings.{child_ruling, estimate_ruling, await_ruli
 use Rattle.opfs_machine.specs.Steps.{judged, room_for}
 use Rattle.opfs_machine.specs.Sums.{charges, is_persistent, no_need}
 use Rattle.opfs_register.proofs.KeptRows.{set-same}
-use Rattle.opfs_standing.specs.Seen.{Machine}
+use Rattle.opfs_state_rows.specs.Standing.Seen.{Machine}
 use Rattle.opfs_tree.specs.Rows.{Rows as Tree}
 use Rattle.opfs_desk_laws.specs.Hands.{row_in_hand}
 use Rattle.opfs_desk_laws.specs.Open.{if_open, open_at}

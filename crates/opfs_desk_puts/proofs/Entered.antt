@@ -3,7 +3,7 @@ use Rattle.std.proofs.Common.{◌≡◌, ◌+◌, ◌<◌, ◌≤◌, ◌^◌, L
 use Rattle.opfs_base.specs.Texts.{Text}
 use Rattle.opfs_book_laws.specs.Books.{Fixed, AreBooksAt, AreCounted, IsPlaced}
 use Rattle.opfs_book_laws.specs.Laws.{FaultsAreCounted, ShowsTold, failed, told}
-use Rattle.opfs_changes.specs.Allowed.{IsSized, MayApply}
+use Rattle.opfs_state_rows.specs.Changes.Allowed.{IsSized, MayApply}
 use Rattle.opfs_hist.specs.Faults.{disk_faults}
 use Rattle.opfs_hist.specs.declared.entry.Entry.{Entry}
 use Rattle.opfs_journal.specs.Seen.{Seen}

@@ -26,7 +26,7 @@ use Rattle.opfs_row_puts.specs.Plans.{shelf, AreGotten, HaveBlocks, KnowsOwn, Ma
 use Rattle.opfs_space.specs.Holders.{AreAllBelow, AreBlocks, HasPage}
 use Rattle.opfs_space.specs.Room.{Machine}
 use Rattle.opfs_space.specs.Spaces.{SpaceSeen}
-use Rattle.opfs_standing.specs.Seen.{lines_of}
+use Rattle.opfs_state_rows.specs.Standing.Seen.{lines_of}
 use Rattle.opfs_state.specs.Applied.{StateSeen}
 use Rattle.opfs_tree.specs.Rows.{Rows as Tree}
 use Rattle.opfs_desk_parts.specs.Held.{AreHeldAt}

@@ -9,9 +9,9 @@ use Rattle.opfs_book_calls.specs.Laws.{CallsAreSpelled}
 use Rattle.opfs_book_laws.specs.Books.{Fixed}
 use Rattle.opfs_book_laws.proofs.Told.{next-state, next-reply}
 use Rattle.opfs_books.specs.declared.books.Books.{Books}
-use Rattle.opfs_changes.specs.Allowed.{MayApply}
-use Rattle.opfs_changes.specs.Asking.{made_at}
-use Rattle.opfs_changes.specs.Changed.{tree_by, overwritten_by}
+use Rattle.opfs_state_rows.specs.Changes.Allowed.{MayApply}
+use Rattle.opfs_state_rows.specs.Changes.Asking.{made_at}
+use Rattle.opfs_state_rows.specs.Changes.Changed.{tree_by, overwritten_by}
 use Rattle.opfs_data.specs.declared.page.Page.{Page}
 use Rattle.opfs_data.specs.Pages.{page_of}
 use Rattle.opfs_data.specs.Rows.{Rows, page_at}

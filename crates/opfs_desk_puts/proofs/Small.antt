@@ -4,7 +4,7 @@ use Rattle.opfs_base.specs.Texts.{Text}
 use Rattle.opfs_book_laws.specs.Books.{Fixed, IsToldAt}
 use Rattle.opfs_book_laws.specs.Laws.{BooksShowTheirImages, told}
 use Rattle.opfs_book_laws.proofs.Told.{whole-told, told-whole}
-use Rattle.opfs_changes.specs.Allowed.{MayApply}
+use Rattle.opfs_state_rows.specs.Changes.Allowed.{MayApply}
 use Rattle.opfs_hist.specs.declared.entry.Entry.{Entry}
 use Rattle.opfs_laws.specs.Histories.Unread.{IsTold, ReadsLeaveTheState}
 use Rattle.opfs_laws.proofs.histories.Reading.{pending-told, told-more, unread-state}

@@ -31,8 +31,8 @@ use Rattle.opfs_space.specs.Holders.{HasPage, AreBlocks}
 use Rattle.opfs_space.specs.Room.{Machine}
 use Rattle.opfs_space.specs.Spaces.{SpaceSeen}
 use Rattle.opfs_space.proofs.FileBlocks.{has_named}
-use Rattle.opfs_standing.specs.Seen.{lines_of}
-use Rattle.opfs_standing.proofs.Lines.{there-at}
+use Rattle.opfs_state_rows.specs.Standing.Seen.{lines_of}
+use Rattle.opfs_state_rows.proofs.standing.Lines.{there-at}
 use Rattle.opfs_tree.specs.declared.row.Row.{Row}
 use Rattle.opfs_tree.specs.Rows.{Rows as Tree, row_at, without}
 use Rattle.opfs_desk_laws.specs.Open.{if_open, open_at, file_in}

@@ -6,9 +6,9 @@ use Rattle.opfs_acts.specs.Acting.{gift_of, row_left}
 use Rattle.opfs_acts.specs.declared.acted.Gift.TheVariants as gift
 use Rattle.opfs_base.specs.Texts.{Text}
 use Rattle.opfs_book_calls.specs.Spelled.{spelled_by}
-use Rattle.opfs_changes.specs.Allowed.{IsSized}
-use Rattle.opfs_changes.specs.Asking.{made_at}
-use Rattle.opfs_changes.specs.Changed.{freed_in}
+use Rattle.opfs_state_rows.specs.Changes.Allowed.{IsSized}
+use Rattle.opfs_state_rows.specs.Changes.Asking.{made_at}
+use Rattle.opfs_state_rows.specs.Changes.Changed.{freed_in}
 use Rattle.opfs_desk_laws.specs.Hands.{row_in_hand}
 use Rattle.opfs_desk_rows.specs.Puts.{puts_row, size_put}
 use Rattle.opfs_desk_puts.specs.Words.{bytes_put, place_put, position_put, reply_put, writes_bytes}

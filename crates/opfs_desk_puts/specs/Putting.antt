@@ -15,7 +15,7 @@ use Rattle.opfs_puts.specs.declared.put.Put.{Put}
 use Rattle.opfs_records.specs.Replay.Built.{Built}
 use Rattle.opfs_row_puts.specs.Plans.{shelf, AreGotten, HaveBlocks}
 use Rattle.opfs_space.specs.Room.{Machine, HasRoom}
-use Rattle.opfs_standing.specs.Seen.{lines_of}
+use Rattle.opfs_state_rows.specs.Standing.Seen.{lines_of}
 use Rattle.opfs_desk_parts.specs.Held.{AreTied, AreHeldAt}
 use Rattle.opfs_desk_parts.specs.Seen.{machine_in, tree_in, book_in}
 use Rattle.opfs_desk_parts.specs.declared.parts.Ledger.{Ledger}

@@ -8,7 +8,7 @@ use Rattle.opfs_data.specs.Pages.{RowSeen}
 use Rattle.opfs_data.proofs.Behind.{found_first}
 use Rattle.opfs_data.specs.Rows.{Rows, row_at, row_cmp, row_of, rows_behind}
 use Rattle.opfs_desk_reads.specs.Files.{has_writer, is_writer}
-use Rattle.opfs_standing.specs.Seen.{Machine}
+use Rattle.opfs_state_rows.specs.Standing.Seen.{Machine}
 
 -- The row that comes next and those behind it; none where none comes.
 abbrev pub rest_rows : Option (ℕ × ℕ × ℕ) → Rows → Rows

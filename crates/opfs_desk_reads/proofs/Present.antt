@@ -9,7 +9,7 @@ use Rattle.opfs_base.specs.Texts.{Text}
 use Rattle.opfs_base.specs.declared.extents.Extent.{Extent}
 use Rattle.opfs_book_laws.specs.Books.{Fixed}
 use Rattle.opfs_book_laws.specs.Commits.{StateLaws}
-use Rattle.opfs_changes.proofs.Twice.{machine-file}
+use Rattle.opfs_state_rows.proofs.changes.Twice.{machine-file}
 use Rattle.opfs_data.specs.Pages.{page_of}
 use Rattle.opfs_data.specs.Places.{bytes_of, room_of}
 use Rattle.opfs_data.specs.Rows.{Rows, page_at, pages_at, row_of}
@@ -60,8 +60,8 @@ use Rattle.opfs_machine.specs.Rulings.{lock_in}
 use Rattle.opfs_outside.specs.declared.disk.Disk.{Ghosts as DiskWords}
 use Rattle.opfs_pages.specs.Copies.{IsBegun}
 use Rattle.opfs_records.specs.Replay.Built.{Built}
-use Rattle.opfs_standing.specs.Seen.{Machine, lines_of}
-use Rattle.opfs_standing.proofs.Lines.{file_line}
+use Rattle.opfs_state_rows.specs.Standing.Seen.{Machine, lines_of}
+use Rattle.opfs_state_rows.proofs.standing.Lines.{file_line}
 use Rattle.opfs_laws.specs.Steady.Steady.{is_steady, open_bytes}
 use Rattle.opfs_tree.specs.Rows.{file_at as file_in_tree}
 use Rattle.opfs_tree.specs.declared.row.FileRow.{FileRow}

@@ -15,8 +15,8 @@ use Rattle.opfs_machine.specs.declared.state.Row.TheVariants as row
 use Rattle.opfs_machine.specs.Contents.{in_lengths}
 use Rattle.opfs_machine.specs.Rows.{Rows, file_at, file_of, row_at}
 use Rattle.opfs_machine.specs.Sums.{present_blocks}
-use Rattle.opfs_standing.proofs.Units.{unit_itself}
-use Rattle.opfs_standing.specs.Seen.{Machine}
+use Rattle.opfs_state_rows.proofs.standing.Units.{unit_itself}
+use Rattle.opfs_state_rows.specs.Standing.Seen.{Machine}
 
 -- A row that passes a test counts in the sum of those that do.
 module _ (g : Place × Row ℕ → ℕ) (test : Place × Row ℕ → Bool) where

@@ -7,9 +7,9 @@ use Rattle.opfs_acts.specs.declared.acted.Gift.TheVariants as gift
 use Rattle.opfs_base.specs.Places.{Place}
 use Rattle.opfs_base.specs.Texts.{Text}
 use Rattle.opfs_book_calls.specs.Spelled.{spelled_by}
-use Rattle.opfs_changes.specs.Allowed.{IsSized}
-use Rattle.opfs_changes.specs.Asking.{made_at}
-use Rattle.opfs_changes.specs.Changed.{tree_by}
+use Rattle.opfs_state_rows.specs.Changes.Allowed.{IsSized}
+use Rattle.opfs_state_rows.specs.Changes.Asking.{made_at}
+use Rattle.opfs_state_rows.specs.Changes.Changed.{tree_by}
 use Rattle.opfs_copies.specs.Copies.{IsCopyOf}
 use Rattle.opfs_desk_laws.specs.Hands.{row_in_hand}
 use Rattle.opfs_desk_laws.specs.RowsAfter.{IsDone}
@@ -37,7 +37,7 @@ use Rattle.opfs_machine.specs.Rulings.{start_of}
 use Rattle.opfs_machine.specs.Steps.{after_reply, changed_by, judged, step, outcome_of}
 use Rattle.opfs_machine.specs.Sums.{reserve_of}
 use Rattle.opfs_splice.specs.Splicing.{window}
-use Rattle.opfs_standing.specs.Seen.{Machine}
+use Rattle.opfs_state_rows.specs.Standing.Seen.{Machine}
 use Rattle.opfs_tree.specs.Rows.{Rows as Tree}
 use Rattle.opfs_work.specs.Works.{WorkingCopy}
 

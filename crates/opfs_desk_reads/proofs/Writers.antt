@@ -28,8 +28,8 @@ use Rattle.opfs_machine.specs.declared.state.State.{State}
 use Rattle.opfs_machine.specs.Agents.{agent_of, handle_in, nobody, of_row, own_of}
 use Rattle.opfs_machine.specs.Contents.{in_lengths, outline_of}
 use Rattle.opfs_machine.specs.Rulings.{want_of}
-use Rattle.opfs_standing.specs.Seen.{Machine}
-use Rattle.opfs_standing.proofs.Units.{same_unit, unit_itself}
+use Rattle.opfs_state_rows.specs.Standing.Seen.{Machine}
+use Rattle.opfs_state_rows.proofs.standing.Units.{same_unit, unit_itself}
 
 -- ---- places
 

@@ -15,7 +15,7 @@ use Rattle.opfs_machine.specs.declared.own.HandleOutline.{HandleOutline}
 use Rattle.opfs_machine.specs.Agents.{open_handle}
 use Rattle.opfs_machine.specs.Contents.{in_lengths}
 use Rattle.opfs_pages.specs.Copies.{IsBegun}
-use Rattle.opfs_standing.specs.Seen.{Machine}
+use Rattle.opfs_state_rows.specs.Standing.Seen.{Machine}
 use Rattle.opfs_tree.specs.declared.row.FileRow.{FileRow}
 use Rattle.opfs_verdicts.specs.Callers.{IsAgent}
 

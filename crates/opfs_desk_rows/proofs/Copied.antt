@@ -24,7 +24,7 @@ use Rattle.opfs_work.specs.Works.{WorkingCopy, IsStored, contents}
 use Rattle.opfs_laws.specs.Lengths.Bridge.{LengthsFollowEachCall, LocalCallsAreKnownByTheirWord}
 use Rattle.opfs_laws.specs.Lengths.Outlines.{in_lengths_of}
 use Rattle.opfs_machine.specs.Openings.{begun}
-use Rattle.opfs_standing.specs.Seen.{Machine}
+use Rattle.opfs_state_rows.specs.Standing.Seen.{Machine}
 use Rattle.std.proofs.lemmas.Bool.{false≢true}
 use Rattle.opfs_desk_rows.proofs.Inside.{lie-inside, lies-by}
 use Rattle.opfs_desk_rows.proofs.Staying.{pending-stays, open-with-bytes}

@@ -12,8 +12,8 @@ use Rattle.opfs_base.specs.declared.locator.Locator.{Locator}
 use Rattle.opfs_blocks.specs.Sets.{blocks_of}
 use Rattle.opfs_book_laws.specs.Books.{Fixed}
 use Rattle.opfs_book_laws.specs.Commits.{StateLaws}
-use Rattle.opfs_changes.proofs.Told.{IsGiven, writable-told, sync-told}
-use Rattle.opfs_changes.specs.Changed.{tree_by}
+use Rattle.opfs_state_rows.proofs.changes.Told.{IsGiven, writable-told, sync-told}
+use Rattle.opfs_state_rows.specs.Changes.Changed.{tree_by}
 use Rattle.opfs_data.specs.Places.{bytes_of, room_of}
 use Rattle.opfs_desk_laws.specs.Hands.{row_in_hand}
 use Rattle.opfs_desk_laws.specs.Laws.{TreesKeepBlocks}
@@ -55,7 +55,7 @@ use Rattle.opfs_row_puts.specs.Plans.{shelf}
 use Rattle.opfs_records.specs.Replay.Built.{Built, block_count, has_block, is_once, named, all_extents}
 use Rattle.opfs_records.specs.Checkpoint.Written.{stored_rows, stored_row}
 use Rattle.opfs_space.specs.Files.{extents_in, file_has}
-use Rattle.opfs_standing.specs.Seen.{Machine, lines_of}
+use Rattle.opfs_state_rows.specs.Standing.Seen.{Machine, lines_of}
 use Rattle.opfs_laws.specs.Steady.Steady.{open_bytes}
 use Rattle.opfs_tree.specs.declared.row.Row.{Row}
 use Rattle.opfs_tree.specs.declared.row.Row.TheVariants as row

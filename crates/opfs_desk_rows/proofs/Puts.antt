@@ -6,8 +6,8 @@ use Rattle.std.proofs.lemmas.List.Sums.{sum_by-cons}
 use Rattle.std.specs.List.{AllByRecursion}
 use Rattle.opfs_base.specs.Blocks.{blocks}
 use Rattle.opfs_blocks.specs.Sets.{blocks_of}
-use Rattle.opfs_changes.proofs.Told.{grown-told, written-told}
-use Rattle.opfs_changes.specs.Allowed.{MayApply}
+use Rattle.opfs_state_rows.proofs.changes.Told.{grown-told, written-told}
+use Rattle.opfs_state_rows.specs.Changes.Allowed.{MayApply}
 use Rattle.opfs_hist.specs.declared.op.Op.{Op}
 use Rattle.opfs_hist.specs.declared.op.Op.TheVariants as op
 use Rattle.opfs_laws.specs.Lengths.Kept.{Kept}
@@ -26,7 +26,7 @@ use Rattle.opfs_openings.proofs.Counted.{length-blocks, blocks-append}
 use Rattle.opfs_records.specs.Replay.Built.{IsSoundRow, named, all_extents}
 use Rattle.opfs_records.specs.Checkpoint.Written.{stored_row, stored_rows}
 use Rattle.opfs_space.specs.Room.{Machine}
-use Rattle.opfs_standing.specs.Seen.{line_of, lines_of}
+use Rattle.opfs_state_rows.specs.Standing.Seen.{line_of, lines_of}
 use Rattle.opfs_tree.specs.declared.row.Row.{Row}
 use Rattle.opfs_tree.specs.declared.row.Row.TheVariants as row
 use Rattle.opfs_tree.specs.Rows.{Rows as Tree, extents_of}

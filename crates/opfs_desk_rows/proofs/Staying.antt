@@ -25,7 +25,7 @@ use Rattle.opfs_machine.specs.Histories.{after_entry}
 use Rattle.opfs_machine.specs.Steps.{is_refusal}
 use Rattle.opfs_sharing.specs.Noting.{noted, AreNotes}
 use Rattle.opfs_sharing.proofs.Pending.{does, IsQuiet}
-use Rattle.opfs_standing.specs.Seen.{Machine}
+use Rattle.opfs_state_rows.specs.Standing.Seen.{Machine}
 use Rattle.opfs_laws.specs.Steady.Steady.{open_bytes}
 
 abbrev open_in : Agent Outline → ℕ → Option Outline

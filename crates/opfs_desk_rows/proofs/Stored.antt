@@ -37,8 +37,8 @@ use Rattle.opfs_machine.specs.Rows.{row_at as line_at}
 use Rattle.opfs_outside.specs.declared.disk.Disk.{Ghosts as DiskWords}
 use Rattle.opfs_records.specs.Replay.Built.{Built, IsSoundRow, IsSoundFile}
 use Rattle.opfs_records.specs.Checkpoint.Written.{stored_file, stored_row, stored_rows}
-use Rattle.opfs_standing.proofs.Lines.{file-at, file_line}
-use Rattle.opfs_standing.specs.Seen.{Machine}
+use Rattle.opfs_state_rows.proofs.standing.Lines.{file-at, file_line}
+use Rattle.opfs_state_rows.specs.Standing.Seen.{Machine}
 use Rattle.opfs_tree.specs.declared.row.FileRow.{FileRow}
 use Rattle.opfs_tree.specs.declared.row.Row.{Row}
 use Rattle.opfs_tree.specs.declared.row.Row.TheVariants as row

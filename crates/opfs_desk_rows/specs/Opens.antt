@@ -4,7 +4,7 @@ use Rattle.opfs_base.specs.Places.{Place, place_of}
 use Rattle.opfs_base.specs.Texts.{Text}
 use Rattle.opfs_base.specs.declared.extents.Extent.{Extent}
 use Rattle.opfs_book_laws.specs.Books.{Fixed}
-use Rattle.opfs_changes.specs.Changed.{tree_by}
+use Rattle.opfs_state_rows.specs.Changes.Changed.{tree_by}
 use Rattle.opfs_data.specs.Pages.{pages_in}
 use Rattle.opfs_data.specs.Rows.{row_of, pages_at, OthersStay}
 use Rattle.opfs_hist.specs.declared.entry.Entry.{Entry}
@@ -19,7 +19,7 @@ use Rattle.opfs_machine.specs.Steps.{evicted, is_refusal}
 use Rattle.opfs_outside.specs.declared.disk.Disk.{Ghosts as DiskWords}
 use Rattle.opfs_records.specs.Replay.Built.{Built}
 use Rattle.opfs_space.specs.Files.{extents_in}
-use Rattle.opfs_standing.specs.Seen.{lines_of}
+use Rattle.opfs_state_rows.specs.Standing.Seen.{lines_of}
 use Rattle.opfs_tree.specs.Rows.{Rows as Tree, row_at, IsInOrder}
 use Rattle.opfs_desk_parts.specs.Answered.{IsAnswered}
 use Rattle.opfs_desk_parts.specs.Held.{AreHeldAt}

@@ -1,7 +1,7 @@
 -- The calls that write or cut an open row have room for the blocks of its pages. This project's own.
 use Rattle.std.specs.Prelude.{◌≡◌, ℕ, ◌≤◌, Bool, true, false, length, sum_by}
 use Rattle.opfs_base.specs.Blocks.{blocks}
-use Rattle.opfs_changes.specs.Allowed.{MayApply}
+use Rattle.opfs_state_rows.specs.Changes.Allowed.{MayApply}
 use Rattle.opfs_hist.specs.declared.op.Op.{Op}
 use Rattle.opfs_hist.specs.declared.op.Op.TheVariants as op
 use Rattle.opfs_laws.specs.Lengths.Kept.{Kept}
@@ -13,7 +13,7 @@ use Rattle.opfs_machine.specs.Sums.{durable_blocks}
 use Rattle.opfs_records.specs.Replay.Built.{IsSound, named}
 use Rattle.opfs_records.specs.Checkpoint.Written.{stored_rows}
 use Rattle.opfs_space.specs.Room.{Machine, HasRoom}
-use Rattle.opfs_standing.specs.Seen.{lines_of}
+use Rattle.opfs_state_rows.specs.Standing.Seen.{lines_of}
 use Rattle.opfs_tree.specs.Rows.{Rows as Tree}
 
 -- A write, or a new size.

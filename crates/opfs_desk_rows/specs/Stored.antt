@@ -17,7 +17,7 @@ use Rattle.opfs_machine.specs.Rows.{file_at}
 use Rattle.opfs_outside.specs.declared.disk.Disk.{Ghosts as DiskWords}
 use Rattle.opfs_records.specs.Replay.Built.{Built, IsSoundFile}
 use Rattle.opfs_records.specs.Checkpoint.Written.{stored_file}
-use Rattle.opfs_standing.specs.Seen.{lines_of}
+use Rattle.opfs_state_rows.specs.Standing.Seen.{lines_of}
 use Rattle.opfs_tree.specs.declared.row.FileRow.{FileRow}
 use Rattle.opfs_tree.specs.Rows.{file_at as file_in_tree}
 use Rattle.opfs_desk_parts.specs.Held.{AreHeldAt, AreHeldWhole}

@@ -5,7 +5,7 @@ use Rattle.opfs_acts.specs.Acting.{told_entry}
 use Rattle.opfs_base.specs.Texts.{Text}
 use Rattle.opfs_book_laws.specs.Books.{Fixed, calls_of, is_eviction, IsNext}
 use Rattle.opfs_book_laws.proofs.Counting.{count-append, count-cons}
-use Rattle.opfs_changes.specs.Allowed.{MayApply}
+use Rattle.opfs_state_rows.specs.Changes.Allowed.{MayApply}
 use Rattle.opfs_hist.specs.declared.entry.Entry.{Entry}
 use Rattle.opfs_hist.specs.declared.reply.Reply.{Reply}
 use Rattle.opfs_laws.specs.Histories.Unread.{ReadsLeaveTheState, unread}
@@ -22,7 +22,7 @@ use Rattle.opfs_machine.specs.Replies.{answer, sizes_of}
 use Rattle.opfs_machine.specs.Runs.{eviction}
 use Rattle.opfs_machine.specs.Steps.{evicted, step, judged}
 use Rattle.opfs_outside.specs.declared.disk.Disk.{Ghosts as DiskWords}
-use Rattle.opfs_standing.specs.Seen.{Machine}
+use Rattle.opfs_state_rows.specs.Standing.Seen.{Machine}
 use Rattle.opfs_state_laws.specs.Room.{EvictionsMakeRoom, HasRoom}
 use Rattle.opfs_verdicts.specs.Callers.{IsAgent}
 use Rattle.opfs_desk_parts.specs.Seen.{machine_in, call_in, units_in}

@@ -24,8 +24,8 @@ use Rattle.opfs_machine.specs.Histories.{after_entry, state_after}
 use Rattle.opfs_machine.specs.Openings.{Opening, begun}
 use Rattle.opfs_sharing.specs.Noting.{noted}
 use Rattle.opfs_sharing.proofs.Pending.{sum-noted}
-use Rattle.opfs_standing.specs.Noted.{with_sum}
-use Rattle.opfs_standing.specs.Seen.{Machine}
+use Rattle.opfs_state_rows.specs.Standing.Noted.{with_sum}
+use Rattle.opfs_state_rows.specs.Standing.Seen.{Machine}
 use Rattle.opfs_state_laws.proofs.Readying.{agent-noted}
 use Rattle.opfs_verdicts.specs.Callers.{IsAgent}
 

@@ -2,7 +2,7 @@
 -- own.
 use Rattle.std.specs.Prelude.{◌≡◌, List, [], ◌∷◌, ◌++◌, fold, map, None}
 use Rattle.opfs_book_laws.specs.Books.{Fixed, AreBooks}
-use Rattle.opfs_changes.specs.Changed.{tree_by}
+use Rattle.opfs_state_rows.specs.Changes.Changed.{tree_by}
 use Rattle.opfs_hist.specs.declared.entry.Entry.{Entry}
 use Rattle.opfs_machine.specs.declared.state.Sizes.{Sizes}
 use Rattle.opfs_machine.specs.Agents.{counted}
@@ -11,7 +11,7 @@ use Rattle.opfs_machine.specs.Effects.{effect}
 use Rattle.opfs_machine.specs.Runs.{eviction}
 use Rattle.opfs_outside.specs.declared.disk.Disk.{Ghosts as DiskWords}
 use Rattle.opfs_records.specs.Replay.Built.{Built}
-use Rattle.opfs_standing.specs.Seen.{lines_of}
+use Rattle.opfs_state_rows.specs.Standing.Seen.{lines_of}
 use Rattle.opfs_state.specs.Applied.{IsPrepared}
 use Rattle.opfs_tree.specs.Rows.{IsInOrder}
 use Rattle.opfs_desk_parts.specs.Acted.{AreCleared}

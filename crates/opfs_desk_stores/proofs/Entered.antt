@@ -81,7 +81,7 @@ use Rattle.opfs_desk_steps.specs.Acting.{HasTaken, CallsAreActed}
 use Rattle.opfs_desk_ways.proofs.Alike.{leaves-alike}
 use Rattle.opfs_desk_ways.proofs.Held.{behind}
 use Rattle.opfs_desk_ways.proofs.Loop.{Falls}
-use Rattle.opfs_standing.specs.Seen.{lines_of}
+use Rattle.opfs_state_rows.specs.Standing.Seen.{lines_of}
 use Rattle.opfs_desk_stores.specs.Steps.{IsFlushed, LeavesRow}
 use Rattle.opfs_desk_stores.proofs.Alone.{streams-beside}
 use Rattle.opfs_desk_stores.proofs.Changes.{limits-stay, tree-changed}

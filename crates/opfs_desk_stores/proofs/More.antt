@@ -45,7 +45,7 @@ use Rattle.opfs_desk_rows.proofs.Locked.{base-whole}
 use Rattle.opfs_desk_stores.proofs.Asked.{its-row, reserve-is, stood}
 use Rattle.opfs_desk_stores.proofs.StoredRows.{IsWriterIn, StoresRow, handle-outlined, stores-file}
 use Rattle.opfs_desk_stores.proofs.Words.{handle-at}
-use Rattle.opfs_standing.specs.Noted.{with_sum}
+use Rattle.opfs_state_rows.specs.Standing.Noted.{with_sum}
 
 size-same : (o : Option (File Text)) → size_in in_lengths (option_map (on_file length) o) ≡ length (bytes_in o)
 size-same None = refl

@@ -7,7 +7,7 @@ use Rattle.opfs_acts.specs.declared.acted.Gift.TheVariants as gift
 use Rattle.opfs_base.specs.Blocks.{blocks}
 use Rattle.opfs_base.specs.Places.{Place}
 use Rattle.opfs_base.specs.Texts.{Text}
-use Rattle.opfs_changes.specs.Allowed.{IsSized}
+use Rattle.opfs_state_rows.specs.Changes.Allowed.{IsSized}
 use Rattle.opfs_desk_laws.specs.Hands.{row_in_hand}
 use Rattle.opfs_hist.specs.Sums.{asks_for_row}
 use Rattle.opfs_hist.specs.declared.history.PendingSum.{PendingSum}
@@ -33,8 +33,8 @@ use Rattle.opfs_machine.specs.Replies.{answer, row_named, sizes_of}
 use Rattle.opfs_machine.specs.Rulings.{handle_ruling, ruling, stream_ruling}
 use Rattle.opfs_machine.specs.Steps.{judged}
 use Rattle.opfs_machine.specs.Sums.{no_need}
-use Rattle.opfs_standing.specs.Noted.{with_sum}
-use Rattle.opfs_standing.specs.Seen.{Machine}
+use Rattle.opfs_state_rows.specs.Standing.Noted.{with_sum}
+use Rattle.opfs_state_rows.specs.Standing.Seen.{Machine}
 use Rattle.opfs_state_laws.proofs.Readying.{agent-noted, handle-noted}
 use Rattle.opfs_verdicts.specs.Callers.{IsAgent}
 use Rattle.opfs_desk_contents.specs.Rows.{IsWriterOf, StoresFile}

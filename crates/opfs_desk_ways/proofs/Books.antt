@@ -6,7 +6,7 @@ use Rattle.opfs_base.specs.Places.{Place}
 use Rattle.opfs_base.specs.Texts.{Text}
 use Rattle.opfs_base.specs.declared.extents.Extent.{Extent}
 use Rattle.opfs_book_laws.specs.Books.{Fixed}
-use Rattle.opfs_changes.specs.Changed.{freed_in}
+use Rattle.opfs_state_rows.specs.Changes.Changed.{freed_in}
 use Rattle.opfs_hist.specs.declared.entry.Entry.{Entry}
 use Rattle.opfs_hist.specs.declared.op.Op.{Op}
 use Rattle.opfs_machine.specs.declared.own.Own.{Own}

@@ -14,7 +14,7 @@ use Rattle.opfs_base.specs.Places.{Place, place_cmp, place_of, child}
 use Rattle.opfs_base.specs.declared.extents.Extent.{Extent}
 use Rattle.opfs_blocks.specs.Sets.{blocks_of}
 use Rattle.opfs_blocks.proofs.SetLemmas.{blocks_of-append}
-use Rattle.opfs_changes.specs.Changed.{extents_in, replaced_at, stream_frees, handle_frees, freed_in}
+use Rattle.opfs_state_rows.specs.Changes.Changed.{extents_in, replaced_at, stream_frees, handle_frees, freed_in}
 use Rattle.opfs_desk_laws.specs.Spaced.{AreSpaced}
 use Rattle.opfs_desk_laws.proofs.Holding.{spaced-blocks}
 use Rattle.opfs_hist.specs.declared.op.Op.{Op}

@@ -7,7 +7,7 @@ use Rattle.opfs_book_calls.specs.Laws.{CallsMayFail}
 use Rattle.opfs_book_laws.specs.Books.{Fixed, IsPlaced}
 use Rattle.opfs_book_laws.specs.Laws.{LeavesPages, ShowsTold, told, failed, BooksShowTheirImages}
 use Rattle.opfs_book_laws.proofs.Counting.{rose-before}
-use Rattle.opfs_changes.specs.Asking.{AreOwnUnits}
+use Rattle.opfs_state_rows.specs.Changes.Asking.{AreOwnUnits}
 use Rattle.opfs_hist.specs.declared.entry.Entry.{Entry}
 use Rattle.opfs_laws.specs.Histories.Unread.{ReadsLeaveTheState}
 use Rattle.opfs_laws.specs.Counting.{AStateCountsItsHistory}

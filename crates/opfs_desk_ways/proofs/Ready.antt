@@ -22,7 +22,7 @@ use Rattle.opfs_machine.specs.Steps.{evicted}
 use Rattle.opfs_machine.specs.Victims.{is_callers}
 use Rattle.opfs_records.specs.Checkpoint.Written.{IsWritablePlace, IsWritableRow, stored_row, stored_rows}
 use Rattle.opfs_space.specs.Room.{Machine}
-use Rattle.opfs_standing.specs.Seen.{line_of, lines_of}
+use Rattle.opfs_state_rows.specs.Standing.Seen.{line_of, lines_of}
 use Rattle.opfs_state.specs.Applied.{StateSeen, IsReady, IsPrepared}
 use Rattle.opfs_state_laws.specs.Readied.{StaysReadyAsCleared}
 use Rattle.opfs_tree.specs.Rows.{Rows as Tree}

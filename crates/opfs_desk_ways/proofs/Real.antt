@@ -27,10 +27,10 @@ use Rattle.opfs_machine.specs.Openings.{Opening}
 use Rattle.opfs_machine.specs.Replies.{sizes_of}
 use Rattle.opfs_machine.specs.Steps.{judged}
 use Rattle.opfs_machine.specs.Victims.{is_callers}
-use Rattle.opfs_standing.proofs.Units.{unit_itself}
+use Rattle.opfs_state_rows.proofs.standing.Units.{unit_itself}
 use Rattle.opfs_state_laws.specs.Room.{HasOwnBuckets, HasRoom, EvictionsMakeRoom}
 use Rattle.opfs_state_laws.specs.Owned.{CallsAreAboutOwnUnits}
-use Rattle.opfs_changes.specs.Asking.{AreOwnUnits}
+use Rattle.opfs_state_rows.specs.Changes.Asking.{AreOwnUnits}
 use Rattle.opfs_verdicts.specs.Callers.{IsAgent}
 use Rattle.opfs_desk_parts.specs.Held.{HaveOwnKeys}
 

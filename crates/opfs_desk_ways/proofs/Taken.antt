@@ -18,8 +18,8 @@ use Rattle.opfs_sharing.specs.Noting.{noted, AreNotes, IsSumOf}
 use Rattle.opfs_sharing.specs.Serving.{MayNoteTo}
 use Rattle.opfs_sharing.proofs.Pending.{sum-noted}
 use Rattle.opfs_register.specs.Slots.{most_rows}
-use Rattle.opfs_standing.specs.Noted.{with_sum}
-use Rattle.opfs_standing.specs.Seen.{Seen}
+use Rattle.opfs_state_rows.specs.Standing.Noted.{with_sum}
+use Rattle.opfs_state_rows.specs.Standing.Seen.{Seen}
 use Rattle.opfs_state.specs.Applied.{StateSeen, IsReady, IsPrepared}
 use Rattle.opfs_state_laws.specs.Readied.{StaysReadyAsNoted}
 use Rattle.opfs_machine.specs.Agents.{agent_of}

@@ -6,7 +6,7 @@ ghost use Rattle.opfs_book_calls.specs.Spelled.{spelled_by};
 ghost use Rattle.opfs_book_laws.specs.Books.{Fixed, AreBooks};
 ghost use Rattle.opfs_book_laws.specs.Laws.{LeavesPages, ShowsTold, told, failed};
 ghost use Rattle.opfs_books.specs.Seen.{MayStore, BytesStand, stored_change};
-ghost use Rattle.opfs_changes.specs.Changed.{tree_by};
+ghost use Rattle.opfs_state_rows.specs.Changes.Changed.{tree_by};
 ghost use Rattle.opfs_codec.specs.Fields.{plain, Fits};
 ghost use Rattle.opfs_desk_parts.specs.Answered.{IsAnswered, MayAnswer};
 ghost use Rattle.opfs_desk_parts.specs.Held.{AreTied, AreHeldAt, AreHeldWhole};

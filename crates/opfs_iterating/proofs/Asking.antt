@@ -14,7 +14,7 @@ use Rattle.opfs_machine.specs.Agents.{agent_of, own_of}
 use Rattle.opfs_machine.specs.Histories.{is_iterator_of, is_own, may_enter}
 use Rattle.opfs_machine.specs.Replies.{given_in}
 use Rattle.opfs_machine.specs.Rows.{children_of}
-use Rattle.opfs_standing.proofs.Units.{same_unit}
+use Rattle.opfs_state_rows.proofs.standing.Units.{same_unit}
 use Rattle.opfs_iterating.specs.Reached.{AreGivenUpTo, HasReached, IsUpTo, asked_row}
 
 same-path : (a b : List Text) → same_texts a b ≡ true → a ≡ b

@@ -31,7 +31,7 @@ use Rattle.opfs_machine.specs.Replies.{given_in}
 use Rattle.opfs_machine.specs.Rows.{children_of}
 use Rattle.opfs_machine.specs.Runs.{Call}
 use Rattle.opfs_machine.specs.Steps.{after_reply, evicted, step}
-use Rattle.opfs_standing.proofs.Units.{unit_itself}
+use Rattle.opfs_state_rows.proofs.standing.Units.{unit_itself}
 use Rattle.opfs_work.specs.Works.{WorkingCopy}
 use Rattle.opfs_iterating.specs.GoingOn.{MayReach}
 use Rattle.opfs_iterating.specs.Reached.{AreGivenUpTo, AreNotGivenAbove, HasReached, IsUpTo, asked_row}

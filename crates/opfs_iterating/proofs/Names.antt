@@ -11,7 +11,7 @@ use Rattle.std.specs.declared.cmp.Ordering.TheVariants.{Less, Equal, Greater}
 use Rattle.opfs_base.specs.Places.{Place, child, child_name, only_name, place_cmp, rest_below}
 use Rattle.opfs_base.specs.Texts.{Text, same_text}
 use Rattle.opfs_machine.specs.Contents.{next_of}
-use Rattle.opfs_standing.proofs.Units.{same_unit, unit_itself}
+use Rattle.opfs_state_rows.proofs.standing.Units.{same_unit, unit_itself}
 use Rattle.opfs_iterating.specs.Reached.{AreGivenUpTo, AreNotGivenAbove}
 
 abbrev pub text_cmp : Text → Text → Ordering

@@ -24,7 +24,7 @@ use Rattle.opfs_records.specs.Replay.Built.{block_count, IsSoundRow, IsSoundFile
 use Rattle.opfs_register.specs.Seating.{agent_begun}
 use Rattle.opfs_register.specs.declared.seat.Who.{Who}
 use Rattle.opfs_records.specs.Checkpoint.Written.{stored_row, stored_rows}
-use Rattle.opfs_standing.specs.Seen.{line_of, lines_of}
+use Rattle.opfs_state_rows.specs.Standing.Seen.{line_of, lines_of}
 use Rattle.opfs_tree.specs.declared.row.FileRow.{FileRow}
 use Rattle.opfs_tree.specs.declared.row.Row.{Row}
 use Rattle.opfs_tree.specs.declared.row.Row.TheVariants as row

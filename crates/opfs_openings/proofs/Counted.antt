@@ -18,8 +18,8 @@ use Rattle.opfs_machine.specs.Sums.{durable_blocks, present_blocks}
 use Rattle.opfs_machine.specs.Sums.{row_charge as line_charge}
 use Rattle.opfs_records.specs.Replay.Built.{block_count, has_block, is_once, named, all_extents, IsSound, IsSoundRow}
 use Rattle.opfs_records.specs.Replay.Sums.{row_charge, row_blocks, usage_in}
-use Rattle.opfs_standing.specs.Seen.{line_of, lines_of}
-use Rattle.opfs_standing.specs.Sums.{where_unit}
+use Rattle.opfs_state_rows.specs.Standing.Seen.{line_of, lines_of}
+use Rattle.opfs_state_rows.specs.Standing.Sums.{where_unit}
 use Rattle.opfs_tree.specs.declared.row.Row.{Row}
 use Rattle.opfs_tree.specs.declared.row.Row.TheVariants as row
 use Rattle.opfs_tree.specs.Rows.{Rows, extents_of}

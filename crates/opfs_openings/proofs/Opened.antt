@@ -25,9 +25,9 @@ use Rattle.opfs_register.specs.declared.seat.Who.{Who}
 use Rattle.opfs_sharing.proofs.Modes.{modes-alike}
 use Rattle.opfs_shed.specs.declared.shed.Bucket.{Bucket}
 use Rattle.opfs_shed.specs.Buckets.{Buckets, Storage, text_cmp}
-use Rattle.opfs_standing.specs.Beginnings.{IsBegun}
-use Rattle.opfs_standing.specs.Seen.{Machine, persistent_in}
-use Rattle.opfs_standing.specs.Sums.{stream_where}
+use Rattle.opfs_state_rows.specs.Standing.Beginnings.{IsBegun}
+use Rattle.opfs_state_rows.specs.Standing.Seen.{Machine, persistent_in}
+use Rattle.opfs_state_rows.specs.Standing.Sums.{stream_where}
 use Rattle.opfs_state.specs.Applied.{opened}
 use Rattle.opfs_tree.specs.Rows.{Rows, IsInOrder, IsClosed}
 use Rattle.opfs_openings.specs.Openings.{limits_by, opening_by}

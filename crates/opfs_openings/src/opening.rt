@@ -6,7 +6,7 @@ ghost use Rattle.opfs_image.specs.Agreeing.{built_in};
 ghost use Rattle.opfs_image.specs.Superblock.{area_bytes};
 ghost use Rattle.opfs_openings.specs.Openings.{fixed_by, limits_by};
 ghost use Rattle.opfs_register.specs.declared.seat.Who.{Who};
-ghost use Rattle.opfs_standing.specs.Beginnings.{IsBegun};
+ghost use Rattle.opfs_state_rows.specs.Standing.Beginnings.{IsBegun};
 ghost use Rattle.opfs_state.specs.Applied.{opened};
 ghost use Rattle.opfs_tree.specs.Rows.{IsInOrder, IsClosed};
 

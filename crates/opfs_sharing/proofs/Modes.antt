@@ -12,7 +12,7 @@ use Rattle.opfs_base.specs.Texts.{Text}
 use Rattle.opfs_records.specs.Replay.Sums.{persistent_in as listed}
 use Rattle.opfs_shed.specs.declared.shed.Bucket.{Bucket}
 use Rattle.opfs_shed.specs.Buckets.{Buckets, text_cmp, is_unit, bucket_at, first_bucket}
-use Rattle.opfs_standing.specs.Seen.{persistent_in}
+use Rattle.opfs_state_rows.specs.Standing.Seen.{persistent_in}
 
 abbrev is_kept : Buckets → Text → Bool
 is_kept buckets unit = (bucket_at buckets unit).persistent

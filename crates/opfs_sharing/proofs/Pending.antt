@@ -12,7 +12,7 @@ use Rattle.std.specs.Ordering.{nat_cmp, ordering_reverse}
 use Rattle.std.specs.declared.cmp.Ordering.{Ordering}
 use Rattle.std.specs.declared.cmp.Ordering.TheVariants.{Less, Equal, Greater}
 use Rattle.opfs_base.specs.Texts.{Text}
-use Rattle.opfs_changes.specs.Asking.{makes_slot}
+use Rattle.opfs_state_rows.specs.Changes.Asking.{makes_slot}
 use Rattle.opfs_hist.specs.declared.entry.Entry.{Entry}
 use Rattle.opfs_hist.specs.declared.history.PendingSum.{PendingSum}
 use Rattle.opfs_hist.specs.declared.op.Op.{Op}
@@ -28,9 +28,9 @@ use Rattle.opfs_machine.specs.declared.state.Agent.{Agent}
 use Rattle.opfs_machine.specs.Agents.{agent_of, agent_in, counted, nobody, used_now, with_agent}
 use Rattle.opfs_machine.specs.Steps.{is_refusal}
 use Rattle.opfs_register.specs.Seating.{noted as noted_agent, used_by}
-use Rattle.opfs_standing.proofs.AgentMoves.{number, agent-set}
-use Rattle.opfs_standing.specs.Noted.{with_sum, used_more}
-use Rattle.opfs_standing.specs.Seen.{Machine}
+use Rattle.opfs_state_rows.proofs.standing.AgentMoves.{number, agent-set}
+use Rattle.opfs_state_rows.specs.Standing.Noted.{with_sum, used_more}
+use Rattle.opfs_state_rows.specs.Standing.Seen.{Machine}
 use Rattle.opfs_sharing.specs.Noting.{noted, IsSumOf, IsNote, AreNotes}
 
 abbrev texts : Text → Text → Ordering

@@ -1,14 +1,14 @@
 -- What pending calls leave of the machine in lengths. This project's own.
 use Rattle.std.specs.Prelude.{◌≡◌, ℕ, true, false, List, fold, length, count_by, is_some}
 use Rattle.std.specs.List.{AllByRecursion}
-use Rattle.opfs_changes.specs.Asking.{makes_slot}
+use Rattle.opfs_state_rows.specs.Changes.Asking.{makes_slot}
 use Rattle.opfs_hist.specs.Sums.{makes_row, set_moment, last_moment}
 use Rattle.opfs_hist.specs.declared.entry.Entry.{Entry}
 use Rattle.opfs_hist.specs.declared.history.PendingSum.{PendingSum}
 use Rattle.opfs_laws.specs.Lengths.Outlines.{local_change}
 use Rattle.opfs_machine.specs.Agents.{counted}
 use Rattle.opfs_machine.specs.Steps.{is_refusal}
-use Rattle.opfs_standing.specs.Seen.{Machine}
+use Rattle.opfs_state_rows.specs.Standing.Seen.{Machine}
 
 -- One entry after another: a refused one counts alone.
 abbrev pub noted : Machine → ℕ → List Entry → Machine

@@ -1,7 +1,7 @@
 -- When the shared state serves a call of the books. This project's own.
 use Rattle.std.specs.Prelude.{◌≡◌, ℕ, ◌+◌, ◌<◌, ◌≤◌, ◌^◌, false, [], length, IsSome}
 use Rattle.opfs_base.specs.Texts.{Text}
-use Rattle.opfs_changes.specs.Allowed.{MayApply, IsSized}
+use Rattle.opfs_state_rows.specs.Changes.Allowed.{MayApply, IsSized}
 use Rattle.opfs_hist.specs.declared.history.PendingSum.{PendingSum}
 use Rattle.opfs_hist.specs.declared.op.Op.{Op}
 use Rattle.opfs_laws.specs.Lengths.Kept.{Kept}

@@ -11,7 +11,7 @@ pub trait Shared {
     ghost use Rattle.std.specs.Prelude.{◌≡◌, ◌++◌, ◌≤◌, ℕ, [], Option, None, List, length, vec_capacity};
     ghost use Rattle.opfs_base.specs.Texts.{Text};
     ghost use Rattle.opfs_base.specs.declared.extents.Extent.{Extent};
-    ghost use Rattle.opfs_changes.specs.Changed.{tree_by, freed_in};
+    ghost use Rattle.opfs_state_rows.specs.Changes.Changed.{tree_by, freed_in};
     ghost use Rattle.opfs_hist.specs.declared.op.Op.{Op};
     ghost use Rattle.opfs_hist.specs.declared.history.PendingSum.{PendingSum};
     ghost use Rattle.opfs_machine.specs.Agents.{counted};
@@ -20,7 +20,7 @@ pub trait Shared {
     ghost use Rattle.opfs_machine.specs.Steps.{evicted};
     ghost use Rattle.opfs_machine.specs.declared.state.Sizes.{Sizes};
     ghost use Rattle.opfs_records.specs.Replay.Sums.{persistent_in};
-    ghost use Rattle.opfs_standing.specs.Seen.{Machine, lines_of};
+    ghost use Rattle.opfs_state_rows.specs.Standing.Seen.{Machine, lines_of};
     ghost use Rattle.opfs_sharing.specs.Noting.{noted, IsSumOf, AreNotes};
     ghost use Rattle.opfs_sharing.specs.Standing.{Standby};
     ghost use Rattle.opfs_hist.specs.declared.entry.Entry.{Entry};

@@ -10,8 +10,8 @@ use Rattle.opfs_base.specs.Units.{unit_of}
 use Rattle.opfs_base.specs.declared.locator.Kind.{Kind}
 use Rattle.opfs_base.specs.declared.locator.Kind.TheVariants as kind
 use Rattle.opfs_base.specs.declared.locator.Locator.{Locator}
-use Rattle.opfs_changes.proofs.Told.{same-need, grown-told, written-told}
-use Rattle.opfs_changes.specs.Asking.{AreOwnUnits, units_of, stream_unit, handle_unit}
+use Rattle.opfs_state_rows.proofs.changes.Told.{same-need, grown-told, written-told}
+use Rattle.opfs_state_rows.specs.Changes.Asking.{AreOwnUnits, units_of, stream_unit, handle_unit}
 use Rattle.opfs_hist.specs.declared.op.Mode.{Mode}
 use Rattle.opfs_hist.specs.declared.op.Op.{Op}
 use Rattle.opfs_hist.specs.declared.op.Op.TheVariants as op
@@ -26,7 +26,7 @@ use Rattle.opfs_machine.specs.Rows.{row_at}
 use Rattle.opfs_machine.specs.Ruled.{Ruled}
 use Rattle.opfs_machine.specs.Rulings.{ruling, get_directory_ruling, get_handle_ruling, child_ruling, remove_entry_ruling, located_ruling, stream_ruling, create_sync_ruling, handle_ruling, persist_ruling, persisted_ruling, estimate_ruling, await_ruling, making, size_written}
 use Rattle.opfs_machine.specs.Victims.{is_callers}
-use Rattle.opfs_standing.specs.Seen.{Machine}
+use Rattle.opfs_state_rows.specs.Standing.Seen.{Machine}
 
 no-need : {r : Refusal} {b : Need} → ◌≡◌ {A = Ruled Need} (Err r) (Ok b) → ⊥
 no-need h = cc

@@ -8,8 +8,8 @@ use Rattle.opfs_laws.proofs.RowsEffect.{child-parent}
 use Rattle.opfs_machine.specs.declared.state.Row.{Row as Line}
 use Rattle.opfs_machine.specs.declared.state.Row.TheVariants as line
 use Rattle.opfs_machine.specs.Rows as machine
-use Rattle.opfs_standing.proofs.Lines.{lines-at}
-use Rattle.opfs_standing.specs.Seen.{Machine, lines_of, line_of}
+use Rattle.opfs_state_rows.proofs.standing.Lines.{lines-at}
+use Rattle.opfs_state_rows.specs.Standing.Seen.{Machine, lines_of, line_of}
 use Rattle.opfs_tree.specs.declared.row.Row.{Row}
 use Rattle.opfs_tree.specs.declared.row.Row.TheVariants as row
 use Rattle.opfs_tree.specs.Rows.{Rows, row_at, HasParent}

@@ -7,9 +7,9 @@ use Rattle.opfs_base.specs.Texts.{Text}
 use Rattle.opfs_base.specs.declared.locator.Kind.{Kind}
 use Rattle.opfs_base.specs.declared.locator.Kind.TheVariants as kind
 use Rattle.opfs_base.specs.declared.locator.Locator.{Locator}
-use Rattle.opfs_changes.proofs.Rowed.{row-target, row-grows}
-use Rattle.opfs_changes.proofs.Told.{located-directory}
-use Rattle.opfs_changes.specs.Asking.{made_at, place_for, target_of, growth_of, makes_row, makes_slot, makes_in_unit, tag_in, handle_place, root_place, bucket_unit, IsAccepted}
+use Rattle.opfs_state_rows.proofs.changes.Rowed.{row-target, row-grows}
+use Rattle.opfs_state_rows.proofs.changes.Told.{located-directory}
+use Rattle.opfs_state_rows.specs.Changes.Asking.{made_at, place_for, target_of, growth_of, makes_row, makes_slot, makes_in_unit, tag_in, handle_place, root_place, bucket_unit, IsAccepted}
 use Rattle.opfs_hist.specs.declared.op.Mode.{Mode}
 use Rattle.opfs_hist.specs.declared.op.Op.{Op}
 use Rattle.opfs_hist.specs.declared.op.Op.TheVariants as op
@@ -22,7 +22,7 @@ use Rattle.opfs_machine.specs.Contents.{in_lengths}
 use Rattle.opfs_machine.specs.Rows.{row_at, is_located}
 use Rattle.opfs_machine.specs.Rulings.{ruling, get_handle_ruling, remove_entry_ruling}
 use Rattle.opfs_machine.specs.Steps.{room_for}
-use Rattle.opfs_standing.specs.Seen.{Machine, Seen, is_known}
+use Rattle.opfs_state_rows.specs.Standing.Seen.{Machine, Seen, is_known}
 use Rattle.opfs_state.specs.Applied.{IsReady}
 use Rattle.opfs_state.specs.Preparing.{HasStayed, IsRowReady, IsModeReady}
 

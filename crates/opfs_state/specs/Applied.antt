@@ -2,14 +2,14 @@
 use Rattle.std.specs.Prelude.{◌≡◌, ℕ, ◌-◌, true, [], List, map, Option, Some}
 use Rattle.opfs_base.specs.Places.{Place}
 use Rattle.opfs_base.specs.Texts.{Text}
-use Rattle.opfs_changes.specs.Asking.{place_for, target_of, growth_of, makes_slot, tag_in, makes_in_unit}
+use Rattle.opfs_state_rows.specs.Changes.Asking.{place_for, target_of, growth_of, makes_slot, tag_in, makes_in_unit}
 use Rattle.opfs_hist.specs.declared.op.Op.{Op}
 use Rattle.opfs_machine.specs.declared.state.Limits.{Limits}
 use Rattle.opfs_machine.specs.Agents.{party_of}
 use Rattle.opfs_register.specs.Seating.{agent_begun}
 use Rattle.opfs_register.specs.declared.seat.Who.{Who}
 use Rattle.opfs_shed.specs.Buckets.{Storage}
-use Rattle.opfs_standing.specs.Seen.{Machine, Seen, is_known, lines_of, persistent_in}
+use Rattle.opfs_state_rows.specs.Standing.Seen.{Machine, Seen, is_known, lines_of, persistent_in}
 use Rattle.opfs_tree.specs.Rows.{Rows}
 
 -- The store; the place that the call in hand changes, in memory of its own, and what the call adds to the charge by the

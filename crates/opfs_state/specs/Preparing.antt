@@ -2,8 +2,8 @@
 use Rattle.std.specs.Prelude.{◌≡◌, ℕ, true, Option, Some}
 use Rattle.opfs_base.specs.Places.{Place}
 use Rattle.opfs_base.specs.declared.locator.Kind.{Kind}
-use Rattle.opfs_changes.specs.Asking.{row_growth, place_in, mode_growth}
-use Rattle.opfs_standing.specs.Seen.{Machine, Seen, is_known}
+use Rattle.opfs_state_rows.specs.Changes.Asking.{row_growth, place_in, mode_growth}
+use Rattle.opfs_state_rows.specs.Standing.Seen.{Machine, Seen, is_known}
 
 -- The machine and the tree stay, and all else that stands ready but for units.
 pub record HasStayed (s new : Seen) : Type 0 where

@@ -5,7 +5,7 @@ use Rattle.opfs_machine.specs.declared.own.HandleOutline.{HandleOutline}
 use Rattle.opfs_machine.specs.declared.own.StreamOutline.{StreamOutline}
 use Rattle.opfs_machine.specs.Agents.{open_stream, open_handle}
 use Rattle.opfs_machine.specs.Contents.{in_lengths}
-use Rattle.opfs_standing.specs.Seen.{Machine}
+use Rattle.opfs_state_rows.specs.Standing.Seen.{Machine}
 
 abbrev pub file_of_row : Option StreamOutline → Option HandleOutline → Option Place
 file_of_row (Some w) h = Some w.file

@@ -1,9 +1,9 @@
 //! What calls change, refused or not; what pending calls leave; and what clearing a unit leaves.
 
 ghost use Rattle.std.specs.Prelude.{◌≡◌, ◌+◌, ◌-◌, ◌<◌, ◌≤◌, ◌++◌, ◌^◌, [], None, IsSome, IsTrue, OnOk, OnErr, is_ok, true, false, length, vec_capacity};
-ghost use Rattle.opfs_changes.specs.Allowed.{MayApply, IsSized};
-ghost use Rattle.opfs_changes.specs.Asking.{IsAccepted, ends};
-ghost use Rattle.opfs_changes.specs.Changed.{freed_by, tree_after};
+ghost use Rattle.opfs_state_rows.specs.Changes.Allowed.{MayApply, IsSized};
+ghost use Rattle.opfs_state_rows.specs.Changes.Asking.{IsAccepted, ends};
+ghost use Rattle.opfs_state_rows.specs.Changes.Changed.{freed_by, tree_after};
 ghost use Rattle.opfs_laws.specs.Lengths.Kept.{Kept};
 ghost use Rattle.opfs_machine.specs.Agents.{agent_of, counted};
 ghost use Rattle.opfs_machine.specs.Contents.{in_lengths};
@@ -12,7 +12,7 @@ ghost use Rattle.opfs_machine.specs.Rows.{row_at};
 ghost use Rattle.opfs_machine.specs.Steps.{evicted};
 ghost use Rattle.opfs_tree.specs.Ready.Ready.{ready_within};
 ghost use Rattle.opfs_register.specs.Slots.{most_rows};
-ghost use Rattle.opfs_standing.specs.Noted.{with_sum};
+ghost use Rattle.opfs_state_rows.specs.Standing.Noted.{with_sum};
 ghost use Rattle.opfs_state.specs.Applied.{IsPrepared};
 ghost use Rattle.opfs_tree.specs.Rows.{extents_within, without};
 ghost use Rattle.opfs_verdicts.specs.Callers.{IsAgent};
@@ -21,9 +21,9 @@ use crate::performing::perform_any;
 use crate::preparing::ready_for;
 use crate::state::{Ready, State};
 use opfs_base::{Extent, Extents, Key};
-use opfs_changes::agents::refuse;
 use opfs_hist::{Op, PendingSum};
 use opfs_machine::Sizes;
+use opfs_state_rows::changes::agents::refuse;
 use std::alloc::{AllocError, Global};
 
 impl State {

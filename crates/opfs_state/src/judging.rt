@@ -1,7 +1,7 @@
 //! What calls refuse, or which units are cleared for them.
 
 ghost use Rattle.std.specs.Prelude.{◌≡◌, None, IfOk};
-ghost use Rattle.opfs_changes.specs.Asking.{AreOwnUnits};
+ghost use Rattle.opfs_state_rows.specs.Changes.Asking.{AreOwnUnits};
 ghost use Rattle.opfs_laws.specs.Lengths.Bridge.{judged_in};
 ghost use Rattle.opfs_laws.specs.Lengths.Kept.{Kept};
 ghost use Rattle.opfs_machine.specs.Contents.{in_lengths};

@@ -2,14 +2,14 @@
 
 ghost use Rattle.std.specs.Prelude.{◌≡◌, ◌≤◌, None, IfOk, length};
 ghost use Rattle.opfs_register.specs.Seating.{most_agents};
-ghost use Rattle.opfs_standing.specs.Beginnings.{IsBegun};
+ghost use Rattle.opfs_state_rows.specs.Standing.Beginnings.{IsBegun};
 ghost use Rattle.opfs_state.specs.Applied.{opened};
 
 use crate::state::State;
 use opfs_machine::Limits;
 use opfs_register::{Register, Who};
 use opfs_shed::Shed;
-use opfs_standing::Standing;
+use opfs_state_rows::Standing;
 use opfs_tree::Tree;
 use std::alloc::{AllocError, Global};
 

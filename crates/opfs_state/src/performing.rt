@@ -1,24 +1,26 @@
 //! What a call changes of the shared store, by its word.
-#![tactic(auto, unfolding(opfs_changes::specs::Asking::made_at, opfs_changes::specs::Changed::freed_in))]
+#![tactic(auto, unfolding(opfs_state_rows::specs::Changes::Asking::made_at, opfs_state_rows::specs::Changes::Changed::freed_in))]
 
 ghost use Rattle.std.specs.Prelude.{◌≡◌, ◌+◌, ◌≤◌, ◌++◌, ℕ, List, Option, None, length, true, false, vec_capacity};
 ghost use Rattle.opfs_base.specs.declared.extents.Extent.{Extent};
-ghost use Rattle.opfs_changes.specs.Allowed.{MayDo};
-ghost use Rattle.opfs_changes.specs.Asking.{target_of};
-ghost use Rattle.opfs_changes.specs.Changed.{IsDone, freed_by};
+ghost use Rattle.opfs_state_rows.specs.Changes.Allowed.{MayDo};
+ghost use Rattle.opfs_state_rows.specs.Changes.Asking.{target_of};
+ghost use Rattle.opfs_state_rows.specs.Changes.Changed.{IsDone, freed_by};
 ghost use Rattle.opfs_state.specs.Applied.{IsReady};
 ghost use Rattle.opfs_state.specs.Freeing.{lets_go};
 
 use crate::state::Ready;
 use opfs_base::{Extent, Extents};
-use opfs_changes::agents::{await_tag, end, post, set_moment, tell, values, wait};
-use opfs_changes::handles::{discard, sync_close, sync_flush, sync_truncate, sync_write};
-use opfs_changes::opening::{create_sync, create_writable, get_file};
-use opfs_changes::rows::{make_row, persist, remove_entry};
-use opfs_changes::streams::{abort, close, truncate, write};
 use opfs_hist::Op;
 use opfs_machine::{Place, Sizes};
-use opfs_standing::Standing;
+use opfs_state_rows::Standing;
+use opfs_state_rows::changes::agents::{await_tag, end, post, set_moment, tell, values, wait};
+use opfs_state_rows::changes::handles::{
+    discard, sync_close, sync_flush, sync_truncate, sync_write,
+};
+use opfs_state_rows::changes::opening::{create_sync, create_writable, get_file};
+use opfs_state_rows::changes::rows::{make_row, persist, remove_entry};
+use opfs_state_rows::changes::streams::{abort, close, truncate, write};
 use std::alloc::Global;
 
 /// Whether a call may let extents go.

@@ -4,12 +4,12 @@ ghost use Rattle.std.specs.Prelude.{cond, ◌≡◌, ◌-◌, ◌<◌, ◌≤◌
 ghost use Rattle.opfs_base.specs.Places.{Place, place_of, child};
 ghost use Rattle.opfs_base.specs.declared.locator.Kind.{Kind};
 ghost use Rattle.opfs_base.specs.Names.{is_valid_name};
-ghost use Rattle.opfs_changes.specs.Asking.{ends, where_free, free_in, root_in, root_place, bucket_unit, handle_place, IsAccepted};
+ghost use Rattle.opfs_state_rows.specs.Changes.Asking.{ends, where_free, free_in, root_in, root_place, bucket_unit, handle_place, IsAccepted};
 ghost use Rattle.opfs_machine.specs.Agents.{agent_of, open_handle, party_of};
 ghost use Rattle.opfs_machine.specs.declared.state.Row.TheVariants as row;
 ghost use Rattle.opfs_machine.specs.Contents.{in_lengths};
 ghost use Rattle.opfs_machine.specs.Rows.{row_at};
-ghost use Rattle.opfs_standing.specs.Seen.{is_known};
+ghost use Rattle.opfs_state_rows.specs.Standing.Seen.{is_known};
 ghost use Rattle.opfs_state.specs.Applied.{IsReady};
 ghost use Rattle.opfs_state.specs.Preparing.{HasStayed, IsRowReady, IsModeReady};
 ghost use Rattle.opfs_tree.specs.Rows.{HasParent};
@@ -20,7 +20,7 @@ use opfs_base::{Kind, Locator, Text, copy_place, mode_charge, place_charge};
 use opfs_hist::Op;
 use opfs_machine::Place;
 use opfs_rulings::{child_place, root_of};
-use opfs_standing::Standing;
+use opfs_state_rows::Standing;
 use std::alloc::{AllocError, Global};
 
 // A row's place, if no row is there, with its unit and what the row adds to the charge.

@@ -9,7 +9,7 @@ ghost use Rattle.opfs_machine.specs.Rows.{row_at, file_at, kind_of};
 ghost use Rattle.opfs_machine.specs.Sums.{is_persistent, usage};
 ghost use Rattle.opfs_register.specs.Seating.{most_agents};
 ghost use Rattle.opfs_register.specs.Slots.{most_rows};
-ghost use Rattle.opfs_standing.specs.Seen.{lines_of, persistent_in};
+ghost use Rattle.opfs_state_rows.specs.Standing.Seen.{lines_of, persistent_in};
 ghost use Rattle.opfs_state.specs.Reading.{row_file};
 ghost use Rattle.opfs_tree.specs.Rows.{extents_within, least_above, least_not_in, children_of, rows_above, IsInOrder};
 ghost use Rattle.opfs_tree.specs.Rows.{file_at as file_in_tree};

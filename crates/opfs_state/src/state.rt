@@ -3,7 +3,7 @@
 ghost use Rattle.std.specs.Prelude.{◌≡◌, None};
 
 use opfs_machine::Place;
-use opfs_standing::Standing;
+use opfs_state_rows::Standing;
 use std::alloc::Global;
 use std::marker::Model;
 

@@ -35,10 +35,10 @@ use Rattle.opfs_machine.specs.Steps.{room_for}
 use Rattle.opfs_machine.specs.Sums.{all_own, row_reserve, reserve_of, usage, pool, charge, fits_pool, keeps_blocks, no_need}
 use Rattle.opfs_machine.specs.Victims.{is_callers, is_candidate, candidates, cleared, shortest_front, victims, root_units, use_cmp}
 use Rattle.opfs_register.specs.Seating.{noted, used_by}
-use Rattle.opfs_standing.proofs.AgentMoves.{number, own-set}
-use Rattle.opfs_standing.proofs.Units.{same_unit, unit_itself}
-use Rattle.opfs_standing.specs.Noted.{with_sum, used_more}
-use Rattle.opfs_standing.specs.Seen.{Machine}
+use Rattle.opfs_state_rows.proofs.standing.AgentMoves.{number, own-set}
+use Rattle.opfs_state_rows.proofs.standing.Units.{same_unit, unit_itself}
+use Rattle.opfs_state_rows.specs.Standing.Noted.{with_sum, used_more}
+use Rattle.opfs_state_rows.specs.Standing.Seen.{Machine}
 use Rattle.opfs_state_laws.proofs.Readying.{agent-noted, handle-noted}
 use Rattle.opfs_verdicts.specs.Callers.{IsAgent}
 

@@ -6,11 +6,11 @@ use Rattle.std.specs.FinMap.Entries.{find, is_sorted}
 use Rattle.std.specs.Ordering.{eq_by_cmp}
 use Rattle.std.proofs.lemmas.Bool.Decides.{nat_tests}
 use Rattle.std.proofs.lemmas.List.Elements.{All-nil, All-cons, All-weaker, All-head, All-tail}
-use Rattle.opfs_standing.proofs.Units.{same_unit, unit_itself}
+use Rattle.opfs_state_rows.proofs.standing.Units.{same_unit, unit_itself}
 use Rattle.opfs_base.specs.Measures.{is_root}
 use Rattle.opfs_base.specs.Places.{Place, place_cmp, is_within}
 use Rattle.opfs_base.specs.Texts.{Text, same_text}
-use Rattle.opfs_changes.specs.Allowed.{MayApply}
+use Rattle.opfs_state_rows.specs.Changes.Allowed.{MayApply}
 use Rattle.opfs_hist.specs.declared.op.Op.{Op}
 use Rattle.opfs_laws.proofs.CoveredKept.{covered-gone}
 use Rattle.opfs_laws.proofs.Gone.{IsGiven, bind-gave, then-gave, some-gave, unless-gave, given-candidates}

@@ -4,7 +4,7 @@ use Rattle.std.specs.List.{AllByRecursion}
 use Rattle.opfs_base.specs.Texts.{Text}
 use Rattle.opfs_base.specs.Units.{unit_of}
 use Rattle.opfs_base.specs.declared.locator.Locator.{Locator}
-use Rattle.opfs_changes.specs.Asking.{AreOwnUnits, units_of, unit_in, bucket_unit, stream_unit, handle_unit}
+use Rattle.opfs_state_rows.specs.Changes.Asking.{AreOwnUnits, units_of, unit_in, bucket_unit, stream_unit, handle_unit}
 use Rattle.opfs_hist.specs.declared.op.Op.{Op}
 use Rattle.opfs_hist.specs.declared.op.Op.TheVariants as op
 use Rattle.opfs_laws.proofs.OwnFiles.{OwnFiles, callers-own}

@@ -8,7 +8,7 @@ use Rattle.opfs_base.specs.Texts.{Text, same_text}
 use Rattle.opfs_base.specs.Units.{unit_of}
 use Rattle.opfs_base.specs.declared.locator.Kind.{Kind}
 use Rattle.opfs_base.specs.declared.locator.Kind.TheVariants as kind
-use Rattle.opfs_changes.specs.Asking.{AreOwnUnits, units_of, unit_in, root_in, where_free, root_place, handle_place, bucket_unit, made_at, free_in, place_in, place_for, target_of, growth_of, row_growth, mode_growth}
+use Rattle.opfs_state_rows.specs.Changes.Asking.{AreOwnUnits, units_of, unit_in, root_in, where_free, root_place, handle_place, bucket_unit, made_at, free_in, place_in, place_for, target_of, growth_of, row_growth, mode_growth}
 use Rattle.opfs_hist.specs.declared.history.PendingSum.{PendingSum}
 use Rattle.opfs_hist.specs.declared.op.Op.{Op}
 use Rattle.opfs_hist.specs.declared.op.Op.TheVariants as op
@@ -27,10 +27,10 @@ use Rattle.opfs_machine.specs.declared.state.Row.{Row}
 use Rattle.opfs_tree.specs.Ready.Ready.{ready_within}
 use Rattle.opfs_register.proofs.KeptRows.{get-set}
 use Rattle.opfs_register.specs.Seating.{noted}
-use Rattle.opfs_standing.proofs.AgentMoves.{number}
-use Rattle.opfs_standing.proofs.Units.{same_unit}
-use Rattle.opfs_standing.specs.Noted.{with_sum}
-use Rattle.opfs_standing.specs.Seen.{Machine, Seen, is_known}
+use Rattle.opfs_state_rows.proofs.standing.AgentMoves.{number}
+use Rattle.opfs_state_rows.proofs.standing.Units.{same_unit}
+use Rattle.opfs_state_rows.specs.Standing.Noted.{with_sum}
+use Rattle.opfs_state_rows.specs.Standing.Seen.{Machine, Seen, is_known}
 use Rattle.opfs_state.specs.Applied.{IsReady}
 use Rattle.opfs_state_laws.specs.Readied.{StillReady}
 use Rattle.opfs_verdicts.specs.Callers.{IsAgent}

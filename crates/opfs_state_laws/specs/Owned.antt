@@ -1,6 +1,6 @@
 -- What a call is about is of its agent's origin. This project's own.
 use Rattle.std.specs.Prelude.{ℕ, List, IsTrue}
-use Rattle.opfs_changes.specs.Asking.{AreOwnUnits}
+use Rattle.opfs_state_rows.specs.Changes.Asking.{AreOwnUnits}
 use Rattle.opfs_hist.specs.declared.entry.Entry.{Entry}
 use Rattle.opfs_hist.specs.declared.op.Op.{Op}
 use Rattle.opfs_laws.specs.Lengths.Outlines.{in_lengths_of}

@@ -2,8 +2,8 @@
 use Rattle.std.specs.Prelude.{◌≡◌, ℕ, true, false, List, ◌∷◌, ◌++◌, [], fold, Some, Ok, IsSome, IsTrue}
 use Rattle.opfs_base.specs.Texts.{Text}
 use Rattle.opfs_base.specs.Units.{unit_of}
-use Rattle.opfs_changes.specs.Allowed.{MayApply}
-use Rattle.opfs_changes.specs.Asking.{AreOwnUnits, is_beside}
+use Rattle.opfs_state_rows.specs.Changes.Allowed.{MayApply}
+use Rattle.opfs_state_rows.specs.Changes.Asking.{AreOwnUnits, is_beside}
 use Rattle.opfs_hist.specs.declared.entry.Entry.{Entry}
 use Rattle.opfs_hist.specs.declared.op.Op.{Op}
 use Rattle.opfs_laws.specs.Whole.{IsWholeOpening}

@@ -10,8 +10,8 @@ use Rattle.opfs_machine.specs.Contents.{in_lengths}
 use Rattle.opfs_machine.specs.Rows.{Rows}
 use Rattle.opfs_machine.specs.Sums.{durable_blocks, pool}
 use Rattle.opfs_machine.specs.Victims.{cleared}
-use Rattle.opfs_standing.specs.Seen.{Machine}
-use Rattle.opfs_standing.specs.Sums.{where_unit}
+use Rattle.opfs_state_rows.specs.Standing.Seen.{Machine}
+use Rattle.opfs_state_rows.specs.Standing.Sums.{where_unit}
 
 abbrev weight : Place × Row ℕ → ℕ
 weight e = durable_blocks in_lengths e.1

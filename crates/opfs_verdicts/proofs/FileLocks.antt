@@ -22,7 +22,7 @@ use Rattle.opfs_machine.specs.declared.state.Row.{Row}
 use Rattle.opfs_machine.specs.declared.state.Row.TheVariants as row
 use Rattle.opfs_machine.specs.Rows.{Rows, row_at, file_at, file_of, kind_of, rows_within, first_locked, taken_lock}
 use Rattle.opfs_machine.specs.Rulings.{lock_in}
-use Rattle.opfs_standing.specs.Seen.{Machine}
+use Rattle.opfs_state_rows.specs.Standing.Seen.{Machine}
 
 some_is : {A : Type 0} {x y : A} → Some x ≡ Some y → x ≡ y
 some_is h = cc

@@ -18,7 +18,7 @@ use Rattle.opfs_machine.specs.Victims.{cleared, shortest_front}
 use Rattle.opfs_pool.specs.Shares.{Shares, text_cmp}
 use Rattle.opfs_pool.specs.Victims.{use_cmp, Uses, last_in, Candidates, with_candidate}
 use Rattle.opfs_pool.specs.Victims.{shortest_front as front_of}
-use Rattle.opfs_standing.specs.Seen.{Machine}
+use Rattle.opfs_state_rows.specs.Standing.Seen.{Machine}
 use Rattle.opfs_verdicts.proofs.Clearing.{rows_blocks, rows-kept, pool-cleared}
 
 use_total : IsTotalOrder use_cmp

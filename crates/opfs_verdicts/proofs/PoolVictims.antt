@@ -24,9 +24,9 @@ use Rattle.opfs_pool.specs.Shares.{Shares, Blocks, text_cmp, is_unit, share_at, 
 use Rattle.opfs_pool.specs.Victims.{use_cmp, Uses, last_in}
 use Rattle.opfs_pool.specs.Victims.{is_candidate as is_share_candidate, candidates as share_candidates, victims as pool_victims}
 use Rattle.opfs_pool.specs.declared.pool.Share.{Share}
-use Rattle.opfs_standing.specs.Pooled.{IsPooled}
-use Rattle.opfs_standing.specs.Seen.{Machine}
-use Rattle.opfs_standing.specs.Sums.{reserve_where, clearable}
+use Rattle.opfs_state_rows.specs.Standing.Pooled.{IsPooled}
+use Rattle.opfs_state_rows.specs.Standing.Seen.{Machine}
+use Rattle.opfs_state_rows.specs.Standing.Sums.{reserve_where, clearable}
 use Rattle.opfs_verdicts.proofs.Clearing.{rows_blocks}
 use Rattle.opfs_verdicts.proofs.Fronts.{keys-folded, map-map, Good, folded, front-same}
 use Rattle.opfs_verdicts.proofs.Roots.{units_of, units-same}

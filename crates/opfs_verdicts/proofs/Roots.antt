@@ -19,9 +19,9 @@ use Rattle.opfs_machine.specs.Victims.{root_unit, root_units, is_callers, none_t
 use Rattle.opfs_pool.specs.Shares.{Shares, Blocks, text_cmp, is_unit, share_at, first_share}
 use Rattle.opfs_pool.specs.Victims.{is_candidate as is_share_candidate}
 use Rattle.opfs_pool.specs.declared.pool.Share.{Share}
-use Rattle.opfs_standing.specs.Pooled.{IsPooled}
-use Rattle.opfs_standing.specs.Seen.{Machine}
-use Rattle.opfs_standing.specs.Sums.{clearable}
+use Rattle.opfs_state_rows.specs.Standing.Pooled.{IsPooled}
+use Rattle.opfs_state_rows.specs.Standing.Seen.{Machine}
+use Rattle.opfs_state_rows.specs.Standing.Sums.{clearable}
 
 -- Texts as the keys of a map.
 abbrev pub keyed : List Text → List (Text × Unit {0})

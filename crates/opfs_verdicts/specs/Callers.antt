@@ -3,7 +3,7 @@ use Rattle.std.specs.Prelude.{◌≡◌, ℕ, ◌<◌, ◌≤◌, length, Option
 use Rattle.opfs_base.specs.Texts.{Text}
 use Rattle.opfs_base.specs.Units.{origin_of}
 use Rattle.opfs_machine.specs.Agents.{agent_of}
-use Rattle.opfs_standing.specs.Seen.{Machine}
+use Rattle.opfs_state_rows.specs.Standing.Seen.{Machine}
 
 -- There is an agent of this number.
 pub record IsAgent (m : Machine) (k : ℕ) : Type 0 where

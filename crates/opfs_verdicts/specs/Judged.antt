@@ -9,7 +9,7 @@ use Rattle.opfs_machine.specs.Contents.{in_lengths}
 use Rattle.opfs_machine.specs.Ruled.{Ruled}
 use Rattle.opfs_machine.specs.Rulings.{ruling, locked_by}
 use Rattle.opfs_machine.specs.Sums.{no_need}
-use Rattle.opfs_standing.specs.Seen.{Machine}
+use Rattle.opfs_state_rows.specs.Standing.Seen.{Machine}
 use Rattle.opfs_verdicts.specs.Callers.{AsksByKey}
 
 -- What is refused where a lock is not open.

@@ -8,7 +8,7 @@ ghost use Rattle.opfs_verdicts.specs.Callers.{IsAgent};
 
 use opfs_base::{Key, Text};
 use opfs_machine::{HandleOutline, StreamOutline};
-use opfs_standing::Standing;
+use opfs_state_rows::Standing;
 
 /// The key of an agent's origin.
 pub fn key(standing: &Standing, agent: u32) -> Option<&Key>

@@ -11,7 +11,7 @@ use opfs_base::{Text, is_bucket_name, mode_charge, unit_of};
 use opfs_hist::Refusal;
 use opfs_machine::Need;
 use opfs_rulings::Ruled;
-use opfs_standing::Standing;
+use opfs_state_rows::Standing;
 use std::alloc::Global;
 
 /// persist.

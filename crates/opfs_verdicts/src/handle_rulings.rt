@@ -14,7 +14,7 @@ use opfs_base::{Kind, Locator, blocks, times};
 use opfs_hist::{Mode, Refusal};
 use opfs_machine::{Need, Sizes};
 use opfs_rulings::{Ruled, want_of};
-use opfs_standing::Standing;
+use opfs_state_rows::Standing;
 
 /// createSyncAccessHandle.
 pub fn create_sync_ruling(standing: &Standing, at: &Locator, mode: Mode) -> Result<Need, Refusal>

@@ -21,7 +21,7 @@ use opfs_hist::{Op, Refusal};
 use opfs_machine::{Need, Sizes};
 use opfs_pool::Keys;
 use opfs_rulings::{Ruled, size_written};
-use opfs_standing::Standing;
+use opfs_state_rows::Standing;
 use std::alloc::Global;
 
 /// What a call of an agent refuses, or asks for.

@@ -8,7 +8,7 @@ ghost use Rattle.opfs_machine.specs.Rulings.{lock_in};
 
 use opfs_base::{Key, Kind, Path};
 use opfs_locks::{LockValue, Want};
-use opfs_standing::Standing;
+use opfs_state_rows::Standing;
 
 /// Whether a lock is given as asked.
 pub fn is_given(want: Want, lock: (LockValue, u32)) -> bool

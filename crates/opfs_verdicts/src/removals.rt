@@ -12,7 +12,7 @@ use opfs_hist::Refusal;
 use opfs_locks::LockValue;
 use opfs_machine::{Need, Place};
 use opfs_rulings::{Ruled, child_place};
-use opfs_standing::Standing;
+use opfs_state_rows::Standing;
 use std::alloc::Global;
 
 /// Whether what is below a place does not keep it.

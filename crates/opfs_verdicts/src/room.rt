@@ -17,7 +17,7 @@ use opfs_hist::Refusal;
 use opfs_machine::Need;
 use opfs_pool::Keys;
 use opfs_rulings::Ruled;
-use opfs_standing::Standing;
+use opfs_state_rows::Standing;
 use std::alloc::{AllocError, Global};
 
 /// The blocks that the caller's origin uses; those of no origin for a caller without a key.

@@ -13,7 +13,7 @@ use opfs_base::{Kind, Locator, Path, Text, is_bucket_name, is_valid_name, place_
 use opfs_hist::Refusal;
 use opfs_machine::{Need, Place};
 use opfs_rulings::{Ruled, child_place, root_of};
-use opfs_standing::Standing;
+use opfs_state_rows::Standing;
 use std::alloc::{AllocError, Global};
 
 /// What asks for nothing.

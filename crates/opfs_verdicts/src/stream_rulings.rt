@@ -19,7 +19,7 @@ use opfs_hist::Refusal;
 use opfs_locks::Want;
 use opfs_machine::Need;
 use opfs_rulings::Ruled;
-use opfs_standing::Standing;
+use opfs_state_rows::Standing;
 use std::alloc::AllocError;
 
 /// The need of keeping so many blocks more.

@@ -8,7 +8,7 @@ use Rattle.opfs_machine.specs.Histories.{state_after}
 use Rattle.opfs_records.specs.Replay.Built.{named}
 use Rattle.opfs_row_puts.specs.Plans.{MayFindBlocks}
 use Rattle.opfs_records.specs.Checkpoint.Written.{stored_rows}
-use Rattle.opfs_standing.specs.Seen.{lines_of}
+use Rattle.opfs_state_rows.specs.Standing.Seen.{lines_of}
 use Rattle.opfs_state.specs.Applied.{StateSeen}
 use Rattle.opfs_tree.specs.Rows.{Rows as Tree}
 use Rattle.opfs_desk_contents.proofs.Found.{enough-now, may-find, settled-rows, spaced-held, then-cleared, waits-now}

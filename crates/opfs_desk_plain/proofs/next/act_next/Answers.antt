@@ -4,7 +4,7 @@ use Rattle.opfs_acts.specs.Acting.{unread_gift}
 use Rattle.opfs_hist.specs.declared.reply.Reply.{Reply}
 use Rattle.opfs_laws.specs.Histories.Unread.{unread}
 use Rattle.opfs_machine.specs.Histories.{state_after}
-use Rattle.opfs_standing.specs.Seen.{Machine}
+use Rattle.opfs_state_rows.specs.Standing.Seen.{Machine}
 use Rattle.opfs_desk_parts.specs.Acted.{HasActed}
 use Rattle.opfs_desk_parts.specs.Seen.{machine_in, tree_in, call_in}
 use Rattle.opfs_desk_plain.specs.Silent.{BeginsCall}

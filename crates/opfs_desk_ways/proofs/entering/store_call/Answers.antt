@@ -1,6 +1,6 @@
 use Rattle.std.proofs.Common.{◌++◌, length, refl, ap, arith}
 use Rattle.opfs_book_laws.specs.Laws.{failed}
-use Rattle.opfs_changes.specs.Changed.{freed_in}
+use Rattle.opfs_state_rows.specs.Changes.Changed.{freed_in}
 use Rattle.opfs_desk_parts.specs.Seen.{machine_in, tree_in, book_in}
 use Rattle.opfs_desk_parts.specs.declared.parts.Ledger.{Ledger}
 use Rattle.opfs_desk_ways.proofs.Books.{room-freed, may-apply, may-refuse}

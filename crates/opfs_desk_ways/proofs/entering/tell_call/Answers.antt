@@ -1,5 +1,5 @@
 use Rattle.std.proofs.Common.{◌++◌, length, refl, sym, ap, arith}
-use Rattle.opfs_changes.specs.Changed.{freed_in}
+use Rattle.opfs_state_rows.specs.Changes.Changed.{freed_in}
 use Rattle.opfs_commit.specs.Seen.{KeptBack}
 use Rattle.opfs_desk_parts.specs.Seen.{machine_in, tree_in, book_in}
 use Rattle.opfs_desk_parts.specs.declared.parts.Ledger.{Ledger}

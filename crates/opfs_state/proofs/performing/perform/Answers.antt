@@ -1,5 +1,5 @@
 use Rattle.std.proofs.Common.{refl, sym, subst}
-use Rattle.opfs_changes.specs.Changed.{IsDone}
+use Rattle.opfs_state_rows.specs.Changes.Changed.{IsDone}
 use Rattle.opfs_state.proofs.performing.perform.Goals as goal
 
 pub post-requires-clause-ready : goal.post-requires-clause-ready

@@ -1,5 +1,5 @@
 use Rattle.std.proofs.Common.{◌≡◌, ◌++◌, sym, subst}
-use Rattle.opfs_changes.specs.Changed.{IsDone, freed_by}
+use Rattle.opfs_state_rows.specs.Changes.Changed.{IsDone, freed_by}
 use Rattle.opfs_state.proofs.performing.perform_freeing.Goals as goal
 
 pub returns-in-RemoveEntry-clause-done : goal.returns-in-RemoveEntry-clause-done

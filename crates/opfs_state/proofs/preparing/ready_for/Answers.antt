@@ -1,5 +1,5 @@
 use Rattle.std.proofs.Common.{refl, sym, ap, subst, ◌∙◌}
-use Rattle.opfs_changes.specs.Asking.{IsAccepted, made_at}
+use Rattle.opfs_state_rows.specs.Changes.Asking.{IsAccepted, made_at}
 use Rattle.opfs_state.proofs.Standby.{directory-asked, file-asked, remove-asked, row-ready, quiet-ready, not-asked, remove-ready, snapshot-ready, writable-ready, sync-ready, write-ready, truncate-ready, flush-ready, persist-ready, post-ready, wait-ready, if-both, if-then}
 use Rattle.opfs_state.specs.Applied.{IsReady}
 use Rattle.opfs_state.specs.declared.state.Ready.{Ready}

@@ -1,5 +1,5 @@
 use Rattle.std.proofs.Common.{ap, ◌∙◌}
-use Rattle.opfs_standing.specs.Seen.{Seen}
+use Rattle.opfs_state_rows.specs.Standing.Seen.{Seen}
 use Rattle.opfs_state.proofs.Readied.{free-line, free-row}
 use Rattle.opfs_tree.specs.Rows.{row_at}
 use Rattle.opfs_state.proofs.preparing.ready_row.Goals as goal

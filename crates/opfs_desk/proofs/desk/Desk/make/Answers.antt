@@ -9,7 +9,7 @@ use Rattle.opfs_machine.specs.Histories.{state_after}
 use Rattle.opfs_machine.specs.declared.state.Limits.{Limits}
 use Rattle.opfs_openings.specs.Openings.{fixed_by, limits_by}
 use Rattle.opfs_space.specs.Room.{Machine}
-use Rattle.opfs_standing.specs.Beginnings.{IsBegun}
+use Rattle.opfs_state_rows.specs.Standing.Beginnings.{IsBegun}
 use Rattle.opfs_state.specs.Applied.{StateSeen, opened}
 use Rattle.opfs_tree.specs.Rows.{Rows as Tree}
 use Rattle.opfs_desk_laws.specs.Handles.{AreHandlesWhole}

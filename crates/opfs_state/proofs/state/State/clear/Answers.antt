@@ -1,7 +1,7 @@
 use Rattle.std.proofs.Common.{[], sym, ap, ◌∙◌}
 use Rattle.std.specs.Prelude.{is_some}
 use Rattle.opfs_machine.specs.Rows.{row_at}
-use Rattle.opfs_standing.proofs.Lines.{there-at}
+use Rattle.opfs_state_rows.proofs.standing.Lines.{there-at}
 use Rattle.opfs_state.proofs.state.State.clear.Goals as goal
 
 pub clear-requires-clause-root : goal.clear-requires-clause-root

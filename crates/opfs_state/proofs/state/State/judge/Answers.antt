@@ -1,5 +1,5 @@
 use Rattle.std.proofs.Common.{sym, subst}
-use Rattle.opfs_changes.specs.Asking.{AreOwnUnits}
+use Rattle.opfs_state_rows.specs.Changes.Asking.{AreOwnUnits}
 use Rattle.opfs_state.specs.Applied.{StateSeen}
 use Rattle.opfs_state.proofs.Keyless.{keyless-asks-nothing}
 use Rattle.opfs_state.proofs.state.State.judge.Goals as goal

@@ -1,8 +1,0 @@
-use Rattle.std.proofs.Common.{option_map, ap, ◌∙◌}
-use Rattle.opfs_standing.specs.Seen.{Seen}
-use Rattle.opfs_machine.specs.Rows.{kind_of, row_at}
-use Rattle.opfs_standing.proofs.ReadLines.{kind-read}
-use Rattle.opfs_standing.proofs.standing.Standing.kind.Goals as goal
-
-pub returns : goal.returns
-returns c = c.kind.ensures ∙ (kind-read c.self.inside.tree.rows c.self.inside.shed.buckets c.self.inside.register (c.args.unit.now, c.args.path.now) ∙ ap (λ (s : Seen). option_map kind_of (row_at s.machine (c.args.unit.now, c.args.path.now))) c.self.view_is)

@@ -1,0 +1,12 @@
+use Rattle.std.proofs.Common.{◌≡◌, ℕ, suc, ◌+◌, ◌-◌, ◌<◌, ◌≤◌, ◌^◌, Some, None, Option, List, length, refl, sym, ap, ◌∙◌, subst, arith}
+use Rattle.opfs_hist.specs.declared.op.Op.TheVariants as op
+use Rattle.opfs_state_rows.specs.Standing.Seen.{Machine, Seen}
+use Rattle.opfs_state_rows.proofs.changes.Found.{place-number}
+use Rattle.opfs_state_rows.specs.Changes.Changed.{IsDone}
+use Rattle.opfs_state_rows.proofs.changes.Plainly.{await-done}
+use Rattle.opfs_state_rows.proofs.changes.agents.await_tag.Goals as goal
+
+pub returns-clause-done : goal.returns-clause-done
+returns-clause-done c = λ extents.
+    subst (λ k. IsDone c.args.store.now c.count.new.self c.args.sizes k (op.Await c.args.tag.now) extents) (place-number c.args.agent c.requires.may.above)
+    (await-done c.args.store.now c.stop_waiting.new.self c.count.new.self c.args.sizes (c.args.agent - 1) extents c.count.ensures (ap (λ (x : Seen). x.tree) c.stop_waiting.ensures) c.args.tag.now (ap (λ (x : Seen). x.machine) c.stop_waiting.ensures))

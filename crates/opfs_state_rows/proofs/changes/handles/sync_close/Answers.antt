@@ -1,0 +1,115 @@
+use Rattle.std.proofs.Common.{◌≡◌, ℕ, suc, ◌+◌, ◌-◌, ◌<◌, ◌≤◌, ◌^◌, ◌++◌, Some, None, Option, List, length, vec_capacity, refl, sym, ap, ◌∙◌, subst, arith}
+use Rattle.std.proofs.lemmas.List.{append-nil}
+use Rattle.opfs_base.specs.Blocks.{blocks}
+use Rattle.opfs_hist.specs.declared.op.Op.TheVariants as op
+use Rattle.opfs_locks.specs.Holding.{IsTakenAs}
+use Rattle.opfs_locks.specs.declared.Want.{Want}
+use Rattle.opfs_machine.specs.declared.own.HandleOutline.{HandleOutline}
+use Rattle.opfs_machine.specs.declared.own.Outline.TheVariants as outline
+use Rattle.opfs_machine.specs.Agents.{open_handle}
+use Rattle.opfs_machine.specs.Contents.{in_lengths}
+use Rattle.opfs_machine.specs.Rulings.{want_of}
+use Rattle.opfs_machine.specs.Sums.{pool}
+use Rattle.opfs_register.specs.Slots.{handle_at}
+use Rattle.opfs_state_rows.proofs.standing.SlotMoves.{closed-handle-row}
+use Rattle.opfs_state_rows.proofs.changes.Covering.{flush-room}
+use Rattle.opfs_state_rows.proofs.changes.Found.{numbered, place-number, handle-above, is-handle-at, handle-held, held-in, none-open, some-open}
+use Rattle.opfs_state_rows.proofs.changes.Settled.{opened-handle, changed-there, closed-done, close-frees, none-closed, none-freed}
+use Rattle.opfs_state_rows.proofs.changes.Twice.{some-file, if-file}
+use Rattle.opfs_state_rows.specs.Changes.Changed.{IsDone, freed_in, flushed_in, handle_frees, changed_by}
+use Rattle.opfs_tree.specs.declared.row.FileRow.{FileRow}
+use Rattle.opfs_tree.specs.Rows.{Rows, file_at}
+use Rattle.opfs_state_rows.proofs.changes.handles.sync_close.Goals as goal
+
+pub returns-then-not-has_handle-clause-done : goal.returns-then-not-has_handle-clause-done
+returns-then-not-has_handle-clause-done c =
+    let s = c.args.store.now in
+    subst (λ k. IsDone s c.count.new.self c.args.sizes k (op.SyncClose c.args.row) c.args.extents) (place-number c.args.agent c.requires.may.above)
+    (none-closed s c.count.new.self c.args.sizes (suc (c.args.agent - 1)) c.args.row c.args.extents
+    (subst (λ k. open_handle in_lengths s.machine k c.args.row ≡ None) (sym (place-number c.args.agent c.requires.may.above)) (none-open _ c.has_handle.result c.has_handle.ensures c.if-not-has_handle.true)) c.count.ensures)
+
+pub returns-then-not-has_handle-clause-freed : goal.returns-then-not-has_handle-clause-freed
+returns-then-not-has_handle-clause-freed c =
+    let s = c.args.store.now in
+    sym (append-nil c.args.freed.now.items) ∙ ap (λ xs. c.args.freed.now.items ++ xs) (sym (none-freed s.machine s.tree c.args.agent c.args.row c.args.extents (none-open _ c.has_handle.result c.has_handle.ensures c.if-not-has_handle.true)))
+
+pub close_handle-handle-requires : goal.close_handle-handle-requires
+close_handle-handle-requires c =
+    let m = c.args.store.now.machine in
+    let h = some-open (open_handle in_lengths m c.args.agent c.args.row) c.has_handle.result c.has_handle.ensures c.if-not-has_handle.false in
+    record {
+      handle =
+          is-handle-at m c.args.agent (c.args.agent - 1) c.args.row (c.args.row - 1) h.0 c.requires.may.kept (place-number c.args.agent c.requires.may.above)
+          (place-number c.args.row (handle-above m c.args.agent c.args.row h.0 h.1)) h.1;
+    }
+
+pub flush_by-requires-clause-there : goal.flush_by-requires-clause-there
+flush_by-requires-clause-there c =
+    let m = c.args.store.now.machine in
+    let v = c.into_parts-outline.result.0 in
+    let found : handle_at m.agents (c.args.agent - 1) (c.args.row - 1) ≡ Some v = c.close_handle-handle.ensures.handle ∙ ap Some (sym c.into_parts-outline.ensures.outline) in
+    let held = held-in m c.args.store.now.tree v.file (want_of v.mode) c.lines.ensures (handle-held m (suc (c.args.agent - 1)) (suc (c.args.row - 1)) v c.requires.may.kept (opened-handle m (c.args.agent - 1) (c.args.row - 1) v found)) in
+    some-file (ap (file_at v.file) c.close_handle-handle.ensures.tree ∙ held.found)
+
+pub flush_by-requires-clause-room : goal.flush_by-requires-clause-room
+flush_by-requires-clause-room c = λ writes.
+    let m = c.args.store.now.machine in
+    let v = c.into_parts-outline.result.0 in
+    let found : handle_at m.agents (c.args.agent - 1) (c.args.row - 1) ≡ Some v = c.close_handle-handle.ensures.handle ∙ ap Some (sym c.into_parts-outline.ensures.outline) in
+    let held = held-in m c.args.store.now.tree v.file (want_of v.mode) c.lines.ensures (handle-held m (suc (c.args.agent - 1)) (suc (c.args.row - 1)) v c.requires.may.kept (opened-handle m (c.args.agent - 1) (c.args.row - 1) v found)) in
+    let room =
+    flush-room m c.close_handle-handle.new.self.machine (c.args.agent - 1) (c.args.row - 1) v outline.ClosedHandle found c.close_handle-handle.ensures.machine (closed-handle-row v.file.0) refl refl c.requires.may.kept held.file held.there
+    (subst (λ f. IsTakenAs (want_of v.mode) f.lock) (sym held.same) held.taken) writes in
+    let present = ap (λ f. blocks f.present) held.same in
+    let durable = ap (λ f. blocks f.durable) held.same in
+    if-file (λ f. pool in_lengths c.close_handle-handle.new.self.machine + blocks f.present ≤ c.close_handle-handle.new.self.machine.limits.blocks + blocks f.length) _ held.row (ap (file_at v.file) c.close_handle-handle.ensures.tree ∙ held.found)
+    (omega (arith, room, present, durable))
+
+pub flush_by-requires-clause-fits : goal.flush_by-requires-clause-fits
+flush_by-requires-clause-fits c =
+    let m = c.args.store.now.machine in
+    let h = some-open (open_handle in_lengths m c.args.agent c.args.row) c.has_handle.result c.has_handle.ensures c.if-not-has_handle.false in
+    let v = c.into_parts-outline.result.0 in
+    let found : handle_at m.agents (c.args.agent - 1) (c.args.row - 1) ≡ Some v = c.close_handle-handle.ensures.handle ∙ ap Some (sym c.into_parts-outline.ensures.outline) in
+    let frees = numbered (λ k row. freed_in m c.args.store.now.tree k (op.SyncClose row) c.args.extents ≡ handle_frees c.args.store.now.tree c.args.extents (Some v)) c.args.agent (c.args.agent - 1) c.args.row (c.args.row - 1) (place-number c.args.agent c.requires.may.above) (place-number c.args.row (handle-above m c.args.agent c.args.row h.0 h.1)) (close-frees m c.args.store.now.tree (c.args.agent - 1) (c.args.row - 1) v c.args.extents found) in
+    subst (λ xs. length (c.args.freed.now.items ++ xs) ≤ vec_capacity c.args.freed.now) (frees ∙ ap (λ (t : Rows). handle_frees t c.args.extents (Some v)) (sym c.close_handle-handle.ensures.tree)) c.requires.fits
+
+pub unlock-requires-clause-there : goal.unlock-requires-clause-there
+unlock-requires-clause-there c =
+    let m = c.args.store.now.machine in
+    let v = c.into_parts-outline.result.0 in
+    let found : handle_at m.agents (c.args.agent - 1) (c.args.row - 1) ≡ Some v = c.close_handle-handle.ensures.handle ∙ ap Some (sym c.into_parts-outline.ensures.outline) in
+    let held = held-in m c.args.store.now.tree v.file (want_of v.mode) c.lines.ensures (handle-held m (suc (c.args.agent - 1)) (suc (c.args.row - 1)) v c.requires.may.kept (opened-handle m (c.args.agent - 1) (c.args.row - 1) v found)) in
+    let there = changed-there c.args.store.now.tree v.mode v.file (flushed_in c.args.extents) held.row (λ f. refl) held.found in
+    some-file (ap (file_at v.file) (c.flush_by.ensures.tree ∙ ap (λ (t : Rows). changed_by t v.mode v.file (flushed_in c.args.extents)) c.close_handle-handle.ensures.tree) ∙ there.1)
+
+pub unlock-requires-clause-taken : goal.unlock-requires-clause-taken
+unlock-requires-clause-taken c =
+    let m = c.args.store.now.machine in
+    let v = c.into_parts-outline.result.0 in
+    let found : handle_at m.agents (c.args.agent - 1) (c.args.row - 1) ≡ Some v = c.close_handle-handle.ensures.handle ∙ ap Some (sym c.into_parts-outline.ensures.outline) in
+    let held = held-in m c.args.store.now.tree v.file (want_of v.mode) c.lines.ensures (handle-held m (suc (c.args.agent - 1)) (suc (c.args.row - 1)) v c.requires.may.kept (opened-handle m (c.args.agent - 1) (c.args.row - 1) v found)) in
+    let there = changed-there c.args.store.now.tree v.mode v.file (flushed_in c.args.extents) held.row (λ f. refl) held.found in
+    let want : c.into_parts-outline.result.1 ≡ want_of v.mode = c.into_parts-outline.ensures.held ∙ ap (λ (x : HandleOutline). want_of x.mode) (sym c.into_parts-outline.ensures.outline) in
+    if-file _ _ there.0 (ap (file_at v.file) (c.flush_by.ensures.tree ∙ ap (λ (t : Rows). changed_by t v.mode v.file (flushed_in c.args.extents)) c.close_handle-handle.ensures.tree) ∙ there.1)
+    (subst (λ (x : Want). IsTakenAs x there.0.lock) (sym want) (subst (IsTakenAs (want_of v.mode)) (sym there.2) held.taken))
+
+pub returns-clause-done : goal.returns-clause-done
+returns-clause-done c =
+    let m = c.args.store.now.machine in
+    let h = some-open (open_handle in_lengths m c.args.agent c.args.row) c.has_handle.result c.has_handle.ensures c.if-not-has_handle.false in
+    let v = c.into_parts-outline.result.0 in
+    let found : handle_at m.agents (c.args.agent - 1) (c.args.row - 1) ≡ Some v = c.close_handle-handle.ensures.handle ∙ ap Some (sym c.into_parts-outline.ensures.outline) in
+    numbered (λ k row. IsDone c.args.store.now c.count-2.new.self c.args.sizes k (op.SyncClose row) c.args.extents) c.args.agent (c.args.agent - 1) c.args.row (c.args.row - 1) (place-number c.args.agent c.requires.may.above)
+    (place-number c.args.row (handle-above m c.args.agent c.args.row h.0 h.1))
+    (closed-done c.args.store.now c.close_handle-handle.new.self c.flush_by.new.store c.count-2.new.self c.args.sizes (c.args.agent - 1) (c.args.row - 1) v c.args.extents found c.close_handle-handle.ensures.tree c.unlock.new.self
+    c.close_handle-handle.ensures.machine c.unlock.ensures.machine c.unlock.ensures.tree c.count-2.ensures c.flush_by.ensures.machine c.flush_by.ensures.tree)
+
+pub returns-clause-freed : goal.returns-clause-freed
+returns-clause-freed c =
+    let m = c.args.store.now.machine in
+    let h = some-open (open_handle in_lengths m c.args.agent c.args.row) c.has_handle.result c.has_handle.ensures c.if-not-has_handle.false in
+    let v = c.into_parts-outline.result.0 in
+    let found : handle_at m.agents (c.args.agent - 1) (c.args.row - 1) ≡ Some v = c.close_handle-handle.ensures.handle ∙ ap Some (sym c.into_parts-outline.ensures.outline) in
+    let frees = numbered (λ k row. freed_in m c.args.store.now.tree k (op.SyncClose row) c.args.extents ≡ handle_frees c.args.store.now.tree c.args.extents (Some v)) c.args.agent (c.args.agent - 1) c.args.row (c.args.row - 1) (place-number c.args.agent c.requires.may.above) (place-number c.args.row (handle-above m c.args.agent c.args.row h.0 h.1)) (close-frees m c.args.store.now.tree (c.args.agent - 1) (c.args.row - 1) v c.args.extents found) in
+    c.flush_by.ensures.freed ∙ ap (λ xs. c.args.freed.now.items ++ xs) (ap (λ (t : Rows). handle_frees t c.args.extents (Some v)) c.close_handle-handle.ensures.tree ∙ sym frees)

@@ -1,0 +1,13 @@
+use Rattle.std.proofs.Common.{◌<◌, List, length, refl, sym, ap, subst}
+use Rattle.opfs_machine.specs.declared.own.Outline.{Outline}
+use Rattle.opfs_machine.specs.declared.state.Agent.{Agent}
+use Rattle.opfs_register.specs.Registers.{Registered}
+use Rattle.opfs_state_rows.proofs.standing.AgentMoves.{KeepsAll, iterators-kept, rest-tied}
+use Rattle.opfs_state_rows.proofs.standing.standing.Standing.add_iterator.Goals as goal
+
+pub invariant_of-self : goal.invariant_of-self
+invariant_of-self c =
+    let inside : c.args.at < length c.self.inside.register.agents = rw (← c.self.view_is) at c.requires.inside in
+    let is = c.add_iterator.ensures in
+    rest-tied c.self.inside.tree.rows c.self.inside.shed c.self.inside.pool c.self.inside.register c.add_iterator.new.self c.self.inside.fixed c.self.inside.root c.self.invariant (ap (λ (r : Registered). r.limits) is)
+    (subst (λ (xs : List (Agent Outline)). KeepsAll c.self.inside.register.agents xs) (sym (ap (λ (r : Registered). r.agents) is)) (iterators-kept c.self.inside.register.agents c.args.at _ inside 1 refl))
