@@ -14,7 +14,7 @@ use Rattle.opfs_machine.specs.declared.own.Own.{Own}
 use Rattle.opfs_machine.specs.declared.state.State.{State}
 use Rattle.opfs_machine.specs.Agents.{is_posted, others_stuck, party_of, party_with}
 use Rattle.opfs_space.specs.Room.{Machine}
-use Rattle.opfs_verdicts.specs.Callers.{IsAgent}
+use Rattle.opfs_state.specs.Verdicts.Callers.{IsAgent}
 
 abbrev by_state : Bool → Bool → AwaitState
 by_state posted stuck = elim posted [ true ↦ await.Posted | false ↦ elim stuck [ true ↦ await.Stuck | false ↦ await.Neither ] ]

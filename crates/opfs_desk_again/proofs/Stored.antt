@@ -52,7 +52,7 @@ use Rattle.opfs_state.specs.Reading.{row_file}
 use Rattle.opfs_tree.specs.Rows.{Rows as Tree, IsInOrder, file_at as file_in_tree, row_at}
 use Rattle.opfs_tree.specs.declared.row.FileRow.{FileRow}
 use Rattle.opfs_tree.specs.declared.row.Row.TheVariants as tree_row
-use Rattle.opfs_verdicts.specs.Callers.{IsAgent}
+use Rattle.opfs_state.specs.Verdicts.Callers.{IsAgent}
 use Rattle.opfs_work.specs.Works.{WorkingCopy}
 use Rattle.opfs_desk_contents.specs.Rows.{IsWriterOf}
 use Rattle.opfs_desk_contents.specs.Storing.{HasStored, MayStoreContent, content_now}

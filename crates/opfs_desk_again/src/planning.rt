@@ -7,7 +7,7 @@ ghost use Rattle.opfs_state_rows.specs.Standing.Seen.{lines_of};
 ghost use Rattle.opfs_state.specs.Reading.{row_file};
 ghost use Rattle.opfs_tree.specs.Rows.{file_at as file_in_tree};
 ghost use Rattle.opfs_tree.specs.declared.row.FileRow.{FileRow};
-ghost use Rattle.opfs_verdicts.specs.Callers.{IsAgent};
+ghost use Rattle.opfs_state.specs.Verdicts.Callers.{IsAgent};
 
 use opfs_base::{Extents, copy_place};
 use opfs_desk_parts::Ledger;

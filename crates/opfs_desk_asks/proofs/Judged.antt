@@ -38,9 +38,9 @@ use Rattle.opfs_sharing.proofs.Pending.{sum-noted}
 use Rattle.opfs_sharing.specs.Noting.{noted}
 use Rattle.opfs_state_rows.specs.Standing.Noted.{with_sum}
 use Rattle.opfs_state_rows.specs.Standing.Seen.{Machine}
-use Rattle.opfs_state_laws.specs.Judged.{NotesDecideNothing}
-use Rattle.opfs_state_laws.specs.Owned.{CallsAreAboutOwnUnits}
-use Rattle.opfs_verdicts.specs.Callers.{IsAgent, IsCaller}
+use Rattle.opfs_state.specs.Laws.Judged.{NotesDecideNothing}
+use Rattle.opfs_state.specs.Laws.Owned.{CallsAreAboutOwnUnits}
+use Rattle.opfs_state.specs.Verdicts.Callers.{IsAgent, IsCaller}
 use Rattle.opfs_work.specs.Works.{WorkingCopy}
 use Rattle.opfs_desk_parts.specs.Held.{AreHeldWhole}
 use Rattle.opfs_desk_parts.specs.Seen.{machine_in}

@@ -17,8 +17,8 @@ use Rattle.opfs_machine.specs.Victims.{is_callers}
 use Rattle.opfs_register.specs.Seating.{noted}
 use Rattle.opfs_state_rows.specs.Standing.Noted.{with_sum}
 use Rattle.opfs_state_rows.specs.Standing.Seen.{Machine}
-use Rattle.opfs_state_laws.proofs.Readying.{agent-noted}
-use Rattle.opfs_verdicts.specs.Callers.{IsAgent}
+use Rattle.opfs_state.proofs.laws.Readying.{agent-noted}
+use Rattle.opfs_state.specs.Verdicts.Callers.{IsAgent}
 
 module _ {X : Type 0} (f : Outline → Option X) (none : f outline.Iterator ≡ None) where
   replicated : (more n : ℕ) → of_row f (slice_get (replicate more outline.Iterator) n) ≡ None

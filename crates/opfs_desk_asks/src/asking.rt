@@ -22,8 +22,8 @@ use opfs_laws::lengths::bridge::{
     lengths_decide_each_ruling, lengths_follow_each_call, local_calls_are_known_by_their_word,
 };
 use opfs_outside::Disk;
-use opfs_state_laws::judged::notes_decide_nothing;
-use opfs_state_laws::room::calls_are_about_own_units;
+use opfs_state::laws::judged::notes_decide_nothing;
+use opfs_state::laws::room::calls_are_about_own_units;
 use opfs_work::Work;
 use std::alloc::AllocError;
 

@@ -20,7 +20,7 @@ use opfs_laws::lengths::bridge::{
     lengths_decide_each_ruling, lengths_follow_each_call, local_calls_are_known_by_their_word,
 };
 use opfs_outside::Disk;
-use opfs_state_laws::judged::notes_decide_nothing;
+use opfs_state::laws::judged::notes_decide_nothing;
 use opfs_work::Work;
 
 /// Whether a call is abort, discard or end.

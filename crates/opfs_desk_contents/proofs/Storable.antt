@@ -28,7 +28,7 @@ use Rattle.opfs_row_puts.specs.Rows.{ArePlain}
 use Rattle.opfs_state.specs.Applied.{StateSeen, IsPrepared}
 use Rattle.opfs_tree.specs.Rows.{IsInOrder, file_at as file_in_tree}
 use Rattle.opfs_tree.specs.declared.row.FileRow.{FileRow}
-use Rattle.opfs_verdicts.specs.Callers.{IsAgent}
+use Rattle.opfs_state.specs.Verdicts.Callers.{IsAgent}
 use Rattle.opfs_desk_kept.specs.Changing.{HasNotChanged}
 use Rattle.opfs_desk_laws.specs.Open.{open_at, file_in}
 use Rattle.opfs_desk_parts.specs.Answered.{IsAnswered, MayChange}

@@ -16,7 +16,7 @@ ghost use Rattle.opfs_row_puts.specs.Plans.{shelf, AreGotten};
 ghost use Rattle.opfs_space.specs.Room.{Machine};
 ghost use Rattle.opfs_state.specs.Reading.{row_file};
 ghost use Rattle.opfs_tree.specs.Rows.{Rows as Tree};
-ghost use Rattle.opfs_verdicts.specs.Callers.{IsAgent};
+ghost use Rattle.opfs_state.specs.Verdicts.Callers.{IsAgent};
 
 use opfs_base::{Extent, copy_place};
 use opfs_data::DataRefusal;

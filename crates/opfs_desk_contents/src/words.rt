@@ -5,7 +5,7 @@ ghost use Rattle.opfs_desk_contents.specs.Words.{is_storing, ends_row, stamp_sto
 ghost use Rattle.opfs_machine.specs.Replies.{row_named};
 ghost use Rattle.opfs_tree.specs.Rows.{file_at as file_in_tree};
 ghost use Rattle.opfs_tree.specs.declared.row.FileRow.{FileRow};
-ghost use Rattle.opfs_verdicts.specs.Callers.{IsAgent};
+ghost use Rattle.opfs_state.specs.Verdicts.Callers.{IsAgent};
 
 use opfs_hist::Op;
 use opfs_machine::Place;

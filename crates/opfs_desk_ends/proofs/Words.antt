@@ -50,10 +50,10 @@ use Rattle.opfs_space.specs.Files.{file_has}
 use Rattle.opfs_state_rows.specs.Standing.Contents.{undone_row}
 use Rattle.opfs_state_rows.specs.Standing.Noted.{with_sum}
 use Rattle.opfs_state_rows.specs.Standing.Seen.{Machine}
-use Rattle.opfs_state_laws.proofs.Readying.{agent-noted, handle-noted}
+use Rattle.opfs_state.proofs.laws.Readying.{agent-noted, handle-noted}
 use Rattle.opfs_tree.specs.Rows.{Rows as Tree, file_at as tree_file_at, unlocked}
 use Rattle.opfs_tree.specs.declared.row.FileRow.{FileRow}
-use Rattle.opfs_verdicts.specs.Callers.{IsAgent}
+use Rattle.opfs_state.specs.Verdicts.Callers.{IsAgent}
 use Rattle.opfs_desk_plain.proofs.Words.{before, from-some, none-for, ok-is}
 use Rattle.opfs_desk_ends.specs.Leaving.{is_leaving, is_reader, leaves_row}
 

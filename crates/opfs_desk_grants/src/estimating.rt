@@ -11,7 +11,7 @@ ghost use Rattle.opfs_desk_parts.specs.Seen.{call_in};
 ghost use Rattle.opfs_machine.specs.Agents.{agent_of};
 ghost use Rattle.opfs_machine.specs.Replies.{block_bytes};
 ghost use Rattle.opfs_records.specs.Replay.Built.{Built};
-ghost use Rattle.opfs_verdicts.specs.Callers.{IsAgent};
+ghost use Rattle.opfs_state.specs.Verdicts.Callers.{IsAgent};
 
 use opfs_acts::{Acted, Gift};
 use opfs_book_laws::{state_laws, the_state_is_kept};

@@ -13,7 +13,7 @@ ghost use Rattle.opfs_tree.specs.Rows.{file_at};
 ghost use Rattle.opfs_hist.specs.Sums.{makes_row};
 ghost use Rattle.opfs_machine.specs.Agents.{agent_of};
 ghost use Rattle.opfs_register.specs.Slots.{most_rows};
-ghost use Rattle.opfs_verdicts.specs.Callers.{IsAgent};
+ghost use Rattle.opfs_state.specs.Verdicts.Callers.{IsAgent};
 
 use opfs_base::Locator;
 use opfs_data::Swap;

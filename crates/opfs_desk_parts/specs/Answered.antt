@@ -15,7 +15,7 @@ use Rattle.opfs_outside.specs.declared.disk.Disk.{Ghosts as DiskWords}
 use Rattle.opfs_records.specs.Replay.Built.{Built}
 use Rattle.opfs_register.specs.Slots.{most_rows}
 use Rattle.opfs_state.specs.Applied.{IsPrepared}
-use Rattle.opfs_verdicts.specs.Callers.{IsAgent}
+use Rattle.opfs_state.specs.Verdicts.Callers.{IsAgent}
 use Rattle.opfs_desk_parts.specs.Held.{AreHeldAt}
 use Rattle.opfs_desk_parts.specs.Seen.{machine_in}
 use Rattle.opfs_desk_parts.specs.declared.parts.Ledger.{Ledger}

@@ -26,8 +26,8 @@ use Rattle.opfs_machine.specs.Steps.{judged, room_for}
 use Rattle.opfs_machine.specs.Sums.{is_persistent}
 use Rattle.opfs_state_rows.specs.Standing.Noted.{with_sum}
 use Rattle.opfs_state_rows.specs.Standing.Seen.{Machine}
-use Rattle.opfs_state_laws.proofs.Readying.{agent-noted}
-use Rattle.opfs_verdicts.specs.Callers.{IsAgent}
+use Rattle.opfs_state.proofs.laws.Readying.{agent-noted}
+use Rattle.opfs_state.specs.Verdicts.Callers.{IsAgent}
 use Rattle.opfs_desk_plain.specs.Telling.{is_of_mode, mode_answer}
 use Rattle.opfs_desk_plain.proofs.Words.{before, from-some, err-ok}
 

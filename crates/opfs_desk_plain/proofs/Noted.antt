@@ -19,8 +19,8 @@ use Rattle.opfs_sharing.specs.Noting.{noted}
 use Rattle.opfs_sharing.proofs.Pending.{sum-noted}
 use Rattle.opfs_state_rows.specs.Standing.Noted.{with_sum}
 use Rattle.opfs_state_rows.specs.Standing.Seen.{Machine}
-use Rattle.opfs_state_laws.specs.Readied.{StaysReadyAsNoted}
-use Rattle.opfs_verdicts.specs.Callers.{IsAgent}
+use Rattle.opfs_state.specs.Laws.Readied.{StaysReadyAsNoted}
+use Rattle.opfs_state.specs.Verdicts.Callers.{IsAgent}
 use Rattle.opfs_work.specs.Works.{WorkingCopy}
 use Rattle.opfs_desk_parts.specs.Seen.{machine_in}
 use Rattle.opfs_desk_parts.specs.declared.call.InHand.{InHand}

@@ -24,9 +24,9 @@ use Rattle.opfs_outside.specs.declared.disk.Disk.{Ghosts as DiskWords}
 use Rattle.opfs_records.specs.Replay.Built.{Built}
 use Rattle.opfs_row_puts.specs.Plans.{shelf}
 use Rattle.opfs_state_rows.specs.Standing.Seen.{Machine}
-use Rattle.opfs_state_laws.specs.Readied.{StaysReadyAsNoted}
+use Rattle.opfs_state.specs.Laws.Readied.{StaysReadyAsNoted}
 use Rattle.opfs_tree.specs.Rows.{Rows as Tree}
-use Rattle.opfs_verdicts.specs.Callers.{IsAgent}
+use Rattle.opfs_state.specs.Verdicts.Callers.{IsAgent}
 use Rattle.opfs_work.specs.Works.{WorkingCopy}
 use Rattle.opfs_desk_parts.specs.Acted.{HasActed}
 use Rattle.opfs_desk_parts.specs.Answered.{IsAnswered}

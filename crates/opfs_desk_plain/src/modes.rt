@@ -13,7 +13,7 @@ ghost use Rattle.opfs_machine.specs.Agents.{agent_of};
 ghost use Rattle.opfs_machine.specs.Replies.{origin_in};
 ghost use Rattle.opfs_machine.specs.Sums.{is_persistent};
 ghost use Rattle.opfs_records.specs.Replay.Built.{Built};
-ghost use Rattle.opfs_verdicts.specs.Callers.{IsAgent};
+ghost use Rattle.opfs_state.specs.Verdicts.Callers.{IsAgent};
 
 use crate::telling::{tell, telling_laws};
 use opfs_acts::{Acted, Gift};

@@ -19,7 +19,7 @@ ghost use Rattle.opfs_desk_steps.specs.Ready.{AskedCallsAreReady};
 ghost use Rattle.opfs_laws.specs.Lengths.Bridge.{LengthsDecideEachRuling, LengthsFollowEachCall, LocalCallsAreKnownByTheirWord};
 ghost use Rattle.opfs_machine.specs.Histories.{state_after};
 ghost use Rattle.opfs_records.specs.Replay.Built.{Built};
-ghost use Rattle.opfs_state_laws.specs.Readied.{StaysReadyAsNoted};
+ghost use Rattle.opfs_state.specs.Laws.Readied.{StaysReadyAsNoted};
 ghost use Rattle.opfs_work.specs.Works.{WorkingCopy};
 
 use opfs_book_laws::the_books_show_their_images;
@@ -35,7 +35,7 @@ use opfs_laws::lengths::bridge::{
     lengths_decide_each_ruling, lengths_follow_each_call, local_calls_are_known_by_their_word,
 };
 use opfs_outside::Disk;
-use opfs_state_laws::readied::what_is_ready_stays_as_calls_are_noted;
+use opfs_state::laws::readied::what_is_ready_stays_as_calls_are_noted;
 
 /// What is known of the steps of such a call.
 pub fn telling_laws<D: Disk>()

@@ -20,7 +20,7 @@ use Rattle.opfs_records.specs.Replay.Built.{Built}
 use Rattle.opfs_register.specs.Slots.{most_rows}
 use Rattle.opfs_sharing.specs.Serving.{MayApplyTo}
 use Rattle.opfs_state.specs.Applied.{StateSeen, IsPrepared}
-use Rattle.opfs_verdicts.specs.Callers.{IsAgent}
+use Rattle.opfs_state.specs.Verdicts.Callers.{IsAgent}
 use Rattle.opfs_desk_parts.specs.Answered.{IsAnswered, MayChange}
 use Rattle.opfs_desk_parts.specs.Held.{AreHeldWhole}
 use Rattle.opfs_desk_parts.specs.Seen.{machine_in, book_in}

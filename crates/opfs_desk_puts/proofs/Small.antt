@@ -24,7 +24,7 @@ use Rattle.opfs_outside.specs.declared.disk.Disk.{Ghosts as DiskWords}
 use Rattle.opfs_records.specs.Replay.Built.{Built}
 use Rattle.opfs_space.specs.Room.{Machine, HasRoom}
 use Rattle.opfs_space.proofs.Others.{others_fewer}
-use Rattle.opfs_state_laws.specs.Room.{EvictionsMakeRoom, HasRoom as HasRoomAfter}
+use Rattle.opfs_state.specs.Laws.Room.{EvictionsMakeRoom, HasRoom as HasRoomAfter}
 use Rattle.opfs_work.specs.Works.{WorkingCopy}
 use Rattle.opfs_desk_parts.specs.Acted.{IsUnacted}
 use Rattle.opfs_desk_parts.specs.Asked.{IsAsked}

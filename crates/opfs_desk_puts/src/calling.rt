@@ -16,7 +16,7 @@ ghost use Rattle.opfs_laws.specs.Counting.{AStateCountsItsHistory};
 ghost use Rattle.opfs_laws.specs.GoingOn.{LegalHistoriesGoOn};
 ghost use Rattle.opfs_laws.specs.Lengths.Bridge.{LengthsDecideEachRuling};
 ghost use Rattle.opfs_records.specs.Replay.Built.{Built};
-ghost use Rattle.opfs_state_laws.specs.Room.{EvictionsMakeRoom};
+ghost use Rattle.opfs_state.specs.Laws.Room.{EvictionsMakeRoom};
 
 use crate::acting::enter_call;
 use crate::target::{bytes_held, spelled_out, target_of};
@@ -35,7 +35,7 @@ use opfs_laws::histories::unread::reads_leave_the_state;
 use opfs_laws::lengths::bridge::lengths_decide_each_ruling;
 use opfs_outside::Disk;
 use opfs_row_puts::plan_call;
-use opfs_state_laws::room::evictions_make_room;
+use opfs_state::laws::room::evictions_make_room;
 use opfs_work::Work;
 use std::alloc::AllocError;
 

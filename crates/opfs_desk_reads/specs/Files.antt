@@ -17,7 +17,7 @@ use Rattle.opfs_machine.specs.Contents.{in_lengths}
 use Rattle.opfs_pages.specs.Copies.{IsBegun}
 use Rattle.opfs_state_rows.specs.Standing.Seen.{Machine}
 use Rattle.opfs_tree.specs.declared.row.FileRow.{FileRow}
-use Rattle.opfs_verdicts.specs.Callers.{IsAgent}
+use Rattle.opfs_state.specs.Verdicts.Callers.{IsAgent}
 
 abbrev pub may_write : Mode → Bool
 may_write mode.ReadWrite = true

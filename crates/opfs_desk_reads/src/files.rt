@@ -8,7 +8,7 @@ ghost use Rattle.opfs_data.specs.Rows.{page_at};
 ghost use Rattle.opfs_desk_reads.specs.Files.{is_writer, has_writer, AreOfAgents, IsPresent, MayReadFile};
 ghost use Rattle.opfs_locks.specs.declared.LockValue.TheVariants as value;
 ghost use Rattle.opfs_outside.specs.Faults.{Rose};
-ghost use Rattle.opfs_verdicts.specs.Callers.{IsAgent};
+ghost use Rattle.opfs_state.specs.Verdicts.Callers.{IsAgent};
 
 use opfs_base::{Bytes, Locator};
 use opfs_data::{DataRefusal, Swap, load};

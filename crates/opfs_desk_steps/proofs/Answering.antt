@@ -23,8 +23,8 @@ use Rattle.opfs_machine.specs.Runs.{eviction}
 use Rattle.opfs_machine.specs.Steps.{evicted, step, judged}
 use Rattle.opfs_outside.specs.declared.disk.Disk.{Ghosts as DiskWords}
 use Rattle.opfs_state_rows.specs.Standing.Seen.{Machine}
-use Rattle.opfs_state_laws.specs.Room.{EvictionsMakeRoom, HasRoom}
-use Rattle.opfs_verdicts.specs.Callers.{IsAgent}
+use Rattle.opfs_state.specs.Laws.Room.{EvictionsMakeRoom, HasRoom}
+use Rattle.opfs_state.specs.Verdicts.Callers.{IsAgent}
 use Rattle.opfs_desk_parts.specs.Seen.{machine_in, call_in, units_in}
 use Rattle.opfs_desk_parts.specs.Held.{AreHeldWhole}
 use Rattle.opfs_desk_parts.specs.declared.call.InHand.{InHand}

@@ -26,8 +26,8 @@ use Rattle.opfs_sharing.specs.Noting.{noted}
 use Rattle.opfs_sharing.proofs.Pending.{sum-noted}
 use Rattle.opfs_state_rows.specs.Standing.Noted.{with_sum}
 use Rattle.opfs_state_rows.specs.Standing.Seen.{Machine}
-use Rattle.opfs_state_laws.proofs.Readying.{agent-noted}
-use Rattle.opfs_verdicts.specs.Callers.{IsAgent}
+use Rattle.opfs_state.proofs.laws.Readying.{agent-noted}
+use Rattle.opfs_state.specs.Verdicts.Callers.{IsAgent}
 
 -- ---- entries
 

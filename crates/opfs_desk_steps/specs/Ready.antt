@@ -14,7 +14,7 @@ use Rattle.opfs_outside.specs.declared.disk.Disk.{Ghosts as DiskWords}
 use Rattle.opfs_records.specs.Replay.Built.{Built}
 use Rattle.opfs_register.specs.Slots.{most_rows}
 use Rattle.opfs_state.specs.Applied.{IsPrepared}
-use Rattle.opfs_verdicts.specs.Callers.{IsAgent}
+use Rattle.opfs_state.specs.Verdicts.Callers.{IsAgent}
 use Rattle.opfs_work.specs.Works.{WorkingCopy}
 use Rattle.opfs_desk_parts.specs.Asked.{IsAsked, AreEvictions}
 use Rattle.opfs_desk_parts.specs.Held.{AreHeldWhole}

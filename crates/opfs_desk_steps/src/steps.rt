@@ -11,7 +11,7 @@ use opfs_laws::lengths::bridge::{
     lengths_decide_each_ruling, lengths_follow_each_call, local_calls_are_known_by_their_word,
 };
 use opfs_outside::Disk;
-use opfs_state_laws::room::evictions_make_room;
+use opfs_state::laws::room::evictions_make_room;
 
 /// A call that is asked for: its agent's pending calls may be taken in, and then all is ready for it.
 pub fn asked_calls_are_ready<D: Disk>()

@@ -31,7 +31,7 @@ use Rattle.opfs_records.specs.Replay.Built.{Built}
 use Rattle.opfs_space.specs.Room.{Machine}
 use Rattle.opfs_state.specs.Reading.{file_of_row, row_file}
 use Rattle.opfs_laws.specs.Steady.Steady.{open_bytes, row_bytes}
-use Rattle.opfs_verdicts.specs.Callers.{IsAgent}
+use Rattle.opfs_state.specs.Verdicts.Callers.{IsAgent}
 use Rattle.opfs_work.specs.Works.{WorkingCopy}
 use Rattle.opfs_desk_contents.specs.Putting.{KeepsEnough}
 use Rattle.opfs_desk_contents.specs.Words.{is_storing, stores_row}

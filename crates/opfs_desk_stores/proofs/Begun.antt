@@ -38,7 +38,7 @@ use Rattle.opfs_state_rows.specs.Standing.Seen.{lines_of}
 use Rattle.opfs_laws.specs.Steady.Steady.{row_bytes}
 use Rattle.opfs_tree.specs.Rows.{Rows as Tree, file_at as file_in_tree}
 use Rattle.opfs_tree.specs.declared.row.FileRow.{FileRow}
-use Rattle.opfs_verdicts.specs.Callers.{IsAgent}
+use Rattle.opfs_state.specs.Verdicts.Callers.{IsAgent}
 use Rattle.opfs_work.specs.Works.{WorkingCopy}
 use Rattle.opfs_desk_contents.specs.Putting.{IsReadyToPut, KeepsEnough, all_of}
 use Rattle.opfs_desk_contents.specs.Rows.{StoresFile}

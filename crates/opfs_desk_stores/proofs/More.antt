@@ -30,7 +30,7 @@ use Rattle.opfs_machine.specs.Rulings.{size_in}
 use Rattle.opfs_outside.specs.declared.disk.Disk.{Ghosts as DiskWords}
 use Rattle.opfs_records.specs.Replay.Built.{Built}
 use Rattle.opfs_space.specs.Room.{Machine}
-use Rattle.opfs_verdicts.specs.Callers.{IsAgent}
+use Rattle.opfs_state.specs.Verdicts.Callers.{IsAgent}
 use Rattle.opfs_work.specs.Works.{WorkingCopy}
 use Rattle.opfs_desk_again.specs.More.{HasMoreThanReserve}
 use Rattle.opfs_desk_contents.specs.Rows.{StoresFile}

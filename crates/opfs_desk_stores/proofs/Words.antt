@@ -35,8 +35,8 @@ use Rattle.opfs_machine.specs.Steps.{judged}
 use Rattle.opfs_machine.specs.Sums.{no_need}
 use Rattle.opfs_state_rows.specs.Standing.Noted.{with_sum}
 use Rattle.opfs_state_rows.specs.Standing.Seen.{Machine}
-use Rattle.opfs_state_laws.proofs.Readying.{agent-noted, handle-noted}
-use Rattle.opfs_verdicts.specs.Callers.{IsAgent}
+use Rattle.opfs_state.proofs.laws.Readying.{agent-noted, handle-noted}
+use Rattle.opfs_state.specs.Verdicts.Callers.{IsAgent}
 use Rattle.opfs_desk_contents.specs.Rows.{IsWriterOf, StoresFile}
 use Rattle.opfs_desk_contents.specs.Words.{ends_row, is_storing, may_write, stores_row}
 use Rattle.opfs_desk_plain.proofs.Words.{before, from-some, none-for, ok-is}

@@ -16,7 +16,7 @@ use Rattle.opfs_outside.specs.declared.disk.Disk.{Ghosts as DiskWords}
 use Rattle.opfs_records.specs.Replay.Built.{Built, named, is_once}
 use Rattle.opfs_sharing.specs.Serving.{MayApplyTo, MayRefuseTo}
 use Rattle.opfs_tree.specs.Rows.{extents_within}
-use Rattle.opfs_verdicts.specs.Callers.{IsAgent}
+use Rattle.opfs_state.specs.Verdicts.Callers.{IsAgent}
 use Rattle.opfs_desk_parts.specs.Answered.{MayChange}
 use Rattle.opfs_desk_parts.specs.Held.{AreHeldAt}
 use Rattle.opfs_desk_parts.specs.Seen.{machine_in, tree_in}

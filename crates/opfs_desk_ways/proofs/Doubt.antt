@@ -14,7 +14,7 @@ use Rattle.opfs_outside.specs.declared.disk.Disk.{Ghosts as DiskWords}
 use Rattle.opfs_records.specs.Replay.Built.{Built}
 use Rattle.opfs_space.specs.Room.{Machine}
 use Rattle.opfs_state.specs.Applied.{StateSeen, IsPrepared}
-use Rattle.opfs_verdicts.specs.Callers.{IsAgent}
+use Rattle.opfs_state.specs.Verdicts.Callers.{IsAgent}
 use Rattle.opfs_desk_parts.specs.Acted.{IsWayNow, AreCleared, HasFailed, last_doubt}
 use Rattle.opfs_desk_parts.specs.Held.{AreHeldAt, AreHeldWhole}
 use Rattle.opfs_desk_parts.specs.Seen.{book_in, units_in}

@@ -45,7 +45,7 @@ use Rattle.opfs_state.specs.Applied.{StateSeen}
 use Rattle.opfs_laws.specs.Steady.Settling.{NoneSettles, OnlyItsOwnCallsSettleARow}
 use Rattle.opfs_laws.specs.Steady.Steady.{concerns}
 use Rattle.opfs_tree.specs.Rows.{Rows as Tree, IsInOrder, without}
-use Rattle.opfs_verdicts.specs.Callers.{IsAgent}
+use Rattle.opfs_state.specs.Verdicts.Callers.{IsAgent}
 use Rattle.opfs_desk_parts.specs.Held.{AreTied, AreHeldAt, AreHeldWhole}
 use Rattle.opfs_desk_parts.specs.Seen.{machine_in, tree_in, book_in}
 use Rattle.opfs_desk_parts.specs.declared.parts.Ledger.{Ledger}

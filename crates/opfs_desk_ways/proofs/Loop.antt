@@ -23,10 +23,10 @@ use Rattle.opfs_outside.specs.declared.disk.Disk.{Ghosts as DiskWords}
 use Rattle.opfs_records.specs.Replay.Built.{Built}
 use Rattle.opfs_space.specs.Room.{Machine}
 use Rattle.opfs_state.specs.Applied.{IsPrepared}
-use Rattle.opfs_state_laws.specs.Owned.{CallsAreAboutOwnUnits}
-use Rattle.opfs_state_laws.specs.Room.{HasRoom, EvictionsMakeRoom}
+use Rattle.opfs_state.specs.Laws.Owned.{CallsAreAboutOwnUnits}
+use Rattle.opfs_state.specs.Laws.Room.{HasRoom, EvictionsMakeRoom}
 use Rattle.opfs_tree.specs.Rows.{Rows as Tree, without}
-use Rattle.opfs_verdicts.specs.Callers.{IsAgent}
+use Rattle.opfs_state.specs.Verdicts.Callers.{IsAgent}
 use Rattle.opfs_desk_parts.specs.Acted.{AreCleared, HasFailed, last_doubt}
 use Rattle.opfs_desk_parts.specs.Asked.{AreEvictions}
 use Rattle.opfs_desk_parts.specs.Held.{AreHeldAt, AreHeldWhole}

@@ -24,11 +24,11 @@ use Rattle.opfs_records.specs.Checkpoint.Written.{IsWritablePlace, IsWritableRow
 use Rattle.opfs_space.specs.Room.{Machine}
 use Rattle.opfs_state_rows.specs.Standing.Seen.{line_of, lines_of}
 use Rattle.opfs_state.specs.Applied.{StateSeen, IsReady, IsPrepared}
-use Rattle.opfs_state_laws.specs.Readied.{StaysReadyAsCleared}
+use Rattle.opfs_state.specs.Laws.Readied.{StaysReadyAsCleared}
 use Rattle.opfs_tree.specs.Rows.{Rows as Tree}
 use Rattle.opfs_tree.specs.declared.row.Row.{Row}
 use Rattle.opfs_tree.specs.declared.row.Row.TheVariants as row
-use Rattle.opfs_verdicts.specs.Callers.{IsAgent}
+use Rattle.opfs_state.specs.Verdicts.Callers.{IsAgent}
 use Rattle.opfs_desk_ways.specs.Clearing.{IsStillReady}
 use Rattle.opfs_desk_parts.specs.Seen.{machine_in}
 use Rattle.opfs_desk_parts.specs.declared.parts.Ledger.{Ledger}

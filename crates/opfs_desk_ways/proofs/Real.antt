@@ -28,10 +28,10 @@ use Rattle.opfs_machine.specs.Replies.{sizes_of}
 use Rattle.opfs_machine.specs.Steps.{judged}
 use Rattle.opfs_machine.specs.Victims.{is_callers}
 use Rattle.opfs_state_rows.proofs.standing.Units.{unit_itself}
-use Rattle.opfs_state_laws.specs.Room.{HasOwnBuckets, HasRoom, EvictionsMakeRoom}
-use Rattle.opfs_state_laws.specs.Owned.{CallsAreAboutOwnUnits}
+use Rattle.opfs_state.specs.Laws.Room.{HasOwnBuckets, HasRoom, EvictionsMakeRoom}
+use Rattle.opfs_state.specs.Laws.Owned.{CallsAreAboutOwnUnits}
 use Rattle.opfs_state_rows.specs.Changes.Asking.{AreOwnUnits}
-use Rattle.opfs_verdicts.specs.Callers.{IsAgent}
+use Rattle.opfs_state.specs.Verdicts.Callers.{IsAgent}
 use Rattle.opfs_desk_parts.specs.Held.{HaveOwnKeys}
 
 -- A call is judged in bytes as the machine judges it.

@@ -21,9 +21,9 @@ use Rattle.opfs_register.specs.Slots.{most_rows}
 use Rattle.opfs_state_rows.specs.Standing.Noted.{with_sum}
 use Rattle.opfs_state_rows.specs.Standing.Seen.{Seen}
 use Rattle.opfs_state.specs.Applied.{StateSeen, IsReady, IsPrepared}
-use Rattle.opfs_state_laws.specs.Readied.{StaysReadyAsNoted}
+use Rattle.opfs_state.specs.Laws.Readied.{StaysReadyAsNoted}
 use Rattle.opfs_machine.specs.Agents.{agent_of}
-use Rattle.opfs_verdicts.specs.Callers.{IsAgent}
+use Rattle.opfs_state.specs.Verdicts.Callers.{IsAgent}
 use Rattle.opfs_desk_ways.proofs.Ready.{ready-same}
 
 abbrev sum_of : List Entry → PendingSum

@@ -25,7 +25,7 @@ use Rattle.opfs_machine.specs.Steps.{is_refusal, evicted, step, judged, outcome_
 use Rattle.opfs_machine.specs.Sums.{is_persistent}
 use Rattle.opfs_machine.specs.Victims.{is_callers}
 use Rattle.opfs_space.specs.Room.{Machine}
-use Rattle.opfs_state_laws.specs.Room.{HasRoom}
+use Rattle.opfs_state.specs.Laws.Room.{HasRoom}
 use Rattle.opfs_desk_parts.specs.Seen.{machine_in}
 use Rattle.opfs_desk_parts.specs.declared.parts.Ledger.{Ledger}
 use Rattle.opfs_desk_ways.specs.Clearing.{IsJudged, IsTurn}

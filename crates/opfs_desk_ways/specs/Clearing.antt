@@ -19,7 +19,7 @@ use Rattle.opfs_outside.specs.declared.disk.Disk.{Ghosts as DiskWords}
 use Rattle.opfs_records.specs.Replay.Built.{Built}
 use Rattle.opfs_tree.specs.Rows.{Rows as Tree, without}
 use Rattle.opfs_state.specs.Applied.{IsPrepared}
-use Rattle.opfs_verdicts.specs.Callers.{IsAgent}
+use Rattle.opfs_state.specs.Verdicts.Callers.{IsAgent}
 use Rattle.opfs_desk_parts.specs.Acted.{AreCleared}
 use Rattle.opfs_desk_parts.specs.Asked.{AreEvictions}
 use Rattle.opfs_desk_parts.specs.Held.{AreHeldAt, AreHeldWhole}

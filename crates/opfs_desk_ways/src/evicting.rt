@@ -24,7 +24,7 @@ use opfs_desk_parts::{Clearing, Ledger};
 use opfs_journal::DiskFault;
 use opfs_laws::steady::settling::only_its_own_calls_settle_a_row;
 use opfs_outside::Disk;
-use opfs_state_laws::readied::{what_is_ready_is_apart, what_is_ready_stays_as_units_are_cleared};
+use opfs_state::laws::readied::{what_is_ready_is_apart, what_is_ready_stays_as_units_are_cleared};
 use opfs_tree::Walk;
 
 /// Clears a unit for a call, and gives the call's own entry back, which is still to come. Where the disk failed, the call is

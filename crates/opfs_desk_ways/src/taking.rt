@@ -20,7 +20,7 @@ use opfs_desk_parts::Ledger;
 use opfs_hist::Pending;
 use opfs_laws::lengths::bridge::{lengths_follow_each_call, local_calls_are_known_by_their_word};
 use opfs_outside::Disk;
-use opfs_state_laws::readied::what_is_ready_stays_as_calls_are_noted;
+use opfs_state::laws::readied::what_is_ready_stays_as_calls_are_noted;
 
 /// Takes in an agent's pending calls. Takes no memory, and calls no disk.
 pub fn take_in<D: Disk>(ledger: &mut Ledger<D>, agent: u32, pending: &mut Pending)

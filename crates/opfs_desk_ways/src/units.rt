@@ -24,7 +24,7 @@ use opfs_journal::DiskFault;
 use opfs_laws::histories::unread::reads_leave_the_state;
 use opfs_laws::lengths::bridge::{lengths_decide_each_ruling, lengths_follow_each_call};
 use opfs_outside::Disk;
-use opfs_state_laws::room::{calls_are_about_own_units, evictions_make_room};
+use opfs_state::laws::room::{calls_are_about_own_units, evictions_make_room};
 
 // Clears all units of a call, while no gate is in doubt.
 fn clear_units<D: Disk>(

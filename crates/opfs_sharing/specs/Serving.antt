@@ -11,7 +11,7 @@ use Rattle.opfs_machine.specs.Rows.{row_at}
 use Rattle.opfs_tree.specs.Ready.Ready.{ready_within}
 use Rattle.opfs_register.specs.Slots.{most_rows}
 use Rattle.opfs_state.specs.Applied.{StateSeen, IsPrepared}
-use Rattle.opfs_verdicts.specs.Callers.{IsAgent}
+use Rattle.opfs_state.specs.Verdicts.Callers.{IsAgent}
 
 -- A call that is not refused, for which all stands ready.
 pub record MayApplyTo (s : StateSeen) (k : ℕ) (o : Op) (z : Sizes) : Type 0 where

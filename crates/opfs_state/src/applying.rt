@@ -15,7 +15,7 @@ ghost use Rattle.opfs_register.specs.Slots.{most_rows};
 ghost use Rattle.opfs_state_rows.specs.Standing.Noted.{with_sum};
 ghost use Rattle.opfs_state.specs.Applied.{IsPrepared};
 ghost use Rattle.opfs_tree.specs.Rows.{extents_within, without};
-ghost use Rattle.opfs_verdicts.specs.Callers.{IsAgent};
+ghost use Rattle.opfs_state.specs.Verdicts.Callers.{IsAgent};
 
 use crate::performing::perform_any;
 use crate::preparing::ready_for;

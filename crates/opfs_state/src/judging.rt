@@ -5,7 +5,7 @@ ghost use Rattle.opfs_state_rows.specs.Changes.Asking.{AreOwnUnits};
 ghost use Rattle.opfs_laws.specs.Lengths.Bridge.{judged_in};
 ghost use Rattle.opfs_laws.specs.Lengths.Kept.{Kept};
 ghost use Rattle.opfs_machine.specs.Contents.{in_lengths};
-ghost use Rattle.opfs_verdicts.specs.Callers.{IsCaller};
+ghost use Rattle.opfs_state.specs.Verdicts.Callers.{IsCaller};
 
 use crate::state::State;
 use opfs_hist::Op;
@@ -23,6 +23,6 @@ impl State {
         requires ready { self.now.store.prepared.place ≡ None }
         ensures { IfOk result (λ judged. judged ≡ judged_in in_lengths self.now.store.machine sizes agent op.now) }
     {
-        opfs_verdicts::judge(alloc, &self.store, agent, op, sizes)
+        crate::verdicts::judge(alloc, &self.store, agent, op, sizes)
     }
 }

@@ -3,10 +3,13 @@
 
 mod applying;
 mod judging;
+pub mod laws;
 mod making;
 mod performing;
 mod preparing;
 mod readers;
 mod state;
+mod verdicts;
 
 pub use state::State;
+pub use verdicts::{judge, room_for, ruling};

@@ -13,7 +13,7 @@ ghost use Rattle.opfs_state_rows.specs.Standing.Seen.{is_known};
 ghost use Rattle.opfs_state.specs.Applied.{IsReady};
 ghost use Rattle.opfs_state.specs.Preparing.{HasStayed, IsRowReady, IsModeReady};
 ghost use Rattle.opfs_tree.specs.Rows.{HasParent};
-ghost use Rattle.opfs_verdicts.specs.Callers.{IsAgent};
+ghost use Rattle.opfs_state.specs.Verdicts.Callers.{IsAgent};
 
 use crate::state::Ready;
 use opfs_base::{Kind, Locator, Text, copy_place, mode_charge, place_charge};

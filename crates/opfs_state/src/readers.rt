@@ -13,7 +13,7 @@ ghost use Rattle.opfs_state_rows.specs.Standing.Seen.{lines_of, persistent_in};
 ghost use Rattle.opfs_state.specs.Reading.{row_file};
 ghost use Rattle.opfs_tree.specs.Rows.{extents_within, least_above, least_not_in, children_of, rows_above, IsInOrder};
 ghost use Rattle.opfs_tree.specs.Rows.{file_at as file_in_tree};
-ghost use Rattle.opfs_verdicts.specs.Callers.{IsAgent};
+ghost use Rattle.opfs_state.specs.Verdicts.Callers.{IsAgent};
 
 use crate::state::State;
 use opfs_base::{Key, Kind, Name, Path, Text};

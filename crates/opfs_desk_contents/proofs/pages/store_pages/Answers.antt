@@ -9,7 +9,7 @@ use Rattle.opfs_machine.specs.Histories.{state_after}
 use Rattle.opfs_machine.specs.Steps.{is_refusal}
 use Rattle.opfs_state.specs.Applied.{StateSeen}
 use Rattle.opfs_tree.specs.Rows.{IsInOrder, file_at as file_in_tree}
-use Rattle.opfs_verdicts.specs.Callers.{IsAgent}
+use Rattle.opfs_state.specs.Verdicts.Callers.{IsAgent}
 use Rattle.opfs_desk_contents.proofs.Failing.{may-fail-now, failed-now}
 use Rattle.opfs_desk_contents.proofs.Found.{enough-now}
 use Rattle.opfs_desk_contents.proofs.Going.{whole-now}

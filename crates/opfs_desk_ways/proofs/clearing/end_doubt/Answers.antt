@@ -9,7 +9,7 @@ use Rattle.opfs_state.specs.Applied.{StateSeen}
 use Rattle.opfs_desk_parts.specs.Acted.{last_doubt}
 use Rattle.opfs_desk_parts.specs.Seen.{book_in}
 use Rattle.opfs_desk_parts.specs.declared.parts.Ledger.{Ledger}
-use Rattle.opfs_verdicts.specs.Callers.{IsAgent}
+use Rattle.opfs_state.specs.Verdicts.Callers.{IsAgent}
 use Rattle.opfs_desk_ways.proofs.Held.{moved-held, fresh-same, refused-told}
 use Rattle.opfs_desk_ways.proofs.Ways.{way-settled, way-told, way-same}
 use Rattle.opfs_desk_ways.proofs.clearing.end_doubt.Goals as goal

@@ -1,5 +1,0 @@
-use Rattle.opfs_state_laws.proofs.Readying.{ready-apart}
-use Rattle.opfs_state_laws.proofs.readied.what_is_ready_is_apart.Goals as goal
-
-pub returns : goal.returns
-returns c = λ s own more k op unit mine other ready. ready-apart s own more k op unit mine other ready

@@ -1,5 +1,0 @@
-use Rattle.opfs_state_laws.proofs.Readying.{ready-noted}
-use Rattle.opfs_state_laws.proofs.readied.what_is_ready_stays_as_calls_are_noted.Goals as goal
-
-pub returns : goal.returns
-returns c = λ s own more k op sum agent ready. ready-noted s own more k op sum agent ready
