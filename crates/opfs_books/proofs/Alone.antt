@@ -2,9 +2,9 @@
 use Rattle.std.proofs.Common.{◌≡◌, inl, ℕ, ◌≤◌, Bool, true, false, List, [], ◌++◌, refl, sym, ap, ◌∙◌, subst, append-nil, arith}
 use Rattle.std.specs.Prelude.{if◌then◌else◌}
 use Rattle.opfs_base.specs.Texts.{Text}
-use Rattle.opfs_book_calls.specs.Spelled.{stored_built}
-use Rattle.opfs_book_laws.specs.Books.{Fixed, Book, AreBooksAt}
-use Rattle.opfs_book_laws.specs.Laws.{LeavesPages, ShowsTold, told, doubt, BooksShowTheirImages}
+use Rattle.opfs_books.specs.Stored.Spelled.{stored_built}
+use Rattle.opfs_books.specs.Laws.Books.{Fixed, Book, AreBooksAt}
+use Rattle.opfs_books.specs.Laws.Laws.{LeavesPages, ShowsTold, told, doubt, BooksShowTheirImages}
 use Rattle.opfs_commit.specs.Calls.{IsAnyOf, IsNoneOf, IsNext, IsNextAlone, IsSettled, IsUnsettled, stored_in}
 use Rattle.opfs_commit.specs.Seen.{KeptBack, Committing, committing}
 use Rattle.opfs_commit.specs.Shown.{ShowsSince, IsShown}

@@ -6,13 +6,13 @@ use Rattle.std.proofs.lemmas.Bool.{false≢true}
 use Rattle.opfs_base.specs.Texts.{Text}
 use Rattle.opfs_base.specs.Places.{Place}
 use Rattle.opfs_base.specs.declared.extents.Extent.{Extent}
-use Rattle.opfs_book_calls.specs.Laws.{CallsAreSpelled, CallsMayFail}
-use Rattle.opfs_book_calls.specs.Spelled.{spelled_by, bytes_stored, told_list, stored_built, CanHold, Makes}
-use Rattle.opfs_book_calls.proofs.Failing.{next-plain}
-use Rattle.opfs_book_laws.specs.Books.{Fixed, IsNext, IsPlaced, AreBooksAt, AreBooks}
-use Rattle.opfs_book_laws.specs.Commits.{StateLaws}
-use Rattle.opfs_book_laws.specs.Laws.{failed, IsEntered, IsMade, IsCovered, HasRisen, TellsKeepTheBooks, KeepingBackKeepsTheBooks, CommittedCallsKeepTheBooks, FailedCommitsKeepTheBooks, CommitsShow, ShowsTold, told}
-use Rattle.opfs_book_laws.proofs.Committing.{fault-refuses, covered-fits}
+use Rattle.opfs_books.specs.Stored.Laws.{CallsAreSpelled, CallsMayFail}
+use Rattle.opfs_books.specs.Stored.Spelled.{spelled_by, bytes_stored, told_list, stored_built, CanHold, Makes}
+use Rattle.opfs_books.proofs.stored.Failing.{next-plain}
+use Rattle.opfs_books.specs.Laws.Books.{Fixed, IsNext, IsPlaced, AreBooksAt, AreBooks}
+use Rattle.opfs_books.specs.Laws.Commits.{StateLaws}
+use Rattle.opfs_books.specs.Laws.Laws.{failed, IsEntered, IsMade, IsCovered, HasRisen, TellsKeepTheBooks, KeepingBackKeepsTheBooks, CommittedCallsKeepTheBooks, FailedCommitsKeepTheBooks, CommitsShow, ShowsTold, told}
+use Rattle.opfs_books.proofs.laws.Committing.{fault-refuses, covered-fits}
 use Rattle.opfs_state_rows.specs.Changes.Changed.{tree_by}
 use Rattle.opfs_codec.specs.Spelling.{IsChange}
 use Rattle.opfs_codec.specs.declared.change.Change.{Change as Spelled}

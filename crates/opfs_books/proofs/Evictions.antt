@@ -3,11 +3,11 @@ use Rattle.std.proofs.Common.{◌≡◌, ◌⊎◌, ℕ, ◌+◌, ◌≤◌, Boo
 use Rattle.std.specs.Prelude.{IsTrue}
 use Rattle.std.proofs.lemmas.List.Sums.{fold-append}
 use Rattle.opfs_base.specs.Texts.{Text}
-use Rattle.opfs_book_calls.specs.Laws.{CallsAreSpelled, CallsMayFail}
-use Rattle.opfs_book_calls.specs.Spelled.{stored_built}
-use Rattle.opfs_book_laws.specs.Books.{Fixed, IsPlaced, AreBooksAt, AreBooks, calls_of}
-use Rattle.opfs_book_laws.specs.Laws.{failed, told, ShowsTold, CommitsShow, IsMade, PendingKeepsTheBooks, CommittedEvictionsKeepTheBooks, FailedCommitsKeepTheBooks}
-use Rattle.opfs_book_laws.proofs.Sound.{evicted_charge}
+use Rattle.opfs_books.specs.Stored.Laws.{CallsAreSpelled, CallsMayFail}
+use Rattle.opfs_books.specs.Stored.Spelled.{stored_built}
+use Rattle.opfs_books.specs.Laws.Books.{Fixed, IsPlaced, AreBooksAt, AreBooks, calls_of}
+use Rattle.opfs_books.specs.Laws.Laws.{failed, told, ShowsTold, CommitsShow, IsMade, PendingKeepsTheBooks, CommittedEvictionsKeepTheBooks, FailedCommitsKeepTheBooks}
+use Rattle.opfs_books.proofs.laws.Sound.{evicted_charge}
 use Rattle.opfs_codec.specs.Spelling.{IsChange}
 use Rattle.opfs_codec.specs.declared.change.Change.TheVariants.{Evict}
 use Rattle.opfs_codec.specs.declared.change.Format.TheVariants.{New}
@@ -44,7 +44,7 @@ use Rattle.opfs_records.proofs.checkpoint.StoredRows.{stored_order}
 use Rattle.opfs_state_rows.specs.Standing.Seen.{Machine, lines_of}
 use Rattle.opfs_tree.specs.Rows.{Rows, IsInOrder, without}
 use Rattle.opfs_books.specs.Committing.{MayCommit, MayCommitAlone}
-use Rattle.opfs_sharing.specs.Noting.{noted}
+use Rattle.opfs_books.specs.Sharing.Noting.{noted}
 use Rattle.opfs_books.specs.Seen.{book, IsVictim}
 use Rattle.opfs_books.proofs.Following.{refused-follows, notes-follow}
 use Rattle.opfs_books.proofs.Calls.{unstored, refused-modes}

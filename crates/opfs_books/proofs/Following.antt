@@ -28,7 +28,7 @@ use Rattle.opfs_machine.specs.OwnRows.{is_local}
 use Rattle.opfs_machine.specs.Replies.{sizes_of, answer}
 use Rattle.opfs_machine.specs.Steps.{after_reply, is_refusal, step, judged, outcome_of}
 use Rattle.opfs_state_rows.specs.Standing.Seen.{Machine}
-use Rattle.opfs_sharing.specs.Noting.{noted, AreNotes, IsNote}
+use Rattle.opfs_books.specs.Sharing.Noting.{noted, AreNotes, IsNote}
 
 abbrev after_by : State Text Own → ℕ → Op → Bool → State Text Own
 after_by s k o b = counted (elim b [ true ↦ refused s k o | false ↦ effect in_bytes s (sizes_of s k o) k o ]) k

@@ -5,10 +5,10 @@ use Rattle.std.proofs.lemmas.Bool.{false≢true}
 use Rattle.std.proofs.lemmas.List.Sums.{sum_by-cons}
 use Rattle.opfs_base.specs.Measures.{is_root}
 use Rattle.opfs_base.specs.Places.{Place}
-use Rattle.opfs_book_calls.specs.Spelled.{stored_built}
-use Rattle.opfs_book_laws.specs.Books.{Fixed, account_of, AreBooks, roots}
-use Rattle.opfs_book_laws.specs.Commits.{CommitLaws}
-use Rattle.opfs_book_laws.proofs.Counting.{one_if, count-cons}
+use Rattle.opfs_books.specs.Stored.Spelled.{stored_built}
+use Rattle.opfs_books.specs.Laws.Books.{Fixed, account_of, AreBooks, roots}
+use Rattle.opfs_books.specs.Laws.Commits.{CommitLaws}
+use Rattle.opfs_books.proofs.laws.Counting.{one_if, count-cons}
 use Rattle.opfs_codec.specs.declared.change.Format.TheVariants.{New}
 use Rattle.opfs_commit.specs.Images.{AreImages}
 use Rattle.opfs_commit.specs.Making.{begun_with}

@@ -1,3 +1,7 @@
+pub mod Sharing
+pub mod Laws
+pub mod Stored
 pub mod Committing
 pub mod Opened
 pub mod Seen
+pub mod Openings

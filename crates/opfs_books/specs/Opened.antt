@@ -1,7 +1,7 @@
 -- How the books of a run begin. This project's own.
 use Rattle.std.specs.Prelude.{◌≡◌}
-use Rattle.opfs_book_laws.specs.Books.{Fixed}
-use Rattle.opfs_book_calls.specs.Spelled.{stored_built}
+use Rattle.opfs_books.specs.Laws.Books.{Fixed}
+use Rattle.opfs_books.specs.Stored.Spelled.{stored_built}
 use Rattle.opfs_codec.specs.declared.change.Format.TheVariants.{New}
 use Rattle.opfs_image.specs.Agreeing.{IsJournalOf, IsImageOf}
 use Rattle.opfs_image.specs.Filling.{filled}

@@ -1,17 +1,17 @@
 -- The books as they are seen, and what is asked of them before a call. This project's own.
 use Rattle.std.specs.Prelude.{◌≡◌, ℕ, List, ◌∷◌, ◌++◌, fold, Option, Ok}
 use Rattle.opfs_base.specs.Texts.{Text}
-use Rattle.opfs_book_calls.specs.Spelled.{bytes_stored, stored_built, CanHold}
+use Rattle.opfs_books.specs.Stored.Spelled.{bytes_stored, stored_built, CanHold}
 use Rattle.opfs_codec.specs.Spelling.{IsChange}
 use Rattle.opfs_codec.specs.declared.change.Change.{Change as Spelled}
 use Rattle.opfs_codec.specs.declared.change.Format.TheVariants.{New}
 use Rattle.opfs_commit.specs.Making.{told_as, new_bytes}
 use Rattle.opfs_image.specs.Superblock.{data_base}
 use Rattle.opfs_machine.specs.Changes.{Change}
-use Rattle.opfs_book_laws.specs.Books.{Fixed, Book, IsNext, IsPlaced, AreBooks, AreBooksAt}
-use Rattle.opfs_book_laws.specs.Laws.{failed, told, doubt, ShowsTold}
+use Rattle.opfs_books.specs.Laws.Books.{Fixed, Book, IsNext, IsPlaced, AreBooks, AreBooksAt}
+use Rattle.opfs_books.specs.Laws.Laws.{failed, told, doubt, ShowsTold}
 use Rattle.opfs_books.specs.declared.books.Books.{Books}
-use Rattle.opfs_sharing.specs.declared.shared.Shared.{Ghosts as SharedWords}
+use Rattle.opfs_books.specs.declared.sharing.shared.Shared.{Ghosts as SharedWords}
 use Rattle.opfs_commit.specs.Seen.{KeptBack}
 use Rattle.opfs_hist.specs.declared.entry.Entry.{Entry}
 use Rattle.opfs_laws.specs.Histories.Unread.{ArePendingFor}

@@ -2,9 +2,9 @@
 
 ghost use Rattle.std.specs.Prelude.{◌≡◌, ◌++◌, ◌∷◌, ◌≤◌, ◌+◌, ◌^◌, ℕ, true, false, List, [], Option, None, Some, fold, length, vec_capacity};
 ghost use Rattle.opfs_base.specs.Texts.{Text};
-ghost use Rattle.opfs_book_calls.specs.Spelled.{spelled_by};
-ghost use Rattle.opfs_book_laws.specs.Books.{Fixed, IsNext, IsPlaced, AreBooks, AreBooksAt};
-ghost use Rattle.opfs_book_laws.specs.Laws.{HasRisen};
+ghost use Rattle.opfs_books.specs.Stored.Spelled.{spelled_by};
+ghost use Rattle.opfs_books.specs.Laws.Books.{Fixed, IsNext, IsPlaced, AreBooks, AreBooksAt};
+ghost use Rattle.opfs_books.specs.Laws.Laws.{HasRisen};
 ghost use Rattle.opfs_books.specs.Seen.{book_of, AreKnown, MayAnswer, MayCome};
 ghost use Rattle.opfs_state_rows.specs.Changes.Changed.{tree_by, freed_in};
 ghost use Rattle.opfs_machine.specs.declared.own.Own.{Own};
@@ -17,15 +17,15 @@ ghost use Rattle.opfs_machine.specs.Steps.{evicted, is_refusal};
 ghost use Rattle.opfs_records.specs.Replay.Built.{Built};
 
 use crate::entering::{Entering, Last, enter};
+use crate::laws::{telling_keeps_the_books, the_state_is_kept};
+use crate::sharing::Shared;
+use crate::stored::calls_are_spelled;
 use opfs_base::Extent;
-use opfs_book_calls::calls_are_spelled;
-use opfs_book_laws::{telling_keeps_the_books, the_state_is_kept};
 use opfs_commit::Commits;
 use opfs_hist::History;
 use opfs_journal::Journal;
 use opfs_laws::lengths::bridge::lengths_follow_each_call;
 use opfs_outside::Disk;
-use opfs_sharing::Shared;
 use std::alloc::Global;
 
 /// The history, the shared state, what is kept back of the changes, and the place of the entry whose change is in doubt.

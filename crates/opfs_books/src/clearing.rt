@@ -2,10 +2,10 @@
 
 ghost use Rattle.std.specs.Prelude.{◌≡◌, ◌++◌, ◌∷◌, ◌≤◌, ◌+◌, ℕ, true, false, List, [], None, Some, fold, length, vec_capacity, OnOk, OnErr, IfOk, is_some, IsTrue};
 ghost use Rattle.opfs_base.specs.Texts.{Text};
-ghost use Rattle.opfs_book_calls.specs.Spelled.{stored_built};
-ghost use Rattle.opfs_book_laws.specs.Books.{Fixed, IsPlaced, AreBooks, AreBooksAt, calls_of};
-ghost use Rattle.opfs_book_laws.specs.Laws.{LeavesPages, ShowsTold, told, failed};
-ghost use Rattle.opfs_sharing.specs.Noting.{noted, IsSumOf};
+ghost use Rattle.opfs_books.specs.Stored.Spelled.{stored_built};
+ghost use Rattle.opfs_books.specs.Laws.Books.{Fixed, IsPlaced, AreBooks, AreBooksAt, calls_of};
+ghost use Rattle.opfs_books.specs.Laws.Laws.{LeavesPages, ShowsTold, told, failed};
+ghost use Rattle.opfs_books.specs.Sharing.Noting.{noted, IsSumOf};
 ghost use Rattle.opfs_books.specs.Seen.{book_of, AreKnown, MayTakeIn, IsVictim};
 ghost use Rattle.opfs_codec.specs.Fields.{plain, Fits};
 ghost use Rattle.opfs_codec.specs.Spelling.{IsChange};
@@ -30,15 +30,15 @@ ghost use Rattle.opfs_tree.specs.Rows.{extents_within, without};
 use crate::books::Books;
 use crate::committing::commit_own;
 use crate::entering::{Last, enter, in_order, with_fault};
+use crate::laws::{commits_keep_the_books, telling_keeps_the_books, the_state_is_kept};
+use crate::sharing::Shared;
+use crate::stored::{calls_are_spelled, calls_may_fail};
 use opfs_base::{Extent, Key};
-use opfs_book_calls::{calls_are_spelled, calls_may_fail};
-use opfs_book_laws::{commits_keep_the_books, telling_keeps_the_books, the_state_is_kept};
 use opfs_codec::ChangeRef;
 use opfs_hist::Pending;
 use opfs_journal::{DiskFault, Journal};
 use opfs_laws::lengths::bridge::{lengths_follow_each_call, local_calls_are_known_by_their_word};
 use opfs_outside::Disk;
-use opfs_sharing::Shared;
 use std::alloc::Global;
 
 // The change that clears a unit.

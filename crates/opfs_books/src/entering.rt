@@ -1,7 +1,7 @@
 //! Entries of calls.
 
 ghost use Rattle.std.specs.Prelude.{◌≡◌, ◌++◌, ◌∷◌, ◌<◌, ◌^◌, [], length};
-ghost use Rattle.opfs_book_laws.specs.Laws.{failed};
+ghost use Rattle.opfs_books.specs.Laws.Laws.{failed};
 ghost use Rattle.opfs_tree.specs.Rows.{IsInOrder};
 
 use opfs_base::Extents;

@@ -2,9 +2,9 @@
 
 ghost use Rattle.std.specs.Prelude.{◌≡◌, ◌++◌, ◌∷◌, ◌≤◌, ◌<◌, ℕ, true, false, List, [], None, Some, fold, length, vec_capacity, OnOk, OnErr, IfOk};
 ghost use Rattle.opfs_base.specs.Texts.{Text};
-ghost use Rattle.opfs_book_calls.specs.Spelled.{spelled_by};
-ghost use Rattle.opfs_book_laws.specs.Books.{Fixed, IsNext, AreBooks, AreBooksAt};
-ghost use Rattle.opfs_book_laws.specs.Laws.{told};
+ghost use Rattle.opfs_books.specs.Stored.Spelled.{spelled_by};
+ghost use Rattle.opfs_books.specs.Laws.Books.{Fixed, IsNext, AreBooks, AreBooksAt};
+ghost use Rattle.opfs_books.specs.Laws.Laws.{told};
 ghost use Rattle.opfs_books.specs.Seen.{book_of, MayAnswer, MayCommitCall, MayStore};
 ghost use Rattle.opfs_state_rows.specs.Changes.Changed.{tree_by, freed_in};
 ghost use Rattle.opfs_codec.specs.Fields.{plain, Fits};
@@ -20,14 +20,14 @@ ghost use Rattle.opfs_records.specs.Replay.Built.{Built};
 
 use crate::books::Books;
 use crate::entering::{Entering, enter, in_order};
+use crate::laws::{keeping_back_keeps_the_books, the_state_is_kept};
+use crate::sharing::Shared;
+use crate::stored::calls_are_spelled;
 use opfs_base::Extent;
-use opfs_book_calls::calls_are_spelled;
-use opfs_book_laws::{keeping_back_keeps_the_books, the_state_is_kept};
 use opfs_codec::ChangeRef;
 use opfs_journal::Journal;
 use opfs_laws::lengths::bridge::lengths_follow_each_call;
 use opfs_outside::Disk;
-use opfs_sharing::Shared;
 use std::alloc::Global;
 
 impl<S: Shared> Books<S> {

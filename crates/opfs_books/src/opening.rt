@@ -1,7 +1,7 @@
 //! How the books begin and end.
 
 ghost use Rattle.std.specs.Prelude.{◌≡◌, ◌≤◌, ◌+◌, ℕ, [], false, None, OnOk, IfOk, IfErr};
-ghost use Rattle.opfs_book_laws.specs.Books.{Fixed, AreBooks};
+ghost use Rattle.opfs_books.specs.Laws.Books.{Fixed, AreBooks};
 ghost use Rattle.opfs_books.specs.Opened.{IsOpened};
 ghost use Rattle.opfs_books.specs.Seen.{book_of};
 ghost use Rattle.opfs_records.specs.Replay.Built.{Built};
@@ -9,13 +9,13 @@ ghost use Rattle.opfs_records.specs.Replay.Sums.{persistent_in};
 ghost use Rattle.opfs_records.specs.Checkpoint.Written.{AreWritable};
 
 use crate::books::Books;
-use opfs_book_laws::commit_laws;
+use crate::laws::commit_laws;
+use crate::sharing::Shared;
 use opfs_commit::Commits;
 use opfs_hist::History;
 use opfs_journal::Journal;
 use opfs_outside::Disk;
 use opfs_records::snapshot;
-use opfs_sharing::Shared;
 use opfs_shed::Shed;
 use opfs_tree::ReadyTree;
 use std::alloc::{AllocError, Global};

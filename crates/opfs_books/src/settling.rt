@@ -2,8 +2,8 @@
 
 ghost use Rattle.std.specs.Prelude.{◌≡◌, ◌++◌, ◌≤◌, ℕ, true, false, List, None, OnOk, OnErr, IfOk};
 ghost use Rattle.opfs_base.specs.Texts.{Text};
-ghost use Rattle.opfs_book_laws.specs.Books.{Fixed, AreBooksAt};
-ghost use Rattle.opfs_book_laws.specs.Laws.{LeavesPages, ShowsTold, told, doubt};
+ghost use Rattle.opfs_books.specs.Laws.Books.{Fixed, AreBooksAt};
+ghost use Rattle.opfs_books.specs.Laws.Laws.{LeavesPages, ShowsTold, told, doubt};
 ghost use Rattle.opfs_books.specs.Seen.{book_of, AreKnown, IsFinished};
 ghost use Rattle.opfs_commit.specs.Calls.{IsSettled, IsUnsettled};
 ghost use Rattle.opfs_machine.specs.declared.own.Own.{Own};
@@ -13,15 +13,15 @@ ghost use Rattle.opfs_records.specs.Replay.Built.{Built};
 
 use crate::books::Books;
 use crate::committing::commit_alone;
-use opfs_book_calls::calls_are_spelled;
-use opfs_book_laws::{
+use crate::laws::{
     commits_alone_keep_the_books, settling_keeps_the_books, the_books_show_their_images,
 };
+use crate::sharing::Shared;
+use crate::stored::calls_are_spelled;
 use opfs_commit::settle;
 use opfs_journal::{DiskFault, Journal};
 use opfs_laws::lengths::bridge::lengths_follow_each_call;
 use opfs_outside::Disk;
-use opfs_sharing::Shared;
 
 impl<S: Shared> Books<S> {
     /// Ends the doubt, if there is one. Without doubt it calls no disk.

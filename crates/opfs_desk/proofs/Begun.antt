@@ -8,8 +8,8 @@ use Rattle.std.proofs.lemmas.List.{length-set, length-map, get_or-set_other, len
 use Rattle.std.proofs.lemmas.Grind.{get_or-set_at}
 use Rattle.opfs_blocks.specs.Sets.{Used, is_used, marked}
 use Rattle.opfs_blocks.proofs.SetLemmas.{length-marked}
-use Rattle.opfs_book_calls.specs.Spelled.{stored_built}
-use Rattle.opfs_book_laws.specs.Books.{Fixed, AreBooks}
+use Rattle.opfs_books.specs.Stored.Spelled.{stored_built}
+use Rattle.opfs_books.specs.Laws.Books.{Fixed, AreBooks}
 use Rattle.opfs_books.specs.Opened.{IsOpened}
 use Rattle.opfs_data.specs.Rows.{Rows, row_of, kept_count}
 use Rattle.opfs_data.proofs.WriteLemmas.{all_append}
@@ -26,7 +26,7 @@ use Rattle.opfs_image.specs.declared.recovered.Recovered.{Recovered}
 use Rattle.opfs_machine.specs.declared.own.Outline.{Outline}
 use Rattle.opfs_machine.specs.declared.state.Agent.{Agent}
 use Rattle.opfs_machine.specs.Agents.{agent_in, nobody, own_of}
-use Rattle.opfs_openings.specs.Openings.{fixed_by, limits_by, caller_by}
+use Rattle.opfs_books.specs.Openings.Openings.{fixed_by, limits_by, caller_by}
 use Rattle.opfs_outside.specs.Moments.{Elapses}
 use Rattle.opfs_outside.specs.declared.disk.Disk.{Ghosts as DiskWords}
 use Rattle.opfs_records.specs.Replay.Built.{Built, all_extents, named, has_block, is_once, used_by, IsSound, IsSoundRow}

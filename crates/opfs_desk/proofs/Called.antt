@@ -2,8 +2,8 @@
 use Rattle.opfs_acts.specs.Asking.{MayAct}
 use Rattle.opfs_acts.specs.declared.acted.Acted.{Acted}
 use Rattle.opfs_base.specs.Texts.{Text}
-use Rattle.opfs_book_laws.specs.Books.{Fixed}
-use Rattle.opfs_book_laws.proofs.Told.{told-whole}
+use Rattle.opfs_books.specs.Laws.Books.{Fixed}
+use Rattle.opfs_books.proofs.laws.Told.{told-whole}
 use Rattle.opfs_hist.specs.declared.entry.Entry.{Entry}
 use Rattle.opfs_laws.specs.Histories.Unread.{IsTold}
 use Rattle.opfs_machine.specs.Histories.{state_after}

@@ -1,9 +1,9 @@
 -- What a desk shows, and what its end leaves.
 use Rattle.std.proofs.Common.{◌≡◌, ℕ, Bool, true, false, List, [], ◌++◌, Some, Ok, Option, None, refl, if◌then◌else◌, sym, ap, subst, ◌∙◌}
-use Rattle.opfs_book_laws.specs.Books.{account_of}
-use Rattle.opfs_book_laws.specs.Commits.{CommitLaws}
-use Rattle.opfs_book_laws.specs.Laws.{BooksShowTheirImages, told, doubt}
-use Rattle.opfs_book_laws.proofs.Told.{told-whole}
+use Rattle.opfs_books.specs.Laws.Books.{account_of}
+use Rattle.opfs_books.specs.Laws.Commits.{CommitLaws}
+use Rattle.opfs_books.specs.Laws.Laws.{BooksShowTheirImages, told, doubt}
+use Rattle.opfs_books.proofs.laws.Told.{told-whole}
 use Rattle.opfs_books.specs.Seen.{IsFinished}
 use Rattle.opfs_commit.specs.Seen.{committing}
 use Rattle.opfs_commit.specs.Shown.{ShowsSince, IsShown}

@@ -1,6 +1,6 @@
 -- What the end of a run leaves. This project's own.
 use Rattle.std.specs.Prelude.{◌≡◌, ℕ, List, ◌++◌, Option, Ok}
-use Rattle.opfs_book_laws.specs.Laws.{told, doubt}
+use Rattle.opfs_books.specs.Laws.Laws.{told, doubt}
 use Rattle.opfs_commit.specs.Shown.{ShowsSince}
 use Rattle.opfs_commit.specs.Trail.{IsTrail}
 use Rattle.opfs_hist.specs.declared.entry.Entry.{Entry}

@@ -1,7 +1,7 @@
 -- The desk as it is seen. This project's own.
 use Rattle.std.specs.Prelude.{List, ◌++◌}
-use Rattle.opfs_book_laws.specs.Books.{Fixed, AreCounted}
-use Rattle.opfs_book_laws.specs.Laws.{told, doubt}
+use Rattle.opfs_books.specs.Laws.Books.{Fixed, AreCounted}
+use Rattle.opfs_books.specs.Laws.Laws.{told, doubt}
 use Rattle.opfs_commit.specs.Shown.{ShowsSince}
 use Rattle.opfs_hist.specs.declared.entry.Entry.{Entry}
 use Rattle.opfs_machine.specs.Changes.{floor}

@@ -20,7 +20,7 @@ pub struct Desk<D: Disk> {
 impl<D: Disk> Model for Desk<D> {
     ghost use Rattle.opfs_desk.specs.Seen.{DeskSeen};
     ghost use Rattle.opfs_desk.specs.Resting.{IsResting};
-    ghost use Rattle.opfs_openings.specs.Openings.{fixed_by};
+    ghost use Rattle.opfs_books.specs.Openings.Openings.{fixed_by};
 
     ghost Value = { DeskSeen D };
 

@@ -8,8 +8,7 @@ ghost use Rattle.opfs_hist.specs.Faults.{disk_faults};
 ghost use Rattle.opfs_outside.specs.Faults.{Rose, RoseBy};
 
 use crate::desk::Desk;
-use opfs_book_calls::calls_are_spelled;
-use opfs_book_laws::{commit_laws, the_books_show_their_images};
+use opfs_books::{calls_are_spelled, commit_laws, the_books_show_their_images};
 use opfs_desk_parts::{Ledger, Pages, Parts};
 use opfs_hist::History;
 use opfs_journal::DiskFault;

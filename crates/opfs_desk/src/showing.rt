@@ -8,7 +8,7 @@ ghost use Rattle.opfs_machine.specs.Changes.{changes};
 ghost use Rattle.opfs_outside.specs.Faults.{Rose};
 
 use crate::desk::Desk;
-use opfs_book_laws::{the_books_show_their_images, the_state_is_kept};
+use opfs_books::{the_books_show_their_images, the_state_is_kept};
 use opfs_outside::Disk;
 
 impl<D: Disk> Desk<D> {

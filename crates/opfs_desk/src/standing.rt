@@ -1,6 +1,6 @@
 //! The desk stands for its history.
 
-ghost use Rattle.opfs_book_laws.specs.Books.{Fixed};
+ghost use Rattle.opfs_books.specs.Laws.Books.{Fixed};
 ghost use base.Fml.{ftrue};
 
 use crate::desk::Desk;

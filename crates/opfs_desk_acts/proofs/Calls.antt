@@ -4,8 +4,8 @@ use Rattle.opfs_acts.specs.Acting.{IsActed, IsGift, HasFaultOnlyIfRose}
 use Rattle.opfs_acts.specs.Asking.{MayAct}
 use Rattle.opfs_acts.specs.declared.acted.Acted.{Acted}
 use Rattle.opfs_base.specs.Texts.{Text}
-use Rattle.opfs_book_laws.specs.Books.{Fixed}
-use Rattle.opfs_book_laws.specs.Laws.{BooksShowTheirImages}
+use Rattle.opfs_books.specs.Laws.Books.{Fixed}
+use Rattle.opfs_books.specs.Laws.Laws.{BooksShowTheirImages}
 use Rattle.opfs_commit.specs.Shown.{ShowsEither}
 use Rattle.opfs_hist.specs.declared.entry.Entry.{Entry}
 use Rattle.opfs_hist.specs.declared.op.Op.{Op}

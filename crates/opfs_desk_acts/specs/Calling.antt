@@ -2,7 +2,7 @@
 use Rattle.std.specs.Prelude.{◌≡◌, ◌++◌, List, Option, None}
 use Rattle.opfs_acts.specs.Asking.{MayAct}
 use Rattle.opfs_base.specs.Texts.{Text}
-use Rattle.opfs_book_laws.specs.Books.{Fixed}
+use Rattle.opfs_books.specs.Laws.Books.{Fixed}
 use Rattle.opfs_desk_laws.specs.Handles.{AreHandlesWhole}
 use Rattle.opfs_desk_parts.specs.Acted.{IsWayNow}
 use Rattle.opfs_desk_parts.specs.Held.{AreHeld}

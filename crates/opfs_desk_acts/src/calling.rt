@@ -3,7 +3,7 @@
 ghost use Rattle.std.specs.Option.{option_copied};
 ghost use Rattle.std.specs.Prelude.{◌≡◌, true, [], IfOk, OnOk, OnErr, IsTrue, is_ok};
 ghost use Rattle.opfs_acts.specs.Acting.{IsSameCopy, always_acts};
-ghost use Rattle.opfs_book_laws.specs.Books.{Fixed};
+ghost use Rattle.opfs_books.specs.Laws.Books.{Fixed};
 ghost use Rattle.opfs_desk_acts.specs.Calling.{HasNoneReady, IsCalled, IsLeftAlone, MayCall, MayCallFrom};
 ghost use Rattle.opfs_desk_laws.specs.Handles.{AreHandlesWhole};
 ghost use Rattle.opfs_desk_parts.specs.Acted.{HasActed};
@@ -17,7 +17,7 @@ ghost use Rattle.opfs_records.specs.Replay.Built.{Built};
 use crate::acting::act_asked;
 use opfs_acts::Acted;
 use opfs_base::Name;
-use opfs_book_laws::the_books_show_their_images;
+use opfs_books::the_books_show_their_images;
 use opfs_desk_asks::{Asked, Readied, ask_call};
 use opfs_desk_parts::{InHand, Ledger, Parts};
 use opfs_desk_plain::act_refused;

@@ -6,7 +6,7 @@ use Rattle.std.specs.Ordering.{eq_by_cmp}
 use Rattle.opfs_base.specs.Places.{Place, place_cmp}
 use Rattle.opfs_base.specs.Texts.{Text}
 use Rattle.opfs_blocks.specs.Sets.{blocks_of}
-use Rattle.opfs_book_laws.specs.Books.{Fixed, AreBooks}
+use Rattle.opfs_books.specs.Laws.Books.{Fixed, AreBooks}
 use Rattle.opfs_state_rows.specs.Changes.Changed.{tree_by}
 use Rattle.opfs_data.specs.Pages.{page_of, blank}
 use Rattle.opfs_data.specs.Rows.{Rows, row_of, no_row, kept_count, OthersStay}

@@ -4,8 +4,8 @@ use Rattle.std.proofs.lemmas.Bool.{false≢true}
 use Rattle.opfs_acts.specs.Acting.{told_entry, row_left, StandsForLeft, unread_gift}
 use Rattle.opfs_acts.specs.declared.acted.Gift.TheVariants as gift
 use Rattle.opfs_base.specs.Texts.{Text}
-use Rattle.opfs_book_laws.specs.Books.{Fixed}
-use Rattle.opfs_book_laws.specs.Laws.{BooksKeepTheState, BooksShowTheirImages}
+use Rattle.opfs_books.specs.Laws.Books.{Fixed}
+use Rattle.opfs_books.specs.Laws.Laws.{BooksKeepTheState, BooksShowTheirImages}
 use Rattle.opfs_copies.specs.Copies.{StandsFor, IsPaged}
 use Rattle.opfs_desk_laws.specs.Handles.{AreHandlesWhole, HandlesStayWhole}
 use Rattle.opfs_desk_laws.specs.Putting.{AllReadAlike}

@@ -5,7 +5,7 @@ use Rattle.opfs_acts.specs.Acting.{brings_position, gift_of, row_left}
 use Rattle.opfs_acts.specs.declared.acted.Gift.TheVariants as gift
 use Rattle.opfs_base.specs.Places.{Place}
 use Rattle.opfs_base.specs.Texts.{Text}
-use Rattle.opfs_book_calls.specs.Spelled.{flush_spelled, handle_spelled, spelled_by}
+use Rattle.opfs_books.specs.Stored.Spelled.{flush_spelled, handle_spelled, spelled_by}
 use Rattle.opfs_state_rows.specs.Changes.Allowed.{IsSized}
 use Rattle.opfs_state_rows.specs.Changes.Changed.{changed_by as tree_changed_by, ended_by, flushed_by, flushed_in, tree_by}
 use Rattle.opfs_desk_contents.specs.Words.{ends_row, flushes_nothing, may_only_read, may_write, stores_row}

@@ -3,7 +3,7 @@
 ghost use Rattle.std.specs.Prelude.{◌≡◌, [], List, true, IfOk, OnOk, OnErr};
 ghost use Rattle.opfs_acts.specs.Acting.{IsSameCopy, told_entry};
 ghost use Rattle.opfs_base.specs.Texts.{Text};
-ghost use Rattle.opfs_book_laws.specs.Books.{Fixed};
+ghost use Rattle.opfs_books.specs.Laws.Books.{Fixed};
 ghost use Rattle.opfs_desk_contents.specs.Words.{flushes_nothing};
 ghost use Rattle.opfs_desk_ends.specs.Leaving.{IsInOrderThrough};
 ghost use Rattle.opfs_desk_laws.specs.Handles.{AreHandlesWhole};

@@ -1,7 +1,7 @@
 //! What is known of the steps of these calls.
 
 ghost use Rattle.std.specs.Prelude.{◌≡◌, ℕ, List, [], ◌∷◌, ◌++◌};
-ghost use Rattle.opfs_book_laws.specs.Laws.{BooksKeepTheState, BooksShowTheirImages};
+ghost use Rattle.opfs_books.specs.Laws.Laws.{BooksKeepTheState, BooksShowTheirImages};
 ghost use Rattle.opfs_copies.specs.Copies.{StandsFor, IsPaged};
 ghost use Rattle.opfs_desk_laws.specs.Copies.{HasLeftRow, IsHandleCopy};
 ghost use Rattle.opfs_desk_laws.specs.Handles.{HandlesStayWhole};
@@ -20,7 +20,7 @@ ghost use Rattle.opfs_machine.specs.Histories.{state_after};
 ghost use Rattle.opfs_machine.specs.Openings.{Opening};
 ghost use Rattle.opfs_work.specs.Works.{WorkingCopy};
 
-use opfs_book_laws::{the_books_show_their_images, the_state_is_kept};
+use opfs_books::{the_books_show_their_images, the_state_is_kept};
 use opfs_desk_laws::{
     blocks_go_on, calls_change_their_row, calls_leave_other_rows, copies_stand_for_their_row,
     handles_stay_whole, trees_keep_their_blocks,

@@ -4,9 +4,9 @@ use Rattle.std.specs.Prelude.{count_by, IsTrue}
 use Rattle.std.proofs.lemmas.List.Sums.{fold-append}
 use Rattle.opfs_acts.specs.Asking.{MayAct}
 use Rattle.opfs_base.specs.Texts.{Text}
-use Rattle.opfs_book_laws.proofs.Told.{told-whole, whole-told}
-use Rattle.opfs_book_laws.specs.Books.{Fixed, IsToldAt}
-use Rattle.opfs_book_laws.specs.Commits.{StateLaws}
+use Rattle.opfs_books.proofs.laws.Told.{told-whole, whole-told}
+use Rattle.opfs_books.specs.Laws.Books.{Fixed, IsToldAt}
+use Rattle.opfs_books.specs.Laws.Commits.{StateLaws}
 use Rattle.opfs_books.proofs.Following.{notes-follow, pending-notes}
 use Rattle.opfs_state_rows.specs.Changes.Asking.{AreOwnUnits}
 use Rattle.opfs_hist.specs.Sums.{makes_row, last_moment}
@@ -34,8 +34,8 @@ use Rattle.opfs_machine.specs.Runs.{Call}
 use Rattle.opfs_machine.specs.Steps.{judged}
 use Rattle.opfs_outside.specs.declared.disk.Disk.{Ghosts as DiskWords}
 use Rattle.opfs_records.specs.Replay.Built.{Built}
-use Rattle.opfs_sharing.proofs.Pending.{sum-noted}
-use Rattle.opfs_sharing.specs.Noting.{noted}
+use Rattle.opfs_books.proofs.sharing.Pending.{sum-noted}
+use Rattle.opfs_books.specs.Sharing.Noting.{noted}
 use Rattle.opfs_state_rows.specs.Standing.Noted.{with_sum}
 use Rattle.opfs_state_rows.specs.Standing.Seen.{Machine}
 use Rattle.opfs_state.specs.Laws.Judged.{NotesDecideNothing}

@@ -1,7 +1,7 @@
 -- What is held is held where only what stands ready is another.
 use Rattle.std.proofs.Common.{◌≡◌, [], sym, subst, ◌∙◌}
-use Rattle.opfs_book_calls.specs.Spelled.{stored_built}
-use Rattle.opfs_book_laws.specs.Books.{Fixed, AreBooksAt}
+use Rattle.opfs_books.specs.Stored.Spelled.{stored_built}
+use Rattle.opfs_books.specs.Laws.Books.{Fixed, AreBooksAt}
 use Rattle.opfs_books.specs.Seen.{book}
 use Rattle.opfs_desk_laws.specs.Laid.{AreLaid}
 use Rattle.opfs_machine.specs.Histories.{state_after}

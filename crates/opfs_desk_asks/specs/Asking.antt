@@ -2,7 +2,7 @@
 use Rattle.std.specs.Prelude.{◌≡◌, ℕ, List, ◌++◌, Ok, Err, None}
 use Rattle.opfs_acts.specs.Asking.{MayAct}
 use Rattle.opfs_base.specs.Texts.{Text}
-use Rattle.opfs_book_laws.specs.Books.{Fixed}
+use Rattle.opfs_books.specs.Laws.Books.{Fixed}
 use Rattle.opfs_desk_asks.specs.declared.asked.Asked.{Asked}
 use Rattle.opfs_desk_asks.specs.declared.asked.Asked.TheVariants as asked
 use Rattle.opfs_desk_asks.specs.declared.asked.Readied.{Readied}

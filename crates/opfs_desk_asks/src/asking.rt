@@ -4,7 +4,7 @@ ghost use Rattle.std.specs.Prelude.{◌≡◌, ℕ, List, None, IfOk, OnErr, IsT
 ghost use Rattle.opfs_acts.specs.Acting.{always_acts};
 ghost use Rattle.opfs_acts.specs.Asking.{MayAct};
 ghost use Rattle.opfs_base.specs.Texts.{Text};
-ghost use Rattle.opfs_book_laws.specs.Books.{Fixed};
+ghost use Rattle.opfs_books.specs.Laws.Books.{Fixed};
 ghost use Rattle.opfs_desk_asks.specs.Asking.{MayAsk, IsAskedAs};
 ghost use Rattle.opfs_desk_parts.specs.Held.{AreHeldWhole};
 ghost use Rattle.opfs_desk_parts.specs.declared.parts.Pages.{Pages};
@@ -14,7 +14,7 @@ use crate::asked::{Asked, Readied};
 use crate::clearings::clearings_for;
 use crate::ending::{always_acts, ask_ending};
 use crate::sizes::sizes_for;
-use opfs_book_laws::state_laws;
+use opfs_books::state_laws;
 use opfs_desk_parts::Ledger;
 use opfs_hist::{Op, Pending};
 use opfs_laws::histories::unread::reads_leave_the_state;

@@ -2,8 +2,8 @@
 use Rattle.std.proofs.Common.{◌≡◌, ℕ, ◌<◌, ◌^◌, List, sym, subst}
 use Rattle.opfs_base.specs.Places.{Place}
 use Rattle.opfs_base.specs.declared.extents.Extent.{Extent}
-use Rattle.opfs_book_calls.specs.Spelled.{CanHold}
-use Rattle.opfs_book_laws.specs.Books.{Fixed}
+use Rattle.opfs_books.specs.Stored.Spelled.{CanHold}
+use Rattle.opfs_books.specs.Laws.Books.{Fixed}
 use Rattle.opfs_books.specs.Seen.{MayStore}
 use Rattle.opfs_codec.specs.Spelling.{IsChange, AreExtents}
 use Rattle.opfs_codec.specs.declared.change.Change.{Change as Spelled}

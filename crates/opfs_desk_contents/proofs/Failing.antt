@@ -1,7 +1,7 @@
 -- The disk failed before a call's own change: the call is entered so.
 use Rattle.std.proofs.Common.{◌≡◌, ◌+◌, List, [], ◌∷◌, ◌++◌, None, refl, sym, ap, subst, ◌∙◌}
-use Rattle.opfs_book_laws.specs.Books.{Fixed}
-use Rattle.opfs_book_laws.specs.Laws.{FaultsAreCounted, failed, told}
+use Rattle.opfs_books.specs.Laws.Books.{Fixed}
+use Rattle.opfs_books.specs.Laws.Laws.{FaultsAreCounted, failed, told}
 use Rattle.opfs_desk_parts.specs.Acted.{AreCleared, HasFailed, last_doubt}
 use Rattle.opfs_desk_parts.specs.Held.{AreHeldWhole}
 use Rattle.opfs_desk_parts.specs.Seen.{book_in}

@@ -5,8 +5,8 @@ use Rattle.std.proofs.Common.{◌≡◌, ℕ, ◌≤◌, false, List, [], ◌∷
 use Rattle.std.proofs.lemmas.Bool.{cases_lt}
 use Rattle.std.proofs.lemmas.List.{get_or_past}
 use Rattle.opfs_base.specs.Texts.{Text}
-use Rattle.opfs_book_laws.specs.Books.{Fixed}
-use Rattle.opfs_book_laws.specs.Laws.{told}
+use Rattle.opfs_books.specs.Laws.Books.{Fixed}
+use Rattle.opfs_books.specs.Laws.Laws.{told}
 use Rattle.opfs_data.specs.declared.page.SavedPage.{SavedPage}
 use Rattle.opfs_data.specs.Pages.{AreNow, blank, page_of}
 use Rattle.opfs_data.specs.Rows.{Rows, pages_at, page_at, row_at}

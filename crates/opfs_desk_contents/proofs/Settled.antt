@@ -2,8 +2,8 @@
 use Rattle.std.specs.Vec.{vec_capacity}
 use Rattle.std.proofs.Common.{◌≡◌, ◌-◌, ◌^◌, ◌≤◌, [], ◌++◌, sym, ap, subst, inl}
 use Rattle.opfs_base.specs.Texts.{Text}
-use Rattle.opfs_book_laws.specs.Books.{Fixed, AreBooksAt}
-use Rattle.opfs_book_laws.specs.Laws.{LeavesPages, ShowsTold, told, doubt}
+use Rattle.opfs_books.specs.Laws.Books.{Fixed, AreBooksAt}
+use Rattle.opfs_books.specs.Laws.Laws.{LeavesPages, ShowsTold, told, doubt}
 use Rattle.opfs_desk_parts.specs.Acted.{AreCleared, IsWayNow}
 use Rattle.opfs_desk_parts.specs.Held.{AreHeldAt, AreHeldWhole}
 use Rattle.opfs_desk_parts.specs.Seen.{book_in}

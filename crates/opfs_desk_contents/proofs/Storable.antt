@@ -4,10 +4,10 @@ use Rattle.opfs_base.specs.Blocks.{blocks}
 use Rattle.opfs_base.specs.Places.{Place}
 use Rattle.opfs_base.specs.Texts.{Text}
 use Rattle.opfs_base.specs.declared.extents.Extent.{Extent}
-use Rattle.opfs_book_laws.specs.Books.{Fixed, IsPlaced}
-use Rattle.opfs_book_laws.specs.Commits.{StateLaws}
-use Rattle.opfs_book_calls.specs.Spelled.{bytes_stored}
-use Rattle.opfs_book_laws.specs.Laws.{BooksKeepTheState, ShowsTold, told}
+use Rattle.opfs_books.specs.Laws.Books.{Fixed, IsPlaced}
+use Rattle.opfs_books.specs.Laws.Commits.{StateLaws}
+use Rattle.opfs_books.specs.Stored.Spelled.{bytes_stored}
+use Rattle.opfs_books.specs.Laws.Laws.{BooksKeepTheState, ShowsTold, told}
 use Rattle.opfs_state_rows.specs.Changes.Allowed.{MayApply, IsSized}
 use Rattle.opfs_codec.specs.declared.change.Change.TheVariants.{Content}
 use Rattle.opfs_commit.specs.Making.{told_as}

@@ -9,10 +9,10 @@ use Rattle.opfs_base.specs.Blocks.{blocks}
 use Rattle.opfs_base.specs.Places.{Place, place_cmp}
 use Rattle.opfs_base.specs.Texts.{Text}
 use Rattle.opfs_base.specs.declared.extents.Extent.{Extent}
-use Rattle.opfs_book_calls.specs.Spelled.{bytes_stored, content_spelled, flush_spelled, handle_spelled, spelled_by, stream_spelled, CanHold}
-use Rattle.opfs_book_laws.specs.Books.{Fixed}
-use Rattle.opfs_book_laws.specs.Commits.{StateLaws}
-use Rattle.opfs_book_laws.specs.Laws.{BooksKeepTheState}
+use Rattle.opfs_books.specs.Stored.Spelled.{bytes_stored, content_spelled, flush_spelled, handle_spelled, spelled_by, stream_spelled, CanHold}
+use Rattle.opfs_books.specs.Laws.Books.{Fixed}
+use Rattle.opfs_books.specs.Laws.Commits.{StateLaws}
+use Rattle.opfs_books.specs.Laws.Laws.{BooksKeepTheState}
 use Rattle.opfs_books.specs.Seen.{BytesStand}
 use Rattle.opfs_codec.specs.Spelling.{AreExtents, IsExtent}
 use Rattle.opfs_codec.specs.declared.change.Change.TheVariants.{Content}

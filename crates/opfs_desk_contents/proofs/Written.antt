@@ -2,9 +2,9 @@
 use Rattle.std.proofs.Common.{◌≡◌, ℕ, ◌-◌, ◌*◌, ◌^◌, ◌<◌, ◌≤◌, true, false, is_some, List, [], ◌++◌, length, unwrap_or, Option, Some, refl, sym, ap, subst, ◌∙◌, inl, inr, append-nil, arith}
 use Rattle.opfs_base.specs.Texts.{Text}
 use Rattle.opfs_base.specs.Blocks.{blocks}
-use Rattle.opfs_book_laws.specs.Books.{Fixed, AreBooksAt}
-use Rattle.opfs_book_laws.specs.Laws.{PagesKeepTheBooks, ShowsTold, told}
-use Rattle.opfs_book_laws.proofs.Counting.{rose-before, rose-later}
+use Rattle.opfs_books.specs.Laws.Books.{Fixed, AreBooksAt}
+use Rattle.opfs_books.specs.Laws.Laws.{PagesKeepTheBooks, ShowsTold, told}
+use Rattle.opfs_books.proofs.laws.Counting.{rose-before, rose-later}
 use Rattle.opfs_data.specs.Calls.{Writes as DiskWrites}
 use Rattle.opfs_data.specs.declared.page.Page.{Page}
 use Rattle.opfs_data.specs.Pages.{page_of, runs_of, AreOnce}

@@ -3,7 +3,7 @@ use Rattle.std.specs.Prelude.{◌≡◌, ℕ, ◌≤◌, ◌<◌, true, false, L
 use Rattle.std.specs.Vec.{vec_capacity}
 use Rattle.opfs_base.specs.Texts.{Text}
 use Rattle.opfs_base.specs.Blocks.{blocks}
-use Rattle.opfs_book_laws.specs.Books.{Fixed}
+use Rattle.opfs_books.specs.Laws.Books.{Fixed}
 use Rattle.opfs_data.specs.Pages.{page_of}
 use Rattle.opfs_data.specs.Rows.{Rows, page_at}
 use Rattle.opfs_data.specs.Writes.{HasBytes, WriteList}

@@ -6,9 +6,9 @@ use Rattle.opfs_base.specs.Places.{Place}
 use Rattle.opfs_base.specs.Texts.{Text}
 use Rattle.opfs_base.specs.declared.extents.Extent.{Extent}
 use Rattle.opfs_blocks.specs.Sets.{blocks_of}
-use Rattle.opfs_book_calls.specs.Spelled.{bytes_stored, spelled_by, CanHold}
-use Rattle.opfs_book_laws.specs.Books.{Fixed, AreBooks}
-use Rattle.opfs_book_laws.specs.Laws.{LeavesPages, failed}
+use Rattle.opfs_books.specs.Stored.Spelled.{bytes_stored, spelled_by, CanHold}
+use Rattle.opfs_books.specs.Laws.Books.{Fixed, AreBooks}
+use Rattle.opfs_books.specs.Laws.Laws.{LeavesPages, failed}
 use Rattle.opfs_state_rows.specs.Changes.Changed.{tree_by}
 use Rattle.opfs_codec.specs.Spelling.{AreExtents}
 use Rattle.opfs_codec.specs.declared.change.Change.{Change as Spelled}

@@ -3,10 +3,10 @@
 ghost use Rattle.std.specs.Prelude.{◌≡◌, ◌+◌, ◌<◌, ◌≤◌, ◌^◌, ℕ, [], true, Some, length, IfOk, OnErr};
 ghost use Rattle.std.specs.Vec.{vec_capacity};
 ghost use Rattle.opfs_base.specs.Texts.{Text};
-ghost use Rattle.opfs_book_laws.specs.Books.{Fixed};
-ghost use Rattle.opfs_book_calls.specs.Laws.{CallsAreSpelled, CallsMayFail};
-ghost use Rattle.opfs_book_laws.specs.Commits.{StateLaws};
-ghost use Rattle.opfs_book_laws.specs.Laws.{BooksKeepTheState, FaultsAreCounted};
+ghost use Rattle.opfs_books.specs.Laws.Books.{Fixed};
+ghost use Rattle.opfs_books.specs.Stored.Laws.{CallsAreSpelled, CallsMayFail};
+ghost use Rattle.opfs_books.specs.Laws.Commits.{StateLaws};
+ghost use Rattle.opfs_books.specs.Laws.Laws.{BooksKeepTheState, FaultsAreCounted};
 ghost use Rattle.opfs_data.specs.Rows.{pages_at, page_at};
 ghost use Rattle.opfs_desk_contents.specs.Storing.{AreRunsOf, StoresContent, MayStorePages, HasStoredPages};
 ghost use Rattle.opfs_desk_contents.specs.Words.{is_storing};
@@ -20,9 +20,9 @@ use crate::planning::Plan;
 use crate::putting::put_content;
 use crate::storing::{copy_runs, enter_content};
 use opfs_base::{Extent, Extents};
-use opfs_book_calls::{calls_are_spelled, calls_may_fail};
-use opfs_book_laws::{a_fault_is_counted, state_laws, the_state_is_kept};
-use opfs_books::Last;
+use opfs_books::{
+    Last, a_fault_is_counted, calls_are_spelled, calls_may_fail, state_laws, the_state_is_kept,
+};
 use opfs_data::Swap;
 use opfs_desk_parts::Parts;
 use opfs_desk_rows::parts_lie_inside;

@@ -3,8 +3,8 @@
 ghost use Rattle.std.specs.Prelude.{◌≡◌, ◌≤◌, ℕ, [], false, OnOk, OnErr};
 ghost use Rattle.std.specs.Vec.{vec_capacity};
 ghost use Rattle.opfs_base.specs.Texts.{Text};
-ghost use Rattle.opfs_book_laws.specs.Books.{Fixed};
-ghost use Rattle.opfs_book_laws.specs.Laws.{LeavesPages};
+ghost use Rattle.opfs_books.specs.Laws.Books.{Fixed};
+ghost use Rattle.opfs_books.specs.Laws.Laws.{LeavesPages};
 ghost use Rattle.opfs_desk_contents.specs.Putting.{MayPut, MayWrite, HasContent, IsRowToPut};
 ghost use Rattle.opfs_desk_parts.specs.Acted.{AreCleared};
 ghost use Rattle.opfs_desk_parts.specs.Held.{AreHeldWhole};
@@ -14,9 +14,7 @@ ghost use Rattle.opfs_records.specs.Replay.Built.{Built};
 ghost use Rattle.opfs_row_puts.specs.Plans.{HaveBlocks};
 ghost use Rattle.opfs_work.specs.Works.{WorkingCopy};
 
-use opfs_book_laws::{
-    pages_beside_leave_the_books, the_books_show_their_images, the_state_is_kept,
-};
+use opfs_books::{pages_beside_leave_the_books, the_books_show_their_images, the_state_is_kept};
 use opfs_desk_laws::{
     blocks_go_on, pages_go_on_telling, pages_that_were_put_tell_the_row, what_is_laid_goes_on,
 };

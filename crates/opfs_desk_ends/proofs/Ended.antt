@@ -5,8 +5,8 @@ use Rattle.opfs_acts.specs.Acting.{told_entry, unread_gift}
 use Rattle.opfs_acts.specs.Asking.{names_open}
 use Rattle.opfs_acts.specs.declared.acted.Gift.TheVariants as gift
 use Rattle.opfs_base.specs.Texts.{Text}
-use Rattle.opfs_book_laws.specs.Books.{Fixed}
-use Rattle.opfs_book_laws.specs.Laws.{BooksShowTheirImages}
+use Rattle.opfs_books.specs.Laws.Books.{Fixed}
+use Rattle.opfs_books.specs.Laws.Laws.{BooksShowTheirImages}
 use Rattle.opfs_data.specs.Pages.{blank}
 use Rattle.opfs_data.specs.Rows.{Rows, row_of, no_row, kept_count, OthersStay}
 use Rattle.opfs_desk_laws.specs.Hands.{row_in_hand}

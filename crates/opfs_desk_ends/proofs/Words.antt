@@ -7,7 +7,7 @@ use Rattle.opfs_acts.specs.Asking.{is_open_own, names_open}
 use Rattle.opfs_acts.specs.declared.acted.Gift.TheVariants as gift
 use Rattle.opfs_base.specs.Places.{Place}
 use Rattle.opfs_base.specs.Texts.{Text}
-use Rattle.opfs_book_calls.specs.Spelled.{flush_spelled, handle_spelled, spelled_by}
+use Rattle.opfs_books.specs.Stored.Spelled.{flush_spelled, handle_spelled, spelled_by}
 use Rattle.opfs_state_rows.specs.Changes.Allowed.{IsSized}
 use Rattle.opfs_state_rows.specs.Changes.Asking.{made_at}
 use Rattle.opfs_state_rows.specs.Changes.Changed.{aborted_by, changed_by, ended_by, flushed_in, tree_by}

@@ -3,8 +3,8 @@
 ghost use Rattle.std.specs.Prelude.{◌≡◌, [], List, false, true};
 ghost use Rattle.opfs_acts.specs.Acting.{told_entry};
 ghost use Rattle.opfs_base.specs.Texts.{Text};
-ghost use Rattle.opfs_book_laws.specs.Books.{Fixed};
-ghost use Rattle.opfs_book_laws.specs.Laws.{BooksShowTheirImages};
+ghost use Rattle.opfs_books.specs.Laws.Books.{Fixed};
+ghost use Rattle.opfs_books.specs.Laws.Laws.{BooksShowTheirImages};
 ghost use Rattle.opfs_desk_ends.specs.Leaving.{IsInOrderThrough, is_leaving, leaves_row};
 ghost use Rattle.opfs_desk_laws.specs.Laws.{BlocksGoOn, CallsLeaveOtherRows, TreesKeepBlocks};
 ghost use Rattle.opfs_desk_laws.specs.RowsAfter.{CallsChangeTheirRow};
@@ -28,7 +28,7 @@ ghost use Rattle.opfs_machine.specs.Replies.{row_named};
 ghost use Rattle.opfs_records.specs.Replay.Built.{Built};
 
 use opfs_acts::{Acted, Gift};
-use opfs_book_laws::the_books_show_their_images;
+use opfs_books::the_books_show_their_images;
 use opfs_desk_laws::{
     blocks_go_on, calls_change_their_row, calls_leave_other_rows, trees_keep_their_blocks,
 };

@@ -10,9 +10,9 @@ use Rattle.opfs_base.specs.Keys.{is_origin}
 use Rattle.opfs_base.specs.Texts.{Text}
 use Rattle.opfs_base.specs.Units.{origin_of}
 use Rattle.opfs_base.proofs.UnitLemmas.{origin_of-plain, plain-from_is_origin}
-use Rattle.opfs_book_laws.specs.Books.{Fixed}
-use Rattle.opfs_book_laws.specs.Commits.{StateLaws}
-use Rattle.opfs_book_laws.specs.Laws.{BooksKeepTheState}
+use Rattle.opfs_books.specs.Laws.Books.{Fixed}
+use Rattle.opfs_books.specs.Laws.Commits.{StateLaws}
+use Rattle.opfs_books.specs.Laws.Laws.{BooksKeepTheState}
 use Rattle.opfs_state_rows.specs.Changes.Asking.{growth_of, made_at}
 use Rattle.opfs_codec.specs.Spelling.{is_key_text}
 use Rattle.opfs_hist.specs.declared.history.PendingSum.{PendingSum}

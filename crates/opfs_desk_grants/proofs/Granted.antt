@@ -1,7 +1,7 @@
 -- A persist that gives a mode, once its agent's pending calls are taken in and the doubt is ended.
 use Rattle.std.proofs.Common.{◌≡◌, ℕ, true, List, [], fold, length, sym, ap, ◌∙◌}
 use Rattle.opfs_base.specs.Texts.{Text}
-use Rattle.opfs_book_laws.specs.Books.{Fixed}
+use Rattle.opfs_books.specs.Laws.Books.{Fixed}
 use Rattle.opfs_hist.specs.declared.entry.Entry.{Entry}
 use Rattle.opfs_hist.specs.declared.reply.Reply.TheVariants as reply
 use Rattle.opfs_laws.specs.Histories.Unread.{ReadsLeaveTheState, unread}

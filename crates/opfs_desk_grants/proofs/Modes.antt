@@ -5,7 +5,7 @@ use Rattle.std.proofs.lemmas.Bool.{and_parts, false≢true}
 use Rattle.opfs_acts.specs.Acting.{gift_of}
 use Rattle.opfs_base.specs.Texts.{Text}
 use Rattle.opfs_base.specs.Units.{is_bucket_name, unit_of}
-use Rattle.opfs_book_calls.specs.Spelled.{mode_spelled, spelled_by}
+use Rattle.opfs_books.specs.Stored.Spelled.{mode_spelled, spelled_by}
 use Rattle.opfs_state_rows.specs.Changes.Allowed.{IsSized}
 use Rattle.opfs_state_rows.specs.Changes.Asking.{made_at}
 use Rattle.opfs_state_rows.specs.Changes.Changed.{tree_by}

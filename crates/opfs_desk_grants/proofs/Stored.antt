@@ -2,8 +2,8 @@
 use Rattle.std.proofs.Common.{◌≡◌, true, Some, None, sym, ap, subst, ◌∙◌}
 use Rattle.std.specs.Str.{is_utf8}
 use Rattle.opfs_base.specs.Texts.{Text}
-use Rattle.opfs_book_calls.specs.Spelled.{spelled_by, CanHold}
-use Rattle.opfs_book_laws.specs.Books.{Fixed}
+use Rattle.opfs_books.specs.Stored.Spelled.{spelled_by, CanHold}
+use Rattle.opfs_books.specs.Laws.Books.{Fixed}
 use Rattle.opfs_books.specs.Seen.{MayStore}
 use Rattle.opfs_codec.specs.Fields.{Fits}
 use Rattle.opfs_codec.specs.Spelling.{IsChange}

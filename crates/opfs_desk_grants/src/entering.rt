@@ -5,7 +5,7 @@ ghost use Rattle.std.specs.Prelude.{◌≡◌, List, true, false, is_some, IfOk,
 ghost use Rattle.std.specs.Str.{is_utf8};
 ghost use Rattle.opfs_base.specs.Texts.{Text};
 ghost use Rattle.opfs_base.specs.Units.{unit_of};
-ghost use Rattle.opfs_book_laws.specs.Books.{Fixed};
+ghost use Rattle.opfs_books.specs.Laws.Books.{Fixed};
 ghost use Rattle.opfs_codec.specs.Fields.{plain};
 ghost use Rattle.opfs_codec.specs.declared.change.Change.TheVariants.{Persist};
 ghost use Rattle.opfs_desk_grants.specs.Granting.{is_persist, gives_mode, bucket_named, unit_named, mode_now};

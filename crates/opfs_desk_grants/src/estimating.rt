@@ -1,7 +1,7 @@
 //! What an agent's origin uses and may use.
 
 ghost use Rattle.std.specs.Prelude.{◌≡◌, ◌≤◌, ◌*◌, [], true, is_some};
-ghost use Rattle.opfs_book_laws.specs.Books.{Fixed};
+ghost use Rattle.opfs_books.specs.Laws.Books.{Fixed};
 ghost use Rattle.opfs_desk_grants.specs.Estimating.{is_estimate, usage_of};
 ghost use Rattle.opfs_desk_kept.specs.Keeping.{HasOwnKey};
 ghost use Rattle.opfs_desk_parts.specs.Acted.{HasActed};
@@ -14,7 +14,7 @@ ghost use Rattle.opfs_records.specs.Replay.Built.{Built};
 ghost use Rattle.opfs_state.specs.Verdicts.Callers.{IsAgent};
 
 use opfs_acts::{Acted, Gift};
-use opfs_book_laws::{state_laws, the_state_is_kept};
+use opfs_books::{state_laws, the_state_is_kept};
 use opfs_desk_parts::{InHand, Parts};
 use opfs_desk_plain::{tell, telling_laws};
 use opfs_hist::{Pending, Reply};

@@ -2,9 +2,9 @@
 
 ghost use Rattle.std.specs.Prelude.{◌≡◌, true, [], IfOk, OnOk, OnErr};
 ghost use Rattle.opfs_acts.specs.Acting.{IsSameCopy};
-ghost use Rattle.opfs_book_calls.specs.Laws.{CallsAreSpelled, CallsMayFail};
-ghost use Rattle.opfs_book_laws.specs.Books.{Fixed};
-ghost use Rattle.opfs_book_laws.specs.Laws.{BooksKeepTheState, BooksShowTheirImages};
+ghost use Rattle.opfs_books.specs.Stored.Laws.{CallsAreSpelled, CallsMayFail};
+ghost use Rattle.opfs_books.specs.Laws.Books.{Fixed};
+ghost use Rattle.opfs_books.specs.Laws.Laws.{BooksKeepTheState, BooksShowTheirImages};
 ghost use Rattle.opfs_desk_grants.specs.Granting.{gives_mode};
 ghost use Rattle.opfs_desk_laws.specs.Laws.{BlocksGoOn};
 ghost use Rattle.opfs_desk_parts.specs.Acted.{HasActed, IsUnacted};
@@ -21,8 +21,9 @@ ghost use Rattle.opfs_records.specs.Replay.Built.{Built};
 
 use crate::entering::{enter_mode, unit_in};
 use opfs_acts::{Acted, Gift};
-use opfs_book_calls::{calls_are_spelled, calls_may_fail};
-use opfs_book_laws::{the_books_show_their_images, the_state_is_kept};
+use opfs_books::{
+    calls_are_spelled, calls_may_fail, the_books_show_their_images, the_state_is_kept,
+};
 use opfs_desk_laws::{blocks_go_on, what_is_laid_goes_on};
 use opfs_desk_parts::{InHand, Parts};
 use opfs_desk_steps::{

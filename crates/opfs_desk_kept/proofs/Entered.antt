@@ -1,9 +1,9 @@
 -- What an entry with a change leaves: where the change is kept back, where it is committed, and where the disk failed.
 use Rattle.std.proofs.Common.{◌≡◌, ℕ, ◌+◌, Bool, true, false, if◌then◌else◌, List, [], ◌∷◌, ◌++◌, fold, None, refl, sym, ap, subst, ◌∙◌, inl, inr, append-nil, arith}
 use Rattle.opfs_base.specs.Texts.{Text}
-use Rattle.opfs_book_laws.specs.Books.{Fixed, AreBooks}
-use Rattle.opfs_book_laws.specs.Laws.{BooksShowTheirImages, LeavesPages, ShowsTold, told, failed}
-use Rattle.opfs_book_calls.specs.Spelled.{bytes_stored}
+use Rattle.opfs_books.specs.Laws.Books.{Fixed, AreBooks}
+use Rattle.opfs_books.specs.Laws.Laws.{BooksShowTheirImages, LeavesPages, ShowsTold, told, failed}
+use Rattle.opfs_books.specs.Stored.Spelled.{bytes_stored}
 use Rattle.opfs_books.specs.Seen.{BytesStand, stored_change}
 use Rattle.opfs_books.proofs.Calls.{quiet-told}
 use Rattle.opfs_state_rows.specs.Changes.Changed.{tree_by}

@@ -2,10 +2,10 @@
 use Rattle.std.proofs.Common.{◌≡◌, ℕ, true, List, [], fold, length, Some, None, refl, sym, ap, ◌∙◌, subst}
 use Rattle.opfs_acts.specs.Acting.{told_entry}
 use Rattle.opfs_base.specs.Texts.{Text}
-use Rattle.opfs_book_calls.specs.Laws.{CallsAreSpelled, CallsMayFail}
-use Rattle.opfs_book_calls.specs.Spelled.{spelled_by}
-use Rattle.opfs_book_laws.specs.Books.{Fixed}
-use Rattle.opfs_book_laws.specs.Laws.{BooksKeepTheState, BooksShowTheirImages}
+use Rattle.opfs_books.specs.Stored.Laws.{CallsAreSpelled, CallsMayFail}
+use Rattle.opfs_books.specs.Stored.Spelled.{spelled_by}
+use Rattle.opfs_books.specs.Laws.Books.{Fixed}
+use Rattle.opfs_books.specs.Laws.Laws.{BooksKeepTheState, BooksShowTheirImages}
 use Rattle.opfs_state_rows.specs.Changes.Changed.{tree_by}
 use Rattle.opfs_desk_laws.specs.Laws.{BlocksGoOn}
 use Rattle.opfs_hist.specs.declared.entry.Entry.{Entry}

@@ -1,7 +1,7 @@
 -- The key of a call's agent, which stays as its opening has it.
 use Rattle.std.proofs.Common.{◌≡◌, ℕ, [], List, sym, ap, ◌∙◌}
 use Rattle.opfs_base.specs.Texts.{Text}
-use Rattle.opfs_book_laws.specs.Books.{Fixed}
+use Rattle.opfs_books.specs.Laws.Books.{Fixed}
 use Rattle.opfs_laws.specs.Histories.Unread.{ReadsLeaveTheState}
 use Rattle.opfs_laws.specs.Counting.{AStateCountsItsHistory, key_of}
 use Rattle.opfs_machine.specs.declared.own.Own.{Own}

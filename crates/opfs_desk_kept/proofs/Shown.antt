@@ -2,12 +2,12 @@
 use Rattle.std.proofs.Common.{◌≡◌, false, List, [], ◌∷◌, ◌++◌, map, fold, Some, None, refl, sym, ap, subst, ◌∙◌}
 use Rattle.std.proofs.lemmas.List.{append_assoc}
 use Rattle.opfs_base.specs.Texts.{Text}
-use Rattle.opfs_book_calls.specs.Laws.{CallsAreSpelled, CallsMayFail}
-use Rattle.opfs_book_calls.specs.Spelled.{spelled_by, bytes_stored, told_list}
-use Rattle.opfs_book_laws.specs.Books.{Fixed}
-use Rattle.opfs_book_laws.specs.Laws.{BooksKeepTheState, told, failed}
-use Rattle.opfs_book_laws.proofs.Counting.{rose-before}
-use Rattle.opfs_book_laws.proofs.Told.{changes-more}
+use Rattle.opfs_books.specs.Stored.Laws.{CallsAreSpelled, CallsMayFail}
+use Rattle.opfs_books.specs.Stored.Spelled.{spelled_by, bytes_stored, told_list}
+use Rattle.opfs_books.specs.Laws.Books.{Fixed}
+use Rattle.opfs_books.specs.Laws.Laws.{BooksKeepTheState, told, failed}
+use Rattle.opfs_books.proofs.laws.Counting.{rose-before}
+use Rattle.opfs_books.proofs.laws.Told.{changes-more}
 use Rattle.opfs_books.specs.Seen.{stored_change}
 use Rattle.opfs_books.proofs.Following.{answered-changes}
 use Rattle.opfs_codec.specs.declared.change.Change.{Change as Spelled}

@@ -19,8 +19,8 @@ use Rattle.opfs_base.proofs.UnitLemmas.{origin_of-unit_of, bucket_of-unit_of, pl
 use Rattle.opfs_base.specs.declared.locator.Kind.{Kind}
 use Rattle.opfs_base.specs.declared.locator.Kind.TheVariants as kind
 use Rattle.opfs_base.specs.declared.locator.Locator.{Locator}
-use Rattle.opfs_book_calls.specs.Spelled.{spelled_by, made_spelled, dir_spelled, CanHold}
-use Rattle.opfs_book_calls.proofs.Ruling.{MayMake, may-make, may-remove}
+use Rattle.opfs_books.specs.Stored.Spelled.{spelled_by, made_spelled, dir_spelled, CanHold}
+use Rattle.opfs_books.proofs.stored.Ruling.{MayMake, may-make, may-remove}
 use Rattle.opfs_state_rows.specs.Changes.Asking.{made_at, where_free, free_in, root_in}
 use Rattle.opfs_state_rows.proofs.changes.Told.{located-directory}
 use Rattle.opfs_codec.specs.Spelling.{IsText, is_key_text, is_origin_text, IsKey, IsName, IsPath, IsChange}

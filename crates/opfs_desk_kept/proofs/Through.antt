@@ -3,11 +3,11 @@ use Rattle.std.proofs.Common.{◌≡◌, ℕ, zero, suc, Bool, true, false, List
 use Rattle.std.proofs.lemmas.Bool.{false≢true, true≢false}
 use Rattle.opfs_acts.specs.Acting.{told_entry, row_left, StandsForLeft, unread_gift}
 use Rattle.opfs_base.specs.Texts.{Text}
-use Rattle.opfs_book_calls.specs.Laws.{CallsAreSpelled, CallsMayFail}
-use Rattle.opfs_book_calls.specs.Spelled.{spelled_by}
-use Rattle.opfs_book_laws.specs.Books.{Fixed}
-use Rattle.opfs_book_laws.specs.Laws.{BooksKeepTheState, failed}
-use Rattle.opfs_book_laws.proofs.Told.{next-state, next-reply}
+use Rattle.opfs_books.specs.Stored.Laws.{CallsAreSpelled, CallsMayFail}
+use Rattle.opfs_books.specs.Stored.Spelled.{spelled_by}
+use Rattle.opfs_books.specs.Laws.Books.{Fixed}
+use Rattle.opfs_books.specs.Laws.Laws.{BooksKeepTheState, failed}
+use Rattle.opfs_books.proofs.laws.Told.{next-state, next-reply}
 use Rattle.opfs_state_rows.specs.Changes.Changed.{tree_by}
 use Rattle.opfs_codec.specs.declared.change.Change.{Change as Spelled}
 use Rattle.opfs_desk_laws.specs.Laws.{BlocksGoOn}

@@ -1,8 +1,8 @@
 -- A call is entered with its change, which is kept back or committed; or the disk failed as it was committed. This project's own.
 use Rattle.std.specs.Prelude.{◌≡◌, ◌⊎◌, ◌≤◌, List, [], ◌∷◌, ◌++◌, None}
 use Rattle.opfs_base.specs.Texts.{Text}
-use Rattle.opfs_book_laws.specs.Books.{Fixed, AreBooks}
-use Rattle.opfs_book_laws.specs.Laws.{ShowsTold, told, failed}
+use Rattle.opfs_books.specs.Laws.Books.{Fixed, AreBooks}
+use Rattle.opfs_books.specs.Laws.Laws.{ShowsTold, told, failed}
 use Rattle.opfs_books.specs.Seen.{stored_change}
 use Rattle.opfs_state_rows.specs.Changes.Changed.{tree_by}
 use Rattle.opfs_codec.specs.declared.change.Change.{Change as Spelled}

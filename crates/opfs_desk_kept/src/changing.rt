@@ -3,7 +3,7 @@
 ghost use Rattle.std.specs.Prelude.{◌≡◌, List, true, false, OnOk, OnErr};
 ghost use Rattle.std.specs.Str.{is_utf8};
 ghost use Rattle.opfs_base.specs.Texts.{Text};
-ghost use Rattle.opfs_book_laws.specs.Books.{Fixed};
+ghost use Rattle.opfs_books.specs.Laws.Books.{Fixed};
 ghost use Rattle.opfs_desk_kept.specs.Changing.{HasChanged, HasNotChanged};
 ghost use Rattle.opfs_desk_kept.specs.Keeping.{keeps_back, entry_name, entry_place, HasOwnKey};
 ghost use Rattle.opfs_desk_kept.specs.Steps.{change_now};

@@ -2,8 +2,8 @@
 
 ghost use Rattle.std.specs.Prelude.{◌≡◌, ◌<◌, ◌++◌, ◌∷◌, [], List, Some, None, false, OnOk, OnErr};
 ghost use Rattle.opfs_base.specs.Texts.{Text};
-ghost use Rattle.opfs_book_calls.specs.Spelled.{spelled_by};
-ghost use Rattle.opfs_book_laws.specs.Books.{Fixed, AreBooks};
+ghost use Rattle.opfs_books.specs.Stored.Spelled.{spelled_by};
+ghost use Rattle.opfs_books.specs.Laws.Books.{Fixed, AreBooks};
 ghost use Rattle.opfs_books.specs.Seen.{MayStore};
 ghost use Rattle.opfs_state_rows.specs.Changes.Changed.{tree_by};
 ghost use Rattle.opfs_codec.specs.Fields.{plain, Fits};
@@ -22,8 +22,7 @@ ghost use Rattle.opfs_machine.specs.Effects.{effect};
 ghost use Rattle.opfs_machine.specs.Steps.{is_refusal};
 ghost use Rattle.opfs_records.specs.Replay.Built.{Built};
 
-use opfs_book_laws::{the_books_show_their_images, the_state_is_kept};
-use opfs_books::Entering;
+use opfs_books::{Entering, the_books_show_their_images, the_state_is_kept};
 use opfs_codec::ChangeRef;
 use opfs_desk_parts::Ledger;
 use opfs_desk_ways::store_call;

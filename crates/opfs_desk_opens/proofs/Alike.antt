@@ -1,7 +1,7 @@
 -- What is held over pages is held over pages that are alike.
 use Rattle.std.proofs.Common.{ℕ, ◌<◌, is_some, List, [], length, slice_index_or, unwrap_or, Option, refl, sym, ap, ◌∙◌, subst, append-nil, arith}
 use Rattle.opfs_base.specs.Texts.{Text}
-use Rattle.opfs_book_laws.specs.Books.{Fixed}
+use Rattle.opfs_books.specs.Laws.Books.{Fixed}
 use Rattle.opfs_data.specs.Pages.{RowSeen, page_of, blank}
 use Rattle.opfs_data.specs.Rows.{no_row}
 use Rattle.opfs_desk_laws.specs.Laid.{AreLaid}

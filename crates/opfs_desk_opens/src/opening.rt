@@ -2,9 +2,9 @@
 
 ghost use Rattle.std.specs.Prelude.{◌≡◌, true, List, [], IfOk, OnOk, OnErr};
 ghost use Rattle.opfs_acts.specs.Acting.{IsSameCopy};
-ghost use Rattle.opfs_book_laws.specs.Books.{Fixed};
-ghost use Rattle.opfs_book_laws.specs.Commits.{StateLaws};
-ghost use Rattle.opfs_book_laws.specs.Laws.{BooksShowTheirImages};
+ghost use Rattle.opfs_books.specs.Laws.Books.{Fixed};
+ghost use Rattle.opfs_books.specs.Laws.Commits.{StateLaws};
+ghost use Rattle.opfs_books.specs.Laws.Laws.{BooksShowTheirImages};
 ghost use Rattle.opfs_desk_laws.specs.Laws.{TreesKeepBlocks};
 ghost use Rattle.opfs_desk_laws.specs.RowsAfter.{CallsChangeTheirRow};
 ghost use Rattle.opfs_desk_parts.specs.Acted.{HasActed, IsUnacted};
@@ -30,8 +30,7 @@ ghost use Rattle.opfs_tree.specs.Rows.{IsInOrder};
 
 use crate::pages::{next_row, open_pages};
 use opfs_acts::{Acted, Gift};
-use opfs_book_laws::{state_laws, the_books_show_their_images};
-use opfs_books::Last;
+use opfs_books::{Last, state_laws, the_books_show_their_images};
 use opfs_desk_laws::{
     blocks_go_on, calls_change_their_row, trees_keep_their_blocks, what_is_laid_goes_on,
 };

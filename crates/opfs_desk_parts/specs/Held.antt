@@ -2,7 +2,7 @@
 use Rattle.std.specs.Prelude.{◌≡◌, ℕ, ◌≤◌, true, List, [], length, None, Some}
 use Rattle.std.specs.Vec.{vec_capacity}
 use Rattle.opfs_base.specs.Texts.{Text}
-use Rattle.opfs_book_laws.specs.Books.{Fixed, AreBooksAt}
+use Rattle.opfs_books.specs.Laws.Books.{Fixed, AreBooksAt}
 use Rattle.opfs_codec.specs.Spelling.{IsText, is_origin_text}
 use Rattle.opfs_data.specs.Rows.{kept_count}
 use Rattle.opfs_desk_laws.specs.Laid.{AreLaid}

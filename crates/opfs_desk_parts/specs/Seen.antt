@@ -1,7 +1,7 @@
 -- The parts of the shared store as they are seen. This project's own.
 use Rattle.std.specs.Prelude.{ℕ, List, map, None}
 use Rattle.opfs_base.specs.Texts.{Text}
-use Rattle.opfs_book_laws.specs.Books.{Book}
+use Rattle.opfs_books.specs.Laws.Books.{Book}
 use Rattle.opfs_books.specs.Seen.{book}
 use Rattle.opfs_desk_laws.specs.Spaced.{Shelf}
 use Rattle.opfs_machine.specs.Runs.{Call}

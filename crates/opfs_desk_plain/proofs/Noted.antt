@@ -3,7 +3,7 @@ use Rattle.std.proofs.Common.{◌≡◌, ◌-◌, List, ◌++◌, length, refl, 
 use Rattle.std.proofs.lemmas.List.Sums.{fold-append}
 use Rattle.std.specs.Prelude.{count_by}
 use Rattle.opfs_base.specs.Texts.{Text}
-use Rattle.opfs_book_laws.specs.Books.{Fixed}
+use Rattle.opfs_books.specs.Laws.Books.{Fixed}
 use Rattle.opfs_books.proofs.Following.{notes-follow, pending-notes}
 use Rattle.opfs_state_rows.specs.Changes.Asking.{growth_of}
 use Rattle.opfs_hist.specs.Sums.{last_moment, makes_row}
@@ -15,8 +15,8 @@ use Rattle.opfs_machine.specs.Histories.{after_entry, state_after}
 use Rattle.opfs_machine.specs.Openings.{begun}
 use Rattle.opfs_outside.specs.declared.disk.Disk.{Ghosts as DiskWords}
 use Rattle.opfs_records.specs.Replay.Built.{Built}
-use Rattle.opfs_sharing.specs.Noting.{noted}
-use Rattle.opfs_sharing.proofs.Pending.{sum-noted}
+use Rattle.opfs_books.specs.Sharing.Noting.{noted}
+use Rattle.opfs_books.proofs.sharing.Pending.{sum-noted}
 use Rattle.opfs_state_rows.specs.Standing.Noted.{with_sum}
 use Rattle.opfs_state_rows.specs.Standing.Seen.{Machine}
 use Rattle.opfs_state.specs.Laws.Readied.{StaysReadyAsNoted}

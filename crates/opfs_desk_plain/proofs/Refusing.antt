@@ -6,9 +6,9 @@ use Rattle.opfs_acts.specs.Acting.{gift_of, told_entry, unread_gift}
 use Rattle.opfs_acts.specs.declared.acted.Acted.{Acted}
 use Rattle.opfs_acts.specs.declared.acted.Gift.TheVariants as gift
 use Rattle.opfs_base.specs.Texts.{Text}
-use Rattle.opfs_book_laws.specs.Books.{Fixed, IsNext}
-use Rattle.opfs_book_laws.specs.Laws.{BooksShowTheirImages, told}
-use Rattle.opfs_book_laws.proofs.Told.{next-state, next-reply}
+use Rattle.opfs_books.specs.Laws.Books.{Fixed, IsNext}
+use Rattle.opfs_books.specs.Laws.Laws.{BooksShowTheirImages, told}
+use Rattle.opfs_books.proofs.laws.Told.{next-state, next-reply}
 use Rattle.opfs_hist.specs.declared.entry.Entry.{Entry}
 use Rattle.opfs_hist.specs.declared.op.Op.{Op}
 use Rattle.opfs_hist.specs.declared.op.Op.TheVariants as op

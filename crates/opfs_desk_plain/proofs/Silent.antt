@@ -4,9 +4,9 @@ use Rattle.std.proofs.lemmas.Bool.{false≢true, true≢false}
 use Rattle.opfs_acts.specs.Acting.{told_entry, row_left, IsActed, IsGift, StandsForLeft}
 use Rattle.opfs_acts.specs.declared.acted.Gift.{Gift}
 use Rattle.opfs_base.specs.Texts.{Text}
-use Rattle.opfs_book_laws.specs.Books.{Fixed}
-use Rattle.opfs_book_laws.specs.Laws.{BooksShowTheirImages}
-use Rattle.opfs_book_laws.proofs.Told.{next-state, next-reply}
+use Rattle.opfs_books.specs.Laws.Books.{Fixed}
+use Rattle.opfs_books.specs.Laws.Laws.{BooksShowTheirImages}
+use Rattle.opfs_books.proofs.laws.Told.{next-state, next-reply}
 use Rattle.opfs_state_rows.specs.Changes.Allowed.{IsSized}
 use Rattle.opfs_data.specs.Pages.{page_of, blank}
 use Rattle.opfs_data.specs.Rows.{no_row}

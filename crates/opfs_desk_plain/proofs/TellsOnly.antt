@@ -4,8 +4,8 @@ use Rattle.std.specs.Prelude.{slice_get}
 use Rattle.opfs_acts.specs.Acting.{IsGift, told_entry}
 use Rattle.opfs_acts.specs.declared.acted.Gift.{Gift}
 use Rattle.opfs_base.specs.Texts.{Text}
-use Rattle.opfs_book_laws.specs.Books.{Fixed}
-use Rattle.opfs_book_laws.specs.Laws.{BooksShowTheirImages}
+use Rattle.opfs_books.specs.Laws.Books.{Fixed}
+use Rattle.opfs_books.specs.Laws.Laws.{BooksShowTheirImages}
 use Rattle.opfs_desk_laws.specs.Laws.{BlocksGoOn}
 use Rattle.opfs_desk_laws.specs.Open.{if_open, open_at}
 use Rattle.opfs_desk_laws.specs.Spaced.{AreSpaced}

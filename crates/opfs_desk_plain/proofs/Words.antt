@@ -11,7 +11,7 @@ use Rattle.opfs_base.specs.Units.{unit_of}
 use Rattle.opfs_base.specs.declared.locator.Kind.{Kind}
 use Rattle.opfs_base.specs.declared.locator.Kind.TheVariants as kind
 use Rattle.opfs_base.specs.declared.locator.Locator.{Locator}
-use Rattle.opfs_book_calls.specs.Spelled.{spelled_by, made_spelled, mode_spelled}
+use Rattle.opfs_books.specs.Stored.Spelled.{spelled_by, made_spelled, mode_spelled}
 use Rattle.opfs_state_rows.specs.Changes.Allowed.{IsSized}
 use Rattle.opfs_state_rows.specs.Changes.Asking.{bucket_unit, free_in, growth_of, made_at, mode_growth, place_for, root_in, root_place, row_growth, target_of, where_free}
 use Rattle.opfs_state_rows.specs.Changes.Changed.{tree_by, grown_by}

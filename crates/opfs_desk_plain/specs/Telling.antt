@@ -2,7 +2,7 @@
 use Rattle.std.specs.Prelude.{◌≡◌, ℕ, ◌||◌, ◌++◌, Bool, true, false, List}
 use Rattle.opfs_base.specs.Texts.{Text}
 use Rattle.opfs_base.specs.Units.{unit_of}
-use Rattle.opfs_book_laws.specs.Books.{Fixed}
+use Rattle.opfs_books.specs.Laws.Books.{Fixed}
 use Rattle.opfs_state_rows.specs.Changes.Asking.{growth_of}
 use Rattle.opfs_hist.specs.declared.entry.Entry.{Entry}
 use Rattle.opfs_hist.specs.declared.op.Op.{Op}

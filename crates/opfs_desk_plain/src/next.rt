@@ -4,7 +4,7 @@ ghost use Rattle.std.specs.Prelude.{◌≡◌, [], true, None, Some, IfOk, IfSom
 ghost use Rattle.std.specs.Option.{option_copied};
 ghost use Rattle.opfs_acts.specs.Acting.{IsSameCopy};
 ghost use Rattle.opfs_base.specs.Places.{place_of};
-ghost use Rattle.opfs_book_laws.specs.Books.{Fixed};
+ghost use Rattle.opfs_books.specs.Laws.Books.{Fixed};
 ghost use Rattle.opfs_desk_parts.specs.Acted.{HasActed, IsUnacted};
 ghost use Rattle.opfs_desk_parts.specs.Asked.{IsAsked, MayGo};
 ghost use Rattle.opfs_desk_parts.specs.Held.{AreHeldWhole};

@@ -2,7 +2,7 @@
 
 ghost use Rattle.std.specs.Prelude.{◌≡◌, [], List};
 ghost use Rattle.opfs_base.specs.Texts.{Text};
-ghost use Rattle.opfs_book_laws.specs.Books.{Fixed};
+ghost use Rattle.opfs_books.specs.Laws.Books.{Fixed};
 ghost use Rattle.opfs_desk_parts.specs.Acted.{HasActed};
 ghost use Rattle.opfs_desk_parts.specs.Held.{AreHeldWhole};
 ghost use Rattle.opfs_desk_plain.specs.Refused.{MayActRefused, IsRefusedCall};
@@ -10,8 +10,7 @@ ghost use Rattle.opfs_records.specs.Replay.Built.{Built};
 ghost use Rattle.opfs_work.specs.Works.{WorkingCopy};
 
 use opfs_acts::{Acted, Gift};
-use opfs_book_laws::{state_laws, the_books_show_their_images};
-use opfs_books::Last;
+use opfs_books::{Last, state_laws, the_books_show_their_images};
 use opfs_desk_parts::Parts;
 use opfs_desk_steps::calls_are_acted;
 use opfs_desk_ways::{refuse_call, take_in};

@@ -7,10 +7,10 @@ use Rattle.opfs_acts.specs.Acting.{StandsForLeft, row_left, told_entry, unread_g
 use Rattle.opfs_acts.specs.declared.acted.Acted.{Acted}
 use Rattle.opfs_acts.specs.declared.acted.Gift.TheVariants as gift
 use Rattle.opfs_base.specs.Texts.{Text}
-use Rattle.opfs_book_calls.specs.Laws.{CallsAreSpelled}
-use Rattle.opfs_book_laws.specs.Books.{Fixed}
-use Rattle.opfs_book_laws.specs.Laws.{ShowsTold, failed, told}
-use Rattle.opfs_book_laws.proofs.Counting.{rose-before}
+use Rattle.opfs_books.specs.Stored.Laws.{CallsAreSpelled}
+use Rattle.opfs_books.specs.Laws.Books.{Fixed}
+use Rattle.opfs_books.specs.Laws.Laws.{ShowsTold, failed, told}
+use Rattle.opfs_books.proofs.laws.Counting.{rose-before}
 use Rattle.opfs_copies.specs.Copies.{IsCopyOf, IsPaged, StandsFor}
 use Rattle.opfs_desk_laws.specs.Laws.{BlocksGoOn, CallsLeaveOtherRows, TreesKeepBlocks}
 use Rattle.opfs_desk_laws.specs.RowsAfter.{CallsChangeTheirRow}

@@ -1,8 +1,8 @@
 -- A call that put its pages, entered; and one in which the disk failed.
 use Rattle.std.proofs.Common.{◌≡◌, ◌+◌, ◌<◌, ◌≤◌, ◌^◌, List, [], ◌∷◌, ◌++◌, length, None, refl, sym, ap, subst, ◌∙◌}
 use Rattle.opfs_base.specs.Texts.{Text}
-use Rattle.opfs_book_laws.specs.Books.{Fixed, AreBooksAt, AreCounted, IsPlaced}
-use Rattle.opfs_book_laws.specs.Laws.{FaultsAreCounted, ShowsTold, failed, told}
+use Rattle.opfs_books.specs.Laws.Books.{Fixed, AreBooksAt, AreCounted, IsPlaced}
+use Rattle.opfs_books.specs.Laws.Laws.{FaultsAreCounted, ShowsTold, failed, told}
 use Rattle.opfs_state_rows.specs.Changes.Allowed.{IsSized, MayApply}
 use Rattle.opfs_hist.specs.Faults.{disk_faults}
 use Rattle.opfs_hist.specs.declared.entry.Entry.{Entry}
@@ -18,7 +18,7 @@ use Rattle.opfs_outside.specs.Moments.{Elapses}
 use Rattle.opfs_outside.specs.declared.disk.Disk.{Ghosts as DiskWords}
 use Rattle.opfs_records.specs.Replay.Built.{Built}
 use Rattle.opfs_register.specs.Slots.{most_rows}
-use Rattle.opfs_sharing.specs.Serving.{MayApplyTo}
+use Rattle.opfs_books.specs.Sharing.Serving.{MayApplyTo}
 use Rattle.opfs_state.specs.Applied.{StateSeen, IsPrepared}
 use Rattle.opfs_state.specs.Verdicts.Callers.{IsAgent}
 use Rattle.opfs_desk_parts.specs.Answered.{IsAnswered, MayChange}

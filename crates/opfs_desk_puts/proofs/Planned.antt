@@ -5,8 +5,8 @@ use Rattle.opfs_acts.specs.Acting.{IsSameCopy}
 use Rattle.opfs_acts.specs.Asking.{IsHandedIn}
 use Rattle.opfs_base.specs.Blocks.{blocks}
 use Rattle.opfs_base.specs.Texts.{Text}
-use Rattle.opfs_book_laws.specs.Books.{Fixed}
-use Rattle.opfs_book_laws.specs.Laws.{ReadsKeepTheBooks}
+use Rattle.opfs_books.specs.Laws.Books.{Fixed}
+use Rattle.opfs_books.specs.Laws.Laws.{ReadsKeepTheBooks}
 use Rattle.opfs_data.specs.Calls.{Reads}
 use Rattle.opfs_data.specs.declared.page.Page.{Page}
 use Rattle.opfs_data.specs.Pages.{page_of, blank}

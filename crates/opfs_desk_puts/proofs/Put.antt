@@ -5,9 +5,9 @@ use Rattle.std.specs.Prelude.{IsTrue}
 use Rattle.opfs_base.specs.Blocks.{blocks}
 use Rattle.opfs_base.specs.Places.{Place}
 use Rattle.opfs_base.specs.Texts.{Text}
-use Rattle.opfs_book_calls.specs.Laws.{CallsAreSpelled}
-use Rattle.opfs_book_laws.specs.Books.{Fixed}
-use Rattle.opfs_book_laws.proofs.Told.{next-state, next-reply}
+use Rattle.opfs_books.specs.Stored.Laws.{CallsAreSpelled}
+use Rattle.opfs_books.specs.Laws.Books.{Fixed}
+use Rattle.opfs_books.proofs.laws.Told.{next-state, next-reply}
 use Rattle.opfs_books.specs.declared.books.Books.{Books}
 use Rattle.opfs_state_rows.specs.Changes.Allowed.{MayApply}
 use Rattle.opfs_state_rows.specs.Changes.Asking.{made_at}

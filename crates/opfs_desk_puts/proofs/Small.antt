@@ -1,9 +1,9 @@
 -- A call that is asked for leaves a size that the pool has room for.
 use Rattle.std.proofs.Common.{◌≡◌, ◌⊎◌, ℕ, ◌+◌, ◌^◌, ◌<◌, ◌≤◌, ◌||◌, nat_le, Bool, true, false, List, [], ◌∷◌, ◌++◌, fold, sum_by, refl, sym, ap, subst, ◌∙◌, inl, inr, arith}
 use Rattle.opfs_base.specs.Texts.{Text}
-use Rattle.opfs_book_laws.specs.Books.{Fixed, IsToldAt}
-use Rattle.opfs_book_laws.specs.Laws.{BooksShowTheirImages, told}
-use Rattle.opfs_book_laws.proofs.Told.{whole-told, told-whole}
+use Rattle.opfs_books.specs.Laws.Books.{Fixed, IsToldAt}
+use Rattle.opfs_books.specs.Laws.Laws.{BooksShowTheirImages, told}
+use Rattle.opfs_books.proofs.laws.Told.{whole-told, told-whole}
 use Rattle.opfs_state_rows.specs.Changes.Allowed.{MayApply}
 use Rattle.opfs_hist.specs.declared.entry.Entry.{Entry}
 use Rattle.opfs_laws.specs.Histories.Unread.{IsTold, ReadsLeaveTheState}

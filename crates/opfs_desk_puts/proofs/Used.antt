@@ -2,8 +2,8 @@
 use Rattle.std.specs.Prelude.{MatchOption}
 use Rattle.std.proofs.Common.{◌≡◌, ℕ, ◌+◌, ◌*◌, ◌≤◌, Bool, true, false, if◌then◌else◌, List, [], ◌∷◌, ◌++◌, slice_index_or, Option, Some, None, refl, sym, ap, subst, ◌∙◌, inl, inr, append-nil, arith}
 use Rattle.opfs_base.specs.Texts.{Text}
-use Rattle.opfs_book_laws.specs.Books.{Fixed, AreBooksAt}
-use Rattle.opfs_book_laws.specs.Laws.{BooksShowTheirImages, LeavesPages, told}
+use Rattle.opfs_books.specs.Laws.Books.{Fixed, AreBooksAt}
+use Rattle.opfs_books.specs.Laws.Laws.{BooksShowTheirImages, LeavesPages, told}
 use Rattle.opfs_commit.specs.Shown.{IsShown}
 use Rattle.opfs_data.specs.declared.page.Page.{Page}
 use Rattle.opfs_data.specs.declared.page.SavedPage.{SavedPage}

@@ -5,9 +5,9 @@ use Rattle.std.proofs.lemmas.Bool.{cases_lt, cases_eq, eq-eqb, true≢false}
 use Rattle.opfs_base.specs.Texts.{Text}
 use Rattle.opfs_base.specs.declared.extents.Extent.{Extent}
 use Rattle.opfs_blocks.specs.Sets.{blocks_of}
-use Rattle.opfs_book_laws.specs.Books.{Fixed, AreBooksAt, account_of}
-use Rattle.opfs_book_laws.specs.Laws.{PagesKeepTheBooks, ShowsTold, told}
-use Rattle.opfs_book_laws.proofs.Counting.{rose-before}
+use Rattle.opfs_books.specs.Laws.Books.{Fixed, AreBooksAt, account_of}
+use Rattle.opfs_books.specs.Laws.Laws.{PagesKeepTheBooks, ShowsTold, told}
+use Rattle.opfs_books.proofs.laws.Counting.{rose-before}
 use Rattle.opfs_commit.specs.Making.{AreBeside}
 use Rattle.opfs_data.specs.Calls.{Writes as JournalWrites}
 use Rattle.opfs_data.specs.Pages.{runs_of}

@@ -1,8 +1,8 @@
 -- What is planned of a call that puts bytes into a row, before its agent's pending calls are taken in. This project's own.
 use Rattle.std.specs.Prelude.{◌≡◌, ℕ, ◌/◌, ◌%◌, ◌^◌, ◌<◌, ◌≤◌, ◌++◌, false, List, length, map, fold, slice_index}
 use Rattle.opfs_base.specs.Blocks.{blocks}
-use Rattle.opfs_book_laws.specs.Books.{Fixed}
-use Rattle.opfs_book_laws.specs.Laws.{LeavesPages}
+use Rattle.opfs_books.specs.Laws.Books.{Fixed}
+use Rattle.opfs_books.specs.Laws.Laws.{LeavesPages}
 use Rattle.opfs_desk_rows.specs.Puts.{size_put}
 use Rattle.opfs_hist.specs.declared.entry.Entry.{Entry}
 use Rattle.opfs_hist.specs.declared.op.Op.{Op}

@@ -2,8 +2,8 @@
 use Rattle.std.specs.Prelude.{◌≡◌, ℕ, ◌+◌, ◌*◌, ◌^◌, ◌<◌, ◌≤◌, false, List, length}
 use Rattle.std.specs.Vec.{vec_capacity}
 use Rattle.opfs_base.specs.Texts.{Text}
-use Rattle.opfs_book_laws.specs.Books.{Fixed, AreBooksAt}
-use Rattle.opfs_book_laws.specs.Laws.{LeavesPages, ShowsTold, told}
+use Rattle.opfs_books.specs.Laws.Books.{Fixed, AreBooksAt}
+use Rattle.opfs_books.specs.Laws.Laws.{LeavesPages, ShowsTold, told}
 use Rattle.opfs_data.specs.Writes.{HasBytes}
 use Rattle.opfs_machine.specs.declared.own.Own.{Own}
 use Rattle.opfs_machine.specs.declared.state.State.{State}

@@ -1,8 +1,8 @@
 //! A call that puts bytes into a row, once its pages are planned.
 
 ghost use Rattle.std.specs.Prelude.{◌≡◌, true, [], List, if◌then◌else◌};
-ghost use Rattle.opfs_book_calls.specs.Laws.{CallsAreSpelled};
-ghost use Rattle.opfs_book_laws.specs.Books.{Fixed};
+ghost use Rattle.opfs_books.specs.Stored.Laws.{CallsAreSpelled};
+ghost use Rattle.opfs_books.specs.Laws.Books.{Fixed};
 ghost use Rattle.opfs_desk_laws.specs.Laws.{BlocksGoOn, CallsLeaveOtherRows, TreesKeepBlocks};
 ghost use Rattle.opfs_desk_laws.specs.RowsAfter.{CallsChangeTheirRow};
 ghost use Rattle.opfs_desk_parts.specs.Acted.{HasActed};
@@ -25,7 +25,7 @@ use crate::entering::enter_put;
 use crate::leaving::leave_put;
 use crate::target::Target;
 use opfs_acts::{Acted, Gift};
-use opfs_book_calls::calls_are_spelled;
+use opfs_books::calls_are_spelled;
 use opfs_desk_laws::{
     blocks_go_on, calls_change_their_row, calls_leave_other_rows, trees_keep_their_blocks,
 };

@@ -2,8 +2,8 @@
 
 ghost use Rattle.std.specs.Prelude.{◌≡◌, ◌^◌, ◌<◌, true, [], IfOk, OnOk, OnErr};
 ghost use Rattle.opfs_acts.specs.Acting.{IsSameCopy};
-ghost use Rattle.opfs_book_laws.specs.Books.{Fixed};
-ghost use Rattle.opfs_book_laws.specs.Laws.{BooksShowTheirImages};
+ghost use Rattle.opfs_books.specs.Laws.Books.{Fixed};
+ghost use Rattle.opfs_books.specs.Laws.Laws.{BooksShowTheirImages};
 ghost use Rattle.opfs_desk_parts.specs.Acted.{HasActed, IsUnacted};
 ghost use Rattle.opfs_desk_parts.specs.Asked.{IsAsked, MayGo};
 ghost use Rattle.opfs_desk_parts.specs.Held.{AreHeldWhole};
@@ -22,7 +22,7 @@ use crate::acting::enter_call;
 use crate::target::{bytes_held, spelled_out, target_of};
 use opfs_acts::Acted;
 use opfs_base::Told;
-use opfs_book_laws::{reads_leave_the_books, the_books_show_their_images};
+use opfs_books::{reads_leave_the_books, the_books_show_their_images};
 use opfs_data::DataRefusal;
 use opfs_desk_laws::what_is_laid_goes_on;
 use opfs_desk_parts::{InHand, Parts};

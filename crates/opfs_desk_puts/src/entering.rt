@@ -2,8 +2,8 @@
 
 ghost use Rattle.std.specs.Prelude.{◌≡◌, true, false, [], List, OnOk, OnErr};
 ghost use Rattle.opfs_base.specs.Texts.{Text};
-ghost use Rattle.opfs_book_laws.specs.Books.{Fixed, AreBooksAt};
-ghost use Rattle.opfs_book_laws.specs.Laws.{failed};
+ghost use Rattle.opfs_books.specs.Laws.Books.{Fixed, AreBooksAt};
+ghost use Rattle.opfs_books.specs.Laws.Laws.{failed};
 ghost use Rattle.opfs_desk_parts.specs.Answered.{IsAnswered};
 ghost use Rattle.opfs_desk_parts.specs.Seen.{book_in};
 ghost use Rattle.opfs_desk_puts.specs.Putting.{IsToPut, AreGottenIn};
@@ -16,8 +16,7 @@ ghost use Rattle.opfs_machine.specs.Steps.{is_refusal};
 ghost use Rattle.opfs_records.specs.Replay.Built.{Built};
 
 use crate::putting::put_pages;
-use opfs_book_laws::{a_fault_is_counted, the_state_is_kept};
-use opfs_books::{Entering, Last};
+use opfs_books::{Entering, Last, a_fault_is_counted, the_state_is_kept};
 use opfs_desk_parts::{Ledger, Parts};
 use opfs_desk_ways::fail_call;
 use opfs_journal::DiskFault;

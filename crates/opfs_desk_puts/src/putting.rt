@@ -2,13 +2,13 @@
 
 ghost use Rattle.std.specs.Prelude.{ℕ, List, OnOk, OnErr};
 ghost use Rattle.opfs_base.specs.Texts.{Text};
-ghost use Rattle.opfs_book_laws.specs.Books.{Fixed};
+ghost use Rattle.opfs_books.specs.Laws.Books.{Fixed};
 ghost use Rattle.opfs_desk_puts.specs.Putting.{MayFindRoom, MayWrite, IsToPut, AreGottenIn, HaveBlocksIn, HasFound, HasNotPut, HasWritten, HasPutPages};
 ghost use Rattle.opfs_machine.specs.declared.own.Own.{Own};
 ghost use Rattle.opfs_machine.specs.declared.state.State.{State};
 ghost use Rattle.opfs_records.specs.Replay.Built.{Built};
 
-use opfs_book_laws::{pages_beside_leave_the_books, the_books_show_their_images};
+use opfs_books::{pages_beside_leave_the_books, the_books_show_their_images};
 use opfs_desk_laws::what_is_laid_goes_on;
 use opfs_desk_parts::Parts;
 use opfs_desk_rows::puts_have_room;

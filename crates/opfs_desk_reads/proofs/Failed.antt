@@ -2,8 +2,8 @@
 use Rattle.std.proofs.Common.{◌≡◌, List, [], fold, length, sym, ap, subst, ◌∙◌, append-nil}
 use Rattle.opfs_acts.specs.Acting.{told_entry}
 use Rattle.opfs_base.specs.Texts.{Text}
-use Rattle.opfs_book_laws.specs.Books.{Fixed}
-use Rattle.opfs_book_laws.specs.Laws.{failed}
+use Rattle.opfs_books.specs.Laws.Books.{Fixed}
+use Rattle.opfs_books.specs.Laws.Laws.{failed}
 use Rattle.opfs_desk_parts.specs.Acted.{HasFailed}
 use Rattle.opfs_desk_parts.specs.Seen.{call_in}
 use Rattle.opfs_desk_parts.specs.declared.call.InHand.{InHand}

@@ -5,9 +5,9 @@ use Rattle.std.specs.Prelude.{IsTrue}
 use Rattle.opfs_acts.specs.Acting.{IsActed, IsSameCopy, gift_of, told_entry, unread_gift}
 use Rattle.opfs_acts.specs.declared.acted.Gift.TheVariants as gift
 use Rattle.opfs_base.specs.Texts.{Text}
-use Rattle.opfs_book_laws.specs.Books.{Fixed, IsNext}
-use Rattle.opfs_book_laws.specs.Laws.{BooksShowTheirImages, FaultsAreCounted, ReadsKeepTheBooks, failed, told}
-use Rattle.opfs_book_laws.proofs.Told.{next-state, next-reply}
+use Rattle.opfs_books.specs.Laws.Books.{Fixed, IsNext}
+use Rattle.opfs_books.specs.Laws.Laws.{BooksShowTheirImages, FaultsAreCounted, ReadsKeepTheBooks, failed, told}
+use Rattle.opfs_books.proofs.laws.Told.{next-state, next-reply}
 use Rattle.opfs_books.specs.declared.books.Books.{Books}
 use Rattle.opfs_desk_parts.specs.Acted.{HasActed, last_doubt}
 use Rattle.opfs_desk_parts.specs.Asked.{IsAsked}

@@ -6,8 +6,8 @@ use Rattle.std.specs.List.{AllByRecursion}
 use Rattle.std.specs.Prelude.{slice_get, unwrap_or}
 use Rattle.opfs_base.specs.Places.{Place}
 use Rattle.opfs_base.specs.declared.extents.Extent.{Extent}
-use Rattle.opfs_book_laws.specs.Books.{Fixed}
-use Rattle.opfs_book_laws.specs.Commits.{StateLaws}
+use Rattle.opfs_books.specs.Laws.Books.{Fixed}
+use Rattle.opfs_books.specs.Laws.Commits.{StateLaws}
 use Rattle.opfs_data.specs.Pages.{LiesIn}
 use Rattle.opfs_data.specs.Places.{AllLie}
 use Rattle.opfs_data.specs.Rows.{page_at}

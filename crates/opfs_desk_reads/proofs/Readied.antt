@@ -4,9 +4,9 @@ use Rattle.std.proofs.Common.{◌≡◌, ◌⊎◌, ℕ, ◌-◌, ◌^◌, ◌�
 use Rattle.opfs_acts.specs.Acting.{IsActed, IsGift}
 use Rattle.opfs_acts.specs.declared.acted.Acted.{Acted}
 use Rattle.opfs_base.specs.Texts.{Text}
-use Rattle.opfs_book_laws.specs.Books.{Fixed, AreBooksAt}
-use Rattle.opfs_book_laws.specs.Laws.{BooksShowTheirImages, ReadsKeepTheBooks, told}
-use Rattle.opfs_book_laws.proofs.Counting.{rose-before}
+use Rattle.opfs_books.specs.Laws.Books.{Fixed, AreBooksAt}
+use Rattle.opfs_books.specs.Laws.Laws.{BooksShowTheirImages, ReadsKeepTheBooks, told}
+use Rattle.opfs_books.proofs.laws.Counting.{rose-before}
 use Rattle.opfs_books.specs.Seen.{book}
 use Rattle.opfs_books.specs.declared.books.Books.{Books}
 use Rattle.opfs_commit.specs.Shown.{IsShown}

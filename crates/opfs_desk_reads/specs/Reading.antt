@@ -2,7 +2,7 @@
 use Rattle.std.specs.Prelude.{◌≡◌, ℕ, ◌-◌, ◌/◌, min, List, [], ◌++◌, length, Some, IsTrue}
 use Rattle.opfs_base.specs.Places.{Place}
 use Rattle.opfs_base.specs.Texts.{Text}
-use Rattle.opfs_book_laws.specs.Books.{Fixed}
+use Rattle.opfs_books.specs.Laws.Books.{Fixed}
 use Rattle.opfs_data.specs.Calls.{Reads}
 use Rattle.opfs_desk_laws.specs.Handles.{AreHandlesWhole}
 use Rattle.opfs_hist.specs.declared.entry.Entry.{Entry}

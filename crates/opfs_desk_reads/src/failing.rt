@@ -3,7 +3,7 @@
 ghost use Rattle.std.specs.Prelude.{◌≡◌, [], List};
 ghost use Rattle.opfs_acts.specs.Acting.{IsSameCopy};
 ghost use Rattle.opfs_base.specs.Texts.{Text};
-ghost use Rattle.opfs_book_laws.specs.Books.{Fixed};
+ghost use Rattle.opfs_books.specs.Laws.Books.{Fixed};
 ghost use Rattle.opfs_desk_parts.specs.Acted.{HasActed};
 ghost use Rattle.opfs_desk_parts.specs.Seen.{call_in};
 ghost use Rattle.opfs_desk_parts.specs.declared.parts.Ledger.{Ledger};
@@ -13,7 +13,7 @@ ghost use Rattle.opfs_records.specs.Replay.Built.{Built};
 ghost use Rattle.opfs_work.specs.Works.{WorkingCopy};
 
 use opfs_acts::{Acted, Gift};
-use opfs_book_laws::{a_fault_is_counted, reads_leave_the_books, the_books_show_their_images};
+use opfs_books::{a_fault_is_counted, reads_leave_the_books, the_books_show_their_images};
 use opfs_desk_parts::{InHand, Parts};
 use opfs_desk_steps::{CallParts, asked_calls_are_ready, call_parts, calls_are_acted};
 use opfs_desk_ways::{fail_call, take_in};

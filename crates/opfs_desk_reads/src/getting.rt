@@ -2,9 +2,9 @@
 
 ghost use Rattle.std.specs.Prelude.{◌≡◌, ℕ, true, [], List, Some, IfOk, OnOk, OnErr, IsErrOf};
 ghost use Rattle.opfs_acts.specs.Acting.{IsSameCopy};
-ghost use Rattle.opfs_book_laws.specs.Books.{Fixed};
-ghost use Rattle.opfs_book_laws.specs.Commits.{StateLaws};
-ghost use Rattle.opfs_book_laws.specs.Laws.{BooksShowTheirImages};
+ghost use Rattle.opfs_books.specs.Laws.Books.{Fixed};
+ghost use Rattle.opfs_books.specs.Laws.Commits.{StateLaws};
+ghost use Rattle.opfs_books.specs.Laws.Laws.{BooksShowTheirImages};
 ghost use Rattle.opfs_data.specs.Calls.{Reads};
 ghost use Rattle.opfs_data.specs.Pages.{IsDataPart, LiesIn};
 ghost use Rattle.opfs_data.specs.Rows.{page_at};
@@ -32,7 +32,7 @@ use crate::failing::fail_reading;
 use crate::files::read_file;
 use opfs_acts::{Acted, Gift};
 use opfs_base::Bytes;
-use opfs_book_laws::{reads_leave_the_books, state_laws, the_books_show_their_images};
+use opfs_books::{reads_leave_the_books, state_laws, the_books_show_their_images};
 use opfs_data::{DataRefusal, Swap};
 use opfs_desk_laws::{blocks_go_on, calls_leave_other_rows, handles_stay_whole};
 use opfs_desk_parts::{InHand, Parts};

@@ -2,8 +2,8 @@
 
 ghost use Rattle.std.specs.Prelude.{◌≡◌, ◌/◌, ◌%◌, ◌≤◌, ℕ, true, [], length, slice_index, IfOk, OnOk, OnErr};
 ghost use Rattle.opfs_acts.specs.Acting.{IsSameCopy};
-ghost use Rattle.opfs_book_laws.specs.Books.{Fixed};
-ghost use Rattle.opfs_book_laws.specs.Laws.{BooksShowTheirImages, BooksKeepTheState, ReadsKeepTheBooks};
+ghost use Rattle.opfs_books.specs.Laws.Books.{Fixed};
+ghost use Rattle.opfs_books.specs.Laws.Laws.{BooksShowTheirImages, BooksKeepTheState, ReadsKeepTheBooks};
 ghost use Rattle.opfs_desk_laws.specs.Handles.{AreHandlesWhole, HandlesStayWhole};
 ghost use Rattle.opfs_desk_laws.specs.Laws.{BlocksGoOn, CallsLeaveOtherRows};
 ghost use Rattle.opfs_desk_parts.specs.Acted.{HasActed, IsUnacted};
@@ -25,7 +25,7 @@ ghost use Rattle.opfs_records.specs.Replay.Built.{Built};
 use crate::bytes::{RowRead, leave_cursor, read_open_row};
 use crate::failing::fail_reading;
 use opfs_acts::{Acted, Gift};
-use opfs_book_laws::{reads_leave_the_books, the_books_show_their_images, the_state_is_kept};
+use opfs_books::{reads_leave_the_books, the_books_show_their_images, the_state_is_kept};
 use opfs_data::DataRefusal;
 use opfs_desk_laws::{
     blocks_go_on, calls_leave_other_rows, copies_stand_for_their_row, handles_stay_whole,

@@ -3,7 +3,7 @@ use Rattle.std.proofs.Common.{◌≡◌, ℕ, zero, suc, ◌<◌, true, false, L
 use Rattle.std.specs.Prelude.{slice_index, slice_index_or}
 use Rattle.std.proofs.lemmas.List.Sums.{fold-append}
 use Rattle.opfs_base.specs.Texts.{Text}
-use Rattle.opfs_book_laws.specs.Commits.{StateLaws}
+use Rattle.opfs_books.specs.Laws.Commits.{StateLaws}
 use Rattle.opfs_data.specs.Pages.{blank}
 use Rattle.opfs_data.specs.Rows.{pages_at}
 use Rattle.opfs_desk_laws.specs.Laws.{PagesAreLeft, AllGoOn}

@@ -2,8 +2,8 @@
 use Rattle.std.proofs.Common.{◌≡◌, ℕ, ◌*◌, ◌<◌, false, List, [], ◌∷◌, ◌++◌, fold, length, Option, Some, None, is_some, sym, ap, ◌∙◌, subst}
 use Rattle.std.proofs.lemmas.List.Sums.{fold-append}
 use Rattle.opfs_base.specs.Texts.{Text}
-use Rattle.opfs_book_laws.specs.Books.{Fixed}
-use Rattle.opfs_book_laws.specs.Laws.{BooksKeepTheState}
+use Rattle.opfs_books.specs.Laws.Books.{Fixed}
+use Rattle.opfs_books.specs.Laws.Laws.{BooksKeepTheState}
 use Rattle.opfs_data.specs.Pages.{page_of}
 use Rattle.opfs_data.specs.Rows.{row_of, pages_at, page_at, IsOther, OthersStay}
 use Rattle.opfs_desk_laws.specs.Hands.{row_in_hand}

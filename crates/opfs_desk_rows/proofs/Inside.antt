@@ -5,9 +5,9 @@ use Rattle.std.specs.Prelude.{slice_index_or}
 use Rattle.std.proofs.lemmas.Bool.{and_parts, eq-eqb, leb-true}
 use Rattle.opfs_base.specs.Texts.{Text}
 use Rattle.opfs_blocks.specs.Sets.{AreBelow}
-use Rattle.opfs_book_laws.specs.Books.{Fixed}
-use Rattle.opfs_book_laws.specs.Commits.{StateLaws}
-use Rattle.opfs_book_laws.proofs.Committing.{whole-state}
+use Rattle.opfs_books.specs.Laws.Books.{Fixed}
+use Rattle.opfs_books.specs.Laws.Commits.{StateLaws}
+use Rattle.opfs_books.proofs.laws.Committing.{whole-state}
 use Rattle.opfs_data.specs.declared.page.Page.{Page}
 use Rattle.opfs_data.specs.Pages.{LiesIn, blank}
 use Rattle.opfs_data.specs.Rows.{pages_at}

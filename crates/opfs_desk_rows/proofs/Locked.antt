@@ -4,9 +4,9 @@ use Rattle.std.proofs.lemmas.Bool.{false≢true}
 use Rattle.std.specs.FinMap.Entries.{find, find-where_key}
 use Rattle.opfs_base.specs.Places.{Place, place_cmp, is_within}
 use Rattle.opfs_base.specs.Texts.{Text}
-use Rattle.opfs_book_laws.specs.Commits.{StateLaws}
-use Rattle.opfs_book_laws.proofs.Committing.{whole-state}
-use Rattle.opfs_book_laws.proofs.Told.{whole-told}
+use Rattle.opfs_books.specs.Laws.Commits.{StateLaws}
+use Rattle.opfs_books.proofs.laws.Committing.{whole-state}
+use Rattle.opfs_books.proofs.laws.Told.{whole-told}
 use Rattle.opfs_hist.specs.declared.entry.Entry.{Entry}
 use Rattle.opfs_laws.proofs.Spots.{exact_places}
 use Rattle.opfs_laws.specs.Holders.{holders, IsLockOf}

@@ -10,8 +10,8 @@ use Rattle.opfs_base.specs.Texts.{Text}
 use Rattle.opfs_base.specs.declared.extents.Extent.{Extent}
 use Rattle.opfs_base.specs.declared.locator.Locator.{Locator}
 use Rattle.opfs_blocks.specs.Sets.{blocks_of}
-use Rattle.opfs_book_laws.specs.Books.{Fixed}
-use Rattle.opfs_book_laws.specs.Commits.{StateLaws}
+use Rattle.opfs_books.specs.Laws.Books.{Fixed}
+use Rattle.opfs_books.specs.Laws.Commits.{StateLaws}
 use Rattle.opfs_state_rows.proofs.changes.Told.{IsGiven, writable-told, sync-told}
 use Rattle.opfs_state_rows.specs.Changes.Changed.{tree_by}
 use Rattle.opfs_data.specs.Places.{bytes_of, room_of}
@@ -49,7 +49,7 @@ use Rattle.opfs_machine.specs.Replies.{sizes_of, bytes_at, bytes_in}
 use Rattle.opfs_machine.specs.Rows.{file_at}
 use Rattle.opfs_machine.specs.Rulings.{ruling, want_of, first_reserve, size_in}
 use Rattle.opfs_machine.specs.Steps.{evicted, after_reply, is_refusal}
-use Rattle.opfs_openings.proofs.Counted.{length-blocks, blocks-append, distinct, has-append, not-true}
+use Rattle.opfs_books.proofs.openings.Counted.{length-blocks, blocks-append, distinct, has-append, not-true}
 use Rattle.opfs_outside.specs.declared.disk.Disk.{Ghosts as DiskWords}
 use Rattle.opfs_row_puts.specs.Plans.{shelf}
 use Rattle.opfs_records.specs.Replay.Built.{Built, block_count, has_block, is_once, named, all_extents}

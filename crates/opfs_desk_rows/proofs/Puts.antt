@@ -22,7 +22,7 @@ use Rattle.opfs_machine.specs.Contents.{in_lengths}
 use Rattle.opfs_machine.specs.Replies.{row_named}
 use Rattle.opfs_machine.specs.Rulings.{ruling, grow_stream_ruling, grow_handle_ruling, reserve_for, size_written}
 use Rattle.opfs_machine.specs.Sums.{reserve_of, pool, fits_pool, durable_blocks}
-use Rattle.opfs_openings.proofs.Counted.{length-blocks, blocks-append}
+use Rattle.opfs_books.proofs.openings.Counted.{length-blocks, blocks-append}
 use Rattle.opfs_records.specs.Replay.Built.{IsSoundRow, named, all_extents}
 use Rattle.opfs_records.specs.Checkpoint.Written.{stored_row, stored_rows}
 use Rattle.opfs_space.specs.Room.{Machine}

@@ -23,8 +23,8 @@ use Rattle.opfs_machine.specs.Agents.{agent_of, own_of, nobody, counted, with_ag
 use Rattle.opfs_machine.specs.Contents.{outline_of}
 use Rattle.opfs_machine.specs.Histories.{after_entry}
 use Rattle.opfs_machine.specs.Steps.{is_refusal}
-use Rattle.opfs_sharing.specs.Noting.{noted, AreNotes}
-use Rattle.opfs_sharing.proofs.Pending.{does, IsQuiet}
+use Rattle.opfs_books.specs.Sharing.Noting.{noted, AreNotes}
+use Rattle.opfs_books.proofs.sharing.Pending.{does, IsQuiet}
 use Rattle.opfs_state_rows.specs.Standing.Seen.{Machine}
 use Rattle.opfs_laws.specs.Steady.Steady.{open_bytes}
 

@@ -7,10 +7,10 @@ use Rattle.std.specs.List.{AllByRecursion}
 use Rattle.std.specs.Ordering.{eq_by_cmp}
 use Rattle.opfs_base.specs.Places.{Place, place_cmp}
 use Rattle.opfs_base.specs.Texts.{Text}
-use Rattle.opfs_book_calls.specs.Spelled.{stored_built}
-use Rattle.opfs_book_laws.specs.Books.{Fixed, account_of}
-use Rattle.opfs_book_laws.specs.Commits.{CommitLaws}
-use Rattle.opfs_book_laws.proofs.Told.{told-whole}
+use Rattle.opfs_books.specs.Stored.Spelled.{stored_built}
+use Rattle.opfs_books.specs.Laws.Books.{Fixed, account_of}
+use Rattle.opfs_books.specs.Laws.Commits.{CommitLaws}
+use Rattle.opfs_books.proofs.laws.Told.{told-whole}
 use Rattle.opfs_commit.specs.Seen.{committing}
 use Rattle.opfs_data.specs.Places.{bytes_of}
 use Rattle.opfs_hist.specs.declared.entry.Entry.{Entry}

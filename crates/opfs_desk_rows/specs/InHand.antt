@@ -1,7 +1,7 @@
 -- The row that a call has in hand, with its pages as the call leaves them, over parts that are kept. This project's own.
 use Rattle.std.specs.Prelude.{◌≡◌, ℕ, ◌*◌, ◌<◌, is_some, true, false, List, [], ◌∷◌, ◌++◌, fold, length, None, Some, IsTrue}
 use Rattle.opfs_base.specs.Texts.{Text}
-use Rattle.opfs_book_laws.specs.Books.{Fixed}
+use Rattle.opfs_books.specs.Laws.Books.{Fixed}
 use Rattle.opfs_data.specs.Pages.{page_of}
 use Rattle.opfs_data.specs.Rows.{Rows, row_of, pages_at, page_at, OthersStay}
 use Rattle.opfs_desk_laws.specs.Hands.{row_in_hand}

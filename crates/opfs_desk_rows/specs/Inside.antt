@@ -2,7 +2,7 @@
 use Rattle.std.specs.Prelude.{ℕ, ◌+◌, ◌*◌, ◌^◌, ◌≤◌, length}
 use Rattle.std.specs.List.{AllByRecursion}
 use Rattle.opfs_blocks.specs.Sets.{AreBelow}
-use Rattle.opfs_book_laws.specs.Books.{Fixed}
+use Rattle.opfs_books.specs.Laws.Books.{Fixed}
 use Rattle.opfs_data.specs.Pages.{LiesIn, IsDataPart}
 use Rattle.opfs_data.specs.Rows.{pages_at}
 use Rattle.opfs_outside.specs.declared.disk.Disk.{Ghosts as DiskWords}

@@ -4,7 +4,7 @@ use Rattle.std.specs.List.{IsDistinct}
 use Rattle.opfs_base.specs.Texts.{Text}
 use Rattle.opfs_base.specs.declared.extents.Extent.{Extent}
 use Rattle.opfs_blocks.specs.Sets.{blocks_of}
-use Rattle.opfs_book_laws.specs.Books.{Fixed}
+use Rattle.opfs_books.specs.Laws.Books.{Fixed}
 use Rattle.opfs_data.specs.Pages.{pages_in}
 use Rattle.opfs_data.specs.Places.{bytes_of, room_of}
 use Rattle.opfs_data.specs.Rows.{row_of, pages_at, OthersStay}

@@ -9,7 +9,7 @@ ghost use Rattle.opfs_desk_rows.specs.Opens.{CallsOpenRows};
 ghost use Rattle.opfs_desk_rows.specs.Puts.{PutsHaveRoom, TreesNameStoredBlocks};
 ghost use Rattle.opfs_desk_rows.specs.Stored.{FilesAreStored, HistoriesAreCleared};
 
-use opfs_book_laws::{commit_laws, state_laws, the_state_is_kept};
+use opfs_books::{commit_laws, state_laws, the_state_is_kept};
 use opfs_desk_laws::{
     blocks_go_on, blocks_tell_a_file, calls_change_their_row, calls_leave_other_rows,
     copies_stand_for_their_row, pages_are_left, trees_keep_their_blocks, what_is_laid_goes_on,

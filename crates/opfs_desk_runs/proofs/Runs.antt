@@ -2,7 +2,7 @@
 use Rattle.std.proofs.Common.{◌≡◌, ◌≤◌, ◌⊎◌, ℕ, ◌+◌, ◌-◌, ◌^◌, Bool, true, List, map, length, All, inl, inr, refl, sym, ap, ◌∙◌, subst, arith}
 use Rattle.std.specs.Prelude.{Result, Ok, Err, OnOk, OnErr}
 use Rattle.std.proofs.lemmas.List.{length-map}
-use Rattle.opfs_book_laws.specs.Books.{AreCounted}
+use Rattle.opfs_books.specs.Laws.Books.{AreCounted}
 use Rattle.opfs_desk.specs.Apart.{IsToldApart}
 use Rattle.opfs_desk.specs.Ending.{EndsTime, EndsTrail, KeepsSizes, LeavesFront, StandsWhole}
 use Rattle.opfs_desk.specs.Seen.{DeskSeen, entries_of}
@@ -15,7 +15,7 @@ use Rattle.opfs_machine.specs.Changes.{changes, durable}
 use Rattle.opfs_machine.specs.Histories.{Legal}
 use Rattle.opfs_machine.specs.Openings.{Opening}
 use Rattle.opfs_machine.specs.Openings.{Who as Caller}
-use Rattle.opfs_openings.specs.Openings.{caller_by, fixed_by}
+use Rattle.opfs_books.specs.Openings.Openings.{caller_by, fixed_by}
 use Rattle.opfs_outside.specs.Faults.{Rose, RoseBy}
 use Rattle.opfs_outside.specs.declared.disk.Disk.{Ghosts as DiskWords}
 use Rattle.opfs_script.specs.Scripts.{Asked}

@@ -17,7 +17,7 @@ use Rattle.opfs_image.specs.declared.recovered.Recovered.{Recovered}
 use Rattle.opfs_machine.specs.Changes.{changes, durable, floor}
 use Rattle.opfs_machine.specs.Histories.{Legal}
 use Rattle.opfs_machine.specs.Openings.{Map, Opening}
-use Rattle.opfs_openings.specs.Openings.{limits_by}
+use Rattle.opfs_books.specs.Openings.Openings.{limits_by}
 use Rattle.opfs_outside.specs.Faults.{Rose, RoseBy}
 use Rattle.opfs_records.specs.Replay.Built.{Built}
 use Rattle.opfs_outside.specs.declared.disk.Disk.{Ghosts as DiskWords}

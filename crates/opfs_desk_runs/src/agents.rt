@@ -3,7 +3,7 @@
 ghost use Rattle.std.specs.Option.{option_copied};
 ghost use Rattle.std.specs.Prelude.{◌≡◌, All, map, IfOk, OnOk};
 ghost use Rattle.opfs_desk_runs.specs.Agents.{IsOwnKey};
-ghost use Rattle.opfs_openings.specs.Openings.{caller_by};
+ghost use Rattle.opfs_books.specs.Openings.Openings.{caller_by};
 ghost use Rattle.opfs_script_run.specs.Stage.Openings.{who_of};
 
 use opfs_base::Key;

@@ -4,9 +4,9 @@ use Rattle.std.proofs.lemmas.Bool.{true≢false}
 use Rattle.opfs_acts.specs.Acting.{gift_of, told_entry, unread_gift}
 use Rattle.opfs_acts.specs.declared.acted.Gift.TheVariants as gift
 use Rattle.opfs_base.specs.Texts.{Text}
-use Rattle.opfs_book_laws.specs.Books.{Fixed}
-use Rattle.opfs_book_laws.specs.Laws.{told, doubt, failed}
-use Rattle.opfs_book_laws.proofs.Told.{changes-more}
+use Rattle.opfs_books.specs.Laws.Books.{Fixed}
+use Rattle.opfs_books.specs.Laws.Laws.{told, doubt, failed}
+use Rattle.opfs_books.proofs.laws.Told.{changes-more}
 use Rattle.opfs_hist.specs.declared.entry.Entry.{Entry}
 use Rattle.opfs_hist.specs.declared.op.Op.{Op}
 use Rattle.opfs_hist.specs.declared.op.Op.TheVariants as op

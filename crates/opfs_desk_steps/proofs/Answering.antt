@@ -3,8 +3,8 @@ use Rattle.std.proofs.Common.{◌≡◌, ℕ, ◌==◌, ◌&&◌, not, List, [],
 use Rattle.std.specs.Prelude.{Ok, IsTrue}
 use Rattle.opfs_acts.specs.Acting.{told_entry}
 use Rattle.opfs_base.specs.Texts.{Text}
-use Rattle.opfs_book_laws.specs.Books.{Fixed, calls_of, is_eviction, IsNext}
-use Rattle.opfs_book_laws.proofs.Counting.{count-append, count-cons}
+use Rattle.opfs_books.specs.Laws.Books.{Fixed, calls_of, is_eviction, IsNext}
+use Rattle.opfs_books.proofs.laws.Counting.{count-append, count-cons}
 use Rattle.opfs_state_rows.specs.Changes.Allowed.{MayApply}
 use Rattle.opfs_hist.specs.declared.entry.Entry.{Entry}
 use Rattle.opfs_hist.specs.declared.reply.Reply.{Reply}

@@ -5,8 +5,8 @@ use Rattle.std.proofs.lemmas.Bool.{eq-eqb}
 use Rattle.std.proofs.lemmas.List.{length-append, length-map, length-replicate, append-nil}
 use Rattle.std.proofs.lemmas.List.Sums.{fold-append}
 use Rattle.opfs_base.specs.Texts.{Text}
-use Rattle.opfs_book_laws.specs.Books.{calls_of, is_eviction}
-use Rattle.opfs_book_laws.proofs.Counting.{count-append, count-cons}
+use Rattle.opfs_books.specs.Laws.Books.{calls_of, is_eviction}
+use Rattle.opfs_books.proofs.laws.Counting.{count-append, count-cons}
 use Rattle.opfs_books.proofs.Following.{notes-follow, pending-notes}
 use Rattle.opfs_hist.specs.Sums.{makes_row, last_moment}
 use Rattle.opfs_hist.specs.declared.entry.Entry.{Entry}
@@ -22,8 +22,8 @@ use Rattle.opfs_machine.specs.Agents.{agent_of}
 use Rattle.opfs_machine.specs.Contents.{outline_of}
 use Rattle.opfs_machine.specs.Histories.{after_entry, state_after}
 use Rattle.opfs_machine.specs.Openings.{Opening, begun}
-use Rattle.opfs_sharing.specs.Noting.{noted}
-use Rattle.opfs_sharing.proofs.Pending.{sum-noted}
+use Rattle.opfs_books.specs.Sharing.Noting.{noted}
+use Rattle.opfs_books.proofs.sharing.Pending.{sum-noted}
 use Rattle.opfs_state_rows.specs.Standing.Noted.{with_sum}
 use Rattle.opfs_state_rows.specs.Standing.Seen.{Machine}
 use Rattle.opfs_state.proofs.laws.Readying.{agent-noted}

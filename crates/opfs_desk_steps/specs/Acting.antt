@@ -4,7 +4,7 @@ use Rattle.opfs_acts.specs.Acting.{IsActed, IsSameCopy, told_entry}
 use Rattle.opfs_acts.specs.declared.acted.Acted.{Acted}
 use Rattle.opfs_acts.specs.declared.acted.Gift.TheVariants as gift
 use Rattle.opfs_base.specs.Texts.{Text}
-use Rattle.opfs_book_laws.specs.Books.{Fixed, IsNext}
+use Rattle.opfs_books.specs.Laws.Books.{Fixed, IsNext}
 use Rattle.opfs_hist.specs.declared.entry.Entry.{Entry}
 use Rattle.opfs_hist.specs.declared.reply.Refusal.TheVariants as refusal
 use Rattle.opfs_hist.specs.declared.reply.Reply.{Reply}

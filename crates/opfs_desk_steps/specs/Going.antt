@@ -1,7 +1,7 @@
 -- A call through its steps: its agent's pending calls are taken in, its units are cleared, and its entry is added. This project's
 -- own.
 use Rattle.std.specs.Prelude.{◌≡◌, List, [], ◌∷◌, ◌++◌, fold, map, None}
-use Rattle.opfs_book_laws.specs.Books.{Fixed, AreBooks}
+use Rattle.opfs_books.specs.Laws.Books.{Fixed, AreBooks}
 use Rattle.opfs_state_rows.specs.Changes.Changed.{tree_by}
 use Rattle.opfs_hist.specs.declared.entry.Entry.{Entry}
 use Rattle.opfs_machine.specs.declared.state.Sizes.{Sizes}

@@ -1,7 +1,7 @@
 -- A call that is asked for, once its agent's pending calls are taken in. This project's own.
 use Rattle.std.specs.Prelude.{◌≡◌, ◌+◌, ◌<◌, List, ◌++◌, length, count_by, Ok, IsTrue}
 use Rattle.opfs_base.specs.Texts.{Text}
-use Rattle.opfs_book_laws.specs.Books.{Fixed, IsPlaced}
+use Rattle.opfs_books.specs.Laws.Books.{Fixed, IsPlaced}
 use Rattle.opfs_hist.specs.Sums.{makes_row}
 use Rattle.opfs_hist.specs.declared.entry.Entry.{Entry}
 use Rattle.opfs_machine.specs.declared.own.Own.{Own}

@@ -2,8 +2,8 @@
 
 ghost use Rattle.std.specs.Prelude.{◌≡◌, ◌++◌, false, map, fold, IfOk, OnOk, OnErr};
 ghost use Rattle.opfs_acts.specs.Acting.{told_entry};
-ghost use Rattle.opfs_book_laws.specs.Books.{Fixed};
-ghost use Rattle.opfs_book_laws.specs.Laws.{LeavesPages};
+ghost use Rattle.opfs_books.specs.Laws.Books.{Fixed};
+ghost use Rattle.opfs_books.specs.Laws.Laws.{LeavesPages};
 ghost use Rattle.opfs_desk_parts.specs.Acted.{AreCleared, HasFailed};
 ghost use Rattle.opfs_desk_parts.specs.Held.{AreHeldWhole};
 ghost use Rattle.opfs_desk_parts.specs.Seen.{tree_in, call_in, units_in};
@@ -15,8 +15,7 @@ ghost use Rattle.opfs_records.specs.Replay.Built.{Built};
 ghost use Rattle.opfs_state.specs.Applied.{IsPrepared};
 
 use crate::apart::{CallParts, call_parts};
-use opfs_book_laws::the_books_show_their_images;
-use opfs_books::Last;
+use opfs_books::{Last, the_books_show_their_images};
 use opfs_desk_parts::{InHand, Ledger};
 use opfs_desk_ways::make_way;
 use opfs_hist::Reply;

@@ -3,8 +3,8 @@
 ghost use Rattle.std.specs.Prelude.{◌≡◌, false, List, None};
 ghost use Rattle.opfs_acts.specs.Acting.{told_entry};
 ghost use Rattle.opfs_base.specs.Texts.{Text};
-ghost use Rattle.opfs_book_calls.specs.Spelled.{spelled_by};
-ghost use Rattle.opfs_book_laws.specs.Books.{Fixed};
+ghost use Rattle.opfs_books.specs.Stored.Spelled.{spelled_by};
+ghost use Rattle.opfs_books.specs.Laws.Books.{Fixed};
 ghost use Rattle.opfs_state_rows.specs.Changes.Changed.{tree_by};
 ghost use Rattle.opfs_desk_parts.specs.Answered.{IsAnswered, MayAnswer};
 ghost use Rattle.opfs_desk_parts.specs.Held.{AreHeldAt};

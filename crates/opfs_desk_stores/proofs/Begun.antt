@@ -5,8 +5,8 @@ use Rattle.opfs_acts.specs.Acting.{told_entry}
 use Rattle.opfs_base.specs.Blocks.{blocks}
 use Rattle.opfs_base.specs.Places.{Place}
 use Rattle.opfs_base.specs.Texts.{Text}
-use Rattle.opfs_book_laws.specs.Books.{Fixed}
-use Rattle.opfs_book_laws.specs.Laws.{failed}
+use Rattle.opfs_books.specs.Laws.Books.{Fixed}
+use Rattle.opfs_books.specs.Laws.Laws.{failed}
 use Rattle.opfs_state_rows.specs.Changes.Allowed.{IsSized}
 use Rattle.opfs_desk_laws.specs.Open.{file_in, open_at}
 use Rattle.opfs_hist.specs.declared.entry.Entry.{Entry}

@@ -4,7 +4,7 @@ use Rattle.std.proofs.lemmas.Bool.{false≢true}
 use Rattle.std.specs.Prelude.{IsTrue}
 use Rattle.opfs_base.specs.Places.{Place}
 use Rattle.opfs_base.specs.Texts.{Text}
-use Rattle.opfs_book_calls.specs.Spelled.{bytes_stored, handle_bytes, stream_bytes, bytes_in as stored_in}
+use Rattle.opfs_books.specs.Stored.Spelled.{bytes_stored, handle_bytes, stream_bytes, bytes_in as stored_in}
 use Rattle.opfs_desk_laws.specs.Open.{file_in, if_open, open_at}
 use Rattle.opfs_desk_laws.specs.RowsAfter.{CallsChangeTheirRow, IsDone}
 use Rattle.opfs_desk_laws.proofs.Leaving.{open-is}

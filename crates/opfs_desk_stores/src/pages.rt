@@ -2,10 +2,10 @@
 
 ghost use Rattle.std.specs.Prelude.{◌≡◌, ◌+◌, [], true, length, IfOk, OnOk, OnErr};
 ghost use Rattle.opfs_acts.specs.Acting.{IsSameCopy};
-ghost use Rattle.opfs_book_calls.specs.Laws.{CallsAreSpelled, CallsMayFail};
-ghost use Rattle.opfs_book_laws.specs.Books.{Fixed};
-ghost use Rattle.opfs_book_laws.specs.Commits.{StateLaws};
-ghost use Rattle.opfs_book_laws.specs.Laws.{BooksKeepTheState, BooksShowTheirImages, ReadsKeepTheBooks};
+ghost use Rattle.opfs_books.specs.Stored.Laws.{CallsAreSpelled, CallsMayFail};
+ghost use Rattle.opfs_books.specs.Laws.Books.{Fixed};
+ghost use Rattle.opfs_books.specs.Laws.Commits.{StateLaws};
+ghost use Rattle.opfs_books.specs.Laws.Laws.{BooksKeepTheState, BooksShowTheirImages, ReadsKeepTheBooks};
 ghost use Rattle.opfs_desk_contents.specs.Blocks.{ContentsKeepBlocks};
 ghost use Rattle.opfs_desk_contents.specs.Words.{stores_row};
 ghost use Rattle.opfs_desk_laws.specs.Laws.{CallsLeaveOtherRows, TreesKeepBlocks};
@@ -29,9 +29,9 @@ ghost use Rattle.opfs_records.specs.Replay.Built.{Built};
 
 use crate::leaving::leave_row;
 use opfs_acts::{Acted, Gift};
-use opfs_book_calls::{calls_are_spelled, calls_may_fail};
-use opfs_book_laws::{
-    reads_leave_the_books, state_laws, the_books_show_their_images, the_state_is_kept,
+use opfs_books::{
+    calls_are_spelled, calls_may_fail, reads_leave_the_books, state_laws,
+    the_books_show_their_images, the_state_is_kept,
 };
 use opfs_data::DataRefusal;
 use opfs_desk_contents::{

@@ -2,8 +2,8 @@
 
 ghost use Rattle.std.specs.Prelude.{◌≡◌, [], true, IfOk, OnOk, OnErr};
 ghost use Rattle.opfs_acts.specs.Acting.{IsSameCopy};
-ghost use Rattle.opfs_book_laws.specs.Books.{Fixed};
-ghost use Rattle.opfs_book_laws.specs.Commits.{StateLaws};
+ghost use Rattle.opfs_books.specs.Laws.Books.{Fixed};
+ghost use Rattle.opfs_books.specs.Laws.Commits.{StateLaws};
 ghost use Rattle.opfs_desk_contents.specs.Words.{stores_row};
 ghost use Rattle.opfs_desk_laws.specs.Handles.{AreHandlesWhole};
 ghost use Rattle.opfs_desk_parts.specs.Acted.{HasActed, IsUnacted};
@@ -18,7 +18,7 @@ ghost use Rattle.opfs_records.specs.Replay.Built.{Built};
 
 use crate::pages::act_pages;
 use opfs_acts::Acted;
-use opfs_book_laws::state_laws;
+use opfs_books::state_laws;
 use opfs_desk_again::act_again;
 use opfs_desk_parts::{InHand, Parts};
 use opfs_desk_steps::asked_calls_are_ready;

@@ -18,7 +18,7 @@ use Rattle.opfs_image.specs.declared.refusal.ImageRefusal.{ImageRefusal}
 use Rattle.opfs_image.specs.declared.refusal.ImageRefusal.TheVariants as image
 use Rattle.opfs_machine.specs.Histories.{Legal}
 use Rattle.opfs_machine.specs.Openings.{Map, Opening, empty_map}
-use Rattle.opfs_openings.specs.Openings.{limits_by}
+use Rattle.opfs_books.specs.Openings.Openings.{limits_by}
 use Rattle.opfs_outside.specs.Faults.{Rose, RoseBy}
 use Rattle.opfs_outside.specs.declared.disk.Disk.{Ghosts as DiskWords}
 use Rattle.opfs_records.specs.Replay.Built.{Built, nothing_built}

@@ -1,6 +1,6 @@
 -- Pages read alike where no byte outside of the areas changed.
 use Rattle.std.proofs.Common.{◌≡◌, ℕ, ◌+◌, ◌*◌, ◌≤◌, List, Option, Some, None, refl, inr, arith}
-use Rattle.opfs_book_laws.specs.Laws.{LeavesPages}
+use Rattle.opfs_books.specs.Laws.Laws.{LeavesPages}
 use Rattle.opfs_data.specs.Pages.{bytes_by, block_bytes}
 use Rattle.opfs_data.specs.Rows.{Rows, page_at}
 use Rattle.opfs_desk_laws.specs.Putting.{AllReadAlike}

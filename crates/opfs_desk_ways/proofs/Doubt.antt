@@ -1,9 +1,9 @@
 -- Units that are cleared once the doubt is ended.
 use Rattle.std.proofs.Common.{◌≡◌, false, map, List, [], ◌∷◌, ◌++◌, sym, ap, subst, ◌∙◌}
 use Rattle.std.proofs.lemmas.List.{append_assoc}
-use Rattle.opfs_book_laws.specs.Books.{Fixed, IsPlaced}
-use Rattle.opfs_book_laws.specs.Laws.{told, failed}
-use Rattle.opfs_book_laws.proofs.Counting.{rose-before}
+use Rattle.opfs_books.specs.Laws.Books.{Fixed, IsPlaced}
+use Rattle.opfs_books.specs.Laws.Laws.{told, failed}
+use Rattle.opfs_books.proofs.laws.Counting.{rose-before}
 use Rattle.opfs_hist.specs.declared.entry.Entry.{Entry}
 use Rattle.opfs_laws.proofs.histories.Adding.{changes-append}
 use Rattle.opfs_machine.specs.Changes.{changes, changes_from}

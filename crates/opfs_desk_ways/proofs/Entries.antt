@@ -4,7 +4,7 @@ use Rattle.std.specs.Prelude.{IsTrue}
 use Rattle.std.proofs.lemmas.List.{length-map}
 use Rattle.std.proofs.lemmas.List.Sums.{fold-append}
 use Rattle.opfs_base.specs.Texts.{Text}
-use Rattle.opfs_book_laws.specs.Books.{IsToldAt}
+use Rattle.opfs_books.specs.Laws.Books.{IsToldAt}
 use Rattle.opfs_hist.specs.declared.entry.Entry.{Entry}
 use Rattle.opfs_laws.specs.Histories.Opened.{LegalTo}
 use Rattle.opfs_laws.specs.Histories.Unread.{unread_entry}

@@ -2,9 +2,9 @@
 use Rattle.std.proofs.Common.{◌≡◌, List, Option, None, sym, subst, ◌∙◌}
 use Rattle.opfs_base.specs.Texts.{Text}
 use Rattle.opfs_base.specs.declared.extents.Extent.{Extent}
-use Rattle.opfs_book_calls.specs.Laws.{CallsAreSpelled}
-use Rattle.opfs_book_calls.specs.Spelled.{spelled_by, stored_built, Makes}
-use Rattle.opfs_book_laws.specs.Books.{Fixed}
+use Rattle.opfs_books.specs.Stored.Laws.{CallsAreSpelled}
+use Rattle.opfs_books.specs.Stored.Spelled.{spelled_by, stored_built, Makes}
+use Rattle.opfs_books.specs.Laws.Books.{Fixed}
 use Rattle.opfs_state_rows.specs.Changes.Allowed.{MayApply}
 use Rattle.opfs_state_rows.specs.Changes.Changed.{tree_by}
 use Rattle.opfs_hist.specs.declared.entry.Entry.{Entry}

@@ -2,11 +2,11 @@
 use Rattle.std.proofs.Common.{◌≡◌, ℕ, ◌+◌, ◌-◌, ◌*◌, ◌^◌, ◌≤◌, ◌==◌, not, ◌&&◌, true, map, List, [], ◌∷◌, ◌++◌, refl, sym, ap, subst, ◌∙◌, append-nil, arith}
 use Rattle.std.specs.Vec.{vec_capacity}
 use Rattle.opfs_base.specs.Texts.{Text}
-use Rattle.opfs_book_laws.specs.Books.{Fixed, AreBooksAt, AreBooks}
-use Rattle.opfs_book_laws.specs.Laws.{LeavesPages, told}
-use Rattle.opfs_book_laws.proofs.Counting.{rose-later}
-use Rattle.opfs_book_laws.proofs.Told.{changes-more}
-use Rattle.opfs_book_calls.specs.Spelled.{stored_built}
+use Rattle.opfs_books.specs.Laws.Books.{Fixed, AreBooksAt, AreBooks}
+use Rattle.opfs_books.specs.Laws.Laws.{LeavesPages, told}
+use Rattle.opfs_books.proofs.laws.Counting.{rose-later}
+use Rattle.opfs_books.proofs.laws.Told.{changes-more}
+use Rattle.opfs_books.specs.Stored.Spelled.{stored_built}
 use Rattle.opfs_books.specs.declared.books.Books.{Books}
 use Rattle.opfs_books.proofs.Calls.{refused-modes}
 use Rattle.opfs_books.proofs.Evictions.{notes-modes}
@@ -38,7 +38,7 @@ use Rattle.opfs_outside.specs.Faults.{Rose}
 use Rattle.opfs_outside.specs.declared.disk.Disk.{Ghosts as DiskWords}
 use Rattle.opfs_records.specs.Replay.Built.{Built}
 use Rattle.opfs_row_puts.specs.Plans.{shelf}
-use Rattle.opfs_sharing.specs.Noting.{noted}
+use Rattle.opfs_books.specs.Sharing.Noting.{noted}
 use Rattle.opfs_records.specs.Checkpoint.Written.{stored_rows}
 use Rattle.opfs_space.specs.Room.{Machine}
 use Rattle.opfs_state.specs.Applied.{StateSeen}

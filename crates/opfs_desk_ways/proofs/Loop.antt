@@ -3,10 +3,10 @@ use Rattle.std.proofs.Common.{◌≡◌, ℕ, ◌≤◌, false, None, map, List,
 use Rattle.std.proofs.lemmas.List.{append_assoc, map-append}
 use Rattle.std.proofs.lemmas.List.Sums.{fold-append}
 use Rattle.opfs_base.specs.Texts.{Text}
-use Rattle.opfs_book_calls.specs.Laws.{CallsMayFail}
-use Rattle.opfs_book_laws.specs.Books.{Fixed, IsPlaced}
-use Rattle.opfs_book_laws.specs.Laws.{LeavesPages, ShowsTold, told, failed, BooksShowTheirImages}
-use Rattle.opfs_book_laws.proofs.Counting.{rose-before}
+use Rattle.opfs_books.specs.Stored.Laws.{CallsMayFail}
+use Rattle.opfs_books.specs.Laws.Books.{Fixed, IsPlaced}
+use Rattle.opfs_books.specs.Laws.Laws.{LeavesPages, ShowsTold, told, failed, BooksShowTheirImages}
+use Rattle.opfs_books.proofs.laws.Counting.{rose-before}
 use Rattle.opfs_state_rows.specs.Changes.Asking.{AreOwnUnits}
 use Rattle.opfs_hist.specs.declared.entry.Entry.{Entry}
 use Rattle.opfs_laws.specs.Histories.Unread.{ReadsLeaveTheState}

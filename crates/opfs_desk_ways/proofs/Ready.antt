@@ -7,8 +7,8 @@ use Rattle.std.specs.declared.cmp.Ordering.{Ordering}
 use Rattle.std.specs.declared.cmp.Ordering.TheVariants.{Less, Equal, Greater}
 use Rattle.opfs_base.specs.Places.{Place, place_cmp}
 use Rattle.opfs_base.specs.Texts.{Text}
-use Rattle.opfs_book_laws.specs.Books.{IsPlaced, is_eviction}
-use Rattle.opfs_book_laws.proofs.Counting.{count-more}
+use Rattle.opfs_books.specs.Laws.Books.{IsPlaced, is_eviction}
+use Rattle.opfs_books.proofs.laws.Counting.{count-more}
 use Rattle.opfs_codec.specs.Spelling.{IsChange, IsKey}
 use Rattle.opfs_codec.specs.declared.change.Change.TheVariants.{Evict}
 use Rattle.opfs_codec.specs.declared.change.Format.TheVariants.{New}

@@ -7,8 +7,8 @@ use Rattle.opfs_base.specs.Keys.{is_origin}
 use Rattle.opfs_base.specs.Texts.{Text}
 use Rattle.opfs_base.specs.Units.{origin_of, unit_of}
 use Rattle.opfs_base.proofs.UnitLemmas.{origin_of-unit_of, origin_of-plain, plain-from_is_origin}
-use Rattle.opfs_book_laws.specs.Books.{IsToldAt}
-use Rattle.opfs_book_laws.proofs.Told.{told-whole}
+use Rattle.opfs_books.specs.Laws.Books.{IsToldAt}
+use Rattle.opfs_books.proofs.laws.Told.{told-whole}
 use Rattle.opfs_codec.specs.Spelling.{is_key_text}
 use Rattle.opfs_hist.specs.declared.entry.Entry.{Entry}
 use Rattle.opfs_hist.specs.declared.op.Op.{Op}

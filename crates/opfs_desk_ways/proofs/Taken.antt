@@ -14,9 +14,9 @@ use Rattle.opfs_machine.specs.declared.state.State.{State}
 use Rattle.opfs_machine.specs.Changes.{changes_from, changes}
 use Rattle.opfs_machine.specs.Histories.{after_entry, state_after}
 use Rattle.opfs_machine.specs.Openings.{Opening, begun}
-use Rattle.opfs_sharing.specs.Noting.{noted, AreNotes, IsSumOf}
-use Rattle.opfs_sharing.specs.Serving.{MayNoteTo}
-use Rattle.opfs_sharing.proofs.Pending.{sum-noted}
+use Rattle.opfs_books.specs.Sharing.Noting.{noted, AreNotes, IsSumOf}
+use Rattle.opfs_books.specs.Sharing.Serving.{MayNoteTo}
+use Rattle.opfs_books.proofs.sharing.Pending.{sum-noted}
 use Rattle.opfs_register.specs.Slots.{most_rows}
 use Rattle.opfs_state_rows.specs.Standing.Noted.{with_sum}
 use Rattle.opfs_state_rows.specs.Standing.Seen.{Seen}

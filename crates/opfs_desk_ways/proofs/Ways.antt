@@ -2,8 +2,8 @@
 use Rattle.std.proofs.Common.{◌≡◌, ◌⊎◌, ℕ, ◌+◌, ◌-◌, ◌≤◌, Bool, true, false, if◌then◌else◌, List, [], ◌∷◌, ◌++◌, length, Some, refl, sym, ap, subst, ◌∙◌, inl, inr, append-nil, arith}
 use Rattle.std.proofs.lemmas.List.{length-append}
 use Rattle.opfs_base.specs.Texts.{Text}
-use Rattle.opfs_book_laws.specs.Books.{Fixed, IsToldAt, AreBooksAt}
-use Rattle.opfs_book_laws.specs.Laws.{told, doubt, ShowsTold, BooksShowTheirImages}
+use Rattle.opfs_books.specs.Laws.Books.{Fixed, IsToldAt, AreBooksAt}
+use Rattle.opfs_books.specs.Laws.Laws.{told, doubt, ShowsTold, BooksShowTheirImages}
 use Rattle.opfs_commit.specs.Shown.{IsShown}
 use Rattle.opfs_commit.proofs.Holding.{shown_more, shown_least}
 use Rattle.opfs_hist.specs.declared.entry.Entry.{Entry}

@@ -1,8 +1,8 @@
 -- Units that are cleared for a call, once its agent's pending calls are taken in. This project's own.
 use Rattle.std.specs.Prelude.{◌≡◌, false, List, [], ◌∷◌, ◌++◌, map, fold, Ok, IsTrue, is_some}
 use Rattle.opfs_base.specs.Texts.{Text}
-use Rattle.opfs_book_laws.specs.Books.{Fixed, IsPlaced}
-use Rattle.opfs_book_laws.specs.Laws.{failed}
+use Rattle.opfs_books.specs.Laws.Books.{Fixed, IsPlaced}
+use Rattle.opfs_books.specs.Laws.Laws.{failed}
 use Rattle.opfs_state_rows.specs.Changes.Asking.{AreOwnUnits}
 use Rattle.opfs_hist.specs.declared.entry.Entry.{Entry}
 use Rattle.opfs_laws.specs.Lengths.Kept.{Kept}

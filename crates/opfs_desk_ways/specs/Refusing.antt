@@ -1,8 +1,8 @@
 -- A call that is refused, or in which the disk failed. This project's own.
 use Rattle.std.specs.Prelude.{◌≡◌, true, List}
 use Rattle.opfs_base.specs.Texts.{Text}
-use Rattle.opfs_book_laws.specs.Books.{Fixed, IsNext, IsPlaced}
-use Rattle.opfs_book_laws.specs.Laws.{HasRisen}
+use Rattle.opfs_books.specs.Laws.Books.{Fixed, IsNext, IsPlaced}
+use Rattle.opfs_books.specs.Laws.Laws.{HasRisen}
 use Rattle.opfs_hist.specs.declared.entry.Entry.{Entry}
 use Rattle.opfs_machine.specs.declared.own.Own.{Own}
 use Rattle.opfs_machine.specs.declared.state.State.{State}

@@ -1,6 +1,6 @@
 -- An agent's pending calls, that are taken in. This project's own.
 use Rattle.std.specs.Prelude.{ℕ, ◌+◌, ◌≤◌, List, length, count_by}
-use Rattle.opfs_book_laws.specs.Books.{Fixed, calls_of}
+use Rattle.opfs_books.specs.Laws.Books.{Fixed, calls_of}
 use Rattle.opfs_hist.specs.Sums.{makes_row}
 use Rattle.opfs_hist.specs.declared.entry.Entry.{Entry}
 use Rattle.opfs_laws.specs.Histories.Unread.{ArePendingFor}

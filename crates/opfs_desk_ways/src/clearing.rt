@@ -1,8 +1,8 @@
 //! The way of a call to its own change: the doubt is ended, and the units that it needs are cleared.
 
 ghost use Rattle.std.specs.Prelude.{◌≡◌, [], false, IfOk, OnOk, OnErr};
-ghost use Rattle.opfs_book_laws.specs.Books.{Fixed};
-ghost use Rattle.opfs_book_laws.specs.Laws.{LeavesPages, failed};
+ghost use Rattle.opfs_books.specs.Laws.Books.{Fixed};
+ghost use Rattle.opfs_books.specs.Laws.Laws.{LeavesPages, failed};
 ghost use Rattle.opfs_desk_parts.specs.Acted.{HasFailed, IsWayNow};
 ghost use Rattle.opfs_desk_parts.specs.Held.{AreHeldWhole};
 ghost use Rattle.opfs_desk_parts.specs.declared.parts.Pages.{Pages};
@@ -11,8 +11,7 @@ ghost use Rattle.opfs_machine.specs.Histories.{IsCall, state_after};
 ghost use Rattle.opfs_records.specs.Replay.Built.{Built};
 
 use crate::refusing::fail_call;
-use opfs_book_laws::a_fault_is_counted;
-use opfs_books::Last;
+use opfs_books::{Last, a_fault_is_counted};
 use opfs_desk_laws::what_is_laid_goes_on;
 use opfs_desk_parts::Ledger;
 use opfs_journal::DiskFault;

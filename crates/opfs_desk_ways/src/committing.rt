@@ -2,8 +2,8 @@
 
 ghost use Rattle.std.specs.Prelude.{◌≡◌, List, false, OnOk, OnErr};
 ghost use Rattle.opfs_base.specs.Texts.{Text};
-ghost use Rattle.opfs_book_laws.specs.Books.{Fixed};
-ghost use Rattle.opfs_book_laws.specs.Laws.{LeavesPages, ShowsTold, told};
+ghost use Rattle.opfs_books.specs.Laws.Books.{Fixed};
+ghost use Rattle.opfs_books.specs.Laws.Laws.{LeavesPages, ShowsTold, told};
 ghost use Rattle.opfs_desk_parts.specs.Held.{AreHeldAt};
 ghost use Rattle.opfs_desk_parts.specs.Seen.{book_in};
 ghost use Rattle.opfs_desk_parts.specs.declared.parts.Pages.{Pages};

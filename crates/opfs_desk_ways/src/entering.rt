@@ -2,9 +2,9 @@
 
 ghost use Rattle.std.specs.Prelude.{◌≡◌, ◌≤◌, ◌++◌, ◌∷◌, [], List, Some, None, true, false, fold, OnOk, OnErr};
 ghost use Rattle.opfs_base.specs.Texts.{Text};
-ghost use Rattle.opfs_book_calls.specs.Spelled.{spelled_by};
-ghost use Rattle.opfs_book_laws.specs.Books.{Fixed, AreBooks};
-ghost use Rattle.opfs_book_laws.specs.Laws.{LeavesPages, ShowsTold, told, failed};
+ghost use Rattle.opfs_books.specs.Stored.Spelled.{spelled_by};
+ghost use Rattle.opfs_books.specs.Laws.Books.{Fixed, AreBooks};
+ghost use Rattle.opfs_books.specs.Laws.Laws.{LeavesPages, ShowsTold, told, failed};
 ghost use Rattle.opfs_books.specs.Seen.{MayStore, BytesStand, stored_change};
 ghost use Rattle.opfs_state_rows.specs.Changes.Changed.{tree_by};
 ghost use Rattle.opfs_codec.specs.Fields.{plain, Fits};
@@ -22,9 +22,7 @@ ghost use Rattle.opfs_machine.specs.Steps.{is_refusal};
 ghost use Rattle.opfs_outside.specs.Faults.{Rose};
 ghost use Rattle.opfs_records.specs.Replay.Built.{Built};
 
-use opfs_book_calls::calls_are_spelled;
-use opfs_book_laws::the_state_is_kept;
-use opfs_books::Entering;
+use opfs_books::{Entering, calls_are_spelled, the_state_is_kept};
 use opfs_codec::ChangeRef;
 use opfs_desk_laws::{blocks_go_on, what_is_laid_goes_on};
 use opfs_desk_parts::Ledger;

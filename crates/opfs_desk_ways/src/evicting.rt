@@ -2,8 +2,8 @@
 
 ghost use Rattle.std.specs.Prelude.{◌≡◌, ◌≤◌, ◌++◌, ◌∷◌, [], List, None, false, IfOk, OnOk, OnErr};
 ghost use Rattle.opfs_base.specs.Texts.{Text};
-ghost use Rattle.opfs_book_laws.specs.Books.{Fixed};
-ghost use Rattle.opfs_book_laws.specs.Laws.{LeavesPages, ShowsTold, told, failed};
+ghost use Rattle.opfs_books.specs.Laws.Books.{Fixed};
+ghost use Rattle.opfs_books.specs.Laws.Laws.{LeavesPages, ShowsTold, told, failed};
 ghost use Rattle.opfs_desk_parts.specs.Held.{AreHeldAt, AreHeldWhole};
 ghost use Rattle.opfs_desk_parts.specs.Seen.{machine_in, tree_in, book_in};
 ghost use Rattle.opfs_desk_parts.specs.declared.parts.Pages.{Pages};
@@ -17,8 +17,7 @@ ghost use Rattle.opfs_outside.specs.Faults.{Rose};
 ghost use Rattle.opfs_records.specs.Replay.Built.{Built};
 ghost use Rattle.opfs_tree.specs.Rows.{without};
 
-use opfs_book_laws::the_state_is_kept;
-use opfs_books::Last;
+use opfs_books::{Last, the_state_is_kept};
 use opfs_desk_laws::{blocks_go_on, what_is_laid_goes_on};
 use opfs_desk_parts::{Clearing, Ledger};
 use opfs_journal::DiskFault;

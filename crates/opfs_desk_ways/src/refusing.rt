@@ -2,8 +2,8 @@
 
 ghost use Rattle.std.specs.Prelude.{◌≡◌, ◌++◌, ◌∷◌, [], List, None};
 ghost use Rattle.opfs_base.specs.Texts.{Text};
-ghost use Rattle.opfs_book_laws.specs.Books.{Fixed};
-ghost use Rattle.opfs_book_laws.specs.Laws.{failed};
+ghost use Rattle.opfs_books.specs.Laws.Books.{Fixed};
+ghost use Rattle.opfs_books.specs.Laws.Laws.{failed};
 ghost use Rattle.opfs_desk_parts.specs.Held.{AreHeldAt, AreHeldWhole};
 ghost use Rattle.opfs_desk_parts.specs.Seen.{tree_in};
 ghost use Rattle.opfs_desk_parts.specs.declared.parts.Pages.{Pages};
@@ -12,8 +12,7 @@ ghost use Rattle.opfs_machine.specs.declared.own.Own.{Own};
 ghost use Rattle.opfs_machine.specs.declared.state.State.{State};
 ghost use Rattle.opfs_records.specs.Replay.Built.{Built};
 
-use opfs_book_laws::the_state_is_kept;
-use opfs_books::Last;
+use opfs_books::{Last, the_state_is_kept};
 use opfs_desk_laws::{blocks_go_on, what_is_laid_goes_on};
 use opfs_desk_parts::Ledger;
 use opfs_hist::{Entry, Refusal, Reply};

@@ -1,8 +1,8 @@
 //! Pending calls that are taken in.
 
 ghost use Rattle.std.specs.Prelude.{◌≡◌, ◌++◌, []};
-ghost use Rattle.opfs_book_laws.specs.Books.{Fixed};
-ghost use Rattle.opfs_book_laws.specs.Laws.{told};
+ghost use Rattle.opfs_books.specs.Laws.Books.{Fixed};
+ghost use Rattle.opfs_books.specs.Laws.Laws.{told};
 ghost use Rattle.opfs_desk_parts.specs.Acted.{IsWayNow};
 ghost use Rattle.opfs_desk_parts.specs.Held.{AreHeldWhole};
 ghost use Rattle.opfs_desk_parts.specs.Seen.{tree_in, book_in};
@@ -14,7 +14,7 @@ ghost use Rattle.opfs_machine.specs.Histories.{state_after};
 ghost use Rattle.opfs_records.specs.Replay.Built.{Built};
 ghost use Rattle.opfs_state.specs.Applied.{IsPrepared};
 
-use opfs_book_laws::{the_books_show_their_images, the_state_is_kept};
+use opfs_books::{the_books_show_their_images, the_state_is_kept};
 use opfs_desk_laws::{blocks_go_on, what_is_laid_goes_on};
 use opfs_desk_parts::Ledger;
 use opfs_hist::Pending;

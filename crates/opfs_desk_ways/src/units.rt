@@ -1,8 +1,8 @@
 //! All units that a call needs, cleared one after another.
 
 ghost use Rattle.std.specs.Prelude.{◌≡◌, ◌++◌, List, map, fold, false, IfOk, OnOk, OnErr};
-ghost use Rattle.opfs_book_laws.specs.Books.{Fixed};
-ghost use Rattle.opfs_book_laws.specs.Laws.{LeavesPages};
+ghost use Rattle.opfs_books.specs.Laws.Books.{Fixed};
+ghost use Rattle.opfs_books.specs.Laws.Laws.{LeavesPages};
 ghost use Rattle.opfs_desk_parts.specs.Acted.{AreCleared, HasFailed};
 ghost use Rattle.opfs_desk_parts.specs.Held.{AreHeldWhole};
 ghost use Rattle.opfs_desk_parts.specs.Seen.{machine_in, tree_in, units_in};
@@ -16,9 +16,7 @@ ghost use Rattle.opfs_state.specs.Applied.{IsPrepared};
 
 use crate::clearing::end_doubt;
 use crate::evicting::evict_one;
-use opfs_book_calls::calls_may_fail;
-use opfs_book_laws::{state_laws, the_books_show_their_images};
-use opfs_books::Last;
+use opfs_books::{Last, calls_may_fail, state_laws, the_books_show_their_images};
 use opfs_desk_parts::{Clearing, Ledger};
 use opfs_journal::DiskFault;
 use opfs_laws::histories::unread::reads_leave_the_state;

@@ -37,7 +37,7 @@ use Rattle.opfs_tree.specs.Rows.{Rows, HasParent, IsClosed, row_at}
 use Rattle.opfs_tree.specs.Units.{text_cmp}
 use Rattle.opfs_tree.specs.declared.row.Row.{Row}
 use Rattle.opfs_tree.specs.declared.row.Row.TheVariants as row
-use Rattle.opfs_book_laws.proofs.Sound.{next_good}
+use Rattle.opfs_books.proofs.laws.Sound.{next_good}
 use Rattle.opfs_dump.specs.Text.Limits.{is_rising}
 
 pub record IsGood (size : ℕ) (b : Built) : Type 0 where

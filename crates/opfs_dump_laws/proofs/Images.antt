@@ -30,8 +30,8 @@ use Rattle.opfs_image.specs.declared.refusal.ImageRefusal.{ImageRefusal}
 use Rattle.opfs_image.specs.declared.refusal.ImageRefusal.TheVariants as refusal
 use Rattle.opfs_image.proofs.Layering.{layered}
 use Rattle.opfs_machine.specs.Openings.{Map, Stored}
-use Rattle.opfs_openings.proofs.Begun.{length-bytes}
-use Rattle.opfs_openings.proofs.Counted.{blocks-append, length-blocks, named-fit}
+use Rattle.opfs_books.proofs.openings.Begun.{length-bytes}
+use Rattle.opfs_books.proofs.openings.Counted.{blocks-append, length-blocks, named-fit}
 use Rattle.opfs_records.specs.Replay.Applying.{can_make, can_make_named, is_directory, parted}
 use Rattle.opfs_records.specs.Replay.Built.{IsSoundRow, all_extents, named}
 use Rattle.opfs_records.specs.Replay.Sums.{charge_of, row_charge}

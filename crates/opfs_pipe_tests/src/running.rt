@@ -5,7 +5,7 @@ ghost use Rattle.opfs_codec.specs.Spelling.{IsText, is_origin_text};
 ghost use Rattle.opfs_desk.specs.Seen.{entries_of};
 ghost use Rattle.opfs_hall.specs.Seen.{AreNew, new_pass};
 ghost use Rattle.opfs_image.specs.Superblock.{is_in_range};
-ghost use Rattle.opfs_openings.specs.Openings.{caller_by};
+ghost use Rattle.opfs_books.specs.Openings.Openings.{caller_by};
 ghost use Rattle.opfs_pipe_tests.specs.Ready.{IsAgentOf, IsPassOf, Stands, asks};
 
 use opfs_acts::Store;

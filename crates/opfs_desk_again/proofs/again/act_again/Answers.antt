@@ -1,7 +1,7 @@
 use Rattle.std.proofs.Common.{◌≡◌, ℕ, true, [], length, None, is_some, refl, sym, ap, subst, ◌∙◌, arith}
 use Rattle.opfs_acts.specs.Acting.{told_entry}
 use Rattle.opfs_base.specs.Places.{Place}
-use Rattle.opfs_book_calls.specs.Spelled.{CanHold}
+use Rattle.opfs_books.specs.Stored.Spelled.{CanHold}
 use Rattle.opfs_books.specs.Seen.{BytesStand}
 use Rattle.opfs_hist.specs.declared.entry.Entry.{Entry}
 use Rattle.opfs_hist.specs.declared.reply.Reply.TheVariants as reply

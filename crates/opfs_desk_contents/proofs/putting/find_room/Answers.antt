@@ -1,6 +1,6 @@
 use Rattle.std.proofs.Common.{◌≡◌, length, [], refl, sym, ap, subst, ◌∙◌, arith}
 use Rattle.opfs_blocks.specs.Sets.{AreBelow}
-use Rattle.opfs_book_laws.specs.Laws.{told}
+use Rattle.opfs_books.specs.Laws.Laws.{told}
 use Rattle.opfs_desk_parts.specs.Held.{AreHeldAt, AreHeldWhole}
 use Rattle.opfs_desk_parts.specs.Seen.{machine_in, tree_in, book_in}
 use Rattle.opfs_desk_ways.proofs.Ways.{way-here}

@@ -1,5 +1,5 @@
 use Rattle.std.proofs.Common.{ap, ◌∙◌, List}
-use Rattle.opfs_book_laws.proofs.Counting.{rose-before}
+use Rattle.opfs_books.proofs.laws.Counting.{rose-before}
 use Rattle.opfs_hist.specs.declared.entry.Entry.{Entry}
 use Rattle.opfs_machine.specs.Changes.{changes}
 use Rattle.opfs_desk_puts.proofs.Used.{used-both}

@@ -1,6 +1,6 @@
 use Rattle.std.proofs.Common.{◌≡◌, All, map, take}
 use Rattle.opfs_desk_runs.specs.Agents.{IsOwnKey}
-use Rattle.opfs_openings.specs.Openings.{caller_by}
+use Rattle.opfs_books.specs.Openings.Openings.{caller_by}
 use Rattle.opfs_script_run.specs.Stage.Openings.{who_of}
 use Rattle.opfs_desk_runs.proofs.agents.agents_of.Given as goal
 

@@ -1,7 +1,7 @@
 use Rattle.std.proofs.Common.{◌∙◌, sym}
 use Rattle.opfs_desk_runs.proofs.Keys.{few-agents, own-keys}
 use Rattle.opfs_desk_runs.proofs.Runs.{run-over}
-use Rattle.opfs_openings.specs.Openings.{caller_by}
+use Rattle.opfs_books.specs.Openings.Openings.{caller_by}
 use Rattle.opfs_desk_runs.proofs.running.run_image.Goals as goal
 
 pub make-requires-clause-few : goal.make-requires-clause-few

@@ -1,6 +1,6 @@
 use Rattle.std.proofs.Common.{◌+◌, [], ◌∷◌, ◌++◌, refl, sym, ap, subst, ◌∙◌, arith}
-use Rattle.opfs_book_laws.specs.Books.{IsPlaced}
-use Rattle.opfs_book_laws.specs.Laws.{failed, told}
+use Rattle.opfs_books.specs.Laws.Books.{IsPlaced}
+use Rattle.opfs_books.specs.Laws.Laws.{failed, told}
 use Rattle.opfs_hist.specs.Faults.{disk_faults}
 use Rattle.opfs_outside.specs.Faults.{Rose, RoseBy}
 use Rattle.opfs_desk_parts.specs.Held.{AreHeldAt}

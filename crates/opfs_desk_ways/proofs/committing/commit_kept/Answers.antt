@@ -1,6 +1,6 @@
 use Rattle.std.proofs.Common.{refl, sym, ap, subst, ◌∙◌, arith}
-use Rattle.opfs_book_calls.specs.Spelled.{stored_built}
-use Rattle.opfs_book_laws.specs.Books.{AreBooksAt}
+use Rattle.opfs_books.specs.Stored.Spelled.{stored_built}
+use Rattle.opfs_books.specs.Laws.Books.{AreBooksAt}
 use Rattle.opfs_desk_laws.specs.Spaced.{AreSpaced}
 use Rattle.opfs_row_puts.specs.Plans.{shelf}
 use Rattle.opfs_records.specs.Checkpoint.Written.{stored_rows}

@@ -1,5 +1,5 @@
 use Rattle.std.proofs.Common.{◌++◌, length, refl, ap, arith}
-use Rattle.opfs_book_laws.specs.Laws.{failed}
+use Rattle.opfs_books.specs.Laws.Laws.{failed}
 use Rattle.opfs_state_rows.specs.Changes.Changed.{freed_in}
 use Rattle.opfs_desk_parts.specs.Seen.{machine_in, tree_in, book_in}
 use Rattle.opfs_desk_parts.specs.declared.parts.Ledger.{Ledger}

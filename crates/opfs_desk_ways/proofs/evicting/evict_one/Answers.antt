@@ -1,8 +1,8 @@
 use Rattle.std.proofs.Common.{[], ◌++◌, length, refl, ap, arith}
-use Rattle.opfs_book_laws.specs.Laws.{failed}
+use Rattle.opfs_books.specs.Laws.Laws.{failed}
 use Rattle.opfs_desk_parts.specs.Seen.{machine_in, tree_in, book_in}
 use Rattle.opfs_desk_parts.specs.declared.parts.Ledger.{Ledger}
-use Rattle.opfs_sharing.specs.Standing.{Standby}
+use Rattle.opfs_books.specs.Sharing.Standing.{Standby}
 use Rattle.opfs_tree.specs.Rows.{extents_within}
 use Rattle.opfs_desk_ways.proofs.Books.{room-within, may-refuse, one-more-entry}
 use Rattle.opfs_desk_ways.proofs.Held.{evicted-held, failed-held}

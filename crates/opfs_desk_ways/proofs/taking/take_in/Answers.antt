@@ -3,7 +3,7 @@ use Rattle.opfs_machine.specs.Histories.{state_after}
 use Rattle.opfs_books.proofs.Following.{pending-notes}
 use Rattle.opfs_desk_parts.specs.Seen.{machine_in, book_in}
 use Rattle.opfs_desk_parts.specs.declared.parts.Ledger.{Ledger}
-use Rattle.opfs_sharing.specs.Standing.{Standby}
+use Rattle.opfs_books.specs.Sharing.Standing.{Standby}
 use Rattle.opfs_desk_ways.proofs.Entries.{entries-are}
 use Rattle.opfs_desk_ways.proofs.Held.{pending-held}
 use Rattle.opfs_desk_ways.proofs.Taken.{prepared-noted, may-note, pending-told}

@@ -1,6 +1,6 @@
 use Rattle.std.proofs.Common.{◌≡◌}
 use Rattle.std.specs.Vec.Iter.{into_iter_items}
-use Rattle.opfs_book_laws.specs.Laws.{LeavesPages}
+use Rattle.opfs_books.specs.Laws.Laws.{LeavesPages}
 use Rattle.opfs_desk_ways.specs.Clearing.{IsOnWay}
 use Rattle.opfs_desk_ways.proofs.units.clear_units.Given as goal
 

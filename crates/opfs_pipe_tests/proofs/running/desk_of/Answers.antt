@@ -1,4 +1,4 @@
-use Rattle.opfs_openings.specs.Openings.{caller_by}
+use Rattle.opfs_books.specs.Openings.Openings.{caller_by}
 use Rattle.opfs_pipe_tests.specs.Ready.{asks}
 use Rattle.opfs_pipe_tests.proofs.Beginning.{few-two, two-keys}
 use Rattle.opfs_pipe_tests.proofs.running.desk_of.Goals as goal

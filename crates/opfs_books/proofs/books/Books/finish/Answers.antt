@@ -1,5 +1,5 @@
 use Rattle.std.proofs.Common.{◌≡◌, true, false, refl, ap}
-use Rattle.opfs_book_laws.specs.Laws.{doubt}
+use Rattle.opfs_books.specs.Laws.Laws.{doubt}
 use Rattle.opfs_books.specs.Seen.{book_of, IsFinished}
 use Rattle.opfs_books.proofs.Alone.{both-leave, both-shown, same-books}
 use Rattle.opfs_books.proofs.books.Books.finish.Goals as goal

@@ -1,7 +1,7 @@
 use Rattle.std.proofs.Common.{None, sym, subst}
 use Rattle.opfs_codec.specs.Fields.{plain}
 use Rattle.opfs_tree.specs.Rows.{Rows, IsInOrder}
-use Rattle.opfs_book_laws.specs.Books.{AreBooks}
+use Rattle.opfs_books.specs.Laws.Books.{AreBooks}
 use Rattle.opfs_commit.specs.Seen.{KeptBack}
 use Rattle.opfs_books.specs.Seen.{book, book_of}
 use Rattle.opfs_books.proofs.Calls.{keep-done, quiet-told}

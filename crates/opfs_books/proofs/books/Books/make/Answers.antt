@@ -1,5 +1,5 @@
 use Rattle.std.proofs.Common.{List, None, sym, subst}
-use Rattle.opfs_book_laws.specs.Books.{AreBooks}
+use Rattle.opfs_books.specs.Laws.Books.{AreBooks}
 use Rattle.opfs_hist.specs.declared.entry.Entry.{Entry}
 use Rattle.opfs_books.specs.Seen.{book}
 use Rattle.opfs_books.proofs.Starts.{starts}

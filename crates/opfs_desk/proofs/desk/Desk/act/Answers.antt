@@ -1,7 +1,7 @@
 use Rattle.std.proofs.Common.{refl, ◌∙◌}
 use Rattle.std.specs.Option.{option_copied}
 use Rattle.opfs_machine.specs.Runs.{Call}
-use Rattle.opfs_openings.specs.Openings.{fixed_by}
+use Rattle.opfs_books.specs.Openings.Openings.{fixed_by}
 use Rattle.opfs_desk.proofs.Called.{is-called, is-told, rests-acted, rests-alone}
 use Rattle.opfs_desk.proofs.Iterated.{reached-on, still-reached, up-to}
 use Rattle.opfs_desk.proofs.desk.Desk.act.Goals as goal

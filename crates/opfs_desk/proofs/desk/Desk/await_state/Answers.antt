@@ -3,7 +3,7 @@ use Rattle.opfs_acts.specs.Acting.{awaited}
 use Rattle.opfs_acts.specs.declared.acted.AwaitState.TheVariants as await
 use Rattle.opfs_base.specs.Texts.{Text}
 use Rattle.opfs_machine.specs.Histories.{state_after}
-use Rattle.opfs_openings.specs.Openings.{fixed_by}
+use Rattle.opfs_books.specs.Openings.Openings.{fixed_by}
 use Rattle.opfs_desk_parts.specs.Seen.{machine_in}
 use Rattle.opfs_desk.proofs.Tags.{agent-there, is-there, is-stuck, is-neither}
 use Rattle.opfs_desk.proofs.desk.Desk.await_state.Goals as goal

@@ -1,5 +1,5 @@
 use Rattle.opfs_desk.specs.Seen.{DeskSeen}
-use Rattle.opfs_openings.specs.Openings.{fixed_by}
+use Rattle.opfs_books.specs.Openings.Openings.{fixed_by}
 use Rattle.opfs_desk.proofs.Shown.{shows-now}
 use Rattle.opfs_desk.proofs.desk.Desk.images.Goals as goal
 

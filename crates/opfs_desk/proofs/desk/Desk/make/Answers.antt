@@ -7,7 +7,7 @@ use Rattle.opfs_iterating.specs.Known.{AreReached}
 use Rattle.opfs_journal.specs.Seen.{Seen}
 use Rattle.opfs_machine.specs.Histories.{state_after}
 use Rattle.opfs_machine.specs.declared.state.Limits.{Limits}
-use Rattle.opfs_openings.specs.Openings.{fixed_by, limits_by}
+use Rattle.opfs_books.specs.Openings.Openings.{fixed_by, limits_by}
 use Rattle.opfs_space.specs.Room.{Machine}
 use Rattle.opfs_state_rows.specs.Standing.Beginnings.{IsBegun}
 use Rattle.opfs_state.specs.Applied.{StateSeen, opened}

@@ -1,7 +1,0 @@
-use Rattle.opfs_book_laws.proofs.Pending.{faults-counted}
-use Rattle.opfs_book_laws.proofs.laws.a_fault_is_counted.Goals as goal
-
-pub returns : goal.returns
-returns g c =
-    let laws = g.met.D.Disk in
-    faults-counted c.state_laws.ensures g.D.Disk laws.counted

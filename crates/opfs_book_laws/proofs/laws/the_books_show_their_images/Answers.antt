@@ -1,7 +1,0 @@
-use Rattle.opfs_book_laws.proofs.Settling.{books-show}
-use Rattle.opfs_book_laws.proofs.laws.the_books_show_their_images.Goals as goal
-
-pub returns : goal.returns
-returns g c =
-    let laws = g.met.D.Disk in
-    books-show g.D.Disk c.commit_laws.ensures laws.counted

@@ -1,6 +1,0 @@
-use Rattle.std.proofs.Common.{◌∙◌}
-use Rattle.opfs_sharing.proofs.Modes.{modes-alike}
-use Rattle.opfs_sharing.proofs.state.StateShared.shed.Goals as goal
-
-pub returns : goal.returns
-returns c = modes-alike c.shed-shed.result.now.buckets c.in_order.ensures ∙ c.shed-shed.ensures.modes
