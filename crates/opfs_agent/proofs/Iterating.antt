@@ -6,7 +6,7 @@ use Rattle.opfs_base.specs.declared.locator.Kind.TheVariants as kind
 use Rattle.std.specs.Prelude.{nat_eq}
 use Rattle.std.specs.Cmp.Lexicographic.{pointwise}
 use Rattle.std.proofs.lemmas.Bool.{eq-eqb}
-use Rattle.opfs_acts.specs.Asking.{HasSmallNumbers}
+use Rattle.opfs_store.specs.Acts.Asking.{HasSmallNumbers}
 use Rattle.opfs_base.specs.declared.locator.Kind.{Kind}
 use Rattle.opfs_base.specs.declared.locator.Locator.{Locator}
 use Rattle.opfs_hist.specs.declared.op.Op.TheVariants as op
@@ -23,10 +23,10 @@ use Rattle.opfs_machine.specs.Histories.{is_of_origin, is_own, is_iterator_of, m
 use Rattle.opfs_machine.specs.Replies.{answer, child_reply, given_in, kind_in}
 use Rattle.opfs_machine.specs.Rows.{children_of, row_at}
 use Rattle.opfs_machine.specs.Steps.{evicted}
-use Rattle.opfs_acts.specs.declared.acted.Acted.{Acted}
-use Rattle.opfs_acts.specs.declared.acted.Gift.{Gift}
-use Rattle.opfs_acts.specs.declared.acted.Gift.TheVariants as gift
-use Rattle.opfs_acts.specs.Acting.{gift_of, unread_gift}
+use Rattle.opfs_store.specs.declared.acts.acted.Acted.{Acted}
+use Rattle.opfs_store.specs.declared.acts.acted.Gift.{Gift}
+use Rattle.opfs_store.specs.declared.acts.acted.Gift.TheVariants as gift
+use Rattle.opfs_store.specs.Acts.Acting.{gift_of, unread_gift}
 use Rattle.opfs_turns.specs.Agents.{AgentSeen, IsAgent, state_of, own_row}
 use Rattle.opfs_turns.specs.Calls.{IsKept, IsLocal}
 use Rattle.opfs_calls.specs.Answers.{HasAnswer, MayAskPast, Shared}

@@ -23,10 +23,10 @@ use Rattle.opfs_machine.specs.Rulings.{ruling, get_directory_ruling}
 use Rattle.opfs_machine.specs.Steps.{evicted, judged, room_for}
 use Rattle.opfs_machine.specs.Sums.{no_need}
 use Rattle.opfs_laws.proofs.Gone.{bind-gave, some-gave}
-use Rattle.opfs_acts.specs.declared.acted.Acted.{Acted}
-use Rattle.opfs_acts.specs.declared.acted.Gift.{Gift}
-use Rattle.opfs_acts.specs.declared.acted.Gift.TheVariants as gift
-use Rattle.opfs_acts.specs.Acting.{gift_of, unread_gift}
+use Rattle.opfs_store.specs.declared.acts.acted.Acted.{Acted}
+use Rattle.opfs_store.specs.declared.acts.acted.Gift.{Gift}
+use Rattle.opfs_store.specs.declared.acts.acted.Gift.TheVariants as gift
+use Rattle.opfs_store.specs.Acts.Acting.{gift_of, unread_gift}
 use Rattle.opfs_turns.specs.Agents.{AgentSeen, IsAgent, own_row}
 use Rattle.opfs_calls.specs.Answers.{HasAnswer}
 use Rattle.opfs_calls.specs.Rows.{HasSnapshot, SnapshotSeen}

@@ -1,7 +1,7 @@
 -- What calls on directories give (Storage: obtain a local storage bottle map). The steps of next are this project's own.
 use Rattle.std.specs.Prelude.{◌≡◌, ℕ, List, [], ◌∷◌, ◌++◌, Option, Some, None}
-use Rattle.opfs_acts.specs.declared.acted.Gift.{Gift}
-use Rattle.opfs_acts.specs.declared.acted.Gift.TheVariants as gift
+use Rattle.opfs_store.specs.declared.acts.acted.Gift.{Gift}
+use Rattle.opfs_store.specs.declared.acts.acted.Gift.TheVariants as gift
 use Rattle.opfs_base.specs.Places.{child_of}
 use Rattle.opfs_base.specs.Texts.{Text}
 use Rattle.opfs_base.specs.Units.{unit_of}

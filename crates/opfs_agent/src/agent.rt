@@ -11,11 +11,11 @@ ghost use Rattle.opfs_turns.specs.Calls.{HasRoom, new_agent, MayBegin, HasEnded,
 ghost use Rattle.opfs_calls.specs.Answers.{Shared, MayAskPlainly, IsAnsweredBy, IsFlag};
 ghost use Rattle.opfs_calls.specs.Locals.{Local, Stopped, IsWhy};
 
-use opfs_acts::{Acted, Store};
 use opfs_base::Key;
 use opfs_calls::{Stop, ask, ask_done, ask_flag, keep_call, keep_refusal};
 use opfs_hall::{Hall, Pass};
 use opfs_hist::{Op, Refusal, Reply, Room};
+use opfs_store::{Acted, Store};
 use opfs_turns::Turns;
 use std::alloc::Global;
 use std::marker::Model;

@@ -5,8 +5,8 @@ ghost use Rattle.opfs_hist.specs.declared.op.Op.TheVariants as op;
 ghost use Rattle.opfs_hist.specs.declared.reply.Refusal.TheVariants as refusal;
 ghost use Rattle.opfs_hist.specs.declared.reply.Reply.TheVariants as reply;
 ghost use Rattle.opfs_machine.specs.Replies.{row_named};
-ghost use Rattle.opfs_acts.specs.Acting.{IsSameCopy};
-ghost use Rattle.opfs_acts.specs.Asking.{IsSmall, IsSmallData, IsSmallPlace};
+ghost use Rattle.opfs_store.specs.Acts.Acting.{IsSameCopy};
+ghost use Rattle.opfs_store.specs.Acts.Asking.{IsSmall, IsSmallData, IsSmallPlace};
 ghost use Rattle.opfs_turns.specs.Calls.{HasRoom};
 ghost use Rattle.opfs_calls.specs.Answers.{Shared, IsOwn};
 ghost use Rattle.opfs_calls.specs.Locals.{Local, Stopped, IsWhy, is_handle_op};
@@ -15,12 +15,12 @@ ghost use Rattle.opfs_handles.specs.Ends.{GivesBack, IsClosed};
 ghost use Rattle.opfs_work.specs.Works.{place_in, IsNearRead};
 
 use crate::agent::Agent;
-use opfs_acts::Store;
 use opfs_base::{Bytes, Data, Locator};
 use opfs_calls::Stop;
 use opfs_hall::Hall;
 use opfs_handles::{ClosedSync, SyncHandle};
 use opfs_hist::{Mode, Op, Refusal, Reply};
+use opfs_store::Store;
 use std::sync::Wait;
 
 impl<S: Store> Agent<S> {

@@ -12,11 +12,11 @@ ghost use Rattle.opfs_calls.specs.Rows.{HasIterator};
 ghost use Rattle.opfs_agent.specs.Entries.{IsNextOf, IsNoted};
 
 use crate::agent::Agent;
-use opfs_acts::{Acted, Gift, Store};
 use opfs_base::{Locator, Name};
 use opfs_calls::{Stop, ask_past};
 use opfs_hall::Hall;
 use opfs_hist::{Op, Reply};
+use opfs_store::{Acted, Gift, Store};
 use std::marker::Model;
 use std::sync::Wait;
 

@@ -11,10 +11,10 @@ ghost use Rattle.opfs_turns.specs.Calls.{HasRoom};
 ghost use Rattle.opfs_calls.specs.Locals.{Local, Stopped, IsWhy};
 
 use crate::agent::Agent;
-use opfs_acts::Store;
 use opfs_base::{Locator, Path, resolve, same};
 use opfs_calls::Stop;
 use opfs_hist::{Op, Refusal, Reply, Word};
+use opfs_store::Store;
 use std::alloc::{AllocError, Global};
 
 // The reply of resolve.

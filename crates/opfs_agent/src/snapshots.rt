@@ -11,12 +11,12 @@ ghost use Rattle.opfs_calls.specs.Rows.{HasSnapshot};
 ghost use Rattle.opfs_agent.specs.Entries.{stamp_in};
 
 use crate::agent::Agent;
-use opfs_acts::{Acted, Gift, Store};
 use opfs_base::{Bytes, Locator};
 use opfs_calls::Stop;
 use opfs_hall::Hall;
 use opfs_hist::{Op, Reply};
 use opfs_splice::window;
+use opfs_store::{Acted, Gift, Store};
 use std::marker::Model;
 use std::sync::Wait;
 
@@ -71,7 +71,7 @@ fn stamp_in(reply: &Reply) -> u64
 
 impl<S: Store> Agent<S> {
     /// Takes a snapshot of a file (File System: getFile).
-    #[tactic(auto, using(opfs_calls::proofs::Shares::looked_none), unfolding(opfs_machine::specs::Histories::may_enter, opfs_acts::specs::Asking::HasSmallNumbers))]
+    #[tactic(auto, using(opfs_calls::proofs::Shares::looked_none), unfolding(opfs_machine::specs::Histories::may_enter, opfs_store::specs::Acts::Asking::HasSmallNumbers))]
     pub fn get_file<R: Wait>(
         &mut self,
         rt: &R,

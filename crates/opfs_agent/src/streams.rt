@@ -5,8 +5,8 @@ ghost use Rattle.opfs_hist.specs.declared.op.Op.TheVariants as op;
 ghost use Rattle.opfs_hist.specs.declared.reply.Refusal.TheVariants as refusal;
 ghost use Rattle.opfs_hist.specs.declared.reply.Reply.TheVariants as reply;
 ghost use Rattle.opfs_machine.specs.Replies.{row_named};
-ghost use Rattle.opfs_acts.specs.Acting.{IsSameCopy};
-ghost use Rattle.opfs_acts.specs.Asking.{IsSmall, IsSmallData, IsSmallPlace};
+ghost use Rattle.opfs_store.specs.Acts.Acting.{IsSameCopy};
+ghost use Rattle.opfs_store.specs.Acts.Asking.{IsSmall, IsSmallData, IsSmallPlace};
 ghost use Rattle.opfs_turns.specs.Calls.{HasRoom};
 ghost use Rattle.opfs_calls.specs.Answers.{Shared, IsOwn};
 ghost use Rattle.opfs_calls.specs.Locals.{Local, Stopped, IsWhy, is_stream_op};
@@ -15,11 +15,11 @@ ghost use Rattle.opfs_streams.specs.Ends.{GivesBack, IsClosed};
 ghost use Rattle.opfs_work.specs.Works.{place_in, IsNearWrite, IsNearSize};
 
 use crate::agent::Agent;
-use opfs_acts::Store;
 use opfs_base::{Data, Locator};
 use opfs_calls::Stop;
 use opfs_hall::Hall;
 use opfs_hist::{Op, Refusal};
+use opfs_store::Store;
 use opfs_streams::{ClosedStream, Writable};
 use std::sync::Wait;
 

@@ -14,8 +14,8 @@ use Rattle.opfs_machine.specs.Openings.{Opening}
 use Rattle.opfs_laws.specs.Leaving.{row_used}
 use Rattle.opfs_laws.specs.Histories.Opened.{added}
 use Rattle.opfs_laws.specs.Histories.Unread.{IsTold, ArePendingFor}
-use Rattle.opfs_acts.specs.Acting.{told_entry}
-use Rattle.opfs_copies.specs.Copies.{StandsFor}
+use Rattle.opfs_store.specs.Acts.Acting.{told_entry}
+use Rattle.opfs_store.specs.Copies.Copies.{StandsFor}
 use Rattle.opfs_turns.specs.Agents.{AgentSeen, IsAgent, known}
 use Rattle.opfs_turns.specs.Calls.{call_of, HasLooked}
 use Rattle.opfs_turns.specs.Waiting.{IsTurned, IsAwaited, HasBegun, HasWaited, HasAwaited}

@@ -26,8 +26,8 @@ use Rattle.opfs_laws.proofs.histories.Reading.{unread-state}
 use Rattle.opfs_laws.specs.Steady.Settling.{BytesStay}
 use Rattle.opfs_laws.specs.Steady.Steady.{open_bytes, row_bytes}
 use Rattle.opfs_laws.proofs.steady.Others.{bytes-alike}
-use Rattle.opfs_copies.specs.Copies.{StandsFor}
-use Rattle.opfs_copies.proofs.Copying.{stands-kept}
+use Rattle.opfs_store.specs.Copies.Copies.{StandsFor}
+use Rattle.opfs_store.proofs.copies.Copying.{stands-kept}
 use Rattle.opfs_work.specs.Works.{WorkingCopy}
 use Rattle.opfs_turns.proofs.Others.{Splits, heads-alike, tails-alike, alike-split, after-alike}
 use Rattle.opfs_beside.specs.Staying.{IsBesideRow, GoesBeside, OtherRowsStay}

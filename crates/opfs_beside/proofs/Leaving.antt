@@ -15,9 +15,9 @@ use Rattle.opfs_laws.proofs.Local.{pending-legal}
 use Rattle.opfs_laws.specs.GoingOn.{ArePending}
 use Rattle.opfs_laws.specs.Histories.Unread.{IsTold}
 use Rattle.opfs_laws.proofs.histories.Reading.{pending-told, told-more, unread-state}
-use Rattle.opfs_acts.specs.declared.acted.Gift.{Gift}
-use Rattle.opfs_acts.specs.Acting.{told_entry}
-use Rattle.opfs_copies.specs.Copies.{StandsFor}
+use Rattle.opfs_store.specs.declared.acts.acted.Gift.{Gift}
+use Rattle.opfs_store.specs.Acts.Acting.{told_entry}
+use Rattle.opfs_store.specs.Copies.Copies.{StandsFor}
 use Rattle.opfs_turns.specs.Agents.{AgentSeen, IsAgent, known, own_row}
 use Rattle.opfs_turns.specs.Calls.{call_of, IsEntered, HasLooked, kept_entry}
 use Rattle.opfs_calls.specs.Locals.{IsMade}

@@ -11,7 +11,7 @@ use Rattle.opfs_machine.specs.Runs.{eviction}
 use Rattle.opfs_laws.specs.Leaving.{row_used}
 use Rattle.opfs_laws.specs.Histories.Opened.{added}
 use Rattle.opfs_laws.specs.Histories.Unread.{IsTold, ArePendingFor}
-use Rattle.opfs_copies.specs.Copies.{StandsFor}
+use Rattle.opfs_store.specs.Copies.Copies.{StandsFor}
 use Rattle.opfs_turns.proofs.Standing.{known-same, stands-there}
 use Rattle.opfs_beside.specs.Staying.{IsBesideRow, GoesBeside}
 use Rattle.opfs_beside.proofs.Entries.{row-goes, copy-goes}

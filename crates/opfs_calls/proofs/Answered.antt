@@ -20,8 +20,8 @@ use Rattle.opfs_base.specs.Names.{is_valid_name}
 use Rattle.opfs_machine.specs.Steps.{is_refusal, outcome_of, step, judged}
 use Rattle.opfs_laws.specs.Histories.Unread.{unread}
 use Rattle.opfs_laws.proofs.histories.Reading.{refuses-same}
-use Rattle.opfs_acts.specs.declared.acted.Acted.{Acted}
-use Rattle.opfs_acts.specs.declared.acted.Gift.{Gift}
+use Rattle.opfs_store.specs.declared.acts.acted.Acted.{Acted}
+use Rattle.opfs_store.specs.declared.acts.acted.Gift.{Gift}
 use Rattle.opfs_turns.specs.Agents.{AgentSeen}
 use Rattle.opfs_turns.specs.Calls.{before_call, IsEntered}
 use Rattle.opfs_calls.specs.Answers.{HasAnswer, IsAnsweredBy, IsRead}

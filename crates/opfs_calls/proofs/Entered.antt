@@ -24,8 +24,8 @@ use Rattle.opfs_laws.proofs.LocksEffect.{call-allowed}
 use Rattle.opfs_laws.proofs.Moved.{call-moves}
 use Rattle.opfs_laws.proofs.Numbers.{IsNumber, number-of}
 use Rattle.opfs_laws.proofs.OwnKept.{evicted-agents}
-use Rattle.opfs_acts.specs.declared.acted.Gift.{Gift}
-use Rattle.opfs_acts.specs.Acting.{told_entry}
+use Rattle.opfs_store.specs.declared.acts.acted.Gift.{Gift}
+use Rattle.opfs_store.specs.Acts.Acting.{told_entry}
 use Rattle.opfs_turns.specs.Agents.{AgentSeen, IsAgent, known, state_of, own_row}
 use Rattle.opfs_turns.specs.Calls.{call_of, before_call, IsEntered}
 

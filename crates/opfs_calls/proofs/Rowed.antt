@@ -19,7 +19,7 @@ use Rattle.opfs_machine.specs.Steps.{Outcome, outcome_of, step, is_refusal}
 use Rattle.opfs_machine.specs.Sums.{no_need}
 use Rattle.opfs_hist.specs.declared.reply.Reply.TheVariants as reply
 use Rattle.opfs_laws.specs.Leaving.{asks_nobody, IsMoved}
-use Rattle.opfs_acts.specs.declared.acted.Gift.{Gift}
+use Rattle.opfs_store.specs.declared.acts.acted.Gift.{Gift}
 use Rattle.opfs_turns.specs.Agents.{AgentSeen, IsAgent, state_of}
 use Rattle.opfs_turns.specs.Calls.{IsEntered, HasLooked, IsLocal, IsKept}
 use Rattle.opfs_turns.proofs.Keeping.{state-after, after-step, moved as kept-moves}

@@ -11,9 +11,9 @@ use Rattle.opfs_machine.specs.Agents.{agent_of, own_of, with_own, adds_own}
 use Rattle.opfs_machine.specs.Effects.{with_changed}
 use Rattle.opfs_machine.specs.Openings.{Opening}
 use Rattle.opfs_laws.proofs.Numbers.{IsNumber, agent-set}
-use Rattle.opfs_acts.specs.Acting.{StandsForLeft}
-use Rattle.opfs_acts.specs.Asking.{IsHandedIn}
-use Rattle.opfs_copies.specs.Copies.{StandsFor}
+use Rattle.opfs_store.specs.Acts.Acting.{StandsForLeft}
+use Rattle.opfs_store.specs.Acts.Asking.{IsHandedIn}
+use Rattle.opfs_store.specs.Copies.Copies.{StandsFor}
 use Rattle.opfs_work.specs.Works.{WorkingCopy}
 
 get-set : {X : Type 0} (xs : List X) (i : ℕ) (x y : X) → slice_get xs i ≡ Some x → slice_get (slice_set xs i y) i ≡ Some y

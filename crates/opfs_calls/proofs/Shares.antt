@@ -9,8 +9,8 @@ use Rattle.opfs_machine.specs.Histories.{state_after}
 use Rattle.opfs_machine.specs.Openings.{Opening}
 use Rattle.opfs_machine.specs.Runs.{Call}
 use Rattle.opfs_machine.specs.Steps.{is_refusal}
-use Rattle.opfs_acts.specs.declared.acted.Acted.{Acted}
-use Rattle.opfs_acts.specs.Acting.{IsLeft, IsSameCopy, StandsForLeft, row_left}
+use Rattle.opfs_store.specs.declared.acts.acted.Acted.{Acted}
+use Rattle.opfs_store.specs.Acts.Acting.{IsLeft, IsSameCopy, StandsForLeft, row_left}
 use Rattle.opfs_turns.specs.Agents.{AgentSeen, IsAgent, known, state_of}
 use Rattle.opfs_turns.specs.Calls.{IsEntered, HasLooked, call_of}
 use Rattle.opfs_work.specs.Works.{WorkingCopy}

@@ -27,11 +27,11 @@ use Rattle.std.proofs.Math.Seq.{take-length}
 use Rattle.std.specs.Cmp.Lexicographic.{nat_list_eq_equiv}
 use Rattle.opfs_laws.proofs.steady.GoingOn.{steady-append, steady-has}
 use Rattle.opfs_laws.proofs.steady.Leaving.{local-leave}
-use Rattle.opfs_copies.specs.Copies.{IsCopyOf, StandsFor}
-use Rattle.opfs_copies.proofs.Copying.{stands-kept}
+use Rattle.opfs_store.specs.Copies.Copies.{IsCopyOf, StandsFor}
+use Rattle.opfs_store.proofs.copies.Copying.{stands-kept}
 use Rattle.opfs_laws.specs.Histories.Unread.{IsTold}
-use Rattle.opfs_acts.specs.declared.acted.Gift.{Gift}
-use Rattle.opfs_acts.specs.Acting.{told_entry, IsSameCopy}
+use Rattle.opfs_store.specs.declared.acts.acted.Gift.{Gift}
+use Rattle.opfs_store.specs.Acts.Acting.{told_entry, IsSameCopy}
 use Rattle.opfs_turns.specs.Agents.{AgentSeen, IsAgent, known, state_of}
 use Rattle.opfs_turns.specs.Calls.{call_of, before_call, IsEntered, HasLooked, IsLocal, IsKept, kept_entry}
 use Rattle.opfs_turns.proofs.Keeping.{after-step}

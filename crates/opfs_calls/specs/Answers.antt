@@ -13,9 +13,9 @@ use Rattle.opfs_machine.specs.declared.state.State.{State}
 use Rattle.opfs_machine.specs.Replies.{answer, row_named}
 use Rattle.opfs_machine.specs.Steps.{is_refusal}
 use Rattle.opfs_laws.specs.Leaving.{asks_nobody, is_end}
-use Rattle.opfs_acts.specs.declared.acted.Acted.{Acted}
-use Rattle.opfs_acts.specs.declared.acted.Gift.{Gift}
-use Rattle.opfs_acts.specs.Asking.{is_shared, given_by, HasSmallNumbers}
+use Rattle.opfs_store.specs.declared.acts.acted.Acted.{Acted}
+use Rattle.opfs_store.specs.declared.acts.acted.Gift.{Gift}
+use Rattle.opfs_store.specs.Acts.Asking.{is_shared, given_by, HasSmallNumbers}
 use Rattle.opfs_turns.specs.Agents.{AgentSeen, state_of}
 use Rattle.opfs_turns.specs.Calls.{IsEntered, HasLooked}
 use Rattle.opfs_calls.specs.declared.stop.Stop.{Stop}

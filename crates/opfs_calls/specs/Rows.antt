@@ -8,7 +8,7 @@ use Rattle.opfs_hist.specs.declared.op.Mode.{Mode}
 use Rattle.opfs_machine.specs.declared.own.Own.{Own}
 use Rattle.opfs_machine.specs.declared.own.Own.TheVariants as own
 use Rattle.opfs_machine.specs.Histories.{is_own}
-use Rattle.opfs_copies.specs.Copies.{StandsFor}
+use Rattle.opfs_store.specs.Copies.Copies.{StandsFor}
 use Rattle.opfs_turns.specs.Agents.{AgentSeen, known, state_of, own_row}
 use Rattle.opfs_work.specs.Works.{WorkingCopy}
 

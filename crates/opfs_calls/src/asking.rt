@@ -3,16 +3,16 @@
 ghost use Rattle.std.specs.Prelude.{◌≡◌, false, [], OnOk, OnErr};
 ghost use Rattle.opfs_hist.specs.declared.reply.Reply.TheVariants as reply;
 ghost use Rattle.opfs_laws.specs.Leaving.{is_end};
-ghost use Rattle.opfs_acts.specs.Acting.{IsSameCopy, StandsForLeft, row_left};
+ghost use Rattle.opfs_store.specs.Acts.Acting.{IsSameCopy, StandsForLeft, row_left};
 ghost use Rattle.opfs_turns.specs.Agents.{known};
 ghost use Rattle.opfs_turns.specs.Calls.{HasRoom, MayAsk};
 ghost use Rattle.opfs_calls.specs.Answers.{Shared, MayAskPlainly, MayAskPast, IsAnsweredBy, IsFlag, IsEstimate, IsLength, IsRead, refusal_in, IsAnswer};
 
 use crate::stop::Stop;
-use opfs_acts::{Acted, Store};
 use opfs_base::{Bytes, Name};
 use opfs_hall::Hall;
 use opfs_hist::{Op, Refusal, Reply, Room};
+use opfs_store::{Acted, Store};
 use opfs_turns::Turns;
 use opfs_work::Work;
 use std::alloc::{AllocError, Global};

@@ -7,8 +7,8 @@ ghost use Rattle.opfs_turns.specs.Calls.{HasRoom, IsLocal};
 ghost use Rattle.opfs_calls.specs.Locals.{Local, Stopped, IsWhy};
 
 use crate::stop::Stop;
-use opfs_acts::Store;
 use opfs_hist::{Op, Refusal, Reply, Room};
+use opfs_store::Store;
 use opfs_turns::Turns;
 use std::alloc::Global;
 

@@ -1,6 +1,6 @@
 -- A call of a desk, over its parts.
-use Rattle.opfs_acts.specs.Asking.{MayAct}
-use Rattle.opfs_acts.specs.declared.acted.Acted.{Acted}
+use Rattle.opfs_store.specs.Acts.Asking.{MayAct}
+use Rattle.opfs_store.specs.declared.acts.acted.Acted.{Acted}
 use Rattle.opfs_base.specs.Texts.{Text}
 use Rattle.opfs_books.specs.Laws.Books.{Fixed}
 use Rattle.opfs_books.proofs.laws.Told.{told-whole}

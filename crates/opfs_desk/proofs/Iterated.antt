@@ -1,9 +1,9 @@
 -- What is known of iterators, through a call of a desk.
 use Rattle.std.proofs.Common.{◌≡◌, ◌≢◌, ◌⊎◌, ℕ, ◌++◌, Bool, true, false, List, Option, Some, None, is_some, refl, sym, ap, ◌∙◌, subst, inl, inr}
-use Rattle.opfs_acts.specs.Acting.{IsActed, IsGift}
-use Rattle.opfs_acts.specs.Asking.{MayAct}
-use Rattle.opfs_acts.specs.declared.acted.Gift.{Gift}
-use Rattle.opfs_acts.specs.declared.acted.Gift.TheVariants as gift
+use Rattle.opfs_store.specs.Acts.Acting.{IsActed, IsGift}
+use Rattle.opfs_store.specs.Acts.Asking.{MayAct}
+use Rattle.opfs_store.specs.declared.acts.acted.Gift.{Gift}
+use Rattle.opfs_store.specs.declared.acts.acted.Gift.TheVariants as gift
 use Rattle.opfs_base.specs.Texts.{Text}
 use Rattle.opfs_hist.specs.declared.entry.Entry.{Entry}
 use Rattle.opfs_hist.specs.declared.reply.Reply.{Reply}

@@ -1,10 +1,10 @@
 -- How a tag stands, by the state in lengths.
 use Rattle.std.proofs.Common.{◌≡◌, ℕ, Bool, true, false, length, refl, sym, ap, ◌∙◌, arith}
 use Rattle.std.proofs.lemmas.List.{length-map}
-use Rattle.opfs_acts.specs.Acting.{awaited}
-use Rattle.opfs_acts.specs.Asking.{IsThere}
-use Rattle.opfs_acts.specs.declared.acted.AwaitState.{AwaitState}
-use Rattle.opfs_acts.specs.declared.acted.AwaitState.TheVariants as await
+use Rattle.opfs_store.specs.Acts.Acting.{awaited}
+use Rattle.opfs_store.specs.Acts.Asking.{IsThere}
+use Rattle.opfs_store.specs.declared.acts.acted.AwaitState.{AwaitState}
+use Rattle.opfs_store.specs.declared.acts.acted.AwaitState.TheVariants as await
 use Rattle.opfs_base.specs.Texts.{Text}
 use Rattle.opfs_laws.specs.Lengths.Bridge.{LengthsDecideEachRuling}
 use Rattle.opfs_laws.specs.Lengths.Outlines.{in_lengths_of, on_agent}

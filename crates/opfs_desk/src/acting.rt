@@ -1,15 +1,14 @@
 //! One shared call.
 
 ghost use Rattle.std.specs.Prelude.{◌≡◌, ◌++◌, [], length, true, IfOk, OnOk, OnErr, IsTrue, is_ok};
-ghost use Rattle.opfs_acts.specs.Acting.{IsActed, IsGift, IsLeft, IsSameCopy, HasFaultOnlyIfRose, always_acts};
-ghost use Rattle.opfs_acts.specs.Asking.{MayAct};
+ghost use Rattle.opfs_store.specs.Acts.Acting.{IsActed, IsGift, IsLeft, IsSameCopy, HasFaultOnlyIfRose, always_acts};
+ghost use Rattle.opfs_store.specs.Acts.Asking.{MayAct};
 ghost use Rattle.opfs_desk.specs.Passing.{PassesCall, PassesNothing};
 ghost use Rattle.opfs_desk.specs.Seen.{disk_of, entries_of};
 ghost use Rattle.opfs_machine.specs.Agents.{agent_of};
 ghost use Rattle.opfs_machine.specs.Histories.{state_after};
 
 use crate::desk::Desk;
-use opfs_acts::Acted;
 use opfs_base::Name;
 use opfs_desk_acts::act_call;
 use opfs_desk_reads::handles_go_on;
@@ -17,6 +16,7 @@ use opfs_hist::{Op, Pending, Room};
 use opfs_iterating::going_on::iterators_go_on;
 use opfs_iterating::{Followed, asked_row, may_make};
 use opfs_outside::Disk;
+use opfs_store::Acted;
 use opfs_work::Work;
 use std::alloc::AllocError;
 

@@ -3,10 +3,10 @@
 ghost use Rattle.std.specs.Prelude.{refl};
 
 use crate::desk::Desk;
-use opfs_acts::{Acted, AwaitState, Store};
 use opfs_base::Name;
 use opfs_hist::{Op, Pending, Room};
 use opfs_outside::Disk;
+use opfs_store::{Acted, AwaitState, Store};
 use opfs_work::Work;
 use std::alloc::AllocError;
 

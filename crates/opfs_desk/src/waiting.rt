@@ -1,15 +1,15 @@
 //! How a tag stands for an agent.
 
 ghost use Rattle.std.specs.Prelude.{◌≡◌};
-ghost use Rattle.opfs_acts.specs.Acting.{awaited};
-ghost use Rattle.opfs_acts.specs.Asking.{IsThere};
+ghost use Rattle.opfs_store.specs.Acts.Acting.{awaited};
+ghost use Rattle.opfs_store.specs.Acts.Asking.{IsThere};
 ghost use Rattle.opfs_desk.specs.Seen.{entries_of};
 ghost use Rattle.opfs_machine.specs.Histories.{state_after};
 
 use crate::desk::Desk;
-use opfs_acts::AwaitState;
 use opfs_laws::lengths::bridge::lengths_decide_each_ruling;
 use opfs_outside::Disk;
+use opfs_store::AwaitState;
 
 impl<D: Disk> Desk<D> {
     /// How a tag stands for an agent (this project's own). Takes no memory.

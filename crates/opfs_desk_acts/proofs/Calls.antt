@@ -1,8 +1,8 @@
 -- A call over parts in which only what stands ready is another.
 use Rattle.std.proofs.Common.{◌≡◌, ℕ, ◌≤◌, if◌then◌else◌, List, [], ◌++◌, Option, None, Ok, Err, sym, ap, ◌∙◌, subst}
-use Rattle.opfs_acts.specs.Acting.{IsActed, IsGift, HasFaultOnlyIfRose}
-use Rattle.opfs_acts.specs.Asking.{MayAct}
-use Rattle.opfs_acts.specs.declared.acted.Acted.{Acted}
+use Rattle.opfs_store.specs.Acts.Acting.{IsActed, IsGift, HasFaultOnlyIfRose}
+use Rattle.opfs_store.specs.Acts.Asking.{MayAct}
+use Rattle.opfs_store.specs.declared.acts.acted.Acted.{Acted}
 use Rattle.opfs_base.specs.Texts.{Text}
 use Rattle.opfs_books.specs.Laws.Books.{Fixed}
 use Rattle.opfs_books.specs.Laws.Laws.{BooksShowTheirImages}

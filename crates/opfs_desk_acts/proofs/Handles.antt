@@ -1,7 +1,7 @@
 -- The access handle that a call flushes or closes is open before its agent's pending calls.
 use Rattle.std.proofs.Common.{◌≡◌, ℕ, ◌-◌, zero, suc, true, is_some, List, ◌++◌, length, option_map, refl, sym, ap, ◌∙◌, arith}
 use Rattle.std.specs.Prelude.{IsTrue}
-use Rattle.opfs_acts.specs.Asking.{names_open}
+use Rattle.opfs_store.specs.Acts.Asking.{names_open}
 use Rattle.opfs_base.specs.Texts.{Text}
 use Rattle.opfs_books.specs.Laws.Books.{Fixed}
 use Rattle.opfs_hist.specs.declared.entry.Entry.{Entry}

@@ -1,7 +1,7 @@
 -- A call that is no next is asked for with no names that an iterator has given.
 use Rattle.std.proofs.Common.{◌≡◌, ℕ, false, List, [], ◌++◌, refl, sym, ◌∙◌, subst}
 use Rattle.std.proofs.lemmas.Bool.{false≢true}
-use Rattle.opfs_acts.specs.Asking.{given_by}
+use Rattle.opfs_store.specs.Acts.Asking.{given_by}
 use Rattle.opfs_base.specs.Texts.{Text}
 use Rattle.opfs_hist.specs.declared.entry.Entry.{Entry}
 use Rattle.opfs_hist.specs.declared.op.Op.{Op}

@@ -1,7 +1,7 @@
 -- Which kind a call is of, word by word.
 use Rattle.std.proofs.Common.{◌≡◌, ℕ, Bool, true, false, not, ◌&&◌, cond, [], Option, Some, None, option_map, is_some, refl, sym, ap, ◌∙◌}
 use Rattle.std.proofs.lemmas.Bool.{false≢true}
-use Rattle.opfs_acts.specs.Acting.{always_acts}
+use Rattle.opfs_store.specs.Acts.Acting.{always_acts}
 use Rattle.opfs_base.specs.Measures.{mode_charge}
 use Rattle.opfs_base.specs.Places.{Place, place_of, child}
 use Rattle.opfs_base.specs.Texts.{Text}

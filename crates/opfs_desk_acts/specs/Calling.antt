@@ -1,6 +1,6 @@
 -- A call that is asked for over parts that are kept as between calls, and what want of memory leaves of them. This project's own.
 use Rattle.std.specs.Prelude.{◌≡◌, ◌++◌, List, Option, None}
-use Rattle.opfs_acts.specs.Asking.{MayAct}
+use Rattle.opfs_store.specs.Acts.Asking.{MayAct}
 use Rattle.opfs_base.specs.Texts.{Text}
 use Rattle.opfs_books.specs.Laws.Books.{Fixed}
 use Rattle.opfs_desk_laws.specs.Handles.{AreHandlesWhole}

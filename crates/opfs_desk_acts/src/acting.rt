@@ -2,7 +2,7 @@
 
 ghost use Rattle.std.specs.Option.{option_copied};
 ghost use Rattle.std.specs.Prelude.{◌≡◌, true, [], IfOk, OnOk, OnErr, IsTrue, is_ok};
-ghost use Rattle.opfs_acts.specs.Acting.{IsSameCopy, always_acts};
+ghost use Rattle.opfs_store.specs.Acts.Acting.{IsSameCopy, always_acts};
 ghost use Rattle.opfs_books.specs.Laws.Books.{Fixed};
 ghost use Rattle.opfs_desk_acts.specs.Kinds.{IsOfKind};
 ghost use Rattle.opfs_desk_laws.specs.Handles.{AreHandlesWhole};
@@ -17,7 +17,6 @@ ghost use Rattle.opfs_laws.specs.Lengths.Bridge.{LengthsFollowEachCall, LocalCal
 ghost use Rattle.opfs_records.specs.Replay.Built.{Built};
 
 use crate::kinds::{CallKind, kind_of};
-use opfs_acts::Acted;
 use opfs_base::Name;
 use opfs_desk_again::act_idle_flush;
 use opfs_desk_ends::act_leave;
@@ -33,6 +32,7 @@ use opfs_desk_stores::act_content;
 use opfs_hist::Pending;
 use opfs_laws::lengths::bridge::{lengths_follow_each_call, local_calls_are_known_by_their_word};
 use opfs_outside::Disk;
+use opfs_store::Acted;
 use opfs_work::Work;
 use std::alloc::AllocError;
 

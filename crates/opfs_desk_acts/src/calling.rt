@@ -2,7 +2,7 @@
 
 ghost use Rattle.std.specs.Option.{option_copied};
 ghost use Rattle.std.specs.Prelude.{◌≡◌, true, [], IfOk, OnOk, OnErr, IsTrue, is_ok};
-ghost use Rattle.opfs_acts.specs.Acting.{IsSameCopy, always_acts};
+ghost use Rattle.opfs_store.specs.Acts.Acting.{IsSameCopy, always_acts};
 ghost use Rattle.opfs_books.specs.Laws.Books.{Fixed};
 ghost use Rattle.opfs_desk_acts.specs.Calling.{HasNoneReady, IsCalled, IsLeftAlone, MayCall, MayCallFrom};
 ghost use Rattle.opfs_desk_laws.specs.Handles.{AreHandlesWhole};
@@ -15,7 +15,6 @@ ghost use Rattle.opfs_desk_reads.specs.Reading.{HaveWholeHandles};
 ghost use Rattle.opfs_records.specs.Replay.Built.{Built};
 
 use crate::acting::act_asked;
-use opfs_acts::Acted;
 use opfs_base::Name;
 use opfs_books::the_books_show_their_images;
 use opfs_desk_asks::{Asked, Readied, ask_call};
@@ -23,6 +22,7 @@ use opfs_desk_parts::{InHand, Ledger, Parts};
 use opfs_desk_plain::act_refused;
 use opfs_hist::{Op, Pending, Room};
 use opfs_outside::Disk;
+use opfs_store::Acted;
 use opfs_work::Work;
 use std::alloc::AllocError;
 

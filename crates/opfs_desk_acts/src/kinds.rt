@@ -1,7 +1,7 @@
 //! Which kind of call a call is.
 
 ghost use Rattle.std.specs.Prelude.{◌≡◌, true, is_some, IsTrue};
-ghost use Rattle.opfs_acts.specs.Asking.{is_shared};
+ghost use Rattle.opfs_store.specs.Acts.Asking.{is_shared};
 ghost use Rattle.opfs_state_rows.specs.Changes.Asking.{makes_row};
 ghost use Rattle.opfs_desk_acts.specs.Kinds.{IsOfKind, has_handle};
 ghost use Rattle.opfs_desk_contents.specs.Words.{may_write};

@@ -1,12 +1,12 @@
 -- The flush of a read-only access handle, put together from its steps.
 use Rattle.std.proofs.Common.{◌≡◌, ℕ, zero, suc, true, false, List, [], ◌++◌, length, Some, option_map, refl, sym, ap, ◌∙◌, subst, append-nil, inl}
 use Rattle.std.proofs.lemmas.Bool.{false≢true}
-use Rattle.opfs_acts.specs.Acting.{told_entry, row_left, StandsForLeft, unread_gift}
-use Rattle.opfs_acts.specs.declared.acted.Gift.TheVariants as gift
+use Rattle.opfs_store.specs.Acts.Acting.{told_entry, row_left, StandsForLeft, unread_gift}
+use Rattle.opfs_store.specs.declared.acts.acted.Gift.TheVariants as gift
 use Rattle.opfs_base.specs.Texts.{Text}
 use Rattle.opfs_books.specs.Laws.Books.{Fixed}
 use Rattle.opfs_books.specs.Laws.Laws.{BooksKeepTheState, BooksShowTheirImages}
-use Rattle.opfs_copies.specs.Copies.{StandsFor, IsPaged}
+use Rattle.opfs_store.specs.Copies.Copies.{StandsFor, IsPaged}
 use Rattle.opfs_desk_laws.specs.Handles.{AreHandlesWhole, HandlesStayWhole}
 use Rattle.opfs_desk_laws.specs.Putting.{AllReadAlike}
 use Rattle.opfs_hist.specs.declared.entry.Entry.{Entry}

@@ -3,7 +3,7 @@ use Rattle.std.proofs.Common.{◌≡◌, ◌≢◌, ◌⊎◌, ℕ, ◌+◌, ◌
 use Rattle.std.specs.Prelude.{IsTrue}
 use Rattle.opfs_base.specs.Texts.{Text}
 use Rattle.opfs_books.specs.Laws.Books.{Fixed}
-use Rattle.opfs_copies.specs.Copies.{StandsFor, IsCopyOf, IsPaged}
+use Rattle.opfs_store.specs.Copies.Copies.{StandsFor, IsCopyOf, IsPaged}
 use Rattle.opfs_desk_contents.specs.Words.{flushes_nothing, may_only_read, may_write, stores_row}
 use Rattle.opfs_desk_laws.specs.Copies.{IsHandleCopy}
 use Rattle.opfs_desk_parts.specs.Seen.{machine_in}

@@ -2,8 +2,8 @@
 use Rattle.std.proofs.Common.{◌≡◌, ℕ, zero, suc, true, false, List, [], ◌++◌, map, fold, length, Option, Some, None, option_map, refl, sym, ap, ◌∙◌, subst, append-nil, inr}
 use Rattle.std.proofs.lemmas.Bool.{false≢true}
 use Rattle.std.specs.Prelude.{IsTrue}
-use Rattle.opfs_acts.specs.Acting.{told_entry, row_left, IsActed, StandsForLeft, unread_gift}
-use Rattle.opfs_acts.specs.declared.acted.Gift.TheVariants as gift
+use Rattle.opfs_store.specs.Acts.Acting.{told_entry, row_left, IsActed, StandsForLeft, unread_gift}
+use Rattle.opfs_store.specs.declared.acts.acted.Gift.TheVariants as gift
 use Rattle.opfs_base.specs.Places.{Place}
 use Rattle.opfs_base.specs.Texts.{Text}
 use Rattle.opfs_base.specs.declared.extents.Extent.{Extent}
@@ -16,7 +16,7 @@ use Rattle.opfs_books.specs.Seen.{BytesStand}
 use Rattle.opfs_codec.specs.Spelling.{AreExtents}
 use Rattle.opfs_codec.specs.declared.change.Change.TheVariants.{Content}
 use Rattle.opfs_commit.specs.Making.{new_bytes, told_as}
-use Rattle.opfs_copies.specs.Copies.{StandsFor, IsPaged}
+use Rattle.opfs_store.specs.Copies.Copies.{StandsFor, IsPaged}
 use Rattle.opfs_data.specs.Places.{bytes_of}
 use Rattle.opfs_desk_laws.specs.Handles.{AreHandlesWhole, HandlesStayWhole}
 use Rattle.opfs_hist.specs.declared.entry.Entry.{Entry}

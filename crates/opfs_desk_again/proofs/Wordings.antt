@@ -1,8 +1,8 @@
 -- What the flush and the close of an access handle have in common, word by word.
 use Rattle.std.proofs.Common.{◌≡◌, ℕ, Bool, true, false, not, if◌then◌else◌, List, [], length, Option, Some, None, option_map, Ok, refl, sym, ap, ◌∙◌, subst, inl, inr}
 use Rattle.std.specs.Prelude.{IsTrue}
-use Rattle.opfs_acts.specs.Acting.{brings_position, gift_of, row_left}
-use Rattle.opfs_acts.specs.declared.acted.Gift.TheVariants as gift
+use Rattle.opfs_store.specs.Acts.Acting.{brings_position, gift_of, row_left}
+use Rattle.opfs_store.specs.declared.acts.acted.Gift.TheVariants as gift
 use Rattle.opfs_base.specs.Places.{Place}
 use Rattle.opfs_base.specs.Texts.{Text}
 use Rattle.opfs_books.specs.Stored.Spelled.{flush_spelled, handle_spelled, spelled_by}

@@ -1,7 +1,7 @@
 //! The flush and the close of an access handle of whose file nothing waits for a flush: the file's own content is stored again.
 
 ghost use Rattle.std.specs.Prelude.{◌≡◌, ◌≤◌, [], List, true, false, Some, None, IfOk, OnOk, OnErr};
-ghost use Rattle.opfs_acts.specs.Acting.{IsSameCopy};
+ghost use Rattle.opfs_store.specs.Acts.Acting.{IsSameCopy};
 ghost use Rattle.opfs_base.specs.Texts.{Text};
 ghost use Rattle.opfs_books.specs.Stored.Laws.{CallsAreSpelled, CallsMayFail};
 ghost use Rattle.opfs_books.specs.Laws.Books.{Fixed};
@@ -34,7 +34,6 @@ ghost use Rattle.opfs_tree.specs.declared.row.FileRow.{FileRow};
 use crate::laws::{calling_laws, saving_laws};
 use crate::planning::{Again, plan_again};
 use crate::words::{is_last, row_of};
-use opfs_acts::{Acted, Gift};
 use opfs_books::{Last, calls_are_spelled, calls_may_fail, state_laws};
 use opfs_data::Swap;
 use opfs_desk_contents::enter_content;
@@ -47,6 +46,7 @@ use opfs_journal::DiskFault;
 use opfs_laws::reserves::fitting::reserves_fit_or_nothing_is_unflushed;
 use opfs_machine::Sizes;
 use opfs_outside::Disk;
+use opfs_store::{Acted, Gift};
 use opfs_work::Work;
 use std::alloc::AllocError;
 

@@ -1,7 +1,7 @@
 //! The flush of an access handle that may not write.
 
 ghost use Rattle.std.specs.Prelude.{◌≡◌, [], List, true, IfOk, OnOk, OnErr};
-ghost use Rattle.opfs_acts.specs.Acting.{IsSameCopy, told_entry};
+ghost use Rattle.opfs_store.specs.Acts.Acting.{IsSameCopy, told_entry};
 ghost use Rattle.opfs_base.specs.Texts.{Text};
 ghost use Rattle.opfs_books.specs.Laws.Books.{Fixed};
 ghost use Rattle.opfs_desk_contents.specs.Words.{flushes_nothing};
@@ -21,12 +21,12 @@ ghost use Rattle.opfs_machine.specs.declared.state.State.{State};
 ghost use Rattle.opfs_records.specs.Replay.Built.{Built};
 
 use crate::laws::{calling_laws, saving_laws};
-use opfs_acts::{Acted, Gift};
 use opfs_desk_parts::{InHand, Ledger, Parts};
 use opfs_desk_steps::tell_in_hand;
 use opfs_desk_ways::take_in;
 use opfs_hist::{Pending, Reply};
 use opfs_outside::Disk;
+use opfs_store::{Acted, Gift};
 use opfs_tree::Walk;
 use opfs_work::Work;
 use std::alloc::AllocError;

@@ -2,7 +2,7 @@
 
 ghost use Rattle.std.specs.Prelude.{◌≡◌, ℕ, List, [], ◌∷◌, ◌++◌};
 ghost use Rattle.opfs_books.specs.Laws.Laws.{BooksKeepTheState, BooksShowTheirImages};
-ghost use Rattle.opfs_copies.specs.Copies.{StandsFor, IsPaged};
+ghost use Rattle.opfs_store.specs.Copies.Copies.{StandsFor, IsPaged};
 ghost use Rattle.opfs_desk_laws.specs.Copies.{HasLeftRow, IsHandleCopy};
 ghost use Rattle.opfs_desk_laws.specs.Handles.{HandlesStayWhole};
 ghost use Rattle.opfs_desk_laws.specs.Laws.{BlocksGoOn, CallsLeaveOtherRows, TreesKeepBlocks};

@@ -2,8 +2,8 @@
 use Rattle.std.proofs.Common.{◌≡◌, ℕ, true, List, [], Option, Some, Ok, refl, ap, ◌∙◌}
 use Rattle.std.specs.Prelude.{IsTrue}
 use Rattle.std.proofs.lemmas.Bool.{false≢true}
-use Rattle.opfs_acts.specs.Acting.{always_acts}
-use Rattle.opfs_acts.specs.Asking.{names_open}
+use Rattle.opfs_store.specs.Acts.Acting.{always_acts}
+use Rattle.opfs_store.specs.Acts.Asking.{names_open}
 use Rattle.opfs_base.specs.Texts.{Text}
 use Rattle.opfs_state_rows.specs.Changes.Asking.{ends}
 use Rattle.opfs_hist.specs.declared.op.Op.{Op}

@@ -2,7 +2,7 @@
 use Rattle.std.proofs.Common.{◌≡◌, ℕ, ◌-◌, List, [], ◌++◌, length, refl, sym, ap, ◌∙◌, subst}
 use Rattle.std.specs.Prelude.{count_by, IsTrue}
 use Rattle.std.proofs.lemmas.List.Sums.{fold-append}
-use Rattle.opfs_acts.specs.Asking.{MayAct}
+use Rattle.opfs_store.specs.Acts.Asking.{MayAct}
 use Rattle.opfs_base.specs.Texts.{Text}
 use Rattle.opfs_books.proofs.laws.Told.{told-whole, whole-told}
 use Rattle.opfs_books.specs.Laws.Books.{Fixed, IsToldAt}

@@ -1,6 +1,6 @@
 -- The sizes of the row that a call names are those of the machine.
 use Rattle.std.proofs.Common.{◌≡◌, ◌≢◌, ℕ, zero, suc, List, length, Some, unwrap_or, [], refl, sym, ap, ◌∙◌}
-use Rattle.opfs_acts.specs.Asking.{IsHandedIn}
+use Rattle.opfs_store.specs.Acts.Asking.{IsHandedIn}
 use Rattle.opfs_base.specs.Texts.{Text}
 use Rattle.opfs_hist.specs.declared.entry.Entry.{Entry}
 use Rattle.opfs_hist.specs.declared.op.Op.{Op}

@@ -1,8 +1,8 @@
 //! A call that is judged, and made ready.
 
 ghost use Rattle.std.specs.Prelude.{◌≡◌, ℕ, List, None, IfOk, OnErr, IsTrue, is_ok, true};
-ghost use Rattle.opfs_acts.specs.Acting.{always_acts};
-ghost use Rattle.opfs_acts.specs.Asking.{MayAct};
+ghost use Rattle.opfs_store.specs.Acts.Acting.{always_acts};
+ghost use Rattle.opfs_store.specs.Acts.Asking.{MayAct};
 ghost use Rattle.opfs_base.specs.Texts.{Text};
 ghost use Rattle.opfs_books.specs.Laws.Books.{Fixed};
 ghost use Rattle.opfs_desk_asks.specs.Asking.{MayAsk, IsAskedAs};

@@ -1,8 +1,8 @@
 //! A call that ends what is open, or the agent: it is never refused, and takes no memory.
 
 ghost use Rattle.std.specs.Prelude.{◌≡◌, ℕ, List, true};
-ghost use Rattle.opfs_acts.specs.Acting.{always_acts};
-ghost use Rattle.opfs_acts.specs.Asking.{MayAct};
+ghost use Rattle.opfs_store.specs.Acts.Acting.{always_acts};
+ghost use Rattle.opfs_store.specs.Acts.Asking.{MayAct};
 ghost use Rattle.opfs_base.specs.Texts.{Text};
 ghost use Rattle.opfs_books.specs.Laws.Books.{Fixed};
 ghost use Rattle.opfs_desk_asks.specs.Asking.{MayAsk, IsReadied};

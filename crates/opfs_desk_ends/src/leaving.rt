@@ -1,7 +1,7 @@
 //! A call that ends a row.
 
 ghost use Rattle.std.specs.Prelude.{◌≡◌, [], List, false, true};
-ghost use Rattle.opfs_acts.specs.Acting.{told_entry};
+ghost use Rattle.opfs_store.specs.Acts.Acting.{told_entry};
 ghost use Rattle.opfs_base.specs.Texts.{Text};
 ghost use Rattle.opfs_books.specs.Laws.Books.{Fixed};
 ghost use Rattle.opfs_books.specs.Laws.Laws.{BooksShowTheirImages};
@@ -27,7 +27,6 @@ ghost use Rattle.opfs_machine.specs.declared.state.State.{State};
 ghost use Rattle.opfs_machine.specs.Replies.{row_named};
 ghost use Rattle.opfs_records.specs.Replay.Built.{Built};
 
-use opfs_acts::{Acted, Gift};
 use opfs_books::the_books_show_their_images;
 use opfs_desk_laws::{
     blocks_go_on, calls_change_their_row, calls_leave_other_rows, trees_keep_their_blocks,
@@ -44,6 +43,7 @@ use opfs_laws::lengths::bridge::{
 };
 use opfs_laws::owned::a_call_moves_its_agent;
 use opfs_outside::Disk;
+use opfs_store::{Acted, Gift};
 use opfs_tree::Walk;
 use opfs_work::Work;
 

@@ -2,7 +2,7 @@
 use Rattle.std.proofs.Common.{◌≡◌, ℕ, ◌||◌, Bool, true, false, if◌then◌else◌, is_some, List, Option, Some, None, Ok, refl, sym, ap, ◌∙◌, subst}
 use Rattle.std.specs.Str.{is_utf8}
 use Rattle.std.proofs.lemmas.Bool.{and_parts, false≢true}
-use Rattle.opfs_acts.specs.Acting.{gift_of}
+use Rattle.opfs_store.specs.Acts.Acting.{gift_of}
 use Rattle.opfs_base.specs.Texts.{Text}
 use Rattle.opfs_base.specs.Units.{is_bucket_name, unit_of}
 use Rattle.opfs_books.specs.Stored.Spelled.{mode_spelled, spelled_by}

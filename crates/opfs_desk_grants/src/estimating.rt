@@ -13,7 +13,6 @@ ghost use Rattle.opfs_machine.specs.Replies.{block_bytes};
 ghost use Rattle.opfs_records.specs.Replay.Built.{Built};
 ghost use Rattle.opfs_state.specs.Verdicts.Callers.{IsAgent};
 
-use opfs_acts::{Acted, Gift};
 use opfs_books::{state_laws, the_state_is_kept};
 use opfs_desk_parts::{InHand, Parts};
 use opfs_desk_plain::{tell, telling_laws};
@@ -21,6 +20,7 @@ use opfs_hist::{Pending, Reply};
 use opfs_laws::histories::unread::reads_leave_the_state;
 use opfs_outside::Disk;
 use opfs_state::State;
+use opfs_store::{Acted, Gift};
 use opfs_work::Work;
 
 // The bytes of a block.

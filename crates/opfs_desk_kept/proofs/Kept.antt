@@ -1,6 +1,6 @@
 -- A call that makes or removes an entry, put together from its steps.
 use Rattle.std.proofs.Common.{◌≡◌, ℕ, true, List, [], fold, length, Some, None, refl, sym, ap, ◌∙◌, subst}
-use Rattle.opfs_acts.specs.Acting.{told_entry}
+use Rattle.opfs_store.specs.Acts.Acting.{told_entry}
 use Rattle.opfs_base.specs.Texts.{Text}
 use Rattle.opfs_books.specs.Stored.Laws.{CallsAreSpelled, CallsMayFail}
 use Rattle.opfs_books.specs.Stored.Spelled.{spelled_by}

@@ -1,7 +1,7 @@
 -- A call that changes something which is no content, put together from its steps, whatever it is.
 use Rattle.std.proofs.Common.{◌≡◌, ℕ, zero, suc, Bool, true, false, List, [], ◌++◌, fold, length, None, Some, refl, sym, ap, subst, ◌∙◌, append-nil}
 use Rattle.std.proofs.lemmas.Bool.{false≢true, true≢false}
-use Rattle.opfs_acts.specs.Acting.{told_entry, row_left, StandsForLeft, unread_gift}
+use Rattle.opfs_store.specs.Acts.Acting.{told_entry, row_left, StandsForLeft, unread_gift}
 use Rattle.opfs_base.specs.Texts.{Text}
 use Rattle.opfs_books.specs.Stored.Laws.{CallsAreSpelled, CallsMayFail}
 use Rattle.opfs_books.specs.Stored.Spelled.{spelled_by}

@@ -1,8 +1,8 @@
 -- What calls that make or remove an entry have in common, word by word.
 use Rattle.std.proofs.Common.{◌≡◌, ℕ, true, false, [], Option, Some, None, refl}
 use Rattle.std.specs.Prelude.{IsTrue}
-use Rattle.opfs_acts.specs.Acting.{gift_of, row_left, brings_position}
-use Rattle.opfs_acts.specs.declared.acted.Gift.TheVariants as gift
+use Rattle.opfs_store.specs.Acts.Acting.{gift_of, row_left, brings_position}
+use Rattle.opfs_store.specs.declared.acts.acted.Gift.TheVariants as gift
 use Rattle.opfs_base.specs.Places.{Place, place_of, child}
 use Rattle.opfs_base.specs.Texts.{Text}
 use Rattle.opfs_base.specs.Units.{unit_of}

@@ -1,7 +1,7 @@
 -- A call that keeps its change back, step by step. This project's own.
 use Rattle.std.specs.Prelude.{◌≡◌, [], List, true}
-use Rattle.opfs_acts.specs.declared.acted.Acted.{Acted}
-use Rattle.opfs_acts.specs.declared.acted.Gift.TheVariants as gift
+use Rattle.opfs_store.specs.declared.acts.acted.Acted.{Acted}
+use Rattle.opfs_store.specs.declared.acts.acted.Gift.TheVariants as gift
 use Rattle.opfs_books.specs.Laws.Books.{Fixed}
 use Rattle.opfs_codec.specs.declared.change.Change.{Change as Spelled}
 use Rattle.opfs_hist.specs.declared.entry.Entry.{Entry}

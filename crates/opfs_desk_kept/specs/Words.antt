@@ -1,7 +1,7 @@
 -- What the calls have in common that change something which is no content. This project's own.
 use Rattle.std.specs.Prelude.{◌≡◌, ℕ, false, None, IsTrue}
-use Rattle.opfs_acts.specs.Acting.{brings_position, gift_of, row_left}
-use Rattle.opfs_acts.specs.declared.acted.Gift.TheVariants as gift
+use Rattle.opfs_store.specs.Acts.Acting.{brings_position, gift_of, row_left}
+use Rattle.opfs_store.specs.declared.acts.acted.Gift.TheVariants as gift
 use Rattle.opfs_base.specs.Texts.{Text}
 use Rattle.opfs_state_rows.specs.Changes.Allowed.{IsSized}
 use Rattle.opfs_desk_laws.specs.Hands.{row_in_hand}

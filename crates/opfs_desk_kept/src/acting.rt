@@ -1,7 +1,7 @@
 //! A call whose change is kept back.
 
 ghost use Rattle.std.specs.Prelude.{◌≡◌, true, [], IfOk, OnOk, OnErr};
-ghost use Rattle.opfs_acts.specs.Acting.{IsSameCopy};
+ghost use Rattle.opfs_store.specs.Acts.Acting.{IsSameCopy};
 ghost use Rattle.opfs_books.specs.Stored.Laws.{CallsAreSpelled, CallsMayFail};
 ghost use Rattle.opfs_books.specs.Laws.Books.{Fixed};
 ghost use Rattle.opfs_books.specs.Laws.Laws.{BooksKeepTheState, BooksShowTheirImages};
@@ -21,7 +21,6 @@ ghost use Rattle.opfs_records.specs.Replay.Built.{Built};
 
 use crate::changing::enter_kept;
 use crate::spelling::entry_of;
-use opfs_acts::{Acted, Gift};
 use opfs_books::{
     calls_are_spelled, calls_may_fail, the_books_show_their_images, the_state_is_kept,
 };
@@ -36,6 +35,7 @@ use opfs_laws::counted::a_state_counts_its_history;
 use opfs_laws::histories::unread::reads_leave_the_state;
 use opfs_laws::lengths::bridge::lengths_decide_each_ruling;
 use opfs_outside::Disk;
+use opfs_store::{Acted, Gift};
 use opfs_work::Work;
 use std::alloc::AllocError;
 

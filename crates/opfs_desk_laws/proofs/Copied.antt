@@ -2,8 +2,8 @@
 use Rattle.std.proofs.Common.{◌≡◌, ◌≢◌, ℕ, ◌+◌, ◌==◌, Bool, true, false, not, ◌&&◌, ◌||◌, List, [], ◌∷◌, ◌++◌, length, Some, refl, ap, ◌∙◌, inl, inr, arith}
 use Rattle.std.proofs.lemmas.Bool.Decides.{nat_tests}
 use Rattle.opfs_base.specs.Texts.{Text}
-use Rattle.opfs_copies.specs.Copies.{IsCopyOf, StandsFor, IsPaged}
-use Rattle.opfs_copies.proofs.Copying.{stands-settled}
+use Rattle.opfs_store.specs.Copies.Copies.{IsCopyOf, StandsFor, IsPaged}
+use Rattle.opfs_store.proofs.copies.Copying.{stands-settled}
 use Rattle.opfs_hist.specs.Sums.{asks_for_row}
 use Rattle.opfs_hist.specs.declared.entry.Entry.{Entry}
 use Rattle.opfs_hist.specs.declared.op.Op.{Op}

@@ -1,6 +1,6 @@
 // The rows that calls name or make, and the working copies that they leave.
 ghost use Rattle.std.specs.Prelude.{◌≡◌, ℕ, List, [], ◌∷◌, ◌++◌};
-ghost use Rattle.opfs_copies.specs.Copies.{StandsFor, IsPaged};
+ghost use Rattle.opfs_store.specs.Copies.Copies.{StandsFor, IsPaged};
 ghost use Rattle.opfs_hist.specs.declared.entry.Entry.{Entry};
 ghost use Rattle.opfs_machine.specs.declared.own.HandleRow.{HandleRow};
 ghost use Rattle.opfs_machine.specs.declared.own.StreamRow.{StreamRow};

@@ -1,6 +1,6 @@
 -- A call that opens a row, in which the disk failed: its agent has the rows that it had.
 use Rattle.std.proofs.Common.{◌≡◌, ℕ, ◌-◌, true, List, [], fold, length, refl, sym, ap, ◌∙◌, subst, append-nil, arith}
-use Rattle.opfs_acts.specs.Acting.{told_entry}
+use Rattle.opfs_store.specs.Acts.Acting.{told_entry}
 use Rattle.opfs_base.specs.Texts.{Text}
 use Rattle.opfs_books.specs.Laws.Books.{Fixed}
 use Rattle.opfs_books.specs.Laws.Laws.{failed}

@@ -2,7 +2,7 @@
 use Rattle.std.proofs.Common.{◌≡◌, ℕ, zero, suc, Bool, true, List, [], ◌∷◌, ◌++◌, fold, length, Some, None, refl, sym, ap, ◌∙◌, subst, arith}
 use Rattle.std.proofs.lemmas.Bool.{false≢true}
 use Rattle.std.specs.Prelude.{IsTrue}
-use Rattle.opfs_acts.specs.Acting.{told_entry, row_left, IsActed, StandsForLeft, unread_gift}
+use Rattle.opfs_store.specs.Acts.Acting.{told_entry, row_left, IsActed, StandsForLeft, unread_gift}
 use Rattle.opfs_base.specs.Places.{place_of}
 use Rattle.opfs_base.specs.Texts.{Text}
 use Rattle.opfs_base.specs.declared.extents.Extent.{Extent}
@@ -11,7 +11,7 @@ use Rattle.opfs_books.specs.Laws.Books.{Fixed}
 use Rattle.opfs_books.specs.Laws.Commits.{StateLaws}
 use Rattle.opfs_books.proofs.laws.Told.{next-state, next-reply, told-whole}
 use Rattle.opfs_state_rows.specs.Changes.Changed.{tree_by}
-use Rattle.opfs_copies.specs.Copies.{StandsFor}
+use Rattle.opfs_store.specs.Copies.Copies.{StandsFor}
 use Rattle.opfs_desk_laws.specs.Laid.{AreLaid}
 use Rattle.opfs_desk_laws.specs.Laws.{TreesKeepBlocks}
 use Rattle.opfs_desk_laws.specs.RowsAfter.{CallsChangeTheirRow}

@@ -1,7 +1,7 @@
 -- A call that opens a row, step by step: createWritable and createSyncAccessHandle. This project's own.
 use Rattle.std.specs.Prelude.{◌≡◌, ℕ, ◌≤◌, true, List}
-use Rattle.opfs_acts.specs.declared.acted.Acted.{Acted}
-use Rattle.opfs_acts.specs.declared.acted.Gift.TheVariants as gift
+use Rattle.opfs_store.specs.declared.acts.acted.Acted.{Acted}
+use Rattle.opfs_store.specs.declared.acts.acted.Gift.TheVariants as gift
 use Rattle.opfs_base.specs.Texts.{Text}
 use Rattle.opfs_books.specs.Laws.Books.{Fixed}
 use Rattle.opfs_data.specs.Rows.{kept_count}

@@ -2,7 +2,7 @@
 use Rattle.std.specs.Prelude.{◌≡◌, ℕ, ◌<◌, true, Option, Some, None, if◌then◌else◌}
 use Rattle.opfs_base.specs.Blocks.{blocks}
 use Rattle.opfs_base.specs.Places.{place_of}
-use Rattle.opfs_copies.specs.Copies.{IsPaged}
+use Rattle.opfs_store.specs.Copies.Copies.{IsPaged}
 use Rattle.opfs_hist.specs.declared.op.Op.{Op}
 use Rattle.opfs_hist.specs.declared.op.Op.TheVariants as op
 use Rattle.opfs_tree.specs.declared.row.FileRow.{FileRow}

@@ -1,7 +1,7 @@
 //! A call that opens a row.
 
 ghost use Rattle.std.specs.Prelude.{◌≡◌, true, List, [], IfOk, OnOk, OnErr};
-ghost use Rattle.opfs_acts.specs.Acting.{IsSameCopy};
+ghost use Rattle.opfs_store.specs.Acts.Acting.{IsSameCopy};
 ghost use Rattle.opfs_books.specs.Laws.Books.{Fixed};
 ghost use Rattle.opfs_books.specs.Laws.Commits.{StateLaws};
 ghost use Rattle.opfs_books.specs.Laws.Laws.{BooksShowTheirImages};
@@ -29,7 +29,6 @@ ghost use Rattle.opfs_records.specs.Replay.Built.{Built};
 ghost use Rattle.opfs_tree.specs.Rows.{IsInOrder};
 
 use crate::pages::{next_row, open_pages};
-use opfs_acts::{Acted, Gift};
 use opfs_books::{Last, state_laws, the_books_show_their_images};
 use opfs_desk_laws::{
     blocks_go_on, calls_change_their_row, trees_keep_their_blocks, what_is_laid_goes_on,
@@ -43,6 +42,7 @@ use opfs_desk_ways::take_in;
 use opfs_hist::{Pending, Refusal, Reply};
 use opfs_machine::Sizes;
 use opfs_outside::Disk;
+use opfs_store::{Acted, Gift};
 use opfs_tree::Walk;
 use opfs_work::Work;
 use std::alloc::AllocError;

@@ -1,7 +1,7 @@
 -- What a call under the turn leaves of the parts: one legal step, and what a stop within it may leave. This project's own.
 use Rattle.std.specs.Prelude.{◌≡◌, ℕ, ◌≤◌, ◌-◌, List, ◌∷◌, [], ◌++◌, map, length, None, Some}
-use Rattle.opfs_acts.specs.Acting.{IsActed, IsGift, IsLeft, HasFaultOnlyIfRose}
-use Rattle.opfs_acts.specs.declared.acted.Acted.{Acted}
+use Rattle.opfs_store.specs.Acts.Acting.{IsActed, IsGift, IsLeft, HasFaultOnlyIfRose}
+use Rattle.opfs_store.specs.declared.acts.acted.Acted.{Acted}
 use Rattle.opfs_base.specs.Texts.{Text}
 use Rattle.opfs_books.specs.Laws.Books.{Fixed}
 use Rattle.opfs_books.specs.Laws.Laws.{told, doubt, failed}

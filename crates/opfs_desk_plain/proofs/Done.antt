@@ -1,7 +1,7 @@
 -- Calls that are answered by that they are done, word by word.
 use Rattle.std.proofs.Common.{◌≡◌, ℕ, true, refl}
-use Rattle.opfs_acts.specs.Acting.{gift_of}
-use Rattle.opfs_acts.specs.declared.acted.Gift.TheVariants as gift
+use Rattle.opfs_store.specs.Acts.Acting.{gift_of}
+use Rattle.opfs_store.specs.declared.acts.acted.Gift.TheVariants as gift
 use Rattle.opfs_hist.specs.declared.op.Op.{Op}
 use Rattle.opfs_hist.specs.declared.op.Op.TheVariants as op
 use Rattle.opfs_hist.specs.declared.reply.Reply.TheVariants as reply

@@ -1,8 +1,8 @@
 -- Calls that ask for a bucket's mode: its agent has a key, and the mode is what it was before the agent's pending calls.
 use Rattle.std.proofs.Common.{◌≡◌, ℕ, ◌-◌, zero, suc, ◌||◌, Bool, true, is_some, List, length, Option, Some, Ok, Err, refl, sym, ap, ◌∙◌, arith}
 use Rattle.std.specs.List.{list_any}
-use Rattle.opfs_acts.specs.Acting.{gift_of}
-use Rattle.opfs_acts.specs.declared.acted.Gift.TheVariants as gift
+use Rattle.opfs_store.specs.Acts.Acting.{gift_of}
+use Rattle.opfs_store.specs.declared.acts.acted.Gift.TheVariants as gift
 use Rattle.opfs_base.specs.Texts.{Text, same_text}
 use Rattle.opfs_base.specs.Units.{unit_of}
 use Rattle.opfs_hist.specs.declared.history.PendingSum.{PendingSum}

@@ -3,8 +3,8 @@ use Rattle.std.proofs.Common.{◌≡◌, ℕ, true, false, List, length, Option,
 use Rattle.std.proofs.lemmas.Bool.{false≢true}
 use Rattle.std.specs.FinMap.Entries.{find as find_row}
 use Rattle.std.specs.List.{filter_map}
-use Rattle.opfs_acts.specs.Acting.{gift_of}
-use Rattle.opfs_acts.specs.Asking.{given_by}
+use Rattle.opfs_store.specs.Acts.Acting.{gift_of}
+use Rattle.opfs_store.specs.Acts.Asking.{given_by}
 use Rattle.opfs_base.specs.Places.{Place, child, child_name, place_cmp, place_of}
 use Rattle.opfs_base.specs.Texts.{Text}
 use Rattle.opfs_base.specs.declared.locator.Kind.{Kind}

@@ -2,9 +2,9 @@
 use Rattle.std.proofs.Common.{◌≡◌, ℕ, ◌≤◌, false, List, [], ◌∷◌, ◌++◌, length, None, Err, refl, sym, ap, subst, ◌∙◌, inl, append_assoc, arith}
 use Rattle.std.specs.Prelude.{IsTrue, count_by, ◌==◌}
 use Rattle.std.proofs.lemmas.Bool.{false≢true, true≢false}
-use Rattle.opfs_acts.specs.Acting.{gift_of, told_entry, unread_gift}
-use Rattle.opfs_acts.specs.declared.acted.Acted.{Acted}
-use Rattle.opfs_acts.specs.declared.acted.Gift.TheVariants as gift
+use Rattle.opfs_store.specs.Acts.Acting.{gift_of, told_entry, unread_gift}
+use Rattle.opfs_store.specs.declared.acts.acted.Acted.{Acted}
+use Rattle.opfs_store.specs.declared.acts.acted.Gift.TheVariants as gift
 use Rattle.opfs_base.specs.Texts.{Text}
 use Rattle.opfs_books.specs.Laws.Books.{Fixed, IsNext}
 use Rattle.opfs_books.specs.Laws.Laws.{BooksShowTheirImages, told}

@@ -1,8 +1,8 @@
 -- A call that stores nothing, clears no unit and leaves no row open, put together from its steps.
 use Rattle.std.proofs.Common.{◌≡◌, ℕ, false, is_some, slice_index_or, List, [], ◌∷◌, ◌++◌, map, length, unwrap_or, None, refl, sym, ap, ◌∙◌, subst, append-nil, arith}
 use Rattle.std.proofs.lemmas.Bool.{false≢true, true≢false}
-use Rattle.opfs_acts.specs.Acting.{told_entry, row_left, IsActed, IsGift, StandsForLeft}
-use Rattle.opfs_acts.specs.declared.acted.Gift.{Gift}
+use Rattle.opfs_store.specs.Acts.Acting.{told_entry, row_left, IsActed, IsGift, StandsForLeft}
+use Rattle.opfs_store.specs.declared.acts.acted.Gift.{Gift}
 use Rattle.opfs_base.specs.Texts.{Text}
 use Rattle.opfs_books.specs.Laws.Books.{Fixed}
 use Rattle.opfs_books.specs.Laws.Laws.{BooksShowTheirImages}

@@ -1,8 +1,8 @@
 -- A call that only tells, put together.
 use Rattle.std.proofs.Common.{◌≡◌, ℕ, zero, suc, List, [], ◌++◌, length, None, refl, sym, ap, ◌∙◌, subst, arith}
 use Rattle.std.specs.Prelude.{slice_get}
-use Rattle.opfs_acts.specs.Acting.{IsGift, told_entry}
-use Rattle.opfs_acts.specs.declared.acted.Gift.{Gift}
+use Rattle.opfs_store.specs.Acts.Acting.{IsGift, told_entry}
+use Rattle.opfs_store.specs.declared.acts.acted.Gift.{Gift}
 use Rattle.opfs_base.specs.Texts.{Text}
 use Rattle.opfs_books.specs.Laws.Books.{Fixed}
 use Rattle.opfs_books.specs.Laws.Laws.{BooksShowTheirImages}

@@ -3,7 +3,7 @@
 use Rattle.std.proofs.Common.{◌≡◌, ℕ, ◌-◌, zero, suc, ◌&&◌, Bool, true, false, if◌then◌else◌, cond, List, [], ◌∷◌, Option, Some, None, option_map, Ok, Err, refl, sym, ap, ◌∙◌, subst, inl, inr, slice_set, arith}
 use Rattle.std.specs.Prelude.{IsTrue, not}
 use Rattle.std.proofs.lemmas.Bool.{and_parts, cases_eq, false≢true}
-use Rattle.opfs_acts.specs.Acting.{brings_position, row_left}
+use Rattle.opfs_store.specs.Acts.Acting.{brings_position, row_left}
 use Rattle.opfs_base.specs.Measures.{place_charge, mode_charge}
 use Rattle.opfs_base.specs.Places.{Place, place_of, child}
 use Rattle.opfs_base.specs.Texts.{Text}

@@ -1,6 +1,6 @@
 -- A call that the machine refuses, asked for after its agent's pending calls. This project's own.
 use Rattle.std.specs.Prelude.{◌≡◌, List, ◌++◌, Err}
-use Rattle.opfs_acts.specs.Asking.{MayAct}
+use Rattle.opfs_store.specs.Acts.Asking.{MayAct}
 use Rattle.opfs_base.specs.Texts.{Text}
 use Rattle.opfs_books.specs.Laws.Books.{Fixed}
 use Rattle.opfs_hist.specs.declared.entry.Entry.{Entry}

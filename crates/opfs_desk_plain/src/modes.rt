@@ -1,7 +1,7 @@
 //! Calls that ask for a bucket's mode.
 
 ghost use Rattle.std.specs.Prelude.{◌≡◌, [], true, is_some, IfOk, OnOk, OnErr};
-ghost use Rattle.opfs_acts.specs.Acting.{IsSameCopy};
+ghost use Rattle.opfs_store.specs.Acts.Acting.{IsSameCopy};
 ghost use Rattle.opfs_base.specs.Units.{unit_of};
 ghost use Rattle.opfs_books.specs.Laws.Books.{Fixed};
 ghost use Rattle.opfs_desk_parts.specs.Acted.{HasActed, IsUnacted};
@@ -16,12 +16,12 @@ ghost use Rattle.opfs_records.specs.Replay.Built.{Built};
 ghost use Rattle.opfs_state.specs.Verdicts.Callers.{IsAgent};
 
 use crate::telling::{tell, telling_laws};
-use opfs_acts::{Acted, Gift};
 use opfs_base::{Text, unit_of};
 use opfs_desk_parts::{InHand, Parts};
 use opfs_hist::{Op, Pending, Reply};
 use opfs_outside::Disk;
 use opfs_state::State;
+use opfs_store::{Acted, Gift};
 use opfs_work::Work;
 use std::alloc::{AllocError, Global};
 

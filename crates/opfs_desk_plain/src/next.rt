@@ -2,7 +2,7 @@
 
 ghost use Rattle.std.specs.Prelude.{◌≡◌, [], true, None, Some, IfOk, IfSome, OnOk, OnErr};
 ghost use Rattle.std.specs.Option.{option_copied};
-ghost use Rattle.opfs_acts.specs.Acting.{IsSameCopy};
+ghost use Rattle.opfs_store.specs.Acts.Acting.{IsSameCopy};
 ghost use Rattle.opfs_base.specs.Places.{place_of};
 ghost use Rattle.opfs_books.specs.Laws.Books.{Fixed};
 ghost use Rattle.opfs_desk_parts.specs.Acted.{HasActed, IsUnacted};
@@ -15,12 +15,12 @@ ghost use Rattle.opfs_records.specs.Replay.Built.{Built};
 ghost use Rattle.opfs_tree.specs.Rows.{children_of, least_not_in};
 
 use crate::telling::{tell, telling_laws};
-use opfs_acts::{Acted, Gift};
 use opfs_base::{Kind, Locator, Name, child_of};
 use opfs_desk_parts::{InHand, Parts};
 use opfs_hist::{Op, Pending, Reply};
 use opfs_outside::Disk;
 use opfs_state::State;
+use opfs_store::{Acted, Gift};
 use opfs_work::Work;
 use std::alloc::{AllocError, Global};
 

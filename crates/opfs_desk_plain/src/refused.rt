@@ -9,7 +9,6 @@ ghost use Rattle.opfs_desk_plain.specs.Refused.{MayActRefused, IsRefusedCall};
 ghost use Rattle.opfs_records.specs.Replay.Built.{Built};
 ghost use Rattle.opfs_work.specs.Works.{WorkingCopy};
 
-use opfs_acts::{Acted, Gift};
 use opfs_books::{Last, state_laws, the_books_show_their_images};
 use opfs_desk_parts::Parts;
 use opfs_desk_steps::calls_are_acted;
@@ -18,6 +17,7 @@ use opfs_hist::{Entry, Op, Pending, Refusal, Reply, Room};
 use opfs_laws::histories::unread::reads_leave_the_state;
 use opfs_laws::lengths::bridge::{lengths_follow_each_call, local_calls_are_known_by_their_word};
 use opfs_outside::Disk;
+use opfs_store::{Acted, Gift};
 
 /// Enters a call that the machine refuses, after its agent's pending calls. Calls no disk.
 pub fn act_refused<D: Disk>(

@@ -1,8 +1,8 @@
 //! The entering of calls that only tell: they store nothing, make no row and no mode, and use no pages of a row.
 
 ghost use Rattle.std.specs.Prelude.{◌≡◌, ◌++◌, [], List};
-ghost use Rattle.opfs_acts.specs.Acting.{IsGift};
-ghost use Rattle.opfs_acts.specs.declared.acted.Gift.{Gift};
+ghost use Rattle.opfs_store.specs.Acts.Acting.{IsGift};
+ghost use Rattle.opfs_store.specs.declared.acts.acted.Gift.{Gift};
 ghost use Rattle.opfs_base.specs.Texts.{Text};
 ghost use Rattle.opfs_books.specs.Laws.Books.{Fixed};
 ghost use Rattle.opfs_books.specs.Laws.Laws.{BooksShowTheirImages};

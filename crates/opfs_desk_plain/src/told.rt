@@ -10,10 +10,10 @@ ghost use Rattle.opfs_desk_plain.specs.Telling.{TellsOnly, is_done};
 ghost use Rattle.opfs_records.specs.Replay.Built.{Built};
 
 use crate::telling::tell;
-use opfs_acts::{Acted, Gift};
 use opfs_desk_parts::{InHand, Parts};
 use opfs_hist::{Pending, Reply};
 use opfs_outside::Disk;
+use opfs_store::{Acted, Gift};
 use opfs_work::Work;
 
 /// Acts a getDirectory, getDirectoryHandle or getFileHandle of what is there, a post, an await, a wait or an end. Takes no memory,

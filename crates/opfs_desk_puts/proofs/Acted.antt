@@ -3,15 +3,15 @@ use Rattle.std.proofs.Common.{◌≡◌, ◌≢◌, ℕ, ◌+◌, ◌*◌, ◌<�
 use Rattle.std.proofs.lemmas.Bool.{false≢true}
 use Rattle.std.proofs.lemmas.List.{append_assoc}
 use Rattle.std.specs.Prelude.{IsTrue}
-use Rattle.opfs_acts.specs.Acting.{StandsForLeft, row_left, told_entry, unread_gift}
-use Rattle.opfs_acts.specs.declared.acted.Acted.{Acted}
-use Rattle.opfs_acts.specs.declared.acted.Gift.TheVariants as gift
+use Rattle.opfs_store.specs.Acts.Acting.{StandsForLeft, row_left, told_entry, unread_gift}
+use Rattle.opfs_store.specs.declared.acts.acted.Acted.{Acted}
+use Rattle.opfs_store.specs.declared.acts.acted.Gift.TheVariants as gift
 use Rattle.opfs_base.specs.Texts.{Text}
 use Rattle.opfs_books.specs.Stored.Laws.{CallsAreSpelled}
 use Rattle.opfs_books.specs.Laws.Books.{Fixed}
 use Rattle.opfs_books.specs.Laws.Laws.{ShowsTold, failed, told}
 use Rattle.opfs_books.proofs.laws.Counting.{rose-before}
-use Rattle.opfs_copies.specs.Copies.{IsCopyOf, IsPaged, StandsFor}
+use Rattle.opfs_store.specs.Copies.Copies.{IsCopyOf, IsPaged, StandsFor}
 use Rattle.opfs_desk_laws.specs.Laws.{BlocksGoOn, CallsLeaveOtherRows, TreesKeepBlocks}
 use Rattle.opfs_desk_laws.specs.RowsAfter.{CallsChangeTheirRow}
 use Rattle.opfs_desk_laws.proofs.Copied.{left-stands}

@@ -3,12 +3,12 @@ use Rattle.std.specs.Vec.{vec_capacity}
 use Rattle.std.proofs.Common.{◌≡◌, ◌≢◌, ℕ, ◌<◌, ◌^◌, Bool, true, false, List, [], ◌++◌, fold, Option, Some, None, refl, sym, ap, subst, ◌∙◌, arith}
 use Rattle.std.proofs.lemmas.Bool.{false≢true}
 use Rattle.std.specs.Prelude.{IsTrue}
-use Rattle.opfs_acts.specs.Acting.{told_entry}
+use Rattle.opfs_store.specs.Acts.Acting.{told_entry}
 use Rattle.opfs_base.specs.Texts.{Text}
 use Rattle.opfs_base.specs.declared.extents.Extent.{Extent}
 use Rattle.opfs_books.specs.Laws.Books.{Fixed}
 use Rattle.opfs_books.specs.Laws.Laws.{LeavesPages}
-use Rattle.opfs_copies.specs.Copies.{StandsFor}
+use Rattle.opfs_store.specs.Copies.Copies.{StandsFor}
 use Rattle.opfs_data.specs.declared.page.Page.{Page}
 use Rattle.opfs_data.specs.Pages.{page_of}
 use Rattle.opfs_desk_laws.specs.Laws.{CallsLeaveOtherRows}

@@ -1,8 +1,8 @@
 -- Pages that are planned for a call: the parts are kept, and what is planned is of the row.
 use Rattle.std.specs.Vec.{vec_capacity}
 use Rattle.std.proofs.Common.{◌≡◌, ◌≢◌, ℕ, ◌+◌, ◌-◌, ◌*◌, ◌^◌, ◌<◌, ◌≤◌, ◌/◌, ◌%◌, slice_index, slice_index_or, zero, suc, is_some, true, false, List, [], ◌++◌, length, Some, refl, sym, ap, subst, ◌∙◌, inl, inr, append-nil, arith}
-use Rattle.opfs_acts.specs.Acting.{IsSameCopy}
-use Rattle.opfs_acts.specs.Asking.{IsHandedIn}
+use Rattle.opfs_store.specs.Acts.Acting.{IsSameCopy}
+use Rattle.opfs_store.specs.Acts.Asking.{IsHandedIn}
 use Rattle.opfs_base.specs.Blocks.{blocks}
 use Rattle.opfs_base.specs.Texts.{Text}
 use Rattle.opfs_books.specs.Laws.Books.{Fixed}
@@ -43,7 +43,7 @@ use Rattle.opfs_desk_parts.specs.declared.call.InHand.{InHand}
 use Rattle.opfs_desk_parts.specs.declared.parts.Ledger.{Ledger}
 use Rattle.opfs_desk_parts.specs.declared.parts.Pages.{Pages}
 use Rattle.opfs_desk_parts.specs.declared.parts.Parts.{Parts}
-use Rattle.opfs_acts.specs.declared.acted.Acted.{Acted}
+use Rattle.opfs_store.specs.declared.acts.acted.Acted.{Acted}
 use Rattle.opfs_machine.specs.Runs.{Call}
 use Rattle.opfs_desk_rows.specs.Copied.{CopiesAreStored, IsStoredCopy}
 use Rattle.opfs_desk_reads.proofs.Readied.{read-held}

@@ -24,7 +24,6 @@ ghost use Rattle.opfs_records.specs.Replay.Built.{Built};
 use crate::entering::enter_put;
 use crate::leaving::leave_put;
 use crate::target::Target;
-use opfs_acts::{Acted, Gift};
 use opfs_books::calls_are_spelled;
 use opfs_desk_laws::{
     blocks_go_on, calls_change_their_row, calls_leave_other_rows, trees_keep_their_blocks,
@@ -38,6 +37,7 @@ use opfs_desk_ways::take_in;
 use opfs_hist::{Pending, Refusal, Reply};
 use opfs_outside::Disk;
 use opfs_row_puts::Planned;
+use opfs_store::{Acted, Gift};
 use opfs_work::Work;
 
 // Done, or how many bytes there were.

@@ -1,7 +1,7 @@
 //! Calls that put bytes into a row.
 
 ghost use Rattle.std.specs.Prelude.{◌≡◌, ◌^◌, ◌<◌, true, [], IfOk, OnOk, OnErr};
-ghost use Rattle.opfs_acts.specs.Acting.{IsSameCopy};
+ghost use Rattle.opfs_store.specs.Acts.Acting.{IsSameCopy};
 ghost use Rattle.opfs_books.specs.Laws.Books.{Fixed};
 ghost use Rattle.opfs_books.specs.Laws.Laws.{BooksShowTheirImages};
 ghost use Rattle.opfs_desk_parts.specs.Acted.{HasActed, IsUnacted};
@@ -20,7 +20,6 @@ ghost use Rattle.opfs_state.specs.Laws.Room.{EvictionsMakeRoom};
 
 use crate::acting::enter_call;
 use crate::target::{bytes_held, spelled_out, target_of};
-use opfs_acts::Acted;
 use opfs_base::Told;
 use opfs_books::{reads_leave_the_books, the_books_show_their_images};
 use opfs_data::DataRefusal;
@@ -36,6 +35,7 @@ use opfs_laws::lengths::bridge::lengths_decide_each_ruling;
 use opfs_outside::Disk;
 use opfs_row_puts::plan_call;
 use opfs_state::laws::room::evictions_make_room;
+use opfs_store::Acted;
 use opfs_work::Work;
 use std::alloc::AllocError;
 

@@ -2,7 +2,7 @@
 
 ghost use Rattle.std.specs.Prelude.{◌≡◌, ℕ, ◌+◌, ◌/◌, ◌%◌, ◌^◌, ◌<◌, ◌≤◌, min, max, true, false, List, length, slice_index};
 ghost use Rattle.opfs_base.specs.Blocks.{blocks};
-ghost use Rattle.opfs_copies.specs.Copies.{IsPaged};
+ghost use Rattle.opfs_store.specs.Copies.Copies.{IsPaged};
 ghost use Rattle.opfs_desk_puts.specs.Leaving.{IsWritten, IsCut};
 ghost use Rattle.opfs_machine.specs.Rulings.{reserve_for};
 ghost use Rattle.opfs_pages.specs.Copies.{IsCopy, IsPageOf};

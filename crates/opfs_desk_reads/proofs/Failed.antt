@@ -1,6 +1,6 @@
 -- A call in which the disk failed before its own change leaves its agent's rows.
 use Rattle.std.proofs.Common.{◌≡◌, List, [], fold, length, sym, ap, subst, ◌∙◌, append-nil}
-use Rattle.opfs_acts.specs.Acting.{told_entry}
+use Rattle.opfs_store.specs.Acts.Acting.{told_entry}
 use Rattle.opfs_base.specs.Texts.{Text}
 use Rattle.opfs_books.specs.Laws.Books.{Fixed}
 use Rattle.opfs_books.specs.Laws.Laws.{failed}

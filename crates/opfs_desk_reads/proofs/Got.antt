@@ -2,9 +2,9 @@
 use Rattle.std.proofs.Common.{◌≡◌, ℕ, suc, zero, is_some, true, false, List, [], ◌∷◌, ◌++◌, fold, length, replicate, option_map, Option, Some, None, refl, sym, ap, ◌∙◌, subst, arith}
 use Rattle.std.proofs.lemmas.Bool.{false≢true}
 use Rattle.std.specs.Prelude.{IsTrue, slice_get}
-use Rattle.opfs_acts.specs.Acting.{told_entry, row_left, IsActed, StandsForLeft, unread_gift}
-use Rattle.opfs_acts.specs.declared.acted.Acted.{Acted}
-use Rattle.opfs_acts.specs.declared.acted.Gift.TheVariants as gift
+use Rattle.opfs_store.specs.Acts.Acting.{told_entry, row_left, IsActed, StandsForLeft, unread_gift}
+use Rattle.opfs_store.specs.declared.acts.acted.Acted.{Acted}
+use Rattle.opfs_store.specs.declared.acts.acted.Gift.TheVariants as gift
 use Rattle.opfs_base.specs.Places.{Place}
 use Rattle.opfs_base.specs.Texts.{Text}
 use Rattle.opfs_books.specs.Laws.Books.{Fixed}

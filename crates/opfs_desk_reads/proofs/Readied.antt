@@ -1,8 +1,8 @@
 -- Parts whose disk was read.
 use Rattle.std.specs.Vec.{vec_capacity}
 use Rattle.std.proofs.Common.{◌≡◌, ◌⊎◌, ℕ, ◌-◌, ◌^◌, ◌≤◌, Bool, if◌then◌else◌, List, [], ◌++◌, refl, sym, ap, subst, inr, arith}
-use Rattle.opfs_acts.specs.Acting.{IsActed, IsGift}
-use Rattle.opfs_acts.specs.declared.acted.Acted.{Acted}
+use Rattle.opfs_store.specs.Acts.Acting.{IsActed, IsGift}
+use Rattle.opfs_store.specs.declared.acts.acted.Acted.{Acted}
 use Rattle.opfs_base.specs.Texts.{Text}
 use Rattle.opfs_books.specs.Laws.Books.{Fixed, AreBooksAt}
 use Rattle.opfs_books.specs.Laws.Laws.{BooksShowTheirImages, ReadsKeepTheBooks, told}

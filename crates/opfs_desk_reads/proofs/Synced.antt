@@ -3,15 +3,15 @@ use Rattle.std.proofs.Common.{◌≡◌, ◌≢◌, ℕ, ◌-◌, ◌*◌, ◌<�
 use Rattle.std.proofs.lemmas.Bool.{false≢true, lt-ltb}
 use Rattle.std.proofs.lemmas.List.{length-take, length-drop}
 use Rattle.std.specs.Prelude.{IsTrue}
-use Rattle.opfs_acts.specs.Acting.{told_entry, row_left, IsActed, StandsForLeft, unread_gift}
-use Rattle.opfs_acts.specs.Asking.{IsHandedIn}
-use Rattle.opfs_acts.specs.declared.acted.Acted.{Acted}
-use Rattle.opfs_acts.specs.declared.acted.Gift.TheVariants as gift
+use Rattle.opfs_store.specs.Acts.Acting.{told_entry, row_left, IsActed, StandsForLeft, unread_gift}
+use Rattle.opfs_store.specs.Acts.Asking.{IsHandedIn}
+use Rattle.opfs_store.specs.declared.acts.acted.Acted.{Acted}
+use Rattle.opfs_store.specs.declared.acts.acted.Gift.TheVariants as gift
 use Rattle.opfs_base.specs.Texts.{Text}
 use Rattle.opfs_books.specs.Laws.Books.{Fixed}
 use Rattle.opfs_books.proofs.laws.Told.{next-state, next-reply}
 use Rattle.opfs_data.specs.Rows.{IsOther, pages_at}
-use Rattle.opfs_copies.specs.Copies.{StandsFor, IsPaged}
+use Rattle.opfs_store.specs.Copies.Copies.{StandsFor, IsPaged}
 use Rattle.opfs_desk_laws.specs.Copies.{HasLeftRow, IsHandleCopy}
 use Rattle.opfs_desk_laws.specs.Handles.{AreHandlesWhole, HandlesStayWhole, handle_on}
 use Rattle.opfs_desk_laws.specs.Laid.{AreLaid}

@@ -1,7 +1,7 @@
 -- Access handles stay whole through pending calls, and whatever bytes reads gave.
 use Rattle.std.proofs.Common.{◌≡◌, ℕ, Bool, true, false, not, ◌&&◌, ◌==◌, List, [], ◌∷◌, ◌++◌, map, Some, refl, sym, ap, subst, ◌∙◌}
 use Rattle.std.proofs.lemmas.List.{append_assoc, map-append}
-use Rattle.opfs_acts.specs.Acting.{told_entry}
+use Rattle.opfs_store.specs.Acts.Acting.{told_entry}
 use Rattle.opfs_base.specs.Texts.{Text}
 use Rattle.opfs_desk_laws.specs.Handles.{HandlesStayWhole, AreHandlesWhole, handle_on}
 use Rattle.opfs_desk_reads.specs.Handles.{HandlesGoOn}

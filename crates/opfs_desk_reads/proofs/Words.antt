@@ -2,15 +2,15 @@
 use Rattle.std.proofs.Common.{◌≡◌, ◌≢◌, ℕ, ◌-◌, zero, suc, true, false, [], ◌∷◌, List, length, slice_set, Option, Some, None, Ok, refl, sym, ap, ◌∙◌, arith}
 use Rattle.std.proofs.lemmas.Bool.{false≢true}
 use Rattle.std.specs.Prelude.{IsTrue}
-use Rattle.opfs_acts.specs.Acting.{brings_position, gift_of, row_left}
-use Rattle.opfs_acts.specs.declared.acted.Gift.TheVariants as gift
+use Rattle.opfs_store.specs.Acts.Acting.{brings_position, gift_of, row_left}
+use Rattle.opfs_store.specs.declared.acts.acted.Gift.TheVariants as gift
 use Rattle.opfs_base.specs.Places.{Place}
 use Rattle.opfs_base.specs.Texts.{Text}
 use Rattle.opfs_books.specs.Stored.Spelled.{spelled_by}
 use Rattle.opfs_state_rows.specs.Changes.Allowed.{IsSized}
 use Rattle.opfs_state_rows.specs.Changes.Asking.{made_at}
 use Rattle.opfs_state_rows.specs.Changes.Changed.{tree_by}
-use Rattle.opfs_copies.specs.Copies.{IsCopyOf}
+use Rattle.opfs_store.specs.Copies.Copies.{IsCopyOf}
 use Rattle.opfs_desk_laws.specs.Hands.{row_in_hand}
 use Rattle.opfs_desk_laws.specs.RowsAfter.{IsDone}
 use Rattle.opfs_desk_laws.proofs.Own.{own-changed}

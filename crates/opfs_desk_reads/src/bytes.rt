@@ -1,7 +1,7 @@
 //! The bytes of an open row that a call reads, and the page of the cursor behind them.
 
 ghost use Rattle.std.specs.Prelude.{◌≡◌, ℕ, ◌-◌, ◌/◌, ◌%◌, ◌<◌, ◌≤◌, min, true, List, length, slice_index, IfOk, OnOk, OnErr, IsErrOf};
-ghost use Rattle.opfs_copies.specs.Copies.{IsPaged};
+ghost use Rattle.opfs_store.specs.Copies.Copies.{IsPaged};
 ghost use Rattle.opfs_data.specs.Calls.{Reads};
 ghost use Rattle.opfs_data.specs.Pages.{page_of, LiesIn, IsDataPart};
 ghost use Rattle.opfs_data.specs.Rows.{pages_at, page_at as swap_page};

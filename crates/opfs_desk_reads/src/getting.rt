@@ -1,7 +1,7 @@
 //! getFile: the present bytes of a file.
 
 ghost use Rattle.std.specs.Prelude.{◌≡◌, ℕ, true, [], List, Some, IfOk, OnOk, OnErr, IsErrOf};
-ghost use Rattle.opfs_acts.specs.Acting.{IsSameCopy};
+ghost use Rattle.opfs_store.specs.Acts.Acting.{IsSameCopy};
 ghost use Rattle.opfs_books.specs.Laws.Books.{Fixed};
 ghost use Rattle.opfs_books.specs.Laws.Commits.{StateLaws};
 ghost use Rattle.opfs_books.specs.Laws.Laws.{BooksShowTheirImages};
@@ -30,7 +30,6 @@ ghost use Rattle.opfs_tree.specs.declared.row.FileRow.{FileRow};
 
 use crate::failing::fail_reading;
 use crate::files::read_file;
-use opfs_acts::{Acted, Gift};
 use opfs_base::Bytes;
 use opfs_books::{reads_leave_the_books, state_laws, the_books_show_their_images};
 use opfs_data::{DataRefusal, Swap};
@@ -46,6 +45,7 @@ use opfs_journal::Journal;
 use opfs_laws::lengths::bridge::{lengths_follow_each_call, local_calls_are_known_by_their_word};
 use opfs_outside::Disk;
 use opfs_state::State;
+use opfs_store::{Acted, Gift};
 use opfs_work::Work;
 use std::alloc::{AllocError, Global};
 

@@ -1,7 +1,7 @@
 //! A read of an access handle for which pages are elsewhere.
 
 ghost use Rattle.std.specs.Prelude.{◌≡◌, ◌/◌, ◌%◌, ◌≤◌, ℕ, true, [], length, slice_index, IfOk, OnOk, OnErr};
-ghost use Rattle.opfs_acts.specs.Acting.{IsSameCopy};
+ghost use Rattle.opfs_store.specs.Acts.Acting.{IsSameCopy};
 ghost use Rattle.opfs_books.specs.Laws.Books.{Fixed};
 ghost use Rattle.opfs_books.specs.Laws.Laws.{BooksShowTheirImages, BooksKeepTheState, ReadsKeepTheBooks};
 ghost use Rattle.opfs_desk_laws.specs.Handles.{AreHandlesWhole, HandlesStayWhole};
@@ -24,7 +24,6 @@ ghost use Rattle.opfs_records.specs.Replay.Built.{Built};
 
 use crate::bytes::{RowRead, leave_cursor, read_open_row};
 use crate::failing::fail_reading;
-use opfs_acts::{Acted, Gift};
 use opfs_books::{reads_leave_the_books, the_books_show_their_images, the_state_is_kept};
 use opfs_data::DataRefusal;
 use opfs_desk_laws::{
@@ -40,6 +39,7 @@ use opfs_hist::{Op, Pending, Refusal, Reply};
 use opfs_laws::going_on::legal_histories_go_on;
 use opfs_machine::Sizes;
 use opfs_outside::Disk;
+use opfs_store::{Acted, Gift};
 use opfs_work::Work;
 use std::alloc::AllocError;
 

@@ -12,7 +12,7 @@ use Rattle.opfs_base.specs.declared.locator.Locator.{Locator}
 use Rattle.opfs_books.specs.Laws.Books.{Fixed}
 use Rattle.opfs_books.specs.Laws.Commits.{StateLaws}
 use Rattle.opfs_books.specs.Laws.Laws.{BooksKeepTheState}
-use Rattle.opfs_copies.specs.Copies.{StandsFor, IsPaged}
+use Rattle.opfs_store.specs.Copies.Copies.{StandsFor, IsPaged}
 use Rattle.opfs_desk_laws.specs.Copies.{HasLeftRow, IsStreamCopy, IsHandleCopy}
 use Rattle.opfs_desk_laws.specs.Laws.{TreesKeepBlocks}
 use Rattle.opfs_desk_laws.specs.RowsAfter.{CallsChangeTheirRow}

@@ -1,7 +1,7 @@
 -- What the store has of a working copy that a call hands in, over parts that are kept. This project's own.
 use Rattle.std.specs.Prelude.{◌≡◌, ◌≢◌, ℕ, ◌++◌, true, List, is_some, Some}
 use Rattle.opfs_books.specs.Laws.Books.{Fixed}
-use Rattle.opfs_copies.specs.Copies.{StandsFor}
+use Rattle.opfs_store.specs.Copies.Copies.{StandsFor}
 use Rattle.opfs_data.specs.Rows.{row_of, pages_at}
 use Rattle.opfs_hist.specs.declared.entry.Entry.{Entry}
 use Rattle.opfs_laws.specs.Histories.Unread.{ArePendingFor}

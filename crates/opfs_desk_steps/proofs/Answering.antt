@@ -1,7 +1,7 @@
 -- Once the units of a call that is ready are cleared, its entry may come.
 use Rattle.std.proofs.Common.{◌≡◌, ℕ, ◌==◌, ◌&&◌, not, List, [], ◌∷◌, ◌++◌, map, fold, length, refl, sym, ap, ◌∙◌, subst, inl, arith}
 use Rattle.std.specs.Prelude.{Ok, IsTrue}
-use Rattle.opfs_acts.specs.Acting.{told_entry}
+use Rattle.opfs_store.specs.Acts.Acting.{told_entry}
 use Rattle.opfs_base.specs.Texts.{Text}
 use Rattle.opfs_books.specs.Laws.Books.{Fixed, calls_of, is_eviction, IsNext}
 use Rattle.opfs_books.proofs.laws.Counting.{count-append, count-cons}

@@ -1,8 +1,8 @@
 -- A call's entry was added: what it leaves of the history, and what a stop within it may leave. This project's own.
 use Rattle.std.specs.Prelude.{◌≡◌, ℕ, List, [], ◌∷◌, ◌++◌, map, length}
-use Rattle.opfs_acts.specs.Acting.{IsActed, IsSameCopy, told_entry}
-use Rattle.opfs_acts.specs.declared.acted.Acted.{Acted}
-use Rattle.opfs_acts.specs.declared.acted.Gift.TheVariants as gift
+use Rattle.opfs_store.specs.Acts.Acting.{IsActed, IsSameCopy, told_entry}
+use Rattle.opfs_store.specs.declared.acts.acted.Acted.{Acted}
+use Rattle.opfs_store.specs.declared.acts.acted.Gift.TheVariants as gift
 use Rattle.opfs_base.specs.Texts.{Text}
 use Rattle.opfs_books.specs.Laws.Books.{Fixed, IsNext}
 use Rattle.opfs_hist.specs.declared.entry.Entry.{Entry}

@@ -1,6 +1,6 @@
 -- A call that is ready, and whose units are cleared: its entry may come. This project's own.
 use Rattle.std.specs.Prelude.{◌≡◌, false, List, ◌∷◌, ◌++◌, map, IsTrue}
-use Rattle.opfs_acts.specs.Acting.{told_entry}
+use Rattle.opfs_store.specs.Acts.Acting.{told_entry}
 use Rattle.opfs_base.specs.Texts.{Text}
 use Rattle.opfs_books.specs.Laws.Books.{Fixed}
 use Rattle.opfs_state_rows.specs.Changes.Allowed.{IsSized}

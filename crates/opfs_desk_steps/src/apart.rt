@@ -1,7 +1,7 @@
 //! A call with its answer, taken apart.
 
 ghost use Rattle.std.specs.Prelude.{◌≡◌};
-ghost use Rattle.opfs_acts.specs.Acting.{told_entry};
+ghost use Rattle.opfs_store.specs.Acts.Acting.{told_entry};
 ghost use Rattle.opfs_desk_parts.specs.Seen.{call_in};
 
 use opfs_books::Last;

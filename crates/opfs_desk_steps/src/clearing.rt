@@ -1,7 +1,7 @@
 //! The way of a call: the doubt is ended, and its units are cleared.
 
 ghost use Rattle.std.specs.Prelude.{◌≡◌, ◌++◌, false, map, fold, IfOk, OnOk, OnErr};
-ghost use Rattle.opfs_acts.specs.Acting.{told_entry};
+ghost use Rattle.opfs_store.specs.Acts.Acting.{told_entry};
 ghost use Rattle.opfs_books.specs.Laws.Books.{Fixed};
 ghost use Rattle.opfs_books.specs.Laws.Laws.{LeavesPages};
 ghost use Rattle.opfs_desk_parts.specs.Acted.{AreCleared, HasFailed};

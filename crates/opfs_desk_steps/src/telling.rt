@@ -1,7 +1,7 @@
 //! The entering of a call that stores nothing.
 
 ghost use Rattle.std.specs.Prelude.{◌≡◌, false, List, None};
-ghost use Rattle.opfs_acts.specs.Acting.{told_entry};
+ghost use Rattle.opfs_store.specs.Acts.Acting.{told_entry};
 ghost use Rattle.opfs_base.specs.Texts.{Text};
 ghost use Rattle.opfs_books.specs.Stored.Spelled.{spelled_by};
 ghost use Rattle.opfs_books.specs.Laws.Books.{Fixed};

@@ -2,8 +2,8 @@
 use Rattle.std.proofs.Common.{◌≡◌, ◌≢◌, ◌⊎◌, ℕ, ◌+◌, ◌*◌, ◌<◌, ◌||◌, nat_eq, zero, suc, slice_index, slice_index_or, Bool, true, false, is_some, List, [], ◌∷◌, ◌++◌, length, unwrap_or, option_map, Option, Some, None, refl, sym, ap, subst, ◌∙◌, inl, inr, append-nil, arith}
 use Rattle.std.proofs.lemmas.Bool.{cases_Bool, eq-eqb, false≢true}
 use Rattle.std.specs.Prelude.{IsTrue}
-use Rattle.opfs_acts.specs.Acting.{row_left, told_entry, unread_gift, StandsForLeft}
-use Rattle.opfs_acts.specs.declared.acted.Gift.TheVariants as gift
+use Rattle.opfs_store.specs.Acts.Acting.{row_left, told_entry, unread_gift, StandsForLeft}
+use Rattle.opfs_store.specs.declared.acts.acted.Gift.TheVariants as gift
 use Rattle.opfs_base.specs.Blocks.{blocks}
 use Rattle.opfs_base.specs.Places.{Place}
 use Rattle.opfs_base.specs.Texts.{Text}
@@ -16,7 +16,7 @@ use Rattle.opfs_books.specs.Laws.Laws.{told, BooksKeepTheState, ShowsTold}
 use Rattle.opfs_books.proofs.laws.Told.{next-reply, next-state}
 use Rattle.opfs_codec.specs.declared.change.Change.{Change as Spelled}
 use Rattle.opfs_codec.specs.declared.change.Change.TheVariants.{Content}
-use Rattle.opfs_copies.specs.Copies.{IsCopyOf, StandsFor}
+use Rattle.opfs_store.specs.Copies.Copies.{IsCopyOf, StandsFor}
 use Rattle.opfs_data.specs.Pages.{blank, page_of}
 use Rattle.opfs_data.specs.Rows.{no_row, page_at, pages_at, row_of}
 use Rattle.opfs_desk_laws.specs.Laid.{AreLaid}

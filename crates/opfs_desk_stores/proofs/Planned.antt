@@ -6,7 +6,7 @@ use Rattle.opfs_base.specs.Texts.{Text}
 use Rattle.opfs_books.specs.Laws.Books.{Fixed}
 use Rattle.opfs_books.specs.Laws.Laws.{ReadsKeepTheBooks}
 use Rattle.opfs_books.specs.declared.books.Books.{Books}
-use Rattle.opfs_copies.specs.Copies.{IsPaged}
+use Rattle.opfs_store.specs.Copies.Copies.{IsPaged}
 use Rattle.opfs_data.specs.Calls.{Reads}
 use Rattle.opfs_data.specs.declared.page.Page.{Page}
 use Rattle.opfs_data.specs.Pages.{blank, page_of}

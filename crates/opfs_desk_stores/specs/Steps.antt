@@ -6,7 +6,7 @@ use Rattle.opfs_base.specs.Texts.{Text}
 use Rattle.opfs_base.specs.declared.extents.Extent.{Extent}
 use Rattle.opfs_blocks.specs.Sets.{blocks_of, marked}
 use Rattle.opfs_books.specs.Laws.Books.{Fixed}
-use Rattle.opfs_copies.specs.Copies.{IsPaged}
+use Rattle.opfs_store.specs.Copies.Copies.{IsPaged}
 use Rattle.opfs_data.specs.Rows.{row_of, kept_count, OthersStay}
 use Rattle.opfs_data.specs.Writes.{HasBytes, WriteList}
 use Rattle.opfs_hist.specs.declared.entry.Entry.{Entry}

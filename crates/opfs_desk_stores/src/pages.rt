@@ -1,7 +1,7 @@
 //! A call that stores a row's content from its pages.
 
 ghost use Rattle.std.specs.Prelude.{◌≡◌, ◌+◌, [], true, length, IfOk, OnOk, OnErr};
-ghost use Rattle.opfs_acts.specs.Acting.{IsSameCopy};
+ghost use Rattle.opfs_store.specs.Acts.Acting.{IsSameCopy};
 ghost use Rattle.opfs_books.specs.Stored.Laws.{CallsAreSpelled, CallsMayFail};
 ghost use Rattle.opfs_books.specs.Laws.Books.{Fixed};
 ghost use Rattle.opfs_books.specs.Laws.Commits.{StateLaws};
@@ -28,7 +28,6 @@ ghost use Rattle.opfs_machine.specs.Replies.{row_named};
 ghost use Rattle.opfs_records.specs.Replay.Built.{Built};
 
 use crate::leaving::leave_row;
-use opfs_acts::{Acted, Gift};
 use opfs_books::{
     calls_are_spelled, calls_may_fail, reads_leave_the_books, state_laws,
     the_books_show_their_images, the_state_is_kept,
@@ -55,6 +54,7 @@ use opfs_laws::lengths::bridge::{
 };
 use opfs_laws::owned::a_call_moves_its_agent;
 use opfs_outside::Disk;
+use opfs_store::{Acted, Gift};
 use opfs_work::Work;
 use std::alloc::AllocError;
 

@@ -1,7 +1,7 @@
 //! The calls that store a row's content.
 
 ghost use Rattle.std.specs.Prelude.{◌≡◌, [], true, IfOk, OnOk, OnErr};
-ghost use Rattle.opfs_acts.specs.Acting.{IsSameCopy};
+ghost use Rattle.opfs_store.specs.Acts.Acting.{IsSameCopy};
 ghost use Rattle.opfs_books.specs.Laws.Books.{Fixed};
 ghost use Rattle.opfs_books.specs.Laws.Commits.{StateLaws};
 ghost use Rattle.opfs_desk_contents.specs.Words.{stores_row};
@@ -17,7 +17,6 @@ ghost use Rattle.opfs_laws.specs.Lengths.Bridge.{LengthsFollowEachCall, LocalCal
 ghost use Rattle.opfs_records.specs.Replay.Built.{Built};
 
 use crate::pages::act_pages;
-use opfs_acts::Acted;
 use opfs_books::state_laws;
 use opfs_desk_again::act_again;
 use opfs_desk_parts::{InHand, Parts};
@@ -26,6 +25,7 @@ use opfs_hist::Pending;
 use opfs_laws::going_on::legal_histories_go_on;
 use opfs_laws::lengths::bridge::{lengths_follow_each_call, local_calls_are_known_by_their_word};
 use opfs_outside::Disk;
+use opfs_store::Acted;
 use opfs_work::Work;
 use std::alloc::AllocError;
 

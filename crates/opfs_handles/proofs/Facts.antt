@@ -11,8 +11,8 @@ use Rattle.opfs_hist.specs.declared.op.Mode.{Mode}
 use Rattle.opfs_machine.specs.declared.state.State.{State}
 use Rattle.opfs_machine.specs.Replies.{bytes_at}
 use Rattle.opfs_machine.specs.Histories.{may_enter, is_own, is_handle, is_open_handle}
-use Rattle.opfs_acts.specs.Asking.{HasSmallNumbers, IsHandedIn, IsSmall, IsSmallData, IsSmallPlace, is_open_own}
-use Rattle.opfs_copies.specs.Copies.{IsCopyOf, StandsFor}
+use Rattle.opfs_store.specs.Acts.Asking.{HasSmallNumbers, IsHandedIn, IsSmall, IsSmallData, IsSmallPlace, is_open_own}
+use Rattle.opfs_store.specs.Copies.Copies.{IsCopyOf, StandsFor}
 use Rattle.opfs_turns.specs.Agents.{AgentSeen, known, state_of, own_row}
 use Rattle.opfs_turns.specs.Calls.{MayAsk}
 use Rattle.opfs_calls.specs.Rows.{HasHandle, IsHandleOn, HandleSeen}

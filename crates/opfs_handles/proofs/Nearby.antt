@@ -27,7 +27,7 @@ use Rattle.opfs_machine.specs.Sums.{no_need, reserve_of}
 use Rattle.opfs_splice.specs.Splicing.{window}
 use Rattle.opfs_laws.specs.Histories.Unread.{unread}
 use Rattle.opfs_laws.proofs.Numbers.{number-of}
-use Rattle.opfs_copies.specs.Copies.{IsCopyOf}
+use Rattle.opfs_store.specs.Copies.Copies.{IsCopyOf}
 use Rattle.opfs_laws.specs.Steady.Steady.{row_bytes, open_bytes}
 use Rattle.opfs_turns.specs.Agents.{AgentSeen, IsAgent, state_of}
 use Rattle.opfs_turns.specs.Calls.{IsKept, IsLocal}

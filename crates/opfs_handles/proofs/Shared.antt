@@ -28,9 +28,9 @@ use Rattle.opfs_machine.specs.Steps.{is_refusal}
 use Rattle.opfs_machine.specs.Sums.{reserve_of}
 use Rattle.opfs_laws.proofs.Numbers.{IsNumber}
 use Rattle.opfs_laws.specs.Leaving.{asks_nobody}
-use Rattle.opfs_acts.specs.declared.acted.Gift.{Gift}
-use Rattle.opfs_acts.specs.Acting.{IsSameCopy, StandsForLeft, row_left}
-use Rattle.opfs_copies.specs.Copies.{StandsFor}
+use Rattle.opfs_store.specs.declared.acts.acted.Gift.{Gift}
+use Rattle.opfs_store.specs.Acts.Acting.{IsSameCopy, StandsForLeft, row_left}
+use Rattle.opfs_store.specs.Copies.Copies.{StandsFor}
 use Rattle.opfs_turns.specs.Agents.{AgentSeen, IsAgent, known, own_row}
 use Rattle.opfs_turns.specs.Calls.{IsEntered}
 use Rattle.opfs_calls.specs.Answers.{HasAnswer, IsAnsweredBy, IsLength, IsRead, Shared}

@@ -8,11 +8,11 @@ ghost use Rattle.opfs_calls.specs.Answers.{Shared, IsOwn};
 ghost use Rattle.opfs_calls.specs.Rows.{HasHandle};
 
 use crate::handle::SyncHandle;
-use opfs_acts::Store;
 use opfs_base::Locator;
 use opfs_calls::{Stop, ask_row};
 use opfs_hall::Hall;
 use opfs_hist::{Mode, Op, Room};
+use opfs_store::Store;
 use opfs_turns::Turns;
 use opfs_work::Work;
 use std::alloc::Global;

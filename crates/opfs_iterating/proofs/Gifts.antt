@@ -2,9 +2,9 @@
 use Rattle.std.proofs.Common.{◌≡◌, ℕ, ◌++◌, ◌||◌, Bool, true, false, not, cond, List, [], ◌∷◌, fold, Option, Some, refl, sym, ap, ◌∙◌, subst, inl, inr}
 use Rattle.std.proofs.lemmas.Bool.{cases_Bool}
 use Rattle.std.specs.List.{list_any}
-use Rattle.opfs_acts.specs.Acting.{IsActed, IsGift, gift_of, told_entry, unread_gift}
-use Rattle.opfs_acts.specs.Asking.{MayAct, given_by}
-use Rattle.opfs_acts.specs.declared.acted.Gift.TheVariants as gift
+use Rattle.opfs_store.specs.Acts.Acting.{IsActed, IsGift, gift_of, told_entry, unread_gift}
+use Rattle.opfs_store.specs.Acts.Asking.{MayAct, given_by}
+use Rattle.opfs_store.specs.declared.acts.acted.Gift.TheVariants as gift
 use Rattle.opfs_base.specs.Places.{child_of, place_of}
 use Rattle.opfs_base.specs.Texts.{Text, same_text}
 use Rattle.opfs_base.specs.declared.locator.Kind.{Kind}

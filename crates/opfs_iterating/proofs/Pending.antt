@@ -2,8 +2,8 @@
 use Rattle.std.proofs.Common.{◌≡◌, ◌≢◌, ℕ, ◌++◌, true, false, List, [], ◌∷◌, append_assoc, fold, map, Option, Some, None, refl, sym, ap, ◌∙◌, subst}
 use Rattle.std.proofs.lemmas.Bool.{false≢true}
 use Rattle.std.proofs.lemmas.Grind.{fold-append}
-use Rattle.opfs_acts.specs.Acting.{IsActed, told_entry}
-use Rattle.opfs_acts.specs.Asking.{MayAct}
+use Rattle.opfs_store.specs.Acts.Acting.{IsActed, told_entry}
+use Rattle.opfs_store.specs.Acts.Asking.{MayAct}
 use Rattle.opfs_base.specs.Texts.{Text}
 use Rattle.opfs_hist.specs.declared.entry.Entry.{Entry}
 use Rattle.opfs_hist.specs.declared.op.Op.{Op}

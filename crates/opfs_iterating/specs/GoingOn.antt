@@ -1,8 +1,8 @@
 -- How long it is known what an iterator has given. This project's own.
 use Rattle.std.specs.Prelude.{◌≡◌, ◌⊎◌, ◌++◌, false, List, Some}
-use Rattle.opfs_acts.specs.Acting.{IsActed, IsGift}
-use Rattle.opfs_acts.specs.Asking.{MayAct}
-use Rattle.opfs_acts.specs.declared.acted.Gift.TheVariants as gift
+use Rattle.opfs_store.specs.Acts.Acting.{IsActed, IsGift}
+use Rattle.opfs_store.specs.Acts.Asking.{MayAct}
+use Rattle.opfs_store.specs.declared.acts.acted.Gift.TheVariants as gift
 use Rattle.opfs_base.specs.Texts.{Text}
 use Rattle.opfs_base.specs.declared.locator.Locator.{Locator}
 use Rattle.opfs_data.specs.Rows.{IsOther}

@@ -4,8 +4,8 @@ ghost use Rattle.std.specs.Prelude.{◌≡◌, ◌⊎◌, [], true, false, IfSom
 ghost use Rattle.opfs_iterating.specs.Below.{AreBelow};
 ghost use Rattle.opfs_iterating.specs.Known.{AreOthers, AreWith, IsFollowed, IsReachedBy, last_of};
 
-use opfs_acts::Gift;
 use opfs_base::Name;
+use opfs_store::Gift;
 use std::alloc::Global;
 use std::collections::BTreeMap;
 use std::marker::Model;

@@ -13,13 +13,13 @@ ghost use Rattle.opfs_kv.specs.Seen.{HasPlaces, Serves, Stands, map_in, seen};
 
 use crate::notes::Notes;
 use crate::storing::cut;
-use opfs_acts::Store;
 use opfs_agent::Agent;
 use opfs_base::{Bytes, Data};
 use opfs_calls::Stop;
 use opfs_hall::Hall;
 use opfs_handles::SyncHandle;
 use opfs_kv_words::{Index, Packed, pack};
+use opfs_store::Store;
 use opfs_sync_files::{read, write};
 use std::alloc::{AllocError, Global};
 use std::sync::Wait;

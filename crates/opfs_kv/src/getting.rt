@@ -9,12 +9,12 @@ ghost use Rattle.opfs_kv.specs.Seen.{HasPlaces, Serves, Stands, map_in, seen};
 
 use crate::notes::Notes;
 use crate::stop::KvStop;
-use opfs_acts::Store;
 use opfs_agent::Agent;
 use opfs_base::Bytes;
 use opfs_hall::Hall;
 use opfs_handles::SyncHandle;
 use opfs_kv_words::Place;
+use opfs_store::Store;
 use opfs_sync_files::read;
 use std::sync::Wait;
 

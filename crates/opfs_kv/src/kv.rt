@@ -19,12 +19,12 @@ use crate::notes::Notes;
 use crate::opening::read_notes;
 use crate::stop::KvStop;
 use crate::{changing, compacting, getting, storing};
-use opfs_acts::Store;
 use opfs_agent::Agent;
 use opfs_base::Bytes;
 use opfs_calls::Stop;
 use opfs_hall::Hall;
 use opfs_handles::{ClosedSync, SyncHandle};
+use opfs_store::Store;
 use std::marker::Model;
 use std::sync::Wait;
 

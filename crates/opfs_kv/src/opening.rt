@@ -14,12 +14,12 @@ ghost use Rattle.opfs_kv.specs.Seen.{HasPlaces};
 
 use crate::notes::Notes;
 use crate::stop::KvStop;
-use opfs_acts::Store;
 use opfs_agent::Agent;
 use opfs_calls::Stop;
 use opfs_hall::Hall;
 use opfs_handles::SyncHandle;
 use opfs_kv_words::{Index, Miss, scan};
+use opfs_store::Store;
 use opfs_sync_files::{read, size};
 use std::alloc::Global;
 use std::sync::Wait;

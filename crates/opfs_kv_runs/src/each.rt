@@ -7,11 +7,11 @@ ghost use Rattle.opfs_kv_runs.specs.Runs.{IsOp, IsRun};
 ghost use Rattle.opfs_kv_runs.specs.declared.commands.KvOp.TheVariants as op;
 
 use crate::commands::{KvOp, KvReply};
-use opfs_acts::Store;
 use opfs_agent::Agent;
 use opfs_base::Bytes;
 use opfs_hall::Hall;
 use opfs_kv::Kv;
+use opfs_store::Store;
 use std::sync::Wait;
 
 // What a get answers.

@@ -9,10 +9,10 @@ ghost use Rattle.opfs_kv_runs.specs.Stops.{LeavesFronts};
 
 use crate::commands::{KvOp, KvReplies};
 use crate::each::run_one;
-use opfs_acts::Store;
 use opfs_agent::Agent;
 use opfs_hall::Hall;
 use opfs_kv::Kv;
+use opfs_store::Store;
 use std::alloc::AllocError;
 use std::sync::Wait;
 

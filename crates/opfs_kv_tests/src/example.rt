@@ -6,7 +6,6 @@ ghost use Rattle.opfs_desk.specs.Seen.{entries_of};
 ghost use Rattle.opfs_hall.specs.Seen.{AreNew, new_pass};
 ghost use Rattle.opfs_kv_tests.specs.Ready.{Holds, IsBegun, IsOfAgent, IsOneAgent, IsReady};
 
-use opfs_acts::Store;
 use opfs_agent::Agent;
 use opfs_base::{Key, Locator, Text};
 use opfs_calls::Stop;
@@ -18,6 +17,7 @@ use opfs_image::{Geometry, format, recover};
 use opfs_memory::RamDisk;
 use opfs_outside::Disk;
 use opfs_register::Who;
+use opfs_store::Store;
 use opfs_sync_files::a_resting_agent_may_end;
 use std::alloc::{AllocError, Global};
 use std::sync::Wait;

@@ -1,7 +1,7 @@
 //! One agent that comes to a store over a disk, uses a file of it, and goes: what it found, and the disk.
 
 ghost use Rattle.std.specs.Prelude.{◌≡◌, ◌≤◌, ◌∷◌, [], All, length, true, IfOk, OnErr};
-ghost use Rattle.opfs_acts.specs.Asking.{IsSmallData};
+ghost use Rattle.opfs_store.specs.Acts.Asking.{IsSmallData};
 ghost use Rattle.opfs_hall.specs.Seen.{new_pass};
 ghost use Rattle.opfs_kv_runs.specs.Runs.{IsOp};
 ghost use Rattle.opfs_kv_tests.specs.Ready.{Holds, HoldsKv, IsBegun, IsReady};
@@ -9,7 +9,6 @@ ghost use Rattle.opfs_kv_words.specs.Records.{IsKey, IsValue};
 
 use crate::example::{Session, begin, desk_over, discard, end, open_file, origin};
 use crate::kvs::{close_kv, give_up, open_kv, put_and_get, take_out};
-use opfs_acts::Store;
 use opfs_agent::Agent;
 use opfs_base::{Bytes, Data};
 use opfs_calls::Stop;
@@ -19,6 +18,7 @@ use opfs_handles::SyncHandle;
 use opfs_kv::{Kv, KvStop};
 use opfs_kv_runs::{KvOp, KvReplies, kv_run};
 use opfs_outside::Disk;
+use opfs_store::Store;
 use opfs_sync_files::{close, read, write};
 use std::sync::Wait;
 

@@ -8,10 +8,10 @@ ghost use Rattle.opfs_pipe.specs.Streams.{stream_bytes, stream_offset};
 
 use crate::pieces::Target;
 use crate::writing::write;
-use opfs_acts::Store;
 use opfs_agent::Agent;
 use opfs_calls::Stop;
 use opfs_hall::Hall;
+use opfs_store::Store;
 use opfs_streams::Writable;
 use std::sync::Wait;
 

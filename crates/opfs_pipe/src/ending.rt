@@ -6,10 +6,10 @@ ghost use Rattle.opfs_turns.specs.Calls.{HasRoom};
 ghost use Rattle.opfs_pipe.specs.Sides.{Failed, IsStored};
 ghost use Rattle.opfs_pipe.specs.Streams.{stream_bytes};
 
-use opfs_acts::Store;
 use opfs_agent::Agent;
 use opfs_calls::Stop;
 use opfs_hall::Hall;
+use opfs_store::Store;
 use opfs_streams::{ClosedStream, Writable};
 use std::sync::Wait;
 

@@ -10,9 +10,9 @@ ghost use Rattle.opfs_pipe.specs.Pieces.{IsCut};
 ghost use Rattle.opfs_pipe.specs.Sides.{HasFilled, Sliced};
 
 use crate::pieces::{PIECE, Source};
-use opfs_acts::Store;
 use opfs_agent::{Agent, Snapshot};
 use opfs_calls::Stop;
+use opfs_store::Store;
 
 // Slices one piece, and pushes it into the ring, where a slot is free.
 fn push_piece<S: Store>(

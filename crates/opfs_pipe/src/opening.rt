@@ -8,11 +8,11 @@ ghost use Rattle.opfs_calls.specs.Answers.{Shared, IsOwn};
 ghost use Rattle.opfs_calls.specs.Rows.{HasStream};
 ghost use Rattle.opfs_pipe.specs.Streams.{stream_bytes, stream_offset};
 
-use opfs_acts::Store;
 use opfs_agent::Agent;
 use opfs_base::Locator;
 use opfs_calls::Stop;
 use opfs_hall::Hall;
+use opfs_store::Store;
 use opfs_streams::Writable;
 use std::sync::Wait;
 

@@ -6,11 +6,11 @@ ghost use Rattle.opfs_turns.specs.Calls.{HasRoom};
 ghost use Rattle.opfs_pipe.specs.Sides.{HasWritten};
 ghost use Rattle.opfs_pipe.specs.Streams.{stream_bytes, stream_offset};
 
-use opfs_acts::Store;
 use opfs_agent::Agent;
 use opfs_base::{Bytes, Data};
 use opfs_calls::Stop;
 use opfs_hall::Hall;
+use opfs_store::Store;
 use opfs_streams::Writable;
 use std::sync::Wait;
 

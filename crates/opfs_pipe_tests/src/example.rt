@@ -1,17 +1,17 @@
 //! How a file goes from one agent to another: the calls of a program, in their order.
 
 ghost use Rattle.std.specs.Prelude.{◌≡◌, ◌≤◌, [], IfErr, IfOk};
-ghost use Rattle.opfs_acts.specs.Asking.{IsSmall, IsSmallData};
+ghost use Rattle.opfs_store.specs.Acts.Asking.{IsSmall, IsSmallData};
 ghost use Rattle.opfs_calls.specs.Rows.{HasSnapshot, HasStream};
 ghost use Rattle.opfs_pipe.specs.Streams.{stream_bytes, stream_offset};
 ghost use Rattle.opfs_pipe_tests.specs.Ready.{Goes, HasMade, IsMine, IsReady};
 
-use opfs_acts::Store;
 use opfs_agent::{Agent, Snapshot};
 use opfs_base::{Bytes, Data, Locator, Text};
 use opfs_calls::Stop;
 use opfs_hall::Hall;
 use opfs_pipe::{open_target, pipe};
+use opfs_store::Store;
 use opfs_streams::Writable;
 use std::alloc::Global;
 use std::sync::Wait;

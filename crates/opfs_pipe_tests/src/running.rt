@@ -8,7 +8,6 @@ ghost use Rattle.opfs_image.specs.Superblock.{is_in_range};
 ghost use Rattle.opfs_books.specs.Openings.Openings.{caller_by};
 ghost use Rattle.opfs_pipe_tests.specs.Ready.{IsAgentOf, IsPassOf, Stands, asks};
 
-use opfs_acts::Store;
 use opfs_agent::Agent;
 use opfs_base::Key;
 use opfs_desk::Desk;
@@ -18,6 +17,7 @@ use opfs_image::{Geometry, format, recover};
 use opfs_memory::RamDisk;
 use opfs_outside::Disk;
 use opfs_register::Who;
+use opfs_store::Store;
 use opfs_sync_files::a_resting_agent_may_end;
 use std::alloc::{AllocError, Global};
 use std::sync::Wait;

@@ -7,12 +7,12 @@ ghost use Rattle.opfs_pipe_tests.specs.Ready.{Goes, HasMade, IsMine, IsReady, St
 use crate::example::{
     deliver, give_up, new_file, read_file, save, send, snapshot, target_of, write_file,
 };
-use opfs_acts::Store;
 use opfs_agent::Agent;
 use opfs_base::{Bytes, Data, Locator};
 use opfs_calls::Stop;
 use opfs_hall::Hall;
 use opfs_hist::Refusal;
+use opfs_store::Store;
 use opfs_streams::Writable;
 use std::sync::Wait;
 use std::thread::Threads;

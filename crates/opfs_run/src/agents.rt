@@ -4,12 +4,12 @@ ghost use Rattle.std.specs.Prelude.{◌≡◌, ◌+◌, ◌≤◌, ◌∷◌, []
 ghost use Rattle.opfs_hall.specs.Seen.{AreNew, HallSeen, new_pass};
 ghost use Rattle.opfs_run.specs.Begun.{AreBegun, MayBeginAll};
 
-use opfs_acts::Store;
 use opfs_agent::Agent;
 use opfs_base::{Key, copy_key};
 use opfs_hall::Pass;
 use opfs_hist::Room;
 use opfs_script::AgentScript;
+use opfs_store::Store;
 use std::alloc::{AllocError, Global};
 
 /// What an agent begins with, so that it takes no memory then: its key, and the room for its end.

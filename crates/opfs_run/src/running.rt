@@ -5,12 +5,12 @@ ghost use Rattle.opfs_run.specs.Begun.{AreAgentsOf};
 ghost use Rattle.opfs_script_run.specs.Stage.Runs.{EachCut, EachRuns};
 
 use crate::agents::{Starter, begin_all, starters_of};
-use opfs_acts::Store;
 use opfs_agent::Agent;
 use opfs_hall::{Hall, Pass};
 use opfs_outside::Gate;
 use opfs_runner::{close_hall, run_all};
 use opfs_script::AgentScript;
+use opfs_store::Store;
 use std::sync::Wait;
 use std::thread::Threads;
 

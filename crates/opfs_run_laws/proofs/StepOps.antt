@@ -9,7 +9,7 @@ use Rattle.opfs_hist.specs.declared.op.Op.TheVariants as op
 use Rattle.opfs_hist.specs.declared.op.Word.{Word}
 use Rattle.opfs_hist.specs.declared.op.Word.TheVariants as word
 use Rattle.opfs_machine.specs.Histories.{is_of_origin}
-use Rattle.opfs_acts.specs.Asking.{HasSmallNumbers}
+use Rattle.opfs_store.specs.Acts.Asking.{HasSmallNumbers}
 use Rattle.opfs_script_run.specs.declared.runs.hand.Hand.{Hand}
 use Rattle.opfs_script_run.specs.declared.runs.hand.Named.{Named}
 use Rattle.opfs_script_run.specs.declared.runs.hand.Named.TheVariants as named

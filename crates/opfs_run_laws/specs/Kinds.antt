@@ -8,7 +8,7 @@ use Rattle.opfs_hist.specs.declared.op.Op.TheVariants as op
 use Rattle.opfs_hist.specs.declared.reply.Reply.{Reply}
 use Rattle.opfs_hist.specs.declared.reply.Reply.TheVariants as reply
 use Rattle.opfs_machine.specs.Histories.{is_of_origin}
-use Rattle.opfs_acts.specs.Asking.{HasSmallNumbers}
+use Rattle.opfs_store.specs.Acts.Asking.{HasSmallNumbers}
 use Rattle.opfs_script_run.specs.declared.runs.hand.Open.{Open}
 use Rattle.opfs_script_run.specs.declared.runs.hand.Open.TheVariants as opened
 

@@ -10,8 +10,8 @@ use Rattle.opfs_hist.specs.declared.reply.Reply.{Reply}
 use Rattle.opfs_hist.specs.declared.reply.Reply.TheVariants as reply
 use Rattle.opfs_machine.specs.Runs.{eviction}
 use Rattle.opfs_laws.specs.Histories.Opened.{added}
-use Rattle.opfs_acts.specs.declared.acted.Gift.{Gift}
-use Rattle.opfs_acts.specs.Acting.{told_entry}
+use Rattle.opfs_store.specs.declared.acts.acted.Gift.{Gift}
+use Rattle.opfs_store.specs.Acts.Acting.{told_entry}
 use Rattle.opfs_turns.specs.Agents.{AgentSeen, IsAgent, known}
 use Rattle.opfs_turns.specs.Calls.{call_of, IsEntered, HasLooked, HasEnded, kept_entry}
 use Rattle.opfs_turns.specs.Waiting.{IsTurned, HasBegun}

@@ -5,7 +5,7 @@ use Rattle.opfs_hist.specs.declared.op.Op.{Op}
 use Rattle.opfs_hist.specs.declared.op.Op.TheVariants as op
 use Rattle.opfs_hist.specs.declared.reply.Reply.{Reply}
 use Rattle.opfs_hist.specs.declared.reply.Reply.TheVariants as reply
-use Rattle.opfs_acts.specs.Acting.{told_entry}
+use Rattle.opfs_store.specs.Acts.Acting.{told_entry}
 use Rattle.opfs_turns.specs.Agents.{AgentSeen, IsAgent}
 use Rattle.opfs_turns.specs.Calls.{call_of, HasLooked, kept_entry}
 use Rattle.opfs_turns.specs.Waiting.{HasWaited, HasAwaited}

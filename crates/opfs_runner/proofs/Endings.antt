@@ -18,8 +18,8 @@ use Rattle.opfs_machine.specs.Agents.{agent_of, is_open_row}
 use Rattle.opfs_machine.specs.Contents.{outline_of}
 use Rattle.opfs_machine.specs.Histories.{may_enter}
 use Rattle.opfs_laws.specs.Leaving.{row_used}
-use Rattle.opfs_acts.specs.declared.acted.Gift.{Gift}
-use Rattle.opfs_acts.specs.Acting.{told_entry}
+use Rattle.opfs_store.specs.declared.acts.acted.Gift.{Gift}
+use Rattle.opfs_store.specs.Acts.Acting.{told_entry}
 use Rattle.opfs_turns.specs.Agents.{AgentSeen, IsAgent, state_of, own_row}
 use Rattle.opfs_turns.specs.Calls.{call_of, IsEntered, HasEnded}
 use Rattle.opfs_beside.proofs.Leaving.{Leaves, leaves-self, leaves-entered}

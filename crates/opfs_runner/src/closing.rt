@@ -6,9 +6,9 @@ ghost use Rattle.opfs_script_run.specs.Stage.Runs.{EachRuns, EachCut};
 ghost use Rattle.opfs_runner.specs.Runs.{HasRunAll};
 
 use crate::ended::Ended;
-use opfs_acts::Store;
 use opfs_hall::{Hall, Pass};
 use opfs_script::AgentScript;
+use opfs_store::Store;
 
 /// Ends the hall of a script whose agents have all run, and gives the store. In the store's history each agent's entries are
 /// its script's run, or those of a front of its script where memory was short.

@@ -5,11 +5,11 @@ ghost use Rattle.opfs_runner.specs.Runs.{IsReady, HasRun};
 
 use crate::ends::end_rows;
 use crate::steps::run_steps;
-use opfs_acts::Store;
 use opfs_agent::Agent;
 use opfs_hall::{Hall, Pass};
 use opfs_outside::Gate;
 use opfs_script::AgentScript;
+use opfs_store::Store;
 use std::sync::Wait;
 
 /// An agent that has ended, or several: a pass that has collected all of theirs, and whether each script was run whole. It was

@@ -11,10 +11,10 @@ ghost use Rattle.opfs_slots.specs.Tables.{kinds_of, HasSlot, HasTable};
 ghost use Rattle.opfs_runner.specs.Ending.{Closes, IsEnded};
 ghost use Rattle.opfs_runner.specs.Stepping.{own_entries};
 
-use opfs_acts::Store;
 use opfs_agent::Agent;
 use opfs_hall::Hall;
 use opfs_slots::Slot;
+use opfs_store::Store;
 use std::sync::Wait;
 
 // Ends one row: a stream is aborted, and an access handle discarded.

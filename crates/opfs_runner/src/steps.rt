@@ -12,7 +12,6 @@ ghost use Rattle.opfs_runner.specs.Runs.{IsReady};
 ghost use Rattle.opfs_runner.specs.Stepping.{own_entries, reply_of, IsTaken, IsTried, IsStepped};
 
 use crate::snapshots::{row_left, snapshot_bound};
-use opfs_acts::Store;
 use opfs_agent::{Agent, Stop};
 use opfs_base::copy_key;
 use opfs_hall::Hall;
@@ -21,6 +20,7 @@ use opfs_outside::Gate;
 use opfs_script::{AgentScript, Step};
 use opfs_script_run::Hand;
 use opfs_slots::{Slot, forget, perform};
+use opfs_store::Store;
 use std::alloc::Global;
 use std::sync::Wait;
 

@@ -6,11 +6,11 @@ ghost use Rattle.opfs_hall.specs.Seen.{joined};
 ghost use Rattle.opfs_runner.specs.Runs.{IsReady, HasRun, IsReadyFor, HasRunAll};
 
 use crate::ended::{Ended, run_agent};
-use opfs_acts::Store;
 use opfs_agent::Agent;
 use opfs_hall::Hall;
 use opfs_outside::Gate;
 use opfs_script::AgentScript;
+use opfs_store::Store;
 use std::sync::Wait;
 use std::thread::{Threads, join};
 

@@ -22,7 +22,7 @@ use Rattle.opfs_machine.specs.Rows.{file_at, with_file}
 use Rattle.opfs_machine.specs.Rulings.{first_reserve, want_of}
 use Rattle.opfs_machine.specs.Steps.{evicted}
 use Rattle.opfs_laws.proofs.Numbers.{IsNumber}
-use Rattle.opfs_acts.specs.declared.acted.Gift.{Gift}
+use Rattle.opfs_store.specs.declared.acts.acted.Gift.{Gift}
 use Rattle.opfs_turns.specs.Agents.{AgentSeen, IsAgent}
 use Rattle.opfs_calls.specs.Answers.{HasAnswer}
 use Rattle.opfs_calls.proofs.Answered.{judged-there}

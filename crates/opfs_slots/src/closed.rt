@@ -9,9 +9,9 @@ ghost use Rattle.opfs_hist.specs.declared.reply.Reply.TheVariants as reply;
 ghost use Rattle.opfs_slots.specs.Called.{Calls};
 ghost use Rattle.opfs_slots.specs.Tables.{row_lent};
 
-use opfs_acts::Store;
 use opfs_agent::{Agent, ClosedStream, ClosedSync, Stop};
 use opfs_hist::{Op, Reply};
+use opfs_store::Store;
 use std::alloc::AllocError;
 
 // A call on a stream once more, which shares its bytes. No other call is copied.

@@ -12,10 +12,10 @@ use crate::plain::perform_plain;
 use crate::spends::spend_row;
 use crate::table::Slot;
 use crate::uses::{Use, use_of};
-use opfs_acts::Store;
 use opfs_agent::{Agent, Stop};
 use opfs_hall::Hall;
 use opfs_hist::{Op, Reply};
+use opfs_store::Store;
 use std::sync::Wait;
 
 /// Makes the call that a step of a script asks for, with the agent's rows. It takes the near or the far call, by what an open

@@ -6,11 +6,11 @@ ghost use Rattle.opfs_turns.specs.Calls.{HasRoom};
 ghost use Rattle.opfs_calls.specs.Answers.{IsOwn};
 ghost use Rattle.opfs_slots.specs.Called.{Calls};
 
-use opfs_acts::Store;
 use opfs_agent::{Agent, Stop};
 use opfs_base::{Locator, Text};
 use opfs_hall::Hall;
 use opfs_hist::{Reply, Word};
+use opfs_store::Store;
 use std::sync::Wait;
 
 /// getDirectory.

@@ -7,8 +7,8 @@ ghost use Rattle.opfs_run_laws.specs.Leaving.{kinds_without};
 ghost use Rattle.opfs_slots.specs.Tables.{kinds_of, HasTable};
 
 use crate::table::Slot;
-use opfs_acts::Store;
 use opfs_agent::Agent;
+use opfs_store::Store;
 use std::mem::replace;
 
 /// Lets go of the bytes of a snapshot, by the number of its row, where there is one to let go of. The row is still the

@@ -2,18 +2,18 @@
 
 ghost use Rattle.std.specs.Prelude.{◌≡◌};
 ghost use Rattle.opfs_hist.specs.declared.op.Op.TheVariants as op;
-ghost use Rattle.opfs_acts.specs.Asking.{IsSmall, IsSmallData, IsSmallPlace, HasSmallNumbers};
+ghost use Rattle.opfs_store.specs.Acts.Asking.{IsSmall, IsSmallData, IsSmallPlace, HasSmallNumbers};
 ghost use Rattle.opfs_turns.specs.Calls.{HasRoom};
 ghost use Rattle.opfs_calls.specs.Rows.{HasHandle};
 ghost use Rattle.opfs_run_laws.specs.Kinds as rows;
 ghost use Rattle.opfs_slots.specs.Called.{Calls};
 ghost use Rattle.opfs_slots.specs.Tables.{IsLent, row_lent};
 
-use opfs_acts::Store;
 use opfs_agent::{Agent, Stop, SyncHandle};
 use opfs_base::Data;
 use opfs_hall::Hall;
 use opfs_hist::{Op, Reply};
+use opfs_store::Store;
 use std::sync::Wait;
 
 // A read: with no turn where the handle has the bytes.
@@ -112,7 +112,7 @@ fn flush<S: Store, R: Wait>(
 }
 
 /// Makes a call that is lent an open access handle.
-#[tactic(auto, unfolding(opfs_acts::specs::Asking::HasSmallNumbers))]
+#[tactic(auto, unfolding(opfs_store::specs::Acts::Asking::HasSmallNumbers))]
 pub fn on_handle<S: Store, R: Wait>(
     rt: &R,
     court: &Hall<S>,

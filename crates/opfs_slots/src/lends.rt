@@ -4,7 +4,7 @@ ghost use Rattle.std.specs.Prelude.{◌≡◌};
 ghost use Rattle.opfs_base.specs.declared.locator.Locator.{Locator};
 ghost use Rattle.opfs_hist.specs.declared.op.Op.TheVariants as op;
 ghost use Rattle.opfs_hist.specs.declared.reply.Reply.{Reply};
-ghost use Rattle.opfs_acts.specs.Asking.{HasSmallNumbers};
+ghost use Rattle.opfs_store.specs.Acts.Asking.{HasSmallNumbers};
 ghost use Rattle.opfs_turns.specs.Calls.{HasRoom};
 ghost use Rattle.opfs_calls.specs.Rows.{HasSnapshot, HasIterator};
 ghost use Rattle.opfs_agent.specs.Entries.{IsNextOf};
@@ -18,11 +18,11 @@ use crate::closed::{refuse_handle, refuse_stream};
 use crate::handles::on_handle;
 use crate::streams::on_stream;
 use crate::table::Slot;
-use opfs_acts::Store;
 use opfs_agent::{Agent, Iter, Snapshot, Stop};
 use opfs_base::Locator;
 use opfs_hall::Hall;
 use opfs_hist::{Op, Reply};
+use opfs_store::Store;
 use std::sync::Wait;
 
 // The reply of an iterator's next child, or of the end.

@@ -11,11 +11,11 @@ ghost use Rattle.opfs_slots.specs.Making.{reply_in, IsMadeBy};
 ghost use Rattle.opfs_slots.specs.declared.uses.Use.TheVariants as uses;
 
 use crate::table::Slot;
-use opfs_acts::Store;
 use opfs_agent::{Agent, Stop};
 use opfs_base::Locator;
 use opfs_hall::Hall;
 use opfs_hist::{Mode, Op, Reply};
+use opfs_store::Store;
 use std::sync::Wait;
 
 /// A row that a call made, with the call's answer.

@@ -12,10 +12,10 @@ use crate::entries::{
     moment, persist, persisted, post, remove_entry, resolve, unbound,
 };
 use crate::table::Slot;
-use opfs_acts::Store;
 use opfs_agent::{Agent, Stop};
 use opfs_hall::Hall;
 use opfs_hist::{Op, Reply};
+use opfs_store::Store;
 use std::sync::Wait;
 
 /// Makes a call that uses no row.

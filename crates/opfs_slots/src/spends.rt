@@ -15,10 +15,10 @@ ghost use Rattle.opfs_slots.specs.declared.uses.Use.TheVariants as uses;
 
 use crate::closed::{close_again, refuse_stream};
 use crate::table::Slot;
-use opfs_acts::Store;
 use opfs_agent::{Agent, Stop, SyncHandle, Writable};
 use opfs_hall::Hall;
 use opfs_hist::{Op, Reply};
+use opfs_store::Store;
 use std::mem::replace;
 use std::sync::Wait;
 

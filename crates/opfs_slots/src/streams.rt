@@ -2,18 +2,18 @@
 
 ghost use Rattle.std.specs.Prelude.{◌≡◌};
 ghost use Rattle.opfs_hist.specs.declared.op.Op.TheVariants as op;
-ghost use Rattle.opfs_acts.specs.Asking.{IsSmall, IsSmallData, IsSmallPlace, HasSmallNumbers};
+ghost use Rattle.opfs_store.specs.Acts.Asking.{IsSmall, IsSmallData, IsSmallPlace, HasSmallNumbers};
 ghost use Rattle.opfs_turns.specs.Calls.{HasRoom};
 ghost use Rattle.opfs_calls.specs.Rows.{HasStream};
 ghost use Rattle.opfs_run_laws.specs.Kinds as rows;
 ghost use Rattle.opfs_slots.specs.Called.{Calls};
 ghost use Rattle.opfs_slots.specs.Tables.{IsLent, row_lent};
 
-use opfs_acts::Store;
 use opfs_agent::{Agent, Stop, Writable};
 use opfs_base::Data;
 use opfs_hall::Hall;
 use opfs_hist::{Op, Reply};
+use opfs_store::Store;
 use std::sync::Wait;
 
 // A write: with no turn where the stream has what it needs.
@@ -78,7 +78,7 @@ fn seek<S: Store>(agent: &mut Agent<S>, stream: &mut Writable, position: u64) ->
 }
 
 /// Makes a call that is lent an open stream.
-#[tactic(auto, unfolding(opfs_acts::specs::Asking::HasSmallNumbers))]
+#[tactic(auto, unfolding(opfs_store::specs::Acts::Asking::HasSmallNumbers))]
 pub fn on_stream<S: Store, R: Wait>(
     rt: &R,
     court: &Hall<S>,

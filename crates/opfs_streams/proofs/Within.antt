@@ -29,8 +29,8 @@ use Rattle.opfs_machine.specs.Steps.{step}
 use Rattle.opfs_machine.specs.Sums.{no_need, keeps_blocks, reserve_of}
 use Rattle.opfs_splice.specs.Splicing.{splice, resize}
 use Rattle.opfs_laws.proofs.Numbers.{number-of}
-use Rattle.opfs_copies.specs.Copies.{IsCopyOf, IsPaged}
-use Rattle.opfs_copies.proofs.Copying.{contents-own}
+use Rattle.opfs_store.specs.Copies.Copies.{IsCopyOf, IsPaged}
+use Rattle.opfs_store.proofs.copies.Copying.{contents-own}
 use Rattle.opfs_laws.specs.Steady.Steady.{goes_on, has_page, page_in, row_bytes, open_bytes}
 use Rattle.opfs_laws.proofs.steady.GoingOn.{steady-has}
 use Rattle.opfs_turns.specs.Agents.{AgentSeen, IsAgent, known, state_of}

@@ -4,7 +4,7 @@ use Rattle.std.specs.Prelude.{slice_get, IsTrue}
 use Rattle.std.specs.List.{list_any}
 use Rattle.std.proofs.lemmas.Bool.{eq-eqb, eqb-true}
 use Rattle.std.proofs.lemmas.Option.{slice_get-get_or, slice_get_within}
-use Rattle.opfs_acts.specs.declared.acted.Gift.{Gift}
+use Rattle.opfs_store.specs.declared.acts.acted.Gift.{Gift}
 use Rattle.opfs_beside.proofs.Leaving.{Leaves, leaves-entered, leaves-made, leaves-looked}
 use Rattle.opfs_calls.specs.Answers.{Shared}
 use Rattle.opfs_calls.specs.Locals.{IsMade, Local}

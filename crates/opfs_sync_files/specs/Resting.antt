@@ -1,6 +1,6 @@
 -- What calls leave of an agent's other own rows, and when nothing of it is open. This project's own.
 use Rattle.std.specs.Prelude.{◌≡◌, ◌≢◌, ℕ, false, Some}
-use Rattle.opfs_copies.specs.Copies.{StandsFor}
+use Rattle.opfs_store.specs.Copies.Copies.{StandsFor}
 use Rattle.opfs_machine.specs.declared.own.Own.{Own}
 use Rattle.opfs_machine.specs.Agents.{is_open_row}
 use Rattle.opfs_machine.specs.Contents.{outline_of}

@@ -8,11 +8,11 @@ ghost use Rattle.opfs_sync_files.specs.Resting.{LeavesRest};
 ghost use Rattle.opfs_sync_files.specs.Still.{TheBytes, IsStill};
 ghost use Rattle.opfs_turns.specs.Calls.{HasRoom};
 
-use opfs_acts::Store;
 use opfs_agent::Agent;
 use opfs_calls::Stop;
 use opfs_hall::Hall;
 use opfs_handles::{ClosedSync, SyncHandle};
+use opfs_store::Store;
 use std::sync::Wait;
 
 /// Closes an access handle: the bytes of its file are stored for good. Where that is refused the handle comes back open, and

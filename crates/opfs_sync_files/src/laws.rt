@@ -6,8 +6,8 @@ ghost use Rattle.opfs_machine.specs.Histories.{may_enter};
 ghost use Rattle.opfs_sync_files.specs.Resting.{RestsBut};
 ghost use Rattle.opfs_turns.specs.Agents.{state_of};
 
-use opfs_acts::Store;
 use opfs_agent::Agent;
+use opfs_store::Store;
 
 /// An agent of which no stream and no access handle is open may end.
 pub fn a_resting_agent_may_end<S: Store>(agent: &Agent<S>)

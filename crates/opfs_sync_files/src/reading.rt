@@ -1,7 +1,7 @@
 //! How a file is read through its access handle.
 
 ghost use Rattle.std.specs.Prelude.{◌≡◌, length, IfOk, IfErr};
-ghost use Rattle.opfs_acts.specs.Asking.{IsSmall};
+ghost use Rattle.opfs_store.specs.Acts.Asking.{IsSmall};
 ghost use Rattle.opfs_calls.specs.Rows.{HasHandle};
 ghost use Rattle.opfs_splice.specs.Splicing.{window};
 ghost use Rattle.opfs_sync_files.specs.Entries.{IsCaused};
@@ -10,12 +10,12 @@ ghost use Rattle.opfs_sync_files.specs.Still.{NoBytes, IsStill};
 ghost use Rattle.opfs_turns.specs.Calls.{HasRoom};
 ghost use Rattle.opfs_work.specs.Works.{IsNearRead};
 
-use opfs_acts::Store;
 use opfs_agent::Agent;
 use opfs_base::Bytes;
 use opfs_calls::Stop;
 use opfs_hall::Hall;
 use opfs_handles::SyncHandle;
+use opfs_store::Store;
 use std::sync::Wait;
 
 /// How many bytes a file has.

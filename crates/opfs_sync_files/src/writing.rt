@@ -1,7 +1,7 @@
 //! How a file is changed through its access handle, and stored.
 
 ghost use Rattle.std.specs.Prelude.{◌≡◌, ◌++◌, length, OnOk, OnErr, IfErr};
-ghost use Rattle.opfs_acts.specs.Asking.{IsSmall, IsSmallData};
+ghost use Rattle.opfs_store.specs.Acts.Asking.{IsSmall, IsSmallData};
 ghost use Rattle.opfs_calls.specs.Rows.{HasHandle};
 ghost use Rattle.opfs_splice.specs.Splicing.{resize, splice};
 ghost use Rattle.opfs_sync_files.specs.Entries.{IsCaused};
@@ -9,12 +9,12 @@ ghost use Rattle.opfs_sync_files.specs.Files.{file_bytes, flushed_by, stored_of,
 ghost use Rattle.opfs_sync_files.specs.Still.{NoBytes, TheBytes, IsStill};
 ghost use Rattle.opfs_turns.specs.Calls.{HasRoom};
 
-use opfs_acts::Store;
 use opfs_agent::Agent;
 use opfs_base::Data;
 use opfs_calls::Stop;
 use opfs_hall::Hall;
 use opfs_handles::SyncHandle;
+use opfs_store::Store;
 use std::sync::Wait;
 
 // A write that was done, whatever number of bytes it tells.

@@ -18,16 +18,16 @@ use Rattle.opfs_laws.specs.Leaving.{asks_nobody, is_end}
 use Rattle.opfs_laws.proofs.Numbers.{number-of}
 use Rattle.opfs_laws.specs.Histories.Opened.{added}
 use Rattle.opfs_laws.specs.Histories.Unread.{IsTold, ArePendingFor}
-use Rattle.opfs_acts.specs.declared.acted.Gift.{Gift}
-use Rattle.opfs_acts.specs.Acting.{told_entry, IsCallFor, IsActed, IsGift}
-use Rattle.opfs_acts.specs.Asking.{MayAct, IsThere}
+use Rattle.opfs_store.specs.declared.acts.acted.Gift.{Gift}
+use Rattle.opfs_store.specs.Acts.Acting.{told_entry, IsCallFor, IsActed, IsGift}
+use Rattle.opfs_store.specs.Acts.Asking.{MayAct, IsThere}
 use Rattle.opfs_work.specs.Works.{WorkingCopy}
 use Rattle.opfs_turns.specs.declared.notes.Notes.{Notes}
 use Rattle.opfs_turns.specs.Agents.{AgentSeen, IsAgent, seen}
 use Rattle.opfs_turns.specs.Calls.{HasRoom, MayAsk, before_call, IsEntered, HasLooked}
 use Rattle.opfs_machine.specs.Agents.{waits_for}
-use Rattle.opfs_acts.specs.declared.acted.AwaitState.{AwaitState}
-use Rattle.opfs_acts.specs.Acting.{awaited}
+use Rattle.opfs_store.specs.declared.acts.acted.AwaitState.{AwaitState}
+use Rattle.opfs_store.specs.Acts.Acting.{awaited}
 use Rattle.opfs_hist.specs.declared.op.Op.TheVariants as op
 use Rattle.opfs_hist.specs.declared.reply.Reply.TheVariants as reply
 use Rattle.opfs_turns.specs.Agents.{is_wait}

@@ -25,10 +25,10 @@ use Rattle.opfs_laws.specs.Leaving.{is_end}
 use Rattle.opfs_laws.proofs.Local.{room_for_nothing}
 use Rattle.opfs_laws.proofs.Numbers.{IsNumber, agent-set}
 use Rattle.opfs_laws.specs.Histories.Unread.{unread}
-use Rattle.opfs_acts.specs.declared.acted.AwaitState.{AwaitState}
-use Rattle.opfs_acts.specs.declared.acted.AwaitState.TheVariants as await
-use Rattle.opfs_acts.specs.Acting.{awaited}
-use Rattle.opfs_acts.specs.Asking.{HasSmallNumbers}
+use Rattle.opfs_store.specs.declared.acts.acted.AwaitState.{AwaitState}
+use Rattle.opfs_store.specs.declared.acts.acted.AwaitState.TheVariants as await
+use Rattle.opfs_store.specs.Acts.Acting.{awaited}
+use Rattle.opfs_store.specs.Acts.Asking.{HasSmallNumbers}
 use Rattle.opfs_turns.specs.Waiting.{await_reply, planned}
 use Rattle.opfs_turns.specs.declared.waiting.Plan.TheVariants as plan
 use Rattle.opfs_turns.proofs.Beside.{StateBy}

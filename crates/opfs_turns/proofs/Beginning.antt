@@ -9,7 +9,7 @@ use Rattle.opfs_machine.specs.Agents.{agent_in, agent_of}
 use Rattle.opfs_machine.specs.Histories.{may_enter, state_after}
 use Rattle.opfs_machine.specs.Openings.{Opening, Who, agent_begun, begun}
 use Rattle.opfs_laws.specs.Histories.Unread.{IsTold}
-use Rattle.opfs_acts.specs.Asking.{HasSmallNumbers}
+use Rattle.opfs_store.specs.Acts.Asking.{HasSmallNumbers}
 use Rattle.opfs_work.specs.Works.{WorkingCopy}
 use Rattle.opfs_turns.specs.Agents.{AgentSeen, IsAgent, state_of, entries_of, next_number}
 use Rattle.opfs_turns.specs.Calls.{MayAsk, MayBegin, new_agent}

@@ -26,9 +26,9 @@ use Rattle.opfs_machine.specs.Steps.{after_reply, is_refusal}
 use Rattle.opfs_laws.proofs.Local.{closed}
 use Rattle.opfs_laws.proofs.Moved.{call-moves}
 use Rattle.opfs_laws.specs.Histories.Unread.{IsPendingFor, ArePendingFor}
-use Rattle.opfs_acts.specs.declared.acted.AwaitState.{AwaitState}
-use Rattle.opfs_acts.specs.declared.acted.AwaitState.TheVariants as await
-use Rattle.opfs_acts.specs.Acting.{awaited}
+use Rattle.opfs_store.specs.declared.acts.acted.AwaitState.{AwaitState}
+use Rattle.opfs_store.specs.declared.acts.acted.AwaitState.TheVariants as await
+use Rattle.opfs_store.specs.Acts.Acting.{awaited}
 use Rattle.opfs_laws.proofs.Going.{not_evict}
 use Rattle.opfs_machine.specs.Histories.{after_op}
 

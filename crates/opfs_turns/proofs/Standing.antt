@@ -13,9 +13,9 @@ use Rattle.opfs_laws.specs.Histories.Unread.{IsTold, ArePendingFor}
 use Rattle.opfs_laws.specs.Steady.Steady.{open_bytes, is_steady, steady_from}
 use Rattle.opfs_laws.proofs.steady.GoingOn.{steady-append, steady-kept}
 use Rattle.opfs_laws.proofs.steady.Others.{bytes-alike}
-use Rattle.opfs_copies.specs.Copies.{StandsFor}
-use Rattle.opfs_copies.proofs.Copying.{copy-alike}
-use Rattle.opfs_acts.specs.Asking.{IsHandedIn}
+use Rattle.opfs_store.specs.Copies.Copies.{StandsFor}
+use Rattle.opfs_store.proofs.copies.Copying.{copy-alike}
+use Rattle.opfs_store.specs.Acts.Asking.{IsHandedIn}
 use Rattle.opfs_work.specs.Works.{WorkingCopy}
 use Rattle.opfs_turns.proofs.Others.{told-seen, told-stay, pending-for, steady-carried}
 

@@ -24,9 +24,9 @@ use Rattle.opfs_laws.specs.Histories.Opened.{added}
 use Rattle.opfs_laws.specs.Histories.Unread.{unread, unread_entry, IsTold}
 use Rattle.opfs_laws.proofs.histories.Adding.{added-state}
 use Rattle.opfs_laws.proofs.histories.Reading.{unread-state}
-use Rattle.opfs_acts.specs.declared.acted.Gift.{Gift}
-use Rattle.opfs_acts.specs.Acting.{told_entry, IsCallFor, IsGift}
-use Rattle.opfs_acts.specs.Asking.{MayAct, HasPlace, given_by, is_open_own}
+use Rattle.opfs_store.specs.declared.acts.acted.Gift.{Gift}
+use Rattle.opfs_store.specs.Acts.Acting.{told_entry, IsCallFor, IsGift}
+use Rattle.opfs_store.specs.Acts.Asking.{MayAct, HasPlace, given_by, is_open_own}
 use Rattle.opfs_work.specs.Works.{WorkingCopy}
 use Rattle.opfs_turns.specs.Agents.{AgentSeen, IsAgent, state_of, entries_of, is_wait}
 use Rattle.opfs_turns.specs.Calls.{HasRoom, MayAsk, call_of, before_call, IsEntered, HasLooked}

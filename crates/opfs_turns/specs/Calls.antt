@@ -16,9 +16,9 @@ use Rattle.opfs_machine.specs.Replies.{row_named}
 use Rattle.opfs_machine.specs.Runs.{Call}
 use Rattle.opfs_laws.specs.Leaving.{seen_by, asks_nobody}
 use Rattle.opfs_laws.specs.Histories.Opened.{added}
-use Rattle.opfs_acts.specs.declared.acted.Gift.{Gift}
-use Rattle.opfs_acts.specs.Acting.{told_entry, IsCallFor, IsGift}
-use Rattle.opfs_acts.specs.Asking.{is_shared, names_open, given_by, HasSmallNumbers, IsHandedIn}
+use Rattle.opfs_store.specs.declared.acts.acted.Gift.{Gift}
+use Rattle.opfs_store.specs.Acts.Acting.{told_entry, IsCallFor, IsGift}
+use Rattle.opfs_store.specs.Acts.Asking.{is_shared, names_open, given_by, HasSmallNumbers, IsHandedIn}
 use Rattle.opfs_work.specs.Works.{WorkingCopy}
 use Rattle.opfs_turns.specs.Agents.{AgentSeen, known, state_of}
 

@@ -12,9 +12,9 @@ use Rattle.opfs_machine.specs.Histories.{state_after}
 use Rattle.opfs_laws.specs.Leaving.{seen_by}
 use Rattle.opfs_laws.specs.Histories.Opened.{added}
 use Rattle.opfs_laws.specs.Histories.Unread.{IsTold}
-use Rattle.opfs_acts.specs.declared.acted.AwaitState.{AwaitState}
-use Rattle.opfs_acts.specs.declared.acted.AwaitState.TheVariants as state
-use Rattle.opfs_acts.specs.Acting.{told_entry, IsCallFor}
+use Rattle.opfs_store.specs.declared.acts.acted.AwaitState.{AwaitState}
+use Rattle.opfs_store.specs.declared.acts.acted.AwaitState.TheVariants as state
+use Rattle.opfs_store.specs.Acts.Acting.{told_entry, IsCallFor}
 use Rattle.opfs_turns.specs.Agents.{AgentSeen, state_of}
 use Rattle.opfs_turns.specs.Calls.{call_of, before_call, HasLooked}
 use Rattle.opfs_turns.specs.declared.waiting.AwaitTurn.{AwaitTurn}

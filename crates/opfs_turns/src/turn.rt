@@ -4,15 +4,15 @@ ghost use Rattle.std.specs.Prelude.{◌≡◌, ◌++◌, false, true, length, If
 ghost use Rattle.opfs_machine.specs.Histories.{state_after};
 ghost use Rattle.opfs_laws.specs.Leaving.{is_end};
 ghost use Rattle.opfs_laws.specs.Histories.Unread.{IsTold};
-ghost use Rattle.opfs_acts.specs.Acting.{IsLeft, IsSameCopy, always_acts};
+ghost use Rattle.opfs_store.specs.Acts.Acting.{IsLeft, IsSameCopy, always_acts};
 ghost use Rattle.opfs_turns.specs.Agents.{IsAgent, seen};
 ghost use Rattle.opfs_turns.specs.Calls.{HasRoom, MayAsk, call_of, before_call, IsEntered, HasLooked};
 
 use crate::notes::Notes;
-use opfs_acts::{Acted, Store};
 use opfs_base::Name;
 use opfs_hall::{Hall, Pass};
 use opfs_hist::{Op, Room};
+use opfs_store::{Acted, Store};
 use opfs_work::Work;
 use std::alloc::AllocError;
 use std::sync::Wait;

@@ -8,10 +8,10 @@ ghost use Rattle.opfs_turns.specs.Calls.{HasRoom, HasLooked};
 ghost use Rattle.opfs_turns.specs.Waiting.{HasWaitRoom, HasWaited, HasAwaited, IsAwaitTurn, await_reply, planned};
 
 use crate::notes::Notes;
-use opfs_acts::{AwaitState, Store};
 use opfs_base::Text;
 use opfs_hall::{Hall, Pass};
 use opfs_hist::{Op, Room};
+use opfs_store::{AwaitState, Store};
 use opfs_work::Work;
 use std::alloc::{AllocError, Global};
 use std::sync::Wait;

@@ -1,5 +1,5 @@
 use Rattle.std.proofs.Common.{◌≡◌, ℕ, true, [], length, None, is_some, refl, sym, ap, subst, ◌∙◌, arith}
-use Rattle.opfs_acts.specs.Acting.{told_entry}
+use Rattle.opfs_store.specs.Acts.Acting.{told_entry}
 use Rattle.opfs_base.specs.Places.{Place}
 use Rattle.opfs_books.specs.Stored.Spelled.{CanHold}
 use Rattle.opfs_books.specs.Seen.{BytesStand}

@@ -1,7 +1,7 @@
 use Rattle.std.proofs.Common.{◌≡◌, true, [], refl, sym, ap, subst, ◌∙◌, arith}
 use Rattle.std.specs.Prelude.{Option, IsTrue}
 use Rattle.std.specs.Str.{is_utf8}
-use Rattle.opfs_acts.specs.Acting.{told_entry}
+use Rattle.opfs_store.specs.Acts.Acting.{told_entry}
 use Rattle.opfs_base.specs.Texts.{Text}
 use Rattle.opfs_hist.specs.declared.entry.Entry.{Entry}
 use Rattle.opfs_hist.specs.declared.reply.Reply.TheVariants as reply

@@ -1,6 +1,6 @@
 use Rattle.std.proofs.Common.{◌++◌, sym, ap, ◌∙◌, subst}
 use Rattle.std.specs.Option.{option_copied}
-use Rattle.opfs_acts.specs.Acting.{unread_gift}
+use Rattle.opfs_store.specs.Acts.Acting.{unread_gift}
 use Rattle.opfs_hist.specs.declared.reply.Reply.{Reply}
 use Rattle.opfs_laws.specs.Histories.Unread.{unread}
 use Rattle.opfs_machine.specs.Histories.{state_after}

@@ -1,6 +1,6 @@
 use Rattle.std.proofs.Common.{[], ◌++◌, refl, sym, ap}
-use Rattle.opfs_acts.specs.Acting.{unread_gift}
-use Rattle.opfs_acts.specs.declared.acted.Gift.TheVariants as gift
+use Rattle.opfs_store.specs.Acts.Acting.{unread_gift}
+use Rattle.opfs_store.specs.declared.acts.acted.Gift.TheVariants as gift
 use Rattle.opfs_laws.specs.Histories.Unread.{unread}
 use Rattle.opfs_machine.specs.Histories.{state_after}
 use Rattle.opfs_desk_plain.proofs.Done.{answers-done, no-gift}

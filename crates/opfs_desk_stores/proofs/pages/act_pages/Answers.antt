@@ -1,7 +1,7 @@
 use Rattle.std.specs.Vec.{vec_capacity}
 use Rattle.std.proofs.Common.{rules, ◌≡◌, ℕ, ◌≤◌, [], ◌++◌, is_some, true, refl, sym, ap, subst, Err, arith}
 use Rattle.opfs_books.specs.declared.books.Books.{Books}
-use Rattle.opfs_copies.specs.Copies.{IsPaged}
+use Rattle.opfs_store.specs.Copies.Copies.{IsPaged}
 use Rattle.opfs_data.specs.Rows.{row_of}
 use Rattle.opfs_machine.specs.Histories.{state_after}
 use Rattle.opfs_pages.specs.Stages.{IsReady}

@@ -1,7 +1,7 @@
 use Rattle.std.proofs.Common.{◌≡◌, ℕ, sym, subst}
 use Rattle.opfs_base.specs.Texts.{Text}
 use Rattle.opfs_hist.specs.declared.reply.Reply.TheVariants as reply
-use Rattle.opfs_acts.specs.Asking.{IsSmallData, IsSmallPlace}
+use Rattle.opfs_store.specs.Acts.Asking.{IsSmallData, IsSmallPlace}
 use Rattle.opfs_handles.proofs.Facts.{may-write}
 use Rattle.opfs_handles.proofs.Shared.{write-told, written-either}
 use Rattle.opfs_handles.proofs.writing.write.Goals as goal

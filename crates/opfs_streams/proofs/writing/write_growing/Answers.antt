@@ -1,6 +1,6 @@
 use Rattle.std.proofs.Common.{sym, subst}
 use Rattle.opfs_base.specs.Texts.{Text}
-use Rattle.opfs_acts.specs.Asking.{IsSmallData, IsSmallPlace}
+use Rattle.opfs_store.specs.Acts.Asking.{IsSmallData, IsSmallPlace}
 use Rattle.opfs_streams.proofs.Facts.{may-write}
 use Rattle.opfs_streams.proofs.Shared.{write-done, written-either}
 use Rattle.opfs_streams.proofs.writing.write_growing.Goals as goal

@@ -5,8 +5,8 @@ use Rattle.opfs_hall.specs.Seen.{at_rest}
 use Rattle.opfs_machine.specs.Agents.{agent_of}
 use Rattle.opfs_machine.specs.Histories.{state_after}
 use Rattle.opfs_laws.specs.Histories.Unread.{IsTold}
-use Rattle.opfs_acts.specs.Acting.{IsActed}
-use Rattle.opfs_acts.specs.Asking.{MayAct}
+use Rattle.opfs_store.specs.Acts.Acting.{IsActed}
+use Rattle.opfs_store.specs.Acts.Asking.{MayAct}
 use Rattle.opfs_turns.proofs.Acted.{acts, unacted-agent, unacted-looked, acted-agent, acted-entered, adds}
 use Rattle.opfs_turns.specs.Agents.{seen}
 use Rattle.opfs_turns.proofs.Turning.{number-small}

@@ -8,8 +8,8 @@ use Rattle.opfs_hist.specs.declared.reply.Reply.TheVariants as reply
 use Rattle.opfs_machine.specs.Agents.{agent_of}
 use Rattle.opfs_machine.specs.Histories.{state_after}
 use Rattle.opfs_laws.specs.Histories.Unread.{IsTold}
-use Rattle.opfs_acts.specs.Acting.{IsActed, awaited}
-use Rattle.opfs_acts.specs.Asking.{MayAct, IsThere}
+use Rattle.opfs_store.specs.Acts.Acting.{IsActed, awaited}
+use Rattle.opfs_store.specs.Acts.Asking.{MayAct, IsThere}
 use Rattle.opfs_turns.specs.Agents.{IsAgent, seen}
 use Rattle.opfs_turns.specs.Waiting.{IsWaiting, await_reply}
 use Rattle.opfs_turns.proofs.Acted.{agent-there, await-acts, wait-acts, await-asks, wait-asks, wait-first, look-waits, ask-agent, ask-turned, ask-rest, unacted-agent, unacted-looked, adds}

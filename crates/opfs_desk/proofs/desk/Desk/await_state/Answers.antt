@@ -1,6 +1,6 @@
 use Rattle.std.proofs.Common.{◌≡◌, sym, subst}
-use Rattle.opfs_acts.specs.Acting.{awaited}
-use Rattle.opfs_acts.specs.declared.acted.AwaitState.TheVariants as await
+use Rattle.opfs_store.specs.Acts.Acting.{awaited}
+use Rattle.opfs_store.specs.declared.acts.acted.AwaitState.TheVariants as await
 use Rattle.opfs_base.specs.Texts.{Text}
 use Rattle.opfs_machine.specs.Histories.{state_after}
 use Rattle.opfs_books.specs.Openings.Openings.{fixed_by}

@@ -9,7 +9,7 @@ use Rattle.opfs_machine.specs.Openings.{Opening}
 use Rattle.opfs_laws.specs.Steady.Settling.{BytesStay}
 use Rattle.opfs_laws.specs.Steady.Steady.{settles}
 use Rattle.opfs_work.specs.Works.{WorkingCopy, contents}
-use Rattle.opfs_copies.specs.Copies.{IsCopyOf, StandsFor, IsPaged}
+use Rattle.opfs_store.specs.Copies.Copies.{IsCopyOf, StandsFor, IsPaged}
 
 pub record ACopyStandsForItsRow : Type 0 where
   -- With whatever bytes elsewhere a copy has a row's bytes, with the row's own it has them too.

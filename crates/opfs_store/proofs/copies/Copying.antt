@@ -25,8 +25,8 @@ use Rattle.opfs_work.specs.declared.pages.Page.{Page}
 use Rattle.opfs_work.specs.declared.pages.Page.TheVariants.{Zero, Near, Clean, Far}
 use Rattle.opfs_work.specs.Pages.{page_at, page_byte, byte_at, bytes_of}
 use Rattle.opfs_work.specs.Works.{WorkingCopy, contents}
-use Rattle.opfs_copies.specs.Copies.{IsCopyOf, StandsFor, IsPaged}
-use Rattle.opfs_copies.specs.Standing.{ACopyStandsForItsRow}
+use Rattle.opfs_store.specs.Copies.Copies.{IsCopyOf, StandsFor, IsPaged}
+use Rattle.opfs_store.specs.Copies.Standing.{ACopyStandsForItsRow}
 
 page-own : (a b : ℕ) (p : Page) (j : ℕ) → page_byte a p j ≡ b → page_byte b p j ≡ b
 page-own a b Zero j h = h

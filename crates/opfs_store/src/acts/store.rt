@@ -1,6 +1,6 @@
 //! The store under the agents.
 
-use crate::acted::{Acted, AwaitState};
+use crate::acts::acted::{Acted, AwaitState};
 use opfs_base::Name;
 use opfs_hall::Chronicle;
 use opfs_hist::{Entry, Op, Pending, Room};
@@ -15,8 +15,8 @@ pub trait Store: Chronicle<Entry = Entry> {
     ghost use Rattle.opfs_machine.specs.Histories.{state_after};
     ghost use Rattle.opfs_machine.specs.Openings.{Opening};
     ghost use Rattle.opfs_laws.specs.Histories.Unread.{IsTold};
-    ghost use Rattle.opfs_acts.specs.Asking.{MayAct, IsThere};
-    ghost use Rattle.opfs_acts.specs.Acting.{IsActed, IsGift, IsLeft, IsSameCopy, always_acts, awaited};
+    ghost use Rattle.opfs_store.specs.Acts.Asking.{MayAct, IsThere};
+    ghost use Rattle.opfs_store.specs.Acts.Acting.{IsActed, IsGift, IsLeft, IsSameCopy, always_acts, awaited};
 
     /// Whether the bytes that it gives are told. It is no function of the value.
     ghost tells: { Type 0 };

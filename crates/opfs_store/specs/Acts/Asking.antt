@@ -14,7 +14,7 @@ use Rattle.opfs_machine.specs.Openings.{Opening}
 use Rattle.opfs_machine.specs.Replies.{given_in, row_named}
 use Rattle.opfs_machine.specs.Runs.{Call}
 use Rattle.opfs_laws.specs.Histories.Unread.{ArePendingFor}
-use Rattle.opfs_copies.specs.Copies.{StandsFor}
+use Rattle.opfs_store.specs.Copies.Copies.{StandsFor}
 use Rattle.opfs_work.specs.Works.{WorkingCopy}
 
 -- Whether a call may be made under the turn, by its word alone. The others need only what is the agent's own; of a read, a

@@ -1,7 +1,5 @@
 //! What one shared call does: what it asks of its caller, and what it leaves. The store under the agents serves it, and
 //! the agents make it.
-#![tactic(auto)]
-
 mod acted;
 mod store;
 

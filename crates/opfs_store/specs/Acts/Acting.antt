@@ -20,13 +20,13 @@ use Rattle.opfs_machine.specs.Steps.{is_refusal}
 use Rattle.opfs_laws.specs.Histories.Opened.{added}
 use Rattle.opfs_laws.specs.Histories.Unread.{unread_entry}
 use Rattle.opfs_outside.specs.Faults.{Rose}
-use Rattle.opfs_copies.specs.Copies.{StandsFor}
+use Rattle.opfs_store.specs.Copies.Copies.{StandsFor}
 use Rattle.opfs_work.specs.Pages.{page_at, is_far}
 use Rattle.opfs_work.specs.Works.{WorkingCopy}
-use Rattle.opfs_acts.specs.declared.acted.AwaitState.{AwaitState}
-use Rattle.opfs_acts.specs.declared.acted.AwaitState.TheVariants as await
-use Rattle.opfs_acts.specs.declared.acted.Gift.{Gift}
-use Rattle.opfs_acts.specs.declared.acted.Gift.TheVariants as gift
+use Rattle.opfs_store.specs.declared.acts.acted.AwaitState.{AwaitState}
+use Rattle.opfs_store.specs.declared.acts.acted.AwaitState.TheVariants as await
+use Rattle.opfs_store.specs.declared.acts.acted.Gift.{Gift}
+use Rattle.opfs_store.specs.declared.acts.acted.Gift.TheVariants as gift
 
 -- The entry of a call.
 abbrev pub told_entry : Call → Reply → Entry

@@ -1,5 +1,0 @@
-use Rattle.opfs_copies.proofs.Copying.{copies-stand}
-use Rattle.opfs_copies.proofs.standing.a_copy_stands_for_its_row.Goals as goal
-
-pub returns : goal.returns
-returns c = copies-stand
