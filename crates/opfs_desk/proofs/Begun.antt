@@ -13,8 +13,8 @@ use Rattle.opfs_books.specs.Laws.Books.{Fixed, AreBooks}
 use Rattle.opfs_books.specs.Opened.{IsOpened}
 use Rattle.opfs_data.specs.Rows.{Rows, row_of, kept_count}
 use Rattle.opfs_data.proofs.WriteLemmas.{all_append}
-use Rattle.opfs_desk_laws.specs.Open.{if_open, open_at}
-use Rattle.opfs_desk_laws.specs.Spaced.{AreHolders, AreSpaced}
+use Rattle.opfs_pages.specs.HistoryLaws.Open.{if_open, open_at}
+use Rattle.opfs_pages.specs.HistoryLaws.Spaced.{AreHolders, AreSpaced}
 use Rattle.opfs_desk_parts.specs.Held.{AreTied, AreHeld, AreHeldWhole, HaveOwnKeys}
 use Rattle.opfs_desk_parts.specs.Seen.{machine_in, tree_in, book_in}
 use Rattle.opfs_desk_parts.specs.declared.parts.Ledger.{Ledger}
@@ -31,7 +31,7 @@ use Rattle.opfs_outside.specs.Moments.{Elapses}
 use Rattle.opfs_outside.specs.declared.disk.Disk.{Ghosts as DiskWords}
 use Rattle.opfs_records.specs.Replay.Built.{Built, all_extents, named, has_block, is_once, used_by, IsSound, IsSoundRow}
 use Rattle.opfs_records.proofs.replay.Holding.{all_both, are_below, is_within_size}
-use Rattle.opfs_row_puts.specs.Plans.{shelf}
+use Rattle.opfs_pages.specs.RowCalls.Plans.{shelf}
 use Rattle.opfs_register.specs.Seating.{agent_begun}
 use Rattle.opfs_register.specs.declared.seat.Who.{Who}
 use Rattle.opfs_space.specs.Holders.{Holders, AreBlocks, IsFirst}

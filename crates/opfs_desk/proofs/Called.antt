@@ -13,7 +13,7 @@ use Rattle.opfs_outside.specs.declared.disk.Disk.{Ghosts as DiskWords}
 use Rattle.opfs_work.specs.Works.{WorkingCopy}
 use Rattle.std.proofs.Common.{ℕ, ◌≤◌, List, sym, subst}
 use Rattle.opfs_desk_acts.specs.Calling.{IsCalled, IsLeftAlone}
-use Rattle.opfs_desk_laws.specs.Handles.{AreHandlesWhole}
+use Rattle.opfs_pages.specs.HistoryLaws.Handles.{AreHandlesWhole}
 use Rattle.opfs_desk_parts.specs.Acted.{HasActed}
 use Rattle.opfs_desk_parts.specs.declared.parts.Parts.{Parts}
 use Rattle.opfs_desk_reads.specs.Handles.{HandlesGoOn}

@@ -1,6 +1,6 @@
 -- What a desk keeps between calls. This project's own.
 use Rattle.opfs_books.specs.Laws.Books.{Fixed}
-use Rattle.opfs_desk_laws.specs.Handles.{AreHandlesWhole}
+use Rattle.opfs_pages.specs.HistoryLaws.Handles.{AreHandlesWhole}
 use Rattle.opfs_desk_parts.specs.Held.{AreHeld}
 use Rattle.opfs_desk_parts.specs.declared.parts.Parts.{Parts}
 use Rattle.opfs_iterating.specs.Known.{AreReached, Lasts}

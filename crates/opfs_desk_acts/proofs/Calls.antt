@@ -27,7 +27,7 @@ use Rattle.opfs_desk_asks.specs.declared.asked.Asked.{Asked}
 use Rattle.opfs_desk_asks.specs.declared.asked.Asked.TheVariants as asked
 use Rattle.opfs_desk_asks.specs.declared.asked.Readied.{Readied}
 use Rattle.opfs_desk_asks.proofs.Same.{same-held, with_state}
-use Rattle.opfs_desk_laws.specs.Handles.{AreHandlesWhole}
+use Rattle.opfs_pages.specs.HistoryLaws.Handles.{AreHandlesWhole}
 use Rattle.opfs_desk_parts.specs.Acted.{HasActed, IsUnacted, IsWay}
 use Rattle.opfs_desk_parts.specs.Asked.{AreEvictions, IsAsked}
 use Rattle.opfs_desk_parts.specs.Held.{AreHeldWhole}

@@ -3,7 +3,7 @@ use Rattle.std.specs.Prelude.{◌≡◌, ◌++◌, List, Option, None}
 use Rattle.opfs_store.specs.Acts.Asking.{MayAct}
 use Rattle.opfs_base.specs.Texts.{Text}
 use Rattle.opfs_books.specs.Laws.Books.{Fixed}
-use Rattle.opfs_desk_laws.specs.Handles.{AreHandlesWhole}
+use Rattle.opfs_pages.specs.HistoryLaws.Handles.{AreHandlesWhole}
 use Rattle.opfs_desk_parts.specs.Acted.{IsWayNow}
 use Rattle.opfs_desk_parts.specs.Held.{AreHeld}
 use Rattle.opfs_desk_parts.specs.Seen.{machine_in, tree_in}

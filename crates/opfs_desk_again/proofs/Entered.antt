@@ -10,17 +10,17 @@ use Rattle.opfs_books.specs.Laws.Books.{Fixed, AreBooks}
 use Rattle.opfs_state_rows.specs.Changes.Changed.{tree_by}
 use Rattle.opfs_data.specs.Pages.{page_of, blank}
 use Rattle.opfs_data.specs.Rows.{Rows, row_of, no_row, kept_count, OthersStay}
-use Rattle.opfs_desk_laws.specs.Handles.{AreHandlesWhole, handle_on}
-use Rattle.opfs_desk_laws.specs.Hands.{row_in_hand}
-use Rattle.opfs_desk_laws.specs.Laid.{AreLaid}
-use Rattle.opfs_desk_laws.specs.Laws.{BlocksGoOn, CallsLeaveOtherRows, TreesKeepBlocks}
-use Rattle.opfs_desk_laws.specs.Open.{if_open, open_at, OthersStayOpen, StaysOpen}
-use Rattle.opfs_desk_laws.specs.Putting.{AllReadAlike}
-use Rattle.opfs_desk_laws.specs.RowsAfter.{CallsChangeTheirRow, IsDone}
-use Rattle.opfs_desk_laws.specs.Shelves.{HasSameBlocks}
-use Rattle.opfs_desk_laws.specs.Spaced.{AreSpaced}
-use Rattle.opfs_desk_laws.proofs.Begun.{other-or}
-use Rattle.opfs_desk_laws.proofs.Leaving.{open-is}
+use Rattle.opfs_pages.specs.HistoryLaws.Handles.{AreHandlesWhole, handle_on}
+use Rattle.opfs_pages.specs.HistoryLaws.Hands.{row_in_hand}
+use Rattle.opfs_pages.specs.HistoryLaws.Laid.{AreLaid}
+use Rattle.opfs_pages.specs.HistoryLaws.Laws.{BlocksGoOn, CallsLeaveOtherRows, TreesKeepBlocks}
+use Rattle.opfs_pages.specs.HistoryLaws.Open.{if_open, open_at, OthersStayOpen, StaysOpen}
+use Rattle.opfs_pages.specs.HistoryLaws.Putting.{AllReadAlike}
+use Rattle.opfs_pages.specs.HistoryLaws.RowsAfter.{CallsChangeTheirRow, IsDone}
+use Rattle.opfs_pages.specs.HistoryLaws.Shelves.{HasSameBlocks}
+use Rattle.opfs_pages.specs.HistoryLaws.Spaced.{AreSpaced}
+use Rattle.opfs_pages.proofs.history_laws.Begun.{other-or}
+use Rattle.opfs_pages.proofs.history_laws.Leaving.{open-is}
 use Rattle.opfs_hist.specs.declared.entry.Entry.{Entry}
 use Rattle.opfs_hist.specs.declared.op.Op.{Op}
 use Rattle.opfs_hist.specs.declared.op.Op.TheVariants as op
@@ -40,7 +40,7 @@ use Rattle.opfs_machine.specs.Steps.{after_reply, is_refusal}
 use Rattle.opfs_outside.specs.declared.disk.Disk.{Ghosts as DiskWords}
 use Rattle.opfs_pages.specs.Copies.{IsBegun}
 use Rattle.opfs_records.specs.Replay.Built.{Built, has_block}
-use Rattle.opfs_row_puts.specs.Plans.{shelf}
+use Rattle.opfs_pages.specs.RowCalls.Plans.{shelf}
 use Rattle.opfs_records.specs.Checkpoint.Written.{stored_row, stored_rows}
 use Rattle.opfs_space.specs.Files.{file_has, extents_in}
 use Rattle.opfs_space.specs.Holders.{HasPage}

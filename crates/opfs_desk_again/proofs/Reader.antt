@@ -7,8 +7,8 @@ use Rattle.opfs_base.specs.Texts.{Text}
 use Rattle.opfs_books.specs.Laws.Books.{Fixed}
 use Rattle.opfs_books.specs.Laws.Laws.{BooksKeepTheState, BooksShowTheirImages}
 use Rattle.opfs_store.specs.Copies.Copies.{StandsFor, IsPaged}
-use Rattle.opfs_desk_laws.specs.Handles.{AreHandlesWhole, HandlesStayWhole}
-use Rattle.opfs_desk_laws.specs.Putting.{AllReadAlike}
+use Rattle.opfs_pages.specs.HistoryLaws.Handles.{AreHandlesWhole, HandlesStayWhole}
+use Rattle.opfs_pages.specs.HistoryLaws.Putting.{AllReadAlike}
 use Rattle.opfs_hist.specs.declared.entry.Entry.{Entry}
 use Rattle.opfs_hist.specs.declared.op.Mode.{Mode}
 use Rattle.opfs_hist.specs.declared.op.Mode.TheVariants as mode

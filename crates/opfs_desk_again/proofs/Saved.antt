@@ -5,7 +5,7 @@ use Rattle.opfs_base.specs.Texts.{Text}
 use Rattle.opfs_books.specs.Laws.Books.{Fixed}
 use Rattle.opfs_store.specs.Copies.Copies.{StandsFor, IsCopyOf, IsPaged}
 use Rattle.opfs_desk_contents.specs.Words.{flushes_nothing, may_only_read, may_write, stores_row}
-use Rattle.opfs_desk_laws.specs.Copies.{IsHandleCopy}
+use Rattle.opfs_pages.specs.HistoryLaws.Copies.{IsHandleCopy}
 use Rattle.opfs_desk_parts.specs.Seen.{machine_in}
 use Rattle.opfs_desk_parts.specs.declared.call.InHand.{InHand}
 use Rattle.opfs_desk_parts.specs.declared.parts.Ledger.{Ledger}

@@ -18,7 +18,7 @@ use Rattle.opfs_codec.specs.declared.change.Change.TheVariants.{Content}
 use Rattle.opfs_commit.specs.Making.{new_bytes, told_as}
 use Rattle.opfs_store.specs.Copies.Copies.{StandsFor, IsPaged}
 use Rattle.opfs_data.specs.Places.{bytes_of}
-use Rattle.opfs_desk_laws.specs.Handles.{AreHandlesWhole, HandlesStayWhole}
+use Rattle.opfs_pages.specs.HistoryLaws.Handles.{AreHandlesWhole, HandlesStayWhole}
 use Rattle.opfs_hist.specs.declared.entry.Entry.{Entry}
 use Rattle.opfs_hist.specs.declared.reply.Reply.TheVariants as reply
 use Rattle.opfs_laws.specs.Histories.Unread.{unread}

@@ -9,10 +9,10 @@ use Rattle.opfs_books.specs.Stored.Spelled.{flush_spelled, handle_spelled, spell
 use Rattle.opfs_state_rows.specs.Changes.Allowed.{IsSized}
 use Rattle.opfs_state_rows.specs.Changes.Changed.{changed_by as tree_changed_by, ended_by, flushed_by, flushed_in, tree_by}
 use Rattle.opfs_desk_contents.specs.Words.{ends_row, flushes_nothing, may_only_read, may_write, stores_row}
-use Rattle.opfs_desk_laws.specs.Hands.{row_in_hand}
-use Rattle.opfs_desk_laws.specs.Laws.{TreesKeepBlocks}
-use Rattle.opfs_desk_laws.specs.RowsAfter.{IsDone}
-use Rattle.opfs_desk_laws.proofs.HandleFiles.{changed-same}
+use Rattle.opfs_pages.specs.HistoryLaws.Hands.{row_in_hand}
+use Rattle.opfs_pages.specs.HistoryLaws.Laws.{TreesKeepBlocks}
+use Rattle.opfs_pages.specs.HistoryLaws.RowsAfter.{IsDone}
+use Rattle.opfs_pages.proofs.history_laws.HandleFiles.{changed-same}
 use Rattle.opfs_desk_plain.proofs.Words.{from-some, none-for, ok-is}
 use Rattle.opfs_hist.specs.Sums.{asks_for_row}
 use Rattle.opfs_hist.specs.declared.op.Mode.{Mode}

@@ -13,7 +13,7 @@ ghost use Rattle.opfs_desk_again.specs.More.{HasMoreThanReserve};
 ghost use Rattle.opfs_desk_contents.specs.Storing.{HasStored, MayStoreContent, content_now};
 ghost use Rattle.opfs_desk_contents.specs.Words.{is_storing, stores_row};
 ghost use Rattle.opfs_desk_kept.specs.Changing.{HasNotChanged};
-ghost use Rattle.opfs_desk_laws.specs.Handles.{AreHandlesWhole};
+ghost use Rattle.opfs_pages.specs.HistoryLaws.Handles.{AreHandlesWhole};
 ghost use Rattle.opfs_desk_parts.specs.Acted.{HasActed, IsUnacted};
 ghost use Rattle.opfs_desk_parts.specs.Asked.{IsAsked, MayGo};
 ghost use Rattle.opfs_desk_parts.specs.Answered.{IsAnswered};

@@ -6,7 +6,7 @@ ghost use Rattle.opfs_base.specs.Texts.{Text};
 ghost use Rattle.opfs_books.specs.Laws.Books.{Fixed};
 ghost use Rattle.opfs_desk_contents.specs.Words.{flushes_nothing};
 ghost use Rattle.opfs_desk_ends.specs.Leaving.{IsInOrderThrough};
-ghost use Rattle.opfs_desk_laws.specs.Handles.{AreHandlesWhole};
+ghost use Rattle.opfs_pages.specs.HistoryLaws.Handles.{AreHandlesWhole};
 ghost use Rattle.opfs_desk_parts.specs.Acted.{HasActed, IsUnacted};
 ghost use Rattle.opfs_desk_parts.specs.Answered.{IsAnswered, MayAnswer};
 ghost use Rattle.opfs_desk_parts.specs.Asked.{IsAsked, MayGo};

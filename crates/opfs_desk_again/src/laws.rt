@@ -3,10 +3,10 @@
 ghost use Rattle.std.specs.Prelude.{◌≡◌, ℕ, List, [], ◌∷◌, ◌++◌};
 ghost use Rattle.opfs_books.specs.Laws.Laws.{BooksKeepTheState, BooksShowTheirImages};
 ghost use Rattle.opfs_store.specs.Copies.Copies.{StandsFor, IsPaged};
-ghost use Rattle.opfs_desk_laws.specs.Copies.{HasLeftRow, IsHandleCopy};
-ghost use Rattle.opfs_desk_laws.specs.Handles.{HandlesStayWhole};
-ghost use Rattle.opfs_desk_laws.specs.Laws.{BlocksGoOn, CallsLeaveOtherRows, TreesKeepBlocks};
-ghost use Rattle.opfs_desk_laws.specs.RowsAfter.{CallsChangeTheirRow};
+ghost use Rattle.opfs_pages.specs.HistoryLaws.Copies.{HasLeftRow, IsHandleCopy};
+ghost use Rattle.opfs_pages.specs.HistoryLaws.Handles.{HandlesStayWhole};
+ghost use Rattle.opfs_pages.specs.HistoryLaws.Laws.{BlocksGoOn, CallsLeaveOtherRows, TreesKeepBlocks};
+ghost use Rattle.opfs_pages.specs.HistoryLaws.RowsAfter.{CallsChangeTheirRow};
 ghost use Rattle.opfs_desk_rows.specs.InHand.{RowsInHandAreLaid};
 ghost use Rattle.opfs_desk_steps.specs.Acting.{CallsAreActed};
 ghost use Rattle.opfs_desk_steps.specs.Answering.{ReadyCallsAreAnswered};
@@ -21,10 +21,6 @@ ghost use Rattle.opfs_machine.specs.Openings.{Opening};
 ghost use Rattle.opfs_work.specs.Works.{WorkingCopy};
 
 use opfs_books::{the_books_show_their_images, the_state_is_kept};
-use opfs_desk_laws::{
-    blocks_go_on, calls_change_their_row, calls_leave_other_rows, copies_stand_for_their_row,
-    handles_stay_whole, trees_keep_their_blocks,
-};
 use opfs_desk_rows::rows_in_hand_are_laid;
 use opfs_desk_steps::{asked_calls_are_ready, calls_are_acted, ready_calls_are_answered};
 use opfs_laws::lengths::bridge::{
@@ -32,6 +28,10 @@ use opfs_laws::lengths::bridge::{
 };
 use opfs_laws::owned::a_call_moves_its_agent;
 use opfs_outside::Disk;
+use opfs_pages::{
+    blocks_go_on, calls_change_their_row, calls_leave_other_rows, copies_stand_for_their_row,
+    handles_stay_whole, trees_keep_their_blocks,
+};
 
 /// What is known of the steps of a call.
 pub(crate) fn calling_laws<D: Disk>()

@@ -3,11 +3,11 @@ use Rattle.std.proofs.Common.{◌≡◌, [], sym, subst, ◌∙◌}
 use Rattle.opfs_books.specs.Stored.Spelled.{stored_built}
 use Rattle.opfs_books.specs.Laws.Books.{Fixed, AreBooksAt}
 use Rattle.opfs_books.specs.Seen.{book}
-use Rattle.opfs_desk_laws.specs.Laid.{AreLaid}
+use Rattle.opfs_pages.specs.HistoryLaws.Laid.{AreLaid}
 use Rattle.opfs_machine.specs.Histories.{state_after}
 use Rattle.opfs_outside.specs.declared.disk.Disk.{Ghosts as DiskWords}
 use Rattle.opfs_records.specs.Replay.Built.{Built}
-use Rattle.opfs_row_puts.specs.Plans.{shelf}
+use Rattle.opfs_pages.specs.RowCalls.Plans.{shelf}
 use Rattle.opfs_space.specs.Room.{Machine}
 use Rattle.opfs_state.specs.Applied.{StateSeen}
 use Rattle.opfs_tree.specs.Rows.{Rows as Tree}

@@ -13,13 +13,13 @@ use Rattle.opfs_blocks.specs.Sets.{blocks_of, marked}
 use Rattle.opfs_data.specs.declared.page.Page.{Page}
 use Rattle.opfs_data.specs.Pages.{blank}
 use Rattle.opfs_data.specs.Rows.{Rows, no_row, pages_at, row_of}
-use Rattle.opfs_desk_laws.specs.Laws.{BlocksGoOn}
-use Rattle.opfs_desk_laws.specs.Spaced.{AreSpaced}
-use Rattle.opfs_desk_laws.proofs.Holding.{spaced-blocks}
+use Rattle.opfs_pages.specs.HistoryLaws.Laws.{BlocksGoOn}
+use Rattle.opfs_pages.specs.HistoryLaws.Spaced.{AreSpaced}
+use Rattle.opfs_pages.proofs.history_laws.Holding.{spaced-blocks}
 use Rattle.opfs_desk_ways.proofs.Evictions.{spaced-recorded, stored-named}
 use Rattle.opfs_records.specs.Replay.Built.{block_count, has_block, is_once}
 use Rattle.opfs_records.proofs.replay.Counts.{distinct_once}
-use Rattle.opfs_row_puts.specs.Plans.{shelf}
+use Rattle.opfs_pages.specs.RowCalls.Plans.{shelf}
 use Rattle.opfs_records.specs.Checkpoint.Written.{stored_rows}
 use Rattle.opfs_space.specs.Holders.{HasPage}
 use Rattle.opfs_space.specs.Room.{Machine}

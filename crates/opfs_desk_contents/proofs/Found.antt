@@ -6,8 +6,8 @@ use Rattle.opfs_books.specs.Laws.Books.{Fixed}
 use Rattle.opfs_books.specs.Laws.Laws.{BooksKeepTheState}
 use Rattle.opfs_data.specs.Rows.{Rows}
 use Rattle.opfs_data.specs.Writes.{WriteList, page_moves}
-use Rattle.opfs_desk_laws.specs.Open.{open_at, file_in, is_stream, reserve_in}
-use Rattle.opfs_desk_laws.specs.Spaced.{AreSpaced}
+use Rattle.opfs_pages.specs.HistoryLaws.Open.{open_at, file_in, is_stream, reserve_in}
+use Rattle.opfs_pages.specs.HistoryLaws.Spaced.{AreSpaced}
 use Rattle.opfs_desk_parts.specs.Acted.{AreCleared, IsWayNow}
 use Rattle.opfs_desk_parts.specs.Held.{AreHeldAt, AreHeldWhole}
 use Rattle.opfs_desk_parts.specs.Seen.{machine_in, tree_in, book_in}
@@ -20,9 +20,9 @@ use Rattle.opfs_machine.specs.Agents.{agent_of, own_of}
 use Rattle.opfs_machine.specs.Histories.{state_after}
 use Rattle.opfs_machine.specs.Sums.{reserve_of}
 use Rattle.opfs_outside.specs.declared.disk.Disk.{Ghosts as DiskWords}
-use Rattle.opfs_puts.specs.declared.put.Put.{Put}
+use Rattle.opfs_pages.specs.declared.writing.put.Put.{Put}
 use Rattle.opfs_records.specs.Replay.Built.{Built, has_block, named}
-use Rattle.opfs_row_puts.specs.Plans.{shelf, AreGotten, KnowsOwn, MayFindBlocks, WaitForBlocks}
+use Rattle.opfs_pages.specs.RowCalls.Plans.{shelf, AreGotten, KnowsOwn, MayFindBlocks, WaitForBlocks}
 use Rattle.opfs_records.specs.Checkpoint.Written.{stored_rows}
 use Rattle.opfs_space.specs.Room.{Machine}
 use Rattle.opfs_space.specs.Spaces.{SpaceSeen}

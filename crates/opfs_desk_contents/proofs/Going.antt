@@ -11,7 +11,7 @@ use Rattle.opfs_data.specs.declared.page.SavedPage.{SavedPage}
 use Rattle.opfs_data.specs.Pages.{AreNow, blank, page_of}
 use Rattle.opfs_data.specs.Rows.{Rows, pages_at, page_at, row_at}
 use Rattle.opfs_data.specs.Writes.{WriteList}
-use Rattle.opfs_desk_laws.specs.Putting.{AllReadAlike}
+use Rattle.opfs_pages.specs.HistoryLaws.Putting.{AllReadAlike}
 use Rattle.opfs_desk_parts.specs.Acted.{AreCleared}
 use Rattle.opfs_desk_parts.specs.Held.{AreHeldAt, AreHeldWhole}
 use Rattle.opfs_desk_parts.specs.Seen.{book_in, machine_in, shelf_in, tree_in}
@@ -23,10 +23,10 @@ use Rattle.opfs_hist.specs.declared.entry.Entry.{Entry}
 use Rattle.opfs_machine.specs.Changes.{changes}
 use Rattle.opfs_machine.specs.Histories.{state_after}
 use Rattle.opfs_outside.specs.declared.disk.Disk.{Ghosts as DiskWords}
-use Rattle.opfs_puts.specs.Puts.{IsReady as IsPutReady}
-use Rattle.opfs_puts.specs.declared.put.Put.{Put}
-use Rattle.opfs_row_puts.specs.Plans.{AreGotten, shelf}
-use Rattle.opfs_row_puts.specs.Rows.{IsPutOf}
+use Rattle.opfs_pages.specs.Writing.Puts.{IsReady as IsPutReady}
+use Rattle.opfs_pages.specs.declared.writing.put.Put.{Put}
+use Rattle.opfs_pages.specs.RowCalls.Plans.{AreGotten, shelf}
+use Rattle.opfs_pages.specs.RowCalls.Rows.{IsPutOf}
 use Rattle.opfs_state.specs.Applied.{StateSeen}
 use Rattle.opfs_tree.specs.Rows.{Rows as Tree}
 use Rattle.opfs_laws.specs.Steady.Steady.{row_bytes}

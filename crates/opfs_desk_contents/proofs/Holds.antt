@@ -12,13 +12,13 @@ use Rattle.opfs_base.specs.declared.extents.Extent.{Extent}
 use Rattle.opfs_blocks.specs.Sets.{blocks_of}
 use Rattle.opfs_blocks.proofs.SetLemmas.{blocks_of-append}
 use Rattle.opfs_data.specs.Rows.{Rows}
-use Rattle.opfs_desk_laws.specs.Open.{open_at, file_in}
-use Rattle.opfs_desk_laws.specs.Spaced.{AreSpaced}
-use Rattle.opfs_desk_laws.proofs.Holding.{spaced-blocks}
+use Rattle.opfs_pages.specs.HistoryLaws.Open.{open_at, file_in}
+use Rattle.opfs_pages.specs.HistoryLaws.Spaced.{AreSpaced}
+use Rattle.opfs_pages.proofs.history_laws.Holding.{spaced-blocks}
 use Rattle.opfs_records.specs.Replay.Applying.{can_hold}
 use Rattle.opfs_records.specs.Replay.Built.{all_extents, block_count, has_block, is_once, named, named_beside}
 use Rattle.opfs_records.proofs.replay.Holding.{all_both, is_within_size, of_all}
-use Rattle.opfs_row_puts.specs.Plans.{shelf}
+use Rattle.opfs_pages.specs.RowCalls.Plans.{shelf}
 use Rattle.opfs_records.specs.Checkpoint.Written.{stored_row, stored_rows}
 use Rattle.opfs_space.specs.Files.{extents_in, file_has}
 use Rattle.opfs_space.specs.Holders.{HasPage}

@@ -24,13 +24,13 @@ use Rattle.opfs_machine.specs.declared.state.State.{State}
 use Rattle.opfs_machine.specs.Changes.{Change}
 use Rattle.opfs_outside.specs.declared.disk.Disk.{Ghosts as DiskWords}
 use Rattle.opfs_records.specs.Replay.Built.{Built}
-use Rattle.opfs_row_puts.specs.Rows.{ArePlain}
+use Rattle.opfs_pages.specs.RowCalls.Rows.{ArePlain}
 use Rattle.opfs_state.specs.Applied.{StateSeen, IsPrepared}
 use Rattle.opfs_tree.specs.Rows.{IsInOrder, file_at as file_in_tree}
 use Rattle.opfs_tree.specs.declared.row.FileRow.{FileRow}
 use Rattle.opfs_state.specs.Verdicts.Callers.{IsAgent}
 use Rattle.opfs_desk_kept.specs.Changing.{HasNotChanged}
-use Rattle.opfs_desk_laws.specs.Open.{open_at, file_in}
+use Rattle.opfs_pages.specs.HistoryLaws.Open.{open_at, file_in}
 use Rattle.opfs_desk_parts.specs.Answered.{IsAnswered, MayChange}
 use Rattle.opfs_desk_parts.specs.Held.{AreHeldAt, AreHeldWhole}
 use Rattle.opfs_desk_parts.specs.Seen.{book_in, machine_in, tree_in}

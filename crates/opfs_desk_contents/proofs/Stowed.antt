@@ -19,7 +19,7 @@ use Rattle.opfs_codec.specs.declared.change.Change.TheVariants.{Content}
 use Rattle.opfs_commit.specs.Making.{new_bytes, told_as}
 use Rattle.opfs_data.specs.Places.{bytes_of}
 use Rattle.opfs_data.specs.Rows.{page_at}
-use Rattle.opfs_desk_laws.specs.Open.{open_at, file_in}
+use Rattle.opfs_pages.specs.HistoryLaws.Open.{open_at, file_in}
 use Rattle.opfs_hist.specs.declared.entry.Entry.{Entry}
 use Rattle.opfs_hist.specs.declared.op.Op.{Op}
 use Rattle.opfs_hist.specs.declared.op.Op.TheVariants as op
@@ -41,7 +41,7 @@ use Rattle.opfs_laws.proofs.Spots.{exact_places}
 use Rattle.opfs_records.specs.Replay.Applying.{can_hold}
 use Rattle.opfs_records.specs.Replay.Built.{Built, named_beside}
 use Rattle.opfs_records.proofs.replay.Holding.{all_more}
-use Rattle.opfs_row_puts.specs.Rows.{ArePlain}
+use Rattle.opfs_pages.specs.RowCalls.Rows.{ArePlain}
 use Rattle.opfs_records.specs.Checkpoint.Written.{IsWritablePlace, IsWritableRow, stored_row, stored_rows}
 use Rattle.opfs_space.specs.Room.{Machine}
 use Rattle.opfs_space.proofs.Others.{others_fewer}

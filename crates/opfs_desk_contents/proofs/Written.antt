@@ -10,14 +10,14 @@ use Rattle.opfs_data.specs.declared.page.Page.{Page}
 use Rattle.opfs_data.specs.Pages.{page_of, runs_of, AreOnce}
 use Rattle.opfs_data.specs.Rows.{Rows, row_of, pages_at, page_at, no_row, kept_count, IsOther, OthersStay}
 use Rattle.opfs_data.specs.Writes.{PageWrite, page_moves, blocks_in}
-use Rattle.opfs_desk_laws.specs.Laid.{AreLaid}
-use Rattle.opfs_desk_laws.specs.Laws.{PagesStayThere, PagesGoOnTelling}
-use Rattle.opfs_desk_laws.specs.Open.{open_at, if_open, reserve_in}
-use Rattle.opfs_desk_laws.specs.Shelves.{KeepsOpen}
-use Rattle.opfs_desk_laws.specs.Told.{AreRowed, AreThere, AreTold}
-use Rattle.opfs_desk_laws.proofs.Begun.{other-or}
-use Rattle.opfs_desk_laws.proofs.Holding.{spaced-blocks, holders_of}
-use Rattle.opfs_desk_laws.proofs.Spacing.{stays-same}
+use Rattle.opfs_pages.specs.HistoryLaws.Laid.{AreLaid}
+use Rattle.opfs_pages.specs.HistoryLaws.Laws.{PagesStayThere, PagesGoOnTelling}
+use Rattle.opfs_pages.specs.HistoryLaws.Open.{open_at, if_open, reserve_in}
+use Rattle.opfs_pages.specs.HistoryLaws.Shelves.{KeepsOpen}
+use Rattle.opfs_pages.specs.HistoryLaws.Told.{AreRowed, AreThere, AreTold}
+use Rattle.opfs_pages.proofs.history_laws.Begun.{other-or}
+use Rattle.opfs_pages.proofs.history_laws.Holding.{spaced-blocks, holders_of}
+use Rattle.opfs_pages.proofs.history_laws.Spacing.{stays-same}
 use Rattle.opfs_desk_parts.specs.Acted.{AreCleared, IsWayNow}
 use Rattle.opfs_desk_parts.specs.Held.{AreTied, AreHeldAt, AreHeldWhole}
 use Rattle.opfs_desk_parts.specs.Seen.{machine_in, tree_in, book_in}
@@ -35,12 +35,12 @@ use Rattle.opfs_machine.specs.Sums.{reserve_of}
 use Rattle.opfs_outside.specs.Faults.{Rose}
 use Rattle.opfs_outside.specs.declared.disk.Disk.{Ghosts as DiskWords}
 use Rattle.opfs_pages.specs.Copies.{IsBegun}
-use Rattle.opfs_puts.specs.Puts.{IsPut, IsNotPut, all_writes}
-use Rattle.opfs_puts.specs.declared.put.Put.{Put}
+use Rattle.opfs_pages.specs.Writing.Puts.{IsPut, IsNotPut, all_writes}
+use Rattle.opfs_pages.specs.declared.writing.put.Put.{Put}
 use Rattle.opfs_records.specs.Replay.Built.{Built, all_extents, has_block, named}
-use Rattle.opfs_row_puts.specs.Plans.{shelf}
-use Rattle.opfs_row_puts.proofs.Placing.{put-spaced, left-spaced}
-use Rattle.opfs_row_puts.proofs.Written.{put-begins, put-plain}
+use Rattle.opfs_pages.specs.RowCalls.Plans.{shelf}
+use Rattle.opfs_pages.proofs.row_calls.Placing.{put-spaced, left-spaced}
+use Rattle.opfs_pages.proofs.row_calls.Written.{put-begins, put-plain}
 use Rattle.opfs_space.specs.Holders.{AreMine, Writes}
 use Rattle.opfs_space.specs.Room.{Machine}
 use Rattle.opfs_space.proofs.Mine.{mine_unnamed}

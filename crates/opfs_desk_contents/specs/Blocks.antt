@@ -4,10 +4,10 @@ use Rattle.opfs_base.specs.Places.{Place}
 use Rattle.opfs_base.specs.declared.extents.Extent.{Extent}
 use Rattle.opfs_blocks.specs.Sets.{blocks_of, marked}
 use Rattle.opfs_data.specs.Rows.{Rows, row_of, IsOther, OthersStay}
-use Rattle.opfs_desk_laws.specs.Open.{open_at, file_in, is_stream, OthersStayOpen}
-use Rattle.opfs_desk_laws.specs.Spaced.{AreSpaced}
-use Rattle.opfs_row_puts.specs.Plans.{shelf}
-use Rattle.opfs_row_puts.specs.Rows.{ArePlain}
+use Rattle.opfs_pages.specs.HistoryLaws.Open.{open_at, file_in, is_stream, OthersStayOpen}
+use Rattle.opfs_pages.specs.HistoryLaws.Spaced.{AreSpaced}
+use Rattle.opfs_pages.specs.RowCalls.Plans.{shelf}
+use Rattle.opfs_pages.specs.RowCalls.Rows.{ArePlain}
 use Rattle.opfs_records.specs.Checkpoint.Written.{stored_rows}
 use Rattle.opfs_space.specs.Files.{IsChangedAt}
 use Rattle.opfs_space.specs.Room.{Machine}

@@ -13,11 +13,11 @@ use Rattle.opfs_machine.specs.Histories.{state_after}
 use Rattle.opfs_machine.specs.Sums.{reserve_of}
 use Rattle.opfs_outside.specs.declared.disk.Disk.{Ghosts as DiskWords}
 use Rattle.opfs_pages.specs.Copies.{IsBegun}
-use Rattle.opfs_puts.specs.Puts.{IsReady as IsPutReady}
-use Rattle.opfs_puts.specs.declared.put.Put.{Put}
+use Rattle.opfs_pages.specs.Writing.Puts.{IsReady as IsPutReady}
+use Rattle.opfs_pages.specs.declared.writing.put.Put.{Put}
 use Rattle.opfs_records.specs.Replay.Built.{Built}
-use Rattle.opfs_row_puts.specs.Plans.{AreGotten, HaveBlocks, IsStagedFor}
-use Rattle.opfs_row_puts.specs.Rows.{Change, ArePlain, IsPutOf}
+use Rattle.opfs_pages.specs.RowCalls.Plans.{AreGotten, HaveBlocks, IsStagedFor}
+use Rattle.opfs_pages.specs.RowCalls.Rows.{Change, ArePlain, IsPutOf}
 use Rattle.opfs_laws.specs.Steady.Steady.{row_bytes}
 use Rattle.opfs_tree.specs.Rows.{Rows as Tree}
 use Rattle.opfs_work.specs.Works.{WorkingCopy}

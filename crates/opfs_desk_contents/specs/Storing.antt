@@ -16,7 +16,7 @@ use Rattle.opfs_codec.specs.declared.change.Change.TheVariants.{Content}
 use Rattle.opfs_data.specs.Pages.{page_of}
 use Rattle.opfs_data.specs.Places.{bytes_of}
 use Rattle.opfs_data.specs.Rows.{Rows, page_at}
-use Rattle.opfs_desk_laws.specs.Open.{open_at, file_in}
+use Rattle.opfs_pages.specs.HistoryLaws.Open.{open_at, file_in}
 use Rattle.opfs_hist.specs.declared.entry.Entry.{Entry}
 use Rattle.opfs_machine.specs.declared.own.Own.{Own}
 use Rattle.opfs_machine.specs.declared.state.Sizes.{Sizes}
@@ -27,9 +27,9 @@ use Rattle.opfs_machine.specs.Effects.{effect}
 use Rattle.opfs_machine.specs.Histories.{IsCall, state_after}
 use Rattle.opfs_outside.specs.declared.disk.Disk.{Ghosts as DiskWords}
 use Rattle.opfs_pages.specs.Copies.{IsBegun}
-use Rattle.opfs_puts.specs.declared.put.Put.{Put}
+use Rattle.opfs_pages.specs.declared.writing.put.Put.{Put}
 use Rattle.opfs_records.specs.Replay.Built.{Built, block_count, has_block, is_once}
-use Rattle.opfs_row_puts.specs.Rows.{ArePlain}
+use Rattle.opfs_pages.specs.RowCalls.Rows.{ArePlain}
 use Rattle.opfs_records.specs.Checkpoint.Written.{IsWritablePlace}
 use Rattle.opfs_space.specs.Holders.{HasPage}
 use Rattle.opfs_tree.specs.Rows.{IsInOrder, file_at as file_in_tree}

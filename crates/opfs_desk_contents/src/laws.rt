@@ -2,7 +2,7 @@
 
 ghost use Rattle.opfs_desk_contents.specs.Blocks.{ContentsKeepBlocks};
 
-use opfs_desk_laws::blocks_go_on;
+use opfs_pages::blocks_go_on;
 
 /// The law of blocks where a row's content was stored: its file has the blocks of its pages, and they are no page's alone any more.
 pub fn stored_contents_keep_blocks_right()

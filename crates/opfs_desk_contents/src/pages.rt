@@ -30,7 +30,7 @@ use opfs_desk_ways::fail_call;
 use opfs_journal::DiskFault;
 use opfs_machine::Sizes;
 use opfs_outside::Disk;
-use opfs_row_puts::collect_blocks;
+use opfs_pages::collect_blocks;
 use opfs_tree::Walk;
 use opfs_work::Work;
 

@@ -11,20 +11,19 @@ ghost use Rattle.opfs_desk_parts.specs.Held.{AreHeldWhole};
 ghost use Rattle.opfs_desk_parts.specs.declared.parts.Pages.{Pages};
 ghost use Rattle.opfs_outside.specs.Faults.{Rose};
 ghost use Rattle.opfs_records.specs.Replay.Built.{Built};
-ghost use Rattle.opfs_row_puts.specs.Plans.{HaveBlocks};
+ghost use Rattle.opfs_pages.specs.RowCalls.Plans.{HaveBlocks};
 ghost use Rattle.opfs_work.specs.Works.{WorkingCopy};
 
 use opfs_books::{pages_beside_leave_the_books, the_books_show_their_images, the_state_is_kept};
-use opfs_desk_laws::{
-    blocks_go_on, pages_go_on_telling, pages_that_were_put_tell_the_row, what_is_laid_goes_on,
-};
 use opfs_desk_parts::{Ledger, Parts};
 use opfs_desk_rows::{parts_lie_inside, puts_have_room};
 use opfs_desk_ways::commit_kept;
 use opfs_journal::DiskFault;
 use opfs_outside::Disk;
-use opfs_puts::Put;
-use opfs_row_puts::find_blocks;
+use opfs_pages::{
+    Put, blocks_go_on, find_blocks, pages_go_on_telling, pages_that_were_put_tell_the_row,
+    what_is_laid_goes_on,
+};
 
 // Ends the doubt. Without doubt it calls no disk.
 fn settle_doubt<D: Disk>(ledger: &mut Ledger<D>) -> Result<(), DiskFault>

@@ -9,13 +9,13 @@ use Rattle.opfs_books.specs.Laws.Books.{Fixed}
 use Rattle.opfs_books.specs.Laws.Laws.{BooksShowTheirImages}
 use Rattle.opfs_data.specs.Pages.{blank}
 use Rattle.opfs_data.specs.Rows.{Rows, row_of, no_row, kept_count, OthersStay}
-use Rattle.opfs_desk_laws.specs.Hands.{row_in_hand}
-use Rattle.opfs_desk_laws.specs.Laws.{BlocksGoOn, CallsLeaveOtherRows, TreesKeepBlocks}
-use Rattle.opfs_desk_laws.specs.Open.{open_at, OthersStayOpen}
-use Rattle.opfs_desk_laws.specs.RowsAfter.{CallsChangeTheirRow}
-use Rattle.opfs_desk_laws.specs.Shelves.{HasSameBlocks}
-use Rattle.opfs_desk_laws.specs.Spaced.{AreSpaced}
-use Rattle.opfs_desk_laws.proofs.Begun.{other-or}
+use Rattle.opfs_pages.specs.HistoryLaws.Hands.{row_in_hand}
+use Rattle.opfs_pages.specs.HistoryLaws.Laws.{BlocksGoOn, CallsLeaveOtherRows, TreesKeepBlocks}
+use Rattle.opfs_pages.specs.HistoryLaws.Open.{open_at, OthersStayOpen}
+use Rattle.opfs_pages.specs.HistoryLaws.RowsAfter.{CallsChangeTheirRow}
+use Rattle.opfs_pages.specs.HistoryLaws.Shelves.{HasSameBlocks}
+use Rattle.opfs_pages.specs.HistoryLaws.Spaced.{AreSpaced}
+use Rattle.opfs_pages.proofs.history_laws.Begun.{other-or}
 use Rattle.opfs_hist.specs.Sums.{asks_for_row}
 use Rattle.opfs_hist.specs.declared.entry.Entry.{Entry}
 use Rattle.opfs_hist.specs.declared.reply.Reply.TheVariants as reply
@@ -31,7 +31,7 @@ use Rattle.opfs_machine.specs.Replies.{row_named}
 use Rattle.opfs_machine.specs.Steps.{after_reply}
 use Rattle.opfs_outside.specs.declared.disk.Disk.{Ghosts as DiskWords}
 use Rattle.opfs_records.specs.Replay.Built.{Built}
-use Rattle.opfs_row_puts.specs.Plans.{shelf}
+use Rattle.opfs_pages.specs.RowCalls.Plans.{shelf}
 use Rattle.opfs_space.specs.Holders.{HasPage}
 use Rattle.opfs_state_rows.specs.Standing.Seen.{Machine}
 use Rattle.opfs_tree.specs.Rows.{Rows as Tree}

@@ -11,11 +11,11 @@ use Rattle.opfs_books.specs.Stored.Spelled.{flush_spelled, handle_spelled, spell
 use Rattle.opfs_state_rows.specs.Changes.Allowed.{IsSized}
 use Rattle.opfs_state_rows.specs.Changes.Asking.{made_at}
 use Rattle.opfs_state_rows.specs.Changes.Changed.{aborted_by, changed_by, ended_by, flushed_in, tree_by}
-use Rattle.opfs_desk_laws.specs.Hands.{row_in_hand}
-use Rattle.opfs_desk_laws.specs.Laws.{TreesKeepBlocks}
-use Rattle.opfs_desk_laws.specs.Open.{if_open, open_at}
-use Rattle.opfs_desk_laws.specs.RowsAfter.{CallsChangeTheirRow, IsDone}
-use Rattle.opfs_desk_laws.proofs.Leaving.{open-is}
+use Rattle.opfs_pages.specs.HistoryLaws.Hands.{row_in_hand}
+use Rattle.opfs_pages.specs.HistoryLaws.Laws.{TreesKeepBlocks}
+use Rattle.opfs_pages.specs.HistoryLaws.Open.{if_open, open_at}
+use Rattle.opfs_pages.specs.HistoryLaws.RowsAfter.{CallsChangeTheirRow, IsDone}
+use Rattle.opfs_pages.proofs.history_laws.Leaving.{open-is}
 use Rattle.opfs_hist.specs.Sums.{asks_for_row}
 use Rattle.opfs_hist.specs.declared.history.PendingSum.{PendingSum}
 use Rattle.opfs_hist.specs.declared.op.Mode.{Mode}

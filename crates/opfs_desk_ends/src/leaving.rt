@@ -6,8 +6,8 @@ ghost use Rattle.opfs_base.specs.Texts.{Text};
 ghost use Rattle.opfs_books.specs.Laws.Books.{Fixed};
 ghost use Rattle.opfs_books.specs.Laws.Laws.{BooksShowTheirImages};
 ghost use Rattle.opfs_desk_ends.specs.Leaving.{IsInOrderThrough, is_leaving, leaves_row};
-ghost use Rattle.opfs_desk_laws.specs.Laws.{BlocksGoOn, CallsLeaveOtherRows, TreesKeepBlocks};
-ghost use Rattle.opfs_desk_laws.specs.RowsAfter.{CallsChangeTheirRow};
+ghost use Rattle.opfs_pages.specs.HistoryLaws.Laws.{BlocksGoOn, CallsLeaveOtherRows, TreesKeepBlocks};
+ghost use Rattle.opfs_pages.specs.HistoryLaws.RowsAfter.{CallsChangeTheirRow};
 ghost use Rattle.opfs_desk_parts.specs.Acted.{HasActed};
 ghost use Rattle.opfs_desk_parts.specs.Answered.{IsAnswered, MayAnswer};
 ghost use Rattle.opfs_desk_parts.specs.Asked.{IsAsked, MayGo};
@@ -28,9 +28,6 @@ ghost use Rattle.opfs_machine.specs.Replies.{row_named};
 ghost use Rattle.opfs_records.specs.Replay.Built.{Built};
 
 use opfs_books::the_books_show_their_images;
-use opfs_desk_laws::{
-    blocks_go_on, calls_change_their_row, calls_leave_other_rows, trees_keep_their_blocks,
-};
 use opfs_desk_parts::{InHand, Ledger, Parts};
 use opfs_desk_rows::rows_in_hand_are_laid;
 use opfs_desk_steps::{
@@ -43,6 +40,9 @@ use opfs_laws::lengths::bridge::{
 };
 use opfs_laws::owned::a_call_moves_its_agent;
 use opfs_outside::Disk;
+use opfs_pages::{
+    blocks_go_on, calls_change_their_row, calls_leave_other_rows, trees_keep_their_blocks,
+};
 use opfs_store::{Acted, Gift};
 use opfs_tree::Walk;
 use opfs_work::Work;

@@ -12,7 +12,7 @@ use Rattle.opfs_state_rows.specs.Changes.Changed.{tree_by}
 use Rattle.opfs_codec.specs.Spelling.{IsChange, IsKey}
 use Rattle.opfs_codec.specs.declared.change.Change.TheVariants.{Persist}
 use Rattle.opfs_codec.specs.declared.change.Format.TheVariants.{New}
-use Rattle.opfs_desk_laws.specs.Hands.{row_in_hand}
+use Rattle.opfs_pages.specs.HistoryLaws.Hands.{row_in_hand}
 use Rattle.opfs_hist.specs.declared.op.Op.{Op}
 use Rattle.opfs_hist.specs.declared.op.Op.TheVariants as op
 use Rattle.opfs_hist.specs.declared.reply.Reply.TheVariants as reply

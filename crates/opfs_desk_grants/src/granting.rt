@@ -6,7 +6,7 @@ ghost use Rattle.opfs_books.specs.Stored.Laws.{CallsAreSpelled, CallsMayFail};
 ghost use Rattle.opfs_books.specs.Laws.Books.{Fixed};
 ghost use Rattle.opfs_books.specs.Laws.Laws.{BooksKeepTheState, BooksShowTheirImages};
 ghost use Rattle.opfs_desk_grants.specs.Granting.{gives_mode};
-ghost use Rattle.opfs_desk_laws.specs.Laws.{BlocksGoOn};
+ghost use Rattle.opfs_pages.specs.HistoryLaws.Laws.{BlocksGoOn};
 ghost use Rattle.opfs_desk_parts.specs.Acted.{HasActed, IsUnacted};
 ghost use Rattle.opfs_desk_parts.specs.Asked.{IsAsked, MayGo};
 ghost use Rattle.opfs_desk_parts.specs.Held.{AreHeldWhole};
@@ -23,7 +23,6 @@ use crate::entering::{enter_mode, unit_in};
 use opfs_books::{
     calls_are_spelled, calls_may_fail, the_books_show_their_images, the_state_is_kept,
 };
-use opfs_desk_laws::{blocks_go_on, what_is_laid_goes_on};
 use opfs_desk_parts::{InHand, Parts};
 use opfs_desk_steps::{
     asked_calls_are_ready, calls_are_acted, clear_way, ready_calls_are_answered,
@@ -34,6 +33,7 @@ use opfs_laws::counted::a_state_counts_its_history;
 use opfs_laws::histories::unread::reads_leave_the_state;
 use opfs_laws::lengths::bridge::{lengths_follow_each_call, local_calls_are_known_by_their_word};
 use opfs_outside::Disk;
+use opfs_pages::{blocks_go_on, what_is_laid_goes_on};
 use opfs_store::{Acted, Gift};
 use opfs_work::Work;
 use std::alloc::AllocError;

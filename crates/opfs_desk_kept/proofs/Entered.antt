@@ -12,7 +12,7 @@ use Rattle.opfs_commit.specs.Making.{new_bytes}
 use Rattle.opfs_commit.specs.Seen.{KeptBack, with_kept, IsQuiet}
 use Rattle.opfs_commit.specs.Shown.{IsShown}
 use Rattle.opfs_commit.proofs.Holding.{shown_more}
-use Rattle.opfs_desk_laws.specs.Putting.{AllReadAlike}
+use Rattle.opfs_pages.specs.HistoryLaws.Putting.{AllReadAlike}
 use Rattle.opfs_hist.specs.declared.entry.Entry.{Entry}
 use Rattle.opfs_image.specs.Superblock.{areas_of, data_base}
 use Rattle.opfs_journal.specs.Seen.{Seen}

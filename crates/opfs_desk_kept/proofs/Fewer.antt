@@ -12,10 +12,10 @@ use Rattle.opfs_state_rows.specs.Changes.Asking.{made_at, where_free, root_in}
 use Rattle.opfs_state_rows.specs.Changes.Asking.{free_in as free_of}
 use Rattle.opfs_state_rows.specs.Changes.Changed.{tree_by, grown_by}
 use Rattle.opfs_data.specs.Rows.{Rows}
-use Rattle.opfs_desk_laws.specs.Laws.{BlocksGoOn}
-use Rattle.opfs_desk_laws.specs.Open.{if_open, open_at, file_in}
-use Rattle.opfs_desk_laws.specs.Spaced.{AreSpaced}
-use Rattle.opfs_desk_laws.proofs.Forests.{same-blocks, put-has}
+use Rattle.opfs_pages.specs.HistoryLaws.Laws.{BlocksGoOn}
+use Rattle.opfs_pages.specs.HistoryLaws.Open.{if_open, open_at, file_in}
+use Rattle.opfs_pages.specs.HistoryLaws.Spaced.{AreSpaced}
+use Rattle.opfs_pages.proofs.history_laws.Forests.{same-blocks, put-has}
 use Rattle.opfs_hist.specs.declared.op.Op.{Op}
 use Rattle.opfs_hist.specs.declared.op.Op.TheVariants as op
 use Rattle.opfs_laws.proofs.Spots.{row-without}
@@ -32,7 +32,7 @@ use Rattle.opfs_machine.specs.Rows.{file_of, without as machine_without}
 use Rattle.opfs_machine.specs.Rows.{file_at as machine_file, row_at as machine_row}
 use Rattle.opfs_tree.specs.Ready.Ready.{new_row}
 use Rattle.opfs_records.specs.Replay.Built.{named, has_block}
-use Rattle.opfs_row_puts.specs.Plans.{shelf}
+use Rattle.opfs_pages.specs.RowCalls.Plans.{shelf}
 use Rattle.opfs_records.specs.Checkpoint.Written.{stored_rows}
 use Rattle.opfs_space.specs.Files.{file_has}
 use Rattle.opfs_space.specs.Room.{Machine}

@@ -7,7 +7,7 @@ use Rattle.opfs_books.specs.Stored.Spelled.{spelled_by}
 use Rattle.opfs_books.specs.Laws.Books.{Fixed}
 use Rattle.opfs_books.specs.Laws.Laws.{BooksKeepTheState, BooksShowTheirImages}
 use Rattle.opfs_state_rows.specs.Changes.Changed.{tree_by}
-use Rattle.opfs_desk_laws.specs.Laws.{BlocksGoOn}
+use Rattle.opfs_pages.specs.HistoryLaws.Laws.{BlocksGoOn}
 use Rattle.opfs_hist.specs.declared.entry.Entry.{Entry}
 use Rattle.opfs_hist.specs.declared.reply.Reply.TheVariants as reply
 use Rattle.opfs_laws.specs.Histories.Unread.{unread}

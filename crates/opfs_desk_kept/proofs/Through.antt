@@ -10,7 +10,7 @@ use Rattle.opfs_books.specs.Laws.Laws.{BooksKeepTheState, failed}
 use Rattle.opfs_books.proofs.laws.Told.{next-state, next-reply}
 use Rattle.opfs_state_rows.specs.Changes.Changed.{tree_by}
 use Rattle.opfs_codec.specs.declared.change.Change.{Change as Spelled}
-use Rattle.opfs_desk_laws.specs.Laws.{BlocksGoOn}
+use Rattle.opfs_pages.specs.HistoryLaws.Laws.{BlocksGoOn}
 use Rattle.opfs_hist.specs.Faults.{is_disk_fault}
 use Rattle.opfs_hist.specs.declared.entry.Entry.{Entry}
 use Rattle.opfs_hist.specs.declared.op.Op.{Op}

@@ -22,7 +22,7 @@ use Rattle.opfs_machine.specs.Histories.{is_disk_op, evicted_by}
 use Rattle.opfs_machine.specs.Replies.{answer, row_named}
 use Rattle.opfs_machine.specs.Rows.{row_at, with_row}
 use Rattle.opfs_space.specs.Room.{Machine}
-use Rattle.opfs_desk_laws.specs.Hands.{row_in_hand}
+use Rattle.opfs_pages.specs.HistoryLaws.Hands.{row_in_hand}
 use Rattle.opfs_desk_kept.specs.Keeping.{is_of_entry, keeps_back}
 use Rattle.opfs_desk_kept.specs.Words.{IsQuietCall}
 

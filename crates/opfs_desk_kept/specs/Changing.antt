@@ -6,7 +6,7 @@ use Rattle.opfs_books.specs.Laws.Laws.{ShowsTold, told, failed}
 use Rattle.opfs_books.specs.Seen.{stored_change}
 use Rattle.opfs_state_rows.specs.Changes.Changed.{tree_by}
 use Rattle.opfs_codec.specs.declared.change.Change.{Change as Spelled}
-use Rattle.opfs_desk_laws.specs.Putting.{AllReadAlike}
+use Rattle.opfs_pages.specs.HistoryLaws.Putting.{AllReadAlike}
 use Rattle.opfs_hist.specs.declared.entry.Entry.{Entry}
 use Rattle.opfs_machine.specs.declared.own.Own.{Own}
 use Rattle.opfs_machine.specs.declared.state.Sizes.{Sizes}

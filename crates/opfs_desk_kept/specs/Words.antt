@@ -4,7 +4,7 @@ use Rattle.opfs_store.specs.Acts.Acting.{brings_position, gift_of, row_left}
 use Rattle.opfs_store.specs.declared.acts.acted.Gift.TheVariants as gift
 use Rattle.opfs_base.specs.Texts.{Text}
 use Rattle.opfs_state_rows.specs.Changes.Allowed.{IsSized}
-use Rattle.opfs_desk_laws.specs.Hands.{row_in_hand}
+use Rattle.opfs_pages.specs.HistoryLaws.Hands.{row_in_hand}
 use Rattle.opfs_hist.specs.declared.op.Op.{Op}
 use Rattle.opfs_hist.specs.declared.reply.Reply.{Reply}
 use Rattle.opfs_machine.specs.declared.own.Own.{Own}

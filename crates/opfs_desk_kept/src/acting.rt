@@ -6,7 +6,7 @@ ghost use Rattle.opfs_books.specs.Stored.Laws.{CallsAreSpelled, CallsMayFail};
 ghost use Rattle.opfs_books.specs.Laws.Books.{Fixed};
 ghost use Rattle.opfs_books.specs.Laws.Laws.{BooksKeepTheState, BooksShowTheirImages};
 ghost use Rattle.opfs_desk_kept.specs.Keeping.{keeps_back};
-ghost use Rattle.opfs_desk_laws.specs.Laws.{BlocksGoOn, CallsLeaveOtherRows};
+ghost use Rattle.opfs_pages.specs.HistoryLaws.Laws.{BlocksGoOn, CallsLeaveOtherRows};
 ghost use Rattle.opfs_desk_parts.specs.Acted.{HasActed, IsUnacted};
 ghost use Rattle.opfs_desk_parts.specs.Asked.{IsAsked, MayGo};
 ghost use Rattle.opfs_desk_parts.specs.Held.{AreHeldWhole};
@@ -24,7 +24,6 @@ use crate::spelling::entry_of;
 use opfs_books::{
     calls_are_spelled, calls_may_fail, the_books_show_their_images, the_state_is_kept,
 };
-use opfs_desk_laws::{blocks_go_on, calls_leave_other_rows, what_is_laid_goes_on};
 use opfs_desk_parts::{InHand, Parts};
 use opfs_desk_steps::{
     asked_calls_are_ready, calls_are_acted, clear_way, ready_calls_are_answered,
@@ -35,6 +34,7 @@ use opfs_laws::counted::a_state_counts_its_history;
 use opfs_laws::histories::unread::reads_leave_the_state;
 use opfs_laws::lengths::bridge::lengths_decide_each_ruling;
 use opfs_outside::Disk;
+use opfs_pages::{blocks_go_on, calls_leave_other_rows, what_is_laid_goes_on};
 use opfs_store::{Acted, Gift};
 use opfs_work::Work;
 use std::alloc::AllocError;

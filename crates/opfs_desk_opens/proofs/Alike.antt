@@ -4,16 +4,16 @@ use Rattle.opfs_base.specs.Texts.{Text}
 use Rattle.opfs_books.specs.Laws.Books.{Fixed}
 use Rattle.opfs_data.specs.Pages.{RowSeen, page_of, blank}
 use Rattle.opfs_data.specs.Rows.{no_row}
-use Rattle.opfs_desk_laws.specs.Laid.{AreLaid}
-use Rattle.opfs_desk_laws.specs.Laws.{BlocksGoOn}
-use Rattle.opfs_desk_laws.specs.Shelves.{HasSameBlocks, KeepsOpen}
-use Rattle.opfs_desk_laws.specs.Spaced.{AreSpaced}
+use Rattle.opfs_pages.specs.HistoryLaws.Laid.{AreLaid}
+use Rattle.opfs_pages.specs.HistoryLaws.Laws.{BlocksGoOn}
+use Rattle.opfs_pages.specs.HistoryLaws.Shelves.{HasSameBlocks, KeepsOpen}
+use Rattle.opfs_pages.specs.HistoryLaws.Spaced.{AreSpaced}
 use Rattle.opfs_hist.specs.declared.entry.Entry.{Entry}
 use Rattle.opfs_machine.specs.declared.own.Own.{Own}
 use Rattle.opfs_machine.specs.declared.state.State.{State}
 use Rattle.opfs_outside.specs.declared.disk.Disk.{Ghosts as DiskWords}
 use Rattle.opfs_records.specs.Replay.Built.{Built}
-use Rattle.opfs_row_puts.specs.Plans.{shelf}
+use Rattle.opfs_pages.specs.RowCalls.Plans.{shelf}
 use Rattle.opfs_space.specs.Room.{Machine}
 use Rattle.opfs_space.specs.Spaces.{SpaceSeen}
 use Rattle.opfs_tree.specs.Rows.{Rows as Tree}

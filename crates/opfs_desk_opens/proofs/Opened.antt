@@ -12,9 +12,9 @@ use Rattle.opfs_books.specs.Laws.Commits.{StateLaws}
 use Rattle.opfs_books.proofs.laws.Told.{next-state, next-reply, told-whole}
 use Rattle.opfs_state_rows.specs.Changes.Changed.{tree_by}
 use Rattle.opfs_store.specs.Copies.Copies.{StandsFor}
-use Rattle.opfs_desk_laws.specs.Laid.{AreLaid}
-use Rattle.opfs_desk_laws.specs.Laws.{TreesKeepBlocks}
-use Rattle.opfs_desk_laws.specs.RowsAfter.{CallsChangeTheirRow}
+use Rattle.opfs_pages.specs.HistoryLaws.Laid.{AreLaid}
+use Rattle.opfs_pages.specs.HistoryLaws.Laws.{TreesKeepBlocks}
+use Rattle.opfs_pages.specs.HistoryLaws.RowsAfter.{CallsChangeTheirRow}
 use Rattle.opfs_hist.specs.declared.entry.Entry.{Entry}
 use Rattle.opfs_hist.specs.declared.op.Op.{Op}
 use Rattle.opfs_hist.specs.declared.op.Op.TheVariants as op
@@ -32,7 +32,7 @@ use Rattle.opfs_machine.specs.Histories.{state_after}
 use Rattle.opfs_machine.specs.Steps.{evicted, after_reply}
 use Rattle.opfs_outside.specs.declared.disk.Disk.{Ghosts as DiskWords}
 use Rattle.opfs_records.specs.Replay.Built.{Built}
-use Rattle.opfs_row_puts.specs.Plans.{shelf}
+use Rattle.opfs_pages.specs.RowCalls.Plans.{shelf}
 use Rattle.opfs_space.specs.Room.{Machine}
 use Rattle.opfs_space.specs.Spaces.{SpaceSeen}
 use Rattle.opfs_journal.specs.Seen.{Seen}

@@ -1,7 +1,7 @@
 -- A row that was opened and dropped again leaves the pages as they were.
 use Rattle.std.proofs.Common.{◌≡◌, ℕ, ◌+◌, None, refl, sym, ◌∙◌, subst, inl, inr, arith}
 use Rattle.opfs_data.specs.Rows.{Rows, row_of, row_at, kept_in, kept_count, OthersStay}
-use Rattle.opfs_desk_laws.proofs.Begun.{other-or}
+use Rattle.opfs_pages.proofs.history_laws.Begun.{other-or}
 use Rattle.opfs_space.specs.Spaces.{SpaceSeen}
 use Rattle.opfs_desk_opens.specs.Alike.{AreAlike}
 

@@ -5,8 +5,8 @@ ghost use Rattle.opfs_store.specs.Acts.Acting.{IsSameCopy};
 ghost use Rattle.opfs_books.specs.Laws.Books.{Fixed};
 ghost use Rattle.opfs_books.specs.Laws.Commits.{StateLaws};
 ghost use Rattle.opfs_books.specs.Laws.Laws.{BooksShowTheirImages};
-ghost use Rattle.opfs_desk_laws.specs.Laws.{TreesKeepBlocks};
-ghost use Rattle.opfs_desk_laws.specs.RowsAfter.{CallsChangeTheirRow};
+ghost use Rattle.opfs_pages.specs.HistoryLaws.Laws.{TreesKeepBlocks};
+ghost use Rattle.opfs_pages.specs.HistoryLaws.RowsAfter.{CallsChangeTheirRow};
 ghost use Rattle.opfs_desk_parts.specs.Acted.{HasActed, IsUnacted};
 ghost use Rattle.opfs_desk_parts.specs.Asked.{IsAsked, MayGo};
 ghost use Rattle.opfs_base.specs.Texts.{Text};
@@ -30,9 +30,6 @@ ghost use Rattle.opfs_tree.specs.Rows.{IsInOrder};
 
 use crate::pages::{next_row, open_pages};
 use opfs_books::{Last, state_laws, the_books_show_their_images};
-use opfs_desk_laws::{
-    blocks_go_on, calls_change_their_row, trees_keep_their_blocks, what_is_laid_goes_on,
-};
 use opfs_desk_parts::{InHand, Ledger, Parts};
 use opfs_desk_rows::{calls_open_rows, files_are_stored, opened_rows_are_laid};
 use opfs_desk_steps::{
@@ -42,6 +39,9 @@ use opfs_desk_ways::take_in;
 use opfs_hist::{Pending, Refusal, Reply};
 use opfs_machine::Sizes;
 use opfs_outside::Disk;
+use opfs_pages::{
+    blocks_go_on, calls_change_their_row, trees_keep_their_blocks, what_is_laid_goes_on,
+};
 use opfs_store::{Acted, Gift};
 use opfs_tree::Walk;
 use opfs_work::Work;

@@ -20,7 +20,7 @@ use opfs_data::Swap;
 use opfs_desk_parts::Ledger;
 use opfs_hist::{Op, Pending};
 use opfs_outside::Disk;
-use opfs_row_puts::open_row;
+use opfs_pages::open_row;
 use opfs_state::State;
 use opfs_work::Work;
 use opfs_work::sizes::blocks;

@@ -5,7 +5,7 @@ use Rattle.opfs_base.specs.Texts.{Text}
 use Rattle.opfs_books.specs.Laws.Books.{Fixed, AreBooksAt}
 use Rattle.opfs_codec.specs.Spelling.{IsText, is_origin_text}
 use Rattle.opfs_data.specs.Rows.{kept_count}
-use Rattle.opfs_desk_laws.specs.Laid.{AreLaid}
+use Rattle.opfs_pages.specs.HistoryLaws.Laid.{AreLaid}
 use Rattle.opfs_image.specs.Superblock.{data_base, image_size, is_in_range}
 use Rattle.opfs_laws.specs.Counting.{key_of}
 use Rattle.opfs_machine.specs.declared.own.Own.{Own}

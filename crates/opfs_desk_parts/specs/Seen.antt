@@ -3,9 +3,9 @@ use Rattle.std.specs.Prelude.{ℕ, List, map, None}
 use Rattle.opfs_base.specs.Texts.{Text}
 use Rattle.opfs_books.specs.Laws.Books.{Book}
 use Rattle.opfs_books.specs.Seen.{book}
-use Rattle.opfs_desk_laws.specs.Spaced.{Shelf}
+use Rattle.opfs_pages.specs.HistoryLaws.Spaced.{Shelf}
 use Rattle.opfs_machine.specs.Runs.{Call}
-use Rattle.opfs_row_puts.specs.Plans.{shelf}
+use Rattle.opfs_pages.specs.RowCalls.Plans.{shelf}
 use Rattle.opfs_state_rows.specs.Standing.Seen.{Machine}
 use Rattle.opfs_tree.specs.Rows.{Rows as Tree}
 use Rattle.opfs_desk_parts.specs.declared.call.Clearing.{Clearing}

@@ -10,9 +10,9 @@ use Rattle.opfs_books.proofs.laws.Told.{next-state, next-reply}
 use Rattle.opfs_state_rows.specs.Changes.Allowed.{IsSized}
 use Rattle.opfs_data.specs.Pages.{page_of, blank}
 use Rattle.opfs_data.specs.Rows.{no_row}
-use Rattle.opfs_desk_laws.specs.Laid.{AreLaid}
-use Rattle.opfs_desk_laws.specs.Open.{open_at}
-use Rattle.opfs_desk_laws.specs.Spaced.{AreSpaced}
+use Rattle.opfs_pages.specs.HistoryLaws.Laid.{AreLaid}
+use Rattle.opfs_pages.specs.HistoryLaws.Open.{open_at}
+use Rattle.opfs_pages.specs.HistoryLaws.Spaced.{AreSpaced}
 use Rattle.opfs_hist.specs.Faults.{is_disk_fault}
 use Rattle.opfs_hist.specs.declared.entry.Entry.{Entry}
 use Rattle.opfs_hist.specs.declared.reply.Reply.{Reply}
@@ -27,7 +27,7 @@ use Rattle.opfs_machine.specs.Runs.{eviction}
 use Rattle.opfs_machine.specs.Steps.{after_reply, is_refusal}
 use Rattle.opfs_outside.specs.declared.disk.Disk.{Ghosts as DiskWords}
 use Rattle.opfs_records.specs.Replay.Built.{Built}
-use Rattle.opfs_row_puts.specs.Plans.{shelf}
+use Rattle.opfs_pages.specs.RowCalls.Plans.{shelf}
 use Rattle.opfs_space.specs.Room.{Machine}
 use Rattle.opfs_space.specs.Spaces.{SpaceSeen}
 use Rattle.opfs_work.specs.Works.{WorkingCopy}

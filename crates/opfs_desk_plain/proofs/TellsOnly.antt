@@ -6,9 +6,9 @@ use Rattle.opfs_store.specs.declared.acts.acted.Gift.{Gift}
 use Rattle.opfs_base.specs.Texts.{Text}
 use Rattle.opfs_books.specs.Laws.Books.{Fixed}
 use Rattle.opfs_books.specs.Laws.Laws.{BooksShowTheirImages}
-use Rattle.opfs_desk_laws.specs.Laws.{BlocksGoOn}
-use Rattle.opfs_desk_laws.specs.Open.{if_open, open_at}
-use Rattle.opfs_desk_laws.specs.Spaced.{AreSpaced}
+use Rattle.opfs_pages.specs.HistoryLaws.Laws.{BlocksGoOn}
+use Rattle.opfs_pages.specs.HistoryLaws.Open.{if_open, open_at}
+use Rattle.opfs_pages.specs.HistoryLaws.Spaced.{AreSpaced}
 use Rattle.opfs_hist.specs.declared.entry.Entry.{Entry}
 use Rattle.opfs_hist.specs.declared.reply.Reply.{Reply}
 use Rattle.opfs_laws.specs.Leaving.{row_used}
@@ -22,7 +22,7 @@ use Rattle.opfs_machine.specs.Agents.{agent_of, own_of}
 use Rattle.opfs_machine.specs.Histories.{state_after}
 use Rattle.opfs_outside.specs.declared.disk.Disk.{Ghosts as DiskWords}
 use Rattle.opfs_records.specs.Replay.Built.{Built}
-use Rattle.opfs_row_puts.specs.Plans.{shelf}
+use Rattle.opfs_pages.specs.RowCalls.Plans.{shelf}
 use Rattle.opfs_state_rows.specs.Standing.Seen.{Machine}
 use Rattle.opfs_state.specs.Laws.Readied.{StaysReadyAsNoted}
 use Rattle.opfs_tree.specs.Rows.{Rows as Tree}

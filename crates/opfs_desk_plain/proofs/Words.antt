@@ -46,9 +46,9 @@ use Rattle.opfs_machine.specs.Sums.{charges, is_persistent, no_need}
 use Rattle.opfs_register.proofs.KeptRows.{set-same}
 use Rattle.opfs_state_rows.specs.Standing.Seen.{Machine}
 use Rattle.opfs_tree.specs.Rows.{Rows as Tree}
-use Rattle.opfs_desk_laws.specs.Hands.{row_in_hand}
-use Rattle.opfs_desk_laws.specs.Open.{if_open, open_at}
-use Rattle.opfs_desk_laws.proofs.Leaving.{open-is}
+use Rattle.opfs_pages.specs.HistoryLaws.Hands.{row_in_hand}
+use Rattle.opfs_pages.specs.HistoryLaws.Open.{if_open, open_at}
+use Rattle.opfs_pages.proofs.history_laws.Leaving.{open-is}
 use Rattle.opfs_desk_plain.specs.Telling.{TellsOnly, is_telling}
 
 -- ---- what adds nothing to the charge is not made

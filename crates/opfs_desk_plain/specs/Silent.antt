@@ -6,7 +6,7 @@ use Rattle.opfs_store.specs.declared.acts.acted.Gift.{Gift}
 use Rattle.opfs_base.specs.Texts.{Text}
 use Rattle.opfs_books.specs.Laws.Books.{Fixed}
 use Rattle.opfs_data.specs.Rows.{row_of, kept_count, OthersStay}
-use Rattle.opfs_desk_laws.specs.Hands.{row_in_hand}
+use Rattle.opfs_pages.specs.HistoryLaws.Hands.{row_in_hand}
 use Rattle.opfs_desk_parts.specs.Asked.{IsAsked}
 use Rattle.opfs_desk_parts.specs.Held.{AreHeldWhole}
 use Rattle.opfs_desk_parts.specs.declared.call.InHand.{InHand}

@@ -6,7 +6,7 @@ ghost use Rattle.opfs_store.specs.declared.acts.acted.Gift.{Gift};
 ghost use Rattle.opfs_base.specs.Texts.{Text};
 ghost use Rattle.opfs_books.specs.Laws.Books.{Fixed};
 ghost use Rattle.opfs_books.specs.Laws.Laws.{BooksShowTheirImages};
-ghost use Rattle.opfs_desk_laws.specs.Laws.{BlocksGoOn};
+ghost use Rattle.opfs_pages.specs.HistoryLaws.Laws.{BlocksGoOn};
 ghost use Rattle.opfs_desk_parts.specs.Acted.{HasActed};
 ghost use Rattle.opfs_desk_parts.specs.Held.{AreHeldWhole};
 ghost use Rattle.opfs_desk_parts.specs.Seen.{call_in};
@@ -23,7 +23,6 @@ ghost use Rattle.opfs_state.specs.Laws.Readied.{StaysReadyAsNoted};
 ghost use Rattle.opfs_work.specs.Works.{WorkingCopy};
 
 use opfs_books::the_books_show_their_images;
-use opfs_desk_laws::blocks_go_on;
 use opfs_desk_parts::{InHand, Parts};
 use opfs_desk_rows::rows_in_hand_are_laid;
 use opfs_desk_steps::{
@@ -35,6 +34,7 @@ use opfs_laws::lengths::bridge::{
     lengths_decide_each_ruling, lengths_follow_each_call, local_calls_are_known_by_their_word,
 };
 use opfs_outside::Disk;
+use opfs_pages::blocks_go_on;
 use opfs_state::laws::readied::what_is_ready_stays_as_calls_are_noted;
 
 /// What is known of the steps of such a call.

@@ -12,9 +12,9 @@ use Rattle.opfs_books.specs.Laws.Books.{Fixed}
 use Rattle.opfs_books.specs.Laws.Laws.{ShowsTold, failed, told}
 use Rattle.opfs_books.proofs.laws.Counting.{rose-before}
 use Rattle.opfs_store.specs.Copies.Copies.{IsCopyOf, IsPaged, StandsFor}
-use Rattle.opfs_desk_laws.specs.Laws.{BlocksGoOn, CallsLeaveOtherRows, TreesKeepBlocks}
-use Rattle.opfs_desk_laws.specs.RowsAfter.{CallsChangeTheirRow}
-use Rattle.opfs_desk_laws.proofs.Copied.{left-stands}
+use Rattle.opfs_pages.specs.HistoryLaws.Laws.{BlocksGoOn, CallsLeaveOtherRows, TreesKeepBlocks}
+use Rattle.opfs_pages.specs.HistoryLaws.RowsAfter.{CallsChangeTheirRow}
+use Rattle.opfs_pages.proofs.history_laws.Copied.{left-stands}
 use Rattle.opfs_hist.specs.Faults.{is_disk_fault}
 use Rattle.opfs_hist.specs.declared.entry.Entry.{Entry}
 use Rattle.opfs_hist.specs.declared.op.Op.{Op}
@@ -38,9 +38,9 @@ use Rattle.opfs_machine.specs.Sums.{reserve_of}
 use Rattle.opfs_outside.specs.declared.disk.Disk.{Ghosts as DiskWords}
 use Rattle.opfs_pages.specs.Copies.{IsCopy, IsPageOf}
 use Rattle.opfs_pages.specs.Stages.{changed}
-use Rattle.opfs_puts.specs.declared.put.Put.{Put}
+use Rattle.opfs_pages.specs.declared.writing.put.Put.{Put}
 use Rattle.opfs_records.specs.Replay.Built.{Built}
-use Rattle.opfs_row_puts.specs.Rows.{IsPutOf}
+use Rattle.opfs_pages.specs.RowCalls.Rows.{IsPutOf}
 use Rattle.opfs_space.specs.Room.{Machine}
 use Rattle.opfs_laws.specs.Steady.Steady.{open_bytes}
 use Rattle.opfs_work.specs.Pages.{page_at, is_far}

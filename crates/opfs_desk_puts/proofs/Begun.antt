@@ -11,9 +11,9 @@ use Rattle.opfs_books.specs.Laws.Laws.{LeavesPages}
 use Rattle.opfs_store.specs.Copies.Copies.{StandsFor}
 use Rattle.opfs_data.specs.declared.page.Page.{Page}
 use Rattle.opfs_data.specs.Pages.{page_of}
-use Rattle.opfs_desk_laws.specs.Laws.{CallsLeaveOtherRows}
-use Rattle.opfs_desk_laws.specs.Open.{open_at}
-use Rattle.opfs_desk_laws.specs.RowsAfter.{IsDone}
+use Rattle.opfs_pages.specs.HistoryLaws.Laws.{CallsLeaveOtherRows}
+use Rattle.opfs_pages.specs.HistoryLaws.Open.{open_at}
+use Rattle.opfs_pages.specs.HistoryLaws.RowsAfter.{IsDone}
 use Rattle.opfs_hist.specs.declared.entry.Entry.{Entry}
 use Rattle.opfs_hist.specs.declared.op.Op.{Op}
 use Rattle.opfs_hist.specs.declared.op.Op.TheVariants as op
@@ -33,9 +33,9 @@ use Rattle.opfs_machine.specs.Replies.{bytes_in, row_named}
 use Rattle.opfs_machine.specs.Rows.{file_at}
 use Rattle.opfs_machine.specs.Steps.{evicted}
 use Rattle.opfs_outside.specs.declared.disk.Disk.{Ghosts as DiskWords}
-use Rattle.opfs_puts.specs.declared.put.Put.{Put}
+use Rattle.opfs_pages.specs.declared.writing.put.Put.{Put}
 use Rattle.opfs_records.specs.Replay.Built.{Built}
-use Rattle.opfs_row_puts.specs.Plans.{shelf, AreGotten, HaveBlocks, KnowsOwn}
+use Rattle.opfs_pages.specs.RowCalls.Plans.{shelf, AreGotten, HaveBlocks, KnowsOwn}
 use Rattle.opfs_space.specs.Room.{Machine}
 use Rattle.opfs_space.specs.Spaces.{SpaceSeen}
 use Rattle.opfs_data.specs.Rows.{Rows}

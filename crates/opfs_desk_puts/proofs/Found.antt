@@ -11,18 +11,18 @@ use Rattle.opfs_data.specs.declared.page.Page.{Page}
 use Rattle.opfs_data.specs.Pages.{IsDataPart, page_of}
 use Rattle.opfs_data.specs.Rows.{Rows}
 use Rattle.opfs_data.specs.Writes.{HasBytes, WriteList, page_moves}
-use Rattle.opfs_desk_laws.specs.Spaced.{AreSpaced}
-use Rattle.opfs_desk_laws.proofs.Holding.{holders_of, are-holders, spaced-blocks}
+use Rattle.opfs_pages.specs.HistoryLaws.Spaced.{AreSpaced}
+use Rattle.opfs_pages.proofs.history_laws.Holding.{holders_of, are-holders, spaced-blocks}
 use Rattle.opfs_desk_rows.specs.Puts.{TreesNameStoredBlocks}
 use Rattle.opfs_image.specs.Superblock.{areas_of}
 use Rattle.opfs_journal.specs.declared.areas.Areas.{Areas}
 use Rattle.opfs_machine.specs.declared.own.Own.{Own}
 use Rattle.opfs_machine.specs.declared.state.State.{State}
 use Rattle.opfs_outside.specs.declared.disk.Disk.{Ghosts as DiskWords}
-use Rattle.opfs_puts.specs.Puts.{IsReady}
-use Rattle.opfs_puts.specs.declared.put.Put.{Put}
+use Rattle.opfs_pages.specs.Writing.Puts.{IsReady}
+use Rattle.opfs_pages.specs.declared.writing.put.Put.{Put}
 use Rattle.opfs_records.specs.Replay.Built.{Built, named, has_block}
-use Rattle.opfs_row_puts.specs.Plans.{shelf, AreGotten, HaveBlocks, KnowsOwn, MayFindBlocks, WaitForBlocks}
+use Rattle.opfs_pages.specs.RowCalls.Plans.{shelf, AreGotten, HaveBlocks, KnowsOwn, MayFindBlocks, WaitForBlocks}
 use Rattle.opfs_space.specs.Holders.{AreAllBelow, AreBlocks, HasPage}
 use Rattle.opfs_space.specs.Room.{Machine}
 use Rattle.opfs_space.specs.Spaces.{SpaceSeen}

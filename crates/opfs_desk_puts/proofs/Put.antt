@@ -16,12 +16,12 @@ use Rattle.opfs_data.specs.declared.page.Page.{Page}
 use Rattle.opfs_data.specs.Pages.{page_of}
 use Rattle.opfs_data.specs.Rows.{Rows, page_at}
 use Rattle.opfs_data.specs.Writes.{WriteList}
-use Rattle.opfs_desk_laws.specs.Laid.{AreLaid}
-use Rattle.opfs_desk_laws.specs.Laws.{BlocksGoOn, CallsLeaveOtherRows, TreesKeepBlocks}
-use Rattle.opfs_desk_laws.specs.Open.{open_at, reserve_in}
-use Rattle.opfs_desk_laws.specs.RowsAfter.{CallsChangeTheirRow, IsDone}
-use Rattle.opfs_desk_laws.specs.Shelves.{HasSameBlocks, KeepsOpen}
-use Rattle.opfs_desk_laws.specs.Spaced.{AreSpaced}
+use Rattle.opfs_pages.specs.HistoryLaws.Laid.{AreLaid}
+use Rattle.opfs_pages.specs.HistoryLaws.Laws.{BlocksGoOn, CallsLeaveOtherRows, TreesKeepBlocks}
+use Rattle.opfs_pages.specs.HistoryLaws.Open.{open_at, reserve_in}
+use Rattle.opfs_pages.specs.HistoryLaws.RowsAfter.{CallsChangeTheirRow, IsDone}
+use Rattle.opfs_pages.specs.HistoryLaws.Shelves.{HasSameBlocks, KeepsOpen}
+use Rattle.opfs_pages.specs.HistoryLaws.Spaced.{AreSpaced}
 use Rattle.opfs_hist.specs.declared.entry.Entry.{Entry}
 use Rattle.opfs_hist.specs.declared.op.Op.{Op}
 use Rattle.opfs_hist.specs.declared.op.Op.TheVariants as op
@@ -45,13 +45,13 @@ use Rattle.opfs_machine.specs.Rulings.{reserve_for}
 use Rattle.opfs_machine.specs.Steps.{evicted, after_reply}
 use Rattle.opfs_machine.specs.Sums.{reserve_of}
 use Rattle.opfs_outside.specs.declared.disk.Disk.{Ghosts as DiskWords}
-use Rattle.opfs_puts.specs.Puts.{all_writes}
-use Rattle.opfs_puts.specs.declared.put.Put.{Put}
+use Rattle.opfs_pages.specs.Writing.Puts.{all_writes}
+use Rattle.opfs_pages.specs.declared.writing.put.Put.{Put}
 use Rattle.opfs_records.specs.Replay.Built.{Built}
-use Rattle.opfs_row_puts.specs.Plans.{shelf}
-use Rattle.opfs_row_puts.specs.Rows.{Change, IsPutOf}
-use Rattle.opfs_row_puts.proofs.Placing.{put-spaced}
-use Rattle.opfs_row_puts.proofs.Written.{put-begins}
+use Rattle.opfs_pages.specs.RowCalls.Plans.{shelf}
+use Rattle.opfs_pages.specs.RowCalls.Rows.{Change, IsPutOf}
+use Rattle.opfs_pages.proofs.row_calls.Placing.{put-spaced}
+use Rattle.opfs_pages.proofs.row_calls.Written.{put-begins}
 use Rattle.opfs_space.specs.Files.{file_has}
 use Rattle.opfs_space.specs.Room.{Machine}
 use Rattle.opfs_space.specs.Spaces.{SpaceSeen}

@@ -5,11 +5,11 @@ use Rattle.std.specs.Prelude.{IsTrue}
 use Rattle.opfs_base.specs.Blocks.{blocks}
 use Rattle.opfs_base.specs.Texts.{Text}
 use Rattle.opfs_data.specs.Rows.{IsOther}
-use Rattle.opfs_desk_laws.specs.Laws.{CallsLeaveOtherRows}
-use Rattle.opfs_desk_laws.specs.Open.{if_open, open_at, file_in, reserve_in, is_stream, StaysOpen}
-use Rattle.opfs_desk_laws.specs.RowsAfter.{CallsChangeTheirRow, IsDone}
-use Rattle.opfs_desk_laws.specs.Shelves.{KeepsOpen}
-use Rattle.opfs_desk_laws.proofs.Leaving.{open-is}
+use Rattle.opfs_pages.specs.HistoryLaws.Laws.{CallsLeaveOtherRows}
+use Rattle.opfs_pages.specs.HistoryLaws.Open.{if_open, open_at, file_in, reserve_in, is_stream, StaysOpen}
+use Rattle.opfs_pages.specs.HistoryLaws.RowsAfter.{CallsChangeTheirRow, IsDone}
+use Rattle.opfs_pages.specs.HistoryLaws.Shelves.{KeepsOpen}
+use Rattle.opfs_pages.proofs.history_laws.Leaving.{open-is}
 use Rattle.opfs_desk_rows.specs.InHand.{HasInHand}
 use Rattle.opfs_desk_rows.specs.Puts.{puts_row, size_put}
 use Rattle.opfs_hist.specs.declared.entry.Entry.{Entry}

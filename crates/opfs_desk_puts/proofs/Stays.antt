@@ -25,7 +25,7 @@ use Rattle.opfs_machine.specs.Rows.{file_of, file_at, row_at as line_at}
 use Rattle.opfs_machine.specs.Rulings.{want_of}
 use Rattle.opfs_machine.specs.Steps.{evicted}
 use Rattle.opfs_records.specs.Replay.Built.{named, has_block}
-use Rattle.opfs_row_puts.specs.Plans.{shelf, KnowsOwn}
+use Rattle.opfs_pages.specs.RowCalls.Plans.{shelf, KnowsOwn}
 use Rattle.opfs_space.specs.Files.{file_has, extents_in}
 use Rattle.opfs_space.specs.Holders.{HasPage, AreBlocks}
 use Rattle.opfs_space.specs.Room.{Machine}
@@ -35,9 +35,9 @@ use Rattle.opfs_state_rows.specs.Standing.Seen.{lines_of}
 use Rattle.opfs_state_rows.proofs.standing.Lines.{there-at}
 use Rattle.opfs_tree.specs.declared.row.Row.{Row}
 use Rattle.opfs_tree.specs.Rows.{Rows as Tree, row_at, without}
-use Rattle.opfs_desk_laws.specs.Open.{if_open, open_at, file_in}
-use Rattle.opfs_desk_laws.specs.Spaced.{AreSpaced}
-use Rattle.opfs_desk_laws.proofs.Holding.{holders_of, are-holders, spaced-blocks}
+use Rattle.opfs_pages.specs.HistoryLaws.Open.{if_open, open_at, file_in}
+use Rattle.opfs_pages.specs.HistoryLaws.Spaced.{AreSpaced}
+use Rattle.opfs_pages.proofs.history_laws.Holding.{holders_of, are-holders, spaced-blocks}
 use Rattle.opfs_desk_ways.specs.Clearing.{cleared_from}
 use Rattle.opfs_desk_rows.proofs.Opens.{file-back}
 

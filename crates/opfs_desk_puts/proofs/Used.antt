@@ -20,7 +20,7 @@ use Rattle.opfs_outside.specs.Bytes.{Same, window}
 use Rattle.opfs_outside.specs.Moments.{Elapses, elapses-trans, each_of_both}
 use Rattle.opfs_outside.specs.Windows.{same_window}
 use Rattle.opfs_outside.specs.declared.disk.Disk.{Ghosts as DiskWords}
-use Rattle.opfs_puts.specs.Puts.{IsReady}
+use Rattle.opfs_pages.specs.Writing.Puts.{IsReady}
 use Rattle.opfs_records.specs.Replay.Built.{Built}
 use Rattle.opfs_desk_parts.specs.Seen.{book_in}
 use Rattle.opfs_desk_parts.specs.declared.parts.Ledger.{Ledger}

@@ -14,11 +14,11 @@ use Rattle.opfs_data.specs.Pages.{runs_of}
 use Rattle.opfs_data.specs.Places.{Aside}
 use Rattle.opfs_data.specs.Rows.{Rows, row_of, pages_at, no_row}
 use Rattle.opfs_data.specs.Writes.{PageWrite}
-use Rattle.opfs_desk_laws.specs.Laid.{AreLaid}
-use Rattle.opfs_desk_laws.specs.Shelves.{KeepsOpen}
-use Rattle.opfs_desk_laws.specs.Spaced.{AreSpaced}
-use Rattle.opfs_desk_laws.proofs.Begun.{other-or}
-use Rattle.opfs_desk_laws.proofs.Holding.{holders_of, spaced-blocks}
+use Rattle.opfs_pages.specs.HistoryLaws.Laid.{AreLaid}
+use Rattle.opfs_pages.specs.HistoryLaws.Shelves.{KeepsOpen}
+use Rattle.opfs_pages.specs.HistoryLaws.Spaced.{AreSpaced}
+use Rattle.opfs_pages.proofs.history_laws.Begun.{other-or}
+use Rattle.opfs_pages.proofs.history_laws.Holding.{holders_of, spaced-blocks}
 use Rattle.opfs_hist.specs.declared.entry.Entry.{Entry}
 use Rattle.opfs_image.specs.Filling.{AreIn}
 use Rattle.opfs_image.specs.Superblock.{data_base}
@@ -28,11 +28,11 @@ use Rattle.opfs_machine.specs.declared.state.State.{State}
 use Rattle.opfs_outside.specs.Bytes.{Beside}
 use Rattle.opfs_outside.specs.Faults.{Rose}
 use Rattle.opfs_outside.specs.declared.disk.Disk.{Ghosts as DiskWords}
-use Rattle.opfs_puts.specs.Puts.{IsPut, IsNotPut, all_writes}
-use Rattle.opfs_puts.specs.declared.put.Put.{Put}
+use Rattle.opfs_pages.specs.Writing.Puts.{IsPut, IsNotPut, all_writes}
+use Rattle.opfs_pages.specs.declared.writing.put.Put.{Put}
 use Rattle.opfs_records.specs.Replay.Built.{Built, named, has_block}
-use Rattle.opfs_row_puts.specs.Plans.{shelf}
-use Rattle.opfs_row_puts.proofs.Placing.{left-spaced}
+use Rattle.opfs_pages.specs.RowCalls.Plans.{shelf}
+use Rattle.opfs_pages.proofs.row_calls.Placing.{left-spaced}
 use Rattle.opfs_space.specs.Holders.{AreBlocks, Writes}
 use Rattle.opfs_space.specs.Room.{Machine}
 use Rattle.opfs_space.proofs.Others.{member_left, member_right}

@@ -10,10 +10,10 @@ use Rattle.opfs_machine.specs.declared.state.State.{State}
 use Rattle.opfs_outside.specs.Faults.{Rose}
 use Rattle.opfs_outside.specs.Moments.{Elapses}
 use Rattle.opfs_outside.specs.declared.disk.Disk.{Ghosts as DiskWords}
-use Rattle.opfs_puts.specs.Puts.{IsReady, IsPut, all_writes}
-use Rattle.opfs_puts.specs.declared.put.Put.{Put}
+use Rattle.opfs_pages.specs.Writing.Puts.{IsReady, IsPut, all_writes}
+use Rattle.opfs_pages.specs.declared.writing.put.Put.{Put}
 use Rattle.opfs_records.specs.Replay.Built.{Built}
-use Rattle.opfs_row_puts.specs.Plans.{shelf, AreGotten, HaveBlocks}
+use Rattle.opfs_pages.specs.RowCalls.Plans.{shelf, AreGotten, HaveBlocks}
 use Rattle.opfs_space.specs.Room.{Machine, HasRoom}
 use Rattle.opfs_state_rows.specs.Standing.Seen.{lines_of}
 use Rattle.opfs_desk_parts.specs.Held.{AreTied, AreHeldAt}

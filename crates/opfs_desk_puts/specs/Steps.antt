@@ -19,11 +19,11 @@ use Rattle.opfs_machine.specs.Replies.{row_named}
 use Rattle.opfs_outside.specs.Faults.{Rose}
 use Rattle.opfs_outside.specs.declared.disk.Disk.{Ghosts as DiskWords}
 use Rattle.opfs_pages.specs.Copies.{IsPageOf}
-use Rattle.opfs_puts.specs.Puts.{IsReady}
-use Rattle.opfs_puts.specs.declared.put.Put.{Put}
+use Rattle.opfs_pages.specs.Writing.Puts.{IsReady}
+use Rattle.opfs_pages.specs.declared.writing.put.Put.{Put}
 use Rattle.opfs_records.specs.Replay.Built.{Built}
-use Rattle.opfs_row_puts.specs.Plans.{shelf, AreGotten}
-use Rattle.opfs_row_puts.specs.Rows.{IsPutOf}
+use Rattle.opfs_pages.specs.RowCalls.Plans.{shelf, AreGotten}
+use Rattle.opfs_pages.specs.RowCalls.Rows.{IsPutOf}
 use Rattle.opfs_laws.specs.Steady.Steady.{row_bytes}
 use Rattle.opfs_tree.specs.Rows.{IsInOrder}
 use Rattle.opfs_work.specs.Works.{WorkingCopy}

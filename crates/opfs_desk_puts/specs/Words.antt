@@ -9,7 +9,7 @@ use Rattle.opfs_hist.specs.declared.reply.Reply.TheVariants as reply
 use Rattle.opfs_machine.specs.declared.state.Sizes.{Sizes}
 use Rattle.opfs_machine.specs.Rulings.{start_of}
 use Rattle.opfs_pages.specs.Stages.{changed}
-use Rattle.opfs_row_puts.specs.Rows.{Change}
+use Rattle.opfs_pages.specs.RowCalls.Rows.{Change}
 
 -- Whether it writes bytes, or gives a size alone.
 abbrev pub writes_bytes : Op → Bool

@@ -3,8 +3,8 @@
 ghost use Rattle.std.specs.Prelude.{◌≡◌, true, [], List, if◌then◌else◌};
 ghost use Rattle.opfs_books.specs.Stored.Laws.{CallsAreSpelled};
 ghost use Rattle.opfs_books.specs.Laws.Books.{Fixed};
-ghost use Rattle.opfs_desk_laws.specs.Laws.{BlocksGoOn, CallsLeaveOtherRows, TreesKeepBlocks};
-ghost use Rattle.opfs_desk_laws.specs.RowsAfter.{CallsChangeTheirRow};
+ghost use Rattle.opfs_pages.specs.HistoryLaws.Laws.{BlocksGoOn, CallsLeaveOtherRows, TreesKeepBlocks};
+ghost use Rattle.opfs_pages.specs.HistoryLaws.RowsAfter.{CallsChangeTheirRow};
 ghost use Rattle.opfs_desk_parts.specs.Acted.{HasActed};
 ghost use Rattle.opfs_desk_parts.specs.Asked.{IsAsked, MayGo};
 ghost use Rattle.opfs_desk_parts.specs.Held.{AreHeldWhole};
@@ -25,9 +25,6 @@ use crate::entering::enter_put;
 use crate::leaving::leave_put;
 use crate::target::Target;
 use opfs_books::calls_are_spelled;
-use opfs_desk_laws::{
-    blocks_go_on, calls_change_their_row, calls_leave_other_rows, trees_keep_their_blocks,
-};
 use opfs_desk_parts::{InHand, Parts};
 use opfs_desk_rows::{parts_lie_inside, puts_have_room, rows_in_hand_are_laid};
 use opfs_desk_steps::{
@@ -36,7 +33,9 @@ use opfs_desk_steps::{
 use opfs_desk_ways::take_in;
 use opfs_hist::{Pending, Refusal, Reply};
 use opfs_outside::Disk;
-use opfs_row_puts::Planned;
+use opfs_pages::{
+    Planned, blocks_go_on, calls_change_their_row, calls_leave_other_rows, trees_keep_their_blocks,
+};
 use opfs_store::{Acted, Gift};
 use opfs_work::Work;
 

@@ -22,7 +22,7 @@ use opfs_desk_ways::fail_call;
 use opfs_journal::DiskFault;
 use opfs_machine::Sizes;
 use opfs_outside::Disk;
-use opfs_puts::Put;
+use opfs_pages::Put;
 use opfs_tree::Walk;
 
 // Enters the call. The pages are the caller's.

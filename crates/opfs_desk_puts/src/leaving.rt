@@ -10,7 +10,7 @@ ghost use Rattle.opfs_pages.specs.Stages.{changed};
 ghost use Rattle.opfs_work.specs.Pages.{page_at, is_far};
 
 use crate::target::Target;
-use opfs_row_puts::{after_size, after_write};
+use opfs_pages::{after_size, after_write};
 use opfs_work::Work;
 
 /// Leaves what is right after so many bytes were written, or a size was given: the row's bytes, its position and reserve, and the page

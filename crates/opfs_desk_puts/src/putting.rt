@@ -9,14 +9,12 @@ ghost use Rattle.opfs_machine.specs.declared.state.State.{State};
 ghost use Rattle.opfs_records.specs.Replay.Built.{Built};
 
 use opfs_books::{pages_beside_leave_the_books, the_books_show_their_images};
-use opfs_desk_laws::what_is_laid_goes_on;
 use opfs_desk_parts::Parts;
 use opfs_desk_rows::puts_have_room;
 use opfs_desk_ways::commit_kept;
 use opfs_journal::DiskFault;
 use opfs_outside::Disk;
-use opfs_puts::Put;
-use opfs_row_puts::find_blocks;
+use opfs_pages::{Put, find_blocks, what_is_laid_goes_on};
 
 // Blocks for a put that has none yet: what is kept back is committed, and then there are enough.
 fn find_room<D: Disk>(

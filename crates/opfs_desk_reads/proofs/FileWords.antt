@@ -9,8 +9,8 @@ use Rattle.opfs_base.specs.Places.{place_of}
 use Rattle.opfs_base.specs.Texts.{Text}
 use Rattle.opfs_base.specs.declared.locator.Kind.TheVariants as kind
 use Rattle.opfs_state_rows.specs.Changes.Allowed.{IsSized}
-use Rattle.opfs_desk_laws.specs.Hands.{row_in_hand}
-use Rattle.opfs_desk_laws.specs.RowsAfter.{IsDone}
+use Rattle.opfs_pages.specs.HistoryLaws.Hands.{row_in_hand}
+use Rattle.opfs_pages.specs.HistoryLaws.RowsAfter.{IsDone}
 use Rattle.opfs_desk_reads.specs.Words.{file_read, gets_file, reads_bytes}
 use Rattle.opfs_desk_rows.specs.Opens.{next_row}
 use Rattle.opfs_desk_rows.proofs.Opens.{number-of as row-number}

@@ -10,14 +10,14 @@ use Rattle.opfs_base.specs.Texts.{Text}
 use Rattle.opfs_books.specs.Laws.Books.{Fixed}
 use Rattle.opfs_books.proofs.laws.Told.{next-state, next-reply}
 use Rattle.opfs_data.specs.Rows.{IsOther, row_of}
-use Rattle.opfs_desk_laws.specs.Handles.{AreHandlesWhole}
-use Rattle.opfs_desk_laws.specs.Laid.{AreLaid}
-use Rattle.opfs_desk_laws.specs.Laws.{BlocksGoOn, CallsLeaveOtherRows}
-use Rattle.opfs_desk_laws.specs.Open.{open_at, if_open, StaysOpen}
-use Rattle.opfs_desk_laws.specs.RowsAfter.{IsDone}
-use Rattle.opfs_desk_laws.specs.Shelves.{HasSameBlocks, KeepsOpen}
-use Rattle.opfs_desk_laws.specs.Spaced.{AreSpaced}
-use Rattle.opfs_desk_laws.proofs.Leaving.{open-is}
+use Rattle.opfs_pages.specs.HistoryLaws.Handles.{AreHandlesWhole}
+use Rattle.opfs_pages.specs.HistoryLaws.Laid.{AreLaid}
+use Rattle.opfs_pages.specs.HistoryLaws.Laws.{BlocksGoOn, CallsLeaveOtherRows}
+use Rattle.opfs_pages.specs.HistoryLaws.Open.{open_at, if_open, StaysOpen}
+use Rattle.opfs_pages.specs.HistoryLaws.RowsAfter.{IsDone}
+use Rattle.opfs_pages.specs.HistoryLaws.Shelves.{HasSameBlocks, KeepsOpen}
+use Rattle.opfs_pages.specs.HistoryLaws.Spaced.{AreSpaced}
+use Rattle.opfs_pages.proofs.history_laws.Leaving.{open-is}
 use Rattle.opfs_hist.specs.declared.entry.Entry.{Entry}
 use Rattle.opfs_hist.specs.declared.reply.Reply.{Reply}
 use Rattle.opfs_hist.specs.declared.reply.Reply.TheVariants as reply
@@ -37,7 +37,7 @@ use Rattle.opfs_machine.specs.Rows.{file_at}
 use Rattle.opfs_machine.specs.Steps.{evicted, after_reply}
 use Rattle.opfs_outside.specs.declared.disk.Disk.{Ghosts as DiskWords}
 use Rattle.opfs_records.specs.Replay.Built.{Built}
-use Rattle.opfs_row_puts.specs.Plans.{shelf}
+use Rattle.opfs_pages.specs.RowCalls.Plans.{shelf}
 use Rattle.opfs_space.specs.Room.{Machine}
 use Rattle.opfs_laws.specs.Steady.Steady.{row_bytes, open_bytes}
 use Rattle.opfs_tree.specs.Rows.{Rows as Tree}

@@ -13,8 +13,8 @@ use Rattle.opfs_state_rows.proofs.changes.Twice.{machine-file}
 use Rattle.opfs_data.specs.Pages.{page_of}
 use Rattle.opfs_data.specs.Places.{bytes_of, room_of}
 use Rattle.opfs_data.specs.Rows.{Rows, page_at, pages_at, row_of}
-use Rattle.opfs_desk_laws.specs.Handles.{AreHandlesWhole, HandlesStayWhole, handle_on}
-use Rattle.opfs_desk_laws.specs.Open.{if_open, open_at}
+use Rattle.opfs_pages.specs.HistoryLaws.Handles.{AreHandlesWhole, HandlesStayWhole, handle_on}
+use Rattle.opfs_pages.specs.HistoryLaws.Open.{if_open, open_at}
 use Rattle.opfs_desk_parts.specs.Held.{AreHeldWhole}
 use Rattle.opfs_desk_parts.specs.Seen.{machine_in, tree_in}
 use Rattle.opfs_desk_parts.specs.declared.parts.Ledger.{Ledger}

@@ -11,8 +11,8 @@ use Rattle.opfs_books.specs.Laws.Commits.{StateLaws}
 use Rattle.opfs_data.specs.Pages.{LiesIn}
 use Rattle.opfs_data.specs.Places.{AllLie}
 use Rattle.opfs_data.specs.Rows.{page_at}
-use Rattle.opfs_desk_laws.specs.Handles.{AreHandlesWhole}
-use Rattle.opfs_desk_laws.specs.Open.{if_open, open_at}
+use Rattle.opfs_pages.specs.HistoryLaws.Handles.{AreHandlesWhole}
+use Rattle.opfs_pages.specs.HistoryLaws.Open.{if_open, open_at}
 use Rattle.opfs_desk_parts.specs.Held.{AreHeldWhole}
 use Rattle.opfs_desk_parts.specs.Seen.{machine_in, tree_in}
 use Rattle.opfs_desk_parts.specs.declared.parts.Ledger.{Ledger}

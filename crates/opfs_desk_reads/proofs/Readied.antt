@@ -11,8 +11,8 @@ use Rattle.opfs_books.specs.Seen.{book}
 use Rattle.opfs_books.specs.declared.books.Books.{Books}
 use Rattle.opfs_commit.specs.Shown.{IsShown}
 use Rattle.opfs_data.specs.Calls.{Reads}
-use Rattle.opfs_desk_laws.specs.Laid.{AreLaid}
-use Rattle.opfs_desk_laws.specs.Told.{AreTold}
+use Rattle.opfs_pages.specs.HistoryLaws.Laid.{AreLaid}
+use Rattle.opfs_pages.specs.HistoryLaws.Told.{AreTold}
 use Rattle.opfs_desk_parts.specs.Acted.{IsWay, HasActed, IsUnacted}
 use Rattle.opfs_desk_parts.specs.Held.{AreHeldAt, AreHeldWhole}
 use Rattle.opfs_desk_parts.specs.Seen.{book_in}
@@ -31,7 +31,7 @@ use Rattle.opfs_machine.specs.Runs.{Call}
 use Rattle.opfs_outside.specs.Moments.{elapses-trans, each_of_both}
 use Rattle.opfs_outside.specs.declared.disk.Disk.{Ghosts as DiskWords}
 use Rattle.opfs_records.specs.Replay.Built.{Built}
-use Rattle.opfs_row_puts.specs.Plans.{shelf}
+use Rattle.opfs_pages.specs.RowCalls.Plans.{shelf}
 use Rattle.opfs_state.specs.Applied.{StateSeen}
 use Rattle.opfs_work.specs.Works.{WorkingCopy}
 

@@ -12,15 +12,15 @@ use Rattle.opfs_books.specs.Laws.Books.{Fixed}
 use Rattle.opfs_books.proofs.laws.Told.{next-state, next-reply}
 use Rattle.opfs_data.specs.Rows.{IsOther, pages_at}
 use Rattle.opfs_store.specs.Copies.Copies.{StandsFor, IsPaged}
-use Rattle.opfs_desk_laws.specs.Copies.{HasLeftRow, IsHandleCopy}
-use Rattle.opfs_desk_laws.specs.Handles.{AreHandlesWhole, HandlesStayWhole, handle_on}
-use Rattle.opfs_desk_laws.specs.Laid.{AreLaid}
-use Rattle.opfs_desk_laws.specs.Laws.{BlocksGoOn, CallsLeaveOtherRows}
-use Rattle.opfs_desk_laws.specs.Open.{open_at, if_open, StaysOpen}
-use Rattle.opfs_desk_laws.specs.RowsAfter.{IsDone}
-use Rattle.opfs_desk_laws.specs.Shelves.{HasSameBlocks, KeepsOpen}
-use Rattle.opfs_desk_laws.specs.Spaced.{AreSpaced}
-use Rattle.opfs_desk_laws.proofs.Leaving.{open-is}
+use Rattle.opfs_pages.specs.HistoryLaws.Copies.{HasLeftRow, IsHandleCopy}
+use Rattle.opfs_pages.specs.HistoryLaws.Handles.{AreHandlesWhole, HandlesStayWhole, handle_on}
+use Rattle.opfs_pages.specs.HistoryLaws.Laid.{AreLaid}
+use Rattle.opfs_pages.specs.HistoryLaws.Laws.{BlocksGoOn, CallsLeaveOtherRows}
+use Rattle.opfs_pages.specs.HistoryLaws.Open.{open_at, if_open, StaysOpen}
+use Rattle.opfs_pages.specs.HistoryLaws.RowsAfter.{IsDone}
+use Rattle.opfs_pages.specs.HistoryLaws.Shelves.{HasSameBlocks, KeepsOpen}
+use Rattle.opfs_pages.specs.HistoryLaws.Spaced.{AreSpaced}
+use Rattle.opfs_pages.proofs.history_laws.Leaving.{open-is}
 use Rattle.opfs_hist.specs.declared.entry.Entry.{Entry}
 use Rattle.opfs_hist.specs.declared.reply.Reply.TheVariants as reply
 use Rattle.opfs_laws.specs.Histories.Unread.{unread}
@@ -44,7 +44,7 @@ use Rattle.opfs_machine.specs.Sums.{reserve_of}
 use Rattle.opfs_outside.specs.declared.disk.Disk.{Ghosts as DiskWords}
 use Rattle.opfs_pages.specs.Copies.{AreHeld, IsCopy, IsPageOf}
 use Rattle.opfs_records.specs.Replay.Built.{Built}
-use Rattle.opfs_row_puts.specs.Plans.{shelf}
+use Rattle.opfs_pages.specs.RowCalls.Plans.{shelf}
 use Rattle.opfs_space.specs.Room.{Machine}
 use Rattle.opfs_splice.specs.Splicing.{window}
 use Rattle.opfs_laws.specs.Steady.Steady.{is_steady, has_page, row_bytes, open_bytes}

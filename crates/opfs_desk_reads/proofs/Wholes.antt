@@ -3,7 +3,7 @@ use Rattle.std.proofs.Common.{◌≡◌, ℕ, Bool, true, false, not, ◌&&◌, 
 use Rattle.std.proofs.lemmas.List.{append_assoc, map-append}
 use Rattle.opfs_store.specs.Acts.Acting.{told_entry}
 use Rattle.opfs_base.specs.Texts.{Text}
-use Rattle.opfs_desk_laws.specs.Handles.{HandlesStayWhole, AreHandlesWhole, handle_on}
+use Rattle.opfs_pages.specs.HistoryLaws.Handles.{HandlesStayWhole, AreHandlesWhole, handle_on}
 use Rattle.opfs_desk_reads.specs.Handles.{HandlesGoOn}
 use Rattle.opfs_hist.specs.declared.entry.Entry.{Entry}
 use Rattle.opfs_laws.specs.Histories.Unread.{ArePendingFor, unread_entry}

@@ -11,9 +11,9 @@ use Rattle.opfs_state_rows.specs.Changes.Allowed.{IsSized}
 use Rattle.opfs_state_rows.specs.Changes.Asking.{made_at}
 use Rattle.opfs_state_rows.specs.Changes.Changed.{tree_by}
 use Rattle.opfs_store.specs.Copies.Copies.{IsCopyOf}
-use Rattle.opfs_desk_laws.specs.Hands.{row_in_hand}
-use Rattle.opfs_desk_laws.specs.RowsAfter.{IsDone}
-use Rattle.opfs_desk_laws.proofs.Own.{own-changed}
+use Rattle.opfs_pages.specs.HistoryLaws.Hands.{row_in_hand}
+use Rattle.opfs_pages.specs.HistoryLaws.RowsAfter.{IsDone}
+use Rattle.opfs_pages.proofs.history_laws.Own.{own-changed}
 use Rattle.opfs_desk_reads.specs.Words.{reads_row, reads_bytes, read_start, read_len, cursor_read}
 use Rattle.opfs_hist.specs.declared.op.Op.{Op}
 use Rattle.opfs_hist.specs.declared.op.Op.TheVariants as op

@@ -1,7 +1,7 @@
 -- Access handles through whole calls. This project's own.
 use Rattle.std.specs.Prelude.{List}
 use Rattle.opfs_store.specs.Acts.Acting.{IsActed}
-use Rattle.opfs_desk_laws.specs.Handles.{AreHandlesWhole}
+use Rattle.opfs_pages.specs.HistoryLaws.Handles.{AreHandlesWhole}
 use Rattle.opfs_hist.specs.declared.entry.Entry.{Entry}
 use Rattle.opfs_hist.specs.declared.reply.Reply.{Reply}
 use Rattle.opfs_laws.specs.Histories.Unread.{IsTold, ArePendingFor}

@@ -15,8 +15,7 @@ use opfs_base::Bytes;
 use opfs_data::{DataRefusal, Swap};
 use opfs_journal::{DiskFault, Journal};
 use opfs_outside::Disk;
-use opfs_pages::{cut_page, read_page};
-use opfs_row_puts::{bring_near, read_row};
+use opfs_pages::{bring_near, cut_page, read_page, read_row};
 use opfs_work::Work;
 use std::alloc::{AllocError, Global};
 

@@ -16,7 +16,7 @@ use opfs_hist::Mode;
 use opfs_journal::Journal;
 use opfs_locks::LockValue;
 use opfs_outside::Disk;
-use opfs_row_puts::read_handle;
+use opfs_pages::read_handle;
 use opfs_state::State;
 use opfs_tree::FileRow;
 use std::alloc::Global;

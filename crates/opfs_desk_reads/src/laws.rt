@@ -2,9 +2,9 @@
 
 ghost use Rattle.opfs_desk_reads.specs.Handles.{HandlesGoOn};
 
-use opfs_desk_laws::handles_stay_whole;
 use opfs_laws::going_on::legal_histories_go_on;
 use opfs_outside::Disk;
+use opfs_pages::handles_stay_whole;
 
 /// The law of access handles through a whole call: each of their pages stays one that the store tells.
 pub fn handles_go_on<D: Disk>()

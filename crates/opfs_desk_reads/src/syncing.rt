@@ -4,8 +4,8 @@ ghost use Rattle.std.specs.Prelude.{◌≡◌, ◌/◌, ◌%◌, ◌≤◌, ℕ,
 ghost use Rattle.opfs_store.specs.Acts.Acting.{IsSameCopy};
 ghost use Rattle.opfs_books.specs.Laws.Books.{Fixed};
 ghost use Rattle.opfs_books.specs.Laws.Laws.{BooksShowTheirImages, BooksKeepTheState, ReadsKeepTheBooks};
-ghost use Rattle.opfs_desk_laws.specs.Handles.{AreHandlesWhole, HandlesStayWhole};
-ghost use Rattle.opfs_desk_laws.specs.Laws.{BlocksGoOn, CallsLeaveOtherRows};
+ghost use Rattle.opfs_pages.specs.HistoryLaws.Handles.{AreHandlesWhole, HandlesStayWhole};
+ghost use Rattle.opfs_pages.specs.HistoryLaws.Laws.{BlocksGoOn, CallsLeaveOtherRows};
 ghost use Rattle.opfs_desk_parts.specs.Acted.{HasActed, IsUnacted};
 ghost use Rattle.opfs_desk_parts.specs.Asked.{IsAsked, MayGo};
 ghost use Rattle.opfs_desk_parts.specs.Held.{AreHeldWhole};
@@ -26,9 +26,6 @@ use crate::bytes::{RowRead, leave_cursor, read_open_row};
 use crate::failing::fail_reading;
 use opfs_books::{reads_leave_the_books, the_books_show_their_images, the_state_is_kept};
 use opfs_data::DataRefusal;
-use opfs_desk_laws::{
-    blocks_go_on, calls_leave_other_rows, copies_stand_for_their_row, handles_stay_whole,
-};
 use opfs_desk_parts::{InHand, Parts};
 use opfs_desk_rows::{copies_are_stored, parts_lie_inside, rows_in_hand_are_laid};
 use opfs_desk_steps::{
@@ -39,6 +36,9 @@ use opfs_hist::{Op, Pending, Refusal, Reply};
 use opfs_laws::going_on::legal_histories_go_on;
 use opfs_machine::Sizes;
 use opfs_outside::Disk;
+use opfs_pages::{
+    blocks_go_on, calls_leave_other_rows, copies_stand_for_their_row, handles_stay_whole,
+};
 use opfs_store::{Acted, Gift};
 use opfs_work::Work;
 use std::alloc::AllocError;

@@ -6,8 +6,8 @@ use Rattle.opfs_base.specs.Texts.{Text}
 use Rattle.opfs_books.specs.Laws.Commits.{StateLaws}
 use Rattle.opfs_data.specs.Pages.{blank}
 use Rattle.opfs_data.specs.Rows.{pages_at}
-use Rattle.opfs_desk_laws.specs.Laws.{PagesAreLeft, AllGoOn}
-use Rattle.opfs_desk_laws.specs.Open.{open_at}
+use Rattle.opfs_pages.specs.HistoryLaws.Laws.{PagesAreLeft, AllGoOn}
+use Rattle.opfs_pages.specs.HistoryLaws.Open.{open_at}
 use Rattle.opfs_hist.specs.declared.entry.Entry.{Entry}
 use Rattle.opfs_laws.specs.Histories.Unread.{ArePendingFor}
 use Rattle.opfs_machine.specs.declared.own.Own.{Own}

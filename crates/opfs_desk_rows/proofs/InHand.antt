@@ -6,12 +6,12 @@ use Rattle.opfs_books.specs.Laws.Books.{Fixed}
 use Rattle.opfs_books.specs.Laws.Laws.{BooksKeepTheState}
 use Rattle.opfs_data.specs.Pages.{page_of}
 use Rattle.opfs_data.specs.Rows.{row_of, pages_at, page_at, IsOther, OthersStay}
-use Rattle.opfs_desk_laws.specs.Hands.{row_in_hand}
-use Rattle.opfs_desk_laws.specs.Laid.{AreLaid, IsLaidInHand}
-use Rattle.opfs_desk_laws.specs.Laws.{CallsLeaveOtherRows}
-use Rattle.opfs_desk_laws.specs.Open.{open_at, OthersStayOpen}
-use Rattle.opfs_desk_laws.specs.Spaced.{Shelf, AreSpaced}
-use Rattle.opfs_desk_laws.specs.Told.{OthersReadAlike}
+use Rattle.opfs_pages.specs.HistoryLaws.Hands.{row_in_hand}
+use Rattle.opfs_pages.specs.HistoryLaws.Laid.{AreLaid, IsLaidInHand}
+use Rattle.opfs_pages.specs.HistoryLaws.Laws.{CallsLeaveOtherRows}
+use Rattle.opfs_pages.specs.HistoryLaws.Open.{open_at, OthersStayOpen}
+use Rattle.opfs_pages.specs.HistoryLaws.Spaced.{Shelf, AreSpaced}
+use Rattle.opfs_pages.specs.HistoryLaws.Told.{OthersReadAlike}
 use Rattle.opfs_hist.specs.declared.entry.Entry.{Entry}
 use Rattle.opfs_laws.specs.Lengths.Outlines.{in_lengths_of}
 use Rattle.opfs_machine.specs.declared.own.Own.{Own}

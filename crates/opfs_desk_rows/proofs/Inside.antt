@@ -11,8 +11,8 @@ use Rattle.opfs_books.proofs.laws.Committing.{whole-state}
 use Rattle.opfs_data.specs.declared.page.Page.{Page}
 use Rattle.opfs_data.specs.Pages.{LiesIn, blank}
 use Rattle.opfs_data.specs.Rows.{pages_at}
-use Rattle.opfs_desk_laws.specs.Open.{open_at, file_in, reserve_in, is_stream}
-use Rattle.opfs_desk_laws.specs.Spaced.{Shelf, AreHolders, AreSpaced}
+use Rattle.opfs_pages.specs.HistoryLaws.Open.{open_at, file_in, reserve_in, is_stream}
+use Rattle.opfs_pages.specs.HistoryLaws.Spaced.{Shelf, AreHolders, AreSpaced}
 use Rattle.opfs_image.specs.Superblock.{is_between, is_in_range}
 use Rattle.opfs_image.specs.declared.geometry.Geometry.{Geometry}
 use Rattle.opfs_journal.specs.declared.areas.Areas.{Areas}

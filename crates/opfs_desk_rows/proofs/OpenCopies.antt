@@ -13,9 +13,9 @@ use Rattle.opfs_books.specs.Laws.Books.{Fixed}
 use Rattle.opfs_books.specs.Laws.Commits.{StateLaws}
 use Rattle.opfs_books.specs.Laws.Laws.{BooksKeepTheState}
 use Rattle.opfs_store.specs.Copies.Copies.{StandsFor, IsPaged}
-use Rattle.opfs_desk_laws.specs.Copies.{HasLeftRow, IsStreamCopy, IsHandleCopy}
-use Rattle.opfs_desk_laws.specs.Laws.{TreesKeepBlocks}
-use Rattle.opfs_desk_laws.specs.RowsAfter.{CallsChangeTheirRow}
+use Rattle.opfs_pages.specs.HistoryLaws.Copies.{HasLeftRow, IsStreamCopy, IsHandleCopy}
+use Rattle.opfs_pages.specs.HistoryLaws.Laws.{TreesKeepBlocks}
+use Rattle.opfs_pages.specs.HistoryLaws.RowsAfter.{CallsChangeTheirRow}
 use Rattle.opfs_hist.specs.declared.entry.Entry.{Entry}
 use Rattle.opfs_hist.specs.Sums.{asks_for_row}
 use Rattle.opfs_hist.specs.declared.op.Mode.{Mode}

@@ -6,13 +6,13 @@ use Rattle.opfs_data.specs.declared.page.Page.{Page}
 use Rattle.opfs_data.specs.Pages.{RowSeen, page_of, blank}
 use Rattle.opfs_data.specs.Places.{bytes_of, room_of}
 use Rattle.opfs_data.specs.Rows.{Rows, row_of, pages_at, page_at, no_row}
-use Rattle.opfs_desk_laws.specs.Laws.{BlocksTellAFile, BlocksGoOn, CallsLeaveOtherRows}
-use Rattle.opfs_desk_laws.specs.Open.{OthersStayOpen}
+use Rattle.opfs_pages.specs.HistoryLaws.Laws.{BlocksTellAFile, BlocksGoOn, CallsLeaveOtherRows}
+use Rattle.opfs_pages.specs.HistoryLaws.Open.{OthersStayOpen}
 use Rattle.opfs_laws.specs.Lengths.Outlines.{in_lengths_of}
 use Rattle.opfs_machine.specs.Steps.{evicted, after_reply}
 use Rattle.opfs_outside.specs.declared.disk.Disk.{Ghosts as DiskWords}
 use Rattle.opfs_pages.specs.Copies.{IsBegun}
-use Rattle.opfs_row_puts.specs.Plans.{shelf}
+use Rattle.opfs_pages.specs.RowCalls.Plans.{shelf}
 use Rattle.opfs_space.specs.Room.{Machine}
 use Rattle.opfs_desk_parts.specs.Seen.{machine_in, shelf_in}
 use Rattle.opfs_desk_rows.specs.Opening.{OpenedRowsAreLaid}

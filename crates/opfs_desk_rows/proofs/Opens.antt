@@ -15,11 +15,11 @@ use Rattle.opfs_books.specs.Laws.Commits.{StateLaws}
 use Rattle.opfs_state_rows.proofs.changes.Told.{IsGiven, writable-told, sync-told}
 use Rattle.opfs_state_rows.specs.Changes.Changed.{tree_by}
 use Rattle.opfs_data.specs.Places.{bytes_of, room_of}
-use Rattle.opfs_desk_laws.specs.Hands.{row_in_hand}
-use Rattle.opfs_desk_laws.specs.Laws.{TreesKeepBlocks}
-use Rattle.opfs_desk_laws.specs.Open.{open_at, if_open, file_in, reserve_in, is_stream}
-use Rattle.opfs_desk_laws.specs.RowsAfter.{CallsChangeTheirRow}
-use Rattle.opfs_desk_laws.specs.Shelves.{HasSameBlocks, HasSameFiles}
+use Rattle.opfs_pages.specs.HistoryLaws.Hands.{row_in_hand}
+use Rattle.opfs_pages.specs.HistoryLaws.Laws.{TreesKeepBlocks}
+use Rattle.opfs_pages.specs.HistoryLaws.Open.{open_at, if_open, file_in, reserve_in, is_stream}
+use Rattle.opfs_pages.specs.HistoryLaws.RowsAfter.{CallsChangeTheirRow}
+use Rattle.opfs_pages.specs.HistoryLaws.Shelves.{HasSameBlocks, HasSameFiles}
 use Rattle.opfs_hist.specs.declared.entry.Entry.{Entry}
 use Rattle.opfs_hist.specs.Sums.{asks_for_row}
 use Rattle.opfs_hist.specs.declared.op.Mode.{Mode}
@@ -51,7 +51,7 @@ use Rattle.opfs_machine.specs.Rulings.{ruling, want_of, first_reserve, size_in}
 use Rattle.opfs_machine.specs.Steps.{evicted, after_reply, is_refusal}
 use Rattle.opfs_books.proofs.openings.Counted.{length-blocks, blocks-append, distinct, has-append, not-true}
 use Rattle.opfs_outside.specs.declared.disk.Disk.{Ghosts as DiskWords}
-use Rattle.opfs_row_puts.specs.Plans.{shelf}
+use Rattle.opfs_pages.specs.RowCalls.Plans.{shelf}
 use Rattle.opfs_records.specs.Replay.Built.{Built, block_count, has_block, is_once, named, all_extents}
 use Rattle.opfs_records.specs.Checkpoint.Written.{stored_rows, stored_row}
 use Rattle.opfs_space.specs.Files.{extents_in, file_has}

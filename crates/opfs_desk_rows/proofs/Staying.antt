@@ -5,7 +5,7 @@ use Rattle.std.proofs.lemmas.Bool.{false≢true}
 use Rattle.opfs_base.specs.declared.locator.Locator.{Locator}
 use Rattle.opfs_base.specs.Texts.{Text}
 use Rattle.opfs_books.proofs.Following.{notes-follow, pending-notes}
-use Rattle.opfs_desk_laws.specs.Open.{open_at, if_open}
+use Rattle.opfs_pages.specs.HistoryLaws.Open.{open_at, if_open}
 use Rattle.opfs_hist.specs.declared.entry.Entry.{Entry}
 use Rattle.opfs_hist.specs.declared.op.Op.{Op}
 use Rattle.opfs_hist.specs.declared.op.Op.TheVariants as op

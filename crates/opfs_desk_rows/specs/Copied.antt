@@ -12,7 +12,7 @@ use Rattle.opfs_pages.specs.Stages.{IsReady}
 use Rattle.opfs_records.specs.Replay.Built.{Built}
 use Rattle.opfs_laws.specs.Steady.Steady.{row_bytes}
 use Rattle.opfs_work.specs.Works.{WorkingCopy}
-use Rattle.opfs_desk_laws.specs.Told.{AreThere, AreTold}
+use Rattle.opfs_pages.specs.HistoryLaws.Told.{AreThere, AreTold}
 use Rattle.opfs_desk_parts.specs.Held.{AreHeldWhole}
 use Rattle.opfs_desk_parts.specs.declared.parts.Ledger.{Ledger}
 use Rattle.opfs_desk_parts.specs.declared.parts.Pages.{Pages}

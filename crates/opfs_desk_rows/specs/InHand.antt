@@ -4,11 +4,11 @@ use Rattle.opfs_base.specs.Texts.{Text}
 use Rattle.opfs_books.specs.Laws.Books.{Fixed}
 use Rattle.opfs_data.specs.Pages.{page_of}
 use Rattle.opfs_data.specs.Rows.{Rows, row_of, pages_at, page_at, OthersStay}
-use Rattle.opfs_desk_laws.specs.Hands.{row_in_hand}
-use Rattle.opfs_desk_laws.specs.Laid.{AreLaid}
-use Rattle.opfs_desk_laws.specs.Open.{open_at}
-use Rattle.opfs_desk_laws.specs.Spaced.{Shelf, AreSpaced}
-use Rattle.opfs_desk_laws.specs.Told.{OthersReadAlike}
+use Rattle.opfs_pages.specs.HistoryLaws.Hands.{row_in_hand}
+use Rattle.opfs_pages.specs.HistoryLaws.Laid.{AreLaid}
+use Rattle.opfs_pages.specs.HistoryLaws.Open.{open_at}
+use Rattle.opfs_pages.specs.HistoryLaws.Spaced.{Shelf, AreSpaced}
+use Rattle.opfs_pages.specs.HistoryLaws.Told.{OthersReadAlike}
 use Rattle.opfs_hist.specs.declared.entry.Entry.{Entry}
 use Rattle.opfs_laws.specs.Lengths.Outlines.{in_lengths_of}
 use Rattle.opfs_machine.specs.declared.own.Own.{Own}

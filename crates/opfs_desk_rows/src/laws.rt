@@ -10,13 +10,13 @@ ghost use Rattle.opfs_desk_rows.specs.Puts.{PutsHaveRoom, TreesNameStoredBlocks}
 ghost use Rattle.opfs_desk_rows.specs.Stored.{FilesAreStored, HistoriesAreCleared};
 
 use opfs_books::{commit_laws, state_laws, the_state_is_kept};
-use opfs_desk_laws::{
-    blocks_go_on, blocks_tell_a_file, calls_change_their_row, calls_leave_other_rows,
-    copies_stand_for_their_row, pages_are_left, trees_keep_their_blocks, what_is_laid_goes_on,
-};
 use opfs_laws::lengths::bridge::{lengths_follow_each_call, local_calls_are_known_by_their_word};
 use opfs_laws::stored::changes_build_the_durable_part;
 use opfs_outside::Disk;
+use opfs_pages::{
+    blocks_go_on, blocks_tell_a_file, calls_change_their_row, calls_leave_other_rows,
+    copies_stand_for_their_row, pages_are_left, trees_keep_their_blocks, what_is_laid_goes_on,
+};
 
 /// The data part lies on the disk, and all blocks of files and pages lie in it.
 pub fn parts_lie_inside<D: Disk>()

@@ -4,7 +4,7 @@ use Rattle.std.proofs.lemmas.Bool.{cases_eq, false≢true}
 use Rattle.std.proofs.lemmas.List.Sums.{sum_by-append, sum_by-cons}
 use Rattle.opfs_base.specs.Places.{Place}
 use Rattle.opfs_data.specs.Rows.{IsOther}
-use Rattle.opfs_desk_laws.specs.Open.{file_in, if_open, is_stream, open_at}
+use Rattle.opfs_pages.specs.HistoryLaws.Open.{file_in, if_open, is_stream, open_at}
 use Rattle.opfs_hist.specs.declared.op.Mode.{Mode}
 use Rattle.opfs_hist.specs.declared.op.Mode.TheVariants as mode
 use Rattle.opfs_hist.specs.declared.op.Op.{Op}

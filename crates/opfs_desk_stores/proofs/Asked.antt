@@ -8,7 +8,7 @@ use Rattle.opfs_books.specs.Laws.Books.{Fixed}
 use Rattle.opfs_books.specs.Laws.Commits.{StateLaws}
 use Rattle.opfs_books.specs.Laws.Laws.{BooksKeepTheState}
 use Rattle.opfs_store.specs.Copies.Copies.{StandsFor}
-use Rattle.opfs_desk_laws.specs.Open.{file_in, if_open, open_at}
+use Rattle.opfs_pages.specs.HistoryLaws.Open.{file_in, if_open, open_at}
 use Rattle.opfs_hist.specs.declared.entry.Entry.{Entry}
 use Rattle.opfs_laws.specs.Lengths.Bridge.{LengthsFollowEachCall, LocalCallsAreKnownByTheirWord}
 use Rattle.opfs_laws.specs.Lengths.Kept.{hold_in}

@@ -8,7 +8,7 @@ use Rattle.opfs_base.specs.Texts.{Text}
 use Rattle.opfs_books.specs.Laws.Books.{Fixed}
 use Rattle.opfs_books.specs.Laws.Laws.{failed}
 use Rattle.opfs_state_rows.specs.Changes.Allowed.{IsSized}
-use Rattle.opfs_desk_laws.specs.Open.{file_in, open_at}
+use Rattle.opfs_pages.specs.HistoryLaws.Open.{file_in, open_at}
 use Rattle.opfs_hist.specs.declared.entry.Entry.{Entry}
 use Rattle.opfs_hist.specs.declared.reply.Reply.TheVariants as reply
 use Rattle.opfs_laws.specs.Histories.Unread.{unread}
@@ -29,10 +29,10 @@ use Rattle.opfs_machine.specs.Replies.{row_named, sizes_in}
 use Rattle.opfs_machine.specs.Rows.{file_at}
 use Rattle.opfs_machine.specs.Sums.{reserve_of}
 use Rattle.opfs_outside.specs.declared.disk.Disk.{Ghosts as DiskWords}
-use Rattle.opfs_puts.specs.Puts.{IsReady as IsPutReady}
+use Rattle.opfs_pages.specs.Writing.Puts.{IsReady as IsPutReady}
 use Rattle.opfs_records.specs.Replay.Built.{Built}
-use Rattle.opfs_row_puts.specs.Plans.{shelf, AreGotten}
-use Rattle.opfs_row_puts.specs.Rows.{IsPutOf}
+use Rattle.opfs_pages.specs.RowCalls.Plans.{shelf, AreGotten}
+use Rattle.opfs_pages.specs.RowCalls.Rows.{IsPutOf}
 use Rattle.opfs_space.specs.Room.{Machine}
 use Rattle.opfs_state_rows.specs.Standing.Seen.{lines_of}
 use Rattle.opfs_laws.specs.Steady.Steady.{row_bytes}

@@ -5,7 +5,7 @@ use Rattle.opfs_base.specs.Places.{Place, place_cmp}
 use Rattle.opfs_base.specs.declared.extents.Extent.{Extent}
 use Rattle.opfs_blocks.specs.Sets.{blocks_of}
 use Rattle.opfs_state_rows.specs.Changes.Changed.{changed_by, closed_by, ended_by, flushed_by, flushed_in, tree_by}
-use Rattle.opfs_desk_laws.specs.Laws.{TreesKeepBlocks}
+use Rattle.opfs_pages.specs.HistoryLaws.Laws.{TreesKeepBlocks}
 use Rattle.opfs_hist.specs.declared.op.Mode.{Mode}
 use Rattle.opfs_hist.specs.declared.op.Mode.TheVariants as mode
 use Rattle.opfs_hist.specs.declared.op.Op.{Op}

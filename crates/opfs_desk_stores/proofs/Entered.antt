@@ -19,17 +19,17 @@ use Rattle.opfs_codec.specs.declared.change.Change.TheVariants.{Content}
 use Rattle.opfs_store.specs.Copies.Copies.{IsCopyOf, StandsFor}
 use Rattle.opfs_data.specs.Pages.{blank, page_of}
 use Rattle.opfs_data.specs.Rows.{no_row, page_at, pages_at, row_of}
-use Rattle.opfs_desk_laws.specs.Laid.{AreLaid}
-use Rattle.opfs_desk_laws.specs.Laws.{CallsLeaveOtherRows, TreesKeepBlocks}
-use Rattle.opfs_desk_laws.specs.Open.{file_in, if_open, is_stream, open_at, OthersStayOpen}
-use Rattle.opfs_desk_laws.specs.Hands.{row_in_hand}
-use Rattle.opfs_desk_laws.specs.Putting.{AllReadAlike}
-use Rattle.opfs_desk_laws.specs.RowsAfter.{CallsChangeTheirRow, IsDone}
-use Rattle.opfs_desk_laws.specs.Spaced.{AreSpaced, Shelf}
-use Rattle.opfs_desk_laws.specs.Told.{OthersReadAlike}
-use Rattle.opfs_desk_laws.proofs.Copied.{left-stands}
-use Rattle.opfs_desk_laws.proofs.Holding.{spaced-blocks}
-use Rattle.opfs_desk_laws.proofs.Leaving.{open-is}
+use Rattle.opfs_pages.specs.HistoryLaws.Laid.{AreLaid}
+use Rattle.opfs_pages.specs.HistoryLaws.Laws.{CallsLeaveOtherRows, TreesKeepBlocks}
+use Rattle.opfs_pages.specs.HistoryLaws.Open.{file_in, if_open, is_stream, open_at, OthersStayOpen}
+use Rattle.opfs_pages.specs.HistoryLaws.Hands.{row_in_hand}
+use Rattle.opfs_pages.specs.HistoryLaws.Putting.{AllReadAlike}
+use Rattle.opfs_pages.specs.HistoryLaws.RowsAfter.{CallsChangeTheirRow, IsDone}
+use Rattle.opfs_pages.specs.HistoryLaws.Spaced.{AreSpaced, Shelf}
+use Rattle.opfs_pages.specs.HistoryLaws.Told.{OthersReadAlike}
+use Rattle.opfs_pages.proofs.history_laws.Copied.{left-stands}
+use Rattle.opfs_pages.proofs.history_laws.Holding.{spaced-blocks}
+use Rattle.opfs_pages.proofs.history_laws.Leaving.{open-is}
 use Rattle.opfs_hist.specs.Sums.{asks_for_row}
 use Rattle.opfs_hist.specs.declared.entry.Entry.{Entry}
 use Rattle.opfs_hist.specs.declared.reply.Reply.TheVariants as reply
@@ -51,7 +51,7 @@ use Rattle.opfs_machine.specs.Steps.{after_reply}
 use Rattle.opfs_outside.specs.declared.disk.Disk.{Ghosts as DiskWords}
 use Rattle.opfs_pages.specs.Copies.{IsBegun}
 use Rattle.opfs_records.specs.Replay.Built.{Built, has_block}
-use Rattle.opfs_row_puts.specs.Plans.{shelf}
+use Rattle.opfs_pages.specs.RowCalls.Plans.{shelf}
 use Rattle.opfs_records.specs.Checkpoint.Written.{stored_rows}
 use Rattle.opfs_space.specs.Files.{IsChangedAt}
 use Rattle.opfs_space.specs.Room.{Machine}

@@ -12,9 +12,9 @@ use Rattle.opfs_data.specs.declared.page.Page.{Page}
 use Rattle.opfs_data.specs.Pages.{blank, page_of}
 use Rattle.opfs_data.specs.Rows.{pages_at, row_of}
 use Rattle.opfs_data.specs.Writes.{HasBytes, WriteList}
-use Rattle.opfs_desk_laws.specs.Laid.{AreLaid}
-use Rattle.opfs_desk_laws.specs.Spaced.{AreSpaced}
-use Rattle.opfs_desk_laws.proofs.Begun.{other-or}
+use Rattle.opfs_pages.specs.HistoryLaws.Laid.{AreLaid}
+use Rattle.opfs_pages.specs.HistoryLaws.Spaced.{AreSpaced}
+use Rattle.opfs_pages.proofs.history_laws.Begun.{other-or}
 use Rattle.opfs_hist.specs.declared.entry.Entry.{Entry}
 use Rattle.opfs_machine.specs.declared.own.Own.{Own}
 use Rattle.opfs_machine.specs.declared.state.State.{State}
@@ -25,11 +25,11 @@ use Rattle.opfs_pages.specs.Copies.{AreHeld}
 use Rattle.opfs_pages.specs.Stages.{changed}
 use Rattle.opfs_pages.proofs.Rest.{stored_is}
 use Rattle.opfs_laws.specs.Lengths.Bridge.{LengthsFollowEachCall, LocalCallsAreKnownByTheirWord}
-use Rattle.opfs_puts.specs.Puts.{HasSamePages, IsReady as IsPutReady}
+use Rattle.opfs_pages.specs.Writing.Puts.{HasSamePages, IsReady as IsPutReady}
 use Rattle.opfs_records.specs.Replay.Built.{Built}
-use Rattle.opfs_row_puts.specs.Plans.{shelf, AreGotten}
-use Rattle.opfs_row_puts.proofs.Getting.{pages-same}
-use Rattle.opfs_row_puts.specs.Rows.{IsPutOf}
+use Rattle.opfs_pages.specs.RowCalls.Plans.{shelf, AreGotten}
+use Rattle.opfs_pages.proofs.row_calls.Getting.{pages-same}
+use Rattle.opfs_pages.specs.RowCalls.Rows.{IsPutOf}
 use Rattle.opfs_space.specs.Room.{Machine}
 use Rattle.opfs_state.specs.Applied.{StateSeen}
 use Rattle.opfs_state.specs.Reading.{row_file}

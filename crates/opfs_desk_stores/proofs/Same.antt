@@ -7,7 +7,7 @@ use Rattle.opfs_books.specs.Laws.Books.{Fixed}
 use Rattle.opfs_hist.specs.declared.entry.Entry.{Entry}
 use Rattle.opfs_machine.specs.declared.state.Sizes.{Sizes}
 use Rattle.opfs_outside.specs.declared.disk.Disk.{Ghosts as DiskWords}
-use Rattle.opfs_puts.specs.declared.put.Put.{Put}
+use Rattle.opfs_pages.specs.declared.writing.put.Put.{Put}
 use Rattle.opfs_work.specs.Works.{WorkingCopy}
 use Rattle.opfs_desk_contents.specs.Storing.{HasStoredPages, MayStorePages, StoresContent}
 use Rattle.opfs_desk_parts.specs.Acted.{HasFailed}

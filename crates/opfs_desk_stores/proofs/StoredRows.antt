@@ -5,9 +5,9 @@ use Rattle.std.specs.Prelude.{IsTrue}
 use Rattle.opfs_base.specs.Places.{Place}
 use Rattle.opfs_base.specs.Texts.{Text}
 use Rattle.opfs_books.specs.Stored.Spelled.{bytes_stored, handle_bytes, stream_bytes, bytes_in as stored_in}
-use Rattle.opfs_desk_laws.specs.Open.{file_in, if_open, open_at}
-use Rattle.opfs_desk_laws.specs.RowsAfter.{CallsChangeTheirRow, IsDone}
-use Rattle.opfs_desk_laws.proofs.Leaving.{open-is}
+use Rattle.opfs_pages.specs.HistoryLaws.Open.{file_in, if_open, open_at}
+use Rattle.opfs_pages.specs.HistoryLaws.RowsAfter.{CallsChangeTheirRow, IsDone}
+use Rattle.opfs_pages.proofs.history_laws.Leaving.{open-is}
 use Rattle.opfs_hist.specs.declared.op.Op.{Op}
 use Rattle.opfs_hist.specs.declared.op.Op.TheVariants as op
 use Rattle.opfs_hist.specs.declared.reply.Reply.{Reply}

@@ -14,10 +14,10 @@ use Rattle.opfs_machine.specs.Histories.{state_after}
 use Rattle.opfs_machine.specs.Replies.{row_named}
 use Rattle.opfs_outside.specs.declared.disk.Disk.{Ghosts as DiskWords}
 use Rattle.opfs_pages.specs.Copies.{IsCopy}
-use Rattle.opfs_puts.specs.Puts.{IsReady as IsPutReady}
+use Rattle.opfs_pages.specs.Writing.Puts.{IsReady as IsPutReady}
 use Rattle.opfs_records.specs.Replay.Built.{Built}
-use Rattle.opfs_row_puts.specs.Plans.{shelf, AreGotten}
-use Rattle.opfs_row_puts.specs.Rows.{IsPutOf}
+use Rattle.opfs_pages.specs.RowCalls.Plans.{shelf, AreGotten}
+use Rattle.opfs_pages.specs.RowCalls.Rows.{IsPutOf}
 use Rattle.opfs_state.specs.Reading.{row_file}
 use Rattle.opfs_laws.specs.Steady.Steady.{row_bytes}
 use Rattle.opfs_work.specs.Works.{WorkingCopy}

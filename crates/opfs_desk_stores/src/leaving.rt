@@ -6,7 +6,7 @@ ghost use Rattle.opfs_desk_stores.specs.Steps.{IsFlushed, LeavesRow};
 
 use opfs_base::Extent;
 use opfs_desk_parts::Pages;
-use opfs_row_puts::after_flush;
+use opfs_pages::after_flush;
 use opfs_work::Work;
 
 // Leaves the working copy of a row whose pages the store has: its pages may go, and nothing is reserved.

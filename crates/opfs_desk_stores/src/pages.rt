@@ -8,8 +8,8 @@ ghost use Rattle.opfs_books.specs.Laws.Commits.{StateLaws};
 ghost use Rattle.opfs_books.specs.Laws.Laws.{BooksKeepTheState, BooksShowTheirImages, ReadsKeepTheBooks};
 ghost use Rattle.opfs_desk_contents.specs.Blocks.{ContentsKeepBlocks};
 ghost use Rattle.opfs_desk_contents.specs.Words.{stores_row};
-ghost use Rattle.opfs_desk_laws.specs.Laws.{CallsLeaveOtherRows, TreesKeepBlocks};
-ghost use Rattle.opfs_desk_laws.specs.RowsAfter.{CallsChangeTheirRow};
+ghost use Rattle.opfs_pages.specs.HistoryLaws.Laws.{CallsLeaveOtherRows, TreesKeepBlocks};
+ghost use Rattle.opfs_pages.specs.HistoryLaws.RowsAfter.{CallsChangeTheirRow};
 ghost use Rattle.opfs_desk_parts.specs.Acted.{HasActed, IsUnacted};
 ghost use Rattle.opfs_desk_parts.specs.Asked.{IsAsked, MayGo};
 ghost use Rattle.opfs_desk_parts.specs.Held.{AreHeldWhole};
@@ -36,9 +36,6 @@ use opfs_data::DataRefusal;
 use opfs_desk_contents::{
     Plan, is_last, plan_content, row_of, store_pages, stored_contents_keep_blocks_right,
 };
-use opfs_desk_laws::{
-    calls_change_their_row, calls_leave_other_rows, trees_keep_their_blocks, what_is_laid_goes_on,
-};
 use opfs_desk_parts::{InHand, Parts};
 use opfs_desk_reads::fail_reading;
 use opfs_desk_rows::{
@@ -54,6 +51,9 @@ use opfs_laws::lengths::bridge::{
 };
 use opfs_laws::owned::a_call_moves_its_agent;
 use opfs_outside::Disk;
+use opfs_pages::{
+    calls_change_their_row, calls_leave_other_rows, trees_keep_their_blocks, what_is_laid_goes_on,
+};
 use opfs_store::{Acted, Gift};
 use opfs_work::Work;
 use std::alloc::AllocError;

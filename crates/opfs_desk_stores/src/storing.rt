@@ -5,7 +5,7 @@ ghost use Rattle.opfs_store.specs.Acts.Acting.{IsSameCopy};
 ghost use Rattle.opfs_books.specs.Laws.Books.{Fixed};
 ghost use Rattle.opfs_books.specs.Laws.Commits.{StateLaws};
 ghost use Rattle.opfs_desk_contents.specs.Words.{stores_row};
-ghost use Rattle.opfs_desk_laws.specs.Handles.{AreHandlesWhole};
+ghost use Rattle.opfs_pages.specs.HistoryLaws.Handles.{AreHandlesWhole};
 ghost use Rattle.opfs_desk_parts.specs.Acted.{HasActed, IsUnacted};
 ghost use Rattle.opfs_desk_parts.specs.Asked.{IsAsked, MayGo};
 ghost use Rattle.opfs_desk_parts.specs.Held.{AreHeldWhole};

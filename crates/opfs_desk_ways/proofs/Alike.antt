@@ -3,7 +3,7 @@ use Rattle.std.proofs.Common.{◌≡◌, ℕ, ◌+◌, ◌*◌, ◌≤◌, List,
 use Rattle.opfs_books.specs.Laws.Laws.{LeavesPages}
 use Rattle.opfs_data.specs.Pages.{bytes_by, block_bytes}
 use Rattle.opfs_data.specs.Rows.{Rows, page_at}
-use Rattle.opfs_desk_laws.specs.Putting.{AllReadAlike}
+use Rattle.opfs_pages.specs.HistoryLaws.Putting.{AllReadAlike}
 use Rattle.opfs_journal.specs.Clauses.{Outside}
 use Rattle.opfs_journal.specs.Seen.{Seen}
 use Rattle.opfs_journal.specs.declared.areas.Areas.{Areas}

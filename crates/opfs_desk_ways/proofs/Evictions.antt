@@ -6,11 +6,11 @@ use Rattle.std.proofs.lemmas.Bool.{false≢true}
 use Rattle.opfs_base.specs.Places.{Place, place_cmp, is_within}
 use Rattle.opfs_base.specs.Texts.{Text}
 use Rattle.opfs_blocks.specs.Sets.{blocks_of}
-use Rattle.opfs_desk_laws.specs.Laws.{BlocksGoOn}
-use Rattle.opfs_desk_laws.specs.Open.{if_open, open_at, file_in}
-use Rattle.opfs_desk_laws.specs.Spaced.{AreSpaced}
-use Rattle.opfs_desk_laws.specs.Storing.{HasFewerFiles}
-use Rattle.opfs_desk_laws.proofs.Holding.{spaced-blocks}
+use Rattle.opfs_pages.specs.HistoryLaws.Laws.{BlocksGoOn}
+use Rattle.opfs_pages.specs.HistoryLaws.Open.{if_open, open_at, file_in}
+use Rattle.opfs_pages.specs.HistoryLaws.Spaced.{AreSpaced}
+use Rattle.opfs_pages.specs.HistoryLaws.Storing.{HasFewerFiles}
+use Rattle.opfs_pages.proofs.history_laws.Holding.{spaced-blocks}
 use Rattle.opfs_laws.proofs.Spots.{row-without}
 use Rattle.opfs_laws.specs.Lengths.Kept.{Kept}
 use Rattle.opfs_machine.specs.declared.own.Outline.{Outline}
@@ -21,7 +21,7 @@ use Rattle.opfs_machine.specs.Rows.{file_of}
 use Rattle.opfs_machine.specs.Rows.{file_at as machine_file, row_at as machine_row}
 use Rattle.opfs_machine.specs.Steps.{evicted}
 use Rattle.opfs_records.specs.Replay.Built.{named, all_extents, has_block}
-use Rattle.opfs_row_puts.specs.Plans.{shelf}
+use Rattle.opfs_pages.specs.RowCalls.Plans.{shelf}
 use Rattle.opfs_records.specs.Checkpoint.Written.{stored_row, stored_rows}
 use Rattle.opfs_space.specs.Files.{file_has}
 use Rattle.opfs_space.specs.Room.{Machine}

@@ -15,8 +15,8 @@ use Rattle.opfs_base.specs.declared.extents.Extent.{Extent}
 use Rattle.opfs_blocks.specs.Sets.{blocks_of}
 use Rattle.opfs_blocks.proofs.SetLemmas.{blocks_of-append}
 use Rattle.opfs_state_rows.specs.Changes.Changed.{extents_in, replaced_at, stream_frees, handle_frees, freed_in}
-use Rattle.opfs_desk_laws.specs.Spaced.{AreSpaced}
-use Rattle.opfs_desk_laws.proofs.Holding.{spaced-blocks}
+use Rattle.opfs_pages.specs.HistoryLaws.Spaced.{AreSpaced}
+use Rattle.opfs_pages.proofs.history_laws.Holding.{spaced-blocks}
 use Rattle.opfs_hist.specs.declared.op.Op.{Op}
 use Rattle.opfs_hist.specs.declared.op.Op.TheVariants as op
 use Rattle.opfs_machine.specs.declared.own.HandleOutline.{HandleOutline}
@@ -28,7 +28,7 @@ use Rattle.opfs_records.specs.Replay.Built.{IsSoundRow, named, all_extents, has_
 use Rattle.opfs_records.specs.Replay.Kept.{extent_count}
 use Rattle.opfs_records.proofs.replay.Counts.{distinct_once}
 use Rattle.opfs_records.proofs.replay.Rows.{within_few}
-use Rattle.opfs_row_puts.specs.Plans.{shelf}
+use Rattle.opfs_pages.specs.RowCalls.Plans.{shelf}
 use Rattle.opfs_records.specs.Checkpoint.Written.{stored_row, stored_rows}
 use Rattle.opfs_space.specs.Room.{Machine}
 use Rattle.opfs_space.specs.Spaces.{SpaceSeen}

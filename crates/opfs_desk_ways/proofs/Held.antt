@@ -12,11 +12,11 @@ use Rattle.opfs_books.proofs.Calls.{refused-modes}
 use Rattle.opfs_books.proofs.Evictions.{notes-modes}
 use Rattle.opfs_books.proofs.Following.{refused-changes}
 use Rattle.opfs_commit.specs.Seen.{KeptBack}
-use Rattle.opfs_desk_laws.specs.Laid.{AreLaid}
-use Rattle.opfs_desk_laws.specs.Laws.{BlocksGoOn}
-use Rattle.opfs_desk_laws.specs.Open.{open_at}
-use Rattle.opfs_desk_laws.specs.Putting.{AllReadAlike}
-use Rattle.opfs_desk_laws.specs.Spaced.{AreSpaced}
+use Rattle.opfs_pages.specs.HistoryLaws.Laid.{AreLaid}
+use Rattle.opfs_pages.specs.HistoryLaws.Laws.{BlocksGoOn}
+use Rattle.opfs_pages.specs.HistoryLaws.Open.{open_at}
+use Rattle.opfs_pages.specs.HistoryLaws.Putting.{AllReadAlike}
+use Rattle.opfs_pages.specs.HistoryLaws.Spaced.{AreSpaced}
 use Rattle.opfs_hist.specs.declared.entry.Entry.{Entry}
 use Rattle.opfs_laws.specs.Histories.Unread.{ArePendingFor}
 use Rattle.opfs_image.specs.Superblock.{areas_of, data_base, image_size}
@@ -37,7 +37,7 @@ use Rattle.opfs_machine.specs.Steps.{is_refusal, evicted}
 use Rattle.opfs_outside.specs.Faults.{Rose}
 use Rattle.opfs_outside.specs.declared.disk.Disk.{Ghosts as DiskWords}
 use Rattle.opfs_records.specs.Replay.Built.{Built}
-use Rattle.opfs_row_puts.specs.Plans.{shelf}
+use Rattle.opfs_pages.specs.RowCalls.Plans.{shelf}
 use Rattle.opfs_books.specs.Sharing.Noting.{noted}
 use Rattle.opfs_records.specs.Checkpoint.Written.{stored_rows}
 use Rattle.opfs_space.specs.Room.{Machine}

@@ -1,16 +1,16 @@
 -- What is laid down through entries that settle no row, over pages that stay.
 use Rattle.std.proofs.Common.{◌≡◌, ℕ, is_some, List, ◌++◌, refl, ap, arith}
 use Rattle.opfs_data.specs.Rows.{Rows}
-use Rattle.opfs_desk_laws.specs.Laid.{AreLaid, IsLaidBeside}
-use Rattle.opfs_desk_laws.specs.Laws.{BlocksGoOn}
-use Rattle.opfs_desk_laws.specs.Open.{open_at, file_in, reserve_in, is_stream}
-use Rattle.opfs_desk_laws.specs.Putting.{AllReadAlike}
-use Rattle.opfs_desk_laws.specs.Shelves.{HasSameBlocks, KeepsOpen}
-use Rattle.opfs_desk_laws.specs.Spaced.{Shelf, AreSpaced}
+use Rattle.opfs_pages.specs.HistoryLaws.Laid.{AreLaid, IsLaidBeside}
+use Rattle.opfs_pages.specs.HistoryLaws.Laws.{BlocksGoOn}
+use Rattle.opfs_pages.specs.HistoryLaws.Open.{open_at, file_in, reserve_in, is_stream}
+use Rattle.opfs_pages.specs.HistoryLaws.Putting.{AllReadAlike}
+use Rattle.opfs_pages.specs.HistoryLaws.Shelves.{HasSameBlocks, KeepsOpen}
+use Rattle.opfs_pages.specs.HistoryLaws.Spaced.{Shelf, AreSpaced}
 use Rattle.opfs_hist.specs.declared.entry.Entry.{Entry}
 use Rattle.opfs_machine.specs.Histories.{state_after}
 use Rattle.opfs_machine.specs.Openings.{Opening}
-use Rattle.opfs_row_puts.specs.Plans.{shelf}
+use Rattle.opfs_pages.specs.RowCalls.Plans.{shelf}
 use Rattle.opfs_space.specs.Room.{Machine}
 use Rattle.opfs_space.specs.Spaces.{SpaceSeen}
 use Rattle.opfs_laws.specs.Steady.Settling.{NoneSettles}

@@ -16,7 +16,7 @@ use Rattle.opfs_machine.specs.Agents.{agent_of, own_of, with_agent, counted}
 use Rattle.opfs_machine.specs.Effects.{refused}
 use Rattle.opfs_machine.specs.Steps.{is_refusal}
 use Rattle.opfs_space.specs.Room.{Machine}
-use Rattle.opfs_desk_laws.specs.Open.{if_open, open_at}
+use Rattle.opfs_pages.specs.HistoryLaws.Open.{if_open, open_at}
 
 -- One more iterator opens nothing.
 get-more : (xs : List Outline) (i : ℕ) → if_open (slice_get (xs ++ outline.Iterator ∷ []) i) ≡ if_open (slice_get xs i)

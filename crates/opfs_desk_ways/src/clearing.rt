@@ -12,10 +12,10 @@ ghost use Rattle.opfs_records.specs.Replay.Built.{Built};
 
 use crate::refusing::fail_call;
 use opfs_books::{Last, a_fault_is_counted};
-use opfs_desk_laws::what_is_laid_goes_on;
 use opfs_desk_parts::Ledger;
 use opfs_journal::DiskFault;
 use opfs_outside::Disk;
+use opfs_pages::what_is_laid_goes_on;
 
 /// Ends the doubt before a call that writes or changes something, and gives the call's entry back. Where the disk fails, the call
 /// is entered so. Without doubt it calls no disk.

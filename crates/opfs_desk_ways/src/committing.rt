@@ -13,10 +13,10 @@ ghost use Rattle.opfs_machine.specs.declared.state.State.{State};
 ghost use Rattle.opfs_outside.specs.Faults.{Rose};
 ghost use Rattle.opfs_records.specs.Replay.Built.{Built};
 
-use opfs_desk_laws::{blocks_go_on, what_is_laid_goes_on};
 use opfs_desk_parts::Ledger;
 use opfs_journal::DiskFault;
 use opfs_outside::Disk;
+use opfs_pages::{blocks_go_on, what_is_laid_goes_on};
 
 /// Commits what is kept back, if anything is: after it the records build the rows as they are stored.
 pub fn commit_kept<D: Disk>(ledger: &mut Ledger<D>) -> Result<(), DiskFault>

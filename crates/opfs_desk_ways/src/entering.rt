@@ -24,11 +24,11 @@ ghost use Rattle.opfs_records.specs.Replay.Built.{Built};
 
 use opfs_books::{Entering, calls_are_spelled, the_state_is_kept};
 use opfs_codec::ChangeRef;
-use opfs_desk_laws::{blocks_go_on, what_is_laid_goes_on};
 use opfs_desk_parts::Ledger;
 use opfs_journal::DiskFault;
 use opfs_laws::steady::settling::only_its_own_calls_settle_a_row;
 use opfs_outside::Disk;
+use opfs_pages::{blocks_go_on, what_is_laid_goes_on};
 
 /// Enters a call that is answered and stores nothing. The pages are the caller's.
 pub fn tell_call<D: Disk>(ledger: &mut Ledger<D>, entering: Entering)

@@ -18,11 +18,11 @@ ghost use Rattle.opfs_records.specs.Replay.Built.{Built};
 ghost use Rattle.opfs_tree.specs.Rows.{without};
 
 use opfs_books::{Last, the_state_is_kept};
-use opfs_desk_laws::{blocks_go_on, what_is_laid_goes_on};
 use opfs_desk_parts::{Clearing, Ledger};
 use opfs_journal::DiskFault;
 use opfs_laws::steady::settling::only_its_own_calls_settle_a_row;
 use opfs_outside::Disk;
+use opfs_pages::{blocks_go_on, what_is_laid_goes_on};
 use opfs_state::laws::readied::{what_is_ready_is_apart, what_is_ready_stays_as_units_are_cleared};
 use opfs_tree::Walk;
 

@@ -13,11 +13,11 @@ ghost use Rattle.opfs_machine.specs.declared.state.State.{State};
 ghost use Rattle.opfs_records.specs.Replay.Built.{Built};
 
 use opfs_books::{Last, the_state_is_kept};
-use opfs_desk_laws::{blocks_go_on, what_is_laid_goes_on};
 use opfs_desk_parts::Ledger;
 use opfs_hist::{Entry, Refusal, Reply};
 use opfs_laws::steady::settling::only_its_own_calls_settle_a_row;
 use opfs_outside::Disk;
+use opfs_pages::{blocks_go_on, what_is_laid_goes_on};
 
 /// Enters a call that is refused. Calls no disk.
 pub fn refuse_call<D: Disk>(ledger: &mut Ledger<D>, last: Last)

@@ -15,11 +15,11 @@ ghost use Rattle.opfs_records.specs.Replay.Built.{Built};
 ghost use Rattle.opfs_state.specs.Applied.{IsPrepared};
 
 use opfs_books::{the_books_show_their_images, the_state_is_kept};
-use opfs_desk_laws::{blocks_go_on, what_is_laid_goes_on};
 use opfs_desk_parts::Ledger;
 use opfs_hist::Pending;
 use opfs_laws::lengths::bridge::{lengths_follow_each_call, local_calls_are_known_by_their_word};
 use opfs_outside::Disk;
+use opfs_pages::{blocks_go_on, what_is_laid_goes_on};
 use opfs_state::laws::readied::what_is_ready_stays_as_calls_are_noted;
 
 /// Takes in an agent's pending calls. Takes no memory, and calls no disk.

@@ -28,7 +28,7 @@ use Rattle.opfs_laws.specs.Whole.{IsInOrder}
 use Rattle.opfs_laws.proofs.Gone.{given-by, then-gave}
 use Rattle.opfs_laws.proofs.Local.{room_for_nothing}
 use Rattle.opfs_laws.proofs.Numbers.{number-of}
-use Rattle.opfs_desk_laws.proofs.Own.{own-changed}
+use Rattle.opfs_pages.proofs.history_laws.Own.{own-changed}
 use Rattle.opfs_iterating.specs.Reached.{AreGivenUpTo, AreNotGivenAbove, HasReached}
 use Rattle.opfs_iterating.proofs.Asking.{iterator-of, may-ask}
 use Rattle.opfs_iterating.proofs.Names.{advanced, names-rise}

@@ -6,7 +6,7 @@ use Rattle.opfs_desk_parts.specs.Seen.{machine_in, tree_in, book_in}
 use Rattle.opfs_desk_ways.proofs.Ways.{way-here}
 use Rattle.opfs_machine.specs.Histories.{state_after}
 use Rattle.opfs_records.specs.Replay.Built.{named}
-use Rattle.opfs_row_puts.specs.Plans.{MayFindBlocks}
+use Rattle.opfs_pages.specs.RowCalls.Plans.{MayFindBlocks}
 use Rattle.opfs_records.specs.Checkpoint.Written.{stored_rows}
 use Rattle.opfs_state_rows.specs.Standing.Seen.{lines_of}
 use Rattle.opfs_state.specs.Applied.{StateSeen}

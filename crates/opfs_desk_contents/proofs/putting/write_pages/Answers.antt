@@ -1,6 +1,6 @@
 use Rattle.std.proofs.Common.{[], ap, ◌∙◌}
 use Rattle.opfs_base.specs.Blocks.{blocks}
-use Rattle.opfs_puts.specs.Puts.{all_writes}
+use Rattle.opfs_pages.specs.Writing.Puts.{all_writes}
 use Rattle.opfs_desk_contents.proofs.Written.{put-cleared, left-cleared, has-content}
 use Rattle.opfs_desk_contents.proofs.putting.write_pages.Goals as goal
 

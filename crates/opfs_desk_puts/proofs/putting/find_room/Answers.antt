@@ -1,7 +1,7 @@
 use Rattle.std.proofs.Common.{◌≡◌, length, sym, ap, subst, ◌∙◌}
 use Rattle.opfs_blocks.specs.Sets.{AreBelow}
 use Rattle.opfs_records.specs.Replay.Built.{named}
-use Rattle.opfs_row_puts.specs.Plans.{MayFindBlocks}
+use Rattle.opfs_pages.specs.RowCalls.Plans.{MayFindBlocks}
 use Rattle.opfs_state.specs.Applied.{StateSeen}
 use Rattle.opfs_tree.specs.Rows.{Rows as Tree}
 use Rattle.opfs_desk_parts.specs.Seen.{tree_in}

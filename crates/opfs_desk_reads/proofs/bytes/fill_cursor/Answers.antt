@@ -2,8 +2,8 @@ use Rattle.std.proofs.Common.{ℕ, ◌/◌, List, ◌∙◌, sym, arith}
 use Rattle.opfs_data.specs.Rows.{pages_at}
 use Rattle.opfs_pages.specs.Copies.{IsBegun, IsPageOf}
 use Rattle.opfs_pages.proofs.PageBytes.{copied_length}
-use Rattle.opfs_row_puts.proofs.Buffers.{held-far}
-use Rattle.opfs_row_puts.proofs.Ways.{cut-tail}
+use Rattle.opfs_pages.proofs.row_calls.Buffers.{held-far}
+use Rattle.opfs_pages.proofs.row_calls.Ways.{cut-tail}
 use Rattle.opfs_desk_reads.proofs.bytes.fill_cursor.Goals as goal
 
 as-begun : (bytes : List ℕ) (i : ℕ) (page : List ℕ) → IsPageOf bytes i page → IsBegun bytes i page

@@ -1,6 +1,6 @@
 use Rattle.std.proofs.Common.{rules, ◌≡◌, ℕ, ◌%◌, ◌/◌, List, length, slice_index, sym, ap, subst, ◌∙◌}
 use Rattle.opfs_pages.specs.Copies.{IsPageOf}
-use Rattle.opfs_row_puts.proofs.Buffers.{buffer-whole}
+use Rattle.opfs_pages.proofs.row_calls.Buffers.{buffer-whole}
 use Rattle.opfs_desk_reads.proofs.bytes.read_cursor.Goals as goal
 
 pub returns-clause-read : goal.returns-clause-read

@@ -1,8 +1,8 @@
 use Rattle.std.proofs.Common.{refl, sym, ap, subst, ◌∙◌, arith}
 use Rattle.opfs_books.specs.Stored.Spelled.{stored_built}
 use Rattle.opfs_books.specs.Laws.Books.{AreBooksAt}
-use Rattle.opfs_desk_laws.specs.Spaced.{AreSpaced}
-use Rattle.opfs_row_puts.specs.Plans.{shelf}
+use Rattle.opfs_pages.specs.HistoryLaws.Spaced.{AreSpaced}
+use Rattle.opfs_pages.specs.RowCalls.Plans.{shelf}
 use Rattle.opfs_records.specs.Checkpoint.Written.{stored_rows}
 use Rattle.opfs_state.specs.Applied.{StateSeen}
 use Rattle.opfs_desk_parts.specs.Seen.{machine_in, tree_in, book_in}

@@ -12,7 +12,7 @@ use Rattle.opfs_space.specs.Room.{Machine}
 use Rattle.opfs_state_rows.specs.Standing.Beginnings.{IsBegun}
 use Rattle.opfs_state.specs.Applied.{StateSeen, opened}
 use Rattle.opfs_tree.specs.Rows.{Rows as Tree}
-use Rattle.opfs_desk_laws.specs.Handles.{AreHandlesWhole}
+use Rattle.opfs_pages.specs.HistoryLaws.Handles.{AreHandlesWhole}
 use Rattle.opfs_desk_parts.specs.Held.{AreHeld}
 use Rattle.opfs_desk_parts.specs.declared.parts.Ledger.{Ledger}
 use Rattle.opfs_desk_parts.specs.declared.parts.Pages.{Pages}

@@ -1,5 +1,0 @@
-use Rattle.opfs_desk_laws.proofs.Forests.{same-blocks, change-has, put-has}
-use Rattle.opfs_desk_laws.proofs.spaces.trees_keep_their_blocks.Goals as goal
-
-pub returns : goal.returns
-returns c = record { same = same-blocks; changed = change-has; made = put-has }

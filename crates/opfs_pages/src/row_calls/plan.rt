@@ -1,0 +1,162 @@
+// What a call puts of a row's pages, with all memory, all reads, and the blocks where these are free.
+ghost use Rattle.std.specs.Prelude.{◌≡◌, ℕ, ◌+◌, ◌*◌, ◌^◌, ◌<◌, ◌≤◌, List, [], Bool, true, false, length, is_some, IfOk, OnOk, OnErr, IsErrOf};
+ghost use Rattle.std.specs.List.{AllByRecursion};
+ghost use Rattle.std.specs.Vec.{vec_capacity};
+ghost use Rattle.opfs_base.specs.Blocks.{blocks};
+ghost use Rattle.opfs_blocks.specs.Sets.{AreBelow};
+ghost use Rattle.opfs_data.specs.Calls.{Reads};
+ghost use Rattle.opfs_data.specs.Pages.{LiesIn, IsDataPart};
+ghost use Rattle.opfs_data.specs.Rows.{row_of, pages_at};
+ghost use Rattle.opfs_pages.specs.HistoryLaws.Spaced.{AreSpaced};
+ghost use Rattle.opfs_outside.specs.Faults.{Rose};
+ghost use Rattle.opfs_pages.specs.Stages.{IsReady, IsStaged};
+ghost use Rattle.opfs_pages.specs.Writing.Puts.{HasSamePages, IsReady as IsPutReady};
+ghost use Rattle.opfs_records.specs.Replay.Built.{named, has_block};
+ghost use Rattle.opfs_space.specs.Holders.{AreAllBelow, AreSwept};
+ghost use Rattle.opfs_pages.specs.RowCalls.Plans.{shelf, IsStagedFor, HasTaken, AreGotten};
+ghost use Rattle.opfs_space.specs.Plans.{ArePlanned};
+ghost use Rattle.opfs_data.specs.Writes.{page_writes, page_moves};
+ghost use Rattle.opfs_space.specs.Room.{Machine};
+ghost use Rattle.opfs_tree.specs.Rows.{Rows as Tree};
+
+use crate::writing::Put;
+use crate::{stage_changes, stage_content};
+use opfs_data::{DataRefusal, PageWrites, Swap};
+use opfs_journal::Journal;
+use opfs_outside::Disk;
+use opfs_space::Space;
+use opfs_tree::ReadyTree;
+use opfs_work::Work;
+use opfs_work::sizes::blocks;
+use std::alloc::Global;
+
+// The pages that a write at a position and then a new size leave changed; or, of a content, those that it wants.
+fn stage<D: Disk>(
+    alloc: Global,
+    work: &Work,
+    swap: &Swap,
+    space: &Space,
+    journal: &mut Journal<D>,
+    base: u64,
+    agent: u32,
+    row: u32,
+    at: u64,
+    given: &[u8],
+    size: u64,
+    whole: bool,
+) -> Result<PageWrites, DataRefusal>
+    requires size { size < 2 ^ 63 }
+    requires stays { at + length given.now ≤ size }
+    requires content { whole ≡ true → (at ≡ 0) × (given.now ≡ []) × (size ≡ work.now.length) }
+    requires ready { IsReady work.now swap.now space.now agent row base (D.size journal.old.disk) journal.old.areas }
+    ensures reads { Reads D.Disk journal.old journal.new }
+    ensures staged { IfOk result (IsStaged D.tells (record { own = space.now.own; swap = swap.now; agent = agent; row = row; work = work.now; content = D.content journal.old.disk; base = base; at = at; given = given.now; size = size; whole = whole })) }
+    ensures cause { IsErrOf result DataRefusal.DiskFault → Rose (D.faults journal.old.disk) (D.faults journal.new.disk) }
+{
+    if whole {
+        let writes = stage_content(alloc, work, swap, space, journal, base, agent, row)?;
+        return Ok(writes);
+    }
+    let writes = stage_changes(
+        alloc, work, swap, space, journal, base, agent, row, at, given, size,
+    )?;
+    Ok(writes)
+}
+
+// The same with all memory, and with blocks where these are free.
+fn try_put<D: Disk>(
+    alloc: Global,
+    work: &Work,
+    swap: &mut Swap,
+    space: &mut Space,
+    journal: &mut Journal<D>,
+    base: u64,
+    agent: u32,
+    row: u32,
+    at: u64,
+    given: &[u8],
+    size: u64,
+    whole: bool,
+) -> Result<Put, DataRefusal>
+    requires size { size < 2 ^ 63 }
+    requires stays { at + length given.now ≤ size }
+    requires content { whole ≡ true → (at ≡ 0) × (given.now ≡ []) × (size ≡ work.now.length) }
+    requires there { is_some (row_of agent row swap.old) ≡ true }
+    requires lies { AllByRecursion (λ page. LiesIn base (D.size journal.old.disk) page.block) (pages_at agent row swap.old) }
+    requires ready { IsReady work.now swap.old space.old agent row base (D.size journal.old.disk) journal.old.areas }
+    ensures pages { HasSamePages agent row swap.old swap.new }
+    ensures reads { Reads D.Disk journal.old journal.new }
+    ensures staged { IfOk result (λ put. IsStagedFor D.tells work.now (D.content journal.old.disk) base swap.old agent row at given.now size whole put.writes) }
+    ensures planned { IfOk result (λ put. ArePlanned space.old.own swap.old agent row (blocks size) (page_writes put.writes given.now) (page_moves put.writes given.now)) }
+    ensures ready { IfOk result (λ put. IsPutReady D.tells (D.content journal.new.disk) base swap.new agent row (blocks size) put.writes put.moves (vec_capacity put.extents)) }
+    ensures count { IfOk result (λ put. put.pages ≡ blocks size) }
+    ensures taken { IfOk result (λ put. HasTaken put.taken space.old space.new put.moves put.extents.items) }
+    ensures err { OnErr result (space.new ≡ space.old) }
+    ensures cause { IsErrOf result DataRefusal.DiskFault → Rose (D.faults journal.old.disk) (D.faults journal.new.disk) }
+{
+    let writes = stage(
+        alloc, work, swap, space, journal, base, agent, row, at, given, size, whole,
+    )?;
+    let mut put = Put::ready(alloc, swap, journal, base, agent, row, blocks(size), writes)?;
+    put.take(space);
+    Ok(put)
+}
+
+// Finds anew which blocks one page alone has, and no file.
+fn look_anew(space: &mut Space, tree: &ReadyTree, swap: &Swap)
+    requires files { AreBelow (length space.old.used) (named tree.now.rows) }
+    requires pages { AreAllBelow (length space.old.used) swap.now }
+    ensures used { space.new.used ≡ space.old.used }
+    ensures own { length space.new.own ≡ length space.new.used }
+    ensures found { AreSwept (length space.old.used) (has_block (named tree.now.rows)) swap.now space.new.seen space.new.own }
+{
+    space.look(tree, swap);
+    space.kept();
+}
+
+/// Plans what a call puts of a row's pages: a write at a position and then a new size, or a content. It has all memory and all
+/// reads, and the blocks where enough are free; where they are not, which pages want one is known exactly. Nothing is written.
+pub fn plan_put<D: Disk>(
+    alloc: Global,
+    work: &Work,
+    swap: &mut Swap,
+    space: &mut Space,
+    tree: &ReadyTree,
+    journal: &mut Journal<D>,
+    base: u64,
+    agent: u32,
+    row: u32,
+    at: u64,
+    given: &[u8],
+    size: u64,
+    whole: bool,
+) -> Result<Put, DataRefusal>
+    requires size { size < 2 ^ 63 }
+    requires stays { at + length given.now ≤ size }
+    requires content { whole ≡ true → (at ≡ 0) × (given.now ≡ []) × (size ≡ work.now.length) }
+    requires there { is_some (row_of agent row swap.old) ≡ true }
+    requires lies { AllByRecursion (λ page. LiesIn base (D.size journal.old.disk) page.block) (pages_at agent row swap.old) }
+    requires ready { IsReady work.now swap.old space.old agent row base (D.size journal.old.disk) journal.old.areas }
+    requires files { AreBelow (length space.old.used) (named tree.now.rows) }
+    ensures pages { HasSamePages agent row swap.old swap.new }
+    ensures reads { Reads D.Disk journal.old journal.new }
+    ensures staged { IfOk result (λ put. IsStagedFor D.tells work.now (D.content journal.old.disk) base swap.old agent row at given.now size whole put.writes) }
+    ensures ready { IfOk result (λ put. IsPutReady D.tells (D.content journal.new.disk) base swap.new agent row (blocks size) put.writes put.moves (vec_capacity put.extents)) }
+    ensures count { IfOk result (λ put. put.pages ≡ blocks size) }
+    ensures spaced { (m : Machine) (recorded : Tree) → AreSpaced m (shelf recorded tree.now.rows swap.old) space.old → AreSpaced m (shelf recorded tree.now.rows swap.new) space.new }
+    ensures gotten { IfOk result (λ put. (m : Machine) (recorded : Tree) → AreSpaced m (shelf recorded tree.now.rows swap.old) space.old → base + 4096 * length space.old.used ≤ D.size journal.old.disk → length space.old.used ≤ 2 ^ 32
+        → AreGotten put.taken m (shelf recorded tree.now.rows swap.new) space.new base (D.size journal.old.disk) agent row (blocks size) put.writes given.now put.extents.items) }
+    ensures cause { IsErrOf result DataRefusal.DiskFault → Rose (D.faults journal.old.disk) (D.faults journal.new.disk) }
+{
+    let put = try_put(
+        alloc, work, swap, space, journal, base, agent, row, at, given, size, whole,
+    )?;
+    if put.taken {
+        return Ok(put);
+    }
+    look_anew(space, tree, swap);
+    let put = try_put(
+        alloc, work, swap, space, journal, base, agent, row, at, given, size, whole,
+    )?;
+    Ok(put)
+}
