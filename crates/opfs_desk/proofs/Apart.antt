@@ -10,7 +10,7 @@ use Rattle.opfs_base.specs.Places.{Place, place_cmp}
 use Rattle.opfs_base.specs.Texts.{Text}
 use Rattle.opfs_codec.specs.Spelling.{is_key_text}
 use Rattle.opfs_desk.specs.Apart.{IsToldApart}
-use Rattle.opfs_desk_parts.specs.Held.{HaveOwnKeys}
+use Rattle.opfs_desk_steps.specs.Parts.Held.{HaveOwnKeys}
 use Rattle.opfs_hist.specs.declared.entry.Entry.{Entry}
 use Rattle.opfs_laws.specs.Histories.Unread.{IsTold}
 use Rattle.opfs_laws.specs.Whole.{IsWholeOpening}

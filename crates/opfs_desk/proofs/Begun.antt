@@ -15,10 +15,10 @@ use Rattle.opfs_data.specs.Rows.{Rows, row_of, kept_count}
 use Rattle.opfs_data.proofs.WriteLemmas.{all_append}
 use Rattle.opfs_pages.specs.HistoryLaws.Open.{if_open, open_at}
 use Rattle.opfs_pages.specs.HistoryLaws.Spaced.{AreHolders, AreSpaced}
-use Rattle.opfs_desk_parts.specs.Held.{AreTied, AreHeld, AreHeldWhole, HaveOwnKeys}
-use Rattle.opfs_desk_parts.specs.Seen.{machine_in, tree_in, book_in}
-use Rattle.opfs_desk_parts.specs.declared.parts.Ledger.{Ledger}
-use Rattle.opfs_desk_parts.specs.declared.parts.Pages.{Pages}
+use Rattle.opfs_desk_steps.specs.Parts.Held.{AreTied, AreHeld, AreHeldWhole, HaveOwnKeys}
+use Rattle.opfs_desk_steps.specs.Parts.Seen.{machine_in, tree_in, book_in}
+use Rattle.opfs_desk_steps.specs.declared.parts.parts.Ledger.{Ledger}
+use Rattle.opfs_desk_steps.specs.declared.parts.parts.Pages.{Pages}
 use Rattle.opfs_hist.specs.declared.entry.Entry.{Entry}
 use Rattle.opfs_image.specs.Agreeing.{built_in}
 use Rattle.opfs_image.specs.Superblock.{area_bytes, data_base, image_size}

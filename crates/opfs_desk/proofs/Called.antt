@@ -14,8 +14,8 @@ use Rattle.opfs_work.specs.Works.{WorkingCopy}
 use Rattle.std.proofs.Common.{ℕ, ◌≤◌, List, sym, subst}
 use Rattle.opfs_desk_acts.specs.Calling.{IsCalled, IsLeftAlone}
 use Rattle.opfs_pages.specs.HistoryLaws.Handles.{AreHandlesWhole}
-use Rattle.opfs_desk_parts.specs.Acted.{HasActed}
-use Rattle.opfs_desk_parts.specs.declared.parts.Parts.{Parts}
+use Rattle.opfs_desk_steps.specs.Parts.Acted.{HasActed}
+use Rattle.opfs_desk_steps.specs.declared.parts.parts.Parts.{Parts}
 use Rattle.opfs_desk_reads.specs.Handles.{HandlesGoOn}
 use Rattle.opfs_desk.specs.Resting.{IsAtRest}
 

@@ -8,11 +8,11 @@ use Rattle.opfs_base.specs.Texts.{Text}
 use Rattle.opfs_hist.specs.declared.entry.Entry.{Entry}
 use Rattle.opfs_hist.specs.declared.reply.Reply.{Reply}
 use Rattle.opfs_laws.specs.Histories.Unread.{IsTold}
-use Rattle.opfs_iterating.specs.Below.{AreBelow}
-use Rattle.opfs_iterating.specs.GoingOn.{IteratorsGoOn, MayReach}
-use Rattle.opfs_iterating.specs.Known.{AreOthers, AreReached, IsFollowed, IsReachedBy, Lasts, last_of}
-use Rattle.opfs_iterating.specs.Reached.{HasReached, IsUpTo, asked_row, may_make}
-use Rattle.opfs_iterating.specs.declared.iterators.Followed.{Followed}
+use Rattle.opfs_desk_steps.specs.Iterating.Below.{AreBelow}
+use Rattle.opfs_desk_steps.specs.Iterating.GoingOn.{IteratorsGoOn, MayReach}
+use Rattle.opfs_desk_steps.specs.Iterating.Known.{AreOthers, AreReached, IsFollowed, IsReachedBy, Lasts, last_of}
+use Rattle.opfs_desk_steps.specs.Iterating.Reached.{HasReached, IsUpTo, asked_row, may_make}
+use Rattle.opfs_desk_steps.specs.declared.iterating.iterators.Followed.{Followed}
 use Rattle.opfs_laws.specs.Whole.{IsWholeOpening}
 use Rattle.opfs_machine.specs.Histories.{state_after}
 use Rattle.opfs_machine.specs.Openings.{Opening}

@@ -23,9 +23,9 @@ use Rattle.opfs_outside.specs.Faults.{Rose, RoseBy}
 use Rattle.opfs_outside.specs.Moments.{Elapses}
 use Rattle.opfs_outside.specs.declared.disk.Disk.{Ghosts as DiskWords}
 use Rattle.opfs_records.specs.Replay.Built.{Built}
-use Rattle.opfs_desk_parts.specs.Held.{AreHeldWhole}
-use Rattle.opfs_desk_parts.specs.Seen.{book_in}
-use Rattle.opfs_desk_parts.specs.declared.parts.Ledger.{Ledger}
+use Rattle.opfs_desk_steps.specs.Parts.Held.{AreHeldWhole}
+use Rattle.opfs_desk_steps.specs.Parts.Seen.{book_in}
+use Rattle.opfs_desk_steps.specs.declared.parts.parts.Ledger.{Ledger}
 use Rattle.opfs_desk.specs.Seen.{DeskSeen, entries_of, disk_of, ShowsNow}
 use Rattle.opfs_desk.proofs.Called.{Falls, time-on}
 use Rattle.opfs_desk.specs.Ending.{StandsWhole, ShowsEnding, EndsTime, EndsTrail, KeepsSizes, LeavesFront}

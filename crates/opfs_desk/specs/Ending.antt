@@ -12,7 +12,7 @@ use Rattle.opfs_machine.specs.Openings.{Opening}
 use Rattle.opfs_outside.specs.Faults.{Rose}
 use Rattle.opfs_outside.specs.Moments.{Elapses}
 use Rattle.opfs_outside.specs.declared.disk.Disk.{Ghosts as DiskWords}
-use Rattle.opfs_desk_parts.specs.Seen.{book_in}
+use Rattle.opfs_desk_steps.specs.Parts.Seen.{book_in}
 use Rattle.opfs_desk.specs.Seen.{DeskSeen, entries_of, disk_of}
 
 -- The image stands for what the whole history stored.

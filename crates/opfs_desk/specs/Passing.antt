@@ -1,5 +1,5 @@
 -- What a stop within a call may leave. This project's own.
-use Rattle.opfs_desk_parts.specs.Acted.{IsWayEnded, IsWayNow}
+use Rattle.opfs_desk_steps.specs.Parts.Acted.{IsWayEnded, IsWayNow}
 use Rattle.opfs_outside.specs.declared.disk.Disk.{Ghosts as DiskWords}
 use Rattle.opfs_desk.specs.Seen.{DeskSeen}
 

@@ -1,9 +1,9 @@
 -- What a desk keeps between calls. This project's own.
 use Rattle.opfs_books.specs.Laws.Books.{Fixed}
 use Rattle.opfs_pages.specs.HistoryLaws.Handles.{AreHandlesWhole}
-use Rattle.opfs_desk_parts.specs.Held.{AreHeld}
-use Rattle.opfs_desk_parts.specs.declared.parts.Parts.{Parts}
-use Rattle.opfs_iterating.specs.Known.{AreReached, Lasts}
+use Rattle.opfs_desk_steps.specs.Parts.Held.{AreHeld}
+use Rattle.opfs_desk_steps.specs.declared.parts.parts.Parts.{Parts}
+use Rattle.opfs_desk_steps.specs.Iterating.Known.{AreReached, Lasts}
 use Rattle.opfs_machine.specs.Histories.{state_after}
 use Rattle.opfs_outside.specs.Moments.{Elapses}
 use Rattle.opfs_outside.specs.declared.disk.Disk.{Ghosts as DiskWords}

@@ -6,8 +6,8 @@ use Rattle.opfs_commit.specs.Shown.{ShowsSince}
 use Rattle.opfs_hist.specs.declared.entry.Entry.{Entry}
 use Rattle.opfs_machine.specs.Changes.{floor}
 use Rattle.opfs_outside.specs.declared.disk.Disk.{Ghosts as DiskWords}
-use Rattle.opfs_desk_parts.specs.Seen.{book_in}
-use Rattle.opfs_desk_parts.specs.declared.parts.Parts.{Parts}
+use Rattle.opfs_desk_steps.specs.Parts.Seen.{book_in}
+use Rattle.opfs_desk_steps.specs.declared.parts.parts.Parts.{Parts}
 
 -- With what the run began, and the parts.
 pub record DeskSeen (D : Type 0) : Type 0 where

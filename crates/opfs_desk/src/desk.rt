@@ -1,9 +1,8 @@
 //! The desk.
 
-use opfs_desk_parts::Parts;
+use opfs_desk_steps::{Iterators, Parts};
 use opfs_hall::Told;
 use opfs_image::Recovered;
-use opfs_iterating::Iterators;
 use opfs_outside::Disk;
 use opfs_register::Who;
 use std::marker::Model;

@@ -2,17 +2,16 @@
 
 ghost use Rattle.std.specs.Prelude.{◌≡◌, ◌≤◌, [], length, vec_capacity, IfOk, IfErr};
 ghost use Rattle.opfs_desk.specs.Seen.{entries_of, disk_of};
-ghost use Rattle.opfs_desk_parts.specs.Held.{HaveOwnKeys};
+ghost use Rattle.opfs_desk_steps.specs.Parts.Held.{HaveOwnKeys};
 ghost use Rattle.opfs_books.specs.Openings.Openings.{fixed_by};
 
 use crate::desk::Desk;
 use opfs_base::Extent;
 use opfs_books::{Books, a_recovered_image_opens_a_run, limits_of};
 use opfs_data::Swap;
-use opfs_desk_parts::{Ledger, Pages, Parts};
+use opfs_desk_steps::{Iterators, Ledger, Pages, Parts};
 use opfs_hall::Told;
 use opfs_image::Recovered;
-use opfs_iterating::Iterators;
 use opfs_outside::Disk;
 use opfs_pages::handles_stay_whole;
 use opfs_register::Who;

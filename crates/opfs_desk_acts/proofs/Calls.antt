@@ -22,24 +22,24 @@ use Rattle.opfs_outside.specs.declared.disk.Disk.{Ghosts as DiskWords}
 use Rattle.opfs_records.specs.Replay.Built.{Built}
 use Rattle.opfs_state.specs.Applied.{StateSeen}
 use Rattle.opfs_work.specs.Works.{WorkingCopy}
-use Rattle.opfs_desk_asks.specs.Asking.{IsAskedAs, IsReadied}
-use Rattle.opfs_desk_asks.specs.declared.asked.Asked.{Asked}
-use Rattle.opfs_desk_asks.specs.declared.asked.Asked.TheVariants as asked
-use Rattle.opfs_desk_asks.specs.declared.asked.Readied.{Readied}
-use Rattle.opfs_desk_asks.proofs.Same.{same-held, with_state}
+use Rattle.opfs_desk_steps.specs.Judging.Asking.{IsAskedAs, IsReadied}
+use Rattle.opfs_desk_steps.specs.declared.judging.asked.Asked.{Asked}
+use Rattle.opfs_desk_steps.specs.declared.judging.asked.Asked.TheVariants as asked
+use Rattle.opfs_desk_steps.specs.declared.judging.asked.Readied.{Readied}
+use Rattle.opfs_desk_steps.proofs.judging.Same.{same-held, with_state}
 use Rattle.opfs_pages.specs.HistoryLaws.Handles.{AreHandlesWhole}
-use Rattle.opfs_desk_parts.specs.Acted.{HasActed, IsUnacted, IsWay}
-use Rattle.opfs_desk_parts.specs.Asked.{AreEvictions, IsAsked}
-use Rattle.opfs_desk_parts.specs.Held.{AreHeldWhole}
-use Rattle.opfs_desk_parts.specs.Seen.{call_in, units_in}
-use Rattle.opfs_desk_parts.specs.declared.call.Clearing.{Clearing}
-use Rattle.opfs_desk_parts.specs.declared.call.InHand.{InHand}
-use Rattle.opfs_desk_parts.specs.declared.parts.Ledger.{Ledger}
-use Rattle.opfs_desk_parts.specs.declared.parts.Pages.{Pages}
-use Rattle.opfs_desk_parts.specs.declared.parts.Parts.{Parts}
+use Rattle.opfs_desk_steps.specs.Parts.Acted.{HasActed, IsUnacted, IsWay}
+use Rattle.opfs_desk_steps.specs.Parts.Asked.{AreEvictions, IsAsked}
+use Rattle.opfs_desk_steps.specs.Parts.Held.{AreHeldWhole}
+use Rattle.opfs_desk_steps.specs.Parts.Seen.{call_in, units_in}
+use Rattle.opfs_desk_steps.specs.declared.parts.call.Clearing.{Clearing}
+use Rattle.opfs_desk_steps.specs.declared.parts.call.InHand.{InHand}
+use Rattle.opfs_desk_steps.specs.declared.parts.parts.Ledger.{Ledger}
+use Rattle.opfs_desk_steps.specs.declared.parts.parts.Pages.{Pages}
+use Rattle.opfs_desk_steps.specs.declared.parts.parts.Parts.{Parts}
 use Rattle.opfs_desk_plain.specs.Refused.{IsRefusedCall}
 use Rattle.opfs_desk_reads.specs.Reading.{HaveWholeHandles}
-use Rattle.opfs_desk_ways.proofs.Ways.{way-here}
+use Rattle.opfs_desk_steps.proofs.book_steps.Ways.{way-here}
 use Rattle.opfs_desk_acts.specs.Calling.{HasNoneReady, IsLeftAlone}
 
 -- ---- nothing stands ready any more

@@ -25,11 +25,11 @@ use Rattle.opfs_state_rows.specs.Standing.Seen.{Machine}
 use Rattle.opfs_state.proofs.laws.Readying.{agent-noted, handle-noted}
 use Rattle.opfs_state.specs.Verdicts.Callers.{IsAgent}
 use Rattle.opfs_work.specs.Works.{WorkingCopy}
-use Rattle.opfs_desk_asks.proofs.Named.{IsNamed, handle-named}
-use Rattle.opfs_desk_parts.specs.Seen.{machine_in}
-use Rattle.opfs_desk_parts.specs.declared.call.InHand.{InHand}
-use Rattle.opfs_desk_parts.specs.declared.parts.Ledger.{Ledger}
-use Rattle.opfs_desk_parts.specs.declared.parts.Pages.{Pages}
+use Rattle.opfs_desk_steps.proofs.judging.Named.{IsNamed, handle-named}
+use Rattle.opfs_desk_steps.specs.Parts.Seen.{machine_in}
+use Rattle.opfs_desk_steps.specs.declared.parts.call.InHand.{InHand}
+use Rattle.opfs_desk_steps.specs.declared.parts.parts.Ledger.{Ledger}
+use Rattle.opfs_desk_steps.specs.declared.parts.parts.Pages.{Pages}
 use Rattle.opfs_desk_plain.specs.Silent.{BeginsCall}
 use Rattle.opfs_desk_plain.proofs.Noted.{noted-is, sum_of}
 use Rattle.opfs_desk_plain.proofs.Words.{before}

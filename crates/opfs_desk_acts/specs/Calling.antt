@@ -4,13 +4,13 @@ use Rattle.opfs_store.specs.Acts.Asking.{MayAct}
 use Rattle.opfs_base.specs.Texts.{Text}
 use Rattle.opfs_books.specs.Laws.Books.{Fixed}
 use Rattle.opfs_pages.specs.HistoryLaws.Handles.{AreHandlesWhole}
-use Rattle.opfs_desk_parts.specs.Acted.{IsWayNow}
-use Rattle.opfs_desk_parts.specs.Held.{AreHeld}
-use Rattle.opfs_desk_parts.specs.Seen.{machine_in, tree_in}
-use Rattle.opfs_desk_parts.specs.declared.parts.Ledger.{Ledger}
-use Rattle.opfs_desk_parts.specs.declared.parts.Parts.{Parts}
+use Rattle.opfs_desk_steps.specs.Parts.Acted.{IsWayNow}
+use Rattle.opfs_desk_steps.specs.Parts.Held.{AreHeld}
+use Rattle.opfs_desk_steps.specs.Parts.Seen.{machine_in, tree_in}
+use Rattle.opfs_desk_steps.specs.declared.parts.parts.Ledger.{Ledger}
+use Rattle.opfs_desk_steps.specs.declared.parts.parts.Parts.{Parts}
 use Rattle.opfs_hist.specs.declared.entry.Entry.{Entry}
-use Rattle.opfs_iterating.specs.Reached.{IsUpTo}
+use Rattle.opfs_desk_steps.specs.Iterating.Reached.{IsUpTo}
 use Rattle.opfs_machine.specs.Histories.{state_after}
 use Rattle.opfs_machine.specs.Rows.{children_of as names_of}
 use Rattle.opfs_machine.specs.Runs.{Call}

@@ -10,8 +10,8 @@ use Rattle.opfs_desk_kept.specs.Keeping.{keeps_back}
 use Rattle.opfs_desk_plain.specs.Next.{is_next}
 use Rattle.opfs_desk_plain.specs.Telling.{TellsOnly, is_done, is_of_mode}
 use Rattle.opfs_desk_reads.specs.Words.{gets_file, reads_row}
-use Rattle.opfs_desk_rows.specs.Opens.{opens_row}
-use Rattle.opfs_desk_rows.specs.Puts.{puts_row}
+use Rattle.opfs_desk_steps.specs.RowLaws.Opens.{opens_row}
+use Rattle.opfs_desk_steps.specs.RowLaws.Puts.{puts_row}
 use Rattle.opfs_hist.specs.declared.op.Op.{Op}
 use Rattle.opfs_hist.specs.declared.op.Op.TheVariants as op
 use Rattle.opfs_machine.specs.Agents.{open_handle}

@@ -51,14 +51,14 @@ use Rattle.opfs_tree.specs.Rows.{Rows as Tree, IsInOrder, row_at}
 use Rattle.opfs_tree.specs.declared.row.Row.{Row}
 use Rattle.opfs_tree.specs.declared.row.Row.TheVariants as tree_row
 use Rattle.opfs_desk_contents.specs.Words.{ends_row}
-use Rattle.opfs_desk_parts.specs.Held.{AreHeldWhole, AreTied}
-use Rattle.opfs_desk_parts.specs.Seen.{machine_in, tree_in, book_in}
-use Rattle.opfs_desk_parts.specs.declared.parts.Ledger.{Ledger}
-use Rattle.opfs_desk_parts.specs.declared.parts.Pages.{Pages}
-use Rattle.opfs_desk_rows.specs.InHand.{HasInHand, HasPages, RowsInHandAreLaid}
-use Rattle.opfs_desk_rows.proofs.InHand.{entered}
-use Rattle.opfs_desk_rows.proofs.Staying.{open-with-bytes}
-use Rattle.opfs_desk_ways.proofs.Evictions.{spaced-recorded, stored-named}
+use Rattle.opfs_desk_steps.specs.Parts.Held.{AreHeldWhole, AreTied}
+use Rattle.opfs_desk_steps.specs.Parts.Seen.{machine_in, tree_in, book_in}
+use Rattle.opfs_desk_steps.specs.declared.parts.parts.Ledger.{Ledger}
+use Rattle.opfs_desk_steps.specs.declared.parts.parts.Pages.{Pages}
+use Rattle.opfs_desk_steps.specs.RowLaws.InHand.{HasInHand, HasPages, RowsInHandAreLaid}
+use Rattle.opfs_desk_steps.proofs.row_laws.InHand.{entered}
+use Rattle.opfs_desk_steps.proofs.row_laws.Staying.{open-with-bytes}
+use Rattle.opfs_desk_steps.proofs.book_steps.Evictions.{spaced-recorded, stored-named}
 use Rattle.opfs_desk_again.specs.Saving.{saves_handle}
 use Rattle.opfs_desk_again.proofs.Wordings.{bytes-after, in-hand, limits-stay, plain, saved-has}
 

@@ -39,13 +39,13 @@ use Rattle.opfs_state.specs.Verdicts.Callers.{IsAgent}
 use Rattle.opfs_work.specs.Works.{WorkingCopy}
 use Rattle.opfs_desk_contents.specs.Words.{flushes_nothing, ends_row}
 use Rattle.opfs_desk_ends.specs.Leaving.{IsInOrderThrough}
-use Rattle.opfs_desk_parts.specs.Acted.{HasActed}
-use Rattle.opfs_desk_parts.specs.Answered.{IsAnswered}
-use Rattle.opfs_desk_parts.specs.Held.{AreHeldWhole}
-use Rattle.opfs_desk_parts.specs.Seen.{machine_in, book_in, call_in, units_in}
-use Rattle.opfs_desk_parts.specs.declared.call.InHand.{InHand}
-use Rattle.opfs_desk_parts.specs.declared.parts.Ledger.{Ledger}
-use Rattle.opfs_desk_parts.specs.declared.parts.Pages.{Pages}
+use Rattle.opfs_desk_steps.specs.Parts.Acted.{HasActed}
+use Rattle.opfs_desk_steps.specs.Parts.Answered.{IsAnswered}
+use Rattle.opfs_desk_steps.specs.Parts.Held.{AreHeldWhole}
+use Rattle.opfs_desk_steps.specs.Parts.Seen.{machine_in, book_in, call_in, units_in}
+use Rattle.opfs_desk_steps.specs.declared.parts.call.InHand.{InHand}
+use Rattle.opfs_desk_steps.specs.declared.parts.parts.Ledger.{Ledger}
+use Rattle.opfs_desk_steps.specs.declared.parts.parts.Pages.{Pages}
 use Rattle.opfs_desk_plain.specs.Silent.{BeginsCall, told_act}
 use Rattle.opfs_desk_plain.proofs.Silent.{ready, answered}
 use Rattle.opfs_desk_reads.proofs.Synced.{HandlesStand, handed}
@@ -55,7 +55,7 @@ use Rattle.opfs_desk_steps.specs.Answering.{ReadyCallsAreAnswered, IsReply}
 use Rattle.opfs_desk_steps.specs.Ready.{AskedCallsAreReady, IsReadyCall}
 use Rattle.opfs_desk_steps.specs.Going.{HasTakenIn, HasTold}
 use Rattle.opfs_desk_steps.proofs.Counts.{own-length}
-use Rattle.opfs_desk_ways.proofs.Ways.{way-here}
+use Rattle.opfs_desk_steps.proofs.book_steps.Ways.{way-here}
 use Rattle.opfs_desk_again.specs.Saving.{saves_handle}
 use Rattle.opfs_desk_again.proofs.Entered.{HasEntered, SavingLaws, held-left, left-after, bytes-now, state-is}
 use Rattle.opfs_desk_again.proofs.Saved.{idle-named, row-some, rows-same, stands-left}

@@ -6,10 +6,10 @@ use Rattle.opfs_books.specs.Laws.Books.{Fixed}
 use Rattle.opfs_store.specs.Copies.Copies.{StandsFor, IsCopyOf, IsPaged}
 use Rattle.opfs_desk_contents.specs.Words.{flushes_nothing, may_only_read, may_write, stores_row}
 use Rattle.opfs_pages.specs.HistoryLaws.Copies.{IsHandleCopy}
-use Rattle.opfs_desk_parts.specs.Seen.{machine_in}
-use Rattle.opfs_desk_parts.specs.declared.call.InHand.{InHand}
-use Rattle.opfs_desk_parts.specs.declared.parts.Ledger.{Ledger}
-use Rattle.opfs_desk_parts.specs.declared.parts.Pages.{Pages}
+use Rattle.opfs_desk_steps.specs.Parts.Seen.{machine_in}
+use Rattle.opfs_desk_steps.specs.declared.parts.call.InHand.{InHand}
+use Rattle.opfs_desk_steps.specs.declared.parts.parts.Ledger.{Ledger}
+use Rattle.opfs_desk_steps.specs.declared.parts.parts.Pages.{Pages}
 use Rattle.opfs_desk_plain.specs.Silent.{BeginsCall}
 use Rattle.opfs_desk_plain.proofs.Noted.{mid-noted, sum_of}
 use Rattle.opfs_desk_plain.proofs.Words.{before}

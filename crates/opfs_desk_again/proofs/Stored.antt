@@ -60,28 +60,28 @@ use Rattle.opfs_desk_contents.specs.Words.{ends_row, stamp_stored, stores_row}
 use Rattle.opfs_desk_contents.proofs.Stowed.{spelled-runs, written-there}
 use Rattle.opfs_desk_kept.specs.Changing.{HasNotChanged}
 use Rattle.opfs_desk_kept.proofs.Shown.{has-failed, way-ended}
-use Rattle.opfs_desk_parts.specs.Acted.{HasActed, HasFailed, IsWayEnded}
-use Rattle.opfs_desk_parts.specs.Answered.{IsAnswered}
-use Rattle.opfs_desk_parts.specs.Held.{AreHeldAt, AreHeldWhole}
-use Rattle.opfs_desk_parts.specs.Seen.{machine_in, tree_in, book_in, call_in, units_in}
-use Rattle.opfs_desk_parts.specs.declared.call.InHand.{InHand}
-use Rattle.opfs_desk_parts.specs.declared.parts.Ledger.{Ledger}
-use Rattle.opfs_desk_parts.specs.declared.parts.Pages.{Pages}
+use Rattle.opfs_desk_steps.specs.Parts.Acted.{HasActed, HasFailed, IsWayEnded}
+use Rattle.opfs_desk_steps.specs.Parts.Answered.{IsAnswered}
+use Rattle.opfs_desk_steps.specs.Parts.Held.{AreHeldAt, AreHeldWhole}
+use Rattle.opfs_desk_steps.specs.Parts.Seen.{machine_in, tree_in, book_in, call_in, units_in}
+use Rattle.opfs_desk_steps.specs.declared.parts.call.InHand.{InHand}
+use Rattle.opfs_desk_steps.specs.declared.parts.parts.Ledger.{Ledger}
+use Rattle.opfs_desk_steps.specs.declared.parts.parts.Pages.{Pages}
 use Rattle.opfs_desk_plain.specs.Silent.{BeginsCall, told_act}
 use Rattle.opfs_desk_plain.proofs.Noted.{mid-noted}
 use Rattle.opfs_desk_plain.proofs.Silent.{ready}
 use Rattle.opfs_desk_reads.proofs.Synced.{HandlesStand, handed}
 use Rattle.opfs_desk_reads.proofs.Wholes.{pending-whole}
-use Rattle.opfs_desk_rows.specs.Inside.{PartsLieInside}
-use Rattle.opfs_desk_rows.specs.Stored.{FilesAreStored, HistoriesAreCleared, IsStoredAt}
+use Rattle.opfs_desk_steps.specs.RowLaws.Inside.{PartsLieInside}
+use Rattle.opfs_desk_steps.specs.RowLaws.Stored.{FilesAreStored, HistoriesAreCleared, IsStoredAt}
 use Rattle.opfs_desk_steps.specs.Acting.{CallsAreActed}
 use Rattle.opfs_desk_steps.specs.Answering.{IsReply}
 use Rattle.opfs_desk_steps.specs.Going.{HasTakenIn, HasMadeWay}
 use Rattle.opfs_desk_steps.specs.Ready.{IsReadyCall}
 use Rattle.opfs_desk_steps.proofs.Counts.{own-length}
-use Rattle.opfs_desk_ways.specs.Clearing.{MayMakeWay, cleared_from}
-use Rattle.opfs_desk_ways.proofs.Alike.{leaves-alike}
-use Rattle.opfs_desk_ways.proofs.Loop.{Falls}
+use Rattle.opfs_desk_steps.specs.BookSteps.Clearing.{MayMakeWay, cleared_from}
+use Rattle.opfs_desk_steps.proofs.book_steps.Alike.{leaves-alike}
+use Rattle.opfs_desk_steps.proofs.book_steps.Loop.{Falls}
 use Rattle.opfs_desk_again.specs.More.{HasMoreThanReserve}
 use Rattle.opfs_desk_again.specs.Saving.{saves_handle}
 use Rattle.opfs_desk_again.proofs.Entered.{HasDropped, HasEntered, SavingLaws, bytes-now, held-closed, held-left, left-after, state-is}

@@ -14,15 +14,15 @@ ghost use Rattle.opfs_desk_contents.specs.Storing.{HasStored, MayStoreContent, c
 ghost use Rattle.opfs_desk_contents.specs.Words.{is_storing, stores_row};
 ghost use Rattle.opfs_desk_kept.specs.Changing.{HasNotChanged};
 ghost use Rattle.opfs_pages.specs.HistoryLaws.Handles.{AreHandlesWhole};
-ghost use Rattle.opfs_desk_parts.specs.Acted.{HasActed, IsUnacted};
-ghost use Rattle.opfs_desk_parts.specs.Asked.{IsAsked, MayGo};
-ghost use Rattle.opfs_desk_parts.specs.Answered.{IsAnswered};
-ghost use Rattle.opfs_desk_parts.specs.Held.{AreHeldAt, AreHeldWhole};
-ghost use Rattle.opfs_desk_parts.specs.Seen.{machine_in, tree_in, book_in, call_in};
-ghost use Rattle.opfs_desk_parts.specs.declared.parts.Pages.{Pages};
+ghost use Rattle.opfs_desk_steps.specs.Parts.Acted.{HasActed, IsUnacted};
+ghost use Rattle.opfs_desk_steps.specs.Parts.Asked.{IsAsked, MayGo};
+ghost use Rattle.opfs_desk_steps.specs.Parts.Answered.{IsAnswered};
+ghost use Rattle.opfs_desk_steps.specs.Parts.Held.{AreHeldAt, AreHeldWhole};
+ghost use Rattle.opfs_desk_steps.specs.Parts.Seen.{machine_in, tree_in, book_in, call_in};
+ghost use Rattle.opfs_desk_steps.specs.declared.parts.parts.Pages.{Pages};
 ghost use Rattle.opfs_desk_reads.specs.Reading.{HaveWholeHandles};
-ghost use Rattle.opfs_desk_rows.specs.Inside.{PartsLieInside};
-ghost use Rattle.opfs_desk_rows.specs.Stored.{FilesAreStored, HistoriesAreCleared};
+ghost use Rattle.opfs_desk_steps.specs.RowLaws.Inside.{PartsLieInside};
+ghost use Rattle.opfs_desk_steps.specs.RowLaws.Stored.{FilesAreStored, HistoriesAreCleared};
 ghost use Rattle.opfs_hist.specs.declared.reply.Reply.TheVariants as reply;
 ghost use Rattle.opfs_machine.specs.declared.own.Own.{Own};
 ghost use Rattle.opfs_machine.specs.declared.state.State.{State};
@@ -37,10 +37,9 @@ use crate::words::{is_last, row_of};
 use opfs_books::{Last, calls_are_spelled, calls_may_fail, state_laws};
 use opfs_data::Swap;
 use opfs_desk_contents::enter_content;
-use opfs_desk_parts::{InHand, Ledger, Parts};
-use opfs_desk_rows::{files_are_stored, parts_lie_inside};
-use opfs_desk_steps::clear_way;
-use opfs_desk_ways::take_in;
+use opfs_desk_steps::{
+    InHand, Ledger, Parts, clear_way, files_are_stored, parts_lie_inside, take_in,
+};
 use opfs_hist::{Pending, Refusal, Reply};
 use opfs_journal::DiskFault;
 use opfs_laws::reserves::fitting::reserves_fit_or_nothing_is_unflushed;

@@ -7,7 +7,7 @@ ghost use Rattle.opfs_pages.specs.HistoryLaws.Copies.{HasLeftRow, IsHandleCopy};
 ghost use Rattle.opfs_pages.specs.HistoryLaws.Handles.{HandlesStayWhole};
 ghost use Rattle.opfs_pages.specs.HistoryLaws.Laws.{BlocksGoOn, CallsLeaveOtherRows, TreesKeepBlocks};
 ghost use Rattle.opfs_pages.specs.HistoryLaws.RowsAfter.{CallsChangeTheirRow};
-ghost use Rattle.opfs_desk_rows.specs.InHand.{RowsInHandAreLaid};
+ghost use Rattle.opfs_desk_steps.specs.RowLaws.InHand.{RowsInHandAreLaid};
 ghost use Rattle.opfs_desk_steps.specs.Acting.{CallsAreActed};
 ghost use Rattle.opfs_desk_steps.specs.Answering.{ReadyCallsAreAnswered};
 ghost use Rattle.opfs_desk_steps.specs.Ready.{AskedCallsAreReady};
@@ -21,8 +21,9 @@ ghost use Rattle.opfs_machine.specs.Openings.{Opening};
 ghost use Rattle.opfs_work.specs.Works.{WorkingCopy};
 
 use opfs_books::{the_books_show_their_images, the_state_is_kept};
-use opfs_desk_rows::rows_in_hand_are_laid;
-use opfs_desk_steps::{asked_calls_are_ready, calls_are_acted, ready_calls_are_answered};
+use opfs_desk_steps::{
+    asked_calls_are_ready, calls_are_acted, ready_calls_are_answered, rows_in_hand_are_laid,
+};
 use opfs_laws::lengths::bridge::{
     lengths_decide_each_ruling, lengths_follow_each_call, local_calls_are_known_by_their_word,
 };

@@ -2,7 +2,7 @@
 
 ghost use Rattle.std.specs.Prelude.{◌≡◌, true, Some, is_some, IfOk};
 ghost use Rattle.opfs_base.specs.Places.{Place};
-ghost use Rattle.opfs_desk_parts.specs.Seen.{machine_in, tree_in};
+ghost use Rattle.opfs_desk_steps.specs.Parts.Seen.{machine_in, tree_in};
 ghost use Rattle.opfs_state_rows.specs.Standing.Seen.{lines_of};
 ghost use Rattle.opfs_state.specs.Reading.{row_file};
 ghost use Rattle.opfs_tree.specs.Rows.{file_at as file_in_tree};
@@ -10,7 +10,7 @@ ghost use Rattle.opfs_tree.specs.declared.row.FileRow.{FileRow};
 ghost use Rattle.opfs_state.specs.Verdicts.Callers.{IsAgent};
 
 use opfs_base::{Extents, copy_place};
-use opfs_desk_parts::Ledger;
+use opfs_desk_steps::Ledger;
 use opfs_machine::Place;
 use opfs_outside::Disk;
 use opfs_state::State;

@@ -16,7 +16,7 @@ use Rattle.opfs_data.specs.Rows.{Rows, no_row, pages_at, row_of}
 use Rattle.opfs_pages.specs.HistoryLaws.Laws.{BlocksGoOn}
 use Rattle.opfs_pages.specs.HistoryLaws.Spaced.{AreSpaced}
 use Rattle.opfs_pages.proofs.history_laws.Holding.{spaced-blocks}
-use Rattle.opfs_desk_ways.proofs.Evictions.{spaced-recorded, stored-named}
+use Rattle.opfs_desk_steps.proofs.book_steps.Evictions.{spaced-recorded, stored-named}
 use Rattle.opfs_records.specs.Replay.Built.{block_count, has_block, is_once}
 use Rattle.opfs_records.proofs.replay.Counts.{distinct_once}
 use Rattle.opfs_pages.specs.RowCalls.Plans.{shelf}

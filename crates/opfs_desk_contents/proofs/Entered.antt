@@ -10,8 +10,8 @@ use Rattle.opfs_codec.specs.declared.change.Change.{Change as Spelled}
 use Rattle.opfs_codec.specs.declared.change.Change.TheVariants.{Content}
 use Rattle.opfs_codec.specs.declared.change.Format.TheVariants.{New}
 use Rattle.opfs_records.specs.Checkpoint.Written.{IsWritablePlace}
-use Rattle.opfs_desk_parts.specs.Seen.{book_in}
-use Rattle.opfs_desk_parts.specs.declared.parts.Ledger.{Ledger}
+use Rattle.opfs_desk_steps.specs.Parts.Seen.{book_in}
+use Rattle.opfs_desk_steps.specs.declared.parts.parts.Ledger.{Ledger}
 
 pub content-again : (place : Place) (stamp size : ℕ) (runs : List Extent) → IsWritablePlace place → stamp < 2 ^ 64 → size < 2 ^ 64 → AreExtents runs → IsChange New (Content place.0 place.1 stamp size runs)
 unfolding IsChange

@@ -2,14 +2,14 @@
 use Rattle.std.proofs.Common.{◌≡◌, ◌+◌, List, [], ◌∷◌, ◌++◌, None, refl, sym, ap, subst, ◌∙◌}
 use Rattle.opfs_books.specs.Laws.Books.{Fixed}
 use Rattle.opfs_books.specs.Laws.Laws.{FaultsAreCounted, failed, told}
-use Rattle.opfs_desk_parts.specs.Acted.{AreCleared, HasFailed, last_doubt}
-use Rattle.opfs_desk_parts.specs.Held.{AreHeldWhole}
-use Rattle.opfs_desk_parts.specs.Seen.{book_in}
-use Rattle.opfs_desk_parts.specs.declared.parts.Ledger.{Ledger}
-use Rattle.opfs_desk_parts.specs.declared.parts.Pages.{Pages}
-use Rattle.opfs_desk_ways.specs.Refusing.{IsRefused}
-use Rattle.opfs_desk_ways.proofs.Held.{refused-told}
-use Rattle.opfs_desk_ways.proofs.Ways.{way-same, way-told}
+use Rattle.opfs_desk_steps.specs.Parts.Acted.{AreCleared, HasFailed, last_doubt}
+use Rattle.opfs_desk_steps.specs.Parts.Held.{AreHeldWhole}
+use Rattle.opfs_desk_steps.specs.Parts.Seen.{book_in}
+use Rattle.opfs_desk_steps.specs.declared.parts.parts.Ledger.{Ledger}
+use Rattle.opfs_desk_steps.specs.declared.parts.parts.Pages.{Pages}
+use Rattle.opfs_desk_steps.specs.BookSteps.Refusing.{IsRefused}
+use Rattle.opfs_desk_steps.proofs.book_steps.Held.{refused-told}
+use Rattle.opfs_desk_steps.proofs.book_steps.Ways.{way-same, way-told}
 use Rattle.opfs_hist.specs.Faults.{disk_faults}
 use Rattle.opfs_hist.specs.declared.entry.Entry.{Entry}
 use Rattle.opfs_journal.specs.Seen.{Seen}

@@ -8,13 +8,13 @@ use Rattle.opfs_data.specs.Rows.{Rows}
 use Rattle.opfs_data.specs.Writes.{WriteList, page_moves}
 use Rattle.opfs_pages.specs.HistoryLaws.Open.{open_at, file_in, is_stream, reserve_in}
 use Rattle.opfs_pages.specs.HistoryLaws.Spaced.{AreSpaced}
-use Rattle.opfs_desk_parts.specs.Acted.{AreCleared, IsWayNow}
-use Rattle.opfs_desk_parts.specs.Held.{AreHeldAt, AreHeldWhole}
-use Rattle.opfs_desk_parts.specs.Seen.{machine_in, tree_in, book_in}
-use Rattle.opfs_desk_parts.specs.declared.parts.Ledger.{Ledger}
-use Rattle.opfs_desk_parts.specs.declared.parts.Pages.{Pages}
-use Rattle.opfs_desk_rows.specs.Puts.{TreesNameStoredBlocks}
-use Rattle.opfs_desk_ways.proofs.Evictions.{stored-named}
+use Rattle.opfs_desk_steps.specs.Parts.Acted.{AreCleared, IsWayNow}
+use Rattle.opfs_desk_steps.specs.Parts.Held.{AreHeldAt, AreHeldWhole}
+use Rattle.opfs_desk_steps.specs.Parts.Seen.{machine_in, tree_in, book_in}
+use Rattle.opfs_desk_steps.specs.declared.parts.parts.Ledger.{Ledger}
+use Rattle.opfs_desk_steps.specs.declared.parts.parts.Pages.{Pages}
+use Rattle.opfs_desk_steps.specs.RowLaws.Puts.{TreesNameStoredBlocks}
+use Rattle.opfs_desk_steps.proofs.book_steps.Evictions.{stored-named}
 use Rattle.opfs_laws.specs.Lengths.Kept.{Kept}
 use Rattle.opfs_machine.specs.Agents.{agent_of, own_of}
 use Rattle.opfs_machine.specs.Histories.{state_after}

@@ -12,13 +12,13 @@ use Rattle.opfs_data.specs.Pages.{AreNow, blank, page_of}
 use Rattle.opfs_data.specs.Rows.{Rows, pages_at, page_at, row_at}
 use Rattle.opfs_data.specs.Writes.{WriteList}
 use Rattle.opfs_pages.specs.HistoryLaws.Putting.{AllReadAlike}
-use Rattle.opfs_desk_parts.specs.Acted.{AreCleared}
-use Rattle.opfs_desk_parts.specs.Held.{AreHeldAt, AreHeldWhole}
-use Rattle.opfs_desk_parts.specs.Seen.{book_in, machine_in, shelf_in, tree_in}
-use Rattle.opfs_desk_parts.specs.declared.parts.Ledger.{Ledger}
-use Rattle.opfs_desk_parts.specs.declared.parts.Pages.{Pages}
-use Rattle.opfs_desk_ways.proofs.Loop.{Falls}
-use Rattle.opfs_desk_ways.proofs.Ways.{way-both}
+use Rattle.opfs_desk_steps.specs.Parts.Acted.{AreCleared}
+use Rattle.opfs_desk_steps.specs.Parts.Held.{AreHeldAt, AreHeldWhole}
+use Rattle.opfs_desk_steps.specs.Parts.Seen.{book_in, machine_in, shelf_in, tree_in}
+use Rattle.opfs_desk_steps.specs.declared.parts.parts.Ledger.{Ledger}
+use Rattle.opfs_desk_steps.specs.declared.parts.parts.Pages.{Pages}
+use Rattle.opfs_desk_steps.proofs.book_steps.Loop.{Falls}
+use Rattle.opfs_desk_steps.proofs.book_steps.Ways.{way-both}
 use Rattle.opfs_hist.specs.declared.entry.Entry.{Entry}
 use Rattle.opfs_machine.specs.Changes.{changes}
 use Rattle.opfs_machine.specs.Histories.{state_after}

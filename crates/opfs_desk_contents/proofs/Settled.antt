@@ -4,14 +4,14 @@ use Rattle.std.proofs.Common.{◌≡◌, ◌-◌, ◌^◌, ◌≤◌, [], ◌++�
 use Rattle.opfs_base.specs.Texts.{Text}
 use Rattle.opfs_books.specs.Laws.Books.{Fixed, AreBooksAt}
 use Rattle.opfs_books.specs.Laws.Laws.{LeavesPages, ShowsTold, told, doubt}
-use Rattle.opfs_desk_parts.specs.Acted.{AreCleared, IsWayNow}
-use Rattle.opfs_desk_parts.specs.Held.{AreHeldAt, AreHeldWhole}
-use Rattle.opfs_desk_parts.specs.Seen.{book_in}
-use Rattle.opfs_desk_parts.specs.declared.parts.Ledger.{Ledger}
-use Rattle.opfs_desk_parts.specs.declared.parts.Pages.{Pages}
-use Rattle.opfs_desk_ways.proofs.Held.{moved-held, fresh-same}
-use Rattle.opfs_desk_ways.proofs.LaidStays.{LaidBeside}
-use Rattle.opfs_desk_ways.proofs.Ways.{way-settled, way-same}
+use Rattle.opfs_desk_steps.specs.Parts.Acted.{AreCleared, IsWayNow}
+use Rattle.opfs_desk_steps.specs.Parts.Held.{AreHeldAt, AreHeldWhole}
+use Rattle.opfs_desk_steps.specs.Parts.Seen.{book_in}
+use Rattle.opfs_desk_steps.specs.declared.parts.parts.Ledger.{Ledger}
+use Rattle.opfs_desk_steps.specs.declared.parts.parts.Pages.{Pages}
+use Rattle.opfs_desk_steps.proofs.book_steps.Held.{moved-held, fresh-same}
+use Rattle.opfs_desk_steps.proofs.book_steps.LaidStays.{LaidBeside}
+use Rattle.opfs_desk_steps.proofs.book_steps.Ways.{way-settled, way-same}
 use Rattle.opfs_machine.specs.declared.own.Own.{Own}
 use Rattle.opfs_machine.specs.declared.state.State.{State}
 use Rattle.opfs_machine.specs.Changes.{changes}

@@ -18,13 +18,13 @@ use Rattle.opfs_pages.specs.HistoryLaws.Told.{AreRowed, AreThere, AreTold}
 use Rattle.opfs_pages.proofs.history_laws.Begun.{other-or}
 use Rattle.opfs_pages.proofs.history_laws.Holding.{spaced-blocks, holders_of}
 use Rattle.opfs_pages.proofs.history_laws.Spacing.{stays-same}
-use Rattle.opfs_desk_parts.specs.Acted.{AreCleared, IsWayNow}
-use Rattle.opfs_desk_parts.specs.Held.{AreTied, AreHeldAt, AreHeldWhole}
-use Rattle.opfs_desk_parts.specs.Seen.{machine_in, tree_in, book_in}
-use Rattle.opfs_desk_parts.specs.declared.parts.Ledger.{Ledger}
-use Rattle.opfs_desk_parts.specs.declared.parts.Pages.{Pages}
-use Rattle.opfs_desk_ways.proofs.Held.{tied-later}
-use Rattle.opfs_desk_ways.proofs.LaidStays.{LaidBeside}
+use Rattle.opfs_desk_steps.specs.Parts.Acted.{AreCleared, IsWayNow}
+use Rattle.opfs_desk_steps.specs.Parts.Held.{AreTied, AreHeldAt, AreHeldWhole}
+use Rattle.opfs_desk_steps.specs.Parts.Seen.{machine_in, tree_in, book_in}
+use Rattle.opfs_desk_steps.specs.declared.parts.parts.Ledger.{Ledger}
+use Rattle.opfs_desk_steps.specs.declared.parts.parts.Pages.{Pages}
+use Rattle.opfs_desk_steps.proofs.book_steps.Held.{tied-later}
+use Rattle.opfs_desk_steps.proofs.book_steps.LaidStays.{LaidBeside}
 use Rattle.opfs_image.specs.Superblock.{data_base}
 use Rattle.opfs_journal.specs.Seen.{Seen}
 use Rattle.opfs_machine.specs.declared.own.Outline.{Outline}

@@ -36,13 +36,13 @@ use Rattle.opfs_tree.specs.Rows.{IsInOrder, file_at as file_in_tree}
 use Rattle.opfs_tree.specs.declared.row.FileRow.{FileRow}
 use Rattle.opfs_desk_kept.specs.Changing.{IsChangeShown}
 use Rattle.opfs_work.specs.Works.{WorkingCopy}
-use Rattle.opfs_desk_parts.specs.Acted.{AreCleared}
-use Rattle.opfs_desk_parts.specs.Answered.{IsAnswered, MayAnswer}
-use Rattle.opfs_desk_parts.specs.Held.{AreHeldWhole, AreTied}
-use Rattle.opfs_desk_parts.specs.Seen.{machine_in, tree_in, book_in}
-use Rattle.opfs_desk_parts.specs.declared.parts.Ledger.{Ledger}
-use Rattle.opfs_desk_parts.specs.declared.parts.Pages.{Pages}
-use Rattle.opfs_desk_parts.specs.declared.parts.Parts.{Parts}
+use Rattle.opfs_desk_steps.specs.Parts.Acted.{AreCleared}
+use Rattle.opfs_desk_steps.specs.Parts.Answered.{IsAnswered, MayAnswer}
+use Rattle.opfs_desk_steps.specs.Parts.Held.{AreHeldWhole, AreTied}
+use Rattle.opfs_desk_steps.specs.Parts.Seen.{machine_in, tree_in, book_in}
+use Rattle.opfs_desk_steps.specs.declared.parts.parts.Ledger.{Ledger}
+use Rattle.opfs_desk_steps.specs.declared.parts.parts.Pages.{Pages}
+use Rattle.opfs_desk_steps.specs.declared.parts.parts.Parts.{Parts}
 use Rattle.opfs_desk_contents.specs.Putting.{HasContent, IsReadyToPut, IsRowToPut, KeepsEnough}
 use Rattle.opfs_desk_contents.specs.Rows.{StoresFile}
 use Rattle.opfs_desk_contents.specs.Words.{size_stored, stamp_stored}

@@ -10,9 +10,9 @@ ghost use Rattle.opfs_books.specs.Laws.Laws.{BooksKeepTheState, FaultsAreCounted
 ghost use Rattle.opfs_data.specs.Rows.{pages_at, page_at};
 ghost use Rattle.opfs_desk_contents.specs.Storing.{AreRunsOf, StoresContent, MayStorePages, HasStoredPages};
 ghost use Rattle.opfs_desk_contents.specs.Words.{is_storing};
-ghost use Rattle.opfs_desk_parts.specs.Acted.{HasFailed};
-ghost use Rattle.opfs_desk_parts.specs.Held.{AreHeldWhole};
-ghost use Rattle.opfs_desk_rows.specs.Inside.{PartsLieInside};
+ghost use Rattle.opfs_desk_steps.specs.Parts.Acted.{HasFailed};
+ghost use Rattle.opfs_desk_steps.specs.Parts.Held.{AreHeldWhole};
+ghost use Rattle.opfs_desk_steps.specs.RowLaws.Inside.{PartsLieInside};
 ghost use Rattle.opfs_hist.specs.declared.reply.Reply.TheVariants as reply;
 ghost use Rattle.opfs_records.specs.Replay.Built.{Built};
 
@@ -24,9 +24,7 @@ use opfs_books::{
     Last, a_fault_is_counted, calls_are_spelled, calls_may_fail, state_laws, the_state_is_kept,
 };
 use opfs_data::Swap;
-use opfs_desk_parts::Parts;
-use opfs_desk_rows::parts_lie_inside;
-use opfs_desk_ways::fail_call;
+use opfs_desk_steps::{Parts, fail_call, parts_lie_inside};
 use opfs_journal::DiskFault;
 use opfs_machine::Sizes;
 use opfs_outside::Disk;

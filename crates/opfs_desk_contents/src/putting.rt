@@ -6,18 +6,16 @@ ghost use Rattle.opfs_base.specs.Texts.{Text};
 ghost use Rattle.opfs_books.specs.Laws.Books.{Fixed};
 ghost use Rattle.opfs_books.specs.Laws.Laws.{LeavesPages};
 ghost use Rattle.opfs_desk_contents.specs.Putting.{MayPut, MayWrite, HasContent, IsRowToPut};
-ghost use Rattle.opfs_desk_parts.specs.Acted.{AreCleared};
-ghost use Rattle.opfs_desk_parts.specs.Held.{AreHeldWhole};
-ghost use Rattle.opfs_desk_parts.specs.declared.parts.Pages.{Pages};
+ghost use Rattle.opfs_desk_steps.specs.Parts.Acted.{AreCleared};
+ghost use Rattle.opfs_desk_steps.specs.Parts.Held.{AreHeldWhole};
+ghost use Rattle.opfs_desk_steps.specs.declared.parts.parts.Pages.{Pages};
 ghost use Rattle.opfs_outside.specs.Faults.{Rose};
 ghost use Rattle.opfs_records.specs.Replay.Built.{Built};
 ghost use Rattle.opfs_pages.specs.RowCalls.Plans.{HaveBlocks};
 ghost use Rattle.opfs_work.specs.Works.{WorkingCopy};
 
 use opfs_books::{pages_beside_leave_the_books, the_books_show_their_images, the_state_is_kept};
-use opfs_desk_parts::{Ledger, Parts};
-use opfs_desk_rows::{parts_lie_inside, puts_have_room};
-use opfs_desk_ways::commit_kept;
+use opfs_desk_steps::{Ledger, Parts, commit_kept, parts_lie_inside, puts_have_room};
 use opfs_journal::DiskFault;
 use opfs_outside::Disk;
 use opfs_pages::{

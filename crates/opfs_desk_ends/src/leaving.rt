@@ -8,13 +8,13 @@ ghost use Rattle.opfs_books.specs.Laws.Laws.{BooksShowTheirImages};
 ghost use Rattle.opfs_desk_ends.specs.Leaving.{IsInOrderThrough, is_leaving, leaves_row};
 ghost use Rattle.opfs_pages.specs.HistoryLaws.Laws.{BlocksGoOn, CallsLeaveOtherRows, TreesKeepBlocks};
 ghost use Rattle.opfs_pages.specs.HistoryLaws.RowsAfter.{CallsChangeTheirRow};
-ghost use Rattle.opfs_desk_parts.specs.Acted.{HasActed};
-ghost use Rattle.opfs_desk_parts.specs.Answered.{IsAnswered, MayAnswer};
-ghost use Rattle.opfs_desk_parts.specs.Asked.{IsAsked, MayGo};
-ghost use Rattle.opfs_desk_parts.specs.Held.{AreHeldAt, AreHeldWhole};
-ghost use Rattle.opfs_desk_parts.specs.Seen.{machine_in, call_in};
-ghost use Rattle.opfs_desk_parts.specs.declared.parts.Pages.{Pages};
-ghost use Rattle.opfs_desk_rows.specs.InHand.{RowsInHandAreLaid};
+ghost use Rattle.opfs_desk_steps.specs.Parts.Acted.{HasActed};
+ghost use Rattle.opfs_desk_steps.specs.Parts.Answered.{IsAnswered, MayAnswer};
+ghost use Rattle.opfs_desk_steps.specs.Parts.Asked.{IsAsked, MayGo};
+ghost use Rattle.opfs_desk_steps.specs.Parts.Held.{AreHeldAt, AreHeldWhole};
+ghost use Rattle.opfs_desk_steps.specs.Parts.Seen.{machine_in, call_in};
+ghost use Rattle.opfs_desk_steps.specs.declared.parts.parts.Pages.{Pages};
+ghost use Rattle.opfs_desk_steps.specs.RowLaws.InHand.{RowsInHandAreLaid};
 ghost use Rattle.opfs_desk_steps.specs.Acting.{CallsAreActed};
 ghost use Rattle.opfs_desk_steps.specs.Answering.{ReadyCallsAreAnswered};
 ghost use Rattle.opfs_desk_steps.specs.Going.{HasTold};
@@ -28,12 +28,10 @@ ghost use Rattle.opfs_machine.specs.Replies.{row_named};
 ghost use Rattle.opfs_records.specs.Replay.Built.{Built};
 
 use opfs_books::the_books_show_their_images;
-use opfs_desk_parts::{InHand, Ledger, Parts};
-use opfs_desk_rows::rows_in_hand_are_laid;
 use opfs_desk_steps::{
-    asked_calls_are_ready, calls_are_acted, ready_calls_are_answered, tell_in_hand,
+    InHand, Ledger, Parts, asked_calls_are_ready, calls_are_acted, ready_calls_are_answered,
+    rows_in_hand_are_laid, take_in, tell_in_hand,
 };
-use opfs_desk_ways::take_in;
 use opfs_hist::{Op, Pending, Reply};
 use opfs_laws::lengths::bridge::{
     lengths_decide_each_ruling, lengths_follow_each_call, local_calls_are_known_by_their_word,

@@ -43,14 +43,14 @@ use Rattle.opfs_state_rows.proofs.standing.AgentMoves.{own-set}
 use Rattle.opfs_state_rows.specs.Standing.Noted.{with_sum}
 use Rattle.opfs_state_rows.specs.Standing.Seen.{Machine}
 use Rattle.opfs_state.specs.Verdicts.Callers.{IsAgent}
-use Rattle.opfs_desk_parts.specs.Held.{AreHeldWhole}
-use Rattle.opfs_desk_parts.specs.Seen.{machine_in, book_in}
-use Rattle.opfs_desk_parts.specs.declared.parts.Ledger.{Ledger}
-use Rattle.opfs_desk_parts.specs.declared.parts.Pages.{Pages}
+use Rattle.opfs_desk_steps.specs.Parts.Held.{AreHeldWhole}
+use Rattle.opfs_desk_steps.specs.Parts.Seen.{machine_in, book_in}
+use Rattle.opfs_desk_steps.specs.declared.parts.parts.Ledger.{Ledger}
+use Rattle.opfs_desk_steps.specs.declared.parts.parts.Pages.{Pages}
 use Rattle.opfs_desk_plain.specs.Telling.{TellsOnly}
 use Rattle.opfs_desk_plain.proofs.Flags.{key-lengths, key-noted}
 use Rattle.opfs_desk_plain.proofs.Words.{before, from-some}
-use Rattle.opfs_desk_rows.proofs.Inside.{limits-are}
+use Rattle.opfs_desk_steps.proofs.row_laws.Inside.{limits-are}
 use Rattle.opfs_desk_kept.specs.Keeping.{HasOwnKey}
 use Rattle.opfs_desk_grants.specs.Estimating.{is_estimate, usage_of, estimate_answer}
 

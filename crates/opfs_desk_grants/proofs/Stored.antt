@@ -16,10 +16,10 @@ use Rattle.opfs_hist.specs.declared.entry.Entry.{Entry}
 use Rattle.opfs_machine.specs.declared.state.Sizes.{Sizes}
 use Rattle.opfs_machine.specs.Agents.{agent_of}
 use Rattle.opfs_outside.specs.declared.disk.Disk.{Ghosts as DiskWords}
-use Rattle.opfs_desk_parts.specs.Answered.{MayAnswer}
-use Rattle.opfs_desk_parts.specs.Seen.{machine_in, tree_in, book_in}
-use Rattle.opfs_desk_parts.specs.declared.parts.Ledger.{Ledger}
-use Rattle.opfs_desk_ways.specs.Entering.{MayStoreCall}
+use Rattle.opfs_desk_steps.specs.Parts.Answered.{MayAnswer}
+use Rattle.opfs_desk_steps.specs.Parts.Seen.{machine_in, tree_in, book_in}
+use Rattle.opfs_desk_steps.specs.declared.parts.parts.Ledger.{Ledger}
+use Rattle.opfs_desk_steps.specs.BookSteps.Entering.{MayStoreCall}
 use Rattle.opfs_desk_kept.specs.Keeping.{HasOwnKey}
 use Rattle.opfs_desk_grants.specs.Granting.{bucket_named, unit_named, gives_mode, mode_now}
 use Rattle.opfs_desk_grants.proofs.Modes.{again, spelled-mode}

@@ -4,18 +4,18 @@ ghost use Rattle.std.specs.Prelude.{◌≡◌, ◌≤◌, ◌*◌, [], true, is_
 ghost use Rattle.opfs_books.specs.Laws.Books.{Fixed};
 ghost use Rattle.opfs_desk_grants.specs.Estimating.{is_estimate, usage_of};
 ghost use Rattle.opfs_desk_kept.specs.Keeping.{HasOwnKey};
-ghost use Rattle.opfs_desk_parts.specs.Acted.{HasActed};
-ghost use Rattle.opfs_desk_parts.specs.Asked.{IsAsked, MayGo};
-ghost use Rattle.opfs_desk_parts.specs.Held.{AreHeldWhole};
-ghost use Rattle.opfs_desk_parts.specs.Seen.{call_in};
+ghost use Rattle.opfs_desk_steps.specs.Parts.Acted.{HasActed};
+ghost use Rattle.opfs_desk_steps.specs.Parts.Asked.{IsAsked, MayGo};
+ghost use Rattle.opfs_desk_steps.specs.Parts.Held.{AreHeldWhole};
+ghost use Rattle.opfs_desk_steps.specs.Parts.Seen.{call_in};
 ghost use Rattle.opfs_machine.specs.Agents.{agent_of};
 ghost use Rattle.opfs_machine.specs.Replies.{block_bytes};
 ghost use Rattle.opfs_records.specs.Replay.Built.{Built};
 ghost use Rattle.opfs_state.specs.Verdicts.Callers.{IsAgent};
 
 use opfs_books::{state_laws, the_state_is_kept};
-use opfs_desk_parts::{InHand, Parts};
 use opfs_desk_plain::{tell, telling_laws};
+use opfs_desk_steps::{InHand, Parts};
 use opfs_hist::{Pending, Reply};
 use opfs_laws::histories::unread::reads_leave_the_state;
 use opfs_outside::Disk;

@@ -7,10 +7,10 @@ ghost use Rattle.opfs_books.specs.Laws.Books.{Fixed};
 ghost use Rattle.opfs_books.specs.Laws.Laws.{BooksKeepTheState, BooksShowTheirImages};
 ghost use Rattle.opfs_desk_grants.specs.Granting.{gives_mode};
 ghost use Rattle.opfs_pages.specs.HistoryLaws.Laws.{BlocksGoOn};
-ghost use Rattle.opfs_desk_parts.specs.Acted.{HasActed, IsUnacted};
-ghost use Rattle.opfs_desk_parts.specs.Asked.{IsAsked, MayGo};
-ghost use Rattle.opfs_desk_parts.specs.Held.{AreHeldWhole};
-ghost use Rattle.opfs_desk_parts.specs.Seen.{machine_in, call_in};
+ghost use Rattle.opfs_desk_steps.specs.Parts.Acted.{HasActed, IsUnacted};
+ghost use Rattle.opfs_desk_steps.specs.Parts.Asked.{IsAsked, MayGo};
+ghost use Rattle.opfs_desk_steps.specs.Parts.Held.{AreHeldWhole};
+ghost use Rattle.opfs_desk_steps.specs.Parts.Seen.{machine_in, call_in};
 ghost use Rattle.opfs_desk_steps.specs.Acting.{CallsAreActed};
 ghost use Rattle.opfs_desk_steps.specs.Answering.{ReadyCallsAreAnswered};
 ghost use Rattle.opfs_desk_steps.specs.Ready.{AskedCallsAreReady};
@@ -23,11 +23,10 @@ use crate::entering::{enter_mode, unit_in};
 use opfs_books::{
     calls_are_spelled, calls_may_fail, the_books_show_their_images, the_state_is_kept,
 };
-use opfs_desk_parts::{InHand, Parts};
 use opfs_desk_steps::{
-    asked_calls_are_ready, calls_are_acted, clear_way, ready_calls_are_answered,
+    InHand, Parts, asked_calls_are_ready, calls_are_acted, clear_way, ready_calls_are_answered,
+    take_in,
 };
-use opfs_desk_ways::take_in;
 use opfs_hist::{Pending, Refusal, Reply};
 use opfs_laws::counted::a_state_counts_its_history;
 use opfs_laws::histories::unread::reads_leave_the_state;

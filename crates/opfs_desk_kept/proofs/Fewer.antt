@@ -41,7 +41,7 @@ use Rattle.opfs_space.proofs.FileBlocks.{has_named, named_has, less_has, stays_h
 use Rattle.opfs_state_rows.specs.Standing.Seen.{lines_of}
 use Rattle.opfs_state_rows.proofs.standing.Lines.{there-at}
 use Rattle.opfs_tree.specs.Rows.{Rows as Tree, IsInOrder, row_at, extents_of, without}
-use Rattle.opfs_desk_ways.proofs.Evictions.{stored-named, recorded-has}
+use Rattle.opfs_desk_steps.proofs.book_steps.Evictions.{stored-named, recorded-has}
 use Rattle.opfs_desk_kept.specs.Keeping.{makes_root, keeps_back}
 use Rattle.opfs_desk_kept.proofs.Free.{none-of}
 

@@ -15,7 +15,7 @@ use Rattle.opfs_state_rows.specs.Standing.Seen.{lines_of}
 use Rattle.opfs_state_rows.proofs.standing.Lines.{there-at}
 use Rattle.opfs_tree.specs.Rows.{Rows as Tree, row_at, without}
 use Rattle.opfs_tree.specs.declared.row.Row.{Row}
-use Rattle.opfs_desk_ways.specs.Clearing.{cleared_from}
+use Rattle.opfs_desk_steps.specs.BookSteps.Clearing.{cleared_from}
 use Rattle.opfs_desk_kept.specs.Keeping.{is_free, makes_root, keeps_back}
 
 tree-without : (t : Tree) (p q : Place) → row_at q (without p t) ≡ cond (not (is_within p q)) (row_at q t) None

@@ -22,18 +22,18 @@ use Rattle.opfs_records.specs.Replay.Built.{Built}
 use Rattle.opfs_state_rows.specs.Standing.Seen.{lines_of}
 use Rattle.opfs_tree.specs.Rows.{Rows as Tree, IsInOrder}
 use Rattle.opfs_work.specs.Works.{WorkingCopy}
-use Rattle.opfs_desk_parts.specs.Acted.{HasActed, HasFailed, IsUnacted}
-use Rattle.opfs_desk_parts.specs.Answered.{IsAnswered}
-use Rattle.opfs_desk_parts.specs.Held.{AreHeldWhole}
-use Rattle.opfs_desk_parts.specs.Seen.{machine_in, tree_in, book_in, call_in, units_in}
-use Rattle.opfs_desk_parts.specs.declared.call.InHand.{InHand}
-use Rattle.opfs_desk_parts.specs.declared.parts.Ledger.{Ledger}
-use Rattle.opfs_desk_parts.specs.declared.parts.Pages.{Pages}
-use Rattle.opfs_desk_parts.specs.declared.parts.Parts.{Parts}
-use Rattle.opfs_desk_ways.specs.Clearing.{cleared_from}
-use Rattle.opfs_desk_ways.proofs.LaidStays.{LaidBeside}
-use Rattle.opfs_desk_ways.proofs.Loop.{Falls}
-use Rattle.opfs_desk_ways.proofs.Ways.{way-here}
+use Rattle.opfs_desk_steps.specs.Parts.Acted.{HasActed, HasFailed, IsUnacted}
+use Rattle.opfs_desk_steps.specs.Parts.Answered.{IsAnswered}
+use Rattle.opfs_desk_steps.specs.Parts.Held.{AreHeldWhole}
+use Rattle.opfs_desk_steps.specs.Parts.Seen.{machine_in, tree_in, book_in, call_in, units_in}
+use Rattle.opfs_desk_steps.specs.declared.parts.call.InHand.{InHand}
+use Rattle.opfs_desk_steps.specs.declared.parts.parts.Ledger.{Ledger}
+use Rattle.opfs_desk_steps.specs.declared.parts.parts.Pages.{Pages}
+use Rattle.opfs_desk_steps.specs.declared.parts.parts.Parts.{Parts}
+use Rattle.opfs_desk_steps.specs.BookSteps.Clearing.{cleared_from}
+use Rattle.opfs_desk_steps.proofs.book_steps.LaidStays.{LaidBeside}
+use Rattle.opfs_desk_steps.proofs.book_steps.Loop.{Falls}
+use Rattle.opfs_desk_steps.proofs.book_steps.Ways.{way-here}
 use Rattle.opfs_desk_steps.specs.Acting.{CallsAreActed}
 use Rattle.opfs_desk_steps.specs.Answering.{ReadyCallsAreAnswered, IsReply}
 use Rattle.opfs_desk_steps.specs.Ready.{IsReadyCall, AskedCallsAreReady}

@@ -10,12 +10,12 @@ use Rattle.opfs_machine.specs.Agents.{agent_of}
 use Rattle.opfs_machine.specs.Histories.{state_after}
 use Rattle.opfs_outside.specs.declared.disk.Disk.{Ghosts as DiskWords}
 use Rattle.opfs_records.specs.Replay.Built.{Built}
-use Rattle.opfs_desk_parts.specs.Held.{AreHeldAt, AreHeldWhole}
-use Rattle.opfs_desk_parts.specs.Seen.{machine_in}
-use Rattle.opfs_desk_parts.specs.declared.parts.Ledger.{Ledger}
-use Rattle.opfs_desk_parts.specs.declared.parts.Pages.{Pages}
-use Rattle.opfs_desk_ways.proofs.Real.{real, real-legal, real-state}
-use Rattle.opfs_desk_ways.proofs.Turns.{key-of}
+use Rattle.opfs_desk_steps.specs.Parts.Held.{AreHeldAt, AreHeldWhole}
+use Rattle.opfs_desk_steps.specs.Parts.Seen.{machine_in}
+use Rattle.opfs_desk_steps.specs.declared.parts.parts.Ledger.{Ledger}
+use Rattle.opfs_desk_steps.specs.declared.parts.parts.Pages.{Pages}
+use Rattle.opfs_desk_steps.proofs.book_steps.Real.{real, real-legal, real-state}
+use Rattle.opfs_desk_steps.proofs.book_steps.Turns.{key-of}
 use Rattle.opfs_desk_kept.specs.Keeping.{HasOwnKey}
 
 module _ {D : Type 0} (w : DiskWords D) (reads : ReadsLeaveTheState) (counts : AStateCountsItsHistory) (f : Fixed D) (recorded : Built) (l : Ledger D) (p : Pages) (held : AreHeldWhole w f recorded l p) (k : ℕ) where

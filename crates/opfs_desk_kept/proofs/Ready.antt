@@ -17,10 +17,10 @@ use Rattle.opfs_machine.specs.Agents.{agent_of}
 use Rattle.opfs_machine.specs.Effects.{moment_of}
 use Rattle.opfs_outside.specs.declared.disk.Disk.{Ghosts as DiskWords}
 use Rattle.opfs_state_rows.specs.Standing.Seen.{lines_of}
-use Rattle.opfs_desk_parts.specs.Answered.{MayAnswer}
-use Rattle.opfs_desk_parts.specs.Seen.{machine_in, tree_in, book_in}
-use Rattle.opfs_desk_parts.specs.declared.parts.Ledger.{Ledger}
-use Rattle.opfs_desk_ways.specs.Entering.{MayStoreCall}
+use Rattle.opfs_desk_steps.specs.Parts.Answered.{MayAnswer}
+use Rattle.opfs_desk_steps.specs.Parts.Seen.{machine_in, tree_in, book_in}
+use Rattle.opfs_desk_steps.specs.declared.parts.parts.Ledger.{Ledger}
+use Rattle.opfs_desk_steps.specs.BookSteps.Entering.{MayStoreCall}
 use Rattle.opfs_desk_kept.specs.Keeping.{keeps_back, entry_name, entry_place, change_of, HasOwnKey}
 use Rattle.opfs_desk_kept.specs.Steps.{change_now}
 use Rattle.opfs_desk_kept.proofs.Spelled.{again, spelled-is, quiet-change, can-hold}

@@ -23,14 +23,14 @@ use Rattle.opfs_machine.specs.Runs.{eviction}
 use Rattle.opfs_machine.specs.Steps.{evicted, is_refusal}
 use Rattle.opfs_outside.specs.declared.disk.Disk.{Ghosts as DiskWords}
 use Rattle.opfs_space.specs.Room.{Machine}
-use Rattle.opfs_desk_parts.specs.Acted.{IsWay, IsWayEnded, AreCleared, HasFailed, last_doubt}
-use Rattle.opfs_desk_parts.specs.Answered.{IsAnswered}
-use Rattle.opfs_desk_parts.specs.Seen.{machine_in, tree_in, book_in}
-use Rattle.opfs_desk_parts.specs.declared.parts.Ledger.{Ledger}
-use Rattle.opfs_desk_parts.specs.declared.parts.Pages.{Pages}
-use Rattle.opfs_desk_ways.proofs.Held.{evictions-told, refused-told}
-use Rattle.opfs_desk_ways.proofs.Loop.{Falls}
-use Rattle.opfs_desk_ways.proofs.Ways.{way-then, way-told, way-same, way-told-same, last-doubt}
+use Rattle.opfs_desk_steps.specs.Parts.Acted.{IsWay, IsWayEnded, AreCleared, HasFailed, last_doubt}
+use Rattle.opfs_desk_steps.specs.Parts.Answered.{IsAnswered}
+use Rattle.opfs_desk_steps.specs.Parts.Seen.{machine_in, tree_in, book_in}
+use Rattle.opfs_desk_steps.specs.declared.parts.parts.Ledger.{Ledger}
+use Rattle.opfs_desk_steps.specs.declared.parts.parts.Pages.{Pages}
+use Rattle.opfs_desk_steps.proofs.book_steps.Held.{evictions-told, refused-told}
+use Rattle.opfs_desk_steps.proofs.book_steps.Loop.{Falls}
+use Rattle.opfs_desk_steps.proofs.book_steps.Ways.{way-then, way-told, way-same, way-told-same, last-doubt}
 use Rattle.opfs_desk_kept.specs.Changing.{HasNotChanged, IsChangeShown}
 use Rattle.opfs_desk_steps.specs.Going.{IsTidy}
 

@@ -18,10 +18,10 @@ use Rattle.opfs_outside.specs.Faults.{Rose}
 use Rattle.opfs_outside.specs.Moments.{Elapses}
 use Rattle.opfs_outside.specs.declared.disk.Disk.{Ghosts as DiskWords}
 use Rattle.opfs_records.specs.Replay.Built.{Built}
-use Rattle.opfs_desk_parts.specs.Held.{AreTied, AreHeldWhole}
-use Rattle.opfs_desk_parts.specs.Seen.{machine_in, tree_in, book_in}
-use Rattle.opfs_desk_parts.specs.declared.parts.Ledger.{Ledger}
-use Rattle.opfs_desk_parts.specs.declared.parts.Pages.{Pages}
+use Rattle.opfs_desk_steps.specs.Parts.Held.{AreTied, AreHeldWhole}
+use Rattle.opfs_desk_steps.specs.Parts.Seen.{machine_in, tree_in, book_in}
+use Rattle.opfs_desk_steps.specs.declared.parts.parts.Ledger.{Ledger}
+use Rattle.opfs_desk_steps.specs.declared.parts.parts.Pages.{Pages}
 
 -- The disk was used for a change, or was not: each image on the way shows a front of what was told before and the change.
 pub record IsChangeShown {D : Type 0} (w : DiskWords D) (f : Fixed D) (base : State Text Own) (gone : List Text) (old new : Ledger D) (e : Entry) (own : Spelled) : Type 0 where

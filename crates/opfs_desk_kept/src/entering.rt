@@ -9,11 +9,11 @@ ghost use Rattle.opfs_state_rows.specs.Changes.Changed.{tree_by};
 ghost use Rattle.opfs_codec.specs.Fields.{plain, Fits};
 ghost use Rattle.opfs_commit.specs.Seen.{with_kept, IsQuiet};
 ghost use Rattle.opfs_desk_kept.specs.Changing.{HasChanged, HasNotChanged};
-ghost use Rattle.opfs_desk_parts.specs.Answered.{IsAnswered};
-ghost use Rattle.opfs_desk_parts.specs.Held.{AreTied, AreHeldAt};
-ghost use Rattle.opfs_desk_parts.specs.Seen.{machine_in, tree_in, book_in};
-ghost use Rattle.opfs_desk_parts.specs.declared.parts.Pages.{Pages};
-ghost use Rattle.opfs_desk_ways.specs.Entering.{MayStoreCall};
+ghost use Rattle.opfs_desk_steps.specs.Parts.Answered.{IsAnswered};
+ghost use Rattle.opfs_desk_steps.specs.Parts.Held.{AreTied, AreHeldAt};
+ghost use Rattle.opfs_desk_steps.specs.Parts.Seen.{machine_in, tree_in, book_in};
+ghost use Rattle.opfs_desk_steps.specs.declared.parts.parts.Pages.{Pages};
+ghost use Rattle.opfs_desk_steps.specs.BookSteps.Entering.{MayStoreCall};
 ghost use Rattle.opfs_machine.specs.declared.own.Own.{Own};
 ghost use Rattle.opfs_machine.specs.declared.state.State.{State};
 ghost use Rattle.opfs_machine.specs.Agents.{counted};
@@ -24,8 +24,7 @@ ghost use Rattle.opfs_records.specs.Replay.Built.{Built};
 
 use opfs_books::{Entering, the_books_show_their_images, the_state_is_kept};
 use opfs_codec::ChangeRef;
-use opfs_desk_parts::Ledger;
-use opfs_desk_ways::store_call;
+use opfs_desk_steps::{Ledger, store_call};
 use opfs_journal::DiskFault;
 use opfs_outside::Disk;
 

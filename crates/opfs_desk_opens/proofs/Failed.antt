@@ -19,12 +19,12 @@ use Rattle.opfs_machine.specs.Effects.{refused}
 use Rattle.opfs_machine.specs.Histories.{IsCall, state_after}
 use Rattle.opfs_machine.specs.Steps.{evicted, after_reply}
 use Rattle.opfs_outside.specs.declared.disk.Disk.{Ghosts as DiskWords}
-use Rattle.opfs_desk_parts.specs.Acted.{HasFailed}
-use Rattle.opfs_desk_parts.specs.Seen.{call_in}
-use Rattle.opfs_desk_parts.specs.declared.call.InHand.{InHand}
-use Rattle.opfs_desk_parts.specs.declared.parts.Ledger.{Ledger}
-use Rattle.opfs_desk_parts.specs.declared.parts.Pages.{Pages}
-use Rattle.opfs_desk_rows.specs.Opens.{next_row, opens_row}
+use Rattle.opfs_desk_steps.specs.Parts.Acted.{HasFailed}
+use Rattle.opfs_desk_steps.specs.Parts.Seen.{call_in}
+use Rattle.opfs_desk_steps.specs.declared.parts.call.InHand.{InHand}
+use Rattle.opfs_desk_steps.specs.declared.parts.parts.Ledger.{Ledger}
+use Rattle.opfs_desk_steps.specs.declared.parts.parts.Pages.{Pages}
+use Rattle.opfs_desk_steps.specs.RowLaws.Opens.{next_row, opens_row}
 use Rattle.opfs_desk_steps.proofs.Numbers.{agent-stays}
 
 refused-agents : (s : State Text Own) (k : ℕ) (o : Op) → opens_row o ≡ true → (refused s k o).agents ≡ s.agents

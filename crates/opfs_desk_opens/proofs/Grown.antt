@@ -17,7 +17,7 @@ use Rattle.opfs_machine.specs.Contents.{in_bytes}
 use Rattle.opfs_machine.specs.Effects.{effect, opens_stream, with_lock}
 use Rattle.opfs_machine.specs.Rows.{file_at, with_file}
 use Rattle.opfs_machine.specs.Rulings.{first_reserve, want_of}
-use Rattle.opfs_desk_rows.specs.Opens.{next_row}
+use Rattle.opfs_desk_steps.specs.RowLaws.Opens.{next_row}
 
 added : (t : State Text Own) (k : ℕ) (r : Own) → IsNumber t k → length (agent_of (adds_own t k r) k).own ≡ next_row t k
 added t k r number =

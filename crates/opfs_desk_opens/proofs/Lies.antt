@@ -12,8 +12,8 @@ use Rattle.opfs_records.specs.Checkpoint.Written.{stored_rows}
 use Rattle.opfs_tree.specs.declared.row.Row.{Row}
 use Rattle.opfs_tree.specs.declared.row.Row.TheVariants as row
 use Rattle.opfs_tree.specs.Rows.{Rows as Tree, row_at}
-use Rattle.opfs_desk_rows.specs.Opens.{opens_row, file_extents, opened_extents}
-use Rattle.opfs_desk_rows.proofs.Stored.{sound-at}
+use Rattle.opfs_desk_steps.specs.RowLaws.Opens.{opens_row, file_extents, opened_extents}
+use Rattle.opfs_desk_steps.proofs.row_laws.Stored.{sound-at}
 use Rattle.opfs_space.specs.Files.{extents_in}
 
 abbrev LieBelow : ℕ → List Extent → Type 0

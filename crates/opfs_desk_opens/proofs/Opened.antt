@@ -38,19 +38,19 @@ use Rattle.opfs_space.specs.Spaces.{SpaceSeen}
 use Rattle.opfs_journal.specs.Seen.{Seen}
 use Rattle.opfs_tree.specs.Rows.{Rows as Tree, IsInOrder, row_at}
 use Rattle.opfs_work.specs.Works.{WorkingCopy}
-use Rattle.opfs_desk_parts.specs.Acted.{HasActed, IsWayEnded}
-use Rattle.opfs_desk_parts.specs.Answered.{IsAnswered}
-use Rattle.opfs_desk_parts.specs.Held.{AreHeldWhole}
-use Rattle.opfs_desk_parts.specs.Seen.{machine_in, tree_in, call_in, units_in}
-use Rattle.opfs_desk_parts.specs.declared.call.InHand.{InHand}
-use Rattle.opfs_desk_parts.specs.declared.parts.Ledger.{Ledger}
-use Rattle.opfs_desk_parts.specs.declared.parts.Pages.{Pages}
-use Rattle.opfs_desk_parts.specs.declared.parts.Parts.{Parts}
-use Rattle.opfs_desk_rows.specs.OpenCopies.{OpenedCopiesStand}
-use Rattle.opfs_desk_rows.specs.Opening.{OpenedRowsAreLaid}
-use Rattle.opfs_desk_rows.specs.Opens.{CallsOpenRows, HasRow, HasOpened, MayOpen, next_row, opens_row, opened_extents}
-use Rattle.opfs_desk_rows.specs.Stored.{FilesAreStored, HasCleared}
-use Rattle.opfs_desk_rows.proofs.Opens.{given}
+use Rattle.opfs_desk_steps.specs.Parts.Acted.{HasActed, IsWayEnded}
+use Rattle.opfs_desk_steps.specs.Parts.Answered.{IsAnswered}
+use Rattle.opfs_desk_steps.specs.Parts.Held.{AreHeldWhole}
+use Rattle.opfs_desk_steps.specs.Parts.Seen.{machine_in, tree_in, call_in, units_in}
+use Rattle.opfs_desk_steps.specs.declared.parts.call.InHand.{InHand}
+use Rattle.opfs_desk_steps.specs.declared.parts.parts.Ledger.{Ledger}
+use Rattle.opfs_desk_steps.specs.declared.parts.parts.Pages.{Pages}
+use Rattle.opfs_desk_steps.specs.declared.parts.parts.Parts.{Parts}
+use Rattle.opfs_desk_steps.specs.RowLaws.OpenCopies.{OpenedCopiesStand}
+use Rattle.opfs_desk_steps.specs.RowLaws.Opening.{OpenedRowsAreLaid}
+use Rattle.opfs_desk_steps.specs.RowLaws.Opens.{CallsOpenRows, HasRow, HasOpened, MayOpen, next_row, opens_row, opened_extents}
+use Rattle.opfs_desk_steps.specs.RowLaws.Stored.{FilesAreStored, HasCleared}
+use Rattle.opfs_desk_steps.proofs.row_laws.Opens.{given}
 use Rattle.opfs_desk_steps.specs.Acting.{CallsAreActed}
 use Rattle.opfs_desk_steps.specs.Answering.{ReadyCallsAreAnswered, IsReply}
 use Rattle.opfs_desk_steps.specs.Ready.{IsReadyCall, AskedCallsAreReady}

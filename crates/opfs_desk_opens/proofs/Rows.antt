@@ -11,7 +11,7 @@ use Rattle.opfs_machine.specs.declared.state.State.{State}
 use Rattle.opfs_machine.specs.Agents.{agent_of}
 use Rattle.opfs_machine.specs.Steps.{evicted}
 use Rattle.opfs_space.specs.Room.{Machine}
-use Rattle.opfs_desk_rows.specs.Opens.{next_row}
+use Rattle.opfs_desk_steps.specs.RowLaws.Opens.{next_row}
 use Rattle.opfs_desk_steps.proofs.Numbers.{agent-stays}
 
 get-behind : {X : Type 0} (xs : List X) (i : ℕ) → length xs ≤ i → slice_get xs i ≡ None

@@ -22,8 +22,8 @@ use Rattle.opfs_tree.specs.declared.row.FileRow.{FileRow}
 use Rattle.opfs_tree.specs.declared.row.Row.{Row}
 use Rattle.opfs_tree.specs.Rows.{Rows as Tree, file_at, row_at}
 use Rattle.opfs_tree.specs.Rows.{file_of as file_of_row}
-use Rattle.opfs_desk_rows.specs.OpenCopies.{opened_reserve}
-use Rattle.opfs_desk_rows.specs.Opens.{opens_row, opened_bytes}
+use Rattle.opfs_desk_steps.specs.RowLaws.OpenCopies.{opened_reserve}
+use Rattle.opfs_desk_steps.specs.RowLaws.Opens.{opens_row, opened_bytes}
 use Rattle.opfs_desk_opens.specs.Sizes.{present_in, opened_size, kept_blocks}
 use Rattle.opfs_desk_opens.proofs.Words.{file_place}
 

@@ -9,7 +9,7 @@ use Rattle.opfs_laws.proofs.Spots.{exact_places}
 use Rattle.opfs_machine.specs.Victims.{is_callers}
 use Rattle.opfs_tree.specs.declared.row.Row.{Row}
 use Rattle.opfs_tree.specs.Rows.{Rows, row_at, without}
-use Rattle.opfs_desk_ways.specs.Clearing.{cleared_from}
+use Rattle.opfs_desk_steps.specs.BookSteps.Clearing.{cleared_from}
 
 tree-without : (t : Rows) (p q : Place) → row_at q (without p t) ≡ cond (not (is_within p q)) (row_at q t) None
 tree-without t p q = find-where_key place_cmp (λ x. not (is_within p x)) q (λ x e. ap (λ y. not (is_within p y)) (sym (exact_places q x e))) t

@@ -22,7 +22,7 @@ use Rattle.opfs_machine.specs.Victims.{is_callers}
 use Rattle.opfs_space.specs.Files.{extents_in}
 use Rattle.opfs_state_rows.specs.Standing.Seen.{Machine}
 use Rattle.opfs_tree.specs.Rows.{Rows as Tree, row_at}
-use Rattle.opfs_desk_rows.specs.Opens.{opens_row, opened_extents}
+use Rattle.opfs_desk_steps.specs.RowLaws.Opens.{opens_row, opened_extents}
 
 pub answers-done : (s : State Text Own) (z : Sizes) (k : ℕ) (o : Op) → opens_row o ≡ true → answer s z k o ≡ reply.Done
 unfolding answer

@@ -1,7 +1,7 @@
 -- Pages that are alike. This project's own.
 use Rattle.std.specs.Prelude.{◌≡◌, ℕ, ◌≤◌}
 use Rattle.opfs_data.specs.Rows.{row_of, kept_count}
-use Rattle.opfs_desk_parts.specs.declared.parts.Pages.{Pages}
+use Rattle.opfs_desk_steps.specs.declared.parts.parts.Pages.{Pages}
 
 -- Each row has the same pages, and no more of them are kept in memory; the space is the same.
 pub record AreAlike (p q : Pages) : Type 0 where

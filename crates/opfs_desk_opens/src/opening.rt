@@ -7,20 +7,20 @@ ghost use Rattle.opfs_books.specs.Laws.Commits.{StateLaws};
 ghost use Rattle.opfs_books.specs.Laws.Laws.{BooksShowTheirImages};
 ghost use Rattle.opfs_pages.specs.HistoryLaws.Laws.{TreesKeepBlocks};
 ghost use Rattle.opfs_pages.specs.HistoryLaws.RowsAfter.{CallsChangeTheirRow};
-ghost use Rattle.opfs_desk_parts.specs.Acted.{HasActed, IsUnacted};
-ghost use Rattle.opfs_desk_parts.specs.Asked.{IsAsked, MayGo};
+ghost use Rattle.opfs_desk_steps.specs.Parts.Acted.{HasActed, IsUnacted};
+ghost use Rattle.opfs_desk_steps.specs.Parts.Asked.{IsAsked, MayGo};
 ghost use Rattle.opfs_base.specs.Texts.{Text};
-ghost use Rattle.opfs_desk_parts.specs.Answered.{IsAnswered, MayAnswer};
-ghost use Rattle.opfs_desk_parts.specs.Held.{AreHeldAt, AreHeldWhole};
-ghost use Rattle.opfs_desk_parts.specs.declared.parts.Pages.{Pages};
+ghost use Rattle.opfs_desk_steps.specs.Parts.Answered.{IsAnswered, MayAnswer};
+ghost use Rattle.opfs_desk_steps.specs.Parts.Held.{AreHeldAt, AreHeldWhole};
+ghost use Rattle.opfs_desk_steps.specs.declared.parts.parts.Pages.{Pages};
 ghost use Rattle.opfs_hist.specs.declared.reply.Reply.TheVariants as reply;
 ghost use Rattle.opfs_machine.specs.declared.own.Own.{Own};
 ghost use Rattle.opfs_machine.specs.declared.state.State.{State};
-ghost use Rattle.opfs_desk_parts.specs.Seen.{tree_in, call_in};
-ghost use Rattle.opfs_desk_rows.specs.OpenCopies.{OpenedCopiesStand};
-ghost use Rattle.opfs_desk_rows.specs.Opening.{OpenedRowsAreLaid};
-ghost use Rattle.opfs_desk_rows.specs.Opens.{CallsOpenRows, opens_row};
-ghost use Rattle.opfs_desk_rows.specs.Stored.{FilesAreStored};
+ghost use Rattle.opfs_desk_steps.specs.Parts.Seen.{tree_in, call_in};
+ghost use Rattle.opfs_desk_steps.specs.RowLaws.OpenCopies.{OpenedCopiesStand};
+ghost use Rattle.opfs_desk_steps.specs.RowLaws.Opening.{OpenedRowsAreLaid};
+ghost use Rattle.opfs_desk_steps.specs.RowLaws.Opens.{CallsOpenRows, opens_row};
+ghost use Rattle.opfs_desk_steps.specs.RowLaws.Stored.{FilesAreStored};
 ghost use Rattle.opfs_desk_steps.specs.Acting.{CallsAreActed};
 ghost use Rattle.opfs_desk_steps.specs.Answering.{ReadyCallsAreAnswered};
 ghost use Rattle.opfs_desk_steps.specs.Going.{HasTold, IsTidy};
@@ -30,12 +30,10 @@ ghost use Rattle.opfs_tree.specs.Rows.{IsInOrder};
 
 use crate::pages::{next_row, open_pages};
 use opfs_books::{Last, state_laws, the_books_show_their_images};
-use opfs_desk_parts::{InHand, Ledger, Parts};
-use opfs_desk_rows::{calls_open_rows, files_are_stored, opened_rows_are_laid};
 use opfs_desk_steps::{
-    asked_calls_are_ready, calls_are_acted, clear_call, ready_calls_are_answered, tell_last,
+    InHand, Ledger, Parts, asked_calls_are_ready, calls_are_acted, calls_open_rows, clear_call,
+    files_are_stored, opened_rows_are_laid, ready_calls_are_answered, take_in, tell_last,
 };
-use opfs_desk_ways::take_in;
 use opfs_hist::{Pending, Refusal, Reply};
 use opfs_machine::Sizes;
 use opfs_outside::Disk;

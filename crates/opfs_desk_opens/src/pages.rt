@@ -7,8 +7,8 @@ ghost use Rattle.opfs_data.specs.Rows.{row_of, pages_at, kept_count, OthersStay}
 ghost use Rattle.opfs_base.specs.Blocks.{blocks};
 ghost use Rattle.opfs_base.specs.Places.{place_of};
 ghost use Rattle.opfs_desk_opens.specs.Sizes.{IsFar, present_in, opened_size, kept_blocks};
-ghost use Rattle.opfs_desk_parts.specs.Seen.{machine_in};
-ghost use Rattle.opfs_desk_rows.specs.Opens.{opens_row, file_extents, opened_extents};
+ghost use Rattle.opfs_desk_steps.specs.Parts.Seen.{machine_in};
+ghost use Rattle.opfs_desk_steps.specs.RowLaws.Opens.{opens_row, file_extents, opened_extents};
 ghost use Rattle.opfs_tree.specs.Rows.{file_at};
 ghost use Rattle.opfs_hist.specs.Sums.{makes_row};
 ghost use Rattle.opfs_machine.specs.Agents.{agent_of};
@@ -17,7 +17,7 @@ ghost use Rattle.opfs_state.specs.Verdicts.Callers.{IsAgent};
 
 use opfs_base::Locator;
 use opfs_data::Swap;
-use opfs_desk_parts::Ledger;
+use opfs_desk_steps::Ledger;
 use opfs_hist::{Op, Pending};
 use opfs_outside::Disk;
 use opfs_pages::open_row;

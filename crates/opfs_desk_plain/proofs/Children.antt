@@ -14,8 +14,8 @@ use Rattle.opfs_state_rows.specs.Standing.Seen.{lines_of}
 use Rattle.opfs_state_rows.proofs.standing.Units.{same_unit, unit_itself}
 use Rattle.opfs_tree.specs.Rows.{Rows as Tree, children_of, kind_of, least_above, least_not_in}
 use Rattle.opfs_tree.specs.declared.row.Row.{Row}
-use Rattle.opfs_iterating.specs.Reached.{AreGivenUpTo}
-use Rattle.opfs_iterating.proofs.Names.{child-is, child-named}
+use Rattle.opfs_desk_steps.specs.Iterating.Reached.{AreGivenUpTo}
+use Rattle.opfs_desk_steps.proofs.iterating.Names.{child-is, child-named}
 use Rattle.opfs_desk_plain.specs.Next.{names_in}
 
 -- ---- the least child that was not given

@@ -31,7 +31,7 @@ use Rattle.opfs_state_rows.proofs.standing.Lines.{lines-at}
 use Rattle.opfs_tree.specs.Rows.{Rows as Tree, least_not_in, kind_of, row_at as tree_row_at, children_of as tree_children}
 use Rattle.opfs_tree.specs.declared.row.Row.{Row}
 use Rattle.opfs_tree.specs.declared.row.Row.TheVariants as row
-use Rattle.opfs_iterating.specs.Reached.{AreGivenUpTo, IsUpTo}
+use Rattle.opfs_desk_steps.specs.Iterating.Reached.{AreGivenUpTo, IsUpTo}
 use Rattle.opfs_desk_plain.specs.Next.{IsNextOf, found_gift, found_reply, is_next, names_in}
 use Rattle.opfs_desk_plain.specs.Telling.{TellsOnly}
 use Rattle.opfs_desk_plain.specs.declared.next.NextChild.{NextChild}

@@ -32,14 +32,14 @@ use Rattle.opfs_records.specs.Replay.Built.{Built}
 use Rattle.opfs_space.specs.Room.{Machine}
 use Rattle.opfs_state.specs.Verdicts.Callers.{IsAgent}
 use Rattle.opfs_work.specs.Works.{WorkingCopy}
-use Rattle.opfs_desk_parts.specs.Acted.{HasActed, last_doubt}
-use Rattle.opfs_desk_parts.specs.Held.{AreHeldWhole}
-use Rattle.opfs_desk_parts.specs.Seen.{machine_in, book_in}
-use Rattle.opfs_desk_parts.specs.declared.parts.Ledger.{Ledger}
-use Rattle.opfs_desk_parts.specs.declared.parts.Pages.{Pages}
-use Rattle.opfs_desk_ways.specs.Refusing.{IsRefused, MayRefuse}
-use Rattle.opfs_desk_ways.specs.Taking.{MayTakeInto}
-use Rattle.opfs_desk_ways.proofs.Ways.{way-here}
+use Rattle.opfs_desk_steps.specs.Parts.Acted.{HasActed, last_doubt}
+use Rattle.opfs_desk_steps.specs.Parts.Held.{AreHeldWhole}
+use Rattle.opfs_desk_steps.specs.Parts.Seen.{machine_in, book_in}
+use Rattle.opfs_desk_steps.specs.declared.parts.parts.Ledger.{Ledger}
+use Rattle.opfs_desk_steps.specs.declared.parts.parts.Pages.{Pages}
+use Rattle.opfs_desk_steps.specs.BookSteps.Refusing.{IsRefused, MayRefuse}
+use Rattle.opfs_desk_steps.specs.BookSteps.Taking.{MayTakeInto}
+use Rattle.opfs_desk_steps.proofs.book_steps.Ways.{way-here}
 use Rattle.opfs_desk_steps.specs.Acting.{CallsAreActed}
 use Rattle.opfs_desk_steps.proofs.Counts.{calls-less, pending-entries, live-before, own-length, pending-rows}
 use Rattle.opfs_desk_steps.proofs.Ready.{agent-of, last-of}

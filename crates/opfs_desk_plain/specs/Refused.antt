@@ -12,8 +12,8 @@ use Rattle.opfs_machine.specs.Steps.{judged}
 use Rattle.opfs_outside.specs.declared.disk.Disk.{Ghosts as DiskWords}
 use Rattle.opfs_records.specs.Replay.Built.{Built}
 use Rattle.opfs_work.specs.Works.{WorkingCopy}
-use Rattle.opfs_desk_parts.specs.Held.{AreHeldWhole}
-use Rattle.opfs_desk_parts.specs.declared.parts.Parts.{Parts}
+use Rattle.opfs_desk_steps.specs.Parts.Held.{AreHeldWhole}
+use Rattle.opfs_desk_steps.specs.declared.parts.parts.Parts.{Parts}
 
 pub record IsRefusedCall (tells : Type 0) (o : Opening) (h calls : List Entry) (c : Call) (r : Refusal) (work : WorkingCopy) (past : List Text) : Type 0 where
   pub may : MayAct tells o h calls c work past

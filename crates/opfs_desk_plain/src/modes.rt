@@ -4,10 +4,10 @@ ghost use Rattle.std.specs.Prelude.{◌≡◌, [], true, is_some, IfOk, OnOk, On
 ghost use Rattle.opfs_store.specs.Acts.Acting.{IsSameCopy};
 ghost use Rattle.opfs_base.specs.Units.{unit_of};
 ghost use Rattle.opfs_books.specs.Laws.Books.{Fixed};
-ghost use Rattle.opfs_desk_parts.specs.Acted.{HasActed, IsUnacted};
-ghost use Rattle.opfs_desk_parts.specs.Asked.{IsAsked, MayGo};
-ghost use Rattle.opfs_desk_parts.specs.Held.{AreHeldWhole};
-ghost use Rattle.opfs_desk_parts.specs.Seen.{machine_in, call_in};
+ghost use Rattle.opfs_desk_steps.specs.Parts.Acted.{HasActed, IsUnacted};
+ghost use Rattle.opfs_desk_steps.specs.Parts.Asked.{IsAsked, MayGo};
+ghost use Rattle.opfs_desk_steps.specs.Parts.Held.{AreHeldWhole};
+ghost use Rattle.opfs_desk_steps.specs.Parts.Seen.{machine_in, call_in};
 ghost use Rattle.opfs_desk_plain.specs.Telling.{TellsOnly, is_of_mode, mode_answer};
 ghost use Rattle.opfs_machine.specs.Agents.{agent_of};
 ghost use Rattle.opfs_machine.specs.Replies.{origin_in};
@@ -17,7 +17,7 @@ ghost use Rattle.opfs_state.specs.Verdicts.Callers.{IsAgent};
 
 use crate::telling::{tell, telling_laws};
 use opfs_base::{Text, unit_of};
-use opfs_desk_parts::{InHand, Parts};
+use opfs_desk_steps::{InHand, Parts};
 use opfs_hist::{Op, Pending, Reply};
 use opfs_outside::Disk;
 use opfs_state::State;

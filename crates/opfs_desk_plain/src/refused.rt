@@ -3,16 +3,14 @@
 ghost use Rattle.std.specs.Prelude.{◌≡◌, [], List};
 ghost use Rattle.opfs_base.specs.Texts.{Text};
 ghost use Rattle.opfs_books.specs.Laws.Books.{Fixed};
-ghost use Rattle.opfs_desk_parts.specs.Acted.{HasActed};
-ghost use Rattle.opfs_desk_parts.specs.Held.{AreHeldWhole};
+ghost use Rattle.opfs_desk_steps.specs.Parts.Acted.{HasActed};
+ghost use Rattle.opfs_desk_steps.specs.Parts.Held.{AreHeldWhole};
 ghost use Rattle.opfs_desk_plain.specs.Refused.{MayActRefused, IsRefusedCall};
 ghost use Rattle.opfs_records.specs.Replay.Built.{Built};
 ghost use Rattle.opfs_work.specs.Works.{WorkingCopy};
 
 use opfs_books::{Last, state_laws, the_books_show_their_images};
-use opfs_desk_parts::Parts;
-use opfs_desk_steps::calls_are_acted;
-use opfs_desk_ways::{refuse_call, take_in};
+use opfs_desk_steps::{Parts, calls_are_acted, refuse_call, take_in};
 use opfs_hist::{Entry, Op, Pending, Refusal, Reply, Room};
 use opfs_laws::histories::unread::reads_leave_the_state;
 use opfs_laws::lengths::bridge::{lengths_follow_each_call, local_calls_are_known_by_their_word};

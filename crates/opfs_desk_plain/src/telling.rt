@@ -7,12 +7,12 @@ ghost use Rattle.opfs_base.specs.Texts.{Text};
 ghost use Rattle.opfs_books.specs.Laws.Books.{Fixed};
 ghost use Rattle.opfs_books.specs.Laws.Laws.{BooksShowTheirImages};
 ghost use Rattle.opfs_pages.specs.HistoryLaws.Laws.{BlocksGoOn};
-ghost use Rattle.opfs_desk_parts.specs.Acted.{HasActed};
-ghost use Rattle.opfs_desk_parts.specs.Held.{AreHeldWhole};
-ghost use Rattle.opfs_desk_parts.specs.Seen.{call_in};
+ghost use Rattle.opfs_desk_steps.specs.Parts.Acted.{HasActed};
+ghost use Rattle.opfs_desk_steps.specs.Parts.Held.{AreHeldWhole};
+ghost use Rattle.opfs_desk_steps.specs.Parts.Seen.{call_in};
 ghost use Rattle.opfs_desk_plain.specs.Silent.{told_act};
 ghost use Rattle.opfs_desk_plain.specs.Telling.{IsTelling, MayTell};
-ghost use Rattle.opfs_desk_rows.specs.InHand.{RowsInHandAreLaid};
+ghost use Rattle.opfs_desk_steps.specs.RowLaws.InHand.{RowsInHandAreLaid};
 ghost use Rattle.opfs_desk_steps.specs.Acting.{CallsAreActed};
 ghost use Rattle.opfs_desk_steps.specs.Answering.{ReadyCallsAreAnswered};
 ghost use Rattle.opfs_desk_steps.specs.Ready.{AskedCallsAreReady};
@@ -23,12 +23,10 @@ ghost use Rattle.opfs_state.specs.Laws.Readied.{StaysReadyAsNoted};
 ghost use Rattle.opfs_work.specs.Works.{WorkingCopy};
 
 use opfs_books::the_books_show_their_images;
-use opfs_desk_parts::{InHand, Parts};
-use opfs_desk_rows::rows_in_hand_are_laid;
 use opfs_desk_steps::{
-    asked_calls_are_ready, calls_are_acted, ready_calls_are_answered, tell_in_hand,
+    InHand, Parts, asked_calls_are_ready, calls_are_acted, ready_calls_are_answered,
+    rows_in_hand_are_laid, take_in, tell_in_hand,
 };
-use opfs_desk_ways::take_in;
 use opfs_hist::{Pending, Reply};
 use opfs_laws::lengths::bridge::{
     lengths_decide_each_ruling, lengths_follow_each_call, local_calls_are_known_by_their_word,

@@ -2,15 +2,15 @@
 
 ghost use Rattle.std.specs.Prelude.{◌≡◌, [], true};
 ghost use Rattle.opfs_books.specs.Laws.Books.{Fixed};
-ghost use Rattle.opfs_desk_parts.specs.Acted.{HasActed};
-ghost use Rattle.opfs_desk_parts.specs.Asked.{IsAsked, MayGo};
-ghost use Rattle.opfs_desk_parts.specs.Held.{AreHeldWhole};
-ghost use Rattle.opfs_desk_parts.specs.Seen.{machine_in, call_in};
+ghost use Rattle.opfs_desk_steps.specs.Parts.Acted.{HasActed};
+ghost use Rattle.opfs_desk_steps.specs.Parts.Asked.{IsAsked, MayGo};
+ghost use Rattle.opfs_desk_steps.specs.Parts.Held.{AreHeldWhole};
+ghost use Rattle.opfs_desk_steps.specs.Parts.Seen.{machine_in, call_in};
 ghost use Rattle.opfs_desk_plain.specs.Telling.{TellsOnly, is_done};
 ghost use Rattle.opfs_records.specs.Replay.Built.{Built};
 
 use crate::telling::tell;
-use opfs_desk_parts::{InHand, Parts};
+use opfs_desk_steps::{InHand, Parts};
 use opfs_hist::{Pending, Reply};
 use opfs_outside::Disk;
 use opfs_store::{Acted, Gift};

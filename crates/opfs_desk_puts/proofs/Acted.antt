@@ -45,29 +45,29 @@ use Rattle.opfs_space.specs.Room.{Machine}
 use Rattle.opfs_laws.specs.Steady.Steady.{open_bytes}
 use Rattle.opfs_work.specs.Pages.{page_at, is_far}
 use Rattle.opfs_work.specs.Works.{WorkingCopy}
-use Rattle.opfs_desk_parts.specs.Acted.{HasActed, HasFailed, IsWay, IsWayNow, last_doubt}
-use Rattle.opfs_desk_parts.specs.Answered.{IsAnswered}
-use Rattle.opfs_desk_parts.specs.Asked.{IsAsked}
-use Rattle.opfs_desk_parts.specs.Held.{AreHeldWhole}
-use Rattle.opfs_desk_parts.specs.Seen.{machine_in, book_in, call_in, units_in}
-use Rattle.opfs_desk_parts.specs.declared.call.InHand.{InHand}
-use Rattle.opfs_desk_parts.specs.declared.parts.Ledger.{Ledger}
-use Rattle.opfs_desk_parts.specs.declared.parts.Pages.{Pages}
-use Rattle.opfs_desk_parts.specs.declared.parts.Parts.{Parts}
+use Rattle.opfs_desk_steps.specs.Parts.Acted.{HasActed, HasFailed, IsWay, IsWayNow, last_doubt}
+use Rattle.opfs_desk_steps.specs.Parts.Answered.{IsAnswered}
+use Rattle.opfs_desk_steps.specs.Parts.Asked.{IsAsked}
+use Rattle.opfs_desk_steps.specs.Parts.Held.{AreHeldWhole}
+use Rattle.opfs_desk_steps.specs.Parts.Seen.{machine_in, book_in, call_in, units_in}
+use Rattle.opfs_desk_steps.specs.declared.parts.call.InHand.{InHand}
+use Rattle.opfs_desk_steps.specs.declared.parts.parts.Ledger.{Ledger}
+use Rattle.opfs_desk_steps.specs.declared.parts.parts.Pages.{Pages}
+use Rattle.opfs_desk_steps.specs.declared.parts.parts.Parts.{Parts}
 use Rattle.opfs_desk_reads.specs.Reading.{BeginsRead}
 use Rattle.opfs_desk_reads.proofs.Synced.{handed}
-use Rattle.opfs_desk_rows.specs.InHand.{RowsInHandAreLaid}
-use Rattle.opfs_desk_rows.specs.Inside.{PartsLieInside}
-use Rattle.opfs_desk_rows.specs.Puts.{PutsHaveRoom, puts_row, size_put}
+use Rattle.opfs_desk_steps.specs.RowLaws.InHand.{RowsInHandAreLaid}
+use Rattle.opfs_desk_steps.specs.RowLaws.Inside.{PartsLieInside}
+use Rattle.opfs_desk_steps.specs.RowLaws.Puts.{PutsHaveRoom, puts_row, size_put}
 use Rattle.opfs_desk_steps.specs.Acting.{CallsAreActed, HasAdded}
 use Rattle.opfs_desk_steps.specs.Answering.{ReadyCallsAreAnswered}
 use Rattle.opfs_desk_steps.specs.Ready.{AskedCallsAreReady}
 use Rattle.opfs_desk_steps.proofs.Counts.{own-length}
 use Rattle.opfs_desk_steps.proofs.Numbers.{agent-stays}
-use Rattle.opfs_desk_ways.proofs.Held.{evictions-told, refused-told}
-use Rattle.opfs_desk_ways.proofs.Loop.{Falls}
-use Rattle.opfs_desk_ways.proofs.Turns.{may-fail}
-use Rattle.opfs_desk_ways.proofs.Ways.{way-same, way-then, way-told}
+use Rattle.opfs_desk_steps.proofs.book_steps.Held.{evictions-told, refused-told}
+use Rattle.opfs_desk_steps.proofs.book_steps.Loop.{Falls}
+use Rattle.opfs_desk_steps.proofs.book_steps.Turns.{may-fail}
+use Rattle.opfs_desk_steps.proofs.book_steps.Ways.{way-same, way-then, way-told}
 use Rattle.opfs_desk_puts.specs.Plans.{HasClearedWay, HasTakenIn, IsPlan, IsTargetOf}
 use Rattle.opfs_desk_puts.specs.Leaving.{IsCut, IsWritten}
 use Rattle.opfs_desk_puts.specs.Putting.{AreGottenIn, IsToPut, IsUsed}

@@ -44,16 +44,16 @@ use Rattle.opfs_state_rows.specs.Standing.Seen.{lines_of}
 use Rattle.opfs_laws.specs.Steady.Steady.{open_bytes, row_bytes}
 use Rattle.opfs_tree.specs.Rows.{Rows as Tree}
 use Rattle.opfs_work.specs.Works.{WorkingCopy}
-use Rattle.opfs_desk_parts.specs.Answered.{IsAnswered}
-use Rattle.opfs_desk_parts.specs.Seen.{machine_in, tree_in, call_in, units_in}
-use Rattle.opfs_desk_parts.specs.declared.call.InHand.{InHand}
-use Rattle.opfs_desk_parts.specs.declared.parts.Ledger.{Ledger}
-use Rattle.opfs_desk_parts.specs.declared.parts.Pages.{Pages}
-use Rattle.opfs_desk_parts.specs.declared.parts.Parts.{Parts}
+use Rattle.opfs_desk_steps.specs.Parts.Answered.{IsAnswered}
+use Rattle.opfs_desk_steps.specs.Parts.Seen.{machine_in, tree_in, call_in, units_in}
+use Rattle.opfs_desk_steps.specs.declared.parts.call.InHand.{InHand}
+use Rattle.opfs_desk_steps.specs.declared.parts.parts.Ledger.{Ledger}
+use Rattle.opfs_desk_steps.specs.declared.parts.parts.Pages.{Pages}
+use Rattle.opfs_desk_steps.specs.declared.parts.parts.Parts.{Parts}
 use Rattle.opfs_desk_reads.specs.Reading.{BeginsRead}
 use Rattle.opfs_desk_reads.proofs.Synced.{handed}
-use Rattle.opfs_desk_rows.specs.Inside.{PartsLieInside}
-use Rattle.opfs_desk_rows.specs.Puts.{PutsHaveRoom, puts_row, size_put}
+use Rattle.opfs_desk_steps.specs.RowLaws.Inside.{PartsLieInside}
+use Rattle.opfs_desk_steps.specs.RowLaws.Puts.{PutsHaveRoom, puts_row, size_put}
 use Rattle.opfs_desk_steps.specs.Answering.{ReadyCallsAreAnswered, IsReply}
 use Rattle.opfs_desk_steps.specs.Ready.{AskedCallsAreReady, IsReadyCall}
 use Rattle.opfs_desk_steps.proofs.Numbers.{agent-stays}

@@ -21,13 +21,13 @@ use Rattle.opfs_register.specs.Slots.{most_rows}
 use Rattle.opfs_books.specs.Sharing.Serving.{MayApplyTo}
 use Rattle.opfs_state.specs.Applied.{StateSeen, IsPrepared}
 use Rattle.opfs_state.specs.Verdicts.Callers.{IsAgent}
-use Rattle.opfs_desk_parts.specs.Answered.{IsAnswered, MayChange}
-use Rattle.opfs_desk_parts.specs.Held.{AreHeldWhole}
-use Rattle.opfs_desk_parts.specs.Seen.{machine_in, book_in}
-use Rattle.opfs_desk_parts.specs.declared.parts.Ledger.{Ledger}
-use Rattle.opfs_desk_parts.specs.declared.parts.Parts.{Parts}
-use Rattle.opfs_desk_ways.specs.Refusing.{IsRefused, MayRefuse}
-use Rattle.opfs_desk_ways.proofs.Entries.{entries-few}
+use Rattle.opfs_desk_steps.specs.Parts.Answered.{IsAnswered, MayChange}
+use Rattle.opfs_desk_steps.specs.Parts.Held.{AreHeldWhole}
+use Rattle.opfs_desk_steps.specs.Parts.Seen.{machine_in, book_in}
+use Rattle.opfs_desk_steps.specs.declared.parts.parts.Ledger.{Ledger}
+use Rattle.opfs_desk_steps.specs.declared.parts.parts.Parts.{Parts}
+use Rattle.opfs_desk_steps.specs.BookSteps.Refusing.{IsRefused, MayRefuse}
+use Rattle.opfs_desk_steps.proofs.book_steps.Entries.{entries-few}
 use Rattle.opfs_desk_puts.specs.Putting.{HasNotPut}
 use Rattle.opfs_desk_puts.specs.Steps.{HasNotEntered}
 

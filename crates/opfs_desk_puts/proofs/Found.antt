@@ -13,7 +13,7 @@ use Rattle.opfs_data.specs.Rows.{Rows}
 use Rattle.opfs_data.specs.Writes.{HasBytes, WriteList, page_moves}
 use Rattle.opfs_pages.specs.HistoryLaws.Spaced.{AreSpaced}
 use Rattle.opfs_pages.proofs.history_laws.Holding.{holders_of, are-holders, spaced-blocks}
-use Rattle.opfs_desk_rows.specs.Puts.{TreesNameStoredBlocks}
+use Rattle.opfs_desk_steps.specs.RowLaws.Puts.{TreesNameStoredBlocks}
 use Rattle.opfs_image.specs.Superblock.{areas_of}
 use Rattle.opfs_journal.specs.declared.areas.Areas.{Areas}
 use Rattle.opfs_machine.specs.declared.own.Own.{Own}
@@ -29,14 +29,14 @@ use Rattle.opfs_space.specs.Spaces.{SpaceSeen}
 use Rattle.opfs_state_rows.specs.Standing.Seen.{lines_of}
 use Rattle.opfs_state.specs.Applied.{StateSeen}
 use Rattle.opfs_tree.specs.Rows.{Rows as Tree}
-use Rattle.opfs_desk_parts.specs.Held.{AreHeldAt}
-use Rattle.opfs_desk_parts.specs.Seen.{machine_in, tree_in, book_in}
-use Rattle.opfs_desk_parts.specs.declared.parts.Ledger.{Ledger}
-use Rattle.opfs_desk_parts.specs.declared.parts.Parts.{Parts}
-use Rattle.opfs_desk_ways.proofs.Evictions.{stored-named}
-use Rattle.opfs_desk_ways.proofs.Held.{behind}
+use Rattle.opfs_desk_steps.specs.Parts.Held.{AreHeldAt}
+use Rattle.opfs_desk_steps.specs.Parts.Seen.{machine_in, tree_in, book_in}
+use Rattle.opfs_desk_steps.specs.declared.parts.parts.Ledger.{Ledger}
+use Rattle.opfs_desk_steps.specs.declared.parts.parts.Parts.{Parts}
+use Rattle.opfs_desk_steps.proofs.book_steps.Evictions.{stored-named}
+use Rattle.opfs_desk_steps.proofs.book_steps.Held.{behind}
 use Rattle.opfs_desk_puts.specs.Putting.{IsToPut, IsUsed, AreGottenIn, HasFound, HasRoomFor}
-use Rattle.opfs_desk_ways.proofs.Leaves.{leaves-here}
+use Rattle.opfs_desk_steps.proofs.book_steps.Leaves.{leaves-here}
 use Rattle.opfs_desk_puts.proofs.Used.{used-here, page-alike, ready-alike}
 
 -- ---- where blocks lie

@@ -35,22 +35,22 @@ use Rattle.opfs_state.specs.Applied.{StateSeen}
 use Rattle.opfs_laws.specs.Steady.Steady.{row_bytes}
 use Rattle.opfs_tree.specs.Rows.{Rows as Tree}
 use Rattle.opfs_work.specs.Works.{WorkingCopy}
-use Rattle.opfs_desk_parts.specs.Acted.{HasActed}
-use Rattle.opfs_desk_parts.specs.Asked.{IsAsked}
-use Rattle.opfs_desk_parts.specs.Held.{AreHeldAt, AreHeldWhole}
-use Rattle.opfs_desk_parts.specs.Seen.{machine_in, tree_in}
-use Rattle.opfs_desk_parts.specs.declared.call.InHand.{InHand}
-use Rattle.opfs_desk_parts.specs.declared.parts.Ledger.{Ledger}
-use Rattle.opfs_desk_parts.specs.declared.parts.Pages.{Pages}
-use Rattle.opfs_desk_parts.specs.declared.parts.Parts.{Parts}
+use Rattle.opfs_desk_steps.specs.Parts.Acted.{HasActed}
+use Rattle.opfs_desk_steps.specs.Parts.Asked.{IsAsked}
+use Rattle.opfs_desk_steps.specs.Parts.Held.{AreHeldAt, AreHeldWhole}
+use Rattle.opfs_desk_steps.specs.Parts.Seen.{machine_in, tree_in}
+use Rattle.opfs_desk_steps.specs.declared.parts.call.InHand.{InHand}
+use Rattle.opfs_desk_steps.specs.declared.parts.parts.Ledger.{Ledger}
+use Rattle.opfs_desk_steps.specs.declared.parts.parts.Pages.{Pages}
+use Rattle.opfs_desk_steps.specs.declared.parts.parts.Parts.{Parts}
 use Rattle.opfs_store.specs.declared.acts.acted.Acted.{Acted}
 use Rattle.opfs_machine.specs.Runs.{Call}
-use Rattle.opfs_desk_rows.specs.Copied.{CopiesAreStored, IsStoredCopy}
+use Rattle.opfs_desk_steps.specs.RowLaws.Copied.{CopiesAreStored, IsStoredCopy}
 use Rattle.opfs_desk_reads.proofs.Readied.{read-held}
 use Rattle.opfs_desk_reads.proofs.Synced.{handed}
-use Rattle.opfs_desk_rows.specs.Inside.{PartsLieInside}
-use Rattle.opfs_desk_rows.specs.Puts.{puts_row, size_put}
-use Rattle.opfs_desk_ways.proofs.LaidStays.{LaidBeside}
+use Rattle.opfs_desk_steps.specs.RowLaws.Inside.{PartsLieInside}
+use Rattle.opfs_desk_steps.specs.RowLaws.Puts.{puts_row, size_put}
+use Rattle.opfs_desk_steps.proofs.book_steps.LaidStays.{LaidBeside}
 use Rattle.opfs_desk_puts.specs.Plans.{IsPlan, IsTargetOf}
 use Rattle.opfs_desk_puts.specs.Steps.{IsPlannedOf}
 use Rattle.opfs_desk_puts.specs.Words.{bytes_put, place_put, position_put, text_put}

@@ -62,16 +62,16 @@ use Rattle.opfs_tree.specs.declared.row.FileRow.{FileRow}
 use Rattle.opfs_tree.specs.Rows.{Rows as Tree}
 use Rattle.opfs_work.specs.Works.{WorkingCopy}
 use Rattle.opfs_work.proofs.Laws.{length-resize}
-use Rattle.opfs_desk_parts.specs.Answered.{IsAnswered}
-use Rattle.opfs_desk_parts.specs.Held.{AreHeldWhole, AreTied}
-use Rattle.opfs_desk_parts.specs.Seen.{machine_in, tree_in, book_in}
-use Rattle.opfs_desk_parts.specs.declared.parts.Ledger.{Ledger}
-use Rattle.opfs_desk_parts.specs.declared.parts.Pages.{Pages}
-use Rattle.opfs_desk_parts.specs.declared.parts.Parts.{Parts}
-use Rattle.opfs_desk_rows.specs.InHand.{HasPages, RowsInHandAreLaid}
-use Rattle.opfs_desk_rows.specs.Puts.{puts_row, size_put}
-use Rattle.opfs_desk_ways.proofs.Fresh.{told-fresh}
-use Rattle.opfs_desk_ways.proofs.Held.{tied-same}
+use Rattle.opfs_desk_steps.specs.Parts.Answered.{IsAnswered}
+use Rattle.opfs_desk_steps.specs.Parts.Held.{AreHeldWhole, AreTied}
+use Rattle.opfs_desk_steps.specs.Parts.Seen.{machine_in, tree_in, book_in}
+use Rattle.opfs_desk_steps.specs.declared.parts.parts.Ledger.{Ledger}
+use Rattle.opfs_desk_steps.specs.declared.parts.parts.Pages.{Pages}
+use Rattle.opfs_desk_steps.specs.declared.parts.parts.Parts.{Parts}
+use Rattle.opfs_desk_steps.specs.RowLaws.InHand.{HasPages, RowsInHandAreLaid}
+use Rattle.opfs_desk_steps.specs.RowLaws.Puts.{puts_row, size_put}
+use Rattle.opfs_desk_steps.proofs.book_steps.Fresh.{told-fresh}
+use Rattle.opfs_desk_steps.proofs.book_steps.Held.{tied-same}
 use Rattle.opfs_desk_puts.specs.Putting.{HasFound, HasWritten}
 use Rattle.opfs_desk_puts.specs.Steps.{HasEntered, HasTold}
 use Rattle.opfs_desk_puts.specs.Words.{bytes_put, change_put, place_put, position_put, text_put}

@@ -10,8 +10,8 @@ use Rattle.opfs_pages.specs.HistoryLaws.Open.{if_open, open_at, file_in, reserve
 use Rattle.opfs_pages.specs.HistoryLaws.RowsAfter.{CallsChangeTheirRow, IsDone}
 use Rattle.opfs_pages.specs.HistoryLaws.Shelves.{KeepsOpen}
 use Rattle.opfs_pages.proofs.history_laws.Leaving.{open-is}
-use Rattle.opfs_desk_rows.specs.InHand.{HasInHand}
-use Rattle.opfs_desk_rows.specs.Puts.{puts_row, size_put}
+use Rattle.opfs_desk_steps.specs.RowLaws.InHand.{HasInHand}
+use Rattle.opfs_desk_steps.specs.RowLaws.Puts.{puts_row, size_put}
 use Rattle.opfs_hist.specs.declared.entry.Entry.{Entry}
 use Rattle.opfs_hist.specs.declared.op.Op.{Op}
 use Rattle.opfs_hist.specs.declared.op.Op.TheVariants as op

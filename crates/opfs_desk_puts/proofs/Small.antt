@@ -26,18 +26,18 @@ use Rattle.opfs_space.specs.Room.{Machine, HasRoom}
 use Rattle.opfs_space.proofs.Others.{others_fewer}
 use Rattle.opfs_state.specs.Laws.Room.{EvictionsMakeRoom, HasRoom as HasRoomAfter}
 use Rattle.opfs_work.specs.Works.{WorkingCopy}
-use Rattle.opfs_desk_parts.specs.Acted.{IsUnacted}
-use Rattle.opfs_desk_parts.specs.Asked.{IsAsked}
-use Rattle.opfs_desk_parts.specs.Held.{AreHeldWhole}
-use Rattle.opfs_desk_parts.specs.Seen.{book_in, units_in}
-use Rattle.opfs_desk_parts.specs.declared.call.InHand.{InHand}
-use Rattle.opfs_desk_parts.specs.declared.parts.Ledger.{Ledger}
-use Rattle.opfs_desk_parts.specs.declared.parts.Pages.{Pages}
-use Rattle.opfs_desk_parts.specs.declared.parts.Parts.{Parts}
-use Rattle.opfs_desk_rows.specs.Inside.{PartsLieInside}
-use Rattle.opfs_desk_rows.specs.Puts.{HasRoomForRow, PutsHaveRoom, puts_row, size_put}
-use Rattle.opfs_desk_ways.proofs.Ways.{way-here}
-use Rattle.opfs_desk_ways.proofs.Real.{real, real-legal, real-state, has-room}
+use Rattle.opfs_desk_steps.specs.Parts.Acted.{IsUnacted}
+use Rattle.opfs_desk_steps.specs.Parts.Asked.{IsAsked}
+use Rattle.opfs_desk_steps.specs.Parts.Held.{AreHeldWhole}
+use Rattle.opfs_desk_steps.specs.Parts.Seen.{book_in, units_in}
+use Rattle.opfs_desk_steps.specs.declared.parts.call.InHand.{InHand}
+use Rattle.opfs_desk_steps.specs.declared.parts.parts.Ledger.{Ledger}
+use Rattle.opfs_desk_steps.specs.declared.parts.parts.Pages.{Pages}
+use Rattle.opfs_desk_steps.specs.declared.parts.parts.Parts.{Parts}
+use Rattle.opfs_desk_steps.specs.RowLaws.Inside.{PartsLieInside}
+use Rattle.opfs_desk_steps.specs.RowLaws.Puts.{HasRoomForRow, PutsHaveRoom, puts_row, size_put}
+use Rattle.opfs_desk_steps.proofs.book_steps.Ways.{way-here}
+use Rattle.opfs_desk_steps.proofs.book_steps.Real.{real, real-legal, real-state, has-room}
 
 one-of : (a b : Bool) → (a || b) ≡ true → (a ≡ true) ⊎ (b ≡ true)
 one-of true b is = inl refl

@@ -38,8 +38,8 @@ use Rattle.opfs_tree.specs.Rows.{Rows as Tree, row_at, without}
 use Rattle.opfs_pages.specs.HistoryLaws.Open.{if_open, open_at, file_in}
 use Rattle.opfs_pages.specs.HistoryLaws.Spaced.{AreSpaced}
 use Rattle.opfs_pages.proofs.history_laws.Holding.{holders_of, are-holders, spaced-blocks}
-use Rattle.opfs_desk_ways.specs.Clearing.{cleared_from}
-use Rattle.opfs_desk_rows.proofs.Opens.{file-back}
+use Rattle.opfs_desk_steps.specs.BookSteps.Clearing.{cleared_from}
+use Rattle.opfs_desk_steps.proofs.row_laws.Opens.{file-back}
 
 -- ---- rows of trees, and of machines
 

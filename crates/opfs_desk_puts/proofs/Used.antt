@@ -22,10 +22,10 @@ use Rattle.opfs_outside.specs.Windows.{same_window}
 use Rattle.opfs_outside.specs.declared.disk.Disk.{Ghosts as DiskWords}
 use Rattle.opfs_pages.specs.Writing.Puts.{IsReady}
 use Rattle.opfs_records.specs.Replay.Built.{Built}
-use Rattle.opfs_desk_parts.specs.Seen.{book_in}
-use Rattle.opfs_desk_parts.specs.declared.parts.Ledger.{Ledger}
-use Rattle.opfs_desk_ways.proofs.Leaves.{elapses-here}
-use Rattle.opfs_desk_ways.proofs.Loop.{Falls}
+use Rattle.opfs_desk_steps.specs.Parts.Seen.{book_in}
+use Rattle.opfs_desk_steps.specs.declared.parts.parts.Ledger.{Ledger}
+use Rattle.opfs_desk_steps.proofs.book_steps.Leaves.{elapses-here}
+use Rattle.opfs_desk_steps.proofs.book_steps.Loop.{Falls}
 use Rattle.opfs_desk_puts.specs.Putting.{IsUsed}
 
 -- ---- what the images show

@@ -10,7 +10,7 @@ use Rattle.opfs_state_rows.specs.Changes.Allowed.{IsSized}
 use Rattle.opfs_state_rows.specs.Changes.Asking.{made_at}
 use Rattle.opfs_state_rows.specs.Changes.Changed.{freed_in}
 use Rattle.opfs_pages.specs.HistoryLaws.Hands.{row_in_hand}
-use Rattle.opfs_desk_rows.specs.Puts.{puts_row, size_put}
+use Rattle.opfs_desk_steps.specs.RowLaws.Puts.{puts_row, size_put}
 use Rattle.opfs_desk_puts.specs.Words.{bytes_put, place_put, position_put, reply_put, writes_bytes}
 use Rattle.opfs_hist.specs.Sums.{asks_for_row}
 use Rattle.opfs_hist.specs.declared.op.Op.{Op}

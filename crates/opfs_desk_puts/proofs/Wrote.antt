@@ -36,12 +36,12 @@ use Rattle.opfs_pages.proofs.row_calls.Placing.{left-spaced}
 use Rattle.opfs_space.specs.Holders.{AreBlocks, Writes}
 use Rattle.opfs_space.specs.Room.{Machine}
 use Rattle.opfs_space.proofs.Others.{member_left, member_right}
-use Rattle.opfs_desk_parts.specs.Held.{AreTied}
-use Rattle.opfs_desk_parts.specs.Seen.{machine_in, tree_in, book_in}
-use Rattle.opfs_desk_parts.specs.declared.parts.Ledger.{Ledger}
-use Rattle.opfs_desk_parts.specs.declared.parts.Parts.{Parts}
-use Rattle.opfs_desk_ways.proofs.Held.{tied-later}
-use Rattle.opfs_desk_ways.proofs.LaidStays.{LaidBeside}
+use Rattle.opfs_desk_steps.specs.Parts.Held.{AreTied}
+use Rattle.opfs_desk_steps.specs.Parts.Seen.{machine_in, tree_in, book_in}
+use Rattle.opfs_desk_steps.specs.declared.parts.parts.Ledger.{Ledger}
+use Rattle.opfs_desk_steps.specs.declared.parts.parts.Parts.{Parts}
+use Rattle.opfs_desk_steps.proofs.book_steps.Held.{tied-later}
+use Rattle.opfs_desk_steps.proofs.book_steps.LaidStays.{LaidBeside}
 use Rattle.opfs_desk_puts.specs.Putting.{IsToPut, HaveBlocksIn, HasNotPut, HasWritten, IsUsed}
 
 -- ---- blocks that no record names

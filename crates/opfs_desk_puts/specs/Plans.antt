@@ -3,7 +3,7 @@ use Rattle.std.specs.Prelude.{◌≡◌, ℕ, ◌/◌, ◌%◌, ◌^◌, ◌<◌
 use Rattle.opfs_base.specs.Blocks.{blocks}
 use Rattle.opfs_books.specs.Laws.Books.{Fixed}
 use Rattle.opfs_books.specs.Laws.Laws.{LeavesPages}
-use Rattle.opfs_desk_rows.specs.Puts.{size_put}
+use Rattle.opfs_desk_steps.specs.RowLaws.Puts.{size_put}
 use Rattle.opfs_hist.specs.declared.entry.Entry.{Entry}
 use Rattle.opfs_hist.specs.declared.op.Op.{Op}
 use Rattle.opfs_machine.specs.declared.state.Sizes.{Sizes}
@@ -15,15 +15,15 @@ use Rattle.opfs_records.specs.Replay.Built.{Built}
 use Rattle.opfs_state_rows.specs.Standing.Seen.{lines_of}
 use Rattle.opfs_state.specs.Applied.{IsPrepared}
 use Rattle.opfs_work.specs.Works.{WorkingCopy}
-use Rattle.opfs_desk_parts.specs.Acted.{AreCleared}
-use Rattle.opfs_desk_parts.specs.Held.{AreHeldWhole}
-use Rattle.opfs_desk_parts.specs.Seen.{machine_in, tree_in, units_in}
-use Rattle.opfs_desk_parts.specs.declared.call.InHand.{InHand}
-use Rattle.opfs_desk_parts.specs.declared.parts.Ledger.{Ledger}
-use Rattle.opfs_desk_parts.specs.declared.parts.Pages.{Pages}
-use Rattle.opfs_desk_parts.specs.declared.parts.Parts.{Parts}
+use Rattle.opfs_desk_steps.specs.Parts.Acted.{AreCleared}
+use Rattle.opfs_desk_steps.specs.Parts.Held.{AreHeldWhole}
+use Rattle.opfs_desk_steps.specs.Parts.Seen.{machine_in, tree_in, units_in}
+use Rattle.opfs_desk_steps.specs.declared.parts.call.InHand.{InHand}
+use Rattle.opfs_desk_steps.specs.declared.parts.parts.Ledger.{Ledger}
+use Rattle.opfs_desk_steps.specs.declared.parts.parts.Pages.{Pages}
+use Rattle.opfs_desk_steps.specs.declared.parts.parts.Parts.{Parts}
 use Rattle.opfs_desk_steps.specs.Acting.{HasTaken}
-use Rattle.opfs_desk_ways.specs.Clearing.{cleared_from}
+use Rattle.opfs_desk_steps.specs.BookSteps.Clearing.{cleared_from}
 use Rattle.opfs_desk_puts.specs.Steps.{IsPlanned}
 use Rattle.opfs_desk_puts.specs.Words.{bytes_put, counts_bytes, place_put, position_put, writes_bytes}
 use Rattle.opfs_desk_puts.specs.declared.target.Target.{Target}

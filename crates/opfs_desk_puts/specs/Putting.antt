@@ -16,10 +16,10 @@ use Rattle.opfs_records.specs.Replay.Built.{Built}
 use Rattle.opfs_pages.specs.RowCalls.Plans.{shelf, AreGotten, HaveBlocks}
 use Rattle.opfs_space.specs.Room.{Machine, HasRoom}
 use Rattle.opfs_state_rows.specs.Standing.Seen.{lines_of}
-use Rattle.opfs_desk_parts.specs.Held.{AreTied, AreHeldAt}
-use Rattle.opfs_desk_parts.specs.Seen.{machine_in, tree_in, book_in}
-use Rattle.opfs_desk_parts.specs.declared.parts.Ledger.{Ledger}
-use Rattle.opfs_desk_parts.specs.declared.parts.Parts.{Parts}
+use Rattle.opfs_desk_steps.specs.Parts.Held.{AreTied, AreHeldAt}
+use Rattle.opfs_desk_steps.specs.Parts.Seen.{machine_in, tree_in, book_in}
+use Rattle.opfs_desk_steps.specs.declared.parts.parts.Ledger.{Ledger}
+use Rattle.opfs_desk_steps.specs.declared.parts.parts.Parts.{Parts}
 
 -- Blocks are kept for so many pages of a row, and the pool has room for them.
 pub record HasRoomFor (m : Machine) (agent row pages : ℕ) : Type 0 where

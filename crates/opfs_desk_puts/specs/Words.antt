@@ -1,7 +1,7 @@
 -- A call that writes bytes into an open row, or gives it a size: where the bytes go, and what it leaves. This project's own.
 use Rattle.std.specs.Prelude.{ℕ, ◌+◌, min, Bool, true, false, [], length}
 use Rattle.opfs_base.specs.Texts.{Text}
-use Rattle.opfs_desk_rows.specs.Puts.{size_put}
+use Rattle.opfs_desk_steps.specs.RowLaws.Puts.{size_put}
 use Rattle.opfs_hist.specs.declared.op.Op.{Op}
 use Rattle.opfs_hist.specs.declared.op.Op.TheVariants as op
 use Rattle.opfs_hist.specs.declared.reply.Reply.{Reply}

@@ -5,16 +5,16 @@ ghost use Rattle.opfs_books.specs.Stored.Laws.{CallsAreSpelled};
 ghost use Rattle.opfs_books.specs.Laws.Books.{Fixed};
 ghost use Rattle.opfs_pages.specs.HistoryLaws.Laws.{BlocksGoOn, CallsLeaveOtherRows, TreesKeepBlocks};
 ghost use Rattle.opfs_pages.specs.HistoryLaws.RowsAfter.{CallsChangeTheirRow};
-ghost use Rattle.opfs_desk_parts.specs.Acted.{HasActed};
-ghost use Rattle.opfs_desk_parts.specs.Asked.{IsAsked, MayGo};
-ghost use Rattle.opfs_desk_parts.specs.Held.{AreHeldWhole};
-ghost use Rattle.opfs_desk_parts.specs.Seen.{call_in};
+ghost use Rattle.opfs_desk_steps.specs.Parts.Acted.{HasActed};
+ghost use Rattle.opfs_desk_steps.specs.Parts.Asked.{IsAsked, MayGo};
+ghost use Rattle.opfs_desk_steps.specs.Parts.Held.{AreHeldWhole};
+ghost use Rattle.opfs_desk_steps.specs.Parts.Seen.{call_in};
 ghost use Rattle.opfs_desk_puts.specs.Plans.{IsPlan};
 ghost use Rattle.opfs_desk_puts.specs.Steps.{IsPlannedFor};
 ghost use Rattle.opfs_desk_puts.specs.Words.{bytes_put};
-ghost use Rattle.opfs_desk_rows.specs.InHand.{RowsInHandAreLaid};
-ghost use Rattle.opfs_desk_rows.specs.Inside.{PartsLieInside};
-ghost use Rattle.opfs_desk_rows.specs.Puts.{PutsHaveRoom, puts_row};
+ghost use Rattle.opfs_desk_steps.specs.RowLaws.InHand.{RowsInHandAreLaid};
+ghost use Rattle.opfs_desk_steps.specs.RowLaws.Inside.{PartsLieInside};
+ghost use Rattle.opfs_desk_steps.specs.RowLaws.Puts.{PutsHaveRoom, puts_row};
 ghost use Rattle.opfs_desk_steps.specs.Acting.{CallsAreActed, failed_act};
 ghost use Rattle.opfs_desk_steps.specs.Answering.{ReadyCallsAreAnswered};
 ghost use Rattle.opfs_desk_steps.specs.Ready.{AskedCallsAreReady};
@@ -25,12 +25,10 @@ use crate::entering::enter_put;
 use crate::leaving::leave_put;
 use crate::target::Target;
 use opfs_books::calls_are_spelled;
-use opfs_desk_parts::{InHand, Parts};
-use opfs_desk_rows::{parts_lie_inside, puts_have_room, rows_in_hand_are_laid};
 use opfs_desk_steps::{
-    asked_calls_are_ready, calls_are_acted, clear_way, ready_calls_are_answered,
+    InHand, Parts, asked_calls_are_ready, calls_are_acted, clear_way, parts_lie_inside,
+    puts_have_room, ready_calls_are_answered, rows_in_hand_are_laid, take_in,
 };
-use opfs_desk_ways::take_in;
 use opfs_hist::{Pending, Refusal, Reply};
 use opfs_outside::Disk;
 use opfs_pages::{

@@ -4,11 +4,11 @@ ghost use Rattle.std.specs.Prelude.{◌≡◌, true, false, [], List, OnOk, OnEr
 ghost use Rattle.opfs_base.specs.Texts.{Text};
 ghost use Rattle.opfs_books.specs.Laws.Books.{Fixed, AreBooksAt};
 ghost use Rattle.opfs_books.specs.Laws.Laws.{failed};
-ghost use Rattle.opfs_desk_parts.specs.Answered.{IsAnswered};
-ghost use Rattle.opfs_desk_parts.specs.Seen.{book_in};
+ghost use Rattle.opfs_desk_steps.specs.Parts.Answered.{IsAnswered};
+ghost use Rattle.opfs_desk_steps.specs.Parts.Seen.{book_in};
 ghost use Rattle.opfs_desk_puts.specs.Putting.{IsToPut, AreGottenIn};
 ghost use Rattle.opfs_desk_puts.specs.Steps.{MayTell, HasTold, MayEnter, HasEntered, HasNotEntered};
-ghost use Rattle.opfs_desk_rows.specs.Puts.{puts_row};
+ghost use Rattle.opfs_desk_steps.specs.RowLaws.Puts.{puts_row};
 ghost use Rattle.opfs_machine.specs.declared.own.Own.{Own};
 ghost use Rattle.opfs_machine.specs.declared.state.State.{State};
 ghost use Rattle.opfs_machine.specs.Histories.{IsCall};
@@ -17,8 +17,7 @@ ghost use Rattle.opfs_records.specs.Replay.Built.{Built};
 
 use crate::putting::put_pages;
 use opfs_books::{Entering, Last, a_fault_is_counted, the_state_is_kept};
-use opfs_desk_parts::{Ledger, Parts};
-use opfs_desk_ways::fail_call;
+use opfs_desk_steps::{Ledger, Parts, fail_call};
 use opfs_journal::DiskFault;
 use opfs_machine::Sizes;
 use opfs_outside::Disk;

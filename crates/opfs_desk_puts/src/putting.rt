@@ -9,9 +9,7 @@ ghost use Rattle.opfs_machine.specs.declared.state.State.{State};
 ghost use Rattle.opfs_records.specs.Replay.Built.{Built};
 
 use opfs_books::{pages_beside_leave_the_books, the_books_show_their_images};
-use opfs_desk_parts::Parts;
-use opfs_desk_rows::puts_have_room;
-use opfs_desk_ways::commit_kept;
+use opfs_desk_steps::{Parts, commit_kept, puts_have_room};
 use opfs_journal::DiskFault;
 use opfs_outside::Disk;
 use opfs_pages::{Put, find_blocks, what_is_laid_goes_on};

@@ -2,7 +2,7 @@
 
 ghost use Rattle.std.specs.Prelude.{◌≡◌, ◌+◌, ◌^◌, ◌<◌, min, true, false, length, replicate, IfOk};
 ghost use Rattle.opfs_desk_puts.specs.Words.{bytes_put, place_put, position_put, writes_bytes, counts_bytes};
-ghost use Rattle.opfs_desk_rows.specs.Puts.{puts_row, size_put};
+ghost use Rattle.opfs_desk_steps.specs.RowLaws.Puts.{puts_row, size_put};
 ghost use Rattle.opfs_machine.specs.Replies.{row_named};
 ghost use Rattle.opfs_machine.specs.Rulings.{start_of, size_written};
 

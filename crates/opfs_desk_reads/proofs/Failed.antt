@@ -4,11 +4,11 @@ use Rattle.opfs_store.specs.Acts.Acting.{told_entry}
 use Rattle.opfs_base.specs.Texts.{Text}
 use Rattle.opfs_books.specs.Laws.Books.{Fixed}
 use Rattle.opfs_books.specs.Laws.Laws.{failed}
-use Rattle.opfs_desk_parts.specs.Acted.{HasFailed}
-use Rattle.opfs_desk_parts.specs.Seen.{call_in}
-use Rattle.opfs_desk_parts.specs.declared.call.InHand.{InHand}
-use Rattle.opfs_desk_parts.specs.declared.parts.Ledger.{Ledger}
-use Rattle.opfs_desk_parts.specs.declared.parts.Pages.{Pages}
+use Rattle.opfs_desk_steps.specs.Parts.Acted.{HasFailed}
+use Rattle.opfs_desk_steps.specs.Parts.Seen.{call_in}
+use Rattle.opfs_desk_steps.specs.declared.parts.call.InHand.{InHand}
+use Rattle.opfs_desk_steps.specs.declared.parts.parts.Ledger.{Ledger}
+use Rattle.opfs_desk_steps.specs.declared.parts.parts.Pages.{Pages}
 use Rattle.opfs_desk_reads.proofs.Faulted.{own-refused}
 use Rattle.opfs_desk_steps.proofs.Numbers.{agent-stays}
 use Rattle.opfs_hist.specs.declared.entry.Entry.{Entry}

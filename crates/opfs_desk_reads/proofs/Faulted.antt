@@ -9,22 +9,22 @@ use Rattle.opfs_books.specs.Laws.Books.{Fixed, IsNext}
 use Rattle.opfs_books.specs.Laws.Laws.{BooksShowTheirImages, FaultsAreCounted, ReadsKeepTheBooks, failed, told}
 use Rattle.opfs_books.proofs.laws.Told.{next-state, next-reply}
 use Rattle.opfs_books.specs.declared.books.Books.{Books}
-use Rattle.opfs_desk_parts.specs.Acted.{HasActed, last_doubt}
-use Rattle.opfs_desk_parts.specs.Asked.{IsAsked}
-use Rattle.opfs_desk_parts.specs.Held.{AreHeldWhole}
-use Rattle.opfs_desk_parts.specs.Seen.{machine_in, book_in, call_in, units_in}
-use Rattle.opfs_desk_parts.specs.declared.call.InHand.{InHand}
-use Rattle.opfs_desk_parts.specs.declared.parts.Ledger.{Ledger}
-use Rattle.opfs_desk_parts.specs.declared.parts.Pages.{Pages}
-use Rattle.opfs_desk_parts.specs.declared.parts.Parts.{Parts}
+use Rattle.opfs_desk_steps.specs.Parts.Acted.{HasActed, last_doubt}
+use Rattle.opfs_desk_steps.specs.Parts.Asked.{IsAsked}
+use Rattle.opfs_desk_steps.specs.Parts.Held.{AreHeldWhole}
+use Rattle.opfs_desk_steps.specs.Parts.Seen.{machine_in, book_in, call_in, units_in}
+use Rattle.opfs_desk_steps.specs.declared.parts.call.InHand.{InHand}
+use Rattle.opfs_desk_steps.specs.declared.parts.parts.Ledger.{Ledger}
+use Rattle.opfs_desk_steps.specs.declared.parts.parts.Pages.{Pages}
+use Rattle.opfs_desk_steps.specs.declared.parts.parts.Parts.{Parts}
 use Rattle.opfs_desk_reads.specs.Reading.{HasFailedToRead}
 use Rattle.opfs_desk_reads.proofs.Readied.{Falls, read-way}
 use Rattle.opfs_desk_steps.specs.Acting.{HasTaken, HasAdded, CallsAreActed, failed_act}
 use Rattle.opfs_desk_steps.specs.Ready.{AskedCallsAreReady, IsReadyCall}
 use Rattle.opfs_desk_steps.proofs.Counts.{own-length}
-use Rattle.opfs_desk_ways.specs.Refusing.{IsRefused, MayRefuse}
-use Rattle.opfs_desk_ways.proofs.Turns.{may-fail}
-use Rattle.opfs_desk_ways.proofs.Ways.{way-here}
+use Rattle.opfs_desk_steps.specs.BookSteps.Refusing.{IsRefused, MayRefuse}
+use Rattle.opfs_desk_steps.proofs.book_steps.Turns.{may-fail}
+use Rattle.opfs_desk_steps.proofs.book_steps.Ways.{way-here}
 use Rattle.opfs_hist.specs.Faults.{disk_faults}
 use Rattle.opfs_hist.specs.declared.entry.Entry.{Entry}
 use Rattle.opfs_hist.specs.declared.op.Op.{Op}

@@ -12,8 +12,8 @@ use Rattle.opfs_state_rows.specs.Changes.Allowed.{IsSized}
 use Rattle.opfs_pages.specs.HistoryLaws.Hands.{row_in_hand}
 use Rattle.opfs_pages.specs.HistoryLaws.RowsAfter.{IsDone}
 use Rattle.opfs_desk_reads.specs.Words.{file_read, gets_file, reads_bytes}
-use Rattle.opfs_desk_rows.specs.Opens.{next_row}
-use Rattle.opfs_desk_rows.proofs.Opens.{number-of as row-number}
+use Rattle.opfs_desk_steps.specs.RowLaws.Opens.{next_row}
+use Rattle.opfs_desk_steps.proofs.row_laws.Opens.{number-of as row-number}
 use Rattle.opfs_hist.specs.declared.op.Op.{Op}
 use Rattle.opfs_hist.specs.declared.op.Op.TheVariants as op
 use Rattle.opfs_hist.specs.declared.reply.Reply.{Reply}

@@ -42,21 +42,21 @@ use Rattle.opfs_space.specs.Room.{Machine}
 use Rattle.opfs_laws.specs.Steady.Steady.{row_bytes, open_bytes}
 use Rattle.opfs_tree.specs.Rows.{Rows as Tree}
 use Rattle.opfs_work.specs.Works.{WorkingCopy}
-use Rattle.opfs_desk_parts.specs.Acted.{HasActed, IsWayEnded}
-use Rattle.opfs_desk_parts.specs.Answered.{IsAnswered}
-use Rattle.opfs_desk_parts.specs.Held.{AreHeldWhole}
-use Rattle.opfs_desk_parts.specs.Seen.{machine_in, tree_in, call_in, units_in}
-use Rattle.opfs_desk_parts.specs.declared.call.InHand.{InHand}
-use Rattle.opfs_desk_parts.specs.declared.parts.Ledger.{Ledger}
-use Rattle.opfs_desk_parts.specs.declared.parts.Pages.{Pages}
-use Rattle.opfs_desk_parts.specs.declared.parts.Parts.{Parts}
+use Rattle.opfs_desk_steps.specs.Parts.Acted.{HasActed, IsWayEnded}
+use Rattle.opfs_desk_steps.specs.Parts.Answered.{IsAnswered}
+use Rattle.opfs_desk_steps.specs.Parts.Held.{AreHeldWhole}
+use Rattle.opfs_desk_steps.specs.Parts.Seen.{machine_in, tree_in, call_in, units_in}
+use Rattle.opfs_desk_steps.specs.declared.parts.call.InHand.{InHand}
+use Rattle.opfs_desk_steps.specs.declared.parts.parts.Ledger.{Ledger}
+use Rattle.opfs_desk_steps.specs.declared.parts.parts.Pages.{Pages}
+use Rattle.opfs_desk_steps.specs.declared.parts.parts.Parts.{Parts}
 use Rattle.opfs_desk_steps.specs.Going.{HasTakenIn, HasMadeWay, HasTold}
 use Rattle.opfs_desk_reads.specs.Reading.{BeginsRead, IsFileRead}
 use Rattle.opfs_desk_reads.specs.Words.{file_read, gets_file}
 use Rattle.opfs_desk_reads.proofs.FileWords.{answers-file, as-bytes, gift-is, in-hand, leaves-none, limits-file, not-near, own-file, plain, rows-file, ruled, sized}
 use Rattle.opfs_desk_reads.proofs.Words.{same-tree}
-use Rattle.opfs_desk_rows.specs.InHand.{HasInHand, HasNoPages, RowsInHandAreLaid}
-use Rattle.opfs_desk_rows.specs.Opens.{next_row}
+use Rattle.opfs_desk_steps.specs.RowLaws.InHand.{HasInHand, HasNoPages, RowsInHandAreLaid}
+use Rattle.opfs_desk_steps.specs.RowLaws.Opens.{next_row}
 use Rattle.opfs_desk_steps.specs.Acting.{CallsAreActed}
 use Rattle.opfs_desk_steps.specs.Answering.{ReadyCallsAreAnswered, IsReply}
 use Rattle.opfs_desk_steps.specs.Ready.{IsReadyCall, AskedCallsAreReady}

@@ -15,20 +15,20 @@ use Rattle.opfs_data.specs.Places.{bytes_of, room_of}
 use Rattle.opfs_data.specs.Rows.{Rows, page_at, pages_at, row_of}
 use Rattle.opfs_pages.specs.HistoryLaws.Handles.{AreHandlesWhole, HandlesStayWhole, handle_on}
 use Rattle.opfs_pages.specs.HistoryLaws.Open.{if_open, open_at}
-use Rattle.opfs_desk_parts.specs.Held.{AreHeldWhole}
-use Rattle.opfs_desk_parts.specs.Seen.{machine_in, tree_in}
-use Rattle.opfs_desk_parts.specs.declared.parts.Ledger.{Ledger}
-use Rattle.opfs_desk_parts.specs.declared.parts.Pages.{Pages}
+use Rattle.opfs_desk_steps.specs.Parts.Held.{AreHeldWhole}
+use Rattle.opfs_desk_steps.specs.Parts.Seen.{machine_in, tree_in}
+use Rattle.opfs_desk_steps.specs.declared.parts.parts.Ledger.{Ledger}
+use Rattle.opfs_desk_steps.specs.declared.parts.parts.Pages.{Pages}
 use Rattle.opfs_desk_reads.specs.Reading.{IsFileRead, IsReadFrom}
 use Rattle.opfs_desk_reads.proofs.Wholes.{pending-whole}
 use Rattle.opfs_desk_reads.specs.Files.{IsPresent, IsReadOfFile, has_writer, is_writer, writes_file}
 use Rattle.opfs_desk_reads.proofs.Small.{few-blocks, few-bytes}
 use Rattle.opfs_desk_reads.proofs.Writers.{IsOpenWriter, has-found, writer-known, writer-own, writer-there}
-use Rattle.opfs_desk_rows.specs.Stored.{FilesAreStored, HasCleared, HistoriesAreCleared, IsStoredAt}
-use Rattle.opfs_desk_rows.proofs.Locked.{base-whole}
-use Rattle.opfs_desk_rows.proofs.Opens.{file-back, room-count}
-use Rattle.opfs_desk_rows.proofs.Staying.{open-with-bytes, pending-stays}
-use Rattle.opfs_desk_rows.proofs.Inside.{limits-are}
+use Rattle.opfs_desk_steps.specs.RowLaws.Stored.{FilesAreStored, HasCleared, HistoriesAreCleared, IsStoredAt}
+use Rattle.opfs_desk_steps.proofs.row_laws.Locked.{base-whole}
+use Rattle.opfs_desk_steps.proofs.row_laws.Opens.{file-back, room-count}
+use Rattle.opfs_desk_steps.proofs.row_laws.Staying.{open-with-bytes, pending-stays}
+use Rattle.opfs_desk_steps.proofs.row_laws.Inside.{limits-are}
 use Rattle.opfs_hist.specs.declared.entry.Entry.{Entry}
 use Rattle.opfs_laws.specs.Histories.Unread.{ArePendingFor}
 use Rattle.opfs_image.proofs.Formatted.{range_parts}

@@ -13,14 +13,14 @@ use Rattle.opfs_commit.specs.Shown.{IsShown}
 use Rattle.opfs_data.specs.Calls.{Reads}
 use Rattle.opfs_pages.specs.HistoryLaws.Laid.{AreLaid}
 use Rattle.opfs_pages.specs.HistoryLaws.Told.{AreTold}
-use Rattle.opfs_desk_parts.specs.Acted.{IsWay, HasActed, IsUnacted}
-use Rattle.opfs_desk_parts.specs.Held.{AreHeldAt, AreHeldWhole}
-use Rattle.opfs_desk_parts.specs.Seen.{book_in}
-use Rattle.opfs_desk_parts.specs.declared.parts.Ledger.{Ledger}
-use Rattle.opfs_desk_parts.specs.declared.parts.Pages.{Pages}
-use Rattle.opfs_desk_parts.specs.declared.parts.Parts.{Parts}
-use Rattle.opfs_desk_ways.proofs.Held.{tied-later}
-use Rattle.opfs_desk_ways.proofs.Ways.{way-here}
+use Rattle.opfs_desk_steps.specs.Parts.Acted.{IsWay, HasActed, IsUnacted}
+use Rattle.opfs_desk_steps.specs.Parts.Held.{AreHeldAt, AreHeldWhole}
+use Rattle.opfs_desk_steps.specs.Parts.Seen.{book_in}
+use Rattle.opfs_desk_steps.specs.declared.parts.parts.Ledger.{Ledger}
+use Rattle.opfs_desk_steps.specs.declared.parts.parts.Pages.{Pages}
+use Rattle.opfs_desk_steps.specs.declared.parts.parts.Parts.{Parts}
+use Rattle.opfs_desk_steps.proofs.book_steps.Held.{tied-later}
+use Rattle.opfs_desk_steps.proofs.book_steps.Ways.{way-here}
 use Rattle.opfs_hist.specs.declared.entry.Entry.{Entry}
 use Rattle.opfs_laws.specs.Histories.Doubts.{doubted}
 use Rattle.opfs_machine.specs.declared.own.Own.{Own}

@@ -50,23 +50,23 @@ use Rattle.opfs_splice.specs.Splicing.{window}
 use Rattle.opfs_laws.specs.Steady.Steady.{is_steady, has_page, row_bytes, open_bytes}
 use Rattle.opfs_tree.specs.Rows.{Rows as Tree}
 use Rattle.opfs_work.specs.Works.{WorkingCopy, contents}
-use Rattle.opfs_desk_parts.specs.Acted.{HasActed, IsWayEnded}
-use Rattle.opfs_desk_parts.specs.Answered.{IsAnswered}
-use Rattle.opfs_desk_parts.specs.Asked.{IsAsked}
-use Rattle.opfs_desk_parts.specs.Held.{AreHeldWhole}
-use Rattle.opfs_desk_parts.specs.Seen.{machine_in, tree_in, call_in, units_in}
-use Rattle.opfs_desk_parts.specs.declared.call.InHand.{InHand}
-use Rattle.opfs_desk_parts.specs.declared.parts.Ledger.{Ledger}
-use Rattle.opfs_desk_parts.specs.declared.parts.Pages.{Pages}
-use Rattle.opfs_desk_parts.specs.declared.parts.Parts.{Parts}
+use Rattle.opfs_desk_steps.specs.Parts.Acted.{HasActed, IsWayEnded}
+use Rattle.opfs_desk_steps.specs.Parts.Answered.{IsAnswered}
+use Rattle.opfs_desk_steps.specs.Parts.Asked.{IsAsked}
+use Rattle.opfs_desk_steps.specs.Parts.Held.{AreHeldWhole}
+use Rattle.opfs_desk_steps.specs.Parts.Seen.{machine_in, tree_in, call_in, units_in}
+use Rattle.opfs_desk_steps.specs.declared.parts.call.InHand.{InHand}
+use Rattle.opfs_desk_steps.specs.declared.parts.parts.Ledger.{Ledger}
+use Rattle.opfs_desk_steps.specs.declared.parts.parts.Pages.{Pages}
+use Rattle.opfs_desk_steps.specs.declared.parts.parts.Parts.{Parts}
 use Rattle.opfs_desk_steps.specs.Going.{HasTakenIn, HasMadeWay, HasTold}
 use Rattle.opfs_desk_reads.specs.Reading.{BeginsRead, IsReadOf}
 use Rattle.opfs_desk_reads.specs.Words.{reads_row, read_start, read_len, end_of_read, cursor_read}
 use Rattle.opfs_desk_reads.proofs.Wholes.{pending-whole}
 use Rattle.opfs_desk_reads.proofs.Words.{answers-read, as-bytes, bytes-read, handle-there, in-hand, leaves-named, limits-read, no-gift, no-units, not-near, own-read, plain, row-some, rows-read, same-tree, sized}
-use Rattle.opfs_desk_rows.specs.Copied.{CopiesAreStored, IsStoredCopy}
-use Rattle.opfs_desk_rows.specs.InHand.{HasInHand, HasPages, RowsInHandAreLaid}
-use Rattle.opfs_desk_rows.proofs.Staying.{open-with-bytes}
+use Rattle.opfs_desk_steps.specs.RowLaws.Copied.{CopiesAreStored, IsStoredCopy}
+use Rattle.opfs_desk_steps.specs.RowLaws.InHand.{HasInHand, HasPages, RowsInHandAreLaid}
+use Rattle.opfs_desk_steps.proofs.row_laws.Staying.{open-with-bytes}
 use Rattle.opfs_desk_steps.specs.Acting.{CallsAreActed}
 use Rattle.opfs_desk_steps.specs.Answering.{ReadyCallsAreAnswered, IsReply}
 use Rattle.opfs_desk_steps.specs.Ready.{IsReadyCall, AskedCallsAreReady}

@@ -4,18 +4,19 @@ ghost use Rattle.std.specs.Prelude.{◌≡◌, [], List};
 ghost use Rattle.opfs_store.specs.Acts.Acting.{IsSameCopy};
 ghost use Rattle.opfs_base.specs.Texts.{Text};
 ghost use Rattle.opfs_books.specs.Laws.Books.{Fixed};
-ghost use Rattle.opfs_desk_parts.specs.Acted.{HasActed};
-ghost use Rattle.opfs_desk_parts.specs.Seen.{call_in};
-ghost use Rattle.opfs_desk_parts.specs.declared.parts.Ledger.{Ledger};
-ghost use Rattle.opfs_desk_parts.specs.declared.parts.Pages.{Pages};
+ghost use Rattle.opfs_desk_steps.specs.Parts.Acted.{HasActed};
+ghost use Rattle.opfs_desk_steps.specs.Parts.Seen.{call_in};
+ghost use Rattle.opfs_desk_steps.specs.declared.parts.parts.Ledger.{Ledger};
+ghost use Rattle.opfs_desk_steps.specs.declared.parts.parts.Pages.{Pages};
 ghost use Rattle.opfs_desk_reads.specs.Reading.{HasFailedToRead, MayFailToRead};
 ghost use Rattle.opfs_records.specs.Replay.Built.{Built};
 ghost use Rattle.opfs_work.specs.Works.{WorkingCopy};
 
 use opfs_books::{a_fault_is_counted, reads_leave_the_books, the_books_show_their_images};
-use opfs_desk_parts::{InHand, Parts};
-use opfs_desk_steps::{CallParts, asked_calls_are_ready, call_parts, calls_are_acted};
-use opfs_desk_ways::{fail_call, take_in};
+use opfs_desk_steps::{
+    CallParts, InHand, Parts, asked_calls_are_ready, call_parts, calls_are_acted, fail_call,
+    take_in,
+};
 use opfs_hist::{Pending, Refusal, Reply};
 use opfs_outside::Disk;
 use opfs_store::{Acted, Gift};

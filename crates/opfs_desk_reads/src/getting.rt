@@ -10,15 +10,15 @@ ghost use Rattle.opfs_data.specs.Pages.{IsDataPart, LiesIn};
 ghost use Rattle.opfs_data.specs.Rows.{page_at};
 ghost use Rattle.opfs_pages.specs.HistoryLaws.Handles.{AreHandlesWhole, HandlesStayWhole};
 ghost use Rattle.opfs_pages.specs.HistoryLaws.Laws.{BlocksGoOn, CallsLeaveOtherRows};
-ghost use Rattle.opfs_desk_parts.specs.Acted.{HasActed, IsUnacted};
-ghost use Rattle.opfs_desk_parts.specs.Asked.{IsAsked, MayGo};
-ghost use Rattle.opfs_desk_parts.specs.Held.{AreHeldWhole};
-ghost use Rattle.opfs_desk_parts.specs.Seen.{call_in};
+ghost use Rattle.opfs_desk_steps.specs.Parts.Acted.{HasActed, IsUnacted};
+ghost use Rattle.opfs_desk_steps.specs.Parts.Asked.{IsAsked, MayGo};
+ghost use Rattle.opfs_desk_steps.specs.Parts.Held.{AreHeldWhole};
+ghost use Rattle.opfs_desk_steps.specs.Parts.Seen.{call_in};
 ghost use Rattle.opfs_desk_reads.specs.Files.{AreOfAgents, IsReadOfFile, MayReadFile};
 ghost use Rattle.opfs_desk_reads.specs.Reading.{HaveWholeHandles, IsReadFrom};
 ghost use Rattle.opfs_desk_reads.specs.Words.{file_read, gets_file};
-ghost use Rattle.opfs_desk_rows.specs.InHand.{RowsInHandAreLaid};
-ghost use Rattle.opfs_desk_rows.specs.Stored.{FilesAreStored, HistoriesAreCleared};
+ghost use Rattle.opfs_desk_steps.specs.RowLaws.InHand.{RowsInHandAreLaid};
+ghost use Rattle.opfs_desk_steps.specs.RowLaws.Stored.{FilesAreStored, HistoriesAreCleared};
 ghost use Rattle.opfs_desk_steps.specs.Acting.{CallsAreActed};
 ghost use Rattle.opfs_desk_steps.specs.Answering.{ReadyCallsAreAnswered};
 ghost use Rattle.opfs_desk_steps.specs.Ready.{AskedCallsAreReady};
@@ -33,12 +33,10 @@ use crate::files::read_file;
 use opfs_base::Bytes;
 use opfs_books::{reads_leave_the_books, state_laws, the_books_show_their_images};
 use opfs_data::{DataRefusal, Swap};
-use opfs_desk_parts::{InHand, Parts};
-use opfs_desk_rows::{files_are_stored, parts_lie_inside, rows_in_hand_are_laid};
 use opfs_desk_steps::{
-    asked_calls_are_ready, calls_are_acted, clear_call, ready_calls_are_answered, tell_last,
+    InHand, Parts, asked_calls_are_ready, calls_are_acted, clear_call, files_are_stored,
+    parts_lie_inside, ready_calls_are_answered, rows_in_hand_are_laid, take_in, tell_last,
 };
-use opfs_desk_ways::take_in;
 use opfs_hist::{Op, Pending, Refusal, Reply};
 use opfs_journal::Journal;
 use opfs_laws::lengths::bridge::{lengths_follow_each_call, local_calls_are_known_by_their_word};

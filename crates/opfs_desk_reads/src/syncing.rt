@@ -6,15 +6,15 @@ ghost use Rattle.opfs_books.specs.Laws.Books.{Fixed};
 ghost use Rattle.opfs_books.specs.Laws.Laws.{BooksShowTheirImages, BooksKeepTheState, ReadsKeepTheBooks};
 ghost use Rattle.opfs_pages.specs.HistoryLaws.Handles.{AreHandlesWhole, HandlesStayWhole};
 ghost use Rattle.opfs_pages.specs.HistoryLaws.Laws.{BlocksGoOn, CallsLeaveOtherRows};
-ghost use Rattle.opfs_desk_parts.specs.Acted.{HasActed, IsUnacted};
-ghost use Rattle.opfs_desk_parts.specs.Asked.{IsAsked, MayGo};
-ghost use Rattle.opfs_desk_parts.specs.Held.{AreHeldWhole};
-ghost use Rattle.opfs_desk_parts.specs.Seen.{call_in};
+ghost use Rattle.opfs_desk_steps.specs.Parts.Acted.{HasActed, IsUnacted};
+ghost use Rattle.opfs_desk_steps.specs.Parts.Asked.{IsAsked, MayGo};
+ghost use Rattle.opfs_desk_steps.specs.Parts.Held.{AreHeldWhole};
+ghost use Rattle.opfs_desk_steps.specs.Parts.Seen.{call_in};
 ghost use Rattle.opfs_desk_reads.specs.Reading.{IsReadFor};
 ghost use Rattle.opfs_desk_reads.specs.Words.{reads_row, read_start, read_len};
-ghost use Rattle.opfs_desk_rows.specs.Copied.{CopiesAreStored};
-ghost use Rattle.opfs_desk_rows.specs.InHand.{RowsInHandAreLaid};
-ghost use Rattle.opfs_desk_rows.specs.Inside.{PartsLieInside};
+ghost use Rattle.opfs_desk_steps.specs.RowLaws.Copied.{CopiesAreStored};
+ghost use Rattle.opfs_desk_steps.specs.RowLaws.InHand.{RowsInHandAreLaid};
+ghost use Rattle.opfs_desk_steps.specs.RowLaws.Inside.{PartsLieInside};
 ghost use Rattle.opfs_desk_steps.specs.Acting.{CallsAreActed};
 ghost use Rattle.opfs_desk_steps.specs.Answering.{ReadyCallsAreAnswered};
 ghost use Rattle.opfs_desk_steps.specs.Ready.{AskedCallsAreReady};
@@ -26,12 +26,10 @@ use crate::bytes::{RowRead, leave_cursor, read_open_row};
 use crate::failing::fail_reading;
 use opfs_books::{reads_leave_the_books, the_books_show_their_images, the_state_is_kept};
 use opfs_data::DataRefusal;
-use opfs_desk_parts::{InHand, Parts};
-use opfs_desk_rows::{copies_are_stored, parts_lie_inside, rows_in_hand_are_laid};
 use opfs_desk_steps::{
-    asked_calls_are_ready, calls_are_acted, clear_call, ready_calls_are_answered, tell_last,
+    InHand, Parts, asked_calls_are_ready, calls_are_acted, clear_call, copies_are_stored,
+    parts_lie_inside, ready_calls_are_answered, rows_in_hand_are_laid, take_in, tell_last,
 };
-use opfs_desk_ways::take_in;
 use opfs_hist::{Op, Pending, Refusal, Reply};
 use opfs_laws::going_on::legal_histories_go_on;
 use opfs_machine::Sizes;

@@ -27,14 +27,14 @@ use Rattle.opfs_outside.specs.Faults.{Rose}
 use Rattle.opfs_outside.specs.Moments.{Elapses}
 use Rattle.opfs_outside.specs.declared.disk.Disk.{Ghosts as DiskWords}
 use Rattle.opfs_records.specs.Replay.Built.{Built}
-use Rattle.opfs_desk_parts.specs.Acted.{IsWay, last_doubt}
-use Rattle.opfs_desk_parts.specs.Held.{AreHeldWhole}
-use Rattle.opfs_desk_parts.specs.Seen.{book_in, call_in}
-use Rattle.opfs_desk_parts.specs.declared.parts.Ledger.{Ledger}
-use Rattle.opfs_desk_parts.specs.declared.parts.Pages.{Pages}
+use Rattle.opfs_desk_steps.specs.Parts.Acted.{IsWay, last_doubt}
+use Rattle.opfs_desk_steps.specs.Parts.Held.{AreHeldWhole}
+use Rattle.opfs_desk_steps.specs.Parts.Seen.{book_in, call_in}
+use Rattle.opfs_desk_steps.specs.declared.parts.parts.Ledger.{Ledger}
+use Rattle.opfs_desk_steps.specs.declared.parts.parts.Pages.{Pages}
 use Rattle.opfs_desk_steps.specs.Acting.{HasTaken, CallsAreActed}
-use Rattle.opfs_desk_ways.proofs.Taken.{pending-told}
-use Rattle.opfs_desk_ways.proofs.Ways.{way-told, way-same}
+use Rattle.opfs_desk_steps.proofs.book_steps.Taken.{pending-told}
+use Rattle.opfs_desk_steps.proofs.book_steps.Ways.{way-told, way-same}
 
 -- What is in doubt stays as calls are added.
 doubt-kept : ADoubtStays → (o : Opening) (h calls : List Entry) (place : Option ℕ) → ((n : ℕ) → place ≡ Some n → n < length h) → doubted o (h ++ calls) place ≡ doubted o h place

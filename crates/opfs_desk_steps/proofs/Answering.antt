@@ -25,14 +25,14 @@ use Rattle.opfs_outside.specs.declared.disk.Disk.{Ghosts as DiskWords}
 use Rattle.opfs_state_rows.specs.Standing.Seen.{Machine}
 use Rattle.opfs_state.specs.Laws.Room.{EvictionsMakeRoom, HasRoom}
 use Rattle.opfs_state.specs.Verdicts.Callers.{IsAgent}
-use Rattle.opfs_desk_parts.specs.Seen.{machine_in, call_in, units_in}
-use Rattle.opfs_desk_parts.specs.Held.{AreHeldWhole}
-use Rattle.opfs_desk_parts.specs.declared.call.InHand.{InHand}
-use Rattle.opfs_desk_parts.specs.declared.parts.Ledger.{Ledger}
-use Rattle.opfs_desk_parts.specs.declared.parts.Pages.{Pages}
+use Rattle.opfs_desk_steps.specs.Parts.Seen.{machine_in, call_in, units_in}
+use Rattle.opfs_desk_steps.specs.Parts.Held.{AreHeldWhole}
+use Rattle.opfs_desk_steps.specs.declared.parts.call.InHand.{InHand}
+use Rattle.opfs_desk_steps.specs.declared.parts.parts.Ledger.{Ledger}
+use Rattle.opfs_desk_steps.specs.declared.parts.parts.Pages.{Pages}
 use Rattle.opfs_records.specs.Replay.Built.{Built}
-use Rattle.opfs_desk_ways.proofs.Real.{has-room, agent-there}
-use Rattle.opfs_desk_ways.proofs.Turns.{step-victims, step-answer}
+use Rattle.opfs_desk_steps.proofs.book_steps.Real.{has-room, agent-there}
+use Rattle.opfs_desk_steps.proofs.book_steps.Turns.{step-victims, step-answer}
 use Rattle.opfs_desk_steps.specs.Answering.{IsReply, ReadyCallsAreAnswered}
 use Rattle.opfs_desk_steps.specs.Ready.{IsReadyCall}
 use Rattle.opfs_desk_steps.proofs.Counts.{own-length}

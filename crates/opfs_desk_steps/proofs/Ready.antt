@@ -16,11 +16,11 @@ use Rattle.opfs_outside.specs.declared.disk.Disk.{Ghosts as DiskWords}
 use Rattle.opfs_records.specs.Replay.Built.{Built}
 use Rattle.opfs_state_rows.specs.Standing.Seen.{Machine}
 use Rattle.opfs_state.specs.Verdicts.Callers.{IsAgent}
-use Rattle.opfs_desk_parts.specs.Held.{AreHeldWhole}
-use Rattle.opfs_desk_parts.specs.Seen.{machine_in}
-use Rattle.opfs_desk_parts.specs.declared.parts.Ledger.{Ledger}
-use Rattle.opfs_desk_parts.specs.declared.parts.Pages.{Pages}
-use Rattle.opfs_desk_ways.proofs.Real.{real, real-legal, real-state, agent-there}
+use Rattle.opfs_desk_steps.specs.Parts.Held.{AreHeldWhole}
+use Rattle.opfs_desk_steps.specs.Parts.Seen.{machine_in}
+use Rattle.opfs_desk_steps.specs.declared.parts.parts.Ledger.{Ledger}
+use Rattle.opfs_desk_steps.specs.declared.parts.parts.Pages.{Pages}
+use Rattle.opfs_desk_steps.proofs.book_steps.Real.{real, real-legal, real-state, agent-there}
 use Rattle.opfs_desk_steps.specs.Ready.{AskedCallsAreReady}
 use Rattle.opfs_desk_steps.proofs.Numbers.{live-within}
 use Rattle.opfs_desk_steps.proofs.Counts.{calls-less, pending-entries, live-before, own-length, pending-rows}

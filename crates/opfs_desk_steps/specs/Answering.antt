@@ -16,14 +16,14 @@ use Rattle.opfs_machine.specs.Runs.{eviction}
 use Rattle.opfs_outside.specs.declared.disk.Disk.{Ghosts as DiskWords}
 use Rattle.opfs_records.specs.Replay.Built.{Built}
 use Rattle.opfs_state.specs.Applied.{IsPrepared}
-use Rattle.opfs_desk_parts.specs.Answered.{IsAnswered}
-use Rattle.opfs_desk_parts.specs.Held.{AreHeldAt, AreHeldWhole}
-use Rattle.opfs_desk_parts.specs.Seen.{machine_in, call_in, units_in}
-use Rattle.opfs_desk_parts.specs.declared.call.InHand.{InHand}
-use Rattle.opfs_desk_parts.specs.declared.parts.Ledger.{Ledger}
-use Rattle.opfs_desk_parts.specs.declared.parts.Pages.{Pages}
+use Rattle.opfs_desk_steps.specs.Parts.Answered.{IsAnswered}
+use Rattle.opfs_desk_steps.specs.Parts.Held.{AreHeldAt, AreHeldWhole}
+use Rattle.opfs_desk_steps.specs.Parts.Seen.{machine_in, call_in, units_in}
+use Rattle.opfs_desk_steps.specs.declared.parts.call.InHand.{InHand}
+use Rattle.opfs_desk_steps.specs.declared.parts.parts.Ledger.{Ledger}
+use Rattle.opfs_desk_steps.specs.declared.parts.parts.Pages.{Pages}
 use Rattle.opfs_desk_steps.specs.Ready.{IsReadyCall}
-use Rattle.opfs_desk_ways.specs.Clearing.{MayMakeWay}
+use Rattle.opfs_desk_steps.specs.BookSteps.Clearing.{MayMakeWay}
 
 -- The reply is the machine's, but for the bytes of a read; with those too where the disk tells.
 pub record IsReply (tells : Type 0) (s : State Text Own) (c : InHand) (r : Reply) : Type 0 where

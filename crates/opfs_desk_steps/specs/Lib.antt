@@ -1,4 +1,9 @@
+pub mod Parts
+pub mod RowLaws
+pub mod BookSteps
 pub mod Ready
 pub mod Answering
 pub mod Acting
 pub mod Going
+pub mod Judging
+pub mod Iterating

@@ -2,10 +2,10 @@
 
 ghost use Rattle.std.specs.Prelude.{◌≡◌};
 ghost use Rattle.opfs_store.specs.Acts.Acting.{told_entry};
-ghost use Rattle.opfs_desk_parts.specs.Seen.{call_in};
+ghost use Rattle.opfs_desk_steps.specs.Parts.Seen.{call_in};
 
+use crate::parts::{Clearing, InHand};
 use opfs_books::Last;
-use opfs_desk_parts::{Clearing, InHand};
 use opfs_hist::{Entry, Reply};
 use opfs_machine::Sizes;
 

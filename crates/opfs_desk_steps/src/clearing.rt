@@ -4,20 +4,20 @@ ghost use Rattle.std.specs.Prelude.{◌≡◌, ◌++◌, false, map, fold, IfOk,
 ghost use Rattle.opfs_store.specs.Acts.Acting.{told_entry};
 ghost use Rattle.opfs_books.specs.Laws.Books.{Fixed};
 ghost use Rattle.opfs_books.specs.Laws.Laws.{LeavesPages};
-ghost use Rattle.opfs_desk_parts.specs.Acted.{AreCleared, HasFailed};
-ghost use Rattle.opfs_desk_parts.specs.Held.{AreHeldWhole};
-ghost use Rattle.opfs_desk_parts.specs.Seen.{tree_in, call_in, units_in};
-ghost use Rattle.opfs_desk_parts.specs.declared.parts.Pages.{Pages};
-ghost use Rattle.opfs_desk_ways.specs.Clearing.{IsJudged, MayMakeWay, cleared_from};
+ghost use Rattle.opfs_desk_steps.specs.Parts.Acted.{AreCleared, HasFailed};
+ghost use Rattle.opfs_desk_steps.specs.Parts.Held.{AreHeldWhole};
+ghost use Rattle.opfs_desk_steps.specs.Parts.Seen.{tree_in, call_in, units_in};
+ghost use Rattle.opfs_desk_steps.specs.declared.parts.parts.Pages.{Pages};
+ghost use Rattle.opfs_desk_steps.specs.BookSteps.Clearing.{IsJudged, MayMakeWay, cleared_from};
 ghost use Rattle.opfs_machine.specs.Histories.{state_after};
 ghost use Rattle.opfs_machine.specs.Runs.{eviction};
 ghost use Rattle.opfs_records.specs.Replay.Built.{Built};
 ghost use Rattle.opfs_state.specs.Applied.{IsPrepared};
 
 use crate::apart::{CallParts, call_parts};
+use crate::book_steps::make_way;
+use crate::parts::{InHand, Ledger};
 use opfs_books::{Last, the_books_show_their_images};
-use opfs_desk_parts::{InHand, Ledger};
-use opfs_desk_ways::make_way;
 use opfs_hist::Reply;
 use opfs_journal::DiskFault;
 use opfs_machine::Sizes;

@@ -36,15 +36,15 @@ use Rattle.opfs_work.specs.Works.{WorkingCopy}
 use Rattle.opfs_desk_contents.specs.Putting.{KeepsEnough}
 use Rattle.opfs_desk_contents.specs.Words.{is_storing, stores_row}
 use Rattle.opfs_desk_contents.proofs.Stowed.{few-pages}
-use Rattle.opfs_desk_parts.specs.Seen.{machine_in}
-use Rattle.opfs_desk_parts.specs.declared.call.InHand.{InHand}
-use Rattle.opfs_desk_parts.specs.declared.parts.Ledger.{Ledger}
-use Rattle.opfs_desk_parts.specs.declared.parts.Pages.{Pages}
+use Rattle.opfs_desk_steps.specs.Parts.Seen.{machine_in}
+use Rattle.opfs_desk_steps.specs.declared.parts.call.InHand.{InHand}
+use Rattle.opfs_desk_steps.specs.declared.parts.parts.Ledger.{Ledger}
+use Rattle.opfs_desk_steps.specs.declared.parts.parts.Pages.{Pages}
 use Rattle.opfs_desk_plain.specs.Silent.{BeginsCall}
 use Rattle.opfs_desk_plain.proofs.Noted.{noted-is, sum_of}
 use Rattle.opfs_desk_reads.proofs.Synced.{handed}
-use Rattle.opfs_desk_rows.specs.Copied.{CopiesAreStored, IsStoredCopy}
-use Rattle.opfs_desk_rows.proofs.Staying.{pending-stays}
+use Rattle.opfs_desk_steps.specs.RowLaws.Copied.{CopiesAreStored, IsStoredCopy}
+use Rattle.opfs_desk_steps.proofs.row_laws.Staying.{pending-stays}
 use Rattle.opfs_desk_stores.specs.Fits.{FitsReserve}
 use Rattle.opfs_desk_stores.proofs.StoredRows.{IsOpenOutline, StoresWith, open-outline, stores-this}
 use Rattle.opfs_desk_stores.proofs.Words.{row-some, stores-noted, word-is}

@@ -46,18 +46,18 @@ use Rattle.opfs_desk_contents.specs.Storing.{MayStorePages, StoresContent}
 use Rattle.opfs_desk_contents.specs.Words.{is_storing, size_stored, stores_row}
 use Rattle.opfs_desk_contents.specs.declared.planning.Plan.{Plan}
 use Rattle.opfs_desk_contents.proofs.Found.{gotten-any}
-use Rattle.opfs_desk_parts.specs.Answered.{IsAnswered}
-use Rattle.opfs_desk_parts.specs.Seen.{machine_in, tree_in, call_in, units_in}
-use Rattle.opfs_desk_parts.specs.declared.call.InHand.{InHand}
-use Rattle.opfs_desk_parts.specs.declared.parts.Ledger.{Ledger}
-use Rattle.opfs_desk_parts.specs.declared.parts.Pages.{Pages}
+use Rattle.opfs_desk_steps.specs.Parts.Answered.{IsAnswered}
+use Rattle.opfs_desk_steps.specs.Parts.Seen.{machine_in, tree_in, call_in, units_in}
+use Rattle.opfs_desk_steps.specs.declared.parts.call.InHand.{InHand}
+use Rattle.opfs_desk_steps.specs.declared.parts.parts.Ledger.{Ledger}
+use Rattle.opfs_desk_steps.specs.declared.parts.parts.Pages.{Pages}
 use Rattle.opfs_desk_plain.specs.Silent.{BeginsCall}
 use Rattle.opfs_desk_plain.proofs.Silent.{ready, answered}
-use Rattle.opfs_desk_rows.specs.Stored.{FilesAreStored, HistoriesAreCleared, IsStoredAt}
+use Rattle.opfs_desk_steps.specs.RowLaws.Stored.{FilesAreStored, HistoriesAreCleared, IsStoredAt}
 use Rattle.opfs_desk_steps.specs.Answering.{ReadyCallsAreAnswered, IsReply}
 use Rattle.opfs_desk_steps.specs.Going.{HasTakenIn}
 use Rattle.opfs_desk_steps.specs.Ready.{AskedCallsAreReady, IsReadyCall}
-use Rattle.opfs_desk_ways.proofs.Turns.{may-fail}
+use Rattle.opfs_desk_steps.proofs.book_steps.Turns.{may-fail}
 use Rattle.opfs_desk_stores.specs.Fits.{FitsReserve}
 use Rattle.opfs_desk_stores.specs.Steps.{IsContentFor, IsContentPlanned}
 use Rattle.opfs_desk_stores.proofs.Asked.{bytes, bytes-are, file-before, its-row, place, reserve-is, size-is, some, storing, stood}

@@ -68,19 +68,19 @@ use Rattle.opfs_desk_contents.proofs.Storable.{answered-on, file-on, no-eviction
 use Rattle.opfs_desk_contents.proofs.Stowed.{spelled-runs}
 use Rattle.opfs_desk_kept.specs.Changing.{IsChangeShown}
 use Rattle.opfs_desk_kept.proofs.Shown.{way-ended}
-use Rattle.opfs_desk_parts.specs.Acted.{HasActed, IsWayEnded}
-use Rattle.opfs_desk_parts.specs.Answered.{IsAnswered}
-use Rattle.opfs_desk_parts.specs.Held.{AreHeldAt, AreHeldWhole}
-use Rattle.opfs_desk_parts.specs.Seen.{book_in, call_in, machine_in, tree_in}
-use Rattle.opfs_desk_parts.specs.declared.call.InHand.{InHand}
-use Rattle.opfs_desk_parts.specs.declared.parts.Ledger.{Ledger}
-use Rattle.opfs_desk_parts.specs.declared.parts.Pages.{Pages}
-use Rattle.opfs_desk_parts.specs.declared.parts.Parts.{Parts}
-use Rattle.opfs_desk_rows.specs.InHand.{HasInHand, HasNoPages, HasPages, RowsInHandAreLaid}
+use Rattle.opfs_desk_steps.specs.Parts.Acted.{HasActed, IsWayEnded}
+use Rattle.opfs_desk_steps.specs.Parts.Answered.{IsAnswered}
+use Rattle.opfs_desk_steps.specs.Parts.Held.{AreHeldAt, AreHeldWhole}
+use Rattle.opfs_desk_steps.specs.Parts.Seen.{book_in, call_in, machine_in, tree_in}
+use Rattle.opfs_desk_steps.specs.declared.parts.call.InHand.{InHand}
+use Rattle.opfs_desk_steps.specs.declared.parts.parts.Ledger.{Ledger}
+use Rattle.opfs_desk_steps.specs.declared.parts.parts.Pages.{Pages}
+use Rattle.opfs_desk_steps.specs.declared.parts.parts.Parts.{Parts}
+use Rattle.opfs_desk_steps.specs.RowLaws.InHand.{HasInHand, HasNoPages, HasPages, RowsInHandAreLaid}
 use Rattle.opfs_desk_steps.specs.Acting.{HasTaken, CallsAreActed}
-use Rattle.opfs_desk_ways.proofs.Alike.{leaves-alike}
-use Rattle.opfs_desk_ways.proofs.Held.{behind}
-use Rattle.opfs_desk_ways.proofs.Loop.{Falls}
+use Rattle.opfs_desk_steps.proofs.book_steps.Alike.{leaves-alike}
+use Rattle.opfs_desk_steps.proofs.book_steps.Held.{behind}
+use Rattle.opfs_desk_steps.proofs.book_steps.Loop.{Falls}
 use Rattle.opfs_state_rows.specs.Standing.Seen.{lines_of}
 use Rattle.opfs_desk_stores.specs.Steps.{IsFlushed, LeavesRow}
 use Rattle.opfs_desk_stores.proofs.Alone.{streams-beside}

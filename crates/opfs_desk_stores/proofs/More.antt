@@ -35,13 +35,13 @@ use Rattle.opfs_work.specs.Works.{WorkingCopy}
 use Rattle.opfs_desk_again.specs.More.{HasMoreThanReserve}
 use Rattle.opfs_desk_contents.specs.Rows.{StoresFile}
 use Rattle.opfs_desk_contents.specs.Words.{stores_row}
-use Rattle.opfs_desk_parts.specs.Seen.{machine_in}
-use Rattle.opfs_desk_parts.specs.declared.call.InHand.{InHand}
-use Rattle.opfs_desk_parts.specs.declared.parts.Ledger.{Ledger}
-use Rattle.opfs_desk_parts.specs.declared.parts.Pages.{Pages}
+use Rattle.opfs_desk_steps.specs.Parts.Seen.{machine_in}
+use Rattle.opfs_desk_steps.specs.declared.parts.call.InHand.{InHand}
+use Rattle.opfs_desk_steps.specs.declared.parts.parts.Ledger.{Ledger}
+use Rattle.opfs_desk_steps.specs.declared.parts.parts.Pages.{Pages}
 use Rattle.opfs_desk_plain.specs.Silent.{BeginsCall}
 use Rattle.opfs_desk_plain.proofs.Noted.{noted-is, sum_of}
-use Rattle.opfs_desk_rows.proofs.Locked.{base-whole}
+use Rattle.opfs_desk_steps.proofs.row_laws.Locked.{base-whole}
 use Rattle.opfs_desk_stores.proofs.Asked.{its-row, reserve-is, stood}
 use Rattle.opfs_desk_stores.proofs.StoredRows.{IsWriterIn, StoresRow, handle-outlined, stores-file}
 use Rattle.opfs_desk_stores.proofs.Words.{handle-at}

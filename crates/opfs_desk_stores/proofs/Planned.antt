@@ -40,19 +40,19 @@ use Rattle.opfs_desk_contents.specs.Putting.{IsStagedWhole, all_of}
 use Rattle.opfs_desk_contents.specs.Words.{stores_row}
 use Rattle.opfs_desk_contents.specs.declared.planning.Plan.{Plan}
 use Rattle.opfs_desk_contents.proofs.Found.{gotten-any}
-use Rattle.opfs_desk_parts.specs.Asked.{IsAsked}
-use Rattle.opfs_desk_parts.specs.Held.{AreHeldAt, AreHeldWhole}
-use Rattle.opfs_desk_parts.specs.Seen.{machine_in, tree_in}
-use Rattle.opfs_desk_parts.specs.declared.call.InHand.{InHand}
-use Rattle.opfs_desk_parts.specs.declared.parts.Ledger.{Ledger}
-use Rattle.opfs_desk_parts.specs.declared.parts.Pages.{Pages}
+use Rattle.opfs_desk_steps.specs.Parts.Asked.{IsAsked}
+use Rattle.opfs_desk_steps.specs.Parts.Held.{AreHeldAt, AreHeldWhole}
+use Rattle.opfs_desk_steps.specs.Parts.Seen.{machine_in, tree_in}
+use Rattle.opfs_desk_steps.specs.declared.parts.call.InHand.{InHand}
+use Rattle.opfs_desk_steps.specs.declared.parts.parts.Ledger.{Ledger}
+use Rattle.opfs_desk_steps.specs.declared.parts.parts.Pages.{Pages}
 use Rattle.opfs_desk_reads.proofs.Readied.{read-held}
 use Rattle.opfs_desk_plain.specs.Silent.{BeginsCall}
-use Rattle.opfs_desk_rows.specs.Copied.{CopiesAreStored, IsStoredCopy}
+use Rattle.opfs_desk_steps.specs.RowLaws.Copied.{CopiesAreStored, IsStoredCopy}
 use Rattle.opfs_desk_steps.specs.Ready.{AskedCallsAreReady}
 use Rattle.opfs_desk_stores.specs.Steps.{IsContentFor, IsContentPlanned}
 use Rattle.opfs_desk_stores.proofs.Asked.{bytes-are, stood, stored-copy}
-use Rattle.opfs_desk_ways.proofs.LaidStays.{LaidBeside}
+use Rattle.opfs_desk_steps.proofs.book_steps.LaidStays.{LaidBeside}
 
 -- ---- pages that are the same
 

@@ -10,9 +10,9 @@ use Rattle.opfs_outside.specs.declared.disk.Disk.{Ghosts as DiskWords}
 use Rattle.opfs_pages.specs.declared.writing.put.Put.{Put}
 use Rattle.opfs_work.specs.Works.{WorkingCopy}
 use Rattle.opfs_desk_contents.specs.Storing.{HasStoredPages, MayStorePages, StoresContent}
-use Rattle.opfs_desk_parts.specs.Acted.{HasFailed}
-use Rattle.opfs_desk_parts.specs.declared.parts.Pages.{Pages}
-use Rattle.opfs_desk_parts.specs.declared.parts.Parts.{Parts}
+use Rattle.opfs_desk_steps.specs.Parts.Acted.{HasFailed}
+use Rattle.opfs_desk_steps.specs.declared.parts.parts.Pages.{Pages}
+use Rattle.opfs_desk_steps.specs.declared.parts.parts.Parts.{Parts}
 use Rattle.opfs_desk_stores.specs.Steps.{LeavesRow}
 
 module _ {D : Type 0} (w : DiskWords D) (f : Fixed D) (start new : Parts D) (agent : ℕ) (put : Put) (place : Place) (work : WorkingCopy) where

@@ -39,7 +39,7 @@ use Rattle.opfs_laws.specs.Steady.Steady.{open_bytes, row_bytes}
 use Rattle.opfs_tree.specs.declared.row.FileRow.{FileRow}
 use Rattle.opfs_desk_contents.specs.Rows.{IsStreamOf, IsWriterOf, StoresFile}
 use Rattle.opfs_desk_contents.specs.Words.{ends_row, may_write, size_stored, stores_row}
-use Rattle.opfs_desk_rows.proofs.Opens.{file-back}
+use Rattle.opfs_desk_steps.proofs.row_laws.Opens.{file-back}
 
 -- An open stream on a file, with these bytes and so many blocks kept.
 pub record IsStreamIn (s : State Text Own) (k n : ℕ) (place : Place) (bytes : Text) (reserve : ℕ) : Type 0 where

@@ -5,7 +5,7 @@ ghost use Rattle.opfs_blocks.specs.Sets.{blocks_of, AreBelow};
 ghost use Rattle.opfs_desk_stores.specs.Steps.{IsFlushed, LeavesRow};
 
 use opfs_base::Extent;
-use opfs_desk_parts::Pages;
+use opfs_desk_steps::Pages;
 use opfs_pages::after_flush;
 use opfs_work::Work;
 

@@ -10,13 +10,13 @@ ghost use Rattle.opfs_desk_contents.specs.Blocks.{ContentsKeepBlocks};
 ghost use Rattle.opfs_desk_contents.specs.Words.{stores_row};
 ghost use Rattle.opfs_pages.specs.HistoryLaws.Laws.{CallsLeaveOtherRows, TreesKeepBlocks};
 ghost use Rattle.opfs_pages.specs.HistoryLaws.RowsAfter.{CallsChangeTheirRow};
-ghost use Rattle.opfs_desk_parts.specs.Acted.{HasActed, IsUnacted};
-ghost use Rattle.opfs_desk_parts.specs.Asked.{IsAsked, MayGo};
-ghost use Rattle.opfs_desk_parts.specs.Held.{AreHeldWhole};
-ghost use Rattle.opfs_desk_parts.specs.Seen.{machine_in, call_in};
-ghost use Rattle.opfs_desk_rows.specs.InHand.{RowsInHandAreLaid};
-ghost use Rattle.opfs_desk_rows.specs.Inside.{PartsLieInside};
-ghost use Rattle.opfs_desk_rows.specs.Stored.{FilesAreStored, HistoriesAreCleared};
+ghost use Rattle.opfs_desk_steps.specs.Parts.Acted.{HasActed, IsUnacted};
+ghost use Rattle.opfs_desk_steps.specs.Parts.Asked.{IsAsked, MayGo};
+ghost use Rattle.opfs_desk_steps.specs.Parts.Held.{AreHeldWhole};
+ghost use Rattle.opfs_desk_steps.specs.Parts.Seen.{machine_in, call_in};
+ghost use Rattle.opfs_desk_steps.specs.RowLaws.InHand.{RowsInHandAreLaid};
+ghost use Rattle.opfs_desk_steps.specs.RowLaws.Inside.{PartsLieInside};
+ghost use Rattle.opfs_desk_steps.specs.RowLaws.Stored.{FilesAreStored, HistoriesAreCleared};
 ghost use Rattle.opfs_desk_steps.specs.Acting.{CallsAreActed};
 ghost use Rattle.opfs_desk_steps.specs.Answering.{ReadyCallsAreAnswered};
 ghost use Rattle.opfs_desk_steps.specs.Ready.{AskedCallsAreReady};
@@ -36,15 +36,12 @@ use opfs_data::DataRefusal;
 use opfs_desk_contents::{
     Plan, is_last, plan_content, row_of, store_pages, stored_contents_keep_blocks_right,
 };
-use opfs_desk_parts::{InHand, Parts};
 use opfs_desk_reads::fail_reading;
-use opfs_desk_rows::{
-    copies_are_stored, files_are_stored, parts_lie_inside, rows_in_hand_are_laid,
-};
 use opfs_desk_steps::{
-    CallParts, asked_calls_are_ready, call_parts, calls_are_acted, ready_calls_are_answered,
+    CallParts, InHand, Parts, asked_calls_are_ready, call_parts, calls_are_acted,
+    copies_are_stored, files_are_stored, parts_lie_inside, ready_calls_are_answered,
+    rows_in_hand_are_laid, take_in,
 };
-use opfs_desk_ways::take_in;
 use opfs_hist::{Pending, Refusal, Reply};
 use opfs_laws::lengths::bridge::{
     lengths_decide_each_ruling, lengths_follow_each_call, local_calls_are_known_by_their_word,

@@ -10,7 +10,7 @@ use Rattle.opfs_base.specs.declared.key.KeyRefusal.{KeyRefusal}
 use Rattle.opfs_base.specs.declared.key.KeyRefusal.TheVariants as refusal
 use Rattle.opfs_base.specs.Texts.{Text}
 use Rattle.opfs_codec.specs.Spelling.{IsText, is_key_text, is_origin_text}
-use Rattle.opfs_desk_parts.specs.Held.{HaveOwnKeys}
+use Rattle.opfs_desk_steps.specs.Parts.Held.{HaveOwnKeys}
 use Rattle.opfs_hall.specs.Seen.{HallSeen, PassSeen, new_pass}
 use Rattle.opfs_hist.specs.declared.entry.Entry.{Entry}
 use Rattle.opfs_machine.specs.declared.own.Own.{Own}

@@ -3,7 +3,7 @@ use Rattle.opfs_desk_acts.proofs.Plain.{as-kind, plain-asked, plain-go}
 use Rattle.opfs_desk_acts.proofs.Words.{never-ends, other-kind}
 use Rattle.opfs_desk_acts.proofs.acting.act_as.Goals as goal
 use Rattle.opfs_desk_acts.specs.declared.kinds.CallKind.TheVariants as kind
-use Rattle.opfs_desk_parts.specs.Seen.{machine_in}
+use Rattle.opfs_desk_steps.specs.Parts.Seen.{machine_in}
 
 pub act_told-requires-clause-go : goal.act_told-requires-clause-go
 act_told-requires-clause-go g c =

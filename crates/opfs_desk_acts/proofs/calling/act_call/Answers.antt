@@ -2,7 +2,7 @@ use Rattle.std.proofs.Common.{◌++◌, List, refl, sym, subst}
 use Rattle.std.specs.Option.{option_copied}
 use Rattle.opfs_data.proofs.SwapLemmas.{on_err}
 use Rattle.opfs_pages.specs.HistoryLaws.Handles.{AreHandlesWhole}
-use Rattle.opfs_iterating.specs.Reached.{IsUpTo}
+use Rattle.opfs_desk_steps.specs.Iterating.Reached.{IsUpTo}
 use Rattle.opfs_hist.specs.declared.entry.Entry.{Entry}
 use Rattle.opfs_machine.specs.Histories.{state_after}
 use Rattle.opfs_machine.specs.Rows.{children_of as names_of}

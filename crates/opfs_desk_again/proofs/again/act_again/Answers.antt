@@ -15,10 +15,10 @@ use Rattle.opfs_tree.specs.Rows.{file_at as file_in_tree}
 use Rattle.opfs_desk_contents.specs.Storing.{HasStored, MayStoreContent, content_now}
 use Rattle.opfs_desk_contents.specs.Words.{is_storing}
 use Rattle.opfs_desk_kept.specs.Changing.{HasNotChanged}
-use Rattle.opfs_desk_parts.specs.Answered.{IsAnswered}
-use Rattle.opfs_desk_parts.specs.Seen.{machine_in, tree_in, book_in, call_in, units_in}
-use Rattle.opfs_desk_parts.specs.declared.parts.Pages.{Pages}
-use Rattle.opfs_desk_parts.specs.declared.parts.Parts.{Parts}
+use Rattle.opfs_desk_steps.specs.Parts.Answered.{IsAnswered}
+use Rattle.opfs_desk_steps.specs.Parts.Seen.{machine_in, tree_in, book_in, call_in, units_in}
+use Rattle.opfs_desk_steps.specs.declared.parts.parts.Pages.{Pages}
+use Rattle.opfs_desk_steps.specs.declared.parts.parts.Parts.{Parts}
 use Rattle.opfs_desk_plain.specs.Silent.{BeginsCall}
 use Rattle.opfs_desk_steps.specs.Going.{HasTakenIn, HasMadeWay}
 use Rattle.opfs_desk_kept.proofs.Kept.{unacted}

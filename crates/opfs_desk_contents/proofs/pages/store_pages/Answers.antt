@@ -3,7 +3,7 @@ use Rattle.opfs_base.specs.Blocks.{blocks}
 use Rattle.opfs_base.specs.declared.extents.Extent.{Extent}
 use Rattle.opfs_books.specs.Laws.Books.{IsPlaced}
 use Rattle.opfs_pages.specs.HistoryLaws.Open.{open_at, file_in}
-use Rattle.opfs_desk_parts.specs.Seen.{machine_in, tree_in}
+use Rattle.opfs_desk_steps.specs.Parts.Seen.{machine_in, tree_in}
 use Rattle.opfs_hist.specs.declared.entry.Entry.{Entry}
 use Rattle.opfs_machine.specs.Histories.{state_after}
 use Rattle.opfs_machine.specs.Steps.{is_refusal}

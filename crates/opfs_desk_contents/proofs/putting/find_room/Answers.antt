@@ -1,9 +1,9 @@
 use Rattle.std.proofs.Common.{◌≡◌, length, [], refl, sym, ap, subst, ◌∙◌, arith}
 use Rattle.opfs_blocks.specs.Sets.{AreBelow}
 use Rattle.opfs_books.specs.Laws.Laws.{told}
-use Rattle.opfs_desk_parts.specs.Held.{AreHeldAt, AreHeldWhole}
-use Rattle.opfs_desk_parts.specs.Seen.{machine_in, tree_in, book_in}
-use Rattle.opfs_desk_ways.proofs.Ways.{way-here}
+use Rattle.opfs_desk_steps.specs.Parts.Held.{AreHeldAt, AreHeldWhole}
+use Rattle.opfs_desk_steps.specs.Parts.Seen.{machine_in, tree_in, book_in}
+use Rattle.opfs_desk_steps.proofs.book_steps.Ways.{way-here}
 use Rattle.opfs_machine.specs.Histories.{state_after}
 use Rattle.opfs_records.specs.Replay.Built.{named}
 use Rattle.opfs_pages.specs.RowCalls.Plans.{MayFindBlocks}

@@ -1,6 +1,6 @@
 use Rattle.std.proofs.Common.{ℕ, [], refl, sym, subst, ◌∙◌, arith}
 use Rattle.opfs_data.specs.Writes.{WriteList, HasBytes}
-use Rattle.opfs_desk_ways.proofs.Alike.{leaves-alike}
+use Rattle.opfs_desk_steps.proofs.book_steps.Alike.{leaves-alike}
 use Rattle.opfs_desk_contents.specs.Putting.{HasContent, KeepsEnough}
 use Rattle.opfs_desk_contents.proofs.Found.{enough-now}
 use Rattle.opfs_desk_contents.proofs.Going.{cleared-both, gotten-on, ready-put, row-on, whole-now}

@@ -1,5 +1,5 @@
 use Rattle.std.proofs.Common.{[], arith}
-use Rattle.opfs_desk_parts.specs.declared.parts.Ledger.{Ledger}
+use Rattle.opfs_desk_steps.specs.declared.parts.parts.Ledger.{Ledger}
 use Rattle.opfs_machine.specs.Histories.{state_after}
 use Rattle.opfs_desk_contents.proofs.Settled.{settled-held, settled-cleared}
 use Rattle.opfs_desk_contents.proofs.putting.settle_doubt.Goals as goal

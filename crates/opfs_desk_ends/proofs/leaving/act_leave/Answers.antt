@@ -1,9 +1,9 @@
 use Rattle.std.proofs.Common.{[], refl, subst, arith}
 use Rattle.opfs_machine.specs.Histories.{state_after}
 use Rattle.opfs_machine.specs.Replies.{row_named}
-use Rattle.opfs_desk_parts.specs.Seen.{machine_in}
-use Rattle.opfs_desk_parts.specs.declared.parts.Pages.{Pages}
-use Rattle.opfs_desk_parts.specs.declared.parts.Parts.{Parts}
+use Rattle.opfs_desk_steps.specs.Parts.Seen.{machine_in}
+use Rattle.opfs_desk_steps.specs.declared.parts.parts.Pages.{Pages}
+use Rattle.opfs_desk_steps.specs.declared.parts.parts.Parts.{Parts}
 use Rattle.opfs_desk_steps.specs.Going.{HasTakenIn}
 use Rattle.opfs_desk_plain.specs.Silent.{BeginsCall}
 use Rattle.opfs_desk_ends.proofs.Ended.{HasDropped, agent-is, leave-acted, may-come, word-mid}

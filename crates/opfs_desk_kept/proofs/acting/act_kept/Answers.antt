@@ -8,9 +8,9 @@ use Rattle.opfs_hist.specs.declared.reply.Reply.TheVariants as reply
 use Rattle.opfs_machine.specs.Agents.{agent_of}
 use Rattle.opfs_machine.specs.Histories.{state_after}
 use Rattle.opfs_machine.specs.declared.state.Sizes.{Sizes}
-use Rattle.opfs_desk_parts.specs.Answered.{IsAnswered}
-use Rattle.opfs_desk_parts.specs.Seen.{machine_in, call_in, units_in}
-use Rattle.opfs_desk_parts.specs.declared.parts.Parts.{Parts}
+use Rattle.opfs_desk_steps.specs.Parts.Answered.{IsAnswered}
+use Rattle.opfs_desk_steps.specs.Parts.Seen.{machine_in, call_in, units_in}
+use Rattle.opfs_desk_steps.specs.declared.parts.parts.Parts.{Parts}
 use Rattle.opfs_desk_kept.specs.Changing.{HasChanged, HasNotChanged}
 use Rattle.opfs_desk_kept.specs.Keeping.{keeps_back, is_well_named, entry_place, entry_name, HasOwnKey}
 use Rattle.opfs_desk_steps.specs.Going.{HasTakenIn, HasMadeWay}

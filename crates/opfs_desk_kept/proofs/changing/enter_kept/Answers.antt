@@ -2,7 +2,7 @@ use Rattle.std.proofs.Common.{ap, subst}
 use Rattle.opfs_codec.specs.Fields.{plain}
 use Rattle.opfs_codec.specs.declared.change.Change.{Change as Spelled}
 use Rattle.opfs_machine.specs.Steps.{is_refusal}
-use Rattle.opfs_desk_parts.specs.Seen.{machine_in}
+use Rattle.opfs_desk_steps.specs.Parts.Seen.{machine_in}
 use Rattle.opfs_desk_kept.specs.Changing.{HasChanged, HasNotChanged}
 use Rattle.opfs_desk_kept.proofs.Ready.{own-is, may-be-stored, may-store-call, spelled-own, quiet-own, fits-own}
 use Rattle.opfs_desk_kept.proofs.Words.{kept-word}

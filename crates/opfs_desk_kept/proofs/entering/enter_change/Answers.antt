@@ -2,7 +2,7 @@ use Rattle.std.proofs.Common.{◌≡◌, subst, Option, List}
 use Rattle.opfs_base.specs.declared.extents.Extent.{Extent}
 use Rattle.opfs_state_rows.specs.Changes.Changed.{tree_by}
 use Rattle.opfs_codec.specs.Fields.{plain}
-use Rattle.opfs_desk_parts.specs.Seen.{machine_in, tree_in}
+use Rattle.opfs_desk_steps.specs.Parts.Seen.{machine_in, tree_in}
 use Rattle.opfs_desk_kept.proofs.Entered.{kept-changed, stored-changed, not-changed, quiet-stands}
 use Rattle.opfs_desk_kept.proofs.entering.enter_change.Goals as goal
 

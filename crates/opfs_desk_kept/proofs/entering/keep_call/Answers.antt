@@ -1,9 +1,9 @@
 use Rattle.std.proofs.Common.{◌++◌, length, refl, ap, arith}
 use Rattle.opfs_state_rows.specs.Changes.Changed.{freed_in}
-use Rattle.opfs_desk_parts.specs.Seen.{machine_in, tree_in, book_in}
-use Rattle.opfs_desk_parts.specs.declared.parts.Ledger.{Ledger}
-use Rattle.opfs_desk_ways.proofs.Books.{room-freed, may-apply}
-use Rattle.opfs_desk_ways.proofs.Held.{tied-same}
+use Rattle.opfs_desk_steps.specs.Parts.Seen.{machine_in, tree_in, book_in}
+use Rattle.opfs_desk_steps.specs.declared.parts.parts.Ledger.{Ledger}
+use Rattle.opfs_desk_steps.proofs.book_steps.Books.{room-freed, may-apply}
+use Rattle.opfs_desk_steps.proofs.book_steps.Held.{tied-same}
 use Rattle.opfs_desk_kept.proofs.entering.keep_call.Goals as goal
 
 pub keep-requires-clause-come : goal.keep-requires-clause-come

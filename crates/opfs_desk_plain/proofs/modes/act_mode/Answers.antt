@@ -3,7 +3,7 @@ use Rattle.opfs_store.specs.Acts.Acting.{unread_gift}
 use Rattle.opfs_store.specs.declared.acts.acted.Gift.TheVariants as gift
 use Rattle.opfs_laws.specs.Histories.Unread.{unread}
 use Rattle.opfs_machine.specs.Histories.{state_after}
-use Rattle.opfs_desk_parts.specs.Seen.{machine_in}
+use Rattle.opfs_desk_steps.specs.Parts.Seen.{machine_in}
 use Rattle.opfs_desk_plain.specs.Silent.{BeginsCall}
 use Rattle.opfs_desk_plain.proofs.Flags.{has-key, key-there, mode-answered, no-gift}
 use Rattle.opfs_desk_plain.proofs.Noted.{noted-is, sum_of}

@@ -5,8 +5,8 @@ use Rattle.opfs_hist.specs.declared.reply.Reply.{Reply}
 use Rattle.opfs_laws.specs.Histories.Unread.{unread}
 use Rattle.opfs_machine.specs.Histories.{state_after}
 use Rattle.opfs_state_rows.specs.Standing.Seen.{Machine}
-use Rattle.opfs_desk_parts.specs.Acted.{HasActed}
-use Rattle.opfs_desk_parts.specs.Seen.{machine_in, tree_in, call_in}
+use Rattle.opfs_desk_steps.specs.Parts.Acted.{HasActed}
+use Rattle.opfs_desk_steps.specs.Parts.Seen.{machine_in, tree_in, call_in}
 use Rattle.opfs_desk_plain.specs.Silent.{BeginsCall}
 use Rattle.opfs_desk_plain.proofs.Nexts.{next-makes-none, next-only, next-told, up-to-by}
 use Rattle.opfs_desk_plain.proofs.Noted.{noted-is}

@@ -1,7 +1,7 @@
 use Rattle.std.proofs.Common.{[], refl, arith}
 use Rattle.opfs_machine.specs.Histories.{state_after}
-use Rattle.opfs_desk_parts.specs.Seen.{machine_in, tree_in}
-use Rattle.opfs_desk_parts.specs.declared.parts.Parts.{Parts}
+use Rattle.opfs_desk_steps.specs.Parts.Seen.{machine_in, tree_in}
+use Rattle.opfs_desk_steps.specs.declared.parts.parts.Parts.{Parts}
 use Rattle.opfs_desk_steps.specs.Going.{HasTakenIn}
 use Rattle.opfs_desk_plain.specs.Silent.{BeginsCall}
 use Rattle.opfs_desk_plain.proofs.TellsOnly.{agent-is, may-come, only, tell-acted}

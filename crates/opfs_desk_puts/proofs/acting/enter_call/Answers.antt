@@ -8,9 +8,9 @@ use Rattle.opfs_machine.specs.Replies.{row_named}
 use Rattle.opfs_pages.specs.Copies.{IsPageOf}
 use Rattle.opfs_pages.specs.Stages.{changed}
 use Rattle.opfs_space.specs.Room.{Machine}
-use Rattle.opfs_desk_parts.specs.Acted.{HasActed}
-use Rattle.opfs_desk_parts.specs.Seen.{call_in, units_in}
-use Rattle.opfs_desk_parts.specs.declared.parts.Parts.{Parts}
+use Rattle.opfs_desk_steps.specs.Parts.Acted.{HasActed}
+use Rattle.opfs_desk_steps.specs.Parts.Seen.{call_in, units_in}
+use Rattle.opfs_desk_steps.specs.declared.parts.parts.Parts.{Parts}
 use Rattle.opfs_desk_reads.specs.Reading.{BeginsRead}
 use Rattle.opfs_desk_reads.proofs.Failed.{rows-failed}
 use Rattle.opfs_desk_steps.proofs.Counts.{own-length}

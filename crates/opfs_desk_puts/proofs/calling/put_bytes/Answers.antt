@@ -5,8 +5,8 @@ use Rattle.opfs_data.specs.Rows.{row_of}
 use Rattle.opfs_pages.specs.Stages.{IsReady}
 use Rattle.opfs_records.specs.Replay.Built.{named}
 use Rattle.opfs_tree.specs.Rows.{Rows as Tree}
-use Rattle.opfs_desk_parts.specs.declared.parts.Ledger.{Ledger}
-use Rattle.opfs_desk_parts.specs.declared.parts.Pages.{Pages}
+use Rattle.opfs_desk_steps.specs.declared.parts.parts.Ledger.{Ledger}
+use Rattle.opfs_desk_steps.specs.declared.parts.parts.Pages.{Pages}
 use Rattle.opfs_desk_reads.proofs.Readied.{read-acted, read-unacted}
 use Rattle.opfs_desk_puts.proofs.Planned.{acted-room, asked-room, is-plan, paged-room, planned-of, read-parts, stored-copy}
 use Rattle.opfs_desk_puts.proofs.Words.{on-disk}

@@ -1,6 +1,6 @@
 use Rattle.std.proofs.Common.{◌++◌, length, None, refl, ap, arith}
 use Rattle.opfs_state_rows.specs.Changes.Changed.{freed_in}
-use Rattle.opfs_desk_parts.specs.Seen.{machine_in, tree_in, book_in}
+use Rattle.opfs_desk_steps.specs.Parts.Seen.{machine_in, tree_in, book_in}
 use Rattle.opfs_desk_puts.proofs.Entered.{may-apply}
 use Rattle.opfs_desk_puts.proofs.Words.{frees-none, silent}
 use Rattle.opfs_desk_puts.proofs.entering.tell_put.Goals as goal

@@ -4,7 +4,7 @@ use Rattle.opfs_records.specs.Replay.Built.{named}
 use Rattle.opfs_pages.specs.RowCalls.Plans.{MayFindBlocks}
 use Rattle.opfs_state.specs.Applied.{StateSeen}
 use Rattle.opfs_tree.specs.Rows.{Rows as Tree}
-use Rattle.opfs_desk_parts.specs.Seen.{tree_in}
+use Rattle.opfs_desk_steps.specs.Parts.Seen.{tree_in}
 use Rattle.opfs_desk_puts.specs.Putting.{IsUsed}
 use Rattle.opfs_desk_puts.proofs.Found.{files-below, pages-below, found-at-once, may-find, found-then}
 use Rattle.opfs_desk_puts.proofs.putting.find_room.Goals as goal

@@ -1,7 +1,7 @@
 use Rattle.std.proofs.Common.{ℕ, List, [], refl, sym, subst, Err, arith}
 use Rattle.opfs_machine.specs.Histories.{state_after}
-use Rattle.opfs_desk_parts.specs.Seen.{machine_in}
-use Rattle.opfs_desk_parts.specs.declared.parts.Ledger.{Ledger}
+use Rattle.opfs_desk_steps.specs.Parts.Seen.{machine_in}
+use Rattle.opfs_desk_steps.specs.declared.parts.parts.Ledger.{Ledger}
 use Rattle.opfs_desk_reads.specs.Files.{IsReadOfFile}
 use Rattle.opfs_desk_reads.specs.Words.{file_read}
 use Rattle.opfs_desk_reads.proofs.FileWords.{on-disk}

@@ -9,9 +9,9 @@ use Rattle.opfs_machine.specs.Steps.{is_refusal}
 use Rattle.opfs_machine.specs.declared.state.Sizes.{Sizes}
 use Rattle.opfs_space.specs.Room.{Machine}
 use Rattle.opfs_desk_steps.proofs.Counts.{own-length}
-use Rattle.opfs_desk_parts.specs.Answered.{IsAnswered}
-use Rattle.opfs_desk_parts.specs.Seen.{machine_in, tree_in, call_in, units_in}
-use Rattle.opfs_desk_parts.specs.declared.parts.Parts.{Parts}
+use Rattle.opfs_desk_steps.specs.Parts.Answered.{IsAnswered}
+use Rattle.opfs_desk_steps.specs.Parts.Seen.{machine_in, tree_in, call_in, units_in}
+use Rattle.opfs_desk_steps.specs.declared.parts.parts.Parts.{Parts}
 use Rattle.opfs_desk_steps.specs.Going.{HasTakenIn, HasMadeWay, HasTold}
 use Rattle.opfs_desk_reads.specs.Reading.{BeginsRead}
 use Rattle.opfs_desk_reads.specs.Words.{file_read}

@@ -2,7 +2,7 @@ use Rattle.std.proofs.Common.{ℕ, [], refl, sym, subst, Err, arith}
 use Rattle.opfs_data.specs.Rows.{pages_at}
 use Rattle.opfs_pages.specs.Copies.{HasFar}
 use Rattle.opfs_machine.specs.Histories.{state_after}
-use Rattle.opfs_desk_parts.specs.declared.parts.Ledger.{Ledger}
+use Rattle.opfs_desk_steps.specs.declared.parts.parts.Ledger.{Ledger}
 use Rattle.opfs_desk_reads.proofs.Readied.{read-held, read-acted, read-unacted}
 use Rattle.opfs_desk_reads.proofs.Synced.{stored, is-read}
 use Rattle.opfs_desk_reads.proofs.Words.{on-disk}

@@ -1,10 +1,10 @@
 use Rattle.std.proofs.Common.{List, sym, subst}
 use Rattle.opfs_hist.specs.declared.entry.Entry.{Entry}
 use Rattle.opfs_machine.specs.Histories.{state_after}
-use Rattle.opfs_desk_parts.specs.Acted.{AreCleared, HasFailed}
-use Rattle.opfs_desk_parts.specs.Seen.{units_in}
-use Rattle.opfs_desk_parts.specs.declared.call.Clearing.{Clearing}
-use Rattle.opfs_desk_ways.specs.Clearing.{IsJudged}
+use Rattle.opfs_desk_steps.specs.Parts.Acted.{AreCleared, HasFailed}
+use Rattle.opfs_desk_steps.specs.Parts.Seen.{units_in}
+use Rattle.opfs_desk_steps.specs.declared.parts.call.Clearing.{Clearing}
+use Rattle.opfs_desk_steps.specs.BookSteps.Clearing.{IsJudged}
 use Rattle.opfs_desk_steps.proofs.clearing.clear_way.Goals as goal
 
 pub returns-in-Ok-clause-cleared : goal.returns-in-Ok-clause-cleared

@@ -2,8 +2,8 @@ use Rattle.std.proofs.Common.{sym, subst}
 use Rattle.opfs_store.specs.Acts.Acting.{told_entry}
 use Rattle.opfs_hist.specs.declared.entry.Entry.{Entry}
 use Rattle.opfs_machine.specs.declared.state.Sizes.{Sizes}
-use Rattle.opfs_desk_parts.specs.Answered.{IsAnswered}
-use Rattle.opfs_desk_parts.specs.Seen.{call_in}
+use Rattle.opfs_desk_steps.specs.Parts.Answered.{IsAnswered}
+use Rattle.opfs_desk_steps.specs.Parts.Seen.{call_in}
 use Rattle.opfs_desk_steps.specs.Going.{HasTold}
 use Rattle.opfs_desk_steps.proofs.telling.tell_in_hand.Goals as goal
 

@@ -9,8 +9,8 @@ use Rattle.opfs_machine.specs.Replies.{row_named}
 use Rattle.opfs_space.specs.Room.{Machine}
 use Rattle.opfs_blocks.specs.Sets.{blocks_of, AreBelow}
 use Rattle.opfs_desk_contents.specs.Words.{ends_row, is_storing}
-use Rattle.opfs_desk_parts.specs.Seen.{call_in, machine_in}
-use Rattle.opfs_desk_parts.specs.declared.parts.Parts.{Parts}
+use Rattle.opfs_desk_steps.specs.Parts.Seen.{call_in, machine_in}
+use Rattle.opfs_desk_steps.specs.declared.parts.parts.Parts.{Parts}
 use Rattle.opfs_desk_plain.specs.Silent.{BeginsCall}
 use Rattle.opfs_desk_reads.proofs.Failed.{rows-failed}
 use Rattle.opfs_desk_steps.specs.Going.{HasTakenIn}

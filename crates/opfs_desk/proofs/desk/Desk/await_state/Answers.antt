@@ -4,7 +4,7 @@ use Rattle.opfs_store.specs.declared.acts.acted.AwaitState.TheVariants as await
 use Rattle.opfs_base.specs.Texts.{Text}
 use Rattle.opfs_machine.specs.Histories.{state_after}
 use Rattle.opfs_books.specs.Openings.Openings.{fixed_by}
-use Rattle.opfs_desk_parts.specs.Seen.{machine_in}
+use Rattle.opfs_desk_steps.specs.Parts.Seen.{machine_in}
 use Rattle.opfs_desk.proofs.Tags.{agent-there, is-there, is-stuck, is-neither}
 use Rattle.opfs_desk.proofs.desk.Desk.await_state.Goals as goal
 

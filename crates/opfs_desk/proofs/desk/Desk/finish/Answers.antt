@@ -1,7 +1,7 @@
 use Rattle.std.proofs.Common.{[]}
 use Rattle.opfs_machine.specs.Histories.{state_after}
 use Rattle.opfs_books.specs.Openings.Openings.{fixed_by}
-use Rattle.opfs_desk_parts.specs.declared.parts.Ledger.{Ledger}
+use Rattle.opfs_desk_steps.specs.declared.parts.parts.Ledger.{Ledger}
 use Rattle.opfs_desk.specs.Seen.{DeskSeen, entries_of}
 use Rattle.opfs_desk.proofs.Apart.{told-apart}
 use Rattle.opfs_desk.proofs.Shown.{is-legal, stands-whole, shows-ending, ends-time, ends-trail, keeps-sizes, leaves-front, counts-all}

@@ -1,7 +1,7 @@
 use Rattle.std.proofs.Common.{[]}
 use Rattle.opfs_machine.specs.Histories.{state_after}
 use Rattle.opfs_books.specs.Openings.Openings.{fixed_by}
-use Rattle.opfs_desk_parts.specs.Seen.{book_in}
+use Rattle.opfs_desk_steps.specs.Parts.Seen.{book_in}
 use Rattle.opfs_desk.specs.Seen.{DeskSeen, entries_of}
 use Rattle.opfs_desk.proofs.Shown.{is-legal}
 use Rattle.opfs_desk.proofs.desk.Desk.legal.Goals as goal

@@ -3,7 +3,7 @@ use Rattle.opfs_base.specs.Texts.{Text}
 use Rattle.opfs_books.specs.Opened.{IsOpened}
 use Rattle.opfs_image.specs.Agreeing.{built_in}
 use Rattle.opfs_image.specs.declared.recovered.Recovered.{Recovered}
-use Rattle.opfs_iterating.specs.Known.{AreReached}
+use Rattle.opfs_desk_steps.specs.Iterating.Known.{AreReached}
 use Rattle.opfs_journal.specs.Seen.{Seen}
 use Rattle.opfs_machine.specs.Histories.{state_after}
 use Rattle.opfs_machine.specs.declared.state.Limits.{Limits}
@@ -13,9 +13,9 @@ use Rattle.opfs_state_rows.specs.Standing.Beginnings.{IsBegun}
 use Rattle.opfs_state.specs.Applied.{StateSeen, opened}
 use Rattle.opfs_tree.specs.Rows.{Rows as Tree}
 use Rattle.opfs_pages.specs.HistoryLaws.Handles.{AreHandlesWhole}
-use Rattle.opfs_desk_parts.specs.Held.{AreHeld}
-use Rattle.opfs_desk_parts.specs.declared.parts.Ledger.{Ledger}
-use Rattle.opfs_desk_parts.specs.declared.parts.Pages.{Pages}
+use Rattle.opfs_desk_steps.specs.Parts.Held.{AreHeld}
+use Rattle.opfs_desk_steps.specs.declared.parts.parts.Ledger.{Ledger}
+use Rattle.opfs_desk_steps.specs.declared.parts.parts.Pages.{Pages}
 use Rattle.opfs_desk.specs.Resting.{IsResting}
 use Rattle.opfs_desk.proofs.Begun.{used-long, made-held, time-begun}
 use Rattle.opfs_desk.proofs.desk.Desk.make.Goals as goal

@@ -1,5 +1,0 @@
-use Rattle.opfs_desk_rows.proofs.Opening.{opened-laid}
-use Rattle.opfs_desk_rows.proofs.laws.opened_rows_are_laid.Goals as goal
-
-pub returns : goal.returns
-returns g c = opened-laid c.blocks_go_on.ensures c.blocks_tell_a_file.ensures c.calls_leave_other_rows.ensures g.D.Disk c.rows_in_hand_are_laid.ensures

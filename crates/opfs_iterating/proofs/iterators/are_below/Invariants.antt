@@ -1,6 +1,0 @@
-use Rattle.std.proofs.Common.{drop}
-use Rattle.opfs_iterating.specs.Below.{AreBelow}
-use Rattle.opfs_iterating.proofs.iterators.are_below.Given as goal
-
-abbrev pub invariant-loop-other : goal.invariant-loop-other
-invariant-loop-other l = AreBelow l.name (drop l.other-index l.past) → AreBelow l.name l.past

@@ -1,9 +1,0 @@
-//! What an iterator has given of a directory, and how long that is known.
-#![tactic(auto)]
-
-pub mod going_on;
-mod iterators;
-mod words;
-
-pub use iterators::{Followed, Iterators};
-pub use words::{asked_row, may_make};
