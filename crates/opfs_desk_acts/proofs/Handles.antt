@@ -30,9 +30,9 @@ use Rattle.opfs_desk_steps.specs.Parts.Seen.{machine_in}
 use Rattle.opfs_desk_steps.specs.declared.parts.call.InHand.{InHand}
 use Rattle.opfs_desk_steps.specs.declared.parts.parts.Ledger.{Ledger}
 use Rattle.opfs_desk_steps.specs.declared.parts.parts.Pages.{Pages}
-use Rattle.opfs_desk_plain.specs.Silent.{BeginsCall}
-use Rattle.opfs_desk_plain.proofs.Noted.{noted-is, sum_of}
-use Rattle.opfs_desk_plain.proofs.Words.{before}
+use Rattle.opfs_desk_entries.specs.Answers.Silent.{BeginsCall}
+use Rattle.opfs_desk_entries.proofs.answers.Noted.{noted-is, sum_of}
+use Rattle.opfs_desk_entries.proofs.answers.Words.{before}
 use Rattle.opfs_desk_acts.specs.Kinds.{has_handle}
 
 handle-at : (m : Machine) (k : ℕ) (sum : PendingSum) (n : ℕ) → IsAgent m k → open_handle in_lengths (with_sum m (k - 1) sum) k n ≡ open_handle in_lengths m k n

@@ -16,7 +16,7 @@ use Rattle.opfs_work.specs.Works.{WorkingCopy}
 use Rattle.opfs_desk_steps.specs.Parts.Asked.{IsAsked, MayGo}
 use Rattle.opfs_desk_steps.specs.declared.parts.call.InHand.{InHand}
 use Rattle.opfs_desk_steps.specs.declared.parts.parts.Parts.{Parts}
-use Rattle.opfs_desk_plain.specs.Next.{is_next}
+use Rattle.opfs_desk_entries.specs.Answers.Next.{is_next}
 use Rattle.opfs_state_rows.specs.Standing.Seen.{Machine}
 use Rattle.opfs_desk_acts.specs.Kinds.{IsOfKind}
 use Rattle.opfs_desk_acts.specs.declared.kinds.CallKind.{CallKind}

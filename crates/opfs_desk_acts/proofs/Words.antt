@@ -11,12 +11,12 @@ use Rattle.opfs_base.specs.declared.locator.Kind.TheVariants as sort
 use Rattle.opfs_base.specs.declared.locator.Locator.{Locator}
 use Rattle.opfs_state_rows.specs.Changes.Asking.{free_in, growth_of, made_at, makes_row, mode_growth, root_in, root_place, row_growth, target_of, where_free}
 use Rattle.opfs_desk_contents.specs.Words.{flushes_nothing, stores_row}
-use Rattle.opfs_desk_ends.specs.Leaving.{leaves_row}
-use Rattle.opfs_desk_grants.specs.Estimating.{is_estimate}
-use Rattle.opfs_desk_grants.specs.Granting.{gives_among, gives_mode}
-use Rattle.opfs_desk_kept.specs.Keeping.{keeps_back, makes_root}
-use Rattle.opfs_desk_plain.specs.Next.{is_next}
-use Rattle.opfs_desk_plain.specs.Telling.{is_done, is_of_mode}
+use Rattle.opfs_desk_entries.specs.Releases.Leaving.{leaves_row}
+use Rattle.opfs_desk_entries.specs.Buckets.Estimating.{is_estimate}
+use Rattle.opfs_desk_entries.specs.Buckets.Granting.{gives_among, gives_mode}
+use Rattle.opfs_desk_entries.specs.KeptBack.Keeping.{keeps_back, makes_root}
+use Rattle.opfs_desk_entries.specs.Answers.Next.{is_next}
+use Rattle.opfs_desk_entries.specs.Answers.Telling.{is_done, is_of_mode}
 use Rattle.opfs_desk_reads.specs.Words.{gets_file, reads_row}
 use Rattle.opfs_desk_steps.specs.RowLaws.Opens.{opens_row}
 use Rattle.opfs_desk_steps.specs.RowLaws.Puts.{puts_row}

@@ -3,12 +3,12 @@ use Rattle.std.specs.Prelude.{◌≡◌, ℕ, Bool, true, is_some}
 use Rattle.opfs_desk_acts.specs.declared.kinds.CallKind.{CallKind}
 use Rattle.opfs_desk_acts.specs.declared.kinds.CallKind.TheVariants as kind
 use Rattle.opfs_desk_contents.specs.Words.{flushes_nothing, stores_row}
-use Rattle.opfs_desk_ends.specs.Leaving.{leaves_row}
-use Rattle.opfs_desk_grants.specs.Estimating.{is_estimate}
-use Rattle.opfs_desk_grants.specs.Granting.{gives_mode}
-use Rattle.opfs_desk_kept.specs.Keeping.{keeps_back}
-use Rattle.opfs_desk_plain.specs.Next.{is_next}
-use Rattle.opfs_desk_plain.specs.Telling.{TellsOnly, is_done, is_of_mode}
+use Rattle.opfs_desk_entries.specs.Releases.Leaving.{leaves_row}
+use Rattle.opfs_desk_entries.specs.Buckets.Estimating.{is_estimate}
+use Rattle.opfs_desk_entries.specs.Buckets.Granting.{gives_mode}
+use Rattle.opfs_desk_entries.specs.KeptBack.Keeping.{keeps_back}
+use Rattle.opfs_desk_entries.specs.Answers.Next.{is_next}
+use Rattle.opfs_desk_entries.specs.Answers.Telling.{TellsOnly, is_done, is_of_mode}
 use Rattle.opfs_desk_reads.specs.Words.{gets_file, reads_row}
 use Rattle.opfs_desk_steps.specs.RowLaws.Opens.{opens_row}
 use Rattle.opfs_desk_steps.specs.RowLaws.Puts.{puts_row}

@@ -10,7 +10,7 @@ ghost use Rattle.opfs_desk_steps.specs.Parts.Acted.{HasActed, IsUnacted};
 ghost use Rattle.opfs_desk_steps.specs.Parts.Asked.{IsAsked, MayGo};
 ghost use Rattle.opfs_desk_steps.specs.Parts.Held.{AreHeldWhole};
 ghost use Rattle.opfs_desk_steps.specs.Parts.Seen.{machine_in, call_in};
-ghost use Rattle.opfs_desk_plain.specs.Next.{MayGoFrom};
+ghost use Rattle.opfs_desk_entries.specs.Answers.Next.{MayGoFrom};
 ghost use Rattle.opfs_desk_reads.specs.Reading.{HaveWholeHandles};
 ghost use Rattle.opfs_desk_steps.specs.Ready.{AskedCallsAreReady};
 ghost use Rattle.opfs_laws.specs.Lengths.Bridge.{LengthsFollowEachCall, LocalCallsAreKnownByTheirWord};
@@ -19,11 +19,10 @@ ghost use Rattle.opfs_records.specs.Replay.Built.{Built};
 use crate::kinds::{CallKind, kind_of};
 use opfs_base::Name;
 use opfs_desk_again::act_idle_flush;
-use opfs_desk_ends::act_leave;
-use opfs_desk_grants::{act_estimate, act_persist};
-use opfs_desk_kept::act_kept;
+use opfs_desk_entries::{
+    act_estimate, act_kept, act_leave, act_mode, act_next, act_persist, act_told,
+};
 use opfs_desk_opens::act_open;
-use opfs_desk_plain::{act_mode, act_next, act_told};
 use opfs_desk_puts::act_put;
 use opfs_desk_reads::{act_get_file, act_sync_read};
 use opfs_desk_steps::{InHand, Parts, asked_calls_are_ready};

@@ -10,14 +10,14 @@ ghost use Rattle.opfs_desk_steps.specs.Parts.Acted.{HasActed};
 ghost use Rattle.opfs_desk_steps.specs.Parts.Asked.{IsAsked, MayGo};
 ghost use Rattle.opfs_desk_steps.specs.Parts.Held.{AreHeldWhole};
 ghost use Rattle.opfs_desk_steps.specs.Parts.Seen.{call_in};
-ghost use Rattle.opfs_desk_plain.specs.Next.{MayGoFrom};
+ghost use Rattle.opfs_desk_entries.specs.Answers.Next.{MayGoFrom};
 ghost use Rattle.opfs_desk_reads.specs.Reading.{HaveWholeHandles};
 ghost use Rattle.opfs_records.specs.Replay.Built.{Built};
 
 use crate::acting::act_asked;
 use opfs_base::Name;
 use opfs_books::the_books_show_their_images;
-use opfs_desk_plain::act_refused;
+use opfs_desk_entries::act_refused;
 use opfs_desk_steps::{Asked, InHand, Ledger, Parts, Readied, ask_call};
 use opfs_hist::{Op, Pending, Room};
 use opfs_outside::Disk;

@@ -38,7 +38,7 @@ use Rattle.opfs_tree.specs.Rows.{IsInOrder}
 use Rattle.opfs_state.specs.Verdicts.Callers.{IsAgent}
 use Rattle.opfs_work.specs.Works.{WorkingCopy}
 use Rattle.opfs_desk_contents.specs.Words.{flushes_nothing, ends_row}
-use Rattle.opfs_desk_ends.specs.Leaving.{IsInOrderThrough}
+use Rattle.opfs_desk_entries.specs.Releases.Leaving.{IsInOrderThrough}
 use Rattle.opfs_desk_steps.specs.Parts.Acted.{HasActed}
 use Rattle.opfs_desk_steps.specs.Parts.Answered.{IsAnswered}
 use Rattle.opfs_desk_steps.specs.Parts.Held.{AreHeldWhole}
@@ -46,8 +46,8 @@ use Rattle.opfs_desk_steps.specs.Parts.Seen.{machine_in, book_in, call_in, units
 use Rattle.opfs_desk_steps.specs.declared.parts.call.InHand.{InHand}
 use Rattle.opfs_desk_steps.specs.declared.parts.parts.Ledger.{Ledger}
 use Rattle.opfs_desk_steps.specs.declared.parts.parts.Pages.{Pages}
-use Rattle.opfs_desk_plain.specs.Silent.{BeginsCall, told_act}
-use Rattle.opfs_desk_plain.proofs.Silent.{ready, answered}
+use Rattle.opfs_desk_entries.specs.Answers.Silent.{BeginsCall, told_act}
+use Rattle.opfs_desk_entries.proofs.answers.Silent.{ready, answered}
 use Rattle.opfs_desk_reads.proofs.Synced.{HandlesStand, handed}
 use Rattle.opfs_desk_reads.proofs.Wholes.{pending-whole}
 use Rattle.opfs_desk_steps.specs.Acting.{CallsAreActed}

@@ -10,9 +10,9 @@ use Rattle.opfs_desk_steps.specs.Parts.Seen.{machine_in}
 use Rattle.opfs_desk_steps.specs.declared.parts.call.InHand.{InHand}
 use Rattle.opfs_desk_steps.specs.declared.parts.parts.Ledger.{Ledger}
 use Rattle.opfs_desk_steps.specs.declared.parts.parts.Pages.{Pages}
-use Rattle.opfs_desk_plain.specs.Silent.{BeginsCall}
-use Rattle.opfs_desk_plain.proofs.Noted.{mid-noted, sum_of}
-use Rattle.opfs_desk_plain.proofs.Words.{before}
+use Rattle.opfs_desk_entries.specs.Answers.Silent.{BeginsCall}
+use Rattle.opfs_desk_entries.proofs.answers.Noted.{mid-noted, sum_of}
+use Rattle.opfs_desk_entries.proofs.answers.Words.{before}
 use Rattle.opfs_desk_reads.proofs.Synced.{HandlesStand}
 use Rattle.opfs_desk_steps.specs.Going.{HasTakenIn}
 use Rattle.opfs_hist.specs.Sums.{asks_for_row}

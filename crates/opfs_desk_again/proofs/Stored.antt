@@ -58,8 +58,8 @@ use Rattle.opfs_desk_contents.specs.Rows.{IsWriterOf}
 use Rattle.opfs_desk_contents.specs.Storing.{HasStored, MayStoreContent, content_now}
 use Rattle.opfs_desk_contents.specs.Words.{ends_row, stamp_stored, stores_row}
 use Rattle.opfs_desk_contents.proofs.Stowed.{spelled-runs, written-there}
-use Rattle.opfs_desk_kept.specs.Changing.{HasNotChanged}
-use Rattle.opfs_desk_kept.proofs.Shown.{has-failed, way-ended}
+use Rattle.opfs_desk_entries.specs.KeptBack.Changing.{HasNotChanged}
+use Rattle.opfs_desk_entries.proofs.kept_back.Shown.{has-failed, way-ended}
 use Rattle.opfs_desk_steps.specs.Parts.Acted.{HasActed, HasFailed, IsWayEnded}
 use Rattle.opfs_desk_steps.specs.Parts.Answered.{IsAnswered}
 use Rattle.opfs_desk_steps.specs.Parts.Held.{AreHeldAt, AreHeldWhole}
@@ -67,9 +67,9 @@ use Rattle.opfs_desk_steps.specs.Parts.Seen.{machine_in, tree_in, book_in, call_
 use Rattle.opfs_desk_steps.specs.declared.parts.call.InHand.{InHand}
 use Rattle.opfs_desk_steps.specs.declared.parts.parts.Ledger.{Ledger}
 use Rattle.opfs_desk_steps.specs.declared.parts.parts.Pages.{Pages}
-use Rattle.opfs_desk_plain.specs.Silent.{BeginsCall, told_act}
-use Rattle.opfs_desk_plain.proofs.Noted.{mid-noted}
-use Rattle.opfs_desk_plain.proofs.Silent.{ready}
+use Rattle.opfs_desk_entries.specs.Answers.Silent.{BeginsCall, told_act}
+use Rattle.opfs_desk_entries.proofs.answers.Noted.{mid-noted}
+use Rattle.opfs_desk_entries.proofs.answers.Silent.{ready}
 use Rattle.opfs_desk_reads.proofs.Synced.{HandlesStand, handed}
 use Rattle.opfs_desk_reads.proofs.Wholes.{pending-whole}
 use Rattle.opfs_desk_steps.specs.RowLaws.Inside.{PartsLieInside}

@@ -13,7 +13,7 @@ use Rattle.opfs_pages.specs.HistoryLaws.Hands.{row_in_hand}
 use Rattle.opfs_pages.specs.HistoryLaws.Laws.{TreesKeepBlocks}
 use Rattle.opfs_pages.specs.HistoryLaws.RowsAfter.{IsDone}
 use Rattle.opfs_pages.proofs.history_laws.HandleFiles.{changed-same}
-use Rattle.opfs_desk_plain.proofs.Words.{from-some, none-for, ok-is}
+use Rattle.opfs_desk_entries.proofs.answers.Words.{from-some, none-for, ok-is}
 use Rattle.opfs_hist.specs.Sums.{asks_for_row}
 use Rattle.opfs_hist.specs.declared.op.Mode.{Mode}
 use Rattle.opfs_hist.specs.declared.op.Mode.TheVariants as mode

@@ -12,7 +12,7 @@ ghost use Rattle.opfs_data.specs.Rows.{row_of, kept_count, OthersStay};
 ghost use Rattle.opfs_desk_again.specs.More.{HasMoreThanReserve};
 ghost use Rattle.opfs_desk_contents.specs.Storing.{HasStored, MayStoreContent, content_now};
 ghost use Rattle.opfs_desk_contents.specs.Words.{is_storing, stores_row};
-ghost use Rattle.opfs_desk_kept.specs.Changing.{HasNotChanged};
+ghost use Rattle.opfs_desk_entries.specs.KeptBack.Changing.{HasNotChanged};
 ghost use Rattle.opfs_pages.specs.HistoryLaws.Handles.{AreHandlesWhole};
 ghost use Rattle.opfs_desk_steps.specs.Parts.Acted.{HasActed, IsUnacted};
 ghost use Rattle.opfs_desk_steps.specs.Parts.Asked.{IsAsked, MayGo};

@@ -5,7 +5,7 @@ ghost use Rattle.opfs_store.specs.Acts.Acting.{IsSameCopy, told_entry};
 ghost use Rattle.opfs_base.specs.Texts.{Text};
 ghost use Rattle.opfs_books.specs.Laws.Books.{Fixed};
 ghost use Rattle.opfs_desk_contents.specs.Words.{flushes_nothing};
-ghost use Rattle.opfs_desk_ends.specs.Leaving.{IsInOrderThrough};
+ghost use Rattle.opfs_desk_entries.specs.Releases.Leaving.{IsInOrderThrough};
 ghost use Rattle.opfs_pages.specs.HistoryLaws.Handles.{AreHandlesWhole};
 ghost use Rattle.opfs_desk_steps.specs.Parts.Acted.{HasActed, IsUnacted};
 ghost use Rattle.opfs_desk_steps.specs.Parts.Answered.{IsAnswered, MayAnswer};

@@ -29,7 +29,7 @@ use Rattle.opfs_state.specs.Applied.{StateSeen, IsPrepared}
 use Rattle.opfs_tree.specs.Rows.{IsInOrder, file_at as file_in_tree}
 use Rattle.opfs_tree.specs.declared.row.FileRow.{FileRow}
 use Rattle.opfs_state.specs.Verdicts.Callers.{IsAgent}
-use Rattle.opfs_desk_kept.specs.Changing.{HasNotChanged}
+use Rattle.opfs_desk_entries.specs.KeptBack.Changing.{HasNotChanged}
 use Rattle.opfs_pages.specs.HistoryLaws.Open.{open_at, file_in}
 use Rattle.opfs_desk_steps.specs.Parts.Answered.{IsAnswered, MayChange}
 use Rattle.opfs_desk_steps.specs.Parts.Held.{AreHeldAt, AreHeldWhole}

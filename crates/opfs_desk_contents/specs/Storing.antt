@@ -34,7 +34,7 @@ use Rattle.opfs_records.specs.Checkpoint.Written.{IsWritablePlace}
 use Rattle.opfs_space.specs.Holders.{HasPage}
 use Rattle.opfs_tree.specs.Rows.{IsInOrder, file_at as file_in_tree}
 use Rattle.opfs_tree.specs.declared.row.FileRow.{FileRow}
-use Rattle.opfs_desk_kept.specs.Changing.{IsChangeShown}
+use Rattle.opfs_desk_entries.specs.KeptBack.Changing.{IsChangeShown}
 use Rattle.opfs_work.specs.Works.{WorkingCopy}
 use Rattle.opfs_desk_steps.specs.Parts.Acted.{AreCleared}
 use Rattle.opfs_desk_steps.specs.Parts.Answered.{IsAnswered, MayAnswer}

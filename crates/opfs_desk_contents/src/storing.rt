@@ -10,7 +10,7 @@ ghost use Rattle.opfs_codec.specs.Fields.{plain};
 ghost use Rattle.opfs_codec.specs.declared.change.Change.TheVariants.{Content};
 ghost use Rattle.opfs_desk_contents.specs.Storing.{MayStoreContent, HasStored, content_now};
 ghost use Rattle.opfs_desk_contents.specs.Words.{is_storing};
-ghost use Rattle.opfs_desk_kept.specs.Changing.{HasNotChanged};
+ghost use Rattle.opfs_desk_entries.specs.KeptBack.Changing.{HasNotChanged};
 ghost use Rattle.opfs_desk_steps.specs.Parts.Answered.{IsAnswered};
 ghost use Rattle.opfs_desk_steps.specs.Parts.Held.{AreHeldAt};
 ghost use Rattle.opfs_desk_steps.specs.Parts.Seen.{tree_in, book_in};

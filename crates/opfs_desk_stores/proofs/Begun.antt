@@ -51,8 +51,8 @@ use Rattle.opfs_desk_steps.specs.Parts.Seen.{machine_in, tree_in, call_in, units
 use Rattle.opfs_desk_steps.specs.declared.parts.call.InHand.{InHand}
 use Rattle.opfs_desk_steps.specs.declared.parts.parts.Ledger.{Ledger}
 use Rattle.opfs_desk_steps.specs.declared.parts.parts.Pages.{Pages}
-use Rattle.opfs_desk_plain.specs.Silent.{BeginsCall}
-use Rattle.opfs_desk_plain.proofs.Silent.{ready, answered}
+use Rattle.opfs_desk_entries.specs.Answers.Silent.{BeginsCall}
+use Rattle.opfs_desk_entries.proofs.answers.Silent.{ready, answered}
 use Rattle.opfs_desk_steps.specs.RowLaws.Stored.{FilesAreStored, HistoriesAreCleared, IsStoredAt}
 use Rattle.opfs_desk_steps.specs.Answering.{ReadyCallsAreAnswered, IsReply}
 use Rattle.opfs_desk_steps.specs.Going.{HasTakenIn}

@@ -66,8 +66,8 @@ use Rattle.opfs_desk_contents.specs.Storing.{AreRunsOf, HasStoredPages}
 use Rattle.opfs_desk_contents.specs.Words.{ends_row, is_storing, size_stored, stamp_stored}
 use Rattle.opfs_desk_contents.proofs.Storable.{answered-on, file-on, no-eviction, told-alike}
 use Rattle.opfs_desk_contents.proofs.Stowed.{spelled-runs}
-use Rattle.opfs_desk_kept.specs.Changing.{IsChangeShown}
-use Rattle.opfs_desk_kept.proofs.Shown.{way-ended}
+use Rattle.opfs_desk_entries.specs.KeptBack.Changing.{IsChangeShown}
+use Rattle.opfs_desk_entries.proofs.kept_back.Shown.{way-ended}
 use Rattle.opfs_desk_steps.specs.Parts.Acted.{HasActed, IsWayEnded}
 use Rattle.opfs_desk_steps.specs.Parts.Answered.{IsAnswered}
 use Rattle.opfs_desk_steps.specs.Parts.Held.{AreHeldAt, AreHeldWhole}

@@ -39,8 +39,8 @@ use Rattle.opfs_desk_steps.specs.Parts.Seen.{machine_in}
 use Rattle.opfs_desk_steps.specs.declared.parts.call.InHand.{InHand}
 use Rattle.opfs_desk_steps.specs.declared.parts.parts.Ledger.{Ledger}
 use Rattle.opfs_desk_steps.specs.declared.parts.parts.Pages.{Pages}
-use Rattle.opfs_desk_plain.specs.Silent.{BeginsCall}
-use Rattle.opfs_desk_plain.proofs.Noted.{noted-is, sum_of}
+use Rattle.opfs_desk_entries.specs.Answers.Silent.{BeginsCall}
+use Rattle.opfs_desk_entries.proofs.answers.Noted.{noted-is, sum_of}
 use Rattle.opfs_desk_steps.proofs.row_laws.Locked.{base-whole}
 use Rattle.opfs_desk_stores.proofs.Asked.{its-row, reserve-is, stood}
 use Rattle.opfs_desk_stores.proofs.StoredRows.{IsWriterIn, StoresRow, handle-outlined, stores-file}

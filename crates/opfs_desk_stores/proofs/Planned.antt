@@ -47,7 +47,7 @@ use Rattle.opfs_desk_steps.specs.declared.parts.call.InHand.{InHand}
 use Rattle.opfs_desk_steps.specs.declared.parts.parts.Ledger.{Ledger}
 use Rattle.opfs_desk_steps.specs.declared.parts.parts.Pages.{Pages}
 use Rattle.opfs_desk_reads.proofs.Readied.{read-held}
-use Rattle.opfs_desk_plain.specs.Silent.{BeginsCall}
+use Rattle.opfs_desk_entries.specs.Answers.Silent.{BeginsCall}
 use Rattle.opfs_desk_steps.specs.RowLaws.Copied.{CopiesAreStored, IsStoredCopy}
 use Rattle.opfs_desk_steps.specs.Ready.{AskedCallsAreReady}
 use Rattle.opfs_desk_stores.specs.Steps.{IsContentFor, IsContentPlanned}

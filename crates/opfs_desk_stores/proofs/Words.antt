@@ -39,7 +39,7 @@ use Rattle.opfs_state.proofs.laws.Readying.{agent-noted, handle-noted}
 use Rattle.opfs_state.specs.Verdicts.Callers.{IsAgent}
 use Rattle.opfs_desk_contents.specs.Rows.{IsWriterOf, StoresFile}
 use Rattle.opfs_desk_contents.specs.Words.{ends_row, is_storing, may_write, stores_row}
-use Rattle.opfs_desk_plain.proofs.Words.{before, from-some, none-for, ok-is}
+use Rattle.opfs_desk_entries.proofs.answers.Words.{before, from-some, none-for, ok-is}
 
 pub word-is : (m : Machine) (k : ℕ) (o : Op) → stores_row m k o ≡ true → is_storing o ≡ true
 word-is m k (op.Close n) h = refl

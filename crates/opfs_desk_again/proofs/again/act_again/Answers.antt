@@ -14,14 +14,14 @@ use Rattle.opfs_state.specs.Reading.{row_file}
 use Rattle.opfs_tree.specs.Rows.{file_at as file_in_tree}
 use Rattle.opfs_desk_contents.specs.Storing.{HasStored, MayStoreContent, content_now}
 use Rattle.opfs_desk_contents.specs.Words.{is_storing}
-use Rattle.opfs_desk_kept.specs.Changing.{HasNotChanged}
+use Rattle.opfs_desk_entries.specs.KeptBack.Changing.{HasNotChanged}
 use Rattle.opfs_desk_steps.specs.Parts.Answered.{IsAnswered}
 use Rattle.opfs_desk_steps.specs.Parts.Seen.{machine_in, tree_in, book_in, call_in, units_in}
 use Rattle.opfs_desk_steps.specs.declared.parts.parts.Pages.{Pages}
 use Rattle.opfs_desk_steps.specs.declared.parts.parts.Parts.{Parts}
-use Rattle.opfs_desk_plain.specs.Silent.{BeginsCall}
+use Rattle.opfs_desk_entries.specs.Answers.Silent.{BeginsCall}
 use Rattle.opfs_desk_steps.specs.Going.{HasTakenIn, HasMadeWay}
-use Rattle.opfs_desk_kept.proofs.Kept.{unacted}
+use Rattle.opfs_desk_entries.proofs.kept_back.Kept.{unacted}
 use Rattle.opfs_desk_again.proofs.Entered.{HasDropped, SavingLaws}
 use Rattle.opfs_desk_reads.proofs.Failed.{rows-failed}
 use Rattle.opfs_desk_steps.proofs.Counts.{own-length}

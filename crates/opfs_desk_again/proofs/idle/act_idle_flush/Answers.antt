@@ -1,7 +1,7 @@
 use Rattle.std.proofs.Common.{[], sym, ◌∙◌, arith}
 use Rattle.opfs_machine.specs.Histories.{state_after}
 use Rattle.opfs_desk_steps.specs.Going.{HasTakenIn}
-use Rattle.opfs_desk_plain.specs.Silent.{BeginsCall}
+use Rattle.opfs_desk_entries.specs.Answers.Silent.{BeginsCall}
 use Rattle.opfs_desk_again.proofs.Entered.{SavingLaws}
 use Rattle.opfs_desk_again.proofs.Reader.{CallingLaws, agent-is, idle-acted, may-come, word-mid}
 use Rattle.opfs_desk_again.proofs.idle.act_idle_flush.Goals as goal

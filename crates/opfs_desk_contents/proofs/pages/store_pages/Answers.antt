@@ -14,7 +14,7 @@ use Rattle.opfs_desk_contents.proofs.Failing.{may-fail-now, failed-now}
 use Rattle.opfs_desk_contents.proofs.Found.{enough-now}
 use Rattle.opfs_desk_contents.proofs.Going.{whole-now}
 use Rattle.opfs_desk_contents.proofs.Storable.{answered-on, file-on, may-store-content, no-eviction, not-alike}
-use Rattle.opfs_desk_kept.proofs.Shown.{has-failed}
+use Rattle.opfs_desk_entries.proofs.kept_back.Shown.{has-failed}
 use Rattle.opfs_state_rows.specs.Standing.Seen.{lines_of}
 use Rattle.opfs_desk_contents.specs.Storing.{AreRunsOf, HasStored, content_now}
 use Rattle.opfs_desk_contents.specs.Words.{size_stored, stamp_stored}

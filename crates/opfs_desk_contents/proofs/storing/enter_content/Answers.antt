@@ -6,7 +6,7 @@ use Rattle.opfs_codec.specs.declared.change.Change.{Change as Spelled}
 use Rattle.opfs_codec.specs.declared.change.Change.TheVariants.{Content}
 use Rattle.opfs_codec.specs.declared.change.Format.TheVariants.{New}
 use Rattle.opfs_codec.proofs.WritingLemmas.{change_fits}
-use Rattle.opfs_desk_kept.specs.Changing.{HasNotChanged}
+use Rattle.opfs_desk_entries.specs.KeptBack.Changing.{HasNotChanged}
 use Rattle.opfs_desk_contents.specs.Storing.{HasStored, content_now}
 use Rattle.opfs_desk_contents.proofs.Entered.{content-again, may-be-stored}
 use Rattle.opfs_desk_contents.proofs.storing.enter_content.Goals as goal

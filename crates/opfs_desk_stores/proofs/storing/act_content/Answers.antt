@@ -1,6 +1,6 @@
 use Rattle.std.proofs.Common.{rules, ◌<◌, []}
 use Rattle.opfs_base.specs.Blocks.{blocks}
-use Rattle.opfs_desk_plain.specs.Silent.{BeginsCall}
+use Rattle.opfs_desk_entries.specs.Answers.Silent.{BeginsCall}
 use Rattle.opfs_desk_stores.proofs.More.{has-more}
 use Rattle.opfs_desk_stores.proofs.storing.act_content.Goals as goal
 

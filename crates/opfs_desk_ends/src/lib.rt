@@ -1,7 +1,0 @@
-//! abort, discard and the close of a read-only access handle under the turn: the row leaves its pages and its lock, and nothing is
-//! stored.
-#![tactic(auto)]
-
-mod leaving;
-
-pub use leaving::act_leave;

@@ -1,0 +1,4 @@
+pub mod Answers
+pub mod Releases
+pub mod KeptBack
+pub mod Buckets

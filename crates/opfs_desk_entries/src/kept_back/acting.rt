@@ -1,0 +1,120 @@
+//! A call whose change is kept back.
+
+ghost use Rattle.std.specs.Prelude.{◌≡◌, true, [], IfOk, OnOk, OnErr};
+ghost use Rattle.opfs_store.specs.Acts.Acting.{IsSameCopy};
+ghost use Rattle.opfs_books.specs.Stored.Laws.{CallsAreSpelled, CallsMayFail};
+ghost use Rattle.opfs_books.specs.Laws.Books.{Fixed};
+ghost use Rattle.opfs_books.specs.Laws.Laws.{BooksKeepTheState, BooksShowTheirImages};
+ghost use Rattle.opfs_desk_entries.specs.KeptBack.Keeping.{keeps_back};
+ghost use Rattle.opfs_pages.specs.HistoryLaws.Laws.{BlocksGoOn, CallsLeaveOtherRows};
+ghost use Rattle.opfs_desk_steps.specs.Parts.Acted.{HasActed, IsUnacted};
+ghost use Rattle.opfs_desk_steps.specs.Parts.Asked.{IsAsked, MayGo};
+ghost use Rattle.opfs_desk_steps.specs.Parts.Held.{AreHeldWhole};
+ghost use Rattle.opfs_desk_steps.specs.Parts.Seen.{machine_in, call_in};
+ghost use Rattle.opfs_desk_steps.specs.Acting.{CallsAreActed};
+ghost use Rattle.opfs_desk_steps.specs.Answering.{ReadyCallsAreAnswered};
+ghost use Rattle.opfs_desk_steps.specs.Ready.{AskedCallsAreReady};
+ghost use Rattle.opfs_laws.specs.Histories.Unread.{ReadsLeaveTheState};
+ghost use Rattle.opfs_laws.specs.Counting.{AStateCountsItsHistory};
+ghost use Rattle.opfs_laws.specs.Lengths.Bridge.{LengthsDecideEachRuling};
+ghost use Rattle.opfs_records.specs.Replay.Built.{Built};
+
+use crate::kept_back::changing::enter_kept;
+use crate::kept_back::spelling::entry_of;
+use opfs_books::{
+    calls_are_spelled, calls_may_fail, the_books_show_their_images, the_state_is_kept,
+};
+use opfs_desk_steps::{
+    InHand, Parts, asked_calls_are_ready, calls_are_acted, clear_way, ready_calls_are_answered,
+    take_in,
+};
+use opfs_hist::{Pending, Refusal, Reply};
+use opfs_laws::counted::a_state_counts_its_history;
+use opfs_laws::histories::unread::reads_leave_the_state;
+use opfs_laws::lengths::bridge::lengths_decide_each_ruling;
+use opfs_outside::Disk;
+use opfs_pages::{blocks_go_on, calls_leave_other_rows, what_is_laid_goes_on};
+use opfs_store::{Acted, Gift};
+use opfs_work::Work;
+use std::alloc::AllocError;
+
+// What is known of the steps of such a call.
+fn keeping_laws<D: Disk>()
+    ensures asks { AskedCallsAreReady D.Disk }
+    ensures answers { ReadyCallsAreAnswered D.Disk }
+    ensures acts { CallsAreActed D.Disk }
+    ensures shown { BooksShowTheirImages D.Disk }
+    ensures states { BooksKeepTheState D.Disk }
+    ensures spelled { CallsAreSpelled }
+    ensures fails { CallsMayFail D.tells }
+    ensures leave { CallsLeaveOtherRows }
+    ensures blocks { BlocksGoOn }
+    ensures lengths { LengthsDecideEachRuling }
+    ensures reads { ReadsLeaveTheState }
+    ensures counts { AStateCountsItsHistory }
+{
+    asked_calls_are_ready::<D>();
+    ready_calls_are_answered::<D>();
+    calls_are_acted::<D>();
+    the_books_show_their_images::<D>();
+    the_state_is_kept::<D>();
+    calls_are_spelled();
+    calls_may_fail::<D>();
+    calls_leave_other_rows();
+    blocks_go_on();
+    lengths_decide_each_ruling();
+    reads_leave_the_state();
+    a_state_counts_its_history();
+}
+
+/// Acts a call that makes a root, a directory or a file, or removes an entry. Its change is kept back, and no disk is called for it; the 64th
+/// is committed with those that are kept back. A doubt is ended first, and units are cleared for what is made. Where there is no
+/// memory nothing is entered.
+pub fn act_kept<D: Disk>(
+    parts: &mut Parts<D>,
+    call: InHand,
+    pending: &mut Pending,
+    work: &mut Work,
+) -> Result<Acted, AllocError>
+    requires go { MayGo D.Disk parts.old call pending.old work.old [] }
+    requires word { keeps_back (machine_in parts.old.ledger) call.agent call.op ≡ true }
+    ensures acted { IfOk result (λ acted. (f : Fixed D) (recorded : Built) → AreHeldWhole D.Disk f recorded parts.old.ledger parts.old.pages
+        → IsAsked D.tells f.opening parts.old.ledger.books.history pending.old parts.old.ledger.books.state call work.old []
+        → HasActed D.Disk f parts.old parts.new pending.old (call_in call) work.old work.new acted) }
+    ensures taken { OnOk result (pending.new ≡ []) }
+    ensures unacted { OnErr result ((pending.new ≡ pending.old) × IsSameCopy work.old work.new) }
+    ensures idle { OnErr result ((f : Fixed D) (recorded : Built) → AreHeldWhole D.Disk f recorded parts.old.ledger parts.old.pages → IsUnacted D.Disk f parts.old parts.new) }
+{
+    keeping_laws::<D>();
+    what_is_laid_goes_on::<D>();
+    parts.ledger.books.state.lines();
+    let agent = call.agent;
+    let key = parts.ledger.books.state.key(agent);
+    let Ok(place) = entry_of(parts.ledger.alloc, key, &call.op) else {
+        return Err(AllocError);
+    };
+    take_in(&mut parts.ledger, agent, pending);
+    let rows = parts.ledger.books.state.rows(agent) as u32;
+    match clear_way(&mut parts.ledger, call, Reply::Done) {
+        Ok((last, sizes)) => {
+            parts.ledger.books.state.lines();
+            match enter_kept(&mut parts.ledger, last, sizes, &place) {
+                Ok(()) => Ok(Acted {
+                    reply: Reply::Done,
+                    gift: Gift::Nothing,
+                    rows,
+                }),
+                Err(_) => Ok(Acted {
+                    reply: Reply::No(Refusal::DiskFault),
+                    gift: Gift::Nothing,
+                    rows,
+                }),
+            }
+        }
+        Err(_) => Ok(Acted {
+            reply: Reply::No(Refusal::DiskFault),
+            gift: Gift::Nothing,
+            rows,
+        }),
+    }
+}

@@ -1,0 +1,5 @@
+//! abort, discard and the close of a read-only access handle under the turn: the row leaves its pages and its lock, and nothing is
+//! stored.
+mod leaving;
+
+pub use leaving::act_leave;
