@@ -16,7 +16,7 @@ use Rattle.opfs_desk_acts.specs.Calling.{IsCalled, IsLeftAlone}
 use Rattle.opfs_pages.specs.HistoryLaws.Handles.{AreHandlesWhole}
 use Rattle.opfs_desk_steps.specs.Parts.Acted.{HasActed}
 use Rattle.opfs_desk_steps.specs.declared.parts.parts.Parts.{Parts}
-use Rattle.opfs_desk_reads.specs.Handles.{HandlesGoOn}
+use Rattle.opfs_desk_bytes.specs.Reading.Handles.{HandlesGoOn}
 use Rattle.opfs_desk.specs.Resting.{IsAtRest}
 
 pub is-called : {D : Type 0} (w : DiskWords D) (f : Fixed D) (old : Parts D) (calls : List Entry) (c : Call) (work : WorkingCopy) (past : List Text) → IsAtRest w f old → MayAct w.tells f.opening old.ledger.books.history calls c work past → IsCalled w f old calls c work past

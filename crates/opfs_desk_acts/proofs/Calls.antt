@@ -38,7 +38,7 @@ use Rattle.opfs_desk_steps.specs.declared.parts.parts.Ledger.{Ledger}
 use Rattle.opfs_desk_steps.specs.declared.parts.parts.Pages.{Pages}
 use Rattle.opfs_desk_steps.specs.declared.parts.parts.Parts.{Parts}
 use Rattle.opfs_desk_entries.specs.Answers.Refused.{IsRefusedCall}
-use Rattle.opfs_desk_reads.specs.Reading.{HaveWholeHandles}
+use Rattle.opfs_desk_bytes.specs.Reading.Reading.{HaveWholeHandles}
 use Rattle.opfs_desk_steps.proofs.book_steps.Ways.{way-here}
 use Rattle.opfs_desk_acts.specs.Calling.{HasNoneReady, IsLeftAlone}
 

@@ -9,7 +9,7 @@ use Rattle.opfs_desk_entries.specs.Buckets.Granting.{gives_mode}
 use Rattle.opfs_desk_entries.specs.KeptBack.Keeping.{keeps_back}
 use Rattle.opfs_desk_entries.specs.Answers.Next.{is_next}
 use Rattle.opfs_desk_entries.specs.Answers.Telling.{TellsOnly, is_done, is_of_mode}
-use Rattle.opfs_desk_reads.specs.Words.{gets_file, reads_row}
+use Rattle.opfs_desk_bytes.specs.Reading.Words.{gets_file, reads_row}
 use Rattle.opfs_desk_steps.specs.RowLaws.Opens.{opens_row}
 use Rattle.opfs_desk_steps.specs.RowLaws.Puts.{puts_row}
 use Rattle.opfs_hist.specs.declared.op.Op.{Op}

@@ -11,7 +11,7 @@ ghost use Rattle.opfs_desk_steps.specs.Parts.Asked.{IsAsked, MayGo};
 ghost use Rattle.opfs_desk_steps.specs.Parts.Held.{AreHeldWhole};
 ghost use Rattle.opfs_desk_steps.specs.Parts.Seen.{machine_in, call_in};
 ghost use Rattle.opfs_desk_entries.specs.Answers.Next.{MayGoFrom};
-ghost use Rattle.opfs_desk_reads.specs.Reading.{HaveWholeHandles};
+ghost use Rattle.opfs_desk_bytes.specs.Reading.Reading.{HaveWholeHandles};
 ghost use Rattle.opfs_desk_steps.specs.Ready.{AskedCallsAreReady};
 ghost use Rattle.opfs_laws.specs.Lengths.Bridge.{LengthsFollowEachCall, LocalCallsAreKnownByTheirWord};
 ghost use Rattle.opfs_records.specs.Replay.Built.{Built};
@@ -19,12 +19,10 @@ ghost use Rattle.opfs_records.specs.Replay.Built.{Built};
 use crate::kinds::{CallKind, kind_of};
 use opfs_base::Name;
 use opfs_desk_again::act_idle_flush;
+use opfs_desk_bytes::{act_get_file, act_open, act_put, act_sync_read};
 use opfs_desk_entries::{
     act_estimate, act_kept, act_leave, act_mode, act_next, act_persist, act_told,
 };
-use opfs_desk_opens::act_open;
-use opfs_desk_puts::act_put;
-use opfs_desk_reads::{act_get_file, act_sync_read};
 use opfs_desk_steps::{InHand, Parts, asked_calls_are_ready};
 use opfs_desk_stores::act_content;
 use opfs_hist::Pending;

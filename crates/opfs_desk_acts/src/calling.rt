@@ -11,7 +11,7 @@ ghost use Rattle.opfs_desk_steps.specs.Parts.Asked.{IsAsked, MayGo};
 ghost use Rattle.opfs_desk_steps.specs.Parts.Held.{AreHeldWhole};
 ghost use Rattle.opfs_desk_steps.specs.Parts.Seen.{call_in};
 ghost use Rattle.opfs_desk_entries.specs.Answers.Next.{MayGoFrom};
-ghost use Rattle.opfs_desk_reads.specs.Reading.{HaveWholeHandles};
+ghost use Rattle.opfs_desk_bytes.specs.Reading.Reading.{HaveWholeHandles};
 ghost use Rattle.opfs_records.specs.Replay.Built.{Built};
 
 use crate::acting::act_asked;

@@ -48,8 +48,8 @@ use Rattle.opfs_desk_steps.specs.declared.parts.parts.Ledger.{Ledger}
 use Rattle.opfs_desk_steps.specs.declared.parts.parts.Pages.{Pages}
 use Rattle.opfs_desk_entries.specs.Answers.Silent.{BeginsCall, told_act}
 use Rattle.opfs_desk_entries.proofs.answers.Silent.{ready, answered}
-use Rattle.opfs_desk_reads.proofs.Synced.{HandlesStand, handed}
-use Rattle.opfs_desk_reads.proofs.Wholes.{pending-whole}
+use Rattle.opfs_desk_bytes.proofs.reading.Synced.{HandlesStand, handed}
+use Rattle.opfs_desk_bytes.proofs.reading.Wholes.{pending-whole}
 use Rattle.opfs_desk_steps.specs.Acting.{CallsAreActed}
 use Rattle.opfs_desk_steps.specs.Answering.{ReadyCallsAreAnswered, IsReply}
 use Rattle.opfs_desk_steps.specs.Ready.{AskedCallsAreReady, IsReadyCall}

@@ -13,7 +13,7 @@ use Rattle.opfs_desk_steps.specs.declared.parts.parts.Pages.{Pages}
 use Rattle.opfs_desk_entries.specs.Answers.Silent.{BeginsCall}
 use Rattle.opfs_desk_entries.proofs.answers.Noted.{mid-noted, sum_of}
 use Rattle.opfs_desk_entries.proofs.answers.Words.{before}
-use Rattle.opfs_desk_reads.proofs.Synced.{HandlesStand}
+use Rattle.opfs_desk_bytes.proofs.reading.Synced.{HandlesStand}
 use Rattle.opfs_desk_steps.specs.Going.{HasTakenIn}
 use Rattle.opfs_hist.specs.Sums.{asks_for_row}
 use Rattle.opfs_hist.specs.declared.entry.Entry.{Entry}

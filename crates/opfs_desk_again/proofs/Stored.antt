@@ -70,8 +70,8 @@ use Rattle.opfs_desk_steps.specs.declared.parts.parts.Pages.{Pages}
 use Rattle.opfs_desk_entries.specs.Answers.Silent.{BeginsCall, told_act}
 use Rattle.opfs_desk_entries.proofs.answers.Noted.{mid-noted}
 use Rattle.opfs_desk_entries.proofs.answers.Silent.{ready}
-use Rattle.opfs_desk_reads.proofs.Synced.{HandlesStand, handed}
-use Rattle.opfs_desk_reads.proofs.Wholes.{pending-whole}
+use Rattle.opfs_desk_bytes.proofs.reading.Synced.{HandlesStand, handed}
+use Rattle.opfs_desk_bytes.proofs.reading.Wholes.{pending-whole}
 use Rattle.opfs_desk_steps.specs.RowLaws.Inside.{PartsLieInside}
 use Rattle.opfs_desk_steps.specs.RowLaws.Stored.{FilesAreStored, HistoriesAreCleared, IsStoredAt}
 use Rattle.opfs_desk_steps.specs.Acting.{CallsAreActed}

@@ -20,7 +20,7 @@ ghost use Rattle.opfs_desk_steps.specs.Parts.Answered.{IsAnswered};
 ghost use Rattle.opfs_desk_steps.specs.Parts.Held.{AreHeldAt, AreHeldWhole};
 ghost use Rattle.opfs_desk_steps.specs.Parts.Seen.{machine_in, tree_in, book_in, call_in};
 ghost use Rattle.opfs_desk_steps.specs.declared.parts.parts.Pages.{Pages};
-ghost use Rattle.opfs_desk_reads.specs.Reading.{HaveWholeHandles};
+ghost use Rattle.opfs_desk_bytes.specs.Reading.Reading.{HaveWholeHandles};
 ghost use Rattle.opfs_desk_steps.specs.RowLaws.Inside.{PartsLieInside};
 ghost use Rattle.opfs_desk_steps.specs.RowLaws.Stored.{FilesAreStored, HistoriesAreCleared};
 ghost use Rattle.opfs_hist.specs.declared.reply.Reply.TheVariants as reply;

@@ -42,7 +42,7 @@ use Rattle.opfs_desk_steps.specs.declared.parts.parts.Ledger.{Ledger}
 use Rattle.opfs_desk_steps.specs.declared.parts.parts.Pages.{Pages}
 use Rattle.opfs_desk_entries.specs.Answers.Silent.{BeginsCall}
 use Rattle.opfs_desk_entries.proofs.answers.Noted.{noted-is, sum_of}
-use Rattle.opfs_desk_reads.proofs.Synced.{handed}
+use Rattle.opfs_desk_bytes.proofs.reading.Synced.{handed}
 use Rattle.opfs_desk_steps.specs.RowLaws.Copied.{CopiesAreStored, IsStoredCopy}
 use Rattle.opfs_desk_steps.proofs.row_laws.Staying.{pending-stays}
 use Rattle.opfs_desk_stores.specs.Fits.{FitsReserve}

@@ -46,7 +46,7 @@ use Rattle.opfs_desk_steps.specs.Parts.Seen.{machine_in, tree_in}
 use Rattle.opfs_desk_steps.specs.declared.parts.call.InHand.{InHand}
 use Rattle.opfs_desk_steps.specs.declared.parts.parts.Ledger.{Ledger}
 use Rattle.opfs_desk_steps.specs.declared.parts.parts.Pages.{Pages}
-use Rattle.opfs_desk_reads.proofs.Readied.{read-held}
+use Rattle.opfs_desk_bytes.proofs.reading.Readied.{read-held}
 use Rattle.opfs_desk_entries.specs.Answers.Silent.{BeginsCall}
 use Rattle.opfs_desk_steps.specs.RowLaws.Copied.{CopiesAreStored, IsStoredCopy}
 use Rattle.opfs_desk_steps.specs.Ready.{AskedCallsAreReady}

@@ -33,10 +33,10 @@ use opfs_books::{
     the_books_show_their_images, the_state_is_kept,
 };
 use opfs_data::DataRefusal;
+use opfs_desk_bytes::fail_reading;
 use opfs_desk_contents::{
     Plan, is_last, plan_content, row_of, store_pages, stored_contents_keep_blocks_right,
 };
-use opfs_desk_reads::fail_reading;
 use opfs_desk_steps::{
     CallParts, InHand, Parts, asked_calls_are_ready, call_parts, calls_are_acted,
     copies_are_stored, files_are_stored, parts_lie_inside, ready_calls_are_answered,

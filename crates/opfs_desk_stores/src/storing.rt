@@ -10,7 +10,7 @@ ghost use Rattle.opfs_desk_steps.specs.Parts.Acted.{HasActed, IsUnacted};
 ghost use Rattle.opfs_desk_steps.specs.Parts.Asked.{IsAsked, MayGo};
 ghost use Rattle.opfs_desk_steps.specs.Parts.Held.{AreHeldWhole};
 ghost use Rattle.opfs_desk_steps.specs.Parts.Seen.{machine_in, call_in};
-ghost use Rattle.opfs_desk_reads.specs.Reading.{HaveWholeHandles};
+ghost use Rattle.opfs_desk_bytes.specs.Reading.Reading.{HaveWholeHandles};
 ghost use Rattle.opfs_desk_steps.specs.Ready.{AskedCallsAreReady};
 ghost use Rattle.opfs_laws.specs.GoingOn.{LegalHistoriesGoOn};
 ghost use Rattle.opfs_laws.specs.Lengths.Bridge.{LengthsFollowEachCall, LocalCallsAreKnownByTheirWord};

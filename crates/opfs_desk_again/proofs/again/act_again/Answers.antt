@@ -23,7 +23,7 @@ use Rattle.opfs_desk_entries.specs.Answers.Silent.{BeginsCall}
 use Rattle.opfs_desk_steps.specs.Going.{HasTakenIn, HasMadeWay}
 use Rattle.opfs_desk_entries.proofs.kept_back.Kept.{unacted}
 use Rattle.opfs_desk_again.proofs.Entered.{HasDropped, SavingLaws}
-use Rattle.opfs_desk_reads.proofs.Failed.{rows-failed}
+use Rattle.opfs_desk_bytes.proofs.reading.Failed.{rows-failed}
 use Rattle.opfs_desk_steps.proofs.Counts.{own-length}
 use Rattle.opfs_desk_again.proofs.Reader.{CallingLaws}
 use Rattle.opfs_desk_again.proofs.Found.{handle-file, handle-stands, one-place, stores-word}

@@ -10,7 +10,7 @@ use Rattle.opfs_state.specs.Reading.{row_file}
 use Rattle.opfs_desk_contents.specs.Words.{stores_row}
 use Rattle.opfs_desk_steps.specs.Parts.Seen.{machine_in}
 use Rattle.opfs_desk_entries.specs.Answers.Silent.{BeginsCall}
-use Rattle.opfs_desk_reads.proofs.Readied.{read-acted, read-unacted}
+use Rattle.opfs_desk_bytes.proofs.reading.Readied.{read-acted, read-unacted}
 use Rattle.opfs_desk_stores.proofs.Asked.{file-there, small, stored-copy, word-now}
 use Rattle.opfs_desk_stores.proofs.Planned.{asked-now, content-for, planned-is, read-parts}
 use Rattle.opfs_desk_stores.proofs.Words.{on-disk, word-is}

@@ -12,7 +12,7 @@ use Rattle.opfs_desk_contents.specs.Words.{ends_row, is_storing}
 use Rattle.opfs_desk_steps.specs.Parts.Seen.{call_in, machine_in}
 use Rattle.opfs_desk_steps.specs.declared.parts.parts.Parts.{Parts}
 use Rattle.opfs_desk_entries.specs.Answers.Silent.{BeginsCall}
-use Rattle.opfs_desk_reads.proofs.Failed.{rows-failed}
+use Rattle.opfs_desk_bytes.proofs.reading.Failed.{rows-failed}
 use Rattle.opfs_desk_steps.specs.Going.{HasTakenIn}
 use Rattle.opfs_desk_steps.proofs.Counts.{own-length}
 use Rattle.opfs_desk_stores.proofs.Asked.{small}

@@ -1,0 +1,10 @@
+use Rattle.std.proofs.Common.{◌≡◌, ℕ, length, replicate, ◌∙◌, arith}
+use Rattle.std.proofs.lemmas.List.{length-replicate}
+use Rattle.opfs_pages.proofs.PageBytes.{past_whole, zeros_at}
+use Rattle.opfs_desk_bytes.proofs.reading.bytes.fill_page.Goals as goal
+
+pub returns-then-page-pages-clause-read : goal.returns-then-page-pages-clause-read
+returns-then-page-pages-clause-read g c = λ told bytes is held.
+    let zeros : c.fill.new.self ≡ replicate (length c.args.into.now) 0 = c.fill.ensures.after (λ y is. is) in
+    rw zeros
+    (past_whole bytes (replicate (length c.args.into.now) 0) c.args.work.now c.args.page is (omega (arith, c.if-page-pages.true, c.pages.ensures.blocks)) (length-replicate {A = ℕ} (length c.args.into.now) 0 ∙ c.requires.whole) (zeros_at (length c.args.into.now)))

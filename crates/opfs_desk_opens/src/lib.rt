@@ -1,7 +1,0 @@
-//! createWritable and createSyncAccessHandle under the turn (File System: createWritable, createSyncAccessHandle).
-#![tactic(auto)]
-
-mod opening;
-mod pages;
-
-pub use opening::act_open;
