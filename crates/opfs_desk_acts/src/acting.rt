@@ -18,13 +18,12 @@ ghost use Rattle.opfs_records.specs.Replay.Built.{Built};
 
 use crate::kinds::{CallKind, kind_of};
 use opfs_base::Name;
-use opfs_desk_again::act_idle_flush;
 use opfs_desk_bytes::{act_get_file, act_open, act_put, act_sync_read};
+use opfs_desk_contents::{act_content, act_idle_flush};
 use opfs_desk_entries::{
     act_estimate, act_kept, act_leave, act_mode, act_next, act_persist, act_told,
 };
 use opfs_desk_steps::{InHand, Parts, asked_calls_are_ready};
-use opfs_desk_stores::act_content;
 use opfs_hist::Pending;
 use opfs_laws::lengths::bridge::{lengths_follow_each_call, local_calls_are_known_by_their_word};
 use opfs_outside::Disk;

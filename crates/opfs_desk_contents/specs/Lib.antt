@@ -3,3 +3,5 @@ pub mod Rows
 pub mod Putting
 pub mod Storing
 pub mod Blocks
+pub mod Unchanged
+pub mod Commits

@@ -3,15 +3,19 @@
 //! is committed with what is kept back as the call is entered. Where the disk fails, the call is entered as failed.
 #![tactic(auto)]
 
+mod commits;
 mod laws;
 mod pages;
 mod planning;
 mod putting;
 mod storing;
+mod unchanged;
 mod words;
 
+pub use commits::act_content;
 pub use laws::stored_contents_keep_blocks_right;
 pub use pages::store_pages;
 pub use planning::{Plan, plan_content};
 pub use storing::enter_content;
+pub use unchanged::{act_again, act_idle_flush};
 pub use words::{is_last, row_of};

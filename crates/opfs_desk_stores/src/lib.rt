@@ -1,8 +1,0 @@
-//! Calls that store a row's content: the close of a stream, and the flush and the close of an access handle that may write.
-#![tactic(auto)]
-
-mod leaving;
-mod pages;
-mod storing;
-
-pub use storing::act_content;
