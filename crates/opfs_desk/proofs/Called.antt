@@ -12,7 +12,7 @@ use Rattle.opfs_outside.specs.Moments.{Elapses, elapses-trans}
 use Rattle.opfs_outside.specs.declared.disk.Disk.{Ghosts as DiskWords}
 use Rattle.opfs_work.specs.Works.{WorkingCopy}
 use Rattle.std.proofs.Common.{ℕ, ◌≤◌, List, sym, subst}
-use Rattle.opfs_desk_acts.specs.Calling.{IsCalled, IsLeftAlone}
+use Rattle.opfs_desk.specs.Dispatch.Calling.{IsCalled, IsLeftAlone}
 use Rattle.opfs_pages.specs.HistoryLaws.Handles.{AreHandlesWhole}
 use Rattle.opfs_desk_steps.specs.Parts.Acted.{HasActed}
 use Rattle.opfs_desk_steps.specs.declared.parts.parts.Parts.{Parts}

@@ -1,3 +1,4 @@
+pub mod Dispatch
 pub mod Apart
 pub mod Resting
 pub mod Seen

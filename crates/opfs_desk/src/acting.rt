@@ -9,8 +9,8 @@ ghost use Rattle.opfs_machine.specs.Agents.{agent_of};
 ghost use Rattle.opfs_machine.specs.Histories.{state_after};
 
 use crate::desk::Desk;
+use crate::dispatch::act_call;
 use opfs_base::Name;
-use opfs_desk_acts::act_call;
 use opfs_desk_bytes::handles_go_on;
 use opfs_desk_steps::iterating::going_on::iterators_go_on;
 use opfs_desk_steps::{Followed, asked_row, may_make};

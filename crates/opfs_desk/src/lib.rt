@@ -4,6 +4,7 @@
 
 mod acting;
 mod desk;
+mod dispatch;
 mod ending;
 mod making;
 mod serving;
@@ -12,4 +13,5 @@ mod standing;
 mod waiting;
 
 pub use desk::Desk;
+pub use dispatch::{act_asked, act_call};
 pub use standing::Opened;

@@ -1,0 +1,192 @@
+use Rattle.std.proofs.Common.{refl}
+use Rattle.opfs_desk.proofs.dispatch.Plain.{as-kind, plain-asked, plain-go}
+use Rattle.opfs_desk.proofs.dispatch.Words.{never-ends, other-kind}
+use Rattle.opfs_desk.proofs.dispatch.acting.act_as.Goals as goal
+use Rattle.opfs_desk.specs.declared.dispatch.kinds.CallKind.TheVariants as kind
+use Rattle.opfs_desk_steps.specs.Parts.Seen.{machine_in}
+
+pub act_told-requires-clause-go : goal.act_told-requires-clause-go
+act_told-requires-clause-go g c =
+    plain-go g.D.Disk c.args.parts.now c.args.pending.now c.args.call c.args.work.now c.args.past.now (other-kind kind.Told (machine_in c.args.parts.now.ledger) c.args.call.agent c.args.call.op refl (as-kind _ kind.Told (machine_in c.args.parts.now.ledger) c.args.call.agent c.args.call.op c.in-Told.is c.requires.word)) c.requires.go
+
+pub act_told-requires-clause-word : goal.act_told-requires-clause-word
+act_told-requires-clause-word g c = (as-kind _ kind.Told (machine_in c.args.parts.now.ledger) c.args.call.agent c.args.call.op c.in-Told.is c.requires.word).0
+
+pub act_told-requires-clause-only : goal.act_told-requires-clause-only
+act_told-requires-clause-only g c = (as-kind _ kind.Told (machine_in c.args.parts.now.ledger) c.args.call.agent c.args.call.op c.in-Told.is c.requires.word).1
+
+pub returns-in-Told-clause-acted : goal.returns-in-Told-clause-acted
+returns-in-Told-clause-acted g c f recorded held whole asked =
+    c.act_told.ensures.acted f recorded held
+    (plain-asked g.D.Disk.tells f.opening c.args.parts.now.ledger.books.history c.args.pending.now c.args.parts.now.ledger.books.state c.args.call c.args.work.now c.args.past.now (other-kind kind.Told (machine_in c.args.parts.now.ledger) c.args.call.agent c.args.call.op refl (as-kind _ kind.Told (machine_in c.args.parts.now.ledger) c.args.call.agent c.args.call.op c.in-Told.is c.requires.word)) asked)
+
+pub act_mode-requires-clause-go : goal.act_mode-requires-clause-go
+act_mode-requires-clause-go g c =
+    plain-go g.D.Disk c.args.parts.now c.args.pending.now c.args.call c.args.work.now c.args.past.now (other-kind kind.Asked (machine_in c.args.parts.now.ledger) c.args.call.agent c.args.call.op refl (as-kind _ kind.Asked (machine_in c.args.parts.now.ledger) c.args.call.agent c.args.call.op c.in-Asked.is c.requires.word)) c.requires.go
+
+pub act_mode-requires-clause-word : goal.act_mode-requires-clause-word
+act_mode-requires-clause-word g c = (as-kind _ kind.Asked (machine_in c.args.parts.now.ledger) c.args.call.agent c.args.call.op c.in-Asked.is c.requires.word).0
+
+pub act_mode-requires-clause-only : goal.act_mode-requires-clause-only
+act_mode-requires-clause-only g c = (as-kind _ kind.Asked (machine_in c.args.parts.now.ledger) c.args.call.agent c.args.call.op c.in-Asked.is c.requires.word).1
+
+pub returns-in_ok-act_mode-in-Asked-clause-acted : goal.returns-in_ok-act_mode-in-Asked-clause-acted
+returns-in_ok-act_mode-in-Asked-clause-acted g c f recorded held whole asked =
+    c.in_ok-act_mode-in-Asked.ensures.acted f recorded held
+    (plain-asked g.D.Disk.tells f.opening c.args.parts.now.ledger.books.history c.args.pending.now c.args.parts.now.ledger.books.state c.args.call c.args.work.now c.args.past.now (other-kind kind.Asked (machine_in c.args.parts.now.ledger) c.args.call.agent c.args.call.op refl (as-kind _ kind.Asked (machine_in c.args.parts.now.ledger) c.args.call.agent c.args.call.op c.in-Asked.is c.requires.word)) asked)
+
+pub returns-in_err-act_mode-in-Asked-clause-ends : goal.returns-in_err-act_mode-in-Asked-clause-ends
+returns-in_err-act_mode-in-Asked-clause-ends g c end = absurd (never-ends kind.Asked (machine_in c.args.parts.now.ledger) c.args.call.agent c.args.call.op refl (as-kind _ kind.Asked (machine_in c.args.parts.now.ledger) c.args.call.agent c.args.call.op c.in-Asked.is c.requires.word) end)
+
+pub act_persist-requires-clause-go : goal.act_persist-requires-clause-go
+act_persist-requires-clause-go g c =
+    plain-go g.D.Disk c.args.parts.now c.args.pending.now c.args.call c.args.work.now c.args.past.now (other-kind kind.Given (machine_in c.args.parts.now.ledger) c.args.call.agent c.args.call.op refl (as-kind _ kind.Given (machine_in c.args.parts.now.ledger) c.args.call.agent c.args.call.op c.in-Given.is c.requires.word)) c.requires.go
+
+pub act_persist-requires-clause-word : goal.act_persist-requires-clause-word
+act_persist-requires-clause-word g c = as-kind _ kind.Given (machine_in c.args.parts.now.ledger) c.args.call.agent c.args.call.op c.in-Given.is c.requires.word
+
+pub returns-in_ok-act_persist-in-Given-clause-acted : goal.returns-in_ok-act_persist-in-Given-clause-acted
+returns-in_ok-act_persist-in-Given-clause-acted g c f recorded held whole asked =
+    c.in_ok-act_persist-in-Given.ensures.acted f recorded held
+    (plain-asked g.D.Disk.tells f.opening c.args.parts.now.ledger.books.history c.args.pending.now c.args.parts.now.ledger.books.state c.args.call c.args.work.now c.args.past.now (other-kind kind.Given (machine_in c.args.parts.now.ledger) c.args.call.agent c.args.call.op refl (as-kind _ kind.Given (machine_in c.args.parts.now.ledger) c.args.call.agent c.args.call.op c.in-Given.is c.requires.word)) asked)
+
+pub returns-in_err-act_persist-in-Given-clause-ends : goal.returns-in_err-act_persist-in-Given-clause-ends
+returns-in_err-act_persist-in-Given-clause-ends g c end = absurd (never-ends kind.Given (machine_in c.args.parts.now.ledger) c.args.call.agent c.args.call.op refl (as-kind _ kind.Given (machine_in c.args.parts.now.ledger) c.args.call.agent c.args.call.op c.in-Given.is c.requires.word) end)
+
+pub act_next-requires-clause-word : goal.act_next-requires-clause-word
+act_next-requires-clause-word g c = as-kind _ kind.Next (machine_in c.args.parts.now.ledger) c.args.call.agent c.args.call.op c.in-Next.is c.requires.word
+
+pub returns-in_ok-act_next-in-Next-clause-acted : goal.returns-in_ok-act_next-in-Next-clause-acted
+returns-in_ok-act_next-in-Next-clause-acted g c f recorded held whole asked = c.in_ok-act_next-in-Next.ensures.acted f recorded held asked
+
+pub returns-in_err-act_next-in-Next-clause-ends : goal.returns-in_err-act_next-in-Next-clause-ends
+returns-in_err-act_next-in-Next-clause-ends g c end = absurd (never-ends kind.Next (machine_in c.args.parts.now.ledger) c.args.call.agent c.args.call.op refl (as-kind _ kind.Next (machine_in c.args.parts.now.ledger) c.args.call.agent c.args.call.op c.in-Next.is c.requires.word) end)
+
+pub act_estimate-requires-clause-go : goal.act_estimate-requires-clause-go
+act_estimate-requires-clause-go g c =
+    plain-go g.D.Disk c.args.parts.now c.args.pending.now c.args.call c.args.work.now c.args.past.now (other-kind kind.Estimate (machine_in c.args.parts.now.ledger) c.args.call.agent c.args.call.op refl (as-kind _ kind.Estimate (machine_in c.args.parts.now.ledger) c.args.call.agent c.args.call.op c.in-Estimate.is c.requires.word)) c.requires.go
+
+pub act_estimate-requires-clause-word : goal.act_estimate-requires-clause-word
+act_estimate-requires-clause-word g c = as-kind _ kind.Estimate (machine_in c.args.parts.now.ledger) c.args.call.agent c.args.call.op c.in-Estimate.is c.requires.word
+
+pub returns-in-Estimate-clause-acted : goal.returns-in-Estimate-clause-acted
+returns-in-Estimate-clause-acted g c f recorded held whole asked =
+    c.act_estimate.ensures.acted f recorded held
+    (plain-asked g.D.Disk.tells f.opening c.args.parts.now.ledger.books.history c.args.pending.now c.args.parts.now.ledger.books.state c.args.call c.args.work.now c.args.past.now (other-kind kind.Estimate (machine_in c.args.parts.now.ledger) c.args.call.agent c.args.call.op refl (as-kind _ kind.Estimate (machine_in c.args.parts.now.ledger) c.args.call.agent c.args.call.op c.in-Estimate.is c.requires.word)) asked)
+
+pub act_kept-requires-clause-go : goal.act_kept-requires-clause-go
+act_kept-requires-clause-go g c =
+    plain-go g.D.Disk c.args.parts.now c.args.pending.now c.args.call c.args.work.now c.args.past.now (other-kind kind.Kept (machine_in c.args.parts.now.ledger) c.args.call.agent c.args.call.op refl (as-kind _ kind.Kept (machine_in c.args.parts.now.ledger) c.args.call.agent c.args.call.op c.in-Kept.is c.requires.word)) c.requires.go
+
+pub act_kept-requires-clause-word : goal.act_kept-requires-clause-word
+act_kept-requires-clause-word g c = as-kind _ kind.Kept (machine_in c.args.parts.now.ledger) c.args.call.agent c.args.call.op c.in-Kept.is c.requires.word
+
+pub returns-in_ok-act_kept-in-Kept-clause-acted : goal.returns-in_ok-act_kept-in-Kept-clause-acted
+returns-in_ok-act_kept-in-Kept-clause-acted g c f recorded held whole asked =
+    c.in_ok-act_kept-in-Kept.ensures.acted f recorded held
+    (plain-asked g.D.Disk.tells f.opening c.args.parts.now.ledger.books.history c.args.pending.now c.args.parts.now.ledger.books.state c.args.call c.args.work.now c.args.past.now (other-kind kind.Kept (machine_in c.args.parts.now.ledger) c.args.call.agent c.args.call.op refl (as-kind _ kind.Kept (machine_in c.args.parts.now.ledger) c.args.call.agent c.args.call.op c.in-Kept.is c.requires.word)) asked)
+
+pub returns-in_err-act_kept-in-Kept-clause-ends : goal.returns-in_err-act_kept-in-Kept-clause-ends
+returns-in_err-act_kept-in-Kept-clause-ends g c end = absurd (never-ends kind.Kept (machine_in c.args.parts.now.ledger) c.args.call.agent c.args.call.op refl (as-kind _ kind.Kept (machine_in c.args.parts.now.ledger) c.args.call.agent c.args.call.op c.in-Kept.is c.requires.word) end)
+
+pub act_get_file-requires-clause-go : goal.act_get_file-requires-clause-go
+act_get_file-requires-clause-go g c =
+    plain-go g.D.Disk c.args.parts.now c.args.pending.now c.args.call c.args.work.now c.args.past.now (other-kind kind.GetFile (machine_in c.args.parts.now.ledger) c.args.call.agent c.args.call.op refl (as-kind _ kind.GetFile (machine_in c.args.parts.now.ledger) c.args.call.agent c.args.call.op c.in-GetFile.is c.requires.word)) c.requires.go
+
+pub act_get_file-requires-clause-word : goal.act_get_file-requires-clause-word
+act_get_file-requires-clause-word g c = as-kind _ kind.GetFile (machine_in c.args.parts.now.ledger) c.args.call.agent c.args.call.op c.in-GetFile.is c.requires.word
+
+pub returns-in_ok-act_get_file-in-GetFile-clause-acted : goal.returns-in_ok-act_get_file-in-GetFile-clause-acted
+returns-in_ok-act_get_file-in-GetFile-clause-acted g c f recorded held whole asked =
+    c.in_ok-act_get_file-in-GetFile.ensures.acted f recorded held whole
+    (plain-asked g.D.Disk.tells f.opening c.args.parts.now.ledger.books.history c.args.pending.now c.args.parts.now.ledger.books.state c.args.call c.args.work.now c.args.past.now (other-kind kind.GetFile (machine_in c.args.parts.now.ledger) c.args.call.agent c.args.call.op refl (as-kind _ kind.GetFile (machine_in c.args.parts.now.ledger) c.args.call.agent c.args.call.op c.in-GetFile.is c.requires.word)) asked)
+
+pub returns-in_err-act_get_file-in-GetFile-clause-ends : goal.returns-in_err-act_get_file-in-GetFile-clause-ends
+returns-in_err-act_get_file-in-GetFile-clause-ends g c end = absurd (never-ends kind.GetFile (machine_in c.args.parts.now.ledger) c.args.call.agent c.args.call.op refl (as-kind _ kind.GetFile (machine_in c.args.parts.now.ledger) c.args.call.agent c.args.call.op c.in-GetFile.is c.requires.word) end)
+
+pub act_open-requires-clause-go : goal.act_open-requires-clause-go
+act_open-requires-clause-go g c =
+    plain-go g.D.Disk c.args.parts.now c.args.pending.now c.args.call c.args.work.now c.args.past.now (other-kind kind.Opened (machine_in c.args.parts.now.ledger) c.args.call.agent c.args.call.op refl (as-kind _ kind.Opened (machine_in c.args.parts.now.ledger) c.args.call.agent c.args.call.op c.in-Opened.is c.requires.word)) c.requires.go
+
+pub act_open-requires-clause-word : goal.act_open-requires-clause-word
+act_open-requires-clause-word g c = as-kind _ kind.Opened (machine_in c.args.parts.now.ledger) c.args.call.agent c.args.call.op c.in-Opened.is c.requires.word
+
+pub returns-in_ok-act_open-in-Opened-clause-acted : goal.returns-in_ok-act_open-in-Opened-clause-acted
+returns-in_ok-act_open-in-Opened-clause-acted g c f recorded held whole asked =
+    c.in_ok-act_open-in-Opened.ensures.acted f recorded held
+    (plain-asked g.D.Disk.tells f.opening c.args.parts.now.ledger.books.history c.args.pending.now c.args.parts.now.ledger.books.state c.args.call c.args.work.now c.args.past.now (other-kind kind.Opened (machine_in c.args.parts.now.ledger) c.args.call.agent c.args.call.op refl (as-kind _ kind.Opened (machine_in c.args.parts.now.ledger) c.args.call.agent c.args.call.op c.in-Opened.is c.requires.word)) asked)
+
+pub returns-in_err-act_open-in-Opened-clause-ends : goal.returns-in_err-act_open-in-Opened-clause-ends
+returns-in_err-act_open-in-Opened-clause-ends g c end = absurd (never-ends kind.Opened (machine_in c.args.parts.now.ledger) c.args.call.agent c.args.call.op refl (as-kind _ kind.Opened (machine_in c.args.parts.now.ledger) c.args.call.agent c.args.call.op c.in-Opened.is c.requires.word) end)
+
+pub act_put-requires-clause-go : goal.act_put-requires-clause-go
+act_put-requires-clause-go g c =
+    plain-go g.D.Disk c.args.parts.now c.args.pending.now c.args.call c.args.work.now c.args.past.now (other-kind kind.Put (machine_in c.args.parts.now.ledger) c.args.call.agent c.args.call.op refl (as-kind _ kind.Put (machine_in c.args.parts.now.ledger) c.args.call.agent c.args.call.op c.in-Put.is c.requires.word)) c.requires.go
+
+pub act_put-requires-clause-word : goal.act_put-requires-clause-word
+act_put-requires-clause-word g c = as-kind _ kind.Put (machine_in c.args.parts.now.ledger) c.args.call.agent c.args.call.op c.in-Put.is c.requires.word
+
+pub returns-in_ok-act_put-in-Put-clause-acted : goal.returns-in_ok-act_put-in-Put-clause-acted
+returns-in_ok-act_put-in-Put-clause-acted g c f recorded held whole asked =
+    c.in_ok-act_put-in-Put.ensures.acted f recorded held
+    (plain-asked g.D.Disk.tells f.opening c.args.parts.now.ledger.books.history c.args.pending.now c.args.parts.now.ledger.books.state c.args.call c.args.work.now c.args.past.now (other-kind kind.Put (machine_in c.args.parts.now.ledger) c.args.call.agent c.args.call.op refl (as-kind _ kind.Put (machine_in c.args.parts.now.ledger) c.args.call.agent c.args.call.op c.in-Put.is c.requires.word)) asked)
+
+pub returns-in_err-act_put-in-Put-clause-ends : goal.returns-in_err-act_put-in-Put-clause-ends
+returns-in_err-act_put-in-Put-clause-ends g c end = absurd (never-ends kind.Put (machine_in c.args.parts.now.ledger) c.args.call.agent c.args.call.op refl (as-kind _ kind.Put (machine_in c.args.parts.now.ledger) c.args.call.agent c.args.call.op c.in-Put.is c.requires.word) end)
+
+pub act_sync_read-requires-clause-go : goal.act_sync_read-requires-clause-go
+act_sync_read-requires-clause-go g c =
+    plain-go g.D.Disk c.args.parts.now c.args.pending.now c.args.call c.args.work.now c.args.past.now (other-kind kind.SyncRead (machine_in c.args.parts.now.ledger) c.args.call.agent c.args.call.op refl (as-kind _ kind.SyncRead (machine_in c.args.parts.now.ledger) c.args.call.agent c.args.call.op c.in-SyncRead.is c.requires.word)) c.requires.go
+
+pub act_sync_read-requires-clause-word : goal.act_sync_read-requires-clause-word
+act_sync_read-requires-clause-word g c = as-kind _ kind.SyncRead (machine_in c.args.parts.now.ledger) c.args.call.agent c.args.call.op c.in-SyncRead.is c.requires.word
+
+pub returns-in_ok-act_sync_read-in-SyncRead-clause-acted : goal.returns-in_ok-act_sync_read-in-SyncRead-clause-acted
+returns-in_ok-act_sync_read-in-SyncRead-clause-acted g c f recorded held whole asked =
+    c.in_ok-act_sync_read-in-SyncRead.ensures.acted f recorded held whole
+    (plain-asked g.D.Disk.tells f.opening c.args.parts.now.ledger.books.history c.args.pending.now c.args.parts.now.ledger.books.state c.args.call c.args.work.now c.args.past.now (other-kind kind.SyncRead (machine_in c.args.parts.now.ledger) c.args.call.agent c.args.call.op refl (as-kind _ kind.SyncRead (machine_in c.args.parts.now.ledger) c.args.call.agent c.args.call.op c.in-SyncRead.is c.requires.word)) asked)
+
+pub returns-in_err-act_sync_read-in-SyncRead-clause-ends : goal.returns-in_err-act_sync_read-in-SyncRead-clause-ends
+returns-in_err-act_sync_read-in-SyncRead-clause-ends g c end = absurd (never-ends kind.SyncRead (machine_in c.args.parts.now.ledger) c.args.call.agent c.args.call.op refl (as-kind _ kind.SyncRead (machine_in c.args.parts.now.ledger) c.args.call.agent c.args.call.op c.in-SyncRead.is c.requires.word) end)
+
+pub act_content-requires-clause-go : goal.act_content-requires-clause-go
+act_content-requires-clause-go g c =
+    plain-go g.D.Disk c.args.parts.now c.args.pending.now c.args.call c.args.work.now c.args.past.now (other-kind kind.Stored (machine_in c.args.parts.now.ledger) c.args.call.agent c.args.call.op refl (as-kind _ kind.Stored (machine_in c.args.parts.now.ledger) c.args.call.agent c.args.call.op c.in-Stored.is c.requires.word)) c.requires.go
+
+pub act_content-requires-clause-word : goal.act_content-requires-clause-word
+act_content-requires-clause-word g c = as-kind _ kind.Stored (machine_in c.args.parts.now.ledger) c.args.call.agent c.args.call.op c.in-Stored.is c.requires.word
+
+pub returns-in_ok-act_content-in-Stored-clause-acted : goal.returns-in_ok-act_content-in-Stored-clause-acted
+returns-in_ok-act_content-in-Stored-clause-acted g c f recorded held whole asked =
+    c.in_ok-act_content-in-Stored.ensures.acted f recorded held whole
+    (plain-asked g.D.Disk.tells f.opening c.args.parts.now.ledger.books.history c.args.pending.now c.args.parts.now.ledger.books.state c.args.call c.args.work.now c.args.past.now (other-kind kind.Stored (machine_in c.args.parts.now.ledger) c.args.call.agent c.args.call.op refl (as-kind _ kind.Stored (machine_in c.args.parts.now.ledger) c.args.call.agent c.args.call.op c.in-Stored.is c.requires.word)) asked)
+
+pub returns-in_err-act_content-in-Stored-clause-ends : goal.returns-in_err-act_content-in-Stored-clause-ends
+returns-in_err-act_content-in-Stored-clause-ends g c end = absurd (never-ends kind.Stored (machine_in c.args.parts.now.ledger) c.args.call.agent c.args.call.op refl (as-kind _ kind.Stored (machine_in c.args.parts.now.ledger) c.args.call.agent c.args.call.op c.in-Stored.is c.requires.word) end)
+
+pub act_idle_flush-requires-clause-go : goal.act_idle_flush-requires-clause-go
+act_idle_flush-requires-clause-go g c =
+    plain-go g.D.Disk c.args.parts.now c.args.pending.now c.args.call c.args.work.now c.args.past.now (other-kind kind.Idle (machine_in c.args.parts.now.ledger) c.args.call.agent c.args.call.op refl (as-kind _ kind.Idle (machine_in c.args.parts.now.ledger) c.args.call.agent c.args.call.op c.in-Idle.is c.requires.word)) c.requires.go
+
+pub act_idle_flush-requires-clause-word : goal.act_idle_flush-requires-clause-word
+act_idle_flush-requires-clause-word g c = as-kind _ kind.Idle (machine_in c.args.parts.now.ledger) c.args.call.agent c.args.call.op c.in-Idle.is c.requires.word
+
+pub returns-in_ok-act_idle_flush-in-Idle-clause-acted : goal.returns-in_ok-act_idle_flush-in-Idle-clause-acted
+returns-in_ok-act_idle_flush-in-Idle-clause-acted g c f recorded held whole asked =
+    c.in_ok-act_idle_flush-in-Idle.ensures.acted f recorded held whole
+    (plain-asked g.D.Disk.tells f.opening c.args.parts.now.ledger.books.history c.args.pending.now c.args.parts.now.ledger.books.state c.args.call c.args.work.now c.args.past.now (other-kind kind.Idle (machine_in c.args.parts.now.ledger) c.args.call.agent c.args.call.op refl (as-kind _ kind.Idle (machine_in c.args.parts.now.ledger) c.args.call.agent c.args.call.op c.in-Idle.is c.requires.word)) asked)
+
+pub returns-in_err-act_idle_flush-in-Idle-clause-ends : goal.returns-in_err-act_idle_flush-in-Idle-clause-ends
+returns-in_err-act_idle_flush-in-Idle-clause-ends g c end = absurd (never-ends kind.Idle (machine_in c.args.parts.now.ledger) c.args.call.agent c.args.call.op refl (as-kind _ kind.Idle (machine_in c.args.parts.now.ledger) c.args.call.agent c.args.call.op c.in-Idle.is c.requires.word) end)
+
+pub act_leave-requires-clause-go : goal.act_leave-requires-clause-go
+act_leave-requires-clause-go g c =
+    plain-go g.D.Disk c.args.parts.now c.args.pending.now c.args.call c.args.work.now c.args.past.now (other-kind kind.Left (machine_in c.args.parts.now.ledger) c.args.call.agent c.args.call.op refl (as-kind _ kind.Left (machine_in c.args.parts.now.ledger) c.args.call.agent c.args.call.op c.in-Left.is c.requires.word)) c.requires.go
+
+pub act_leave-requires-clause-word : goal.act_leave-requires-clause-word
+act_leave-requires-clause-word g c = as-kind _ kind.Left (machine_in c.args.parts.now.ledger) c.args.call.agent c.args.call.op c.in-Left.is c.requires.word
+
+pub returns-in-Left-clause-acted : goal.returns-in-Left-clause-acted
+returns-in-Left-clause-acted g c f recorded held whole asked =
+    c.act_leave.ensures.acted f recorded held
+    (plain-asked g.D.Disk.tells f.opening c.args.parts.now.ledger.books.history c.args.pending.now c.args.parts.now.ledger.books.state c.args.call c.args.work.now c.args.past.now (other-kind kind.Left (machine_in c.args.parts.now.ledger) c.args.call.agent c.args.call.op refl (as-kind _ kind.Left (machine_in c.args.parts.now.ledger) c.args.call.agent c.args.call.op c.in-Left.is c.requires.word)) asked)

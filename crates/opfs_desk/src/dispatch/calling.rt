@@ -1,0 +1,105 @@
+//! A call from its words to its entry.
+
+ghost use Rattle.std.specs.Option.{option_copied};
+ghost use Rattle.std.specs.Prelude.{◌≡◌, true, [], IfOk, OnOk, OnErr, IsTrue, is_ok};
+ghost use Rattle.opfs_store.specs.Acts.Acting.{IsSameCopy, always_acts};
+ghost use Rattle.opfs_books.specs.Laws.Books.{Fixed};
+ghost use Rattle.opfs_desk.specs.Dispatch.Calling.{HasNoneReady, IsCalled, IsLeftAlone, MayCall, MayCallFrom};
+ghost use Rattle.opfs_pages.specs.HistoryLaws.Handles.{AreHandlesWhole};
+ghost use Rattle.opfs_desk_steps.specs.Parts.Acted.{HasActed};
+ghost use Rattle.opfs_desk_steps.specs.Parts.Asked.{IsAsked, MayGo};
+ghost use Rattle.opfs_desk_steps.specs.Parts.Held.{AreHeldWhole};
+ghost use Rattle.opfs_desk_steps.specs.Parts.Seen.{call_in};
+ghost use Rattle.opfs_desk_entries.specs.Answers.Next.{MayGoFrom};
+ghost use Rattle.opfs_desk_bytes.specs.Reading.Reading.{HaveWholeHandles};
+ghost use Rattle.opfs_records.specs.Replay.Built.{Built};
+
+use crate::dispatch::acting::act_asked;
+use opfs_base::Name;
+use opfs_books::the_books_show_their_images;
+use opfs_desk_entries::act_refused;
+use opfs_desk_steps::{Asked, InHand, Ledger, Parts, Readied, ask_call};
+use opfs_hist::{Op, Pending, Room};
+use opfs_outside::Disk;
+use opfs_store::Acted;
+use opfs_work::Work;
+use std::alloc::AllocError;
+
+// Nothing stands ready any more.
+fn cancel<D: Disk>(ledger: &mut Ledger<D>)
+    ensures { HasNoneReady ledger.old ledger.new }
+{
+    ledger.books.state.cancel();
+}
+
+// Acts a call for which all stands ready; where there is no memory nothing stands ready afterwards.
+fn act_or_cancel<D: Disk>(
+    parts: &mut Parts<D>,
+    call: InHand,
+    pending: &mut Pending,
+    work: &mut Work,
+    past: &[Name],
+    last: Option<&Name>,
+) -> Result<Acted, AllocError>
+    requires go { MayGo D.Disk parts.old call pending.old work.old past.now }
+    requires given { MayGoFrom D.Disk parts.old call pending.old work.old past.now (option_copied last) }
+    requires whole { HaveWholeHandles D.Disk parts.old }
+    ensures acted { IfOk result (λ acted. (f : Fixed D) (recorded : Built) → AreHeldWhole D.Disk f recorded parts.old.ledger parts.old.pages → AreHandlesWhole f.opening parts.old.ledger.books.history
+        → IsAsked D.tells f.opening parts.old.ledger.books.history pending.old parts.old.ledger.books.state call work.old past.now
+        → HasActed D.Disk f parts.old parts.new pending.old (call_in call) work.old work.new acted) }
+    ensures taken { OnOk result (pending.new ≡ []) }
+    ensures unacted { OnErr result ((pending.new ≡ pending.old) × IsSameCopy work.old work.new) }
+    ensures alone { OnErr result ((f : Fixed D) (recorded : Built) → AreHeldWhole D.Disk f recorded parts.old.ledger parts.old.pages → IsLeftAlone D.Disk f parts.old parts.new) }
+    ensures ends { always_acts call.op ≡ true → IsTrue (is_ok result) }
+{
+    match act_asked(parts, call, pending, work, past, last) {
+        Ok(acted) => Ok(acted),
+        Err(error) => {
+            cancel(&mut parts.ledger);
+            Err(error)
+        }
+    }
+}
+
+/// Makes one shared call of an agent: judges it, takes in the agent's pending calls, clears units where it needs room, and enters it
+/// with its reply. Where it is known up to which name a next's iterator has given all, that name is the last one. Where there is no
+/// memory nothing is entered and nothing stands ready; abort, discard and end take none.
+pub fn act_call<D: Disk>(
+    parts: &mut Parts<D>,
+    agent: u32,
+    number: u32,
+    pending: &mut Pending,
+    room: Room,
+    op: Op,
+    work: &mut Work,
+    past: &[Name],
+    last: Option<&Name>,
+) -> Result<Acted, AllocError>
+    requires may { MayCall D.Disk parts.old pending.old (record { agent = agent; number = number; op = op }) work.old past.now }
+    requires given { MayCallFrom D.Disk parts.old pending.old (record { agent = agent; number = number; op = op }) work.old past.now (option_copied last) }
+    ensures acted { IfOk result (λ acted. (f : Fixed D) → IsCalled D.Disk f parts.old pending.old (record { agent = agent; number = number; op = op }) work.old past.now
+        → HasActed D.Disk f parts.old parts.new pending.old (record { agent = agent; number = number; op = op }) work.old work.new acted) }
+    ensures taken { OnOk result (pending.new ≡ []) }
+    ensures unacted { OnErr result ((pending.new ≡ pending.old) × IsSameCopy work.old work.new) }
+    ensures alone { OnErr result ((f : Fixed D) → IsCalled D.Disk f parts.old pending.old (record { agent = agent; number = number; op = op }) work.old past.now → IsLeftAlone D.Disk f parts.old parts.new) }
+    ensures ends { always_acts op ≡ true → IsTrue (is_ok result) }
+{
+    the_books_show_their_images::<D>();
+    match ask_call(&mut parts.ledger, agent, &op, pending, work) {
+        Ok(Asked::Refused(refusal)) => Ok(act_refused(
+            parts, room, agent, number, op, refusal, pending,
+        )),
+        Ok(Asked::Ready(Readied { sizes, clearing })) => {
+            let call = InHand {
+                room,
+                agent,
+                number,
+                op,
+                sizes,
+                clearing,
+            };
+            Ok(act_or_cancel(parts, call, pending, work, past, last)?)
+        }
+        Err(error) => Err(error),
+    }
+}

@@ -1,9 +1,0 @@
-//! A shared call over the parts of the shared store, whatever it is: it is judged, made ready, and acted by the function of its kind.
-#![tactic(auto)]
-
-mod acting;
-mod calling;
-mod kinds;
-
-pub use acting::act_asked;
-pub use calling::act_call;
