@@ -29,15 +29,15 @@ use Rattle.opfs_store.specs.declared.acts.acted.Gift.TheVariants as gift
 use Rattle.opfs_store.specs.Acts.Acting.{gift_of, unread_gift}
 use Rattle.opfs_turns.specs.Agents.{AgentSeen, IsAgent, state_of, own_row}
 use Rattle.opfs_turns.specs.Calls.{IsKept, IsLocal}
-use Rattle.opfs_calls.specs.Answers.{HasAnswer, MayAskPast, Shared}
-use Rattle.opfs_calls.specs.Locals.{HasLocalAnswer, IsMade}
-use Rattle.opfs_calls.specs.Rows.{HasIterator, IteratorSeen}
-use Rattle.opfs_calls.specs.declared.stop.Stop.{Stop}
-use Rattle.opfs_calls.proofs.Answered.{is_read, plain-answered, judged-there}
-use Rattle.opfs_calls.proofs.Entered.{s, t, row-there, number}
-use Rattle.opfs_calls.proofs.Plains.{values-own}
-use Rattle.opfs_calls.proofs.Rowed.{own_agent, accepted-own, granted-none, stopped-own, entered-moved, kept-own, kept-moved}
-use Rattle.opfs_calls.proofs.RowsAfter.{own-changed, last-own}
+use Rattle.opfs_turns.specs.Asking.Answers.{HasAnswer, MayAskPast, Shared}
+use Rattle.opfs_turns.specs.Asking.Locals.{HasLocalAnswer, IsMade}
+use Rattle.opfs_turns.specs.Asking.Rows.{HasIterator, IteratorSeen}
+use Rattle.opfs_turns.specs.declared.asking.stop.Stop.{Stop}
+use Rattle.opfs_turns.proofs.asking.Answered.{is_read, plain-answered, judged-there}
+use Rattle.opfs_turns.proofs.asking.Entered.{s, t, row-there, number}
+use Rattle.opfs_turns.proofs.asking.Plains.{values-own}
+use Rattle.opfs_turns.proofs.asking.Rowed.{own_agent, accepted-own, granted-none, stopped-own, entered-moved, kept-own, kept-moved}
+use Rattle.opfs_turns.proofs.asking.RowsAfter.{own-changed, last-own}
 use Rattle.opfs_agent.specs.Entries.{IsNextOf, IsNoted}
 use Rattle.opfs_agent.proofs.Located.{next-ruled}
 

@@ -28,12 +28,12 @@ use Rattle.opfs_store.specs.declared.acts.acted.Gift.{Gift}
 use Rattle.opfs_store.specs.declared.acts.acted.Gift.TheVariants as gift
 use Rattle.opfs_store.specs.Acts.Acting.{gift_of, unread_gift}
 use Rattle.opfs_turns.specs.Agents.{AgentSeen, IsAgent, own_row}
-use Rattle.opfs_calls.specs.Answers.{HasAnswer}
-use Rattle.opfs_calls.specs.Rows.{HasSnapshot, SnapshotSeen}
-use Rattle.opfs_calls.proofs.Answered.{is_read, plain-answered, judged-there, turn_state}
-use Rattle.opfs_calls.proofs.Entered.{s, t, number}
-use Rattle.opfs_calls.proofs.Rowed.{own_agent, accepted-own, granted-none}
-use Rattle.opfs_calls.proofs.RowsAfter.{own-added, last-own}
+use Rattle.opfs_turns.specs.Asking.Answers.{HasAnswer}
+use Rattle.opfs_turns.specs.Asking.Rows.{HasSnapshot, SnapshotSeen}
+use Rattle.opfs_turns.proofs.asking.Answered.{is_read, plain-answered, judged-there, turn_state}
+use Rattle.opfs_turns.proofs.asking.Entered.{s, t, number}
+use Rattle.opfs_turns.proofs.asking.Rowed.{own_agent, accepted-own, granted-none}
+use Rattle.opfs_turns.proofs.asking.RowsAfter.{own-added, last-own}
 use Rattle.opfs_agent.specs.Entries.{stamp_in}
 use Rattle.opfs_agent.proofs.Located.{file-ruled}
 

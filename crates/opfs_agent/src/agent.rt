@@ -8,15 +8,14 @@ ghost use Rattle.opfs_machine.specs.Histories.{may_enter};
 ghost use Rattle.opfs_machine.specs.Steps.{is_refusal};
 ghost use Rattle.opfs_turns.specs.Agents.{state_of, IsAgent};
 ghost use Rattle.opfs_turns.specs.Calls.{HasRoom, new_agent, MayBegin, HasEnded, IsLocal};
-ghost use Rattle.opfs_calls.specs.Answers.{Shared, MayAskPlainly, IsAnsweredBy, IsFlag};
-ghost use Rattle.opfs_calls.specs.Locals.{Local, Stopped, IsWhy};
+ghost use Rattle.opfs_turns.specs.Asking.Answers.{Shared, MayAskPlainly, IsAnsweredBy, IsFlag};
+ghost use Rattle.opfs_turns.specs.Asking.Locals.{Local, Stopped, IsWhy};
 
 use opfs_base::Key;
-use opfs_calls::{Stop, ask, ask_done, ask_flag, keep_call, keep_refusal};
 use opfs_hall::{Hall, Pass};
 use opfs_hist::{Op, Refusal, Reply, Room};
 use opfs_store::{Acted, Store};
-use opfs_turns::Turns;
+use opfs_turns::{Stop, Turns, ask, ask_done, ask_flag, keep_call, keep_refusal};
 use std::alloc::Global;
 use std::marker::Model;
 use std::sync::Wait;

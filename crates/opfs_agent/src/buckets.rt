@@ -4,22 +4,22 @@ ghost use Rattle.std.specs.Prelude.{◌≡◌, Some, IfOk};
 ghost use Rattle.opfs_hist.specs.declared.op.Op.TheVariants as op;
 ghost use Rattle.opfs_hist.specs.declared.reply.Reply.TheVariants as reply;
 ghost use Rattle.opfs_turns.specs.Calls.{HasRoom};
-ghost use Rattle.opfs_calls.specs.Answers.{Shared};
+ghost use Rattle.opfs_turns.specs.Asking.Answers.{Shared};
 ghost use Rattle.opfs_agent.specs.Awaiting.{Awaits};
 ghost use Rattle.opfs_agent.specs.Entries.{root_of};
 
 use crate::agent::Agent;
 use opfs_base::{Kind, Locator, Path, Text, unit_of};
-use opfs_calls::{Stop, ask_estimate};
 use opfs_hall::Hall;
 use opfs_hist::{Op, Refusal};
 use opfs_store::Store;
+use opfs_turns::{Stop, ask_estimate};
 use std::alloc::AllocError;
 use std::sync::Wait;
 
 impl<S: Store> Agent<S> {
     /// Makes a bucket of the agent's origin persistent where it has the grant, and tells whether it is (Storage: persist).
-    #[tactic(auto, using(opfs_calls::proofs::Shares::looked_none), unfolding(opfs_machine::specs::Histories::may_enter, opfs_store::specs::Acts::Asking::HasSmallNumbers, opfs_machine::specs::Replies::answer))]
+    #[tactic(auto, using(opfs_turns::proofs::asking::Shares::looked_none), unfolding(opfs_machine::specs::Histories::may_enter, opfs_store::specs::Acts::Asking::HasSmallNumbers, opfs_machine::specs::Replies::answer))]
     pub fn persist<R: Wait>(&mut self, rt: &R, court: &Hall<S>, bucket: &Text) -> Result<bool, Stop>
         requires own { self.old.pass.hall ≡ court.now }
         requires room { HasRoom self.old }
@@ -32,7 +32,7 @@ impl<S: Store> Agent<S> {
     }
 
     /// Tells whether a bucket of the agent's origin is persistent (Storage: persisted).
-    #[tactic(auto, using(opfs_calls::proofs::Shares::looked_none), unfolding(opfs_machine::specs::Histories::may_enter, opfs_store::specs::Acts::Asking::HasSmallNumbers, opfs_machine::specs::Replies::answer))]
+    #[tactic(auto, using(opfs_turns::proofs::asking::Shares::looked_none), unfolding(opfs_machine::specs::Histories::may_enter, opfs_store::specs::Acts::Asking::HasSmallNumbers, opfs_machine::specs::Replies::answer))]
     pub fn persisted<R: Wait>(
         &mut self,
         rt: &R,
@@ -51,7 +51,7 @@ impl<S: Store> Agent<S> {
 
     /// Gives the locator of a bucket's root, and makes the root where it is missing (Storage: obtain a local storage bottle
     /// map; File System: getDirectory).
-    #[tactic(auto, using(opfs_calls::proofs::Shares::looked_none), unfolding(opfs_machine::specs::Histories::may_enter, opfs_store::specs::Acts::Asking::HasSmallNumbers, opfs_machine::specs::Replies::answer))]
+    #[tactic(auto, using(opfs_turns::proofs::asking::Shares::looked_none), unfolding(opfs_machine::specs::Histories::may_enter, opfs_store::specs::Acts::Asking::HasSmallNumbers, opfs_machine::specs::Replies::answer))]
     pub fn get_directory<R: Wait>(
         &mut self,
         rt: &R,
@@ -94,7 +94,7 @@ impl<S: Store> Agent<S> {
     }
 
     /// Gives the usage and the quota of the agent's origin, in bytes (Storage: estimate).
-    #[tactic(auto, using(opfs_calls::proofs::Shares::looked_none), unfolding(opfs_machine::specs::Histories::may_enter, opfs_store::specs::Acts::Asking::HasSmallNumbers, opfs_machine::specs::Replies::answer))]
+    #[tactic(auto, using(opfs_turns::proofs::asking::Shares::looked_none), unfolding(opfs_machine::specs::Histories::may_enter, opfs_store::specs::Acts::Asking::HasSmallNumbers, opfs_machine::specs::Replies::answer))]
     pub fn estimate<R: Wait>(&mut self, rt: &R, court: &Hall<S>) -> Result<(u64, u64), Stop>
         requires own { self.old.pass.hall ≡ court.now }
         requires room { HasRoom self.old }
@@ -104,7 +104,7 @@ impl<S: Store> Agent<S> {
     }
 
     /// Posts a tag for the agents of this one's party (this project's own).
-    #[tactic(auto, using(opfs_calls::proofs::Shares::looked_none), unfolding(opfs_machine::specs::Histories::may_enter, opfs_store::specs::Acts::Asking::HasSmallNumbers, opfs_machine::specs::Replies::answer))]
+    #[tactic(auto, using(opfs_turns::proofs::asking::Shares::looked_none), unfolding(opfs_machine::specs::Histories::may_enter, opfs_store::specs::Acts::Asking::HasSmallNumbers, opfs_machine::specs::Replies::answer))]
     pub fn post<R: Wait>(&mut self, rt: &R, court: &Hall<S>, tag: &Text) -> Result<(), Stop>
         requires own { self.old.pass.hall ≡ court.now }
         requires room { HasRoom self.old }

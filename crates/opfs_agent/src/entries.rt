@@ -7,21 +7,21 @@ ghost use Rattle.opfs_base.specs.declared.locator.Kind.TheVariants as kind;
 ghost use Rattle.opfs_hist.specs.declared.op.Op.TheVariants as op;
 ghost use Rattle.opfs_hist.specs.declared.reply.Reply.TheVariants as reply;
 ghost use Rattle.opfs_turns.specs.Calls.{HasRoom};
-ghost use Rattle.opfs_calls.specs.Answers.{Shared, IsOwn};
+ghost use Rattle.opfs_turns.specs.Asking.Answers.{Shared, IsOwn};
 
 use crate::agent::Agent;
 use opfs_base::{Kind, Locator, Name, Text, is_valid_name};
-use opfs_calls::Stop;
 use opfs_hall::Hall;
 use opfs_hist::Op;
 use opfs_store::Store;
+use opfs_turns::Stop;
 use std::alloc::AllocError;
 use std::sync::Wait;
 
 impl<S: Store> Agent<S> {
     /// Finds a directory's child that is a file, and makes it where it is missing and `create` says so (File System:
     /// getFileHandle).
-    #[tactic(auto, using(opfs_calls::proofs::Shares::looked_none, opfs_calls::proofs::Answered::with_child), unfolding(opfs_machine::specs::Histories::may_enter, opfs_store::specs::Acts::Asking::HasSmallNumbers, opfs_machine::specs::Replies::answer))]
+    #[tactic(auto, using(opfs_turns::proofs::asking::Shares::looked_none, opfs_turns::proofs::asking::Answered::with_child), unfolding(opfs_machine::specs::Histories::may_enter, opfs_store::specs::Acts::Asking::HasSmallNumbers, opfs_machine::specs::Replies::answer))]
     pub fn get_file_handle<R: Wait>(
         &mut self,
         rt: &R,
@@ -50,7 +50,7 @@ impl<S: Store> Agent<S> {
     }
 
     /// The same of a child that is a directory (File System: getDirectoryHandle).
-    #[tactic(auto, using(opfs_calls::proofs::Shares::looked_none, opfs_calls::proofs::Answered::with_child), unfolding(opfs_machine::specs::Histories::may_enter, opfs_store::specs::Acts::Asking::HasSmallNumbers, opfs_machine::specs::Replies::answer))]
+    #[tactic(auto, using(opfs_turns::proofs::asking::Shares::looked_none, opfs_turns::proofs::asking::Answered::with_child), unfolding(opfs_machine::specs::Histories::may_enter, opfs_store::specs::Acts::Asking::HasSmallNumbers, opfs_machine::specs::Replies::answer))]
     pub fn get_directory_handle<R: Wait>(
         &mut self,
         rt: &R,
@@ -79,7 +79,7 @@ impl<S: Store> Agent<S> {
     }
 
     /// Removes a directory's child, with all below it where `recursive` says so (File System: removeEntry).
-    #[tactic(auto, using(opfs_calls::proofs::Shares::looked_none), unfolding(opfs_machine::specs::Histories::may_enter, opfs_store::specs::Acts::Asking::HasSmallNumbers, opfs_machine::specs::Replies::answer))]
+    #[tactic(auto, using(opfs_turns::proofs::asking::Shares::looked_none), unfolding(opfs_machine::specs::Histories::may_enter, opfs_store::specs::Acts::Asking::HasSmallNumbers, opfs_machine::specs::Replies::answer))]
     pub fn remove_entry<R: Wait>(
         &mut self,
         rt: &R,

@@ -6,17 +6,17 @@ ghost use Rattle.std.specs.Vec.{vec_capacity};
 ghost use Rattle.opfs_hist.specs.declared.op.Op.TheVariants as op;
 ghost use Rattle.opfs_hist.specs.declared.reply.Reply.TheVariants as reply;
 ghost use Rattle.opfs_turns.specs.Calls.{HasRoom};
-ghost use Rattle.opfs_calls.specs.Answers.{Shared, IsOwn};
-ghost use Rattle.opfs_calls.specs.Locals.{Local};
-ghost use Rattle.opfs_calls.specs.Rows.{HasIterator};
+ghost use Rattle.opfs_turns.specs.Asking.Answers.{Shared, IsOwn};
+ghost use Rattle.opfs_turns.specs.Asking.Locals.{Local};
+ghost use Rattle.opfs_turns.specs.Asking.Rows.{HasIterator};
 ghost use Rattle.opfs_agent.specs.Entries.{IsNextOf, IsNoted};
 
 use crate::agent::Agent;
 use opfs_base::{Locator, Name};
-use opfs_calls::{Stop, ask_past};
 use opfs_hall::Hall;
 use opfs_hist::{Op, Reply};
 use opfs_store::{Acted, Gift, Store};
+use opfs_turns::{Stop, ask_past};
 use std::marker::Model;
 use std::sync::Wait;
 
@@ -30,7 +30,7 @@ pub struct Iter {
 }
 
 impl Model for Iter {
-    ghost use Rattle.opfs_calls.specs.Rows.{IteratorSeen};
+    ghost use Rattle.opfs_turns.specs.Asking.Rows.{IteratorSeen};
 
     ghost Value = { IteratorSeen };
 

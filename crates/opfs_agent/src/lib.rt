@@ -12,7 +12,7 @@ mod streams;
 
 pub use agent::Agent;
 pub use iteration::Iter;
-pub use opfs_calls::Stop;
 pub use opfs_handles::{ClosedSync, SyncHandle};
 pub use opfs_streams::{ClosedStream, Writable};
+pub use opfs_turns::Stop;
 pub use snapshots::Snapshot;

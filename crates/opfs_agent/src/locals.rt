@@ -8,13 +8,13 @@ ghost use Rattle.opfs_hist.specs.declared.reply.Refusal.TheVariants as refusal;
 ghost use Rattle.opfs_hist.specs.declared.reply.Reply.TheVariants as reply;
 ghost use Rattle.opfs_machine.specs.Replies.{path_reply};
 ghost use Rattle.opfs_turns.specs.Calls.{HasRoom};
-ghost use Rattle.opfs_calls.specs.Locals.{Local, Stopped, IsWhy};
+ghost use Rattle.opfs_turns.specs.Asking.Locals.{Local, Stopped, IsWhy};
 
 use crate::agent::Agent;
 use opfs_base::{Locator, Path, resolve, same};
-use opfs_calls::Stop;
 use opfs_hist::{Op, Refusal, Reply, Word};
 use opfs_store::Store;
+use opfs_turns::Stop;
 use std::alloc::{AllocError, Global};
 
 // The reply of resolve.

@@ -5,18 +5,18 @@ ghost use Rattle.opfs_hist.specs.declared.op.Op.TheVariants as op;
 ghost use Rattle.opfs_hist.specs.declared.reply.Reply.TheVariants as reply;
 ghost use Rattle.opfs_splice.specs.Splicing.{window};
 ghost use Rattle.opfs_turns.specs.Calls.{HasRoom};
-ghost use Rattle.opfs_calls.specs.Answers.{Shared, IsOwn};
-ghost use Rattle.opfs_calls.specs.Locals.{Local};
-ghost use Rattle.opfs_calls.specs.Rows.{HasSnapshot};
+ghost use Rattle.opfs_turns.specs.Asking.Answers.{Shared, IsOwn};
+ghost use Rattle.opfs_turns.specs.Asking.Locals.{Local};
+ghost use Rattle.opfs_turns.specs.Asking.Rows.{HasSnapshot};
 ghost use Rattle.opfs_agent.specs.Entries.{stamp_in};
 
 use crate::agent::Agent;
 use opfs_base::{Bytes, Locator};
-use opfs_calls::Stop;
 use opfs_hall::Hall;
 use opfs_hist::{Op, Reply};
 use opfs_splice::window;
 use opfs_store::{Acted, Gift, Store};
+use opfs_turns::Stop;
 use std::marker::Model;
 use std::sync::Wait;
 
@@ -29,7 +29,7 @@ pub struct Snapshot {
 }
 
 impl Model for Snapshot {
-    ghost use Rattle.opfs_calls.specs.Rows.{SnapshotSeen};
+    ghost use Rattle.opfs_turns.specs.Asking.Rows.{SnapshotSeen};
 
     ghost Value = { SnapshotSeen };
 
@@ -71,7 +71,7 @@ fn stamp_in(reply: &Reply) -> u64
 
 impl<S: Store> Agent<S> {
     /// Takes a snapshot of a file (File System: getFile).
-    #[tactic(auto, using(opfs_calls::proofs::Shares::looked_none), unfolding(opfs_machine::specs::Histories::may_enter, opfs_store::specs::Acts::Asking::HasSmallNumbers))]
+    #[tactic(auto, using(opfs_turns::proofs::asking::Shares::looked_none), unfolding(opfs_machine::specs::Histories::may_enter, opfs_store::specs::Acts::Asking::HasSmallNumbers))]
     pub fn get_file<R: Wait>(
         &mut self,
         rt: &R,

@@ -8,19 +8,19 @@ ghost use Rattle.opfs_machine.specs.Replies.{row_named};
 ghost use Rattle.opfs_store.specs.Acts.Acting.{IsSameCopy};
 ghost use Rattle.opfs_store.specs.Acts.Asking.{IsSmall, IsSmallData, IsSmallPlace};
 ghost use Rattle.opfs_turns.specs.Calls.{HasRoom};
-ghost use Rattle.opfs_calls.specs.Answers.{Shared, IsOwn};
-ghost use Rattle.opfs_calls.specs.Locals.{Local, Stopped, IsWhy, is_stream_op};
-ghost use Rattle.opfs_calls.specs.Rows.{HasStream, HasClosedStream};
+ghost use Rattle.opfs_turns.specs.Asking.Answers.{Shared, IsOwn};
+ghost use Rattle.opfs_turns.specs.Asking.Locals.{Local, Stopped, IsWhy, is_stream_op};
+ghost use Rattle.opfs_turns.specs.Asking.Rows.{HasStream, HasClosedStream};
 ghost use Rattle.opfs_streams.specs.Ends.{GivesBack, IsClosed};
 ghost use Rattle.opfs_work.specs.Works.{place_in, IsNearWrite, IsNearSize};
 
 use crate::agent::Agent;
 use opfs_base::{Data, Locator};
-use opfs_calls::Stop;
 use opfs_hall::Hall;
 use opfs_hist::{Op, Refusal};
 use opfs_store::Store;
 use opfs_streams::{ClosedStream, Writable};
+use opfs_turns::Stop;
 use std::sync::Wait;
 
 impl<S: Store> Agent<S> {

@@ -15,8 +15,8 @@ use Rattle.opfs_store.specs.Acts.Asking.{HasSmallNumbers, IsHandedIn, IsSmall, I
 use Rattle.opfs_store.specs.Copies.Copies.{IsCopyOf, StandsFor}
 use Rattle.opfs_turns.specs.Agents.{AgentSeen, known, state_of, own_row}
 use Rattle.opfs_turns.specs.Calls.{MayAsk}
-use Rattle.opfs_calls.specs.Rows.{HasHandle, IsHandleOn, HandleSeen}
-use Rattle.opfs_calls.proofs.RowsAfter.{some-same, handed-row}
+use Rattle.opfs_turns.specs.Asking.Rows.{HasHandle, IsHandleOn, HandleSeen}
+use Rattle.opfs_turns.proofs.asking.RowsAfter.{some-same, handed-row}
 use Rattle.opfs_work.specs.Works.{WorkingCopy, contents}
 
 -- What a working copy says of an access handle's row.

@@ -33,13 +33,13 @@ use Rattle.opfs_turns.specs.Agents.{AgentSeen, IsAgent, state_of}
 use Rattle.opfs_turns.specs.Calls.{IsKept, IsLocal}
 use Rattle.opfs_work.specs.Pages.{bytes_of, byte_at}
 use Rattle.opfs_work.specs.Works.{WorkingCopy, contents, place_in}
-use Rattle.opfs_calls.specs.Locals.{HasLocalAnswer}
-use Rattle.opfs_calls.specs.Rows.{HasHandle, HandleSeen}
-use Rattle.opfs_calls.proofs.Granted.{granted-answer, granted-after, local-call, plain-call}
-use Rattle.opfs_calls.proofs.Plains.{reads-alike, window-length, windows-alike}
-use Rattle.opfs_calls.proofs.Rowed.{kept-own}
-use Rattle.opfs_calls.proofs.RowsAfter.{own-changed}
-use Rattle.opfs_calls.proofs.Stands.{local-same}
+use Rattle.opfs_turns.specs.Asking.Locals.{HasLocalAnswer}
+use Rattle.opfs_turns.specs.Asking.Rows.{HasHandle, HandleSeen}
+use Rattle.opfs_turns.proofs.asking.Granted.{granted-answer, granted-after, local-call, plain-call}
+use Rattle.opfs_turns.proofs.asking.Plains.{reads-alike, window-length, windows-alike}
+use Rattle.opfs_turns.proofs.asking.Rowed.{kept-own}
+use Rattle.opfs_turns.proofs.asking.RowsAfter.{own-changed}
+use Rattle.opfs_turns.proofs.asking.Stands.{local-same}
 use Rattle.opfs_handles.proofs.Facts.{facts, row-is, has-row}
 
 -- As many bytes as the copy says.

@@ -33,14 +33,14 @@ use Rattle.opfs_store.specs.Acts.Acting.{IsSameCopy, StandsForLeft, row_left}
 use Rattle.opfs_store.specs.Copies.Copies.{StandsFor}
 use Rattle.opfs_turns.specs.Agents.{AgentSeen, IsAgent, known, own_row}
 use Rattle.opfs_turns.specs.Calls.{IsEntered}
-use Rattle.opfs_calls.specs.Answers.{HasAnswer, IsAnsweredBy, IsLength, IsRead, Shared}
-use Rattle.opfs_calls.specs.Rows.{HasHandle, HasClosedHandle, HandleSeen}
-use Rattle.opfs_calls.specs.declared.stop.Stop.{Stop}
-use Rattle.opfs_calls.specs.declared.stop.Stop.TheVariants as stop
-use Rattle.opfs_calls.proofs.Entered.{s, t, row-there, number}
-use Rattle.opfs_calls.proofs.Rowed.{own_agent, accepted-own, stopped-own, sure-answer}
-use Rattle.opfs_calls.proofs.RowsAfter.{own-set, own-changed, own-added, last-own, left-stands, some-number}
-use Rattle.opfs_calls.proofs.Stands.{same-stands, stopped-stands}
+use Rattle.opfs_turns.specs.Asking.Answers.{HasAnswer, IsAnsweredBy, IsLength, IsRead, Shared}
+use Rattle.opfs_turns.specs.Asking.Rows.{HasHandle, HasClosedHandle, HandleSeen}
+use Rattle.opfs_turns.specs.declared.asking.stop.Stop.{Stop}
+use Rattle.opfs_turns.specs.declared.asking.stop.Stop.TheVariants as stop
+use Rattle.opfs_turns.proofs.asking.Entered.{s, t, row-there, number}
+use Rattle.opfs_turns.proofs.asking.Rowed.{own_agent, accepted-own, stopped-own, sure-answer}
+use Rattle.opfs_turns.proofs.asking.RowsAfter.{own-set, own-changed, own-added, last-own, left-stands, some-number}
+use Rattle.opfs_turns.proofs.asking.Stands.{same-stands, stopped-stands}
 use Rattle.opfs_work.specs.Works.{WorkingCopy}
 use Rattle.opfs_handles.specs.Ends.{GivesBack, IsClosed, WasStopped}
 use Rattle.opfs_handles.proofs.Facts.{facts, row-is, has-row}

@@ -6,10 +6,10 @@ use Rattle.opfs_store.specs.declared.acts.acted.Gift.{Gift}
 use Rattle.opfs_store.specs.Acts.Acting.{IsSameCopy}
 use Rattle.opfs_turns.specs.Agents.{AgentSeen}
 use Rattle.opfs_turns.specs.Calls.{IsEntered, HasLooked}
-use Rattle.opfs_calls.specs.Answers.{IsRefused}
-use Rattle.opfs_calls.specs.Rows.{HandleSeen, HasHandle, HasClosedHandle}
-use Rattle.opfs_calls.specs.declared.stop.Stop.{Stop}
-use Rattle.opfs_calls.specs.declared.stop.Stop.TheVariants as stop
+use Rattle.opfs_turns.specs.Asking.Answers.{IsRefused}
+use Rattle.opfs_turns.specs.Asking.Rows.{HandleSeen, HasHandle, HasClosedHandle}
+use Rattle.opfs_turns.specs.declared.asking.stop.Stop.{Stop}
+use Rattle.opfs_turns.specs.declared.asking.stop.Stop.TheVariants as stop
 
 -- A call was entered and done, and the row that it names is closed.
 pub record IsClosed {O : Type 0} (tells : Type 0) (before after : AgentSeen O) (op : Op) (row closed : ℕ) : Type 0 where

@@ -5,15 +5,14 @@ ghost use Rattle.opfs_hist.specs.declared.op.Op.TheVariants as op;
 ghost use Rattle.opfs_hist.specs.declared.reply.Reply.TheVariants as reply;
 ghost use Rattle.opfs_turns.specs.Calls.{HasRoom, IsEntered};
 ghost use Rattle.opfs_store.specs.declared.acts.acted.Gift.{Gift};
-ghost use Rattle.opfs_calls.specs.Rows.{HasHandle, HasClosedHandle};
+ghost use Rattle.opfs_turns.specs.Asking.Rows.{HasHandle, HasClosedHandle};
 ghost use Rattle.opfs_handles.specs.Ends.{GivesBack, IsClosed};
 
 use crate::handle::{ClosedSync, SyncHandle};
-use opfs_calls::{Stop, ask_row};
 use opfs_hall::Hall;
 use opfs_hist::Op;
 use opfs_store::Store;
-use opfs_turns::Turns;
+use opfs_turns::{Stop, Turns, ask_row};
 use std::alloc::Global;
 use std::sync::Wait;
 

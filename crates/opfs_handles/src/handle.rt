@@ -19,7 +19,7 @@ pub struct SyncHandle {
 }
 
 impl Model for SyncHandle {
-    ghost use Rattle.opfs_calls.specs.Rows.{HandleSeen};
+    ghost use Rattle.opfs_turns.specs.Asking.Rows.{HandleSeen};
 
     ghost Value = { HandleSeen };
 

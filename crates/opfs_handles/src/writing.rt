@@ -6,16 +6,15 @@ ghost use Rattle.opfs_hist.specs.declared.reply.Reply.TheVariants as reply;
 ghost use Rattle.opfs_store.specs.Acts.Acting.{IsSameCopy};
 ghost use Rattle.opfs_store.specs.Acts.Asking.{IsSmall, IsSmallData, IsSmallPlace};
 ghost use Rattle.opfs_turns.specs.Calls.{HasRoom};
-ghost use Rattle.opfs_calls.specs.Answers.{Shared};
-ghost use Rattle.opfs_calls.specs.Rows.{HasHandle};
+ghost use Rattle.opfs_turns.specs.Asking.Answers.{Shared};
+ghost use Rattle.opfs_turns.specs.Asking.Rows.{HasHandle};
 
 use crate::handle::SyncHandle;
 use opfs_base::Data;
-use opfs_calls::{Stop, ask_length, ask_row};
 use opfs_hall::Hall;
 use opfs_hist::Op;
 use opfs_store::Store;
-use opfs_turns::Turns;
+use opfs_turns::{Stop, Turns, ask_length, ask_row};
 use std::alloc::Global;
 use std::sync::Wait;
 

@@ -2,8 +2,8 @@
 use Rattle.std.proofs.Common.{◌≡◌, ℕ, false, List, [], ◌∷◌, ◌++◌, Result, Ok, Err, IfErr, IfOk, OnErr, OnOk, sym, ap, subst, ◌∙◌}
 use Rattle.opfs_base.specs.Places.{place_of}
 use Rattle.opfs_base.specs.Texts.{Text}
-use Rattle.opfs_calls.specs.Rows.{HandleSeen, HasClosedHandle}
-use Rattle.opfs_calls.specs.declared.stop.Stop.{Stop}
+use Rattle.opfs_turns.specs.Asking.Rows.{HandleSeen, HasClosedHandle}
+use Rattle.opfs_turns.specs.declared.asking.stop.Stop.{Stop}
 use Rattle.opfs_handles.specs.declared.handle.ClosedSync.{ClosedSync}
 use Rattle.opfs_kv_words.specs.Indexes.{read_out}
 use Rattle.opfs_kv_words.specs.Maps.{Map}

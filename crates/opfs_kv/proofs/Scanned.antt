@@ -3,7 +3,7 @@ use Rattle.std.proofs.Common.{◌≡◌, ℕ, ◌+◌, ◌-◌, ◌*◌, ◌<◌
 use Rattle.std.proofs.lemmas.Bool.{cases_lt}
 use Rattle.std.proofs.lemmas.List.{length-drop, length-take, take_all}
 use Rattle.opfs_base.specs.Texts.{Text}
-use Rattle.opfs_calls.specs.Rows.{HandleSeen, HasHandle}
+use Rattle.opfs_turns.specs.Asking.Rows.{HandleSeen, HasHandle}
 use Rattle.opfs_kv_words.specs.Indexes.{IsFitting, Places}
 use Rattle.opfs_kv_words.specs.Scans.{HasRead, HasStopped, IsPiece}
 use Rattle.opfs_kv_words.specs.declared.miss.Miss.{Miss}

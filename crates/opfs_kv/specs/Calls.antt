@@ -1,7 +1,7 @@
 -- What calls on a key-value file answer. This project's own.
 use Rattle.std.specs.Prelude.{◌≡◌, ℕ, ◌+◌, ◌<◌, ◌≤◌, length, [], Option, Some, None, Result, Ok, Err}
 use Rattle.opfs_base.specs.Texts.{Text}
-use Rattle.opfs_calls.specs.declared.stop.Stop.{Stop}
+use Rattle.opfs_turns.specs.declared.asking.stop.Stop.{Stop}
 use Rattle.opfs_kv_words.specs.Scans.{HasFailed}
 use Rattle.opfs_kv_words.specs.declared.place.Place.{Place}
 use Rattle.opfs_sync_files.specs.Entries.{IsCaused}

@@ -1,8 +1,8 @@
 -- How a key-value file is read when it is opened, piece by piece. This project's own.
 use Rattle.std.specs.Prelude.{◌≡◌, ℕ, ◌≤◌}
 use Rattle.opfs_base.specs.Texts.{Text}
-use Rattle.opfs_calls.specs.Rows.{HandleSeen, HasHandle}
-use Rattle.opfs_calls.specs.declared.stop.Stop.TheVariants as stop
+use Rattle.opfs_turns.specs.Asking.Rows.{HandleSeen, HasHandle}
+use Rattle.opfs_turns.specs.declared.asking.stop.Stop.TheVariants as stop
 use Rattle.opfs_kv_words.specs.Indexes.{IsFitting, Places}
 use Rattle.opfs_kv_words.specs.Scans.{HasFailed, HasRead, IsPiece}
 use Rattle.opfs_kv_words.specs.declared.miss.Miss.{Miss}

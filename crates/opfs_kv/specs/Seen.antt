@@ -2,7 +2,7 @@
 use Rattle.std.specs.Prelude.{◌≡◌, ℕ, ◌≤◌, ◌++◌, Bool, List, [], ◌∷◌}
 use Rattle.opfs_base.specs.Places.{place_of}
 use Rattle.opfs_base.specs.Texts.{Text}
-use Rattle.opfs_calls.specs.Rows.{HandleSeen, HasClosedHandle, HasHandle}
+use Rattle.opfs_turns.specs.Asking.Rows.{HandleSeen, HasClosedHandle, HasHandle}
 use Rattle.opfs_hist.specs.declared.op.Mode.TheVariants as mode
 use Rattle.opfs_kv_words.specs.Indexes.{Places, read_out}
 use Rattle.opfs_kv_words.specs.Maps.{Map}

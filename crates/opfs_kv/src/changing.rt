@@ -1,7 +1,7 @@
 //! How a key gets a value, and how it is taken out.
 
 ghost use Rattle.std.specs.Prelude.{◌≡◌, ◌≢◌, ◌+◌, ◌<◌, ◌≤◌, false, true, length, IfErr, IfOk, OnErr, OnOk, Ok, Err, None, Some, is_some};
-ghost use Rattle.opfs_calls.specs.declared.stop.Stop.TheVariants as stop;
+ghost use Rattle.opfs_turns.specs.declared.asking.stop.Stop.TheVariants as stop;
 ghost use Rattle.opfs_kv_words.specs.Maps.{found, with_key, without_key};
 ghost use Rattle.opfs_kv_words.specs.Records.{IsKey, IsValue, spelled_by};
 ghost use Rattle.opfs_sync_files.specs.Entries.{IsCaused};
@@ -15,12 +15,12 @@ use crate::stop::KvStop;
 use crate::storing::cut;
 use opfs_agent::Agent;
 use opfs_base::{Bytes, Data};
-use opfs_calls::Stop;
 use opfs_hall::Hall;
 use opfs_handles::SyncHandle;
 use opfs_kv_words::{Index, Place, spell_gone, spell_put};
 use opfs_store::Store;
 use opfs_sync_files::write;
+use opfs_turns::Stop;
 use std::alloc::{AllocError, Global};
 use std::sync::Wait;
 

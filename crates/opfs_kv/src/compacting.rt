@@ -2,7 +2,7 @@
 
 ghost use Rattle.std.specs.Prelude.{◌≡◌, ◌+◌, ◌≤◌, false, map, sum_by, take, IfErr, IfOk, OnOk};
 ghost use Rattle.std.specs.List.{AllByRecursion};
-ghost use Rattle.opfs_calls.specs.declared.stop.Stop.TheVariants as stop;
+ghost use Rattle.opfs_turns.specs.declared.asking.stop.Stop.TheVariants as stop;
 ghost use Rattle.opfs_sync_files.specs.Entries.{IsCaused};
 ghost use Rattle.opfs_turns.specs.Calls.{HasRoom};
 ghost use Rattle.opfs_sync_files.specs.Files.{file_bytes};
@@ -15,12 +15,12 @@ use crate::notes::Notes;
 use crate::storing::cut;
 use opfs_agent::Agent;
 use opfs_base::{Bytes, Data};
-use opfs_calls::Stop;
 use opfs_hall::Hall;
 use opfs_handles::SyncHandle;
 use opfs_kv_words::{Index, Packed, pack};
 use opfs_store::Store;
 use opfs_sync_files::{read, write};
+use opfs_turns::Stop;
 use std::alloc::{AllocError, Global};
 use std::sync::Wait;
 

@@ -1,7 +1,7 @@
 //! A key-value file.
 
 ghost use Rattle.std.specs.Prelude.{◌≡◌, ◌≢◌, ◌+◌, ◌<◌, false, length, map, IfErr, IfOk, OnErr, OnOk, Ok, Err, None, is_some};
-ghost use Rattle.opfs_calls.specs.Rows.{HasHandle};
+ghost use Rattle.opfs_turns.specs.Asking.Rows.{HasHandle};
 ghost use Rattle.opfs_hist.specs.declared.op.Mode.TheVariants as mode;
 ghost use Rattle.opfs_kv_words.specs.Maps.{found, with_key, without_key};
 ghost use Rattle.opfs_kv_words.specs.Records.{IsKey, IsValue, log_of, put_of};
@@ -21,10 +21,10 @@ use crate::stop::KvStop;
 use crate::{changing, compacting, getting, storing};
 use opfs_agent::Agent;
 use opfs_base::Bytes;
-use opfs_calls::Stop;
 use opfs_hall::Hall;
 use opfs_handles::{ClosedSync, SyncHandle};
 use opfs_store::Store;
+use opfs_turns::Stop;
 use std::marker::Model;
 use std::sync::Wait;
 

@@ -1,7 +1,7 @@
 //! How a file is read when it is opened.
 
 ghost use Rattle.std.specs.Prelude.{◌≡◌, ◌+◌, ◌<◌, ◌≤◌, [], false, length, IfErr, IfOk, OnOk};
-ghost use Rattle.opfs_calls.specs.Rows.{HasHandle};
+ghost use Rattle.opfs_turns.specs.Asking.Rows.{HasHandle};
 ghost use Rattle.opfs_base.specs.Texts.{Text};
 ghost use Rattle.opfs_kv_words.specs.Indexes.{IsFitting};
 ghost use Rattle.opfs_kv_words.specs.Scans.{HasRead, IsPiece};
@@ -15,12 +15,12 @@ ghost use Rattle.opfs_kv.specs.Seen.{HasPlaces};
 use crate::notes::Notes;
 use crate::stop::KvStop;
 use opfs_agent::Agent;
-use opfs_calls::Stop;
 use opfs_hall::Hall;
 use opfs_handles::SyncHandle;
 use opfs_kv_words::{Index, Miss, scan};
 use opfs_store::Store;
 use opfs_sync_files::{read, size};
+use opfs_turns::Stop;
 use std::alloc::Global;
 use std::sync::Wait;
 

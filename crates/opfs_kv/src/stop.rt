@@ -1,6 +1,6 @@
 //! Why a call on a key-value file gives nothing.
 
-use opfs_calls::Stop;
+use opfs_turns::Stop;
 
 /// Why a call on a key-value file gives nothing.
 #[derive(Clone, Copy, Debug, PartialEq, Eq)]

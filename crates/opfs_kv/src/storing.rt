@@ -10,11 +10,11 @@ ghost use Rattle.opfs_kv.specs.Seen.{Flushes, HasPlaces, Serves, Stands, map_in,
 use crate::notes::Notes;
 use crate::stop::KvStop;
 use opfs_agent::Agent;
-use opfs_calls::Stop;
 use opfs_hall::Hall;
 use opfs_handles::SyncHandle;
 use opfs_store::Store;
 use opfs_sync_files::{flush, truncate};
+use opfs_turns::Stop;
 use std::sync::Wait;
 
 /// Cuts a pending tail, where there is one.

@@ -14,7 +14,7 @@ use Rattle.opfs_kv_runs.specs.declared.commands.KvOp.{KvOp}
 use Rattle.opfs_kv_runs.specs.declared.commands.KvOp.TheVariants as op
 use Rattle.opfs_kv_runs.specs.declared.commands.KvReply.{KvReply}
 use Rattle.opfs_kv_runs.specs.declared.commands.KvReply.TheVariants as kv_reply
-use Rattle.opfs_calls.specs.declared.stop.Stop.TheVariants as stop
+use Rattle.opfs_turns.specs.declared.asking.stop.Stop.TheVariants as stop
 use Rattle.opfs_kv.specs.declared.stop.KvStop.TheVariants as kv_stop
 use Rattle.opfs_base.specs.Places.{place_of}
 use Rattle.opfs_kv.specs.Keeping.{Spells}

@@ -6,7 +6,7 @@ use Rattle.opfs_sync_files.specs.Entries.{GoesOn}
 use Rattle.opfs_sync_files.proofs.Knowing.{entry-earlier}
 use Rattle.opfs_turns.specs.Agents.{AgentSeen}
 use Rattle.opfs_kv.specs.declared.stop.KvStop.TheVariants as kv_stop
-use Rattle.opfs_calls.specs.declared.stop.Stop.TheVariants as stop
+use Rattle.opfs_turns.specs.declared.asking.stop.Stop.TheVariants as stop
 use Rattle.opfs_kv_runs.specs.Runs.{AreCaused, AreReplies, AreStored, AreStoredBy, IsCausedReply, IsReply, after_op, map_after, stores}
 use Rattle.opfs_kv_runs.specs.declared.commands.KvOp.{KvOp}
 use Rattle.opfs_kv_runs.specs.declared.commands.KvReply.{KvReply}

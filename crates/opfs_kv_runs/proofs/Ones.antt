@@ -2,7 +2,7 @@
 use Rattle.std.proofs.Common.{◌≡◌, ℕ, ◌+◌, Bool, false, [], append-nil, length, Option, refl, sym, ap, subst, ◌∙◌, arith}
 use Rattle.std.specs.Prelude.{is_some}
 use Rattle.opfs_base.specs.Texts.{Text}
-use Rattle.opfs_calls.specs.declared.stop.Stop.TheVariants as stop
+use Rattle.opfs_turns.specs.declared.asking.stop.Stop.TheVariants as stop
 use Rattle.opfs_kv_words.specs.Maps.{Map, found, with_key, without_key}
 use Rattle.opfs_sync_files.specs.Entries.{GoesOn}
 use Rattle.opfs_turns.specs.Agents.{AgentSeen}

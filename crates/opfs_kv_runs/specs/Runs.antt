@@ -1,7 +1,7 @@
 -- A list of commands on a key-value file, and what a map answers to them. This project's own.
 use Rattle.std.specs.Prelude.{◌≡◌, ℕ, ◌+◌, ◌<◌, ◌≤◌, Bool, true, false, List, [], ◌∷◌, ◌++◌, length, is_some}
 use Rattle.opfs_base.specs.Texts.{Text}
-use Rattle.opfs_calls.specs.declared.stop.Stop.TheVariants as stop
+use Rattle.opfs_turns.specs.declared.asking.stop.Stop.TheVariants as stop
 use Rattle.opfs_hist.specs.declared.reply.Reply.TheVariants as reply
 use Rattle.opfs_kv_words.specs.Maps.{Map, found, with_key, without_key}
 use Rattle.opfs_kv_words.specs.Records.{IsKey, IsValue}

@@ -5,7 +5,7 @@ use Rattle.std.proofs.lemmas.Grind.{take_at_read}
 use Rattle.std.proofs.lemmas.List.Elements.{All-append, All-cons, All-nil}
 use Rattle.std.proofs.lemmas.List.Sums.{sum_by-cons}
 use Rattle.opfs_base.specs.Texts.{Text}
-use Rattle.opfs_calls.specs.Rows.{HandleSeen, HasClosedHandle}
+use Rattle.opfs_turns.specs.Asking.Rows.{HandleSeen, HasClosedHandle}
 use Rattle.opfs_hall.specs.Seen.{HallSeen}
 use Rattle.opfs_kv.specs.Opening.{OnlyReads}
 use Rattle.opfs_kv.specs.Seen.{Closes, Flushes, HasPlaces, KvSeen, Serves, Stands}

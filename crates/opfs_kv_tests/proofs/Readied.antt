@@ -12,11 +12,11 @@ use Rattle.opfs_base.specs.declared.locator.Kind.{Kind}
 use Rattle.opfs_base.specs.declared.locator.Kind.TheVariants as kind
 use Rattle.opfs_base.specs.declared.locator.Locator.{Locator}
 use Rattle.opfs_base.proofs.UnitLemmas.{origin_of-unit_of, plain-from_is_origin}
-use Rattle.opfs_calls.specs.Answers.{HasAnswer, IsOwn, Shared}
-use Rattle.opfs_calls.specs.Rows.{HandleSeen, HasHandle}
-use Rattle.opfs_calls.specs.declared.stop.Stop.{Stop}
-use Rattle.opfs_calls.specs.declared.stop.Stop.TheVariants as stop
-use Rattle.opfs_calls.proofs.Rowed.{entered-moved, stopped-own}
+use Rattle.opfs_turns.specs.Asking.Answers.{HasAnswer, IsOwn, Shared}
+use Rattle.opfs_turns.specs.Asking.Rows.{HandleSeen, HasHandle}
+use Rattle.opfs_turns.specs.declared.asking.stop.Stop.{Stop}
+use Rattle.opfs_turns.specs.declared.asking.stop.Stop.TheVariants as stop
+use Rattle.opfs_turns.proofs.asking.Rowed.{entered-moved, stopped-own}
 use Rattle.opfs_hall.specs.Seen.{HallSeen}
 use Rattle.opfs_handles.specs.Ends.{IsClosed}
 use Rattle.opfs_hist.specs.Sums.{asks_for_row}

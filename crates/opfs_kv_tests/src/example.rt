@@ -8,7 +8,6 @@ ghost use Rattle.opfs_kv_tests.specs.Ready.{Holds, IsBegun, IsOfAgent, IsOneAgen
 
 use opfs_agent::Agent;
 use opfs_base::{Key, Locator, Text};
-use opfs_calls::Stop;
 use opfs_desk::Desk;
 use opfs_hall::{Hall, Pass};
 use opfs_handles::SyncHandle;
@@ -19,6 +18,7 @@ use opfs_outside::Disk;
 use opfs_register::Who;
 use opfs_store::Store;
 use opfs_sync_files::a_resting_agent_may_end;
+use opfs_turns::Stop;
 use std::alloc::{AllocError, Global};
 use std::sync::Wait;
 

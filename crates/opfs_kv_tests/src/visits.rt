@@ -11,7 +11,6 @@ use crate::example::{Session, begin, desk_over, discard, end, open_file, origin}
 use crate::kvs::{close_kv, give_up, open_kv, put_and_get, take_out};
 use opfs_agent::Agent;
 use opfs_base::{Bytes, Data};
-use opfs_calls::Stop;
 use opfs_desk::Desk;
 use opfs_hall::{Hall, Pass};
 use opfs_handles::SyncHandle;
@@ -20,6 +19,7 @@ use opfs_kv_runs::{KvOp, KvReplies, kv_run};
 use opfs_outside::Disk;
 use opfs_store::Store;
 use opfs_sync_files::{close, read, write};
+use opfs_turns::Stop;
 use std::sync::Wait;
 
 /// The disk behind a visit, how many entries the history has, and what was found.

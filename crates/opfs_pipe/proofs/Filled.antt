@@ -4,7 +4,7 @@ use Rattle.std.specs.List.{concat}
 use Rattle.std.proofs.lemmas.List.{length-append}
 use Rattle.std.proofs.lemmas.List.Folds.{concat-append}
 use Rattle.opfs_base.specs.Texts.{Text}
-use Rattle.opfs_calls.specs.Rows.{HasSnapshot, SnapshotSeen}
+use Rattle.opfs_turns.specs.Asking.Rows.{HasSnapshot, SnapshotSeen}
 use Rattle.opfs_splice.specs.Splicing.{window}
 use Rattle.opfs_turns.specs.Agents.{AgentSeen}
 use Rattle.opfs_pipe.specs.Pieces.{IsCut}

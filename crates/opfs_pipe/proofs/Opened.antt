@@ -4,12 +4,12 @@ use Rattle.opfs_store.specs.declared.acts.acted.Gift.{Gift}
 use Rattle.opfs_base.specs.Places.{place_of}
 use Rattle.opfs_base.specs.Texts.{Text}
 use Rattle.opfs_base.specs.declared.locator.Locator.{Locator}
-use Rattle.opfs_calls.specs.Answers.{HasAnswer, Shared}
-use Rattle.opfs_calls.specs.Rows.{HasStream, StreamSeen}
-use Rattle.opfs_calls.specs.declared.stop.Stop.{Stop}
-use Rattle.opfs_calls.proofs.Entered.{t, number, allowed}
-use Rattle.opfs_calls.proofs.Rowed.{own_agent}
-use Rattle.opfs_calls.proofs.RowsAfter.{own-added, last-own}
+use Rattle.opfs_turns.specs.Asking.Answers.{HasAnswer, Shared}
+use Rattle.opfs_turns.specs.Asking.Rows.{HasStream, StreamSeen}
+use Rattle.opfs_turns.specs.declared.asking.stop.Stop.{Stop}
+use Rattle.opfs_turns.proofs.asking.Entered.{t, number, allowed}
+use Rattle.opfs_turns.proofs.asking.Rowed.{own_agent}
+use Rattle.opfs_turns.proofs.asking.RowsAfter.{own-added, last-own}
 use Rattle.opfs_hist.specs.declared.op.Op.{Op}
 use Rattle.opfs_hist.specs.declared.op.Op.TheVariants as op
 use Rattle.opfs_hist.specs.declared.reply.Reply.{Reply}

@@ -8,12 +8,12 @@ use Rattle.opfs_store.specs.declared.acts.acted.Gift.{Gift}
 use Rattle.opfs_store.specs.Acts.Acting.{IsSameCopy, told_entry}
 use Rattle.opfs_base.specs.Places.{place_of}
 use Rattle.opfs_base.specs.Texts.{Text}
-use Rattle.opfs_calls.specs.Answers.{HasAnswer, Shared}
-use Rattle.opfs_calls.specs.Rows.{HasStream, StreamSeen}
-use Rattle.opfs_calls.specs.declared.stop.Stop.{Stop}
-use Rattle.opfs_calls.specs.declared.stop.Stop.TheVariants as stop
-use Rattle.opfs_calls.proofs.Entered.{s, t, list, known-is, row-there}
-use Rattle.opfs_calls.proofs.Rowed.{own_agent, stopped-own}
+use Rattle.opfs_turns.specs.Asking.Answers.{HasAnswer, Shared}
+use Rattle.opfs_turns.specs.Asking.Rows.{HasStream, StreamSeen}
+use Rattle.opfs_turns.specs.declared.asking.stop.Stop.{Stop}
+use Rattle.opfs_turns.specs.declared.asking.stop.Stop.TheVariants as stop
+use Rattle.opfs_turns.proofs.asking.Entered.{s, t, list, known-is, row-there}
+use Rattle.opfs_turns.proofs.asking.Rowed.{own_agent, stopped-own}
 use Rattle.opfs_hist.specs.declared.entry.Entry.{Entry}
 use Rattle.opfs_hist.specs.declared.op.Op.{Op}
 use Rattle.opfs_hist.specs.declared.op.Op.TheVariants as op

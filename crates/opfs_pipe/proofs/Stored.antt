@@ -5,8 +5,8 @@ use Rattle.opfs_store.specs.declared.acts.acted.Gift.{Gift}
 use Rattle.opfs_store.specs.Acts.Acting.{told_entry}
 use Rattle.opfs_base.specs.Places.{place_of}
 use Rattle.opfs_base.specs.Texts.{Text}
-use Rattle.opfs_calls.specs.Rows.{HasStream, StreamSeen}
-use Rattle.opfs_calls.proofs.Entered.{s, t, row-there}
+use Rattle.opfs_turns.specs.Asking.Rows.{HasStream, StreamSeen}
+use Rattle.opfs_turns.proofs.asking.Entered.{s, t, row-there}
 use Rattle.opfs_hist.specs.declared.entry.Entry.{Entry}
 use Rattle.opfs_hist.specs.declared.op.Op.{Op}
 use Rattle.opfs_hist.specs.declared.op.Op.TheVariants as op

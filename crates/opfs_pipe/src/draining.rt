@@ -2,17 +2,17 @@
 
 ghost use Rattle.std.specs.Prelude.{◌≡◌, ◌+◌, ◌≤◌, ◌++◌, [], length, OnOk};
 ghost use Rattle.rtrb.specs.Ring.{received, known_items, SameConsumer};
-ghost use Rattle.opfs_calls.specs.Rows.{HasStream};
+ghost use Rattle.opfs_turns.specs.Asking.Rows.{HasStream};
 ghost use Rattle.opfs_pipe.specs.Sides.{HasDrained};
 ghost use Rattle.opfs_pipe.specs.Streams.{stream_bytes, stream_offset};
 
 use crate::pieces::Target;
 use crate::writing::write;
 use opfs_agent::Agent;
-use opfs_calls::Stop;
 use opfs_hall::Hall;
 use opfs_store::Store;
 use opfs_streams::Writable;
+use opfs_turns::Stop;
 use std::sync::Wait;
 
 /// Pops pieces and writes them, until no piece is there. It waits for none.

@@ -1,16 +1,16 @@
 //! How a pipe ends: its target is closed.
 
 ghost use Rattle.std.specs.Prelude.{◌≡◌, [], IfErr, IfOk};
-ghost use Rattle.opfs_calls.specs.Rows.{HasStream};
+ghost use Rattle.opfs_turns.specs.Asking.Rows.{HasStream};
 ghost use Rattle.opfs_turns.specs.Calls.{HasRoom};
 ghost use Rattle.opfs_pipe.specs.Sides.{Failed, IsStored};
 ghost use Rattle.opfs_pipe.specs.Streams.{stream_bytes};
 
 use opfs_agent::Agent;
-use opfs_calls::Stop;
 use opfs_hall::Hall;
 use opfs_store::Store;
 use opfs_streams::{ClosedStream, Writable};
+use opfs_turns::Stop;
 use std::sync::Wait;
 
 /// Closes a stream: its bytes are stored for good, as its file's content. Where that is refused it comes back open, as it was.

@@ -2,8 +2,8 @@
 
 ghost use Rattle.std.specs.Prelude.{◌≡◌, ◌+◌, ◌<◌, ◌≤◌, ◌∷◌, ◌++◌, [], length, IfErr, OnErr, OnOk};
 ghost use Rattle.rtrb.specs.Ring.{sent, known_free, SameProducer};
-ghost use Rattle.opfs_calls.specs.Rows.{HasSnapshot};
-ghost use Rattle.opfs_calls.specs.declared.stop.Stop.TheVariants as stop;
+ghost use Rattle.opfs_turns.specs.Asking.Rows.{HasSnapshot};
+ghost use Rattle.opfs_turns.specs.declared.asking.stop.Stop.TheVariants as stop;
 ghost use Rattle.opfs_splice.specs.Splicing.{window};
 ghost use Rattle.opfs_turns.specs.Calls.{HasRoom};
 ghost use Rattle.opfs_pipe.specs.Pieces.{IsCut};
@@ -11,8 +11,8 @@ ghost use Rattle.opfs_pipe.specs.Sides.{HasFilled, Sliced};
 
 use crate::pieces::{PIECE, Source};
 use opfs_agent::{Agent, Snapshot};
-use opfs_calls::Stop;
 use opfs_store::Store;
+use opfs_turns::Stop;
 
 // Slices one piece, and pushes it into the ring, where a slot is free.
 fn push_piece<S: Store>(

@@ -1,7 +1,7 @@
 //! How a range of a snapshot is moved into a stream.
 
 ghost use Rattle.std.specs.Prelude.{◌≡◌, ◌+◌, ◌-◌, ◌<◌, ◌≤◌, ℕ, min, length};
-ghost use Rattle.opfs_calls.specs.Rows.{HasSnapshot, HasStream};
+ghost use Rattle.opfs_turns.specs.Asking.Rows.{HasSnapshot, HasStream};
 ghost use Rattle.opfs_splice.specs.Splicing.{window};
 ghost use Rattle.opfs_pipe.specs.Rounds.{HasMoved};
 ghost use Rattle.opfs_pipe.specs.Streams.{stream_bytes, stream_offset};
@@ -9,10 +9,10 @@ ghost use Rattle.opfs_pipe.specs.Streams.{stream_bytes, stream_offset};
 use crate::pieces::{Pieces, RING};
 use crate::rounds::run_rounds;
 use opfs_agent::{Agent, Snapshot};
-use opfs_calls::Stop;
 use opfs_hall::Hall;
 use opfs_store::Store;
 use opfs_streams::Writable;
+use opfs_turns::Stop;
 use rtrb::RingBuffer;
 use std::alloc::Global;
 use std::sync::Wait;

@@ -4,16 +4,16 @@ ghost use Rattle.std.specs.Prelude.{◌≡◌, false, [], IfOk};
 ghost use Rattle.opfs_hist.specs.declared.op.Op.TheVariants as op;
 ghost use Rattle.opfs_hist.specs.declared.reply.Reply.TheVariants as reply;
 ghost use Rattle.opfs_turns.specs.Calls.{HasRoom};
-ghost use Rattle.opfs_calls.specs.Answers.{Shared, IsOwn};
-ghost use Rattle.opfs_calls.specs.Rows.{HasStream};
+ghost use Rattle.opfs_turns.specs.Asking.Answers.{Shared, IsOwn};
+ghost use Rattle.opfs_turns.specs.Asking.Rows.{HasStream};
 ghost use Rattle.opfs_pipe.specs.Streams.{stream_bytes, stream_offset};
 
 use opfs_agent::Agent;
 use opfs_base::Locator;
-use opfs_calls::Stop;
 use opfs_hall::Hall;
 use opfs_store::Store;
 use opfs_streams::Writable;
+use opfs_turns::Stop;
 use std::sync::Wait;
 
 /// Opens a stream on a file that begins with no bytes: the target of a pipe (File System: createWritable).

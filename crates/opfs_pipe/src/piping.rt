@@ -1,7 +1,7 @@
 //! A pipe from one agent to another.
 
 ghost use Rattle.std.specs.Prelude.{◌≡◌, ◌≤◌, [], length, IfErr, IfOk};
-ghost use Rattle.opfs_calls.specs.Rows.{HasClosedStream, HasSnapshot, HasStream};
+ghost use Rattle.opfs_turns.specs.Asking.Rows.{HasClosedStream, HasSnapshot, HasStream};
 ghost use Rattle.opfs_splice.specs.Splicing.{window};
 ghost use Rattle.opfs_sync_files.specs.Entries.{GoesOn};
 ghost use Rattle.opfs_sync_files.specs.Resting.{LeavesRest};
@@ -11,10 +11,10 @@ ghost use Rattle.opfs_pipe.specs.Streams.{StoresLast, stream_bytes, stream_offse
 use crate::ending::close;
 use crate::moving::move_range;
 use opfs_agent::{Agent, Snapshot};
-use opfs_calls::Stop;
 use opfs_hall::Hall;
 use opfs_store::Store;
 use opfs_streams::{ClosedStream, Writable};
+use opfs_turns::Stop;
 use std::sync::Wait;
 use std::thread::Threads;
 

@@ -2,7 +2,7 @@
 
 ghost use Rattle.std.specs.Prelude.{◌≡◌, ◌+◌, ◌<◌, ◌≤◌, ◌++◌, ℕ, [], length, OnOk};
 ghost use Rattle.rtrb.specs.Ring.{sent, known_free, producer_capacity, received, known_items, IsPair, SameProducer, SameConsumer};
-ghost use Rattle.opfs_calls.specs.Rows.{HasSnapshot, HasStream};
+ghost use Rattle.opfs_turns.specs.Asking.Rows.{HasSnapshot, HasStream};
 ghost use Rattle.opfs_splice.specs.Splicing.{window};
 ghost use Rattle.opfs_pipe.specs.Pieces.{IsCut};
 ghost use Rattle.opfs_pipe.specs.Rounds.{HasMoved, HasRound};
@@ -13,10 +13,10 @@ use crate::draining::{drain, drain_known};
 use crate::filling::fill;
 use crate::pieces::{Source, Target};
 use opfs_agent::{Agent, Snapshot};
-use opfs_calls::Stop;
 use opfs_hall::Hall;
 use opfs_store::Store;
 use opfs_streams::Writable;
+use opfs_turns::Stop;
 use std::sync::Wait;
 use std::thread::{Threads, join_mut};
 

@@ -1,17 +1,17 @@
 //! How a piece is written at the end of a stream.
 
 ghost use Rattle.std.specs.Prelude.{◌≡◌, ◌≤◌, length};
-ghost use Rattle.opfs_calls.specs.Rows.{HasStream};
+ghost use Rattle.opfs_turns.specs.Asking.Rows.{HasStream};
 ghost use Rattle.opfs_turns.specs.Calls.{HasRoom};
 ghost use Rattle.opfs_pipe.specs.Sides.{HasWritten};
 ghost use Rattle.opfs_pipe.specs.Streams.{stream_bytes, stream_offset};
 
 use opfs_agent::Agent;
 use opfs_base::{Bytes, Data};
-use opfs_calls::Stop;
 use opfs_hall::Hall;
 use opfs_store::Store;
 use opfs_streams::Writable;
+use opfs_turns::Stop;
 use std::sync::Wait;
 
 // Writes bytes at the end of a stream, by one call.

@@ -11,12 +11,12 @@ use Rattle.opfs_base.specs.Units.{origin_of, unit_of}
 use Rattle.opfs_base.specs.declared.locator.Kind.TheVariants as kind
 use Rattle.opfs_base.specs.declared.locator.Locator.{Locator}
 use Rattle.opfs_agent.specs.Entries.{root_of}
-use Rattle.opfs_calls.specs.Answers.{IsOwn, Shared}
-use Rattle.opfs_calls.specs.Locals.{Local}
-use Rattle.opfs_calls.specs.Rows.{HasClosedStream, HasSnapshot, HasStream, SnapshotSeen, StreamSeen}
-use Rattle.opfs_calls.specs.declared.stop.Stop.{Stop}
-use Rattle.opfs_calls.specs.declared.stop.Stop.TheVariants as stop
-use Rattle.opfs_calls.proofs.Rowed.{entered-moved, own_agent, stopped-own}
+use Rattle.opfs_turns.specs.Asking.Answers.{IsOwn, Shared}
+use Rattle.opfs_turns.specs.Asking.Locals.{Local}
+use Rattle.opfs_turns.specs.Asking.Rows.{HasClosedStream, HasSnapshot, HasStream, SnapshotSeen, StreamSeen}
+use Rattle.opfs_turns.specs.declared.asking.stop.Stop.{Stop}
+use Rattle.opfs_turns.specs.declared.asking.stop.Stop.TheVariants as stop
+use Rattle.opfs_turns.proofs.asking.Rowed.{entered-moved, own_agent, stopped-own}
 use Rattle.opfs_hall.specs.Seen.{HallSeen, PassSeen}
 use Rattle.opfs_hist.specs.Sums.{asks_for_row}
 use Rattle.opfs_hist.specs.declared.entry.Entry.{Entry}

@@ -9,10 +9,10 @@ ghost use Rattle.opfs_pipe_tests.specs.Ready.{IsTask, Stands, asks};
 use crate::running::{Meeting, Starter, desk_of, meet, part, starters};
 use crate::tasks::{Task, perform};
 use opfs_base::Bytes;
-use opfs_calls::Stop;
 use opfs_desk::Desk;
 use opfs_outside::{Disk, Failed};
 use opfs_store::Store;
+use opfs_turns::Stop;
 use std::sync::Wait;
 use std::thread::Threads;
 

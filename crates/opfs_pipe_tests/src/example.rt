@@ -2,17 +2,17 @@
 
 ghost use Rattle.std.specs.Prelude.{◌≡◌, ◌≤◌, [], IfErr, IfOk};
 ghost use Rattle.opfs_store.specs.Acts.Asking.{IsSmall, IsSmallData};
-ghost use Rattle.opfs_calls.specs.Rows.{HasSnapshot, HasStream};
+ghost use Rattle.opfs_turns.specs.Asking.Rows.{HasSnapshot, HasStream};
 ghost use Rattle.opfs_pipe.specs.Streams.{stream_bytes, stream_offset};
 ghost use Rattle.opfs_pipe_tests.specs.Ready.{Goes, HasMade, IsMine, IsReady};
 
 use opfs_agent::{Agent, Snapshot};
 use opfs_base::{Bytes, Data, Locator, Text};
-use opfs_calls::Stop;
 use opfs_hall::Hall;
 use opfs_pipe::{open_target, pipe};
 use opfs_store::Store;
 use opfs_streams::Writable;
+use opfs_turns::Stop;
 use std::alloc::Global;
 use std::sync::Wait;
 use std::thread::Threads;

@@ -1,7 +1,7 @@
 //! What two agents do in the tests.
 
 ghost use Rattle.std.specs.Prelude.{◌≤◌};
-ghost use Rattle.opfs_calls.specs.Rows.{HasStream};
+ghost use Rattle.opfs_turns.specs.Asking.Rows.{HasStream};
 ghost use Rattle.opfs_pipe_tests.specs.Ready.{Goes, HasMade, IsMine, IsReady, Stands, IsTask};
 
 use crate::example::{
@@ -9,11 +9,11 @@ use crate::example::{
 };
 use opfs_agent::Agent;
 use opfs_base::{Bytes, Data, Locator};
-use opfs_calls::Stop;
 use opfs_hall::Hall;
 use opfs_hist::Refusal;
 use opfs_store::Store;
 use opfs_streams::Writable;
+use opfs_turns::Stop;
 use std::sync::Wait;
 use std::thread::Threads;
 

@@ -15,8 +15,8 @@ use Rattle.opfs_store.specs.Acts.Acting.{told_entry}
 use Rattle.opfs_turns.specs.Agents.{AgentSeen, IsAgent, known}
 use Rattle.opfs_turns.specs.Calls.{call_of, IsEntered, HasLooked, HasEnded, kept_entry}
 use Rattle.opfs_turns.specs.Waiting.{IsTurned, HasBegun}
-use Rattle.opfs_calls.specs.Locals.{IsMade}
-use Rattle.opfs_calls.proofs.Entered.{list, known-is}
+use Rattle.opfs_turns.specs.Asking.Locals.{IsMade}
+use Rattle.opfs_turns.proofs.asking.Entered.{list, known-is}
 use Rattle.opfs_script_run.specs.Runs.Running.{entries_of}
 use Rattle.opfs_runner.specs.Stepping.{own_entries, IsWaitOf}
 

@@ -9,8 +9,8 @@ use Rattle.opfs_store.specs.Acts.Acting.{told_entry}
 use Rattle.opfs_turns.specs.Agents.{AgentSeen, IsAgent}
 use Rattle.opfs_turns.specs.Calls.{call_of, HasLooked, kept_entry}
 use Rattle.opfs_turns.specs.Waiting.{HasWaited, HasAwaited}
-use Rattle.opfs_calls.specs.declared.stop.Stop.{Stop}
-use Rattle.opfs_calls.specs.declared.stop.Stop.TheVariants as stop
+use Rattle.opfs_turns.specs.declared.asking.stop.Stop.{Stop}
+use Rattle.opfs_turns.specs.declared.asking.stop.Stop.TheVariants as stop
 use Rattle.opfs_script_run.specs.declared.runs.hand.Hand.{Hand}
 use Rattle.opfs_script_run.specs.Runs.Running.{op_of, hand_then}
 use Rattle.opfs_script.specs.declared.step.Step.{Step}

@@ -22,7 +22,7 @@ use Rattle.opfs_store.specs.declared.acts.acted.Gift.{Gift}
 use Rattle.opfs_store.specs.Acts.Acting.{told_entry}
 use Rattle.opfs_turns.specs.Agents.{AgentSeen, IsAgent, state_of, own_row}
 use Rattle.opfs_turns.specs.Calls.{call_of, IsEntered, HasEnded}
-use Rattle.opfs_beside.proofs.Leaving.{Leaves, leaves-self, leaves-entered}
+use Rattle.opfs_turns.proofs.other_rows.Leaving.{Leaves, leaves-self, leaves-entered}
 use Rattle.opfs_script_run.specs.declared.runs.hand.Open.{Open}
 use Rattle.opfs_script_run.specs.declared.runs.hand.Open.TheVariants as opened
 use Rattle.opfs_script_run.specs.Runs.Running.{IsEnd, ending, entries_of}

@@ -4,7 +4,7 @@ use Rattle.std.specs.Prelude.{slice_get}
 use Rattle.std.proofs.lemmas.Option.{get_or_from_slice_get}
 use lib.ListN.{length-set}
 use Rattle.opfs_turns.specs.Agents.{AgentSeen, own_row}
-use Rattle.opfs_calls.specs.Rows.{SnapshotSeen}
+use Rattle.opfs_turns.specs.Asking.Rows.{SnapshotSeen}
 use Rattle.opfs_run_laws.specs.Kinds as rows
 use Rattle.opfs_run_laws.specs.Kinds.{RowKind, sort_of, sort_at}
 use Rattle.opfs_slots.specs.Tables.{kind_of, kinds_of, HasSlot, HasTable}

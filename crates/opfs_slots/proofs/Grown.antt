@@ -24,11 +24,11 @@ use Rattle.opfs_machine.specs.Steps.{evicted}
 use Rattle.opfs_laws.proofs.Numbers.{IsNumber}
 use Rattle.opfs_store.specs.declared.acts.acted.Gift.{Gift}
 use Rattle.opfs_turns.specs.Agents.{AgentSeen, IsAgent}
-use Rattle.opfs_calls.specs.Answers.{HasAnswer}
-use Rattle.opfs_calls.proofs.Answered.{judged-there}
-use Rattle.opfs_calls.proofs.Entered.{s, t, number, allowed, agent-same}
-use Rattle.opfs_calls.proofs.Rowed.{accepted-own, granted-none}
-use Rattle.opfs_calls.proofs.RowsAfter.{own-added}
+use Rattle.opfs_turns.specs.Asking.Answers.{HasAnswer}
+use Rattle.opfs_turns.proofs.asking.Answered.{judged-there}
+use Rattle.opfs_turns.proofs.asking.Entered.{s, t, number, allowed, agent-same}
+use Rattle.opfs_turns.proofs.asking.Rowed.{accepted-own, granted-none}
+use Rattle.opfs_turns.proofs.asking.RowsAfter.{own-added}
 use Rattle.opfs_agent.proofs.Located.{file-ruled}
 
 agent-file : (u : State Text Own) (p : Place) (change : FileRow Text → FileRow Text) (k : ℕ) → agent_of (with_file u p change) k ≡ agent_of u k

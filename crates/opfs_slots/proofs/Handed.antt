@@ -9,8 +9,8 @@ use Rattle.opfs_hist.specs.declared.reply.Reply.{Reply}
 use Rattle.opfs_hist.specs.declared.reply.Reply.TheVariants as reply
 use Rattle.opfs_laws.specs.Leaving.{row_used}
 use Rattle.opfs_turns.specs.Agents.{AgentSeen, IsAgent}
-use Rattle.opfs_calls.specs.Rows.{HasClosedStream, HasClosedHandle}
-use Rattle.opfs_calls.specs.declared.stop.Stop.{Stop}
+use Rattle.opfs_turns.specs.Asking.Rows.{HasClosedStream, HasClosedHandle}
+use Rattle.opfs_turns.specs.declared.asking.stop.Stop.{Stop}
 use Rattle.opfs_streams.specs.declared.stream.ClosedStream.{ClosedStream}
 use Rattle.opfs_handles.specs.declared.handle.ClosedSync.{ClosedSync}
 use Rattle.opfs_run_laws.specs.Kinds.{RowKind}

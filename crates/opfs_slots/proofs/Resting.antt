@@ -19,12 +19,12 @@ use Rattle.opfs_machine.specs.Steps.{step, is_refusal}
 use Rattle.opfs_laws.proofs.Left.{local-plain}
 use Rattle.opfs_laws.proofs.histories.Reading.{refuses-same}
 use Rattle.opfs_turns.specs.Agents.{AgentSeen, IsAgent, state_of, own_row}
-use Rattle.opfs_calls.specs.Locals.{IsMade, Local, Stopped}
-use Rattle.opfs_calls.specs.Rows.{HasSnapshot, SnapshotSeen, HasClosedHandle, HasClosedStream}
-use Rattle.opfs_calls.specs.declared.stop.Stop.{Stop}
-use Rattle.opfs_calls.specs.declared.stop.Stop.TheVariants as stop
-use Rattle.opfs_calls.proofs.Granted.{local-after}
-use Rattle.opfs_calls.proofs.Rowed.{own_agent, kept-own}
+use Rattle.opfs_turns.specs.Asking.Locals.{IsMade, Local, Stopped}
+use Rattle.opfs_turns.specs.Asking.Rows.{HasSnapshot, SnapshotSeen, HasClosedHandle, HasClosedStream}
+use Rattle.opfs_turns.specs.declared.asking.stop.Stop.{Stop}
+use Rattle.opfs_turns.specs.declared.asking.stop.Stop.TheVariants as stop
+use Rattle.opfs_turns.proofs.asking.Granted.{local-after}
+use Rattle.opfs_turns.proofs.asking.Rowed.{own_agent, kept-own}
 
 not-stuck : (s : State Text Own) (k : ℕ) (o : Op) → asks_stuck o ≡ false → refused s k o ≡ s
 not-stuck s k (op.Await tag) h = absurd (false≢true (sym h))

@@ -17,12 +17,12 @@ use Rattle.opfs_machine.specs.Histories.{is_of_origin}
 use Rattle.opfs_laws.specs.Leaving.{row_used, asks_nobody, IsMoved}
 use Rattle.opfs_turns.specs.Agents.{AgentSeen, IsAgent, own_row}
 use Rattle.opfs_turns.specs.Waiting.{HasBegun, HasWaited}
-use Rattle.opfs_calls.specs.Rows.{IsStreamOn, IsHandleOn}
-use Rattle.opfs_calls.specs.declared.stop.Stop.{Stop}
-use Rattle.opfs_calls.specs.declared.stop.Stop.TheVariants as stop
-use Rattle.opfs_calls.proofs.Rowed.{own_agent, entered-moved, kept-moved, refused-own}
-use Rattle.opfs_beside.proofs.Awaits.{leaves-awaited, leaves-waited}
-use Rattle.opfs_beside.proofs.Leaving.{Leaves, leaves-self, leaves-entered, leaves-made, leaves-looked}
+use Rattle.opfs_turns.specs.Asking.Rows.{IsStreamOn, IsHandleOn}
+use Rattle.opfs_turns.specs.declared.asking.stop.Stop.{Stop}
+use Rattle.opfs_turns.specs.declared.asking.stop.Stop.TheVariants as stop
+use Rattle.opfs_turns.proofs.asking.Rowed.{own_agent, entered-moved, kept-moved, refused-own}
+use Rattle.opfs_turns.proofs.other_rows.Awaits.{leaves-awaited, leaves-waited}
+use Rattle.opfs_turns.proofs.other_rows.Leaving.{Leaves, leaves-self, leaves-entered, leaves-made, leaves-looked}
 use Rattle.opfs_slots.specs.declared.table.Slot.{Slot}
 use Rattle.opfs_slots.specs.declared.table.Slot.TheVariants as slot
 use Rattle.opfs_slots.specs.Called.{Calls, IsCalled, IsStill}

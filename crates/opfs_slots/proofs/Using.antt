@@ -9,7 +9,7 @@ use Rattle.opfs_hist.specs.declared.op.Op.TheVariants as op
 use Rattle.opfs_hist.specs.declared.reply.Reply.{Reply}
 use Rattle.opfs_hist.specs.declared.reply.Reply.TheVariants as reply
 use Rattle.opfs_laws.specs.Leaving.{row_used, asks_nobody}
-use Rattle.opfs_calls.specs.declared.stop.Stop.{Stop}
+use Rattle.opfs_turns.specs.declared.asking.stop.Stop.{Stop}
 use Rattle.opfs_run_laws.specs.Kinds as rows
 use Rattle.opfs_run_laws.specs.Kinds.{RowKind, sort_of, sort_at, kinds_changed, kinds_after, Names}
 use Rattle.opfs_slots.specs.declared.table.Slot.{Slot}

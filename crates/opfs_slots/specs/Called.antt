@@ -9,9 +9,9 @@ use Rattle.opfs_store.specs.declared.acts.acted.Gift.{Gift}
 use Rattle.opfs_turns.specs.Agents.{AgentSeen}
 use Rattle.opfs_turns.specs.Calls.{IsEntered, HasLooked}
 use Rattle.opfs_turns.specs.Waiting.{HasWaited, HasAwaited}
-use Rattle.opfs_calls.specs.Locals.{IsMade}
-use Rattle.opfs_calls.specs.declared.stop.Stop.{Stop}
-use Rattle.opfs_calls.specs.declared.stop.Stop.TheVariants as stop
+use Rattle.opfs_turns.specs.Asking.Locals.{IsMade}
+use Rattle.opfs_turns.specs.declared.asking.stop.Stop.{Stop}
+use Rattle.opfs_turns.specs.declared.asking.stop.Stop.TheVariants as stop
 
 -- A call has its entry, with this answer: under the turn, or kept until the next one, or as an await that has waited before or
 -- not.

@@ -3,7 +3,7 @@ use Rattle.std.specs.Prelude.{◌≡◌, ◌+◌, List, [], ◌∷◌, ◌++◌,
 use Rattle.opfs_hist.specs.declared.op.Op.{Op}
 use Rattle.opfs_hist.specs.declared.reply.Reply.{Reply}
 use Rattle.opfs_turns.specs.Agents.{AgentSeen}
-use Rattle.opfs_calls.specs.declared.stop.Stop.{Stop}
+use Rattle.opfs_turns.specs.declared.asking.stop.Stop.{Stop}
 use Rattle.opfs_run_laws.specs.Kinds.{RowKind, kinds_after}
 use Rattle.opfs_slots.specs.Tables.{kind_of, HasSlot}
 use Rattle.opfs_slots.specs.declared.makes.Made.{Made}

@@ -3,7 +3,7 @@ use Rattle.std.specs.Prelude.{◌≡◌, ℕ, Result, Ok, Err}
 use Rattle.opfs_hist.specs.declared.reply.Reply.{Reply}
 use Rattle.opfs_hist.specs.declared.reply.Reply.TheVariants as reply
 use Rattle.opfs_turns.specs.Agents.{AgentSeen}
-use Rattle.opfs_calls.specs.declared.stop.Stop.{Stop}
+use Rattle.opfs_turns.specs.declared.asking.stop.Stop.{Stop}
 use Rattle.opfs_run_laws.specs.Kinds.{RowKind}
 use Rattle.opfs_slots.specs.Tables.{kind_of, kind_left, HasSlot}
 use Rattle.opfs_slots.specs.declared.spends.Left.{Left}

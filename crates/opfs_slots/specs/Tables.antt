@@ -7,8 +7,8 @@ use Rattle.opfs_hist.specs.declared.reply.Reply.{Reply}
 use Rattle.opfs_machine.specs.declared.own.Own.TheVariants as own
 use Rattle.opfs_laws.specs.Leaving.{row_used}
 use Rattle.opfs_turns.specs.Agents.{AgentSeen, own_row}
-use Rattle.opfs_calls.specs.Rows.{HasStream, HasHandle, HasSnapshot, HasIterator, HasClosedStream, HasClosedHandle}
-use Rattle.opfs_calls.specs.declared.stop.Stop.{Stop}
+use Rattle.opfs_turns.specs.Asking.Rows.{HasStream, HasHandle, HasSnapshot, HasIterator, HasClosedStream, HasClosedHandle}
+use Rattle.opfs_turns.specs.declared.asking.stop.Stop.{Stop}
 use Rattle.opfs_run_laws.specs.Kinds as rows
 use Rattle.opfs_run_laws.specs.Kinds.{RowKind, kinds_after, sort_of}
 use Rattle.opfs_slots.specs.declared.table.Slot.{Slot}

@@ -2,8 +2,8 @@
 
 ghost use Rattle.std.specs.Prelude.{◌≡◌, true, IfOk};
 ghost use Rattle.opfs_turns.specs.Calls.{HasRoom};
-ghost use Rattle.opfs_calls.specs.Locals.{is_stream_op, is_handle_op};
-ghost use Rattle.opfs_calls.specs.Rows.{HasClosedStream, HasClosedHandle};
+ghost use Rattle.opfs_turns.specs.Asking.Locals.{is_stream_op, is_handle_op};
+ghost use Rattle.opfs_turns.specs.Asking.Rows.{HasClosedStream, HasClosedHandle};
 ghost use Rattle.opfs_hist.specs.declared.op.Op.TheVariants as op;
 ghost use Rattle.opfs_hist.specs.declared.reply.Reply.TheVariants as reply;
 ghost use Rattle.opfs_slots.specs.Called.{Calls};

@@ -3,7 +3,7 @@
 ghost use Rattle.std.specs.Prelude.{◌≡◌};
 ghost use Rattle.opfs_hist.specs.declared.op.Op.TheVariants as op;
 ghost use Rattle.opfs_turns.specs.Calls.{HasRoom};
-ghost use Rattle.opfs_calls.specs.Answers.{IsOwn};
+ghost use Rattle.opfs_turns.specs.Asking.Answers.{IsOwn};
 ghost use Rattle.opfs_slots.specs.Called.{Calls};
 
 use opfs_agent::{Agent, Stop};

@@ -4,7 +4,7 @@ ghost use Rattle.std.specs.Prelude.{◌≡◌};
 ghost use Rattle.opfs_hist.specs.declared.op.Op.TheVariants as op;
 ghost use Rattle.opfs_store.specs.Acts.Asking.{IsSmall, IsSmallData, IsSmallPlace, HasSmallNumbers};
 ghost use Rattle.opfs_turns.specs.Calls.{HasRoom};
-ghost use Rattle.opfs_calls.specs.Rows.{HasHandle};
+ghost use Rattle.opfs_turns.specs.Asking.Rows.{HasHandle};
 ghost use Rattle.opfs_run_laws.specs.Kinds as rows;
 ghost use Rattle.opfs_slots.specs.Called.{Calls};
 ghost use Rattle.opfs_slots.specs.Tables.{IsLent, row_lent};

@@ -6,7 +6,7 @@ ghost use Rattle.opfs_hist.specs.declared.op.Op.TheVariants as op;
 ghost use Rattle.opfs_hist.specs.declared.reply.Reply.{Reply};
 ghost use Rattle.opfs_store.specs.Acts.Asking.{HasSmallNumbers};
 ghost use Rattle.opfs_turns.specs.Calls.{HasRoom};
-ghost use Rattle.opfs_calls.specs.Rows.{HasSnapshot, HasIterator};
+ghost use Rattle.opfs_turns.specs.Asking.Rows.{HasSnapshot, HasIterator};
 ghost use Rattle.opfs_agent.specs.Entries.{IsNextOf};
 ghost use Rattle.opfs_run_laws.specs.Kinds as rows;
 ghost use Rattle.opfs_run_laws.specs.Kinds.{MayPerform};

@@ -3,7 +3,7 @@
 ghost use Rattle.std.specs.Prelude.{◌≡◌, IfOk};
 ghost use Rattle.opfs_hist.specs.declared.op.Op.TheVariants as op;
 ghost use Rattle.opfs_turns.specs.Calls.{HasRoom};
-ghost use Rattle.opfs_calls.specs.Answers.{IsOwn};
+ghost use Rattle.opfs_turns.specs.Asking.Answers.{IsOwn};
 ghost use Rattle.opfs_run_laws.specs.Kinds.{Names, MayPerform};
 ghost use Rattle.opfs_slots.specs.Called.{Calls};
 ghost use Rattle.opfs_slots.specs.Tables.{kinds_of, kinds_told, use_of, HasTable};

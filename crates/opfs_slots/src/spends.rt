@@ -4,7 +4,7 @@ ghost use Rattle.std.specs.Prelude.{◌≡◌, ◌<◌, length, slice_get, Some}
 ghost use Rattle.std.specs.List.{slice_set};
 ghost use Rattle.opfs_hist.specs.declared.op.Op.TheVariants as op;
 ghost use Rattle.opfs_turns.specs.Calls.{HasRoom};
-ghost use Rattle.opfs_calls.specs.Rows.{HasStream, HasHandle};
+ghost use Rattle.opfs_turns.specs.Asking.Rows.{HasStream, HasHandle};
 ghost use Rattle.opfs_run_laws.specs.Kinds as rows;
 ghost use Rattle.opfs_run_laws.specs.Kinds.{MayPerform};
 ghost use Rattle.opfs_slots.specs.Called.{Calls};

@@ -15,9 +15,9 @@ use Rattle.opfs_store.specs.Acts.Asking.{HasSmallNumbers, IsHandedIn, IsSmall, I
 use Rattle.opfs_store.specs.Copies.Copies.{IsCopyOf, StandsFor}
 use Rattle.opfs_turns.specs.Agents.{AgentSeen, known, state_of, own_row}
 use Rattle.opfs_turns.specs.Calls.{MayAsk, IsKept, IsLocal}
-use Rattle.opfs_calls.specs.Locals.{HasLocalAnswer}
-use Rattle.opfs_calls.specs.Rows.{HasStream, IsStreamOn, StreamSeen}
-use Rattle.opfs_calls.proofs.RowsAfter.{some-same, handed-row}
+use Rattle.opfs_turns.specs.Asking.Locals.{HasLocalAnswer}
+use Rattle.opfs_turns.specs.Asking.Rows.{HasStream, IsStreamOn, StreamSeen}
+use Rattle.opfs_turns.proofs.asking.RowsAfter.{some-same, handed-row}
 use Rattle.opfs_work.specs.Works.{WorkingCopy, contents}
 
 -- What a working copy says of a stream's row.

@@ -37,11 +37,11 @@ use Rattle.opfs_turns.specs.Agents.{AgentSeen, IsAgent, known, state_of}
 use Rattle.opfs_turns.specs.Calls.{IsKept, IsLocal}
 use Rattle.opfs_work.proofs.Laws.{length-splice, length-resize, splice_before, splice_behind, resize_at}
 use Rattle.opfs_work.specs.Works.{WorkingCopy, contents, place_in, IsNearSize, IsNearWrite, IsStored, IsTouched}
-use Rattle.opfs_calls.specs.Rows.{HasStream, StreamSeen}
-use Rattle.opfs_calls.proofs.Granted.{granted-answer, granted-after, plain-call}
-use Rattle.opfs_calls.proofs.Rowed.{kept-own}
-use Rattle.opfs_calls.proofs.RowsAfter.{own-changed}
-use Rattle.opfs_calls.proofs.Stands.{local-stands}
+use Rattle.opfs_turns.specs.Asking.Rows.{HasStream, StreamSeen}
+use Rattle.opfs_turns.proofs.asking.Granted.{granted-answer, granted-after, plain-call}
+use Rattle.opfs_turns.proofs.asking.Rowed.{kept-own}
+use Rattle.opfs_turns.proofs.asking.RowsAfter.{own-changed}
+use Rattle.opfs_turns.proofs.asking.Stands.{local-stands}
 use Rattle.opfs_streams.proofs.Facts.{facts, row-is, has-row}
 
 -- ---- pages that go on

@@ -18,7 +18,7 @@ pub struct Writable {
 }
 
 impl Model for Writable {
-    ghost use Rattle.opfs_calls.specs.Rows.{StreamSeen};
+    ghost use Rattle.opfs_turns.specs.Asking.Rows.{StreamSeen};
 
     ghost Value = { StreamSeen };
 

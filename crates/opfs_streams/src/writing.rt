@@ -6,18 +6,17 @@ ghost use Rattle.opfs_hist.specs.declared.reply.Reply.TheVariants as reply;
 ghost use Rattle.opfs_store.specs.Acts.Acting.{IsSameCopy};
 ghost use Rattle.opfs_store.specs.Acts.Asking.{IsSmall, IsSmallData, IsSmallPlace};
 ghost use Rattle.opfs_turns.specs.Calls.{HasRoom};
-ghost use Rattle.opfs_calls.specs.Answers.{Shared};
-ghost use Rattle.opfs_calls.specs.Locals.{Local};
-ghost use Rattle.opfs_calls.specs.Rows.{HasStream};
+ghost use Rattle.opfs_turns.specs.Asking.Answers.{Shared};
+ghost use Rattle.opfs_turns.specs.Asking.Locals.{Local};
+ghost use Rattle.opfs_turns.specs.Asking.Rows.{HasStream};
 ghost use Rattle.opfs_work.specs.Works.{place_in, IsNearWrite, IsNearSize};
 
 use crate::stream::Writable;
 use opfs_base::Data;
-use opfs_calls::{Stop, ask_row};
 use opfs_hall::Hall;
 use opfs_hist::{Op, Reply, Room};
 use opfs_store::Store;
-use opfs_turns::Turns;
+use opfs_turns::{Stop, Turns, ask_row};
 use std::alloc::Global;
 use std::sync::Wait;
 

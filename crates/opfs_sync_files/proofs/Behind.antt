@@ -7,10 +7,10 @@ use Rattle.opfs_store.specs.declared.acts.acted.Gift.{Gift}
 use Rattle.opfs_store.specs.Acts.Acting.{told_entry}
 use Rattle.opfs_base.specs.Places.{Place, place_of}
 use Rattle.opfs_base.specs.Texts.{Text}
-use Rattle.opfs_calls.specs.Rows.{HandleSeen, HasHandle}
-use Rattle.opfs_calls.proofs.Entered.{s, t, list, known-is, opening-is, accepted-state, refused-state, row-there}
-use Rattle.opfs_calls.proofs.Rowed.{entered-moved}
-use Rattle.opfs_calls.proofs.RowsAfter.{some-same}
+use Rattle.opfs_turns.specs.Asking.Rows.{HandleSeen, HasHandle}
+use Rattle.opfs_turns.proofs.asking.Entered.{s, t, list, known-is, opening-is, accepted-state, refused-state, row-there}
+use Rattle.opfs_turns.proofs.asking.Rowed.{entered-moved}
+use Rattle.opfs_turns.proofs.asking.RowsAfter.{some-same}
 use Rattle.opfs_handles.proofs.Facts.{HandleFacts, facts, row-is}
 use Rattle.opfs_hist.specs.Sums.{asks_for_row}
 use Rattle.opfs_hist.specs.declared.entry.Entry.{Entry}

@@ -5,11 +5,11 @@ use Rattle.std.specs.List.{list_any}
 use Rattle.std.proofs.lemmas.Bool.{eq-eqb, eqb-true}
 use Rattle.std.proofs.lemmas.Option.{slice_get-get_or, slice_get_within}
 use Rattle.opfs_store.specs.declared.acts.acted.Gift.{Gift}
-use Rattle.opfs_beside.proofs.Leaving.{Leaves, leaves-entered, leaves-made, leaves-looked}
-use Rattle.opfs_calls.specs.Answers.{Shared}
-use Rattle.opfs_calls.specs.Locals.{IsMade, Local}
-use Rattle.opfs_calls.specs.declared.stop.Stop.{Stop}
-use Rattle.opfs_calls.specs.declared.stop.Stop.TheVariants as stop
+use Rattle.opfs_turns.proofs.other_rows.Leaving.{Leaves, leaves-entered, leaves-made, leaves-looked}
+use Rattle.opfs_turns.specs.Asking.Answers.{Shared}
+use Rattle.opfs_turns.specs.Asking.Locals.{IsMade, Local}
+use Rattle.opfs_turns.specs.declared.asking.stop.Stop.{Stop}
+use Rattle.opfs_turns.specs.declared.asking.stop.Stop.TheVariants as stop
 use Rattle.opfs_hist.specs.declared.op.Op.{Op}
 use Rattle.opfs_hist.specs.declared.op.Op.TheVariants as op
 use Rattle.opfs_hist.specs.declared.reply.Reply.{Reply}

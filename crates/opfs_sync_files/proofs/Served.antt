@@ -5,15 +5,15 @@ use Rattle.std.proofs.lemmas.List.Sums.{fold-append}
 use Rattle.opfs_store.specs.declared.acts.acted.Gift.{Gift}
 use Rattle.opfs_base.specs.Places.{place_of}
 use Rattle.opfs_base.specs.Texts.{Text}
-use Rattle.opfs_calls.specs.Answers.{HasAnswer, Shared}
-use Rattle.opfs_calls.specs.Locals.{IsMade, Local}
-use Rattle.opfs_calls.specs.Rows.{HandleSeen, HasHandle}
-use Rattle.opfs_calls.specs.declared.stop.Stop.{Stop}
-use Rattle.opfs_calls.specs.declared.stop.Stop.TheVariants as stop
-use Rattle.opfs_calls.proofs.Answered.{real_answered}
-use Rattle.opfs_calls.proofs.Entered.{s}
-use Rattle.opfs_calls.proofs.Granted.{granted-answer}
-use Rattle.opfs_calls.proofs.RowsAfter.{some-same}
+use Rattle.opfs_turns.specs.Asking.Answers.{HasAnswer, Shared}
+use Rattle.opfs_turns.specs.Asking.Locals.{IsMade, Local}
+use Rattle.opfs_turns.specs.Asking.Rows.{HandleSeen, HasHandle}
+use Rattle.opfs_turns.specs.declared.asking.stop.Stop.{Stop}
+use Rattle.opfs_turns.specs.declared.asking.stop.Stop.TheVariants as stop
+use Rattle.opfs_turns.proofs.asking.Answered.{real_answered}
+use Rattle.opfs_turns.proofs.asking.Entered.{s}
+use Rattle.opfs_turns.proofs.asking.Granted.{granted-answer}
+use Rattle.opfs_turns.proofs.asking.RowsAfter.{some-same}
 use Rattle.opfs_handles.specs.declared.handle.ClosedSync.{ClosedSync}
 use Rattle.opfs_handles.specs.Ends.{GivesBack, IsClosed, WasStopped}
 use Rattle.opfs_handles.proofs.Facts.{HandleFacts, facts, row-is}

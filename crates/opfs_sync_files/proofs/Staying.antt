@@ -2,7 +2,7 @@
 use Rattle.std.proofs.Common.{◌≡◌, ℕ, List, ◌++◌, fold, Some, sym, ap, ◌∙◌, subst}
 use Rattle.std.proofs.lemmas.List.Sums.{fold-append}
 use Rattle.opfs_base.specs.Places.{Place, place_of}
-use Rattle.opfs_calls.specs.Rows.{HandleSeen, HasHandle}
+use Rattle.opfs_turns.specs.Asking.Rows.{HandleSeen, HasHandle}
 use Rattle.opfs_laws.specs.Files.Staying.{kept_by, standing_at}
 use Rattle.opfs_laws.proofs.files.Held.{open-file-stays}
 use Rattle.opfs_handles.proofs.Facts.{HandleFacts, facts, row-is}

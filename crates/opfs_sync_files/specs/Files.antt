@@ -4,10 +4,10 @@ use Rattle.std.specs.List.{flat_map}
 use Rattle.std.specs.Ordering.{eq_by_cmp}
 use Rattle.opfs_base.specs.Places.{Place, place_cmp, place_of}
 use Rattle.opfs_base.specs.Texts.{Text}
-use Rattle.opfs_calls.specs.Answers.{Shared}
-use Rattle.opfs_calls.specs.Locals.{Local}
-use Rattle.opfs_calls.specs.Rows.{HandleSeen}
-use Rattle.opfs_calls.specs.declared.stop.Stop.{Stop}
+use Rattle.opfs_turns.specs.Asking.Answers.{Shared}
+use Rattle.opfs_turns.specs.Asking.Locals.{Local}
+use Rattle.opfs_turns.specs.Asking.Rows.{HandleSeen}
+use Rattle.opfs_turns.specs.declared.asking.stop.Stop.{Stop}
 use Rattle.opfs_hist.specs.declared.op.Mode.{Mode}
 use Rattle.opfs_hist.specs.declared.op.Mode.TheVariants as mode
 use Rattle.opfs_hist.specs.declared.op.Op.TheVariants as op

@@ -2,7 +2,7 @@
 use Rattle.std.specs.Prelude.{◌≡◌}
 use Rattle.opfs_base.specs.Places.{place_of}
 use Rattle.opfs_base.specs.Texts.{Text}
-use Rattle.opfs_calls.specs.Rows.{HandleSeen, HasHandle}
+use Rattle.opfs_turns.specs.Asking.Rows.{HandleSeen, HasHandle}
 use Rattle.opfs_turns.specs.Agents.{AgentSeen}
 use Rattle.opfs_sync_files.specs.Doubts.{DoubtsStore}
 use Rattle.opfs_sync_files.specs.Entries.{GoesOn}

@@ -1,7 +1,7 @@
 //! How an access handle ends.
 
 ghost use Rattle.std.specs.Prelude.{◌≡◌, ◌++◌, IfOk, IfErr};
-ghost use Rattle.opfs_calls.specs.Rows.{HasClosedHandle, HasHandle};
+ghost use Rattle.opfs_turns.specs.Asking.Rows.{HasClosedHandle, HasHandle};
 ghost use Rattle.opfs_sync_files.specs.Entries.{GoesOn, IsCaused};
 ghost use Rattle.opfs_sync_files.specs.Files.{file_bytes, flushed_by, stored_of};
 ghost use Rattle.opfs_sync_files.specs.Resting.{LeavesRest};
@@ -9,10 +9,10 @@ ghost use Rattle.opfs_sync_files.specs.Still.{TheBytes, IsStill};
 ghost use Rattle.opfs_turns.specs.Calls.{HasRoom};
 
 use opfs_agent::Agent;
-use opfs_calls::Stop;
 use opfs_hall::Hall;
 use opfs_handles::{ClosedSync, SyncHandle};
 use opfs_store::Store;
+use opfs_turns::Stop;
 use std::sync::Wait;
 
 /// Closes an access handle: the bytes of its file are stored for good. Where that is refused the handle comes back open, and

@@ -2,7 +2,7 @@
 
 ghost use Rattle.std.specs.Prelude.{◌≡◌, length, IfOk, IfErr};
 ghost use Rattle.opfs_store.specs.Acts.Asking.{IsSmall};
-ghost use Rattle.opfs_calls.specs.Rows.{HasHandle};
+ghost use Rattle.opfs_turns.specs.Asking.Rows.{HasHandle};
 ghost use Rattle.opfs_splice.specs.Splicing.{window};
 ghost use Rattle.opfs_sync_files.specs.Entries.{IsCaused};
 ghost use Rattle.opfs_sync_files.specs.Files.{file_bytes, stored_of, ReadsOnce};
@@ -12,10 +12,10 @@ ghost use Rattle.opfs_work.specs.Works.{IsNearRead};
 
 use opfs_agent::Agent;
 use opfs_base::Bytes;
-use opfs_calls::Stop;
 use opfs_hall::Hall;
 use opfs_handles::SyncHandle;
 use opfs_store::Store;
+use opfs_turns::Stop;
 use std::sync::Wait;
 
 /// How many bytes a file has.

@@ -2,7 +2,7 @@
 
 ghost use Rattle.std.specs.Prelude.{◌≡◌, ◌++◌, length, OnOk, OnErr, IfErr};
 ghost use Rattle.opfs_store.specs.Acts.Asking.{IsSmall, IsSmallData};
-ghost use Rattle.opfs_calls.specs.Rows.{HasHandle};
+ghost use Rattle.opfs_turns.specs.Asking.Rows.{HasHandle};
 ghost use Rattle.opfs_splice.specs.Splicing.{resize, splice};
 ghost use Rattle.opfs_sync_files.specs.Entries.{IsCaused};
 ghost use Rattle.opfs_sync_files.specs.Files.{file_bytes, flushed_by, stored_of, written};
@@ -11,10 +11,10 @@ ghost use Rattle.opfs_turns.specs.Calls.{HasRoom};
 
 use opfs_agent::Agent;
 use opfs_base::Data;
-use opfs_calls::Stop;
 use opfs_hall::Hall;
 use opfs_handles::SyncHandle;
 use opfs_store::Store;
+use opfs_turns::Stop;
 use std::sync::Wait;
 
 // A write that was done, whatever number of bytes it tells.

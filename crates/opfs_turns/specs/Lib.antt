@@ -1,3 +1,5 @@
 pub mod Agents
 pub mod Calls
 pub mod Waiting
+pub mod Asking
+pub mod OtherRows

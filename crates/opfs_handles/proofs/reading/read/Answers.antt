@@ -2,7 +2,7 @@ use Rattle.std.proofs.Common.{◌≡◌, ◌+◌, min, length, refl, sym, ap, �
 use Rattle.opfs_base.specs.Texts.{Text}
 use Rattle.opfs_hist.specs.declared.op.Op.TheVariants as op
 use Rattle.opfs_hist.specs.declared.reply.Reply.TheVariants as reply
-use Rattle.opfs_calls.specs.Rows.{HasHandle}
+use Rattle.opfs_turns.specs.Asking.Rows.{HasHandle}
 use Rattle.opfs_work.specs.Works.{WorkingCopy, place_in}
 use Rattle.opfs_handles.proofs.Nearby.{local-told, read-local, read-has, read-back}
 use Rattle.opfs_handles.proofs.reading.read.Goals as goal

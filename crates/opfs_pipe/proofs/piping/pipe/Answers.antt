@@ -1,6 +1,6 @@
 use Rattle.std.proofs.Common.{◌≡◌, ◌+◌, ◌≤◌, [], length, sym, ap, ◌∙◌, arith}
-use Rattle.opfs_calls.specs.Rows.{HasClosedStream, StreamSeen}
-use Rattle.opfs_calls.specs.declared.stop.Stop.{Stop}
+use Rattle.opfs_turns.specs.Asking.Rows.{HasClosedStream, StreamSeen}
+use Rattle.opfs_turns.specs.declared.asking.stop.Stop.{Stop}
 use Rattle.opfs_splice.specs.Splicing.{window}
 use Rattle.opfs_streams.specs.declared.stream.ClosedStream.{ClosedStream}
 use Rattle.opfs_sync_files.specs.Entries.{GoesOn}

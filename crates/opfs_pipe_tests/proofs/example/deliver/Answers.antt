@@ -1,5 +1,5 @@
 use Rattle.std.proofs.Common.{sym, subst, arith}
-use Rattle.opfs_calls.proofs.Plains.{window-length}
+use Rattle.opfs_turns.proofs.asking.Plains.{window-length}
 use Rattle.opfs_pipe_tests.specs.Ready.{IsReady}
 use Rattle.opfs_pipe_tests.proofs.Going.{ready-closed, ready-on}
 use Rattle.opfs_pipe_tests.proofs.example.deliver.Goals as goal

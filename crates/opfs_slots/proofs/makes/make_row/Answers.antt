@@ -1,5 +1,5 @@
 use Rattle.std.proofs.Common.{◌∷◌, [], ◌++◌, ◌∙◌, Err, Ok, sym, subst}
-use Rattle.opfs_beside.proofs.Leaving.{Leaves}
+use Rattle.opfs_turns.proofs.other_rows.Leaving.{Leaves}
 use Rattle.opfs_slots.specs.Tables.{HasTable}
 use Rattle.opfs_slots.proofs.Slotted.{table-same, table-more, leaves-calls, err-rows}
 use Rattle.opfs_slots.proofs.Using.{makes-row, makes-nobody}

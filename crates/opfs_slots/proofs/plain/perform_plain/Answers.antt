@@ -1,5 +1,5 @@
 use Rattle.std.proofs.Common.{subst}
-use Rattle.opfs_beside.proofs.Leaving.{Leaves}
+use Rattle.opfs_turns.proofs.other_rows.Leaving.{Leaves}
 use Rattle.opfs_slots.specs.Tables.{kinds_of}
 use Rattle.opfs_slots.proofs.Slotted.{table-same, leaves-calls, rows-same}
 use Rattle.opfs_slots.proofs.Using.{plain-row, plain-none}

@@ -2,7 +2,7 @@ use Rattle.std.proofs.Common.{List, sym, subst}
 use Rattle.opfs_base.specs.Texts.{Text}
 use Rattle.opfs_base.specs.declared.locator.Locator.{Locator}
 use Rattle.opfs_hist.specs.declared.op.Op.TheVariants as op
-use Rattle.opfs_calls.specs.Answers.{MayAskPast}
+use Rattle.opfs_turns.specs.Asking.Answers.{MayAskPast}
 use Rattle.opfs_agent.proofs.Iterating.{may-next}
 use Rattle.opfs_agent.proofs.agent.Agent.ask_next.Goals as goal
 

@@ -1,4 +1,4 @@
-use Rattle.opfs_calls.proofs.Plains.{closed-again-local}
+use Rattle.opfs_turns.proofs.asking.Plains.{closed-again-local}
 use Rattle.opfs_agent.proofs.agent.Agent.close_again.Goals as goal
 
 pub keep_call-requires-clause-local : goal.keep_call-requires-clause-local

@@ -2,8 +2,8 @@ use Rattle.std.proofs.Common.{◌≡◌, length, subst}
 use Rattle.opfs_base.specs.declared.locator.Locator.{Locator}
 use Rattle.opfs_hist.specs.declared.op.Op.TheVariants as op
 use Rattle.opfs_hist.specs.declared.reply.Reply.TheVariants as reply
-use Rattle.opfs_calls.specs.Answers.{HasAnswer}
-use Rattle.opfs_calls.specs.Rows.{HasSnapshot, SnapshotSeen}
+use Rattle.opfs_turns.specs.Asking.Answers.{HasAnswer}
+use Rattle.opfs_turns.specs.Asking.Rows.{HasSnapshot, SnapshotSeen}
 use Rattle.opfs_agent.proofs.Taking.{some-bytes, snapshot-taken}
 use Rattle.opfs_agent.proofs.agent.Agent.get_file.Goals as goal
 

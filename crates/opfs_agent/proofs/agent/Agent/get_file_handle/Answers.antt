@@ -1,7 +1,7 @@
 use Rattle.std.proofs.Common.{sym, ap, ◌∙◌}
 use Rattle.std.proofs.lemmas.Bool.{true≢false}
 use Rattle.opfs_base.specs.Names.{is_valid_name}
-use Rattle.opfs_calls.proofs.Answered.{named-file, none-there}
+use Rattle.opfs_turns.proofs.asking.Answered.{named-file, none-there}
 use Rattle.opfs_agent.proofs.agent.Agent.get_file_handle.Goals as goal
 
 pub unreachable-requires : goal.unreachable-requires

@@ -1,4 +1,4 @@
-use Rattle.opfs_calls.proofs.Plains.{moment-local}
+use Rattle.opfs_turns.proofs.asking.Plains.{moment-local}
 use Rattle.opfs_agent.proofs.agent.Agent.moment.Goals as goal
 
 pub keep_call-requires-clause-local : goal.keep_call-requires-clause-local

@@ -1,6 +1,6 @@
 use Rattle.std.proofs.Common.{List, sym, subst}
 use Rattle.opfs_base.specs.Texts.{Text}
-use Rattle.opfs_calls.specs.Rows.{HasIterator}
+use Rattle.opfs_turns.specs.Asking.Rows.{HasIterator}
 use Rattle.opfs_agent.proofs.Iterating.{iterator-stopped, next-gives, next-has}
 use Rattle.opfs_agent.proofs.agent.Agent.next.Goals as goal
 

@@ -1,4 +1,4 @@
-use Rattle.opfs_calls.proofs.Plains.{closed-stream-local}
+use Rattle.opfs_turns.proofs.asking.Plains.{closed-stream-local}
 use Rattle.opfs_agent.proofs.agent.Agent.on_closed_stream.Goals as goal
 
 pub keep_refusal-requires-clause-local : goal.keep_refusal-requires-clause-local

@@ -1,7 +1,7 @@
 use Rattle.std.proofs.Common.{◌∙◌, ap, sym}
 use Rattle.opfs_base.specs.Places.{resolved}
 use Rattle.opfs_machine.specs.Replies.{path_reply}
-use Rattle.opfs_calls.proofs.Plains.{resolve-local}
+use Rattle.opfs_turns.proofs.asking.Plains.{resolve-local}
 use Rattle.opfs_agent.proofs.agent.Agent.resolve.Goals as goal
 
 pub keep_call-requires-clause-local : goal.keep_call-requires-clause-local

@@ -1,6 +1,6 @@
 use Rattle.std.proofs.Common.{◌∙◌, sym}
 use Rattle.opfs_base.specs.Places.{same_locator}
-use Rattle.opfs_calls.proofs.Plains.{same-local}
+use Rattle.opfs_turns.proofs.asking.Plains.{same-local}
 use Rattle.opfs_agent.proofs.agent.Agent.same_entry.Goals as goal
 
 pub keep_call-requires-clause-local : goal.keep_call-requires-clause-local

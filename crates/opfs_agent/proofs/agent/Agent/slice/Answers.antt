@@ -1,6 +1,6 @@
 use Rattle.std.proofs.Common.{◌∙◌, ap}
 use Rattle.opfs_splice.specs.Splicing.{window}
-use Rattle.opfs_calls.proofs.Plains.{slice-local}
+use Rattle.opfs_turns.proofs.asking.Plains.{slice-local}
 use Rattle.opfs_agent.proofs.agent.Agent.slice.Goals as goal
 
 pub keep_call-requires-clause-local : goal.keep_call-requires-clause-local

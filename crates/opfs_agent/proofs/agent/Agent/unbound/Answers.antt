@@ -1,4 +1,4 @@
-use Rattle.opfs_calls.proofs.Plains.{unbound-local}
+use Rattle.opfs_turns.proofs.asking.Plains.{unbound-local}
 use Rattle.opfs_agent.proofs.agent.Agent.unbound.Goals as goal
 
 pub keep_refusal-requires-clause-local : goal.keep_refusal-requires-clause-local

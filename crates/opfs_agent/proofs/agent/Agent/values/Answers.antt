@@ -3,7 +3,7 @@ use Rattle.opfs_base.specs.declared.locator.Locator.{Locator}
 use Rattle.opfs_hist.specs.declared.op.Op.TheVariants as op
 use Rattle.opfs_hist.specs.declared.reply.Reply.TheVariants as reply
 use Rattle.opfs_turns.specs.Calls.{IsLocal}
-use Rattle.opfs_calls.proofs.Plains.{values-local}
+use Rattle.opfs_turns.proofs.asking.Plains.{values-local}
 use Rattle.opfs_agent.proofs.Iterating.{values-answer}
 use Rattle.opfs_agent.proofs.agent.Agent.values.Goals as goal
 

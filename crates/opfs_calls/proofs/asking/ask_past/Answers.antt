@@ -1,6 +1,0 @@
-use Rattle.opfs_calls.proofs.Shares.{shared-by}
-use Rattle.opfs_calls.proofs.asking.ask_past.Goals as goal
-
-pub returns : goal.returns
-returns g c =
-    shared-by g.S.Store.tells c.args.turns.now c.call-acted.new.self c.args.op c.call-acted.result c.answer.result c.call-acted.ensures.entered c.call-acted.ensures.looked c.answer.ensures
