@@ -1,2 +1,4 @@
+pub mod StreamCalls
+pub mod HandleCalls
 pub mod Awaiting
 pub mod Entries

@@ -11,13 +11,13 @@ ghost use Rattle.opfs_turns.specs.Calls.{HasRoom};
 ghost use Rattle.opfs_turns.specs.Asking.Answers.{Shared, IsOwn};
 ghost use Rattle.opfs_turns.specs.Asking.Locals.{Local, Stopped, IsWhy, is_handle_op};
 ghost use Rattle.opfs_turns.specs.Asking.Rows.{HasHandle, HasClosedHandle};
-ghost use Rattle.opfs_handles.specs.Ends.{GivesBack, IsClosed};
+ghost use Rattle.opfs_agent.specs.HandleCalls.Ends.{GivesBack, IsClosed};
 ghost use Rattle.opfs_work.specs.Works.{place_in, IsNearRead};
 
 use crate::agent::Agent;
+use crate::handle_calls::{ClosedSync, SyncHandle};
 use opfs_base::{Bytes, Data, Locator};
 use opfs_hall::Hall;
-use opfs_handles::{ClosedSync, SyncHandle};
 use opfs_hist::{Mode, Op, Refusal, Reply};
 use opfs_store::Store;
 use opfs_turns::Stop;
@@ -37,7 +37,7 @@ impl<S: Store> Agent<S> {
         requires file { IsOwn self.old file.now }
         ensures { Shared S.tells self.old self.new (op.CreateSyncAccessHandle file.now mode) (λ handle answered _. (handle.row ≡ self.new.rows) × (handle.file ≡ file.now) × (handle.mode ≡ mode) × (answered ≡ reply.Done) × HasHandle S.tells self.new handle) result }
     {
-        opfs_handles::open(rt, self.alloc, &mut self.turns, court, file, mode)
+        crate::handle_calls::open(rt, self.alloc, &mut self.turns, court, file, mode)
     }
 
     /// Reads bytes from a place, or else from the cursor, on, under the turn (File System: read). It serves also where the
@@ -59,7 +59,7 @@ impl<S: Store> Agent<S> {
         ensures same { (handle.new.row ≡ handle.old.row) × (handle.new.file ≡ handle.old.file) × (handle.new.mode ≡ handle.old.mode) }
         ensures err { OnErr result (IsSameCopy handle.old.work handle.new.work) }
     {
-        opfs_handles::read_far(rt, self.alloc, &mut self.turns, court, handle, len, at)
+        crate::handle_calls::read_far(rt, self.alloc, &mut self.turns, court, handle, len, at)
     }
 
     /// Reads bytes that the handle has, with no turn (File System: read).
@@ -77,7 +77,7 @@ impl<S: Store> Agent<S> {
         ensures same { (handle.new.row ≡ handle.old.row) × (handle.new.file ≡ handle.old.file) × (handle.new.mode ≡ handle.old.mode) }
         ensures err { OnErr result (IsSameCopy handle.old.work handle.new.work) }
     {
-        opfs_handles::read(self.alloc, &mut self.turns, handle, len, at)
+        crate::handle_calls::read(self.alloc, &mut self.turns, handle, len, at)
     }
 
     /// How many bytes there are, with no turn (File System: getSize).
@@ -87,7 +87,7 @@ impl<S: Store> Agent<S> {
         ensures local { Local S.tells self.old self.new (op.SyncGetSize handle.now.row) 0 (λ size answered. (size ≡ handle.now.work.length) × (answered ≡ reply.Length size)) result }
         ensures handle { HasHandle S.tells self.new handle.now }
     {
-        opfs_handles::size(self.alloc, &mut self.turns, handle)
+        crate::handle_calls::size(self.alloc, &mut self.turns, handle)
     }
 
     /// Writes bytes at a position, or else at the cursor, and tells how many (File System: write).
@@ -108,7 +108,7 @@ impl<S: Store> Agent<S> {
         ensures same { (handle.new.row ≡ handle.old.row) × (handle.new.file ≡ handle.old.file) × (handle.new.mode ≡ handle.old.mode) }
         ensures err { OnErr result (IsSameCopy handle.old.work handle.new.work) }
     {
-        opfs_handles::write(rt, self.alloc, &mut self.turns, court, handle, bytes, at)
+        crate::handle_calls::write(rt, self.alloc, &mut self.turns, court, handle, bytes, at)
     }
 
     /// Cuts or extends the bytes to a size (File System: truncate).
@@ -128,7 +128,7 @@ impl<S: Store> Agent<S> {
         ensures same { (handle.new.row ≡ handle.old.row) × (handle.new.file ≡ handle.old.file) × (handle.new.mode ≡ handle.old.mode) }
         ensures err { OnErr result (IsSameCopy handle.old.work handle.new.work) }
     {
-        opfs_handles::truncate(rt, self.alloc, &mut self.turns, court, handle, size)
+        crate::handle_calls::truncate(rt, self.alloc, &mut self.turns, court, handle, size)
     }
 
     /// Stores the bytes for good (File System: flush).
@@ -146,7 +146,7 @@ impl<S: Store> Agent<S> {
         ensures same { (handle.new.row ≡ handle.old.row) × (handle.new.file ≡ handle.old.file) × (handle.new.mode ≡ handle.old.mode) }
         ensures err { OnErr result (IsSameCopy handle.old.work handle.new.work) }
     {
-        opfs_handles::flush(rt, self.alloc, &mut self.turns, court, handle)
+        crate::handle_calls::flush(rt, self.alloc, &mut self.turns, court, handle)
     }
 
     /// Closes an access handle: its file's bytes are stored for good (File System: close). The handle comes back open where
@@ -163,7 +163,7 @@ impl<S: Store> Agent<S> {
         ensures closed { IfOk result (λ closed. IsClosed S.tells self.old self.new (op.SyncClose handle.row) handle.row closed.row) }
         ensures back { IfErr result (λ back. GivesBack S.tells self.old self.new (op.SyncClose handle.row) handle back.0 back.1) }
     {
-        opfs_handles::close(rt, self.alloc, &mut self.turns, court, handle)
+        crate::handle_calls::close(rt, self.alloc, &mut self.turns, court, handle)
     }
 
     /// Discards an access handle: its file has again the bytes that were last stored (this project's own). Takes no memory.
@@ -178,7 +178,7 @@ impl<S: Store> Agent<S> {
         requires handle { HasHandle S.tells self.old handle }
         ensures { IsClosed S.tells self.old self.new (op.Discard handle.row) handle.row result.row }
     {
-        opfs_handles::discard(rt, &mut self.turns, court, handle)
+        crate::handle_calls::discard(rt, &mut self.turns, court, handle)
     }
 
     /// Keeps a call on a closed access handle, other than its close: it is refused as InvalidStateError.

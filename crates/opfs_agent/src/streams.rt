@@ -11,15 +11,15 @@ ghost use Rattle.opfs_turns.specs.Calls.{HasRoom};
 ghost use Rattle.opfs_turns.specs.Asking.Answers.{Shared, IsOwn};
 ghost use Rattle.opfs_turns.specs.Asking.Locals.{Local, Stopped, IsWhy, is_stream_op};
 ghost use Rattle.opfs_turns.specs.Asking.Rows.{HasStream, HasClosedStream};
-ghost use Rattle.opfs_streams.specs.Ends.{GivesBack, IsClosed};
+ghost use Rattle.opfs_agent.specs.StreamCalls.Ends.{GivesBack, IsClosed};
 ghost use Rattle.opfs_work.specs.Works.{place_in, IsNearWrite, IsNearSize};
 
 use crate::agent::Agent;
+use crate::stream_calls::{ClosedStream, Writable};
 use opfs_base::{Data, Locator};
 use opfs_hall::Hall;
 use opfs_hist::{Op, Refusal};
 use opfs_store::Store;
-use opfs_streams::{ClosedStream, Writable};
 use opfs_turns::Stop;
 use std::sync::Wait;
 
@@ -37,7 +37,7 @@ impl<S: Store> Agent<S> {
         requires file { IsOwn self.old file.now }
         ensures { Shared S.tells self.old self.new (op.CreateWritable file.now keep) (λ stream answered _. (stream.row ≡ self.new.rows) × (stream.file ≡ file.now) × (answered ≡ reply.Done) × HasStream S.tells self.new stream) result }
     {
-        opfs_streams::open(rt, self.alloc, &mut self.turns, court, file, keep)
+        crate::stream_calls::open(rt, self.alloc, &mut self.turns, court, file, keep)
     }
 
     /// Writes bytes at a position, or else at the offset, under the turn (File System: write a chunk). It serves also where
@@ -59,7 +59,7 @@ impl<S: Store> Agent<S> {
         ensures same { (stream.new.row ≡ stream.old.row) × (stream.new.file ≡ stream.old.file) }
         ensures err { OnErr result (IsSameCopy stream.old.work stream.new.work) }
     {
-        opfs_streams::write_growing(
+        crate::stream_calls::write_growing(
             rt,
             self.alloc,
             &mut self.turns,
@@ -85,7 +85,7 @@ impl<S: Store> Agent<S> {
         ensures same { (stream.new.row ≡ stream.old.row) × (stream.new.file ≡ stream.old.file) }
         ensures err { OnErr result (stream.new ≡ stream.old) }
     {
-        opfs_streams::write_within(self.alloc, &mut self.turns, stream, bytes, position)
+        crate::stream_calls::write_within(self.alloc, &mut self.turns, stream, bytes, position)
     }
 
     /// Cuts or extends the bytes to a size under the turn (File System: truncate). It serves also where the size fits.
@@ -105,7 +105,7 @@ impl<S: Store> Agent<S> {
         ensures same { (stream.new.row ≡ stream.old.row) × (stream.new.file ≡ stream.old.file) }
         ensures err { OnErr result (IsSameCopy stream.old.work stream.new.work) }
     {
-        opfs_streams::truncate_growing(rt, self.alloc, &mut self.turns, court, stream, size)
+        crate::stream_calls::truncate_growing(rt, self.alloc, &mut self.turns, court, stream, size)
     }
 
     /// Cuts or extends the bytes to a size that fits, with no turn (File System: truncate).
@@ -118,7 +118,7 @@ impl<S: Store> Agent<S> {
         ensures same { (stream.new.row ≡ stream.old.row) × (stream.new.file ≡ stream.old.file) }
         ensures err { OnErr result (stream.new ≡ stream.old) }
     {
-        opfs_streams::truncate_within(self.alloc, &mut self.turns, stream, size)
+        crate::stream_calls::truncate_within(self.alloc, &mut self.turns, stream, size)
     }
 
     /// Sets the offset, past the end too (File System: seek).
@@ -130,7 +130,7 @@ impl<S: Store> Agent<S> {
         ensures same { (stream.new.row ≡ stream.old.row) × (stream.new.file ≡ stream.old.file) }
         ensures err { OnErr result (stream.new ≡ stream.old) }
     {
-        opfs_streams::seek(self.alloc, &mut self.turns, stream, position)
+        crate::stream_calls::seek(self.alloc, &mut self.turns, stream, position)
     }
 
     /// Closes a stream: its file has its bytes, for good (File System: close). The stream comes back open where that is
@@ -147,7 +147,7 @@ impl<S: Store> Agent<S> {
         ensures closed { IfOk result (λ closed. IsClosed S.tells self.old self.new (op.Close stream.row) stream.row closed.row) }
         ensures back { IfErr result (λ back. GivesBack S.tells self.old self.new (op.Close stream.row) stream back.0 back.1) }
     {
-        opfs_streams::close(rt, self.alloc, &mut self.turns, court, stream)
+        crate::stream_calls::close(rt, self.alloc, &mut self.turns, court, stream)
     }
 
     /// Aborts a stream: its file is as it was (File System: abort). Takes no memory.
@@ -157,7 +157,7 @@ impl<S: Store> Agent<S> {
         requires stream { HasStream S.tells self.old stream }
         ensures { IsClosed S.tells self.old self.new (op.Abort stream.row) stream.row result.row }
     {
-        opfs_streams::abort(rt, &mut self.turns, court, stream)
+        crate::stream_calls::abort(rt, &mut self.turns, court, stream)
     }
 
     /// Keeps a call on a closed stream: it is refused as TypeError.

@@ -4,7 +4,7 @@ use Rattle.opfs_base.specs.Places.{place_of}
 use Rattle.opfs_base.specs.Texts.{Text}
 use Rattle.opfs_turns.specs.Asking.Rows.{HandleSeen, HasClosedHandle}
 use Rattle.opfs_turns.specs.declared.asking.stop.Stop.{Stop}
-use Rattle.opfs_handles.specs.declared.handle.ClosedSync.{ClosedSync}
+use Rattle.opfs_agent.specs.declared.handle_calls.handle.ClosedSync.{ClosedSync}
 use Rattle.opfs_kv_words.specs.Indexes.{read_out}
 use Rattle.opfs_kv_words.specs.Maps.{Map}
 use Rattle.opfs_machine.specs.Changes.{changes}

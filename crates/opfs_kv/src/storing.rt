@@ -10,8 +10,8 @@ ghost use Rattle.opfs_kv.specs.Seen.{Flushes, HasPlaces, Serves, Stands, map_in,
 use crate::notes::Notes;
 use crate::stop::KvStop;
 use opfs_agent::Agent;
+use opfs_agent::handle_calls::SyncHandle;
 use opfs_hall::Hall;
-use opfs_handles::SyncHandle;
 use opfs_store::Store;
 use opfs_sync_files::{flush, truncate};
 use opfs_turns::Stop;

@@ -18,7 +18,7 @@ use Rattle.opfs_turns.specs.declared.asking.stop.Stop.{Stop}
 use Rattle.opfs_turns.specs.declared.asking.stop.Stop.TheVariants as stop
 use Rattle.opfs_turns.proofs.asking.Rowed.{entered-moved, stopped-own}
 use Rattle.opfs_hall.specs.Seen.{HallSeen}
-use Rattle.opfs_handles.specs.Ends.{IsClosed}
+use Rattle.opfs_agent.specs.HandleCalls.Ends.{IsClosed}
 use Rattle.opfs_hist.specs.Sums.{asks_for_row}
 use Rattle.opfs_hist.specs.declared.op.Mode.{Mode}
 use Rattle.opfs_hist.specs.declared.op.Mode.TheVariants as mode

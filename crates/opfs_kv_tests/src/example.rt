@@ -7,10 +7,10 @@ ghost use Rattle.opfs_hall.specs.Seen.{AreNew, new_pass};
 ghost use Rattle.opfs_kv_tests.specs.Ready.{Holds, IsBegun, IsOfAgent, IsOneAgent, IsReady};
 
 use opfs_agent::Agent;
+use opfs_agent::handle_calls::SyncHandle;
 use opfs_base::{Key, Locator, Text};
 use opfs_desk::Desk;
 use opfs_hall::{Hall, Pass};
-use opfs_handles::SyncHandle;
 use opfs_hist::{Mode, Room};
 use opfs_image::{Geometry, format, recover};
 use opfs_memory::RamDisk;

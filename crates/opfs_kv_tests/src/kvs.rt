@@ -6,9 +6,9 @@ ghost use Rattle.opfs_kv_words.specs.Records.{IsKey, IsValue};
 
 use crate::example::{discard, open_file};
 use opfs_agent::Agent;
+use opfs_agent::handle_calls::SyncHandle;
 use opfs_base::Bytes;
 use opfs_hall::Hall;
-use opfs_handles::SyncHandle;
 use opfs_kv::{Kv, KvStop};
 use opfs_store::Store;
 use opfs_turns::Stop;

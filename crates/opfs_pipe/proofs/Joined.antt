@@ -23,8 +23,8 @@ use Rattle.opfs_machine.specs.declared.own.Own.{Own}
 use Rattle.opfs_machine.specs.declared.own.Own.TheVariants as own
 use Rattle.opfs_machine.specs.Agents.{agent_of, own_of}
 use Rattle.opfs_splice.specs.Splicing.{window}
-use Rattle.opfs_streams.specs.declared.stream.ClosedStream.{ClosedStream}
-use Rattle.opfs_streams.specs.Ends.{GivesBack, IsClosed, WasStopped}
+use Rattle.opfs_agent.specs.declared.stream_calls.stream.ClosedStream.{ClosedStream}
+use Rattle.opfs_agent.specs.StreamCalls.Ends.{GivesBack, IsClosed, WasStopped}
 use Rattle.opfs_sync_files.specs.Entries.{GoesOn}
 use Rattle.opfs_sync_files.proofs.Knowing.{goes-most, goes-none, goes-then}
 use Rattle.opfs_turns.specs.Agents.{AgentSeen, IsAgent, own_row, state_of}

@@ -27,7 +27,7 @@ use Rattle.opfs_machine.specs.Contents.{in_bytes}
 use Rattle.opfs_machine.specs.Effects.{effect, opens_stream, with_lock}
 use Rattle.opfs_machine.specs.Rows.{with_file}
 use Rattle.opfs_machine.specs.Rulings.{first_reserve}
-use Rattle.opfs_streams.proofs.Shared.{own-then}
+use Rattle.opfs_agent.proofs.stream_calls.Shared.{own-then}
 use Rattle.opfs_turns.specs.Agents.{AgentSeen, IsAgent, own_row}
 use Rattle.opfs_pipe.specs.Streams.{buffer_in, offset_in, stream_bytes, stream_offset}
 use Rattle.opfs_pipe.proofs.Rows.{IsDone}

@@ -38,8 +38,8 @@ use Rattle.opfs_machine.specs.Runs.{eviction}
 use Rattle.opfs_machine.specs.Steps.{evicted}
 use Rattle.opfs_machine.specs.Sums.{reserve_of}
 use Rattle.opfs_splice.specs.Splicing.{splice}
-use Rattle.opfs_streams.proofs.Facts.{facts, row-is}
-use Rattle.opfs_streams.proofs.Shared.{changed-row, own-then}
+use Rattle.opfs_agent.proofs.stream_calls.Facts.{facts, row-is}
+use Rattle.opfs_agent.proofs.stream_calls.Shared.{changed-row, own-then}
 use Rattle.opfs_turns.specs.Agents.{AgentSeen, IsAgent, own_row}
 use Rattle.opfs_turns.specs.Calls.{before_call, call_of, IsEntered}
 use Rattle.opfs_pipe.specs.Streams.{StoresLast, buffer_in, offset_in, stream_bytes, stream_offset}

@@ -22,7 +22,7 @@ use Rattle.opfs_machine.specs.Histories.{after_entry, state_after}
 use Rattle.opfs_machine.specs.Openings.{begun}
 use Rattle.opfs_machine.specs.Runs.{eviction}
 use Rattle.opfs_machine.specs.Steps.{evicted}
-use Rattle.opfs_streams.proofs.Facts.{facts, row-is}
+use Rattle.opfs_agent.proofs.stream_calls.Facts.{facts, row-is}
 use Rattle.opfs_turns.specs.Agents.{AgentSeen, IsAgent}
 use Rattle.opfs_turns.specs.Calls.{before_call, call_of, IsEntered}
 use Rattle.opfs_pipe.specs.Streams.{StoresLast, stream_bytes}

@@ -7,9 +7,9 @@ ghost use Rattle.opfs_pipe.specs.Sides.{Failed, IsStored};
 ghost use Rattle.opfs_pipe.specs.Streams.{stream_bytes};
 
 use opfs_agent::Agent;
+use opfs_agent::stream_calls::{ClosedStream, Writable};
 use opfs_hall::Hall;
 use opfs_store::Store;
-use opfs_streams::{ClosedStream, Writable};
 use opfs_turns::Stop;
 use std::sync::Wait;
 

@@ -8,10 +8,10 @@ ghost use Rattle.opfs_pipe.specs.Streams.{stream_bytes, stream_offset};
 
 use crate::pieces::{Pieces, RING};
 use crate::rounds::run_rounds;
+use opfs_agent::stream_calls::Writable;
 use opfs_agent::{Agent, Snapshot};
 use opfs_hall::Hall;
 use opfs_store::Store;
-use opfs_streams::Writable;
 use opfs_turns::Stop;
 use rtrb::RingBuffer;
 use std::alloc::Global;

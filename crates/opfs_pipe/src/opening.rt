@@ -9,10 +9,10 @@ ghost use Rattle.opfs_turns.specs.Asking.Rows.{HasStream};
 ghost use Rattle.opfs_pipe.specs.Streams.{stream_bytes, stream_offset};
 
 use opfs_agent::Agent;
+use opfs_agent::stream_calls::Writable;
 use opfs_base::Locator;
 use opfs_hall::Hall;
 use opfs_store::Store;
-use opfs_streams::Writable;
 use opfs_turns::Stop;
 use std::sync::Wait;
 

@@ -10,10 +10,10 @@ ghost use Rattle.opfs_pipe.specs.Streams.{StoresLast, stream_bytes, stream_offse
 
 use crate::ending::close;
 use crate::moving::move_range;
+use opfs_agent::stream_calls::{ClosedStream, Writable};
 use opfs_agent::{Agent, Snapshot};
 use opfs_hall::Hall;
 use opfs_store::Store;
-use opfs_streams::{ClosedStream, Writable};
 use opfs_turns::Stop;
 use std::sync::Wait;
 use std::thread::Threads;

@@ -7,10 +7,10 @@ ghost use Rattle.opfs_pipe.specs.Sides.{HasWritten};
 ghost use Rattle.opfs_pipe.specs.Streams.{stream_bytes, stream_offset};
 
 use opfs_agent::Agent;
+use opfs_agent::stream_calls::Writable;
 use opfs_base::{Bytes, Data};
 use opfs_hall::Hall;
 use opfs_store::Store;
-use opfs_streams::Writable;
 use opfs_turns::Stop;
 use std::sync::Wait;
 

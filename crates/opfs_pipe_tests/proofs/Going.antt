@@ -32,7 +32,7 @@ use Rattle.opfs_machine.specs.declared.own.Own.TheVariants as own
 use Rattle.opfs_machine.specs.declared.own.Own.{Own}
 use Rattle.opfs_machine.specs.declared.state.Agent.{Agent}
 use Rattle.opfs_pipe.proofs.Opened.{GivesStream}
-use Rattle.opfs_streams.specs.Ends.{GivesBack, IsClosed, WasStopped}
+use Rattle.opfs_agent.specs.StreamCalls.Ends.{GivesBack, IsClosed, WasStopped}
 use Rattle.opfs_sync_files.specs.Entries.{GoesOn}
 use Rattle.opfs_sync_files.specs.Resting.{LeavesRest}
 use Rattle.opfs_sync_files.proofs.Behind.{entered-goes}

@@ -6,12 +6,12 @@ ghost use Rattle.opfs_turns.specs.Asking.Rows.{HasSnapshot, HasStream};
 ghost use Rattle.opfs_pipe.specs.Streams.{stream_bytes, stream_offset};
 ghost use Rattle.opfs_pipe_tests.specs.Ready.{Goes, HasMade, IsMine, IsReady};
 
+use opfs_agent::stream_calls::Writable;
 use opfs_agent::{Agent, Snapshot};
 use opfs_base::{Bytes, Data, Locator, Text};
 use opfs_hall::Hall;
 use opfs_pipe::{open_target, pipe};
 use opfs_store::Store;
-use opfs_streams::Writable;
 use opfs_turns::Stop;
 use std::alloc::Global;
 use std::sync::Wait;

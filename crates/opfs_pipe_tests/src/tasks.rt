@@ -8,11 +8,11 @@ use crate::example::{
     deliver, give_up, new_file, read_file, save, send, snapshot, target_of, write_file,
 };
 use opfs_agent::Agent;
+use opfs_agent::stream_calls::Writable;
 use opfs_base::{Bytes, Data, Locator};
 use opfs_hall::Hall;
 use opfs_hist::Refusal;
 use opfs_store::Store;
-use opfs_streams::Writable;
 use opfs_turns::Stop;
 use std::sync::Wait;
 use std::thread::Threads;

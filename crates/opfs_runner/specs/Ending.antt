@@ -6,8 +6,8 @@ use Rattle.opfs_turns.specs.Agents.{AgentSeen}
 use Rattle.opfs_script_run.specs.declared.runs.hand.Open.{Open}
 use Rattle.opfs_script_run.specs.Runs.Running.{IsEnd}
 use Rattle.opfs_script.specs.Scripts.{Asked}
-use Rattle.opfs_streams.specs.Ends as streams
-use Rattle.opfs_handles.specs.Ends as handles
+use Rattle.opfs_agent.specs.StreamCalls.Ends as streams
+use Rattle.opfs_agent.specs.HandleCalls.Ends as handles
 use Rattle.opfs_slots.specs.declared.table.Slot.{Slot}
 use Rattle.opfs_slots.specs.declared.table.Slot.TheVariants as slot
 use Rattle.opfs_runner.specs.Runs.{HasEntries}

@@ -11,8 +11,8 @@ use Rattle.opfs_laws.specs.Leaving.{row_used}
 use Rattle.opfs_turns.specs.Agents.{AgentSeen, IsAgent}
 use Rattle.opfs_turns.specs.Asking.Rows.{HasClosedStream, HasClosedHandle}
 use Rattle.opfs_turns.specs.declared.asking.stop.Stop.{Stop}
-use Rattle.opfs_streams.specs.declared.stream.ClosedStream.{ClosedStream}
-use Rattle.opfs_handles.specs.declared.handle.ClosedSync.{ClosedSync}
+use Rattle.opfs_agent.specs.declared.stream_calls.stream.ClosedStream.{ClosedStream}
+use Rattle.opfs_agent.specs.declared.handle_calls.handle.ClosedSync.{ClosedSync}
 use Rattle.opfs_run_laws.specs.Kinds.{RowKind}
 use Rattle.opfs_slots.specs.declared.table.Slot.{Slot}
 use Rattle.opfs_slots.specs.declared.table.Slot.TheVariants as slot

@@ -11,7 +11,7 @@ use Rattle.opfs_turns.specs.Asking.Rows.{HandleSeen, HasHandle}
 use Rattle.opfs_turns.proofs.asking.Entered.{s, t, list, known-is, opening-is, accepted-state, refused-state, row-there}
 use Rattle.opfs_turns.proofs.asking.Rowed.{entered-moved}
 use Rattle.opfs_turns.proofs.asking.RowsAfter.{some-same}
-use Rattle.opfs_handles.proofs.Facts.{HandleFacts, facts, row-is}
+use Rattle.opfs_agent.proofs.handle_calls.Facts.{HandleFacts, facts, row-is}
 use Rattle.opfs_hist.specs.Sums.{asks_for_row}
 use Rattle.opfs_hist.specs.declared.entry.Entry.{Entry}
 use Rattle.opfs_hist.specs.declared.op.Mode.{Mode}

@@ -11,7 +11,7 @@ use Rattle.opfs_turns.specs.Asking.Locals.{Local}
 use Rattle.opfs_turns.specs.Asking.Rows.{HandleSeen, HasHandle}
 use Rattle.opfs_turns.specs.declared.asking.stop.Stop.{Stop}
 use Rattle.opfs_turns.specs.declared.asking.stop.Stop.TheVariants as stop
-use Rattle.opfs_handles.proofs.Facts.{HandleFacts, facts}
+use Rattle.opfs_agent.proofs.handle_calls.Facts.{HandleFacts, facts}
 use Rattle.opfs_hist.specs.Faults.{is_disk_fault}
 use Rattle.opfs_hist.specs.declared.entry.Entry.{Entry}
 use Rattle.opfs_hist.specs.declared.op.Op.{Op}

@@ -14,9 +14,9 @@ use Rattle.opfs_turns.proofs.asking.Answered.{real_answered}
 use Rattle.opfs_turns.proofs.asking.Entered.{s}
 use Rattle.opfs_turns.proofs.asking.Granted.{granted-answer}
 use Rattle.opfs_turns.proofs.asking.RowsAfter.{some-same}
-use Rattle.opfs_handles.specs.declared.handle.ClosedSync.{ClosedSync}
-use Rattle.opfs_handles.specs.Ends.{GivesBack, IsClosed, WasStopped}
-use Rattle.opfs_handles.proofs.Facts.{HandleFacts, facts, row-is}
+use Rattle.opfs_agent.specs.declared.handle_calls.handle.ClosedSync.{ClosedSync}
+use Rattle.opfs_agent.specs.HandleCalls.Ends.{GivesBack, IsClosed, WasStopped}
+use Rattle.opfs_agent.proofs.handle_calls.Facts.{HandleFacts, facts, row-is}
 use Rattle.opfs_hist.specs.Sums.{asks_for_row}
 use Rattle.opfs_hist.specs.declared.entry.Entry.{Entry}
 use Rattle.opfs_hist.specs.declared.op.Op.{Op}

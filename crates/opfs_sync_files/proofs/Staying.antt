@@ -5,7 +5,7 @@ use Rattle.opfs_base.specs.Places.{Place, place_of}
 use Rattle.opfs_turns.specs.Asking.Rows.{HandleSeen, HasHandle}
 use Rattle.opfs_laws.specs.Files.Staying.{kept_by, standing_at}
 use Rattle.opfs_laws.proofs.files.Held.{open-file-stays}
-use Rattle.opfs_handles.proofs.Facts.{HandleFacts, facts, row-is}
+use Rattle.opfs_agent.proofs.handle_calls.Facts.{HandleFacts, facts, row-is}
 use Rattle.opfs_laws.proofs.histories.Adding.{changes-append}
 use Rattle.opfs_machine.specs.declared.own.HandleRow.{HandleRow}
 use Rattle.opfs_machine.specs.declared.own.Own.TheVariants as own

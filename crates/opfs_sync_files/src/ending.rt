@@ -9,8 +9,8 @@ ghost use Rattle.opfs_sync_files.specs.Still.{TheBytes, IsStill};
 ghost use Rattle.opfs_turns.specs.Calls.{HasRoom};
 
 use opfs_agent::Agent;
+use opfs_agent::handle_calls::{ClosedSync, SyncHandle};
 use opfs_hall::Hall;
-use opfs_handles::{ClosedSync, SyncHandle};
 use opfs_store::Store;
 use opfs_turns::Stop;
 use std::sync::Wait;

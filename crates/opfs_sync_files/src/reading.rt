@@ -11,9 +11,9 @@ ghost use Rattle.opfs_turns.specs.Calls.{HasRoom};
 ghost use Rattle.opfs_work.specs.Works.{IsNearRead};
 
 use opfs_agent::Agent;
+use opfs_agent::handle_calls::SyncHandle;
 use opfs_base::Bytes;
 use opfs_hall::Hall;
-use opfs_handles::SyncHandle;
 use opfs_store::Store;
 use opfs_turns::Stop;
 use std::sync::Wait;

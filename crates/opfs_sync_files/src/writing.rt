@@ -10,9 +10,9 @@ ghost use Rattle.opfs_sync_files.specs.Still.{NoBytes, TheBytes, IsStill};
 ghost use Rattle.opfs_turns.specs.Calls.{HasRoom};
 
 use opfs_agent::Agent;
+use opfs_agent::handle_calls::SyncHandle;
 use opfs_base::Data;
 use opfs_hall::Hall;
-use opfs_handles::SyncHandle;
 use opfs_store::Store;
 use opfs_turns::Stop;
 use std::sync::Wait;

@@ -2,7 +2,7 @@ use Rattle.std.proofs.Common.{◌≡◌, ◌+◌, ◌≤◌, [], length, sym, ap
 use Rattle.opfs_turns.specs.Asking.Rows.{HasClosedStream, StreamSeen}
 use Rattle.opfs_turns.specs.declared.asking.stop.Stop.{Stop}
 use Rattle.opfs_splice.specs.Splicing.{window}
-use Rattle.opfs_streams.specs.declared.stream.ClosedStream.{ClosedStream}
+use Rattle.opfs_agent.specs.declared.stream_calls.stream.ClosedStream.{ClosedStream}
 use Rattle.opfs_sync_files.specs.Entries.{GoesOn}
 use Rattle.opfs_pipe.specs.Pipes.{HasGivenBack, HasPiped}
 use Rattle.opfs_pipe.specs.Sides.{Failed, IsStored}
