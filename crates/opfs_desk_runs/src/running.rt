@@ -10,7 +10,7 @@ ghost use Rattle.opfs_hist.specs.Faults.{disk_faults};
 ghost use Rattle.opfs_image.specs.Reading.{read_as};
 ghost use Rattle.opfs_journal.specs.Walking.{OnlyRead};
 ghost use Rattle.opfs_outside.specs.Faults.{Rose, RoseBy};
-ghost use Rattle.opfs_run.specs.Begun.{AreAgentsOf};
+ghost use Rattle.opfs_runner.specs.Run.Begun.{AreAgentsOf};
 ghost use Rattle.opfs_script_run.specs.Stage.Runs.{EachCut, EachRuns};
 
 use crate::agents::agents_of;
@@ -19,7 +19,7 @@ use opfs_hist::History;
 use opfs_image::{ImageRefusal, Recovered, recover};
 use opfs_journal::DiskFault;
 use opfs_outside::{Disk, Gate};
-use opfs_run::{Ran, run_scripts};
+use opfs_runner::{Ran, run_scripts};
 use opfs_script::AgentScript;
 use std::sync::Wait;
 use std::thread::Threads;

@@ -15,14 +15,14 @@ use Rattle.opfs_script_run.specs.declared.runs.hand.Hand.{Hand}
 use Rattle.opfs_script_run.specs.Runs.Running.{op_of, hand_then}
 use Rattle.opfs_script.specs.declared.step.Step.{Step}
 use Rattle.opfs_script.specs.Limits.{keeps_bounds}
-use Rattle.opfs_run_laws.specs.Agreeing.{Agrees}
-use Rattle.opfs_run_laws.specs.Kinds as rows
-use Rattle.opfs_run_laws.specs.Kinds.{RowKind, sort_at, kinds_after}
-use Rattle.opfs_run_laws.specs.Leaving.{snapshot_bound, row_left}
-use Rattle.opfs_run_laws.proofs.Stepped.{leaves}
-use Rattle.opfs_slots.specs.Called.{Calls, IsCalled, IsStill}
-use Rattle.opfs_slots.specs.Tables.{kinds_of, kinds_told, HasTable}
-use Rattle.opfs_slots.specs.declared.table.Slot.{Slot}
+use Rattle.opfs_runner.specs.RunLaws.Agreeing.{Agrees}
+use Rattle.opfs_runner.specs.RunLaws.Kinds as rows
+use Rattle.opfs_runner.specs.RunLaws.Kinds.{RowKind, sort_at, kinds_after}
+use Rattle.opfs_runner.specs.RunLaws.Leaving.{snapshot_bound, row_left}
+use Rattle.opfs_runner.proofs.run_laws.Stepped.{leaves}
+use Rattle.opfs_runner.specs.Slots.Called.{Calls, IsCalled, IsStill}
+use Rattle.opfs_runner.specs.Slots.Tables.{kinds_of, kinds_told, HasTable}
+use Rattle.opfs_runner.specs.declared.slots.table.Slot.{Slot}
 use Rattle.opfs_runner.specs.Stepping.{own_entries, IsWaitedFor, GoesOn, IsDone, IsNotDone, IsNoted, IsTaken, IsTried}
 use Rattle.opfs_runner.proofs.Counting.{entered-own, made-own, looked-own, turned-own, begun-wait}
 

@@ -27,11 +27,11 @@ use Rattle.opfs_script_run.specs.declared.runs.hand.Open.{Open}
 use Rattle.opfs_script_run.specs.declared.runs.hand.Open.TheVariants as opened
 use Rattle.opfs_script_run.specs.Runs.Running.{IsEnd, ending, entries_of}
 use Rattle.opfs_script.specs.Scripts.{Asked}
-use Rattle.opfs_run_laws.specs.Kinds.{open_rows}
-use Rattle.opfs_slots.specs.Tables.{kinds_of, HasSlot, HasTable}
-use Rattle.opfs_slots.specs.declared.table.Slot.{Slot}
-use Rattle.opfs_slots.specs.declared.table.Slot.TheVariants as slot
-use Rattle.opfs_slots.proofs.Slotted.{slot-stays, rows-same}
+use Rattle.opfs_runner.specs.RunLaws.Kinds.{open_rows}
+use Rattle.opfs_runner.specs.Slots.Tables.{kinds_of, HasSlot, HasTable}
+use Rattle.opfs_runner.specs.declared.slots.table.Slot.{Slot}
+use Rattle.opfs_runner.specs.declared.slots.table.Slot.TheVariants as slot
+use Rattle.opfs_runner.proofs.slots.Slotted.{slot-stays, rows-same}
 use Rattle.opfs_runner.specs.Ending.{Closes, IsEnded}
 use Rattle.opfs_runner.specs.Runs.{HasEntries, HasRun, IsReady}
 use Rattle.opfs_runner.specs.Stepping.{own_entries}

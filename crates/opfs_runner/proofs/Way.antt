@@ -24,14 +24,14 @@ use Rattle.opfs_script_run.proofs.runs.Cuts.{cuts_begin, cuts_more, cuts_wait, c
 use Rattle.opfs_script.specs.declared.step.Step.{Step}
 use Rattle.opfs_script.specs.Limits.{is_origin_key, is_formed, fits_alone, bytes_of_agent, keeps_bounds, keeps_limits}
 use Rattle.opfs_script.specs.Scripts.{Asked}
-use Rattle.opfs_run_laws.specs.Agreeing.{Agrees}
-use Rattle.opfs_run_laws.specs.Kinds as rows
-use Rattle.opfs_run_laws.specs.Kinds.{RowKind, kinds_changed, kinds_after, open_rows}
-use Rattle.opfs_run_laws.specs.Leaving.{row_left, snapshot_bound, kinds_without, kinds_stepped}
-use Rattle.opfs_run_laws.proofs.StepOps.{waits}
-use Rattle.opfs_run_laws.proofs.Stepped.{begins, goes, opened-then}
-use Rattle.opfs_slots.specs.Tables.{kind_of, kinds_of, HasTable}
-use Rattle.opfs_slots.specs.declared.table.Slot.{Slot}
+use Rattle.opfs_runner.specs.RunLaws.Agreeing.{Agrees}
+use Rattle.opfs_runner.specs.RunLaws.Kinds as rows
+use Rattle.opfs_runner.specs.RunLaws.Kinds.{RowKind, kinds_changed, kinds_after, open_rows}
+use Rattle.opfs_runner.specs.RunLaws.Leaving.{row_left, snapshot_bound, kinds_without, kinds_stepped}
+use Rattle.opfs_runner.proofs.run_laws.StepOps.{waits}
+use Rattle.opfs_runner.proofs.run_laws.Stepped.{begins, goes, opened-then}
+use Rattle.opfs_runner.specs.Slots.Tables.{kind_of, kinds_of, HasTable}
+use Rattle.opfs_runner.specs.declared.slots.table.Slot.{Slot}
 use Rattle.opfs_runner.specs.Ending.{Closes}
 use Rattle.opfs_runner.specs.Stepping.{own_entries, IsWaitedFor, IsDone, IsNoted, IsPassed, IsStepped}
 

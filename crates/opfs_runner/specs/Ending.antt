@@ -8,8 +8,8 @@ use Rattle.opfs_script_run.specs.Runs.Running.{IsEnd}
 use Rattle.opfs_script.specs.Scripts.{Asked}
 use Rattle.opfs_agent.specs.StreamCalls.Ends as streams
 use Rattle.opfs_agent.specs.HandleCalls.Ends as handles
-use Rattle.opfs_slots.specs.declared.table.Slot.{Slot}
-use Rattle.opfs_slots.specs.declared.table.Slot.TheVariants as slot
+use Rattle.opfs_runner.specs.declared.slots.table.Slot.{Slot}
+use Rattle.opfs_runner.specs.declared.slots.table.Slot.TheVariants as slot
 use Rattle.opfs_runner.specs.Runs.{HasEntries}
 
 -- With the end of these open rows, from a number on, the entries so far are those of a script.

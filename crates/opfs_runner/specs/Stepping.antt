@@ -12,10 +12,10 @@ use Rattle.opfs_turns.specs.Agents.{AgentSeen, known}
 use Rattle.opfs_script_run.specs.declared.runs.hand.Hand.{Hand}
 use Rattle.opfs_script_run.specs.Runs.Running.{entries_of, op_of, hand_then}
 use Rattle.opfs_script.specs.declared.step.Step.{Step}
-use Rattle.opfs_run_laws.specs.Kinds.{kinds_after}
-use Rattle.opfs_run_laws.specs.Leaving.{kinds_stepped}
-use Rattle.opfs_slots.specs.Tables.{kinds_of, HasTable}
-use Rattle.opfs_slots.specs.declared.table.Slot.{Slot}
+use Rattle.opfs_runner.specs.RunLaws.Kinds.{kinds_after}
+use Rattle.opfs_runner.specs.RunLaws.Leaving.{kinds_stepped}
+use Rattle.opfs_runner.specs.Slots.Tables.{kinds_of, HasTable}
+use Rattle.opfs_runner.specs.declared.slots.table.Slot.{Slot}
 
 -- All that an agent has entered or will enter.
 abbrev pub own_entries : {O : Type 0} → AgentSeen O → List Entry

@@ -5,15 +5,15 @@ ghost use Rattle.opfs_hist.specs.declared.op.Op.TheVariants as op;
 ghost use Rattle.opfs_machine.specs.Histories.{may_enter};
 ghost use Rattle.opfs_turns.specs.Agents.{state_of};
 ghost use Rattle.opfs_turns.specs.Calls.{HasRoom};
-ghost use Rattle.opfs_run_laws.specs.Kinds.{open_rows};
+ghost use Rattle.opfs_runner.specs.RunLaws.Kinds.{open_rows};
 ghost use Rattle.opfs_script.specs.Scripts.{Asked};
-ghost use Rattle.opfs_slots.specs.Tables.{kinds_of, HasSlot, HasTable};
+ghost use Rattle.opfs_runner.specs.Slots.Tables.{kinds_of, HasSlot, HasTable};
 ghost use Rattle.opfs_runner.specs.Ending.{Closes, IsEnded};
 ghost use Rattle.opfs_runner.specs.Stepping.{own_entries};
 
+use crate::slots::Slot;
 use opfs_agent::Agent;
 use opfs_hall::Hall;
-use opfs_slots::Slot;
 use opfs_store::Store;
 use std::sync::Wait;
 

@@ -5,10 +5,15 @@ mod closing;
 pub mod ended;
 mod ends;
 pub mod history;
+mod run;
+pub mod run_laws;
+pub mod slots;
 mod snapshots;
 mod steps;
 mod threads;
 
 pub use closing::close_hall;
 pub use ended::{Ended, run_agent};
+pub use run::{Ran, run_scripts};
+pub use slots::{Slot, forget, perform};
 pub use threads::run_all;

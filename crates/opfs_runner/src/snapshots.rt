@@ -2,7 +2,7 @@
 
 ghost use Rattle.std.specs.Prelude.{◌≡◌};
 ghost use Rattle.opfs_script_run.specs.Runs.Running.{named_by, a_snapshot};
-ghost use Rattle.opfs_run_laws.specs.Leaving.{snapshot_bound, row_left};
+ghost use Rattle.opfs_runner.specs.RunLaws.Leaving.{snapshot_bound, row_left};
 
 use opfs_base::Text;
 use opfs_script::Step;

@@ -1,8 +1,8 @@
 use Rattle.std.proofs.Common.{sym, subst}
-use Rattle.opfs_run_laws.specs.Kinds.{MayPerform}
-use Rattle.opfs_run_laws.proofs.StepOps.{asks}
+use Rattle.opfs_runner.specs.RunLaws.Kinds.{MayPerform}
+use Rattle.opfs_runner.proofs.run_laws.StepOps.{asks}
 use Rattle.opfs_script_run.specs.Runs.Running.{op_of}
-use Rattle.opfs_slots.specs.Tables.{kinds_of}
+use Rattle.opfs_runner.specs.Slots.Tables.{kinds_of}
 use Rattle.opfs_runner.proofs.Doing.{not-asked}
 use Rattle.opfs_runner.proofs.steps.run_step.Goals as goal
 

@@ -1,7 +1,0 @@
-//! A script that is run over a store: its agents, their threads, and the history that they make.
-#![tactic(auto)]
-
-mod agents;
-mod running;
-
-pub use running::{Ran, run_scripts};

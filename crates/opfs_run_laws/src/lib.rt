@@ -1,4 +1,0 @@
-//! What a script's run knows of its rows. Laws alone; each is the contract of a function that does nothing.
-#![tactic(auto)]
-
-pub mod agreeing;

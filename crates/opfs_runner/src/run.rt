@@ -1,0 +1,5 @@
+//! A script that is run over a store: its agents, their threads, and the history that they make.
+mod agents;
+mod running;
+
+pub use running::{Ran, run_scripts};
