@@ -5,8 +5,8 @@ use Rattle.opfs_base.specs.Texts.{Text}
 use Rattle.opfs_turns.specs.Asking.Rows.{HandleSeen, HasClosedHandle}
 use Rattle.opfs_turns.specs.declared.asking.stop.Stop.{Stop}
 use Rattle.opfs_agent.specs.declared.handle_calls.handle.ClosedSync.{ClosedSync}
-use Rattle.opfs_kv_words.specs.Indexes.{read_out}
-use Rattle.opfs_kv_words.specs.Maps.{Map}
+use Rattle.opfs_kv.specs.Records.Indexes.{read_out}
+use Rattle.opfs_kv.specs.Records.Maps.{Map}
 use Rattle.opfs_machine.specs.Changes.{changes}
 use Rattle.opfs_sync_files.specs.Entries.{GoesOn}
 use Rattle.opfs_sync_files.specs.Files.{contents_at, file_bytes, flushed_by, stored_of}

@@ -5,15 +5,15 @@ use Rattle.std.specs.Map.{keys_of}
 use Rattle.std.specs.List.Sorted.{IsStrictlySortedBy}
 use Rattle.std.proofs.lemmas.List.{length-append, length-drop, length-take, take-append-le, take_all, drop_all, append-nil}
 use Rattle.opfs_base.specs.Texts.{Text}
-use Rattle.opfs_kv_words.specs.Heads.{size_by}
-use Rattle.opfs_kv_words.specs.Indexes.{IsFitting, IsIndexed, Places, indexed, placed_by, read_out}
-use Rattle.opfs_kv_words.specs.Maps.{Map, found, is_key, key_cmp, without_key}
-use Rattle.opfs_kv_words.specs.Records.{IsRecord, IsValue, Record, after_by, log_of, put_of, spelled_by}
-use Rattle.opfs_kv_words.specs.Scans.{HasRead}
-use Rattle.opfs_kv_words.specs.declared.place.Place.{Place}
-use Rattle.opfs_kv_words.proofs.Fitted.{fitting-out, fitting-with}
-use Rattle.opfs_kv_words.proofs.Growing.{more-indexed, more-map, packed-indexed, packed-map, reads-all, reads-same, resize-cut, splice-end, splice-start}
-use Rattle.opfs_kv_words.proofs.Spelled.{length-by}
+use Rattle.opfs_kv.specs.Records.Heads.{size_by}
+use Rattle.opfs_kv.specs.Records.Indexes.{IsFitting, IsIndexed, Places, indexed, placed_by, read_out}
+use Rattle.opfs_kv.specs.Records.Maps.{Map, found, is_key, key_cmp, without_key}
+use Rattle.opfs_kv.specs.Records.Records.{IsRecord, IsValue, Record, after_by, log_of, put_of, spelled_by}
+use Rattle.opfs_kv.specs.Records.Scans.{HasRead}
+use Rattle.opfs_kv.specs.declared.records.place.Place.{Place}
+use Rattle.opfs_kv.proofs.records.Fitted.{fitting-out, fitting-with}
+use Rattle.opfs_kv.proofs.records.Growing.{more-indexed, more-map, packed-indexed, packed-map, reads-all, reads-same, resize-cut, splice-end, splice-start}
+use Rattle.opfs_kv.proofs.records.Spelled.{length-by}
 use Rattle.opfs_splice.specs.Splicing.{resize, splice, window}
 use Rattle.opfs_kv.specs.Keeping.{Keeps, Spells}
 

@@ -1,13 +1,13 @@
 -- Places for an agent's entries, call after call.
 use Rattle.std.proofs.Common.{◌≡◌, ℕ, ◌+◌, ◌≤◌, length, Some, None, ap, ◌∙◌, arith}
 use Rattle.opfs_base.specs.Texts.{Text}
-use Rattle.opfs_kv_words.specs.Records.{IsKey, IsValue, spelled_by}
-use Rattle.opfs_kv_words.proofs.Spelled.{length-by}
+use Rattle.opfs_kv.specs.Records.Records.{IsKey, IsValue, spelled_by}
+use Rattle.opfs_kv.proofs.records.Spelled.{length-by}
 use Rattle.opfs_sync_files.specs.Entries.{GoesOn}
 use Rattle.opfs_turns.specs.Agents.{AgentSeen}
 use Rattle.opfs_turns.specs.Calls.{HasRoom}
 use Rattle.opfs_sync_files.specs.Files.{file_bytes}
-use Rattle.opfs_kv_words.specs.Indexes.{Places}
+use Rattle.opfs_kv.specs.Records.Indexes.{Places}
 use Rattle.opfs_kv.specs.Packing.{IsAnewFor}
 use Rattle.opfs_kv.specs.Seen.{HasPlaces, KvSeen, Stands}
 

@@ -4,11 +4,11 @@ use Rattle.std.proofs.lemmas.Bool.{cases_lt}
 use Rattle.std.proofs.lemmas.List.{length-drop, length-take, take_all}
 use Rattle.opfs_base.specs.Texts.{Text}
 use Rattle.opfs_turns.specs.Asking.Rows.{HandleSeen, HasHandle}
-use Rattle.opfs_kv_words.specs.Indexes.{IsFitting, Places}
-use Rattle.opfs_kv_words.specs.Scans.{HasRead, HasStopped, IsPiece}
-use Rattle.opfs_kv_words.specs.declared.miss.Miss.{Miss}
-use Rattle.opfs_kv_words.specs.declared.miss.Miss.TheVariants as miss
-use Rattle.opfs_kv_words.proofs.Steps.{failed-then, read-then}
+use Rattle.opfs_kv.specs.Records.Indexes.{IsFitting, Places}
+use Rattle.opfs_kv.specs.Records.Scans.{HasRead, HasStopped, IsPiece}
+use Rattle.opfs_kv.specs.declared.records.miss.Miss.{Miss}
+use Rattle.opfs_kv.specs.declared.records.miss.Miss.TheVariants as miss
+use Rattle.opfs_kv.proofs.records.Steps.{failed-then, read-then}
 use Rattle.opfs_splice.specs.Splicing.{window}
 use Rattle.opfs_sync_files.specs.Entries.{GoesOn, IsCaused}
 use Rattle.opfs_sync_files.specs.Files.{file_bytes, stored_of}

@@ -5,9 +5,9 @@ use Rattle.std.specs.Map.{keys_of}
 use Rattle.opfs_base.specs.Places.{place_of}
 use Rattle.opfs_base.specs.Texts.{Text}
 use Rattle.opfs_turns.specs.Asking.Rows.{HandleSeen}
-use Rattle.opfs_kv_words.specs.Indexes.{IsFitting, Places, read_out}
-use Rattle.opfs_kv_words.specs.Maps.{Map, key_cmp, with_key, without_key}
-use Rattle.opfs_kv_words.specs.Records.{IsKey, IsValue, log_of, put_of, spelled_by}
+use Rattle.opfs_kv.specs.Records.Indexes.{IsFitting, Places, read_out}
+use Rattle.opfs_kv.specs.Records.Maps.{Map, key_cmp, with_key, without_key}
+use Rattle.opfs_kv.specs.Records.Records.{IsKey, IsValue, log_of, put_of, spelled_by}
 use Rattle.opfs_splice.specs.Splicing.{resize, splice, window}
 use Rattle.opfs_sync_files.specs.Files.{file_bytes, stored_of}
 use Rattle.opfs_sync_files.specs.Still.{NoBytes, IsStill}

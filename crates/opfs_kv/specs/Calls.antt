@@ -2,8 +2,8 @@
 use Rattle.std.specs.Prelude.{◌≡◌, ℕ, ◌+◌, ◌<◌, ◌≤◌, length, [], Option, Some, None, Result, Ok, Err}
 use Rattle.opfs_base.specs.Texts.{Text}
 use Rattle.opfs_turns.specs.declared.asking.stop.Stop.{Stop}
-use Rattle.opfs_kv_words.specs.Scans.{HasFailed}
-use Rattle.opfs_kv_words.specs.declared.place.Place.{Place}
+use Rattle.opfs_kv.specs.Records.Scans.{HasFailed}
+use Rattle.opfs_kv.specs.declared.records.place.Place.{Place}
 use Rattle.opfs_sync_files.specs.Entries.{IsCaused}
 use Rattle.opfs_sync_files.specs.Files.{ReadsOnce}
 use Rattle.opfs_turns.specs.Agents.{AgentSeen}

@@ -1,9 +1,9 @@
 -- A key-value file: its bytes, and what is kept of them in memory. This project's own.
 use Rattle.std.specs.Prelude.{◌≡◌, ℕ, ◌≤◌, Bool, false, List, length, take}
 use Rattle.opfs_base.specs.Texts.{Text}
-use Rattle.opfs_kv_words.specs.Indexes.{IsFitting, IsIndexed, Places}
-use Rattle.opfs_kv_words.specs.Maps.{Map}
-use Rattle.opfs_kv_words.specs.Records.{IsLog, Record, map_of}
+use Rattle.opfs_kv.specs.Records.Indexes.{IsFitting, IsIndexed, Places}
+use Rattle.opfs_kv.specs.Records.Maps.{Map}
+use Rattle.opfs_kv.specs.Records.Records.{IsLog, Record, map_of}
 
 -- The live bytes of a file are records, and the index has just the keys of their map, each with the place and length of its
 -- value. Without a pending tail they are all its bytes.

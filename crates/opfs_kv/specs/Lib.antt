@@ -1,5 +1,7 @@
+pub mod Records
 pub mod Keeping
 pub mod Seen
 pub mod Packing
 pub mod Opening
 pub mod Calls
+pub mod Commands

@@ -3,10 +3,10 @@ use Rattle.std.specs.Prelude.{◌≡◌, ℕ, ◌≤◌}
 use Rattle.opfs_base.specs.Texts.{Text}
 use Rattle.opfs_turns.specs.Asking.Rows.{HandleSeen, HasHandle}
 use Rattle.opfs_turns.specs.declared.asking.stop.Stop.TheVariants as stop
-use Rattle.opfs_kv_words.specs.Indexes.{IsFitting, Places}
-use Rattle.opfs_kv_words.specs.Scans.{HasFailed, HasRead, IsPiece}
-use Rattle.opfs_kv_words.specs.declared.miss.Miss.{Miss}
-use Rattle.opfs_kv_words.specs.declared.miss.Miss.TheVariants as miss
+use Rattle.opfs_kv.specs.Records.Indexes.{IsFitting, Places}
+use Rattle.opfs_kv.specs.Records.Scans.{HasFailed, HasRead, IsPiece}
+use Rattle.opfs_kv.specs.declared.records.miss.Miss.{Miss}
+use Rattle.opfs_kv.specs.declared.records.miss.Miss.TheVariants as miss
 use Rattle.opfs_sync_files.specs.Entries.{GoesOn, IsCaused}
 use Rattle.opfs_sync_files.specs.Files.{file_bytes, stored_of}
 use Rattle.opfs_sync_files.specs.Resting.{LeavesRest}

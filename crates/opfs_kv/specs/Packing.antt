@@ -1,8 +1,8 @@
 -- A key-value file that is written anew, by key. This project's own.
 use Rattle.std.specs.Prelude.{◌≡◌, ℕ, ◌≤◌, [], length, map, sum_by}
 use Rattle.opfs_base.specs.Texts.{Text}
-use Rattle.opfs_kv_words.specs.Indexes.{IsFitting, Places, cost_of, indexed, read_out}
-use Rattle.opfs_kv_words.specs.Records.{log_of, put_of}
+use Rattle.opfs_kv.specs.Records.Indexes.{IsFitting, Places, cost_of, indexed, read_out}
+use Rattle.opfs_kv.specs.Records.Records.{log_of, put_of}
 
 -- These are the records of the map that an index reads out of bytes, by key, with their own index.
 pub record IsAnew (bytes : Text) (index : Places) (packed : Text) (len : ℕ) (made : Places) : Type 0 where

@@ -4,8 +4,8 @@ use Rattle.opfs_base.specs.Places.{place_of}
 use Rattle.opfs_base.specs.Texts.{Text}
 use Rattle.opfs_turns.specs.Asking.Rows.{HandleSeen, HasClosedHandle, HasHandle}
 use Rattle.opfs_hist.specs.declared.op.Mode.TheVariants as mode
-use Rattle.opfs_kv_words.specs.Indexes.{Places, read_out}
-use Rattle.opfs_kv_words.specs.Maps.{Map}
+use Rattle.opfs_kv.specs.Records.Indexes.{Places, read_out}
+use Rattle.opfs_kv.specs.Records.Maps.{Map}
 use Rattle.opfs_sync_files.specs.Doubts.{DoubtsStore}
 use Rattle.opfs_sync_files.specs.Entries.{GoesOn}
 use Rattle.opfs_sync_files.specs.Files.{file_bytes, stored_of}

@@ -2,8 +2,8 @@
 
 ghost use Rattle.std.specs.Prelude.{◌≡◌, ◌≢◌, ◌+◌, ◌<◌, ◌≤◌, false, true, length, IfErr, IfOk, OnErr, OnOk, Ok, Err, None, Some, is_some};
 ghost use Rattle.opfs_turns.specs.declared.asking.stop.Stop.TheVariants as stop;
-ghost use Rattle.opfs_kv_words.specs.Maps.{found, with_key, without_key};
-ghost use Rattle.opfs_kv_words.specs.Records.{IsKey, IsValue, spelled_by};
+ghost use Rattle.opfs_kv.specs.Records.Maps.{found, with_key, without_key};
+ghost use Rattle.opfs_kv.specs.Records.Records.{IsKey, IsValue, spelled_by};
 ghost use Rattle.opfs_sync_files.specs.Entries.{IsCaused};
 ghost use Rattle.opfs_turns.specs.Calls.{HasRoom};
 ghost use Rattle.opfs_kv.specs.Calls.{HasCause};
@@ -11,13 +11,13 @@ ghost use Rattle.opfs_kv.specs.Seen.{HasPlaces, Serves, Stands, map_in, seen};
 ghost use Rattle.opfs_kv.specs.declared.stop.KvStop.TheVariants as kv_stop;
 
 use crate::notes::Notes;
+use crate::records::{Index, Place, spell_gone, spell_put};
 use crate::stop::KvStop;
 use crate::storing::cut;
 use opfs_agent::Agent;
 use opfs_agent::handle_calls::SyncHandle;
 use opfs_base::{Bytes, Data};
 use opfs_hall::Hall;
-use opfs_kv_words::{Index, Place, spell_gone, spell_put};
 use opfs_store::Store;
 use opfs_sync_files::write;
 use opfs_turns::Stop;

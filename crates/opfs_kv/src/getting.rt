@@ -1,19 +1,19 @@
 //! How a value is found.
 
 ghost use Rattle.std.specs.Prelude.{◌≡◌, IfErr, IfOk, Some};
-ghost use Rattle.opfs_kv_words.specs.Maps.{found};
+ghost use Rattle.opfs_kv.specs.Records.Maps.{found};
 ghost use Rattle.opfs_splice.specs.Splicing.{window};
 ghost use Rattle.opfs_sync_files.specs.Files.{file_bytes};
 ghost use Rattle.opfs_kv.specs.Calls.{HasPlainCause, IsGotten, IsRead};
 ghost use Rattle.opfs_kv.specs.Seen.{HasPlaces, Serves, Stands, map_in, seen};
 
 use crate::notes::Notes;
+use crate::records::Place;
 use crate::stop::KvStop;
 use opfs_agent::Agent;
 use opfs_agent::handle_calls::SyncHandle;
 use opfs_base::Bytes;
 use opfs_hall::Hall;
-use opfs_kv_words::Place;
 use opfs_store::Store;
 use opfs_sync_files::read;
 use std::sync::Wait;

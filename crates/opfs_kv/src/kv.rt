@@ -3,8 +3,8 @@
 ghost use Rattle.std.specs.Prelude.{◌≡◌, ◌≢◌, ◌+◌, ◌<◌, false, length, map, IfErr, IfOk, OnErr, OnOk, Ok, Err, None, is_some};
 ghost use Rattle.opfs_turns.specs.Asking.Rows.{HasHandle};
 ghost use Rattle.opfs_hist.specs.declared.op.Mode.TheVariants as mode;
-ghost use Rattle.opfs_kv_words.specs.Maps.{found, with_key, without_key};
-ghost use Rattle.opfs_kv_words.specs.Records.{IsKey, IsValue, log_of, put_of};
+ghost use Rattle.opfs_kv.specs.Records.Maps.{found, with_key, without_key};
+ghost use Rattle.opfs_kv.specs.Records.Records.{IsKey, IsValue, log_of, put_of};
 ghost use Rattle.opfs_sync_files.specs.Entries.{IsCaused};
 ghost use Rattle.opfs_sync_files.specs.Files.{file_bytes};
 ghost use Rattle.opfs_sync_files.specs.Resting.{LeavesRest};

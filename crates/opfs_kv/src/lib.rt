@@ -3,13 +3,20 @@
 #![tactic(auto)]
 
 mod changing;
+mod commands;
 mod compacting;
 mod getting;
 mod kv;
 mod notes;
 mod opening;
+mod records;
 mod stop;
 mod storing;
 
+pub use commands::{KvOp, KvReplies, KvReply, kv_run};
 pub use kv::Kv;
+pub use records::{
+    Index, Miss, Packed, Place, a_file_grows, one_reading, pack, scan, spell_gone, spell_put,
+    the_index_reads_the_map, the_map_by_key,
+};
 pub use stop::KvStop;

@@ -1,6 +1,6 @@
 //! What is kept in memory of a key-value file.
 
-use opfs_kv_words::Index;
+use crate::records::Index;
 
 /// What is kept in memory of a key-value file beside its handle.
 #[derive(Drop)]

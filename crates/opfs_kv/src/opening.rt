@@ -3,8 +3,8 @@
 ghost use Rattle.std.specs.Prelude.{◌≡◌, ◌+◌, ◌<◌, ◌≤◌, [], false, length, IfErr, IfOk, OnOk};
 ghost use Rattle.opfs_turns.specs.Asking.Rows.{HasHandle};
 ghost use Rattle.opfs_base.specs.Texts.{Text};
-ghost use Rattle.opfs_kv_words.specs.Indexes.{IsFitting};
-ghost use Rattle.opfs_kv_words.specs.Scans.{HasRead, IsPiece};
+ghost use Rattle.opfs_kv.specs.Records.Indexes.{IsFitting};
+ghost use Rattle.opfs_kv.specs.Records.Scans.{HasRead, IsPiece};
 ghost use Rattle.opfs_sync_files.specs.Files.{file_bytes};
 ghost use Rattle.opfs_turns.specs.Calls.{HasRoom};
 ghost use Rattle.opfs_kv.specs.Calls.{HasOpenCause};
@@ -13,11 +13,11 @@ ghost use Rattle.opfs_kv.specs.Opening.{HasEnded, HasScanCause, IsScanned, OnlyR
 ghost use Rattle.opfs_kv.specs.Seen.{HasPlaces};
 
 use crate::notes::Notes;
+use crate::records::{Index, Miss, scan};
 use crate::stop::KvStop;
 use opfs_agent::Agent;
 use opfs_agent::handle_calls::SyncHandle;
 use opfs_hall::Hall;
-use opfs_kv_words::{Index, Miss, scan};
 use opfs_store::Store;
 use opfs_sync_files::{read, size};
 use opfs_turns::Stop;

@@ -9,10 +9,10 @@ use Rattle.opfs_turns.specs.Asking.Rows.{HandleSeen, HasClosedHandle}
 use Rattle.opfs_hall.specs.Seen.{HallSeen}
 use Rattle.opfs_kv.specs.Opening.{OnlyReads}
 use Rattle.opfs_kv.specs.Seen.{Closes, Flushes, HasPlaces, KvSeen, Serves, Stands}
-use Rattle.opfs_kv_runs.specs.Runs.{HasRunRoom, entries_of}
-use Rattle.opfs_kv_runs.specs.declared.commands.KvOp.{KvOp}
-use Rattle.opfs_kv_runs.specs.declared.commands.KvOp.TheVariants as op
-use Rattle.opfs_kv_words.specs.Maps.{Map}
+use Rattle.opfs_kv.specs.Commands.Runs.{HasRunRoom, entries_of}
+use Rattle.opfs_kv.specs.declared.commands.commands.KvOp.{KvOp}
+use Rattle.opfs_kv.specs.declared.commands.commands.KvOp.TheVariants as op
+use Rattle.opfs_kv.specs.Records.Maps.{Map}
 use Rattle.opfs_sync_files.specs.Entries.{GoesOn}
 use Rattle.opfs_sync_files.specs.Resting.{LeavesRest}
 use Rattle.opfs_sync_files.specs.Still.{IsStill}

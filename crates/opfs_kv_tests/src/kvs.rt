@@ -2,7 +2,7 @@
 
 ghost use Rattle.std.specs.Prelude.{IfOk, OnErr};
 ghost use Rattle.opfs_kv_tests.specs.Ready.{Holds, HoldsKv, IsReady};
-ghost use Rattle.opfs_kv_words.specs.Records.{IsKey, IsValue};
+ghost use Rattle.opfs_kv.specs.Records.Records.{IsKey, IsValue};
 
 use crate::example::{discard, open_file};
 use opfs_agent::Agent;

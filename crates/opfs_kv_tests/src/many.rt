@@ -3,7 +3,7 @@
 use crate::example::image;
 use crate::visits::{Ending, Visit, run_visit};
 use opfs_base::Bytes;
-use opfs_kv_runs::{KvOp, KvReply};
+use opfs_kv::{KvOp, KvReply};
 use opfs_memory::RamDisk;
 use std::alloc::{AllocError, Global};
 use std::sync::Wait;

@@ -1,7 +1,7 @@
 //! Commands as a test writes them, and what a map answers to them.
 
 use opfs_base::Bytes;
-use opfs_kv_runs::{KvOp, KvReply};
+use opfs_kv::{KvOp, KvReply};
 use std::alloc::{AllocError, Global};
 
 /// A command.

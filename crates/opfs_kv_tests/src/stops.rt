@@ -3,7 +3,7 @@
 use crate::steps::{Step, found_after, is_value, ops_of};
 use crate::visits::{Ending, Visit, run_visit};
 use opfs_image::{Geometry, format};
-use opfs_kv_runs::KvReply;
+use opfs_kv::KvReply;
 use opfs_memory::MemDisk;
 use opfs_outside::Disk;
 use std::alloc::{AllocError, Global};

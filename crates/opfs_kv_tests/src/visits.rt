@@ -3,9 +3,9 @@
 ghost use Rattle.std.specs.Prelude.{◌≡◌, ◌≤◌, ◌∷◌, [], All, length, true, IfOk, OnErr};
 ghost use Rattle.opfs_store.specs.Acts.Asking.{IsSmallData};
 ghost use Rattle.opfs_hall.specs.Seen.{new_pass};
-ghost use Rattle.opfs_kv_runs.specs.Runs.{IsOp};
+ghost use Rattle.opfs_kv.specs.Commands.Runs.{IsOp};
 ghost use Rattle.opfs_kv_tests.specs.Ready.{Holds, HoldsKv, IsBegun, IsReady};
-ghost use Rattle.opfs_kv_words.specs.Records.{IsKey, IsValue};
+ghost use Rattle.opfs_kv.specs.Records.Records.{IsKey, IsValue};
 
 use crate::example::{Session, begin, desk_over, discard, end, open_file, origin};
 use crate::kvs::{close_kv, give_up, open_kv, put_and_get, take_out};
@@ -14,8 +14,7 @@ use opfs_agent::handle_calls::SyncHandle;
 use opfs_base::{Bytes, Data};
 use opfs_desk::Desk;
 use opfs_hall::{Hall, Pass};
-use opfs_kv::{Kv, KvStop};
-use opfs_kv_runs::{KvOp, KvReplies, kv_run};
+use opfs_kv::{Kv, KvOp, KvReplies, KvStop, kv_run};
 use opfs_outside::Disk;
 use opfs_store::Store;
 use opfs_sync_files::{close, read, write};

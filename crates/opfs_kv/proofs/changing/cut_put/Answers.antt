@@ -1,5 +1,5 @@
 use Rattle.std.proofs.Common.{◌∙◌, arith}
-use Rattle.opfs_kv_words.specs.Maps.{Map, with_key}
+use Rattle.opfs_kv.specs.Records.Maps.{Map, with_key}
 use Rattle.opfs_kv.specs.Seen.{Serves, map_in, seen}
 use Rattle.opfs_kv.proofs.Results.{later-caused, on-err, on-ok}
 use Rattle.opfs_kv.proofs.Rooms.{places-room, room-after}

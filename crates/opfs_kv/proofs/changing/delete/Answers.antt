@@ -1,6 +1,6 @@
 use Rattle.std.proofs.Common.{◌≡◌, Bool, true, refl, sym, ap, subst, ◌∙◌}
 use Rattle.std.specs.Prelude.{is_some}
-use Rattle.opfs_kv_words.specs.Maps.{Map, found}
+use Rattle.opfs_kv.specs.Records.Maps.{Map, found}
 use Rattle.opfs_sync_files.specs.Files.{file_bytes}
 use Rattle.opfs_kv.specs.Seen.{Serves, map_in, seen}
 use Rattle.opfs_kv.proofs.Kept.{found-none, found-some, no-place, out-none}

@@ -1,9 +1,9 @@
 use Rattle.std.proofs.Common.{◌+◌, sym, ap, subst, ◌∙◌, arith}
-use Rattle.opfs_kv_words.specs.Indexes.{Places}
+use Rattle.opfs_kv.specs.Records.Indexes.{Places}
 use Rattle.opfs_splice.specs.Splicing.{splice}
 use Rattle.opfs_base.specs.Texts.{Text}
 use Rattle.opfs_sync_files.specs.Files.{file_bytes}
-use Rattle.opfs_kv_words.specs.Maps.{without_key}
+use Rattle.opfs_kv.specs.Records.Maps.{without_key}
 use Rattle.opfs_kv.specs.Seen.{Serves, map_in, seen}
 use Rattle.opfs_kv.proofs.Rooms.{gone-small}
 use Rattle.opfs_kv.proofs.Serving.{gone-serves, still-serves}

@@ -1,6 +1,6 @@
 use Rattle.std.proofs.Common.{◌+◌, sym, ap, subst, ◌∙◌, arith}
 use Rattle.opfs_base.specs.Texts.{Text}
-use Rattle.opfs_kv_words.specs.Maps.{with_key}
+use Rattle.opfs_kv.specs.Records.Maps.{with_key}
 use Rattle.opfs_splice.specs.Splicing.{splice}
 use Rattle.opfs_sync_files.specs.Files.{file_bytes}
 use Rattle.opfs_kv.specs.Seen.{Serves, map_in, seen}

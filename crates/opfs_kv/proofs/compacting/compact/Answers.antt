@@ -1,6 +1,6 @@
 use Rattle.std.proofs.Common.{◌≡◌, map, ap, ◌∙◌, arith}
-use Rattle.opfs_kv_words.specs.Maps.{Map}
-use Rattle.opfs_kv_words.specs.Records.{log_of, put_of}
+use Rattle.opfs_kv.specs.Records.Maps.{Map}
+use Rattle.opfs_kv.specs.Records.Records.{log_of, put_of}
 use Rattle.opfs_sync_files.specs.Files.{file_bytes}
 use Rattle.opfs_kv.specs.Seen.{map_in, seen}
 use Rattle.opfs_kv.proofs.Results.{later-caused, on-ok}

@@ -1,7 +1,7 @@
 use Rattle.std.proofs.Common.{◌≡◌, map, ap, subst, sym, ◌∙◌, arith, take}
 use Rattle.opfs_base.specs.Texts.{Text}
-use Rattle.opfs_kv_words.specs.Maps.{Map}
-use Rattle.opfs_kv_words.specs.Records.{log_of, put_of}
+use Rattle.opfs_kv.specs.Records.Maps.{Map}
+use Rattle.opfs_kv.specs.Records.Records.{log_of, put_of}
 use Rattle.opfs_sync_files.specs.Files.{file_bytes}
 use Rattle.opfs_kv.specs.Packing.{IsAnewFor}
 use Rattle.opfs_kv.specs.Seen.{map_in, seen}

@@ -1,7 +1,7 @@
 use Rattle.std.proofs.Common.{◌≡◌, Option, Some, None, Ok, refl, sym, subst}
 use Rattle.opfs_base.specs.Texts.{Text}
-use Rattle.opfs_kv_words.specs.Maps.{found}
-use Rattle.opfs_kv_words.specs.declared.place.Place.{Place}
+use Rattle.opfs_kv.specs.Records.Maps.{found}
+use Rattle.opfs_kv.specs.declared.records.place.Place.{Place}
 use Rattle.opfs_splice.specs.Splicing.{window}
 use Rattle.opfs_sync_files.specs.Files.{file_bytes}
 use Rattle.opfs_kv.specs.Calls.{IsGotten}

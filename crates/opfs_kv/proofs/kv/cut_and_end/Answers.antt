@@ -1,7 +1,7 @@
 use Rattle.std.proofs.Common.{◌∙◌, arith}
 use Rattle.opfs_turns.specs.declared.asking.stop.Stop.{Stop}
 use Rattle.opfs_agent.specs.declared.handle_calls.handle.ClosedSync.{ClosedSync}
-use Rattle.opfs_kv_words.specs.Maps.{Map}
+use Rattle.opfs_kv.specs.Records.Maps.{Map}
 use Rattle.opfs_sync_files.specs.Entries.{IsCaused}
 use Rattle.opfs_sync_files.proofs.Knowing.{caused-later}
 use Rattle.opfs_kv.specs.Seen.{Closes, KvSeen, Serves, map_in, seen}

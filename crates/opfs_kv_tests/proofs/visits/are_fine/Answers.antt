@@ -1,6 +1,6 @@
 use Rattle.std.proofs.Common.{All, rules, subst, arith}
 use Rattle.std.proofs.lemmas.List.{take_all}
-use Rattle.opfs_kv_runs.specs.Runs.{IsOp}
+use Rattle.opfs_kv.specs.Commands.Runs.{IsOp}
 use Rattle.opfs_kv_tests.proofs.Held.{one-more}
 use Rattle.opfs_kv_tests.proofs.visits.are_fine.Goals as goal
 

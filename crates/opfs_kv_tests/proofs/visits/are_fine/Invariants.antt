@@ -1,5 +1,5 @@
 use Rattle.std.proofs.Common.{All, take}
-use Rattle.opfs_kv_runs.specs.Runs.{IsOp}
+use Rattle.opfs_kv.specs.Commands.Runs.{IsOp}
 use Rattle.opfs_kv_tests.proofs.visits.are_fine.Given as goal
 
 abbrev pub invariant-loop-op : goal.invariant-loop-op

@@ -1,6 +1,6 @@
 use Rattle.std.proofs.Common.{◌≡◌, Bool, IfOk, OnErr, OnOk, subst}
 use Rattle.std.specs.Prelude.{is_some}
-use Rattle.opfs_kv_words.specs.Maps.{found, without_key}
+use Rattle.opfs_kv.specs.Records.Maps.{found, without_key}
 use Rattle.opfs_kv.specs.Seen.{KvSeen, Serves, map_in, seen}
 use Rattle.opfs_sync_files.specs.Resting.{LeavesRest}
 use Rattle.opfs_kv.proofs.Flushing.{served-rest}

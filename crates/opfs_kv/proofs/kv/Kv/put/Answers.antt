@@ -1,5 +1,5 @@
 use Rattle.std.proofs.Common.{OnErr, OnOk, subst}
-use Rattle.opfs_kv_words.specs.Maps.{with_key}
+use Rattle.opfs_kv.specs.Records.Maps.{with_key}
 use Rattle.opfs_kv.specs.Seen.{KvSeen, Serves, map_in, seen}
 use Rattle.opfs_sync_files.specs.Resting.{LeavesRest}
 use Rattle.opfs_kv.proofs.Flushing.{served-rest}

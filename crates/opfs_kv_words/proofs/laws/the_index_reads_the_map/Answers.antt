@@ -1,5 +1,0 @@
-use Rattle.opfs_kv_words.proofs.Indexed.{reads}
-use Rattle.opfs_kv_words.proofs.laws.the_index_reads_the_map.Goals as goal
-
-pub returns : goal.returns
-returns c records rest = reads records rest
