@@ -25,7 +25,7 @@ use Rattle.opfs_records.specs.Replay.Built.{Built, nothing_built}
 use Rattle.opfs_script.specs.Scripts.{Asked}
 use Rattle.opfs_script_run.specs.Stage.Openings.{opening_of, trial_opening}
 use Rattle.opfs_script_run.specs.Stage.Runs.{EachAlone}
-use Rattle.opfs_trial.specs.Trials.{IsTrial}
+use Rattle.opfs_judge.specs.Trial.Trials.{IsTrial}
 
 -- nothing rose where the counts are 0
 pub none-rose : (old new : ℕ) → old ≡ 0 → new ≡ 0 → Rose old new → ⊥

@@ -2,7 +2,7 @@
 
 ghost use Rattle.std.specs.Prelude.{◌≡◌, true, IfOk, OnOk};
 ghost use Rattle.opfs_desk_trial.specs.Empty.{IsEmptyImage, NeverFails};
-ghost use Rattle.opfs_trial.specs.Trials.{IsTrial};
+ghost use Rattle.opfs_judge.specs.Trial.Trials.{IsTrial};
 
 use crate::empty::empty_image;
 use opfs_desk_runs::{Completion, run_disk};

@@ -2,9 +2,9 @@
 
 use crate::gate::Open;
 use opfs_desk_trial::try_script;
+use opfs_judge::run_script;
 use opfs_print::line;
 use opfs_script::{Script, read_script};
-use opfs_trial::run_script;
 use std::alloc::{AllocError, Global};
 use std::sync::Wait;
 use std::test::Fail;

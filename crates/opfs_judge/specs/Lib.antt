@@ -6,3 +6,4 @@ pub mod Players
 pub mod Steps
 pub mod Turns
 pub mod Verdicts
+pub mod Trial

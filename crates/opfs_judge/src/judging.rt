@@ -12,13 +12,13 @@ ghost use Rattle.opfs_judge.specs.Verdicts.{IsJudged, verdict_of};
 use crate::agents::{all_gone, fronts, players_of};
 use crate::player::Player;
 use crate::settling::is_unsettled;
+use crate::trial::opening::begin;
 use crate::turn::turn;
 use crate::verdict::Verdict;
 use opfs_base::Bytes;
 use opfs_machine::{Own, State};
 use opfs_plain::Plain;
 use opfs_script::Script;
-use opfs_trial::opening::begin;
 use std::alloc::{AllocError, Global};
 
 /// Reads a text group after group, and tells whether it has an end at which all agents have ended.

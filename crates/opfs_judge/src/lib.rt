@@ -11,9 +11,11 @@ mod packed;
 mod player;
 pub mod settling;
 mod standing;
+pub mod trial;
 pub mod turn;
 pub mod verdict;
 
 pub use judging::judge;
 pub use packed::judge_packed;
+pub use trial::run_script;
 pub use verdict::Verdict;

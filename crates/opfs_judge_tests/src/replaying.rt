@@ -2,11 +2,11 @@
 
 use opfs_asking::{Draws, lines_of};
 use opfs_hist::{Entry, Op};
+use opfs_judge::trial::opening::begin;
 use opfs_plain::Plain;
 use opfs_print::line;
 use opfs_script::{AgentScript, Script, Step};
 use opfs_script_run::Hand;
-use opfs_trial::opening::begin;
 use std::alloc::{AllocError, Global};
 
 // How far an agent's script is.

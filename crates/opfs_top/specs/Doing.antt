@@ -22,7 +22,7 @@ use Rattle.opfs_script.specs.declared.refusal.ScriptRefusal.{ScriptRefusal}
 use Rattle.opfs_script.specs.declared.refusal.ScriptRefusal.TheVariants as refused
 use Rattle.opfs_script.specs.Reading.{reads}
 use Rattle.opfs_script.specs.Scripts.{Asked}
-use Rattle.opfs_trial.specs.Trials.{IsTrial}
+use Rattle.opfs_judge.specs.Trial.Trials.{IsTrial}
 use Rattle.opfs_top.specs.Headline.{HasRun, IsHeadline, IsRunStopped, OfScript}
 use Rattle.opfs_top.specs.declared.answer.Task.{Task}
 use Rattle.opfs_top.specs.declared.answer.Task.TheVariants as task
