@@ -1,2 +1,3 @@
 pub mod Agents
 pub mod Runs
+pub mod Trial

@@ -2,6 +2,10 @@
 #![tactic(auto)]
 
 mod agents;
+mod generated;
 mod running;
+mod trial;
 
+pub use generated::generate;
 pub use running::{Completion, run_disk, run_image};
+pub use trial::try_script;

@@ -1,7 +1,7 @@
 //! What scripts print when their agents run at the same time.
 
 use crate::gate::Open;
-use opfs_desk_trial::try_script;
+use opfs_desk_runs::try_script;
 use opfs_judge::run_script;
 use opfs_print::line;
 use opfs_script::{Script, read_script};

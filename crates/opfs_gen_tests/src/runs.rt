@@ -1,7 +1,7 @@
 //! Large runs, with their agents on threads.
 
 use opfs_base::Bytes;
-use opfs_gen_run::generate;
+use opfs_desk_runs::generate;
 use opfs_outside::Gate;
 use std::alloc::AllocError;
 use std::sync::Wait;

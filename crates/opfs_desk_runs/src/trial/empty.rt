@@ -1,7 +1,7 @@
 //! The empty store of a trial.
 
 ghost use Rattle.std.specs.Prelude.{◌≡◌, ◌≤◌, length, IfOk};
-ghost use Rattle.opfs_desk_trial.specs.Empty.{IsEmptyImage, trial_geometry};
+ghost use Rattle.opfs_desk_runs.specs.Trial.Empty.{IsEmptyImage, trial_geometry};
 ghost use Rattle.opfs_image.specs.Superblock.{image_size};
 
 use opfs_image::{Geometry, format};

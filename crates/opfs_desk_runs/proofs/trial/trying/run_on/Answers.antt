@@ -1,8 +1,8 @@
 use Rattle.std.proofs.Common.{List, subst}
 use Rattle.opfs_desk_runs.specs.Runs.{IsRunOn}
 use Rattle.opfs_script.specs.Scripts.{Asked}
-use Rattle.opfs_desk_trial.proofs.Trials.{no-refusal, trial-of}
-use Rattle.opfs_desk_trial.proofs.trying.run_on.Goals as goal
+use Rattle.opfs_desk_runs.proofs.trial.Trials.{no-refusal, trial-of}
+use Rattle.opfs_desk_runs.proofs.trial.trying.run_on.Goals as goal
 
 pub short_of_memory-requires : goal.short_of_memory-requires
 short_of_memory-requires g c =

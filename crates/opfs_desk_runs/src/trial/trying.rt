@@ -1,11 +1,11 @@
 //! The trial of a script.
 
 ghost use Rattle.std.specs.Prelude.{◌≡◌, true, IfOk, OnOk};
-ghost use Rattle.opfs_desk_trial.specs.Empty.{IsEmptyImage, NeverFails};
+ghost use Rattle.opfs_desk_runs.specs.Trial.Empty.{IsEmptyImage, NeverFails};
 ghost use Rattle.opfs_judge.specs.Trial.Trials.{IsTrial};
 
-use crate::empty::empty_image;
-use opfs_desk_runs::{Completion, run_disk};
+use crate::trial::empty::empty_image;
+use crate::{Completion, run_disk};
 use opfs_hist::History;
 use opfs_image::ImageRefusal;
 use opfs_outside::{Disk, Gate};

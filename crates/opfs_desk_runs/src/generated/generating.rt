@@ -4,8 +4,8 @@ ghost use Rattle.std.specs.Prelude.{◌≡◌, IfOk};
 ghost use Rattle.opfs_gen.specs.Making.{IsGenRange};
 ghost use Rattle.opfs_gen.specs.Summing.{gen_text};
 
+use crate::trial::try_script;
 use opfs_base::Bytes;
-use opfs_desk_trial::try_script;
 use opfs_gen::{are_own, make_script, summaries_are_of_own_runs, summary};
 use opfs_outside::Gate;
 use std::alloc::AllocError;

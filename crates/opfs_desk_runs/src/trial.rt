@@ -1,6 +1,4 @@
 //! Trials: a script's agents run on threads of their own, over one desk on a disk in memory that was just formatted.
-#![tactic(auto)]
-
 mod empty;
 mod trying;
 

@@ -7,7 +7,7 @@ use Rattle.std.specs.declared.alloc.AllocError.{AllocError}
 use Rattle.opfs_codec.specs.declared.change.Format.TheVariants.{New}
 use Rattle.opfs_desk_runs.specs.Runs.{IsImageOf, IsRunOn, opening_in}
 use Rattle.opfs_desk_runs.specs.declared.running.Completion.{Completion}
-use Rattle.opfs_desk_trial.specs.Empty.{IsEmptyImage, NeverFails, trial_geometry}
+use Rattle.opfs_desk_runs.specs.Trial.Empty.{IsEmptyImage, NeverFails, trial_geometry}
 use Rattle.opfs_hist.specs.Faults.{disk_faults, is_disk_fault}
 use Rattle.opfs_hist.specs.declared.entry.Entry.{Entry}
 use Rattle.opfs_image.specs.Filling.{filled}
