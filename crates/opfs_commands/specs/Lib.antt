@@ -4,3 +4,4 @@ pub mod Numbers
 pub mod Ran
 pub mod Sizes
 pub mod Telling
+pub mod DumpLaws

@@ -4,6 +4,7 @@
 
 mod answers;
 mod disks;
+mod dump_laws;
 mod dumps;
 mod hosts;
 mod loads;
@@ -13,6 +14,7 @@ mod runs;
 mod words;
 
 pub use answers::{ReadTool, ToolAnswer, ToolEnd};
+pub use dump_laws::dumps_are_read_back;
 pub use loads::load_at;
 pub use running::run_command;
 pub use runs::run_at;

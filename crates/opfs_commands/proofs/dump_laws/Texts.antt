@@ -14,10 +14,10 @@ use Rattle.opfs_dump.specs.Text.Limits.{are_units, blocks_needed, charge_of_map}
 use Rattle.opfs_dump.specs.Text.Reading.{Dump, Top, texts_of, top_in, if_fits, if_rows, if_topped, if_json, most_bytes, reads_dump}
 use Rattle.opfs_dump.specs.Text.Texts.{row_value, dump_value, dump_text}
 use Rattle.opfs_dump.specs.declared.text.refusal.DumpRefusal.TheVariants as refusal
-use Rattle.opfs_dump_laws.specs.Dumpable.{IsDumpable}
-use Rattle.opfs_dump_laws.proofs.Back.{read-back, line-utf8}
-use Rattle.opfs_dump_laws.proofs.Rows.{items-back, texts-back, rows-back}
-use Rattle.opfs_dump_laws.proofs.Values.{dump-plain, dump-depth}
+use Rattle.opfs_commands.specs.DumpLaws.Dumpable.{IsDumpable}
+use Rattle.opfs_commands.proofs.dump_laws.Back.{read-back, line-utf8}
+use Rattle.opfs_commands.proofs.dump_laws.Rows.{items-back, texts-back, rows-back}
+use Rattle.opfs_commands.proofs.dump_laws.Values.{dump-plain, dump-depth}
 
 -- The value that the text is as JSON.
 json-back : (g : Geometry) (m : Map) → IsDumpable g m → json_of (dump_text g m) ≡ Some (dump_value g m)

@@ -22,7 +22,7 @@ use Rattle.serde_json.specs.Read.{read, of_json, of_items, of_members, max_depth
 use Rattle.serde_json.specs.Written.{outline, items_outline, members_outline, compact_text, comma_if, items_text, members_text}
 use Rattle.serde_json.proofs.Numbers.{number_of-decimal}
 use Rattle.serde_json.proofs.Texts.{print-outline}
-use Rattle.opfs_dump_laws.specs.Plain.{IsPlain, ArePlainItems, ArePlainMembers, put_all}
+use Rattle.opfs_commands.specs.DumpLaws.Plain.{IsPlain, ArePlainItems, ArePlainMembers, put_all}
 
 -- ---- the outline of plain data
 

@@ -12,7 +12,7 @@ use Rattle.opfs_script.specs.Members.{◌>>=◌, values_of}
 use Rattle.opfs_dump.specs.Text.Limits.{may_follow}
 use Rattle.opfs_dump.specs.Text.Reading.{texts_of, names_of, file_in, row_in, next_row, rows_from}
 use Rattle.opfs_dump.specs.Text.Texts.{document_value, row_value}
-use Rattle.opfs_dump_laws.specs.Dumpable.{IsNamed, IsToldRow, AllFollow}
+use Rattle.opfs_commands.specs.DumpLaws.Dumpable.{IsNamed, IsToldRow, AllFollow}
 
 -- What is put into an array comes out of it.
 pub items-back : (values : List Data) → values_of (items_of values) ≡ values

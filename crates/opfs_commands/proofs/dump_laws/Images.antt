@@ -44,9 +44,9 @@ use Rattle.opfs_tree.specs.declared.row.Row.TheVariants as row
 use Rattle.opfs_dump.specs.Text.Limits.{is_unit, is_behind, last_of, places_of, may_follow, can_stand, bare_row, bare_rows, blocks_needed, stored_blocks}
 use Rattle.opfs_dump.specs.Text.Reading.{most_bytes, reads_dump}
 use Rattle.opfs_dump.specs.Text.Texts.{dump_text}
-use Rattle.opfs_dump_laws.specs.Dumpable.{IsNamed, IsToldRow, AllFollow, IsDumpable}
-use Rattle.opfs_dump_laws.proofs.Built.{good-image, window-bytes}
-use Rattle.opfs_dump_laws.proofs.Texts.{text-back}
+use Rattle.opfs_commands.specs.DumpLaws.Dumpable.{IsNamed, IsToldRow, AllFollow, IsDumpable}
+use Rattle.opfs_commands.proofs.dump_laws.Built.{good-image, window-bytes}
+use Rattle.opfs_commands.proofs.dump_laws.Texts.{text-back}
 
 -- ---- units
 

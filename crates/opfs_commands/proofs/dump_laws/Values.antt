@@ -16,8 +16,8 @@ use Rattle.opfs_image.specs.Superblock.{is_in_range}
 use Rattle.opfs_image.specs.declared.geometry.Geometry.{Geometry}
 use Rattle.opfs_machine.specs.Openings.{Map, Stored, folder, document}
 use Rattle.opfs_dump.specs.Text.Texts.{row_value, dump_value}
-use Rattle.opfs_dump_laws.specs.Dumpable.{IsNamed, IsToldRow, IsDumpable}
-use Rattle.opfs_dump_laws.specs.Plain.{IsPlain, ArePlainItems}
+use Rattle.opfs_commands.specs.DumpLaws.Dumpable.{IsNamed, IsToldRow, IsDumpable}
+use Rattle.opfs_commands.specs.DumpLaws.Plain.{IsPlain, ArePlainItems}
 
 key : (s : List ℕ) → are_ascii s ≡ true → IsUtf8 s
 key s h = IsUtf8-are_ascii s h

@@ -1,6 +1,4 @@
 //! A law of dumps: what is dumped of an image is read back as the image's sizes and what it stands for.
-#![tactic(auto)]
-
 mod laws;
 
 pub use laws::dumps_are_read_back;
