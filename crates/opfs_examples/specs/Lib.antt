@@ -20,3 +20,5 @@ pub mod Tags
 pub mod Times
 pub mod Trying
 pub mod Usage
+pub mod ScriptRuns
+pub mod Images

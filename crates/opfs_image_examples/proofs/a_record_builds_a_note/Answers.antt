@@ -1,5 +1,0 @@
-use Rattle.opfs_image_examples.proofs.Notes.{builds, old_charge, charge}
-use Rattle.opfs_image_examples.proofs.a_record_builds_a_note.Goals as goal
-
-pub returns : goal.returns
-returns g = record { built = builds; old_charge = old_charge; charge = charge }

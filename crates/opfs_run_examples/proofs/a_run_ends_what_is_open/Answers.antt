@@ -1,5 +1,0 @@
-use Rattle.std.proofs.Common.{refl}
-use Rattle.opfs_run_examples.proofs.a_run_ends_what_is_open.Goals as goal
-
-pub returns : goal.returns
-returns c = ((refl, refl), ((refl, refl), ((refl, refl), ((refl, refl), (refl, refl, (refl, refl, (refl, refl, refl)))))))
