@@ -17,5 +17,6 @@ mod measures;
 mod names;
 #[cfg(test)]
 mod packed;
+mod runs;
 #[cfg(test)]
 mod scripts;

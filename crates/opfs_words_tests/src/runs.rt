@@ -1,5 +1,3 @@
 //! Tests of a script's run.
-#![tactic(auto)]
-
 #[cfg(test)]
 mod hands;
