@@ -1,0 +1,6 @@
+//! Tests of the tree.
+mod growing;
+mod locks;
+mod names;
+mod removal;
+mod walks;

@@ -1,9 +1,0 @@
-//! Tests of the shed, the pool and working copies.
-#![tactic(auto)]
-
-#[cfg(test)]
-mod pools;
-#[cfg(test)]
-mod sheds;
-#[cfg(test)]
-mod works;

@@ -1,8 +1,0 @@
-//! Tests of the tree.
-#![tactic(auto)]
-
-mod growing;
-mod locks;
-mod names;
-mod removal;
-mod walks;
