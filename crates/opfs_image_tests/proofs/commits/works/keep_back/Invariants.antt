@@ -1,5 +1,5 @@
 use Rattle.std.proofs.Common.{◌≡◌}
-use Rattle.opfs_commit_tests.proofs.works.keep_back.Given as goal
+use Rattle.opfs_image_tests.proofs.commits.works.keep_back.Given as goal
 
 abbrev pub invariant-loop-bytes : goal.invariant-loop-bytes
 invariant-loop-bytes l =

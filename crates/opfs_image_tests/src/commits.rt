@@ -1,6 +1,4 @@
 //! Tests of changes that are committed.
-#![tactic(auto)]
-
 #[cfg(test)]
 mod stops;
 mod works;

@@ -1,6 +1,6 @@
 //! The bytes that are written with one change more.
 
-use crate::growing::{add_child, add_root, persist, short_file};
+use crate::snapshots::growing::{add_child, add_root, persist, short_file};
 use opfs_base::{Extents, Key, Name, Path};
 use opfs_codec::ChangeRef;
 use opfs_records::snapshot_after;

@@ -1,6 +1,6 @@
 //! The bytes that are written.
 
-use crate::growing::{add_child, add_root, empty_file, persist, short_file};
+use crate::snapshots::growing::{add_child, add_root, empty_file, persist, short_file};
 use opfs_base::{Key, Path};
 use opfs_records::snapshot;
 use opfs_shed::Shed;

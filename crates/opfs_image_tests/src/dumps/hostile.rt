@@ -1,6 +1,6 @@
 //! Texts that are read or refused, each for the first reason.
 
-use crate::images::answer;
+use crate::dumps::images::answer;
 use std::test::Fail;
 
 // What each text shows, the text, and what is told of it.

@@ -1,6 +1,4 @@
 //! Tests of images as texts, and of texts as images.
-#![tactic(auto)]
-
 #[cfg(test)]
 mod drawn;
 #[cfg(test)]

@@ -2,7 +2,7 @@
 
 ghost use Rattle.std.specs.Prelude.{◌<◌};
 
-use crate::images::{answer, laid_text};
+use crate::dumps::images::{answer, laid_text};
 use std::alloc::{AllocError, Global};
 use std::test::Fail;
 

@@ -1,6 +1,6 @@
 //! Worked examples.
 
-use crate::images::{NOTE, answer, laid_text, note_image, text_of};
+use crate::dumps::images::{NOTE, answer, laid_text, note_image, text_of};
 use std::alloc::{AllocError, Global};
 use std::test::Fail;
 

@@ -1,7 +1,7 @@
 //! A disk that stops or fails within each call of a work: each image shows a front of its changes, with each content that is
 //! committed.
 
-use crate::works::{CHANGES, change, first_image, work};
+use crate::commits::works::{CHANGES, change, first_image, work};
 use opfs_base::Path;
 use opfs_codec::Change;
 use opfs_image::{Recovered, recover};
