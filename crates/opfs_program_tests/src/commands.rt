@@ -1,6 +1,4 @@
 //! Tests of the commands on an image, over a host in memory.
-#![tactic(auto)]
-
 #[cfg(test)]
 mod asking;
 #[cfg(test)]

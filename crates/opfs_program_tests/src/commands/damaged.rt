@@ -1,7 +1,7 @@
 //! Images with damaged bytes, and what `list` tells of them.
 
-use crate::asking::told_of;
-use crate::images::{LISTED, formatted, note, note_image, put};
+use crate::commands::asking::told_of;
+use crate::commands::images::{LISTED, formatted, note, note_image, put};
 use opfs_image::ImageRefusal;
 use std::alloc::{AllocError, Global};
 use std::test::Fail;

@@ -1,6 +1,6 @@
 //! What scripts print when their agents run at the same time.
 
-use crate::gate::Open;
+use crate::trials::gate::Open;
 use opfs_desk_runs::try_script;
 use opfs_judge::run_script;
 use opfs_print::line;

@@ -1,6 +1,6 @@
 //! Images, and bytes in them.
 
-use crate::asking::{ask, empty_host, image_of};
+use crate::commands::asking::{ask, empty_host, image_of};
 use std::alloc::{AllocError, Global};
 
 /// What `list` tells of an image with the file `note`.

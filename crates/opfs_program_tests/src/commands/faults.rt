@@ -1,7 +1,7 @@
 //! Commands over hosts and disks that fail, and images that a stop leaves.
 
-use crate::asking::{ask, empty_host, failing_host, host_of, image_of, told_of};
-use crate::images::{CHECKED, LISTED, note_image, old_image};
+use crate::commands::asking::{ask, empty_host, failing_host, host_of, image_of, told_of};
+use crate::commands::images::{CHECKED, LISTED, note_image, old_image};
 use opfs_memory::{MemDisk, MemHost};
 use opfs_outside::Disk;
 use std::alloc::{AllocError, Global};

@@ -1,6 +1,6 @@
 //! Which words are a command.
 
-use crate::asking::words_of;
+use crate::commands::asking::words_of;
 use opfs_commands::{Action, Command, Generation, read_command};
 use opfs_image::Geometry;
 use std::alloc::{AllocError, Global};

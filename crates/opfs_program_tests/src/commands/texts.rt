@@ -1,7 +1,7 @@
 //! What the commands tell of images that hold a file.
 
-use crate::asking::{ask, host_of, image_of, told_of};
-use crate::images::{CHECKED, LISTED, formatted, note_image, old_image};
+use crate::commands::asking::{ask, host_of, image_of, told_of};
+use crate::commands::images::{CHECKED, LISTED, formatted, note_image, old_image};
 use std::alloc::{AllocError, Global};
 use std::test::Fail;
 

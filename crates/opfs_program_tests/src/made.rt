@@ -1,5 +1,3 @@
 //! Tests of large runs: what their summaries are.
-#![tactic(auto)]
-
 #[cfg(test)]
 mod runs;

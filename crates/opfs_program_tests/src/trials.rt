@@ -1,6 +1,4 @@
 //! Tests of trials whose agents run on threads.
-#![tactic(auto)]
-
 #[cfg(test)]
 mod gate;
 #[cfg(test)]

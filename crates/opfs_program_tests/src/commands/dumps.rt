@@ -1,7 +1,7 @@
 //! Images that are put out as texts, and images that are made from such texts.
 
-use crate::asking::{ask, ask_with, empty_host, host_of, host_with_text, image_of};
-use crate::images::{CHECKED, note_image};
+use crate::commands::asking::{ask, ask_with, empty_host, host_of, host_with_text, image_of};
+use crate::commands::images::{CHECKED, note_image};
 use std::alloc::{AllocError, Global};
 use std::test::Fail;
 
