@@ -13,6 +13,7 @@ mod faults;
 mod folders;
 #[cfg(test)]
 mod gates;
+mod judge;
 #[cfg(test)]
 mod judging;
 #[cfg(test)]

@@ -1,6 +1,6 @@
 //! Verdicts on drawn transcripts, and on those with a line changed.
 
-use crate::replaying::{is_printed, played};
+use crate::judge::replaying::{is_printed, played};
 use opfs_asking::{CHANGES, Deck, Draws, FEW_NAMES, altered, lines_of, script_of};
 use opfs_judge::{Verdict, judge, judge_packed};
 use opfs_script::{Script, read_script};

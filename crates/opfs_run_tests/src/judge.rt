@@ -1,6 +1,4 @@
 //! Tests of the judge: transcripts of drawn scripts, as they were printed and with a line changed.
-#![tactic(auto)]
-
 #[cfg(test)]
 mod judging;
 #[cfg(test)]
