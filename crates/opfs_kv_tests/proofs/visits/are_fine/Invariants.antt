@@ -1,6 +1,0 @@
-use Rattle.std.proofs.Common.{All, take}
-use Rattle.opfs_kv.specs.Commands.Runs.{IsOp}
-use Rattle.opfs_kv_tests.proofs.visits.are_fine.Given as goal
-
-abbrev pub invariant-loop-op : goal.invariant-loop-op
-invariant-loop-op l = All IsOp (take l.op-index l.ops)

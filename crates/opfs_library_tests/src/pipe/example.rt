@@ -1,0 +1,343 @@
+//! How a file goes from one agent to another: the calls of a program, in their order.
+
+ghost use Rattle.std.specs.Prelude.{◌≡◌, ◌≤◌, [], IfErr, IfOk};
+ghost use Rattle.opfs_store.specs.Acts.Asking.{IsSmall, IsSmallData};
+ghost use Rattle.opfs_turns.specs.Asking.Rows.{HasSnapshot, HasStream};
+ghost use Rattle.opfs_pipe.specs.Streams.{stream_bytes, stream_offset};
+ghost use Rattle.opfs_library_tests.specs.Pipe.Ready.{Goes, HasMade, IsMine, IsReady};
+
+use opfs_agent::stream_calls::Writable;
+use opfs_agent::{Agent, Snapshot};
+use opfs_base::{Bytes, Data, Locator, Text};
+use opfs_hall::Hall;
+use opfs_pipe::{open_target, pipe};
+use opfs_store::Store;
+use opfs_turns::Stop;
+use std::alloc::Global;
+use std::sync::Wait;
+use std::thread::Threads;
+
+// A text in memory of its own.
+fn text(alloc: Global, text: &str) -> Result<Text, Stop>
+    ensures { IfOk result (λ copy. copy ≡ text.now) }
+{
+    match Text::copy_of(alloc, text) {
+        Ok(copy) => Ok(copy),
+        Err(_) => Err(Stop::NoMemory),
+    }
+}
+
+/// The root of the agent's default bucket.
+pub fn root<S: Store, R: Wait>(
+    rt: &R,
+    court: &Hall<S>,
+    agent: &mut Agent<S>,
+) -> Result<Locator, Stop>
+    requires ready { IsReady court.now agent.old 0 }
+    requires few { HasMade agent.old 50000000 }
+    ensures ready { IsReady court.now agent.new 0 }
+    ensures goes { Goes agent.old agent.new 1 }
+    ensures mine { IfOk result (λ at. IsMine agent.new at) }
+{
+    let bucket = text(agent.alloc(), "default")?;
+    agent.kept();
+    let root = agent.get_directory(rt, court, &bucket);
+    agent.kept();
+    root
+}
+
+/// A file of a directory, which is made where it is missing.
+pub fn child<S: Store, R: Wait>(
+    rt: &R,
+    court: &Hall<S>,
+    agent: &mut Agent<S>,
+    dir: &Locator,
+    name: &str,
+) -> Result<Locator, Stop>
+    requires ready { IsReady court.now agent.old 0 }
+    requires few { HasMade agent.old 50000000 }
+    requires mine { IsMine agent.old dir.now }
+    ensures ready { IsReady court.now agent.new 0 }
+    ensures goes { Goes agent.old agent.new 1 }
+    ensures mine { IfOk result (λ at. IsMine agent.new at) }
+{
+    let name = text(agent.alloc(), name)?;
+    agent.kept();
+    let file = agent.get_file_handle(rt, court, dir, &name, true);
+    agent.kept();
+    file
+}
+
+/// A file of the agent's default bucket, which is made where it is missing.
+pub fn new_file<S: Store, R: Wait>(
+    rt: &R,
+    court: &Hall<S>,
+    agent: &mut Agent<S>,
+    name: &str,
+) -> Result<Locator, Stop>
+    requires ready { IsReady court.now agent.old 0 }
+    requires few { HasMade agent.old 40000000 }
+    ensures ready { IsReady court.now agent.new 0 }
+    ensures goes { Goes agent.old agent.new 2 }
+    ensures mine { IfOk result (λ at. IsMine agent.new at) }
+{
+    let root = root(rt, court, agent)?;
+    child(rt, court, agent, &root, name)
+}
+
+/// Aborts a stream: its file is as it was.
+pub fn give_up<S: Store, R: Wait>(rt: &R, court: &Hall<S>, agent: &mut Agent<S>, stream: Writable)
+    requires ready { IsReady court.now agent.old stream.row }
+    requires few { HasMade agent.old 50000003 }
+    requires stream { HasStream S.tells agent.old stream }
+    ensures ready { IsReady court.now agent.new 0 }
+    ensures goes { Goes agent.old agent.new 1 }
+{
+    agent.kept();
+    let _closed = agent.abort(rt, court, stream);
+    agent.kept();
+}
+
+/// Closes a stream: its file has its bytes. Where that is refused the file is as it was.
+pub fn save<S: Store, R: Wait>(
+    rt: &R,
+    court: &Hall<S>,
+    agent: &mut Agent<S>,
+    stream: Writable,
+) -> Result<(), Stop>
+    requires ready { IsReady court.now agent.old stream.row }
+    requires few { HasMade agent.old 50000002 }
+    requires stream { HasStream S.tells agent.old stream }
+    ensures ready { IsReady court.now agent.new 0 }
+    ensures goes { Goes agent.old agent.new 2 }
+{
+    agent.kept();
+    let done = agent.close_writable(rt, court, stream);
+    agent.kept();
+    match done {
+        Ok(_) => Ok(()),
+        Err((stream, stop)) => {
+            give_up(rt, court, agent, stream);
+            Err(stop)
+        }
+    }
+}
+
+/// Writes bytes at a place of a stream, and closes it. Where that is refused the file is as it was.
+pub fn fill<S: Store, R: Wait>(
+    rt: &R,
+    court: &Hall<S>,
+    agent: &mut Agent<S>,
+    mut stream: Writable,
+    bytes: &Data,
+    at: u64,
+) -> Result<(), Stop>
+    requires ready { IsReady court.now agent.old stream.row }
+    requires few { HasMade agent.old 50000001 }
+    requires stream { HasStream S.tells agent.old stream }
+    requires small { IsSmallData bytes.now × IsSmall at }
+    ensures ready { IsReady court.now agent.new 0 }
+    ensures goes { Goes agent.old agent.new 3 }
+{
+    agent.kept();
+    let written = agent.write_growing(rt, court, &mut stream, bytes, Some(at));
+    agent.kept();
+    match written {
+        Ok(()) => save(rt, court, agent, stream),
+        Err(stop) => {
+            give_up(rt, court, agent, stream);
+            Err(stop)
+        }
+    }
+}
+
+/// A stream on a file, without the bytes that the file has.
+pub fn open_new<S: Store, R: Wait>(
+    rt: &R,
+    court: &Hall<S>,
+    agent: &mut Agent<S>,
+    file: &Locator,
+) -> Result<Writable, Stop>
+    requires ready { IsReady court.now agent.old 0 }
+    requires few { HasMade agent.old 50000000 }
+    requires mine { IsMine agent.old file.now }
+    ensures goes { Goes agent.old agent.new 1 }
+    ensures not { IfErr result (λ _. IsReady court.now agent.new 0) }
+    ensures ready { IfOk result (λ stream. IsReady court.now agent.new stream.row) }
+    ensures stream { IfOk result (λ stream. HasStream S.tells agent.new stream) }
+{
+    agent.kept();
+    let opened = agent.create_writable(rt, court, file, false);
+    agent.kept();
+    opened
+}
+
+/// Writes a file whole: so many zeros, and these bytes.
+pub fn write_file<S: Store, R: Wait>(
+    rt: &R,
+    court: &Hall<S>,
+    agent: &mut Agent<S>,
+    file: &Locator,
+    zeros: u64,
+    bytes: &Data,
+) -> Result<(), Stop>
+    requires ready { IsReady court.now agent.old 0 }
+    requires few { HasMade agent.old 50000000 }
+    requires mine { IsMine agent.old file.now }
+    requires small { IsSmallData bytes.now × IsSmall zeros }
+    ensures ready { IsReady court.now agent.new 0 }
+    ensures goes { Goes agent.old agent.new 4 }
+{
+    let stream = open_new(rt, court, agent, file)?;
+    fill(rt, court, agent, stream, bytes, zeros)
+}
+
+/// A snapshot of a file.
+pub fn snapshot<S: Store, R: Wait>(
+    rt: &R,
+    court: &Hall<S>,
+    agent: &mut Agent<S>,
+    file: &Locator,
+) -> Result<Snapshot, Stop>
+    requires ready { IsReady court.now agent.old 0 }
+    requires few { HasMade agent.old 50000000 }
+    requires mine { IsMine agent.old file.now }
+    ensures ready { IsReady court.now agent.new 0 }
+    ensures goes { Goes agent.old agent.new 1 }
+    ensures has { IfOk result (λ snapshot. HasSnapshot S.tells agent.new snapshot) }
+{
+    agent.kept();
+    let taken = agent.get_file(rt, court, file);
+    agent.kept();
+    taken
+}
+
+/// The bytes of a snapshot.
+pub fn bytes_of<S: Store>(
+    court: &Hall<S>,
+    agent: &mut Agent<S>,
+    snapshot: &Snapshot,
+) -> Result<Bytes, Stop>
+    requires ready { IsReady court.now agent.old 0 }
+    requires few { HasMade agent.old 50000001 }
+    requires has { HasSnapshot S.tells agent.old snapshot.now }
+    ensures ready { IsReady court.now agent.new 0 }
+    ensures goes { Goes agent.old agent.new 1 }
+{
+    let _ = court;
+    agent.kept();
+    let bytes = agent.slice(snapshot, 0, snapshot.size());
+    agent.kept();
+    bytes
+}
+
+/// The bytes of a file.
+pub fn read_file<S: Store, R: Wait>(
+    rt: &R,
+    court: &Hall<S>,
+    agent: &mut Agent<S>,
+    file: &Locator,
+) -> Result<Bytes, Stop>
+    requires ready { IsReady court.now agent.old 0 }
+    requires few { HasMade agent.old 50000000 }
+    requires mine { IsMine agent.old file.now }
+    ensures ready { IsReady court.now agent.new 0 }
+    ensures goes { Goes agent.old agent.new 2 }
+{
+    let snapshot = snapshot(rt, court, agent, file)?;
+    bytes_of(court, agent, &snapshot)
+}
+
+/// A stream on a file, which begins empty: the target of a pipe.
+pub fn target_of<S: Store, R: Wait>(
+    rt: &R,
+    court: &Hall<S>,
+    agent: &mut Agent<S>,
+    file: &Locator,
+) -> Result<Writable, Stop>
+    requires ready { IsReady court.now agent.old 0 }
+    requires few { HasMade agent.old 40000000 }
+    requires mine { IsMine agent.old file.now }
+    ensures goes { Goes agent.old agent.new 1 }
+    ensures not { IfErr result (λ _. IsReady court.now agent.new 0) }
+    ensures ready { IfOk result (λ stream. IsReady court.now agent.new stream.row) }
+    ensures stream { IfOk result (λ stream. HasStream S.tells agent.new stream) }
+    ensures empty { IfOk result (λ stream. (stream_bytes agent.new stream ≡ []) × (stream_offset agent.new stream ≡ 0)) }
+{
+    agent.kept();
+    let opened = open_target(rt, court, agent, file);
+    agent.kept();
+    opened
+}
+
+/// Moves a range of a snapshot of one agent into a stream of another, and closes it. Where that is refused, the stream comes back
+/// open, with a front of the range.
+pub fn deliver<S: Store + Send, R: Threads + Wait + Sync>(
+    rt: &R,
+    court: &Hall<S>,
+    reader: &mut Agent<S>,
+    writer: &mut Agent<S>,
+    from: &Snapshot,
+    at: u64,
+    len: u64,
+    to: Writable,
+) -> Result<(), (Writable, Stop)>
+    requires reader { IsReady court.now reader.old 0 }
+    requires few { HasMade reader.old 40000001 }
+    requires snapshot { HasSnapshot S.tells reader.old from.now }
+    requires range { len ≤ 268435456 }
+    requires writer { IsReady court.now writer.old to.row }
+    requires few_writes { HasMade writer.old 40000001 }
+    requires stream { HasStream S.tells writer.old to }
+    requires empty { (stream_bytes writer.old to ≡ []) × (stream_offset writer.old to ≡ 0) }
+    ensures reader { IsReady court.now reader.new 0 }
+    ensures reads { Goes reader.old reader.new 65536 }
+    ensures writes { Goes writer.old writer.new 65537 }
+    ensures done { IfOk result (λ _. IsReady court.now writer.new 0) }
+    ensures back { IfErr result (λ back. IsReady court.now writer.new back.0.row) }
+    ensures stream { IfErr result (λ back. HasStream S.tells writer.new back.0) }
+{
+    reader.kept();
+    writer.kept();
+    let piped = pipe(rt, court, reader, writer, from, at, len, to);
+    reader.kept();
+    writer.kept();
+    match piped {
+        Ok(_) => Ok(()),
+        Err(back) => Err(back),
+    }
+}
+
+/// Sends a range of one agent's file into another agent's file. Where that is refused the target is as it was.
+pub fn send<S: Store + Send, R: Threads + Wait + Sync>(
+    rt: &R,
+    court: &Hall<S>,
+    reader: &mut Agent<S>,
+    writer: &mut Agent<S>,
+    source: &Locator,
+    at: u64,
+    len: u64,
+    target: &Locator,
+) -> Result<(), Stop>
+    requires reader { IsReady court.now reader.old 0 }
+    requires few { HasMade reader.old 40000000 }
+    requires source { IsMine reader.old source.now }
+    requires range { len ≤ 268435456 }
+    requires writer { IsReady court.now writer.old 0 }
+    requires few_writes { HasMade writer.old 40000000 }
+    requires target { IsMine writer.old target.now }
+    ensures reader { IsReady court.now reader.new 0 }
+    ensures reads { Goes reader.old reader.new 65537 }
+    ensures writer { IsReady court.now writer.new 0 }
+    ensures writes { Goes writer.old writer.new 65539 }
+{
+    let from = snapshot(rt, court, reader, source)?;
+    let to = target_of(rt, court, writer, target)?;
+    match deliver(rt, court, reader, writer, &from, at, len, to) {
+        Ok(()) => Ok(()),
+        Err((to, stop)) => {
+            give_up(rt, court, writer, to);
+            Err(stop)
+        }
+    }
+}
