@@ -1,6 +1,6 @@
 //! Scripts of one agent over an image: what they tell, and what the image then lists.
 
-use opfs_asking::{done, host_with, new_image, run};
+use opfs_test_hosts::{done, host_with, new_image, run};
 use std::test::Fail;
 
 // The numbers of an image, a script, what it tells, and what the image lists behind it.

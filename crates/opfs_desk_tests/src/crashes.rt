@@ -1,7 +1,7 @@
 //! What a crash leaves of a disk, in short.
 
-use opfs_asking::{calls, checked, checked_after, content};
 use opfs_memory::MemHost;
+use opfs_test_hosts::{calls, checked, checked_after, content};
 use std::alloc::{AllocError, Global};
 
 /// What `check` tells of an image that holds nothing, and the status.

@@ -1,7 +1,7 @@
 //! Scripts of one agent that are drawn at random: what a run over an image tells, and what a later run reads there, is
 //! judged by the plain machine.
 
-use opfs_asking::{Deck, Draws, host_with, judged, new_image, push_agent, run};
+use opfs_test_hosts::{Deck, Draws, host_with, judged, new_image, push_agent, run};
 use std::alloc::{AllocError, Global};
 use std::sync::Wait;
 use std::test::Fail;

@@ -1,7 +1,7 @@
 //! Origins that share the data blocks: buckets that are evicted, and bytes that are refused.
 
-use opfs_asking::{done, host_with, new_image, run};
 use opfs_memory::MemHost;
+use opfs_test_hosts::{done, host_with, new_image, run};
 use std::alloc::{AllocError, Global};
 use std::sync::Wait;
 use std::test::Fail;

@@ -1,8 +1,8 @@
 //! Runs over an image in which a call of the disk fails, once or for ever, and what they may leave.
 
 use crate::crashes::{mark_at_end, marks};
-use opfs_asking::{calls, content, host_of, host_with, new_image, run};
 use opfs_memory::MemHost;
+use opfs_test_hosts::{calls, content, host_of, host_with, new_image, run};
 use std::alloc::{AllocError, Global};
 use std::sync::Wait;
 use std::thread::Threads;

@@ -1,7 +1,7 @@
 //! Scripts whose files fill the store: what agents on threads tell of them, evictions and refusals among it, is judged by the
 //! plain machine.
 
-use opfs_asking::{Deck, judged, script_of, tried};
+use opfs_test_hosts::{Deck, judged, script_of, tried};
 use std::alloc::AllocError;
 use std::sync::Wait;
 use std::test::Fail;

@@ -1,7 +1,7 @@
 //! The first close, which writes one record: stopped in each of its calls, and where one of them fails.
 
 use crate::crashes::{NOTHING, mark_at_end, marks};
-use opfs_asking::{calls, content, host_of, host_with, new_image, run};
+use opfs_test_hosts::{calls, content, host_of, host_with, new_image, run};
 use std::alloc::AllocError;
 use std::sync::Wait;
 use std::test::Fail;

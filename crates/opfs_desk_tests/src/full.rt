@@ -1,8 +1,8 @@
 //! An area that fills: what is refused for want of it, and records that a snapshot replaces.
 
 use crate::crashes::{NOTHING, push_shown, shown_in_turn};
-use opfs_asking::{calls, content, host_with, new_image, run};
 use opfs_memory::MemHost;
+use opfs_test_hosts::{calls, content, host_with, new_image, run};
 use std::alloc::{AllocError, Global};
 use std::test::Fail;
 

@@ -2,7 +2,7 @@
 
 use crate::crashes::{NOTHING, marks, shown_in_turn};
 use crate::first_close::{STORE, STORED, calls_of, content_after};
-use opfs_asking::{calls, host_of, host_with, new_image, run};
+use opfs_test_hosts::{calls, host_of, host_with, new_image, run};
 use std::alloc::{AllocError, Global};
 use std::test::Fail;
 

@@ -1,6 +1,6 @@
 //! Agents of one origin that post tags and await them, over one image.
 
-use opfs_asking::{done, host_with, new_image, run};
+use opfs_test_hosts::{done, host_with, new_image, run};
 use std::test::Fail;
 
 // The second hands a file to the first, and the first to the third.

@@ -1,6 +1,6 @@
 //! Which transcripts with a line changed are transcripts still.
 
-use opfs_asking::Change;
+use opfs_test_hosts::Change;
 
 // The agent of a line: the digits before the dot.
 fn agent_of(line: &[u8]) -> u32 {

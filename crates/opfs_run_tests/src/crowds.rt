@@ -1,6 +1,6 @@
 //! Many agents over one image: each one's lines are complete, in order, and those of its script alone.
 
-use opfs_asking::{judged, lines_with, new_image, run_over};
+use opfs_test_hosts::{judged, lines_with, new_image, run_over};
 use std::alloc::{AllocError, Global};
 use std::sync::Wait;
 use std::test::Fail;

@@ -1,7 +1,7 @@
 //! Images with some bytes changed: a run is refused as `list` is, and leaves the image as it was.
 
-use opfs_asking::{content, done, host_with, new_image, run, run_over};
 use opfs_memory::MemHost;
+use opfs_test_hosts::{content, done, host_with, new_image, run, run_over};
 use std::alloc::{AllocError, Global};
 use std::sync::Wait;
 use std::test::Fail;

@@ -1,7 +1,7 @@
 //! Runs in which one call of the disk fails.
 
-use opfs_asking::{checked, content, host_of, new_image, run};
 use opfs_memory::MemHost;
+use opfs_test_hosts::{checked, content, host_of, new_image, run};
 use std::alloc::{AllocError, Global};
 use std::sync::Wait;
 use std::test::Fail;

@@ -1,10 +1,10 @@
 //! Runs over images that are files of a folder.
 
 use crate::gates::{Late, Signal};
-use opfs_asking::{Ask, asked, bytes_of, checked, done, first_other};
 use opfs_files::DirHost;
 use opfs_memory::MemSource;
 use opfs_outside::{Gate, Host};
+use opfs_test_hosts::{Ask, asked, bytes_of, checked, done, first_other};
 use std::alloc::AllocError;
 use std::fs::{self, File, Files};
 use std::sync::Wait;

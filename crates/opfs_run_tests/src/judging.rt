@@ -1,7 +1,7 @@
 //! What `try` and `run` print for drawn scripts is judged, as it is and with a line changed.
 
 use crate::altering::is_still;
-use opfs_asking::{
+use opfs_test_hosts::{
     CHANGES, Deck, Draws, FEW_NAMES, altered, judged, lines_of, new_image, run_over, script_of,
     tried,
 };

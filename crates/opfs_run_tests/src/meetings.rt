@@ -1,7 +1,7 @@
 //! Two agents that run at the same time.
 
 use crate::gates::{Hold, Signal};
-use opfs_asking::{new_image, run_behind};
+use opfs_test_hosts::{new_image, run_behind};
 use std::alloc::AllocError;
 use std::sync::Wait;
 use std::test::Fail;

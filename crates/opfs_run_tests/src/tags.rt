@@ -1,7 +1,7 @@
 //! Agents that post and await.
 
 use crate::gates::{Delay, Late};
-use opfs_asking::{judged, lines_with, new_image, run_behind, run_over};
+use opfs_test_hosts::{judged, lines_with, new_image, run_behind, run_over};
 use std::alloc::AllocError;
 use std::sync::Wait;
 use std::test::Fail;

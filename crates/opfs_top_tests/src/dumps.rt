@@ -1,6 +1,6 @@
 //! The words `dump` and `load`.
 
-use opfs_asking::{Ask, first_other, host_with};
+use opfs_test_hosts::{Ask, first_other, host_with};
 use std::test::Fail;
 
 // The text of an image with the file `note`.

@@ -1,7 +1,7 @@
 //! The ends of a command other than a transcript or a refused script.
 
-use opfs_asking::{Ask, bytes_of, done, failing_host, first_other, host, ran, ran_within};
 use opfs_memory::MemSource;
+use opfs_test_hosts::{Ask, bytes_of, done, failing_host, first_other, host, ran, ran_within};
 use std::alloc::AllocError;
 use std::sync::Wait;
 use std::test::Fail;

@@ -1,6 +1,6 @@
 //! The script of `examples/every_word.json`, which has every word but `post` and `await`, and its transcript.
 
-use opfs_asking::{lines_with, new_image, run_over, tried};
+use opfs_test_hosts::{lines_with, new_image, run_over, tried};
 use std::alloc::{AllocError, Global};
 use std::test::Fail;
 

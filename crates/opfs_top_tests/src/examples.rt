@@ -1,6 +1,6 @@
 //! The scripts of `examples/` and their transcripts.
 
-use opfs_asking::{Ask, first_other, host};
+use opfs_test_hosts::{Ask, first_other, host};
 use std::test::Fail;
 
 // Each over an empty store.

@@ -1,6 +1,6 @@
 //! Verdicts on transcripts.
 
-use opfs_asking::{bytes_of, judged, ran_alone};
+use opfs_test_hosts::{bytes_of, judged, ran_alone};
 use std::test::Fail;
 
 // An agent that makes a file, writes it and reads it.

@@ -1,6 +1,6 @@
 //! Scripts that are refused.
 
-use opfs_asking::{Ask, bytes_of, first_other, host, ran_alone};
+use opfs_test_hosts::{Ask, bytes_of, first_other, host, ran_alone};
 use std::alloc::{AllocError, Global};
 use std::test::Fail;
 

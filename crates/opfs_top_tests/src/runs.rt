@@ -1,9 +1,9 @@
 //! Runs over an image of a host.
 
-use opfs_asking::{
+use opfs_memory::MemSource;
+use opfs_test_hosts::{
     Ask, bytes_of, done, failing_host, first_other, host, host_with, new_image, ran, ran_within,
 };
-use opfs_memory::MemSource;
 use std::test::Fail;
 
 // Makes the file `note` and stores `hello` in it.

@@ -1,6 +1,6 @@
 //! Scripts and their transcripts.
 
-use opfs_asking::{judged, tried};
+use opfs_test_hosts::{judged, tried};
 use std::alloc::AllocError;
 use std::sync::Wait;
 use std::test::Fail;

@@ -1,10 +1,10 @@
 //! Verdicts on drawn transcripts, and on those with a line changed.
 
 use crate::judge::replaying::{is_printed, played};
-use opfs_asking::{CHANGES, Deck, Draws, FEW_NAMES, altered, lines_of, script_of};
 use opfs_judge::{Verdict, judge, judge_packed};
 use opfs_script::{Script, read_script};
 use opfs_script_kept::{KeptScript, PackedScript, read_kept};
+use opfs_test_hosts::{CHANGES, Deck, Draws, FEW_NAMES, altered, lines_of, script_of};
 use std::alloc::{AllocError, Global};
 use std::test::Fail;
 

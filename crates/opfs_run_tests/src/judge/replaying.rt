@@ -1,12 +1,12 @@
 //! What scripts print when their agents run in an order: a second way to tell whether a text is a transcript.
 
-use opfs_asking::{Draws, lines_of};
 use opfs_hist::{Entry, Op};
 use opfs_judge::trial::opening::begin;
 use opfs_plain::Plain;
 use opfs_print::line;
 use opfs_script::{AgentScript, Script, Step};
 use opfs_script_run::Hand;
+use opfs_test_hosts::{Draws, lines_of};
 use std::alloc::{AllocError, Global};
 
 // How far an agent's script is.
