@@ -10,7 +10,7 @@ use std::marker::Model;
 use std::sync::Arc;
 
 /// Bytes that stand once in memory, whoever holds them, seen as the list of them.
-#[derive(Debug, Drop)]
+#[derive(Drop)]
 pub struct SharedBytes {
     held: Arc<Bytes>,
 }
@@ -54,7 +54,7 @@ impl SharedBytes {
 }
 
 /// How bytes are kept.
-#[derive(Debug, Drop)]
+#[derive(Drop)]
 pub enum DataForm {
     /// One by one.
     Given(SharedBytes),
@@ -63,7 +63,7 @@ pub enum DataForm {
 }
 
 /// How bytes are told.
-#[derive(Clone, Copy, Debug)]
+#[derive(Clone, Copy)]
 pub enum Told<'a> {
     /// One by one.
     Given(&'a [u8]),
@@ -73,7 +73,7 @@ pub enum Told<'a> {
 
 /// The bytes that a call writes, seen as the list of them. They are kept as they were told, given or one byte so many
 /// times, and no holder has a copy of its own.
-#[derive(Debug, Drop)]
+#[derive(Drop)]
 pub struct Data {
     form: DataForm,
 }

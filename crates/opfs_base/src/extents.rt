@@ -15,7 +15,7 @@ pub struct Extent {
 }
 
 /// The blocks of a file in the order of its bytes, seen as a list of runs.
-#[derive(Debug, Drop)]
+#[derive(Drop)]
 pub struct Extents {
     items: Vec<Extent>,
 }

@@ -40,7 +40,7 @@ pub enum UnitRefusal {
 }
 
 /// The text of a unit: an origin's storage key, alone for its default bucket, seen as its UTF-8.
-#[derive(Debug, Drop, PartialEq, Eq, PartialOrd, Ord)]
+#[derive(Drop, PartialEq, Eq, PartialOrd, Ord)]
 pub struct Key {
     text: Bytes,
 }

@@ -8,7 +8,7 @@ use crate::path::Path;
 use std::alloc::{AllocError, Global};
 
 /// What an entry is (File System: entry).
-#[derive(Clone, Copy, Debug, PartialEq, Eq)]
+#[derive(Clone, Copy, PartialEq, Eq)]
 pub enum Kind {
     /// A file entry.
     File,
@@ -17,7 +17,7 @@ pub enum Kind {
 }
 
 /// What a handle stands for (File System: locator): a unit, a path in it, and a kind.
-#[derive(Debug, Drop, PartialEq, Eq)]
+#[derive(Drop, PartialEq, Eq)]
 pub struct Locator {
     /// The unit.
     pub key: Key,

@@ -16,7 +16,7 @@ pub fn is_valid_name(text: &str) -> bool
 }
 
 /// The name of a file or directory, seen as its UTF-8. It is always a valid file name.
-#[derive(Debug, Drop, PartialEq, Eq, PartialOrd, Ord)]
+#[derive(Drop, PartialEq, Eq, PartialOrd, Ord)]
 pub struct Name {
     text: Bytes,
 }

@@ -16,7 +16,7 @@ use std::cmp::Ordering;
 use std::marker::Model;
 
 /// The names from a bucket's root down, seen as the list of them. The root has the empty path.
-#[derive(Debug, Drop)]
+#[derive(Drop)]
 pub struct Path {
     names: Vec<Name>,
 }

@@ -6,7 +6,7 @@ use crate::bytes::Bytes;
 use std::marker::Model;
 
 /// The words of a command line, seen as the list of their bytes.
-#[derive(Debug, Drop)]
+#[derive(Drop)]
 pub struct Words {
     items: Vec<Bytes>,
 }

@@ -7,7 +7,7 @@ use std::alloc::{AllocError, Global};
 use std::marker::Model;
 
 /// A flag for each block, seen as the list of them.
-#[derive(Debug, Drop)]
+#[derive(Drop)]
 pub struct Bits {
     words: Vec<u64>,
     size: u32,

@@ -12,7 +12,7 @@ use std::alloc::{AllocError, Global};
 use std::marker::Model;
 
 /// The used ones among a disk's data blocks, seen as a flag for each block, true where it is used.
-#[derive(Debug, Drop)]
+#[derive(Drop)]
 pub struct BlockMap {
     bits: Bits,
     // All blocks below it are used.

@@ -3,7 +3,7 @@
 use opfs_base::{Extents, Key, Path};
 
 /// A format of the image.
-#[derive(Clone, Copy, Debug, PartialEq, Eq)]
+#[derive(Clone, Copy, PartialEq, Eq)]
 pub enum Format {
     /// Format 1, whose keys are texts of units.
     Old,
@@ -12,7 +12,7 @@ pub enum Format {
 }
 
 /// A change of the durable state.
-#[derive(Debug, Drop)]
+#[derive(Drop)]
 pub enum Change {
     /// A unit's root is made.
     MakeRoot(Key),
@@ -31,7 +31,7 @@ pub enum Change {
 }
 
 /// A change whose parts are borrowed.
-#[derive(Clone, Copy, Debug)]
+#[derive(Clone, Copy)]
 pub enum ChangeRef<'a> {
     /// A unit's root is made.
     MakeRoot(&'a Key),

@@ -6,7 +6,7 @@ ghost use Rattle.opfs_codec.specs.declared.miss.Miss.TheVariants.{Memory};
 use std::alloc::{AllocError, AllocFailed};
 
 /// Why no change was read.
-#[derive(Debug, Drop)]
+#[derive(Drop)]
 pub enum Miss {
     /// There is no memory.
     Memory,

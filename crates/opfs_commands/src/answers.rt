@@ -11,7 +11,7 @@ use opfs_print::{BadImage, End, status_line};
 use std::alloc::{AllocError, Global};
 
 /// How a command on an image ends.
-#[derive(Clone, Copy, Debug, PartialEq, Eq)]
+#[derive(Clone, Copy, PartialEq, Eq)]
 pub enum ToolEnd {
     /// All was done.
     Done,
@@ -24,7 +24,7 @@ pub enum ToolEnd {
 }
 
 /// A tool that only reads an image.
-#[derive(Clone, Copy, Debug, PartialEq, Eq)]
+#[derive(Clone, Copy, PartialEq, Eq)]
 pub enum ReadTool {
     /// Lists the units and rows.
     List,
@@ -33,7 +33,7 @@ pub enum ReadTool {
 }
 
 /// How a command on an image ends, and what it is to put out behind what it has put out already.
-#[derive(Debug, Drop)]
+#[derive(Drop)]
 pub struct ToolAnswer {
     pub end: ToolEnd,
     pub text: Bytes,

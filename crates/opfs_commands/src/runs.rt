@@ -10,11 +10,11 @@ ghost use Rattle.opfs_commands.specs.Ran.{IsAnswerOf, IsEndOf, IsFaultBehind, Is
 use crate::answers::{ToolAnswer, ToolEnd, host_answer, refused_answer};
 use opfs_base::Bytes;
 use opfs_desk_runs::{Completion, run_disk};
-use opfs_hist::{Entry, History};
+use opfs_hist::{Entries, History};
 use opfs_image::ImageRefusal;
 use opfs_journal::DiskFault;
 use opfs_outside::{Disk, Gate, Host, HostStop};
-use opfs_print::{End, line, status_line};
+use opfs_print::{End, status_line, transcript};
 use opfs_script::Script;
 use std::alloc::{AllocError, Global};
 use std::sync::Wait;
@@ -31,30 +31,29 @@ pub(crate) enum RunEnd {
     Before(ToolAnswer),
 }
 
-// The lines of a history.
-fn lines_of(alloc: Global, history: &History) -> Result<Vec<u8>, AllocError>
-    ensures { IfOk result (λ text. text.items ≡ text_of history.now) }
+// The lines of a history's entries.
+fn lines_of(alloc: Global, entries: &Entries) -> Result<Vec<u8>, AllocError>
+    ensures { IfOk result (λ text. text.items ≡ text_of entries.now) }
 {
     let mut text = Vec::new(alloc);
-    for entry in history.iter() {
-        line(alloc, entry, &mut text)?;
-    }
+    transcript(alloc, entries, &mut text)?;
     Ok(text)
 }
 
 // How a run ended, of which it is known whether it was whole, and how its end went.
 fn ended(
     alloc: Global,
-    history: &History,
+    history: History,
     whole: bool,
     done: Result<(), DiskFault>,
 ) -> Result<RunEnd, AllocError>
-    ensures { IfOk result (λ end. IsEndOf whole done history.now end) }
+    ensures { IfOk result (λ end. IsEndOf whole done history end) }
 {
-    if !whole {
-        return Err(AllocError);
-    }
-    let text = Bytes::from_vec(lines_of(alloc, history)?);
+    let entries = match history.whole() {
+        Some(entries) if whole => entries,
+        _ => return Err(AllocError),
+    };
+    let text = Bytes::from_vec(lines_of(alloc, &entries)?);
     match done {
         Ok(()) => Ok(RunEnd::Done(text)),
         Err(_) => Ok(RunEnd::Failed(text)),
@@ -72,7 +71,7 @@ fn end_run<D: Disk>(alloc: Global, run: Completion<D>) -> (D, Result<RunEnd, All
         whole,
         done,
     } = run;
-    (disk, ended(alloc, &history, whole, done))
+    (disk, ended(alloc, history, whole, done))
 }
 
 // The answer where the image is refused, or the disk failed.

@@ -42,7 +42,7 @@ pub struct Generation {
 }
 
 /// What the words of a command line ask.
-#[derive(Clone, Copy, Debug)]
+#[derive(Clone, Copy)]
 pub enum Command<'a> {
     /// To run a script over an empty store.
     Try,

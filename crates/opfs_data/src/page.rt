@@ -7,7 +7,7 @@ use std::alloc::{AllocError, Global};
 use std::marker::Model;
 
 /// The 4,096 bytes of a page, seen as the list of them.
-#[derive(Debug, Drop)]
+#[derive(Drop)]
 pub struct PageBytes {
     bytes: Bytes,
 }
@@ -52,7 +52,7 @@ impl PageBytes {
 }
 
 /// A page: its block, if it has one, and the bytes that are kept of it, where the block has others.
-#[derive(Debug, Drop)]
+#[derive(Drop)]
 pub struct Page {
     /// The number of its block.
     pub block: Option<u32>,
@@ -61,7 +61,7 @@ pub struct Page {
 }
 
 /// A page with bytes that were saved of it.
-#[derive(Debug, Drop)]
+#[derive(Drop)]
 pub struct SavedPage {
     /// The page's number in its row.
     pub page: u64,

@@ -7,7 +7,7 @@ use opfs_base::BLOCK_SIZE;
 use std::marker::Model;
 
 /// What the bytes of a run are taken from.
-#[derive(Debug, Clone, Copy, PartialEq, Drop)]
+#[derive(Clone, Copy, PartialEq, Drop)]
 pub enum Source {
     /// The bytes of the call.
     Given,
@@ -16,7 +16,7 @@ pub enum Source {
 }
 
 /// So many pages from one on, which go into so many blocks from one on.
-#[derive(Debug, Drop)]
+#[derive(Drop)]
 pub struct PageRun {
     page: u64,
     count: u32,

@@ -22,7 +22,7 @@ use std::marker::Model;
 
 /// The pages of an open row: which block each one has, and the bytes that are kept of it since a write failed. What is
 /// prepared for the next write is the room for pages and the bytes of those that it writes again in their own block.
-#[derive(Debug, Drop)]
+#[derive(Drop)]
 pub struct PagedRow {
     pages: Vec<Page>,
     // how many of them have kept bytes

@@ -10,7 +10,7 @@ use crate::page_run::PageRun;
 use opfs_base::Extent;
 
 /// The blocks that are left of runs: those of one run, and those of the runs from a number on.
-#[derive(Debug, Drop)]
+#[derive(Drop)]
 pub struct Left {
     /// The first block that is left.
     pub start: u64,

@@ -13,7 +13,7 @@ use std::marker::Model;
 
 /// Pages that are to be written, in runs of neighbouring pages that go into neighbouring blocks. Their bytes are those of
 /// the call, which the list does not have, or the list's own. Pages without a block yet get theirs by `place_all`.
-#[derive(Debug, Drop)]
+#[derive(Drop)]
 pub struct PageWrites {
     runs: Vec<PageRun>,
     moves: Vec<PageRun>,

@@ -5,7 +5,7 @@ ghost use Rattle.opfs_gen.specs.Drawing.{drawn, part, round_after, round_of};
 
 /// What one round of an agent does: which of four things, with which of eight files, and with so many bytes, each the same, from a
 /// position on.
-#[derive(Clone, Copy, Debug, PartialEq, Eq)]
+#[derive(Clone, Copy, PartialEq, Eq)]
 pub struct Round {
     pub act: u64,
     pub file: u64,

@@ -9,7 +9,7 @@ ghost use Rattle.opfs_script_run.specs.Runs.Running.{is_wait};
 ghost use Rattle.opfs_laws.specs.Separation.Apart.{is_shared};
 ghost use Rattle.opfs_gen.specs.Own.{SummariesAreOfOwnRuns, is_own, is_own_op};
 
-use opfs_hist::{Entry, History, Op, Refusal, Reply};
+use opfs_hist::{Entries, Entry, Op, Refusal, Reply};
 
 /// Whether an entry is neither an eviction nor a wait.
 fn is_own_op(op: &Op) -> bool
@@ -36,14 +36,14 @@ fn is_own(entry: &Entry) -> bool
 }
 
 // Whether all entries of a history tell nothing of what is shared.
-fn tell_own(history: &History) -> bool
+fn tell_own(history: &Entries) -> bool
     ensures { result ≡ list_all is_own history.now }
 {
     history.iter().all(|entry| is_own(entry))
 }
 
 /// Whether no entry is an eviction, a wait, or a refusal of shared room or of the disk.
-pub fn are_own(history: &History) -> bool
+pub fn are_own(history: &Entries) -> bool
     ensures exact { result ≡ list_all is_own history.now }
     ensures own { IsTrue result → All IsOwnEntry history.now }
 {

@@ -9,7 +9,7 @@ ghost use Rattle.opfs_gen.specs.Summing.{agent_line, summary_of};
 ghost use Rattle.opfs_gen.specs.Telling.{IsCounted, IsTold};
 
 use hex::encode;
-use opfs_hist::{Entry, History, Op, Reply};
+use opfs_hist::{Entries, Entry, Op, Reply};
 use opfs_print::line;
 use sha2::{Digest, Sha256};
 use std::alloc::{AllocError, Global};
@@ -29,7 +29,7 @@ fn is_refused(entry: &Entry) -> bool
 }
 
 /// What an agent's entries tell: how many lines they have, how many of them are accepted and how many refused, and the lines.
-#[derive(Debug, Drop)]
+#[derive(Drop)]
 pub struct Told {
     pub lines: u64,
     pub accepted: u64,
@@ -73,7 +73,7 @@ fn note(alloc: Global, entry: &Entry, told: &mut Told) -> Result<(), AllocError>
 }
 
 /// What the entries of an agent tell.
-fn told_of(alloc: Global, history: &History, agent: u32) -> Result<Told, AllocError>
+fn told_of(alloc: Global, history: &Entries, agent: u32) -> Result<Told, AllocError>
     ensures { IfOk result (IsTold (entries_of agent history.now)) }
 {
     let mut told = Told {
@@ -118,7 +118,7 @@ fn agent_line(alloc: Global, agent: u32, told: &Told) -> Result<String, AllocErr
 /// Appends the line of an agent.
 fn add_agent(
     alloc: Global,
-    history: &History,
+    history: &Entries,
     agent: u32,
     text: &mut Vec<u8>,
 ) -> Result<(), AllocError>
@@ -131,7 +131,7 @@ fn add_agent(
 }
 
 /// The lines of so many agents.
-fn lines_of(alloc: Global, history: &History, agents: u32) -> Result<Vec<u8>, AllocError>
+fn lines_of(alloc: Global, history: &Entries, agents: u32) -> Result<Vec<u8>, AllocError>
     requires { agents + 1 < 2 ^ 32 }
     ensures { IfOk result (λ text. text.items ≡ summary_of agents history.now) }
 {
@@ -146,7 +146,7 @@ fn lines_of(alloc: Global, history: &History, agents: u32) -> Result<Vec<u8>, Al
 /// how many tell one, and the SHA-256 of these lines.
 pub fn summary(
     alloc: Global,
-    history: &History,
+    history: &Entries,
     agents: u32,
     into: &mut Vec<u8>,
 ) -> Result<(), AllocError>

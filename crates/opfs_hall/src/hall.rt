@@ -4,7 +4,7 @@ ghost use Rattle.opfs_hall.specs.History.{GrowsByOthers, Adds, IsPrefix, HasEnde
 ghost use Rattle.opfs_hall.specs.Seen.{AreNew, new_pass, in_turn, at_rest, joined, HasAll};
 ghost use Rattle.opfs_hall.specs.Turns.{IsFresh};
 
-use crate::board::{Board, Key, Place, SERVING, VALUE};
+use crate::board::{Board, Key, Place, TICKET, VALUE};
 use crate::chronicle::Chronicle;
 use crate::pass::Pass;
 use crate::plays::{Apart, Together};
@@ -12,6 +12,7 @@ use crate::steps::{draw, hand_on, number, take_out, wait};
 use crate::told::Told;
 use atomic_table::{Refused, Table};
 use std::alloc::Global;
+use std::array;
 use std::marker::Model;
 use std::sync::Wait;
 use std::sync::atomic::{AtomicU64, Ordering};
@@ -20,6 +21,9 @@ use std::sync::atomic::{AtomicU64, Ordering};
 /// of its value, and its number of agents.
 pub struct Hall<V: Chronicle> {
     board: Board<V>,
+    // How often each door was opened, modulo 2^64. A pass waits at the door of its ticket, so that the turn, when it
+    // is handed on, wakes nobody but the next in line.
+    doors: [AtomicU64; 64],
     // How often its bell was rung, modulo 2^64.
     rung: AtomicU64,
 }
@@ -65,8 +69,9 @@ fn lay<V: Chronicle>(alloc: Global, value: V, agents: u32) -> Result<(Hall<V>, P
     slots.push_reserved(Some(value));
     match Table::new(alloc, &[0, 0, 0], slots, &about) {
         Ok((board, seat)) => {
+            let doors = array::from_fn(|_| AtomicU64::new(0));
             let rung = AtomicU64::new(0);
-            Ok((Hall { board, rung }, seat))
+            Ok((Hall { board, doors, rung }, seat))
         }
         Err(Refused { slots }) => Err(only(slots)),
     }
@@ -118,6 +123,11 @@ fn number_all<V: Chronicle>(hall: &Hall<V>, first: Place<V>, count: u32, passes:
 }
 
 impl<V: Chronicle> Hall<V> {
+    /// Where the pass with this ticket waits.
+    fn door(&self, ticket: u64) -> &AtomicU64 {
+        &self.doors[(ticket % 64) as usize]
+    }
+
     /// A hall of a value whose list is empty, and its passes 0 to `agents`, in order. Pass 0 is the owner's.
     /// It gives the value back where memory is short, and refuses for nothing else.
     pub fn make<R: AllocGlobal>(rt: &R, value: V, agents: u32) -> Result<(Hall<V>, Vec<Pass<V>>), V>
@@ -148,7 +158,7 @@ impl<V: Chronicle> Hall<V> {
     {
         let top = &self.board.shared;
         let mine = draw(top, &mut pass.place);
-        wait(rt, top, &mut pass.place, mine);
+        wait(rt, top, &mut pass.place, mine, self.door(mine));
         let value = take_out(top, &mut pass.place);
         Turn {
             value,
@@ -166,8 +176,13 @@ impl<V: Chronicle> Hall<V> {
     {
         let Turn { value, entered: _ } = turn;
         let top = &self.board.shared;
-        hand_on(top, &mut pass.place, value);
-        top.wake_all(SERVING);
+        let next = hand_on(top, &mut pass.place, value);
+        // Where nobody has drawn it yet, whoever draws it finds that it is served.
+        if top.peek(TICKET) != next {
+            let door = self.door(next);
+            door.fetch_add(1, Ordering::SeqCst);
+            door.wake_all();
+        }
     }
 
     /// What the bell tells now. One that has the turn reads it there, so that it misses no ring of a later turn.
@@ -206,7 +221,11 @@ impl<V: Chronicle> Hall<V> {
         ensures base { IsPrefix pass.base (V.entries result) }
         ensures ended { All (HasEnded V.owner (V.entries result)) pass.ended }
     {
-        let Self { board, rung: _ } = self;
+        let Self {
+            board,
+            doors: _,
+            rung: _,
+        } = self;
         let mut closed = board.close_with(pass.into_place());
         let slot = closed.take(VALUE);
         closed.free();

@@ -8,6 +8,7 @@ use crate::chronicle::Chronicle;
 use crate::plays::{HandOn, Look, Number, Ticket};
 use std::hint::spin_loop;
 use std::sync::Wait;
+use std::sync::atomic::{AtomicU64, Ordering};
 
 /// How often a pass looks again before it sleeps.
 const SPINS: u32 = 64;
@@ -23,8 +24,15 @@ pub(crate) fn draw<V: Chronicle>(top: &Top<V>, place: &mut Place<V>) -> u64
     top.fetch_add::<Ticket>(place, TICKET, 1)
 }
 
-/// Waits until the ticket `mine` is served, and takes the turn.
-pub(crate) fn wait<V: Chronicle, R: Wait>(rt: &R, top: &Top<V>, place: &mut Place<V>, mine: u64)
+/// Waits until the ticket `mine` is served, and takes the turn. It sleeps at its door, which is opened after the ticket
+/// is served.
+pub(crate) fn wait<V: Chronicle, R: Wait>(
+    rt: &R,
+    top: &Top<V>,
+    place: &mut Place<V>,
+    mine: u64,
+    door: &AtomicU64,
+)
     requires table { (place.old.table_id ≡ top.now.table_id) × IsSized top.now.table_id }
     requires waits { (t : ℕ) × (place.old.me.0.ticket ≡ Some t) × (t % 2 ^ 64 ≡ mine) }
     requires outside { (place.old.me.0.inside ≡ false) × (place.old.me.1 ≡ []) }
@@ -33,6 +41,8 @@ pub(crate) fn wait<V: Chronicle, R: Wait>(rt: &R, top: &Top<V>, place: &mut Plac
 {
     let mut spins = SPINS;
     for _ in rt.forever() {
+        // Read before the look: a door that is opened after the look lets nobody sleep.
+        let opened = door.load(Ordering::SeqCst);
         let serving = top.load::<Look>(place, SERVING);
         if serving == mine {
             return;
@@ -41,7 +51,7 @@ pub(crate) fn wait<V: Chronicle, R: Wait>(rt: &R, top: &Top<V>, place: &mut Plac
             spins -= 1;
             spin_loop();
         } else {
-            top.park(rt, SERVING, (serving % (1 << 32)) as u32);
+            door.park(rt, (opened % (1 << 32)) as u32);
         }
     }
     unreachable!()
@@ -59,8 +69,8 @@ pub(crate) fn take_out<V: Chronicle>(top: &Top<V>, place: &mut Place<V>) -> V
     value
 }
 
-/// Puts the value back into the slot, and hands the turn on.
-pub(crate) fn hand_on<V: Chronicle>(top: &Top<V>, place: &mut Place<V>, value: V)
+/// Puts the value back into the slot, and hands the turn on. It gives the next ticket, as the word has it.
+pub(crate) fn hand_on<V: Chronicle>(top: &Top<V>, place: &mut Place<V>, value: V) -> u64
     requires table { (place.old.table_id ≡ top.now.table_id) × IsSized top.now.table_id }
     requires inside { (place.old.me.0.inside ≡ true) × (place.old.me.1 ≡ (0, None) ∷ []) }
     requires opening { place.old.me.0.opening ≡ Some (V.opening value) }
@@ -72,7 +82,8 @@ pub(crate) fn hand_on<V: Chronicle>(top: &Top<V>, place: &mut Place<V>, value: V
 {
     let before = top.exchange(place, VALUE, Some(value));
     let None = before else { unreachable!() };
-    top.fetch_add::<HandOn>(place, SERVING, 1);
+    let served = top.fetch_add::<HandOn>(place, SERVING, 1);
+    served.wrapping_add(1)
 }
 
 /// Draws the number of a new pass, which only this seat may draw.

@@ -4,7 +4,7 @@ use crate::op::Op;
 use crate::reply::Reply;
 
 /// One call of an agent, or one eviction, with what it answered.
-#[derive(Debug, Drop)]
+#[derive(Drop)]
 pub struct Entry {
     /// The agent's number, counted from 1; 0 for an eviction.
     pub agent: u32,

@@ -1,15 +1,17 @@
 //! Histories, what an agent has not yet put into one, and the room for an entry.
 
-ghost use Rattle.std.specs.Prelude.{◌≡◌, ◌==◌, ◌+◌, ◌^◌, ◌<◌, [], ◌∷◌, ◌++◌, length, map, count_by, IfOk};
+ghost use Rattle.std.specs.Prelude.{◌≡◌, ◌==◌, ◌+◌, ◌^◌, ◌<◌, [], ◌∷◌, ◌++◌, length, map, count_by, drop, IfOk, IfSome};
 ghost use Rattle.opfs_hist.specs.Sums.{asks_for_row, is_refusal, makes_row, set_moment, last_moment};
 
 use crate::entry::Entry;
+use crate::front::Front;
 use crate::op::Op;
 use crate::reply::Reply;
 use std::alloc::{AllocError, Global};
 use std::collections::LinkedList;
 use std::collections::linked_list::Iter;
 use std::marker::Model;
+use std::mem::replace;
 
 /// The place for one entry. Whoever holds it can add an entry without taking memory.
 #[derive(Drop)]
@@ -45,19 +47,48 @@ fn refilled<T: Drop>(mut place: LinkedList<T>, item: T) -> LinkedList<T>
     place
 }
 
-/// What agents called and what was evicted, in order, seen as the list of entries.
+/// What agents called and what was evicted, in order, seen as the list of all entries, also of those that were given out.
 #[derive(Drop)]
 pub struct History {
+    // How many entries were given out, and what clauses see of them.
+    gone: usize,
+    front: Option<Front>,
+    // Those that were not.
     items: LinkedList<Entry>,
 }
 
 impl Model for History {
+    ghost use Rattle.std.specs.Prelude.{◌≡◌, ◌+◌, ◌^◌, ◌<◌, ◌++◌, List, length};
+    ghost use Rattle.opfs_hist.specs.declared.entry.Entry.{Entry};
+    ghost use Rattle.opfs_hist.specs.Fronts.{entries_in};
+
+    ghost Value = { List Entry };
+
+    ghost view = { λ history. entries_in history.front ++ history.items };
+
+    ghost invariant = { λ history. (history.gone ≡ length (entries_in history.front)) × (history.gone + length history.items < 2 ^ 63) };
+}
+
+/// Entries that stand one after another, seen as the list of them.
+#[derive(Drop)]
+pub struct Entries {
+    items: LinkedList<Entry>,
+}
+
+impl Model for Entries {
     ghost use Rattle.std.specs.Prelude.{List};
     ghost use Rattle.opfs_hist.specs.declared.entry.Entry.{Entry};
 
     ghost Value = { List Entry };
 
-    ghost view = { λ history. history.items };
+    ghost view = { λ entries. entries.items };
+}
+
+/// Entries that a history gave out, and how many entries stand before them in it.
+#[derive(Drop)]
+pub struct Given {
+    pub place: usize,
+    pub entries: Entries,
 }
 
 /// Entries that an agent keeps until its next shared call, seen as the list of them.
@@ -76,7 +107,7 @@ impl Model for Pending {
 }
 
 /// What the shared state has to know of an agent's pending entries.
-#[derive(Clone, Copy, Debug, PartialEq, Eq)]
+#[derive(Clone, Copy, PartialEq, Eq)]
 pub struct PendingSum {
     /// How many entries there are.
     pub entries: u64,
@@ -92,6 +123,8 @@ impl History {
         ensures { result ≡ [] }
     {
         History {
+            gone: 0,
+            front: None,
             items: LinkedList::new(alloc),
         }
     }
@@ -105,6 +138,54 @@ impl History {
         self.items.append(&mut pending.items).unwrap();
     }
 
+    /// Gives out all entries that it still holds. It stands for the same history, and no longer holds them. Takes no memory,
+    /// and as long for many as for one.
+    pub fn give_out(&mut self, alloc: Global) -> Given
+        ensures kept { self.new ≡ self.old }
+        ensures entries { result.entries ≡ drop result.place self.old }
+        ensures place { result.place + length result.entries ≡ length self.old }
+        ensures fits { result.place + length result.entries < 2 ^ 63 }
+    {
+        let front = Front::of(self);
+        let place = self.gone;
+        let items = replace(&mut self.items, LinkedList::new(alloc));
+        self.gone = place + items.len();
+        self.front = Some(front);
+        Given {
+            place,
+            entries: Entries { items },
+        }
+    }
+
+    /// All entries, or none where some were given out.
+    pub fn whole(self) -> Option<Entries>
+        ensures { IfSome result (λ entries. entries ≡ self) }
+    {
+        let History { gone, front, items } = self;
+        drop(front);
+        if gone == 0 {
+            Some(Entries { items })
+        } else {
+            None
+        }
+    }
+
+    /// How many entries there are, with those that were given out.
+    pub fn len(&self) -> usize
+        ensures { result ≡ length self.now }
+    {
+        self.gone + self.items.len()
+    }
+
+    /// Whether there is no entry, and there was none.
+    pub fn is_empty(&self) -> bool
+        ensures { result ≡ (length self.now == 0) }
+    {
+        self.len() == 0
+    }
+}
+
+impl Entries {
     /// The entries in order.
     pub fn entries(&self, alloc: Global) -> Result<Vec<&Entry>, AllocError>
         ensures { IfOk result (λ entries. map (λ entry. entry.now) entries.items ≡ self.now) }

@@ -3,7 +3,7 @@
 use opfs_base::{Data, Key, Locator, Text};
 
 /// How an access handle uses its file.
-#[derive(Clone, Copy, Debug, PartialEq, Eq)]
+#[derive(Clone, Copy, PartialEq, Eq)]
 pub enum Mode {
     /// Reads and writes, alone.
     ReadWrite,
@@ -46,7 +46,7 @@ pub enum Word {
 }
 
 /// A call. A `row` is the number of a stream, access handle, snapshot or iterator of the agent; positions, sizes and lengths are in bytes, moments in milliseconds.
-#[derive(Debug, Drop)]
+#[derive(Drop)]
 pub enum Op {
     GetDirectory {
         bucket: Text,

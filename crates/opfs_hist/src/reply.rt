@@ -5,7 +5,7 @@ use opfs_locks::LockValue;
 
 /// Why a call is refused. The first eight are names of errors that the Standards' methods give; the others, and
 /// what a refusal carries, are this project's own.
-#[derive(Clone, Copy, Debug, PartialEq, Eq)]
+#[derive(Clone, Copy, PartialEq, Eq)]
 pub enum Refusal {
     TypeError,
     NotFoundError,
@@ -28,7 +28,7 @@ pub enum Refusal {
 }
 
 /// What a call answers.
-#[derive(Debug, Drop)]
+#[derive(Drop)]
 pub enum Reply {
     Done,
     /// A number of bytes.

@@ -4,7 +4,7 @@ ghost use Rattle.std.specs.Prelude.{◌≡◌, ◌+◌, ◌*◌, ◌^◌, ◌<�
 ghost use Rattle.opfs_journal.specs.Format.{begin_of};
 
 /// Where a journal's two areas lie on its disk, in bytes: area 0 begins at `first`, area 1 at `first + bytes`.
-#[derive(Clone, Copy, Debug, PartialEq, Eq)]
+#[derive(Clone, Copy, PartialEq, Eq)]
 pub struct Areas {
     pub first: u64,
     pub bytes: u64,

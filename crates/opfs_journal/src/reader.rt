@@ -205,7 +205,7 @@ pub fn find<D: Disk>(disk: &mut D, areas: Areas) -> Result<Found, OpenRefusal>
 }
 
 /// An area that rules by the first gates of both: which one, and its generation byte.
-#[derive(Clone, Copy, Debug, PartialEq, Eq)]
+#[derive(Clone, Copy, PartialEq, Eq)]
 pub struct Ruling {
     /// Area 1 rules.
     pub second: bool,

@@ -11,7 +11,7 @@ use opfs_script_run::Hand;
 use std::alloc::{AllocError, Global};
 
 /// Steps in order, as they were read before, or as texts that are read when their turn comes.
-#[derive(Debug, Drop)]
+#[derive(Drop)]
 pub enum Ahead<'a> {
     Read(&'a [Step]),
     Told(StepsAhead<'a>),

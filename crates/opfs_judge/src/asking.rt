@@ -17,7 +17,7 @@ use std::alloc::{AllocError, Global};
 
 /// A call that a transcript's front is of: how many evictions stand before it, with how many bytes, the place of its
 /// agent, its number and what it asks.
-#[derive(Debug, Drop)]
+#[derive(Drop)]
 pub struct Asking {
     pub evictions: usize,
     pub front: usize,

@@ -15,7 +15,7 @@ use std::alloc::{AllocError, Global};
 use std::marker::Model;
 
 /// Whether an agent makes its steps, ends what is still open from a row of its hand on, or has ended.
-#[derive(Clone, Copy, Debug, PartialEq, Eq)]
+#[derive(Clone, Copy, PartialEq, Eq)]
 pub enum Stage {
     Stepping,
     Closing(usize),
@@ -23,7 +23,7 @@ pub enum Stage {
 }
 
 /// The run of an agent's script, seen as how far it is.
-#[derive(Debug, Drop)]
+#[derive(Drop)]
 pub struct Player<'a> {
     hand: Hand,
     number: u32,

@@ -1,7 +1,7 @@
 //! Verdicts.
 
 /// What is said of a transcript.
-#[derive(Clone, Copy, Debug, PartialEq, Eq)]
+#[derive(Clone, Copy, PartialEq, Eq)]
 pub enum Verdict {
     /// Some legal history of the script's agents has this text.
     Yes,

@@ -3,7 +3,7 @@
 use opfs_turns::Stop;
 
 /// Why a call on a key-value file gives nothing.
-#[derive(Clone, Copy, Debug, PartialEq, Eq)]
+#[derive(Clone, Copy, PartialEq, Eq)]
 pub enum KvStop {
     /// No record is spelled at this place.
     BadFile(u64),

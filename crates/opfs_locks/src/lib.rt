@@ -32,7 +32,7 @@ pub enum Want {
 }
 
 /// A file's lock, seen as its value and the number of its shared or read-only holders.
-#[derive(Clone, Copy, Debug, PartialEq, Eq)]
+#[derive(Clone, Copy, PartialEq, Eq)]
 pub struct FileLock {
     value: LockValue,
     count: u32,
@@ -50,7 +50,6 @@ impl Model for FileLock {
 }
 
 /// A lock that was taken and is not yet released, seen as how it was asked for. It has to be spent.
-#[derive(Debug)]
 pub struct Held {
     want: Want,
 }

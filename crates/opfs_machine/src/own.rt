@@ -6,7 +6,7 @@ use opfs_base::{Bytes, Locator, Name};
 use opfs_hist::Mode;
 
 /// An open writable stream (File System: FileSystemWritableFileStream).
-#[derive(Debug, Drop)]
+#[derive(Drop)]
 pub struct StreamRow {
     /// Where its file stands.
     pub file: Place,
@@ -19,7 +19,7 @@ pub struct StreamRow {
 }
 
 /// An open access handle (File System: FileSystemSyncAccessHandle).
-#[derive(Debug, Drop)]
+#[derive(Drop)]
 pub struct HandleRow {
     /// Where its file stands.
     pub file: Place,
@@ -32,7 +32,7 @@ pub struct HandleRow {
 }
 
 /// An iterator over a directory's children.
-#[derive(Debug, Drop)]
+#[derive(Drop)]
 pub struct IteratorRow {
     /// The directory's locator, kind and all.
     pub dir: Locator,
@@ -41,7 +41,7 @@ pub struct IteratorRow {
 }
 
 /// An own row of an agent.
-#[derive(Debug, Drop)]
+#[derive(Drop)]
 pub enum Own {
     Stream(StreamRow),
     ClosedStream,
@@ -53,7 +53,7 @@ pub enum Own {
 }
 
 /// What the shared store knows of an open stream.
-#[derive(Debug, Drop)]
+#[derive(Drop)]
 pub struct StreamOutline {
     /// Where its file stands.
     pub file: Place,
@@ -62,7 +62,7 @@ pub struct StreamOutline {
 }
 
 /// What the shared store knows of an open access handle.
-#[derive(Debug, Drop)]
+#[derive(Drop)]
 pub struct HandleOutline {
     /// Where its file stands.
     pub file: Place,
@@ -73,7 +73,7 @@ pub struct HandleOutline {
 }
 
 /// What the shared store knows of an own row.
-#[derive(Debug, Drop)]
+#[derive(Drop)]
 pub enum Outline {
     Stream(StreamOutline),
     ClosedStream,

@@ -8,7 +8,7 @@ use opfs_locks::LockValue;
 pub type Place = (Key, Path);
 
 /// A file.
-#[derive(Debug, Drop)]
+#[derive(Drop)]
 pub struct FileRow<F> {
     /// What a read gives now.
     pub present: F,
@@ -23,14 +23,14 @@ pub struct FileRow<F> {
 }
 
 /// What stands at a place.
-#[derive(Debug, Drop)]
+#[derive(Drop)]
 pub enum Row<F> {
     Directory,
     File(FileRow<F>),
 }
 
 /// Who shares tags: the agents of an origin, or one agent without a key.
-#[derive(Debug, Drop, PartialEq, Eq)]
+#[derive(Drop, PartialEq, Eq)]
 pub enum Party {
     /// The origin's key.
     Origin(Key),
@@ -39,14 +39,14 @@ pub enum Party {
 }
 
 /// A tag that was posted.
-#[derive(Debug, Drop)]
+#[derive(Drop)]
 pub struct Posted {
     pub party: Party,
     pub tag: Bytes,
 }
 
 /// An agent.
-#[derive(Debug, Drop)]
+#[derive(Drop)]
 pub struct Agent<R> {
     /// Its origin's key; None for an opaque origin.
     pub key: Option<Key>,
@@ -63,7 +63,7 @@ pub struct Agent<R> {
 }
 
 /// How much the store may hold.
-#[derive(Clone, Copy, Debug)]
+#[derive(Clone, Copy)]
 pub struct Limits {
     /// The bytes of a journal area.
     pub area: u64,
@@ -74,7 +74,7 @@ pub struct Limits {
 }
 
 /// What the store holds.
-#[derive(Debug, Drop)]
+#[derive(Drop)]
 pub struct State<F, R> {
     /// The rows in the order of their places.
     pub rows: Many<(Place, Row<F>)>,
@@ -92,14 +92,14 @@ pub struct State<F, R> {
 }
 
 /// The length and position, in bytes, of the stream or access handle that a call names; 0 where it names none.
-#[derive(Clone, Copy, Debug)]
+#[derive(Clone, Copy)]
 pub struct Sizes {
     pub size: u64,
     pub position: u64,
 }
 
 /// What a call asks for.
-#[derive(Clone, Copy, Debug, PartialEq, Eq)]
+#[derive(Clone, Copy, PartialEq, Eq)]
 pub struct Need {
     /// Blocks of its origin's quota.
     pub quota: u64,

@@ -26,7 +26,7 @@ fn stands(state: &State<Bytes, Own>, number: u32, op: &Op) -> bool
 }
 
 /// The plain machine: what it holds, and all entries so far.
-#[derive(Debug, Drop)]
+#[derive(Drop)]
 pub struct Plain {
     pub state: State<Bytes, Own>,
     pub entries: Many<Entry>,

@@ -15,7 +15,7 @@ use std::marker::Model;
 use std::ops::Bound;
 
 /// What a unit keeps of the pool.
-#[derive(Clone, Copy, Debug, PartialEq, Eq)]
+#[derive(Clone, Copy, PartialEq, Eq)]
 pub struct Share {
     /// Whether the unit may be cleared: it is best-effort, has a root and no taken lock.
     pub candidate: bool,

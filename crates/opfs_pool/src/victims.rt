@@ -11,7 +11,7 @@ use std::collections::BTreeMap;
 use std::marker::Model;
 
 /// Keys in an order, seen as the list of them.
-#[derive(Debug, Drop)]
+#[derive(Drop)]
 pub struct Keys {
     items: Vec<Key>,
 }

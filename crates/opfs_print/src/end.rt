@@ -1,7 +1,7 @@
 //! How a command ends that did not do what was asked.
 
 /// Why a script is refused. An agent is counted from 1; a step too, and 0 is the agent itself, or the whole script.
-#[derive(Clone, Copy, Debug, PartialEq, Eq)]
+#[derive(Clone, Copy, PartialEq, Eq)]
 pub enum BadScript {
     /// It is no JSON.
     NotJson,
@@ -16,7 +16,7 @@ pub enum BadScript {
 }
 
 /// Why an image is refused.
-#[derive(Clone, Copy, Debug, PartialEq, Eq)]
+#[derive(Clone, Copy, PartialEq, Eq)]
 pub enum BadImage {
     /// It has too few bytes.
     Short,
@@ -37,7 +37,7 @@ pub enum BadImage {
 }
 
 /// How a command ends that says so in a line.
-#[derive(Clone, Copy, Debug, PartialEq, Eq)]
+#[derive(Clone, Copy, PartialEq, Eq)]
 pub enum End {
     /// The words ask for nothing.
     Usage,

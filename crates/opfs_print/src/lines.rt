@@ -4,7 +4,7 @@ ghost use Rattle.std.specs.Prelude.{◌≡◌, ◌++◌, IfOk, OnOk, OnErr, stri
 ghost use Rattle.opfs_print.specs.Lines.{word_text, op_text, call_text, line_of, text_of};
 
 use crate::reply::reply_text;
-use opfs_hist::{Entry, History, Op, Word};
+use opfs_hist::{Entries, Entry, Op, Word};
 use std::alloc::{AllocError, Global};
 
 /// Appends an entry's line, or nothing where the agent begins to wait.
@@ -16,13 +16,13 @@ pub fn line(alloc: Global, entry: &Entry, into: &mut Vec<u8>) -> Result<(), Allo
     into.extend_from_slice(text.as_bytes())
 }
 
-/// Appends a history's lines.
-pub fn transcript(alloc: Global, history: &History, into: &mut Vec<u8>) -> Result<(), AllocError>
-    ensures ok { OnOk result (into.new.items ≡ into.old.items ++ text_of history.now) }
+/// Appends the lines of entries.
+pub fn transcript(alloc: Global, entries: &Entries, into: &mut Vec<u8>) -> Result<(), AllocError>
+    ensures ok { OnOk result (into.new.items ≡ into.old.items ++ text_of entries.now) }
     ensures err { OnErr result (into.new.items ≡ into.old.items) }
 {
     let before = into.len();
-    for entry in history.iter() {
+    for entry in entries.iter() {
         if line(alloc, entry, into).is_err() {
             into.truncate(before);
             return Err(AllocError);

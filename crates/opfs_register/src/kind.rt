@@ -1,7 +1,7 @@
 //! The kinds of own rows.
 
 /// What kind of own row one is.
-#[derive(Clone, Copy, Debug, PartialEq, Eq)]
+#[derive(Clone, Copy, PartialEq, Eq)]
 pub enum RowKind {
     /// An open writable stream.
     Stream,

@@ -14,7 +14,6 @@ use opfs_machine::{HandleOutline, Place, StreamOutline};
 use std::marker::Model;
 
 /// An open writable stream and the shared lock that it holds, seen as what the shared store knows of it.
-#[derive(Debug)]
 pub struct OpenStream {
     outline: StreamOutline,
     held: Held,
@@ -33,7 +32,6 @@ impl Model for OpenStream {
 }
 
 /// An open access handle and the lock that it holds, seen as what the shared store knows of it.
-#[derive(Debug)]
 pub struct OpenHandle {
     outline: HandleOutline,
     held: Held,
@@ -52,7 +50,6 @@ impl Model for OpenHandle {
 }
 
 /// An own row of an agent.
-#[derive(Debug)]
 pub enum Slot {
     /// An open writable stream.
     Stream(OpenStream),

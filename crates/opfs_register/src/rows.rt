@@ -17,7 +17,6 @@ use std::mem::replace;
 
 /// An agent's own rows, seen as the list of them, and whether there is room for one more. Iterators take no memory: of
 /// the other rows it keeps what the shared store knows, in the order of their numbers.
-#[derive(Debug)]
 pub struct OwnRows {
     count: usize,
     numbers: Vec<usize>,

@@ -8,14 +8,13 @@ use opfs_base::{Bytes, Key};
 use std::alloc::Global;
 
 /// An agent's origin's key, None for an opaque origin, and whether it has the grant `persistent-storage`.
-#[derive(Debug, Drop)]
+#[derive(Drop)]
 pub struct Who {
     pub key: Option<Key>,
     pub grant: bool,
 }
 
 /// An agent, seen as the machine has it, with what the shared store knows of each of its rows.
-#[derive(Debug)]
 pub struct Seat {
     pub(crate) key: Option<Key>,
     pub(crate) grant: bool,

@@ -9,7 +9,7 @@ use opfs_base::Key;
 use std::marker::Model;
 
 /// The script of one agent as it was read, seen as its origin's key, its grant and its steps. It may ask for too much.
-#[derive(Debug, Drop)]
+#[derive(Drop)]
 pub struct Draft {
     key: Option<Key>,
     grant: bool,

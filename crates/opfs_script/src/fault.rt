@@ -1,7 +1,7 @@
 //! Why a step can't be read.
 
 /// Why a part of a step can't be read.
-#[derive(Clone, Copy, Debug, PartialEq, Eq)]
+#[derive(Clone, Copy, PartialEq, Eq)]
 pub enum Fault {
     /// It has another form.
     Shape,

@@ -10,7 +10,7 @@ use std::marker::Model;
 
 /// The script of one agent, seen as its origin's key, its grant and its steps. It keeps all limits but that on the
 /// number of agents.
-#[derive(Debug, Drop)]
+#[derive(Drop)]
 pub struct AgentScript {
     key: Option<Key>,
     grant: bool,
@@ -64,7 +64,7 @@ impl AgentScript {
 }
 
 /// A script: one for each agent, seen as the list of them. The first agent has the number 1. It keeps all limits.
-#[derive(Debug, Drop)]
+#[derive(Drop)]
 pub struct Script {
     agents: Vec<AgentScript>,
 }

@@ -6,7 +6,7 @@ use opfs_base::{Data, Text};
 /// a variable are those that say what they want (`dir`, `file`, `stream`, `sync`, `snapshot`, `iterator`, `entry`, `other`),
 /// and `bind` is the one that the answer is bound to. Positions, sizes and lengths are in bytes, moments in
 /// milliseconds.
-#[derive(Debug, Drop)]
+#[derive(Drop)]
 pub enum Step {
     GetDirectory {
         bucket: Text,

@@ -15,7 +15,7 @@ use std::marker::Model;
 use std::ops::Bound;
 
 /// The mode of a bucket and what it uses.
-#[derive(Clone, Copy, Debug, PartialEq, Eq)]
+#[derive(Clone, Copy, PartialEq, Eq)]
 pub struct Bucket {
     /// Whether its mode is persistent, and not best-effort.
     pub persistent: bool,

@@ -3,7 +3,7 @@
 use std::alloc::{AllocError, Global};
 
 /// What is changed of a line.
-#[derive(Clone, Copy, Debug, PartialEq, Eq)]
+#[derive(Clone, Copy, PartialEq, Eq)]
 pub enum Change {
     /// Its last digit is another.
     Digit,

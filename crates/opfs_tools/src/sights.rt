@@ -8,7 +8,7 @@ use opfs_tree::Row;
 use std::marker::Model;
 
 /// What stands at a place, without the bytes of a file.
-#[derive(Clone, Copy, Debug, PartialEq, Eq)]
+#[derive(Clone, Copy, PartialEq, Eq)]
 pub enum Sight {
     /// A directory.
     Directory,

@@ -27,14 +27,14 @@ use std::sync::Wait;
 use std::thread::Threads;
 
 /// How a command ends, and what it is to put out.
-#[derive(Debug, Drop)]
+#[derive(Drop)]
 pub struct Answer {
     pub status: Status,
     pub text: Bytes,
 }
 
 /// What a script is read for.
-#[derive(Clone, Copy, Debug, PartialEq, Eq)]
+#[derive(Clone, Copy, PartialEq, Eq)]
 pub enum Task {
     /// To run it over an empty store.
     Try,

@@ -3,7 +3,7 @@
 use opfs_outside::Gate;
 
 /// A gate that lets every step pass.
-#[derive(Clone, Copy, Debug)]
+#[derive(Clone, Copy)]
 pub struct OpenGate;
 
 impl Gate for OpenGate {

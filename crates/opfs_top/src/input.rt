@@ -15,7 +15,7 @@ const MOST_BYTES: usize = 16_777_216;
 const PIECE: usize = 65_536;
 
 /// What a source gave.
-#[derive(Debug, Drop)]
+#[derive(Drop)]
 pub enum Input {
     /// All its bytes.
     Whole(Bytes),
@@ -28,7 +28,7 @@ pub enum Input {
 }
 
 /// Why a piece could not be read.
-#[derive(Clone, Copy, Debug, PartialEq, Eq)]
+#[derive(Clone, Copy, PartialEq, Eq)]
 enum Stop {
     Failed,
     NoMemory,

@@ -6,7 +6,7 @@ ghost use Rattle.opfs_top.specs.Statuses.{number_of, status_of};
 use opfs_commands::ToolEnd;
 
 /// How a command ends.
-#[derive(Clone, Copy, Debug, PartialEq, Eq)]
+#[derive(Clone, Copy, PartialEq, Eq)]
 pub enum Status {
     /// All was done.
     Done,

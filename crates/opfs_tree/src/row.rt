@@ -11,7 +11,7 @@ use opfs_locks::{FileLock, Held, LockValue, Want};
 use std::mem::replace;
 
 /// A file.
-#[derive(Debug, Drop)]
+#[derive(Drop)]
 pub struct FileRow {
     /// How many bytes were last stored for good.
     pub length: u64,
@@ -28,7 +28,7 @@ pub struct FileRow {
 }
 
 /// What stands at a place.
-#[derive(Debug, Drop)]
+#[derive(Drop)]
 pub enum Row {
     /// A directory.
     Dir,

@@ -8,7 +8,7 @@ use crate::row::Row;
 use opfs_base::{Key, Path, origin_of};
 
 /// What a place and all below it have.
-#[derive(Clone, Copy, Debug)]
+#[derive(Clone, Copy)]
 pub struct Sums {
     /// The blocks of the bytes that a read gives now.
     pub present: u64,

@@ -17,7 +17,7 @@ use std::alloc::{AllocError, Global};
 use std::sync::Wait;
 
 /// How an await stands after a turn.
-#[derive(Clone, Copy, Debug, PartialEq, Eq)]
+#[derive(Clone, Copy, PartialEq, Eq)]
 pub(crate) enum AwaitTurn {
     /// It was answered: whether the tag was posted.
     Answered(bool),
@@ -26,7 +26,7 @@ pub(crate) enum AwaitTurn {
 }
 
 /// What an await does in its turn.
-#[derive(Clone, Copy, Debug, PartialEq, Eq)]
+#[derive(Clone, Copy, PartialEq, Eq)]
 pub(crate) enum Plan {
     /// It is answered: whether the tag was posted.
     Answer(bool),

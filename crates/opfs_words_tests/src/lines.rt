@@ -1,7 +1,7 @@
 //! Lines of transcripts, and status lines.
 
 use opfs_base::{Bytes, Key, Kind, Locator, Name, Path, Text, is_valid_name};
-use opfs_hist::{Entry, History, Op, Pending, Refusal, Reply, Room};
+use opfs_hist::{Entry, Given, History, Op, Pending, Refusal, Reply, Room};
 use opfs_locks::LockValue;
 use opfs_print::{BadImage, BadScript, End, line, reply_text, status_line, transcript};
 use std::alloc::{AllocError, Global};
@@ -131,18 +131,49 @@ fn history(alloc: Global) -> Result<History, AllocError> {
 
 #[test]
 fn transcripts_leave_waits_out(rt: HostRuntime) -> Result<(), AllocError> {
-    let history = history(rt.alloc())?;
-    let mut text = Vec::from_slice(rt.alloc(), b"> ")?;
-    transcript(rt.alloc(), &history, &mut text)?;
-    let wanted = b"> 2.3 values ok\nevict https://b.example#x\n1.3 end ok\n";
-    assert_eq!(rt; text.as_slice(), &wanted[..]);
+    let mut history = history(rt.alloc())?;
     assert_eq!(rt; history.len(), 4);
     assert!(rt; !history.is_empty());
+    let Given { place, entries } = history.give_out(rt.alloc());
+    assert_eq!(rt; place, 0);
+    let mut text = Vec::from_slice(rt.alloc(), b"> ")?;
+    transcript(rt.alloc(), &entries, &mut text)?;
+    let wanted = b"> 2.3 values ok\nevict https://b.example#x\n1.3 end ok\n";
+    assert_eq!(rt; text.as_slice(), &wanted[..]);
     let mut alone = Vec::new(rt.alloc());
-    for entry in history.entries(rt.alloc())? {
+    for entry in entries.entries(rt.alloc())? {
         line(rt.alloc(), entry, &mut alone)?;
     }
     assert_eq!(rt; alone.as_slice(), &wanted[2..]);
+    Ok(())
+}
+
+// A history of an `End` of agent 1 and another of agent 2, of which so many were given out before the second came.
+fn given_before(alloc: Global, early: bool) -> Result<History, AllocError> {
+    let mut history = History::make(alloc);
+    put(&mut history, alloc, 1, Op::End)?;
+    if early {
+        drop(history.give_out(alloc));
+    }
+    put(&mut history, alloc, 2, Op::End)?;
+    Ok(history)
+}
+
+#[test]
+fn a_history_gives_its_entries_out_once(rt: HostRuntime) -> Result<(), AllocError> {
+    let mut history = given_before(rt.alloc(), true)?;
+    assert_eq!(rt; history.len(), 2);
+    let Given { place, entries } = history.give_out(rt.alloc());
+    assert_eq!(rt; place, 1);
+    assert_eq!(rt; entries.iter().count(), 1);
+    assert_eq!(rt; history.give_out(rt.alloc()).entries.iter().count(), 0);
+    assert_eq!(rt; history.len(), 2);
+    assert!(rt; history.whole().is_none());
+    let whole = given_before(rt.alloc(), false)?.whole();
+    let Some(entries) = whole else {
+        return Err(AllocError);
+    };
+    assert_eq!(rt; entries.iter().count(), 2);
     Ok(())
 }
 

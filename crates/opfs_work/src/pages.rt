@@ -8,7 +8,7 @@ use crate::buffer::Buffer;
 use std::mem;
 
 /// A page of 4,096 bytes.
-#[derive(Debug, Drop)]
+#[derive(Drop)]
 pub enum Page {
     /// All bytes are 0.
     Zero,

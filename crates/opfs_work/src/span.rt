@@ -3,7 +3,7 @@
 ghost use Rattle.std.specs.Prelude.{◌≡◌, ℕ, ◌<◌, ◌≤◌, min, max};
 
 /// The page numbers from one on and below another.
-#[derive(Debug, Drop)]
+#[derive(Drop)]
 pub struct Span {
     /// The first.
     pub from: u64,

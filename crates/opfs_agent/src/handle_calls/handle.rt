@@ -43,7 +43,7 @@ impl SyncHandle {
 }
 
 /// An access handle that was closed or discarded.
-#[derive(Debug, Drop)]
+#[derive(Drop)]
 pub struct ClosedSync {
     /// The number of its row.
     pub row: u32,

@@ -49,7 +49,7 @@ impl Writable {
 }
 
 /// A stream that was closed or aborted.
-#[derive(Debug, Drop)]
+#[derive(Drop)]
 pub struct ClosedStream {
     /// The number of its row.
     pub row: u32,

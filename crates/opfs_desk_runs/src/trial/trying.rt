@@ -6,7 +6,7 @@ ghost use Rattle.opfs_judge.specs.Trial.Trials.{IsTrial};
 
 use crate::trial::empty::empty_image;
 use crate::{Completion, run_disk};
-use opfs_hist::History;
+use opfs_hist::Entries;
 use opfs_image::ImageRefusal;
 use opfs_outside::{Disk, Gate};
 use opfs_script::Script;
@@ -15,7 +15,7 @@ use std::sync::Wait;
 use std::thread::Threads;
 
 // The history of a run. Where that was not whole, memory was short.
-fn whole_history<D>(run: Completion<D>) -> (D, Result<History, AllocError>)
+fn whole_history<D>(run: Completion<D>) -> (D, Result<Entries, AllocError>)
     ensures whole { OnOk result.1 (run.whole ≡ true) }
     ensures history { IfOk result.1 (λ history. history ≡ run.history) }
 {
@@ -26,10 +26,9 @@ fn whole_history<D>(run: Completion<D>) -> (D, Result<History, AllocError>)
         done,
     } = run;
     drop(done);
-    if whole {
-        (disk, Ok(history))
-    } else {
-        (disk, Err(AllocError))
+    match history.whole() {
+        Some(entries) if whole => (disk, Ok(entries)),
+        _ => (disk, Err(AllocError)),
     }
 }
 
@@ -49,7 +48,7 @@ fn run_on<R: AllocGlobal + Threads + Wait + Sync, D: Disk + Send, G: Gate>(
     disk: D,
     script: &Script,
     gate: &G,
-) -> (D, Result<History, AllocError>)
+) -> (D, Result<Entries, AllocError>)
     requires tells { D.tells }
     requires empty { IsEmptyImage (D.content disk) }
     requires never { NeverFails D.Disk }
@@ -68,7 +67,7 @@ pub fn try_script<R: AllocGlobal + Threads + Wait + Sync, G: Gate>(
     rt: &R,
     script: &Script,
     gate: &G,
-) -> Result<History, AllocError>
+) -> Result<Entries, AllocError>
     ensures { IfOk result (λ history. IsTrial script.now history) }
 {
     let disk = empty_image(rt.alloc())?;

@@ -10,14 +10,14 @@ use opfs_image::Geometry;
 use opfs_machine::Place;
 
 /// A file's bytes and its time stamp in milliseconds.
-#[derive(Debug, Drop)]
+#[derive(Drop)]
 pub struct DumpedFile {
     pub bytes: Bytes,
     pub stamp: u64,
 }
 
 /// A row: a directory, or a file.
-#[derive(Debug, Drop)]
+#[derive(Drop)]
 pub struct DumpedRow {
     pub place: Place,
     pub file: Option<DumpedFile>,
@@ -25,7 +25,7 @@ pub struct DumpedRow {
 
 /// The sizes of an image, its rows in the order of their places, and its persistent units in order. The sizes are in range,
 /// and the charge, with a record's 7 bytes, fits an area.
-#[derive(Debug, Drop)]
+#[derive(Drop)]
 pub struct Dumped {
     pub geometry: Geometry,
     pub rows: Vec<DumpedRow>,

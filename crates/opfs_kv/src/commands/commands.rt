@@ -4,7 +4,7 @@ use crate::KvStop;
 use opfs_base::Bytes;
 
 /// A command.
-#[derive(Debug, Drop)]
+#[derive(Drop)]
 pub enum KvOp {
     Get(Bytes),
     Put(Bytes, Bytes),
@@ -14,7 +14,7 @@ pub enum KvOp {
 }
 
 /// What a command answered.
-#[derive(Debug, Drop)]
+#[derive(Drop)]
 pub enum KvReply {
     Done,
     Value(Option<Bytes>),
@@ -23,7 +23,7 @@ pub enum KvReply {
 }
 
 /// What commands answered, in their order.
-#[derive(Debug, Drop)]
+#[derive(Drop)]
 pub struct KvReplies {
     pub list: Vec<KvReply>,
 }

@@ -4,7 +4,7 @@ ghost use Rattle.std.specs.Prelude.{◌≡◌, option_map};
 ghost use Rattle.opfs_kv.specs.Records.Heads.{head_at, key_by, kind_by, sized_by, size_by};
 
 /// A record's key, and the length of its value; None where the key is taken out.
-#[derive(Clone, Copy, Debug)]
+#[derive(Clone, Copy)]
 pub struct Head<'a> {
     pub key: &'a [u8],
     pub len: Option<u32>,

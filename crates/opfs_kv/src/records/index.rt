@@ -14,7 +14,7 @@ use std::collections::BTreeMap;
 use std::marker::Model;
 
 /// Where each key's value is, seen as the list of keys and places, in the order of the keys.
-#[derive(Debug, Drop)]
+#[derive(Drop)]
 pub struct Index {
     map: BTreeMap<Bytes, Place>,
 }

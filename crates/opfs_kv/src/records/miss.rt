@@ -6,7 +6,7 @@ ghost use Rattle.opfs_kv.specs.declared.records.miss.Miss.TheVariants.{Memory};
 use std::alloc::{AllocError, AllocFailed};
 
 /// Why records were not read.
-#[derive(Clone, Copy, Debug, PartialEq, Eq)]
+#[derive(Clone, Copy, PartialEq, Eq)]
 pub enum Miss {
     /// There is no memory.
     Memory,

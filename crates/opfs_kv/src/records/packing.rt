@@ -18,7 +18,7 @@ use std::alloc::{AllocError, Global};
 use std::collections::BTreeMap;
 
 /// Bytes by key, and the index of them.
-#[derive(Debug, Drop)]
+#[derive(Drop)]
 pub struct Packed {
     pub bytes: Vec<u8>,
     pub index: Index,

@@ -8,7 +8,7 @@ use opfs_base::Extents;
 use opfs_tree::FileRow;
 
 /// A file's stamp, its length in bytes, and its blocks.
-#[derive(Clone, Copy, Debug)]
+#[derive(Clone, Copy)]
 pub(crate) struct FileContent<'a> {
     pub stamp: u64,
     pub length: u64,

@@ -25,7 +25,7 @@ const DECK: Deck = Deck {
 };
 
 // How often the judge said yes and no, and how often a replay, or the judge over the steps' texts, says otherwise.
-#[derive(Clone, Copy, Debug, PartialEq, Eq)]
+#[derive(Clone, Copy, PartialEq, Eq)]
 struct Seen {
     yes: u32,
     no: u32,

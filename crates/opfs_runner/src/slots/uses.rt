@@ -6,7 +6,7 @@ ghost use Rattle.opfs_runner.specs.Slots.Tables.{use_of};
 use opfs_hist::Op;
 
 /// How a call uses the rows of its agent.
-#[derive(Clone, Copy, Debug, PartialEq, Eq)]
+#[derive(Clone, Copy, PartialEq, Eq)]
 pub enum Use {
     /// It leaves all.
     Plain,

@@ -13,7 +13,7 @@ use std::alloc::{AllocError, Global};
 use std::marker::Model;
 
 /// The script of one agent, seen as its origin's key, its grant and its steps.
-#[derive(Debug, Drop)]
+#[derive(Drop)]
 pub struct PackedAgent {
     key: Option<Key>,
     grant: bool,
@@ -76,7 +76,7 @@ impl PackedAgent {
 }
 
 /// A script: one for each agent, seen as the list of them. The first agent has the number 1. It keeps all limits.
-#[derive(Debug, Drop)]
+#[derive(Drop)]
 pub struct PackedScript {
     agents: Vec<PackedAgent>,
 }

@@ -9,7 +9,7 @@ use std::alloc::{AllocError, Global};
 use std::marker::Model;
 
 /// The steps that are still to come, seen as the list of them. They end before the first text that tells none.
-#[derive(Debug, Drop)]
+#[derive(Drop)]
 pub struct StepsAhead<'a> {
     texts: TextsAhead<'a>,
 }

@@ -6,7 +6,7 @@ use std::alloc::{AllocError, Global};
 use std::marker::Model;
 
 /// Texts in one piece of memory, with four bytes more for each, seen as the list of them.
-#[derive(Debug, Drop)]
+#[derive(Drop)]
 pub struct Texts {
     lengths: Vec<u32>,
     bytes: Vec<u8>,
@@ -71,7 +71,7 @@ impl Texts {
 }
 
 /// The texts that are still to come, seen as the list of them.
-#[derive(Debug, Drop)]
+#[derive(Drop)]
 pub struct TextsAhead<'a> {
     lengths: &'a [u32],
     bytes: &'a [u8],

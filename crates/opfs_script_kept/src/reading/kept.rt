@@ -10,7 +10,7 @@ use opfs_script::{Script, ScriptRefusal, read_script};
 use std::alloc::Global;
 
 /// A script with its steps kept as their texts, or one that was read whole.
-#[derive(Debug, Drop)]
+#[derive(Drop)]
 pub enum KeptScript {
     Packed(PackedScript),
     Whole(Script),

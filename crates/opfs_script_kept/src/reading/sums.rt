@@ -4,7 +4,7 @@ ghost use Rattle.std.specs.Prelude.{◌≡◌, ◌+◌, IfSome};
 ghost use Rattle.opfs_script_kept.specs.Reading.Sums.{IsWithin};
 
 /// How many steps there are, and how many bytes they write or ask to read.
-#[derive(Clone, Copy, Debug)]
+#[derive(Clone, Copy)]
 pub struct Sums {
     pub steps: u64,
     pub bytes: u64,

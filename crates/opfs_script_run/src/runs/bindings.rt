@@ -13,7 +13,7 @@ use std::collections::BTreeMap;
 use std::marker::Model;
 
 /// What variables name, seen as the list of variables and what they name, in the order of the variables.
-#[derive(Debug, Drop)]
+#[derive(Drop)]
 pub struct Bindings {
     map: BTreeMap<Text, Named>,
 }

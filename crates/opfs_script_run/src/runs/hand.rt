@@ -8,7 +8,7 @@ use std::marker::Model;
 
 /// What a variable names: a directory or file by its locator, the others by the number of their row. A stream or access
 /// handle that was closed is still of its kind.
-#[derive(Debug, Drop)]
+#[derive(Drop)]
 pub enum Named {
     Directory(Locator),
     File(Locator),
@@ -52,7 +52,7 @@ impl Open {
 }
 
 /// The rows that are open, seen as the list of them in the order of their numbers.
-#[derive(Debug, Drop)]
+#[derive(Drop)]
 pub struct Opened {
     items: Vec<Open>,
 }
@@ -119,7 +119,7 @@ impl Opened {
 }
 
 /// What a script's run has come to.
-#[derive(Debug, Drop)]
+#[derive(Drop)]
 pub struct Hand {
     /// The key of the agent's origin; None where that is opaque.
     pub key: Option<Key>,

@@ -4,7 +4,7 @@ use opfs_base::{Bytes, Locator, Name};
 use opfs_hist::Reply;
 
 /// What is given beside a reply, which its entry does not hold.
-#[derive(Debug, Drop)]
+#[derive(Drop)]
 pub enum Gift {
     Nothing,
     /// The present bytes of a file.
@@ -14,7 +14,7 @@ pub enum Gift {
 }
 
 /// The answer of a shared call.
-#[derive(Debug, Drop)]
+#[derive(Drop)]
 pub struct Acted {
     pub reply: Reply,
     pub gift: Gift,
@@ -23,7 +23,7 @@ pub struct Acted {
 }
 
 /// How a tag stands for an agent that awaits it.
-#[derive(Clone, Copy, Debug, PartialEq, Eq)]
+#[derive(Clone, Copy, PartialEq, Eq)]
 pub enum AwaitState {
     /// It was posted in the agent's party.
     Posted,

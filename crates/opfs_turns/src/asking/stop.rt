@@ -3,7 +3,7 @@
 use opfs_hist::Refusal;
 
 /// Why a call gives nothing.
-#[derive(Clone, Copy, Debug, PartialEq, Eq)]
+#[derive(Clone, Copy, PartialEq, Eq)]
 pub enum Stop {
     /// It was refused. Its entry says so.
     No(Refusal),

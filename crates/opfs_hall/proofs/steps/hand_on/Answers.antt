@@ -4,8 +4,8 @@ use Rattle.opfs_hall.specs.History.{Adds}
 use Rattle.opfs_hall.proofs.Hands.{hands_on_kept}
 use Rattle.opfs_hall.proofs.steps.hand_on.Goals as goal
 
-pub fetch_add-requires : goal.fetch_add-requires
-fetch_add-requires g c =
+pub fetch_add-served-requires : goal.fetch_add-served-requires
+fetch_add-served-requires g c =
     let now = c.exchange-before.ensures.3 in
     let value : Option g.row.V.Denot = Some c.args.value in
     let adds = c.requires.adds in (
