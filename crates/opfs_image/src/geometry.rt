@@ -1,7 +1,7 @@
 //! The sizes of an image.
 
 /// How large the parts of an image are, in blocks of 4,096 bytes.
-#[derive(Clone, Copy, PartialEq, Eq)]
+#[derive(Clone, Copy, Debug, PartialEq, Eq)]
 pub struct Geometry {
     /// The blocks of each of the two areas of the journal, 1 to 4,096.
     pub areas: u32,
