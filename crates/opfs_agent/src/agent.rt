@@ -99,10 +99,10 @@ impl<S: Store> Agent<S> {
     }
 
     /// What the type keeps.
-    pub fn kept(&self)
+    pub fn know_kept(&self)
         ensures { IsAgent S.tells self.now }
     {
-        self.turns.kept();
+        self.turns.know_kept();
     }
 
     // Makes a shared call that names no open row.

@@ -62,7 +62,7 @@ impl<S: Store> Agent<S> {
         requires room { HasRoom self.old }
         ensures { Shared S.tells self.old self.new (op.GetDirectory bucket.now) (λ at answered _. (Some at ≡ root_of self.old.key bucket.now) × (answered ≡ reply.Done)) result }
     {
-        self.kept();
+        self.know_kept();
         let Ok(root) = self.root(bucket) else {
             return Err(Stop::NoMemory);
         };

@@ -190,7 +190,7 @@ impl<S: Store> Agent<S> {
         ensures stopped { Stopped S.tells self.old self.new op result }
         ensures why { IsWhy result refusal.InvalidStateError }
     {
-        self.kept();
+        self.know_kept();
         let _ = handle;
         self.keep_refusal(op, Refusal::InvalidStateError)
     }
@@ -201,7 +201,7 @@ impl<S: Store> Agent<S> {
         requires handle { HasClosedHandle self.old handle.now.row }
         ensures { Local S.tells self.old self.new (op.SyncClose handle.now.row) 0 (λ _ answered. answered ≡ reply.Done) result }
     {
-        self.kept();
+        self.know_kept();
         let row = handle.row;
         self.keep_call(Op::SyncClose { row }, Reply::Done, 0)
     }

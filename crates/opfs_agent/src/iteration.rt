@@ -67,7 +67,7 @@ impl<S: Store> Agent<S> {
         requires dir { IsOwn self.old dir.now }
         ensures { Local S.tells self.old self.new (op.Values dir.now) 1 (λ iter answered. (answered ≡ reply.Done) × (iter ≡ record { row = self.new.rows; dir = dir.now; given = [] }) × HasIterator self.new iter) result }
     {
-        self.kept();
+        self.know_kept();
         let Ok(asked) = dir.copy(self.alloc) else {
             return Err(Stop::NoMemory);
         };
@@ -94,7 +94,7 @@ impl<S: Store> Agent<S> {
         ensures iter { HasIterator self.new iter.new }
         ensures same { iter.new ≡ record iter.old { given = iter.new.given } }
     {
-        self.kept();
+        self.know_kept();
         if iter.given.reserve(1).is_err() {
             return Err(Stop::NoMemory);
         }

@@ -42,7 +42,7 @@ impl<S: Store> Agent<S> {
         requires room { HasRoom self.old }
         ensures { Local S.tells self.old self.new (op.Resolve dir.now entry.now) 0 (λ path answered. (path ≡ resolved dir.now entry.now) × (answered ≡ path_reply path)) result }
     {
-        self.kept();
+        self.know_kept();
         let Ok(path) = resolve(self.alloc, dir, entry) else {
             return Err(Stop::NoMemory);
         };
@@ -61,7 +61,7 @@ impl<S: Store> Agent<S> {
         requires room { HasRoom self.old }
         ensures { Local S.tells self.old self.new (op.IsSameEntry a.now b.now) 0 (λ flag answered. (flag ≡ same_locator a.now b.now) × (answered ≡ reply.Flag flag)) result }
     {
-        self.kept();
+        self.know_kept();
         let flag = same(a, b);
         let Ok((entry, other)) = copies(self.alloc, a, b) else {
             return Err(Stop::NoMemory);
@@ -75,7 +75,7 @@ impl<S: Store> Agent<S> {
         requires room { HasRoom self.old }
         ensures { Local S.tells self.old self.new (op.Moment ms) 0 (λ _ answered. answered ≡ reply.Done) result }
     {
-        self.kept();
+        self.know_kept();
         self.keep_call(Op::Moment { ms }, Reply::Done, 0)
     }
 
@@ -85,7 +85,7 @@ impl<S: Store> Agent<S> {
         ensures stopped { Stopped S.tells self.old self.new (op.Unbound word) result }
         ensures why { IsWhy result refusal.Unbound }
     {
-        self.kept();
+        self.know_kept();
         self.keep_refusal(Op::Unbound { word }, Refusal::Unbound)
     }
 }

@@ -83,12 +83,12 @@ impl<S: Store> Agent<S> {
         requires file { IsOwn self.old file.now }
         ensures { Shared S.tells self.old self.new (op.GetFile file.now) (λ snapshot answered _. (snapshot.row ≡ self.new.rows) × (answered ≡ reply.FileInfo (length snapshot.bytes) snapshot.stamp) × HasSnapshot S.tells self.new snapshot) result }
     {
-        self.kept();
+        self.know_kept();
         let Ok(asked) = file.copy(self.alloc) else {
             return Err(Stop::NoMemory);
         };
         let acted = self.ask(rt, court, Op::GetFile { file: asked })?;
-        self.kept();
+        self.know_kept();
         let row = self.rows();
         let Acted { reply, gift, .. } = acted;
         let stamp = stamp_in(&reply);
@@ -104,7 +104,7 @@ impl<S: Store> Agent<S> {
         requires snapshot { HasSnapshot S.tells self.old snapshot.now }
         ensures { Local S.tells self.old self.new (op.Slice snapshot.now.row at len) 0 (λ bytes answered. (bytes ≡ window snapshot.now.bytes at len) × (answered ≡ reply.Read bytes)) result }
     {
-        self.kept();
+        self.know_kept();
         let Ok(bytes) = window(self.alloc, snapshot.bytes.as_slice(), at, len) else {
             return Err(Stop::NoMemory);
         };

@@ -169,7 +169,7 @@ impl<S: Store> Agent<S> {
         ensures stopped { Stopped S.tells self.old self.new op result }
         ensures why { IsWhy result refusal.TypeError }
     {
-        self.kept();
+        self.know_kept();
         let _ = stream;
         self.keep_refusal(op, Refusal::TypeError)
     }

@@ -16,7 +16,7 @@ ghost use Rattle.opfs_machine.specs.Replies.{sizes_of};
 ghost use Rattle.opfs_machine.specs.Steps.{evicted, is_refusal};
 ghost use Rattle.opfs_records.specs.Replay.Built.{Built};
 
-use crate::entering::{Entering, Last, enter};
+use crate::entering::{Entering, EntryWithRoom, enter};
 use crate::laws::{telling_keeps_the_books, the_state_is_kept};
 use crate::sharing::Shared;
 use crate::stored::calls_are_spelled;
@@ -79,7 +79,7 @@ impl<S: Shared> Books<S> {
     }
 
     /// Enters a call that is refused, or in which the disk failed and left no doubt of the call's own.
-    pub fn refuse<D: Disk>(&mut self, alloc: Global, journal: &Journal<D>, last: Last)
+    pub fn refuse<D: Disk>(&mut self, alloc: Global, journal: &Journal<D>, last: EntryWithRoom)
         requires known { AreKnown D.Disk (book_of S.Shared self.old) journal.now }
         requires placed { IsPlaced self.old.history last.entry.agent }
         requires refuses { is_refusal last.entry.reply ≡ true }

@@ -29,7 +29,7 @@ ghost use Rattle.opfs_tree.specs.Rows.{extents_within, without};
 
 use crate::books::Books;
 use crate::committing::commit_own;
-use crate::entering::{Last, enter, in_order, with_fault};
+use crate::entering::{EntryWithRoom, enter, with_fault};
 use crate::laws::{commits_keep_the_books, telling_keeps_the_books, the_state_is_kept};
 use crate::sharing::Shared;
 use crate::stored::{calls_are_spelled, calls_may_fail};
@@ -59,10 +59,10 @@ impl<S: Shared> Books<S> {
         alloc: Global,
         journal: &mut Journal<D>,
         unit: &Key,
-        gone: Last,
-        last: Last,
+        gone: EntryWithRoom,
+        last: EntryWithRoom,
         freed: &mut Vec<Extent>,
-    ) -> Result<Last, DiskFault>
+    ) -> Result<EntryWithRoom, DiskFault>
         requires known { AreKnown D.Disk (book_of S.Shared self.old) journal.old }
         requires placed { IsPlaced self.old.history last.entry.agent }
         requires settled { journal.old.in_doubt ≡ false }
@@ -104,7 +104,7 @@ impl<S: Shared> Books<S> {
         the_state_is_kept::<D>();
         let place = self.history.len() as u64;
         let tree = self.state.rows();
-        in_order(tree);
+        tree.know_order();
         let own = clearing_of(unit);
         match commit_own(&mut self.commits, journal, tree, self.state.shed(), &own) {
             Ok(()) => {

@@ -2,17 +2,15 @@
 
 ghost use Rattle.std.specs.Prelude.{◌≡◌, ◌++◌, ◌∷◌, ◌<◌, ◌^◌, [], length};
 ghost use Rattle.opfs_books.specs.Laws.Laws.{failed};
-ghost use Rattle.opfs_tree.specs.Rows.{IsInOrder};
 
 use opfs_base::Extents;
 use opfs_hist::{Entry, History, Pending, Refusal, Reply, Room};
 use opfs_machine::Sizes;
-use opfs_tree::{ReadyTree, Walk};
 use std::alloc::Global;
 
 /// A call's entry, and the memory for it.
 #[derive(Drop)]
-pub struct Last {
+pub struct EntryWithRoom {
     pub room: Room,
     pub entry: Entry,
 }
@@ -21,13 +19,13 @@ pub struct Last {
 /// which it stores a content, where they are not those that the file has.
 #[derive(Drop)]
 pub struct Entering {
-    pub last: Last,
+    pub last: EntryWithRoom,
     pub sizes: Sizes,
     pub extents: Option<Extents>,
 }
 
 /// Enters a call.
-pub(crate) fn enter(alloc: Global, history: &mut History, last: Last)
+pub(crate) fn enter(alloc: Global, history: &mut History, last: EntryWithRoom)
     requires { length history.old < 2 ^ 34 }
     ensures { history.new ≡ history.old ++ last.entry ∷ [] }
 {
@@ -37,10 +35,10 @@ pub(crate) fn enter(alloc: Global, history: &mut History, last: Last)
 }
 
 /// The entry of a call in which the disk failed.
-pub(crate) fn with_fault(last: Last) -> Last
+pub(crate) fn with_fault(last: EntryWithRoom) -> EntryWithRoom
     ensures { result.entry ≡ failed last.entry }
 {
-    let Last { room, entry } = last;
+    let EntryWithRoom { room, entry } = last;
     let Entry {
         agent,
         number,
@@ -50,7 +48,7 @@ pub(crate) fn with_fault(last: Last) -> Last
     } = entry;
     drop(reply);
     let reply = Reply::No(Refusal::DiskFault);
-    Last {
+    EntryWithRoom {
         room,
         entry: Entry {
             agent,
@@ -60,12 +58,4 @@ pub(crate) fn with_fault(last: Last) -> Last
             turn,
         },
     }
-}
-
-/// What a tree says of its rows: they stand in order.
-pub(crate) fn in_order(tree: &ReadyTree)
-    ensures { IsInOrder tree.now.rows }
-{
-    let mut first = Walk::make();
-    tree.step(&mut first);
 }

@@ -19,7 +19,7 @@ ghost use Rattle.opfs_machine.specs.Steps.{evicted, is_refusal};
 ghost use Rattle.opfs_records.specs.Replay.Built.{Built};
 
 use crate::books::Books;
-use crate::entering::{Entering, enter, in_order};
+use crate::entering::{Entering, enter};
 use crate::laws::{keeping_back_keeps_the_books, the_state_is_kept};
 use crate::sharing::Shared;
 use crate::stored::calls_are_spelled;
@@ -67,7 +67,7 @@ impl<S: Shared> Books<S> {
         calls_are_spelled();
         lengths_follow_each_call();
         the_state_is_kept::<D>();
-        in_order(self.state.rows());
+        self.state.rows().know_order();
         self.place = None;
         self.commits.keep(own);
         let Entering {

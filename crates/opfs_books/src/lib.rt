@@ -16,7 +16,7 @@ pub mod stored;
 mod storing;
 
 pub use books::Books;
-pub use entering::{Entering, Last};
+pub use entering::{Entering, EntryWithRoom};
 pub use laws::{
     a_fault_is_counted, commit_laws, commits_alone_keep_the_books, commits_keep_the_books,
     keeping_back_keeps_the_books, pages_beside_leave_the_books, reads_leave_the_books,

@@ -21,7 +21,7 @@ ghost use Rattle.opfs_records.specs.Replay.Built.{Built};
 
 use crate::books::Books;
 use crate::committing::commit_own;
-use crate::entering::{Entering, enter, in_order, with_fault};
+use crate::entering::{Entering, enter, with_fault};
 use crate::laws::{commits_keep_the_books, state_laws, the_state_is_kept};
 use crate::sharing::Shared;
 use crate::stored::{calls_are_spelled, calls_may_fail};
@@ -88,7 +88,7 @@ impl<S: Shared> Books<S> {
         the_state_is_kept::<D>();
         let place = self.history.len() as u64;
         let tree = self.state.rows();
-        in_order(tree);
+        tree.know_order();
         match commit_own(&mut self.commits, journal, tree, self.state.shed(), own) {
             Ok(()) => {
                 self.place = None;

@@ -18,7 +18,7 @@ use Rattle.opfs_pages.specs.HistoryLaws.Spaced.{AreHolders, AreSpaced}
 use Rattle.opfs_desk_steps.specs.Parts.Held.{AreTied, AreHeld, AreHeldWhole, HaveOwnKeys}
 use Rattle.opfs_desk_steps.specs.Parts.Seen.{machine_in, tree_in, book_in}
 use Rattle.opfs_desk_steps.specs.declared.parts.parts.Ledger.{Ledger}
-use Rattle.opfs_desk_steps.specs.declared.parts.parts.Pages.{Pages}
+use Rattle.opfs_desk_steps.specs.declared.parts.parts.OpenPages.{OpenPages}
 use Rattle.opfs_hist.specs.declared.entry.Entry.{Entry}
 use Rattle.opfs_image.specs.Agreeing.{built_in}
 use Rattle.opfs_image.specs.Superblock.{area_bytes, data_base, image_size}
@@ -147,7 +147,7 @@ module _ (first : FirstBlocks) (m : Machine) (t : Tree) (size : ℕ) (used own :
 
 -- ---- all of it
 
-pub begun-held : {D : Type 0} (w : DiskWords D) (f : Fixed D) (recorded : Built) (l : Ledger D) (p : Pages) (agents : List Who) → AreBooks w f recorded (book_in l) l.journal → l.books.history ≡ []
+pub begun-held : {D : Type 0} (w : DiskWords D) (f : Fixed D) (recorded : Built) (l : Ledger D) (p : OpenPages) (agents : List Who) → AreBooks w f recorded (book_in l) l.journal → l.books.history ≡ []
     → (machine_in l).agents ≡ map agent_begun agents → p.swap ≡ [] → AreSpaced (machine_in l) (shelf recorded.rows (tree_in l) []) p.space → AreTied w f l p → recorded ≡ (book_in l).rows
     → AreHeldWhole w f recorded l p
 begun-held w f recorded l p agents books none who empty spaced tied fresh = record {
@@ -164,7 +164,7 @@ begun-held w f recorded l p agents books none who empty spaced tied fresh = reco
 
 -- ---- over a recovered image
 
-module _ {D : Type 0} (w : DiskWords D) (from : Recovered D w) (agents : List Who) (l : Ledger D) (p : Pages) where
+module _ {D : Type 0} (w : DiskWords D) (from : Recovered D w) (agents : List Who) (l : Ledger D) (p : OpenPages) where
   abbrev f : Fixed D
   f = fixed_by w from agents
 

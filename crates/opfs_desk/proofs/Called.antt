@@ -15,14 +15,14 @@ use Rattle.std.proofs.Common.{ℕ, ◌≤◌, List, sym, subst}
 use Rattle.opfs_desk.specs.Dispatch.Calling.{IsCalled, IsLeftAlone}
 use Rattle.opfs_pages.specs.HistoryLaws.Handles.{AreHandlesWhole}
 use Rattle.opfs_desk_steps.specs.Parts.Acted.{HasActed}
-use Rattle.opfs_desk_steps.specs.declared.parts.parts.Parts.{Parts}
+use Rattle.opfs_desk_steps.specs.declared.parts.parts.DeskParts.{DeskParts}
 use Rattle.opfs_desk_bytes.specs.Reading.Handles.{HandlesGoOn}
 use Rattle.opfs_desk.specs.Resting.{IsAtRest}
 
-pub is-called : {D : Type 0} (w : DiskWords D) (f : Fixed D) (old : Parts D) (calls : List Entry) (c : Call) (work : WorkingCopy) (past : List Text) → IsAtRest w f old → MayAct w.tells f.opening old.ledger.books.history calls c work past → IsCalled w f old calls c work past
+pub is-called : {D : Type 0} (w : DiskWords D) (f : Fixed D) (old : DeskParts D) (calls : List Entry) (c : Call) (work : WorkingCopy) (past : List Text) → IsAtRest w f old → MayAct w.tells f.opening old.ledger.books.history calls c work past → IsCalled w f old calls c work past
 is-called w f old calls c work past rest may = record { held = rest.held; whole = rest.whole; may = may }
 
-pub is-told : {D : Type 0} (w : DiskWords D) (f : Fixed D) (old : Parts D) → IsAtRest w f old → IsTold w.tells f.opening old.ledger.books.history
+pub is-told : {D : Type 0} (w : DiskWords D) (f : Fixed D) (old : DeskParts D) → IsAtRest w f old → IsTold w.tells f.opening old.ledger.books.history
 is-told w f old rest = told-whole w.tells f.opening old.ledger.books.history (state_after f.opening old.ledger.books.history) rest.held.are.books.told
 
 -- what was left since a moment was left since an earlier one
@@ -33,7 +33,7 @@ Falls {D} w = w.tells → (disk : D) (t u : ℕ) (c : List ℕ) → t ≤ u → 
 pub time-on : {D : Type 0} (w : DiskWords D) (begun old new : D) → Falls w → (w.tells → Elapses w.moment w.since begun old) → (w.tells → Elapses w.moment w.since old new) → w.tells → Elapses w.moment w.since begun new
 time-on w begun old new falls was is t = elapses-trans w.moment w.since (falls t) begun old new (was t) (is t)
 
-module _ {D : Type 0} (w : DiskWords D) (falls : Falls w) (f : Fixed D) (old new : Parts D) (calls : List Entry) (c : Call) (work : WorkingCopy) (past : List Text) (rest : IsAtRest w f old) (may : MayAct w.tells f.opening old.ledger.books.history calls c work past) where
+module _ {D : Type 0} (w : DiskWords D) (falls : Falls w) (f : Fixed D) (old new : DeskParts D) (calls : List Entry) (c : Call) (work : WorkingCopy) (past : List Text) (rest : IsAtRest w f old) (may : MayAct w.tells f.opening old.ledger.books.history calls c work past) where
   pub rests-acted : HandlesGoOn w.tells → (after : WorkingCopy) (done : Acted) → HasActed w f old new calls c work after done → IsAtRest w f new
   rests-acted go after done has = record {
     held = has.held;

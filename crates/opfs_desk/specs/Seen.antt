@@ -7,12 +7,12 @@ use Rattle.opfs_hist.specs.declared.entry.Entry.{Entry}
 use Rattle.opfs_machine.specs.Changes.{floor}
 use Rattle.opfs_outside.specs.declared.disk.Disk.{Ghosts as DiskWords}
 use Rattle.opfs_desk_steps.specs.Parts.Seen.{book_in}
-use Rattle.opfs_desk_steps.specs.declared.parts.parts.Parts.{Parts}
+use Rattle.opfs_desk_steps.specs.declared.parts.parts.DeskParts.{DeskParts}
 
 -- With what the run began, and the parts.
 pub record DeskSeen (D : Type 0) : Type 0 where
   pub fixed : Fixed D
-  pub parts : Parts D
+  pub parts : DeskParts D
 
 abbrev pub entries_of : {D : Type 0} → DeskSeen D → List Entry
 entries_of d = d.parts.ledger.books.history

@@ -1,6 +1,6 @@
 //! The desk.
 
-use opfs_desk_steps::{Iterators, Parts};
+use opfs_desk_steps::{DeskParts, Iterators};
 use opfs_hall::Told;
 use opfs_image::Recovered;
 use opfs_outside::Disk;
@@ -10,7 +10,7 @@ use std::marker::Model;
 /// The shared store of many agents over a disk: the journal with what is kept back, the shared state, the pages of open rows, the
 /// data blocks, and the history; and up to which name iterators have given all. It remembers with what it began.
 pub struct Desk<D: Disk> {
-    pub(crate) parts: Parts<D>,
+    pub(crate) parts: DeskParts<D>,
     pub(crate) from: Told<Recovered<D>>,
     pub(crate) agents: Told<Vec<Who>>,
     pub(crate) iterators: Iterators,

@@ -9,7 +9,7 @@ ghost use Rattle.opfs_outside.specs.Faults.{Rose, RoseBy};
 
 use crate::desk::Desk;
 use opfs_books::{calls_are_spelled, commit_laws, the_books_show_their_images};
-use opfs_desk_steps::{Ledger, Pages, Parts};
+use opfs_desk_steps::{DeskParts, Ledger, OpenPages};
 use opfs_hist::History;
 use opfs_journal::DiskFault;
 use opfs_laws::separation::apart::each_party_runs_alone;
@@ -40,8 +40,8 @@ impl<D: Disk> Desk<D> {
             agents: _,
             iterators: _,
         } = self;
-        let Parts { ledger, pages } = parts;
-        let Pages {
+        let DeskParts { ledger, pages } = parts;
+        let OpenPages {
             swap: _,
             space: _,
             base: _,
@@ -70,8 +70,8 @@ impl<D: Disk> Desk<D> {
             agents: _,
             iterators: _,
         } = self;
-        let Parts { ledger, pages } = parts;
-        let Pages {
+        let DeskParts { ledger, pages } = parts;
+        let OpenPages {
             swap: _,
             space: _,
             base: _,

@@ -9,7 +9,7 @@ use crate::desk::Desk;
 use opfs_base::Extent;
 use opfs_books::{Books, a_recovered_image_opens_a_run, limits_of};
 use opfs_data::Swap;
-use opfs_desk_steps::{Iterators, Ledger, Pages, Parts};
+use opfs_desk_steps::{DeskParts, Iterators, Ledger, OpenPages};
 use opfs_hall::Told;
 use opfs_image::Recovered;
 use opfs_outside::Disk;
@@ -65,14 +65,14 @@ impl<D: Disk> Desk<D> {
         };
         match Books::make(alloc, &mut journal, limits.area, state) {
             Ok(books) => Ok(Desk {
-                parts: Parts {
+                parts: DeskParts {
                     ledger: Ledger {
                         journal,
                         books,
                         freed,
                         alloc,
                     },
-                    pages: Pages {
+                    pages: OpenPages {
                         swap: Swap::make(alloc),
                         space,
                         base: geometry.data_base(),

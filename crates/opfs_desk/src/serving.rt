@@ -32,8 +32,8 @@ impl<D: Disk> Store for Desk<D> {
         Desk::await_state(self, agent, tag)
     }
 
-    fn legal(&self) {
-        Desk::legal(self)
+    fn know_legal(&self) {
+        Desk::know_legal(self)
     }
 
     ghost owned = { λ e. refl };

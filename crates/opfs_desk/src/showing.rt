@@ -14,7 +14,7 @@ use opfs_outside::Disk;
 impl<D: Disk> Desk<D> {
     /// What the type keeps: its history is legal, but for the bytes of reads where the disk does not tell, and not longer than
     /// numbers allow.
-    pub fn legal(&self)
+    pub fn know_legal(&self)
         ensures legal { IsTold D.tells self.now.fixed.opening (entries_of self.now) }
         ensures short { length (entries_of self.now) < 2 ^ 34 }
     {

@@ -6,7 +6,7 @@ use Rattle.opfs_desk_steps.specs.Parts.Acted.{AreCleared, HasFailed, last_doubt}
 use Rattle.opfs_desk_steps.specs.Parts.Held.{AreHeldWhole}
 use Rattle.opfs_desk_steps.specs.Parts.Seen.{book_in}
 use Rattle.opfs_desk_steps.specs.declared.parts.parts.Ledger.{Ledger}
-use Rattle.opfs_desk_steps.specs.declared.parts.parts.Pages.{Pages}
+use Rattle.opfs_desk_steps.specs.declared.parts.parts.OpenPages.{OpenPages}
 use Rattle.opfs_desk_steps.specs.BookSteps.Refusing.{IsRefused}
 use Rattle.opfs_desk_steps.proofs.book_steps.Held.{refused-told}
 use Rattle.opfs_desk_steps.proofs.book_steps.Ways.{way-same, way-told}
@@ -19,7 +19,7 @@ use Rattle.opfs_outside.specs.Faults.{Rose, RoseBy}
 use Rattle.opfs_outside.specs.declared.disk.Disk.{Ghosts as DiskWords}
 use Rattle.opfs_records.specs.Replay.Built.{Built}
 
-module _ {D : Type 0} (w : DiskWords D) (f : Fixed D) (counts : FaultsAreCounted w) (recorded : Built) (l back new : Ledger D) (p q : Pages) (e : Entry) (are : AreHeldWhole w f recorded l p) (cleared : AreCleared w f [] l back q) (entries : back.books.history ≡ l.books.history)
+module _ {D : Type 0} (w : DiskWords D) (f : Fixed D) (counts : FaultsAreCounted w) (recorded : Built) (l back new : Ledger D) (p q : OpenPages) (e : Entry) (are : AreHeldWhole w f recorded l p) (cleared : AreCleared w f [] l back q) (entries : back.books.history ≡ l.books.history)
     (fault : IsCall (state_after f.opening l.books.history) [] (failed e)) (rose : Rose (w.faults l.journal.disk) (w.faults back.journal.disk)) where
   -- Its entry may come.
   pub may-fail-now : IsRefused w f (state_after f.opening l.books.history) [] back (failed e)

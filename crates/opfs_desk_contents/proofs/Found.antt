@@ -12,7 +12,7 @@ use Rattle.opfs_desk_steps.specs.Parts.Acted.{AreCleared, IsWayNow}
 use Rattle.opfs_desk_steps.specs.Parts.Held.{AreHeldAt, AreHeldWhole}
 use Rattle.opfs_desk_steps.specs.Parts.Seen.{machine_in, tree_in, book_in}
 use Rattle.opfs_desk_steps.specs.declared.parts.parts.Ledger.{Ledger}
-use Rattle.opfs_desk_steps.specs.declared.parts.parts.Pages.{Pages}
+use Rattle.opfs_desk_steps.specs.declared.parts.parts.OpenPages.{OpenPages}
 use Rattle.opfs_desk_steps.specs.RowLaws.Puts.{TreesNameStoredBlocks}
 use Rattle.opfs_desk_steps.proofs.book_steps.Evictions.{stored-named}
 use Rattle.opfs_laws.specs.Lengths.Kept.{Kept}
@@ -76,7 +76,7 @@ enough-now l new agent row pages same is =
 pub settled-rows : (t : Tree) (b : ℕ) → has_block (named (stored_rows t)) b ≡ true → has_block (named t) b ≡ true
 settled-rows t b has = ap (λ (xs : List ℕ). has_block xs b) (sym (stored-named t)) ∙ has
 
-module _ {D : Type 0} (w : DiskWords D) (f : Fixed D) (new : Ledger D) (p : Pages) (are : AreHeldWhole w f (book_in new).rows new p) where
+module _ {D : Type 0} (w : DiskWords D) (f : Fixed D) (new : Ledger D) (p : OpenPages) (are : AreHeldWhole w f (book_in new).rows new p) where
   -- Nothing is kept back any more, so there is room.
   pub may-find : BooksKeepTheState w → TreesNameStoredBlocks → (machine_in new).rows ≡ lines_of (tree_in new) → (agent row : ℕ) (put : Put) → KeepsEnough new agent row put.pages → length (page_moves put.writes []) ≡ put.moves
       → WaitForBlocks (machine_in new) (shelf (stored_rows (tree_in new)) (tree_in new) p.swap) p.space agent row put.pages put.writes [] put.extents.items
@@ -108,5 +108,5 @@ module _ {D : Type 0} (w : DiskWords D) (f : Fixed D) (new : Ledger D) (p : Page
   }
 
 -- After a step that used the journal, over a history that stays.
-pub then-cleared : {D : Type 0} (w : DiskWords D) (f : Fixed D) (recorded : Built) (l new : Ledger D) (q : Pages) → new.books.history ≡ l.books.history → AreHeldWhole w f recorded new q → IsWayNow w f l new → AreCleared w f [] l new q
+pub then-cleared : {D : Type 0} (w : DiskWords D) (f : Fixed D) (recorded : Built) (l new : Ledger D) (q : OpenPages) → new.books.history ≡ l.books.history → AreHeldWhole w f recorded new q → IsWayNow w f l new → AreCleared w f [] l new q
 then-cleared w f recorded l new q entries are way = record { recorded = recorded; are = subst (λ es. AreHeldAt w f recorded (state_after f.opening es) [] new q) entries are; way = way }

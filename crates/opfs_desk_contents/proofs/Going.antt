@@ -16,7 +16,7 @@ use Rattle.opfs_desk_steps.specs.Parts.Acted.{AreCleared}
 use Rattle.opfs_desk_steps.specs.Parts.Held.{AreHeldAt, AreHeldWhole}
 use Rattle.opfs_desk_steps.specs.Parts.Seen.{book_in, machine_in, shelf_in, tree_in}
 use Rattle.opfs_desk_steps.specs.declared.parts.parts.Ledger.{Ledger}
-use Rattle.opfs_desk_steps.specs.declared.parts.parts.Pages.{Pages}
+use Rattle.opfs_desk_steps.specs.declared.parts.parts.OpenPages.{OpenPages}
 use Rattle.opfs_desk_steps.proofs.book_steps.Loop.{Falls}
 use Rattle.opfs_desk_steps.proofs.book_steps.Ways.{way-both}
 use Rattle.opfs_hist.specs.declared.entry.Entry.{Entry}
@@ -72,7 +72,7 @@ ready-put tells c d base next_base swap next_swap agent row put next same_swap s
     (subst (λ (x : Rows). IsPutReady tells d base x agent row put.pages put.writes put.moves (vec_capacity next.extents)) (sym same_swap) goes))))
 
 -- What was gotten stays.
-pub gotten-on : {D : Type 0} (w : DiskWords D) (recorded : Tree) (l new : Ledger D) (p : Pages) (agent row : ℕ) (put : Put) → new.books.state ≡ l.books.state → w.size new.journal.disk ≡ w.size l.journal.disk
+pub gotten-on : {D : Type 0} (w : DiskWords D) (recorded : Tree) (l new : Ledger D) (p : OpenPages) (agent row : ℕ) (put : Put) → new.books.state ≡ l.books.state → w.size new.journal.disk ≡ w.size l.journal.disk
     → AreGotten put.taken (machine_in l) (shelf_in recorded l p) p.space p.base (w.size l.journal.disk) agent row put.pages put.writes [] put.extents.items
     → AreGotten put.taken (machine_in new) (shelf_in recorded new p) p.space p.base (w.size new.journal.disk) agent row put.pages put.writes [] put.extents.items
 gotten-on w recorded l new p agent row put state size is =
@@ -80,7 +80,7 @@ gotten-on w recorded l new p agent row put state size is =
     (subst (λ (n : ℕ). AreGotten put.taken (machine_in l) (shelf recorded (tree_in l) p.swap) p.space p.base n agent row put.pages put.writes [] put.extents.items) (sym size) is)
 
 -- Whole parts after a step over the same history.
-pub whole-now : {D : Type 0} (w : DiskWords D) (f : Fixed D) (l new : Ledger D) (p : Pages) → new.books.history ≡ l.books.history → (is : AreCleared w f [] l new p) → AreHeldWhole w f is.recorded new p
+pub whole-now : {D : Type 0} (w : DiskWords D) (f : Fixed D) (l new : Ledger D) (p : OpenPages) → new.books.history ≡ l.books.history → (is : AreCleared w f [] l new p) → AreHeldWhole w f is.recorded new p
 whole-now w f l new p entries is = subst (λ (es : List Entry). AreHeldAt w f is.recorded (state_after f.opening es) [] new p) (sym entries) is.are
 
 pub of-on : (tells : Type 0) (work : WorkingCopy) (c d : List ℕ) (base : ℕ) (swap : Rows) (agent row : ℕ) (w : WriteList) (before after : Text) → (tells → AllReadAlike base c d swap swap)
@@ -97,7 +97,7 @@ of-on tells work c d base swap agent row w before after alike is = record {
   after_is = is.after_is;
 }
 
-pub row-on : {D : Type 0} (w : DiskWords D) (f : Fixed D) (l new : Ledger D) (p q : Pages) (agent row : ℕ) (put next : Put) (work : WorkingCopy) (bytes : Text) → q.swap ≡ p.swap → q.base ≡ p.base → new.books.history ≡ l.books.history
+pub row-on : {D : Type 0} (w : DiskWords D) (f : Fixed D) (l new : Ledger D) (p q : OpenPages) (agent row : ℕ) (put next : Put) (work : WorkingCopy) (bytes : Text) → q.swap ≡ p.swap → q.base ≡ p.base → new.books.history ≡ l.books.history
     → next.writes ≡ put.writes → next.pages ≡ put.pages → (w.tells → AllReadAlike p.base (w.content l.journal.disk) (w.content new.journal.disk) p.swap p.swap)
     → IsRowToPut w f l p agent row put work bytes → IsRowToPut w f new q agent row next work bytes
 row-on w f l new p q agent row put next work bytes swap base entries writes pages alike is = record {
@@ -112,7 +112,7 @@ row-on w f l new p q agent row put next work bytes swap base entries writes page
 }
 
 -- One step after another.
-pub cleared-both : {D : Type 0} (w : DiskWords D) (f : Fixed D) → Falls w → (l mid new : Ledger D) (p q : Pages) → mid.books.history ≡ l.books.history → new.books.history ≡ mid.books.history → mid.journal.in_doubt ≡ false
+pub cleared-both : {D : Type 0} (w : DiskWords D) (f : Fixed D) → Falls w → (l mid new : Ledger D) (p q : OpenPages) → mid.books.history ≡ l.books.history → new.books.history ≡ mid.books.history → mid.journal.in_doubt ≡ false
     → AreCleared w f [] l mid p → AreCleared w f [] mid new q → AreCleared w f [] l new q
 cleared-both w f falls l mid new p q first second sure done more = record {
   recorded = more.recorded;

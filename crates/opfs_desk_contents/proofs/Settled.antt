@@ -8,7 +8,7 @@ use Rattle.opfs_desk_steps.specs.Parts.Acted.{AreCleared, IsWayNow}
 use Rattle.opfs_desk_steps.specs.Parts.Held.{AreHeldAt, AreHeldWhole}
 use Rattle.opfs_desk_steps.specs.Parts.Seen.{book_in}
 use Rattle.opfs_desk_steps.specs.declared.parts.parts.Ledger.{Ledger}
-use Rattle.opfs_desk_steps.specs.declared.parts.parts.Pages.{Pages}
+use Rattle.opfs_desk_steps.specs.declared.parts.parts.OpenPages.{OpenPages}
 use Rattle.opfs_desk_steps.proofs.book_steps.Held.{moved-held, fresh-same}
 use Rattle.opfs_desk_steps.proofs.book_steps.LaidStays.{LaidBeside}
 use Rattle.opfs_desk_steps.proofs.book_steps.Ways.{way-settled, way-same}
@@ -28,7 +28,7 @@ module _ {D : Type 0} (w : DiskWords D) (f : Fixed D) (l new : Ledger D) (entrie
   pub way-used : LeavesPages w l.journal new.journal → ShowsTold w f (book_in l) (told f (book_in l)) l.journal new.journal → IsWayNow w f l new
   way-used leaves shown = way-same w f l new (told f (book_in l)) (told f (book_in new)) same-told (record { later = leaves.later; time = leaves.time; shown = λ t c left. inl (shown t c left) })
 
-  module _ (recorded : Built) (p : Pages) (are : AreHeldWhole w f recorded l p) (beside : LaidBeside w.tells) (most : (d : D) → w.faults d ≤ 2 ^ 64 - 1) (state : new.books.state ≡ l.books.state) (commits : new.books.commits ≡ l.books.commits) (leaves : LeavesPages w l.journal new.journal)
+  module _ (recorded : Built) (p : OpenPages) (are : AreHeldWhole w f recorded l p) (beside : LaidBeside w.tells) (most : (d : D) → w.faults d ≤ 2 ^ 64 - 1) (state : new.books.state ≡ l.books.state) (commits : new.books.commits ≡ l.books.commits) (leaves : LeavesPages w l.journal new.journal)
       (books : AreBooksAt w f recorded (state_after f.opening l.books.history) [] (book_in new) new.journal) (freed : vec_capacity l.freed ≤ vec_capacity new.freed) where
     abbrev base : State Text Own
     base = state_after f.opening l.books.history

@@ -35,7 +35,7 @@ use Rattle.opfs_desk_steps.specs.Parts.Answered.{IsAnswered, MayChange}
 use Rattle.opfs_desk_steps.specs.Parts.Held.{AreHeldAt, AreHeldWhole}
 use Rattle.opfs_desk_steps.specs.Parts.Seen.{book_in, machine_in, tree_in}
 use Rattle.opfs_desk_steps.specs.declared.parts.parts.Ledger.{Ledger}
-use Rattle.opfs_desk_steps.specs.declared.parts.parts.Pages.{Pages}
+use Rattle.opfs_desk_steps.specs.declared.parts.parts.OpenPages.{OpenPages}
 use Rattle.opfs_desk_contents.specs.Putting.{KeepsEnough}
 use Rattle.opfs_desk_contents.specs.Rows.{StoresFile}
 use Rattle.opfs_desk_contents.specs.Storing.{AreRunsOf, MayStoreContent}
@@ -67,7 +67,7 @@ pub told-alike : (b : Text) (place : Place) (stamp n m : ℕ) (xs ys : List Exte
 unfolding told_as
 told-alike b place stamp n m xs ys = refl
 
-pub not-alike : {D : Type 0} (w : DiskWords D) (f : Fixed D) (recorded : Built) (base : State Text Own) (l new : Ledger D) (p : Pages) (e : Entry) (place : Place) (stamp n m : ℕ) (xs ys : List Extent)
+pub not-alike : {D : Type 0} (w : DiskWords D) (f : Fixed D) (recorded : Built) (base : State Text Own) (l new : Ledger D) (p : OpenPages) (e : Entry) (place : Place) (stamp n m : ℕ) (xs ys : List Extent)
     → HasNotChanged w f recorded base [] l new p e (Content place.0 place.1 stamp n xs) → HasNotChanged w f recorded base [] l new p e (Content place.0 place.1 stamp m ys)
 not-alike w f recorded base l new p e place stamp n m xs ys is = record {
   entries = is.entries;
@@ -84,7 +84,7 @@ not-alike w f recorded base l new p e place stamp n m xs ys is = record {
 
 -- ---- it may be stored
 
-module _ {D : Type 0} (w : DiskWords D) (states : StateLaws) (keeps : BooksKeepTheState w) (f : Fixed D) (recorded : Built) (base : State Text Own) (back : Ledger D) (q : Pages) (are : AreHeldAt w f recorded base [] back q) (whole : AreHeldWhole w f recorded back q)
+module _ {D : Type 0} (w : DiskWords D) (states : StateLaws) (keeps : BooksKeepTheState w) (f : Fixed D) (recorded : Built) (base : State Text Own) (back : Ledger D) (q : OpenPages) (are : AreHeldAt w f recorded base [] back q) (whole : AreHeldWhole w f recorded back q)
     (e : Entry) (z : Sizes) (agent row : ℕ) (place : Place) (reserve : ℕ) (stores : StoresFile (machine_in back) e.agent e.op place reserve) (opened : file_in (open_at (machine_in back) agent row) ≡ Some place) (order : IsInOrder (tree_in back))
     (file : FileRow) (there : file_in_tree place (tree_in back) ≡ Some file) (answered : IsAnswered w base [] back e z) (pages : ℕ) (enough : KeepsEnough back agent row pages) (runs copy : List Extent) (same : copy ≡ runs) (runs_are : AreRunsOf q.swap agent row pages runs) (plain : ArePlain q.swap agent row pages)
     (size : ℕ) (many : pages ≡ blocks size) (size_is : size ≡ size_stored z e.op file) where

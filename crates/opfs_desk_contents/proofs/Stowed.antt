@@ -52,7 +52,7 @@ use Rattle.opfs_tree.specs.declared.row.Row.TheVariants as row
 use Rattle.opfs_desk_steps.specs.Parts.Held.{AreHeldWhole}
 use Rattle.opfs_desk_steps.specs.Parts.Seen.{book_in, machine_in, tree_in}
 use Rattle.opfs_desk_steps.specs.declared.parts.parts.Ledger.{Ledger}
-use Rattle.opfs_desk_steps.specs.declared.parts.parts.Pages.{Pages}
+use Rattle.opfs_desk_steps.specs.declared.parts.parts.OpenPages.{OpenPages}
 use Rattle.opfs_desk_steps.proofs.row_laws.Inside.{size-is}
 use Rattle.opfs_desk_contents.specs.Putting.{HasContent, KeepsEnough}
 use Rattle.opfs_desk_contents.specs.Rows.{IsStreamOf, IsWriterOf, StoresFile}
@@ -115,7 +115,7 @@ most-blocks g is =
     let two = and_parts (is_between 1 4096 g.areas) (is_between 1 65536 g.blocks) all.0 in
     leb-true g.blocks 65536 (and_parts (nat_le 1 g.blocks) (nat_le g.blocks 65536) two.1).1
 
-module _ {D : Type 0} (w : DiskWords D) (states : StateLaws) (f : Fixed D) (recorded : Built) (l : Ledger D) (p : Pages) (are : AreHeldWhole w f recorded l p) where
+module _ {D : Type 0} (w : DiskWords D) (states : StateLaws) (f : Fixed D) (recorded : Built) (l : Ledger D) (p : OpenPages) (are : AreHeldWhole w f recorded l p) where
   limit-is : (machine_in l).limits.blocks ≡ f.geometry.blocks
   limit-is = sym are.laid.spaced.size ∙ size-is states w f recorded l p are
 
@@ -157,7 +157,7 @@ module _ {D : Type 0} (w : DiskWords D) (states : StateLaws) (f : Fixed D) (reco
           ((λ i. bytes_of (w.content l.journal.disk) (sym are.tied.base i) runs (size_is i)) ∙ is ∙ sym stored)
 
 -- Fewer pages than a list may have runs.
-pub few-pages : {D : Type 0} (w : DiskWords D) (states : StateLaws) (keeps : BooksKeepTheState w) (f : Fixed D) (recorded : Built) (l : Ledger D) (p : Pages) (are : AreHeldWhole w f recorded l p) (agent row pages : ℕ) → KeepsEnough l agent row pages → pages < 2 ^ 32
+pub few-pages : {D : Type 0} (w : DiskWords D) (states : StateLaws) (keeps : BooksKeepTheState w) (f : Fixed D) (recorded : Built) (l : Ledger D) (p : OpenPages) (are : AreHeldWhole w f recorded l p) (agent row pages : ℕ) → KeepsEnough l agent row pages → pages < 2 ^ 32
 few-pages w states keeps f recorded l p are agent row pages enough =
     let m = machine_in l in
     let kept : Kept m = keeps.kept f recorded (state_after f.opening l.books.history) (book_in l) l.journal are.books in

@@ -22,7 +22,7 @@ use Rattle.opfs_desk_steps.specs.Parts.Acted.{AreCleared, IsWayNow}
 use Rattle.opfs_desk_steps.specs.Parts.Held.{AreTied, AreHeldAt, AreHeldWhole}
 use Rattle.opfs_desk_steps.specs.Parts.Seen.{machine_in, tree_in, book_in}
 use Rattle.opfs_desk_steps.specs.declared.parts.parts.Ledger.{Ledger}
-use Rattle.opfs_desk_steps.specs.declared.parts.parts.Pages.{Pages}
+use Rattle.opfs_desk_steps.specs.declared.parts.parts.OpenPages.{OpenPages}
 use Rattle.opfs_desk_steps.proofs.book_steps.Held.{tied-later}
 use Rattle.opfs_desk_steps.proofs.book_steps.LaidStays.{LaidBeside}
 use Rattle.opfs_image.specs.Superblock.{data_base}
@@ -69,7 +69,7 @@ open-reserve o own pages is within = subst (λ (x : Option Outline). pages ≤ r
     by-own (outline.Handle h) most = most
     by-own r most = most
 
-module _ {D : Type 0} (w : DiskWords D) (f : Fixed D) (recorded : Built) (l : Ledger D) (j : Seen D) (p : Pages) (are : AreHeldWhole w f recorded l p) (settled : l.journal.in_doubt ≡ false) (agent row reserve : ℕ) (writes : List PageWrite)
+module _ {D : Type 0} (w : DiskWords D) (f : Fixed D) (recorded : Built) (l : Ledger D) (j : Seen D) (p : OpenPages) (are : AreHeldWhole w f recorded l p) (settled : l.journal.in_doubt ≡ false) (agent row reserve : ℕ) (writes : List PageWrite)
     (mine : AreMine p.space.used p.space.own p.swap agent row reserve writes) (wrote : DiskWrites w p.base (runs_of writes) l.journal j) where
   abbrev now : Ledger D
   now = record l { journal = j }
@@ -89,7 +89,7 @@ module _ {D : Type 0} (w : DiskWords D) (f : Fixed D) (recorded : Built) (l : Le
           writes = subst (λ (b : ℕ). DiskWrites w b (runs_of writes) l.journal j) are.tied.base wrote;
         })
 
-    tied-now : (q : Pages) → q.base ≡ p.base → ((Rose (w.faults f.begun) (w.faults j.disk) → ⊥) → kept_count q.swap ≡ 0) → AreTied w f now q
+    tied-now : (q : OpenPages) → q.base ≡ p.base → ((Rose (w.faults f.begun) (w.faults j.disk) → ⊥) → kept_count q.swap ≡ 0) → AreTied w f now q
     tied-now q base few =
         let t = tied-later w f most l now p are.tied wrote.stays.length wrote.later (omega arith) in
         record { range = t.range; base = base ∙ t.base; size = t.size; freed = t.freed; agents = t.agents; keys = t.keys; quota = t.quota; few = few }
@@ -99,7 +99,7 @@ module _ {D : Type 0} (w : DiskWords D) (f : Fixed D) (recorded : Built) (l : Le
 
     module _ (swap : Rows) (laid : AreLaid w.tells f.opening l.books.history p.base (w.content j.disk) (machine_in l) (shelf recorded.rows (tree_in l) swap) p.space)
         (few : (Rose (w.faults f.begun) (w.faults j.disk) → ⊥) → kept_count swap ≡ 0) where
-      abbrev after : Pages
+      abbrev after : OpenPages
       after = record { swap = swap; space = p.space; base = p.base }
 
       held-now : AreHeldAt w f recorded (state_after f.opening l.books.history) [] now after
@@ -180,7 +180,7 @@ module _ {D : Type 0} (w : DiskWords D) (f : Fixed D) (recorded : Built) (l : Le
       left-cleared = cleared-now swap laid-left (λ none. absurd (none (rose-before (w.faults f.begun) (w.faults l.journal.disk) (w.faults j.disk) are.books.counted.fewer rose)))
 
 -- What the row has then.
-pub has-content : {D : Type 0} (w : DiskWords D) (f : Fixed D) (l : Ledger D) (p : Pages) (d : List ℕ) (swap : Rows) (agent row : ℕ) (put : Put) (work : WorkingCopy) (bytes : Text) → IsRowToPut w f l p agent row put work bytes
+pub has-content : {D : Type 0} (w : DiskWords D) (f : Fixed D) (l : Ledger D) (p : OpenPages) (d : List ℕ) (swap : Rows) (agent row : ℕ) (put : Put) (work : WorkingCopy) (bytes : Text) → IsRowToPut w f l p agent row put work bytes
     → length (page_moves put.writes []) ≡ length (blocks_in put.extents.items) → IsPut w.tells p.base (w.content l.journal.disk) d p.swap swap agent row put.pages (all_writes put.writes [] put.extents.items)
     → HasContent w.tells p.base d swap agent row put.pages bytes
 has-content w f l p d swap agent row put work bytes of count is = record {

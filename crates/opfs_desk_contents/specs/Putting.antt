@@ -24,19 +24,19 @@ use Rattle.opfs_work.specs.Works.{WorkingCopy}
 use Rattle.opfs_desk_steps.specs.Parts.Held.{AreHeldWhole}
 use Rattle.opfs_desk_steps.specs.Parts.Seen.{machine_in, shelf_in}
 use Rattle.opfs_desk_steps.specs.declared.parts.parts.Ledger.{Ledger}
-use Rattle.opfs_desk_steps.specs.declared.parts.parts.Pages.{Pages}
-use Rattle.opfs_desk_steps.specs.declared.parts.parts.Parts.{Parts}
+use Rattle.opfs_desk_steps.specs.declared.parts.parts.OpenPages.{OpenPages}
+use Rattle.opfs_desk_steps.specs.declared.parts.parts.DeskParts.{DeskParts}
 
 -- All of a row of so many bytes is to be stored.
 abbrev pub all_of : ℕ → Change
 all_of size = record { at = 0; given = []; size = size; whole = true }
 
 -- All pages of a row are staged, over parts as they are.
-abbrev pub IsStagedWhole : {D : Type 0} → DiskWords D → Parts D → ℕ → ℕ → WorkingCopy → WriteList → Type 0
+abbrev pub IsStagedWhole : {D : Type 0} → DiskWords D → DeskParts D → ℕ → ℕ → WorkingCopy → WriteList → Type 0
 IsStagedWhole w p k n work writes = IsStagedFor w.tells work (w.content p.ledger.journal.disk) p.pages.base p.pages.swap k n 0 [] work.length true writes
 
 -- Pages of a row are ready to be put; they have their blocks, or wait for them.
-pub record IsReadyToPut {D : Type 0} (w : DiskWords D) (recorded : Tree) (l : Ledger D) (p : Pages) (agent row : ℕ) (put : Put) : Type 0 where
+pub record IsReadyToPut {D : Type 0} (w : DiskWords D) (recorded : Tree) (l : Ledger D) (p : OpenPages) (agent row : ℕ) (put : Put) : Type 0 where
   pub ready : IsPutReady w.tells (w.content l.journal.disk) p.base p.swap agent row put.pages put.writes put.moves (vec_capacity put.extents)
   pub bytes : HasBytes put.writes []
   pub gotten : AreGotten put.taken (machine_in l) (shelf_in recorded l p) p.space p.base (w.size l.journal.disk) agent row put.pages put.writes [] put.extents.items
@@ -48,7 +48,7 @@ pub record KeepsEnough {D : Type 0} (l : Ledger D) (agent row pages : ℕ) : Typ
   pub within : pages ≤ reserve_of own
 
 -- They may be put, over parts that are kept.
-pub record MayPut {D : Type 0} (w : DiskWords D) (p : Parts D) (agent row : ℕ) (put : Put) : Type 0 where
+pub record MayPut {D : Type 0} (w : DiskWords D) (p : DeskParts D) (agent row : ℕ) (put : Put) : Type 0 where
   pub fixed : Fixed D
   pub recorded : Built
   pub are : AreHeldWhole w fixed recorded p.ledger p.pages
@@ -56,7 +56,7 @@ pub record MayPut {D : Type 0} (w : DiskWords D) (p : Parts D) (agent row : ℕ)
   pub enough : KeepsEnough p.ledger agent row put.pages
 
 -- They may be written now, while no gate is in doubt: they have their blocks.
-pub record MayWrite {D : Type 0} (w : DiskWords D) (p : Parts D) (agent row : ℕ) (put : Put) : Type 0 where
+pub record MayWrite {D : Type 0} (w : DiskWords D) (p : DeskParts D) (agent row : ℕ) (put : Put) : Type 0 where
   pub fixed : Fixed D
   pub recorded : Built
   pub are : AreHeldWhole w fixed recorded p.ledger p.pages
@@ -72,7 +72,7 @@ pub record HasContent (tells : Type 0) (base : ℕ) (c : List ℕ) (swap : Rows)
   pub told : tells → (i : ℕ) → i < pages → IsBegun bytes i (page_of c base (page_at agent row i swap))
 
 -- They are those of a row with these bytes, as its working copy and the store had them.
-pub record IsRowToPut {D : Type 0} (w : DiskWords D) (f : Fixed D) (l : Ledger D) (p : Pages) (agent row : ℕ) (put : Put) (work : WorkingCopy) (bytes : Text) : Type 0 where
+pub record IsRowToPut {D : Type 0} (w : DiskWords D) (f : Fixed D) (l : Ledger D) (p : OpenPages) (agent row : ℕ) (put : Put) (work : WorkingCopy) (bytes : Text) : Type 0 where
   pub of_row : IsPutOf w.tells work (w.content l.journal.disk) p.base p.swap agent row (all_of work.length) put.writes bytes bytes
   pub its_bytes : row_bytes (state_after f.opening l.books.history) agent row ≡ Some bytes
   pub size : work.length ≡ length bytes

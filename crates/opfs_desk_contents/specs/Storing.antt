@@ -41,8 +41,8 @@ use Rattle.opfs_desk_steps.specs.Parts.Answered.{IsAnswered, MayAnswer}
 use Rattle.opfs_desk_steps.specs.Parts.Held.{AreHeldWhole, AreTied}
 use Rattle.opfs_desk_steps.specs.Parts.Seen.{machine_in, tree_in, book_in}
 use Rattle.opfs_desk_steps.specs.declared.parts.parts.Ledger.{Ledger}
-use Rattle.opfs_desk_steps.specs.declared.parts.parts.Pages.{Pages}
-use Rattle.opfs_desk_steps.specs.declared.parts.parts.Parts.{Parts}
+use Rattle.opfs_desk_steps.specs.declared.parts.parts.OpenPages.{OpenPages}
+use Rattle.opfs_desk_steps.specs.declared.parts.parts.DeskParts.{DeskParts}
 use Rattle.opfs_desk_contents.specs.Putting.{HasContent, IsReadyToPut, IsRowToPut, KeepsEnough}
 use Rattle.opfs_desk_contents.specs.Rows.{StoresFile}
 use Rattle.opfs_desk_contents.specs.Words.{size_stored, stamp_stored}
@@ -62,7 +62,7 @@ pub record MayStoreContent {D : Type 0} (w : DiskWords D) (l : Ledger D) (e : En
   pub holds : CanHold answer.fixed.geometry.blocks (content_now l e place row size runs) (book_in l).rows
 
 -- It was committed, and the call entered: the records build the rows as they are stored.
-pub record HasStored {D : Type 0} (w : DiskWords D) (f : Fixed D) (base : State Text Own) (gone : List Text) (old new : Ledger D) (p : Pages) (e : Entry) (z : Sizes) (extents : Option (List Extent)) (own : Spelled) : Type 0 where
+pub record HasStored {D : Type 0} (w : DiskWords D) (f : Fixed D) (base : State Text Own) (gone : List Text) (old new : Ledger D) (p : OpenPages) (e : Entry) (z : Sizes) (extents : Option (List Extent)) (own : Spelled) : Type 0 where
   pub entries : new.books.history ≡ old.books.history ++ e ∷ []
   pub machine : machine_in new ≡ counted (effect in_lengths (machine_in old) z e.agent e.op) e.agent
   pub tree : tree_in new ≡ tree_by (machine_in old) (tree_in old) e.agent e.op z extents
@@ -84,14 +84,14 @@ pub record AreRunsOf (swap : Rows) (agent row pages : ℕ) (runs : List Extent) 
       → bytes_of c base runs (length bytes) ≡ bytes
 
 -- A row's content may be stored: its pages may be put, and the call's entry may come.
-pub record StoresContent {D : Type 0} (w : DiskWords D) (f : Fixed D) (l : Ledger D) (p : Pages) (e : Entry) (z : Sizes) (agent row : ℕ) (put : Put) (place : Place) (work : WorkingCopy) (bytes : Text) : Type 0 where
+pub record StoresContent {D : Type 0} (w : DiskWords D) (f : Fixed D) (l : Ledger D) (p : OpenPages) (e : Entry) (z : Sizes) (agent row : ℕ) (put : Put) (place : Place) (work : WorkingCopy) (bytes : Text) : Type 0 where
   pub of_row : IsRowToPut w f l p agent row put work bytes
   pub answered : IsAnswered w (state_after f.opening l.books.history) [] l e z
   pub fault : IsCall (state_after f.opening l.books.history) [] (failed e)
   pub stored : bytes_stored (state_after f.opening l.books.history) e.agent e.op ≡ bytes
   pub size : (file : FileRow) → file_in_tree place (tree_in l) ≡ Some file → work.length ≡ size_stored z e.op file
 
-pub record MayStorePages {D : Type 0} (w : DiskWords D) (p : Parts D) (e : Entry) (z : Sizes) (agent row : ℕ) (put : Put) (place : Place) (work : WorkingCopy) : Type 0 where
+pub record MayStorePages {D : Type 0} (w : DiskWords D) (p : DeskParts D) (e : Entry) (z : Sizes) (agent row : ℕ) (put : Put) (place : Place) (work : WorkingCopy) : Type 0 where
   pub fixed : Fixed D
   pub recorded : Built
   pub bytes : Text
@@ -106,7 +106,7 @@ pub record MayStorePages {D : Type 0} (w : DiskWords D) (p : Parts D) (e : Entry
   pub there : file_in_tree place (tree_in p.ledger) ≡ Some row_of
 
 -- It was put and stored, from ledgers on the way on over the same pages.
-pub record HasStoredPages {D : Type 0} (w : DiskWords D) (f : Fixed D) (old new : Parts D) (e : Entry) (z : Sizes) (agent row pages : ℕ) (place : Place) (runs : List Extent) (bytes : Text) : Type 0 where
+pub record HasStoredPages {D : Type 0} (w : DiskWords D) (f : Fixed D) (old new : DeskParts D) (e : Entry) (z : Sizes) (agent row pages : ℕ) (place : Place) (runs : List Extent) (bytes : Text) : Type 0 where
   pub back : Ledger D
   pub cleared : AreCleared w f [] old.ledger back new.pages
   pub entries : back.books.history ≡ old.ledger.books.history

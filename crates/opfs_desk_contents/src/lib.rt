@@ -17,5 +17,5 @@ pub use laws::stored_contents_keep_blocks_right;
 pub use pages::store_pages;
 pub use planning::{Plan, plan_content};
 pub use storing::enter_content;
-pub use unchanged::{act_again, act_idle_flush};
+pub use unchanged::{act_idle_flush, act_store_same_blocks};
 pub use words::{is_last, row_of};

@@ -21,15 +21,15 @@ use crate::putting::put_content;
 use crate::storing::{copy_runs, enter_content};
 use opfs_base::{Extent, Extents};
 use opfs_books::{
-    Last, a_fault_is_counted, calls_are_spelled, calls_may_fail, state_laws, the_state_is_kept,
+    EntryWithRoom, a_fault_is_counted, calls_are_spelled, calls_may_fail, state_laws,
+    the_state_is_kept,
 };
 use opfs_data::Swap;
-use opfs_desk_steps::{Parts, fail_call, parts_lie_inside};
+use opfs_desk_steps::{DeskParts, fail_call, parts_lie_inside};
 use opfs_journal::DiskFault;
 use opfs_machine::Sizes;
 use opfs_outside::Disk;
 use opfs_pages::collect_blocks;
-use opfs_tree::Walk;
 use opfs_work::Work;
 
 // What is known of the steps of such a call.
@@ -74,8 +74,8 @@ fn collect(
 /// Puts a row's pages, and stores its content with the call's entry; gives the runs of its blocks. Where the disk fails, the call is
 /// entered so, and the row's bytes stay.
 pub fn store_pages<D: Disk>(
-    parts: &mut Parts<D>,
-    last: Last,
+    parts: &mut DeskParts<D>,
+    last: EntryWithRoom,
     sizes: Sizes,
     plan: Plan,
     agent: u32,
@@ -98,8 +98,8 @@ pub fn store_pages<D: Disk>(
         → HasFailed D.Disk f last.entry parts.old.ledger parts.new.ledger parts.new.pages) }
 {
     storing_laws::<D>();
-    parts.ledger.books.state.lines();
-    parts.ledger.books.state.step(&mut Walk::make());
+    parts.ledger.books.state.know_rows_match_tree();
+    parts.ledger.books.state.know_order();
     let Plan {
         put,
         place,

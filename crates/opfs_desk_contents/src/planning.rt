@@ -20,7 +20,7 @@ ghost use Rattle.opfs_state.specs.Verdicts.Callers.{IsAgent};
 
 use opfs_base::{Extent, copy_place};
 use opfs_data::DataRefusal;
-use opfs_desk_steps::Parts;
+use opfs_desk_steps::DeskParts;
 use opfs_machine::Place;
 use opfs_outside::Disk;
 use opfs_pages::{Put, plan_put};
@@ -62,7 +62,7 @@ fn room_for(alloc: Global, count: u64) -> Result<Vec<Extent>, AllocError>
 
 /// Plans what a call stores of a row. It has all memory and all reads, and the blocks where enough are free. Nothing is written.
 pub fn plan_content<D: Disk>(
-    parts: &mut Parts<D>,
+    parts: &mut DeskParts<D>,
     agent: u32,
     row: u32,
     work: &Work,

@@ -8,14 +8,14 @@ ghost use Rattle.opfs_books.specs.Laws.Laws.{LeavesPages};
 ghost use Rattle.opfs_desk_contents.specs.Putting.{MayPut, MayWrite, HasContent, IsRowToPut};
 ghost use Rattle.opfs_desk_steps.specs.Parts.Acted.{AreCleared};
 ghost use Rattle.opfs_desk_steps.specs.Parts.Held.{AreHeldWhole};
-ghost use Rattle.opfs_desk_steps.specs.declared.parts.parts.Pages.{Pages};
+ghost use Rattle.opfs_desk_steps.specs.declared.parts.parts.OpenPages.{OpenPages};
 ghost use Rattle.opfs_outside.specs.Faults.{Rose};
 ghost use Rattle.opfs_records.specs.Replay.Built.{Built};
 ghost use Rattle.opfs_pages.specs.RowCalls.Plans.{HaveBlocks};
 ghost use Rattle.opfs_work.specs.Works.{WorkingCopy};
 
 use opfs_books::{pages_beside_leave_the_books, the_books_show_their_images, the_state_is_kept};
-use opfs_desk_steps::{Ledger, Parts, commit_kept, parts_lie_inside, puts_have_room};
+use opfs_desk_steps::{DeskParts, Ledger, commit_kept, parts_lie_inside, puts_have_room};
 use opfs_journal::DiskFault;
 use opfs_outside::Disk;
 use opfs_pages::{
@@ -29,8 +29,8 @@ fn settle_doubt<D: Disk>(ledger: &mut Ledger<D>) -> Result<(), DiskFault>
     ensures state { ledger.new.books.state ≡ ledger.old.books.state }
     ensures sure { OnOk result (ledger.new.journal.in_doubt ≡ false) }
     ensures leaves { LeavesPages D.Disk ledger.old.journal ledger.new.journal }
-    ensures held { (f : Fixed D) (recorded : Built) (p : Pages) → AreHeldWhole D.Disk f recorded ledger.old p → AreHeldWhole D.Disk f recorded ledger.new p }
-    ensures cleared { (f : Fixed D) (recorded : Built) (p : Pages) → AreHeldWhole D.Disk f recorded ledger.old p → AreCleared D.Disk f [] ledger.old ledger.new p }
+    ensures held { (f : Fixed D) (recorded : Built) (p : OpenPages) → AreHeldWhole D.Disk f recorded ledger.old p → AreHeldWhole D.Disk f recorded ledger.new p }
+    ensures cleared { (f : Fixed D) (recorded : Built) (p : OpenPages) → AreHeldWhole D.Disk f recorded ledger.old p → AreCleared D.Disk f [] ledger.old ledger.new p }
     ensures cause { OnErr result (Rose (D.faults ledger.old.journal.disk) (D.faults ledger.new.journal.disk)) }
 {
     what_is_laid_goes_on::<D>();
@@ -42,7 +42,7 @@ fn settle_doubt<D: Disk>(ledger: &mut Ledger<D>) -> Result<(), DiskFault>
 
 // Finds blocks for pages that wait for them: what is kept back is committed, and a sweep finds what is free.
 fn find_room<D: Disk>(
-    parts: &mut Parts<D>,
+    parts: &mut DeskParts<D>,
     put: &mut Put,
     agent: u32,
     row: u32,
@@ -70,7 +70,7 @@ fn find_room<D: Disk>(
     if put.taken {
         return Ok(());
     }
-    parts.ledger.books.state.lines();
+    parts.ledger.books.state.know_rows_match_tree();
     match commit_kept(&mut parts.ledger) {
         Ok(()) => {
             find_blocks(
@@ -89,7 +89,7 @@ fn find_room<D: Disk>(
 
 // Writes the pages into their blocks.
 fn write_pages<D: Disk>(
-    parts: &mut Parts<D>,
+    parts: &mut DeskParts<D>,
     put: &mut Put,
     agent: u32,
     row: u32,
@@ -127,7 +127,7 @@ fn write_pages<D: Disk>(
 /// Puts a row's pages as its content: the doubt is ended, what is kept back is committed where blocks are short, and the pages are
 /// written. The row's bytes stay. Takes no memory.
 pub(crate) fn put_content<D: Disk>(
-    parts: &mut Parts<D>,
+    parts: &mut DeskParts<D>,
     put: &mut Put,
     agent: u32,
     row: u32,

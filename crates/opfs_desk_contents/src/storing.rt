@@ -14,7 +14,7 @@ ghost use Rattle.opfs_desk_entries.specs.KeptBack.Changing.{HasNotChanged};
 ghost use Rattle.opfs_desk_steps.specs.Parts.Answered.{IsAnswered};
 ghost use Rattle.opfs_desk_steps.specs.Parts.Held.{AreHeldAt};
 ghost use Rattle.opfs_desk_steps.specs.Parts.Seen.{tree_in, book_in};
-ghost use Rattle.opfs_desk_steps.specs.declared.parts.parts.Pages.{Pages};
+ghost use Rattle.opfs_desk_steps.specs.declared.parts.parts.OpenPages.{OpenPages};
 ghost use Rattle.opfs_hist.specs.declared.reply.Reply.TheVariants as reply;
 ghost use Rattle.opfs_machine.specs.declared.own.Own.{Own};
 ghost use Rattle.opfs_machine.specs.declared.state.State.{State};
@@ -24,13 +24,12 @@ ghost use Rattle.opfs_tree.specs.declared.row.FileRow.{FileRow};
 
 use crate::words::stamp_of;
 use opfs_base::{Extent, Extents};
-use opfs_books::{Entering, Last};
+use opfs_books::{Entering, EntryWithRoom};
 use opfs_codec::ChangeRef;
 use opfs_desk_steps::{Ledger, store_call};
 use opfs_journal::DiskFault;
 use opfs_machine::{Place, Sizes};
 use opfs_outside::Disk;
-use opfs_tree::Walk;
 
 // The content of a file as a change.
 #[tactic(auto, unfolding(opfs_codec::specs::Fields::plain))]
@@ -57,7 +56,7 @@ pub(crate) fn copy_runs(runs: &[Extent], into: &mut Vec<Extent>)
 /// content may be in doubt. The pages are the caller's.
 pub fn enter_content<D: Disk>(
     ledger: &mut Ledger<D>,
-    last: Last,
+    last: EntryWithRoom,
     sizes: Sizes,
     place: &Place,
     size: u64,
@@ -70,16 +69,16 @@ pub fn enter_content<D: Disk>(
     requires settled { ledger.old.journal.in_doubt ≡ false }
     ensures order { IsInOrder (tree_in ledger.old) }
     ensures order_now { OnOk result (IsInOrder (tree_in ledger.new)) }
-    ensures stored { OnOk result ((f : Fixed D) (recorded : Built) (base : State Text Own) (gone : List Text) (p : Pages) (row : FileRow) → AreHeldAt D.Disk f recorded base gone ledger.old p → IsAnswered D.Disk base gone ledger.old last.entry sizes
+    ensures stored { OnOk result ((f : Fixed D) (recorded : Built) (base : State Text Own) (gone : List Text) (p : OpenPages) (row : FileRow) → AreHeldAt D.Disk f recorded base gone ledger.old p → IsAnswered D.Disk base gone ledger.old last.entry sizes
         → file_in_tree place.now (tree_in ledger.old) ≡ Some row → CanHold f.geometry.blocks (content_now ledger.old last.entry place.now row size runs.now) (book_in ledger.old).rows
         → BytesStand D.Disk f base gone ledger.old.journal last.entry (content_now ledger.old last.entry place.now row size runs.now)
         → HasStored D.Disk f base gone ledger.old ledger.new p last.entry sizes extents (content_now ledger.old last.entry place.now row size runs.now)) }
-    ensures failed { OnErr result ((f : Fixed D) (recorded : Built) (base : State Text Own) (gone : List Text) (p : Pages) (row : FileRow) → AreHeldAt D.Disk f recorded base gone ledger.old p → IsAnswered D.Disk base gone ledger.old last.entry sizes
+    ensures failed { OnErr result ((f : Fixed D) (recorded : Built) (base : State Text Own) (gone : List Text) (p : OpenPages) (row : FileRow) → AreHeldAt D.Disk f recorded base gone ledger.old p → IsAnswered D.Disk base gone ledger.old last.entry sizes
         → file_in_tree place.now (tree_in ledger.old) ≡ Some row → CanHold f.geometry.blocks (content_now ledger.old last.entry place.now row size runs.now) (book_in ledger.old).rows
         → BytesStand D.Disk f base gone ledger.old.journal last.entry (content_now ledger.old last.entry place.now row size runs.now)
         → HasNotChanged D.Disk f recorded base gone ledger.old ledger.new p last.entry (content_now ledger.old last.entry place.now row size runs.now)) }
 {
-    ledger.books.state.step(&mut Walk::make());
+    ledger.books.state.know_order();
     let stamp = stamp_of(&ledger.books.state, last.entry.agent, &last.entry.op, place);
     let own = content_of(place, stamp, size, runs);
     let entering = Entering {
@@ -89,7 +88,7 @@ pub fn enter_content<D: Disk>(
     };
     match store_call(ledger, &own, entering) {
         Ok(()) => {
-            ledger.books.state.step(&mut Walk::make());
+            ledger.books.state.know_order();
             Ok(())
         }
         Err(fault) => Err(fault),

@@ -6,5 +6,5 @@ mod laws;
 mod planning;
 mod words;
 
-pub use again::act_again;
+pub use again::act_store_same_blocks;
 pub use idle::act_idle_flush;

@@ -5,8 +5,8 @@ mod refused;
 mod telling;
 mod told;
 
-pub use modes::act_mode;
+pub use modes::act_persisted;
 pub use next::act_next;
 pub use refused::act_refused;
 pub use telling::{tell, telling_laws};
-pub use told::act_told;
+pub use told::act_done;

@@ -5,5 +5,5 @@ mod changing;
 mod entering;
 mod spelling;
 
-pub use acting::act_kept;
+pub use acting::act_keep_back;
 pub use entering::{enter_change, keep_call};

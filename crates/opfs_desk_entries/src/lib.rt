@@ -9,7 +9,7 @@ mod buckets;
 pub mod kept_back;
 mod releases;
 
-pub use answers::{act_mode, act_next, act_refused, act_told, tell, telling_laws};
+pub use answers::{act_done, act_next, act_persisted, act_refused, tell, telling_laws};
 pub use buckets::{act_estimate, act_persist};
-pub use kept_back::{act_kept, enter_change, keep_call};
-pub use releases::act_leave;
+pub use kept_back::{act_keep_back, enter_change, keep_call};
+pub use releases::act_close_without_store;

@@ -2,4 +2,4 @@
 //! stored.
 mod leaving;
 
-pub use leaving::act_leave;
+pub use leaving::act_close_without_store;

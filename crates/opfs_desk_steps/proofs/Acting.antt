@@ -31,7 +31,7 @@ use Rattle.opfs_desk_steps.specs.Parts.Acted.{IsWay, last_doubt}
 use Rattle.opfs_desk_steps.specs.Parts.Held.{AreHeldWhole}
 use Rattle.opfs_desk_steps.specs.Parts.Seen.{book_in, call_in}
 use Rattle.opfs_desk_steps.specs.declared.parts.parts.Ledger.{Ledger}
-use Rattle.opfs_desk_steps.specs.declared.parts.parts.Pages.{Pages}
+use Rattle.opfs_desk_steps.specs.declared.parts.parts.OpenPages.{OpenPages}
 use Rattle.opfs_desk_steps.specs.Acting.{HasTaken, CallsAreActed}
 use Rattle.opfs_desk_steps.proofs.book_steps.Taken.{pending-told}
 use Rattle.opfs_desk_steps.proofs.book_steps.Ways.{way-told, way-same}
@@ -52,7 +52,7 @@ joined : (h calls es : List Entry) (mid : List Entry) → mid ≡ h ++ calls →
 joined h calls es mid is = ap (λ (xs : List Entry). xs ++ es) is ∙ append_assoc h calls es
 
 module _ {D : Type 0} (w : DiskWords D) (stays : ADoubtStays) where
-  before-taken : (f : Fixed D) (recorded : Built) (old mid new : Ledger D) (p : Pages) (k : ℕ) (calls : List Entry) (all : List Change)
+  before-taken : (f : Fixed D) (recorded : Built) (old mid new : Ledger D) (p : OpenPages) (k : ℕ) (calls : List Entry) (all : List Change)
       → AreHeldWhole w f recorded old p → ArePendingFor w.tells (state_after f.opening old.books.history) k calls → HasTaken old mid calls → IsWay w f all mid new → IsWay w f all old new
   before-taken f recorded old mid new p k calls all held pending taken way =
       let same : told f (book_in mid) ≡ told f (book_in old) = pending-told w.tells f.opening k old.books.history calls mid.books.history pending taken.entries in

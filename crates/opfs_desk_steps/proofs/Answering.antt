@@ -27,9 +27,9 @@ use Rattle.opfs_state.specs.Laws.Room.{EvictionsMakeRoom, HasRoom}
 use Rattle.opfs_state.specs.Verdicts.Callers.{IsAgent}
 use Rattle.opfs_desk_steps.specs.Parts.Seen.{machine_in, call_in, units_in}
 use Rattle.opfs_desk_steps.specs.Parts.Held.{AreHeldWhole}
-use Rattle.opfs_desk_steps.specs.declared.parts.call.InHand.{InHand}
+use Rattle.opfs_desk_steps.specs.declared.parts.call.ReadyCall.{ReadyCall}
 use Rattle.opfs_desk_steps.specs.declared.parts.parts.Ledger.{Ledger}
-use Rattle.opfs_desk_steps.specs.declared.parts.parts.Pages.{Pages}
+use Rattle.opfs_desk_steps.specs.declared.parts.parts.OpenPages.{OpenPages}
 use Rattle.opfs_records.specs.Replay.Built.{Built}
 use Rattle.opfs_desk_steps.proofs.book_steps.Real.{has-room, agent-there}
 use Rattle.opfs_desk_steps.proofs.book_steps.Turns.{step-victims, step-answer}
@@ -49,7 +49,7 @@ calls-cleared k h units =
     omega (arith, parts, evictions-none k units)
 
 -- A call with the machine's reply is one that may come.
-pub next-of : {D : Type 0} (w : DiskWords D) (s : State Text Own) (c : InHand) (r : Reply) → IsTrue (agent_of s c.agent).live → IsTrue (may_enter s c.agent c.op) → judged s c.agent c.op ≡ Ok (units_in c.clearing.items)
+pub next-of : {D : Type 0} (w : DiskWords D) (s : State Text Own) (c : ReadyCall) (r : Reply) → IsTrue (agent_of s c.agent).live → IsTrue (may_enter s c.agent c.op) → judged s c.agent c.op ≡ Ok (units_in c.clearing.items)
     → c.sizes ≡ sizes_of s c.agent c.op → IsReply w.tells s c r → IsNext w.tells s (units_in c.clearing.items) (told_entry (call_in c) r)
 next-of w s c r live fitting is sizes reply =
     let its : (step s c.agent c.op).answered ≡ answer s c.sizes c.agent c.op = step-answer s c.agent c.op (units_in c.clearing.items) is ∙ ap (λ (z : Sizes). answer s z c.agent c.op) (sym sizes) in
@@ -65,7 +65,7 @@ next-of w s c r live fitting is sizes reply =
     }
 
 module _ {D : Type 0} (w : DiskWords D) (reads : ReadsLeaveTheState) (counts : AStateCountsItsHistory) (make : EvictionsMakeRoom) (decide : LengthsDecideEachRuling) where
-  room-of : (f : Fixed D) (recorded : Built) (l : Ledger D) (p : Pages) (c : InHand) → AreHeldWhole w f recorded l p → IsReadyCall (state_after f.opening l.books.history) l c
+  room-of : (f : Fixed D) (recorded : Built) (l : Ledger D) (p : OpenPages) (c : ReadyCall) → AreHeldWhole w f recorded l p → IsReadyCall (state_after f.opening l.books.history) l c
       → HasRoom (state_after f.opening l.books.history) c.agent c.op (units_in c.clearing.items)
   room-of f recorded l p c held ready =
       has-room w.tells f.opening l.books.history reads held.books.told counts held.tied.keys c.agent c.op ready.fitting make decide held.books.whole (units_in c.clearing.items) ready.judged

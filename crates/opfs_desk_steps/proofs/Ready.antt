@@ -19,7 +19,7 @@ use Rattle.opfs_state.specs.Verdicts.Callers.{IsAgent}
 use Rattle.opfs_desk_steps.specs.Parts.Held.{AreHeldWhole}
 use Rattle.opfs_desk_steps.specs.Parts.Seen.{machine_in}
 use Rattle.opfs_desk_steps.specs.declared.parts.parts.Ledger.{Ledger}
-use Rattle.opfs_desk_steps.specs.declared.parts.parts.Pages.{Pages}
+use Rattle.opfs_desk_steps.specs.declared.parts.parts.OpenPages.{OpenPages}
 use Rattle.opfs_desk_steps.proofs.book_steps.Real.{real, real-legal, real-state, agent-there}
 use Rattle.opfs_desk_steps.specs.Ready.{AskedCallsAreReady}
 use Rattle.opfs_desk_steps.proofs.Numbers.{live-within}
@@ -27,10 +27,10 @@ use Rattle.opfs_desk_steps.proofs.Counts.{calls-less, pending-entries, live-befo
 
 module _ {D : Type 0} (w : DiskWords D) (reads : ReadsLeaveTheState) (follow : LengthsFollowEachCall) (local : LocalCallsAreKnownByTheirWord) where
   -- There is an agent of the number, which is 64 at most.
-  pub agent-of : (f : Fixed D) (recorded : Built) (l : Ledger D) (p : Pages) (k : ℕ) → AreHeldWhole w f recorded l p → IsTrue (agent_of (state_after f.opening l.books.history) k).live → IsAgent (machine_in l) k
+  pub agent-of : (f : Fixed D) (recorded : Built) (l : Ledger D) (p : OpenPages) (k : ℕ) → AreHeldWhole w f recorded l p → IsTrue (agent_of (state_after f.opening l.books.history) k).live → IsAgent (machine_in l) k
   agent-of f recorded l p k held live = subst (λ (m : Machine). IsAgent m k) (sym held.books.machine) (agent-there (state_after f.opening l.books.history) k live)
 
-  pub last-of : (f : Fixed D) (recorded : Built) (l : Ledger D) (p : Pages) (k : ℕ) → AreHeldWhole w f recorded l p → IsTrue (agent_of (state_after f.opening l.books.history) k).live → k ≤ 64
+  pub last-of : (f : Fixed D) (recorded : Built) (l : Ledger D) (p : OpenPages) (k : ℕ) → AreHeldWhole w f recorded l p → IsTrue (agent_of (state_after f.opening l.books.history) k).live → k ≤ 64
   last-of f recorded l p k held live =
       let h = l.books.history in
       let told = held.books.told in

@@ -17,28 +17,28 @@ use Rattle.opfs_tree.specs.Rows.{IsInOrder}
 use Rattle.opfs_desk_steps.specs.Parts.Acted.{AreCleared}
 use Rattle.opfs_desk_steps.specs.Parts.Held.{AreTied, AreHeldWhole}
 use Rattle.opfs_desk_steps.specs.Parts.Seen.{machine_in, tree_in, book_in, units_in}
-use Rattle.opfs_desk_steps.specs.declared.parts.call.InHand.{InHand}
+use Rattle.opfs_desk_steps.specs.declared.parts.call.ReadyCall.{ReadyCall}
 use Rattle.opfs_desk_steps.specs.declared.parts.parts.Ledger.{Ledger}
-use Rattle.opfs_desk_steps.specs.declared.parts.parts.Pages.{Pages}
+use Rattle.opfs_desk_steps.specs.declared.parts.parts.OpenPages.{OpenPages}
 use Rattle.opfs_desk_steps.specs.BookSteps.Clearing.{cleared_from}
 use Rattle.opfs_desk_steps.specs.Acting.{HasTaken}
 
 -- Its agent's pending calls were taken in.
-pub record HasTakenIn {D : Type 0} (w : DiskWords D) (f : Fixed D) (recorded : Built) (l mid : Ledger D) (p : Pages) (calls : List Entry) (c : InHand) : Type 0 where
+pub record HasTakenIn {D : Type 0} (w : DiskWords D) (f : Fixed D) (recorded : Built) (l mid : Ledger D) (p : OpenPages) (calls : List Entry) (c : ReadyCall) : Type 0 where
   pub taken : HasTaken l mid calls
   pub held : AreHeldWhole w f recorded mid p
   pub prepared : IsPrepared mid.books.state c.agent c.op
   pub tree : tree_in mid ≡ tree_in l
 
 -- Its units were cleared.
-pub record HasMadeWay {D : Type 0} (w : DiskWords D) (f : Fixed D) (mid back : Ledger D) (p : Pages) (c : InHand) : Type 0 where
+pub record HasMadeWay {D : Type 0} (w : DiskWords D) (f : Fixed D) (mid back : Ledger D) (p : OpenPages) (c : ReadyCall) : Type 0 where
   pub entries : back.books.history ≡ mid.books.history ++ map eviction (units_in c.clearing.items)
   pub prepared : IsPrepared back.books.state c.agent c.op
   pub tree : tree_in back ≡ fold cleared_from (tree_in mid) (units_in c.clearing.items)
   pub cleared : AreCleared w f (units_in c.clearing.items) mid back p
 
 -- And it was entered, over the pages of before, and stored nothing.
-pub record HasTold {D : Type 0} (w : DiskWords D) (f : Fixed D) (recorded : Built) (back new : Ledger D) (p : Pages) (e : Entry) (z : Sizes) : Type 0 where
+pub record HasTold {D : Type 0} (w : DiskWords D) (f : Fixed D) (recorded : Built) (back new : Ledger D) (p : OpenPages) (e : Entry) (z : Sizes) : Type 0 where
   pub journal : new.journal ≡ back.journal
   pub entries : new.books.history ≡ back.books.history ++ e ∷ []
   pub machine : machine_in new ≡ counted (effect in_lengths (machine_in back) z e.agent e.op) e.agent

@@ -4,26 +4,26 @@ ghost use Rattle.std.specs.Prelude.{◌≡◌};
 ghost use Rattle.opfs_store.specs.Acts.Acting.{told_entry};
 ghost use Rattle.opfs_desk_steps.specs.Parts.Seen.{call_in};
 
-use crate::parts::{Clearing, InHand};
-use opfs_books::Last;
+use crate::parts::{Eviction, ReadyCall};
+use opfs_books::EntryWithRoom;
 use opfs_hist::{Entry, Reply};
 use opfs_machine::Sizes;
 
 /// A call's entry with the memory for it, the sizes of the row that it names, and the units that are cleared for it.
 #[derive(Drop)]
 pub struct CallParts {
-    pub last: Last,
+    pub last: EntryWithRoom,
     pub sizes: Sizes,
-    pub clearing: Vec<Clearing>,
+    pub clearing: Vec<Eviction>,
 }
 
 /// Takes a call apart that is answered so.
-pub fn call_parts(call: InHand, reply: Reply) -> CallParts
+pub fn call_parts(call: ReadyCall, reply: Reply) -> CallParts
     ensures entry { result.last.entry ≡ told_entry (call_in call) reply }
     ensures sizes { result.sizes ≡ call.sizes }
     ensures clearing { result.clearing.items ≡ call.clearing.items }
 {
-    let InHand {
+    let ReadyCall {
         room,
         agent,
         number,
@@ -40,7 +40,7 @@ pub fn call_parts(call: InHand, reply: Reply) -> CallParts
         turn,
     };
     CallParts {
-        last: Last { room, entry },
+        last: EntryWithRoom { room, entry },
         sizes,
         clearing,
     }

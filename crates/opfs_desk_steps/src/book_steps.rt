@@ -8,9 +8,9 @@ mod refusing;
 mod taking;
 mod units;
 
-pub use clearing::end_doubt;
+pub use clearing::settle_doubt;
 pub use committing::commit_kept;
 pub use entering::{store_call, tell_call};
 pub use refusing::{fail_call, refuse_call};
 pub use taking::take_in;
-pub use units::make_way;
+pub use units::evict_all;

@@ -7,7 +7,7 @@ ghost use Rattle.opfs_books.specs.Laws.Laws.{LeavesPages};
 ghost use Rattle.opfs_desk_steps.specs.Parts.Acted.{AreCleared, HasFailed};
 ghost use Rattle.opfs_desk_steps.specs.Parts.Held.{AreHeldWhole};
 ghost use Rattle.opfs_desk_steps.specs.Parts.Seen.{tree_in, call_in, units_in};
-ghost use Rattle.opfs_desk_steps.specs.declared.parts.parts.Pages.{Pages};
+ghost use Rattle.opfs_desk_steps.specs.declared.parts.parts.OpenPages.{OpenPages};
 ghost use Rattle.opfs_desk_steps.specs.BookSteps.Clearing.{IsJudged, MayMakeWay, cleared_from};
 ghost use Rattle.opfs_machine.specs.Histories.{state_after};
 ghost use Rattle.opfs_machine.specs.Runs.{eviction};
@@ -15,9 +15,9 @@ ghost use Rattle.opfs_records.specs.Replay.Built.{Built};
 ghost use Rattle.opfs_state.specs.Applied.{IsPrepared};
 
 use crate::apart::{CallParts, call_parts};
-use crate::book_steps::make_way;
-use crate::parts::{InHand, Ledger};
-use opfs_books::{Last, the_books_show_their_images};
+use crate::book_steps::evict_all;
+use crate::parts::{Ledger, ReadyCall};
+use opfs_books::{EntryWithRoom, the_books_show_their_images};
 use opfs_hist::Reply;
 use opfs_journal::DiskFault;
 use opfs_machine::Sizes;
@@ -25,11 +25,11 @@ use opfs_outside::Disk;
 
 /// Ends the doubt and clears the units of a call that changes something; gives the entry with its reply, for which it takes the call
 /// apart, and its sizes. Where the disk fails, the call is entered so, after the evictions that were committed.
-pub fn clear_way<D: Disk>(
+pub fn evict_for<D: Disk>(
     ledger: &mut Ledger<D>,
-    call: InHand,
+    call: ReadyCall,
     reply: Reply,
-) -> Result<(Last, Sizes), DiskFault>
+) -> Result<(EntryWithRoom, Sizes), DiskFault>
     requires may { MayMakeWay D.Disk ledger.old (told_entry (call_in call) reply) call.clearing.items }
     ensures entry { IfOk result (λ ready. ready.0.entry ≡ told_entry (call_in call) reply) }
     ensures sizes { IfOk result (λ ready. ready.1 ≡ call.sizes) }
@@ -38,8 +38,8 @@ pub fn clear_way<D: Disk>(
     ensures prepared { OnOk result (IsPrepared ledger.new.books.state call.agent call.op) }
     ensures sure { OnOk result (ledger.new.journal.in_doubt ≡ false) }
     ensures leaves { OnOk result (LeavesPages D.Disk ledger.old.journal ledger.new.journal) }
-    ensures cleared { OnOk result ((f : Fixed D) (recorded : Built) (p : Pages) → AreHeldWhole D.Disk f recorded ledger.old p → AreCleared D.Disk f (units_in call.clearing.items) ledger.old ledger.new p) }
-    ensures failed { OnErr result ((f : Fixed D) (recorded : Built) (p : Pages) → AreHeldWhole D.Disk f recorded ledger.old p
+    ensures cleared { OnOk result ((f : Fixed D) (recorded : Built) (p : OpenPages) → AreHeldWhole D.Disk f recorded ledger.old p → AreCleared D.Disk f (units_in call.clearing.items) ledger.old ledger.new p) }
+    ensures failed { OnErr result ((f : Fixed D) (recorded : Built) (p : OpenPages) → AreHeldWhole D.Disk f recorded ledger.old p
         → IsJudged (state_after f.opening ledger.old.books.history) (told_entry (call_in call) reply) (units_in call.clearing.items) → HasFailed D.Disk f (told_entry (call_in call) reply) ledger.old ledger.new p) }
 {
     let CallParts {
@@ -47,7 +47,7 @@ pub fn clear_way<D: Disk>(
         sizes,
         clearing,
     } = call_parts(call, reply);
-    match make_way(ledger, clearing, last) {
+    match evict_all(ledger, clearing, last) {
         Ok(back) => Ok((back, sizes)),
         Err(fault) => Err(fault),
     }
@@ -58,17 +58,17 @@ pub fn clear_way<D: Disk>(
 /// that were committed.
 pub fn clear_call<D: Disk>(
     ledger: &mut Ledger<D>,
-    call: InHand,
+    call: ReadyCall,
     reply: Reply,
-) -> Result<(Last, Sizes), DiskFault>
+) -> Result<(EntryWithRoom, Sizes), DiskFault>
     requires may { MayMakeWay D.Disk ledger.old (told_entry (call_in call) reply) call.clearing.items }
     ensures entry { IfOk result (λ ready. ready.0.entry ≡ told_entry (call_in call) reply) }
     ensures sizes { IfOk result (λ ready. ready.1 ≡ call.sizes) }
     ensures entries { OnOk result (ledger.new.books.history ≡ ledger.old.books.history ++ map eviction (units_in call.clearing.items)) }
     ensures tree { OnOk result (tree_in ledger.new ≡ fold cleared_from (tree_in ledger.old) (units_in call.clearing.items)) }
     ensures prepared { OnOk result (IsPrepared ledger.new.books.state call.agent call.op) }
-    ensures cleared { OnOk result ((f : Fixed D) (recorded : Built) (p : Pages) → AreHeldWhole D.Disk f recorded ledger.old p → AreCleared D.Disk f (units_in call.clearing.items) ledger.old ledger.new p) }
-    ensures failed { OnErr result ((f : Fixed D) (recorded : Built) (p : Pages) → AreHeldWhole D.Disk f recorded ledger.old p
+    ensures cleared { OnOk result ((f : Fixed D) (recorded : Built) (p : OpenPages) → AreHeldWhole D.Disk f recorded ledger.old p → AreCleared D.Disk f (units_in call.clearing.items) ledger.old ledger.new p) }
+    ensures failed { OnErr result ((f : Fixed D) (recorded : Built) (p : OpenPages) → AreHeldWhole D.Disk f recorded ledger.old p
         → IsJudged (state_after f.opening ledger.old.books.history) (told_entry (call_in call) reply) (units_in call.clearing.items) → HasFailed D.Disk f (told_entry (call_in call) reply) ledger.old ledger.new p) }
 {
     the_books_show_their_images::<D>();
@@ -76,7 +76,7 @@ pub fn clear_call<D: Disk>(
         let CallParts { last, sizes, .. } = call_parts(call, reply);
         return Ok((last, sizes));
     }
-    match clear_way(ledger, call, reply) {
+    match evict_for(ledger, call, reply) {
         Ok(ready) => Ok(ready),
         Err(fault) => Err(fault),
     }

@@ -15,15 +15,15 @@ mod telling;
 
 pub use apart::{CallParts, call_parts};
 pub use book_steps::{
-    commit_kept, end_doubt, fail_call, make_way, refuse_call, store_call, take_in, tell_call,
+    commit_kept, evict_all, fail_call, refuse_call, settle_doubt, store_call, take_in, tell_call,
 };
-pub use clearing::{clear_call, clear_way};
+pub use clearing::{clear_call, evict_for};
 pub use iterating::{Followed, Iterators, asked_row, may_make};
-pub use judging::{Asked, Readied, ask_call};
-pub use parts::{Clearing, InHand, Ledger, Pages, Parts};
+pub use judging::{Judged, Readiness, ask_call};
+pub use parts::{DeskParts, Eviction, Ledger, OpenPages, ReadyCall};
 pub use row_laws::{
     calls_open_rows, copies_are_stored, files_are_stored, opened_rows_are_laid, parts_lie_inside,
     puts_have_room, rows_in_hand_are_laid,
 };
 pub use steps::{asked_calls_are_ready, calls_are_acted, ready_calls_are_answered};
-pub use telling::{tell_in_hand, tell_last};
+pub use telling::{tell_last, tell_ready};

@@ -4,5 +4,5 @@
 mod call;
 mod parts;
 
-pub use call::{Clearing, InHand};
-pub use parts::{Ledger, Pages, Parts};
+pub use call::{Eviction, ReadyCall};
+pub use parts::{DeskParts, Ledger, OpenPages};

@@ -98,7 +98,7 @@ fn write_anew<S: Store, R: Wait>(
     ensures front { OnOk result (S.tells → take notes.new.live (file_bytes agent.new handle.new) ≡ log_of (map put_of (map_in agent.old (seen handle.old notes.old)))) }
     ensures cause { IfErr result (IsCaused agent.old agent.new) }
 {
-    notes.index.kept();
+    notes.index.know_kept();
     let Anew { bytes, len, index } = anew;
     match write(rt, court, agent, handle, &bytes, 0) {
         Ok(()) => {

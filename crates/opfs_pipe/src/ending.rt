@@ -26,8 +26,8 @@ pub(crate) fn close<S: Store, R: Wait>(
     ensures stored { IfOk result (λ closed. IsStored S.tells writer.old writer.new to closed.row (stream_bytes writer.old to)) }
     ensures back { IfErr result (λ back. Failed S.tells writer.old writer.new to back.0 [] back.1) }
 {
-    writer.kept();
+    writer.know_kept();
     let done = writer.close_writable(rt, court, to);
-    writer.kept();
+    writer.know_kept();
     done
 }

@@ -33,9 +33,9 @@ fn push_piece<S: Store>(
     ensures left { OnErr result ((sent source.new ≡ sent source.old) × Sliced S.tells reader.old reader.new from.now at []) }
     ensures why { IfErr result (λ why. why ≡ stop.NoMemory) }
 {
-    reader.kept();
+    reader.know_kept();
     let sliced = reader.slice(from, at, size);
-    reader.kept();
+    reader.know_kept();
     match sliced {
         Ok(piece) => {
             source.push_reserved(piece);

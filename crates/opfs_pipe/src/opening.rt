@@ -29,8 +29,8 @@ pub fn open_target<S: Store, R: Wait>(
     ensures shared { Shared S.tells writer.old writer.new (op.CreateWritable file.now false) (λ stream answered _. (stream.row ≡ writer.new.rows) × (stream.file ≡ file.now) × (answered ≡ reply.Done) × HasStream S.tells writer.new stream) result }
     ensures empty { IfOk result (λ stream. (stream_bytes writer.new stream ≡ []) × (stream_offset writer.new stream ≡ 0)) }
 {
-    writer.kept();
+    writer.know_kept();
     let opened = writer.create_writable(rt, court, file, false);
-    writer.kept();
+    writer.know_kept();
     opened
 }

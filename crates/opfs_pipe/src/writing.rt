@@ -29,9 +29,9 @@ fn write_data<S: Store, R: Wait>(
     requires small { length bytes.now ≤ 4096 }
     ensures { HasWritten S.tells writer.old writer.new to.old to.new bytes.now result }
 {
-    writer.kept();
+    writer.know_kept();
     let done = writer.write_growing(rt, court, to, bytes, None);
-    writer.kept();
+    writer.know_kept();
     done
 }
 

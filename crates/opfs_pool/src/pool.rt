@@ -161,7 +161,7 @@ impl Pool {
     }
 
     /// The shares stand in the order of their units' texts, one for each. Says so, and does next to nothing.
-    pub fn in_order(&self)
+    pub fn know_order(&self)
         ensures { IsStrictlySortedBy text_cmp (keys_of self.now.shares) }
     {
         let all: (Bound<&Key>, Bound<&Key>) = (Bound::Unbounded, Bound::Unbounded);

@@ -76,12 +76,12 @@ impl Uses {
     pub(crate) fn last(&self, origin: &Key) -> u64
         ensures { result ≡ unwrap_or (find text_cmp origin.now (used_in self.now)) 0 }
     {
-        self.in_order();
+        self.know_order();
         self.items.get(origin).copied().unwrap_or(0)
     }
 
     // The origins stand in order, one for each. Says so, and does next to nothing.
-    fn in_order(&self)
+    fn know_order(&self)
         ensures { IsStrictlySortedBy text_cmp (keys_of self.now) }
     {
         let all: (Bound<&Key>, Bound<&Key>) = (Bound::Unbounded, Bound::Unbounded);

@@ -32,7 +32,7 @@ pub fn run_agent<S: Store, R: Wait, G: Gate>(
     requires { IsReady court.now script.now agent }
     ensures { HasRun court.now script.now agent.pass.agent result.pass result.whole }
 {
-    agent.kept();
+    agent.know_kept();
     let mut slots = Vec::new(agent.alloc());
     let whole = run_steps(rt, court, &mut agent, &mut slots, script, gate);
     end_rows(rt, court, &mut agent, slots);

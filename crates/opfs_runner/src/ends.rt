@@ -57,14 +57,14 @@ pub fn end_rows<S: Store, R: Wait>(
         → Closes asked whole (own_entries agent.old) agent.old.number (open_rows 1 (kinds_of slots.items))
         → Closes asked whole (own_entries agent.new) agent.new.number [] }
 {
-    agent.kept();
+    agent.know_kept();
     slots.reverse();
     loop {
         let Some(slot) = slots.pop() else {
             break;
         };
         end_slot(rt, court, agent, slot);
-        agent.kept();
+        agent.know_kept();
     }
     slots.destroy_empty();
 }

@@ -62,10 +62,10 @@ fn run_asked<S: Store, R: Wait>(
     requires asked { op.now ≡ op_of hand.old step.now }
     ensures { IsTried S.tells agent.old agent.new slots.old.items slots.new.items hand.old hand.new step.now result }
 {
-    agent.kept();
+    agent.know_kept();
     let alloc = agent.alloc();
     let answer = perform(rt, court, agent, slots, op);
-    agent.kept();
+    agent.know_kept();
     note(alloc, hand, step, op, answer)
 }
 
@@ -162,7 +162,7 @@ pub fn run_steps<S: Store, R: Wait, G: Gate>(
     ensures same { agent.new.pass ≡ record agent.old.pass { base = agent.new.pass.base } }
     ensures closes { Closes script.now result (own_entries agent.new) agent.new.number (open_rows 1 (kinds_of slots.new.items)) }
 {
-    agent.kept();
+    agent.know_kept();
     let alloc = agent.alloc();
     let steps = script.steps();
     let Ok(key) = copy_key(alloc, script.key()) else {

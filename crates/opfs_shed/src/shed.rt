@@ -165,14 +165,14 @@ impl Shed {
         ensures usage { (origin : Text) → usage_of origin self.new.buckets ≡ usage_of origin self.old.buckets }
         ensures ordered { IsStrictlySortedBy text_cmp (map (λ bucket. bucket.0) self.old.buckets) }
     {
-        self.in_order();
+        self.know_order();
         let Bucket { usage, .. } = bucket_at(&self.buckets, key);
         let persistent = true;
         self.put(key, Bucket { persistent, usage });
     }
 
     /// The buckets stand in the order of their units' texts, one for each. Says so, and does next to nothing.
-    pub fn in_order(&self)
+    pub fn know_order(&self)
         ensures { IsStrictlySortedBy text_cmp (map (λ bucket. bucket.0) self.now.buckets) }
     {
         let all: (Bound<&Key>, Bound<&Key>) = (Bound::Unbounded, Bound::Unbounded);

@@ -51,7 +51,7 @@ impl Space {
     }
 
     /// What the type keeps: own blocks are among as many as used ones.
-    pub fn kept(&self)
+    pub fn know_kept(&self)
         ensures { length self.now.own ≡ length self.now.used }
     {
         let _ = &self.used;

@@ -110,7 +110,7 @@ impl State {
         ensures freed { freed.new.items ≡ freed.old.items ++ extents_within (key.now, []) self.old.store.tree }
         ensures capacity { vec_capacity freed.old ≤ vec_capacity freed.new }
     {
-        self.store.lines();
+        self.store.know_rows_match_tree();
         self.store.clear(self.alloc, key, freed);
     }
 }

@@ -31,7 +31,7 @@ pub(crate) fn ready_row(store: &mut Standing, place: Place, kind: Kind) -> Resul
     ensures ok { IfOk result (λ r. IsRowReady store.new r.target r.growth (where_free (row_at store.old.machine place) (place, kind))) }
     ensures err { IfErr result (λ e. store.new.prepared.place ≡ None) }
 {
-    store.lines();
+    store.know_rows_match_tree();
     if store.kind(&place.0, &place.1).is_some() {
         return Ok(Ready::none());
     }
@@ -96,7 +96,7 @@ fn ready_child(
     ensures err { IfErr result (λ e. store.new.prepared.place ≡ None) }
 {
     let place = child_place(alloc, dir, name)?;
-    store.lines();
+    store.know_rows_match_tree();
     ready_row(store, place, kind)
 }
 

@@ -24,10 +24,17 @@ use std::alloc::{AllocError, Global};
 
 impl State {
     /// The machine has the rows of the tree. Says so, and does next to nothing.
-    pub fn lines(&self)
+    pub fn know_rows_match_tree(&self)
         ensures { self.now.store.machine.rows ≡ lines_of self.now.store.tree }
     {
-        self.store.lines();
+        self.store.know_rows_match_tree();
+    }
+
+    /// The rows stand in order. Says so, and does nothing.
+    pub fn know_order(&self)
+        ensures { IsInOrder self.now.store.tree }
+    {
+        self.store.know_order();
     }
 
     /// The rows with their blocks, beside the place that stands ready.
@@ -63,7 +70,7 @@ impl State {
     pub fn present(&self, key: &Key, path: &Path) -> Option<(u64, u64)>
         ensures { result ≡ option_map (λ f. (f.present, f.stamp)) (file_at self.now.store.machine (key.now, path.now)) }
     {
-        self.store.lines();
+        self.store.know_rows_match_tree();
         match self.store.file(key, path) {
             Some(file) => Some((file.present, file.present_stamp)),
             None => None,

@@ -35,8 +35,8 @@ pub fn close<S: Store, R: Wait>(
     ensures unstored { IfErr result (λ back. stored_of agent.new back.0 ≡ stored_of agent.old handle) }
     ensures cause { IfErr result (λ back. IsCaused agent.old agent.new back.1) }
 {
-    agent.kept();
+    agent.know_kept();
     let done = agent.close_sync(rt, court, handle);
-    agent.kept();
+    agent.know_kept();
     done
 }

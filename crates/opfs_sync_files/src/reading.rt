@@ -28,9 +28,9 @@ pub fn size<S: Store>(agent: &mut Agent<S>, handle: &SyncHandle) -> Result<u64, 
     ensures stored { stored_of agent.new handle.now ≡ stored_of agent.old handle.now }
     ensures cause { IfErr result (IsCaused agent.old agent.new) }
 {
-    agent.kept();
+    agent.know_kept();
     let done = agent.sync_size(handle);
-    agent.kept();
+    agent.know_kept();
     done
 }
 
@@ -80,9 +80,9 @@ fn read_near<S: Store>(
     ensures stored { stored_of agent.new handle.new ≡ stored_of agent.old handle.old }
     ensures cause { IfErr result (IsCaused agent.old agent.new) }
 {
-    agent.kept();
+    agent.know_kept();
     let done = agent.sync_read(handle, len, Some(at));
-    agent.kept();
+    agent.know_kept();
     done
 }
 
@@ -108,8 +108,8 @@ fn read_far<S: Store, R: Wait>(
     ensures stored { stored_of agent.new handle.new ≡ stored_of agent.old handle.old }
     ensures cause { IfErr result (IsCaused agent.old agent.new) }
 {
-    agent.kept();
+    agent.know_kept();
     let done = agent.sync_read_far(rt, court, handle, len, Some(at));
-    agent.kept();
+    agent.know_kept();
     done
 }

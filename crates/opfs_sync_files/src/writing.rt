@@ -47,9 +47,9 @@ pub fn write<S: Store, R: Wait>(
     ensures stored { stored_of agent.new handle.new ≡ stored_of agent.old handle.old }
     ensures cause { IfErr result (IsCaused agent.old agent.new) }
 {
-    agent.kept();
+    agent.know_kept();
     let done = agent.sync_write(rt, court, handle, bytes, Some(at));
-    agent.kept();
+    agent.know_kept();
     written(done)
 }
 
@@ -71,9 +71,9 @@ pub fn truncate<S: Store, R: Wait>(
     ensures stored { stored_of agent.new handle.new ≡ stored_of agent.old handle.old }
     ensures cause { IfErr result (IsCaused agent.old agent.new) }
 {
-    agent.kept();
+    agent.know_kept();
     let done = agent.sync_truncate(rt, court, handle, size);
-    agent.kept();
+    agent.know_kept();
     done
 }
 
@@ -93,8 +93,8 @@ pub fn flush<S: Store, R: Wait>(
     ensures unstored { OnErr result (stored_of agent.new handle.new ≡ stored_of agent.old handle.old) }
     ensures cause { IfErr result (IsCaused agent.old agent.new) }
 {
-    agent.kept();
+    agent.know_kept();
     let done = agent.sync_flush(rt, court, handle);
-    agent.kept();
+    agent.know_kept();
     done
 }

@@ -53,6 +53,14 @@ impl Tree {
         }
     }
 
+    /// The rows stand in order, and each but the roots in a directory. Says so, and does nothing.
+    pub fn know_order(&self)
+        ensures order { IsInOrder self.now }
+        ensures closed { IsClosed self.now }
+    {
+        let _ = &self.units;
+    }
+
     // The rows of a unit.
     fn unit(&self, key: &Key) -> Option<&Unit>
         ensures { unwrap_or (option_copied result) [] ≡ unit_rows key.now self.now }

@@ -61,11 +61,11 @@ pub(crate) fn in_turn<S: Store, R: Wait>(
     let number = notes.number;
     let wakes = wakes(&op);
     let mut turn = court.enter(rt, pass);
-    turn.value.legal();
+    turn.value.know_legal();
     let acted = turn
         .value
         .act(agent, number, &mut notes.pending, room, op, work, past);
-    turn.value.legal();
+    turn.value.know_legal();
     court.leave(pass, turn);
     ring_if(court, wakes);
     match acted {

@@ -89,7 +89,7 @@ impl<S: Store> Turns<S> {
     }
 
     /// What the type keeps.
-    pub fn kept(&self)
+    pub fn know_kept(&self)
         ensures { IsAgent S.tells self.now }
     {
         let _ = &self.notes;

@@ -99,14 +99,14 @@ pub(crate) fn await_turn<S: Store, R: Wait>(
     let begun = waits_for(&notes.waiting, tag);
     let mut work = Work::fresh(alloc);
     let mut turn = court.enter(rt, pass);
-    turn.value.legal();
+    turn.value.know_legal();
     let heard = court.heard();
     let stands = turn.value.await_state(agent, tag.as_str());
     match plan_for(stands, begun) {
         Plan::Answer(posted) => {
             let op = Op::Await { tag: asked };
             let acted = turn.value.act(agent, number, &mut notes.pending, room, op, &mut work, &[]);
-            turn.value.legal();
+            turn.value.know_legal();
             court.leave(pass, turn);
             match acted {
                 Ok(acted) => {
@@ -122,7 +122,7 @@ pub(crate) fn await_turn<S: Store, R: Wait>(
         Plan::Begin => {
             let op = Op::Wait { tag: asked };
             let acted = turn.value.act(agent, number, &mut notes.pending, room, op, &mut work, &[]);
-            turn.value.legal();
+            turn.value.know_legal();
             court.leave(pass, turn);
             court.ring();
             match acted {

@@ -30,7 +30,7 @@ pub fn close<S: Store, R: Wait>(
     ensures closed { IfOk result (λ closed. IsClosed S.tells turns.old turns.new (op.SyncClose handle.row) handle.row closed.row) }
     ensures back { IfErr result (λ back. GivesBack S.tells turns.old turns.new (op.SyncClose handle.row) handle back.0 back.1) }
 {
-    turns.kept();
+    turns.know_kept();
     let row = handle.row;
     let done = ask_row(
         rt,
@@ -40,7 +40,7 @@ pub fn close<S: Store, R: Wait>(
         Op::SyncClose { row },
         &mut handle.work,
     );
-    turns.kept();
+    turns.know_kept();
     match done {
         Ok(()) => Ok(shut(handle)),
         Err(stop) => Err((handle, stop)),
@@ -59,7 +59,7 @@ pub fn discard<S: Store, R: Wait>(
     requires handle { HasHandle S.tells turns.old handle }
     ensures { IsClosed S.tells turns.old turns.new (op.Discard handle.row) handle.row result.row }
 {
-    turns.kept();
+    turns.know_kept();
     let SyncHandle {
         row,
         file: _,

@@ -31,7 +31,7 @@ pub fn open<S: Store, R: Wait>(
     requires file { IsOwn turns.old file.now }
     ensures { Shared S.tells turns.old turns.new (op.CreateSyncAccessHandle file.now mode) (λ handle answered _. (handle.row ≡ turns.new.rows) × (handle.file ≡ file.now) × (handle.mode ≡ mode) × (answered ≡ reply.Done) × HasHandle S.tells turns.new handle) result }
 {
-    turns.kept();
+    turns.know_kept();
     let Ok(asked) = file.copy(alloc) else {
         return Err(Stop::NoMemory);
     };
@@ -44,7 +44,7 @@ pub fn open<S: Store, R: Wait>(
     let mut work = Work::fresh(alloc);
     let op = Op::CreateSyncAccessHandle { file: asked, mode };
     ask_row(rt, alloc, turns, court, op, &mut work)?;
-    turns.kept();
+    turns.know_kept();
     let row = turns.rows();
     Ok(SyncHandle {
         row,

@@ -39,14 +39,14 @@ pub fn read_far<S: Store, R: Wait>(
     ensures same { (handle.new.row ≡ handle.old.row) × (handle.new.file ≡ handle.old.file) × (handle.new.mode ≡ handle.old.mode) }
     ensures err { OnErr result (IsSameCopy handle.old.work handle.new.work) }
 {
-    turns.kept();
+    turns.know_kept();
     let op = Op::SyncRead {
         row: handle.row,
         len,
         at,
     };
     let done = ask_bytes(rt, alloc, turns, court, op, &mut handle.work);
-    turns.kept();
+    turns.know_kept();
     match done {
         Ok(told) => Ok(told),
         Err(stop) => Err(stop),
@@ -69,7 +69,7 @@ pub fn read<S: Store>(
     ensures same { (handle.new.row ≡ handle.old.row) × (handle.new.file ≡ handle.old.file) × (handle.new.mode ≡ handle.old.mode) }
     ensures err { OnErr result (IsSameCopy handle.old.work handle.new.work) }
 {
-    turns.kept();
+    turns.know_kept();
     let Ok(room) = Room::make(alloc) else {
         return Err(Stop::NoMemory);
     };
@@ -97,7 +97,7 @@ pub fn size<S: Store>(alloc: Global, turns: &mut Turns<S>, handle: &SyncHandle) 
     ensures local { Local S.tells turns.old turns.new (op.SyncGetSize handle.now.row) 0 (λ size answered. (size ≡ handle.now.work.length) × (answered ≡ reply.Length size)) result }
     ensures handle { HasHandle S.tells turns.new handle.now }
 {
-    turns.kept();
+    turns.know_kept();
     let Ok(room) = Room::make(alloc) else {
         return Err(Stop::NoMemory);
     };

@@ -37,7 +37,7 @@ pub fn write<S: Store, R: Wait>(
     ensures same { (handle.new.row ≡ handle.old.row) × (handle.new.file ≡ handle.old.file) × (handle.new.mode ≡ handle.old.mode) }
     ensures err { OnErr result (IsSameCopy handle.old.work handle.new.work) }
 {
-    turns.kept();
+    turns.know_kept();
     let Ok(bytes) = bytes.share() else {
         return Err(Stop::NoMemory);
     };
@@ -47,7 +47,7 @@ pub fn write<S: Store, R: Wait>(
         at,
     };
     let done = ask_length(rt, alloc, turns, court, op, &mut handle.work);
-    turns.kept();
+    turns.know_kept();
     match done {
         Ok(told) => Ok(told),
         Err(stop) => Err(stop),
@@ -72,13 +72,13 @@ pub fn truncate<S: Store, R: Wait>(
     ensures same { (handle.new.row ≡ handle.old.row) × (handle.new.file ≡ handle.old.file) × (handle.new.mode ≡ handle.old.mode) }
     ensures err { OnErr result (IsSameCopy handle.old.work handle.new.work) }
 {
-    turns.kept();
+    turns.know_kept();
     let op = Op::SyncTruncate {
         row: handle.row,
         size,
     };
     let done = ask_row(rt, alloc, turns, court, op, &mut handle.work);
-    turns.kept();
+    turns.know_kept();
     match done {
         Ok(told) => Ok(told),
         Err(stop) => Err(stop),
@@ -101,10 +101,10 @@ pub fn flush<S: Store, R: Wait>(
     ensures same { (handle.new.row ≡ handle.old.row) × (handle.new.file ≡ handle.old.file) × (handle.new.mode ≡ handle.old.mode) }
     ensures err { OnErr result (IsSameCopy handle.old.work handle.new.work) }
 {
-    turns.kept();
+    turns.know_kept();
     let op = Op::SyncFlush { row: handle.row };
     let done = ask_row(rt, alloc, turns, court, op, &mut handle.work);
-    turns.kept();
+    turns.know_kept();
     match done {
         Ok(told) => Ok(told),
         Err(stop) => Err(stop),

@@ -30,10 +30,10 @@ pub fn close<S: Store, R: Wait>(
     ensures closed { IfOk result (λ closed. IsClosed S.tells turns.old turns.new (op.Close stream.row) stream.row closed.row) }
     ensures back { IfErr result (λ back. GivesBack S.tells turns.old turns.new (op.Close stream.row) stream back.0 back.1) }
 {
-    turns.kept();
+    turns.know_kept();
     let row = stream.row;
     let done = ask_row(rt, alloc, turns, court, Op::Close { row }, &mut stream.work);
-    turns.kept();
+    turns.know_kept();
     match done {
         Ok(()) => Ok(shut(stream)),
         Err(stop) => Err((stream, stop)),
@@ -52,7 +52,7 @@ pub fn abort<S: Store, R: Wait>(
     requires stream { HasStream S.tells turns.old stream }
     ensures { IsClosed S.tells turns.old turns.new (op.Abort stream.row) stream.row result.row }
 {
-    turns.kept();
+    turns.know_kept();
     let Writable {
         row,
         file: _,

@@ -31,7 +31,7 @@ pub fn open<S: Store, R: Wait>(
     requires file { IsOwn turns.old file.now }
     ensures { Shared S.tells turns.old turns.new (op.CreateWritable file.now keep) (λ stream answered _. (stream.row ≡ turns.new.rows) × (stream.file ≡ file.now) × (answered ≡ reply.Done) × HasStream S.tells turns.new stream) result }
 {
-    turns.kept();
+    turns.know_kept();
     let Ok(asked) = file.copy(alloc) else {
         return Err(Stop::NoMemory);
     };
@@ -44,7 +44,7 @@ pub fn open<S: Store, R: Wait>(
     let mut work = Work::fresh(alloc);
     let op = Op::CreateWritable { file: asked, keep };
     ask_row(rt, alloc, turns, court, op, &mut work)?;
-    turns.kept();
+    turns.know_kept();
     let row = turns.rows();
     Ok(Writable {
         row,

@@ -39,7 +39,7 @@ pub fn write_growing<S: Store, R: Wait>(
     ensures same { (stream.new.row ≡ stream.old.row) × (stream.new.file ≡ stream.old.file) }
     ensures err { OnErr result (IsSameCopy stream.old.work stream.new.work) }
 {
-    turns.kept();
+    turns.know_kept();
     let Ok(bytes) = bytes.share() else {
         return Err(Stop::NoMemory);
     };
@@ -49,7 +49,7 @@ pub fn write_growing<S: Store, R: Wait>(
         position,
     };
     let done = ask_row(rt, alloc, turns, court, op, &mut stream.work);
-    turns.kept();
+    turns.know_kept();
     match done {
         Ok(()) => Ok(()),
         Err(stop) => Err(stop),
@@ -74,13 +74,13 @@ pub fn truncate_growing<S: Store, R: Wait>(
     ensures same { (stream.new.row ≡ stream.old.row) × (stream.new.file ≡ stream.old.file) }
     ensures err { OnErr result (IsSameCopy stream.old.work stream.new.work) }
 {
-    turns.kept();
+    turns.know_kept();
     let op = Op::Truncate {
         row: stream.row,
         size,
     };
     let done = ask_row(rt, alloc, turns, court, op, &mut stream.work);
-    turns.kept();
+    turns.know_kept();
     match done {
         Ok(()) => Ok(()),
         Err(stop) => Err(stop),
@@ -103,7 +103,7 @@ pub fn write_within<S: Store>(
     ensures same { (stream.new.row ≡ stream.old.row) × (stream.new.file ≡ stream.old.file) }
     ensures err { OnErr result (stream.new ≡ stream.old) }
 {
-    turns.kept();
+    turns.know_kept();
     let Ok(asked) = bytes.share() else {
         return Err(Stop::NoMemory);
     };
@@ -137,7 +137,7 @@ pub fn truncate_within<S: Store>(
     ensures same { (stream.new.row ≡ stream.old.row) × (stream.new.file ≡ stream.old.file) }
     ensures err { OnErr result (stream.new ≡ stream.old) }
 {
-    turns.kept();
+    turns.know_kept();
     let Ok(room) = Room::make(alloc) else {
         return Err(Stop::NoMemory);
     };
@@ -166,7 +166,7 @@ pub fn seek<S: Store>(
     ensures same { (stream.new.row ≡ stream.old.row) × (stream.new.file ≡ stream.old.file) }
     ensures err { OnErr result (stream.new ≡ stream.old) }
 {
-    turns.kept();
+    turns.know_kept();
     let Ok(room) = Room::make(alloc) else {
         return Err(Stop::NoMemory);
     };

@@ -8,12 +8,10 @@ ghost use Rattle.opfs_books.specs.Openings.Openings.{fixed_by, limits_by};
 ghost use Rattle.opfs_register.specs.declared.seat.Who.{Who};
 ghost use Rattle.opfs_state_rows.specs.Standing.Beginnings.{IsBegun};
 ghost use Rattle.opfs_state.specs.Applied.{opened};
-ghost use Rattle.opfs_tree.specs.Rows.{IsInOrder, IsClosed};
 
 use opfs_image::{Geometry, Recovered};
 use opfs_machine::Limits;
 use opfs_outside::Disk;
-use opfs_tree::{Tree, Walk};
 
 /// How much a store over an image of these sizes may hold.
 pub fn limits_of(geometry: &Geometry) -> Limits
@@ -26,23 +24,12 @@ pub fn limits_of(geometry: &Geometry) -> Limits
     }
 }
 
-// The rows of a tree stand in order and closed under parents. Says so, and does next to nothing.
-fn in_order(tree: &Tree)
-    ensures order { IsInOrder tree.now }
-    ensures closed { IsClosed tree.now }
-{
-    let mut walk = Walk::make();
-    if tree.step(&mut walk).is_some() {
-        let _kind = tree.kind(walk.key(), walk.path());
-    }
-}
-
 /// The law of openings: over a recovered image the books of a run may be opened, with the machine in lengths that begins with
 /// what the image stands for; and the shared state may be made.
 pub fn a_recovered_image_opens_a_run<D: Disk>(from: &Recovered<D>)
     ensures opened { (agents : List Who) → IsOpened D.Disk (fixed_by D.Disk from.now agents) (built_in from.now.tree from.now.shed) (opened from.now.tree from.now.shed (limits_by from.now.geometry) agents) from.now.tree (area_bytes from.now.geometry) from.now.journal }
     ensures begun { (agents : List Who) → IsBegun (opened from.now.tree from.now.shed (limits_by from.now.geometry) agents) from.now.shed from.now.charge }
 {
-    in_order(&from.tree);
-    from.shed.in_order();
+    from.tree.know_order();
+    from.shed.know_order();
 }

@@ -26,13 +26,13 @@ impl Shared for State {
     ghost may_clear = { λ s unit. MayClearOf s unit };
 
     fn rows(&self) -> &ReadyTree {
-        self.lines();
+        self.know_rows_match_tree();
         self.tree()
     }
 
     fn shed(&self) -> &Shed {
         let shed = State::shed(self);
-        shed.in_order();
+        shed.know_order();
         shed
     }
 

@@ -23,20 +23,20 @@ use Rattle.opfs_records.specs.Replay.Built.{Built}
 use Rattle.opfs_state.specs.Applied.{StateSeen}
 use Rattle.opfs_work.specs.Works.{WorkingCopy}
 use Rattle.opfs_desk_steps.specs.Judging.Asking.{IsAskedAs, IsReadied}
-use Rattle.opfs_desk_steps.specs.declared.judging.asked.Asked.{Asked}
-use Rattle.opfs_desk_steps.specs.declared.judging.asked.Asked.TheVariants as asked
-use Rattle.opfs_desk_steps.specs.declared.judging.asked.Readied.{Readied}
+use Rattle.opfs_desk_steps.specs.declared.judging.judged.Judged.{Judged}
+use Rattle.opfs_desk_steps.specs.declared.judging.judged.Judged.TheVariants as judged
+use Rattle.opfs_desk_steps.specs.declared.judging.judged.Readiness.{Readiness}
 use Rattle.opfs_desk_steps.proofs.judging.Same.{same-held, with_state}
 use Rattle.opfs_pages.specs.HistoryLaws.Handles.{AreHandlesWhole}
 use Rattle.opfs_desk_steps.specs.Parts.Acted.{HasActed, IsUnacted, IsWay}
 use Rattle.opfs_desk_steps.specs.Parts.Asked.{AreEvictions, IsAsked}
 use Rattle.opfs_desk_steps.specs.Parts.Held.{AreHeldWhole}
 use Rattle.opfs_desk_steps.specs.Parts.Seen.{call_in, units_in}
-use Rattle.opfs_desk_steps.specs.declared.parts.call.Clearing.{Clearing}
-use Rattle.opfs_desk_steps.specs.declared.parts.call.InHand.{InHand}
+use Rattle.opfs_desk_steps.specs.declared.parts.call.Eviction.{Eviction}
+use Rattle.opfs_desk_steps.specs.declared.parts.call.ReadyCall.{ReadyCall}
 use Rattle.opfs_desk_steps.specs.declared.parts.parts.Ledger.{Ledger}
-use Rattle.opfs_desk_steps.specs.declared.parts.parts.Pages.{Pages}
-use Rattle.opfs_desk_steps.specs.declared.parts.parts.Parts.{Parts}
+use Rattle.opfs_desk_steps.specs.declared.parts.parts.OpenPages.{OpenPages}
+use Rattle.opfs_desk_steps.specs.declared.parts.parts.DeskParts.{DeskParts}
 use Rattle.opfs_desk_entries.specs.Answers.Refused.{IsRefusedCall}
 use Rattle.opfs_desk_bytes.specs.Reading.Reading.{HaveWholeHandles}
 use Rattle.opfs_desk_steps.proofs.book_steps.Ways.{way-here}
@@ -44,12 +44,12 @@ use Rattle.opfs_desk.specs.Dispatch.Calling.{HasNoneReady, IsLeftAlone}
 
 -- ---- nothing stands ready any more
 
-module _ {D : Type 0} (w : DiskWords D) (f : Fixed D) (old : Parts D) where
+module _ {D : Type 0} (w : DiskWords D) (f : Fixed D) (old : DeskParts D) where
   -- The way is that of before: it does not see what stands ready.
   way-same : (all : List Change) (l : Ledger D) (s : StateSeen) → IsWay w f all old.ledger l → IsWay w f all old.ledger (with_state l s)
   way-same all l s way = record { later = way.later; time = way.time; shown = way.shown }
 
-  pub left-alone : (l new : Ledger D) (p : Pages) → HasNoneReady l new → IsUnacted w f old (record { ledger = l; pages = p }) → IsLeftAlone w f old (record { ledger = new; pages = p })
+  pub left-alone : (l new : Ledger D) (p : OpenPages) → HasNoneReady l new → IsUnacted w f old (record { ledger = l; pages = p }) → IsLeftAlone w f old (record { ledger = new; pages = p })
   left-alone l new p none un =
       subst (λ (x : Ledger D). IsLeftAlone w f old (record { ledger = x; pages = p })) (sym none.rest)
       (record {
@@ -64,17 +64,17 @@ module _ {D : Type 0} (w : DiskWords D) (f : Fixed D) (old : Parts D) where
 
 -- ---- what became of a call that was asked for
 
-module _ (o : Opening) (h calls : List Entry) (s : StateSeen) (k : ℕ) (called : Op) (a : Asked) where
-  pub refused-as : (r : Refusal) → a ≡ asked.Refused r → IsAskedAs o h calls s k called a → judged (state_after o (h ++ calls)) k called ≡ Err r
-  refused-as r is as_it = (subst (λ (x : Asked). IsAskedAs o h calls s k called x) is as_it).refused
+module _ (o : Opening) (h calls : List Entry) (s : StateSeen) (k : ℕ) (called : Op) (a : Judged) where
+  pub refused-as : (r : Refusal) → a ≡ judged.Refused r → IsAskedAs o h calls s k called a → judged (state_after o (h ++ calls)) k called ≡ Err r
+  refused-as r is as_it = (subst (λ (x : Judged). IsAskedAs o h calls s k called x) is as_it).refused
 
-  pub readied-as : (r : Readied) → a ≡ asked.Ready r → IsAskedAs o h calls s k called a → IsReadied o h calls s k called r
-  readied-as r is as_it = subst (λ (x : Asked). IsAskedAs o h calls s k called x) is as_it
+  pub readied-as : (r : Readiness) → a ≡ judged.Ready r → IsAskedAs o h calls s k called a → IsReadied o h calls s k called r
+  readied-as r is as_it = subst (λ (x : Judged). IsAskedAs o h calls s k called x) is as_it
 
 -- ---- over parts before the call was asked for
 
-module _ {D : Type 0} (w : DiskWords D) (f : Fixed D) (old : Parts D) (mid : Ledger D) (journal : mid.journal ≡ old.ledger.journal) (entries : mid.books.history ≡ old.ledger.books.history) (place : mid.books.place ≡ old.ledger.books.place) where
-  abbrev pub parts_then : Parts D
+module _ {D : Type 0} (w : DiskWords D) (f : Fixed D) (old : DeskParts D) (mid : Ledger D) (journal : mid.journal ≡ old.ledger.journal) (entries : mid.books.history ≡ old.ledger.books.history) (place : mid.books.place ≡ old.ledger.books.place) where
+  abbrev pub parts_then : DeskParts D
   parts_then = record { ledger = mid; pages = old.pages }
 
   -- What the images show that are left by a new ledger.
@@ -91,7 +91,7 @@ module _ {D : Type 0} (w : DiskWords D) (f : Fixed D) (old : Parts D) (mid : Led
         (subst (λ (j : Seen D). Shown all new j mid.books.history mid.books.place) journal (way.shown t)));
   }
 
-  pub acted-before : (new : Parts D) (calls : List Entry) (c : Call) (before after : WorkingCopy) (done : Acted) → HasActed w f parts_then new calls c before after done → HasActed w f old new calls c before after done
+  pub acted-before : (new : DeskParts D) (calls : List Entry) (c : Call) (before after : WorkingCopy) (done : Acted) → HasActed w f parts_then new calls c before after done → HasActed w f old new calls c before after done
   acted-before new calls c before after done acted = record {
     held = acted.held;
     acted = subst (λ (h : List Entry). IsActed w.tells f.opening h calls c done.reply new.ledger.books.history) entries acted.acted;
@@ -102,7 +102,7 @@ module _ {D : Type 0} (w : DiskWords D) (f : Fixed D) (old : Parts D) (mid : Led
     way = way-before _ new.ledger acted.way;
   }
 
-  pub alone-before : (new : Parts D) → IsLeftAlone w f parts_then new → IsLeftAlone w f old new
+  pub alone-before : (new : DeskParts D) → IsLeftAlone w f parts_then new → IsLeftAlone w f old new
   alone-before new alone = record { held = alone.held; entries = alone.entries ∙ entries; way = way-before _ new.ledger alone.way }
 
   -- ---- and what is asked of it then
@@ -111,14 +111,14 @@ module _ {D : Type 0} (w : DiskWords D) (f : Fixed D) (old : Parts D) (mid : Led
       → IsRefusedCall w.tells f.opening mid.books.history calls c r work past
   refused-now calls c r work past may refused = subst (λ (h : List Entry). IsRefusedCall w.tells f.opening h calls c r work past) (sym entries) (record { may = may; refused = refused })
 
-  pub readied-now : (calls : List Entry) (c : InHand) (r : Readied) (work : WorkingCopy) (past : List Text) → c.sizes ≡ r.sizes → c.clearing.items ≡ r.clearing.items → MayAct w.tells f.opening old.ledger.books.history calls (call_in c) work past
+  pub readied-now : (calls : List Entry) (c : ReadyCall) (r : Readiness) (work : WorkingCopy) (past : List Text) → c.sizes ≡ r.sizes → c.clearing.items ≡ r.clearing.items → MayAct w.tells f.opening old.ledger.books.history calls (call_in c) work past
       → IsReadied f.opening old.ledger.books.history calls mid.books.state c.agent c.op r → IsAsked w.tells f.opening mid.books.history calls mid.books.state c work past
   readied-now calls c r work past sizes clearing may ready =
       subst (λ (h : List Entry). IsAsked w.tells f.opening h calls mid.books.state c work past) (sym entries)
       (record {
         may = may;
         sizes = sizes ∙ ready.sizes;
-        judged = ready.judged ∙ ap (λ (xs : List Clearing). Ok (units_in xs)) (sym clearing);
+        judged = ready.judged ∙ ap (λ (xs : List Eviction). Ok (units_in xs)) (sym clearing);
         prepared = ready.prepared;
         evictions = subst AreEvictions (sym clearing) ready.evictions;
       })

@@ -27,9 +27,9 @@ use Rattle.opfs_state.specs.Verdicts.Callers.{IsAgent}
 use Rattle.opfs_work.specs.Works.{WorkingCopy}
 use Rattle.opfs_desk_steps.proofs.judging.Named.{IsNamed, handle-named}
 use Rattle.opfs_desk_steps.specs.Parts.Seen.{machine_in}
-use Rattle.opfs_desk_steps.specs.declared.parts.call.InHand.{InHand}
+use Rattle.opfs_desk_steps.specs.declared.parts.call.ReadyCall.{ReadyCall}
 use Rattle.opfs_desk_steps.specs.declared.parts.parts.Ledger.{Ledger}
-use Rattle.opfs_desk_steps.specs.declared.parts.parts.Pages.{Pages}
+use Rattle.opfs_desk_steps.specs.declared.parts.parts.OpenPages.{OpenPages}
 use Rattle.opfs_desk_entries.specs.Answers.Silent.{BeginsCall}
 use Rattle.opfs_desk_entries.proofs.answers.Noted.{noted-is, sum_of}
 use Rattle.opfs_desk_entries.proofs.answers.Words.{before}
@@ -55,7 +55,7 @@ module _ (s : State Text Own) (m : Machine) (k : ℕ) (sum : PendingSum) (agent 
   handle-open (op.SyncClose n) may opened = handle-there n may opened
   handle-open o may opened = refl
 
-pub has-handle : {D : Type 0} (w : DiskWords D) → LengthsFollowEachCall → LocalCallsAreKnownByTheirWord → (f : Fixed D) (recorded : Built) (l : Ledger D) (p : Pages) (calls : List Entry) (c : InHand) (work : WorkingCopy) (past : List Text)
+pub has-handle : {D : Type 0} (w : DiskWords D) → LengthsFollowEachCall → LocalCallsAreKnownByTheirWord → (f : Fixed D) (recorded : Built) (l : Ledger D) (p : OpenPages) (calls : List Entry) (c : ReadyCall) (work : WorkingCopy) (past : List Text)
     → BeginsCall w f recorded l p calls c work past → IsAgent (machine_in l) c.agent → has_handle (machine_in l) c.agent c.op ≡ true
 has-handle w follow local f recorded l p calls c work past begins agent =
     handle-open (state_after f.opening (l.books.history ++ calls)) (machine_in l) c.agent (sum_of calls) agent (noted-is w follow local f recorded l p calls c work past begins agent) c.op begins.asked.may.fitting begins.asked.may.opened

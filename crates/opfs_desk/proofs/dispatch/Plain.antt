@@ -14,8 +14,8 @@ use Rattle.opfs_outside.specs.declared.disk.Disk.{Ghosts as DiskWords}
 use Rattle.opfs_state.specs.Applied.{StateSeen}
 use Rattle.opfs_work.specs.Works.{WorkingCopy}
 use Rattle.opfs_desk_steps.specs.Parts.Asked.{IsAsked, MayGo}
-use Rattle.opfs_desk_steps.specs.declared.parts.call.InHand.{InHand}
-use Rattle.opfs_desk_steps.specs.declared.parts.parts.Parts.{Parts}
+use Rattle.opfs_desk_steps.specs.declared.parts.call.ReadyCall.{ReadyCall}
+use Rattle.opfs_desk_steps.specs.declared.parts.parts.DeskParts.{DeskParts}
 use Rattle.opfs_desk_entries.specs.Answers.Next.{is_next}
 use Rattle.opfs_state_rows.specs.Standing.Seen.{Machine}
 use Rattle.opfs_desk.specs.Dispatch.Kinds.{IsOfKind}
@@ -25,11 +25,11 @@ none-given : (s : State Text Own) (k : ℕ) (o : Op) → is_next o ≡ false →
 none-given s k (op.Next n dir) h = absurd (false≢true (sym h))
 none-given s k o h = refl
 
-pub plain-asked : (tells : Type 0) (o : Opening) (h calls : List Entry) (s : StateSeen) (c : InHand) (work : WorkingCopy) (past : List Text) → is_next c.op ≡ false → IsAsked tells o h calls s c work past → IsAsked tells o h calls s c work []
+pub plain-asked : (tells : Type 0) (o : Opening) (h calls : List Entry) (s : StateSeen) (c : ReadyCall) (work : WorkingCopy) (past : List Text) → is_next c.op ≡ false → IsAsked tells o h calls s c work past → IsAsked tells o h calls s c work []
 plain-asked tells o h calls s c work past other asked =
     subst (λ (xs : List Text). IsAsked tells o h calls s c work xs) (asked.may.given ∙ none-given (state_after o (h ++ calls)) c.agent c.op other) asked
 
-pub plain-go : {D : Type 0} (w : DiskWords D) (p : Parts D) (calls : List Entry) (c : InHand) (work : WorkingCopy) (past : List Text) → is_next c.op ≡ false → MayGo w p c calls work past → MayGo w p c calls work []
+pub plain-go : {D : Type 0} (w : DiskWords D) (p : DeskParts D) (calls : List Entry) (c : ReadyCall) (work : WorkingCopy) (past : List Text) → is_next c.op ≡ false → MayGo w p c calls work past → MayGo w p c calls work []
 plain-go w p calls c work past other go = record {
   fixed = go.fixed;
   recorded = go.recorded;

@@ -75,7 +75,7 @@ abbrev pub is_persisted : Op → Bool
 is_persisted (op.Persisted bucket) = true
 is_persisted o = false
 
-pub mode-asked : (m : Machine) (k : ℕ) (o : Op) → is_persisted o ≡ true → IsOfKind kind.Asked m k o
+pub mode-asked : (m : Machine) (k : ℕ) (o : Op) → is_persisted o ≡ true → IsOfKind kind.Persisted m k o
 unfolding growth_of made_at
 mode-asked m k (op.Persisted bucket) h = (refl, record { word = refl; nothing = refl })
 mode-asked m k o h = absurd (false≢true h)
@@ -108,7 +108,7 @@ is_child k = false
 
 pub other-kind : (x : CallKind) (m : Machine) (k : ℕ) (o : Op) → is_child x ≡ false → IsOfKind x m k o → is_next o ≡ false
 other-kind kind.Told m k o h is = not-next is_done (λ n dir. refl) o is.0
-other-kind kind.Asked m k o h is = not-next is_of_mode (λ n dir. refl) o is.0
+other-kind kind.Persisted m k o h is = not-next is_of_mode (λ n dir. refl) o is.0
 other-kind kind.Given m k o h is = not-next (gives_mode m k) (λ n dir. refl) o is
 other-kind kind.Next m k o h is = absurd (false≢true (sym h))
 other-kind kind.Estimate m k o h is = not-next is_estimate (λ n dir. refl) o is
@@ -137,7 +137,7 @@ not-ending p abort discard end o h is = false≢true h
 pub never-ends : (x : CallKind) (m : Machine) (k : ℕ) (o : Op) → takes_memory x ≡ true → IsOfKind x m k o → always_acts o ≡ true → ⊥
 never-ends kind.Told m k o h is end = false≢true h
 never-ends kind.Left m k o h is end = false≢true h
-never-ends kind.Asked m k o h is end = not-ending is_of_mode (λ n. refl) (λ n. refl) refl o end is.0
+never-ends kind.Persisted m k o h is end = not-ending is_of_mode (λ n. refl) (λ n. refl) refl o end is.0
 never-ends kind.Given m k o h is end = not-ending (gives_mode m k) (λ n. refl) (λ n. refl) refl o end is
 never-ends kind.Next m k o h is end = not-ending is_next (λ n. refl) (λ n. refl) refl o end is
 never-ends kind.Estimate m k o h is end = not-ending is_estimate (λ n. refl) (λ n. refl) refl o end is

@@ -8,7 +8,7 @@ use Rattle.opfs_desk_steps.specs.Parts.Acted.{IsWayNow}
 use Rattle.opfs_desk_steps.specs.Parts.Held.{AreHeld}
 use Rattle.opfs_desk_steps.specs.Parts.Seen.{machine_in, tree_in}
 use Rattle.opfs_desk_steps.specs.declared.parts.parts.Ledger.{Ledger}
-use Rattle.opfs_desk_steps.specs.declared.parts.parts.Parts.{Parts}
+use Rattle.opfs_desk_steps.specs.declared.parts.parts.DeskParts.{DeskParts}
 use Rattle.opfs_hist.specs.declared.entry.Entry.{Entry}
 use Rattle.opfs_desk_steps.specs.Iterating.Reached.{IsUpTo}
 use Rattle.opfs_machine.specs.Histories.{state_after}
@@ -19,22 +19,22 @@ use Rattle.opfs_work.specs.Works.{WorkingCopy}
 
 -- All parts are kept as between calls, each page of each open access handle is one that the store tells, and the call may be made
 -- after the history and its agent's pending calls.
-pub record IsCalled {D : Type 0} (w : DiskWords D) (f : Fixed D) (p : Parts D) (calls : List Entry) (c : Call) (work : WorkingCopy) (past : List Text) : Type 0 where
+pub record IsCalled {D : Type 0} (w : DiskWords D) (f : Fixed D) (p : DeskParts D) (calls : List Entry) (c : Call) (work : WorkingCopy) (past : List Text) : Type 0 where
   pub held : AreHeld w f p
   pub whole : AreHandlesWhole f.opening p.ledger.books.history
   pub may : MayAct w.tells f.opening p.ledger.books.history calls c work past
 
-pub record MayCall {D : Type 0} (w : DiskWords D) (p : Parts D) (calls : List Entry) (c : Call) (work : WorkingCopy) (past : List Text) : Type 0 where
+pub record MayCall {D : Type 0} (w : DiskWords D) (p : DeskParts D) (calls : List Entry) (c : Call) (work : WorkingCopy) (past : List Text) : Type 0 where
   pub fixed : Fixed D
   pub called : IsCalled w fixed p calls c work past
 
 -- The same, and a next's iterator has given all up to a name, if one is known.
-pub record MayCallFrom {D : Type 0} (w : DiskWords D) (p : Parts D) (calls : List Entry) (c : Call) (work : WorkingCopy) (past : List Text) (last : Option Text) : Type 0 where
+pub record MayCallFrom {D : Type 0} (w : DiskWords D) (p : DeskParts D) (calls : List Entry) (c : Call) (work : WorkingCopy) (past : List Text) (last : Option Text) : Type 0 where
   pub may : MayCall w p calls c work past
   pub reached : IsUpTo (names_of (state_after may.fixed.opening (p.ledger.books.history ++ calls))) c.op past last
 
 -- There was no memory: nothing was entered, and nothing stands ready; the disk may have been read.
-pub record IsLeftAlone {D : Type 0} (w : DiskWords D) (f : Fixed D) (old new : Parts D) : Type 0 where
+pub record IsLeftAlone {D : Type 0} (w : DiskWords D) (f : Fixed D) (old new : DeskParts D) : Type 0 where
   pub held : AreHeld w f new
   pub entries : new.ledger.books.history ≡ old.ledger.books.history
   pub way : IsWayNow w f old.ledger new.ledger

@@ -27,7 +27,7 @@ has_handle m k o = true
 -- A call is of the kind that its function asks for.
 abbrev pub IsOfKind : CallKind → Machine → ℕ → Op → Type 0
 IsOfKind kind.Told m k o = (is_done o ≡ true) × TellsOnly m k o
-IsOfKind kind.Asked m k o = (is_of_mode o ≡ true) × TellsOnly m k o
+IsOfKind kind.Persisted m k o = (is_of_mode o ≡ true) × TellsOnly m k o
 IsOfKind kind.Given m k o = gives_mode m k o ≡ true
 IsOfKind kind.Next m k o = is_next o ≡ true
 IsOfKind kind.Estimate m k o = is_estimate o ≡ true

@@ -21,9 +21,10 @@ use opfs_base::Name;
 use opfs_desk_bytes::{act_get_file, act_open, act_put, act_sync_read};
 use opfs_desk_contents::{act_content, act_idle_flush};
 use opfs_desk_entries::{
-    act_estimate, act_kept, act_leave, act_mode, act_next, act_persist, act_told,
+    act_close_without_store, act_done, act_estimate, act_keep_back, act_next, act_persist,
+    act_persisted,
 };
-use opfs_desk_steps::{InHand, Parts, asked_calls_are_ready};
+use opfs_desk_steps::{DeskParts, ReadyCall, asked_calls_are_ready};
 use opfs_hist::Pending;
 use opfs_laws::lengths::bridge::{lengths_follow_each_call, local_calls_are_known_by_their_word};
 use opfs_outside::Disk;
@@ -45,8 +46,8 @@ fn asking_laws<D: Disk>()
 // Acts a call of a kind.
 fn act_as<D: Disk>(
     kind: CallKind,
-    parts: &mut Parts<D>,
-    call: InHand,
+    parts: &mut DeskParts<D>,
+    call: ReadyCall,
     pending: &mut Pending,
     work: &mut Work,
     past: &[Name],
@@ -65,27 +66,27 @@ fn act_as<D: Disk>(
     ensures ends { always_acts call.op ≡ true → IsTrue (is_ok result) }
 {
     match kind {
-        CallKind::Told => Ok(act_told(parts, call, pending, work)),
-        CallKind::Asked => Ok(act_mode(parts, call, pending, work)?),
+        CallKind::Told => Ok(act_done(parts, call, pending, work)),
+        CallKind::Persisted => Ok(act_persisted(parts, call, pending, work)?),
         CallKind::Given => Ok(act_persist(parts, call, pending, work)?),
         CallKind::Next => Ok(act_next(parts, call, pending, work, past, last)?),
         CallKind::Estimate => Ok(act_estimate(parts, call, pending, work)),
-        CallKind::Kept => Ok(act_kept(parts, call, pending, work)?),
+        CallKind::Kept => Ok(act_keep_back(parts, call, pending, work)?),
         CallKind::GetFile => Ok(act_get_file(parts, call, pending, work)?),
         CallKind::Opened => Ok(act_open(parts, call, pending, work)?),
         CallKind::Put => Ok(act_put(parts, call, pending, work)?),
         CallKind::SyncRead => Ok(act_sync_read(parts, call, pending, work)?),
         CallKind::Stored => Ok(act_content(parts, call, pending, work)?),
         CallKind::Idle => Ok(act_idle_flush(parts, call, pending, work)?),
-        CallKind::Left => Ok(act_leave(parts, call, pending, work)),
+        CallKind::Left => Ok(act_close_without_store(parts, call, pending, work)),
     }
 }
 
 /// Acts a call that is not refused, and for which all of the shared state stands ready: takes in its agent's pending calls, clears
 /// its units, and enters it. Where there is no memory nothing is entered; abort, discard and end take none.
 pub fn act_asked<D: Disk>(
-    parts: &mut Parts<D>,
-    call: InHand,
+    parts: &mut DeskParts<D>,
+    call: ReadyCall,
     pending: &mut Pending,
     work: &mut Work,
     past: &[Name],

@@ -18,7 +18,7 @@ use crate::dispatch::acting::act_asked;
 use opfs_base::Name;
 use opfs_books::the_books_show_their_images;
 use opfs_desk_entries::act_refused;
-use opfs_desk_steps::{Asked, InHand, Ledger, Parts, Readied, ask_call};
+use opfs_desk_steps::{DeskParts, Judged, Ledger, Readiness, ReadyCall, ask_call};
 use opfs_hist::{Op, Pending, Room};
 use opfs_outside::Disk;
 use opfs_store::Acted;
@@ -34,8 +34,8 @@ fn cancel<D: Disk>(ledger: &mut Ledger<D>)
 
 // Acts a call for which all stands ready; where there is no memory nothing stands ready afterwards.
 fn act_or_cancel<D: Disk>(
-    parts: &mut Parts<D>,
-    call: InHand,
+    parts: &mut DeskParts<D>,
+    call: ReadyCall,
     pending: &mut Pending,
     work: &mut Work,
     past: &[Name],
@@ -65,7 +65,7 @@ fn act_or_cancel<D: Disk>(
 /// with its reply. Where it is known up to which name a next's iterator has given all, that name is the last one. Where there is no
 /// memory nothing is entered and nothing stands ready; abort, discard and end take none.
 pub fn act_call<D: Disk>(
-    parts: &mut Parts<D>,
+    parts: &mut DeskParts<D>,
     agent: u32,
     number: u32,
     pending: &mut Pending,
@@ -86,11 +86,11 @@ pub fn act_call<D: Disk>(
 {
     the_books_show_their_images::<D>();
     match ask_call(&mut parts.ledger, agent, &op, pending, work) {
-        Ok(Asked::Refused(refusal)) => Ok(act_refused(
+        Ok(Judged::Refused(refusal)) => Ok(act_refused(
             parts, room, agent, number, op, refusal, pending,
         )),
-        Ok(Asked::Ready(Readied { sizes, clearing })) => {
-            let call = InHand {
+        Ok(Judged::Ready(Readiness { sizes, clearing })) => {
+            let call = ReadyCall {
                 room,
                 agent,
                 number,

@@ -21,7 +21,7 @@ pub(crate) enum CallKind {
     /// It is answered by that it is done, and changes nothing that is stored.
     Told,
     /// It asks for a bucket's mode, and gives none.
-    Asked,
+    Persisted,
     /// It gives a bucket's mode.
     Given,
     Next,
@@ -61,7 +61,7 @@ fn kind_of_persist(state: &State, agent: u32, bucket: &Text) -> CallKind
     ensures { IsOfKind result state.now.store.machine agent (op.Persist bucket.now) }
 {
     if state.growth() == 0 {
-        CallKind::Asked
+        CallKind::Persisted
     } else {
         CallKind::Given
     }
@@ -129,7 +129,7 @@ pub(crate) fn kind_of(state: &State, agent: u32, op: &Op) -> CallKind
         Op::SyncFlush { row } => kind_of_flush(state, agent, *row),
         Op::SyncClose { row } => kind_of_close(state, agent, *row),
         Op::Persist { bucket } => kind_of_persist(state, agent, bucket),
-        Op::Persisted { .. } => CallKind::Asked,
+        Op::Persisted { .. } => CallKind::Persisted,
         Op::Estimate => CallKind::Estimate,
         Op::Post { .. } => CallKind::Told,
         Op::Await { .. } => CallKind::Told,

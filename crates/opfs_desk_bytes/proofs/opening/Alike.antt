@@ -20,7 +20,7 @@ use Rattle.opfs_tree.specs.Rows.{Rows as Tree}
 use Rattle.opfs_desk_steps.specs.Parts.Held.{AreHeldAt}
 use Rattle.opfs_desk_steps.specs.Parts.Seen.{machine_in, tree_in}
 use Rattle.opfs_desk_steps.specs.declared.parts.parts.Ledger.{Ledger}
-use Rattle.opfs_desk_steps.specs.declared.parts.parts.Pages.{Pages}
+use Rattle.opfs_desk_steps.specs.declared.parts.parts.OpenPages.{OpenPages}
 use Rattle.opfs_desk_bytes.specs.Opening.Alike.{AreAlike}
 use Rattle.opfs_desk_steps.proofs.book_steps.LaidStays.{LaidBeside}
 
@@ -34,7 +34,7 @@ all-open m = record {
 all-blocks : (t : Tree) → HasSameBlocks t t
 all-blocks t = record { named = λ b. refl; has = λ f b. refl }
 
-module _ {D : Type 0} (w : DiskWords D) (beside : LaidBeside w.tells) (blocks : BlocksGoOn) (f : Fixed D) (recorded : Built) (base : State Text Own) (gone : List Text) (l : Ledger D) (p q : Pages) (same : AreAlike p q) where
+module _ {D : Type 0} (w : DiskWords D) (beside : LaidBeside w.tells) (blocks : BlocksGoOn) (f : Fixed D) (recorded : Built) (base : State Text Own) (gone : List Text) (l : Ledger D) (p q : OpenPages) (same : AreAlike p q) where
   spaced : AreSpaced (machine_in l) (shelf recorded.rows (tree_in l) p.swap) p.space → AreSpaced (machine_in l) (shelf recorded.rows (tree_in l) q.swap) p.space
   spaced is =
       blocks.stays (machine_in l) (machine_in l) (shelf recorded.rows (tree_in l) p.swap) (shelf recorded.rows (tree_in l) q.swap) p.space 0 0 is (all-open (machine_in l))

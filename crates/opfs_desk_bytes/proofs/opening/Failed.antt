@@ -21,9 +21,9 @@ use Rattle.opfs_machine.specs.Steps.{evicted, after_reply}
 use Rattle.opfs_outside.specs.declared.disk.Disk.{Ghosts as DiskWords}
 use Rattle.opfs_desk_steps.specs.Parts.Acted.{HasFailed}
 use Rattle.opfs_desk_steps.specs.Parts.Seen.{call_in}
-use Rattle.opfs_desk_steps.specs.declared.parts.call.InHand.{InHand}
+use Rattle.opfs_desk_steps.specs.declared.parts.call.ReadyCall.{ReadyCall}
 use Rattle.opfs_desk_steps.specs.declared.parts.parts.Ledger.{Ledger}
-use Rattle.opfs_desk_steps.specs.declared.parts.parts.Pages.{Pages}
+use Rattle.opfs_desk_steps.specs.declared.parts.parts.OpenPages.{OpenPages}
 use Rattle.opfs_desk_steps.specs.RowLaws.Opens.{next_row, opens_row}
 use Rattle.opfs_desk_steps.proofs.Numbers.{agent-stays}
 
@@ -32,7 +32,7 @@ refused-agents s k (op.CreateWritable at keep) h = refl
 refused-agents s k (op.CreateSyncAccessHandle at mode) h = refl
 refused-agents s k o h = cc
 
-module _ {D : Type 0} (w : DiskWords D) (f : Fixed D) (mid new : Ledger D) (p : Pages) (c : InHand) (r : Reply) (opens : opens_row c.op ≡ true) (fail : HasFailed w f (told_entry (call_in c) r) mid new p) where
+module _ {D : Type 0} (w : DiskWords D) (f : Fixed D) (mid new : Ledger D) (p : OpenPages) (c : ReadyCall) (r : Reply) (opens : opens_row c.op ≡ true) (fail : HasFailed w f (told_entry (call_in c) r) mid new p) where
   state-is : state_after f.opening new.books.history ≡ after_reply (fold evicted (state_after f.opening mid.books.history) fail.gone) c.agent c.op (reply.No refusal.DiskFault)
   state-is =
       ap (λ (es : List Entry). state_after f.opening es) fail.grown

@@ -17,17 +17,17 @@ use Rattle.opfs_desk_steps.specs.Parts.Acted.{IsUnacted}
 use Rattle.opfs_desk_steps.specs.Parts.Asked.{IsAsked}
 use Rattle.opfs_desk_steps.specs.Parts.Held.{AreHeldWhole}
 use Rattle.opfs_desk_steps.specs.Parts.Seen.{machine_in, tree_in}
-use Rattle.opfs_desk_steps.specs.declared.parts.call.InHand.{InHand}
+use Rattle.opfs_desk_steps.specs.declared.parts.call.ReadyCall.{ReadyCall}
 use Rattle.opfs_desk_steps.specs.declared.parts.parts.Ledger.{Ledger}
-use Rattle.opfs_desk_steps.specs.declared.parts.parts.Pages.{Pages}
-use Rattle.opfs_desk_steps.specs.declared.parts.parts.Parts.{Parts}
+use Rattle.opfs_desk_steps.specs.declared.parts.parts.OpenPages.{OpenPages}
+use Rattle.opfs_desk_steps.specs.declared.parts.parts.DeskParts.{DeskParts}
 use Rattle.opfs_desk_steps.specs.RowLaws.Opens.{next_row, opened_extents}
 use Rattle.opfs_desk_steps.specs.Ready.{AskedCallsAreReady}
 use Rattle.opfs_desk_bytes.specs.Opening.Opening.{HasPages}
 use Rattle.opfs_desk_steps.proofs.book_steps.Ways.{way-here}
 
 -- There was no memory for the row.
-pub unacted : {D : Type 0} (w : DiskWords D) → BooksShowTheirImages w → (f : Fixed D) (recorded : Built) (old : Parts D) (swap : Rows) → swap ≡ old.pages.swap → AreHeldWhole w f recorded old.ledger old.pages
+pub unacted : {D : Type 0} (w : DiskWords D) → BooksShowTheirImages w → (f : Fixed D) (recorded : Built) (old : DeskParts D) (swap : Rows) → swap ≡ old.pages.swap → AreHeldWhole w f recorded old.ledger old.pages
     → IsUnacted w f old (record { ledger = old.ledger; pages = record { swap = swap; space = old.pages.space; base = old.pages.base } })
 unacted w show f recorded old swap same held = record {
   recorded = recorded;
@@ -37,7 +37,7 @@ unacted w show f recorded old swap same held = record {
 }
 
 -- The number of the row is that which the agent makes next.
-pub number-is : {D : Type 0} (w : DiskWords D) → AskedCallsAreReady w → (f : Fixed D) (recorded : Built) (l mid : Ledger D) (p : Pages) (calls : List Entry) (c : InHand) (work : WorkingCopy) (past : List Text)
+pub number-is : {D : Type 0} (w : DiskWords D) → AskedCallsAreReady w → (f : Fixed D) (recorded : Built) (l mid : Ledger D) (p : OpenPages) (calls : List Entry) (c : ReadyCall) (work : WorkingCopy) (past : List Text)
     → AreHeldWhole w f recorded l p → IsAsked w.tells f.opening l.books.history calls l.books.state c work past → mid.books.history ≡ l.books.history ++ calls
     → (row : ℕ) → row ≡ length (agent_of (machine_in l) c.agent).own + count_by makes_row calls + 1 → row ≡ next_row (state_after f.opening mid.books.history) c.agent
 number-is w asks f recorded l mid p calls c work past held asked entries row is =
@@ -45,7 +45,7 @@ number-is w asks f recorded l mid p calls c work past held asked entries row is 
     let at = ap (λ (es : List Entry). length (agent_of (state_after f.opening es) c.agent).own) entries in
     omega (arith, is, rows, at)
 
-pub pages-are : {D : Type 0} (l : Ledger D) (p q : Pages) (c : InHand) (row n : ℕ) → row ≡ n → OthersStay c.agent row p.swap q.swap → is_some (row_of c.agent row q.swap) ≡ true
+pub pages-are : {D : Type 0} (l : Ledger D) (p q : OpenPages) (c : ReadyCall) (row n : ℕ) → row ≡ n → OthersStay c.agent row p.swap q.swap → is_some (row_of c.agent row q.swap) ≡ true
     → pages_at c.agent row q.swap ≡ pages_in (opened_extents (tree_in l) c.op) → q.space ≡ p.space → q.base ≡ p.base → kept_count q.swap ≡ kept_count p.swap → HasPages l p q c n
 pages-are l p q c row n is others here pages space base kept =
     subst (λ (x : ℕ). HasPages l p q c x) is

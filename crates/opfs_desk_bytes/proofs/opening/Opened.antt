@@ -42,10 +42,10 @@ use Rattle.opfs_desk_steps.specs.Parts.Acted.{HasActed, IsWayEnded}
 use Rattle.opfs_desk_steps.specs.Parts.Answered.{IsAnswered}
 use Rattle.opfs_desk_steps.specs.Parts.Held.{AreHeldWhole}
 use Rattle.opfs_desk_steps.specs.Parts.Seen.{machine_in, tree_in, call_in, units_in}
-use Rattle.opfs_desk_steps.specs.declared.parts.call.InHand.{InHand}
+use Rattle.opfs_desk_steps.specs.declared.parts.call.ReadyCall.{ReadyCall}
 use Rattle.opfs_desk_steps.specs.declared.parts.parts.Ledger.{Ledger}
-use Rattle.opfs_desk_steps.specs.declared.parts.parts.Pages.{Pages}
-use Rattle.opfs_desk_steps.specs.declared.parts.parts.Parts.{Parts}
+use Rattle.opfs_desk_steps.specs.declared.parts.parts.OpenPages.{OpenPages}
+use Rattle.opfs_desk_steps.specs.declared.parts.parts.DeskParts.{DeskParts}
 use Rattle.opfs_desk_steps.specs.RowLaws.OpenCopies.{OpenedCopiesStand}
 use Rattle.opfs_desk_steps.specs.RowLaws.Opening.{OpenedRowsAreLaid}
 use Rattle.opfs_desk_steps.specs.RowLaws.Opens.{CallsOpenRows, HasRow, HasOpened, MayOpen, next_row, opens_row, opened_extents}
@@ -65,7 +65,7 @@ use Rattle.opfs_desk_bytes.proofs.opening.Trees.{file-stays}
 use Rattle.opfs_desk_bytes.proofs.opening.Words.{answers-done, sized, no-gift, leaves-last, not-near, file_place, own-file, same-extents}
 
 module _ {D : Type 0} (w : DiskWords D) (asks : AskedCallsAreReady w) (answers : ReadyCallsAreAnswered w)
-    (f : Fixed D) (recorded : Built) (l mid back : Ledger D) (p : Pages) (calls : List Entry) (c : InHand) (work : WorkingCopy) (past : List Text)
+    (f : Fixed D) (recorded : Built) (l mid back : Ledger D) (p : OpenPages) (calls : List Entry) (c : ReadyCall) (work : WorkingCopy) (past : List Text)
     (begins : BeginsOpening w f recorded l p calls c work past) (took : HasTakenIn w f recorded l mid p calls c) where
   abbrev pub base : State Text Own
   base = state_after f.opening mid.books.history
@@ -110,7 +110,7 @@ module _ {D : Type 0} (w : DiskWords D) (asks : AskedCallsAreReady w) (answers :
     pub has-cleared : HasCleared w.tells f.opening back.books.history base units
     has-cleared = record { front = mid.books.history; told = told-whole w.tells f.opening mid.books.history base took.held.books.told; state = refl; grown = way.entries }
 
-    module _ (tidy : IsTidy back) (q : Pages) (pages : HasPages l p q c (next_row base c.agent)) (order_after : IsInOrder (tree_by (machine_in back) (tree_in back) c.agent c.op c.sizes None)) where
+    module _ (tidy : IsTidy back) (q : OpenPages) (pages : HasPages l p q c (next_row base c.agent)) (order_after : IsInOrder (tree_by (machine_in back) (tree_in back) c.agent c.op c.sizes None)) where
       has-row : HasRow p q c.agent (next_row s c.agent) (opened_extents (tree_in back) c.op)
       has-row =
           subst (λ (n : ℕ). HasRow p q c.agent n (opened_extents (tree_in back) c.op)) (sym (next-stays base units c.agent))
@@ -220,13 +220,13 @@ module _ {D : Type 0} (w : DiskWords D) (asks : AskedCallsAreReady w) (answers :
             left zero is = absurd (omega (arith, is))
             left (suc n) is = subst (λ (x : ℕ). StandsFor w.tells f.opening new.books.history c.agent x made) (sym is) stands
 
-            pub has-acted : (old now : Parts D) → old.ledger ≡ l → now.ledger ≡ new → now.pages ≡ q → HasActed w f old now calls (call_in c) work made (opened_act (next_row base c.agent))
+            pub has-acted : (old now : DeskParts D) → old.ledger ≡ l → now.ledger ≡ new → now.pages ≡ q → HasActed w f old now calls (call_in c) work made (opened_act (next_row base c.agent))
             has-acted old now was is are = record {
               held = record {
                 recorded = way.cleared.recorded;
                 are =
                     subst (λ (x : Ledger D). AreHeldWhole w f way.cleared.recorded x now.pages) (sym is)
-                    (subst (λ (x : Pages). AreHeldWhole w f way.cleared.recorded new x) (sym are) held-now);
+                    (subst (λ (x : OpenPages). AreHeldWhole w f way.cleared.recorded new x) (sym are) held-now);
                 idle = ap (λ (x : Ledger D). x.books.state.store.prepared.place) is ∙ told.idle;
               };
               acted =

@@ -6,9 +6,9 @@ use Rattle.opfs_books.specs.Laws.Books.{Fixed}
 use Rattle.opfs_books.specs.Laws.Laws.{failed}
 use Rattle.opfs_desk_steps.specs.Parts.Acted.{HasFailed}
 use Rattle.opfs_desk_steps.specs.Parts.Seen.{call_in}
-use Rattle.opfs_desk_steps.specs.declared.parts.call.InHand.{InHand}
+use Rattle.opfs_desk_steps.specs.declared.parts.call.ReadyCall.{ReadyCall}
 use Rattle.opfs_desk_steps.specs.declared.parts.parts.Ledger.{Ledger}
-use Rattle.opfs_desk_steps.specs.declared.parts.parts.Pages.{Pages}
+use Rattle.opfs_desk_steps.specs.declared.parts.parts.OpenPages.{OpenPages}
 use Rattle.opfs_desk_bytes.proofs.reading.Faulted.{own-refused}
 use Rattle.opfs_desk_steps.proofs.Numbers.{agent-stays}
 use Rattle.opfs_hist.specs.declared.entry.Entry.{Entry}
@@ -24,7 +24,7 @@ use Rattle.opfs_machine.specs.Histories.{IsCall, state_after}
 use Rattle.opfs_machine.specs.Steps.{evicted, after_reply}
 use Rattle.opfs_outside.specs.declared.disk.Disk.{Ghosts as DiskWords}
 
-module _ {D : Type 0} (w : DiskWords D) (f : Fixed D) (mid new : Ledger D) (p : Pages) (c : InHand) (r : Reply) (fail : HasFailed w f (told_entry (call_in c) r) mid new p) where
+module _ {D : Type 0} (w : DiskWords D) (f : Fixed D) (mid new : Ledger D) (p : OpenPages) (c : ReadyCall) (r : Reply) (fail : HasFailed w f (told_entry (call_in c) r) mid new p) where
   abbrev pub base : State Text Own
   base = state_after f.opening mid.books.history
 

@@ -13,10 +13,10 @@ use Rattle.opfs_desk_steps.specs.Parts.Acted.{HasActed, last_doubt}
 use Rattle.opfs_desk_steps.specs.Parts.Asked.{IsAsked}
 use Rattle.opfs_desk_steps.specs.Parts.Held.{AreHeldWhole}
 use Rattle.opfs_desk_steps.specs.Parts.Seen.{machine_in, book_in, call_in, units_in}
-use Rattle.opfs_desk_steps.specs.declared.parts.call.InHand.{InHand}
+use Rattle.opfs_desk_steps.specs.declared.parts.call.ReadyCall.{ReadyCall}
 use Rattle.opfs_desk_steps.specs.declared.parts.parts.Ledger.{Ledger}
-use Rattle.opfs_desk_steps.specs.declared.parts.parts.Pages.{Pages}
-use Rattle.opfs_desk_steps.specs.declared.parts.parts.Parts.{Parts}
+use Rattle.opfs_desk_steps.specs.declared.parts.parts.OpenPages.{OpenPages}
+use Rattle.opfs_desk_steps.specs.declared.parts.parts.DeskParts.{DeskParts}
 use Rattle.opfs_desk_bytes.specs.Reading.Reading.{HasFailedToRead}
 use Rattle.opfs_desk_bytes.proofs.reading.Readied.{Falls, read-way}
 use Rattle.opfs_desk_steps.specs.Acting.{HasTaken, HasAdded, CallsAreActed, failed_act}
@@ -58,7 +58,7 @@ pub own-refused : (s : State Text Own) (k : ℕ) (o : Op) → IsNumber s k → l
 own-refused s k (op.Await tag) number = ap (λ a. length a.own) (agent-set s k (record (agent_of s k) { waits = None }) number)
 own-refused s k o number = refl
 
-module _ {D : Type 0} (w : DiskWords D) (asks : AskedCallsAreReady w) (f : Fixed D) (recorded : Built) (start l mid : Ledger D) (before p : Pages) (calls : List Entry) (c : InHand) (work : WorkingCopy) (past : List Text)
+module _ {D : Type 0} (w : DiskWords D) (asks : AskedCallsAreReady w) (f : Fixed D) (recorded : Built) (start l mid : Ledger D) (before p : OpenPages) (calls : List Entry) (c : ReadyCall) (work : WorkingCopy) (past : List Text)
     (fail : HasFailedToRead w f recorded start l before p calls c work past) where
   abbrev pub e : Entry
   e = told_entry (call_in c) reply.Done
@@ -116,8 +116,8 @@ module _ {D : Type 0} (w : DiskWords D) (asks : AskedCallsAreReady w) (f : Fixed
             ∙ counts.pending (state_after f.opening start.books.history) c.agent start.books.history calls fail.asked.may.pending
 
     pub has-failed : CallsAreActed w → FaultsAreCounted w → BooksShowTheirImages w → ReadsKeepTheBooks w → Falls w
-        → (new : Parts D) → new.ledger.books.history ≡ mid.books.history ++ failed e ∷ [] → new.ledger.journal ≡ mid.journal → new.ledger.books.state.store.prepared.place ≡ None → AreHeldWhole w f recorded new.ledger new.pages
-        → (first : Pages) (after : WorkingCopy) (rows : ℕ) → IsSameCopy work after → rows ≡ length (agent_of (machine_in mid) c.agent).own
+        → (new : DeskParts D) → new.ledger.books.history ≡ mid.books.history ++ failed e ∷ [] → new.ledger.journal ≡ mid.journal → new.ledger.books.state.store.prepared.place ≡ None → AreHeldWhole w f recorded new.ledger new.pages
+        → (first : OpenPages) (after : WorkingCopy) (rows : ℕ) → IsSameCopy work after → rows ≡ length (agent_of (machine_in mid) c.agent).own
         → HasActed w f (record { ledger = start; pages = first }) new calls (call_in c) work after (failed_act rows)
     has-failed acts counts shows keep falls new entries silent idle now first after rows copy count = record {
       held = record { recorded = recorded; are = now; idle = idle };

@@ -46,10 +46,10 @@ use Rattle.opfs_desk_steps.specs.Parts.Acted.{HasActed, IsWayEnded}
 use Rattle.opfs_desk_steps.specs.Parts.Answered.{IsAnswered}
 use Rattle.opfs_desk_steps.specs.Parts.Held.{AreHeldWhole}
 use Rattle.opfs_desk_steps.specs.Parts.Seen.{machine_in, tree_in, call_in, units_in}
-use Rattle.opfs_desk_steps.specs.declared.parts.call.InHand.{InHand}
+use Rattle.opfs_desk_steps.specs.declared.parts.call.ReadyCall.{ReadyCall}
 use Rattle.opfs_desk_steps.specs.declared.parts.parts.Ledger.{Ledger}
-use Rattle.opfs_desk_steps.specs.declared.parts.parts.Pages.{Pages}
-use Rattle.opfs_desk_steps.specs.declared.parts.parts.Parts.{Parts}
+use Rattle.opfs_desk_steps.specs.declared.parts.parts.OpenPages.{OpenPages}
+use Rattle.opfs_desk_steps.specs.declared.parts.parts.DeskParts.{DeskParts}
 use Rattle.opfs_desk_steps.specs.Going.{HasTakenIn, HasMadeWay, HasTold}
 use Rattle.opfs_desk_bytes.specs.Reading.Reading.{BeginsRead, IsFileRead}
 use Rattle.opfs_desk_bytes.specs.Reading.Words.{file_read, gets_file}
@@ -82,7 +82,7 @@ abbrev pub file_act : Text → ℕ → ℕ → ℕ → Acted
 file_act bytes size stamp rows = record { reply = reply.FileInfo size stamp; gift = gift.Bytes bytes; rows = rows }
 
 module _ {D : Type 0} (w : DiskWords D) (asks : AskedCallsAreReady w) (answers : ReadyCallsAreAnswered w)
-    (f : Fixed D) (recorded : Built) (l mid back : Ledger D) (p : Pages) (calls : List Entry) (c : InHand) (work : WorkingCopy)
+    (f : Fixed D) (recorded : Built) (l mid back : Ledger D) (p : OpenPages) (calls : List Entry) (c : ReadyCall) (work : WorkingCopy)
     (begins : BeginsRead w f recorded l p calls c work) (gets : gets_file c.op ≡ true) (took : HasTakenIn w f recorded l mid p calls c) where
   abbrev pub base : State Text Own
   base = state_after f.opening mid.books.history
@@ -232,14 +232,14 @@ module _ {D : Type 0} (w : DiskWords D) (asks : AskedCallsAreReady w) (answers :
           nothing-left zero is = tt
           nothing-left (suc n) is = absurd cc
 
-          pub has-acted : (old now : Parts D) (rows : ℕ) → old.ledger ≡ l → now.ledger ≡ new → now.pages ≡ p → rows ≡ suc (length (agent_of (machine_in mid) c.agent).own)
+          pub has-acted : (old now : DeskParts D) (rows : ℕ) → old.ledger ≡ l → now.ledger ≡ new → now.pages ≡ p → rows ≡ suc (length (agent_of (machine_in mid) c.agent).own)
               → HasActed w f old now calls (call_in c) work work (file_act bytes size stamp rows)
           has-acted old now rows was is are count = record {
             held = record {
               recorded = way.cleared.recorded;
               are =
                   subst (λ (v : Ledger D). AreHeldWhole w f way.cleared.recorded v now.pages) (sym is)
-                  (subst (λ (v : Pages). AreHeldWhole w f way.cleared.recorded new v) (sym are) held-now);
+                  (subst (λ (v : OpenPages). AreHeldWhole w f way.cleared.recorded new v) (sym are) held-now);
               idle = ap (λ (v : Ledger D). v.books.state.store.prepared.place) is ∙ told.idle;
             };
             acted =

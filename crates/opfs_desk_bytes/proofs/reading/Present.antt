@@ -18,7 +18,7 @@ use Rattle.opfs_pages.specs.HistoryLaws.Open.{if_open, open_at}
 use Rattle.opfs_desk_steps.specs.Parts.Held.{AreHeldWhole}
 use Rattle.opfs_desk_steps.specs.Parts.Seen.{machine_in, tree_in}
 use Rattle.opfs_desk_steps.specs.declared.parts.parts.Ledger.{Ledger}
-use Rattle.opfs_desk_steps.specs.declared.parts.parts.Pages.{Pages}
+use Rattle.opfs_desk_steps.specs.declared.parts.parts.OpenPages.{OpenPages}
 use Rattle.opfs_desk_bytes.specs.Reading.Reading.{IsFileRead, IsReadFrom}
 use Rattle.opfs_desk_bytes.proofs.reading.Wholes.{pending-whole}
 use Rattle.opfs_desk_bytes.specs.Reading.Files.{IsPresent, IsReadOfFile, has_writer, is_writer, writes_file}
@@ -82,7 +82,7 @@ pages-enough n m each =
       | false ↦ λ is. grind (arith, is)
     ] refl
 
-module _ (states : StateLaws) {D : Type 0} (w : DiskWords D) (files : FilesAreStored w) (between : HistoriesAreCleared w) (f : Fixed D) (recorded : Built) (v : Ledger D) (p : Pages)
+module _ (states : StateLaws) {D : Type 0} (w : DiskWords D) (files : FilesAreStored w) (between : HistoriesAreCleared w) (f : Fixed D) (recorded : Built) (v : Ledger D) (p : OpenPages)
     (held : AreHeldWhole w f recorded v p) (lines : (machine_in v).rows ≡ lines_of (tree_in v)) (place : Place) (found : FileRow) (there : file_in_tree place (tree_in v) ≡ Some found) where
   abbrev pub s : State Text Own
   s = state_after f.opening v.books.history
@@ -194,7 +194,7 @@ same-has : (m t : Machine) (place : Place) → ((k n : ℕ) → is_writer m plac
 same-has m t place each [] = refl
 same-has m t place each (e ∷ es) = λ i. each e.0.0 e.0.1 i || same-has m t place each es i
 
-module _ (follow : LengthsFollowEachCall) (local : LocalCallsAreKnownByTheirWord) {D : Type 0} (w : DiskWords D) (f : Fixed D) (recorded : Built) (l mid : Ledger D) (p : Pages) (k : ℕ) (calls : List Entry)
+module _ (follow : LengthsFollowEachCall) (local : LocalCallsAreKnownByTheirWord) {D : Type 0} (w : DiskWords D) (f : Fixed D) (recorded : Built) (l mid : Ledger D) (p : OpenPages) (k : ℕ) (calls : List Entry)
     (held : AreHeldWhole w f recorded l p) (now : AreHeldWhole w f recorded mid p) (entries : mid.books.history ≡ l.books.history ++ calls) (pending : ArePendingFor w.tells (state_after f.opening l.books.history) k calls) where
   still : (j n : ℕ) → open_at (machine_in l) j n ≡ open_at (machine_in mid) j n
   still j n =

@@ -16,7 +16,7 @@ use Rattle.opfs_pages.specs.HistoryLaws.Open.{if_open, open_at}
 use Rattle.opfs_desk_steps.specs.Parts.Held.{AreHeldWhole}
 use Rattle.opfs_desk_steps.specs.Parts.Seen.{machine_in, tree_in}
 use Rattle.opfs_desk_steps.specs.declared.parts.parts.Ledger.{Ledger}
-use Rattle.opfs_desk_steps.specs.declared.parts.parts.Pages.{Pages}
+use Rattle.opfs_desk_steps.specs.declared.parts.parts.OpenPages.{OpenPages}
 use Rattle.opfs_desk_bytes.specs.Reading.Files.{AreOfAgents, MayReadFile}
 use Rattle.opfs_desk_bytes.proofs.reading.Present.{below, blocks-there, fits, small}
 use Rattle.opfs_desk_steps.specs.RowLaws.Inside.{PartsLieInside}
@@ -47,7 +47,7 @@ runs-lie : (base end size : ℕ) (extents : List Extent) → base + 4096 * size 
 runs-lie base end size [] inside all = tt
 runs-lie base end size (e ∷ more) inside all = (omega (arith, inside, all.0), runs-lie base end size more inside all.1)
 
-module _ (states : StateLaws) {D : Type 0} (w : DiskWords D) (files : FilesAreStored w) (between : HistoriesAreCleared w) (lie : PartsLieInside w) (f : Fixed D) (recorded : Built) (l : Ledger D) (p : Pages)
+module _ (states : StateLaws) {D : Type 0} (w : DiskWords D) (files : FilesAreStored w) (between : HistoriesAreCleared w) (lie : PartsLieInside w) (f : Fixed D) (recorded : Built) (l : Ledger D) (p : OpenPages)
     (held : AreHeldWhole w f recorded l p) where
   pub of-agents : AreOfAgents (machine_in l) p.swap
   of-agents k n is = of-agent (machine_in l) k n (sym (held.laid.rows k n) ∙ is)

@@ -17,8 +17,8 @@ use Rattle.opfs_desk_steps.specs.Parts.Acted.{IsWay, HasActed, IsUnacted}
 use Rattle.opfs_desk_steps.specs.Parts.Held.{AreHeldAt, AreHeldWhole}
 use Rattle.opfs_desk_steps.specs.Parts.Seen.{book_in}
 use Rattle.opfs_desk_steps.specs.declared.parts.parts.Ledger.{Ledger}
-use Rattle.opfs_desk_steps.specs.declared.parts.parts.Pages.{Pages}
-use Rattle.opfs_desk_steps.specs.declared.parts.parts.Parts.{Parts}
+use Rattle.opfs_desk_steps.specs.declared.parts.parts.OpenPages.{OpenPages}
+use Rattle.opfs_desk_steps.specs.declared.parts.parts.DeskParts.{DeskParts}
 use Rattle.opfs_desk_steps.proofs.book_steps.Held.{tied-later}
 use Rattle.opfs_desk_steps.proofs.book_steps.Ways.{way-here}
 use Rattle.opfs_hist.specs.declared.entry.Entry.{Entry}
@@ -39,7 +39,7 @@ abbrev pub Falls : {D : Type 0} → DiskWords D → Type 0
 Falls {D} w = w.tells → (d : D) (t u : ℕ) (c : List ℕ) → t ≤ u → w.since d u c → w.since d t c
 
 module _ {D : Type 0} (w : DiskWords D) (f : Fixed D) (l now : Ledger D) (same : now.books ≡ l.books) (reads : Reads w l.journal now.journal) where
-  pub read-held : ReadsKeepTheBooks w → ((d : D) → w.faults d ≤ 2 ^ 64 - 1) → (recorded : Built) (base : State Text Own) (gone : List Text) (p : Pages) → vec_capacity l.freed ≤ vec_capacity now.freed → AreHeldAt w f recorded base gone l p → AreHeldAt w f recorded base gone now p
+  pub read-held : ReadsKeepTheBooks w → ((d : D) → w.faults d ≤ 2 ^ 64 - 1) → (recorded : Built) (base : State Text Own) (gone : List Text) (p : OpenPages) → vec_capacity l.freed ≤ vec_capacity now.freed → AreHeldAt w f recorded base gone l p → AreHeldAt w f recorded base gone now p
   read-held keep most recorded base gone p freed held = record {
     books = subst (λ (b : Books StateSeen). AreBooksAt w f recorded base gone (book b.history b.state.store.machine b.state.store.tree b.commits b.place) now.journal) (sym same) (keep f recorded base gone (book_in l) l.journal now.journal held.books reads).0;
     laid =
@@ -55,7 +55,7 @@ module _ {D : Type 0} (w : DiskWords D) (f : Fixed D) (l now : Ledger D) (same :
   }
 
   -- A way that begins once the disk was read is one that begins before.
-  pub read-way : ReadsKeepTheBooks w → Falls w → (recorded : Built) (base : State Text Own) (gone : List Text) (p : Pages) → AreHeldAt w f recorded base gone l p → (all : List Change) (new : Ledger D) → IsWay w f all now new → IsWay w f all l new
+  pub read-way : ReadsKeepTheBooks w → Falls w → (recorded : Built) (base : State Text Own) (gone : List Text) (p : OpenPages) → AreHeldAt w f recorded base gone l p → (all : List Change) (new : Ledger D) → IsWay w f all now new → IsWay w f all l new
   read-way keep falls recorded base gone p held all new way = record {
     later = omega (arith, reads.later, way.later);
     time = λ t. elapses-trans w.moment w.since (falls t) l.journal.disk now.journal.disk new.journal.disk (reads.told t).time (way.time t);
@@ -68,7 +68,7 @@ module _ {D : Type 0} (w : DiskWords D) (f : Fixed D) (l now : Ledger D) (same :
       Shows : Bool → Books StateSeen → List ℕ → Type 0
       Shows d b x = IsShown f.opening (floor (changes f.opening b.history)) all x ⊎ IsShown f.opening (floor (changes f.opening b.history)) (changes f.opening b.history ++ (if d then doubted f.opening b.history b.place else [])) x
 
-  pub read-acted : ReadsKeepTheBooks w → Falls w → (recorded : Built) (p q r : Pages) → AreHeldWhole w f recorded l p → (new : Parts D) (calls : List Entry) (c : Call) (before after : WorkingCopy) (done : Acted)
+  pub read-acted : ReadsKeepTheBooks w → Falls w → (recorded : Built) (p q r : OpenPages) → AreHeldWhole w f recorded l p → (new : DeskParts D) (calls : List Entry) (c : Call) (before after : WorkingCopy) (done : Acted)
       → HasActed w f (record { ledger = now; pages = q }) new calls c before after done → HasActed w f (record { ledger = l; pages = r }) new calls c before after done
   read-acted keep falls recorded p q r held new calls c before after done is = record {
     held = is.held;
@@ -81,7 +81,7 @@ module _ {D : Type 0} (w : DiskWords D) (f : Fixed D) (l now : Ledger D) (same :
   }
 
   -- Where there was no memory then, the parts are kept as they were.
-  pub read-unacted : ReadsKeepTheBooks w → Falls w → BooksShowTheirImages w → (recorded : Built) (p q r : Pages) → AreHeldWhole w f recorded l p → AreHeldWhole w f recorded now q → IsUnacted w f (record { ledger = l; pages = r }) (record { ledger = now; pages = q })
+  pub read-unacted : ReadsKeepTheBooks w → Falls w → BooksShowTheirImages w → (recorded : Built) (p q r : OpenPages) → AreHeldWhole w f recorded l p → AreHeldWhole w f recorded now q → IsUnacted w f (record { ledger = l; pages = r }) (record { ledger = now; pages = q })
   read-unacted keep falls shows recorded p q r held after = record {
     recorded = recorded;
     are = after;

@@ -55,10 +55,10 @@ use Rattle.opfs_desk_steps.specs.Parts.Answered.{IsAnswered}
 use Rattle.opfs_desk_steps.specs.Parts.Asked.{IsAsked}
 use Rattle.opfs_desk_steps.specs.Parts.Held.{AreHeldWhole}
 use Rattle.opfs_desk_steps.specs.Parts.Seen.{machine_in, tree_in, call_in, units_in}
-use Rattle.opfs_desk_steps.specs.declared.parts.call.InHand.{InHand}
+use Rattle.opfs_desk_steps.specs.declared.parts.call.ReadyCall.{ReadyCall}
 use Rattle.opfs_desk_steps.specs.declared.parts.parts.Ledger.{Ledger}
-use Rattle.opfs_desk_steps.specs.declared.parts.parts.Pages.{Pages}
-use Rattle.opfs_desk_steps.specs.declared.parts.parts.Parts.{Parts}
+use Rattle.opfs_desk_steps.specs.declared.parts.parts.OpenPages.{OpenPages}
+use Rattle.opfs_desk_steps.specs.declared.parts.parts.DeskParts.{DeskParts}
 use Rattle.opfs_desk_steps.specs.Going.{HasTakenIn, HasMadeWay, HasTold}
 use Rattle.opfs_desk_bytes.specs.Reading.Reading.{BeginsRead, IsReadOf}
 use Rattle.opfs_desk_bytes.specs.Reading.Words.{reads_row, read_start, read_len, end_of_read, cursor_read}
@@ -101,7 +101,7 @@ size-in s r bytes is = absurd cc
 
 -- ---- what is read
 
-module _ {D : Type 0} (w : DiskWords D) (copies : CopiesAreStored w) (f : Fixed D) (recorded : Built) (l : Ledger D) (p : Pages) (calls : List Entry) (c : InHand) (work : WorkingCopy)
+module _ {D : Type 0} (w : DiskWords D) (copies : CopiesAreStored w) (f : Fixed D) (recorded : Built) (l : Ledger D) (p : OpenPages) (calls : List Entry) (c : ReadyCall) (work : WorkingCopy)
     (held : AreHeldWhole w f recorded l p) (asked : IsAsked w.tells f.opening l.books.history calls l.books.state c work []) (reads : reads_row c.op ≡ true) where
   copied-row : StandsFor w.tells f.opening (l.books.history ++ calls) c.agent (row_named c.op) work
   copied-row =
@@ -144,7 +144,7 @@ abbrev pub read_act : Text → ℕ → Acted
 read_act bytes rows = record { reply = reply.Read bytes; gift = gift.Nothing; rows = rows }
 
 module _ {D : Type 0} (w : DiskWords D) (asks : AskedCallsAreReady w) (answers : ReadyCallsAreAnswered w) (goes : LegalHistoriesGoOn)
-    (f : Fixed D) (recorded : Built) (l mid back : Ledger D) (p : Pages) (calls : List Entry) (c : InHand) (work : WorkingCopy)
+    (f : Fixed D) (recorded : Built) (l mid back : Ledger D) (p : OpenPages) (calls : List Entry) (c : ReadyCall) (work : WorkingCopy)
     (begins : BeginsRead w f recorded l p calls c work) (reads : reads_row c.op ≡ true) (took : HasTakenIn w f recorded l mid p calls c) where
   abbrev pub base : State Text Own
   base = state_after f.opening mid.books.history
@@ -392,14 +392,14 @@ module _ {D : Type 0} (w : DiskWords D) (asks : AskedCallsAreReady w) (answers :
             left zero is = absurd (some (sym is))
             left (suc n) is = subst (λ (m : ℕ). StandsFor w.tells f.opening new.books.history c.agent m made) (sym is) stands
 
-            pub has-acted : (old now : Parts D) (rows : ℕ) → old.ledger ≡ l → now.ledger ≡ new → now.pages ≡ p → rows ≡ length (agent_of (machine_in mid) c.agent).own
+            pub has-acted : (old now : DeskParts D) (rows : ℕ) → old.ledger ≡ l → now.ledger ≡ new → now.pages ≡ p → rows ≡ length (agent_of (machine_in mid) c.agent).own
                 → HasActed w f old now calls (call_in c) work made (read_act bytes rows)
             has-acted old now rows was is are count = subst (λ (b : Text). HasActed w f old now calls (call_in c) work made (read_act b rows)) read.same (record {
               held = record {
                 recorded = way.cleared.recorded;
                 are =
                     subst (λ (v : Ledger D). AreHeldWhole w f way.cleared.recorded v now.pages) (sym is)
-                    (subst (λ (v : Pages). AreHeldWhole w f way.cleared.recorded new v) (sym are) held-now);
+                    (subst (λ (v : OpenPages). AreHeldWhole w f way.cleared.recorded new v) (sym are) held-now);
                 idle = ap (λ (v : Ledger D). v.books.state.store.prepared.place) is ∙ told.idle;
               };
               acted =

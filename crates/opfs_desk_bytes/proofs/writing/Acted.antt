@@ -50,10 +50,10 @@ use Rattle.opfs_desk_steps.specs.Parts.Answered.{IsAnswered}
 use Rattle.opfs_desk_steps.specs.Parts.Asked.{IsAsked}
 use Rattle.opfs_desk_steps.specs.Parts.Held.{AreHeldWhole}
 use Rattle.opfs_desk_steps.specs.Parts.Seen.{machine_in, book_in, call_in, units_in}
-use Rattle.opfs_desk_steps.specs.declared.parts.call.InHand.{InHand}
+use Rattle.opfs_desk_steps.specs.declared.parts.call.ReadyCall.{ReadyCall}
 use Rattle.opfs_desk_steps.specs.declared.parts.parts.Ledger.{Ledger}
-use Rattle.opfs_desk_steps.specs.declared.parts.parts.Pages.{Pages}
-use Rattle.opfs_desk_steps.specs.declared.parts.parts.Parts.{Parts}
+use Rattle.opfs_desk_steps.specs.declared.parts.parts.OpenPages.{OpenPages}
+use Rattle.opfs_desk_steps.specs.declared.parts.parts.DeskParts.{DeskParts}
 use Rattle.opfs_desk_bytes.specs.Reading.Reading.{BeginsRead}
 use Rattle.opfs_desk_bytes.proofs.reading.Synced.{handed}
 use Rattle.opfs_desk_steps.specs.RowLaws.InHand.{RowsInHandAreLaid}
@@ -114,15 +114,15 @@ put_act r rows = record { reply = r; gift = gift.Nothing; rows = rows }
 -- ---- what was entered is the call
 
 -- The pages were put and the call was entered, or not, whatever row, bytes and entry there were.
-abbrev Enters : {D : Type 0} → DiskWords D → Fixed D → Built → State Text Own → List Text → Parts D → Parts D → Put → ℕ → List ℕ → Entry → Sizes → Type 0
+abbrev Enters : {D : Type 0} → DiskWords D → Fixed D → Built → State Text Own → List Text → DeskParts D → DeskParts D → Put → ℕ → List ℕ → Entry → Sizes → Type 0
 Enters w f recorded base gone start new put n xs e z =
     IsToPut w f recorded base gone start e.agent n put xs → AreGottenIn w recorded start e.agent n put xs → IsAnswered w base gone start.ledger e z → HasEntered w f base gone start new n put xs e z
 
-abbrev Fails : {D : Type 0} → DiskWords D → Fixed D → Built → State Text Own → List Text → Parts D → Parts D → Put → ℕ → List ℕ → Entry → Type 0
+abbrev Fails : {D : Type 0} → DiskWords D → Fixed D → Built → State Text Own → List Text → DeskParts D → DeskParts D → Put → ℕ → List ℕ → Entry → Type 0
 Fails w f recorded base gone start new put n xs e =
     IsToPut w f recorded base gone start e.agent n put xs → AreGottenIn w recorded start e.agent n put xs → IsCall base gone (failed e) → HasNotEntered w f start new e
 
-pub enters-same : {D : Type 0} (w : DiskWords D) (f : Fixed D) (recorded : Built) (base : State Text Own) (gone : List Text) (start new : Parts D) (put : Put) (n m : ℕ) (xs ys : List ℕ) (e d : Entry) (z y : Sizes)
+pub enters-same : {D : Type 0} (w : DiskWords D) (f : Fixed D) (recorded : Built) (base : State Text Own) (gone : List Text) (start new : DeskParts D) (put : Put) (n m : ℕ) (xs ys : List ℕ) (e d : Entry) (z y : Sizes)
     → n ≡ m → xs ≡ ys → e ≡ d → z ≡ y → Enters w f recorded base gone start new put n xs e z → Enters w f recorded base gone start new put m ys d y
 enters-same w f recorded base gone start new put n m xs ys e d z y rows bytes entries sizes is =
     subst (λ (x : Sizes). Enters w f recorded base gone start new put m ys d x) sizes
@@ -130,14 +130,14 @@ enters-same w f recorded base gone start new put n m xs ys e d z y rows bytes en
     (subst (λ (x : List ℕ). Enters w f recorded base gone start new put m x e z) bytes
     (subst (λ (x : ℕ). Enters w f recorded base gone start new put x xs e z) rows is)))
 
-pub fails-same : {D : Type 0} (w : DiskWords D) (f : Fixed D) (recorded : Built) (base : State Text Own) (gone : List Text) (start new : Parts D) (put : Put) (n m : ℕ) (xs ys : List ℕ) (e d : Entry)
+pub fails-same : {D : Type 0} (w : DiskWords D) (f : Fixed D) (recorded : Built) (base : State Text Own) (gone : List Text) (start new : DeskParts D) (put : Put) (n m : ℕ) (xs ys : List ℕ) (e d : Entry)
     → n ≡ m → xs ≡ ys → e ≡ d → Fails w f recorded base gone start new put n xs e → Fails w f recorded base gone start new put m ys d
 fails-same w f recorded base gone start new put n m xs ys e d rows bytes entries is =
     subst (λ (x : Entry). Fails w f recorded base gone start new put m ys x) entries
     (subst (λ (x : List ℕ). Fails w f recorded base gone start new put m x e) bytes
     (subst (λ (x : ℕ). Fails w f recorded base gone start new put x xs e) rows is))
 
-pub may-enter-same : {D : Type 0} (w : DiskWords D) (p : Parts D) (put : Put) (n m : ℕ) (xs ys : List ℕ) (e d : Entry) (z y : Sizes) → n ≡ m → xs ≡ ys → e ≡ d → z ≡ y → MayEnter w p m put ys d y → MayEnter w p n put xs e z
+pub may-enter-same : {D : Type 0} (w : DiskWords D) (p : DeskParts D) (put : Put) (n m : ℕ) (xs ys : List ℕ) (e d : Entry) (z y : Sizes) → n ≡ m → xs ≡ ys → e ≡ d → z ≡ y → MayEnter w p m put ys d y → MayEnter w p n put xs e z
 may-enter-same w p put n m xs ys e d z y rows bytes entries sizes is =
     subst (λ (x : ℕ). MayEnter w p x put xs e z) (sym rows)
     (subst (λ (x : List ℕ). MayEnter w p m put x e z) (sym bytes)
@@ -151,7 +151,7 @@ size-in s (own.Stream w) bytes is = ap length (one-text w.buffer bytes is)
 size-in s (own.Handle h) bytes is = ap length (one-text (bytes_at s h.file) bytes is)
 size-in s r bytes is = absurd cc
 
-module _ {D : Type 0} (w : DiskWords D) (f : Fixed D) (l : Ledger D) (calls : List Entry) (c : InHand) (work : WorkingCopy) (past : List Text)
+module _ {D : Type 0} (w : DiskWords D) (f : Fixed D) (l : Ledger D) (calls : List Entry) (c : ReadyCall) (work : WorkingCopy) (past : List Text)
     (asked : IsAsked w.tells f.opening l.books.history calls l.books.state c work past) (puts : puts_row c.op ≡ true) where
   some-row : row_named c.op ≢ 0
   some-row = row-some (state_after f.opening (l.books.history ++ calls)) c.agent c.op puts asked.may.fitting
@@ -190,7 +190,7 @@ module _ {D : Type 0} (w : DiskWords D) (f : Fixed D) (l : Ledger D) (calls : Li
 -- ---- the call, step by step
 
 module _ {D : Type 0} (w : DiskWords D) (asks : AskedCallsAreReady w) (answers : ReadyCallsAreAnswered w)
-    (f : Fixed D) (recorded : Built) (l mid : Ledger D) (p : Pages) (calls : List Entry) (c : InHand) (work : WorkingCopy)
+    (f : Fixed D) (recorded : Built) (l mid : Ledger D) (p : OpenPages) (calls : List Entry) (c : ReadyCall) (work : WorkingCopy)
     (begins : BeginsRead w f recorded l p calls c work) (puts : puts_row c.op ≡ true) (took : HasTakenIn w f recorded l mid p calls c)
     (small : size_put c.sizes c.op < 2 ^ 63) (back : Ledger D) (way : HasClearedWay w f mid back p c) where
   abbrev base : State Text Own
@@ -227,7 +227,7 @@ module _ {D : Type 0} (w : DiskWords D) (asks : AskedCallsAreReady w) (answers :
 
   -- ---- the disk failed
 
-  pub has-failed : Falls w → (new : Parts D) → HasNotEntered w f (record { ledger = back; pages = p }) new e → HasFailed w f e mid new.ledger new.pages
+  pub has-failed : Falls w → (new : DeskParts D) → HasNotEntered w f (record { ledger = back; pages = p }) new e → HasFailed w f e mid new.ledger new.pages
   has-failed falls new not =
       let its-ready = ready w asks answers f recorded l mid p calls c work begins puts took in
       let more = last_doubt f.opening new.ledger.books.history in
@@ -249,8 +249,8 @@ module _ {D : Type 0} (w : DiskWords D) (asks : AskedCallsAreReady w) (answers :
 
   module _ (inside : PartsLieInside w) (room : PutsHaveRoom) (leave : CallsLeaveOtherRows) (t : Target) (put : Put) (page : List ℕ) (plan : IsPlan w (record { ledger = l; pages = p }) c work t put page)
       (planned : IsPlannedOf w.tells work (w.content l.journal.disk) p c.agent row c.sizes c.op put.writes page first)
-      (new : Parts D) (entered : HasEntered w f base units (record { ledger = back; pages = p }) new row put (bytes_put c.op) e c.sizes) (changes_row : CallsChangeTheirRow) where
-    abbrev bt : Parts D
+      (new : DeskParts D) (entered : HasEntered w f base units (record { ledger = back; pages = p }) new row put (bytes_put c.op) e c.sizes) (changes_row : CallsChangeTheirRow) where
+    abbrev bt : DeskParts D
     bt = entered.between
 
     abbrev after : State Text Own

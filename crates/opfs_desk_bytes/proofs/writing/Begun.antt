@@ -46,10 +46,10 @@ use Rattle.opfs_tree.specs.Rows.{Rows as Tree}
 use Rattle.opfs_work.specs.Works.{WorkingCopy}
 use Rattle.opfs_desk_steps.specs.Parts.Answered.{IsAnswered}
 use Rattle.opfs_desk_steps.specs.Parts.Seen.{machine_in, tree_in, call_in, units_in}
-use Rattle.opfs_desk_steps.specs.declared.parts.call.InHand.{InHand}
+use Rattle.opfs_desk_steps.specs.declared.parts.call.ReadyCall.{ReadyCall}
 use Rattle.opfs_desk_steps.specs.declared.parts.parts.Ledger.{Ledger}
-use Rattle.opfs_desk_steps.specs.declared.parts.parts.Pages.{Pages}
-use Rattle.opfs_desk_steps.specs.declared.parts.parts.Parts.{Parts}
+use Rattle.opfs_desk_steps.specs.declared.parts.parts.OpenPages.{OpenPages}
+use Rattle.opfs_desk_steps.specs.declared.parts.parts.DeskParts.{DeskParts}
 use Rattle.opfs_desk_bytes.specs.Reading.Reading.{BeginsRead}
 use Rattle.opfs_desk_bytes.proofs.reading.Synced.{handed}
 use Rattle.opfs_desk_steps.specs.RowLaws.Inside.{PartsLieInside}
@@ -96,7 +96,7 @@ gotten-after true m t recorded later tree next swap space base end size agent ro
 gotten-after false m t recorded later tree next swap space base end size agent row pages w given extents same knows is = record { none = is.none; planned = is.planned; exact = knows is.exact }
 
 module _ {D : Type 0} (w : DiskWords D) (asks : AskedCallsAreReady w) (answers : ReadyCallsAreAnswered w)
-    (f : Fixed D) (recorded : Built) (l mid : Ledger D) (p : Pages) (calls : List Entry) (c : InHand) (work : WorkingCopy)
+    (f : Fixed D) (recorded : Built) (l mid : Ledger D) (p : OpenPages) (calls : List Entry) (c : ReadyCall) (work : WorkingCopy)
     (begins : BeginsRead w f recorded l p calls c work) (puts : puts_row c.op ≡ true) (took : HasTakenIn w f recorded l mid p calls c) where
   abbrev pub base : State Text Own
   base = state_after f.opening mid.books.history
@@ -172,7 +172,7 @@ module _ {D : Type 0} (w : DiskWords D) (asks : AskedCallsAreReady w) (answers :
 
     -- ---- its pages may be put
 
-    abbrev pub start : Parts D
+    abbrev pub start : DeskParts D
     start = record { ledger = back; pages = p }
 
     leaves-l : LeavesPages w l.journal back.journal

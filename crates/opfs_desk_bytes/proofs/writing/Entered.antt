@@ -25,7 +25,7 @@ use Rattle.opfs_desk_steps.specs.Parts.Answered.{IsAnswered, MayChange}
 use Rattle.opfs_desk_steps.specs.Parts.Held.{AreHeldWhole}
 use Rattle.opfs_desk_steps.specs.Parts.Seen.{machine_in, book_in}
 use Rattle.opfs_desk_steps.specs.declared.parts.parts.Ledger.{Ledger}
-use Rattle.opfs_desk_steps.specs.declared.parts.parts.Parts.{Parts}
+use Rattle.opfs_desk_steps.specs.declared.parts.parts.DeskParts.{DeskParts}
 use Rattle.opfs_desk_steps.specs.BookSteps.Refusing.{IsRefused, MayRefuse}
 use Rattle.opfs_desk_steps.proofs.book_steps.Entries.{entries-few}
 use Rattle.opfs_desk_bytes.specs.Writing.Putting.{HasNotPut}
@@ -64,7 +64,7 @@ answered-same w base gone l new e z history state is = record {
 
 -- ---- the disk failed
 
-module _ {D : Type 0} (w : DiskWords D) (f : Fixed D) (base : State Text Own) (gone : List Text) (old now : Parts D) (e : Entry) (not : HasNotPut w f base gone old now) where
+module _ {D : Type 0} (w : DiskWords D) (f : Fixed D) (base : State Text Own) (gone : List Text) (old now : DeskParts D) (e : Entry) (not : HasNotPut w f base gone old now) where
   pub may-refuse : IsPlaced old.ledger.books.history e.agent → IsAgent (machine_in old.ledger) e.agent → MayRefuse w now.ledger (failed e)
   may-refuse placed agent = record {
     fixed = f;

@@ -32,7 +32,7 @@ use Rattle.opfs_tree.specs.Rows.{Rows as Tree}
 use Rattle.opfs_desk_steps.specs.Parts.Held.{AreHeldAt}
 use Rattle.opfs_desk_steps.specs.Parts.Seen.{machine_in, tree_in, book_in}
 use Rattle.opfs_desk_steps.specs.declared.parts.parts.Ledger.{Ledger}
-use Rattle.opfs_desk_steps.specs.declared.parts.parts.Parts.{Parts}
+use Rattle.opfs_desk_steps.specs.declared.parts.parts.DeskParts.{DeskParts}
 use Rattle.opfs_desk_steps.proofs.book_steps.Evictions.{stored-named}
 use Rattle.opfs_desk_steps.proofs.book_steps.Held.{behind}
 use Rattle.opfs_desk_bytes.specs.Writing.Putting.{IsToPut, IsUsed, AreGottenIn, HasFound, HasRoomFor}
@@ -69,7 +69,7 @@ pub gotten-same : (taken : Bool) (m t : Machine) (recorded other tree : Tree) (s
 gotten-same true m t recorded other tree swap space base end agent row pages w given extents is = is
 gotten-same false m t recorded other tree swap space base end agent row pages w given extents is = waits-same m t recorded other tree swap space agent row pages w given extents is
 
-module _ {D : Type 0} (w : DiskWords D) (f : Fixed D) (recorded : Built) (base : State Text Own) (gone : List Text) (p : Parts D) (agent row : ℕ) (put : Put) (given : List ℕ) (to : IsToPut w f recorded base gone p agent row put given) where
+module _ {D : Type 0} (w : DiskWords D) (f : Fixed D) (recorded : Built) (base : State Text Own) (gone : List Text) (p : DeskParts D) (agent row : ℕ) (put : Put) (given : List ℕ) (to : IsToPut w f recorded base gone p agent row put given) where
   abbrev l : Ledger D
   l = p.ledger
 
@@ -162,7 +162,7 @@ module _ {D : Type 0} (w : DiskWords D) (f : Fixed D) (recorded : Built) (base :
         (blocks_are : (m : Machine) (other : Tree) (bytes : List ℕ) (start end : ℕ) → ((b : ℕ) → has_block (named other) b ≡ true → has_block (named (tree_in next)) b ≡ true) → AreSpaced m (shelf other (tree_in next) p.pages.swap) p.pages.space
         → length (page_moves put.writes bytes) ≡ put.moves → WaitForBlocks m (shelf other (tree_in next) p.pages.swap) p.pages.space agent row put.pages put.writes bytes put.extents.items
         → start + 4096 * length p.pages.space.used ≤ end → length p.pages.space.used ≤ 2 ^ 32 → HaveBlocks start end p.pages.swap space agent row after.pages after.writes bytes after.extents.items) where
-      abbrev new : Parts D
+      abbrev new : DeskParts D
       new = record { ledger = next; pages = record { swap = p.pages.swap; space = space; base = p.pages.base } }
 
       spaced-next : AreSpaced (machine_in next) (shelf (book_in next).rows.rows (tree_in next) p.pages.swap) space

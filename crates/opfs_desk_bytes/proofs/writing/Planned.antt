@@ -39,10 +39,10 @@ use Rattle.opfs_desk_steps.specs.Parts.Acted.{HasActed}
 use Rattle.opfs_desk_steps.specs.Parts.Asked.{IsAsked}
 use Rattle.opfs_desk_steps.specs.Parts.Held.{AreHeldAt, AreHeldWhole}
 use Rattle.opfs_desk_steps.specs.Parts.Seen.{machine_in, tree_in}
-use Rattle.opfs_desk_steps.specs.declared.parts.call.InHand.{InHand}
+use Rattle.opfs_desk_steps.specs.declared.parts.call.ReadyCall.{ReadyCall}
 use Rattle.opfs_desk_steps.specs.declared.parts.parts.Ledger.{Ledger}
-use Rattle.opfs_desk_steps.specs.declared.parts.parts.Pages.{Pages}
-use Rattle.opfs_desk_steps.specs.declared.parts.parts.Parts.{Parts}
+use Rattle.opfs_desk_steps.specs.declared.parts.parts.OpenPages.{OpenPages}
+use Rattle.opfs_desk_steps.specs.declared.parts.parts.DeskParts.{DeskParts}
 use Rattle.opfs_store.specs.declared.acts.acted.Acted.{Acted}
 use Rattle.opfs_machine.specs.Runs.{Call}
 use Rattle.opfs_desk_steps.specs.RowLaws.Copied.{CopiesAreStored, IsStoredCopy}
@@ -60,7 +60,7 @@ use Rattle.opfs_desk_bytes.proofs.writing.Words.{row-some}
 
 -- ---- pages that are the same
 
-module _ {D : Type 0} (w : DiskWords D) (beside : LaidBeside w.tells) (f : Fixed D) (recorded : Built) (base : State Text Own) (gone : List Text) (l : Ledger D) (p q : Pages) (agent row : ℕ)
+module _ {D : Type 0} (w : DiskWords D) (beside : LaidBeside w.tells) (f : Fixed D) (recorded : Built) (base : State Text Own) (gone : List Text) (l : Ledger D) (p q : OpenPages) (agent row : ℕ)
     (same : HasSamePages agent row p.swap q.swap) (base_is : q.base ≡ p.base) (there : is_some (row_of agent row p.swap) ≡ true)
     (spaced : AreSpaced (machine_in l) (shelf recorded.rows (tree_in l) p.swap) p.space → AreSpaced (machine_in l) (shelf recorded.rows (tree_in l) q.swap) q.space) where
   rows-same : (k n : ℕ) → is_some (row_of k n q.swap) ≡ is_some (row_of k n p.swap)
@@ -114,7 +114,7 @@ room-copy tells o known k (suc n) work r is = record {
   held = is.held;
 }
 
-pub asked-room : (tells : Type 0) (o : Opening) (h calls : List Entry) (s : StateSeen) (c : InHand) (work new : WorkingCopy) (past : List Text) → IsSameCopy work new → IsAsked tells o h calls s c work past → IsAsked tells o h calls s c new past
+pub asked-room : (tells : Type 0) (o : Opening) (h calls : List Entry) (s : StateSeen) (c : ReadyCall) (work new : WorkingCopy) (past : List Text) → IsSameCopy work new → IsAsked tells o h calls s c work past → IsAsked tells o h calls s c new past
 asked-room tells o h calls s c work new past same asked =
     subst (λ (x : WorkingCopy). IsAsked tells o h calls s c x past) (sym same)
     (record {
@@ -147,7 +147,7 @@ paged-room work new same is = subst (λ (x : WorkingCopy). length x.pages ≡ bl
 pub same-both : (a b c : WorkingCopy) → IsSameCopy a b → IsSameCopy b c → IsSameCopy a c
 same-both a b c first second = second ∙ ap (λ (x : WorkingCopy). record x { room = c.room }) first
 
-pub acted-room : {D : Type 0} (w : DiskWords D) (f : Fixed D) (old new : Parts D) (calls : List Entry) (c : Call) (before mid after : WorkingCopy) (done : Acted) → IsSameCopy before mid → HasActed w f old new calls c mid after done → HasActed w f old new calls c before after done
+pub acted-room : {D : Type 0} (w : DiskWords D) (f : Fixed D) (old new : DeskParts D) (calls : List Entry) (c : Call) (before mid after : WorkingCopy) (done : Acted) → IsSameCopy before mid → HasActed w f old new calls c mid after done → HasActed w f old new calls c before after done
 acted-room w f old new calls c before mid after done same is = record {
   held = is.held;
   acted = is.acted;
@@ -160,7 +160,7 @@ acted-room w f old new calls c before mid after done same is = record {
 
 -- ---- the row's copy is stored
 
-module _ {D : Type 0} (w : DiskWords D) (copies : CopiesAreStored w) (f : Fixed D) (recorded : Built) (l : Ledger D) (p : Pages) (calls : List Entry) (c : InHand) (work : WorkingCopy) (past : List Text)
+module _ {D : Type 0} (w : DiskWords D) (copies : CopiesAreStored w) (f : Fixed D) (recorded : Built) (l : Ledger D) (p : OpenPages) (calls : List Entry) (c : ReadyCall) (work : WorkingCopy) (past : List Text)
     (held : AreHeldWhole w f recorded l p) (asked : IsAsked w.tells f.opening l.books.history calls l.books.state c work past) (puts : puts_row c.op ≡ true) where
   some : row_named c.op ≢ 0
   some = row-some (state_after f.opening (l.books.history ++ calls)) c.agent c.op puts asked.may.fitting
@@ -171,7 +171,7 @@ module _ {D : Type 0} (w : DiskWords D) (copies : CopiesAreStored w) (f : Fixed 
 
 -- ---- what is planned is of the row
 
-module _ {D : Type 0} (w : DiskWords D) (copies : CopiesAreStored w) (f : Fixed D) (recorded : Built) (l : Ledger D) (p q : Pages) (calls : List Entry) (c : InHand) (work new : WorkingCopy) (content : List ℕ)
+module _ {D : Type 0} (w : DiskWords D) (copies : CopiesAreStored w) (f : Fixed D) (recorded : Built) (l : Ledger D) (p q : OpenPages) (calls : List Entry) (c : ReadyCall) (work new : WorkingCopy) (content : List ℕ)
     (held : AreHeldWhole w f recorded l q) (asked : IsAsked w.tells f.opening l.books.history calls l.books.state c new []) (puts : puts_row c.op ≡ true)
     (t : Target) (target : IsTargetOf c.sizes c.op t) (given : List ℕ) (bytes : given ≡ bytes_put c.op)
     (room : IsSameCopy work new) (same : HasSamePages c.agent t.row p.swap q.swap) (base_is : q.base ≡ p.base) (read : w.tells → w.content l.journal.disk ≡ content)
@@ -226,7 +226,7 @@ module _ {D : Type 0} (w : DiskWords D) (copies : CopiesAreStored w) (f : Fixed 
 
 -- ---- the disk was read, and pages were planned
 
-module _ {D : Type 0} (w : DiskWords D) (beside : LaidBeside w.tells) (keep : ReadsKeepTheBooks w) (most : (d : D) → w.faults d ≤ 2 ^ 64 - 1) (f : Fixed D) (recorded : Built) (l : Ledger D) (p : Pages) (j : Seen D) (q : Pages) (c : InHand)
+module _ {D : Type 0} (w : DiskWords D) (beside : LaidBeside w.tells) (keep : ReadsKeepTheBooks w) (most : (d : D) → w.faults d ≤ 2 ^ 64 - 1) (f : Fixed D) (recorded : Built) (l : Ledger D) (p : OpenPages) (j : Seen D) (q : OpenPages) (c : ReadyCall)
     (held : AreHeldWhole w f recorded l p) (reads : Reads w l.journal j) (n : ℕ) (there : is_some (row_of c.agent n p.swap) ≡ true) (same : HasSamePages c.agent n p.swap q.swap) (base_is : q.base ≡ p.base)
     (tree : Tree) (tree_is : tree ≡ tree_in l) (spaced : (m : Machine) (other : Tree) → AreSpaced m (shelf other tree p.swap) p.space → AreSpaced m (shelf other tree q.swap) q.space) where
   abbrev pub now : Ledger D

@@ -66,8 +66,8 @@ use Rattle.opfs_desk_steps.specs.Parts.Answered.{IsAnswered}
 use Rattle.opfs_desk_steps.specs.Parts.Held.{AreHeldWhole, AreTied}
 use Rattle.opfs_desk_steps.specs.Parts.Seen.{machine_in, tree_in, book_in}
 use Rattle.opfs_desk_steps.specs.declared.parts.parts.Ledger.{Ledger}
-use Rattle.opfs_desk_steps.specs.declared.parts.parts.Pages.{Pages}
-use Rattle.opfs_desk_steps.specs.declared.parts.parts.Parts.{Parts}
+use Rattle.opfs_desk_steps.specs.declared.parts.parts.OpenPages.{OpenPages}
+use Rattle.opfs_desk_steps.specs.declared.parts.parts.DeskParts.{DeskParts}
 use Rattle.opfs_desk_steps.specs.RowLaws.InHand.{HasPages, RowsInHandAreLaid}
 use Rattle.opfs_desk_steps.specs.RowLaws.Puts.{puts_row, size_put}
 use Rattle.opfs_desk_steps.proofs.book_steps.Fresh.{told-fresh}
@@ -119,11 +119,11 @@ stays-all m = record { others = λ k n apart. refl; here = record { file = refl;
 pub text-length : (z : Sizes) (o : Op) (before : Text) → length (text_put z o before) ≡ size_put z o
 text-length z o before = length-resize (splice before (place_put z o) (bytes_put o)) (size_put z o)
 
-module _ {D : Type 0} (w : DiskWords D) (f : Fixed D) (base : State Text Own) (units : List Text) (back : Ledger D) (p : Pages) (e : Entry) (z : Sizes)
+module _ {D : Type 0} (w : DiskWords D) (f : Fixed D) (base : State Text Own) (units : List Text) (back : Ledger D) (p : OpenPages) (e : Entry) (z : Sizes)
     (answered : IsAnswered w base units back e z) (machine : machine_in back ≡ in_lengths_of (fold evicted base units)) (puts : puts_row e.op ≡ true) (done : IsDone (fold evicted base units) e.agent e.reply)
     (may : IsTrue (may_enter (fold evicted base units) e.agent e.op)) (r : Own) (there : own_of (agent_of (fold evicted base units) e.agent) (row_named e.op) ≡ Some r)
     (before : Text) (opened : open_bytes (fold evicted base units) (Some r) ≡ Some before) (files : (h : HandleRow) → r ≡ own.Handle h → (x : File Text) × (file_at (fold evicted base units) h.file ≡ Some x))
-    (put : Put) (new : Parts D) (entered : HasEntered w f base units (record { ledger = back; pages = p }) new (row_named e.op) put (bytes_put e.op) e z) where
+    (put : Put) (new : DeskParts D) (entered : HasEntered w f base units (record { ledger = back; pages = p }) new (row_named e.op) put (bytes_put e.op) e z) where
   abbrev s : State Text Own
   s = fold evicted base units
 
@@ -136,10 +136,10 @@ module _ {D : Type 0} (w : DiskWords D) (f : Fixed D) (base : State Text Own) (u
   abbrev pub text : Text
   text = text_put z e.op before
 
-  abbrev fm : Parts D
+  abbrev fm : DeskParts D
   fm = entered.pages.mid
 
-  abbrev bt : Parts D
+  abbrev bt : DeskParts D
   bt = entered.between
 
   abbrev found : HasFound w f base units (record { ledger = back; pages = p }) fm e.agent row put entered.pages.with_blocks (bytes_put e.op)
@@ -258,12 +258,12 @@ module _ {D : Type 0} (w : DiskWords D) (f : Fixed D) (base : State Text Own) (u
         held-now = record {
           books = told.books;
           laid =
-              subst (λ (q : Pages). AreLaid w.tells f.opening new.ledger.books.history q.base (w.content new.ledger.journal.disk) (machine_in new.ledger) (shelf recorded.rows (tree_in new.ledger) q.swap) q.space) (sym entered.same)
+              subst (λ (q : OpenPages). AreLaid w.tells f.opening new.ledger.books.history q.base (w.content new.ledger.journal.disk) (machine_in new.ledger) (shelf recorded.rows (tree_in new.ledger) q.swap) q.space) (sym entered.same)
               (subst (λ (b : ℕ). AreLaid w.tells f.opening new.ledger.books.history b (w.content new.ledger.journal.disk) (machine_in new.ledger) (shelf recorded.rows (tree_in new.ledger) bt.pages.swap) bt.pages.space) (sym wrote.base_is)
               (subst (λ (x : SpaceSeen). AreLaid w.tells f.opening new.ledger.books.history fm.pages.base (w.content new.ledger.journal.disk) (machine_in new.ledger) (shelf recorded.rows (tree_in new.ledger) bt.pages.swap) x) (sym wrote.space)
               (subst (λ (j : Seen D). AreLaid w.tells f.opening new.ledger.books.history fm.pages.base (w.content j.disk) (machine_in new.ledger) (shelf recorded.rows (tree_in new.ledger) bt.pages.swap) fm.pages.space) (sym told.journal)
               (subst (λ (es : List Entry). AreLaid w.tells f.opening es fm.pages.base (w.content bt.ledger.journal.disk) (machine_in new.ledger) (shelf recorded.rows (tree_in new.ledger) bt.pages.swap) fm.pages.space) (sym entries-found)
               (subst (λ (m : Machine). AreLaid w.tells f.opening (fm.ledger.books.history ++ e ∷ []) fm.pages.base (w.content bt.ledger.journal.disk) m (shelf recorded.rows (tree_in new.ledger) bt.pages.swap) fm.pages.space) (sym machine-is) laid)))));
-          tied = subst (λ (q : Pages). AreTied w f new.ledger q) (sym entered.same) (tied-same w f bt.ledger new.ledger bt.pages wrote.tied told.journal told.freed);
+          tied = subst (λ (q : OpenPages). AreTied w f new.ledger q) (sym entered.same) (tied-same w f bt.ledger new.ledger bt.pages wrote.tied told.journal told.freed);
           fresh = fresh-now;
         }

@@ -30,10 +30,10 @@ use Rattle.opfs_desk_steps.specs.Parts.Acted.{IsUnacted}
 use Rattle.opfs_desk_steps.specs.Parts.Asked.{IsAsked}
 use Rattle.opfs_desk_steps.specs.Parts.Held.{AreHeldWhole}
 use Rattle.opfs_desk_steps.specs.Parts.Seen.{book_in, units_in}
-use Rattle.opfs_desk_steps.specs.declared.parts.call.InHand.{InHand}
+use Rattle.opfs_desk_steps.specs.declared.parts.call.ReadyCall.{ReadyCall}
 use Rattle.opfs_desk_steps.specs.declared.parts.parts.Ledger.{Ledger}
-use Rattle.opfs_desk_steps.specs.declared.parts.parts.Pages.{Pages}
-use Rattle.opfs_desk_steps.specs.declared.parts.parts.Parts.{Parts}
+use Rattle.opfs_desk_steps.specs.declared.parts.parts.OpenPages.{OpenPages}
+use Rattle.opfs_desk_steps.specs.declared.parts.parts.DeskParts.{DeskParts}
 use Rattle.opfs_desk_steps.specs.RowLaws.Inside.{PartsLieInside}
 use Rattle.opfs_desk_steps.specs.RowLaws.Puts.{HasRoomForRow, PutsHaveRoom, puts_row, size_put}
 use Rattle.opfs_desk_steps.proofs.book_steps.Ways.{way-here}
@@ -63,7 +63,7 @@ limits-now : (reads : ReadsLeaveTheState) → AStateCountsItsHistory → (tells 
 limits-now reads counts tells o h t = ap (λ (s : State Text Own). s.limits) (real-state tells o h reads t) ∙ counts.limits o (real tells o h reads t) (real-legal tells o h reads t)
 
 module _ {D : Type 0} (w : DiskWords D) (reads : ReadsLeaveTheState) (counts : AStateCountsItsHistory) (goes : LegalHistoriesGoOn) (make : EvictionsMakeRoom) (decide : LengthsDecideEachRuling) (room : PutsHaveRoom) (inside : PartsLieInside w)
-    (f : Fixed D) (recorded : Built) (l : Ledger D) (p : Pages) (calls : List Entry) (c : InHand) (work : WorkingCopy) (past : List Text)
+    (f : Fixed D) (recorded : Built) (l : Ledger D) (p : OpenPages) (calls : List Entry) (c : ReadyCall) (work : WorkingCopy) (past : List Text)
     (held : AreHeldWhole w f recorded l p) (asked : IsAsked w.tells f.opening l.books.history calls l.books.state c work past) (puts : puts_row c.op ≡ true) where
   abbrev h : List Entry
   h = l.books.history ++ calls
@@ -111,7 +111,7 @@ module _ {D : Type 0} (w : DiskWords D) (reads : ReadsLeaveTheState) (counts : A
       omega (arith, below, within, few, size, limits)
 
 -- Where nothing was done, the parts are kept as they were.
-pub unacted : {D : Type 0} (w : DiskWords D) → BooksShowTheirImages w → (f : Fixed D) (recorded : Built) (p : Parts D) → AreHeldWhole w f recorded p.ledger p.pages → IsUnacted w f p p
+pub unacted : {D : Type 0} (w : DiskWords D) → BooksShowTheirImages w → (f : Fixed D) (recorded : Built) (p : DeskParts D) → AreHeldWhole w f recorded p.ledger p.pages → IsUnacted w f p p
 unacted w shows f recorded p held = record {
   recorded = recorded;
   are = held;

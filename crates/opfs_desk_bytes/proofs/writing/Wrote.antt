@@ -39,7 +39,7 @@ use Rattle.opfs_space.proofs.Others.{member_left, member_right}
 use Rattle.opfs_desk_steps.specs.Parts.Held.{AreTied}
 use Rattle.opfs_desk_steps.specs.Parts.Seen.{machine_in, tree_in, book_in}
 use Rattle.opfs_desk_steps.specs.declared.parts.parts.Ledger.{Ledger}
-use Rattle.opfs_desk_steps.specs.declared.parts.parts.Parts.{Parts}
+use Rattle.opfs_desk_steps.specs.declared.parts.parts.DeskParts.{DeskParts}
 use Rattle.opfs_desk_steps.proofs.book_steps.Held.{tied-later}
 use Rattle.opfs_desk_steps.proofs.book_steps.LaidStays.{LaidBeside}
 use Rattle.opfs_desk_bytes.specs.Writing.Putting.{IsToPut, HaveBlocksIn, HasNotPut, HasWritten, IsUsed}
@@ -86,7 +86,7 @@ all-open m agent row = record {
   limits = refl;
 }
 
-module _ {D : Type 0} (w : DiskWords D) (pages : PagesKeepTheBooks w) (most : (d : D) → w.faults d ≤ 2 ^ 64 - 1) (f : Fixed D) (recorded : Built) (base : State Text Own) (gone : List Text) (p : Parts D) (agent row : ℕ) (put : Put) (given : List ℕ)
+module _ {D : Type 0} (w : DiskWords D) (pages : PagesKeepTheBooks w) (most : (d : D) → w.faults d ≤ 2 ^ 64 - 1) (f : Fixed D) (recorded : Built) (base : State Text Own) (gone : List Text) (p : DeskParts D) (agent row : ℕ) (put : Put) (given : List ℕ)
     (to : IsToPut w f recorded base gone p agent row put given) (have : HaveBlocksIn w p agent row put given) (j : Seen D) (swap : Rows)
     (writes : JournalWrites w p.pages.base (runs_of (all_writes put.writes given put.extents.items)) p.ledger.journal j) where
   abbrev l : Ledger D
@@ -95,7 +95,7 @@ module _ {D : Type 0} (w : DiskWords D) (pages : PagesKeepTheBooks w) (most : (d
   abbrev all : List PageWrite
   all = all_writes put.writes given put.extents.items
 
-  abbrev pub now : Parts D
+  abbrev pub now : DeskParts D
   now = record { ledger = record { journal = j; books = l.books; freed = l.freed; alloc = l.alloc }; pages = record { swap = swap; space = p.pages.space; base = p.pages.base } }
 
   blocks : AreBlocks (holders_of (machine_in l) (shelf recorded.rows (tree_in l) p.pages.swap)) p.pages.space.used p.pages.space.own

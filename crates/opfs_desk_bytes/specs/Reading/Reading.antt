@@ -26,22 +26,22 @@ use Rattle.opfs_work.specs.Works.{WorkingCopy}
 use Rattle.opfs_desk_steps.specs.Parts.Asked.{IsAsked}
 use Rattle.opfs_desk_steps.specs.Parts.Held.{AreHeldWhole}
 use Rattle.opfs_desk_steps.specs.Parts.Seen.{machine_in, tree_in}
-use Rattle.opfs_desk_steps.specs.declared.parts.call.InHand.{InHand}
+use Rattle.opfs_desk_steps.specs.declared.parts.call.ReadyCall.{ReadyCall}
 use Rattle.opfs_desk_steps.specs.declared.parts.parts.Ledger.{Ledger}
-use Rattle.opfs_desk_steps.specs.declared.parts.parts.Pages.{Pages}
-use Rattle.opfs_desk_steps.specs.declared.parts.parts.Parts.{Parts}
+use Rattle.opfs_desk_steps.specs.declared.parts.parts.OpenPages.{OpenPages}
+use Rattle.opfs_desk_steps.specs.declared.parts.parts.DeskParts.{DeskParts}
 use Rattle.opfs_desk_bytes.specs.Reading.Files.{IsReadOfFile}
 use Rattle.opfs_desk_bytes.specs.Reading.Words.{read_start, read_len, cursor_read}
 
 -- Each page of each open access handle is one that the store tells, over parts that are kept.
-pub record HaveWholeHandles {D : Type 0} (w : DiskWords D) (p : Parts D) : Type 0 where
+pub record HaveWholeHandles {D : Type 0} (w : DiskWords D) (p : DeskParts D) : Type 0 where
   pub fixed : Fixed D
   pub recorded : Built
   pub are : AreHeldWhole w fixed recorded p.ledger p.pages
   pub whole : AreHandlesWhole fixed.opening p.ledger.books.history
 
 -- What a call that reads begins with.
-pub record BeginsRead {D : Type 0} (w : DiskWords D) (f : Fixed D) (recorded : Built) (l : Ledger D) (p : Pages) (calls : List Entry) (c : InHand) (work : WorkingCopy) : Type 0 where
+pub record BeginsRead {D : Type 0} (w : DiskWords D) (f : Fixed D) (recorded : Built) (l : Ledger D) (p : OpenPages) (calls : List Entry) (c : ReadyCall) (work : WorkingCopy) : Type 0 where
   pub held : AreHeldWhole w f recorded l p
   pub asked : IsAsked w.tells f.opening l.books.history calls l.books.state c work []
 
@@ -55,7 +55,7 @@ pub record IsReadOf (tells : Type 0) (row_bytes : Text) (z : Sizes) (o : Op) (by
   pub page_is : tells → IsPageOf row_bytes (cursor / 4096) page
 
 -- The same of the row that a call names, once its agent's pending calls are taken in.
-abbrev pub IsReadFor : {D : Type 0} → DiskWords D → Parts D → List Entry → InHand → WorkingCopy → Text → Text → ℕ → List ℕ → Type 0
+abbrev pub IsReadFor : {D : Type 0} → DiskWords D → DeskParts D → List Entry → ReadyCall → WorkingCopy → Text → Text → ℕ → List ℕ → Type 0
 IsReadFor {D} w p calls c work bytes copy cursor page =
     (f : Fixed D) (recorded : Built) → AreHeldWhole w f recorded p.ledger p.pages → IsAsked w.tells f.opening p.ledger.books.history calls p.ledger.books.state c work []
     → (row : Text) → row_bytes (state_after f.opening (p.ledger.books.history ++ calls)) c.agent (row_named c.op) ≡ Some row → IsReadOf w.tells row c.sizes c.op bytes copy cursor page
@@ -68,11 +68,11 @@ pub record IsFileRead (tells whole : Type 0) (s : State Text Own) (place : Place
   pub told : tells → whole → bytes ≡ bytes_at s place
 
 -- A file was read by its row in the tree, if it is there.
-abbrev pub IsReadFrom : {D : Type 0} → DiskWords D → Ledger D → Pages → Place → Text → ℕ → ℕ → Type 0
+abbrev pub IsReadFrom : {D : Type 0} → DiskWords D → Ledger D → OpenPages → Place → Text → ℕ → ℕ → Type 0
 IsReadFrom w l p place bytes size stamp = (found : FileRow) → file_in_tree place (tree_in l) ≡ Some found → IsReadOfFile w.tells (machine_in l) place found p.swap (w.content l.journal.disk) p.base bytes size stamp
 
 -- The disk was read and failed: its count rose, and nothing else was changed. The call may fail so.
-pub record HasFailedToRead {D : Type 0} (w : DiskWords D) (f : Fixed D) (recorded : Built) (start now : Ledger D) (before after : Pages) (calls : List Entry) (c : InHand) (work : WorkingCopy) (past : List Text) : Type 0 where
+pub record HasFailedToRead {D : Type 0} (w : DiskWords D) (f : Fixed D) (recorded : Built) (start now : Ledger D) (before after : OpenPages) (calls : List Entry) (c : ReadyCall) (work : WorkingCopy) (past : List Text) : Type 0 where
   pub held : AreHeldWhole w f recorded start before
   pub are : AreHeldWhole w f recorded now after
   pub books : now.books ≡ start.books
@@ -82,11 +82,11 @@ pub record HasFailedToRead {D : Type 0} (w : DiskWords D) (f : Fixed D) (recorde
   pub rose : Rose (w.faults start.journal.disk) (w.faults now.journal.disk)
 
 -- Over parts that are kept.
-pub record MayFailToRead {D : Type 0} (w : DiskWords D) (p : Parts D) (calls : List Entry) (c : InHand) : Type 0 where
+pub record MayFailToRead {D : Type 0} (w : DiskWords D) (p : DeskParts D) (calls : List Entry) (c : ReadyCall) : Type 0 where
   pub fixed : Fixed D
   pub recorded : Built
   pub start : Ledger D
-  pub before : Pages
+  pub before : OpenPages
   pub work : WorkingCopy
   pub past : List Text
   pub failed : HasFailedToRead w fixed recorded start p.ledger before p.pages calls c work past

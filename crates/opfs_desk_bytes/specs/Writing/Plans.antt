@@ -18,10 +18,10 @@ use Rattle.opfs_work.specs.Works.{WorkingCopy}
 use Rattle.opfs_desk_steps.specs.Parts.Acted.{AreCleared}
 use Rattle.opfs_desk_steps.specs.Parts.Held.{AreHeldWhole}
 use Rattle.opfs_desk_steps.specs.Parts.Seen.{machine_in, tree_in, units_in}
-use Rattle.opfs_desk_steps.specs.declared.parts.call.InHand.{InHand}
+use Rattle.opfs_desk_steps.specs.declared.parts.call.ReadyCall.{ReadyCall}
 use Rattle.opfs_desk_steps.specs.declared.parts.parts.Ledger.{Ledger}
-use Rattle.opfs_desk_steps.specs.declared.parts.parts.Pages.{Pages}
-use Rattle.opfs_desk_steps.specs.declared.parts.parts.Parts.{Parts}
+use Rattle.opfs_desk_steps.specs.declared.parts.parts.OpenPages.{OpenPages}
+use Rattle.opfs_desk_steps.specs.declared.parts.parts.DeskParts.{DeskParts}
 use Rattle.opfs_desk_steps.specs.Acting.{HasTaken}
 use Rattle.opfs_desk_steps.specs.BookSteps.Clearing.{cleared_from}
 use Rattle.opfs_desk_bytes.specs.Writing.Steps.{IsPlanned}
@@ -38,7 +38,7 @@ pub record IsTargetOf (z : Sizes) (o : Op) (t : Target) : Type 0 where
   pub counts : t.counts ≡ counts_bytes o
 
 -- All memory is there, and all reads are done: the pages stand ready, and the working copy has room for as many as it will have.
-pub record IsPlan {D : Type 0} (w : DiskWords D) (p : Parts D) (c : InHand) (work : WorkingCopy) (t : Target) (put : Put) (page : List ℕ) : Type 0 where
+pub record IsPlan {D : Type 0} (w : DiskWords D) (p : DeskParts D) (c : ReadyCall) (work : WorkingCopy) (t : Target) (put : Put) (page : List ℕ) : Type 0 where
   pub target : IsTargetOf c.sizes c.op t
   pub small : size_put c.sizes c.op < 2 ^ 63
   pub pages : put.pages ≡ blocks (size_put c.sizes c.op)
@@ -48,14 +48,14 @@ pub record IsPlan {D : Type 0} (w : DiskWords D) (p : Parts D) (c : InHand) (wor
   pub room : blocks (size_put c.sizes c.op) ≤ work.room
 
 -- Its agent's pending calls were taken in.
-pub record HasTakenIn {D : Type 0} (w : DiskWords D) (f : Fixed D) (recorded : Built) (l mid : Ledger D) (p : Pages) (calls : List Entry) (c : InHand) : Type 0 where
+pub record HasTakenIn {D : Type 0} (w : DiskWords D) (f : Fixed D) (recorded : Built) (l mid : Ledger D) (p : OpenPages) (calls : List Entry) (c : ReadyCall) : Type 0 where
   pub taken : HasTaken l mid calls
   pub tree : tree_in mid ≡ tree_in l
   pub held : AreHeldWhole w f recorded mid p
   pub prepared : IsPrepared mid.books.state c.agent c.op
 
 -- Its units were cleared, and no gate is in doubt. Bytes outside the areas stay.
-pub record HasClearedWay {D : Type 0} (w : DiskWords D) (f : Fixed D) (mid back : Ledger D) (p : Pages) (c : InHand) : Type 0 where
+pub record HasClearedWay {D : Type 0} (w : DiskWords D) (f : Fixed D) (mid back : Ledger D) (p : OpenPages) (c : ReadyCall) : Type 0 where
   pub entries : back.books.history ≡ mid.books.history ++ map eviction (units_in c.clearing.items)
   pub tree : tree_in back ≡ fold cleared_from (tree_in mid) (units_in c.clearing.items)
   pub lines : lines_of (tree_in back) ≡ (machine_in back).rows

@@ -31,26 +31,26 @@ use Rattle.opfs_desk_steps.specs.Parts.Answered.{IsAnswered}
 use Rattle.opfs_desk_steps.specs.Parts.Asked.{IsAsked}
 use Rattle.opfs_desk_steps.specs.Parts.Held.{AreHeldWhole}
 use Rattle.opfs_desk_steps.specs.Parts.Seen.{machine_in, tree_in, book_in}
-use Rattle.opfs_desk_steps.specs.declared.parts.call.InHand.{InHand}
+use Rattle.opfs_desk_steps.specs.declared.parts.call.ReadyCall.{ReadyCall}
 use Rattle.opfs_desk_steps.specs.declared.parts.parts.Ledger.{Ledger}
-use Rattle.opfs_desk_steps.specs.declared.parts.parts.Pages.{Pages}
-use Rattle.opfs_desk_steps.specs.declared.parts.parts.Parts.{Parts}
+use Rattle.opfs_desk_steps.specs.declared.parts.parts.OpenPages.{OpenPages}
+use Rattle.opfs_desk_steps.specs.declared.parts.parts.DeskParts.{DeskParts}
 use Rattle.opfs_desk_bytes.specs.Writing.Putting.{IsToPut, IsUsed, AreGottenIn, HasPutPages}
 use Rattle.opfs_desk_bytes.specs.Writing.Words.{change_put, position_put, text_put}
 
 -- Pages of a row are planned: they stand ready, and have their blocks or wait for them.
-pub record IsPlanned {D : Type 0} (w : DiskWords D) (p : Parts D) (agent row : ℕ) (put : Put) (given : List ℕ) : Type 0 where
+pub record IsPlanned {D : Type 0} (w : DiskWords D) (p : DeskParts D) (agent row : ℕ) (put : Put) (given : List ℕ) : Type 0 where
   pub ready : IsReady w.tells (w.content p.ledger.journal.disk) p.pages.base p.pages.swap agent row put.pages put.writes put.moves (vec_capacity put.extents)
   pub bytes : HasBytes put.writes given
   pub gotten : AreGotten put.taken (machine_in p.ledger) (shelf [] (tree_in p.ledger) p.pages.swap) p.pages.space p.pages.base (w.size p.ledger.journal.disk) agent row put.pages put.writes given put.extents.items
 
 -- They are those that a call leaves of a row with these bytes; so is the page of its position.
-pub record IsPlannedOf (tells : Type 0) (work : WorkingCopy) (c : List ℕ) (p : Pages) (agent row : ℕ) (z : Sizes) (o : Op) (writes : WriteList) (page : List ℕ) (before : Text) : Type 0 where
+pub record IsPlannedOf (tells : Type 0) (work : WorkingCopy) (c : List ℕ) (p : OpenPages) (agent row : ℕ) (z : Sizes) (o : Op) (writes : WriteList) (page : List ℕ) (before : Text) : Type 0 where
   pub put_of : IsPutOf tells work c p.base p.swap agent row (change_put z o) writes before (text_put z o before)
   pub page_is : tells → IsPageOf (text_put z o before) (position_put z o / 4096) page
 
 -- The row that the call names, once its agent's pending calls are taken in.
-abbrev pub IsPlannedFor : {D : Type 0} → DiskWords D → Parts D → List Entry → InHand → WorkingCopy → Put → List ℕ → Type 0
+abbrev pub IsPlannedFor : {D : Type 0} → DiskWords D → DeskParts D → List Entry → ReadyCall → WorkingCopy → Put → List ℕ → Type 0
 IsPlannedFor {D} w p calls c work put page =
     (f : Fixed D) (recorded : Built) → AreHeldWhole w f recorded p.ledger p.pages → IsAsked w.tells f.opening p.ledger.books.history calls p.ledger.books.state c work []
     → (before : Text) → row_bytes (state_after f.opening (p.ledger.books.history ++ calls)) c.agent (row_named c.op) ≡ Some before
@@ -79,7 +79,7 @@ pub record HasTold {D : Type 0} (w : DiskWords D) (f : Fixed D) (recorded : Buil
   pub order_after : IsInOrder (tree_in new)
 
 -- The pages may be put and the call entered, over parts that are kept.
-pub record MayEnter {D : Type 0} (w : DiskWords D) (p : Parts D) (row : ℕ) (put : Put) (given : List ℕ) (e : Entry) (z : Sizes) : Type 0 where
+pub record MayEnter {D : Type 0} (w : DiskWords D) (p : DeskParts D) (row : ℕ) (put : Put) (given : List ℕ) (e : Entry) (z : Sizes) : Type 0 where
   pub fixed : Fixed D
   pub recorded : Built
   pub base : State Text Own
@@ -89,14 +89,14 @@ pub record MayEnter {D : Type 0} (w : DiskWords D) (p : Parts D) (row : ℕ) (pu
   pub answered : IsAnswered w base gone p.ledger e z
 
 -- The pages were put, and the call was entered.
-pub record HasEntered {D : Type 0} (w : DiskWords D) (f : Fixed D) (base : State Text Own) (gone : List Text) (old new : Parts D) (row : ℕ) (put : Put) (given : List ℕ) (e : Entry) (z : Sizes) : Type 0 where
-  pub between : Parts D
+pub record HasEntered {D : Type 0} (w : DiskWords D) (f : Fixed D) (base : State Text Own) (gone : List Text) (old new : DeskParts D) (row : ℕ) (put : Put) (given : List ℕ) (e : Entry) (z : Sizes) : Type 0 where
+  pub between : DeskParts D
   pub pages : HasPutPages w f base gone old between e.agent row put given
   pub told : HasTold w f pages.found.recorded between.ledger new.ledger e z
   pub same : new.pages ≡ between.pages
 
 -- The disk failed, and the call was entered so.
-pub record HasNotEntered {D : Type 0} (w : DiskWords D) (f : Fixed D) (old new : Parts D) (e : Entry) : Type 0 where
+pub record HasNotEntered {D : Type 0} (w : DiskWords D) (f : Fixed D) (old new : DeskParts D) (e : Entry) : Type 0 where
   pub recorded : Built
   pub are : AreHeldWhole w f recorded new.ledger new.pages
   pub entries : new.ledger.books.history ≡ old.ledger.books.history ++ failed e ∷ []

@@ -12,7 +12,7 @@ ghost use Rattle.opfs_desk_steps.specs.Parts.Asked.{IsAsked, MayGo};
 ghost use Rattle.opfs_base.specs.Texts.{Text};
 ghost use Rattle.opfs_desk_steps.specs.Parts.Answered.{IsAnswered, MayAnswer};
 ghost use Rattle.opfs_desk_steps.specs.Parts.Held.{AreHeldAt, AreHeldWhole};
-ghost use Rattle.opfs_desk_steps.specs.declared.parts.parts.Pages.{Pages};
+ghost use Rattle.opfs_desk_steps.specs.declared.parts.parts.OpenPages.{OpenPages};
 ghost use Rattle.opfs_hist.specs.declared.reply.Reply.TheVariants as reply;
 ghost use Rattle.opfs_machine.specs.declared.own.Own.{Own};
 ghost use Rattle.opfs_machine.specs.declared.state.State.{State};
@@ -29,10 +29,11 @@ ghost use Rattle.opfs_records.specs.Replay.Built.{Built};
 ghost use Rattle.opfs_tree.specs.Rows.{IsInOrder};
 
 use crate::opening::pages::{next_row, open_pages};
-use opfs_books::{Last, state_laws, the_books_show_their_images};
+use opfs_books::{EntryWithRoom, state_laws, the_books_show_their_images};
 use opfs_desk_steps::{
-    InHand, Ledger, Parts, asked_calls_are_ready, calls_are_acted, calls_open_rows, clear_call,
-    files_are_stored, opened_rows_are_laid, ready_calls_are_answered, take_in, tell_last,
+    DeskParts, Ledger, ReadyCall, asked_calls_are_ready, calls_are_acted, calls_open_rows,
+    clear_call, files_are_stored, opened_rows_are_laid, ready_calls_are_answered, take_in,
+    tell_last,
 };
 use opfs_hist::{Pending, Refusal, Reply};
 use opfs_machine::Sizes;
@@ -41,24 +42,23 @@ use opfs_pages::{
     blocks_go_on, calls_change_their_row, trees_keep_their_blocks, what_is_laid_goes_on,
 };
 use opfs_store::{Acted, Gift};
-use opfs_tree::Walk;
 use opfs_work::Work;
 use std::alloc::AllocError;
 
 // Enters a call that opens a row.
-fn enter_open<D: Disk>(ledger: &mut Ledger<D>, last: Last, sizes: Sizes)
+fn enter_open<D: Disk>(ledger: &mut Ledger<D>, last: EntryWithRoom, sizes: Sizes)
     requires may { MayAnswer D.Disk ledger.old last.entry sizes }
     requires word { opens_row last.entry.op ≡ true }
     requires done { last.entry.reply ≡ reply.Done }
     ensures tidy { IsTidy ledger.old }
     ensures order { IsInOrder (tree_in ledger.new) }
-    ensures told { (f : Fixed D) (recorded : Built) (base : State Text Own) (gone : List Text) (p : Pages) → AreHeldAt D.Disk f recorded base gone ledger.old p → IsAnswered D.Disk base gone ledger.old last.entry sizes
+    ensures told { (f : Fixed D) (recorded : Built) (base : State Text Own) (gone : List Text) (p : OpenPages) → AreHeldAt D.Disk f recorded base gone ledger.old p → IsAnswered D.Disk base gone ledger.old last.entry sizes
         → HasTold D.Disk f recorded ledger.old ledger.new p last.entry sizes }
 {
-    ledger.books.state.lines();
-    ledger.books.state.step(&mut Walk::make());
+    ledger.books.state.know_rows_match_tree();
+    ledger.books.state.know_order();
     tell_last(ledger, last, sizes);
-    ledger.books.state.step(&mut Walk::make());
+    ledger.books.state.know_order();
 }
 
 // What is known of the steps of such a call.
@@ -91,8 +91,8 @@ fn opening_laws<D: Disk>()
 /// are asked for. A writable that keeps the file's bytes keeps as many blocks, and may clear units for them. Where there is no
 /// memory nothing is entered.
 pub fn act_open<D: Disk>(
-    parts: &mut Parts<D>,
-    call: InHand,
+    parts: &mut DeskParts<D>,
+    call: ReadyCall,
     pending: &mut Pending,
     work: &mut Work,
 ) -> Result<Acted, AllocError>

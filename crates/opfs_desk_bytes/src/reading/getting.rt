@@ -34,7 +34,7 @@ use opfs_base::Bytes;
 use opfs_books::{reads_leave_the_books, state_laws, the_books_show_their_images};
 use opfs_data::{DataRefusal, Swap};
 use opfs_desk_steps::{
-    InHand, Parts, asked_calls_are_ready, calls_are_acted, clear_call, files_are_stored,
+    DeskParts, ReadyCall, asked_calls_are_ready, calls_are_acted, clear_call, files_are_stored,
     parts_lie_inside, ready_calls_are_answered, rows_in_hand_are_laid, take_in, tell_last,
 };
 use opfs_hist::{Op, Pending, Refusal, Reply};
@@ -87,8 +87,8 @@ fn getting_laws<D: Disk>()
 
 // Enters a getFile, once the bytes are there.
 fn enter_get_file<D: Disk>(
-    parts: &mut Parts<D>,
-    call: InHand,
+    parts: &mut DeskParts<D>,
+    call: ReadyCall,
     read: FileRead,
     pending: &mut Pending,
     work: &Work,
@@ -104,7 +104,7 @@ fn enter_get_file<D: Disk>(
     getting_laws::<D>();
     let agent = call.agent;
     take_in(&mut parts.ledger, agent, pending);
-    parts.ledger.books.state.lines();
+    parts.ledger.books.state.know_rows_match_tree();
     let rows = parts.ledger.books.state.rows(agent) as u32;
     let FileRead { bytes, size, stamp } = read;
     match clear_call(&mut parts.ledger, call, Reply::FileInfo(size, stamp)) {
@@ -166,8 +166,8 @@ fn read_named<D: Disk>(
 /// Acts a getFile: the present bytes of the file are read, from the pages of the access handle that may write it, or else from the
 /// file's blocks. Where the disk fails the call is entered so; where there is no memory nothing is entered.
 pub fn act_get_file<D: Disk>(
-    parts: &mut Parts<D>,
-    call: InHand,
+    parts: &mut DeskParts<D>,
+    call: ReadyCall,
     pending: &mut Pending,
     work: &mut Work,
 ) -> Result<Acted, AllocError>
@@ -184,7 +184,7 @@ pub fn act_get_file<D: Disk>(
     getting_laws::<D>();
     parts_lie_inside::<D>();
     reads_leave_the_books::<D>();
-    parts.ledger.books.state.lines();
+    parts.ledger.books.state.know_rows_match_tree();
     match read_named(
         parts.ledger.alloc,
         &parts.ledger.books.state,

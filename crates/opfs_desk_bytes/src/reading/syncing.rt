@@ -27,7 +27,7 @@ use crate::reading::failing::fail_reading;
 use opfs_books::{reads_leave_the_books, the_books_show_their_images, the_state_is_kept};
 use opfs_data::DataRefusal;
 use opfs_desk_steps::{
-    InHand, Parts, asked_calls_are_ready, calls_are_acted, clear_call, copies_are_stored,
+    DeskParts, ReadyCall, asked_calls_are_ready, calls_are_acted, clear_call, copies_are_stored,
     parts_lie_inside, ready_calls_are_answered, rows_in_hand_are_laid, take_in, tell_last,
 };
 use opfs_hist::{Op, Pending, Refusal, Reply};
@@ -95,8 +95,8 @@ fn reading_laws<D: Disk>()
 
 // Enters a read of an access handle, once its bytes are there.
 fn enter_sync_read<D: Disk>(
-    parts: &mut Parts<D>,
-    call: InHand,
+    parts: &mut DeskParts<D>,
+    call: ReadyCall,
     read: RowRead,
     pending: &mut Pending,
     work: &mut Work,
@@ -143,8 +143,8 @@ fn enter_sync_read<D: Disk>(
 /// Acts a syncRead: bytes whose pages are elsewhere are read from the store, and the page of the cursor comes into memory. Where
 /// the disk fails the call is entered so; where there is no memory nothing is entered.
 pub fn act_sync_read<D: Disk>(
-    parts: &mut Parts<D>,
-    call: InHand,
+    parts: &mut DeskParts<D>,
+    call: ReadyCall,
     pending: &mut Pending,
     work: &mut Work,
 ) -> Result<Acted, AllocError>

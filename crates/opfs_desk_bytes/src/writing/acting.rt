@@ -26,7 +26,7 @@ use crate::writing::leaving::leave_put;
 use crate::writing::target::Target;
 use opfs_books::calls_are_spelled;
 use opfs_desk_steps::{
-    InHand, Parts, asked_calls_are_ready, calls_are_acted, clear_way, parts_lie_inside,
+    DeskParts, ReadyCall, asked_calls_are_ready, calls_are_acted, evict_for, parts_lie_inside,
     puts_have_room, ready_calls_are_answered, rows_in_hand_are_laid, take_in,
 };
 use opfs_hist::{Pending, Refusal, Reply};
@@ -88,8 +88,8 @@ fn putting_laws<D: Disk>()
 /// Acts a call whose pages are planned: its agent's pending calls are taken in, its units are cleared, its pages are put, and it is
 /// entered. Where the disk fails it is entered so. Takes no memory.
 pub(crate) fn enter_call<D: Disk>(
-    parts: &mut Parts<D>,
-    call: InHand,
+    parts: &mut DeskParts<D>,
+    call: ReadyCall,
     target: Target,
     planned: Planned,
     given: &[u8],
@@ -112,10 +112,10 @@ pub(crate) fn enter_call<D: Disk>(
     let rows = parts.ledger.books.state.rows(agent) as u32;
     let Planned { mut put, page } = planned;
     let len = given.len() as u64;
-    let Ok((last, sizes)) = clear_way(&mut parts.ledger, call, reply_of(target.counts, len)) else {
+    let Ok((last, sizes)) = evict_for(&mut parts.ledger, call, reply_of(target.counts, len)) else {
         return faulted(rows);
     };
-    parts.ledger.books.state.lines();
+    parts.ledger.books.state.know_rows_match_tree();
     match enter_put(parts, &mut put, given, target.row, last, sizes) {
         Ok(()) => {
             leave_put(work, target, len, page.as_slice());

@@ -24,7 +24,7 @@ use crate::writing::target::{bytes_held, spelled_out, target_of};
 use opfs_base::Told;
 use opfs_books::{reads_leave_the_books, the_books_show_their_images};
 use opfs_data::DataRefusal;
-use opfs_desk_steps::{InHand, Parts, copies_are_stored, parts_lie_inside, puts_have_room};
+use opfs_desk_steps::{DeskParts, ReadyCall, copies_are_stored, parts_lie_inside, puts_have_room};
 use opfs_hist::Pending;
 use opfs_laws::counted::a_state_counts_its_history;
 use opfs_laws::going_on::legal_histories_go_on;
@@ -39,8 +39,8 @@ use std::alloc::AllocError;
 
 // Acts a call with its bytes in memory.
 fn put_bytes<D: Disk>(
-    parts: &mut Parts<D>,
-    call: InHand,
+    parts: &mut DeskParts<D>,
+    call: ReadyCall,
     given: &[u8],
     pending: &mut Pending,
     work: &mut Work,
@@ -108,8 +108,8 @@ fn size_laws<D: Disk>()
 /// Acts a write, a truncate, or an access handle's write or truncate: the pages of its row are put, and it is entered. All memory
 /// is taken and all is read first; where there is no memory nothing is entered. Where the disk fails the call is entered so.
 pub fn act_put<D: Disk>(
-    parts: &mut Parts<D>,
-    call: InHand,
+    parts: &mut DeskParts<D>,
+    call: ReadyCall,
     pending: &mut Pending,
     work: &mut Work,
 ) -> Result<Acted, AllocError>

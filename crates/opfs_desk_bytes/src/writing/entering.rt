@@ -16,16 +16,15 @@ ghost use Rattle.opfs_machine.specs.Steps.{is_refusal};
 ghost use Rattle.opfs_records.specs.Replay.Built.{Built};
 
 use crate::writing::putting::put_pages;
-use opfs_books::{Entering, Last, a_fault_is_counted, the_state_is_kept};
-use opfs_desk_steps::{Ledger, Parts, fail_call};
+use opfs_books::{Entering, EntryWithRoom, a_fault_is_counted, the_state_is_kept};
+use opfs_desk_steps::{DeskParts, Ledger, fail_call};
 use opfs_journal::DiskFault;
 use opfs_machine::Sizes;
 use opfs_outside::Disk;
 use opfs_pages::Put;
-use opfs_tree::Walk;
 
 // Enters the call. The pages are the caller's.
-fn tell_put<D: Disk>(ledger: &mut Ledger<D>, last: Last, sizes: Sizes)
+fn tell_put<D: Disk>(ledger: &mut Ledger<D>, last: EntryWithRoom, sizes: Sizes)
     requires may { MayTell D.Disk ledger.old last.entry sizes }
     requires word { puts_row last.entry.op ≡ true }
     requires answered { is_refusal last.entry.reply ≡ false }
@@ -33,7 +32,7 @@ fn tell_put<D: Disk>(ledger: &mut Ledger<D>, last: Last, sizes: Sizes)
         → HasTold D.Disk f recorded ledger.old ledger.new last.entry sizes }
 {
     the_state_is_kept::<D>();
-    ledger.books.state.step(&mut Walk::make());
+    ledger.books.state.know_order();
     ledger.freed.clear();
     let extents = None;
     ledger.books.tell(
@@ -46,16 +45,16 @@ fn tell_put<D: Disk>(ledger: &mut Ledger<D>, last: Last, sizes: Sizes)
         },
         &mut ledger.freed,
     );
-    ledger.books.state.step(&mut Walk::make());
+    ledger.books.state.know_order();
 }
 
 /// Puts the pages of a call, and enters it; where the disk fails, it is entered so, and each page reads as before. Takes no memory.
 pub(crate) fn enter_put<D: Disk>(
-    parts: &mut Parts<D>,
+    parts: &mut DeskParts<D>,
     put: &mut Put,
     given: &[u8],
     row: u32,
-    last: Last,
+    last: EntryWithRoom,
     sizes: Sizes,
 ) -> Result<(), DiskFault>
     requires may { MayEnter D.Disk parts.old row put.old given.now last.entry sizes }

@@ -9,14 +9,14 @@ ghost use Rattle.opfs_machine.specs.declared.state.State.{State};
 ghost use Rattle.opfs_records.specs.Replay.Built.{Built};
 
 use opfs_books::{pages_beside_leave_the_books, the_books_show_their_images};
-use opfs_desk_steps::{Parts, commit_kept, puts_have_room};
+use opfs_desk_steps::{DeskParts, commit_kept, puts_have_room};
 use opfs_journal::DiskFault;
 use opfs_outside::Disk;
 use opfs_pages::{Put, find_blocks, what_is_laid_goes_on};
 
 // Blocks for a put that has none yet: what is kept back is committed, and then there are enough.
 fn find_room<D: Disk>(
-    parts: &mut Parts<D>,
+    parts: &mut DeskParts<D>,
     put: &mut Put,
     agent: u32,
     row: u32,
@@ -49,7 +49,7 @@ fn find_room<D: Disk>(
 
 // Writes a row's pages into their blocks.
 fn write_pages<D: Disk>(
-    parts: &mut Parts<D>,
+    parts: &mut DeskParts<D>,
     put: &mut Put,
     given: &[u8],
     agent: u32,
@@ -78,7 +78,7 @@ fn write_pages<D: Disk>(
 
 /// Puts a row's pages: each gets its block, and its bytes. Where the disk fails, each page of each row reads as before. Takes no memory.
 pub(crate) fn put_pages<D: Disk>(
-    parts: &mut Parts<D>,
+    parts: &mut DeskParts<D>,
     put: &mut Put,
     given: &[u8],
     agent: u32,

@@ -37,9 +37,9 @@ use Rattle.opfs_desk_contents.specs.Putting.{KeepsEnough}
 use Rattle.opfs_desk_contents.specs.Words.{is_storing, stores_row}
 use Rattle.opfs_desk_contents.proofs.Stowed.{few-pages}
 use Rattle.opfs_desk_steps.specs.Parts.Seen.{machine_in}
-use Rattle.opfs_desk_steps.specs.declared.parts.call.InHand.{InHand}
+use Rattle.opfs_desk_steps.specs.declared.parts.call.ReadyCall.{ReadyCall}
 use Rattle.opfs_desk_steps.specs.declared.parts.parts.Ledger.{Ledger}
-use Rattle.opfs_desk_steps.specs.declared.parts.parts.Pages.{Pages}
+use Rattle.opfs_desk_steps.specs.declared.parts.parts.OpenPages.{OpenPages}
 use Rattle.opfs_desk_entries.specs.Answers.Silent.{BeginsCall}
 use Rattle.opfs_desk_entries.proofs.answers.Noted.{noted-is, sum_of}
 use Rattle.opfs_desk_bytes.proofs.reading.Synced.{handed}
@@ -82,7 +82,7 @@ size-in s (own.Handle h) bytes is = ap length (one-text (bytes_at s h.file) byte
 size-in s r bytes is = absurd cc
 
 module _ {D : Type 0} (w : DiskWords D) (follow : LengthsFollowEachCall) (local : LocalCallsAreKnownByTheirWord)
-    (f : Fixed D) (recorded : Built) (l : Ledger D) (p : Pages) (calls : List Entry) (c : InHand) (work : WorkingCopy)
+    (f : Fixed D) (recorded : Built) (l : Ledger D) (p : OpenPages) (calls : List Entry) (c : ReadyCall) (work : WorkingCopy)
     (begins : BeginsCall w f recorded l p calls c work []) (agent : IsAgent (machine_in l) c.agent) (word : stores_row (machine_in l) c.agent c.op ≡ true) where
   -- The state that the call finds, and the row that it names.
   abbrev pub s : State Text Own

@@ -72,10 +72,10 @@ use Rattle.opfs_desk_steps.specs.Parts.Acted.{HasActed, IsWayEnded}
 use Rattle.opfs_desk_steps.specs.Parts.Answered.{IsAnswered}
 use Rattle.opfs_desk_steps.specs.Parts.Held.{AreHeldAt, AreHeldWhole}
 use Rattle.opfs_desk_steps.specs.Parts.Seen.{book_in, call_in, machine_in, tree_in}
-use Rattle.opfs_desk_steps.specs.declared.parts.call.InHand.{InHand}
+use Rattle.opfs_desk_steps.specs.declared.parts.call.ReadyCall.{ReadyCall}
 use Rattle.opfs_desk_steps.specs.declared.parts.parts.Ledger.{Ledger}
-use Rattle.opfs_desk_steps.specs.declared.parts.parts.Pages.{Pages}
-use Rattle.opfs_desk_steps.specs.declared.parts.parts.Parts.{Parts}
+use Rattle.opfs_desk_steps.specs.declared.parts.parts.OpenPages.{OpenPages}
+use Rattle.opfs_desk_steps.specs.declared.parts.parts.DeskParts.{DeskParts}
 use Rattle.opfs_desk_steps.specs.RowLaws.InHand.{HasInHand, HasNoPages, HasPages, RowsInHandAreLaid}
 use Rattle.opfs_desk_steps.specs.Acting.{HasTaken, CallsAreActed}
 use Rattle.opfs_desk_steps.proofs.book_steps.Alike.{leaves-alike}
@@ -104,13 +104,13 @@ all-below (x ∷ xs) size each = (each x (ap (λ t. t || has_block xs x) (eq-eqb
     later false t is = is
 
 -- The blocks of a row's pages are blocks of the space.
-pub runs-below : {D : Type 0} (w : DiskWords D) (f : Fixed D) (recorded : Built) (base : State Text Own) (l : Ledger D) (p : Pages) (agent row pages : ℕ) (runs : List Extent) → AreHeldAt w f recorded base [] l p → AreRunsOf p.swap agent row pages runs → AreBelow (length p.space.used) (blocks_of runs)
+pub runs-below : {D : Type 0} (w : DiskWords D) (f : Fixed D) (recorded : Built) (base : State Text Own) (l : Ledger D) (p : OpenPages) (agent row pages : ℕ) (runs : List Extent) → AreHeldAt w f recorded base [] l p → AreRunsOf p.swap agent row pages runs → AreBelow (length p.space.used) (blocks_of runs)
 runs-below w f recorded base l p agent row pages runs are is =
     let blocks_are = spaced-blocks (machine_in l) (shelf recorded.rows (tree_in l) p.swap) p.space are.laid.spaced in
     all-below (blocks_of runs) (length p.space.used) (λ b has. let page = is.of_row b has in (blocks_are.pages agent row page.0 b page.1).0)
 
 -- A call that stores a row's content, and may come now: what it stores, and the working copy that it hands in.
-pub record StoresCall {D : Type 0} (w : DiskWords D) (f : Fixed D) (mid : Ledger D) (c : InHand) (work : WorkingCopy) (place : Place) (text : Text) (reserve : ℕ) : Type 0 where
+pub record StoresCall {D : Type 0} (w : DiskWords D) (f : Fixed D) (mid : Ledger D) (c : ReadyCall) (work : WorkingCopy) (place : Place) (text : Text) (reserve : ℕ) : Type 0 where
   pub storing : is_storing c.op ≡ true
   pub live : IsTrue (agent_of (state_after f.opening mid.books.history) c.agent).live
   pub sizes : c.sizes ≡ sizes_of (state_after f.opening mid.books.history) c.agent c.op
@@ -125,9 +125,9 @@ pub record StoresCall {D : Type 0} (w : DiskWords D) (f : Fixed D) (mid : Ledger
   pub same : w.tells → contents (slice_index text) work ≡ text
   pub position : work.position ≡ (sizes_in (state_after f.opening mid.books.history) (Some row)).position
 
-module _ {D : Type 0} (w : DiskWords D) (f : Fixed D) (mid : Ledger D) (p : Pages) (c : InHand) (work : WorkingCopy) (place : Place) (text : Text) (reserve : ℕ) (call : StoresCall w f mid c work place text reserve)
-    (pages : ℕ) (many : pages ≡ blocks work.length) (new : Parts D) (runs : List Extent) (done : HasStoredPages w f (record { ledger = mid; pages = p }) new (told_entry (call_in c) reply.Done) c.sizes c.agent (row_named c.op) pages place runs text)
-    (q : Pages) (made : WorkingCopy) (left : LeavesRow new.pages q c.agent (row_named c.op) runs (ends_row c.op) work made) where
+module _ {D : Type 0} (w : DiskWords D) (f : Fixed D) (mid : Ledger D) (p : OpenPages) (c : ReadyCall) (work : WorkingCopy) (place : Place) (text : Text) (reserve : ℕ) (call : StoresCall w f mid c work place text reserve)
+    (pages : ℕ) (many : pages ≡ blocks work.length) (new : DeskParts D) (runs : List Extent) (done : HasStoredPages w f (record { ledger = mid; pages = p }) new (told_entry (call_in c) reply.Done) c.sizes c.agent (row_named c.op) pages place runs text)
+    (q : OpenPages) (made : WorkingCopy) (left : LeavesRow new.pages q c.agent (row_named c.op) runs (ends_row c.op) work made) where
   abbrev base : State Text Own
   base = state_after f.opening mid.books.history
 
@@ -382,7 +382,7 @@ module _ {D : Type 0} (w : DiskWords D) (f : Fixed D) (mid : Ledger D) (p : Page
   -- ---- all of it
 
   pub has-acted : ContentsKeepBlocks → TreesKeepBlocks → CallsLeaveOtherRows → CallsChangeTheirRow → RowsInHandAreLaid w → ACallMovesItsAgent → BooksKeepTheState w → CallsAreSpelled → CallsMayFail w.tells → Falls w → CallsAreActed w
-      → (machine_in mid).rows ≡ lines_of (tree_in mid) → (recorded : Built) (l : Ledger D) (first : Pages) (calls : List Entry) → AreHeldWhole w f recorded l first → ArePendingFor w.tells (state_after f.opening l.books.history) c.agent calls → HasTaken l mid calls
+      → (machine_in mid).rows ≡ lines_of (tree_in mid) → (recorded : Built) (l : Ledger D) (first : OpenPages) (calls : List Entry) → AreHeldWhole w f recorded l first → ArePendingFor w.tells (state_after f.opening l.books.history) c.agent calls → HasTaken l mid calls
       → (rows : ℕ) → rows ≡ length (agent_of base c.agent).own
       → HasActed w f (record { ledger = l; pages = first }) (record { ledger = new.ledger; pages = q }) calls (call_in c) work made (record { reply = reply.Done; gift = gift.Nothing; rows = rows })
   has-acted contents trees leave changes laying moves states spells fails falls acts lines recorded l first calls held pending taken rows count = record {

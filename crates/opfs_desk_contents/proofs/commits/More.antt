@@ -36,9 +36,9 @@ use Rattle.opfs_desk_contents.specs.Unchanged.More.{HasMoreThanReserve}
 use Rattle.opfs_desk_contents.specs.Rows.{StoresFile}
 use Rattle.opfs_desk_contents.specs.Words.{stores_row}
 use Rattle.opfs_desk_steps.specs.Parts.Seen.{machine_in}
-use Rattle.opfs_desk_steps.specs.declared.parts.call.InHand.{InHand}
+use Rattle.opfs_desk_steps.specs.declared.parts.call.ReadyCall.{ReadyCall}
 use Rattle.opfs_desk_steps.specs.declared.parts.parts.Ledger.{Ledger}
-use Rattle.opfs_desk_steps.specs.declared.parts.parts.Pages.{Pages}
+use Rattle.opfs_desk_steps.specs.declared.parts.parts.OpenPages.{OpenPages}
 use Rattle.opfs_desk_entries.specs.Answers.Silent.{BeginsCall}
 use Rattle.opfs_desk_entries.proofs.answers.Noted.{noted-is, sum_of}
 use Rattle.opfs_desk_steps.proofs.row_laws.Locked.{base-whole}
@@ -79,7 +79,7 @@ module _ (m : Machine) (s : State Text Own) (k : ℕ) (handles : (n : ℕ) → o
   more-by o is = absurd is
 
 module _ {D : Type 0} (w : DiskWords D) (goes : LegalHistoriesGoOn) (states : StateLaws) (follow : LengthsFollowEachCall) (local : LocalCallsAreKnownByTheirWord)
-    (f : Fixed D) (recorded : Built) (l : Ledger D) (p : Pages) (calls : List Entry) (c : InHand) (work : WorkingCopy)
+    (f : Fixed D) (recorded : Built) (l : Ledger D) (p : OpenPages) (calls : List Entry) (c : ReadyCall) (work : WorkingCopy)
     (begins : BeginsCall w f recorded l p calls c work []) (agent : IsAgent (machine_in l) c.agent) (word : stores_row (machine_in l) c.agent c.op ≡ true) where
   abbrev s : State Text Own
   s = state_after f.opening (l.books.history ++ calls)

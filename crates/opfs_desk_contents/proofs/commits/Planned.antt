@@ -43,9 +43,9 @@ use Rattle.opfs_desk_contents.proofs.Found.{gotten-any}
 use Rattle.opfs_desk_steps.specs.Parts.Asked.{IsAsked}
 use Rattle.opfs_desk_steps.specs.Parts.Held.{AreHeldAt, AreHeldWhole}
 use Rattle.opfs_desk_steps.specs.Parts.Seen.{machine_in, tree_in}
-use Rattle.opfs_desk_steps.specs.declared.parts.call.InHand.{InHand}
+use Rattle.opfs_desk_steps.specs.declared.parts.call.ReadyCall.{ReadyCall}
 use Rattle.opfs_desk_steps.specs.declared.parts.parts.Ledger.{Ledger}
-use Rattle.opfs_desk_steps.specs.declared.parts.parts.Pages.{Pages}
+use Rattle.opfs_desk_steps.specs.declared.parts.parts.OpenPages.{OpenPages}
 use Rattle.opfs_desk_bytes.proofs.reading.Readied.{read-held}
 use Rattle.opfs_desk_entries.specs.Answers.Silent.{BeginsCall}
 use Rattle.opfs_desk_steps.specs.RowLaws.Copied.{CopiesAreStored, IsStoredCopy}
@@ -56,7 +56,7 @@ use Rattle.opfs_desk_steps.proofs.book_steps.LaidStays.{LaidBeside}
 
 -- ---- pages that are the same
 
-module _ {D : Type 0} (w : DiskWords D) (beside : LaidBeside w.tells) (f : Fixed D) (recorded : Built) (base : State Text Own) (gone : List Text) (l : Ledger D) (p q : Pages) (agent row : ℕ)
+module _ {D : Type 0} (w : DiskWords D) (beside : LaidBeside w.tells) (f : Fixed D) (recorded : Built) (base : State Text Own) (gone : List Text) (l : Ledger D) (p q : OpenPages) (agent row : ℕ)
     (same : HasSamePages agent row p.swap q.swap) (base_is : q.base ≡ p.base) (there : is_some (row_of agent row p.swap) ≡ true)
     (spaced : AreSpaced (machine_in l) (shelf recorded.rows (tree_in l) p.swap) p.space → AreSpaced (machine_in l) (shelf recorded.rows (tree_in l) q.swap) q.space) where
   rows-same : (k n : ℕ) → is_some (row_of k n q.swap) ≡ is_some (row_of k n p.swap)
@@ -101,7 +101,7 @@ module _ {D : Type 0} (w : DiskWords D) (beside : LaidBeside w.tells) (f : Fixed
 
 -- ---- the parts are kept
 
-module _ {D : Type 0} (w : DiskWords D) (beside : LaidBeside w.tells) (keep : ReadsKeepTheBooks w) (most : (d : D) → w.faults d ≤ 2 ^ 64 - 1) (f : Fixed D) (recorded : Built) (l now : Ledger D) (p q : Pages) (agent row : ℕ)
+module _ {D : Type 0} (w : DiskWords D) (beside : LaidBeside w.tells) (keep : ReadsKeepTheBooks w) (most : (d : D) → w.faults d ≤ 2 ^ 64 - 1) (f : Fixed D) (recorded : Built) (l now : Ledger D) (p q : OpenPages) (agent row : ℕ)
     (held : AreHeldWhole w f recorded l p) (books : now.books ≡ l.books) (freed : vec_capacity l.freed ≤ vec_capacity now.freed) (reads : Reads w l.journal now.journal) (there : is_some (row_of agent row p.swap) ≡ true) (same : HasSamePages agent row p.swap q.swap)
     (base_is : q.base ≡ p.base) (spaced : (m : Machine) (other : Tree) → AreSpaced m (shelf other (tree_in l) p.swap) p.space → AreSpaced m (shelf other (tree_in l) q.swap) q.space) where
   read-first : AreHeldAt w f recorded (state_after f.opening l.books.history) [] now p
@@ -119,7 +119,7 @@ module _ {D : Type 0} (w : DiskWords D) (beside : LaidBeside w.tells) (keep : Re
 
 -- ---- and the pages are of the row
 
-module _ {D : Type 0} (w : DiskWords D) (l now : Ledger D) (p q : Pages) (calls : List Entry) (c : InHand) (work : WorkingCopy) (n : ℕ) (number : n ≡ row_named c.op)
+module _ {D : Type 0} (w : DiskWords D) (l now : Ledger D) (p q : OpenPages) (calls : List Entry) (c : ReadyCall) (work : WorkingCopy) (n : ℕ) (number : n ≡ row_named c.op)
     (same : HasSamePages c.agent n p.swap q.swap) (base_is : q.base ≡ p.base) (read : w.tells → w.content now.journal.disk ≡ w.content l.journal.disk) (paged : IsPaged work)
     (writes : WriteList) (staged : IsStagedWhole w (record { ledger = l; pages = p }) c.agent n work writes) where
   abbrev row : ℕ
@@ -149,7 +149,7 @@ module _ {D : Type 0} (w : DiskWords D) (l now : Ledger D) (p q : Pages) (calls 
 
 -- ---- all of it, over the parts as they are now
 
-module _ {D : Type 0} (w : DiskWords D) (l now : Ledger D) (p q : Pages) (c : InHand) (work : WorkingCopy) (n : ℕ) (number : n ≡ row_named c.op) (books : now.books ≡ l.books) where
+module _ {D : Type 0} (w : DiskWords D) (l now : Ledger D) (p q : OpenPages) (c : ReadyCall) (work : WorkingCopy) (n : ℕ) (number : n ≡ row_named c.op) (books : now.books ≡ l.books) where
   abbrev row-now : ℕ
   row-now = row_named c.op
 

@@ -11,11 +11,11 @@ use Rattle.opfs_pages.specs.declared.writing.put.Put.{Put}
 use Rattle.opfs_work.specs.Works.{WorkingCopy}
 use Rattle.opfs_desk_contents.specs.Storing.{HasStoredPages, MayStorePages, StoresContent}
 use Rattle.opfs_desk_steps.specs.Parts.Acted.{HasFailed}
-use Rattle.opfs_desk_steps.specs.declared.parts.parts.Pages.{Pages}
-use Rattle.opfs_desk_steps.specs.declared.parts.parts.Parts.{Parts}
+use Rattle.opfs_desk_steps.specs.declared.parts.parts.OpenPages.{OpenPages}
+use Rattle.opfs_desk_steps.specs.declared.parts.parts.DeskParts.{DeskParts}
 use Rattle.opfs_desk_contents.specs.Commits.Steps.{LeavesRow}
 
-module _ {D : Type 0} (w : DiskWords D) (f : Fixed D) (start new : Parts D) (agent : ℕ) (put : Put) (place : Place) (work : WorkingCopy) where
+module _ {D : Type 0} (w : DiskWords D) (f : Fixed D) (start new : DeskParts D) (agent : ℕ) (put : Put) (place : Place) (work : WorkingCopy) where
   pub may-same : (e d : Entry) (z y : Sizes) (i j : ℕ) → e ≡ d → z ≡ y → i ≡ j → MayStorePages w start d y agent j put place work → MayStorePages w start e z agent i put place work
   may-same e d z y i j entries sizes rows may =
       subst (λ (x : ℕ). MayStorePages w start e z agent x put place work) (sym rows)
@@ -40,7 +40,7 @@ module _ {D : Type 0} (w : DiskWords D) (f : Fixed D) (start new : Parts D) (age
       (subst (λ (x : Sizes). Fails text d x i) sizes
       (subst (λ (x : Entry). Fails text x z i) entries is))
 
-pub leaves-same : (p q : Pages) (agent i j : ℕ) (xs ys : List Extent) (a b : Bool) (work made : WorkingCopy) → i ≡ j → xs ≡ ys → a ≡ b → LeavesRow p q agent i xs a work made → LeavesRow p q agent j ys b work made
+pub leaves-same : (p q : OpenPages) (agent i j : ℕ) (xs ys : List Extent) (a b : Bool) (work made : WorkingCopy) → i ≡ j → xs ≡ ys → a ≡ b → LeavesRow p q agent i xs a work made → LeavesRow p q agent j ys b work made
 leaves-same p q agent i j xs ys a b work made rows runs ends is =
     subst (λ (x : Bool). LeavesRow p q agent j ys x work made) ends
     (subst (λ (x : List Extent). LeavesRow p q agent j x a work made) runs

@@ -54,7 +54,7 @@ use Rattle.opfs_desk_contents.specs.Words.{ends_row}
 use Rattle.opfs_desk_steps.specs.Parts.Held.{AreHeldWhole, AreTied}
 use Rattle.opfs_desk_steps.specs.Parts.Seen.{machine_in, tree_in, book_in}
 use Rattle.opfs_desk_steps.specs.declared.parts.parts.Ledger.{Ledger}
-use Rattle.opfs_desk_steps.specs.declared.parts.parts.Pages.{Pages}
+use Rattle.opfs_desk_steps.specs.declared.parts.parts.OpenPages.{OpenPages}
 use Rattle.opfs_desk_steps.specs.RowLaws.InHand.{HasInHand, HasPages, RowsInHandAreLaid}
 use Rattle.opfs_desk_steps.proofs.row_laws.InHand.{entered}
 use Rattle.opfs_desk_steps.proofs.row_laws.Staying.{open-with-bytes}
@@ -93,7 +93,7 @@ both-stored t u same = record {
 -- ---- what was entered
 
 -- The entry came, over pages that read as before; the records build what they did, or the rows as they are stored.
-pub record HasEntered {D : Type 0} (w : DiskWords D) (f : Fixed D) (recorded next : Built) (back new : Ledger D) (p : Pages) (e : Entry) (z : Sizes) : Type 0 where
+pub record HasEntered {D : Type 0} (w : DiskWords D) (f : Fixed D) (recorded next : Built) (back new : Ledger D) (p : OpenPages) (e : Entry) (z : Sizes) : Type 0 where
   pub either : (next ≡ recorded) ⊎ (next ≡ (book_in new).rows)
   pub entries : new.books.history ≡ back.books.history ++ e ∷ []
   pub machine : machine_in new ≡ counted (effect in_lengths (machine_in back) z e.agent e.op) e.agent
@@ -130,7 +130,7 @@ no-more p q agent at others gone k n i b has = elim (other-or agent at k n) [
 ]
 
 -- The pages with the row taken out.
-pub record HasDropped (p q : Pages) (agent at : ℕ) : Type 0 where
+pub record HasDropped (p q : OpenPages) (agent at : ℕ) : Type 0 where
   pub others : OthersStay agent at p.swap q.swap
   pub gone : row_of agent at q.swap ≡ None
   pub base : q.base ≡ p.base
@@ -164,7 +164,7 @@ flushed-by changes s e x done saves last at = by-op e.op saves last at
     by-op (op.SyncClose n) saves last at = absurd cc
     by-op o saves last at = absurd cc
 
-module _ {D : Type 0} (w : DiskWords D) (laws : SavingLaws w) (f : Fixed D) (recorded next : Built) (back new : Ledger D) (p : Pages) (e : Entry) (z : Sizes) (x : HandleRow)
+module _ {D : Type 0} (w : DiskWords D) (laws : SavingLaws w) (f : Fixed D) (recorded next : Built) (back new : Ledger D) (p : OpenPages) (e : Entry) (z : Sizes) (x : HandleRow)
     (held : AreHeldWhole w f recorded back p) (live : IsTrue (agent_of (state_after f.opening back.books.history) e.agent).live) (saves : saves_handle e.op ≡ true) (done : is_refusal e.reply ≡ false)
     (at : own_of (agent_of (state_after f.opening back.books.history) e.agent) (row_named e.op) ≡ Some (own.Handle x)) (came : HasEntered w f recorded next back new p e z) where
   abbrev pub base : State Text Own
@@ -217,7 +217,7 @@ module _ {D : Type 0} (w : DiskWords D) (laws : SavingLaws w) (f : Fixed D) (rec
 
   -- ---- a close
 
-  module _ (q : Pages) (dropped : HasDropped p q e.agent row) (last : ends_row e.op ≡ true) where
+  module _ (q : OpenPages) (dropped : HasDropped p q e.agent row) (last : ends_row e.op ≡ true) where
     closed-after : own_of (agent_of after e.agent) row ≡ Some own.ClosedHandle
     closed-after = closed-by laws.changes base e x is-done saves last at
 

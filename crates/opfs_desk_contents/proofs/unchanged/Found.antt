@@ -36,7 +36,7 @@ use Rattle.opfs_desk_contents.specs.Words.{is_storing, size_stored, stores_row}
 use Rattle.opfs_desk_steps.specs.Parts.Held.{AreHeldWhole}
 use Rattle.opfs_desk_steps.specs.Parts.Seen.{machine_in, tree_in, book_in}
 use Rattle.opfs_desk_steps.specs.declared.parts.parts.Ledger.{Ledger}
-use Rattle.opfs_desk_steps.specs.declared.parts.parts.Pages.{Pages}
+use Rattle.opfs_desk_steps.specs.declared.parts.parts.OpenPages.{OpenPages}
 use Rattle.opfs_desk_contents.specs.Unchanged.Saving.{saves_handle}
 use Rattle.opfs_desk_contents.proofs.unchanged.Own.{tree-there}
 
@@ -63,7 +63,7 @@ pub one-place : (a b : Place) → ◌≡◌ {A = Option Place} (Some a) (Some b)
 one-place a b e = cc
 
 -- It stands in the machine, and so in the tree.
-module _ {D : Type 0} (w : DiskWords D) (known : BooksKeepTheState w) (f : Fixed D) (recorded : Built) (l : Ledger D) (p : Pages) (held : AreHeldWhole w f recorded l p) (lines : (machine_in l).rows ≡ lines_of (tree_in l)) where
+module _ {D : Type 0} (w : DiskWords D) (known : BooksKeepTheState w) (f : Fixed D) (recorded : Built) (l : Ledger D) (p : OpenPages) (held : AreHeldWhole w f recorded l p) (lines : (machine_in l).rows ≡ lines_of (tree_in l)) where
   pub handle-stands : (k n : ℕ) (h : HandleOutline) → open_handle in_lengths (machine_in l) k n ≡ Some h → (r : FileRow) × (file_in_tree h.file (tree_in l) ≡ Some r)
   handle-stands k n h is =
       let kept = known.kept f recorded (state_after f.opening l.books.history) (book_in l) l.journal held.books in

@@ -43,9 +43,9 @@ use Rattle.opfs_desk_steps.specs.Parts.Acted.{HasActed}
 use Rattle.opfs_desk_steps.specs.Parts.Answered.{IsAnswered}
 use Rattle.opfs_desk_steps.specs.Parts.Held.{AreHeldWhole}
 use Rattle.opfs_desk_steps.specs.Parts.Seen.{machine_in, book_in, call_in, units_in}
-use Rattle.opfs_desk_steps.specs.declared.parts.call.InHand.{InHand}
+use Rattle.opfs_desk_steps.specs.declared.parts.call.ReadyCall.{ReadyCall}
 use Rattle.opfs_desk_steps.specs.declared.parts.parts.Ledger.{Ledger}
-use Rattle.opfs_desk_steps.specs.declared.parts.parts.Pages.{Pages}
+use Rattle.opfs_desk_steps.specs.declared.parts.parts.OpenPages.{OpenPages}
 use Rattle.opfs_desk_entries.specs.Answers.Silent.{BeginsCall, told_act}
 use Rattle.opfs_desk_entries.proofs.answers.Silent.{ready, answered}
 use Rattle.opfs_desk_bytes.proofs.reading.Synced.{HandlesStand, handed}
@@ -74,7 +74,7 @@ reads-only : (m : Mode) → is_read_write m ≡ false → m ≡ mode.ReadOnly
 reads-only mode.ReadOnly is = refl
 reads-only mode.ReadWrite is = absurd (false≢true (sym is))
 
-module _ {D : Type 0} (w : DiskWords D) (laws : CallingLaws w) (f : Fixed D) (recorded : Built) (l mid : Ledger D) (p : Pages) (calls : List Entry) (c : InHand) (work : WorkingCopy)
+module _ {D : Type 0} (w : DiskWords D) (laws : CallingLaws w) (f : Fixed D) (recorded : Built) (l mid : Ledger D) (p : OpenPages) (calls : List Entry) (c : ReadyCall) (work : WorkingCopy)
     (begins : BeginsCall w f recorded l p calls c work []) (word : flushes_nothing (machine_in l) c.agent c.op ≡ true) (took : HasTakenIn w f recorded l mid p calls c) where
   abbrev base : State Text Own
   base = state_after f.opening mid.books.history

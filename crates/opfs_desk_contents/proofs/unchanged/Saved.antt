@@ -7,9 +7,9 @@ use Rattle.opfs_store.specs.Copies.Copies.{StandsFor, IsCopyOf, IsPaged}
 use Rattle.opfs_desk_contents.specs.Words.{flushes_nothing, may_only_read, may_write, stores_row}
 use Rattle.opfs_pages.specs.HistoryLaws.Copies.{IsHandleCopy}
 use Rattle.opfs_desk_steps.specs.Parts.Seen.{machine_in}
-use Rattle.opfs_desk_steps.specs.declared.parts.call.InHand.{InHand}
+use Rattle.opfs_desk_steps.specs.declared.parts.call.ReadyCall.{ReadyCall}
 use Rattle.opfs_desk_steps.specs.declared.parts.parts.Ledger.{Ledger}
-use Rattle.opfs_desk_steps.specs.declared.parts.parts.Pages.{Pages}
+use Rattle.opfs_desk_steps.specs.declared.parts.parts.OpenPages.{OpenPages}
 use Rattle.opfs_desk_entries.specs.Answers.Silent.{BeginsCall}
 use Rattle.opfs_desk_entries.proofs.answers.Noted.{mid-noted, sum_of}
 use Rattle.opfs_desk_entries.proofs.answers.Words.{before}
@@ -63,7 +63,7 @@ stores-noted m k sum (op.SyncFlush n) agent = ap (λ o. may_write o) (handle-at 
 stores-noted m k sum (op.SyncClose n) agent = ap (λ o. may_write o) (handle-at m k sum n agent)
 stores-noted m k sum o agent = refl
 
-module _ {D : Type 0} (w : DiskWords D) (follow : LengthsFollowEachCall) (local : LocalCallsAreKnownByTheirWord) (f : Fixed D) (recorded : Built) (l mid : Ledger D) (p : Pages) (calls : List Entry) (c : InHand) (work : WorkingCopy) (past : List Text)
+module _ {D : Type 0} (w : DiskWords D) (follow : LengthsFollowEachCall) (local : LocalCallsAreKnownByTheirWord) (f : Fixed D) (recorded : Built) (l mid : Ledger D) (p : OpenPages) (calls : List Entry) (c : ReadyCall) (work : WorkingCopy) (past : List Text)
     (begins : BeginsCall w f recorded l p calls c work past) (agent : IsAgent (machine_in l) c.agent) (took : HasTakenIn w f recorded l mid p calls c) where
   noted : machine_in mid ≡ with_sum (machine_in l) (c.agent - 1) (sum_of calls)
   noted = mid-noted w follow local f recorded l p calls c work past begins agent mid took

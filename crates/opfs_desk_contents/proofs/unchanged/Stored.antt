@@ -64,9 +64,9 @@ use Rattle.opfs_desk_steps.specs.Parts.Acted.{HasActed, HasFailed, IsWayEnded}
 use Rattle.opfs_desk_steps.specs.Parts.Answered.{IsAnswered}
 use Rattle.opfs_desk_steps.specs.Parts.Held.{AreHeldAt, AreHeldWhole}
 use Rattle.opfs_desk_steps.specs.Parts.Seen.{machine_in, tree_in, book_in, call_in, units_in}
-use Rattle.opfs_desk_steps.specs.declared.parts.call.InHand.{InHand}
+use Rattle.opfs_desk_steps.specs.declared.parts.call.ReadyCall.{ReadyCall}
 use Rattle.opfs_desk_steps.specs.declared.parts.parts.Ledger.{Ledger}
-use Rattle.opfs_desk_steps.specs.declared.parts.parts.Pages.{Pages}
+use Rattle.opfs_desk_steps.specs.declared.parts.parts.OpenPages.{OpenPages}
 use Rattle.opfs_desk_entries.specs.Answers.Silent.{BeginsCall, told_act}
 use Rattle.opfs_desk_entries.proofs.answers.Noted.{mid-noted}
 use Rattle.opfs_desk_entries.proofs.answers.Silent.{ready}
@@ -102,7 +102,7 @@ pub record ContentLaws {D : Type 0} (w : DiskWords D) : Type 0 where
   pub between : HistoriesAreCleared w
   pub falls : Falls w
 
-module _ {D : Type 0} (w : DiskWords D) (laws : CallingLaws w) (content : ContentLaws w) (f : Fixed D) (recorded : Built) (l mid : Ledger D) (p : Pages) (calls : List Entry) (c : InHand) (work : WorkingCopy)
+module _ {D : Type 0} (w : DiskWords D) (laws : CallingLaws w) (content : ContentLaws w) (f : Fixed D) (recorded : Built) (l mid : Ledger D) (p : OpenPages) (calls : List Entry) (c : ReadyCall) (work : WorkingCopy)
     (begins : BeginsCall w f recorded l p calls c work []) (word : stores_row (machine_in l) c.agent c.op ≡ true) (more : HasMoreThanReserve (machine_in l) c.agent c.op) (took : HasTakenIn w f recorded l mid p calls c) where
   abbrev pub base : State Text Own
   base = state_after f.opening mid.books.history
@@ -353,7 +353,7 @@ module _ {D : Type 0} (w : DiskWords D) (laws : CallingLaws w) (content : Conten
         grown acts = acts.acted f l mid back new calls units c reply.Done took.taken (record { cleared = way.entries; added = done.entries }) answered.next
 
         -- The handle is closed.
-        pub close-acted : ACallMovesItsAgent → CallsAreActed w → (q : Pages) → HasDropped p q c.agent row → ends_row c.op ≡ true → (rows : ℕ) → rows ≡ length (agent_of (machine_in mid) c.agent).own
+        pub close-acted : ACallMovesItsAgent → CallsAreActed w → (q : OpenPages) → HasDropped p q c.agent row → ends_row c.op ≡ true → (rows : ℕ) → rows ≡ length (agent_of (machine_in mid) c.agent).own
             → HasActed w f (record { ledger = l; pages = p }) (record { ledger = new; pages = q }) calls (call_in c) work work (told_act reply.Done gift.Nothing rows)
         close-acted moves acts q dropped last rows count = record {
           held = record {
@@ -421,13 +421,13 @@ module _ {D : Type 0} (w : DiskWords D) (laws : CallingLaws w) (content : Conten
           }
 
         -- Either of both.
-        pub again-acted : ACallMovesItsAgent → CallsAreActed w → HandlesStayWhole → AreHandlesWhole f.opening l.books.history → HandlesStand w.tells → IsPaged work → (q : Pages) → (ends_row c.op ≡ false → q ≡ p) → (ends_row c.op ≡ true → HasDropped p q c.agent row)
+        pub again-acted : ACallMovesItsAgent → CallsAreActed w → HandlesStayWhole → AreHandlesWhole f.opening l.books.history → HandlesStand w.tells → IsPaged work → (q : OpenPages) → (ends_row c.op ≡ false → q ≡ p) → (ends_row c.op ≡ true → HasDropped p q c.agent row)
             → (rows : ℕ) → rows ≡ length (agent_of (machine_in mid) c.agent).own
             → HasActed w f (record { ledger = l; pages = p }) (record { ledger = new; pages = q }) calls (call_in c) work work (told_act reply.Done gift.Nothing rows)
         again-acted moves acts handles before stand paged q stays dropped rows count =
             elim (ends_row c.op) as (λ b. ends_row c.op ≡ b → HasActed w f (record { ledger = l; pages = p }) (record { ledger = new; pages = q }) calls (call_in c) work work (told_act reply.Done gift.Nothing rows)) [
               | true ↦ λ last. close-acted moves acts q (dropped last) last rows count
               | false ↦ λ last.
-                  subst (λ (y : Pages). HasActed w f (record { ledger = l; pages = p }) (record { ledger = new; pages = y }) calls (call_in c) work work (told_act reply.Done gift.Nothing rows)) (sym (stays last))
+                  subst (λ (y : OpenPages). HasActed w f (record { ledger = l; pages = p }) (record { ledger = new; pages = y }) calls (call_in c) work work (told_act reply.Done gift.Nothing rows)) (sym (stays last))
                   (flush-acted handles before stand paged last moves acts rows count)
             ] refl

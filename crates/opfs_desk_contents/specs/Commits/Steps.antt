@@ -26,13 +26,13 @@ use Rattle.opfs_desk_contents.specs.declared.planning.Plan.{Plan}
 use Rattle.opfs_desk_steps.specs.Parts.Asked.{IsAsked}
 use Rattle.opfs_desk_steps.specs.Parts.Held.{AreHeldWhole}
 use Rattle.opfs_desk_steps.specs.Parts.Seen.{machine_in, tree_in}
-use Rattle.opfs_desk_steps.specs.declared.parts.call.InHand.{InHand}
-use Rattle.opfs_desk_steps.specs.declared.parts.parts.Pages.{Pages}
-use Rattle.opfs_desk_steps.specs.declared.parts.parts.Parts.{Parts}
+use Rattle.opfs_desk_steps.specs.declared.parts.call.ReadyCall.{ReadyCall}
+use Rattle.opfs_desk_steps.specs.declared.parts.parts.OpenPages.{OpenPages}
+use Rattle.opfs_desk_steps.specs.declared.parts.parts.DeskParts.{DeskParts}
 
 -- A row's content of so many bytes is planned: its pages stand ready, and have their blocks or wait for them; its file is known,
 -- and there is room for the runs of its blocks.
-pub record IsContentPlanned {D : Type 0} (w : DiskWords D) (p : Parts D) (agent row size : ℕ) (plan : Plan) : Type 0 where
+pub record IsContentPlanned {D : Type 0} (w : DiskWords D) (p : DeskParts D) (agent row size : ℕ) (plan : Plan) : Type 0 where
   pub count : plan.put.pages ≡ blocks size
   pub ready : IsPutReady w.tells (w.content p.ledger.journal.disk) p.pages.base p.pages.swap agent row plan.put.pages plan.put.writes plan.put.moves (vec_capacity plan.put.extents)
   pub bytes : HasBytes plan.put.writes []
@@ -44,7 +44,7 @@ pub record IsContentPlanned {D : Type 0} (w : DiskWords D) (p : Parts D) (agent 
   pub space : plan.put.pages ≤ vec_capacity plan.copy
 
 -- The pages are those of the row that a call names, once its agent's pending calls are taken in.
-abbrev pub IsContentFor : {D : Type 0} → DiskWords D → Parts D → List Entry → InHand → WorkingCopy → WriteList → Type 0
+abbrev pub IsContentFor : {D : Type 0} → DiskWords D → DeskParts D → List Entry → ReadyCall → WorkingCopy → WriteList → Type 0
 IsContentFor {D} w p calls c work writes =
     (f : Fixed D) (recorded : Built) → AreHeldWhole w f recorded p.ledger p.pages → IsAsked w.tells f.opening p.ledger.books.history calls p.ledger.books.state c work []
     → (bytes : Text) → row_bytes (state_after f.opening (p.ledger.books.history ++ calls)) c.agent (row_named c.op) ≡ Some bytes
@@ -60,7 +60,7 @@ pub record IsFlushed (work left : WorkingCopy) : Type 0 where
 
 -- A row whose content was stored in these runs: their blocks are no page's alone any more. It goes with its pages, or its working
 -- copy is flushed.
-pub record LeavesRow (p q : Pages) (agent row : ℕ) (runs : List Extent) (ends : Bool) (work left : WorkingCopy) : Type 0 where
+pub record LeavesRow (p q : OpenPages) (agent row : ℕ) (runs : List Extent) (ends : Bool) (work left : WorkingCopy) : Type 0 where
   pub base : q.base ≡ p.base
   pub space : q.space ≡ record p.space { own = marked false (blocks_of runs) p.space.own }
   pub others : OthersStay agent row p.swap q.swap

@@ -5,7 +5,7 @@ ghost use Rattle.opfs_blocks.specs.Sets.{blocks_of, AreBelow};
 ghost use Rattle.opfs_desk_contents.specs.Commits.Steps.{IsFlushed, LeavesRow};
 
 use opfs_base::Extent;
-use opfs_desk_steps::Pages;
+use opfs_desk_steps::OpenPages;
 use opfs_pages::after_flush;
 use opfs_work::Work;
 
@@ -22,7 +22,7 @@ fn flush_copy(work: &mut Work)
 /// Leaves a row whose content was stored in these runs: they are its file's now. A row that ends goes with its pages, another keeps
 /// them, as its file's. Takes no memory.
 pub(crate) fn leave_row(
-    pages: &mut Pages,
+    pages: &mut OpenPages,
     runs: &[Extent],
     agent: u32,
     row: u32,

@@ -36,7 +36,7 @@ use opfs_books::{
 use opfs_data::DataRefusal;
 use opfs_desk_bytes::fail_reading;
 use opfs_desk_steps::{
-    CallParts, InHand, Parts, asked_calls_are_ready, call_parts, calls_are_acted,
+    CallParts, DeskParts, ReadyCall, asked_calls_are_ready, call_parts, calls_are_acted,
     copies_are_stored, files_are_stored, parts_lie_inside, ready_calls_are_answered,
     rows_in_hand_are_laid, take_in,
 };
@@ -112,8 +112,8 @@ fn reading_laws<D: Disk>()
 // Acts a call whose row's content is planned: its agent's pending calls are taken in, the pages are put, and the content is committed
 // with the call. Where the disk fails it is entered so. Takes no memory.
 fn enter_pages<D: Disk>(
-    parts: &mut Parts<D>,
-    call: InHand,
+    parts: &mut DeskParts<D>,
+    call: ReadyCall,
     plan: Plan,
     row: u32,
     pending: &mut Pending,
@@ -136,7 +136,7 @@ fn enter_pages<D: Disk>(
     let ends = is_last(&call.op);
     take_in(&mut parts.ledger, agent, pending);
     let rows = parts.ledger.books.state.rows(agent) as u32;
-    parts.ledger.books.state.lines();
+    parts.ledger.books.state.know_rows_match_tree();
     let CallParts { last, sizes, .. } = call_parts(call, Reply::Done);
     match store_pages(parts, last, sizes, plan, agent, row, work) {
         Ok(runs) => {
@@ -158,8 +158,8 @@ fn enter_pages<D: Disk>(
 /// Acts a call that stores a row's content, where the blocks of all its pages are kept for it. Where the disk fails the call is
 /// entered so, and the row stays open with its bytes; where there is no memory nothing is entered.
 pub(crate) fn act_pages<D: Disk>(
-    parts: &mut Parts<D>,
-    call: InHand,
+    parts: &mut DeskParts<D>,
+    call: ReadyCall,
     pending: &mut Pending,
     work: &mut Work,
 ) -> Result<Acted, AllocError>

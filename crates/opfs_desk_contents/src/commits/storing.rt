@@ -17,9 +17,9 @@ ghost use Rattle.opfs_laws.specs.Lengths.Bridge.{LengthsFollowEachCall, LocalCal
 ghost use Rattle.opfs_records.specs.Replay.Built.{Built};
 
 use crate::commits::pages::act_pages;
-use crate::unchanged::act_again;
+use crate::unchanged::act_store_same_blocks;
 use opfs_books::state_laws;
-use opfs_desk_steps::{InHand, Parts, asked_calls_are_ready};
+use opfs_desk_steps::{DeskParts, ReadyCall, asked_calls_are_ready};
 use opfs_hist::Pending;
 use opfs_laws::going_on::legal_histories_go_on;
 use opfs_laws::lengths::bridge::{lengths_follow_each_call, local_calls_are_known_by_their_word};
@@ -46,8 +46,8 @@ fn going_laws<D: Disk>()
 /// Acts a call that stores a row's content: the close of a stream, and the flush and the close of an access handle that may write.
 /// Where the disk fails, the entry tells so, and the row stays open with its bytes.
 pub fn act_content<D: Disk>(
-    parts: &mut Parts<D>,
-    call: InHand,
+    parts: &mut DeskParts<D>,
+    call: ReadyCall,
     pending: &mut Pending,
     work: &mut Work,
 ) -> Result<Acted, AllocError>
@@ -63,7 +63,7 @@ pub fn act_content<D: Disk>(
 {
     going_laws::<D>();
     if work.pages() > work.reserve() {
-        let acted = act_again(parts, call, pending, work)?;
+        let acted = act_store_same_blocks(parts, call, pending, work)?;
         return Ok(acted);
     }
     let acted = act_pages(parts, call, pending, work)?;

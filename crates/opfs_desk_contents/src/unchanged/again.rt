@@ -19,7 +19,7 @@ ghost use Rattle.opfs_desk_steps.specs.Parts.Asked.{IsAsked, MayGo};
 ghost use Rattle.opfs_desk_steps.specs.Parts.Answered.{IsAnswered};
 ghost use Rattle.opfs_desk_steps.specs.Parts.Held.{AreHeldAt, AreHeldWhole};
 ghost use Rattle.opfs_desk_steps.specs.Parts.Seen.{machine_in, tree_in, book_in, call_in};
-ghost use Rattle.opfs_desk_steps.specs.declared.parts.parts.Pages.{Pages};
+ghost use Rattle.opfs_desk_steps.specs.declared.parts.parts.OpenPages.{OpenPages};
 ghost use Rattle.opfs_desk_bytes.specs.Reading.Reading.{HaveWholeHandles};
 ghost use Rattle.opfs_desk_steps.specs.RowLaws.Inside.{PartsLieInside};
 ghost use Rattle.opfs_desk_steps.specs.RowLaws.Stored.{FilesAreStored, HistoriesAreCleared};
@@ -35,10 +35,10 @@ use crate::enter_content;
 use crate::unchanged::laws::{calling_laws, saving_laws};
 use crate::unchanged::planning::{Again, plan_again};
 use crate::unchanged::words::{is_last, row_of};
-use opfs_books::{Last, calls_are_spelled, calls_may_fail, state_laws};
+use opfs_books::{EntryWithRoom, calls_are_spelled, calls_may_fail, state_laws};
 use opfs_data::Swap;
 use opfs_desk_steps::{
-    InHand, Ledger, Parts, clear_way, files_are_stored, parts_lie_inside, take_in,
+    DeskParts, Ledger, ReadyCall, evict_for, files_are_stored, parts_lie_inside, take_in,
 };
 use opfs_hist::{Pending, Refusal, Reply};
 use opfs_journal::DiskFault;
@@ -82,7 +82,7 @@ fn leave_row(swap: &mut Swap, agent: u32, row: u32, last: bool)
 // Commits the content that a file has, and enters the call. Where the disk fails, the call is entered so.
 fn enter_again<D: Disk>(
     ledger: &mut Ledger<D>,
-    last: Last,
+    last: EntryWithRoom,
     sizes: Sizes,
     again: &Again,
 ) -> Result<(), DiskFault>
@@ -92,11 +92,11 @@ fn enter_again<D: Disk>(
     requires settled { ledger.old.journal.in_doubt ≡ false }
     ensures order { IsInOrder (tree_in ledger.old) }
     ensures order_now { OnOk result (IsInOrder (tree_in ledger.new)) }
-    ensures stored { OnOk result ((f : Fixed D) (recorded : Built) (base : State Text Own) (gone : List Text) (p : Pages) (row : FileRow) → AreHeldAt D.Disk f recorded base gone ledger.old p → IsAnswered D.Disk base gone ledger.old last.entry sizes
+    ensures stored { OnOk result ((f : Fixed D) (recorded : Built) (base : State Text Own) (gone : List Text) (p : OpenPages) (row : FileRow) → AreHeldAt D.Disk f recorded base gone ledger.old p → IsAnswered D.Disk base gone ledger.old last.entry sizes
         → file_in_tree again.now.place (tree_in ledger.old) ≡ Some row → CanHold f.geometry.blocks (content_now ledger.old last.entry again.now.place row again.now.size again.now.runs) (book_in ledger.old).rows
         → BytesStand D.Disk f base gone ledger.old.journal last.entry (content_now ledger.old last.entry again.now.place row again.now.size again.now.runs)
         → HasStored D.Disk f base gone ledger.old ledger.new p last.entry sizes None (content_now ledger.old last.entry again.now.place row again.now.size again.now.runs)) }
-    ensures failed { OnErr result ((f : Fixed D) (recorded : Built) (base : State Text Own) (gone : List Text) (p : Pages) (row : FileRow) → AreHeldAt D.Disk f recorded base gone ledger.old p → IsAnswered D.Disk base gone ledger.old last.entry sizes
+    ensures failed { OnErr result ((f : Fixed D) (recorded : Built) (base : State Text Own) (gone : List Text) (p : OpenPages) (row : FileRow) → AreHeldAt D.Disk f recorded base gone ledger.old p → IsAnswered D.Disk base gone ledger.old last.entry sizes
         → file_in_tree again.now.place (tree_in ledger.old) ≡ Some row → CanHold f.geometry.blocks (content_now ledger.old last.entry again.now.place row again.now.size again.now.runs) (book_in ledger.old).rows
         → BytesStand D.Disk f base gone ledger.old.journal last.entry (content_now ledger.old last.entry again.now.place row again.now.size again.now.runs)
         → HasNotChanged D.Disk f recorded base gone ledger.old ledger.new p last.entry (content_now ledger.old last.entry again.now.place row again.now.size again.now.runs)) }
@@ -119,9 +119,9 @@ fn enter_again<D: Disk>(
 /// Acts the flush or the close of an access handle that may write and keeps fewer blocks than its file takes. Nothing of the file waits
 /// for a flush then: the content that it has is stored once more, in its own blocks. Where the disk fails, the entry tells so, and
 /// the row stays open.
-pub fn act_again<D: Disk>(
-    parts: &mut Parts<D>,
-    call: InHand,
+pub fn act_store_same_blocks<D: Disk>(
+    parts: &mut DeskParts<D>,
+    call: ReadyCall,
     pending: &mut Pending,
     work: &mut Work,
 ) -> Result<Acted, AllocError>
@@ -148,9 +148,9 @@ pub fn act_again<D: Disk>(
     };
     take_in(&mut parts.ledger, agent, pending);
     let rows = parts.ledger.books.state.rows(agent) as u32;
-    match clear_way(&mut parts.ledger, call, Reply::Done) {
+    match evict_for(&mut parts.ledger, call, Reply::Done) {
         Ok((last, sizes)) => {
-            parts.ledger.books.state.lines();
+            parts.ledger.books.state.know_rows_match_tree();
             match enter_again(&mut parts.ledger, last, sizes, &again) {
                 Ok(()) => {
                     leave_row(&mut parts.pages.swap, agent, row, ends);

@@ -12,7 +12,7 @@ ghost use Rattle.opfs_desk_steps.specs.Parts.Answered.{IsAnswered, MayAnswer};
 ghost use Rattle.opfs_desk_steps.specs.Parts.Asked.{IsAsked, MayGo};
 ghost use Rattle.opfs_desk_steps.specs.Parts.Held.{AreHeldAt, AreHeldWhole};
 ghost use Rattle.opfs_desk_steps.specs.Parts.Seen.{machine_in, call_in};
-ghost use Rattle.opfs_desk_steps.specs.declared.parts.parts.Pages.{Pages};
+ghost use Rattle.opfs_desk_steps.specs.declared.parts.parts.OpenPages.{OpenPages};
 ghost use Rattle.opfs_desk_bytes.specs.Reading.Reading.{HaveWholeHandles};
 ghost use Rattle.opfs_desk_steps.specs.Going.{HasTold};
 ghost use Rattle.opfs_hist.specs.declared.reply.Reply.TheVariants as reply;
@@ -21,32 +21,31 @@ ghost use Rattle.opfs_machine.specs.declared.state.State.{State};
 ghost use Rattle.opfs_records.specs.Replay.Built.{Built};
 
 use crate::unchanged::laws::{calling_laws, saving_laws};
-use opfs_desk_steps::{InHand, Ledger, Parts, take_in, tell_in_hand};
+use opfs_desk_steps::{DeskParts, Ledger, ReadyCall, take_in, tell_ready};
 use opfs_hist::{Pending, Reply};
 use opfs_outside::Disk;
 use opfs_store::{Acted, Gift};
-use opfs_tree::Walk;
 use opfs_work::Work;
 use std::alloc::AllocError;
 
 // Enters the call, once its agent's pending calls are taken in.
-fn enter_idle<D: Disk>(ledger: &mut Ledger<D>, call: InHand)
+fn enter_idle<D: Disk>(ledger: &mut Ledger<D>, call: ReadyCall)
     requires may { MayAnswer D.Disk ledger.old (told_entry (call_in call) reply.Done) call.sizes }
     requires word { flushes_nothing (machine_in ledger.old) call.agent call.op ≡ true }
     ensures order { IsInOrderThrough ledger.old call.agent call.op call.sizes }
-    ensures told { (f : Fixed D) (recorded : Built) (base : State Text Own) (gone : List Text) (p : Pages) → AreHeldAt D.Disk f recorded base gone ledger.old p
+    ensures told { (f : Fixed D) (recorded : Built) (base : State Text Own) (gone : List Text) (p : OpenPages) → AreHeldAt D.Disk f recorded base gone ledger.old p
         → IsAnswered D.Disk base gone ledger.old (told_entry (call_in call) reply.Done) call.sizes → HasTold D.Disk f recorded ledger.old ledger.new p (told_entry (call_in call) reply.Done) call.sizes }
 {
-    ledger.books.state.step(&mut Walk::make());
+    ledger.books.state.know_order();
     let reply = Reply::Done;
-    tell_in_hand(ledger, call, reply);
-    ledger.books.state.step(&mut Walk::make());
+    tell_ready(ledger, call, reply);
+    ledger.books.state.know_order();
 }
 
 /// Acts the flush of a read-only access handle, which stores nothing: the row stays with its pages. Takes no memory, and calls no disk.
 pub fn act_idle_flush<D: Disk>(
-    parts: &mut Parts<D>,
-    call: InHand,
+    parts: &mut DeskParts<D>,
+    call: ReadyCall,
     pending: &mut Pending,
     work: &mut Work,
 ) -> Result<Acted, AllocError>

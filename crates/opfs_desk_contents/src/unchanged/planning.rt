@@ -72,7 +72,7 @@ pub(crate) fn plan_again<D: Disk>(
     ensures runs { IfOk result (λ again. (f : FileRow) → file_in_tree again.place (tree_in ledger.now) ≡ Some f → again.runs ≡ f.extents) }
 {
     let state = &ledger.books.state;
-    state.lines();
+    state.know_rows_match_tree();
     let place = file_of(ledger.alloc, state, agent, row)?;
     let size = size_of(state, &place);
     let runs = runs_of(ledger.alloc, state, &place)?;

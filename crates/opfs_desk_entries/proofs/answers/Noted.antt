@@ -23,9 +23,9 @@ use Rattle.opfs_state.specs.Laws.Readied.{StaysReadyAsNoted}
 use Rattle.opfs_state.specs.Verdicts.Callers.{IsAgent}
 use Rattle.opfs_work.specs.Works.{WorkingCopy}
 use Rattle.opfs_desk_steps.specs.Parts.Seen.{machine_in}
-use Rattle.opfs_desk_steps.specs.declared.parts.call.InHand.{InHand}
+use Rattle.opfs_desk_steps.specs.declared.parts.call.ReadyCall.{ReadyCall}
 use Rattle.opfs_desk_steps.specs.declared.parts.parts.Ledger.{Ledger}
-use Rattle.opfs_desk_steps.specs.declared.parts.parts.Pages.{Pages}
+use Rattle.opfs_desk_steps.specs.declared.parts.parts.OpenPages.{OpenPages}
 use Rattle.opfs_desk_steps.specs.Going.{HasTakenIn}
 use Rattle.opfs_desk_entries.specs.Answers.Silent.{BeginsCall}
 use Rattle.opfs_desk_entries.specs.Answers.Telling.{TellsOnly}
@@ -35,7 +35,7 @@ abbrev pub sum_of : List Entry → PendingSum
 sum_of es = record { entries = length es; rows = count_by makes_row es; moment = last_moment es }
 
 module _ {D : Type 0} (w : DiskWords D) (follow : LengthsFollowEachCall) (local : LocalCallsAreKnownByTheirWord)
-    (f : Fixed D) (recorded : Built) (l : Ledger D) (p : Pages) (calls : List Entry) (c : InHand) (work : WorkingCopy) (past : List Text)
+    (f : Fixed D) (recorded : Built) (l : Ledger D) (p : OpenPages) (calls : List Entry) (c : ReadyCall) (work : WorkingCopy) (past : List Text)
     (begins : BeginsCall w f recorded l p calls c work past) (agent : IsAgent (machine_in l) c.agent) where
   pub noted-is : in_lengths_of (state_after f.opening (l.books.history ++ calls)) ≡ with_sum (machine_in l) (c.agent - 1) (sum_of calls)
   noted-is =

@@ -36,7 +36,7 @@ use Rattle.opfs_desk_steps.specs.Parts.Acted.{HasActed, last_doubt}
 use Rattle.opfs_desk_steps.specs.Parts.Held.{AreHeldWhole}
 use Rattle.opfs_desk_steps.specs.Parts.Seen.{machine_in, book_in}
 use Rattle.opfs_desk_steps.specs.declared.parts.parts.Ledger.{Ledger}
-use Rattle.opfs_desk_steps.specs.declared.parts.parts.Pages.{Pages}
+use Rattle.opfs_desk_steps.specs.declared.parts.parts.OpenPages.{OpenPages}
 use Rattle.opfs_desk_steps.specs.BookSteps.Refusing.{IsRefused, MayRefuse}
 use Rattle.opfs_desk_steps.specs.BookSteps.Taking.{MayTakeInto}
 use Rattle.opfs_desk_steps.proofs.book_steps.Ways.{way-here}
@@ -68,7 +68,7 @@ own-refused s k o number = refl
 abbrev pub refused_act : Refusal → ℕ → Acted
 refused_act r rows = record { reply = reply.No r; gift = gift.Nothing; rows = rows }
 
-module _ {D : Type 0} (w : DiskWords D) (reads : ReadsLeaveTheState) (follow : LengthsFollowEachCall) (local : LocalCallsAreKnownByTheirWord) (f : Fixed D) (recorded : Built) (l mid : Ledger D) (p : Pages) (calls : List Entry) (c : Call) (r : Refusal)
+module _ {D : Type 0} (w : DiskWords D) (reads : ReadsLeaveTheState) (follow : LengthsFollowEachCall) (local : LocalCallsAreKnownByTheirWord) (f : Fixed D) (recorded : Built) (l mid : Ledger D) (p : OpenPages) (calls : List Entry) (c : Call) (r : Refusal)
     (work : WorkingCopy) (past : List Text) (held : AreHeldWhole w f recorded l p) (is : IsRefusedCall w.tells f.opening l.books.history calls c r work past) where
   abbrev e : Entry
   e = told_entry c (reply.No r)

@@ -35,10 +35,10 @@ use Rattle.opfs_desk_steps.specs.Parts.Acted.{HasActed, IsWayEnded}
 use Rattle.opfs_desk_steps.specs.Parts.Answered.{IsAnswered}
 use Rattle.opfs_desk_steps.specs.Parts.Held.{AreHeldAt, AreHeldWhole}
 use Rattle.opfs_desk_steps.specs.Parts.Seen.{machine_in, tree_in, call_in, units_in}
-use Rattle.opfs_desk_steps.specs.declared.parts.call.InHand.{InHand}
+use Rattle.opfs_desk_steps.specs.declared.parts.call.ReadyCall.{ReadyCall}
 use Rattle.opfs_desk_steps.specs.declared.parts.parts.Ledger.{Ledger}
-use Rattle.opfs_desk_steps.specs.declared.parts.parts.Pages.{Pages}
-use Rattle.opfs_desk_steps.specs.declared.parts.parts.Parts.{Parts}
+use Rattle.opfs_desk_steps.specs.declared.parts.parts.OpenPages.{OpenPages}
+use Rattle.opfs_desk_steps.specs.declared.parts.parts.DeskParts.{DeskParts}
 use Rattle.opfs_desk_steps.specs.RowLaws.InHand.{RowsInHandAreLaid}
 use Rattle.opfs_desk_steps.specs.Acting.{CallsAreActed}
 use Rattle.opfs_desk_steps.specs.Answering.{ReadyCallsAreAnswered, IsReply}
@@ -54,7 +54,7 @@ no-fault (reply.No x) done = absurd (true≢false done)
 no-fault r done = refl
 
 module _ {D : Type 0} (w : DiskWords D) (asks : AskedCallsAreReady w) (answers : ReadyCallsAreAnswered w)
-    (f : Fixed D) (recorded : Built) (l mid : Ledger D) (p : Pages) (calls : List Entry) (c : InHand) (work : WorkingCopy) (past : List Text)
+    (f : Fixed D) (recorded : Built) (l mid : Ledger D) (p : OpenPages) (calls : List Entry) (c : ReadyCall) (work : WorkingCopy) (past : List Text)
     (begins : BeginsCall w f recorded l p calls c work past) (took : HasTakenIn w f recorded l mid p calls c) where
   abbrev pub base : State Text Own
   base = state_after f.opening mid.books.history
@@ -75,7 +75,7 @@ module _ {D : Type 0} (w : DiskWords D) (asks : AskedCallsAreReady w) (answers :
         (answers.answered f recorded recorded mid mid p p c r took.held ready
         (record { entries = sym (ap (λ (units : List Text). mid.books.history ++ map eviction units) none ∙ append-nil mid.books.history); prepared = took.prepared }) whole its sized)
 
-    module _ (done : is_refusal r ≡ false) (new : Ledger D) (told : HasTold w f recorded mid new p (entry r) c.sizes) (q : Pages) (row : ℕ) (closed : LeavesClosed p q base c row) where
+    module _ (done : is_refusal r ≡ false) (new : Ledger D) (told : HasTold w f recorded mid new p (entry r) c.sizes) (q : OpenPages) (row : ℕ) (closed : LeavesClosed p q base c row) where
       abbrev after : State Text Own
       after = after_reply base c.agent c.op r
 
@@ -133,14 +133,14 @@ module _ {D : Type 0} (w : DiskWords D) (asks : AskedCallsAreReady w) (answers :
 
         -- The call was acted, whatever it gives and whatever working copy it leaves.
         pub has-acted : CallsAreActed w → BooksShowTheirImages w → (gift : Gift) → IsGift w.tells (state_after f.opening (l.books.history ++ calls)) c.op r gift
-            → (n : ℕ) → n ≡ length (agent_of (machine_in new) c.agent).own → (made : WorkingCopy) (old now : Parts D) → old.ledger ≡ l → now.ledger ≡ new → now.pages ≡ q
+            → (n : ℕ) → n ≡ length (agent_of (machine_in new) c.agent).own → (made : WorkingCopy) (old now : DeskParts D) → old.ledger ≡ l → now.ledger ≡ new → now.pages ≡ q
             → HasActed w f old now calls (call_in c) work made (told_act r gift n)
         has-acted acts shows gift given n count made old now was is are = record {
           held = record {
             recorded = recorded;
             are =
                 subst (λ (x : Ledger D). AreHeldWhole w f recorded x now.pages) (sym is)
-                (subst (λ (x : Pages). AreHeldWhole w f recorded new x) (sym are) held-now);
+                (subst (λ (x : OpenPages). AreHeldWhole w f recorded new x) (sym are) held-now);
             idle = ap (λ (x : Ledger D). x.books.state.store.prepared.place) is ∙ told.idle;
           };
           acted =

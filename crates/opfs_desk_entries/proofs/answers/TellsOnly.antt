@@ -31,10 +31,10 @@ use Rattle.opfs_work.specs.Works.{WorkingCopy}
 use Rattle.opfs_desk_steps.specs.Parts.Acted.{HasActed}
 use Rattle.opfs_desk_steps.specs.Parts.Answered.{IsAnswered}
 use Rattle.opfs_desk_steps.specs.Parts.Seen.{machine_in, tree_in, call_in, units_in}
-use Rattle.opfs_desk_steps.specs.declared.parts.call.InHand.{InHand}
+use Rattle.opfs_desk_steps.specs.declared.parts.call.ReadyCall.{ReadyCall}
 use Rattle.opfs_desk_steps.specs.declared.parts.parts.Ledger.{Ledger}
-use Rattle.opfs_desk_steps.specs.declared.parts.parts.Pages.{Pages}
-use Rattle.opfs_desk_steps.specs.declared.parts.parts.Parts.{Parts}
+use Rattle.opfs_desk_steps.specs.declared.parts.parts.OpenPages.{OpenPages}
+use Rattle.opfs_desk_steps.specs.declared.parts.parts.DeskParts.{DeskParts}
 use Rattle.opfs_desk_steps.specs.RowLaws.InHand.{RowsInHandAreLaid}
 use Rattle.opfs_desk_steps.specs.Acting.{CallsAreActed}
 use Rattle.opfs_desk_steps.specs.Answering.{ReadyCallsAreAnswered, IsReply}
@@ -57,7 +57,7 @@ same-open a b zero is = refl
 same-open a b (suc n) is = ap (λ (xs : List Outline). if_open (slice_get xs n)) is
 
 module _ {D : Type 0} (w : DiskWords D) (asks : AskedCallsAreReady w) (answers : ReadyCallsAreAnswered w) (decide : LengthsDecideEachRuling) (follow : LengthsFollowEachCall) (local : LocalCallsAreKnownByTheirWord) (noted : StaysReadyAsNoted)
-    (f : Fixed D) (recorded : Built) (l mid : Ledger D) (p : Pages) (calls : List Entry) (c : InHand) (work : WorkingCopy) (past : List Text) (r : Reply)
+    (f : Fixed D) (recorded : Built) (l mid : Ledger D) (p : OpenPages) (calls : List Entry) (c : ReadyCall) (work : WorkingCopy) (past : List Text) (r : Reply)
     (begins : BeginsCall w f recorded l p calls c work past) (telling : IsTelling w.tells f.opening l.books.history calls l.books.state c work past r) (took : HasTakenIn w f recorded l mid p calls c) where
   abbrev base : State Text Own
   base = state_after f.opening mid.books.history
@@ -118,7 +118,7 @@ module _ {D : Type 0} (w : DiskWords D) (asks : AskedCallsAreReady w) (answers :
         (spaced-stays blocks (machine_in mid) (machine_in new) opened kept.limits recorded.rows (tree_in mid) p.swap p.space took.held.laid.spaced)
 
     pub tell-acted : RowsInHandAreLaid w → BlocksGoOn → CallsAreActed w → BooksShowTheirImages w → (gift : Gift) → IsGift w.tells (state_after f.opening (l.books.history ++ calls)) c.op r gift
-        → (n : ℕ) → n ≡ length (agent_of (machine_in mid) c.agent).own → (old now : Parts D) → old.ledger ≡ l → now.ledger ≡ new → now.pages ≡ p
+        → (n : ℕ) → n ≡ length (agent_of (machine_in mid) c.agent).own → (old now : DeskParts D) → old.ledger ≡ l → now.ledger ≡ new → now.pages ≡ p
         → HasActed w f old now calls (call_in c) work work (told_act r gift n)
     tell-acted rows blocks acts shows gift given n count old now was is are =
         has-acted w asks answers f recorded l mid p calls c work past begins took none r its (sized (machine_in mid) c.sizes c.agent c.op only.word) telling.done new told p (row_used c.op) closed

@@ -7,10 +7,10 @@ use Rattle.opfs_outside.specs.declared.disk.Disk.{Ghosts as DiskWords}
 use Rattle.opfs_records.specs.Replay.Built.{Built}
 use Rattle.opfs_desk_steps.specs.Parts.Acted.{IsUnacted}
 use Rattle.opfs_desk_steps.specs.Parts.Held.{AreHeldWhole}
-use Rattle.opfs_desk_steps.specs.declared.parts.parts.Parts.{Parts}
+use Rattle.opfs_desk_steps.specs.declared.parts.parts.DeskParts.{DeskParts}
 use Rattle.opfs_desk_steps.proofs.book_steps.Ways.{way-here}
 
-pub unacted : {D : Type 0} (w : DiskWords D) → BooksShowTheirImages w → (f : Fixed D) (recorded : Built) (old : Parts D) → AreHeldWhole w f recorded old.ledger old.pages → IsUnacted w f old old
+pub unacted : {D : Type 0} (w : DiskWords D) → BooksShowTheirImages w → (f : Fixed D) (recorded : Built) (old : DeskParts D) → AreHeldWhole w f recorded old.ledger old.pages → IsUnacted w f old old
 unacted w show f recorded old held = record {
   recorded = recorded;
   are = held;

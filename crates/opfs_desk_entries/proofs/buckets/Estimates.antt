@@ -46,7 +46,7 @@ use Rattle.opfs_state.specs.Verdicts.Callers.{IsAgent}
 use Rattle.opfs_desk_steps.specs.Parts.Held.{AreHeldWhole}
 use Rattle.opfs_desk_steps.specs.Parts.Seen.{machine_in, book_in}
 use Rattle.opfs_desk_steps.specs.declared.parts.parts.Ledger.{Ledger}
-use Rattle.opfs_desk_steps.specs.declared.parts.parts.Pages.{Pages}
+use Rattle.opfs_desk_steps.specs.declared.parts.parts.OpenPages.{OpenPages}
 use Rattle.opfs_desk_entries.specs.Answers.Telling.{TellsOnly}
 use Rattle.opfs_desk_entries.proofs.answers.Flags.{key-lengths, key-noted}
 use Rattle.opfs_desk_entries.proofs.answers.Words.{before, from-some}
@@ -123,7 +123,7 @@ estimate-answered decide m s z k o sum a b agent h noted first second =
 
 -- ---- the numbers are small
 
-module _ {D : Type 0} (w : DiskWords D) (states : StateLaws) (kept : BooksKeepTheState w) (f : Fixed D) (recorded : Built) (l : Ledger D) (p : Pages) (held : AreHeldWhole w f recorded l p) where
+module _ {D : Type 0} (w : DiskWords D) (states : StateLaws) (kept : BooksKeepTheState w) (f : Fixed D) (recorded : Built) (l : Ledger D) (p : OpenPages) (held : AreHeldWhole w f recorded l p) where
   pub few-used : (k : ℕ) → usage_of (machine_in l) k ≤ 65536
   few-used k =
       let keeps = kept.kept f recorded (state_after f.opening l.books.history) (book_in l) l.journal held.books in

@@ -26,9 +26,9 @@ use Rattle.opfs_work.specs.Works.{WorkingCopy}
 use Rattle.opfs_desk_steps.specs.Parts.Asked.{IsAsked}
 use Rattle.opfs_desk_steps.specs.Parts.Held.{AreHeldWhole}
 use Rattle.opfs_desk_steps.specs.Parts.Seen.{machine_in, units_in}
-use Rattle.opfs_desk_steps.specs.declared.parts.call.InHand.{InHand}
+use Rattle.opfs_desk_steps.specs.declared.parts.call.ReadyCall.{ReadyCall}
 use Rattle.opfs_desk_steps.specs.declared.parts.parts.Ledger.{Ledger}
-use Rattle.opfs_desk_steps.specs.declared.parts.parts.Pages.{Pages}
+use Rattle.opfs_desk_steps.specs.declared.parts.parts.OpenPages.{OpenPages}
 use Rattle.opfs_desk_steps.proofs.book_steps.Real.{real, real-legal, real-state}
 use Rattle.opfs_desk_steps.specs.Answering.{IsReply}
 use Rattle.opfs_desk_entries.specs.Answers.Silent.{BeginsCall}
@@ -49,7 +49,7 @@ grant-of s gone k m machine =
     ∙ ap (λ a. a.grant) (agent-on length outline_of (fold evicted s gone) k)
     ∙ ap (λ agents. (agent_in agents k).grant) (evicted-agents gone s)
 
-grant-begun : {D : Type 0} (w : DiskWords D) (reads : ReadsLeaveTheState) (counts : AStateCountsItsHistory) (f : Fixed D) (recorded : Built) (l : Ledger D) (p : Pages) (held : AreHeldWhole w f recorded l p) (k : ℕ)
+grant-begun : {D : Type 0} (w : DiskWords D) (reads : ReadsLeaveTheState) (counts : AStateCountsItsHistory) (f : Fixed D) (recorded : Built) (l : Ledger D) (p : OpenPages) (held : AreHeldWhole w f recorded l p) (k : ℕ)
     → (agent_of (state_after f.opening l.books.history) k).grant ≡ (agent_of (begun f.opening) k).grant
 grant-begun w reads counts f recorded l p held k =
     let t = held.books.told in
@@ -59,7 +59,7 @@ grant-begun w reads counts f recorded l p held k =
 -- ---- the call
 
 module _ {D : Type 0} (w : DiskWords D) (follow : LengthsFollowEachCall) (local : LocalCallsAreKnownByTheirWord) (reads : ReadsLeaveTheState) (counts : AStateCountsItsHistory)
-    (f : Fixed D) (recorded : Built) (l mid : Ledger D) (p : Pages) (calls : List Entry) (c : InHand) (work : WorkingCopy)
+    (f : Fixed D) (recorded : Built) (l mid : Ledger D) (p : OpenPages) (calls : List Entry) (c : ReadyCall) (work : WorkingCopy)
     (held : AreHeldWhole w f recorded l p) (asked : IsAsked w.tells f.opening l.books.history calls l.books.state c work []) (agent : IsAgent (machine_in l) c.agent)
     (took : HasTakenIn w f recorded l mid p calls c) (gives : gives_mode (machine_in l) c.agent c.op ≡ true) where
   abbrev pub base : State Text Own

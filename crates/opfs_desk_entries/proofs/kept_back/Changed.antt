@@ -29,7 +29,7 @@ use Rattle.opfs_tree.specs.Rows.{Rows as Tree}
 use Rattle.opfs_desk_steps.specs.Parts.Held.{AreHeldAt, AreHeldWhole}
 use Rattle.opfs_desk_steps.specs.Parts.Seen.{machine_in, tree_in}
 use Rattle.opfs_desk_steps.specs.declared.parts.parts.Ledger.{Ledger}
-use Rattle.opfs_desk_steps.specs.declared.parts.parts.Pages.{Pages}
+use Rattle.opfs_desk_steps.specs.declared.parts.parts.OpenPages.{OpenPages}
 use Rattle.opfs_desk_steps.proofs.book_steps.Held.{laid-more}
 use Rattle.opfs_desk_steps.proofs.book_steps.LaidStays.{LaidBeside}
 use Rattle.opfs_desk_entries.specs.KeptBack.Changing.{HasChanged}
@@ -52,7 +52,7 @@ settles-none : (s : State Text Own) (k n : ℕ) (e : Entry) → row_in_hand s e.
 settles-none s k zero e none = no-row s k e
 settles-none s k (suc i) e none = hand-settles s e k (suc i) (λ is. apart-zero i (is.1 ∙ none))
 
-module _ {D : Type 0} (w : DiskWords D) (beside : LaidBeside w.tells) (blocks : BlocksGoOn) (f : Fixed D) (recorded : Built) (base : State Text Own) (gone : List Text) (back new : Ledger D) (p : Pages) (e : Entry) (z : Sizes) (own : Spelled)
+module _ {D : Type 0} (w : DiskWords D) (beside : LaidBeside w.tells) (blocks : BlocksGoOn) (f : Fixed D) (recorded : Built) (base : State Text Own) (gone : List Text) (back new : Ledger D) (p : OpenPages) (e : Entry) (z : Sizes) (own : Spelled)
     (are : AreHeldAt w f recorded base gone back p) (words : IsQuietCall e.agent e.op e.reply) (less : HasNoMore (machine_in back) (tree_in back) (tree_by (machine_in back) (tree_in back) e.agent e.op z None))
     (changed : HasChanged w f recorded base gone back new p e z own) where
   opened : (k n : ℕ) → open_at (machine_in new) k n ≡ open_at (machine_in back) k n

@@ -30,7 +30,7 @@ use Rattle.opfs_records.specs.Replay.Built.{Built}
 use Rattle.opfs_desk_steps.specs.Parts.Held.{AreTied, AreHeldAt, AreHeldWhole}
 use Rattle.opfs_desk_steps.specs.Parts.Seen.{machine_in, tree_in, book_in}
 use Rattle.opfs_desk_steps.specs.declared.parts.parts.Ledger.{Ledger}
-use Rattle.opfs_desk_steps.specs.declared.parts.parts.Pages.{Pages}
+use Rattle.opfs_desk_steps.specs.declared.parts.parts.OpenPages.{OpenPages}
 use Rattle.opfs_desk_steps.proofs.book_steps.Alike.{leaves-alike}
 use Rattle.opfs_desk_steps.proofs.book_steps.Held.{behind}
 use Rattle.opfs_desk_steps.proofs.book_steps.Ways.{way-here}
@@ -40,7 +40,7 @@ no-doubt : (b : Bool) → b ≡ false → (xs : List Change) → (if b then xs e
 no-doubt true e xs = cc
 no-doubt false e xs = refl
 
-module _ {D : Type 0} (w : DiskWords D) (f : Fixed D) (recorded : Built) (base : State Text Own) (gone : List Text) (l new : Ledger D) (p : Pages) (e : Entry) (z : Sizes) (own : Spelled) (are : AreHeldAt w f recorded base gone l p) where
+module _ {D : Type 0} (w : DiskWords D) (f : Fixed D) (recorded : Built) (base : State Text Own) (gone : List Text) (l new : Ledger D) (p : OpenPages) (e : Entry) (z : Sizes) (own : Spelled) (are : AreHeldAt w f recorded base gone l p) where
   moved-alike : LeavesPages w l.journal new.journal → w.tells → AllReadAlike p.base (w.content l.journal.disk) (w.content new.journal.disk) p.swap p.swap
   moved-alike leaves t =
       let areas : l.journal.areas ≡ areas_of f.geometry = are.books.areas in

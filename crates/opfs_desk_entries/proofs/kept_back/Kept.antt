@@ -26,10 +26,10 @@ use Rattle.opfs_desk_steps.specs.Parts.Acted.{HasActed, HasFailed, IsUnacted}
 use Rattle.opfs_desk_steps.specs.Parts.Answered.{IsAnswered}
 use Rattle.opfs_desk_steps.specs.Parts.Held.{AreHeldWhole}
 use Rattle.opfs_desk_steps.specs.Parts.Seen.{machine_in, tree_in, book_in, call_in, units_in}
-use Rattle.opfs_desk_steps.specs.declared.parts.call.InHand.{InHand}
+use Rattle.opfs_desk_steps.specs.declared.parts.call.ReadyCall.{ReadyCall}
 use Rattle.opfs_desk_steps.specs.declared.parts.parts.Ledger.{Ledger}
-use Rattle.opfs_desk_steps.specs.declared.parts.parts.Pages.{Pages}
-use Rattle.opfs_desk_steps.specs.declared.parts.parts.Parts.{Parts}
+use Rattle.opfs_desk_steps.specs.declared.parts.parts.OpenPages.{OpenPages}
+use Rattle.opfs_desk_steps.specs.declared.parts.parts.DeskParts.{DeskParts}
 use Rattle.opfs_desk_steps.specs.BookSteps.Clearing.{cleared_from}
 use Rattle.opfs_desk_steps.proofs.book_steps.LaidStays.{LaidBeside}
 use Rattle.opfs_desk_steps.proofs.book_steps.Loop.{Falls}
@@ -49,7 +49,7 @@ use Rattle.opfs_desk_entries.proofs.kept_back.Through.{ready as ready-through, a
 use Rattle.opfs_desk_entries.proofs.kept_back.Words.{kept-word, answers-done, quiet-call}
 
 module _ {D : Type 0} (w : DiskWords D) (asks : AskedCallsAreReady w) (answers : ReadyCallsAreAnswered w)
-    (f : Fixed D) (recorded : Built) (l mid back : Ledger D) (p : Pages) (calls : List Entry) (c : InHand) (work : WorkingCopy)
+    (f : Fixed D) (recorded : Built) (l mid back : Ledger D) (p : OpenPages) (calls : List Entry) (c : ReadyCall) (work : WorkingCopy)
     (begins : BeginsKeeping w f recorded l p calls c work) (took : HasTakenIn w f recorded l mid p calls c) where
   abbrev pub base : State Text Own
   base = state_after f.opening mid.books.history
@@ -71,7 +71,7 @@ module _ {D : Type 0} (w : DiskWords D) (asks : AskedCallsAreReady w) (answers :
       let is = answers-done base c.sizes c.agent c.op (kept-word (machine_in l) c.agent c.op begins.keeps) in
       record { alike = ap unread (sym is); told = λ t. sym is }
 
-  pub rows-failed : (new : Ledger D) (q : Pages) → HasFailed w f entry mid new q → length (agent_of (machine_in mid) c.agent).own ≡ length (agent_of (state_after f.opening new.books.history) c.agent).own
+  pub rows-failed : (new : Ledger D) (q : OpenPages) → HasFailed w f entry mid new q → length (agent_of (machine_in mid) c.agent).own ≡ length (agent_of (state_after f.opening new.books.history) c.agent).own
   rows-failed = rows-failed-through w asks answers f recorded l mid back p calls c work reply.Done begins.held begins.asked took words
 
   module _ (way : HasMadeWay w f mid back p c) (keyed : (agent_of (machine_in back) c.agent).key ≡ key_of f.opening c.agent) where
@@ -107,7 +107,7 @@ module _ {D : Type 0} (w : DiskWords D) (asks : AskedCallsAreReady w) (answers :
             tidy (change_now back entry) spelled states spells fails falls new changed less beside blocks acts
 
 -- There was no memory.
-pub unacted : {D : Type 0} (w : DiskWords D) → BooksShowTheirImages w → (f : Fixed D) (recorded : Built) (old : Parts D) → AreHeldWhole w f recorded old.ledger old.pages → IsUnacted w f old old
+pub unacted : {D : Type 0} (w : DiskWords D) → BooksShowTheirImages w → (f : Fixed D) (recorded : Built) (old : DeskParts D) → AreHeldWhole w f recorded old.ledger old.pages → IsUnacted w f old old
 unacted w show f recorded old held = record {
   recorded = recorded;
   are = held;

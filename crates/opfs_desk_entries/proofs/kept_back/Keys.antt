@@ -13,12 +13,12 @@ use Rattle.opfs_records.specs.Replay.Built.{Built}
 use Rattle.opfs_desk_steps.specs.Parts.Held.{AreHeldAt, AreHeldWhole}
 use Rattle.opfs_desk_steps.specs.Parts.Seen.{machine_in}
 use Rattle.opfs_desk_steps.specs.declared.parts.parts.Ledger.{Ledger}
-use Rattle.opfs_desk_steps.specs.declared.parts.parts.Pages.{Pages}
+use Rattle.opfs_desk_steps.specs.declared.parts.parts.OpenPages.{OpenPages}
 use Rattle.opfs_desk_steps.proofs.book_steps.Real.{real, real-legal, real-state}
 use Rattle.opfs_desk_steps.proofs.book_steps.Turns.{key-of}
 use Rattle.opfs_desk_entries.specs.KeptBack.Keeping.{HasOwnKey}
 
-module _ {D : Type 0} (w : DiskWords D) (reads : ReadsLeaveTheState) (counts : AStateCountsItsHistory) (f : Fixed D) (recorded : Built) (l : Ledger D) (p : Pages) (held : AreHeldWhole w f recorded l p) (k : ℕ) where
+module _ {D : Type 0} (w : DiskWords D) (reads : ReadsLeaveTheState) (counts : AStateCountsItsHistory) (f : Fixed D) (recorded : Built) (l : Ledger D) (p : OpenPages) (held : AreHeldWhole w f recorded l p) (k : ℕ) where
   key-begun : (agent_of (state_after f.opening l.books.history) k).key ≡ key_of f.opening k
   key-begun =
       let t = held.books.told in

@@ -27,14 +27,14 @@ use Rattle.opfs_desk_steps.specs.Parts.Acted.{IsWay, IsWayEnded, AreCleared, Has
 use Rattle.opfs_desk_steps.specs.Parts.Answered.{IsAnswered}
 use Rattle.opfs_desk_steps.specs.Parts.Seen.{machine_in, tree_in, book_in}
 use Rattle.opfs_desk_steps.specs.declared.parts.parts.Ledger.{Ledger}
-use Rattle.opfs_desk_steps.specs.declared.parts.parts.Pages.{Pages}
+use Rattle.opfs_desk_steps.specs.declared.parts.parts.OpenPages.{OpenPages}
 use Rattle.opfs_desk_steps.proofs.book_steps.Held.{evictions-told, refused-told}
 use Rattle.opfs_desk_steps.proofs.book_steps.Loop.{Falls}
 use Rattle.opfs_desk_steps.proofs.book_steps.Ways.{way-then, way-told, way-same, way-told-same, last-doubt}
 use Rattle.opfs_desk_entries.specs.KeptBack.Changing.{HasNotChanged, IsChangeShown}
 use Rattle.opfs_desk_steps.specs.Going.{IsTidy}
 
-module _ {D : Type 0} (w : DiskWords D) (f : Fixed D) (states : BooksKeepTheState w) (spells : CallsAreSpelled) (fails : CallsMayFail w.tells) (falls : Falls w) (mid back new : Ledger D) (p : Pages) (units : List Text) (e : Entry) (z : Sizes) (own : Spelled)
+module _ {D : Type 0} (w : DiskWords D) (f : Fixed D) (states : BooksKeepTheState w) (spells : CallsAreSpelled) (fails : CallsMayFail w.tells) (falls : Falls w) (mid back new : Ledger D) (p : OpenPages) (units : List Text) (e : Entry) (z : Sizes) (own : Spelled)
     (grown : back.books.history ≡ mid.books.history ++ map eviction units) (cleared : AreCleared w f units mid back p) (answered : IsAnswered w (state_after f.opening mid.books.history) units back e z) (plain : is_refusal e.reply ≡ false)
     (tidy : IsTidy back) (spelled : spelled_by (machine_in back) (tree_in back) e.agent e.op z None ≡ Some own) (no_evict : evicted_by e.op ≡ None) where
   abbrev base : State Text Own

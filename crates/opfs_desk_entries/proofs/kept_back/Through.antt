@@ -36,9 +36,9 @@ use Rattle.opfs_desk_steps.specs.Parts.Answered.{IsAnswered}
 use Rattle.opfs_desk_steps.specs.Parts.Asked.{IsAsked}
 use Rattle.opfs_desk_steps.specs.Parts.Held.{AreHeldWhole}
 use Rattle.opfs_desk_steps.specs.Parts.Seen.{machine_in, tree_in, call_in, units_in}
-use Rattle.opfs_desk_steps.specs.declared.parts.call.InHand.{InHand}
+use Rattle.opfs_desk_steps.specs.declared.parts.call.ReadyCall.{ReadyCall}
 use Rattle.opfs_desk_steps.specs.declared.parts.parts.Ledger.{Ledger}
-use Rattle.opfs_desk_steps.specs.declared.parts.parts.Pages.{Pages}
+use Rattle.opfs_desk_steps.specs.declared.parts.parts.OpenPages.{OpenPages}
 use Rattle.opfs_desk_steps.proofs.book_steps.LaidStays.{LaidBeside}
 use Rattle.opfs_desk_steps.proofs.book_steps.Loop.{Falls}
 use Rattle.opfs_desk_steps.specs.Acting.{CallsAreActed}
@@ -66,7 +66,7 @@ after-done : (s : State Text Own) (k : ℕ) (o : Op) (r : Reply) → is_refusal 
 after-done s k o r done = ap (λ b. counted (state_by b s k o) k) done
 
 module _ {D : Type 0} (w : DiskWords D) (asks : AskedCallsAreReady w) (answers : ReadyCallsAreAnswered w)
-    (f : Fixed D) (recorded : Built) (l mid back : Ledger D) (p : Pages) (calls : List Entry) (c : InHand) (work : WorkingCopy) (r : Reply)
+    (f : Fixed D) (recorded : Built) (l mid back : Ledger D) (p : OpenPages) (calls : List Entry) (c : ReadyCall) (work : WorkingCopy) (r : Reply)
     (held : AreHeldWhole w f recorded l p) (asked : IsAsked w.tells f.opening l.books.history calls l.books.state c work []) (took : HasTakenIn w f recorded l mid p calls c) (words : IsQuietCall c.agent c.op r) where
   abbrev pub base : State Text Own
   base = state_after f.opening mid.books.history
@@ -88,7 +88,7 @@ module _ {D : Type 0} (w : DiskWords D) (asks : AskedCallsAreReady w) (answers :
   rows-base : length (agent_of (machine_in mid) c.agent).own ≡ length (agent_of base c.agent).own
   rows-base = ap (λ (m : Machine). length (agent_of m c.agent).own) took.held.books.machine ∙ own-length base c.agent
 
-  failed-agent : (new : Ledger D) (q : Pages) → HasFailed w f entry mid new q → agent_of (state_after f.opening new.books.history) c.agent ≡ agent_of base c.agent
+  failed-agent : (new : Ledger D) (q : OpenPages) → HasFailed w f entry mid new q → agent_of (state_after f.opening new.books.history) c.agent ≡ agent_of base c.agent
   failed-agent new q fail =
       let e = failed entry in
       let gone = fail.gone in
@@ -100,7 +100,7 @@ module _ {D : Type 0} (w : DiskWords D) (asks : AskedCallsAreReady w) (answers :
       ∙ ap (λ (agents : List (Agent Own)). agent_in agents c.agent) (ap (λ (x : State Text Own). x.agents) (words.refused t))
       ∙ agent-stays base gone c.agent
 
-  pub rows-failed : (new : Ledger D) (q : Pages) → HasFailed w f entry mid new q → length (agent_of (machine_in mid) c.agent).own ≡ length (agent_of (state_after f.opening new.books.history) c.agent).own
+  pub rows-failed : (new : Ledger D) (q : OpenPages) → HasFailed w f entry mid new q → length (agent_of (machine_in mid) c.agent).own ≡ length (agent_of (state_after f.opening new.books.history) c.agent).own
   rows-failed new q fail = rows-base ∙ sym (ap (λ a. length a.own) (failed-agent new q fail))
 
   module _ (its : IsReply w.tells base c r) (way : HasMadeWay w f mid back p c) where

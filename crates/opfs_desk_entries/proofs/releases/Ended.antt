@@ -40,10 +40,10 @@ use Rattle.opfs_work.specs.Works.{WorkingCopy}
 use Rattle.opfs_desk_steps.specs.Parts.Acted.{HasActed}
 use Rattle.opfs_desk_steps.specs.Parts.Answered.{IsAnswered}
 use Rattle.opfs_desk_steps.specs.Parts.Seen.{machine_in, tree_in, call_in, units_in}
-use Rattle.opfs_desk_steps.specs.declared.parts.call.InHand.{InHand}
+use Rattle.opfs_desk_steps.specs.declared.parts.call.ReadyCall.{ReadyCall}
 use Rattle.opfs_desk_steps.specs.declared.parts.parts.Ledger.{Ledger}
-use Rattle.opfs_desk_steps.specs.declared.parts.parts.Pages.{Pages}
-use Rattle.opfs_desk_steps.specs.declared.parts.parts.Parts.{Parts}
+use Rattle.opfs_desk_steps.specs.declared.parts.parts.OpenPages.{OpenPages}
+use Rattle.opfs_desk_steps.specs.declared.parts.parts.DeskParts.{DeskParts}
 use Rattle.opfs_desk_steps.specs.RowLaws.InHand.{RowsInHandAreLaid}
 use Rattle.opfs_desk_steps.specs.Acting.{CallsAreActed}
 use Rattle.opfs_desk_steps.specs.Answering.{ReadyCallsAreAnswered, IsReply}
@@ -76,7 +76,7 @@ no-more p q agent row others gone k n i b has = elim (other-or agent row k n) [
 ]
 
 -- The pages with the row taken out.
-pub record HasDropped (p q : Pages) (agent row : ℕ) : Type 0 where
+pub record HasDropped (p q : OpenPages) (agent row : ℕ) : Type 0 where
   pub others : OthersStay agent row p.swap q.swap
   pub gone : row_of agent row q.swap ≡ None
   pub base : q.base ≡ p.base
@@ -91,7 +91,7 @@ more-own a b asks none (inr more) = absurd (no-way (sym none ∙ more.1))
     no-way x = cc
 
 module _ {D : Type 0} (w : DiskWords D) (asks : AskedCallsAreReady w) (answers : ReadyCallsAreAnswered w) (decide : LengthsDecideEachRuling) (follow : LengthsFollowEachCall) (local : LocalCallsAreKnownByTheirWord)
-    (f : Fixed D) (recorded : Built) (l mid : Ledger D) (p : Pages) (calls : List Entry) (c : InHand) (work : WorkingCopy) (past : List Text)
+    (f : Fixed D) (recorded : Built) (l mid : Ledger D) (p : OpenPages) (calls : List Entry) (c : ReadyCall) (work : WorkingCopy) (past : List Text)
     (begins : BeginsCall w f recorded l p calls c work past) (word : leaves_row (machine_in l) c.agent c.op ≡ true) (took : HasTakenIn w f recorded l mid p calls c) where
   abbrev base : State Text Own
   base = state_after f.opening mid.books.history
@@ -121,7 +121,7 @@ module _ {D : Type 0} (w : DiskWords D) (asks : AskedCallsAreReady w) (answers :
   pub may-come : IsAnswered w base [] mid (told_entry (call_in c) reply.Done) c.sizes
   may-come = answered w asks answers f recorded l mid p calls c work past begins took none reply.Done its (sized (machine_in mid) c.sizes c.agent c.op leaving)
 
-  module _ (new : Ledger D) (told : HasTold w f recorded mid new p (told_entry (call_in c) reply.Done) c.sizes) (q : Pages) (dropped : HasDropped p q c.agent (row_named c.op)) (order : IsInOrderThrough mid c.agent c.op c.sizes) where
+  module _ (new : Ledger D) (told : HasTold w f recorded mid new p (told_entry (call_in c) reply.Done) c.sizes) (q : OpenPages) (dropped : HasDropped p q c.agent (row_named c.op)) (order : IsInOrderThrough mid c.agent c.op c.sizes) where
     closed : LeavesClosed p q base c (row_named c.op)
     closed = record {
       plain = no-eviction c.op leaving;
@@ -182,7 +182,7 @@ module _ {D : Type 0} (w : DiskWords D) (asks : AskedCallsAreReady w) (answers :
         ∙ (sym (own-length base c.agent) ∙ ap (λ (m : Machine). length (agent_of m c.agent).own) (sym took.held.books.machine))))
 
     pub leave-acted : RowsInHandAreLaid w → BlocksGoOn → TreesKeepBlocks → CallsLeaveOtherRows → CallsChangeTheirRow → ACallMovesItsAgent → CallsAreActed w → BooksShowTheirImages w
-        → (n : ℕ) → n ≡ length (agent_of (machine_in mid) c.agent).own → (old now : Parts D) → old.ledger ≡ l → now.ledger ≡ new → now.pages ≡ q
+        → (n : ℕ) → n ≡ length (agent_of (machine_in mid) c.agent).own → (old now : DeskParts D) → old.ledger ≡ l → now.ledger ≡ new → now.pages ≡ q
         → HasActed w f old now calls (call_in c) work work (told_act reply.Done gift.Nothing n)
     leave-acted rows blocks keep leave changes moves acts shows n count old now was is are =
         let given = no-gift (state_after f.opening (l.books.history ++ calls)) c.op leaving in

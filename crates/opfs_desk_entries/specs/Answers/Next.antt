@@ -20,8 +20,8 @@ use Rattle.opfs_state_rows.specs.Standing.Seen.{lines_of}
 use Rattle.opfs_tree.specs.Rows.{Rows as Tree, children_of, least_not_in}
 use Rattle.opfs_work.specs.Works.{WorkingCopy}
 use Rattle.opfs_desk_steps.specs.Parts.Asked.{MayGo}
-use Rattle.opfs_desk_steps.specs.declared.parts.call.InHand.{InHand}
-use Rattle.opfs_desk_steps.specs.declared.parts.parts.Parts.{Parts}
+use Rattle.opfs_desk_steps.specs.declared.parts.call.ReadyCall.{ReadyCall}
+use Rattle.opfs_desk_steps.specs.declared.parts.parts.DeskParts.{DeskParts}
 use Rattle.opfs_desk_entries.specs.declared.answers.next.NextChild.{NextChild}
 
 abbrev pub is_next : Op → Bool
@@ -56,6 +56,6 @@ abbrev pub names_in : Tree → Place → List Text
 names_in t dir = filter_map (λ e. child_name dir e.0) (lines_of t)
 
 -- A call may be made over parts that are kept, and its iterator has given all up to a name.
-pub record MayGoFrom {D : Type 0} (w : DiskWords D) (p : Parts D) (c : InHand) (calls : List Entry) (work : WorkingCopy) (past : List Text) (last : Option Text) : Type 0 where
+pub record MayGoFrom {D : Type 0} (w : DiskWords D) (p : DeskParts D) (c : ReadyCall) (calls : List Entry) (work : WorkingCopy) (past : List Text) (last : Option Text) : Type 0 where
   pub go : MayGo w p c calls work past
   pub reached : IsUpTo (names_of (state_after go.fixed.opening (p.ledger.books.history ++ calls))) c.op past last

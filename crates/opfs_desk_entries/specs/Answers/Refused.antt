@@ -13,14 +13,14 @@ use Rattle.opfs_outside.specs.declared.disk.Disk.{Ghosts as DiskWords}
 use Rattle.opfs_records.specs.Replay.Built.{Built}
 use Rattle.opfs_work.specs.Works.{WorkingCopy}
 use Rattle.opfs_desk_steps.specs.Parts.Held.{AreHeldWhole}
-use Rattle.opfs_desk_steps.specs.declared.parts.parts.Parts.{Parts}
+use Rattle.opfs_desk_steps.specs.declared.parts.parts.DeskParts.{DeskParts}
 
 pub record IsRefusedCall (tells : Type 0) (o : Opening) (h calls : List Entry) (c : Call) (r : Refusal) (work : WorkingCopy) (past : List Text) : Type 0 where
   pub may : MayAct tells o h calls c work past
   pub refused : judged (state_after o (h ++ calls)) c.agent c.op ≡ Err r
 
 -- Over parts that are kept.
-pub record MayActRefused {D : Type 0} (w : DiskWords D) (p : Parts D) (calls : List Entry) (c : Call) (r : Refusal) : Type 0 where
+pub record MayActRefused {D : Type 0} (w : DiskWords D) (p : DeskParts D) (calls : List Entry) (c : Call) (r : Refusal) : Type 0 where
   pub fixed : Fixed D
   pub recorded : Built
   pub work : WorkingCopy

@@ -9,9 +9,9 @@ use Rattle.opfs_data.specs.Rows.{row_of, kept_count, OthersStay}
 use Rattle.opfs_pages.specs.HistoryLaws.Hands.{row_in_hand}
 use Rattle.opfs_desk_steps.specs.Parts.Asked.{IsAsked}
 use Rattle.opfs_desk_steps.specs.Parts.Held.{AreHeldWhole}
-use Rattle.opfs_desk_steps.specs.declared.parts.call.InHand.{InHand}
+use Rattle.opfs_desk_steps.specs.declared.parts.call.ReadyCall.{ReadyCall}
 use Rattle.opfs_desk_steps.specs.declared.parts.parts.Ledger.{Ledger}
-use Rattle.opfs_desk_steps.specs.declared.parts.parts.Pages.{Pages}
+use Rattle.opfs_desk_steps.specs.declared.parts.parts.OpenPages.{OpenPages}
 use Rattle.opfs_hist.specs.declared.entry.Entry.{Entry}
 use Rattle.opfs_hist.specs.declared.reply.Reply.{Reply}
 use Rattle.opfs_machine.specs.Histories.{evicted_by}
@@ -22,12 +22,12 @@ use Rattle.opfs_records.specs.Replay.Built.{Built}
 use Rattle.opfs_work.specs.Works.{WorkingCopy}
 
 -- What such a call begins with.
-pub record BeginsCall {D : Type 0} (w : DiskWords D) (f : Fixed D) (recorded : Built) (l : Ledger D) (p : Pages) (calls : List Entry) (c : InHand) (work : WorkingCopy) (past : List Text) : Type 0 where
+pub record BeginsCall {D : Type 0} (w : DiskWords D) (f : Fixed D) (recorded : Built) (l : Ledger D) (p : OpenPages) (calls : List Entry) (c : ReadyCall) (work : WorkingCopy) (past : List Text) : Type 0 where
   pub held : AreHeldWhole w f recorded l p
   pub asked : IsAsked w.tells f.opening l.books.history calls l.books.state c work past
 
 -- The row that it has in hand, if it has one, is not open afterwards, and has no pages; the other rows have theirs.
-pub record LeavesClosed (p q : Pages) (s : State Text Own) (c : InHand) (row : ℕ) : Type 0 where
+pub record LeavesClosed (p q : OpenPages) (s : State Text Own) (c : ReadyCall) (row : ℕ) : Type 0 where
   pub plain : evicted_by c.op ≡ None
   pub in_hand : row_in_hand s c.agent c.op ≡ row
   pub left : (rows : ℕ) → row_left rows c.op ≡ 0

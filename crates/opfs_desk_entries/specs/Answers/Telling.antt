@@ -21,8 +21,8 @@ use Rattle.opfs_state.specs.Applied.{StateSeen}
 use Rattle.opfs_work.specs.Works.{WorkingCopy}
 use Rattle.opfs_desk_steps.specs.Parts.Asked.{IsAsked}
 use Rattle.opfs_desk_steps.specs.Parts.Held.{AreHeldWhole}
-use Rattle.opfs_desk_steps.specs.declared.parts.call.InHand.{InHand}
-use Rattle.opfs_desk_steps.specs.declared.parts.parts.Parts.{Parts}
+use Rattle.opfs_desk_steps.specs.declared.parts.call.ReadyCall.{ReadyCall}
+use Rattle.opfs_desk_steps.specs.declared.parts.parts.DeskParts.{DeskParts}
 use Rattle.opfs_desk_steps.specs.Answering.{IsReply}
 
 -- Their words.
@@ -69,14 +69,14 @@ mode_answer m k (op.Persisted bucket) = is_persistent m (unit_of (origin_in (age
 mode_answer m k o = false
 
 -- Such a call is asked for, and this is what it answers.
-pub record IsTelling (tells : Type 0) (o : Opening) (h calls : List Entry) (s : StateSeen) (c : InHand) (work : WorkingCopy) (past : List Text) (answered : Reply) : Type 0 where
+pub record IsTelling (tells : Type 0) (o : Opening) (h calls : List Entry) (s : StateSeen) (c : ReadyCall) (work : WorkingCopy) (past : List Text) (answered : Reply) : Type 0 where
   pub asked : IsAsked tells o h calls s c work past
   pub only : TellsOnly s.store.machine c.agent c.op
   pub reply : IsReply tells (state_after o (h ++ calls)) c answered
   pub done : is_refusal answered ≡ false
 
 -- Over parts that are kept.
-pub record MayTell {D : Type 0} (w : DiskWords D) (p : Parts D) (c : InHand) (calls : List Entry) (answered : Reply) : Type 0 where
+pub record MayTell {D : Type 0} (w : DiskWords D) (p : DeskParts D) (c : ReadyCall) (calls : List Entry) (answered : Reply) : Type 0 where
   pub fixed : Fixed D
   pub recorded : Built
   pub work : WorkingCopy

@@ -21,7 +21,7 @@ use Rattle.opfs_records.specs.Replay.Built.{Built}
 use Rattle.opfs_desk_steps.specs.Parts.Held.{AreTied, AreHeldWhole}
 use Rattle.opfs_desk_steps.specs.Parts.Seen.{machine_in, tree_in, book_in}
 use Rattle.opfs_desk_steps.specs.declared.parts.parts.Ledger.{Ledger}
-use Rattle.opfs_desk_steps.specs.declared.parts.parts.Pages.{Pages}
+use Rattle.opfs_desk_steps.specs.declared.parts.parts.OpenPages.{OpenPages}
 
 -- The disk was used for a change, or was not: each image on the way shows a front of what was told before and the change.
 pub record IsChangeShown {D : Type 0} (w : DiskWords D) (f : Fixed D) (base : State Text Own) (gone : List Text) (old new : Ledger D) (e : Entry) (own : Spelled) : Type 0 where
@@ -30,7 +30,7 @@ pub record IsChangeShown {D : Type 0} (w : DiskWords D) (f : Fixed D) (base : St
   pub shown : ShowsTold w f (book_in old) (told f (book_in old) ++ stored_change base gone e own ∷ []) old.journal new.journal
 
 -- The call was entered. The records build what they did, where its change is kept back, or the rows as they are stored.
-pub record HasChanged {D : Type 0} (w : DiskWords D) (f : Fixed D) (recorded : Built) (base : State Text Own) (gone : List Text) (old new : Ledger D) (p : Pages) (e : Entry) (z : Sizes) (own : Spelled) : Type 0 where
+pub record HasChanged {D : Type 0} (w : DiskWords D) (f : Fixed D) (recorded : Built) (base : State Text Own) (gone : List Text) (old new : Ledger D) (p : OpenPages) (e : Entry) (z : Sizes) (own : Spelled) : Type 0 where
   pub next : Built
   pub either : (next ≡ recorded) ⊎ (next ≡ (book_in new).rows)
   pub entries : new.books.history ≡ old.books.history ++ e ∷ []
@@ -44,7 +44,7 @@ pub record HasChanged {D : Type 0} (w : DiskWords D) (f : Fixed D) (recorded : B
   pub shown : IsChangeShown w f base gone old new e own
 
 -- The disk failed, and the call was entered so.
-pub record HasNotChanged {D : Type 0} (w : DiskWords D) (f : Fixed D) (recorded : Built) (base : State Text Own) (gone : List Text) (old new : Ledger D) (p : Pages) (e : Entry) (own : Spelled) : Type 0 where
+pub record HasNotChanged {D : Type 0} (w : DiskWords D) (f : Fixed D) (recorded : Built) (base : State Text Own) (gone : List Text) (old new : Ledger D) (p : OpenPages) (e : Entry) (own : Spelled) : Type 0 where
   pub entries : new.books.history ≡ old.books.history ++ failed e ∷ []
   pub idle : new.books.state.store.prepared.place ≡ None
   pub are : AreHeldWhole w f recorded new p

@@ -17,7 +17,7 @@ ghost use Rattle.opfs_state.specs.Verdicts.Callers.{IsAgent};
 
 use crate::answers::telling::{tell, telling_laws};
 use opfs_base::{Text, unit_of};
-use opfs_desk_steps::{InHand, Parts};
+use opfs_desk_steps::{DeskParts, ReadyCall};
 use opfs_hist::{Op, Pending, Reply};
 use opfs_outside::Disk;
 use opfs_state::State;
@@ -65,9 +65,9 @@ fn mode(alloc: Global, state: &State, agent: u32, op: &Op) -> Result<bool, Alloc
 }
 
 /// Acts a persisted, or a persist that gives no mode. Calls no disk. Where there is no memory nothing is entered.
-pub fn act_mode<D: Disk>(
-    parts: &mut Parts<D>,
-    call: InHand,
+pub fn act_persisted<D: Disk>(
+    parts: &mut DeskParts<D>,
+    call: ReadyCall,
     pending: &mut Pending,
     work: &mut Work,
 ) -> Result<Acted, AllocError>

@@ -16,7 +16,7 @@ ghost use Rattle.opfs_tree.specs.Rows.{children_of, least_not_in};
 
 use crate::answers::telling::{tell, telling_laws};
 use opfs_base::{Kind, Locator, Name, child_of};
-use opfs_desk_steps::{InHand, Parts};
+use opfs_desk_steps::{DeskParts, ReadyCall};
 use opfs_hist::{Op, Pending, Reply};
 use opfs_outside::Disk;
 use opfs_state::State;
@@ -132,8 +132,8 @@ fn next_child(
 /// Acts a next: the least child of the iterator's directory whose name is not among those that it has given. Where it is known up to
 /// which name it has given all, one look-up finds it. Calls no disk. Where there is no memory nothing is entered.
 pub fn act_next<D: Disk>(
-    parts: &mut Parts<D>,
-    call: InHand,
+    parts: &mut DeskParts<D>,
+    call: ReadyCall,
     pending: &mut Pending,
     work: &mut Work,
     past: &[Name],
@@ -150,7 +150,7 @@ pub fn act_next<D: Disk>(
     ensures idle { OnErr result ((f : Fixed D) (recorded : Built) → AreHeldWhole D.Disk f recorded parts.old.ledger parts.old.pages → IsUnacted D.Disk f parts.old parts.new) }
 {
     telling_laws::<D>();
-    parts.ledger.books.state.lines();
+    parts.ledger.books.state.know_rows_match_tree();
     let Ok(next) = next_child(
         parts.ledger.alloc,
         &parts.ledger.books.state,

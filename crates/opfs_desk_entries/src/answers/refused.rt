@@ -9,8 +9,8 @@ ghost use Rattle.opfs_desk_entries.specs.Answers.Refused.{MayActRefused, IsRefus
 ghost use Rattle.opfs_records.specs.Replay.Built.{Built};
 ghost use Rattle.opfs_work.specs.Works.{WorkingCopy};
 
-use opfs_books::{Last, state_laws, the_books_show_their_images};
-use opfs_desk_steps::{Parts, calls_are_acted, refuse_call, take_in};
+use opfs_books::{EntryWithRoom, state_laws, the_books_show_their_images};
+use opfs_desk_steps::{DeskParts, calls_are_acted, refuse_call, take_in};
 use opfs_hist::{Entry, Op, Pending, Refusal, Reply, Room};
 use opfs_laws::histories::unread::reads_leave_the_state;
 use opfs_laws::lengths::bridge::{lengths_follow_each_call, local_calls_are_known_by_their_word};
@@ -19,7 +19,7 @@ use opfs_store::{Acted, Gift};
 
 /// Enters a call that the machine refuses, after its agent's pending calls. Calls no disk.
 pub fn act_refused<D: Disk>(
-    parts: &mut Parts<D>,
+    parts: &mut DeskParts<D>,
     room: Room,
     agent: u32,
     number: u32,
@@ -41,7 +41,7 @@ pub fn act_refused<D: Disk>(
     the_books_show_their_images::<D>();
     take_in(&mut parts.ledger, agent, pending);
     let rows = parts.ledger.books.state.rows(agent) as u32;
-    let last = Last {
+    let last = EntryWithRoom {
         room,
         entry: Entry {
             agent,

@@ -24,8 +24,8 @@ ghost use Rattle.opfs_work.specs.Works.{WorkingCopy};
 
 use opfs_books::the_books_show_their_images;
 use opfs_desk_steps::{
-    InHand, Parts, asked_calls_are_ready, calls_are_acted, ready_calls_are_answered,
-    rows_in_hand_are_laid, take_in, tell_in_hand,
+    DeskParts, ReadyCall, asked_calls_are_ready, calls_are_acted, ready_calls_are_answered,
+    rows_in_hand_are_laid, take_in, tell_ready,
 };
 use opfs_hist::{Pending, Reply};
 use opfs_laws::lengths::bridge::{
@@ -62,7 +62,12 @@ pub fn telling_laws<D: Disk>()
 
 /// Takes in an agent's pending calls, and enters its call, which only tells, with this reply; gives how many rows the agent has
 /// made. Takes no memory, and calls no disk.
-pub fn tell<D: Disk>(parts: &mut Parts<D>, call: InHand, pending: &mut Pending, reply: Reply) -> u32
+pub fn tell<D: Disk>(
+    parts: &mut DeskParts<D>,
+    call: ReadyCall,
+    pending: &mut Pending,
+    reply: Reply,
+) -> u32
     requires may { MayTell D.Disk parts.old call pending.old reply }
     ensures taken { pending.new ≡ [] }
     ensures acted { (f : Fixed D) (recorded : Built) (work : WorkingCopy) (past : List Text) (gift : Gift) → AreHeldWhole D.Disk f recorded parts.old.ledger parts.old.pages
@@ -74,6 +79,6 @@ pub fn tell<D: Disk>(parts: &mut Parts<D>, call: InHand, pending: &mut Pending, 
     let agent = call.agent;
     take_in(&mut parts.ledger, agent, pending);
     let rows = parts.ledger.books.state.rows(agent) as u32;
-    tell_in_hand(&mut parts.ledger, call, reply);
+    tell_ready(&mut parts.ledger, call, reply);
     rows
 }

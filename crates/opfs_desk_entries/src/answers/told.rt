@@ -10,7 +10,7 @@ ghost use Rattle.opfs_desk_entries.specs.Answers.Telling.{TellsOnly, is_done};
 ghost use Rattle.opfs_records.specs.Replay.Built.{Built};
 
 use crate::answers::telling::tell;
-use opfs_desk_steps::{InHand, Parts};
+use opfs_desk_steps::{DeskParts, ReadyCall};
 use opfs_hist::{Pending, Reply};
 use opfs_outside::Disk;
 use opfs_store::{Acted, Gift};
@@ -18,9 +18,9 @@ use opfs_work::Work;
 
 /// Acts a getDirectory, getDirectoryHandle or getFileHandle of what is there, a post, an await, a wait or an end. Takes no memory,
 /// and calls no disk.
-pub fn act_told<D: Disk>(
-    parts: &mut Parts<D>,
-    call: InHand,
+pub fn act_done<D: Disk>(
+    parts: &mut DeskParts<D>,
+    call: ReadyCall,
     pending: &mut Pending,
     work: &mut Work,
 ) -> Acted

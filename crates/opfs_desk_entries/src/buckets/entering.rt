@@ -14,7 +14,7 @@ ghost use Rattle.opfs_desk_entries.specs.KeptBack.Keeping.{HasOwnKey};
 ghost use Rattle.opfs_desk_steps.specs.Parts.Answered.{IsAnswered, MayAnswer};
 ghost use Rattle.opfs_desk_steps.specs.Parts.Held.{AreHeldAt};
 ghost use Rattle.opfs_desk_steps.specs.Parts.Seen.{machine_in};
-ghost use Rattle.opfs_desk_steps.specs.declared.parts.parts.Pages.{Pages};
+ghost use Rattle.opfs_desk_steps.specs.declared.parts.parts.OpenPages.{OpenPages};
 ghost use Rattle.opfs_desk_steps.specs.Going.{IsTidy};
 ghost use Rattle.opfs_hist.specs.declared.reply.Reply.TheVariants as reply;
 ghost use Rattle.opfs_machine.specs.declared.own.Own.{Own};
@@ -25,14 +25,13 @@ ghost use Rattle.opfs_records.specs.Replay.Built.{Built};
 
 use crate::kept_back::enter_change;
 use opfs_base::{Key, Text, unit_of};
-use opfs_books::{Entering, Last};
+use opfs_books::{Entering, EntryWithRoom};
 use opfs_codec::ChangeRef;
 use opfs_desk_steps::Ledger;
 use opfs_hist::Op;
 use opfs_journal::DiskFault;
 use opfs_machine::Sizes;
 use opfs_outside::Disk;
-use opfs_tree::Walk;
 use std::alloc::{AllocError, Global};
 
 // The unit of a bucket, for an agent with a key. The bucket's name is a text.
@@ -72,7 +71,7 @@ fn spelled<'a>(unit: &'a Key) -> ChangeRef<'a>
 /// Enters a persist with the mode that it gives.
 pub(crate) fn enter_mode<D: Disk>(
     ledger: &mut Ledger<D>,
-    last: Last,
+    last: EntryWithRoom,
     sizes: Sizes,
     unit: &Key,
 ) -> Result<(), DiskFault>
@@ -84,13 +83,13 @@ pub(crate) fn enter_mode<D: Disk>(
     requires text { is_utf8 (bucket_named last.entry.op) ≡ true }
     requires settled { ledger.old.journal.in_doubt ≡ false }
     ensures tidy { IsTidy ledger.old }
-    ensures done { OnOk result ((f : Fixed D) (recorded : Built) (base : State Text Own) (gone : List Text) (p : Pages) → AreHeldAt D.Disk f recorded base gone ledger.old p → IsAnswered D.Disk base gone ledger.old last.entry sizes
+    ensures done { OnOk result ((f : Fixed D) (recorded : Built) (base : State Text Own) (gone : List Text) (p : OpenPages) → AreHeldAt D.Disk f recorded base gone ledger.old p → IsAnswered D.Disk base gone ledger.old last.entry sizes
         → HasChanged D.Disk f recorded base gone ledger.old ledger.new p last.entry sizes (mode_now ledger.old last.entry)) }
-    ensures failed { OnErr result ((f : Fixed D) (recorded : Built) (base : State Text Own) (gone : List Text) (p : Pages) → AreHeldAt D.Disk f recorded base gone ledger.old p → IsAnswered D.Disk base gone ledger.old last.entry sizes
+    ensures failed { OnErr result ((f : Fixed D) (recorded : Built) (base : State Text Own) (gone : List Text) (p : OpenPages) → AreHeldAt D.Disk f recorded base gone ledger.old p → IsAnswered D.Disk base gone ledger.old last.entry sizes
         → HasNotChanged D.Disk f recorded base gone ledger.old ledger.new p last.entry (mode_now ledger.old last.entry)) }
 {
-    ledger.books.state.lines();
-    ledger.books.state.step(&mut Walk::make());
+    ledger.books.state.know_rows_match_tree();
+    ledger.books.state.know_order();
     let own = spelled(unit);
     let extents = None;
     let entering = Entering {

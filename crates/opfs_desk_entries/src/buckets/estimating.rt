@@ -15,7 +15,7 @@ ghost use Rattle.opfs_state.specs.Verdicts.Callers.{IsAgent};
 
 use crate::answers::{tell, telling_laws};
 use opfs_books::{state_laws, the_state_is_kept};
-use opfs_desk_steps::{InHand, Parts};
+use opfs_desk_steps::{DeskParts, ReadyCall};
 use opfs_hist::{Pending, Reply};
 use opfs_laws::histories::unread::reads_leave_the_state;
 use opfs_outside::Disk;
@@ -56,8 +56,8 @@ fn estimate(state: &State, agent: u32) -> (u64, u64)
 
 /// Acts an estimate. Takes no memory, and calls no disk.
 pub fn act_estimate<D: Disk>(
-    parts: &mut Parts<D>,
-    call: InHand,
+    parts: &mut DeskParts<D>,
+    call: ReadyCall,
     pending: &mut Pending,
     work: &mut Work,
 ) -> Acted

@@ -24,8 +24,8 @@ use opfs_books::{
     calls_are_spelled, calls_may_fail, the_books_show_their_images, the_state_is_kept,
 };
 use opfs_desk_steps::{
-    InHand, Parts, asked_calls_are_ready, calls_are_acted, clear_way, ready_calls_are_answered,
-    take_in,
+    DeskParts, ReadyCall, asked_calls_are_ready, calls_are_acted, evict_for,
+    ready_calls_are_answered, take_in,
 };
 use opfs_hist::{Pending, Refusal, Reply};
 use opfs_laws::counted::a_state_counts_its_history;
@@ -69,8 +69,8 @@ fn granting_laws<D: Disk>()
 /// Acts a persist of an agent with the grant, whose bucket is not persistent yet. Its change is kept back, and no disk is called for
 /// it; the 64th is committed with those that are kept back. A doubt is ended first. Where there is no memory nothing is entered.
 pub fn act_persist<D: Disk>(
-    parts: &mut Parts<D>,
-    call: InHand,
+    parts: &mut DeskParts<D>,
+    call: ReadyCall,
     pending: &mut Pending,
     work: &mut Work,
 ) -> Result<Acted, AllocError>
@@ -92,7 +92,7 @@ pub fn act_persist<D: Disk>(
     };
     take_in(&mut parts.ledger, agent, pending);
     let rows = parts.ledger.books.state.rows(agent) as u32;
-    match clear_way(&mut parts.ledger, call, Reply::Flag(true)) {
+    match evict_for(&mut parts.ledger, call, Reply::Flag(true)) {
         Ok((last, sizes)) => match enter_mode(&mut parts.ledger, last, sizes, &unit) {
             Ok(()) => Ok(Acted {
                 reply: Reply::Flag(true),

@@ -25,8 +25,8 @@ use opfs_books::{
     calls_are_spelled, calls_may_fail, the_books_show_their_images, the_state_is_kept,
 };
 use opfs_desk_steps::{
-    InHand, Parts, asked_calls_are_ready, calls_are_acted, clear_way, ready_calls_are_answered,
-    take_in,
+    DeskParts, ReadyCall, asked_calls_are_ready, calls_are_acted, evict_for,
+    ready_calls_are_answered, take_in,
 };
 use opfs_hist::{Pending, Refusal, Reply};
 use opfs_laws::counted::a_state_counts_its_history;
@@ -70,9 +70,9 @@ fn keeping_laws<D: Disk>()
 /// Acts a call that makes a root, a directory or a file, or removes an entry. Its change is kept back, and no disk is called for it; the 64th
 /// is committed with those that are kept back. A doubt is ended first, and units are cleared for what is made. Where there is no
 /// memory nothing is entered.
-pub fn act_kept<D: Disk>(
-    parts: &mut Parts<D>,
-    call: InHand,
+pub fn act_keep_back<D: Disk>(
+    parts: &mut DeskParts<D>,
+    call: ReadyCall,
     pending: &mut Pending,
     work: &mut Work,
 ) -> Result<Acted, AllocError>
@@ -87,7 +87,7 @@ pub fn act_kept<D: Disk>(
 {
     keeping_laws::<D>();
     what_is_laid_goes_on::<D>();
-    parts.ledger.books.state.lines();
+    parts.ledger.books.state.know_rows_match_tree();
     let agent = call.agent;
     let key = parts.ledger.books.state.key(agent);
     let Ok(place) = entry_of(parts.ledger.alloc, key, &call.op) else {
@@ -95,9 +95,9 @@ pub fn act_kept<D: Disk>(
     };
     take_in(&mut parts.ledger, agent, pending);
     let rows = parts.ledger.books.state.rows(agent) as u32;
-    match clear_way(&mut parts.ledger, call, Reply::Done) {
+    match evict_for(&mut parts.ledger, call, Reply::Done) {
         Ok((last, sizes)) => {
-            parts.ledger.books.state.lines();
+            parts.ledger.books.state.know_rows_match_tree();
             match enter_kept(&mut parts.ledger, last, sizes, &place) {
                 Ok(()) => Ok(Acted {
                     reply: Reply::Done,

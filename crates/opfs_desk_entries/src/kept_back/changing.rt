@@ -10,7 +10,7 @@ ghost use Rattle.opfs_desk_entries.specs.KeptBack.Steps.{change_now};
 ghost use Rattle.opfs_desk_steps.specs.Parts.Answered.{IsAnswered, MayAnswer};
 ghost use Rattle.opfs_desk_steps.specs.Parts.Held.{AreHeldAt};
 ghost use Rattle.opfs_desk_steps.specs.Parts.Seen.{machine_in, tree_in};
-ghost use Rattle.opfs_desk_steps.specs.declared.parts.parts.Pages.{Pages};
+ghost use Rattle.opfs_desk_steps.specs.declared.parts.parts.OpenPages.{OpenPages};
 ghost use Rattle.opfs_desk_steps.specs.Going.{IsTidy};
 ghost use Rattle.opfs_hist.specs.declared.reply.Reply.TheVariants as reply;
 ghost use Rattle.opfs_machine.specs.declared.own.Own.{Own};
@@ -21,17 +21,16 @@ ghost use Rattle.opfs_tree.specs.Rows.{IsInOrder};
 
 use crate::kept_back::entering::enter_change;
 use crate::kept_back::spelling::spelled;
-use opfs_books::{Entering, Last};
+use opfs_books::{Entering, EntryWithRoom};
 use opfs_desk_steps::Ledger;
 use opfs_journal::DiskFault;
 use opfs_machine::{Place, Sizes};
 use opfs_outside::Disk;
-use opfs_tree::Walk;
 
 /// Enters a call with what it makes or removes.
 pub(crate) fn enter_kept<D: Disk>(
     ledger: &mut Ledger<D>,
-    last: Last,
+    last: EntryWithRoom,
     sizes: Sizes,
     place: &Place,
 ) -> Result<(), DiskFault>
@@ -44,13 +43,13 @@ pub(crate) fn enter_kept<D: Disk>(
     requires settled { ledger.old.journal.in_doubt ≡ false }
     ensures tidy { IsTidy ledger.old }
     ensures order { OnOk result (IsInOrder (tree_in ledger.new)) }
-    ensures done { OnOk result ((f : Fixed D) (recorded : Built) (base : State Text Own) (gone : List Text) (p : Pages) → AreHeldAt D.Disk f recorded base gone ledger.old p → IsAnswered D.Disk base gone ledger.old last.entry sizes
+    ensures done { OnOk result ((f : Fixed D) (recorded : Built) (base : State Text Own) (gone : List Text) (p : OpenPages) → AreHeldAt D.Disk f recorded base gone ledger.old p → IsAnswered D.Disk base gone ledger.old last.entry sizes
         → HasChanged D.Disk f recorded base gone ledger.old ledger.new p last.entry sizes (change_now ledger.old last.entry)) }
-    ensures failed { OnErr result ((f : Fixed D) (recorded : Built) (base : State Text Own) (gone : List Text) (p : Pages) → AreHeldAt D.Disk f recorded base gone ledger.old p → IsAnswered D.Disk base gone ledger.old last.entry sizes
+    ensures failed { OnErr result ((f : Fixed D) (recorded : Built) (base : State Text Own) (gone : List Text) (p : OpenPages) → AreHeldAt D.Disk f recorded base gone ledger.old p → IsAnswered D.Disk base gone ledger.old last.entry sizes
         → HasNotChanged D.Disk f recorded base gone ledger.old ledger.new p last.entry (change_now ledger.old last.entry)) }
 {
-    ledger.books.state.lines();
-    ledger.books.state.step(&mut Walk::make());
+    ledger.books.state.know_rows_match_tree();
+    ledger.books.state.know_order();
     let moment = ledger.books.state.moment(last.entry.agent);
     let own = spelled(&last.entry.op, place, moment);
     let extents = None;
@@ -61,7 +60,7 @@ pub(crate) fn enter_kept<D: Disk>(
     };
     match enter_change(ledger, &own, entering) {
         Ok(()) => {
-            ledger.books.state.step(&mut Walk::make());
+            ledger.books.state.know_order();
             Ok(())
         }
         Err(fault) => Err(fault),

@@ -12,7 +12,7 @@ ghost use Rattle.opfs_desk_entries.specs.KeptBack.Changing.{HasChanged, HasNotCh
 ghost use Rattle.opfs_desk_steps.specs.Parts.Answered.{IsAnswered};
 ghost use Rattle.opfs_desk_steps.specs.Parts.Held.{AreTied, AreHeldAt};
 ghost use Rattle.opfs_desk_steps.specs.Parts.Seen.{machine_in, tree_in, book_in};
-ghost use Rattle.opfs_desk_steps.specs.declared.parts.parts.Pages.{Pages};
+ghost use Rattle.opfs_desk_steps.specs.declared.parts.parts.OpenPages.{OpenPages};
 ghost use Rattle.opfs_desk_steps.specs.BookSteps.Entering.{MayStoreCall};
 ghost use Rattle.opfs_machine.specs.declared.own.Own.{Own};
 ghost use Rattle.opfs_machine.specs.declared.state.State.{State};
@@ -43,9 +43,9 @@ pub fn keep_call<D: Disk>(ledger: &mut Ledger<D>, own: &ChangeRef<'_>, entering:
     ensures tree { tree_in ledger.new ≡ tree_by (machine_in ledger.old) (tree_in ledger.old) entering.last.entry.agent entering.last.entry.op entering.sizes entering.extents }
     ensures idle { ledger.new.books.state.store.prepared.place ≡ None }
     ensures kept { ledger.new.books.commits ≡ with_kept ledger.old.books.commits (plain own.now) }
-    ensures books { (f : Fixed D) (recorded : Built) (base : State Text Own) (gone : List Text) (p : Pages) → AreHeldAt D.Disk f recorded base gone ledger.old p → IsAnswered D.Disk base gone ledger.old entering.last.entry entering.sizes
+    ensures books { (f : Fixed D) (recorded : Built) (base : State Text Own) (gone : List Text) (p : OpenPages) → AreHeldAt D.Disk f recorded base gone ledger.old p → IsAnswered D.Disk base gone ledger.old entering.last.entry entering.sizes
         → MayStore f (book_in ledger.old) (plain own.now) → AreBooks D.Disk f recorded (book_in ledger.new) ledger.new.journal }
-    ensures tied { (f : Fixed D) (p : Pages) → AreTied D.Disk f ledger.old p → AreTied D.Disk f ledger.new p }
+    ensures tied { (f : Fixed D) (p : OpenPages) → AreTied D.Disk f ledger.old p → AreTied D.Disk f ledger.new p }
 {
     the_state_is_kept::<D>();
     ledger.freed.clear();
@@ -71,9 +71,9 @@ pub fn enter_change<D: Disk>(
     requires quiet { IsQuiet (plain own.now) }
     requires fits { Fits (plain own.now) }
     requires settled { ledger.old.journal.in_doubt ≡ false }
-    ensures done { OnOk result ((f : Fixed D) (recorded : Built) (base : State Text Own) (gone : List Text) (p : Pages) → AreHeldAt D.Disk f recorded base gone ledger.old p → IsAnswered D.Disk base gone ledger.old entering.last.entry entering.sizes
+    ensures done { OnOk result ((f : Fixed D) (recorded : Built) (base : State Text Own) (gone : List Text) (p : OpenPages) → AreHeldAt D.Disk f recorded base gone ledger.old p → IsAnswered D.Disk base gone ledger.old entering.last.entry entering.sizes
         → MayStore f (book_in ledger.old) (plain own.now) → HasChanged D.Disk f recorded base gone ledger.old ledger.new p entering.last.entry entering.sizes (plain own.now)) }
-    ensures failed { OnErr result ((f : Fixed D) (recorded : Built) (base : State Text Own) (gone : List Text) (p : Pages) → AreHeldAt D.Disk f recorded base gone ledger.old p → IsAnswered D.Disk base gone ledger.old entering.last.entry entering.sizes
+    ensures failed { OnErr result ((f : Fixed D) (recorded : Built) (base : State Text Own) (gone : List Text) (p : OpenPages) → AreHeldAt D.Disk f recorded base gone ledger.old p → IsAnswered D.Disk base gone ledger.old entering.last.entry entering.sizes
         → MayStore f (book_in ledger.old) (plain own.now) → HasNotChanged D.Disk f recorded base gone ledger.old ledger.new p entering.last.entry (plain own.now)) }
 {
     the_books_show_their_images::<D>();

@@ -13,7 +13,7 @@ ghost use Rattle.opfs_desk_steps.specs.Parts.Answered.{IsAnswered, MayAnswer};
 ghost use Rattle.opfs_desk_steps.specs.Parts.Asked.{IsAsked, MayGo};
 ghost use Rattle.opfs_desk_steps.specs.Parts.Held.{AreHeldAt, AreHeldWhole};
 ghost use Rattle.opfs_desk_steps.specs.Parts.Seen.{machine_in, call_in};
-ghost use Rattle.opfs_desk_steps.specs.declared.parts.parts.Pages.{Pages};
+ghost use Rattle.opfs_desk_steps.specs.declared.parts.parts.OpenPages.{OpenPages};
 ghost use Rattle.opfs_desk_steps.specs.RowLaws.InHand.{RowsInHandAreLaid};
 ghost use Rattle.opfs_desk_steps.specs.Acting.{CallsAreActed};
 ghost use Rattle.opfs_desk_steps.specs.Answering.{ReadyCallsAreAnswered};
@@ -29,8 +29,8 @@ ghost use Rattle.opfs_records.specs.Replay.Built.{Built};
 
 use opfs_books::the_books_show_their_images;
 use opfs_desk_steps::{
-    InHand, Ledger, Parts, asked_calls_are_ready, calls_are_acted, ready_calls_are_answered,
-    rows_in_hand_are_laid, take_in, tell_in_hand,
+    DeskParts, Ledger, ReadyCall, asked_calls_are_ready, calls_are_acted, ready_calls_are_answered,
+    rows_in_hand_are_laid, take_in, tell_ready,
 };
 use opfs_hist::{Op, Pending, Reply};
 use opfs_laws::lengths::bridge::{
@@ -42,7 +42,6 @@ use opfs_pages::{
     blocks_go_on, calls_change_their_row, calls_leave_other_rows, trees_keep_their_blocks,
 };
 use opfs_store::{Acted, Gift};
-use opfs_tree::Walk;
 use opfs_work::Work;
 
 // The row that such a call names.
@@ -93,24 +92,24 @@ fn ending_laws()
 }
 
 // Enters a call that ends a row, once its agent's pending calls are taken in.
-fn enter_leave<D: Disk>(ledger: &mut Ledger<D>, call: InHand)
+fn enter_leave<D: Disk>(ledger: &mut Ledger<D>, call: ReadyCall)
     requires may { MayAnswer D.Disk ledger.old (told_entry (call_in call) reply.Done) call.sizes }
     requires word { leaves_row (machine_in ledger.old) call.agent call.op ≡ true }
     ensures order { IsInOrderThrough ledger.old call.agent call.op call.sizes }
-    ensures told { (f : Fixed D) (recorded : Built) (base : State Text Own) (gone : List Text) (p : Pages) → AreHeldAt D.Disk f recorded base gone ledger.old p
+    ensures told { (f : Fixed D) (recorded : Built) (base : State Text Own) (gone : List Text) (p : OpenPages) → AreHeldAt D.Disk f recorded base gone ledger.old p
         → IsAnswered D.Disk base gone ledger.old (told_entry (call_in call) reply.Done) call.sizes → HasTold D.Disk f recorded ledger.old ledger.new p (told_entry (call_in call) reply.Done) call.sizes }
 {
-    ledger.books.state.step(&mut Walk::make());
+    ledger.books.state.know_order();
     let reply = Reply::Done;
-    tell_in_hand(ledger, call, reply);
-    ledger.books.state.step(&mut Walk::make());
+    tell_ready(ledger, call, reply);
+    ledger.books.state.know_order();
 }
 
 /// Acts an abort of a stream, a discard of an access handle, or the close of a read-only one: its lock opens, and its pages go with
 /// their blocks. Takes no memory, and calls no disk.
-pub fn act_leave<D: Disk>(
-    parts: &mut Parts<D>,
-    call: InHand,
+pub fn act_close_without_store<D: Disk>(
+    parts: &mut DeskParts<D>,
+    call: ReadyCall,
     pending: &mut Pending,
     work: &mut Work,
 ) -> Acted

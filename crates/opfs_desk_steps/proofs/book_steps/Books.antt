@@ -21,12 +21,12 @@ use Rattle.opfs_desk_steps.specs.Parts.Answered.{MayChange}
 use Rattle.opfs_desk_steps.specs.Parts.Held.{AreHeldAt}
 use Rattle.opfs_desk_steps.specs.Parts.Seen.{machine_in, tree_in}
 use Rattle.opfs_desk_steps.specs.declared.parts.parts.Ledger.{Ledger}
-use Rattle.opfs_desk_steps.specs.declared.parts.parts.Pages.{Pages}
+use Rattle.opfs_desk_steps.specs.declared.parts.parts.OpenPages.{OpenPages}
 use Rattle.opfs_desk_steps.proofs.book_steps.Entries.{entries-few, limits-are}
 use Rattle.opfs_desk_steps.proofs.book_steps.Evictions.{stored-named}
 use Rattle.opfs_desk_steps.proofs.book_steps.Freed.{within-few, freed-few}
 
-module _ {D : Type 0} (w : DiskWords D) (f : Fixed D) (recorded : Built) (base : State Text Own) (gone : List Text) (l : Ledger D) (p : Pages) (are : AreHeldAt w f recorded base gone l p) where
+module _ {D : Type 0} (w : DiskWords D) (f : Fixed D) (recorded : Built) (base : State Text Own) (gone : List Text) (l : Ledger D) (p : OpenPages) (are : AreHeldAt w f recorded base gone l p) where
   limits-same : (machine_in l).limits.blocks ≡ f.geometry.blocks
   limits-same = ap (λ x. x.blocks) (limits-are w.tells f.opening l.books.history base gone (machine_in l) are.books.told are.books.machine) ∙ are.books.blocks
 

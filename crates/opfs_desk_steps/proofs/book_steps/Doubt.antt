@@ -18,15 +18,15 @@ use Rattle.opfs_state.specs.Verdicts.Callers.{IsAgent}
 use Rattle.opfs_desk_steps.specs.Parts.Acted.{IsWayNow, AreCleared, HasFailed, last_doubt}
 use Rattle.opfs_desk_steps.specs.Parts.Held.{AreHeldAt, AreHeldWhole}
 use Rattle.opfs_desk_steps.specs.Parts.Seen.{book_in, units_in}
-use Rattle.opfs_desk_steps.specs.declared.parts.call.Clearing.{Clearing}
+use Rattle.opfs_desk_steps.specs.declared.parts.call.Eviction.{Eviction}
 use Rattle.opfs_desk_steps.specs.declared.parts.parts.Ledger.{Ledger}
-use Rattle.opfs_desk_steps.specs.declared.parts.parts.Pages.{Pages}
+use Rattle.opfs_desk_steps.specs.declared.parts.parts.OpenPages.{OpenPages}
 use Rattle.opfs_desk_steps.specs.BookSteps.Clearing.{IsJudged, MayMakeWay, MayEndDoubt, MayClearAll}
 use Rattle.opfs_desk_steps.proofs.book_steps.Loop.{Falls}
 use Rattle.opfs_desk_steps.proofs.book_steps.Real.{agent-there}
 use Rattle.opfs_desk_steps.proofs.book_steps.Ways.{way-both}
 
-module _ {D : Type 0} (w : DiskWords D) (l : Ledger D) (e : Entry) (all : List Clearing) where
+module _ {D : Type 0} (w : DiskWords D) (l : Ledger D) (e : Entry) (all : List Eviction) where
   pub may-end : MayMakeWay w l e all → MayEndDoubt w l e
   may-end may = record {
     fixed = may.fixed;
@@ -37,7 +37,7 @@ module _ {D : Type 0} (w : DiskWords D) (l : Ledger D) (e : Entry) (all : List C
     placed = may.placed;
   }
 
-  module _ (mid : Ledger D) (entries : mid.books.history ≡ l.books.history) (sure : mid.journal.in_doubt ≡ false) (held : (f : Fixed D) (recorded : Built) (p : Pages) → AreHeldWhole w f recorded l p → AreHeldWhole w f recorded mid p × IsWayNow w f l mid) where
+  module _ (mid : Ledger D) (entries : mid.books.history ≡ l.books.history) (sure : mid.journal.in_doubt ≡ false) (held : (f : Fixed D) (recorded : Built) (p : OpenPages) → AreHeldWhole w f recorded l p → AreHeldWhole w f recorded mid p × IsWayNow w f l mid) where
     judged-then : (f : Fixed D) → IsJudged (state_after f.opening l.books.history) e (units_in all) → IsJudged (state_after f.opening mid.books.history) e (units_in all)
     judged-then f judged = subst (λ (h : List Entry). IsJudged (state_after f.opening h) e (units_in all)) (sym entries) judged
 
@@ -64,8 +64,8 @@ module _ {D : Type 0} (w : DiskWords D) (l : Ledger D) (e : Entry) (all : List C
     same-told : (f : Fixed D) → told f (book_in mid) ≡ told f (book_in l)
     same-told f = ap (changes f.opening) entries
 
-    pub then-cleared : Falls w → (new : Ledger D) → new.books.history ≡ mid.books.history ++ map eviction (units_in all) → ((f : Fixed D) (recorded : Built) (p : Pages) → AreHeldWhole w f recorded mid p → AreCleared w f (units_in all) mid new p)
-        → (f : Fixed D) (recorded : Built) (p : Pages) → AreHeldWhole w f recorded l p → AreCleared w f (units_in all) l new p
+    pub then-cleared : Falls w → (new : Ledger D) → new.books.history ≡ mid.books.history ++ map eviction (units_in all) → ((f : Fixed D) (recorded : Built) (p : OpenPages) → AreHeldWhole w f recorded mid p → AreCleared w f (units_in all) mid new p)
+        → (f : Fixed D) (recorded : Built) (p : OpenPages) → AreHeldWhole w f recorded l p → AreCleared w f (units_in all) l new p
     then-cleared falls new grown cleared f recorded p are =
         let first = held f recorded p are in
         let done = cleared f recorded p first.0 in
@@ -75,8 +75,8 @@ module _ {D : Type 0} (w : DiskWords D) (l : Ledger D) (e : Entry) (all : List C
           way = way-both w f falls l mid new (told f (book_in new)) (changes_from (state_after f.opening mid.books.history) (map eviction (units_in all))) first.1 (same-told f) sure done.way (grows f new (map eviction (units_in all)) grown);
         }
 
-    pub then-failed : Falls w → (new : Ledger D) (back : Entry) → back ≡ e → ((f : Fixed D) (recorded : Built) (p : Pages) → AreHeldWhole w f recorded mid p → IsJudged (state_after f.opening mid.books.history) back (units_in all) → HasFailed w f back mid new p)
-        → (f : Fixed D) (recorded : Built) (p : Pages) → AreHeldWhole w f recorded l p → IsJudged (state_after f.opening l.books.history) e (units_in all) → HasFailed w f e l new p
+    pub then-failed : Falls w → (new : Ledger D) (back : Entry) → back ≡ e → ((f : Fixed D) (recorded : Built) (p : OpenPages) → AreHeldWhole w f recorded mid p → IsJudged (state_after f.opening mid.books.history) back (units_in all) → HasFailed w f back mid new p)
+        → (f : Fixed D) (recorded : Built) (p : OpenPages) → AreHeldWhole w f recorded l p → IsJudged (state_after f.opening l.books.history) e (units_in all) → HasFailed w f e l new p
     then-failed falls new back same fails f recorded p are judged =
         let first = held f recorded p are in
         let done : HasFailed w f e mid new p =

@@ -21,9 +21,9 @@ use Rattle.opfs_state_rows.specs.Standing.Seen.{lines_of}
 use Rattle.opfs_desk_steps.specs.Parts.Held.{AreHeldAt}
 use Rattle.opfs_desk_steps.specs.Parts.Seen.{machine_in, tree_in, book_in}
 use Rattle.opfs_desk_steps.specs.declared.parts.parts.Ledger.{Ledger}
-use Rattle.opfs_desk_steps.specs.declared.parts.parts.Pages.{Pages}
+use Rattle.opfs_desk_steps.specs.declared.parts.parts.OpenPages.{OpenPages}
 
-module _ {D : Type 0} (w : DiskWords D) (f : Fixed D) (recorded : Built) (base : State Text Own) (gone : List Text) (l new : Ledger D) (p : Pages) (e : Entry) (z : Sizes) (extents : Option (List Extent)) where
+module _ {D : Type 0} (w : DiskWords D) (f : Fixed D) (recorded : Built) (base : State Text Own) (gone : List Text) (l new : Ledger D) (p : OpenPages) (e : Entry) (z : Sizes) (extents : Option (List Extent)) where
   pub told-fresh : CallsAreSpelled → AreHeldAt w f recorded base gone l p → lines_of (tree_in l) ≡ (machine_in l).rows → Kept (machine_in l) → MayApply (machine_in l) z e.agent e.op
       → spelled_by (machine_in l) (tree_in l) e.agent e.op z extents ≡ None
       → machine_in new ≡ counted (effect in_lengths (machine_in l) z e.agent e.op) e.agent → tree_in new ≡ tree_by (machine_in l) (tree_in l) e.agent e.op z extents → new.books.commits.count ≡ l.books.commits.count

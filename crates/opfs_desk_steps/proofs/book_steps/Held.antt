@@ -49,7 +49,7 @@ use Rattle.opfs_state.specs.Verdicts.Callers.{IsAgent}
 use Rattle.opfs_desk_steps.specs.Parts.Held.{AreTied, AreHeldAt, AreHeldWhole}
 use Rattle.opfs_desk_steps.specs.Parts.Seen.{machine_in, tree_in, book_in}
 use Rattle.opfs_desk_steps.specs.declared.parts.parts.Ledger.{Ledger}
-use Rattle.opfs_desk_steps.specs.declared.parts.parts.Pages.{Pages}
+use Rattle.opfs_desk_steps.specs.declared.parts.parts.OpenPages.{OpenPages}
 use Rattle.opfs_desk_steps.proofs.book_steps.Alike.{leaves-alike}
 use Rattle.opfs_desk_steps.proofs.book_steps.Evictions.{spaced-evicted}
 use Rattle.opfs_desk_steps.proofs.book_steps.LaidStays.{LaidBeside, laid-on, spaced-stays}
@@ -62,7 +62,7 @@ number-of-agent m k agent = record { index = k - 1; is = omega (arith, agent.abo
 module _ {D : Type 0} (w : DiskWords D) (f : Fixed D) where
   -- ---- what ties the parts
 
-  pub tied-later : ((d : D) → w.faults d ≤ 2 ^ 64 - 1) → (l new : Ledger D) (p : Pages) → AreTied w f l p → w.size new.journal.disk ≡ w.size l.journal.disk → w.faults l.journal.disk ≤ w.faults new.journal.disk
+  pub tied-later : ((d : D) → w.faults d ≤ 2 ^ 64 - 1) → (l new : Ledger D) (p : OpenPages) → AreTied w f l p → w.size new.journal.disk ≡ w.size l.journal.disk → w.faults l.journal.disk ≤ w.faults new.journal.disk
       → vec_capacity l.freed ≤ vec_capacity new.freed → AreTied w f new p
   tied-later most l new p tied size later freed = record {
     range = tied.range;
@@ -75,7 +75,7 @@ module _ {D : Type 0} (w : DiskWords D) (f : Fixed D) where
     few = λ none. tied.few (λ rose. none (rose-later (w.faults f.begun) (w.faults l.journal.disk) (w.faults new.journal.disk) (most new.journal.disk) rose later));
   }
 
-  pub tied-same : (l new : Ledger D) (p : Pages) → AreTied w f l p → new.journal ≡ l.journal → vec_capacity l.freed ≤ vec_capacity new.freed → AreTied w f new p
+  pub tied-same : (l new : Ledger D) (p : OpenPages) → AreTied w f l p → new.journal ≡ l.journal → vec_capacity l.freed ≤ vec_capacity new.freed → AreTied w f new p
   tied-same l new p tied same freed = record {
     range = tied.range;
     base = tied.base;
@@ -89,7 +89,7 @@ module _ {D : Type 0} (w : DiskWords D) (f : Fixed D) where
 
   -- ---- what is laid down, where the pages are as they were
 
-  module _ (recorded next : Built) (l new : Ledger D) (p : Pages) (more : List Entry) (beside : LaidBeside w.tells) where
+  module _ (recorded next : Built) (l new : Ledger D) (p : OpenPages) (more : List Entry) (beside : LaidBeside w.tells) where
     -- Entries settle no row, open rows stay, and all pages read as before.
     pub laid-more : new.books.history ≡ l.books.history ++ more → ((k n : ℕ) → NoneSettles (state_after f.opening l.books.history) k n more) → ((k n : ℕ) → open_at (machine_in new) k n ≡ open_at (machine_in l) k n)
         → (w.tells → AllReadAlike p.base (w.content l.journal.disk) (w.content new.journal.disk) p.swap p.swap) → AreSpaced (machine_in new) (shelf next.rows (tree_in new) p.swap) p.space
@@ -110,11 +110,11 @@ module _ {D : Type 0} (w : DiskWords D) (f : Fixed D) where
   refused-none : OnlyItsOwnCallsSettleARow → (o : Opening) (h : List Entry) (e : Entry) → is_refusal e.reply ≡ true → (k n : ℕ) → NoneSettles (state_after o h) k n (e ∷ [])
   refused-none settle o h e refuses k n = (settle.refused (state_after o h) k n e refuses, tt)
 
-  same-alike : (l new : Ledger D) (p : Pages) → new.journal ≡ l.journal → w.tells → AllReadAlike p.base (w.content l.journal.disk) (w.content new.journal.disk) p.swap p.swap
+  same-alike : (l new : Ledger D) (p : OpenPages) → new.journal ≡ l.journal → w.tells → AllReadAlike p.base (w.content l.journal.disk) (w.content new.journal.disk) p.swap p.swap
   same-alike l new p same t = subst (λ (j : Seen D). AllReadAlike p.base (w.content l.journal.disk) (w.content j.disk) p.swap p.swap) (sym same) (λ k n i within. refl)
 
   -- By a journal that may have been used.
-  pub refused-by : LaidBeside w.tells → BlocksGoOn → OnlyItsOwnCallsSettleARow → (recorded : Built) (base : State Text Own) (gone : List Text) (l new : Ledger D) (p : Pages) (e : Entry) → AreHeldAt w f recorded base gone l p
+  pub refused-by : LaidBeside w.tells → BlocksGoOn → OnlyItsOwnCallsSettleARow → (recorded : Built) (base : State Text Own) (gone : List Text) (l new : Ledger D) (p : OpenPages) (e : Entry) → AreHeldAt w f recorded base gone l p
       → is_refusal e.reply ≡ true → IsAgent (machine_in l) e.agent → AreBooks w f recorded (book_in new) new.journal → new.books.history ≡ l.books.history ++ e ∷ []
       → machine_in new ≡ counted (refused (machine_in l) e.agent e.op) e.agent → tree_in new ≡ tree_in l → (w.tells → AllReadAlike p.base (w.content l.journal.disk) (w.content new.journal.disk) p.swap p.swap) → AreTied w f new p → new.books.commits ≡ l.books.commits
       → AreHeldWhole w f recorded new p
@@ -132,7 +132,7 @@ module _ {D : Type 0} (w : DiskWords D) (f : Fixed D) where
         fresh = fresh-same recorded l new are.fresh commits tree (ap (λ (m : Machine). m.persistent) machine ∙ refused-modes (machine_in l) e.agent e.op);
       }
 
-  pub refused-held : LaidBeside w.tells → BlocksGoOn → OnlyItsOwnCallsSettleARow → (recorded : Built) (base : State Text Own) (gone : List Text) (l new : Ledger D) (p : Pages) (e : Entry) → AreHeldAt w f recorded base gone l p
+  pub refused-held : LaidBeside w.tells → BlocksGoOn → OnlyItsOwnCallsSettleARow → (recorded : Built) (base : State Text Own) (gone : List Text) (l new : Ledger D) (p : OpenPages) (e : Entry) → AreHeldAt w f recorded base gone l p
       → is_refusal e.reply ≡ true → IsAgent (machine_in l) e.agent → AreBooks w f recorded (book_in new) new.journal → new.journal ≡ l.journal → new.books.history ≡ l.books.history ++ e ∷ []
       → machine_in new ≡ counted (refused (machine_in l) e.agent e.op) e.agent → tree_in new ≡ tree_in l → vec_capacity l.freed ≤ vec_capacity new.freed → new.books.commits ≡ l.books.commits
       → AreHeldWhole w f recorded new p
@@ -145,7 +145,7 @@ module _ {D : Type 0} (w : DiskWords D) (f : Fixed D) where
   pending-none k n j [] s h = tt
   pending-none k n j (e ∷ es) s h = (ap (λ t. t && not (is_refusal e.reply) && (e.agent == k && concerns s k n e.op)) h.0.turn, pending-none k n j es (after_entry s e) h.1)
 
-  pub pending-held : LaidBeside w.tells → BlocksGoOn → (recorded : Built) (l new : Ledger D) (p : Pages) (k : ℕ) (es : List Entry) → AreHeldWhole w f recorded l p → ArePendingFor w.tells (state_after f.opening l.books.history) k es
+  pub pending-held : LaidBeside w.tells → BlocksGoOn → (recorded : Built) (l new : Ledger D) (p : OpenPages) (k : ℕ) (es : List Entry) → AreHeldWhole w f recorded l p → ArePendingFor w.tells (state_after f.opening l.books.history) k es
       → IsAgent (machine_in l) k → AreBooks w f recorded (book_in new) new.journal → new.journal ≡ l.journal → new.books.history ≡ l.books.history ++ es
       → machine_in new ≡ noted (machine_in l) k es → tree_in new ≡ tree_in l → vec_capacity l.freed ≤ vec_capacity new.freed → new.books.commits ≡ l.books.commits
       → AreHeldWhole w f recorded new p
@@ -168,7 +168,7 @@ module _ {D : Type 0} (w : DiskWords D) (f : Fixed D) where
   pub behind : (g : Geometry) → (areas_of g).first + 2 * (areas_of g).bytes ≤ data_base g
   behind g = omega arith
 
-  moved-alike : (recorded : Built) (base : State Text Own) (gone : List Text) (l new : Ledger D) (p : Pages) → AreHeldAt w f recorded base gone l p → LeavesPages w l.journal new.journal → w.tells
+  moved-alike : (recorded : Built) (base : State Text Own) (gone : List Text) (l new : Ledger D) (p : OpenPages) → AreHeldAt w f recorded base gone l p → LeavesPages w l.journal new.journal → w.tells
       → AllReadAlike p.base (w.content l.journal.disk) (w.content new.journal.disk) p.swap p.swap
   moved-alike recorded base gone l new p are leaves t =
       let areas : l.journal.areas ≡ areas_of f.geometry = are.books.areas in
@@ -176,10 +176,10 @@ module _ {D : Type 0} (w : DiskWords D) (f : Fixed D) where
       let bytes : l.journal.areas.bytes ≡ (areas_of f.geometry).bytes = ap (λ a. a.bytes) areas in
       leaves-alike w l.journal new.journal p.base p.swap (omega (arith, first, bytes, are.tied.base, behind f.geometry)) leaves t
 
-  pub tied-moved : ((d : D) → w.faults d ≤ 2 ^ 64 - 1) → (l new : Ledger D) (p : Pages) → AreTied w f l p → LeavesPages w l.journal new.journal → vec_capacity l.freed ≤ vec_capacity new.freed → AreTied w f new p
+  pub tied-moved : ((d : D) → w.faults d ≤ 2 ^ 64 - 1) → (l new : Ledger D) (p : OpenPages) → AreTied w f l p → LeavesPages w l.journal new.journal → vec_capacity l.freed ≤ vec_capacity new.freed → AreTied w f new p
   tied-moved most l new p tied leaves freed = tied-later most l new p tied leaves.stays.length leaves.later freed
 
-  pub evicted-held : LaidBeside w.tells → BlocksGoOn → OnlyItsOwnCallsSettleARow → ((d : D) → w.faults d ≤ 2 ^ 64 - 1) → (recorded : Built) (base : State Text Own) (gone : List Text) (l new : Ledger D) (p : Pages) (unit : Text)
+  pub evicted-held : LaidBeside w.tells → BlocksGoOn → OnlyItsOwnCallsSettleARow → ((d : D) → w.faults d ≤ 2 ^ 64 - 1) → (recorded : Built) (base : State Text Own) (gone : List Text) (l new : Ledger D) (p : OpenPages) (unit : Text)
       → AreHeldAt w f recorded base gone l p → Kept (evicted (machine_in l) unit) → IsInOrder (tree_in l) → AreBooksAt w f (book_in new).rows base (gone ++ unit ∷ []) (book_in new) new.journal → LeavesPages w l.journal new.journal
       → new.books.history ≡ l.books.history ++ eviction unit ∷ [] → machine_in new ≡ evicted (machine_in l) unit → tree_in new ≡ without (unit, []) (tree_in l) → vec_capacity l.freed ≤ vec_capacity new.freed
       → AreHeldAt w f (book_in new).rows base (gone ++ unit ∷ []) new p
@@ -197,7 +197,7 @@ module _ {D : Type 0} (w : DiskWords D) (f : Fixed D) where
       }
 
   -- The journal was used, and what the records build is this now: no entry came, and the shared state is as it was.
-  pub moved-held : LaidBeside w.tells → ((d : D) → w.faults d ≤ 2 ^ 64 - 1) → (recorded next : Built) (base : State Text Own) (gone : List Text) (l new : Ledger D) (p : Pages)
+  pub moved-held : LaidBeside w.tells → ((d : D) → w.faults d ≤ 2 ^ 64 - 1) → (recorded next : Built) (base : State Text Own) (gone : List Text) (l new : Ledger D) (p : OpenPages)
       → AreHeldAt w f recorded base gone l p → AreBooksAt w f next base gone (book_in new) new.journal → LeavesPages w l.journal new.journal
       → new.books.history ≡ l.books.history → new.books.state ≡ l.books.state → vec_capacity l.freed ≤ vec_capacity new.freed
       → AreSpaced (machine_in l) (shelf next.rows (tree_in l) p.swap) p.space → (new.books.commits.count ≡ 0 → next ≡ (book_in new).rows)
@@ -212,7 +212,7 @@ module _ {D : Type 0} (w : DiskWords D) (f : Fixed D) where
         fresh = fresh;
       }
 
-  pub failed-held : LaidBeside w.tells → BlocksGoOn → OnlyItsOwnCallsSettleARow → ((d : D) → w.faults d ≤ 2 ^ 64 - 1) → (recorded : Built) (base : State Text Own) (gone : List Text) (l new : Ledger D) (p : Pages) (e : Entry)
+  pub failed-held : LaidBeside w.tells → BlocksGoOn → OnlyItsOwnCallsSettleARow → ((d : D) → w.faults d ≤ 2 ^ 64 - 1) → (recorded : Built) (base : State Text Own) (gone : List Text) (l new : Ledger D) (p : OpenPages) (e : Entry)
       → AreHeldAt w f recorded base gone l p → is_refusal e.reply ≡ true → IsAgent (machine_in l) e.agent → AreBooks w f recorded (book_in new) new.journal → LeavesPages w l.journal new.journal → new.books.history ≡ l.books.history ++ e ∷ []
       → machine_in new ≡ counted (refused (machine_in l) e.agent e.op) e.agent → tree_in new ≡ tree_in l → vec_capacity l.freed ≤ vec_capacity new.freed → new.books.commits ≡ l.books.commits
       → AreHeldWhole w f recorded new p
@@ -232,7 +232,7 @@ module _ {D : Type 0} (w : DiskWords D) (f : Fixed D) where
   evicted-told l new unit entries = ap (changes f.opening) entries ∙ changes-more f.opening l.books.history (eviction unit)
 
   -- Nothing was done, and nothing is kept back.
-  pub untouched-held : (recorded : Built) (base : State Text Own) (gone : List Text) (l : Ledger D) (j : Seen D) (b : Books StateSeen) (p : Pages) → AreHeldAt w f recorded base gone l p → b ≡ l.books → j ≡ l.journal → recorded ≡ (book_in l).rows
+  pub untouched-held : (recorded : Built) (base : State Text Own) (gone : List Text) (l : Ledger D) (j : Seen D) (b : Books StateSeen) (p : OpenPages) → AreHeldAt w f recorded base gone l p → b ≡ l.books → j ≡ l.journal → recorded ≡ (book_in l).rows
       → AreHeldAt w f (book_in (record l { journal = j; books = b })).rows base gone (record l { journal = j; books = b }) p
   untouched-held recorded base gone l j b p are books journal fresh =
       subst (λ (x : Books StateSeen). AreHeldAt w f (book_in (record l { journal = j; books = x })).rows base gone (record l { journal = j; books = x }) p) (sym books)

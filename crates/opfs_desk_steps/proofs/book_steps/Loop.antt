@@ -31,9 +31,9 @@ use Rattle.opfs_desk_steps.specs.Parts.Acted.{AreCleared, HasFailed, last_doubt}
 use Rattle.opfs_desk_steps.specs.Parts.Asked.{AreEvictions}
 use Rattle.opfs_desk_steps.specs.Parts.Held.{AreHeldAt, AreHeldWhole}
 use Rattle.opfs_desk_steps.specs.Parts.Seen.{machine_in, tree_in, book_in, units_in}
-use Rattle.opfs_desk_steps.specs.declared.parts.call.Clearing.{Clearing}
+use Rattle.opfs_desk_steps.specs.declared.parts.call.Eviction.{Eviction}
 use Rattle.opfs_desk_steps.specs.declared.parts.parts.Ledger.{Ledger}
-use Rattle.opfs_desk_steps.specs.declared.parts.parts.Pages.{Pages}
+use Rattle.opfs_desk_steps.specs.declared.parts.parts.OpenPages.{OpenPages}
 use Rattle.opfs_desk_steps.specs.BookSteps.Clearing.{IsJudged, IsTurn, IsStillReady, MayEvict, IsEnteredFailed, IsOnWay, cleared_from}
 use Rattle.opfs_desk_steps.proofs.book_steps.Held.{evicted-told, evictions-told, refused-told}
 use Rattle.opfs_desk_steps.proofs.book_steps.Real.{own-units, has-room, agent-there}
@@ -43,7 +43,7 @@ use Rattle.opfs_desk_steps.proofs.book_steps.Ways.{way-here, way-then, way-same,
 abbrev pub Falls : {D : Type 0} → DiskWords D → Type 0
 Falls {D} w = w.tells → (d : D) (t u : ℕ) (c : List ℕ) → t ≤ u → w.since d u c → w.since d t c
 
-module _ {D : Type 0} (w : DiskWords D) (start : Ledger D) (e : Entry) (all : List Clearing) where
+module _ {D : Type 0} (w : DiskWords D) (start : Ledger D) (e : Entry) (all : List Eviction) where
   -- Nothing is cleared yet.
   pub way-begins : BooksShowTheirImages w → IsStillReady start e → start.journal.in_doubt ≡ false → AreEvictions all → IsOnWay w start start e all all
   way-begins rest ready settled evictions = record {
@@ -58,12 +58,12 @@ module _ {D : Type 0} (w : DiskWords D) (start : Ledger D) (e : Entry) (all : Li
     cleared = λ f recorded p are. record { recorded = recorded; are = are; way = way-here w f recorded (state_after f.opening start.books.history) [] start start (told f (book_in start)) rest are.books refl };
   }
 
-  module _ (mid : Ledger D) (x : Clearing) (rest : List Clearing) (on : IsOnWay w start mid e all (x ∷ rest)) where
+  module _ (mid : Ledger D) (x : Eviction) (rest : List Eviction) (on : IsOnWay w start mid e all (x ∷ rest)) where
     abbrev more : List Text
     more = on.done ++ x.unit ∷ []
 
     -- The next one may be.
-    pub next-may : LengthsFollowEachCall → (f : Fixed D) (recorded : Built) (p : Pages) → AreHeldWhole w f recorded start p → IsJudged (state_after f.opening start.books.history) e (units_in all) → HasRoom (state_after f.opening start.books.history) e.agent e.op (units_in all)
+    pub next-may : LengthsFollowEachCall → (f : Fixed D) (recorded : Built) (p : OpenPages) → AreHeldWhole w f recorded start p → IsJudged (state_after f.opening start.books.history) e (units_in all) → HasRoom (state_after f.opening start.books.history) e.agent e.op (units_in all)
         → MayEvict w mid e x
     next-may follow f recorded p are judged room =
         let was = on.cleared f recorded p are in
@@ -85,9 +85,9 @@ module _ {D : Type 0} (w : DiskWords D) (start : Ledger D) (e : Entry) (all : Li
 
     -- It is cleared.
     pub way-goes-on : Falls w → (new : Ledger D) → new.books.history ≡ mid.books.history ++ eviction x.unit ∷ [] → machine_in new ≡ evicted (machine_in mid) x.unit → tree_in new ≡ without (x.unit, []) (tree_in mid) → IsStillReady new e → new.journal.in_doubt ≡ false
-        → ((f : Fixed D) (recorded : Built) (base : State Text Own) (gone : List Text) (p : Pages) → AreHeldAt w f recorded base gone mid p → AreHeldAt w f (book_in new).rows base (gone ++ x.unit ∷ []) new p)
+        → ((f : Fixed D) (recorded : Built) (base : State Text Own) (gone : List Text) (p : OpenPages) → AreHeldAt w f recorded base gone mid p → AreHeldAt w f (book_in new).rows base (gone ++ x.unit ∷ []) new p)
         → LeavesPages w mid.journal new.journal
-        → ((f : Fixed D) (recorded : Built) (base : State Text Own) (gone : List Text) (p : Pages) → AreHeldAt w f recorded base gone mid p → ShowsTold w f (book_in mid) (told f (book_in mid) ++ evict x.unit ∷ []) mid.journal new.journal)
+        → ((f : Fixed D) (recorded : Built) (base : State Text Own) (gone : List Text) (p : OpenPages) → AreHeldAt w f recorded base gone mid p → ShowsTold w f (book_in mid) (told f (book_in mid) ++ evict x.unit ∷ []) mid.journal new.journal)
         → IsOnWay w start new e all rest
     way-goes-on falls new entries machine tree ready settled held leaves shown = record {
       done = more;
@@ -115,7 +115,7 @@ module _ {D : Type 0} (w : DiskWords D) (start : Ledger D) (e : Entry) (all : Li
 
     -- The disk failed.
     pub way-fails : Falls w → CallsMayFail w.tells → (new : Ledger D) → LeavesPages w mid.journal new.journal → Rose (w.faults mid.journal.disk) (w.faults new.journal.disk) → new.books.state.store.prepared.place ≡ None
-        → (f : Fixed D) (recorded : Built) (p : Pages) → AreHeldWhole w f recorded start p → IsTurn (state_after f.opening start.books.history) on.done mid e x.unit
+        → (f : Fixed D) (recorded : Built) (p : OpenPages) → AreHeldWhole w f recorded start p → IsTurn (state_after f.opening start.books.history) on.done mid e x.unit
         → ((recorded : Built) (base : State Text Own) (gone : List Text) → AreHeldAt w f recorded base gone mid p → IsTurn base gone mid e x.unit → IsEnteredFailed w f recorded e mid new p)
         → ((recorded : Built) (base : State Text Own) (gone : List Text) → AreHeldAt w f recorded base gone mid p → ShowsTold w f (book_in mid) (told f (book_in mid) ++ evict x.unit ∷ []) mid.journal new.journal)
         → HasFailed w f e start new p
@@ -143,7 +143,7 @@ module _ {D : Type 0} (w : DiskWords D) (start : Ledger D) (e : Entry) (all : Li
 
 -- ---- what the way begins with
 
-module _ {D : Type 0} (w : DiskWords D) (f : Fixed D) (recorded : Built) (l : Ledger D) (p : Pages) (are : AreHeldWhole w f recorded l p) (e : Entry) (units : List Text) (judged : IsJudged (state_after f.opening l.books.history) e units) where
+module _ {D : Type 0} (w : DiskWords D) (f : Fixed D) (recorded : Built) (l : Ledger D) (p : OpenPages) (are : AreHeldWhole w f recorded l p) (e : Entry) (units : List Text) (judged : IsJudged (state_after f.opening l.books.history) e units) where
   pub ready-for : IsPrepared l.books.state e.agent e.op → IsPlaced l.books.history e.agent → AStateCountsItsHistory → ReadsLeaveTheState → CallsAreAboutOwnUnits → IsStillReady l e
   ready-for prepared placed counts reads about = record {
     prepared = prepared;
@@ -160,11 +160,11 @@ module _ {D : Type 0} (w : DiskWords D) (f : Fixed D) (recorded : Built) (l : Le
 
 -- ---- where it ends
 
-none-left : (rest : List Clearing) → length rest ≡ 0 → units_in rest ≡ []
+none-left : (rest : List Eviction) → length rest ≡ 0 → units_in rest ≡ []
 none-left [] none = refl
 none-left (x ∷ rest) none = cc
 
-pub all-cleared : {D : Type 0} (w : DiskWords D) (start new : Ledger D) (e : Entry) (all rest : List Clearing) → IsOnWay w start new e all rest → length rest ≡ 0 → (f : Fixed D) (recorded : Built) (p : Pages) → AreHeldWhole w f recorded start p
+pub all-cleared : {D : Type 0} (w : DiskWords D) (start new : Ledger D) (e : Entry) (all rest : List Eviction) → IsOnWay w start new e all rest → length rest ≡ 0 → (f : Fixed D) (recorded : Built) (p : OpenPages) → AreHeldWhole w f recorded start p
     → AreCleared w f (units_in all) start new p
 all-cleared w start new e all rest on none f recorded p are =
     subst (λ (us : List Text). AreCleared w f us start new p) (sym (on.split ∙ ap (λ us. on.done ++ us) (none-left rest none) ∙ append-nil on.done)) (on.cleared f recorded p are)

@@ -45,7 +45,7 @@ use Rattle.opfs_work.specs.Works.{WorkingCopy}
 use Rattle.opfs_desk_steps.specs.Parts.Held.{AreHeldWhole}
 use Rattle.opfs_desk_steps.specs.Parts.Seen.{machine_in}
 use Rattle.opfs_desk_steps.specs.declared.parts.parts.Ledger.{Ledger}
-use Rattle.opfs_desk_steps.specs.declared.parts.parts.Pages.{Pages}
+use Rattle.opfs_desk_steps.specs.declared.parts.parts.OpenPages.{OpenPages}
 use Rattle.opfs_desk_steps.proofs.Counts.{live-before}
 use Rattle.opfs_desk_steps.proofs.Ready.{agent-of}
 use Rattle.opfs_desk_steps.proofs.book_steps.Real.{real, real-legal, real-state, own-origin, own-units}
@@ -58,7 +58,7 @@ in-bytes : (s : State Text Own) (k : ℕ) (o : Op) → judged_in in_bytes s (siz
 unfolding judged_in judged
 in-bytes s k o = refl
 
-module _ {D : Type 0} (w : DiskWords D) (states : StateLaws) (reads : ReadsLeaveTheState) (follow : LengthsFollowEachCall) (local : LocalCallsAreKnownByTheirWord) (f : Fixed D) (recorded : Built) (l : Ledger D) (p : Pages)
+module _ {D : Type 0} (w : DiskWords D) (states : StateLaws) (reads : ReadsLeaveTheState) (follow : LengthsFollowEachCall) (local : LocalCallsAreKnownByTheirWord) (f : Fixed D) (recorded : Built) (l : Ledger D) (p : OpenPages)
     (calls : List Entry) (c : Call) (work : WorkingCopy) (past : List Text) (held : AreHeldWhole w f recorded l p) (may : MayAct w.tells f.opening l.books.history calls c work past) where
   abbrev h : List Entry
   h = l.books.history

@@ -14,12 +14,12 @@ use Rattle.opfs_tree.specs.Rows.{Rows as Tree}
 use Rattle.opfs_desk_steps.specs.Parts.Held.{AreHeldWhole}
 use Rattle.opfs_desk_steps.specs.Parts.Seen.{machine_in, tree_in}
 use Rattle.opfs_desk_steps.specs.declared.parts.parts.Ledger.{Ledger}
-use Rattle.opfs_desk_steps.specs.declared.parts.parts.Pages.{Pages}
+use Rattle.opfs_desk_steps.specs.declared.parts.parts.OpenPages.{OpenPages}
 
 abbrev pub with_state : {D : Type 0} → Ledger D → StateSeen → Ledger D
 with_state l s = record l { books = record l.books { state = s } }
 
-pub same-held : {D : Type 0} (w : DiskWords D) (f : Fixed D) (recorded : Built) (l : Ledger D) (p : Pages) (s : StateSeen) → s.store.machine ≡ machine_in l → s.store.tree ≡ tree_in l
+pub same-held : {D : Type 0} (w : DiskWords D) (f : Fixed D) (recorded : Built) (l : Ledger D) (p : OpenPages) (s : StateSeen) → s.store.machine ≡ machine_in l → s.store.tree ≡ tree_in l
     → AreHeldWhole w f recorded l p → AreHeldWhole w f recorded (with_state l s) p
 same-held w f recorded l p s machine tree h = record {
   books =

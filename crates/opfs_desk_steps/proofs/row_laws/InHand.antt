@@ -28,7 +28,7 @@ use Rattle.opfs_laws.specs.Steady.Steady.{row_bytes}
 use Rattle.opfs_desk_steps.specs.Parts.Held.{AreHeldAt}
 use Rattle.opfs_desk_steps.specs.Parts.Seen.{machine_in, shelf_in, book_in}
 use Rattle.opfs_desk_steps.specs.declared.parts.parts.Ledger.{Ledger}
-use Rattle.opfs_desk_steps.specs.declared.parts.parts.Pages.{Pages}
+use Rattle.opfs_desk_steps.specs.declared.parts.parts.OpenPages.{OpenPages}
 use Rattle.opfs_desk_steps.specs.RowLaws.InHand.{HasInHand, HasPages, HasNoPages, RowsInHandAreLaid}
 use Rattle.opfs_desk_steps.proofs.row_laws.Staying.{open-with-bytes}
 
@@ -50,7 +50,7 @@ LaidInHand tells =
     → AreLaid tells o h base c m s old → AreLaid tells o (h ++ e ∷ []) base d t r new
 
 module _ (calls : CallsLeaveOtherRows) {D : Type 0} (w : DiskWords D) (known : BooksKeepTheState w) (laid : LaidInHand w.tells)
-    (f : Fixed D) (recorded : Built) (base : State Text Own) (gone : List Text) (l : Ledger D) (p : Pages) (d : List ℕ) (e : Entry) (row : ℕ) (r : Shelf) (space : SpaceSeen)
+    (f : Fixed D) (recorded : Built) (base : State Text Own) (gone : List Text) (l : Ledger D) (p : OpenPages) (d : List ℕ) (e : Entry) (row : ℕ) (r : Shelf) (space : SpaceSeen)
     (held : AreHeldAt w f recorded base gone l p) (has : HasInHand (fold evicted base gone) e row) where
   abbrev s : State Text Own
   s = fold evicted base gone

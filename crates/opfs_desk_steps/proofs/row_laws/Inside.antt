@@ -29,7 +29,7 @@ use Rattle.opfs_space.specs.Spaces.{SpaceSeen}
 use Rattle.opfs_desk_steps.specs.Parts.Held.{AreHeldWhole}
 use Rattle.opfs_desk_steps.specs.Parts.Seen.{machine_in, tree_in, shelf_in}
 use Rattle.opfs_desk_steps.specs.declared.parts.parts.Ledger.{Ledger}
-use Rattle.opfs_desk_steps.specs.declared.parts.parts.Pages.{Pages}
+use Rattle.opfs_desk_steps.specs.declared.parts.parts.OpenPages.{OpenPages}
 use Rattle.opfs_desk_steps.specs.RowLaws.Inside.{PartsLieInside}
 
 -- ---- who has blocks
@@ -91,13 +91,13 @@ ranged g is =
 
 module _ (states : StateLaws) {D : Type 0} (w : DiskWords D) where
   -- The limits are those of the opening, as long as nothing is cleared for a call.
-  pub limits-are : (f : Fixed D) (recorded : Built) (l : Ledger D) (p : Pages) → AreHeldWhole w f recorded l p → (machine_in l).limits ≡ f.opening.limits
+  pub limits-are : (f : Fixed D) (recorded : Built) (l : Ledger D) (p : OpenPages) → AreHeldWhole w f recorded l p → (machine_in l).limits ≡ f.opening.limits
   limits-are f recorded l p held =
       let there = whole-state w.tells f.opening l.books.history (state_after f.opening l.books.history) held.books.told in
       ap (λ (m : Machine). m.limits) held.books.machine
       ∙ (sym (ap (λ (s : State Text Own). s.limits) there.2) ∙ states.counts.limits f.opening there.0 there.1)
 
-  pub size-is : (f : Fixed D) (recorded : Built) (l : Ledger D) (p : Pages) → AreHeldWhole w f recorded l p → length p.space.used ≡ f.geometry.blocks
+  pub size-is : (f : Fixed D) (recorded : Built) (l : Ledger D) (p : OpenPages) → AreHeldWhole w f recorded l p → length p.space.used ≡ f.geometry.blocks
   size-is f recorded l p held =
       held.laid.spaced.size ∙ ap (λ (x : Limits). x.blocks) (limits-are f recorded l p held) ∙ held.books.blocks
 

@@ -43,7 +43,7 @@ use Rattle.opfs_work.specs.Pages.{page_at, page_byte, byte_at, bytes_of, is_far}
 use Rattle.opfs_work.specs.Works.{WorkingCopy, contents}
 use Rattle.opfs_desk_steps.specs.Parts.Seen.{book_in}
 use Rattle.opfs_desk_steps.specs.declared.parts.parts.Ledger.{Ledger}
-use Rattle.opfs_desk_steps.specs.declared.parts.parts.Pages.{Pages}
+use Rattle.opfs_desk_steps.specs.declared.parts.parts.OpenPages.{OpenPages}
 use Rattle.opfs_desk_steps.specs.RowLaws.OpenCopies.{IsOpenedCopy, OpenedCopiesStand}
 use Rattle.opfs_desk_steps.specs.RowLaws.Opens.{MayOpen, next_row, opens_row}
 use Rattle.opfs_desk_steps.specs.RowLaws.Stored.{FilesAreStored}
@@ -78,7 +78,7 @@ HandlesStand tells =
     → StandsFor tells o (h ++ e ∷ []) e.agent n work
 
 module _ (states : StateLaws) (rows : CallsChangeTheirRow) (keep_blocks : TreesKeepBlocks) {D : Type 0} (w : DiskWords D) (stored : FilesAreStored w) (known : BooksKeepTheState w) (streams : StreamsStand w.tells) (handles : HandlesStand w.tells)
-    (f : Fixed D) (recorded : Built) (base : State Text Own) (gone : List Text) (l : Ledger D) (p new : Pages) (k number : ℕ) (answered : Reply) (turn : Bool) (z : Sizes) (work : WorkingCopy) where
+    (f : Fixed D) (recorded : Built) (base : State Text Own) (gone : List Text) (l : Ledger D) (p new : OpenPages) (k number : ℕ) (answered : Reply) (turn : Bool) (z : Sizes) (work : WorkingCopy) where
   abbrev s : State Text Own
   s = fold evicted base gone
 

@@ -63,7 +63,7 @@ use Rattle.opfs_tree.specs.Rows.{Rows as Tree, row_at, extents_of, change_at, lo
 use Rattle.opfs_desk_steps.specs.Parts.Held.{AreHeldAt}
 use Rattle.opfs_desk_steps.specs.Parts.Seen.{machine_in, tree_in, shelf_in}
 use Rattle.opfs_desk_steps.specs.declared.parts.parts.Ledger.{Ledger}
-use Rattle.opfs_desk_steps.specs.declared.parts.parts.Pages.{Pages}
+use Rattle.opfs_desk_steps.specs.declared.parts.parts.OpenPages.{OpenPages}
 use Rattle.opfs_desk_steps.specs.RowLaws.Opening.{IsOpenedOver}
 use Rattle.opfs_desk_steps.specs.RowLaws.Opens.{opens_row, file_extents, opened_extents, opened_bytes, next_row, MayOpen, HasOpened, CallsOpenRows}
 use Rattle.opfs_desk_steps.specs.RowLaws.Stored.{HasCleared, FilesAreStored}
@@ -125,7 +125,7 @@ file-back (Some x) fl is = (x, refl, sym (one is))
     one e = cc
 
 -- What is known of a file whose lock is given: its blocks have its bytes, each once.
-pub record IsGivenFile {D : Type 0} (w : DiskWords D) (s : State Text Own) (l : Ledger D) (p : Pages) (place : Place) : Type 0 where
+pub record IsGivenFile {D : Type 0} (w : DiskWords D) (s : State Text Own) (l : Ledger D) (p : OpenPages) (place : Place) : Type 0 where
   pub bytes_are : Text
   pub present : bytes_at s place ≡ bytes_are
   pub extents_are : List Extent
@@ -139,7 +139,7 @@ pub record IsGivenFile {D : Type 0} (w : DiskWords D) (s : State Text Own) (l : 
   pub size : length file.present ≡ length bytes_are
 
 module _ (states : StateLaws) {D : Type 0} (w : DiskWords D) (stored : FilesAreStored w) where
-  pub given-file : (f : Fixed D) (recorded : Built) (base : State Text Own) (gone : List Text) (l : Ledger D) (p : Pages) → AreHeldAt w f recorded base gone l p → HasCleared w.tells f.opening l.books.history base gone
+  pub given-file : (f : Fixed D) (recorded : Built) (base : State Text Own) (gone : List Text) (l : Ledger D) (p : OpenPages) → AreHeldAt w f recorded base gone l p → HasCleared w.tells f.opening l.books.history base gone
       → lines_of (tree_in l) ≡ (machine_in l).rows → (place : Place) (fl : File ℕ) → file_at (machine_in l) place ≡ Some fl → (want : Want) → is_some (taken want fl.lock) ≡ true → IsGivenFile w (fold evicted base gone) l p place
   given-file f recorded base gone l p held cleared lines place fl there want given =
       let s = fold evicted base gone in
@@ -229,7 +229,7 @@ unfolding row_in_hand
 hand s k o asks = ap (λ b. cond b (length (agent_of s k).own + 1) (row_used o)) asks ∙ number-of (length (agent_of s k).own)
 
 module _ (states : StateLaws) (rows : CallsChangeTheirRow) (keep_blocks : TreesKeepBlocks) {D : Type 0} (w : DiskWords D) (stored : FilesAreStored w)
-    (f : Fixed D) (recorded : Built) (base : State Text Own) (gone : List Text) (l : Ledger D) (p new : Pages) (k number : ℕ) (answered : Reply) (turn : Bool) (z : Sizes) where
+    (f : Fixed D) (recorded : Built) (base : State Text Own) (gone : List Text) (l : Ledger D) (p new : OpenPages) (k number : ℕ) (answered : Reply) (turn : Bool) (z : Sizes) where
   abbrev pub s : State Text Own
   s = fold evicted base gone
 

@@ -47,7 +47,7 @@ use Rattle.opfs_tree.specs.Rows.{file_at as file_in_tree, file_of as file_of_row
 use Rattle.opfs_desk_steps.specs.Parts.Held.{AreHeldAt}
 use Rattle.opfs_desk_steps.specs.Parts.Seen.{machine_in, tree_in, book_in}
 use Rattle.opfs_desk_steps.specs.declared.parts.parts.Ledger.{Ledger}
-use Rattle.opfs_desk_steps.specs.declared.parts.parts.Pages.{Pages}
+use Rattle.opfs_desk_steps.specs.declared.parts.parts.OpenPages.{OpenPages}
 use Rattle.opfs_desk_steps.specs.RowLaws.Stored.{HasCleared, FilesAreStored, HistoriesAreCleared}
 
 -- ---- look-ups
@@ -153,7 +153,7 @@ module _ (build : ChangesBuildTheDurablePart) {D : Type 0} (w : DiskWords D) (la
       ∙ (ap (λ (s : State Text Own). fold changed (durable_part base) (changes_from s (map eviction gone))) cleared.state ∙ cleared-builds base gone))))
 
   -- Where the disk tells, the rows hold what the state has stored.
-  pub rows-hold : (f : Fixed D) (recorded : Built) (base : State Text Own) (gone : List Text) (l : Ledger D) (p : Pages) → AreHeldAt w f recorded base gone l p → HasCleared w.tells f.opening l.books.history base gone → w.tells
+  pub rows-hold : (f : Fixed D) (recorded : Built) (base : State Text Own) (gone : List Text) (l : Ledger D) (p : OpenPages) → AreHeldAt w f recorded base gone l p → HasCleared w.tells f.opening l.books.history base gone → w.tells
       → filled (data_base f.geometry) (w.content l.journal.disk) (stored_built (tree_in l) (machine_in l).persistent) ≡ durable_part (fold evicted base gone)
   rows-hold f recorded base gone l p held cleared t =
       (laws t).rows (account_of f recorded (book_in l)) (committing l.journal l.books.commits) (held.books.images t)

@@ -24,9 +24,9 @@ use Rattle.opfs_desk_steps.specs.Parts.Acted.{AreCleared}
 use Rattle.opfs_desk_steps.specs.Parts.Asked.{AreEvictions}
 use Rattle.opfs_desk_steps.specs.Parts.Held.{AreHeldAt, AreHeldWhole}
 use Rattle.opfs_desk_steps.specs.Parts.Seen.{machine_in, tree_in, units_in}
-use Rattle.opfs_desk_steps.specs.declared.parts.call.Clearing.{Clearing}
+use Rattle.opfs_desk_steps.specs.declared.parts.call.Eviction.{Eviction}
 use Rattle.opfs_desk_steps.specs.declared.parts.parts.Ledger.{Ledger}
-use Rattle.opfs_desk_steps.specs.declared.parts.parts.Pages.{Pages}
+use Rattle.opfs_desk_steps.specs.declared.parts.parts.OpenPages.{OpenPages}
 
 -- A call is not refused, these units are cleared for it, and the disk may fail in it.
 pub record IsJudged (s : State Text Own) (e : Entry) (units : List Text) : Type 0 where
@@ -36,10 +36,10 @@ pub record IsJudged (s : State Text Own) (e : Entry) (units : List Text) : Type 
   pub disk : IsTrue (is_disk_op s e.agent e.op)
 
 -- Over parts that are kept.
-pub record MayMakeWay {D : Type 0} (w : DiskWords D) (l : Ledger D) (e : Entry) (clearing : List Clearing) : Type 0 where
+pub record MayMakeWay {D : Type 0} (w : DiskWords D) (l : Ledger D) (e : Entry) (clearing : List Eviction) : Type 0 where
   pub fixed : Fixed D
   pub recorded : Built
-  pub pages : Pages
+  pub pages : OpenPages
   pub are : AreHeldWhole w fixed recorded l pages
   pub judged : IsJudged (state_after fixed.opening l.books.history) e (units_in clearing)
   pub prepared : IsPrepared l.books.state e.agent e.op
@@ -65,12 +65,12 @@ pub record IsStillReady {D : Type 0} (l : Ledger D) (e : Entry) : Type 0 where
   pub placed : IsPlaced l.books.history e.agent
 
 -- Over parts that are kept, while no gate is in doubt.
-pub record MayEvict {D : Type 0} (w : DiskWords D) (l : Ledger D) (e : Entry) (c : Clearing) : Type 0 where
+pub record MayEvict {D : Type 0} (w : DiskWords D) (l : Ledger D) (e : Entry) (c : Eviction) : Type 0 where
   pub fixed : Fixed D
   pub recorded : Built
   pub base : State Text Own
   pub gone : List Text
-  pub pages : Pages
+  pub pages : OpenPages
   pub are : AreHeldAt w fixed recorded base gone l pages
   pub turn : IsTurn base gone l e c.unit
   pub ready : IsStillReady l e
@@ -78,7 +78,7 @@ pub record MayEvict {D : Type 0} (w : DiskWords D) (l : Ledger D) (e : Entry) (c
   pub settled : l.journal.in_doubt ≡ false
 
 -- The call is entered as one in which the disk failed, and the parts are kept.
-pub record IsEnteredFailed {D : Type 0} (w : DiskWords D) (f : Fixed D) (recorded : Built) (e : Entry) (old new : Ledger D) (p : Pages) : Type 0 where
+pub record IsEnteredFailed {D : Type 0} (w : DiskWords D) (f : Fixed D) (recorded : Built) (e : Entry) (old new : Ledger D) (p : OpenPages) : Type 0 where
   pub grown : new.books.history ≡ old.books.history ++ failed e ∷ []
   pub are : AreHeldWhole w f recorded new p
 
@@ -86,13 +86,13 @@ pub record IsEnteredFailed {D : Type 0} (w : DiskWords D) (f : Fixed D) (recorde
 pub record MayEndDoubt {D : Type 0} (w : DiskWords D) (l : Ledger D) (e : Entry) : Type 0 where
   pub fixed : Fixed D
   pub recorded : Built
-  pub pages : Pages
+  pub pages : OpenPages
   pub are : AreHeldWhole w fixed recorded l pages
   pub agent : IsAgent (machine_in l) e.agent
   pub placed : IsPlaced l.books.history e.agent
 
 -- All these units may be cleared for a call, over parts that are kept, while no gate is in doubt.
-pub record MayClearAll {D : Type 0} (w : DiskWords D) (l : Ledger D) (e : Entry) (clearing : List Clearing) : Type 0 where
+pub record MayClearAll {D : Type 0} (w : DiskWords D) (l : Ledger D) (e : Entry) (clearing : List Eviction) : Type 0 where
   pub way : MayMakeWay w l e clearing
   pub settled : l.journal.in_doubt ≡ false
 
@@ -101,7 +101,7 @@ abbrev pub cleared_from : Tree → Text → Tree
 cleared_from t unit = without (unit, []) t
 
 -- Some of them are cleared since a start, and the others are left.
-pub record IsOnWay {D : Type 0} (w : DiskWords D) (start l : Ledger D) (e : Entry) (all rest : List Clearing) : Type 0 where
+pub record IsOnWay {D : Type 0} (w : DiskWords D) (start l : Ledger D) (e : Entry) (all rest : List Eviction) : Type 0 where
   pub done : List Text
   pub split : units_in all ≡ done ++ units_in rest
   pub entries : l.books.history ≡ start.books.history ++ map eviction done
@@ -110,4 +110,4 @@ pub record IsOnWay {D : Type 0} (w : DiskWords D) (start l : Ledger D) (e : Entr
   pub ready : IsStillReady l e
   pub settled : l.journal.in_doubt ≡ false
   pub evictions : AreEvictions rest
-  pub cleared : (f : Fixed D) (recorded : Built) (p : Pages) → AreHeldWhole w f recorded start p → AreCleared w f done start l p
+  pub cleared : (f : Fixed D) (recorded : Built) (p : OpenPages) → AreHeldWhole w f recorded start p → AreCleared w f done start l p

@@ -13,7 +13,7 @@ use Rattle.opfs_state.specs.Verdicts.Callers.{IsAgent}
 use Rattle.opfs_desk_steps.specs.Parts.Held.{AreHeldAt}
 use Rattle.opfs_desk_steps.specs.Parts.Seen.{machine_in, book_in}
 use Rattle.opfs_desk_steps.specs.declared.parts.parts.Ledger.{Ledger}
-use Rattle.opfs_desk_steps.specs.declared.parts.parts.Pages.{Pages}
+use Rattle.opfs_desk_steps.specs.declared.parts.parts.OpenPages.{OpenPages}
 
 -- Its entry may come now, after these evictions. One that tells of a disk fault has its own rise of the count.
 pub record IsRefused {D : Type 0} (w : DiskWords D) (f : Fixed D) (base : State Text Own) (gone : List Text) (l : Ledger D) (e : Entry) : Type 0 where
@@ -26,7 +26,7 @@ pub record MayRefuse {D : Type 0} (w : DiskWords D) (l : Ledger D) (e : Entry) :
   pub recorded : Built
   pub base : State Text Own
   pub gone : List Text
-  pub pages : Pages
+  pub pages : OpenPages
   pub are : AreHeldAt w fixed recorded base gone l pages
   pub refuses : is_refusal e.reply ≡ true
   pub placed : IsPlaced l.books.history e.agent

@@ -13,13 +13,13 @@ use Rattle.opfs_state.specs.Verdicts.Callers.{IsAgent}
 use Rattle.opfs_desk_steps.specs.Parts.Held.{AreHeldWhole}
 use Rattle.opfs_desk_steps.specs.Parts.Seen.{machine_in}
 use Rattle.opfs_desk_steps.specs.declared.parts.parts.Ledger.{Ledger}
-use Rattle.opfs_desk_steps.specs.declared.parts.parts.Pages.{Pages}
+use Rattle.opfs_desk_steps.specs.declared.parts.parts.OpenPages.{OpenPages}
 
 -- They may be taken in, over parts that are kept: there is such an agent, and it has room for their entries and rows.
 pub record MayTakeInto {D : Type 0} (w : DiskWords D) (l : Ledger D) (k : ℕ) (calls : List Entry) : Type 0 where
   pub fixed : Fixed D
   pub recorded : Built
-  pub pages : Pages
+  pub pages : OpenPages
   pub are : AreHeldWhole w fixed recorded l pages
   pub pending : ArePendingFor w.tells (state_after fixed.opening l.books.history) k calls
   pub agent : IsAgent (machine_in l) k

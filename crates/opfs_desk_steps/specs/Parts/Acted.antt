@@ -21,8 +21,8 @@ use Rattle.opfs_work.specs.Works.{WorkingCopy}
 use Rattle.opfs_desk_steps.specs.Parts.Held.{AreHeld, AreHeldAt, AreHeldWhole}
 use Rattle.opfs_desk_steps.specs.Parts.Seen.{book_in}
 use Rattle.opfs_desk_steps.specs.declared.parts.parts.Ledger.{Ledger}
-use Rattle.opfs_desk_steps.specs.declared.parts.parts.Pages.{Pages}
-use Rattle.opfs_desk_steps.specs.declared.parts.parts.Parts.{Parts}
+use Rattle.opfs_desk_steps.specs.declared.parts.parts.OpenPages.{OpenPages}
+use Rattle.opfs_desk_steps.specs.declared.parts.parts.DeskParts.{DeskParts}
 
 -- What the last entry leaves in doubt, where the disk failed in its call: the eviction of its next victim, or what it would
 -- have stored.
@@ -44,7 +44,7 @@ abbrev pub IsWayEnded : {D : Type 0} → DiskWords D → Fixed D → Ledger D �
 IsWayEnded w f old new = IsWay w f (told f (book_in new) ++ last_doubt f.opening new.books.history) old new
 
 -- The call was entered, over parts that are kept.
-pub record HasActed {D : Type 0} (w : DiskWords D) (f : Fixed D) (old new : Parts D) (calls : List Entry) (c : Call) (before after : WorkingCopy) (done : Acted) : Type 0 where
+pub record HasActed {D : Type 0} (w : DiskWords D) (f : Fixed D) (old new : DeskParts D) (calls : List Entry) (c : Call) (before after : WorkingCopy) (done : Acted) : Type 0 where
   pub held : AreHeld w f new
   pub acted : IsActed w.tells f.opening old.ledger.books.history calls c done.reply new.ledger.books.history
   pub left : IsLeft w.tells f.opening new.ledger.books.history c done.reply before after
@@ -54,20 +54,20 @@ pub record HasActed {D : Type 0} (w : DiskWords D) (f : Fixed D) (old new : Part
   pub way : IsWayEnded w f old.ledger new.ledger
 
 -- There was no memory: nothing was entered, and the parts are kept; the disk may have been read.
-pub record IsUnacted {D : Type 0} (w : DiskWords D) (f : Fixed D) (old new : Parts D) : Type 0 where
+pub record IsUnacted {D : Type 0} (w : DiskWords D) (f : Fixed D) (old new : DeskParts D) : Type 0 where
   pub recorded : Built
   pub are : AreHeldWhole w f recorded new.ledger new.pages
   pub entries : new.ledger.books.history ≡ old.ledger.books.history
   pub way : IsWayNow w f old.ledger new.ledger
 
 -- All units are cleared for a call, and no gate is in doubt. The pages are as they were.
-pub record AreCleared {D : Type 0} (w : DiskWords D) (f : Fixed D) (units : List Text) (old new : Ledger D) (p : Pages) : Type 0 where
+pub record AreCleared {D : Type 0} (w : DiskWords D) (f : Fixed D) (units : List Text) (old new : Ledger D) (p : OpenPages) : Type 0 where
   pub recorded : Built
   pub are : AreHeldAt w f recorded (state_after f.opening old.books.history) units new p
   pub way : IsWayNow w f old new
 
 -- The disk failed before the call's own change: its entry tells so, and nothing else of it is there but evictions.
-pub record HasFailed {D : Type 0} (w : DiskWords D) (f : Fixed D) (e : Entry) (old new : Ledger D) (p : Pages) : Type 0 where
+pub record HasFailed {D : Type 0} (w : DiskWords D) (f : Fixed D) (e : Entry) (old new : Ledger D) (p : OpenPages) : Type 0 where
   pub gone : List Text
   pub grown : new.books.history ≡ old.books.history ++ (map eviction gone ++ failed e ∷ [])
   pub call : IsCall (state_after f.opening old.books.history) gone (failed e)

@@ -19,7 +19,7 @@ use Rattle.opfs_state.specs.Verdicts.Callers.{IsAgent}
 use Rattle.opfs_desk_steps.specs.Parts.Held.{AreHeldAt}
 use Rattle.opfs_desk_steps.specs.Parts.Seen.{machine_in}
 use Rattle.opfs_desk_steps.specs.declared.parts.parts.Ledger.{Ledger}
-use Rattle.opfs_desk_steps.specs.declared.parts.parts.Pages.{Pages}
+use Rattle.opfs_desk_steps.specs.declared.parts.parts.OpenPages.{OpenPages}
 
 -- The shared state may change by a call that is not refused: it is judged, has room, and all stands ready.
 pub record MayChange {D : Type 0} (l : Ledger D) (e : Entry) (z : Sizes) : Type 0 where
@@ -44,6 +44,6 @@ pub record MayAnswer {D : Type 0} (w : DiskWords D) (l : Ledger D) (e : Entry) (
   pub recorded : Built
   pub base : State Text Own
   pub gone : List Text
-  pub pages : Pages
+  pub pages : OpenPages
   pub are : AreHeldAt w fixed recorded base gone l pages
   pub answered : IsAnswered w base gone l e z

@@ -16,17 +16,17 @@ use Rattle.opfs_state.specs.Applied.{StateSeen, IsPrepared}
 use Rattle.opfs_work.specs.Works.{WorkingCopy}
 use Rattle.opfs_desk_steps.specs.Parts.Held.{AreHeldWhole}
 use Rattle.opfs_desk_steps.specs.Parts.Seen.{call_in, units_in}
-use Rattle.opfs_desk_steps.specs.declared.parts.call.Clearing.{Clearing}
-use Rattle.opfs_desk_steps.specs.declared.parts.call.InHand.{InHand}
-use Rattle.opfs_desk_steps.specs.declared.parts.parts.Parts.{Parts}
+use Rattle.opfs_desk_steps.specs.declared.parts.call.Eviction.{Eviction}
+use Rattle.opfs_desk_steps.specs.declared.parts.call.ReadyCall.{ReadyCall}
+use Rattle.opfs_desk_steps.specs.declared.parts.parts.DeskParts.{DeskParts}
 
 -- The entries of the units that are cleared are those of their evictions.
-abbrev pub AreEvictions : List Clearing → Type 0
-AreEvictions clearing = AllByRecursion (λ (x : Clearing). x.gone.entry ≡ eviction x.unit) clearing
+abbrev pub AreEvictions : List Eviction → Type 0
+AreEvictions clearing = AllByRecursion (λ (x : Eviction). x.gone.entry ≡ eviction x.unit) clearing
 
 -- A call may be made after a history and its agent's pending calls. It is not refused, these units are cleared for it, and all
 -- of the shared state stands ready.
-pub record IsAsked (tells : Type 0) (o : Opening) (h calls : List Entry) (s : StateSeen) (c : InHand) (work : WorkingCopy) (past : List Text) : Type 0 where
+pub record IsAsked (tells : Type 0) (o : Opening) (h calls : List Entry) (s : StateSeen) (c : ReadyCall) (work : WorkingCopy) (past : List Text) : Type 0 where
   pub may : MayAct tells o h calls (call_in c) work past
   pub sizes : c.sizes ≡ sizes_of (state_after o (h ++ calls)) c.agent c.op
   pub judged : judged (state_after o (h ++ calls)) c.agent c.op ≡ Ok (units_in c.clearing.items)
@@ -34,7 +34,7 @@ pub record IsAsked (tells : Type 0) (o : Opening) (h calls : List Entry) (s : St
   pub evictions : AreEvictions c.clearing.items
 
 -- Over parts that are kept.
-pub record MayGo {D : Type 0} (w : DiskWords D) (p : Parts D) (c : InHand) (calls : List Entry) (work : WorkingCopy) (past : List Text) : Type 0 where
+pub record MayGo {D : Type 0} (w : DiskWords D) (p : DeskParts D) (c : ReadyCall) (calls : List Entry) (work : WorkingCopy) (past : List Text) : Type 0 where
   pub fixed : Fixed D
   pub recorded : Built
   pub are : AreHeldWhole w fixed recorded p.ledger p.pages

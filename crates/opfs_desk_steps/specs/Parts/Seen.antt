@@ -8,10 +8,10 @@ use Rattle.opfs_machine.specs.Runs.{Call}
 use Rattle.opfs_pages.specs.RowCalls.Plans.{shelf}
 use Rattle.opfs_state_rows.specs.Standing.Seen.{Machine}
 use Rattle.opfs_tree.specs.Rows.{Rows as Tree}
-use Rattle.opfs_desk_steps.specs.declared.parts.call.Clearing.{Clearing}
-use Rattle.opfs_desk_steps.specs.declared.parts.call.InHand.{InHand}
+use Rattle.opfs_desk_steps.specs.declared.parts.call.Eviction.{Eviction}
+use Rattle.opfs_desk_steps.specs.declared.parts.call.ReadyCall.{ReadyCall}
 use Rattle.opfs_desk_steps.specs.declared.parts.parts.Ledger.{Ledger}
-use Rattle.opfs_desk_steps.specs.declared.parts.parts.Pages.{Pages}
+use Rattle.opfs_desk_steps.specs.declared.parts.parts.OpenPages.{OpenPages}
 
 -- The machine in lengths, the rows of its tree with their blocks, and the books.
 abbrev pub machine_in : {D : Type 0} → Ledger D → Machine
@@ -24,12 +24,12 @@ abbrev pub book_in : {D : Type 0} → Ledger D → Book
 book_in l = book l.books.history (machine_in l) (tree_in l) l.books.commits l.books.place
 
 -- What has data blocks, where the records build these rows.
-abbrev pub shelf_in : {D : Type 0} → Tree → Ledger D → Pages → Shelf
+abbrev pub shelf_in : {D : Type 0} → Tree → Ledger D → OpenPages → Shelf
 shelf_in recorded l p = shelf recorded (tree_in l) p.swap
 
 -- The words of a call, and the units that are cleared for it.
-abbrev pub call_in : InHand → Call
+abbrev pub call_in : ReadyCall → Call
 call_in c = record { agent = c.agent; number = c.number; op = c.op }
 
-abbrev pub units_in : List Clearing → List Text
-units_in clearing = map (λ (x : Clearing). x.unit) clearing
+abbrev pub units_in : List Eviction → List Text
+units_in clearing = map (λ (x : Eviction). x.unit) clearing

@@ -23,7 +23,7 @@ use Rattle.opfs_space.specs.Spaces.{SpaceSeen}
 use Rattle.opfs_laws.specs.Steady.Steady.{row_bytes}
 use Rattle.opfs_desk_steps.specs.Parts.Held.{AreHeldAt}
 use Rattle.opfs_desk_steps.specs.declared.parts.parts.Ledger.{Ledger}
-use Rattle.opfs_desk_steps.specs.declared.parts.parts.Pages.{Pages}
+use Rattle.opfs_desk_steps.specs.declared.parts.parts.OpenPages.{OpenPages}
 
 -- A call is made after these evictions, and has the row in hand.
 pub record HasInHand (s : State Text Own) (e : Entry) (row : ℕ) : Type 0 where
@@ -48,12 +48,12 @@ pub record HasNoPages (tells : Type 0) (base : ℕ) (c d : List ℕ) (old new : 
 
 pub record RowsInHandAreLaid {D : Type 0} (w : DiskWords D) : Type 0 where
   -- A row that is open after the call.
-  pub open_row : (f : Fixed D) (recorded : Built) (base : State Text Own) (gone : List Text) (l : Ledger D) (p : Pages) (d : List ℕ) (e : Entry) (row : ℕ) (bytes : Text) (r : Shelf) (space : SpaceSeen)
+  pub open_row : (f : Fixed D) (recorded : Built) (base : State Text Own) (gone : List Text) (l : Ledger D) (p : OpenPages) (d : List ℕ) (e : Entry) (row : ℕ) (bytes : Text) (r : Shelf) (space : SpaceSeen)
       → AreHeldAt w f recorded base gone l p → HasInHand (fold evicted base gone) e row → row_bytes (after_reply (fold evicted base gone) e.agent e.op e.reply) e.agent row ≡ Some bytes
       → HasPages w.tells p.base (w.content l.journal.disk) d p.swap r.swap e.agent row bytes → AreSpaced (in_lengths_of (after_reply (fold evicted base gone) e.agent e.op e.reply)) r space
       → AreLaid w.tells f.opening (l.books.history ++ e ∷ []) p.base d (in_lengths_of (after_reply (fold evicted base gone) e.agent e.op e.reply)) r space
   -- One that is not.
-  pub closed_row : (f : Fixed D) (recorded : Built) (base : State Text Own) (gone : List Text) (l : Ledger D) (p : Pages) (d : List ℕ) (e : Entry) (row : ℕ) (r : Shelf) (space : SpaceSeen)
+  pub closed_row : (f : Fixed D) (recorded : Built) (base : State Text Own) (gone : List Text) (l : Ledger D) (p : OpenPages) (d : List ℕ) (e : Entry) (row : ℕ) (r : Shelf) (space : SpaceSeen)
       → AreHeldAt w f recorded base gone l p → HasInHand (fold evicted base gone) e row → row_bytes (after_reply (fold evicted base gone) e.agent e.op e.reply) e.agent row ≡ None
       → is_some (open_at (in_lengths_of (after_reply (fold evicted base gone) e.agent e.op e.reply)) e.agent row) ≡ false
       → HasNoPages w.tells p.base (w.content l.journal.disk) d p.swap r.swap e.agent row → AreSpaced (in_lengths_of (after_reply (fold evicted base gone) e.agent e.op e.reply)) r space

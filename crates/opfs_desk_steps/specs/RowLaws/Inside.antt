@@ -11,10 +11,10 @@ use Rattle.opfs_space.specs.Holders.{AreAllBelow}
 use Rattle.opfs_desk_steps.specs.Parts.Held.{AreHeldWhole}
 use Rattle.opfs_desk_steps.specs.Parts.Seen.{tree_in}
 use Rattle.opfs_desk_steps.specs.declared.parts.parts.Ledger.{Ledger}
-use Rattle.opfs_desk_steps.specs.declared.parts.parts.Pages.{Pages}
+use Rattle.opfs_desk_steps.specs.declared.parts.parts.OpenPages.{OpenPages}
 
 -- The data part lies on the disk behind the areas, and all blocks of files and pages lie in it.
-pub record AreInside {D : Type 0} (w : DiskWords D) (l : Ledger D) (p : Pages) : Type 0 where
+pub record AreInside {D : Type 0} (w : DiskWords D) (l : Ledger D) (p : OpenPages) : Type 0 where
   pub part : IsDataPart l.journal.areas p.base
   pub pages : AreAllBelow (length p.space.used) p.swap
   pub files : AreBelow (length p.space.used) (named (tree_in l))
@@ -23,4 +23,4 @@ pub record AreInside {D : Type 0} (w : DiskWords D) (l : Ledger D) (p : Pages) :
   pub lies : (agent row : ℕ) → AllByRecursion (λ page. LiesIn p.base (w.size l.journal.disk) page.block) (pages_at agent row p.swap)
 
 abbrev pub PartsLieInside : {D : Type 0} → DiskWords D → Type 0
-PartsLieInside {D} w = (f : Fixed D) (recorded : Built) (l : Ledger D) (p : Pages) → AreHeldWhole w f recorded l p → AreInside w l p
+PartsLieInside {D} w = (f : Fixed D) (recorded : Built) (l : Ledger D) (p : OpenPages) → AreHeldWhole w f recorded l p → AreInside w l p

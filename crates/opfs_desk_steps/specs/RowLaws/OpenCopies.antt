@@ -18,7 +18,7 @@ use Rattle.opfs_records.specs.Replay.Built.{Built}
 use Rattle.opfs_work.specs.Pages.{page_at, is_far}
 use Rattle.opfs_work.specs.Works.{WorkingCopy}
 use Rattle.opfs_desk_steps.specs.declared.parts.parts.Ledger.{Ledger}
-use Rattle.opfs_desk_steps.specs.declared.parts.parts.Pages.{Pages}
+use Rattle.opfs_desk_steps.specs.declared.parts.parts.OpenPages.{OpenPages}
 use Rattle.opfs_desk_steps.specs.RowLaws.Opens.{MayOpen, next_row, opened_bytes}
 
 -- The blocks that are kept for the row: as many as a stream begins with.
@@ -36,6 +36,6 @@ pub record IsOpenedCopy (s : State Text Own) (o : Op) (work : WorkingCopy) : Typ
 
 abbrev pub OpenedCopiesStand : {D : Type 0} → DiskWords D → Type 0
 OpenedCopiesStand {D} w =
-    (f : Fixed D) (recorded : Built) (base : State Text Own) (gone : List Text) (l : Ledger D) (p new : Pages) (e : Entry) (z : Sizes) (work : WorkingCopy)
+    (f : Fixed D) (recorded : Built) (base : State Text Own) (gone : List Text) (l : Ledger D) (p new : OpenPages) (e : Entry) (z : Sizes) (work : WorkingCopy)
     → MayOpen w f recorded base gone l p new e z → IsOpenedCopy (fold evicted base gone) e.op work
     → StandsFor w.tells f.opening (l.books.history ++ e ∷ []) e.agent (next_row (fold evicted base gone) e.agent) work

@@ -28,11 +28,11 @@ use Rattle.opfs_tree.specs.Rows.{Rows as Tree}
 use Rattle.opfs_desk_steps.specs.Parts.Held.{AreHeldAt}
 use Rattle.opfs_desk_steps.specs.Parts.Seen.{tree_in, shelf_in}
 use Rattle.opfs_desk_steps.specs.declared.parts.parts.Ledger.{Ledger}
-use Rattle.opfs_desk_steps.specs.declared.parts.parts.Pages.{Pages}
+use Rattle.opfs_desk_steps.specs.declared.parts.parts.OpenPages.{OpenPages}
 
 -- The row has a page for each block of these extents, which are enough for its bytes, and have them where the disk tells. All
 -- else is as it was.
-pub record IsOpenedOver {D : Type 0} (w : DiskWords D) (l : Ledger D) (p new : Pages) (agent row : ℕ) (extents : List Extent) (bytes : Text) : Type 0 where
+pub record IsOpenedOver {D : Type 0} (w : DiskWords D) (l : Ledger D) (p new : OpenPages) (agent row : ℕ) (extents : List Extent) (bytes : Text) : Type 0 where
   pub others : OthersStay agent row p.swap new.swap
   pub here : is_some (row_of agent row new.swap) ≡ true
   pub pages : pages_at agent row new.swap ≡ pages_in extents
@@ -41,7 +41,7 @@ pub record IsOpenedOver {D : Type 0} (w : DiskWords D) (l : Ledger D) (p new : P
 
 -- A call opens the row, after these evictions, and leaves it with these bytes. The tree has the same blocks as before; those of
 -- the row are of its file, each once, and a stream keeps as many.
-pub record Opens {D : Type 0} (l : Ledger D) (p new : Pages) (recorded : Built) (s : State Text Own) (e : Entry) (row : ℕ) (extents : List Extent) (bytes : Text) (tree : Tree) : Type 0 where
+pub record Opens {D : Type 0} (l : Ledger D) (p new : OpenPages) (recorded : Built) (s : State Text Own) (e : Entry) (row : ℕ) (extents : List Extent) (bytes : Text) (tree : Tree) : Type 0 where
   pub plain : evicted_by e.op ≡ None
   pub limits : (after_reply s e.agent e.op e.reply).limits ≡ s.limits
   pub live : IsTrue (agent_of s e.agent).live
@@ -55,6 +55,6 @@ pub record Opens {D : Type 0} (l : Ledger D) (p new : Pages) (recorded : Built) 
 
 abbrev pub OpenedRowsAreLaid : {D : Type 0} → DiskWords D → Type 0
 OpenedRowsAreLaid {D} w =
-    (f : Fixed D) (recorded : Built) (base : State Text Own) (gone : List Text) (l : Ledger D) (p new : Pages) (e : Entry) (row : ℕ) (extents : List Extent) (bytes : Text) (tree : Tree)
+    (f : Fixed D) (recorded : Built) (base : State Text Own) (gone : List Text) (l : Ledger D) (p new : OpenPages) (e : Entry) (row : ℕ) (extents : List Extent) (bytes : Text) (tree : Tree)
     → AreHeldAt w f recorded base gone l p → Opens l p new recorded (fold evicted base gone) e row extents bytes tree → IsOpenedOver w l p new e.agent row extents bytes
     → AreLaid w.tells f.opening (l.books.history ++ e ∷ []) p.base (w.content l.journal.disk) (in_lengths_of (after_reply (fold evicted base gone) e.agent e.op e.reply)) (shelf recorded.rows tree new.swap) p.space

@@ -25,7 +25,7 @@ use Rattle.opfs_desk_steps.specs.Parts.Answered.{IsAnswered}
 use Rattle.opfs_desk_steps.specs.Parts.Held.{AreHeldAt}
 use Rattle.opfs_desk_steps.specs.Parts.Seen.{machine_in, tree_in}
 use Rattle.opfs_desk_steps.specs.declared.parts.parts.Ledger.{Ledger}
-use Rattle.opfs_desk_steps.specs.declared.parts.parts.Pages.{Pages}
+use Rattle.opfs_desk_steps.specs.declared.parts.parts.OpenPages.{OpenPages}
 use Rattle.opfs_desk_steps.specs.RowLaws.Opening.{IsOpenedOver, Opens}
 use Rattle.opfs_desk_steps.specs.RowLaws.Stored.{HasCleared}
 
@@ -54,13 +54,13 @@ abbrev pub next_row : State Text Own → ℕ → ℕ
 next_row s k = suc (length (agent_of s k).own)
 
 -- The row was opened with pages in the blocks of these extents.
-pub record HasRow (p new : Pages) (agent row : ℕ) (extents : List Extent) : Type 0 where
+pub record HasRow (p new : OpenPages) (agent row : ℕ) (extents : List Extent) : Type 0 where
   pub others : OthersStay agent row p.swap new.swap
   pub here : is_some (row_of agent row new.swap) ≡ true
   pub pages : pages_at agent row new.swap ≡ pages_in extents
 
 -- A call that opens a row comes now, and its row was opened already.
-pub record MayOpen {D : Type 0} (w : DiskWords D) (f : Fixed D) (recorded : Built) (base : State Text Own) (gone : List Text) (l : Ledger D) (p new : Pages) (e : Entry) (z : Sizes) : Type 0 where
+pub record MayOpen {D : Type 0} (w : DiskWords D) (f : Fixed D) (recorded : Built) (base : State Text Own) (gone : List Text) (l : Ledger D) (p new : OpenPages) (e : Entry) (z : Sizes) : Type 0 where
   pub held : AreHeldAt w f recorded base gone l p
   pub cleared : HasCleared w.tells f.opening l.books.history base gone
   pub lines : lines_of (tree_in l) ≡ (machine_in l).rows
@@ -73,11 +73,11 @@ pub record MayOpen {D : Type 0} (w : DiskWords D) (f : Fixed D) (recorded : Buil
   pub row : HasRow p new e.agent (next_row (fold evicted base gone) e.agent) (opened_extents (tree_in l) e.op)
 
 -- Then it leaves the row open over its pages.
-pub record HasOpened {D : Type 0} (w : DiskWords D) (recorded : Built) (s : State Text Own) (l : Ledger D) (p new : Pages) (e : Entry) (z : Sizes) : Type 0 where
+pub record HasOpened {D : Type 0} (w : DiskWords D) (recorded : Built) (s : State Text Own) (l : Ledger D) (p new : OpenPages) (e : Entry) (z : Sizes) : Type 0 where
   pub opens : Opens l p new recorded s e (next_row s e.agent) (opened_extents (tree_in l) e.op) (opened_bytes s e.op) (tree_by (machine_in l) (tree_in l) e.agent e.op z None)
   pub over : IsOpenedOver w l p new e.agent (next_row s e.agent) (opened_extents (tree_in l) e.op) (opened_bytes s e.op)
 
 abbrev pub CallsOpenRows : {D : Type 0} → DiskWords D → Type 0
 CallsOpenRows {D} w =
-    (f : Fixed D) (recorded : Built) (base : State Text Own) (gone : List Text) (l : Ledger D) (p new : Pages) (e : Entry) (z : Sizes)
+    (f : Fixed D) (recorded : Built) (base : State Text Own) (gone : List Text) (l : Ledger D) (p new : OpenPages) (e : Entry) (z : Sizes)
     → MayOpen w f recorded base gone l p new e z → HasOpened w recorded (fold evicted base gone) l p new e z

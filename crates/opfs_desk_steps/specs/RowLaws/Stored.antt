@@ -23,10 +23,10 @@ use Rattle.opfs_tree.specs.Rows.{file_at as file_in_tree}
 use Rattle.opfs_desk_steps.specs.Parts.Held.{AreHeldAt, AreHeldWhole}
 use Rattle.opfs_desk_steps.specs.Parts.Seen.{machine_in, tree_in}
 use Rattle.opfs_desk_steps.specs.declared.parts.parts.Ledger.{Ledger}
-use Rattle.opfs_desk_steps.specs.declared.parts.parts.Pages.{Pages}
+use Rattle.opfs_desk_steps.specs.declared.parts.parts.OpenPages.{OpenPages}
 
 -- The tree has the file, with as many bytes and blocks enough for them. Where the disk tells, these blocks have its bytes.
-pub record IsStoredAt {D : Type 0} (w : DiskWords D) (f : Fixed D) (l : Ledger D) (p : Pages) (place : Place) (x : File Text) : Type 0 where
+pub record IsStoredAt {D : Type 0} (w : DiskWords D) (f : Fixed D) (l : Ledger D) (p : OpenPages) (place : Place) (x : File Text) : Type 0 where
   pub row : FileRow
   pub there : file_in_tree place (tree_in l) ≡ Some row
   pub size : row.length ≡ length x.durable
@@ -43,9 +43,9 @@ pub record HasCleared (tells : Type 0) (o : Opening) (h : List Entry) (base : St
 
 abbrev pub FilesAreStored : {D : Type 0} → DiskWords D → Type 0
 FilesAreStored {D} w =
-    (f : Fixed D) (recorded : Built) (base : State Text Own) (gone : List Text) (l : Ledger D) (p : Pages) → AreHeldAt w f recorded base gone l p → HasCleared w.tells f.opening l.books.history base gone
+    (f : Fixed D) (recorded : Built) (base : State Text Own) (gone : List Text) (l : Ledger D) (p : OpenPages) → AreHeldAt w f recorded base gone l p → HasCleared w.tells f.opening l.books.history base gone
     → lines_of (tree_in l) ≡ (machine_in l).rows → (place : Place) (x : File Text) → file_at (fold evicted base gone) place ≡ Some x → IsStoredAt w f l p place x
 
 -- Between calls nothing is cleared.
 abbrev pub HistoriesAreCleared : {D : Type 0} → DiskWords D → Type 0
-HistoriesAreCleared {D} w = (f : Fixed D) (recorded : Built) (l : Ledger D) (p : Pages) → AreHeldWhole w f recorded l p → HasCleared w.tells f.opening l.books.history (state_after f.opening l.books.history) []
+HistoriesAreCleared {D} w = (f : Fixed D) (recorded : Built) (l : Ledger D) (p : OpenPages) → AreHeldWhole w f recorded l p → HasCleared w.tells f.opening l.books.history (state_after f.opening l.books.history) []

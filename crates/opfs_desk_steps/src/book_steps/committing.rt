@@ -6,7 +6,7 @@ ghost use Rattle.opfs_books.specs.Laws.Books.{Fixed};
 ghost use Rattle.opfs_books.specs.Laws.Laws.{LeavesPages, ShowsTold, told};
 ghost use Rattle.opfs_desk_steps.specs.Parts.Held.{AreHeldAt};
 ghost use Rattle.opfs_desk_steps.specs.Parts.Seen.{book_in};
-ghost use Rattle.opfs_desk_steps.specs.declared.parts.parts.Pages.{Pages};
+ghost use Rattle.opfs_desk_steps.specs.declared.parts.parts.OpenPages.{OpenPages};
 ghost use Rattle.opfs_desk_steps.specs.BookSteps.Committing.{MayCommitKept, AreRecorded};
 ghost use Rattle.opfs_machine.specs.declared.own.Own.{Own};
 ghost use Rattle.opfs_machine.specs.declared.state.State.{State};
@@ -25,10 +25,10 @@ pub fn commit_kept<D: Disk>(ledger: &mut Ledger<D>) -> Result<(), DiskFault>
     ensures state { ledger.new.books.state ≡ ledger.old.books.state }
     ensures none { OnOk result (ledger.new.books.commits.count ≡ 0) }
     ensures sure { OnOk result (ledger.new.journal.in_doubt ≡ false) }
-    ensures recorded { OnOk result ((f : Fixed D) (recorded : Built) (base : State Text Own) (gone : List Text) (p : Pages) → AreHeldAt D.Disk f recorded base gone ledger.old p → AreRecorded D.Disk f base gone ledger.new p) }
-    ensures failed { OnErr result ((f : Fixed D) (recorded : Built) (base : State Text Own) (gone : List Text) (p : Pages) → AreHeldAt D.Disk f recorded base gone ledger.old p → AreHeldAt D.Disk f recorded base gone ledger.new p) }
+    ensures recorded { OnOk result ((f : Fixed D) (recorded : Built) (base : State Text Own) (gone : List Text) (p : OpenPages) → AreHeldAt D.Disk f recorded base gone ledger.old p → AreRecorded D.Disk f base gone ledger.new p) }
+    ensures failed { OnErr result ((f : Fixed D) (recorded : Built) (base : State Text Own) (gone : List Text) (p : OpenPages) → AreHeldAt D.Disk f recorded base gone ledger.old p → AreHeldAt D.Disk f recorded base gone ledger.new p) }
     ensures leaves { LeavesPages D.Disk ledger.old.journal ledger.new.journal }
-    ensures shown { (f : Fixed D) (recorded : Built) (base : State Text Own) (gone : List Text) (p : Pages) → AreHeldAt D.Disk f recorded base gone ledger.old p
+    ensures shown { (f : Fixed D) (recorded : Built) (base : State Text Own) (gone : List Text) (p : OpenPages) → AreHeldAt D.Disk f recorded base gone ledger.old p
         → ShowsTold D.Disk f (book_in ledger.old) (told f (book_in ledger.old)) ledger.old.journal ledger.new.journal }
     ensures cause { OnErr result (Rose (D.faults ledger.old.journal.disk) (D.faults ledger.new.journal.disk)) }
 {

@@ -11,7 +11,7 @@ ghost use Rattle.opfs_codec.specs.Fields.{plain, Fits};
 ghost use Rattle.opfs_desk_steps.specs.Parts.Answered.{IsAnswered, MayAnswer};
 ghost use Rattle.opfs_desk_steps.specs.Parts.Held.{AreTied, AreHeldAt, AreHeldWhole};
 ghost use Rattle.opfs_desk_steps.specs.Parts.Seen.{machine_in, tree_in, book_in};
-ghost use Rattle.opfs_desk_steps.specs.declared.parts.parts.Pages.{Pages};
+ghost use Rattle.opfs_desk_steps.specs.declared.parts.parts.OpenPages.{OpenPages};
 ghost use Rattle.opfs_desk_steps.specs.BookSteps.Entering.{MayStoreCall};
 ghost use Rattle.opfs_machine.specs.declared.own.Own.{Own};
 ghost use Rattle.opfs_machine.specs.declared.state.State.{State};
@@ -40,14 +40,14 @@ pub fn tell_call<D: Disk>(ledger: &mut Ledger<D>, entering: Entering)
     ensures machine { machine_in ledger.new ≡ counted (effect in_lengths (machine_in ledger.old) entering.sizes entering.last.entry.agent entering.last.entry.op) entering.last.entry.agent }
     ensures tree { tree_in ledger.new ≡ tree_by (machine_in ledger.old) (tree_in ledger.old) entering.last.entry.agent entering.last.entry.op entering.sizes entering.extents }
     ensures idle { ledger.new.books.state.store.prepared.place ≡ None }
-    ensures books { (f : Fixed D) (recorded : Built) (base : State Text Own) (gone : List Text) (p : Pages) → AreHeldAt D.Disk f recorded base gone ledger.old p → IsAnswered D.Disk base gone ledger.old entering.last.entry entering.sizes
+    ensures books { (f : Fixed D) (recorded : Built) (base : State Text Own) (gone : List Text) (p : OpenPages) → AreHeldAt D.Disk f recorded base gone ledger.old p → IsAnswered D.Disk base gone ledger.old entering.last.entry entering.sizes
         → AreBooks D.Disk f recorded (book_in ledger.new) ledger.new.journal }
-    ensures fresh { (f : Fixed D) (recorded : Built) (base : State Text Own) (gone : List Text) (p : Pages) → AreHeldAt D.Disk f recorded base gone ledger.old p → ledger.new.books.commits.count ≡ 0 → recorded ≡ (book_in ledger.new).rows }
-    ensures tied { (f : Fixed D) (p : Pages) → AreTied D.Disk f ledger.old p → AreTied D.Disk f ledger.new p }
+    ensures fresh { (f : Fixed D) (recorded : Built) (base : State Text Own) (gone : List Text) (p : OpenPages) → AreHeldAt D.Disk f recorded base gone ledger.old p → ledger.new.books.commits.count ≡ 0 → recorded ≡ (book_in ledger.new).rows }
+    ensures tied { (f : Fixed D) (p : OpenPages) → AreTied D.Disk f ledger.old p → AreTied D.Disk f ledger.new p }
 {
     the_state_is_kept::<D>();
     calls_are_spelled();
-    ledger.books.state.lines();
+    ledger.books.state.know_rows_match_tree();
     ledger.freed.clear();
     ledger
         .books
@@ -74,16 +74,16 @@ pub fn store_call<D: Disk>(
     ensures sure { OnOk result (ledger.new.journal.in_doubt ≡ false) }
     ensures failed { OnErr result (ledger.new.books.history ≡ ledger.old.books.history ++ failed entering.last.entry ∷ []) }
     ensures leaves { LeavesPages D.Disk ledger.old.journal ledger.new.journal }
-    ensures books { OnOk result ((f : Fixed D) (recorded : Built) (base : State Text Own) (gone : List Text) (p : Pages) → AreHeldAt D.Disk f recorded base gone ledger.old p → IsAnswered D.Disk base gone ledger.old entering.last.entry entering.sizes
+    ensures books { OnOk result ((f : Fixed D) (recorded : Built) (base : State Text Own) (gone : List Text) (p : OpenPages) → AreHeldAt D.Disk f recorded base gone ledger.old p → IsAnswered D.Disk base gone ledger.old entering.last.entry entering.sizes
         → MayStore f (book_in ledger.old) (plain own.now) → BytesStand D.Disk f base gone ledger.old.journal entering.last.entry (plain own.now)
         → AreBooks D.Disk f (book_in ledger.new).rows (book_in ledger.new) ledger.new.journal) }
-    ensures held { OnErr result ((f : Fixed D) (recorded : Built) (base : State Text Own) (gone : List Text) (p : Pages) → AreHeldAt D.Disk f recorded base gone ledger.old p → IsAnswered D.Disk base gone ledger.old entering.last.entry entering.sizes
+    ensures held { OnErr result ((f : Fixed D) (recorded : Built) (base : State Text Own) (gone : List Text) (p : OpenPages) → AreHeldAt D.Disk f recorded base gone ledger.old p → IsAnswered D.Disk base gone ledger.old entering.last.entry entering.sizes
         → MayStore f (book_in ledger.old) (plain own.now) → BytesStand D.Disk f base gone ledger.old.journal entering.last.entry (plain own.now)
         → AreHeldWhole D.Disk f recorded ledger.new p) }
-    ensures shown { (f : Fixed D) (recorded : Built) (base : State Text Own) (gone : List Text) (p : Pages) → AreHeldAt D.Disk f recorded base gone ledger.old p → IsAnswered D.Disk base gone ledger.old entering.last.entry entering.sizes
+    ensures shown { (f : Fixed D) (recorded : Built) (base : State Text Own) (gone : List Text) (p : OpenPages) → AreHeldAt D.Disk f recorded base gone ledger.old p → IsAnswered D.Disk base gone ledger.old entering.last.entry entering.sizes
         → MayStore f (book_in ledger.old) (plain own.now) → BytesStand D.Disk f base gone ledger.old.journal entering.last.entry (plain own.now)
         → ShowsTold D.Disk f (book_in ledger.old) (told f (book_in ledger.old) ++ stored_change base gone entering.last.entry (plain own.now) ∷ []) ledger.old.journal ledger.new.journal }
-    ensures tied { (f : Fixed D) (p : Pages) → AreTied D.Disk f ledger.old p → AreTied D.Disk f ledger.new p }
+    ensures tied { (f : Fixed D) (p : OpenPages) → AreTied D.Disk f ledger.old p → AreTied D.Disk f ledger.new p }
     ensures cause { OnErr result (Rose (D.faults ledger.old.journal.disk) (D.faults ledger.new.journal.disk)) }
 {
     what_is_laid_goes_on::<D>();

@@ -6,7 +6,7 @@ ghost use Rattle.opfs_books.specs.Laws.Laws.{told};
 ghost use Rattle.opfs_desk_steps.specs.Parts.Acted.{IsWayNow};
 ghost use Rattle.opfs_desk_steps.specs.Parts.Held.{AreHeldWhole};
 ghost use Rattle.opfs_desk_steps.specs.Parts.Seen.{tree_in, book_in};
-ghost use Rattle.opfs_desk_steps.specs.declared.parts.parts.Pages.{Pages};
+ghost use Rattle.opfs_desk_steps.specs.declared.parts.parts.OpenPages.{OpenPages};
 ghost use Rattle.opfs_desk_steps.specs.BookSteps.Taking.{MayTakeInto};
 ghost use Rattle.opfs_hist.specs.declared.op.Op.{Op};
 ghost use Rattle.opfs_laws.specs.Histories.Unread.{ArePendingFor};
@@ -31,9 +31,9 @@ pub fn take_in<D: Disk>(ledger: &mut Ledger<D>, agent: u32, pending: &mut Pendin
     ensures tree { tree_in ledger.new ≡ tree_in ledger.old }
     ensures place { ledger.new.books.place ≡ ledger.old.books.place }
     ensures prepared { (op : Op) → IsPrepared ledger.old.books.state agent op → IsPrepared ledger.new.books.state agent op }
-    ensures held { (f : Fixed D) (recorded : Built) (p : Pages) → AreHeldWhole D.Disk f recorded ledger.old p → ArePendingFor D.tells (state_after f.opening ledger.old.books.history) agent pending.old
+    ensures held { (f : Fixed D) (recorded : Built) (p : OpenPages) → AreHeldWhole D.Disk f recorded ledger.old p → ArePendingFor D.tells (state_after f.opening ledger.old.books.history) agent pending.old
         → AreHeldWhole D.Disk f recorded ledger.new p }
-    ensures way { (f : Fixed D) (recorded : Built) (p : Pages) → AreHeldWhole D.Disk f recorded ledger.old p → ArePendingFor D.tells (state_after f.opening ledger.old.books.history) agent pending.old
+    ensures way { (f : Fixed D) (recorded : Built) (p : OpenPages) → AreHeldWhole D.Disk f recorded ledger.old p → ArePendingFor D.tells (state_after f.opening ledger.old.books.history) agent pending.old
         → IsWayNow D.Disk f ledger.old ledger.new × (told f (book_in ledger.new) ≡ told f (book_in ledger.old)) }
 {
     what_is_laid_goes_on::<D>();

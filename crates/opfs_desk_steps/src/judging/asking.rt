@@ -7,12 +7,12 @@ ghost use Rattle.opfs_base.specs.Texts.{Text};
 ghost use Rattle.opfs_books.specs.Laws.Books.{Fixed};
 ghost use Rattle.opfs_desk_steps.specs.Judging.Asking.{MayAsk, IsAskedAs};
 ghost use Rattle.opfs_desk_steps.specs.Parts.Held.{AreHeldWhole};
-ghost use Rattle.opfs_desk_steps.specs.declared.parts.parts.Pages.{Pages};
+ghost use Rattle.opfs_desk_steps.specs.declared.parts.parts.OpenPages.{OpenPages};
 ghost use Rattle.opfs_records.specs.Replay.Built.{Built};
 
-use crate::judging::asked::{Asked, Readied};
 use crate::judging::clearings::clearings_for;
 use crate::judging::ending::{always_acts, ask_ending};
+use crate::judging::judged::{Judged, Readiness};
 use crate::judging::sizes::sizes_for;
 use crate::parts::Ledger;
 use opfs_books::state_laws;
@@ -36,13 +36,13 @@ pub fn ask_call<D: Disk>(
     op: &Op,
     pending: &Pending,
     work: &Work,
-) -> Result<Asked, AllocError>
+) -> Result<Judged, AllocError>
     requires may { MayAsk D.Disk ledger.old pending.now agent op.now work.now }
     ensures journal { ledger.new.journal ≡ ledger.old.journal }
     ensures entries { ledger.new.books.history ≡ ledger.old.books.history }
     ensures place { ledger.new.books.place ≡ ledger.old.books.place }
-    ensures held { (f : Fixed D) (recorded : Built) (p : Pages) → AreHeldWhole D.Disk f recorded ledger.old p → AreHeldWhole D.Disk f recorded ledger.new p }
-    ensures asked { IfOk result (λ asked. (f : Fixed D) (recorded : Built) (p : Pages) (number : ℕ) (past : List Text) → AreHeldWhole D.Disk f recorded ledger.old p
+    ensures held { (f : Fixed D) (recorded : Built) (p : OpenPages) → AreHeldWhole D.Disk f recorded ledger.old p → AreHeldWhole D.Disk f recorded ledger.new p }
+    ensures asked { IfOk result (λ asked. (f : Fixed D) (recorded : Built) (p : OpenPages) (number : ℕ) (past : List Text) → AreHeldWhole D.Disk f recorded ledger.old p
         → MayAct D.tells f.opening ledger.old.books.history pending.now (record { agent = agent; number = number; op = op.now }) work.now past
         → IsAskedAs f.opening ledger.old.books.history pending.now ledger.new.books.state agent op.now asked) }
     ensures idle { OnErr result (ledger.new.books.state.store.prepared.place ≡ None) }
@@ -56,7 +56,7 @@ pub fn ask_call<D: Disk>(
     notes_decide_nothing();
     calls_are_about_own_units();
     if always_acts(op) {
-        return Ok(Asked::Ready(ask_ending(ledger, agent, op, pending, work)));
+        return Ok(Judged::Ready(ask_ending(ledger, agent, op, pending, work)));
     }
     let alloc = ledger.alloc;
     let sizes = sizes_for(op, work);
@@ -64,8 +64,8 @@ pub fn ask_call<D: Disk>(
         Ok(units) => {
             let clearing = clearings_for(alloc, units.as_slice())?;
             ledger.books.state.prepare(alloc, agent, op)?;
-            Ok(Asked::Ready(Readied { sizes, clearing }))
+            Ok(Judged::Ready(Readiness { sizes, clearing }))
         }
-        Err(refusal) => Ok(Asked::Refused(refusal)),
+        Err(refusal) => Ok(Judged::Refused(refusal)),
     }
 }

@@ -5,9 +5,9 @@ ghost use Rattle.opfs_desk_steps.specs.Parts.Asked.{AreEvictions};
 ghost use Rattle.opfs_desk_steps.specs.Parts.Seen.{units_in};
 ghost use Rattle.opfs_machine.specs.Runs.{eviction};
 
-use crate::parts::Clearing;
+use crate::parts::Eviction;
 use opfs_base::Key;
-use opfs_books::Last;
+use opfs_books::EntryWithRoom;
 use opfs_hist::{Entry, Op, Reply, Room};
 use std::alloc::{AllocError, Global};
 
@@ -27,20 +27,20 @@ fn eviction_of(alloc: Global, unit: &Key) -> Result<Entry, AllocError>
 }
 
 // A unit that is cleared, with the memory for its entry.
-fn clearing_of(alloc: Global, unit: &Key) -> Result<Clearing, AllocError>
+fn clearing_of(alloc: Global, unit: &Key) -> Result<Eviction, AllocError>
     ensures unit { IfOk result (λ clearing. clearing.unit ≡ unit.now) }
     ensures entry { IfOk result (λ clearing. clearing.gone.entry ≡ eviction unit.now) }
 {
     let room = Room::make(alloc)?;
     let entry = eviction_of(alloc, unit)?;
-    Ok(Clearing {
+    Ok(Eviction {
         unit: unit.copy(alloc)?,
-        gone: Last { room, entry },
+        gone: EntryWithRoom { room, entry },
     })
 }
 
 /// Units that are cleared, with the memory for their entries.
-pub(crate) fn clearings_for(alloc: Global, units: &[Key]) -> Result<Vec<Clearing>, AllocError>
+pub(crate) fn clearings_for(alloc: Global, units: &[Key]) -> Result<Vec<Eviction>, AllocError>
     ensures units { IfOk result (λ clearing. units_in clearing.items ≡ units.now) }
     ensures entries { IfOk result (λ clearing. AreEvictions clearing.items) }
 {

@@ -7,10 +7,10 @@ ghost use Rattle.opfs_base.specs.Texts.{Text};
 ghost use Rattle.opfs_books.specs.Laws.Books.{Fixed};
 ghost use Rattle.opfs_desk_steps.specs.Judging.Asking.{MayAsk, IsReadied};
 ghost use Rattle.opfs_desk_steps.specs.Parts.Held.{AreHeldWhole};
-ghost use Rattle.opfs_desk_steps.specs.declared.parts.parts.Pages.{Pages};
+ghost use Rattle.opfs_desk_steps.specs.declared.parts.parts.OpenPages.{OpenPages};
 ghost use Rattle.opfs_records.specs.Replay.Built.{Built};
 
-use crate::judging::asked::Readied;
+use crate::judging::judged::Readiness;
 use crate::judging::sizes::sizes_for;
 use crate::parts::Ledger;
 use opfs_books::state_laws;
@@ -37,14 +37,14 @@ pub(crate) fn ask_ending<D: Disk>(
     op: &Op,
     pending: &Pending,
     work: &Work,
-) -> Readied
+) -> Readiness
     requires may { MayAsk D.Disk ledger.old pending.now agent op.now work.now }
     requires word { always_acts op.now ≡ true }
     ensures journal { ledger.new.journal ≡ ledger.old.journal }
     ensures entries { ledger.new.books.history ≡ ledger.old.books.history }
     ensures place { ledger.new.books.place ≡ ledger.old.books.place }
-    ensures held { (f : Fixed D) (recorded : Built) (p : Pages) → AreHeldWhole D.Disk f recorded ledger.old p → AreHeldWhole D.Disk f recorded ledger.new p }
-    ensures asked { (f : Fixed D) (recorded : Built) (p : Pages) (number : ℕ) (past : List Text) → AreHeldWhole D.Disk f recorded ledger.old p
+    ensures held { (f : Fixed D) (recorded : Built) (p : OpenPages) → AreHeldWhole D.Disk f recorded ledger.old p → AreHeldWhole D.Disk f recorded ledger.new p }
+    ensures asked { (f : Fixed D) (recorded : Built) (p : OpenPages) (number : ℕ) (past : List Text) → AreHeldWhole D.Disk f recorded ledger.old p
         → MayAct D.tells f.opening ledger.old.books.history pending.now (record { agent = agent; number = number; op = op.now }) work.now past
         → IsReadied f.opening ledger.old.books.history pending.now ledger.new.books.state agent op.now result }
 {
@@ -58,7 +58,7 @@ pub(crate) fn ask_ending<D: Disk>(
     let sizes = sizes_for(op, work);
     let clearing = Vec::new(alloc);
     match ledger.books.state.prepare(alloc, agent, op) {
-        Ok(()) => Readied { sizes, clearing },
+        Ok(()) => Readiness { sizes, clearing },
         Err(_) => unreachable!(),
     }
 }

@@ -19,14 +19,14 @@ pub struct Ledger<D: Disk> {
 }
 
 /// The pages of open rows, and the data blocks, which begin at a byte of the disk.
-pub struct Pages {
+pub struct OpenPages {
     pub swap: Swap,
     pub space: Space,
     pub base: u64,
 }
 
 /// All parts. They have no invariant of their own: each call asks for what it keeps, and gives it again.
-pub struct Parts<D: Disk> {
+pub struct DeskParts<D: Disk> {
     pub ledger: Ledger<D>,
-    pub pages: Pages,
+    pub pages: OpenPages,
 }

@@ -41,7 +41,7 @@ pub fn kv_run<S: Store, R: Wait>(
     ensures entries { OnOk result (GoesOn agent.old agent.new (sum_by entries_of ops.now)) }
     ensures err { OnErr result ((agent.new ≡ agent.old) × (kv.new ≡ kv.old)) }
 {
-    agent.kept();
+    agent.know_kept();
     let mut list = Vec::new(agent.alloc());
     list.reserve(ops.len())?;
     let mut at = 0;
@@ -51,6 +51,6 @@ pub fn kv_run<S: Store, R: Wait>(
         list.push(reply).unwrap();
         at += 1;
     }
-    agent.kept();
+    agent.know_kept();
     Ok(KvReplies { list })
 }

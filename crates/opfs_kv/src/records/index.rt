@@ -73,7 +73,7 @@ impl Index {
     }
 
     /// What the type keeps: the keys rise.
-    pub fn kept(&self)
+    pub fn know_kept(&self)
         ensures { IsStrictlySortedBy key_cmp (keys_of self.now) }
     {
         let _ = self.map.len();

@@ -137,7 +137,7 @@ pub fn bucket_root<S: Store, R: Wait>(
     ensures ready { IsReady S.tells court.now 1 0 agent.new }
     ensures own { IfOk result (λ root. IsOfAgent agent.new root) }
 {
-    agent.kept();
+    agent.know_kept();
     match agent.get_directory(rt, court, bucket) {
         Ok(root) => Ok(root),
         Err(stop) => Err(stop),
@@ -157,7 +157,7 @@ pub fn child_file<S: Store, R: Wait>(
     ensures ready { IsReady S.tells court.now 2 0 agent.new }
     ensures own { IfOk result (λ file. IsOfAgent agent.new file) }
 {
-    agent.kept();
+    agent.know_kept();
     match agent.get_file_handle(rt, court, dir, name, true) {
         Ok(file) => Ok(file),
         Err(stop) => Err(stop),
@@ -198,7 +198,7 @@ pub fn open_file<S: Store, R: Wait>(
     ensures err { OnErr result (IsReady S.tells court.now 2000000 0 agent.new) }
 {
     let file = file_at(rt, court, agent, name)?;
-    agent.kept();
+    agent.know_kept();
     match agent.create_sync(rt, court, &file, Mode::ReadWrite) {
         Ok(handle) => Ok(handle),
         Err(stop) => Err(stop),
@@ -210,7 +210,7 @@ pub fn discard<S: Store, R: Wait>(rt: &R, court: &Hall<S>, agent: &mut Agent<S>,
     requires { Holds S.tells court.now 1500000 agent.old handle }
     ensures { IsReady S.tells court.now 2000000 0 agent.new }
 {
-    agent.kept();
+    agent.know_kept();
     let _closed = agent.discard_sync(rt, court, handle);
 }
 
@@ -220,7 +220,7 @@ pub fn end<S: Store, R: Wait>(rt: &R, court: Hall<S>, mut owner: Pass<S>, agent:
     requires one { court.agents ≡ 1 }
     requires ready { IsReady S.tells court 2000000 0 agent }
 {
-    agent.kept();
+    agent.know_kept();
     a_resting_agent_may_end(&agent);
     let pass = agent.end(rt, &court);
     court.join(&mut owner, pass);

@@ -42,7 +42,7 @@ pub fn read_kv<S: Store, R: Wait>(
     ensures holds { IfOk result (λ kv. HoldsKv S.tells court.now 2000 agent.new kv) }
     ensures err { OnErr result (IsReady S.tells court.now 2000000 0 agent.new) }
 {
-    agent.kept();
+    agent.know_kept();
     match Kv::open(rt, court, agent, handle) {
         Ok(kv) => Ok(kv),
         Err((handle, stop)) => {
@@ -66,11 +66,11 @@ pub fn put_and_get<S: Store, R: Wait>(
     requires value { IsValue value.now }
     ensures { HoldsKv S.tells court.now 3000 agent.new kv.new }
 {
-    agent.kept();
+    agent.know_kept();
     kv.put(rt, court, agent, key, value)?;
-    agent.kept();
+    agent.know_kept();
     kv.flush(rt, court, agent)?;
-    agent.kept();
+    agent.know_kept();
     let found = kv.get(rt, court, agent, key)?;
     Ok(found)
 }
@@ -87,9 +87,9 @@ pub fn take_out<S: Store, R: Wait>(
     requires key { IsKey key.now }
     ensures { HoldsKv S.tells court.now 1000000 agent.new kv.new }
 {
-    agent.kept();
+    agent.know_kept();
     let was = kv.delete(rt, court, agent, key)?;
-    agent.kept();
+    agent.know_kept();
     kv.compact(rt, court, agent)?;
     Ok(was)
 }
@@ -113,7 +113,7 @@ pub fn close_kv<S: Store, R: Wait>(
     requires { HoldsKv S.tells court.now 1000000 agent.old kv }
     ensures { IsReady S.tells court.now 2000000 0 agent.new }
 {
-    agent.kept();
+    agent.know_kept();
     match kv.close(rt, court, agent) {
         Ok(_) => Ok(()),
         Err((kv, stop)) => {

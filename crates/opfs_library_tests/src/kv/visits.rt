@@ -130,7 +130,7 @@ fn run_ops<S: Store, R: Wait>(
     requires many { length ops.now ≤ 100000 }
     ensures { HoldsKv S.tells court.now 1000000 agent.new kv.new }
 {
-    agent.kept();
+    agent.know_kept();
     match kv_run(rt, court, agent, kv, ops) {
         Ok(replies) => Ok(replies),
         Err(_) => Err(KvStop::Agent(Stop::NoMemory)),
@@ -202,7 +202,7 @@ fn close_file<S: Store, R: Wait>(
     requires { Holds S.tells court.now 4 agent.old handle }
     ensures { IsReady S.tells court.now 2000000 0 agent.new }
 {
-    agent.kept();
+    agent.know_kept();
     match close(rt, court, agent, handle) {
         Ok(_) => Ok(()),
         Err((handle, stop)) => {
@@ -224,7 +224,7 @@ fn write_file<S: Store, R: Wait>(
     ensures { IsReady S.tells court.now 2000000 0 agent.new }
 {
     let mut handle = open_file(rt, court, agent, "store")?;
-    agent.kept();
+    agent.know_kept();
     let written = write(rt, court, agent, &mut handle, bytes, 0);
     let closed = close_file(rt, court, agent, handle);
     written.and(closed)
@@ -257,7 +257,7 @@ fn read_file<S: Store, R: Wait>(
     ensures { IsReady S.tells court.now 2000000 0 agent.new }
 {
     let mut handle = open_file(rt, court, agent, "store")?;
-    agent.kept();
+    agent.know_kept();
     let bytes = read(rt, court, agent, &mut handle, 64, 0);
     discard(rt, court, agent, handle);
     bytes

@@ -40,9 +40,9 @@ pub fn root<S: Store, R: Wait>(
     ensures mine { IfOk result (λ at. IsMine agent.new at) }
 {
     let bucket = text(agent.alloc(), "default")?;
-    agent.kept();
+    agent.know_kept();
     let root = agent.get_directory(rt, court, &bucket);
-    agent.kept();
+    agent.know_kept();
     root
 }
 
@@ -62,9 +62,9 @@ pub fn child<S: Store, R: Wait>(
     ensures mine { IfOk result (λ at. IsMine agent.new at) }
 {
     let name = text(agent.alloc(), name)?;
-    agent.kept();
+    agent.know_kept();
     let file = agent.get_file_handle(rt, court, dir, &name, true);
-    agent.kept();
+    agent.know_kept();
     file
 }
 
@@ -93,9 +93,9 @@ pub fn give_up<S: Store, R: Wait>(rt: &R, court: &Hall<S>, agent: &mut Agent<S>,
     ensures ready { IsReady court.now agent.new 0 }
     ensures goes { Goes agent.old agent.new 1 }
 {
-    agent.kept();
+    agent.know_kept();
     let _closed = agent.abort(rt, court, stream);
-    agent.kept();
+    agent.know_kept();
 }
 
 /// Closes a stream: its file has its bytes. Where that is refused the file is as it was.
@@ -111,9 +111,9 @@ pub fn save<S: Store, R: Wait>(
     ensures ready { IsReady court.now agent.new 0 }
     ensures goes { Goes agent.old agent.new 2 }
 {
-    agent.kept();
+    agent.know_kept();
     let done = agent.close_writable(rt, court, stream);
-    agent.kept();
+    agent.know_kept();
     match done {
         Ok(_) => Ok(()),
         Err((stream, stop)) => {
@@ -139,9 +139,9 @@ pub fn fill<S: Store, R: Wait>(
     ensures ready { IsReady court.now agent.new 0 }
     ensures goes { Goes agent.old agent.new 3 }
 {
-    agent.kept();
+    agent.know_kept();
     let written = agent.write_growing(rt, court, &mut stream, bytes, Some(at));
-    agent.kept();
+    agent.know_kept();
     match written {
         Ok(()) => save(rt, court, agent, stream),
         Err(stop) => {
@@ -166,9 +166,9 @@ pub fn open_new<S: Store, R: Wait>(
     ensures ready { IfOk result (λ stream. IsReady court.now agent.new stream.row) }
     ensures stream { IfOk result (λ stream. HasStream S.tells agent.new stream) }
 {
-    agent.kept();
+    agent.know_kept();
     let opened = agent.create_writable(rt, court, file, false);
-    agent.kept();
+    agent.know_kept();
     opened
 }
 
@@ -206,9 +206,9 @@ pub fn snapshot<S: Store, R: Wait>(
     ensures goes { Goes agent.old agent.new 1 }
     ensures has { IfOk result (λ snapshot. HasSnapshot S.tells agent.new snapshot) }
 {
-    agent.kept();
+    agent.know_kept();
     let taken = agent.get_file(rt, court, file);
-    agent.kept();
+    agent.know_kept();
     taken
 }
 
@@ -225,9 +225,9 @@ pub fn bytes_of<S: Store>(
     ensures goes { Goes agent.old agent.new 1 }
 {
     let _ = court;
-    agent.kept();
+    agent.know_kept();
     let bytes = agent.slice(snapshot, 0, snapshot.size());
-    agent.kept();
+    agent.know_kept();
     bytes
 }
 
@@ -264,9 +264,9 @@ pub fn target_of<S: Store, R: Wait>(
     ensures stream { IfOk result (λ stream. HasStream S.tells agent.new stream) }
     ensures empty { IfOk result (λ stream. (stream_bytes agent.new stream ≡ []) × (stream_offset agent.new stream ≡ 0)) }
 {
-    agent.kept();
+    agent.know_kept();
     let opened = open_target(rt, court, agent, file);
-    agent.kept();
+    agent.know_kept();
     opened
 }
 
@@ -297,11 +297,11 @@ pub fn deliver<S: Store + Send, R: Threads + Wait + Sync>(
     ensures back { IfErr result (λ back. IsReady court.now writer.new back.0.row) }
     ensures stream { IfErr result (λ back. HasStream S.tells writer.new back.0) }
 {
-    reader.kept();
-    writer.kept();
+    reader.know_kept();
+    writer.know_kept();
     let piped = pipe(rt, court, reader, writer, from, at, len, to);
-    reader.kept();
-    writer.kept();
+    reader.know_kept();
+    writer.know_kept();
     match piped {
         Ok(_) => Ok(()),
         Err(back) => Err(back),

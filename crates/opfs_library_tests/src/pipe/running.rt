@@ -175,7 +175,7 @@ fn end<S: Store, R: Wait>(rt: &R, court: &Hall<S>, agent: Agent<S>) -> Pass<S>
     requires stands { Stands court.now agent agent.pass.agent 50000000 }
     ensures { IsPassOf court.now agent.pass.agent result }
 {
-    agent.kept();
+    agent.know_kept();
     a_resting_agent_may_end(&agent);
     agent.end(rt, court)
 }

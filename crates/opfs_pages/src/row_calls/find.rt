@@ -25,7 +25,7 @@ fn sweep_anew(space: &mut Space, tree: &ReadyTree, swap: &Swap)
     ensures found { AreSwept (length space.old.used) (has_block (named tree.now.rows)) swap.now space.new.used space.new.own }
 {
     space.sweep(tree, swap);
-    space.kept();
+    space.know_kept();
 }
 
 /// Finds blocks for a put that waits for them, in a sweep: those that nothing names are free. There are always enough. Takes no

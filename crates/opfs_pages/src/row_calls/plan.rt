@@ -111,7 +111,7 @@ fn look_anew(space: &mut Space, tree: &ReadyTree, swap: &Swap)
     ensures found { AreSwept (length space.old.used) (has_block (named tree.now.rows)) swap.now space.new.seen space.new.own }
 {
     space.look(tree, swap);
-    space.kept();
+    space.know_kept();
 }
 
 /// Plans what a call puts of a row's pages: a write at a position and then a new size, or a content. It has all memory and all

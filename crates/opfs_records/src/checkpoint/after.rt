@@ -12,7 +12,6 @@ ghost use Rattle.opfs_records.specs.Checkpoint.After.{is_shown, made_bytes};
 ghost use Rattle.opfs_records.specs.Checkpoint.Written.{AreWritable, stored_rows};
 
 use crate::checkpoint::checks::is_spelled;
-use crate::checkpoint::rows::in_directories;
 use crate::checkpoint::rows_after::write_rows_after;
 use crate::checkpoint::units::write_units;
 use opfs_codec::{ChangeRef, write};
@@ -62,8 +61,8 @@ fn write_after(
     ensures capacity { vec_capacity into.old ≤ vec_capacity into.new }
     ensures room { (size : ℕ) (next : Built) → IsSound size (stored_rows tree.now.rows) → tried New size (record { rows = stored_rows tree.now.rows; persistent = persistent_in shed.now.buckets }) (plain own.now) ≡ Some next → AreWritable tree.now.rows (persistent_in shed.now.buckets) → IsChange New (plain own.now) → charge_of New next ≤ vec_capacity into.old → IsTrue (is_ok result) }
 {
-    in_directories(tree);
-    shed.in_order();
+    tree.know_order();
+    shed.know_order();
     if !is_spelled(own) {
         return Err(AllocError);
     }

@@ -7,7 +7,7 @@ ghost use Rattle.opfs_records.specs.Replay.Built.{IsSound};
 ghost use Rattle.opfs_records.specs.Replay.Sums.{charge_of, persistent_in};
 ghost use Rattle.opfs_records.specs.Checkpoint.Written.{AreWritable, built_bytes, stored_rows};
 
-use crate::checkpoint::rows::{in_directories, write_rows};
+use crate::checkpoint::rows::write_rows;
 use crate::checkpoint::units::write_units;
 use opfs_shed::Shed;
 use opfs_tree::ReadyTree;
@@ -49,7 +49,7 @@ fn write_all(tree: &ReadyTree, shed: &Shed, into: &mut Vec<u8>) -> Result<(), Al
     ensures capacity { vec_capacity into.old ≤ vec_capacity into.new }
     ensures room { (size : ℕ) → IsSound size (stored_rows tree.now.rows) → AreWritable tree.now.rows (persistent_in shed.now.buckets) → charge_of New (record { rows = stored_rows tree.now.rows; persistent = persistent_in shed.now.buckets }) ≤ vec_capacity into.old → IsTrue (is_ok result) }
 {
-    in_directories(tree);
+    tree.know_order();
     write_rows(tree, into)?;
     write_units(shed, into)?;
     Ok(())

@@ -10,7 +10,6 @@ ghost use Rattle.opfs_codec.specs.declared.change.Format.TheVariants.{New};
 ghost use Rattle.opfs_records.specs.Replay.Built.{IsSoundRow};
 ghost use Rattle.opfs_records.specs.Replay.Sums.{row_charge};
 ghost use Rattle.opfs_tree.specs.declared.row.Row.TheVariants as row;
-ghost use Rattle.opfs_tree.specs.Rows.{IsInOrder, IsClosed};
 
 use crate::checkpoint::checks::is_writable;
 use crate::checkpoint::content::FileContent;
@@ -31,17 +30,6 @@ pub(crate) fn write_rows(tree: &ReadyTree, into: &mut Vec<u8>) -> Result<(), All
         write_row(walk.key(), walk.path(), row, into)?;
     }
     Ok(())
-}
-
-/// What a tree says of its rows: they stand in order, and each but the roots in a directory.
-pub(crate) fn in_directories(tree: &ReadyTree)
-    ensures order { IsInOrder tree.now.rows }
-    ensures closed { IsClosed tree.now.rows }
-{
-    let mut first = Walk::make();
-    if let Some(_) = tree.step(&mut first) {
-        tree.in_directories(first.key(), first.path());
-    }
 }
 
 /// Appends the changes that make a row.

@@ -89,12 +89,12 @@ pub fn refuse_stream<S: Store>(
     ensures closed { HasClosedStream agent.new closed.now.row }
     ensures refused { IfOk result (λ _. ⊥) }
 {
-    agent.kept();
+    agent.know_kept();
     let Ok(op) = stream_op(op) else {
         return Err(Stop::NoMemory);
     };
     let stop = agent.on_closed_stream(closed, op);
-    agent.kept();
+    agent.know_kept();
     Err(stop)
 }
 
@@ -111,12 +111,12 @@ pub fn refuse_handle<S: Store>(
     ensures called { Calls S.tells agent.old agent.new op.now result }
     ensures closed { HasClosedHandle agent.new closed.now.row }
 {
-    agent.kept();
+    agent.know_kept();
     let Ok(op) = handle_op(op) else {
         return Err(Stop::NoMemory);
     };
     let stop = agent.on_closed_sync(closed, op);
-    agent.kept();
+    agent.know_kept();
     Err(stop)
 }
 
@@ -128,9 +128,9 @@ pub fn close_again<S: Store>(agent: &mut Agent<S>, closed: &ClosedSync) -> Resul
     ensures closed { HasClosedHandle agent.new closed.now.row }
     ensures done { IfOk result (λ answered. answered ≡ reply.Done) }
 {
-    agent.kept();
+    agent.know_kept();
     let done = agent.close_again(closed);
-    agent.kept();
+    agent.know_kept();
     match done {
         Ok(()) => Ok(Reply::Done),
         Err(stop) => Err(stop),

@@ -94,9 +94,9 @@ fn slice<S: Store>(
     ensures called { Calls S.tells agent.old agent.new (op.Slice snapshot.now.row at len) result }
     ensures snapshot { HasSnapshot S.tells agent.new snapshot.now }
 {
-    agent.kept();
+    agent.know_kept();
     let done = agent.slice(snapshot, at, len);
-    agent.kept();
+    agent.know_kept();
     match done {
         Ok(bytes) => Ok(Reply::Read(bytes)),
         Err(stop) => Err(stop),
@@ -164,9 +164,9 @@ pub fn lend_row<S: Store, R: Wait>(
     ensures table { HasTable S.tells agent.new slots.new.items }
     ensures kinds { kinds_of slots.new.items ≡ kinds_told (kinds_of slots.old.items) op.now result }
 {
-    agent.kept();
+    agent.know_kept();
     let at = row as usize - 1;
     let done = on_slot(rt, court, agent, &mut slots[at], op);
-    agent.kept();
+    agent.know_kept();
     done
 }

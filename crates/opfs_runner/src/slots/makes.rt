@@ -31,9 +31,9 @@ fn values<S: Store>(agent: &mut Agent<S>, dir: &Locator) -> Result<Made, Stop>
     ensures called { Calls S.tells agent.old agent.new (op.Values dir.now) (reply_in result) }
     ensures made { IfOk result (IsMadeBy S.tells agent.old agent.new (op.Values dir.now)) }
 {
-    agent.kept();
+    agent.know_kept();
     let iter = agent.values(dir)?;
-    agent.kept();
+    agent.know_kept();
     Ok(Made {
         slot: Slot::Iterator(iter),
         reply: Reply::Done,
@@ -53,9 +53,9 @@ fn get_file<S: Store, R: Wait>(
     ensures called { Calls S.tells agent.old agent.new (op.GetFile file.now) (reply_in result) }
     ensures made { IfOk result (IsMadeBy S.tells agent.old agent.new (op.GetFile file.now)) }
 {
-    agent.kept();
+    agent.know_kept();
     let snapshot = agent.get_file(rt, court, file)?;
-    agent.kept();
+    agent.know_kept();
     let reply = Reply::FileInfo(snapshot.size(), snapshot.stamp());
     Ok(Made {
         slot: Slot::Snapshot(snapshot),
@@ -77,9 +77,9 @@ fn create_writable<S: Store, R: Wait>(
     ensures called { Calls S.tells agent.old agent.new (op.CreateWritable file.now keep) (reply_in result) }
     ensures made { IfOk result (IsMadeBy S.tells agent.old agent.new (op.CreateWritable file.now keep)) }
 {
-    agent.kept();
+    agent.know_kept();
     let stream = agent.create_writable(rt, court, file, keep)?;
-    agent.kept();
+    agent.know_kept();
     Ok(Made {
         slot: Slot::Stream(stream),
         reply: Reply::Done,
@@ -100,9 +100,9 @@ fn create_sync<S: Store, R: Wait>(
     ensures called { Calls S.tells agent.old agent.new (op.CreateSyncAccessHandle file.now mode) (reply_in result) }
     ensures made { IfOk result (IsMadeBy S.tells agent.old agent.new (op.CreateSyncAccessHandle file.now mode)) }
 {
-    agent.kept();
+    agent.know_kept();
     let handle = agent.create_sync(rt, court, file, mode)?;
-    agent.kept();
+    agent.know_kept();
     Ok(Made {
         slot: Slot::Handle(handle),
         reply: Reply::Done,
@@ -124,7 +124,7 @@ fn make_slot<S: Store, R: Wait>(
     ensures called { Calls S.tells agent.old agent.new op.now (reply_in result) }
     ensures made { IfOk result (IsMadeBy S.tells agent.old agent.new op.now) }
 {
-    agent.kept();
+    agent.know_kept();
     let _ = slots;
     match op {
         Op::Values { dir } => values(agent, dir),
@@ -152,12 +152,12 @@ pub fn make_row<S: Store, R: Wait>(
     ensures table { HasTable S.tells agent.new slots.new.items }
     ensures kinds { kinds_of slots.new.items ≡ kinds_told (kinds_of slots.old.items) op.now result }
 {
-    agent.kept();
+    agent.know_kept();
     if slots.reserve(1).is_err() {
         return Err(Stop::NoMemory);
     }
     let done = make_slot(rt, court, agent, slots, op);
-    agent.kept();
+    agent.know_kept();
     let Made { slot, reply } = done?;
     slots.push_reserved(slot);
     Ok(reply)

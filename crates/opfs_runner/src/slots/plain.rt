@@ -32,7 +32,7 @@ fn call_plain<S: Store, R: Wait>(
     requires may { Names agent.old.key (kinds_of slots.now) op.now }
     ensures { Calls S.tells agent.old agent.new op.now result }
 {
-    agent.kept();
+    agent.know_kept();
     let _ = slots;
     match op {
         Op::GetDirectory { bucket } => get_directory(rt, court, agent, bucket),
@@ -78,8 +78,8 @@ pub fn perform_plain<S: Store, R: Wait>(
     ensures table { HasTable S.tells agent.new slots.now }
     ensures kinds { kinds_of slots.now ≡ kinds_told (kinds_of slots.now) op.now result }
 {
-    agent.kept();
+    agent.know_kept();
     let done = call_plain(rt, court, agent, slots, op);
-    agent.kept();
+    agent.know_kept();
     done
 }

@@ -170,11 +170,11 @@ pub fn spend_row<S: Store, R: Wait>(
     ensures table { HasTable S.tells agent.new slots.new.items }
     ensures kinds { kinds_of slots.new.items ≡ kinds_told (kinds_of slots.old.items) op.now result }
 {
-    agent.kept();
+    agent.know_kept();
     let at = row as usize - 1;
     let slot = replace(&mut slots[at], Slot::Taken);
     let Left { slot, answer } = spend_slot(rt, court, agent, slot, op);
     put_back(slots, at, slot);
-    agent.kept();
+    agent.know_kept();
     answer
 }

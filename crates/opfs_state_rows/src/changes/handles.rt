@@ -45,7 +45,7 @@ pub fn sync_write(
     let Some(place) = target else {
         unreachable!();
     };
-    store.lines();
+    store.know_rows_match_tree();
     let Some(present) = store.size(&place.0, &place.1) else {
         unreachable!();
     };
@@ -98,7 +98,7 @@ fn overwrite(store: &mut Standing, agent: u32, row: u32, place: &Place, present:
 {
     let at = agent as usize - 1;
     let n = row as usize - 1;
-    store.lines();
+    store.know_rows_match_tree();
     let moment = store.register().moment(at);
     let Some(handle) = store.register().handle(at, n) else {
         unreachable!();
@@ -133,7 +133,7 @@ pub fn sync_flush(
     };
     let at = agent as usize - 1;
     let n = row as usize - 1;
-    store.lines();
+    store.know_rows_match_tree();
     let Some(handle) = store.register().handle(at, n) else {
         unreachable!();
     };
@@ -165,7 +165,7 @@ pub fn sync_close(
         store.count(at);
         return;
     }
-    store.lines();
+    store.know_rows_match_tree();
     let handle = store.close_handle(at, row as usize - 1);
     let (outline, held) = handle.into_parts();
     flush_by(alloc, store, outline.mode, &outline.file, extents, freed);
@@ -184,7 +184,7 @@ pub fn discard(store: &mut Standing, sizes: Sizes, agent: u32, row: u32)
         store.count(at);
         return;
     }
-    store.lines();
+    store.know_rows_match_tree();
     // An area has so many bytes, a count of 64 bits.
     let _area = area_bytes(store);
     let handle = store.close_handle(at, row as usize - 1);

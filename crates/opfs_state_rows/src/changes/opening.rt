@@ -121,7 +121,7 @@ fn take(store: &mut Standing, file: &Locator, want: Want) -> Held
     ensures prepared { store.new.prepared ≡ store.old.prepared }
     ensures held { result ≡ want }
 {
-    store.lines();
+    store.know_rows_match_tree();
     few_rows(store);
     let Some(held) = store.take(&file.key, &file.path, want) else {
         unreachable!();

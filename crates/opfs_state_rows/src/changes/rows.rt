@@ -74,7 +74,7 @@ pub fn remove_entry(
     let _ = dir;
     let _ = name;
     let _ = recursive;
-    store.lines();
+    store.know_rows_match_tree();
     store.remove(&place.0, &place.1, freed);
     store.count(agent as usize - 1);
 }

@@ -103,7 +103,7 @@ pub(crate) fn flush_as(
     ensures freed { freed.new.items ≡ freed.old.items ++ replaced_at store.old.tree place.now extents }
     ensures capacity { vec_capacity freed.old ≤ vec_capacity freed.new }
 {
-    store.lines();
+    store.know_rows_match_tree();
     let Some(file) = store.file(&place.0, &place.1) else {
         unreachable!();
     };

@@ -37,7 +37,7 @@ pub fn close(
     ensures capacity { vec_capacity freed.old ≤ vec_capacity freed.new }
 {
     let at = agent as usize - 1;
-    store.lines();
+    store.know_rows_match_tree();
     // What is kept is a count of 64 bits.
     let _held = store.held();
     let moment = store.register().moment(at);
@@ -63,7 +63,7 @@ pub fn abort(store: &mut Standing, sizes: Sizes, agent: u32, row: u32)
     ensures prepared { store.new.prepared ≡ store.old.prepared }
 {
     let at = agent as usize - 1;
-    store.lines();
+    store.know_rows_match_tree();
     let stream = store.close_stream(at, row as usize - 1);
     let (outline, held) = stream.into_parts();
     store.unlock(&outline.file.0, &outline.file.1, held);

@@ -36,7 +36,7 @@ impl Standing {
         let root = Path::root(alloc);
         match shares_of(alloc, &tree, &mut shed, &root, register.limits().blocks) {
             Ok(pool) => {
-                shed.in_order();
+                shed.know_order();
                 let fixed = charge - BLOCK_CHARGE * pool.count();
                 Ok(Standing {
                     tree,

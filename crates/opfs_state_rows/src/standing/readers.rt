@@ -22,10 +22,17 @@ use std::alloc::{AllocError, Global};
 
 impl Standing {
     /// The machine has the rows of the tree. Says so, and does next to nothing.
-    pub fn lines(&self)
+    pub fn know_rows_match_tree(&self)
         ensures { self.now.machine.rows ≡ lines_of self.now.tree }
     {
         let _tree = &self.tree;
+    }
+
+    /// The rows stand in order. Says so, and does nothing.
+    pub fn know_order(&self)
+        ensures { IsInOrder self.now.tree }
+    {
+        self.tree.know_order();
     }
 
     /// The rows with their blocks, beside the place that stands ready.
@@ -94,7 +101,7 @@ impl Standing {
     pub fn pool(&self) -> &Pool
         ensures { IsPooled self.now.machine result.now }
     {
-        self.pool.in_order();
+        self.pool.know_order();
         &self.pool
     }
 

@@ -53,7 +53,7 @@ pub trait Store: Chronicle<Entry = Entry> {
         ensures { result ≡ awaited (state_after (opened (Self.opening self.now)) (Self.entries self.now)) agent tag.now };
 
     /// What the store's type keeps: its history is legal, but for the bytes of reads where it does not tell.
-    fn legal(&self)
+    fn know_legal(&self)
         ensures { IsTold tells (opened (Self.opening self.now)) (Self.entries self.now) };
 
     /// An entry is its agent's.

@@ -6,19 +6,19 @@ ghost use Rattle.opfs_tree.specs.Rows.{row_at, file_at, kind_of, rows_within, ex
 ghost use Rattle.opfs_tree.specs.Sums.{row_charge, entries_within};
 ghost use Rattle.opfs_tree.specs.Ready.Ready.{ready_within};
 
-use crate::ready::ready::{ReadyTree, in_order, is_ready};
+use crate::ready::ready::{ReadyTree, is_ready};
 use crate::{FileRow, Row, Sums, Walk};
 use opfs_base::{Key, Kind, Name, Path};
 use opfs_locks::LockValue;
 use std::alloc::{AllocError, Global};
 
 impl ReadyTree {
-    /// What is said of the rows, by a look at any place: they stand in order, and each but the roots in a directory.
-    pub fn in_directories(&self, key: &Key, path: &Path)
+    /// The rows stand in order, and each but the roots in a directory. Says so, and does nothing.
+    pub fn know_order(&self)
         ensures order { IsInOrder self.now.rows }
         ensures closed { IsClosed self.now.rows }
     {
-        in_order(&self.tree, key, path);
+        self.tree.know_order();
     }
 
     /// Whether a directory or a file is at a place; None where neither is.

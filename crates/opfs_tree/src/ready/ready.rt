@@ -4,7 +4,7 @@ ghost use Rattle.std.specs.Prelude.{◌≡◌, None, Some, OnOk, OnErr};
 ghost use Rattle.std.specs.FinMap.Entries.{put};
 ghost use Rattle.opfs_base.specs.Places.{Place, place_cmp};
 ghost use Rattle.opfs_base.specs.declared.locator.Kind.{Kind};
-ghost use Rattle.opfs_tree.specs.Rows.{row_at, without, IsInOrder, IsClosed, HasParent};
+ghost use Rattle.opfs_tree.specs.Rows.{row_at, without, HasParent};
 ghost use Rattle.opfs_tree.specs.Ready.Ready.{new_row, is_ready, IsSpare};
 
 use crate::{FileRow, Row, Tree};
@@ -52,7 +52,7 @@ impl ReadyTree {
         ensures err { OnErr result (self.new ≡ record { rows = self.old.rows; ready = None }) }
     {
         self.cancel();
-        in_order(&self.tree, key, path);
+        self.tree.know_order();
         let place = copy_place(self.alloc, key, path)?;
         let row = new_row(self.alloc, kind);
         self.tree.add(self.alloc, key, path, row)?;
@@ -114,14 +114,6 @@ pub(crate) fn is_ready(ready: &Option<(Place, Kind)>, key: &Key, path: &Path) ->
         Some((place, _)) => compare_places(key, path, place).is_eq(),
         None => false,
     }
-}
-
-// The rows stand in order and closed under parents. Says so, and does next to nothing.
-pub(crate) fn in_order(tree: &Tree, key: &Key, path: &Path)
-    ensures order { IsInOrder tree.now }
-    ensures closed { IsClosed tree.now }
-{
-    let _kind = tree.kind(key, path);
 }
 
 // Gives the row that stands ready at a place its time stamp.

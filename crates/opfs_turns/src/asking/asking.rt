@@ -83,7 +83,7 @@ pub fn ask_work<S: Store, R: Wait>(
         return Err(Stop::NoMemory);
     };
     let acted = turns.call(rt, court, room, op, work, &[]);
-    turns.kept();
+    turns.know_kept();
     answer(acted)
 }
 

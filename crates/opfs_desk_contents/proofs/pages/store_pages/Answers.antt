@@ -40,7 +40,7 @@ collect-requires-clause-small g c =
     let is = c.put_content.ensures in
     let cleared = is.cleared may.fixed may.recorded c.args.work.now may.bytes may.are may.stores.of_row in
     small-blocks w c.storing_laws.ensures.states may.fixed cleared.recorded back q (whole-now w may.fixed l back q is.entries cleared) c.args.agent c.args.row c.args.plan.place
-    (subst (λ (s : StateSeen). file_in (open_at s.store.machine c.args.agent c.args.row) ≡ Some c.args.plan.place) (sym is.state) may.opened) (subst (λ (s : StateSeen). IsInOrder s.store.tree) (sym is.state) c.step.ensures.order)
+    (subst (λ (s : StateSeen). file_in (open_at s.store.machine c.args.agent c.args.row) ≡ Some c.args.plan.place) (sym is.state) may.opened) (subst (λ (s : StateSeen). IsInOrder s.store.tree) (sym is.state) c.know_order.ensures)
 
 pub fail_call-requires : goal.fail_call-requires
 fail_call-requires g c = record {
@@ -97,7 +97,7 @@ enter_content-requires-clause-may g c =
     may-store-content w laws.states laws.kept may.fixed cleared.recorded base back q cleared.are (whole-now w may.fixed l back q is.entries cleared) e c.args.sizes c.args.agent c.args.row place may.reserve
     (file-on l back e place may.reserve is.state may.file)
     (subst (λ (s : StateSeen). file_in (open_at s.store.machine c.args.agent c.args.row) ≡ Some place) (sym is.state) may.opened)
-    (subst (λ (s : StateSeen). IsInOrder s.store.tree) (sym is.state) c.step.ensures.order) may.row_of
+    (subst (λ (s : StateSeen). IsInOrder s.store.tree) (sym is.state) c.know_order.ensures) may.row_of
     (subst (λ (s : StateSeen). file_in_tree place s.store.tree ≡ Some may.row_of) (sym is.state) may.there)
     (answered-on w base l back e c.args.sizes is.state is.entries may.stores.answered) pages (enough-now l back c.args.agent c.args.row pages is.state may.enough)
     runs c.from_vec.result (c.from_vec.ensures ∙ c.collect.ensures.same ∙ sym c.from_vec-runs.ensures)
@@ -124,7 +124,7 @@ returns-in-Ok-enter_content-clause-stored g c f recorded bytes are stores =
     let whole = whole-now w f l back q is.entries cleared in
     let content = c.in-Ok.ensures.content f recorded c.args.work.now bytes are stores.of_row in
     let opened = subst (λ (s : StateSeen). file_in (open_at s.store.machine c.args.agent c.args.row) ≡ Some place) (sym is.state) may.opened in
-    let order = subst (λ (s : StateSeen). IsInOrder s.store.tree) (sym is.state) c.step.ensures.order in
+    let order = subst (λ (s : StateSeen). IsInOrder s.store.tree) (sym is.state) c.know_order.ensures in
     let there = subst (λ (s : StateSeen). file_in_tree place s.store.tree ≡ Some may.row_of) (sym is.state) may.there in
     let same = c.from_vec.ensures ∙ c.collect.ensures.same ∙ sym c.from_vec-runs.ensures in
     let runs_are = subst (λ (xs : List Extent). AreRunsOf q.swap c.args.agent c.args.row pages xs) (sym c.from_vec-runs.ensures) c.collect.ensures.runs in
@@ -171,7 +171,7 @@ returns-in-Ok-clause-failed g c f recorded bytes are stores =
     let whole = whole-now w f l back q is.entries cleared in
     let content = c.in-Ok.ensures.content f recorded c.args.work.now bytes are stores.of_row in
     let opened = subst (λ (s : StateSeen). file_in (open_at s.store.machine c.args.agent c.args.row) ≡ Some place) (sym is.state) may.opened in
-    let order = subst (λ (s : StateSeen). IsInOrder s.store.tree) (sym is.state) c.step.ensures.order in
+    let order = subst (λ (s : StateSeen). IsInOrder s.store.tree) (sym is.state) c.know_order.ensures in
     let there = subst (λ (s : StateSeen). file_in_tree place s.store.tree ≡ Some may.row_of) (sym is.state) may.there in
     let runs_are = subst (λ (xs : List Extent). AreRunsOf q.swap c.args.agent c.args.row pages xs) (sym c.from_vec-runs.ensures) c.collect.ensures.runs in
     let many : pages ≡ blocks size = stores.of_row.count ∙ ap blocks (sym c.size-size.ensures) in
@@ -183,6 +183,6 @@ returns-in-Ok-clause-failed g c f recorded bytes are stores =
     let not = c.in-Err-enter_content.ensures.failed f cleared.recorded base [] q may.row_of cleared.are answered there holds stands in
     let now = size_stored c.args.sizes e.op may.row_of in
     has-failed w f laws.kept laws.spelled laws.fails laws_of.falls l back new q [] e c.args.sizes (content_now back e place may.row_of now may.row_of.extents) (is.entries ∙ sym (append-nil l.books.history)) cleared answered (ap is_refusal c.requires.done)
-    (record { lines = subst (λ (s : StateSeen). s.store.machine.rows ≡ lines_of s.store.tree) (sym is.state) c.lines.ensures; order = order })
+    (record { lines = subst (λ (s : StateSeen). s.store.machine.rows ≡ lines_of s.store.tree) (sym is.state) c.know_rows_match_tree.ensures; order = order })
     (spelled-runs (machine_in back) (tree_in back) e.agent e.op c.args.sizes place may.reserve may.row_of None (file-on l back e place may.reserve is.state may.file) there) (no-eviction e.op c.requires.word)
     (not-alike w f cleared.recorded base back new q e place stamp size now runs may.row_of.extents not)

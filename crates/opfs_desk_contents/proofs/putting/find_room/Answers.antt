@@ -46,7 +46,7 @@ find_blocks-requires-clause-may g c =
     (done.recorded may.fixed may.recorded (state_after may.fixed.opening l.books.history) [] p may.are).are in
     subst (λ (t : Tree). MayFindBlocks t p.swap p.space c.args.agent c.args.row put.pages put.writes put.moves put.extents.items) (sym (ap (λ r. r.rows) c.tree.ensures))
     (may-find w may.fixed new p whole c.the_state_is_kept.ensures c.puts_have_room.ensures.named
-    (subst (λ (s : StateSeen). s.store.machine.rows ≡ lines_of s.store.tree) (sym done.state) c.lines.ensures) c.args.agent c.args.row put (enough-now l new c.args.agent c.args.row put.pages done.state may.enough) (may.ready.ready.count [])
+    (subst (λ (s : StateSeen). s.store.machine.rows ≡ lines_of s.store.tree) (sym done.state) c.know_rows_match_tree.ensures) c.args.agent c.args.row put (enough-now l new c.args.agent c.args.row put.pages done.state may.enough) (may.ready.ready.count [])
     (waits-now l.books.state new.books.state may.recorded.rows p.swap p.space p.base (w.size l.journal.disk) c.args.agent c.args.row put done.state c.if-put.false may.ready.gotten))
 
 pub returns-in-Ok-clause-blocks : goal.returns-in-Ok-clause-blocks

@@ -11,10 +11,10 @@ pub write-requires-clause-bytes : goal.write-requires-clause-bytes
 write-requires-clause-bytes g c = anew-small g.S.Store.tells c.args.agent.now (seen c.args.handle.now c.args.notes.now) c.requires.stands c.args.anew.bytes c.args.anew.len c.args.anew.index c.requires.anew
 
 pub returns-in-Ok-clause-serves : goal.returns-in-Ok-clause-serves
-returns-in-Ok-clause-serves g c = anew-serves g.S.Store.tells c.args.agent.now c.write.new.agent (seen c.args.handle.now c.args.notes.now) c.requires.stands c.write.new.handle c.in-Ok.ensures.still c.in-Ok.ensures.stored c.requires.none c.args.anew.bytes c.args.anew.len c.args.anew.index c.requires.anew c.kept.ensures c.in-Ok.ensures.wrote _ (λ h. grind (arith, h))
+returns-in-Ok-clause-serves g c = anew-serves g.S.Store.tells c.args.agent.now c.write.new.agent (seen c.args.handle.now c.args.notes.now) c.requires.stands c.write.new.handle c.in-Ok.ensures.still c.in-Ok.ensures.stored c.requires.none c.args.anew.bytes c.args.anew.len c.args.anew.index c.requires.anew c.know_kept.ensures c.in-Ok.ensures.wrote _ (λ h. grind (arith, h))
 
 pub returns-in-Ok-clause-front : goal.returns-in-Ok-clause-front
-returns-in-Ok-clause-front g c = anew-front g.S.Store.tells c.args.agent.now c.write.new.agent (seen c.args.handle.now c.args.notes.now) c.requires.stands c.write.new.handle c.in-Ok.ensures.still c.in-Ok.ensures.stored c.requires.none c.args.anew.bytes c.args.anew.len c.args.anew.index c.requires.anew c.kept.ensures c.in-Ok.ensures.wrote
+returns-in-Ok-clause-front g c = anew-front g.S.Store.tells c.args.agent.now c.write.new.agent (seen c.args.handle.now c.args.notes.now) c.requires.stands c.write.new.handle c.in-Ok.ensures.still c.in-Ok.ensures.stored c.requires.none c.args.anew.bytes c.args.anew.len c.args.anew.index c.requires.anew c.know_kept.ensures c.in-Ok.ensures.wrote
 
 pub returns-clause-serves : goal.returns-clause-serves
 returns-clause-serves g c = still-serves g.S.Store.tells c.args.agent.now c.write.new.agent (seen c.args.handle.now c.args.notes.now) c.requires.stands c.write.new.handle c.in-Err.ensures.still c.in-Err.ensures.stored c.in-Err.ensures.same

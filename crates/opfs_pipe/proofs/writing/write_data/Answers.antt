@@ -7,5 +7,5 @@ write_growing-done-requires-clause-small g c = (omega (arith, c.requires.small),
 
 pub returns : goal.returns
 returns g c =
-    write-does g.S.Store.tells c.args.writer.now c.write_growing-done.new.self c.kept.ensures c.kept-2.ensures c.args.to.now c.write_growing-done.new.stream c.requires.stream c.args.bytes.now c.write_growing-done.result c.requires.at_end
+    write-does g.S.Store.tells c.args.writer.now c.write_growing-done.new.self c.know_kept.ensures c.know_kept-2.ensures c.args.to.now c.write_growing-done.new.stream c.requires.stream c.args.bytes.now c.write_growing-done.result c.requires.at_end
     c.write_growing-done.ensures.shared c.write_growing-done.ensures.stream c.write_growing-done.ensures.same

@@ -9,7 +9,7 @@ loop-slot-init g c =
     let T = g.S.Store.tells in
     let a = c.args.agent.now in
     let slots = c.args.slots.items in
-    subst (Ending T a slots a) (sym (ap reverse c.reverse.ensures.items ∙ reverse-reverse slots)) (ending-begins T a slots c.kept.ensures c.requires.table c.requires.few.0 c.requires.few.1)
+    subst (Ending T a slots a) (sym (ap reverse c.reverse.ensures.items ∙ reverse-reverse slots)) (ending-begins T a slots c.know_kept.ensures c.requires.table c.requires.few.0 c.requires.few.1)
 
 pub end_slot-requires-clause-slot : goal.end_slot-requires-clause-slot
 end_slot-requires-clause-slot g c =
@@ -23,7 +23,7 @@ loop-slot-preserved g c =
     let T = g.S.Store.tells in
     let left = pop-left c.loop-slot.slots.items c.pop.new.self.items c.in-Some.slot c.in-Some.ensures.items in
     ending-more T c.args.agent.now c.loop-slot.agent c.end_slot.new.agent c.args.slots.items (reverse c.pop.new.self.items) c.in-Some.slot
-    (subst (Ending T c.args.agent.now c.args.slots.items c.loop-slot.agent) left c.loop-slot.invariant) c.kept-in-loop-slot.ensures c.end_slot.ensures
+    (subst (Ending T c.args.agent.now c.args.slots.items c.loop-slot.agent) left c.loop-slot.invariant) c.know_kept-in-loop-slot.ensures c.end_slot.ensures
 
 pub returns-clause-none : goal.returns-clause-none
 returns-clause-none g c =

@@ -10,19 +10,19 @@ use Rattle.opfs_sync_files.proofs.Served.{far-long, far-read, far-same, far-stor
 use Rattle.opfs_sync_files.proofs.reading.read_far.Goals as goal
 
 pub returns-clause-still : goal.returns-clause-still
-returns-clause-still g c = shared-still g.S.Store.tells c.args.agent.now c.sync_read_far-done.new.self c.kept.ensures c.kept-2.ensures (op.SyncRead c.args.handle.now.row c.args.len (Some c.args.at)) (λ (bytes : Text) (answered : Reply) (given : Gift). answered ≡ reply.Read bytes) c.sync_read_far-done.result refl c.sync_read_far-done.ensures.shared c.args.handle.now c.sync_read_far-done.new.handle refl c.sync_read_far-done.ensures.handle c.sync_read_far-done.ensures.same c.requires.handle NoBytes (read-decides c.args.agent.now c.args.handle.now c.args.len (Some c.args.at))
+returns-clause-still g c = shared-still g.S.Store.tells c.args.agent.now c.sync_read_far-done.new.self c.know_kept.ensures c.know_kept-2.ensures (op.SyncRead c.args.handle.now.row c.args.len (Some c.args.at)) (λ (bytes : Text) (answered : Reply) (given : Gift). answered ≡ reply.Read bytes) c.sync_read_far-done.result refl c.sync_read_far-done.ensures.shared c.args.handle.now c.sync_read_far-done.new.handle refl c.sync_read_far-done.ensures.handle c.sync_read_far-done.ensures.same c.requires.handle NoBytes (read-decides c.args.agent.now c.args.handle.now c.args.len (Some c.args.at))
 
 pub returns-clause-read : goal.returns-clause-read
-returns-clause-read g c = far-read g.S.Store.tells c.args.agent.now c.sync_read_far-done.new.self c.kept.ensures c.kept-2.ensures c.args.handle.now c.requires.handle c.sync_read_far-done.new.handle c.sync_read_far-done.ensures.same.1 c.args.len c.args.at c.sync_read_far-done.result c.sync_read_far-done.ensures.shared
+returns-clause-read g c = far-read g.S.Store.tells c.args.agent.now c.sync_read_far-done.new.self c.know_kept.ensures c.know_kept-2.ensures c.args.handle.now c.requires.handle c.sync_read_far-done.new.handle c.sync_read_far-done.ensures.same.1 c.args.len c.args.at c.sync_read_far-done.result c.sync_read_far-done.ensures.shared
 
 pub returns-clause-long : goal.returns-clause-long
-returns-clause-long g c = far-long g.S.Store.tells c.args.agent.now c.sync_read_far-done.new.self c.kept.ensures c.kept-2.ensures c.args.handle.now c.requires.handle c.sync_read_far-done.new.handle c.sync_read_far-done.ensures.same.1 c.args.len c.args.at c.sync_read_far-done.result c.sync_read_far-done.ensures.shared
+returns-clause-long g c = far-long g.S.Store.tells c.args.agent.now c.sync_read_far-done.new.self c.know_kept.ensures c.know_kept-2.ensures c.args.handle.now c.requires.handle c.sync_read_far-done.new.handle c.sync_read_far-done.ensures.same.1 c.args.len c.args.at c.sync_read_far-done.result c.sync_read_far-done.ensures.shared
 
 pub returns-clause-same : goal.returns-clause-same
-returns-clause-same g c = far-same g.S.Store.tells c.args.agent.now c.sync_read_far-done.new.self c.kept.ensures c.kept-2.ensures c.args.handle.now c.requires.handle c.sync_read_far-done.new.handle c.sync_read_far-done.ensures.same.1 c.args.len c.args.at c.sync_read_far-done.result c.sync_read_far-done.ensures.shared
+returns-clause-same g c = far-same g.S.Store.tells c.args.agent.now c.sync_read_far-done.new.self c.know_kept.ensures c.know_kept-2.ensures c.args.handle.now c.requires.handle c.sync_read_far-done.new.handle c.sync_read_far-done.ensures.same.1 c.args.len c.args.at c.sync_read_far-done.result c.sync_read_far-done.ensures.shared
 
 pub returns-clause-stored : goal.returns-clause-stored
-returns-clause-stored g c = far-stored g.S.Store.tells c.args.agent.now c.sync_read_far-done.new.self c.kept.ensures c.kept-2.ensures c.args.handle.now c.requires.handle c.sync_read_far-done.new.handle c.sync_read_far-done.ensures.same.1 c.args.len c.args.at c.sync_read_far-done.result c.sync_read_far-done.ensures.shared
+returns-clause-stored g c = far-stored g.S.Store.tells c.args.agent.now c.sync_read_far-done.new.self c.know_kept.ensures c.know_kept-2.ensures c.args.handle.now c.requires.handle c.sync_read_far-done.new.handle c.sync_read_far-done.ensures.same.1 c.args.len c.args.at c.sync_read_far-done.result c.sync_read_far-done.ensures.shared
 
 pub returns-clause-cause : goal.returns-clause-cause
-returns-clause-cause g c = shared-cause g.S.Store.tells c.args.agent.now c.sync_read_far-done.new.self c.kept.ensures c.kept-2.ensures (op.SyncRead c.args.handle.now.row c.args.len (Some c.args.at)) (λ (bytes : Text) (answered : Reply) (given : Gift). answered ≡ reply.Read bytes) c.sync_read_far-done.result c.sync_read_far-done.ensures.shared
+returns-clause-cause g c = shared-cause g.S.Store.tells c.args.agent.now c.sync_read_far-done.new.self c.know_kept.ensures c.know_kept-2.ensures (op.SyncRead c.args.handle.now.row c.args.len (Some c.args.at)) (λ (bytes : Text) (answered : Reply) (given : Gift). answered ≡ reply.Read bytes) c.sync_read_far-done.result c.sync_read_far-done.ensures.shared

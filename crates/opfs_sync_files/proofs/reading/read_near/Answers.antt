@@ -8,19 +8,19 @@ use Rattle.opfs_sync_files.proofs.Served.{local-cause, local-still, local-stored
 use Rattle.opfs_sync_files.proofs.reading.read_near.Goals as goal
 
 pub returns-clause-still : goal.returns-clause-still
-returns-clause-still g c = local-still g.S.Store.tells c.args.agent.now c.sync_read-done.new.self c.kept.ensures c.kept-2.ensures (op.SyncRead c.args.handle.now.row c.args.len (Some c.args.at)) (λ (bytes : Text) (answered : Reply). answered ≡ reply.Read bytes) c.sync_read-done.result c.sync_read-done.ensures.local c.args.handle.now c.sync_read-done.new.handle refl c.sync_read-done.ensures.handle c.sync_read-done.ensures.same NoBytes
+returns-clause-still g c = local-still g.S.Store.tells c.args.agent.now c.sync_read-done.new.self c.know_kept.ensures c.know_kept-2.ensures (op.SyncRead c.args.handle.now.row c.args.len (Some c.args.at)) (λ (bytes : Text) (answered : Reply). answered ≡ reply.Read bytes) c.sync_read-done.result c.sync_read-done.ensures.local c.args.handle.now c.sync_read-done.new.handle refl c.sync_read-done.ensures.handle c.sync_read-done.ensures.same NoBytes
 
 pub returns-clause-read : goal.returns-clause-read
-returns-clause-read g c = near-read g.S.Store.tells c.args.agent.now c.sync_read-done.new.self c.kept.ensures c.kept-2.ensures c.args.handle.now c.requires.handle c.sync_read-done.new.handle c.sync_read-done.ensures.same.1 c.args.len c.args.at c.sync_read-done.result c.sync_read-done.ensures.local
+returns-clause-read g c = near-read g.S.Store.tells c.args.agent.now c.sync_read-done.new.self c.know_kept.ensures c.know_kept-2.ensures c.args.handle.now c.requires.handle c.sync_read-done.new.handle c.sync_read-done.ensures.same.1 c.args.len c.args.at c.sync_read-done.result c.sync_read-done.ensures.local
 
 pub returns-clause-long : goal.returns-clause-long
-returns-clause-long g c = near-long g.S.Store.tells c.args.agent.now c.sync_read-done.new.self c.kept.ensures c.kept-2.ensures c.args.handle.now c.requires.handle c.sync_read-done.new.handle c.sync_read-done.ensures.same.1 c.args.len c.args.at c.sync_read-done.result c.sync_read-done.ensures.local
+returns-clause-long g c = near-long g.S.Store.tells c.args.agent.now c.sync_read-done.new.self c.know_kept.ensures c.know_kept-2.ensures c.args.handle.now c.requires.handle c.sync_read-done.new.handle c.sync_read-done.ensures.same.1 c.args.len c.args.at c.sync_read-done.result c.sync_read-done.ensures.local
 
 pub returns-clause-same : goal.returns-clause-same
-returns-clause-same g c = near-same g.S.Store.tells c.args.agent.now c.sync_read-done.new.self c.kept.ensures c.kept-2.ensures c.args.handle.now c.requires.handle c.sync_read-done.new.handle c.sync_read-done.ensures.same.1 c.args.len c.args.at c.sync_read-done.result c.sync_read-done.ensures.local
+returns-clause-same g c = near-same g.S.Store.tells c.args.agent.now c.sync_read-done.new.self c.know_kept.ensures c.know_kept-2.ensures c.args.handle.now c.requires.handle c.sync_read-done.new.handle c.sync_read-done.ensures.same.1 c.args.len c.args.at c.sync_read-done.result c.sync_read-done.ensures.local
 
 pub returns-clause-stored : goal.returns-clause-stored
-returns-clause-stored g c = local-stored g.S.Store.tells c.args.agent.now c.sync_read-done.new.self c.kept.ensures c.kept-2.ensures (op.SyncRead c.args.handle.now.row c.args.len (Some c.args.at)) (λ (bytes : Text) (answered : Reply). answered ≡ reply.Read bytes) c.sync_read-done.result c.args.handle.now c.sync_read-done.new.handle c.sync_read-done.ensures.same.1 c.sync_read-done.ensures.local
+returns-clause-stored g c = local-stored g.S.Store.tells c.args.agent.now c.sync_read-done.new.self c.know_kept.ensures c.know_kept-2.ensures (op.SyncRead c.args.handle.now.row c.args.len (Some c.args.at)) (λ (bytes : Text) (answered : Reply). answered ≡ reply.Read bytes) c.sync_read-done.result c.args.handle.now c.sync_read-done.new.handle c.sync_read-done.ensures.same.1 c.sync_read-done.ensures.local
 
 pub returns-clause-cause : goal.returns-clause-cause
-returns-clause-cause g c = local-cause g.S.Store.tells c.args.agent.now c.sync_read-done.new.self c.kept.ensures c.kept-2.ensures (op.SyncRead c.args.handle.now.row c.args.len (Some c.args.at)) (λ (bytes : Text) (answered : Reply). answered ≡ reply.Read bytes) c.sync_read-done.result c.sync_read-done.ensures.local
+returns-clause-cause g c = local-cause g.S.Store.tells c.args.agent.now c.sync_read-done.new.self c.know_kept.ensures c.know_kept-2.ensures (op.SyncRead c.args.handle.now.row c.args.len (Some c.args.at)) (λ (bytes : Text) (answered : Reply). answered ≡ reply.Read bytes) c.sync_read-done.result c.sync_read-done.ensures.local

@@ -9,16 +9,16 @@ use Rattle.opfs_sync_files.proofs.Served.{cut-bytes, cut-same, cut-stored, share
 use Rattle.opfs_sync_files.proofs.writing.truncate.Goals as goal
 
 pub returns-clause-still : goal.returns-clause-still
-returns-clause-still g c = shared-still g.S.Store.tells c.args.agent.now c.sync_truncate-done.new.self c.kept.ensures c.kept-2.ensures (op.SyncTruncate c.args.handle.now.row c.args.size) (λ (v : Unit {0}) (answered : Reply) (given : Gift). answered ≡ reply.Done) c.sync_truncate-done.result refl c.sync_truncate-done.ensures.shared c.args.handle.now c.sync_truncate-done.new.handle refl c.sync_truncate-done.ensures.handle c.sync_truncate-done.ensures.same c.requires.handle NoBytes (cut-decides c.args.agent.now c.args.handle.now c.args.size)
+returns-clause-still g c = shared-still g.S.Store.tells c.args.agent.now c.sync_truncate-done.new.self c.know_kept.ensures c.know_kept-2.ensures (op.SyncTruncate c.args.handle.now.row c.args.size) (λ (v : Unit {0}) (answered : Reply) (given : Gift). answered ≡ reply.Done) c.sync_truncate-done.result refl c.sync_truncate-done.ensures.shared c.args.handle.now c.sync_truncate-done.new.handle refl c.sync_truncate-done.ensures.handle c.sync_truncate-done.ensures.same c.requires.handle NoBytes (cut-decides c.args.agent.now c.args.handle.now c.args.size)
 
 pub returns-clause-cut : goal.returns-clause-cut
-returns-clause-cut g c = cut-bytes g.S.Store.tells c.args.agent.now c.sync_truncate-done.new.self c.kept.ensures c.kept-2.ensures c.args.handle.now c.requires.handle c.sync_truncate-done.new.handle c.sync_truncate-done.ensures.same.1 (λ (v : Unit {0}) (answered : Reply) (given : Gift). answered ≡ reply.Done) c.args.size c.sync_truncate-done.result c.sync_truncate-done.ensures.shared
+returns-clause-cut g c = cut-bytes g.S.Store.tells c.args.agent.now c.sync_truncate-done.new.self c.know_kept.ensures c.know_kept-2.ensures c.args.handle.now c.requires.handle c.sync_truncate-done.new.handle c.sync_truncate-done.ensures.same.1 (λ (v : Unit {0}) (answered : Reply) (given : Gift). answered ≡ reply.Done) c.args.size c.sync_truncate-done.result c.sync_truncate-done.ensures.shared
 
 pub returns-clause-same : goal.returns-clause-same
-returns-clause-same g c = cut-same g.S.Store.tells c.args.agent.now c.sync_truncate-done.new.self c.kept.ensures c.kept-2.ensures c.args.handle.now c.requires.handle c.sync_truncate-done.new.handle c.sync_truncate-done.ensures.same.1 (λ (v : Unit {0}) (answered : Reply) (given : Gift). answered ≡ reply.Done) c.args.size c.sync_truncate-done.result c.sync_truncate-done.ensures.shared
+returns-clause-same g c = cut-same g.S.Store.tells c.args.agent.now c.sync_truncate-done.new.self c.know_kept.ensures c.know_kept-2.ensures c.args.handle.now c.requires.handle c.sync_truncate-done.new.handle c.sync_truncate-done.ensures.same.1 (λ (v : Unit {0}) (answered : Reply) (given : Gift). answered ≡ reply.Done) c.args.size c.sync_truncate-done.result c.sync_truncate-done.ensures.shared
 
 pub returns-clause-stored : goal.returns-clause-stored
-returns-clause-stored g c = cut-stored g.S.Store.tells c.args.agent.now c.sync_truncate-done.new.self c.kept.ensures c.kept-2.ensures c.args.handle.now c.requires.handle c.sync_truncate-done.new.handle c.sync_truncate-done.ensures.same.1 (λ (v : Unit {0}) (answered : Reply) (given : Gift). answered ≡ reply.Done) c.args.size c.sync_truncate-done.result c.sync_truncate-done.ensures.shared
+returns-clause-stored g c = cut-stored g.S.Store.tells c.args.agent.now c.sync_truncate-done.new.self c.know_kept.ensures c.know_kept-2.ensures c.args.handle.now c.requires.handle c.sync_truncate-done.new.handle c.sync_truncate-done.ensures.same.1 (λ (v : Unit {0}) (answered : Reply) (given : Gift). answered ≡ reply.Done) c.args.size c.sync_truncate-done.result c.sync_truncate-done.ensures.shared
 
 pub returns-clause-cause : goal.returns-clause-cause
-returns-clause-cause g c = shared-cause g.S.Store.tells c.args.agent.now c.sync_truncate-done.new.self c.kept.ensures c.kept-2.ensures (op.SyncTruncate c.args.handle.now.row c.args.size) (λ (v : Unit {0}) (answered : Reply) (given : Gift). answered ≡ reply.Done) c.sync_truncate-done.result c.sync_truncate-done.ensures.shared
+returns-clause-cause g c = shared-cause g.S.Store.tells c.args.agent.now c.sync_truncate-done.new.self c.know_kept.ensures c.know_kept-2.ensures (op.SyncTruncate c.args.handle.now.row c.args.size) (λ (v : Unit {0}) (answered : Reply) (given : Gift). answered ≡ reply.Done) c.sync_truncate-done.result c.sync_truncate-done.ensures.shared

@@ -12,19 +12,19 @@ use Rattle.opfs_sync_files.proofs.Served.{shared-cause, shared-still, written-ca
 use Rattle.opfs_sync_files.proofs.writing.write.Goals as goal
 
 pub returns-clause-still : goal.returns-clause-still
-returns-clause-still g c = shared-still g.S.Store.tells c.args.agent.now c.sync_write-done.new.self c.kept.ensures c.kept-2.ensures (op.SyncWrite c.args.handle.now.row c.args.bytes.now (Some c.args.at)) (λ (count : ℕ) (answered : Reply) (given : Gift). answered ≡ reply.Length count) c.sync_write-done.result refl c.sync_write-done.ensures.shared c.args.handle.now c.sync_write-done.new.handle refl c.sync_write-done.ensures.handle c.sync_write-done.ensures.same c.requires.handle NoBytes (write-decides c.args.agent.now c.args.handle.now c.args.bytes.now (Some c.args.at))
+returns-clause-still g c = shared-still g.S.Store.tells c.args.agent.now c.sync_write-done.new.self c.know_kept.ensures c.know_kept-2.ensures (op.SyncWrite c.args.handle.now.row c.args.bytes.now (Some c.args.at)) (λ (count : ℕ) (answered : Reply) (given : Gift). answered ≡ reply.Length count) c.sync_write-done.result refl c.sync_write-done.ensures.shared c.args.handle.now c.sync_write-done.new.handle refl c.sync_write-done.ensures.handle c.sync_write-done.ensures.same c.requires.handle NoBytes (write-decides c.args.agent.now c.args.handle.now c.args.bytes.now (Some c.args.at))
 
 pub returns-clause-wrote : goal.returns-clause-wrote
 returns-clause-wrote g c =
-    subst (λ r. OnOk r (file_bytes c.sync_write-done.new.self c.sync_write-done.new.handle ≡ splice (file_bytes c.args.agent.now c.args.handle.now) c.args.at c.args.bytes.now)) (sym c.written.ensures) (written-ok c.sync_write-done.result (file_bytes c.sync_write-done.new.self c.sync_write-done.new.handle ≡ splice (file_bytes c.args.agent.now c.args.handle.now) c.args.at c.args.bytes.now) (wrote-bytes g.S.Store.tells c.args.agent.now c.sync_write-done.new.self c.kept.ensures c.kept-2.ensures c.args.handle.now c.requires.handle c.sync_write-done.new.handle c.sync_write-done.ensures.same.1 (λ (count : ℕ) (answered : Reply) (given : Gift). answered ≡ reply.Length count) c.args.bytes.now c.args.at c.sync_write-done.result c.sync_write-done.ensures.shared))
+    subst (λ r. OnOk r (file_bytes c.sync_write-done.new.self c.sync_write-done.new.handle ≡ splice (file_bytes c.args.agent.now c.args.handle.now) c.args.at c.args.bytes.now)) (sym c.written.ensures) (written-ok c.sync_write-done.result (file_bytes c.sync_write-done.new.self c.sync_write-done.new.handle ≡ splice (file_bytes c.args.agent.now c.args.handle.now) c.args.at c.args.bytes.now) (wrote-bytes g.S.Store.tells c.args.agent.now c.sync_write-done.new.self c.know_kept.ensures c.know_kept-2.ensures c.args.handle.now c.requires.handle c.sync_write-done.new.handle c.sync_write-done.ensures.same.1 (λ (count : ℕ) (answered : Reply) (given : Gift). answered ≡ reply.Length count) c.args.bytes.now c.args.at c.sync_write-done.result c.sync_write-done.ensures.shared))
 
 pub returns-clause-same : goal.returns-clause-same
 returns-clause-same g c =
-    subst (λ r. OnErr r (file_bytes c.sync_write-done.new.self c.sync_write-done.new.handle ≡ file_bytes c.args.agent.now c.args.handle.now)) (sym c.written.ensures) (written-err c.sync_write-done.result (file_bytes c.sync_write-done.new.self c.sync_write-done.new.handle ≡ file_bytes c.args.agent.now c.args.handle.now) (wrote-same g.S.Store.tells c.args.agent.now c.sync_write-done.new.self c.kept.ensures c.kept-2.ensures c.args.handle.now c.requires.handle c.sync_write-done.new.handle c.sync_write-done.ensures.same.1 (λ (count : ℕ) (answered : Reply) (given : Gift). answered ≡ reply.Length count) c.args.bytes.now c.args.at c.sync_write-done.result c.sync_write-done.ensures.shared))
+    subst (λ r. OnErr r (file_bytes c.sync_write-done.new.self c.sync_write-done.new.handle ≡ file_bytes c.args.agent.now c.args.handle.now)) (sym c.written.ensures) (written-err c.sync_write-done.result (file_bytes c.sync_write-done.new.self c.sync_write-done.new.handle ≡ file_bytes c.args.agent.now c.args.handle.now) (wrote-same g.S.Store.tells c.args.agent.now c.sync_write-done.new.self c.know_kept.ensures c.know_kept-2.ensures c.args.handle.now c.requires.handle c.sync_write-done.new.handle c.sync_write-done.ensures.same.1 (λ (count : ℕ) (answered : Reply) (given : Gift). answered ≡ reply.Length count) c.args.bytes.now c.args.at c.sync_write-done.result c.sync_write-done.ensures.shared))
 
 pub returns-clause-stored : goal.returns-clause-stored
-returns-clause-stored g c = wrote-stored g.S.Store.tells c.args.agent.now c.sync_write-done.new.self c.kept.ensures c.kept-2.ensures c.args.handle.now c.requires.handle c.sync_write-done.new.handle c.sync_write-done.ensures.same.1 (λ (count : ℕ) (answered : Reply) (given : Gift). answered ≡ reply.Length count) c.args.bytes.now c.args.at c.sync_write-done.result c.sync_write-done.ensures.shared
+returns-clause-stored g c = wrote-stored g.S.Store.tells c.args.agent.now c.sync_write-done.new.self c.know_kept.ensures c.know_kept-2.ensures c.args.handle.now c.requires.handle c.sync_write-done.new.handle c.sync_write-done.ensures.same.1 (λ (count : ℕ) (answered : Reply) (given : Gift). answered ≡ reply.Length count) c.args.bytes.now c.args.at c.sync_write-done.result c.sync_write-done.ensures.shared
 
 pub returns-clause-cause : goal.returns-clause-cause
 returns-clause-cause g c =
-    subst (λ r. IfErr r (IsCaused c.args.agent.now c.sync_write-done.new.self)) (sym c.written.ensures) (written-cause c.sync_write-done.result (IsCaused c.args.agent.now c.sync_write-done.new.self) (shared-cause g.S.Store.tells c.args.agent.now c.sync_write-done.new.self c.kept.ensures c.kept-2.ensures (op.SyncWrite c.args.handle.now.row c.args.bytes.now (Some c.args.at)) (λ (count : ℕ) (answered : Reply) (given : Gift). answered ≡ reply.Length count) c.sync_write-done.result c.sync_write-done.ensures.shared))
+    subst (λ r. IfErr r (IsCaused c.args.agent.now c.sync_write-done.new.self)) (sym c.written.ensures) (written-cause c.sync_write-done.result (IsCaused c.args.agent.now c.sync_write-done.new.self) (shared-cause g.S.Store.tells c.args.agent.now c.sync_write-done.new.self c.know_kept.ensures c.know_kept-2.ensures (op.SyncWrite c.args.handle.now.row c.args.bytes.now (Some c.args.at)) (λ (count : ℕ) (answered : Reply) (given : Gift). answered ≡ reply.Length count) c.sync_write-done.result c.sync_write-done.ensures.shared))

@@ -19,7 +19,7 @@ act-acted-requires g c = record {
       (sym c.agent-agent.ensures)
       (acts g.S.Store.tells g.S.Store.opened c.args.pass.now c.args.notes.now g.S.Chronicle.owner g.met.S.Store.owned c.requires.agent
       (g.S.Store.opened (g.S.Chronicle.opening c.enter-turn.result.value)) (ap g.S.Store.opened (c.enter-turn.ensures.opening ∙ ap (λ h. h.opening) (sym c.requires.own)))
-      (g.S.Chronicle.entries c.enter-turn.result.value) c.enter-turn.ensures.grows c.legal.ensures
+      (g.S.Chronicle.entries c.enter-turn.result.value) c.enter-turn.ensures.grows c.know_legal.ensures
       c.args.op c.args.work.now c.args.past.now c.requires.room c.requires.may);
 }
 
@@ -30,7 +30,7 @@ leave-requires-clause-adds g c =
     c.args.notes.now.number c.args.op c.args.notes.now.pending (g.S.Chronicle.entries c.act-acted.new.self) (λ acted. acted.reply) c.act-acted.result
     (acts g.S.Store.tells g.S.Store.opened c.args.pass.now c.args.notes.now g.S.Chronicle.owner g.met.S.Store.owned c.requires.agent
     (g.S.Store.opened (g.S.Chronicle.opening c.enter-turn.result.value)) (ap g.S.Store.opened (c.enter-turn.ensures.opening ∙ ap (λ h. h.opening) (sym c.requires.own)))
-    (g.S.Chronicle.entries c.enter-turn.result.value) c.enter-turn.ensures.grows c.legal.ensures
+    (g.S.Chronicle.entries c.enter-turn.result.value) c.enter-turn.ensures.grows c.know_legal.ensures
     c.args.op c.args.work.now c.args.past.now c.requires.room c.requires.may).pending
     (subst (λ (k : ℕ). IfOk c.act-acted.result (λ acted. IsActed g.S.Store.tells (g.S.Store.opened (g.S.Chronicle.opening c.enter-turn.result.value)) (g.S.Chronicle.entries c.enter-turn.result.value) c.args.notes.now.pending (record { agent = k; number = c.args.notes.now.number; op = c.args.op }) acted.reply (g.S.Chronicle.entries c.act-acted.new.self))) c.agent-agent.ensures c.act-acted.ensures.acted)
     c.act-acted.ensures.unacted (λ h. h.0))
@@ -42,10 +42,10 @@ pub returns-in-Ok-clause-agent : goal.returns-in-Ok-clause-agent
 returns-in-Ok-clause-agent g c = λ stays.
     acted-agent g.S.Store.tells g.S.Store.opened c.args.pass.now c.args.notes.now g.S.Chronicle.owner g.met.S.Store.owned c.requires.agent
     (g.S.Store.opened (g.S.Chronicle.opening c.enter-turn.result.value)) (ap g.S.Store.opened (c.enter-turn.ensures.opening ∙ ap (λ h. h.opening) (sym c.requires.own)))
-    (g.S.Chronicle.entries c.enter-turn.result.value) c.enter-turn.ensures.grows c.legal.ensures
+    (g.S.Chronicle.entries c.enter-turn.result.value) c.enter-turn.ensures.grows c.know_legal.ensures
     c.args.op c.in-Ok.acted.reply (g.S.Chronicle.entries c.act-acted.new.self)
     (subst (λ (k : ℕ). IsActed g.S.Store.tells (g.S.Store.opened (g.S.Chronicle.opening c.enter-turn.result.value)) (g.S.Chronicle.entries c.enter-turn.result.value) c.args.notes.now.pending (record { agent = k; number = c.args.notes.now.number; op = c.args.op }) c.in-Ok.acted.reply (g.S.Chronicle.entries c.act-acted.new.self)) c.agent-agent.ensures c.in-Ok.ensures.acted)
-    (subst (λ o. IsTold g.S.Store.tells (g.S.Store.opened o) (g.S.Chronicle.entries c.act-acted.new.self)) c.act-acted.ensures.opening c.legal-2.ensures)
+    (subst (λ o. IsTold g.S.Store.tells (g.S.Store.opened o) (g.S.Chronicle.entries c.act-acted.new.self)) c.act-acted.ensures.opening c.know_legal-2.ensures)
     c.leave.new.pass (c.leave.ensures ∙ ap (λ p. at_rest p (g.S.Chronicle.entries c.act-acted.new.self)) c.enter-turn.ensures.pass)
     c.act-acted.new.pending c.in-Ok.ensures.taken c.in-Ok.acted.rows
     (c.in-Ok.ensures.rows ∙ ap (λ (k : ℕ). length (agent_of (state_after (g.S.Store.opened (g.S.Chronicle.opening c.enter-turn.result.value)) (g.S.Chronicle.entries c.act-acted.new.self)) k).own) c.agent-agent.ensures)
@@ -55,10 +55,10 @@ pub returns-in-Ok-clause-entered : goal.returns-in-Ok-clause-entered
 returns-in-Ok-clause-entered g c =
     acted-entered g.S.Store.tells g.S.Store.opened c.args.pass.now c.args.notes.now g.S.Chronicle.owner g.met.S.Store.owned c.requires.agent
     (g.S.Store.opened (g.S.Chronicle.opening c.enter-turn.result.value)) (ap g.S.Store.opened (c.enter-turn.ensures.opening ∙ ap (λ h. h.opening) (sym c.requires.own)))
-    (g.S.Chronicle.entries c.enter-turn.result.value) c.enter-turn.ensures.grows c.legal.ensures
+    (g.S.Chronicle.entries c.enter-turn.result.value) c.enter-turn.ensures.grows c.know_legal.ensures
     c.args.op c.in-Ok.acted.reply (g.S.Chronicle.entries c.act-acted.new.self)
     (subst (λ (k : ℕ). IsActed g.S.Store.tells (g.S.Store.opened (g.S.Chronicle.opening c.enter-turn.result.value)) (g.S.Chronicle.entries c.enter-turn.result.value) c.args.notes.now.pending (record { agent = k; number = c.args.notes.now.number; op = c.args.op }) c.in-Ok.acted.reply (g.S.Chronicle.entries c.act-acted.new.self)) c.agent-agent.ensures c.in-Ok.ensures.acted)
-    (subst (λ o. IsTold g.S.Store.tells (g.S.Store.opened o) (g.S.Chronicle.entries c.act-acted.new.self)) c.act-acted.ensures.opening c.legal-2.ensures)
+    (subst (λ o. IsTold g.S.Store.tells (g.S.Store.opened o) (g.S.Chronicle.entries c.act-acted.new.self)) c.act-acted.ensures.opening c.know_legal-2.ensures)
     c.leave.new.pass (c.leave.ensures ∙ ap (λ p. at_rest p (g.S.Chronicle.entries c.act-acted.new.self)) c.enter-turn.ensures.pass)
     c.act-acted.new.pending c.in-Ok.ensures.taken c.in-Ok.acted.rows c.in-Ok.acted.gift c.in-Ok.ensures.gift
 
@@ -66,7 +66,7 @@ pub returns-in-Err-clause-agent_err : goal.returns-in-Err-clause-agent_err
 returns-in-Err-clause-agent_err g c =
     unacted-agent g.S.Store.tells g.S.Store.opened c.args.pass.now c.args.notes.now g.S.Chronicle.owner g.met.S.Store.owned c.requires.agent
     (g.S.Store.opened (g.S.Chronicle.opening c.enter-turn.result.value)) (ap g.S.Store.opened (c.enter-turn.ensures.opening ∙ ap (λ h. h.opening) (sym c.requires.own)))
-    (g.S.Chronicle.entries c.enter-turn.result.value) c.enter-turn.ensures.grows c.legal.ensures
+    (g.S.Chronicle.entries c.enter-turn.result.value) c.enter-turn.ensures.grows c.know_legal.ensures
     (g.S.Chronicle.entries c.act-acted.new.self) c.in-Err.ensures.unacted.0
     c.leave.new.pass (c.leave.ensures ∙ ap (λ p. at_rest p (g.S.Chronicle.entries c.act-acted.new.self)) c.enter-turn.ensures.pass)
     c.act-acted.new.pending c.in-Err.ensures.unacted.1
@@ -75,7 +75,7 @@ pub returns-in-Err-clause-looked : goal.returns-in-Err-clause-looked
 returns-in-Err-clause-looked g c =
     unacted-looked g.S.Store.tells g.S.Store.opened c.args.pass.now c.args.notes.now g.S.Chronicle.owner g.met.S.Store.owned c.requires.agent
     (g.S.Store.opened (g.S.Chronicle.opening c.enter-turn.result.value)) (ap g.S.Store.opened (c.enter-turn.ensures.opening ∙ ap (λ h. h.opening) (sym c.requires.own)))
-    (g.S.Chronicle.entries c.enter-turn.result.value) c.enter-turn.ensures.grows c.legal.ensures
+    (g.S.Chronicle.entries c.enter-turn.result.value) c.enter-turn.ensures.grows c.know_legal.ensures
     (g.S.Chronicle.entries c.act-acted.new.self) c.in-Err.ensures.unacted.0
     c.leave.new.pass (c.leave.ensures ∙ ap (λ p. at_rest p (g.S.Chronicle.entries c.act-acted.new.self)) c.enter-turn.ensures.pass)
     c.act-acted.new.pending c.in-Err.ensures.unacted.1

@@ -21,7 +21,7 @@ await_state-stands-requires g c =
     subst (λ (k : ℕ). IsThere (state_after (g.S.Store.opened (g.S.Chronicle.opening c.enter-turn.result.value)) (g.S.Chronicle.entries c.enter-turn.result.value)) k) (sym c.agent-agent.ensures)
     (agent-there g.S.Store.tells g.S.Store.opened c.args.pass.now c.args.notes.now g.S.Chronicle.owner g.met.S.Store.owned c.requires.agent
     (g.S.Store.opened (g.S.Chronicle.opening c.enter-turn.result.value)) (ap g.S.Store.opened (c.enter-turn.ensures.opening ∙ ap (λ h. h.opening) (sym c.requires.own)))
-    (g.S.Chronicle.entries c.enter-turn.result.value) c.enter-turn.ensures.grows c.legal.ensures)
+    (g.S.Chronicle.entries c.enter-turn.result.value) c.enter-turn.ensures.grows c.know_legal.ensures)
 
 pub act-acted-requires : goal.act-acted-requires
 act-acted-requires g c = record {
@@ -30,7 +30,7 @@ act-acted-requires g c = record {
       (subst (λ (t : Text). MayAct g.S.Store.tells (g.S.Store.opened (g.S.Chronicle.opening c.enter-turn.result.value)) (g.S.Chronicle.entries c.enter-turn.result.value) c.args.notes.now.pending (record { agent = c.args.pass.now.agent; number = c.args.notes.now.number; op = op.Await t }) c.fresh-work.result []) (sym c.in_ok-room.ensures.0)
       (await-acts g.S.Store.tells g.S.Store.opened c.args.pass.now c.args.notes.now g.S.Chronicle.owner g.met.S.Store.owned c.requires.agent
       (g.S.Store.opened (g.S.Chronicle.opening c.enter-turn.result.value)) (ap g.S.Store.opened (c.enter-turn.ensures.opening ∙ ap (λ h. h.opening) (sym c.requires.own)))
-      (g.S.Chronicle.entries c.enter-turn.result.value) c.enter-turn.ensures.grows c.legal.ensures
+      (g.S.Chronicle.entries c.enter-turn.result.value) c.enter-turn.ensures.grows c.know_legal.ensures
       c.args.tag.now c.await_state-stands.result (c.await_state-stands.ensures ∙ (λ i. awaited (state_after (g.S.Store.opened (g.S.Chronicle.opening c.enter-turn.result.value)) (g.S.Chronicle.entries c.enter-turn.result.value)) (c.agent-agent.ensures i) (c.as_str.ensures i))) c.waits_for-begun.result c.waits_for-begun.ensures
       c.in-Answer.posted c.fresh-work.result c.fresh-work.ensures c.requires.room (sym c.plan_for.ensures ∙ c.in-Answer.is)));
 }
@@ -42,7 +42,7 @@ leave-requires-clause-adds g c =
     c.args.notes.now.number (op.Await c.in_ok-room.field-0.tag) c.args.notes.now.pending (g.S.Chronicle.entries c.act-acted.new.self) (λ acted. acted.reply) c.act-acted.result
     (await-acts g.S.Store.tells g.S.Store.opened c.args.pass.now c.args.notes.now g.S.Chronicle.owner g.met.S.Store.owned c.requires.agent
     (g.S.Store.opened (g.S.Chronicle.opening c.enter-turn.result.value)) (ap g.S.Store.opened (c.enter-turn.ensures.opening ∙ ap (λ h. h.opening) (sym c.requires.own)))
-    (g.S.Chronicle.entries c.enter-turn.result.value) c.enter-turn.ensures.grows c.legal.ensures
+    (g.S.Chronicle.entries c.enter-turn.result.value) c.enter-turn.ensures.grows c.know_legal.ensures
     c.args.tag.now c.await_state-stands.result (c.await_state-stands.ensures ∙ (λ i. awaited (state_after (g.S.Store.opened (g.S.Chronicle.opening c.enter-turn.result.value)) (g.S.Chronicle.entries c.enter-turn.result.value)) (c.agent-agent.ensures i) (c.as_str.ensures i))) c.waits_for-begun.result c.waits_for-begun.ensures
     c.in-Answer.posted c.fresh-work.result c.fresh-work.ensures c.requires.room (sym c.plan_for.ensures ∙ c.in-Answer.is)).pending
     (subst (λ (k : ℕ). IfOk c.act-acted.result (λ acted. IsActed g.S.Store.tells (g.S.Store.opened (g.S.Chronicle.opening c.enter-turn.result.value)) (g.S.Chronicle.entries c.enter-turn.result.value) c.args.notes.now.pending (record { agent = k; number = c.args.notes.now.number; op = op.Await c.in_ok-room.field-0.tag }) acted.reply (g.S.Chronicle.entries c.act-acted.new.self))) c.agent-agent.ensures c.act-acted.ensures.acted)
@@ -55,17 +55,17 @@ pub returns-in-Ok-clause-agent : goal.returns-in-Ok-clause-agent
 returns-in-Ok-clause-agent g c =
     ask-agent g.S.Store.tells g.S.Store.opened c.args.pass.now c.args.notes.now g.S.Chronicle.owner g.met.S.Store.owned c.requires.agent
     (g.S.Store.opened (g.S.Chronicle.opening c.enter-turn.result.value)) (ap g.S.Store.opened (c.enter-turn.ensures.opening ∙ ap (λ h. h.opening) (sym c.requires.own)))
-    (g.S.Chronicle.entries c.enter-turn.result.value) c.enter-turn.ensures.grows c.legal.ensures
+    (g.S.Chronicle.entries c.enter-turn.result.value) c.enter-turn.ensures.grows c.know_legal.ensures
     (op.Await c.args.tag.now) c.in-Ok.acted.reply (g.S.Chronicle.entries c.act-acted.new.self)
     (subst (λ (t : Text). IsActed g.S.Store.tells (g.S.Store.opened (g.S.Chronicle.opening c.enter-turn.result.value)) (g.S.Chronicle.entries c.enter-turn.result.value) c.args.notes.now.pending (record { agent = c.args.pass.now.agent; number = c.args.notes.now.number; op = op.Await t }) c.in-Ok.acted.reply (g.S.Chronicle.entries c.act-acted.new.self)) c.in_ok-room.ensures.0
     (subst (λ (k : ℕ). IsActed g.S.Store.tells (g.S.Store.opened (g.S.Chronicle.opening c.enter-turn.result.value)) (g.S.Chronicle.entries c.enter-turn.result.value) c.args.notes.now.pending (record { agent = k; number = c.args.notes.now.number; op = op.Await c.in_ok-room.field-0.tag }) c.in-Ok.acted.reply (g.S.Chronicle.entries c.act-acted.new.self)) c.agent-agent.ensures c.in-Ok.ensures.acted))
-    (subst (λ o. IsTold g.S.Store.tells (g.S.Store.opened o) (g.S.Chronicle.entries c.act-acted.new.self)) c.act-acted.ensures.opening c.legal-in-Answer.ensures)
+    (subst (λ o. IsTold g.S.Store.tells (g.S.Store.opened o) (g.S.Chronicle.entries c.act-acted.new.self)) c.act-acted.ensures.opening c.know_legal-in-Answer.ensures)
     c.leave.new.pass (c.leave.ensures ∙ ap (λ p. at_rest p (g.S.Chronicle.entries c.act-acted.new.self)) c.enter-turn.ensures.pass)
     c.act-acted.new.pending c.in-Ok.ensures.taken c.in-Ok.acted.rows
     (await_reply c.in-Answer.posted) None (c.args.notes.now.number + 1)
     (await-asks g.S.Store.tells g.S.Store.opened c.args.pass.now c.args.notes.now g.S.Chronicle.owner g.met.S.Store.owned c.requires.agent
     (g.S.Store.opened (g.S.Chronicle.opening c.enter-turn.result.value)) (ap g.S.Store.opened (c.enter-turn.ensures.opening ∙ ap (λ h. h.opening) (sym c.requires.own)))
-    (g.S.Chronicle.entries c.enter-turn.result.value) c.enter-turn.ensures.grows c.legal.ensures
+    (g.S.Chronicle.entries c.enter-turn.result.value) c.enter-turn.ensures.grows c.know_legal.ensures
     c.args.tag.now c.await_state-stands.result (c.await_state-stands.ensures ∙ (λ i. awaited (state_after (g.S.Store.opened (g.S.Chronicle.opening c.enter-turn.result.value)) (g.S.Chronicle.entries c.enter-turn.result.value)) (c.agent-agent.ensures i) (c.as_str.ensures i))) c.waits_for-begun.result c.waits_for-begun.ensures
     c.in-Answer.posted (sym c.plan_for.ensures ∙ c.in-Answer.is))
     (c.in-Ok.ensures.rows ∙ ap (λ (k : ℕ). length (agent_of (state_after (g.S.Store.opened (g.S.Chronicle.opening c.enter-turn.result.value)) (g.S.Chronicle.entries c.act-acted.new.self)) k).own) c.agent-agent.ensures)
@@ -76,33 +76,33 @@ returns-in-Ok-clause-turned g c = record {
   turned =
       ask-turned g.S.Store.tells g.S.Store.opened c.args.pass.now c.args.notes.now g.S.Chronicle.owner g.met.S.Store.owned c.requires.agent
       (g.S.Store.opened (g.S.Chronicle.opening c.enter-turn.result.value)) (ap g.S.Store.opened (c.enter-turn.ensures.opening ∙ ap (λ h. h.opening) (sym c.requires.own)))
-      (g.S.Chronicle.entries c.enter-turn.result.value) c.enter-turn.ensures.grows c.legal.ensures
+      (g.S.Chronicle.entries c.enter-turn.result.value) c.enter-turn.ensures.grows c.know_legal.ensures
       (op.Await c.args.tag.now) c.in-Ok.acted.reply (g.S.Chronicle.entries c.act-acted.new.self)
       (subst (λ (t : Text). IsActed g.S.Store.tells (g.S.Store.opened (g.S.Chronicle.opening c.enter-turn.result.value)) (g.S.Chronicle.entries c.enter-turn.result.value) c.args.notes.now.pending (record { agent = c.args.pass.now.agent; number = c.args.notes.now.number; op = op.Await t }) c.in-Ok.acted.reply (g.S.Chronicle.entries c.act-acted.new.self)) c.in_ok-room.ensures.0
       (subst (λ (k : ℕ). IsActed g.S.Store.tells (g.S.Store.opened (g.S.Chronicle.opening c.enter-turn.result.value)) (g.S.Chronicle.entries c.enter-turn.result.value) c.args.notes.now.pending (record { agent = k; number = c.args.notes.now.number; op = op.Await c.in_ok-room.field-0.tag }) c.in-Ok.acted.reply (g.S.Chronicle.entries c.act-acted.new.self)) c.agent-agent.ensures c.in-Ok.ensures.acted))
-      (subst (λ o. IsTold g.S.Store.tells (g.S.Store.opened o) (g.S.Chronicle.entries c.act-acted.new.self)) c.act-acted.ensures.opening c.legal-in-Answer.ensures)
+      (subst (λ o. IsTold g.S.Store.tells (g.S.Store.opened o) (g.S.Chronicle.entries c.act-acted.new.self)) c.act-acted.ensures.opening c.know_legal-in-Answer.ensures)
       c.leave.new.pass (c.leave.ensures ∙ ap (λ p. at_rest p (g.S.Chronicle.entries c.act-acted.new.self)) c.enter-turn.ensures.pass)
       c.act-acted.new.pending c.in-Ok.ensures.taken c.in-Ok.acted.rows
       (await_reply c.in-Answer.posted) None (c.args.notes.now.number + 1)
       (await-asks g.S.Store.tells g.S.Store.opened c.args.pass.now c.args.notes.now g.S.Chronicle.owner g.met.S.Store.owned c.requires.agent
       (g.S.Store.opened (g.S.Chronicle.opening c.enter-turn.result.value)) (ap g.S.Store.opened (c.enter-turn.ensures.opening ∙ ap (λ h. h.opening) (sym c.requires.own)))
-      (g.S.Chronicle.entries c.enter-turn.result.value) c.enter-turn.ensures.grows c.legal.ensures
+      (g.S.Chronicle.entries c.enter-turn.result.value) c.enter-turn.ensures.grows c.know_legal.ensures
       c.args.tag.now c.await_state-stands.result (c.await_state-stands.ensures ∙ (λ i. awaited (state_after (g.S.Store.opened (g.S.Chronicle.opening c.enter-turn.result.value)) (g.S.Chronicle.entries c.enter-turn.result.value)) (c.agent-agent.ensures i) (c.as_str.ensures i))) c.waits_for-begun.result c.waits_for-begun.ensures
       c.in-Answer.posted (sym c.plan_for.ensures ∙ c.in-Answer.is));
   rest =
       ask-rest g.S.Store.tells g.S.Store.opened c.args.pass.now c.args.notes.now g.S.Chronicle.owner g.met.S.Store.owned c.requires.agent
       (g.S.Store.opened (g.S.Chronicle.opening c.enter-turn.result.value)) (ap g.S.Store.opened (c.enter-turn.ensures.opening ∙ ap (λ h. h.opening) (sym c.requires.own)))
-      (g.S.Chronicle.entries c.enter-turn.result.value) c.enter-turn.ensures.grows c.legal.ensures
+      (g.S.Chronicle.entries c.enter-turn.result.value) c.enter-turn.ensures.grows c.know_legal.ensures
       (op.Await c.args.tag.now) c.in-Ok.acted.reply (g.S.Chronicle.entries c.act-acted.new.self)
       (subst (λ (t : Text). IsActed g.S.Store.tells (g.S.Store.opened (g.S.Chronicle.opening c.enter-turn.result.value)) (g.S.Chronicle.entries c.enter-turn.result.value) c.args.notes.now.pending (record { agent = c.args.pass.now.agent; number = c.args.notes.now.number; op = op.Await t }) c.in-Ok.acted.reply (g.S.Chronicle.entries c.act-acted.new.self)) c.in_ok-room.ensures.0
       (subst (λ (k : ℕ). IsActed g.S.Store.tells (g.S.Store.opened (g.S.Chronicle.opening c.enter-turn.result.value)) (g.S.Chronicle.entries c.enter-turn.result.value) c.args.notes.now.pending (record { agent = k; number = c.args.notes.now.number; op = op.Await c.in_ok-room.field-0.tag }) c.in-Ok.acted.reply (g.S.Chronicle.entries c.act-acted.new.self)) c.agent-agent.ensures c.in-Ok.ensures.acted))
-      (subst (λ o. IsTold g.S.Store.tells (g.S.Store.opened o) (g.S.Chronicle.entries c.act-acted.new.self)) c.act-acted.ensures.opening c.legal-in-Answer.ensures)
+      (subst (λ o. IsTold g.S.Store.tells (g.S.Store.opened o) (g.S.Chronicle.entries c.act-acted.new.self)) c.act-acted.ensures.opening c.know_legal-in-Answer.ensures)
       c.leave.new.pass (c.leave.ensures ∙ ap (λ p. at_rest p (g.S.Chronicle.entries c.act-acted.new.self)) c.enter-turn.ensures.pass)
       c.act-acted.new.pending c.in-Ok.ensures.taken c.in-Ok.acted.rows
       (await_reply c.in-Answer.posted) None (c.args.notes.now.number + 1)
       (await-asks g.S.Store.tells g.S.Store.opened c.args.pass.now c.args.notes.now g.S.Chronicle.owner g.met.S.Store.owned c.requires.agent
       (g.S.Store.opened (g.S.Chronicle.opening c.enter-turn.result.value)) (ap g.S.Store.opened (c.enter-turn.ensures.opening ∙ ap (λ h. h.opening) (sym c.requires.own)))
-      (g.S.Chronicle.entries c.enter-turn.result.value) c.enter-turn.ensures.grows c.legal.ensures
+      (g.S.Chronicle.entries c.enter-turn.result.value) c.enter-turn.ensures.grows c.know_legal.ensures
       c.args.tag.now c.await_state-stands.result (c.await_state-stands.ensures ∙ (λ i. awaited (state_after (g.S.Store.opened (g.S.Chronicle.opening c.enter-turn.result.value)) (g.S.Chronicle.entries c.enter-turn.result.value)) (c.agent-agent.ensures i) (c.as_str.ensures i))) c.waits_for-begun.result c.waits_for-begun.ensures
       c.in-Answer.posted (sym c.plan_for.ensures ∙ c.in-Answer.is))
       (c.in-Ok.ensures.rows ∙ ap (λ (k : ℕ). length (agent_of (state_after (g.S.Store.opened (g.S.Chronicle.opening c.enter-turn.result.value)) (g.S.Chronicle.entries c.act-acted.new.self)) k).own) c.agent-agent.ensures);
@@ -111,7 +111,7 @@ returns-in-Ok-clause-turned g c = record {
 pub returns-in-Answer-clause-agent : goal.returns-in-Answer-clause-agent
 returns-in-Answer-clause-agent g c = unacted-agent g.S.Store.tells g.S.Store.opened c.args.pass.now c.args.notes.now g.S.Chronicle.owner g.met.S.Store.owned c.requires.agent
     (g.S.Store.opened (g.S.Chronicle.opening c.enter-turn.result.value)) (ap g.S.Store.opened (c.enter-turn.ensures.opening ∙ ap (λ h. h.opening) (sym c.requires.own)))
-    (g.S.Chronicle.entries c.enter-turn.result.value) c.enter-turn.ensures.grows c.legal.ensures
+    (g.S.Chronicle.entries c.enter-turn.result.value) c.enter-turn.ensures.grows c.know_legal.ensures
     (g.S.Chronicle.entries c.act-acted.new.self) c.in-Err.ensures.unacted.0
     c.leave.new.pass (c.leave.ensures ∙ ap (λ p. at_rest p (g.S.Chronicle.entries c.act-acted.new.self)) c.enter-turn.ensures.pass)
     c.act-acted.new.pending c.in-Err.ensures.unacted.1
@@ -119,7 +119,7 @@ returns-in-Answer-clause-agent g c = unacted-agent g.S.Store.tells g.S.Store.ope
 pub returns-in-Answer-clause-turned : goal.returns-in-Answer-clause-turned
 returns-in-Answer-clause-turned g c = unacted-looked g.S.Store.tells g.S.Store.opened c.args.pass.now c.args.notes.now g.S.Chronicle.owner g.met.S.Store.owned c.requires.agent
     (g.S.Store.opened (g.S.Chronicle.opening c.enter-turn.result.value)) (ap g.S.Store.opened (c.enter-turn.ensures.opening ∙ ap (λ h. h.opening) (sym c.requires.own)))
-    (g.S.Chronicle.entries c.enter-turn.result.value) c.enter-turn.ensures.grows c.legal.ensures
+    (g.S.Chronicle.entries c.enter-turn.result.value) c.enter-turn.ensures.grows c.know_legal.ensures
     (g.S.Chronicle.entries c.act-acted.new.self) c.in-Err.ensures.unacted.0
     c.leave.new.pass (c.leave.ensures ∙ ap (λ p. at_rest p (g.S.Chronicle.entries c.act-acted.new.self)) c.enter-turn.ensures.pass)
     c.act-acted.new.pending c.in-Err.ensures.unacted.1
@@ -131,7 +131,7 @@ act-acted-requires-in-Begin g c = record {
       (subst (λ (t : Text). MayAct g.S.Store.tells (g.S.Store.opened (g.S.Chronicle.opening c.enter-turn.result.value)) (g.S.Chronicle.entries c.enter-turn.result.value) c.args.notes.now.pending (record { agent = c.args.pass.now.agent; number = c.args.notes.now.number; op = op.Wait t }) c.fresh-work.result []) (sym c.in_ok-room.ensures.0)
       (wait-acts g.S.Store.tells g.S.Store.opened c.args.pass.now c.args.notes.now g.S.Chronicle.owner g.met.S.Store.owned c.requires.agent
       (g.S.Store.opened (g.S.Chronicle.opening c.enter-turn.result.value)) (ap g.S.Store.opened (c.enter-turn.ensures.opening ∙ ap (λ h. h.opening) (sym c.requires.own)))
-      (g.S.Chronicle.entries c.enter-turn.result.value) c.enter-turn.ensures.grows c.legal.ensures
+      (g.S.Chronicle.entries c.enter-turn.result.value) c.enter-turn.ensures.grows c.know_legal.ensures
       c.args.tag.now c.await_state-stands.result (c.await_state-stands.ensures ∙ (λ i. awaited (state_after (g.S.Store.opened (g.S.Chronicle.opening c.enter-turn.result.value)) (g.S.Chronicle.entries c.enter-turn.result.value)) (c.agent-agent.ensures i) (c.as_str.ensures i))) c.waits_for-begun.result c.waits_for-begun.ensures
       c.fresh-work.result c.fresh-work.ensures c.requires.room (sym c.plan_for.ensures ∙ c.in-Begin.is)));
 }
@@ -143,7 +143,7 @@ leave-requires-in-Begin-clause-adds g c =
     c.args.notes.now.number (op.Wait c.in_ok-room.field-0.tag) c.args.notes.now.pending (g.S.Chronicle.entries c.act-acted-in-Begin.new.self) (λ acted. acted.reply) c.act-acted-in-Begin.result
     (wait-acts g.S.Store.tells g.S.Store.opened c.args.pass.now c.args.notes.now g.S.Chronicle.owner g.met.S.Store.owned c.requires.agent
     (g.S.Store.opened (g.S.Chronicle.opening c.enter-turn.result.value)) (ap g.S.Store.opened (c.enter-turn.ensures.opening ∙ ap (λ h. h.opening) (sym c.requires.own)))
-    (g.S.Chronicle.entries c.enter-turn.result.value) c.enter-turn.ensures.grows c.legal.ensures
+    (g.S.Chronicle.entries c.enter-turn.result.value) c.enter-turn.ensures.grows c.know_legal.ensures
     c.args.tag.now c.await_state-stands.result (c.await_state-stands.ensures ∙ (λ i. awaited (state_after (g.S.Store.opened (g.S.Chronicle.opening c.enter-turn.result.value)) (g.S.Chronicle.entries c.enter-turn.result.value)) (c.agent-agent.ensures i) (c.as_str.ensures i))) c.waits_for-begun.result c.waits_for-begun.ensures
     c.fresh-work.result c.fresh-work.ensures c.requires.room (sym c.plan_for.ensures ∙ c.in-Begin.is)).pending
     (subst (λ (k : ℕ). IfOk c.act-acted-in-Begin.result (λ acted. IsActed g.S.Store.tells (g.S.Store.opened (g.S.Chronicle.opening c.enter-turn.result.value)) (g.S.Chronicle.entries c.enter-turn.result.value) c.args.notes.now.pending (record { agent = k; number = c.args.notes.now.number; op = op.Wait c.in_ok-room.field-0.tag }) acted.reply (g.S.Chronicle.entries c.act-acted-in-Begin.new.self))) c.agent-agent.ensures c.act-acted-in-Begin.ensures.acted)
@@ -154,17 +154,17 @@ returns-in-Ok-acted-clause-agent g c =
     subst (λ (n : Text). IsAgent g.S.Store.tells (seen g.S.Store.opened c.leave-in-Begin.new.pass (record c.args.notes.now { pending = c.act-acted-in-Begin.new.pending; entries = c.args.notes.now.entries + 1; rows = c.in-Ok-acted.acted.rows; waiting = Some n }))) (sym c.in_ok-room.ensures.1)
     (ask-agent g.S.Store.tells g.S.Store.opened c.args.pass.now c.args.notes.now g.S.Chronicle.owner g.met.S.Store.owned c.requires.agent
     (g.S.Store.opened (g.S.Chronicle.opening c.enter-turn.result.value)) (ap g.S.Store.opened (c.enter-turn.ensures.opening ∙ ap (λ h. h.opening) (sym c.requires.own)))
-    (g.S.Chronicle.entries c.enter-turn.result.value) c.enter-turn.ensures.grows c.legal.ensures
+    (g.S.Chronicle.entries c.enter-turn.result.value) c.enter-turn.ensures.grows c.know_legal.ensures
     (op.Wait c.args.tag.now) c.in-Ok-acted.acted.reply (g.S.Chronicle.entries c.act-acted-in-Begin.new.self)
     (subst (λ (t : Text). IsActed g.S.Store.tells (g.S.Store.opened (g.S.Chronicle.opening c.enter-turn.result.value)) (g.S.Chronicle.entries c.enter-turn.result.value) c.args.notes.now.pending (record { agent = c.args.pass.now.agent; number = c.args.notes.now.number; op = op.Wait t }) c.in-Ok-acted.acted.reply (g.S.Chronicle.entries c.act-acted-in-Begin.new.self)) c.in_ok-room.ensures.0
     (subst (λ (k : ℕ). IsActed g.S.Store.tells (g.S.Store.opened (g.S.Chronicle.opening c.enter-turn.result.value)) (g.S.Chronicle.entries c.enter-turn.result.value) c.args.notes.now.pending (record { agent = k; number = c.args.notes.now.number; op = op.Wait c.in_ok-room.field-0.tag }) c.in-Ok-acted.acted.reply (g.S.Chronicle.entries c.act-acted-in-Begin.new.self)) c.agent-agent.ensures c.in-Ok-acted.ensures.acted))
-    (subst (λ o. IsTold g.S.Store.tells (g.S.Store.opened o) (g.S.Chronicle.entries c.act-acted-in-Begin.new.self)) c.act-acted-in-Begin.ensures.opening c.legal-in-Begin.ensures)
+    (subst (λ o. IsTold g.S.Store.tells (g.S.Store.opened o) (g.S.Chronicle.entries c.act-acted-in-Begin.new.self)) c.act-acted-in-Begin.ensures.opening c.know_legal-in-Begin.ensures)
     c.leave-in-Begin.new.pass (c.leave-in-Begin.ensures ∙ ap (λ p. at_rest p (g.S.Chronicle.entries c.act-acted-in-Begin.new.self)) c.enter-turn.ensures.pass)
     c.act-acted-in-Begin.new.pending c.in-Ok-acted.ensures.taken c.in-Ok-acted.acted.rows
     reply.Done (Some c.args.tag.now) c.args.notes.now.number
     (wait-asks g.S.Store.tells g.S.Store.opened c.args.pass.now c.args.notes.now g.S.Chronicle.owner g.met.S.Store.owned c.requires.agent
     (g.S.Store.opened (g.S.Chronicle.opening c.enter-turn.result.value)) (ap g.S.Store.opened (c.enter-turn.ensures.opening ∙ ap (λ h. h.opening) (sym c.requires.own)))
-    (g.S.Chronicle.entries c.enter-turn.result.value) c.enter-turn.ensures.grows c.legal.ensures
+    (g.S.Chronicle.entries c.enter-turn.result.value) c.enter-turn.ensures.grows c.know_legal.ensures
     c.args.tag.now c.await_state-stands.result (c.await_state-stands.ensures ∙ (λ i. awaited (state_after (g.S.Store.opened (g.S.Chronicle.opening c.enter-turn.result.value)) (g.S.Chronicle.entries c.enter-turn.result.value)) (c.agent-agent.ensures i) (c.as_str.ensures i))) c.waits_for-begun.result c.waits_for-begun.ensures)
     (c.in-Ok-acted.ensures.rows ∙ ap (λ (k : ℕ). length (agent_of (state_after (g.S.Store.opened (g.S.Chronicle.opening c.enter-turn.result.value)) (g.S.Chronicle.entries c.act-acted-in-Begin.new.self)) k).own) c.agent-agent.ensures)
     (omega arith))
@@ -176,38 +176,38 @@ returns-in-Ok-acted-clause-turned g c =
       turned =
           ask-turned g.S.Store.tells g.S.Store.opened c.args.pass.now c.args.notes.now g.S.Chronicle.owner g.met.S.Store.owned c.requires.agent
           (g.S.Store.opened (g.S.Chronicle.opening c.enter-turn.result.value)) (ap g.S.Store.opened (c.enter-turn.ensures.opening ∙ ap (λ h. h.opening) (sym c.requires.own)))
-          (g.S.Chronicle.entries c.enter-turn.result.value) c.enter-turn.ensures.grows c.legal.ensures
+          (g.S.Chronicle.entries c.enter-turn.result.value) c.enter-turn.ensures.grows c.know_legal.ensures
           (op.Wait c.args.tag.now) c.in-Ok-acted.acted.reply (g.S.Chronicle.entries c.act-acted-in-Begin.new.self)
           (subst (λ (t : Text). IsActed g.S.Store.tells (g.S.Store.opened (g.S.Chronicle.opening c.enter-turn.result.value)) (g.S.Chronicle.entries c.enter-turn.result.value) c.args.notes.now.pending (record { agent = c.args.pass.now.agent; number = c.args.notes.now.number; op = op.Wait t }) c.in-Ok-acted.acted.reply (g.S.Chronicle.entries c.act-acted-in-Begin.new.self)) c.in_ok-room.ensures.0
           (subst (λ (k : ℕ). IsActed g.S.Store.tells (g.S.Store.opened (g.S.Chronicle.opening c.enter-turn.result.value)) (g.S.Chronicle.entries c.enter-turn.result.value) c.args.notes.now.pending (record { agent = k; number = c.args.notes.now.number; op = op.Wait c.in_ok-room.field-0.tag }) c.in-Ok-acted.acted.reply (g.S.Chronicle.entries c.act-acted-in-Begin.new.self)) c.agent-agent.ensures c.in-Ok-acted.ensures.acted))
-          (subst (λ o. IsTold g.S.Store.tells (g.S.Store.opened o) (g.S.Chronicle.entries c.act-acted-in-Begin.new.self)) c.act-acted-in-Begin.ensures.opening c.legal-in-Begin.ensures)
+          (subst (λ o. IsTold g.S.Store.tells (g.S.Store.opened o) (g.S.Chronicle.entries c.act-acted-in-Begin.new.self)) c.act-acted-in-Begin.ensures.opening c.know_legal-in-Begin.ensures)
           c.leave-in-Begin.new.pass (c.leave-in-Begin.ensures ∙ ap (λ p. at_rest p (g.S.Chronicle.entries c.act-acted-in-Begin.new.self)) c.enter-turn.ensures.pass)
           c.act-acted-in-Begin.new.pending c.in-Ok-acted.ensures.taken c.in-Ok-acted.acted.rows
           reply.Done (Some c.args.tag.now) c.args.notes.now.number
           (wait-asks g.S.Store.tells g.S.Store.opened c.args.pass.now c.args.notes.now g.S.Chronicle.owner g.met.S.Store.owned c.requires.agent
           (g.S.Store.opened (g.S.Chronicle.opening c.enter-turn.result.value)) (ap g.S.Store.opened (c.enter-turn.ensures.opening ∙ ap (λ h. h.opening) (sym c.requires.own)))
-          (g.S.Chronicle.entries c.enter-turn.result.value) c.enter-turn.ensures.grows c.legal.ensures
+          (g.S.Chronicle.entries c.enter-turn.result.value) c.enter-turn.ensures.grows c.know_legal.ensures
           c.args.tag.now c.await_state-stands.result (c.await_state-stands.ensures ∙ (λ i. awaited (state_after (g.S.Store.opened (g.S.Chronicle.opening c.enter-turn.result.value)) (g.S.Chronicle.entries c.enter-turn.result.value)) (c.agent-agent.ensures i) (c.as_str.ensures i))) c.waits_for-begun.result c.waits_for-begun.ensures);
       first =
           wait-first g.S.Store.tells g.S.Store.opened c.args.pass.now c.args.notes.now g.S.Chronicle.owner g.met.S.Store.owned c.requires.agent
           (g.S.Store.opened (g.S.Chronicle.opening c.enter-turn.result.value)) (ap g.S.Store.opened (c.enter-turn.ensures.opening ∙ ap (λ h. h.opening) (sym c.requires.own)))
-          (g.S.Chronicle.entries c.enter-turn.result.value) c.enter-turn.ensures.grows c.legal.ensures
+          (g.S.Chronicle.entries c.enter-turn.result.value) c.enter-turn.ensures.grows c.know_legal.ensures
           c.args.tag.now c.await_state-stands.result (c.await_state-stands.ensures ∙ (λ i. awaited (state_after (g.S.Store.opened (g.S.Chronicle.opening c.enter-turn.result.value)) (g.S.Chronicle.entries c.enter-turn.result.value)) (c.agent-agent.ensures i) (c.as_str.ensures i))) c.waits_for-begun.result c.waits_for-begun.ensures
           (sym c.plan_for.ensures ∙ c.in-Begin.is);
       rest =
           ask-rest g.S.Store.tells g.S.Store.opened c.args.pass.now c.args.notes.now g.S.Chronicle.owner g.met.S.Store.owned c.requires.agent
           (g.S.Store.opened (g.S.Chronicle.opening c.enter-turn.result.value)) (ap g.S.Store.opened (c.enter-turn.ensures.opening ∙ ap (λ h. h.opening) (sym c.requires.own)))
-          (g.S.Chronicle.entries c.enter-turn.result.value) c.enter-turn.ensures.grows c.legal.ensures
+          (g.S.Chronicle.entries c.enter-turn.result.value) c.enter-turn.ensures.grows c.know_legal.ensures
           (op.Wait c.args.tag.now) c.in-Ok-acted.acted.reply (g.S.Chronicle.entries c.act-acted-in-Begin.new.self)
           (subst (λ (t : Text). IsActed g.S.Store.tells (g.S.Store.opened (g.S.Chronicle.opening c.enter-turn.result.value)) (g.S.Chronicle.entries c.enter-turn.result.value) c.args.notes.now.pending (record { agent = c.args.pass.now.agent; number = c.args.notes.now.number; op = op.Wait t }) c.in-Ok-acted.acted.reply (g.S.Chronicle.entries c.act-acted-in-Begin.new.self)) c.in_ok-room.ensures.0
           (subst (λ (k : ℕ). IsActed g.S.Store.tells (g.S.Store.opened (g.S.Chronicle.opening c.enter-turn.result.value)) (g.S.Chronicle.entries c.enter-turn.result.value) c.args.notes.now.pending (record { agent = k; number = c.args.notes.now.number; op = op.Wait c.in_ok-room.field-0.tag }) c.in-Ok-acted.acted.reply (g.S.Chronicle.entries c.act-acted-in-Begin.new.self)) c.agent-agent.ensures c.in-Ok-acted.ensures.acted))
-          (subst (λ o. IsTold g.S.Store.tells (g.S.Store.opened o) (g.S.Chronicle.entries c.act-acted-in-Begin.new.self)) c.act-acted-in-Begin.ensures.opening c.legal-in-Begin.ensures)
+          (subst (λ o. IsTold g.S.Store.tells (g.S.Store.opened o) (g.S.Chronicle.entries c.act-acted-in-Begin.new.self)) c.act-acted-in-Begin.ensures.opening c.know_legal-in-Begin.ensures)
           c.leave-in-Begin.new.pass (c.leave-in-Begin.ensures ∙ ap (λ p. at_rest p (g.S.Chronicle.entries c.act-acted-in-Begin.new.self)) c.enter-turn.ensures.pass)
           c.act-acted-in-Begin.new.pending c.in-Ok-acted.ensures.taken c.in-Ok-acted.acted.rows
           reply.Done (Some c.args.tag.now) c.args.notes.now.number
           (wait-asks g.S.Store.tells g.S.Store.opened c.args.pass.now c.args.notes.now g.S.Chronicle.owner g.met.S.Store.owned c.requires.agent
           (g.S.Store.opened (g.S.Chronicle.opening c.enter-turn.result.value)) (ap g.S.Store.opened (c.enter-turn.ensures.opening ∙ ap (λ h. h.opening) (sym c.requires.own)))
-          (g.S.Chronicle.entries c.enter-turn.result.value) c.enter-turn.ensures.grows c.legal.ensures
+          (g.S.Chronicle.entries c.enter-turn.result.value) c.enter-turn.ensures.grows c.know_legal.ensures
           c.args.tag.now c.await_state-stands.result (c.await_state-stands.ensures ∙ (λ i. awaited (state_after (g.S.Store.opened (g.S.Chronicle.opening c.enter-turn.result.value)) (g.S.Chronicle.entries c.enter-turn.result.value)) (c.agent-agent.ensures i) (c.as_str.ensures i))) c.waits_for-begun.result c.waits_for-begun.ensures)
           (c.in-Ok-acted.ensures.rows ∙ ap (λ (k : ℕ). length (agent_of (state_after (g.S.Store.opened (g.S.Chronicle.opening c.enter-turn.result.value)) (g.S.Chronicle.entries c.act-acted-in-Begin.new.self)) k).own) c.agent-agent.ensures);
     }))
@@ -215,7 +215,7 @@ returns-in-Ok-acted-clause-turned g c =
 pub returns-in-Begin-clause-agent : goal.returns-in-Begin-clause-agent
 returns-in-Begin-clause-agent g c = unacted-agent g.S.Store.tells g.S.Store.opened c.args.pass.now c.args.notes.now g.S.Chronicle.owner g.met.S.Store.owned c.requires.agent
     (g.S.Store.opened (g.S.Chronicle.opening c.enter-turn.result.value)) (ap g.S.Store.opened (c.enter-turn.ensures.opening ∙ ap (λ h. h.opening) (sym c.requires.own)))
-    (g.S.Chronicle.entries c.enter-turn.result.value) c.enter-turn.ensures.grows c.legal.ensures
+    (g.S.Chronicle.entries c.enter-turn.result.value) c.enter-turn.ensures.grows c.know_legal.ensures
     (g.S.Chronicle.entries c.act-acted-in-Begin.new.self) c.in-Err-acted.ensures.unacted.0
     c.leave-in-Begin.new.pass (c.leave-in-Begin.ensures ∙ ap (λ p. at_rest p (g.S.Chronicle.entries c.act-acted-in-Begin.new.self)) c.enter-turn.ensures.pass)
     c.act-acted-in-Begin.new.pending c.in-Err-acted.ensures.unacted.1
@@ -223,7 +223,7 @@ returns-in-Begin-clause-agent g c = unacted-agent g.S.Store.tells g.S.Store.open
 pub returns-in-Begin-clause-turned : goal.returns-in-Begin-clause-turned
 returns-in-Begin-clause-turned g c = unacted-looked g.S.Store.tells g.S.Store.opened c.args.pass.now c.args.notes.now g.S.Chronicle.owner g.met.S.Store.owned c.requires.agent
     (g.S.Store.opened (g.S.Chronicle.opening c.enter-turn.result.value)) (ap g.S.Store.opened (c.enter-turn.ensures.opening ∙ ap (λ h. h.opening) (sym c.requires.own)))
-    (g.S.Chronicle.entries c.enter-turn.result.value) c.enter-turn.ensures.grows c.legal.ensures
+    (g.S.Chronicle.entries c.enter-turn.result.value) c.enter-turn.ensures.grows c.know_legal.ensures
     (g.S.Chronicle.entries c.act-acted-in-Begin.new.self) c.in-Err-acted.ensures.unacted.0
     c.leave-in-Begin.new.pass (c.leave-in-Begin.ensures ∙ ap (λ p. at_rest p (g.S.Chronicle.entries c.act-acted-in-Begin.new.self)) c.enter-turn.ensures.pass)
     c.act-acted-in-Begin.new.pending c.in-Err-acted.ensures.unacted.1
@@ -231,7 +231,7 @@ returns-in-Begin-clause-turned g c = unacted-looked g.S.Store.tells g.S.Store.op
 pub returns-clause-agent : goal.returns-clause-agent
 returns-clause-agent g c = unacted-agent g.S.Store.tells g.S.Store.opened c.args.pass.now c.args.notes.now g.S.Chronicle.owner g.met.S.Store.owned c.requires.agent
     (g.S.Store.opened (g.S.Chronicle.opening c.enter-turn.result.value)) (ap g.S.Store.opened (c.enter-turn.ensures.opening ∙ ap (λ h. h.opening) (sym c.requires.own)))
-    (g.S.Chronicle.entries c.enter-turn.result.value) c.enter-turn.ensures.grows c.legal.ensures
+    (g.S.Chronicle.entries c.enter-turn.result.value) c.enter-turn.ensures.grows c.know_legal.ensures
     (g.S.Chronicle.entries c.enter-turn.result.value) refl
     c.leave-in-Look.new.pass (c.leave-in-Look.ensures ∙ ap (λ p. at_rest p (g.S.Chronicle.entries c.enter-turn.result.value)) c.enter-turn.ensures.pass)
     c.args.notes.now.pending refl
@@ -241,13 +241,13 @@ returns-clause-turned g c =
     inl (
       unacted-looked g.S.Store.tells g.S.Store.opened c.args.pass.now c.args.notes.now g.S.Chronicle.owner g.met.S.Store.owned c.requires.agent
           (g.S.Store.opened (g.S.Chronicle.opening c.enter-turn.result.value)) (ap g.S.Store.opened (c.enter-turn.ensures.opening ∙ ap (λ h. h.opening) (sym c.requires.own)))
-          (g.S.Chronicle.entries c.enter-turn.result.value) c.enter-turn.ensures.grows c.legal.ensures
+          (g.S.Chronicle.entries c.enter-turn.result.value) c.enter-turn.ensures.grows c.know_legal.ensures
           (g.S.Chronicle.entries c.enter-turn.result.value) refl
           c.leave-in-Look.new.pass (c.leave-in-Look.ensures ∙ ap (λ p. at_rest p (g.S.Chronicle.entries c.enter-turn.result.value)) c.enter-turn.ensures.pass)
           c.args.notes.now.pending refl,
       look-waits g.S.Store.tells g.S.Store.opened c.args.pass.now c.args.notes.now g.S.Chronicle.owner g.met.S.Store.owned c.requires.agent
           (g.S.Store.opened (g.S.Chronicle.opening c.enter-turn.result.value)) (ap g.S.Store.opened (c.enter-turn.ensures.opening ∙ ap (λ h. h.opening) (sym c.requires.own)))
-          (g.S.Chronicle.entries c.enter-turn.result.value) c.enter-turn.ensures.grows c.legal.ensures
+          (g.S.Chronicle.entries c.enter-turn.result.value) c.enter-turn.ensures.grows c.know_legal.ensures
           c.args.tag.now c.await_state-stands.result (c.await_state-stands.ensures ∙ (λ i. awaited (state_after (g.S.Store.opened (g.S.Chronicle.opening c.enter-turn.result.value)) (g.S.Chronicle.entries c.enter-turn.result.value)) (c.agent-agent.ensures i) (c.as_str.ensures i))) c.waits_for-begun.result c.waits_for-begun.ensures
           (sym c.plan_for.ensures ∙ c.in-Look.is),
     )

@@ -10,9 +10,9 @@ use Rattle.opfs_agent.proofs.agent.Agent.values.Goals as goal
 pub keep_call-requires-clause-local : goal.keep_call-requires-clause-local
 keep_call-requires-clause-local g c =
     subst (λ (dir : Locator). IsLocal g.S.Store.tells c.args.self.now (op.Values dir) reply.Done 1) (sym c.in-Ok.ensures)
-    (values-local g.S.Store.tells c.args.self.now c.kept.ensures c.args.dir.now c.requires.dir)
+    (values-local g.S.Store.tells c.args.self.now c.know_kept.ensures c.args.dir.now c.requires.dir)
 
 pub returns : goal.returns
 returns g c =
-    values-answer g.S.Store.tells c.args.self.now c.keep_call.new.self c.kept.ensures c.in-Ok.asked c.in-Ok-copy.dir c.args.dir.now c.new-given.result.items c.rows-row.result
+    values-answer g.S.Store.tells c.args.self.now c.keep_call.new.self c.know_kept.ensures c.in-Ok.asked c.in-Ok-copy.dir c.args.dir.now c.new-given.result.items c.rows-row.result
     c.in-Ok.ensures c.in-Ok-copy.ensures c.new-given.ensures.items c.rows-row.ensures c.requires.dir c.in_ok-keep_call.ensures

@@ -13,10 +13,10 @@ ask_row-done-requires-clause-answer g c = close-done c.handle.inside.row
 pub returns-in-Ok-clause-closed : goal.returns-in-Ok-clause-closed
 returns-in-Ok-clause-closed g c =
     rw (← c.handle.view_is)
-    (closed-has g.S.Store.tells c.args.turns.now c.ask_row-done.new.turns c.kept.ensures (record { row = c.handle.inside.row; file = c.handle.inside.file; mode = c.handle.inside.mode; work = c.handle.inside.work }) c.shut.result.row c.shut.ensures (rw (← c.handle.view_is) at c.requires.handle) c.in-Ok.ensures.shared)
+    (closed-has g.S.Store.tells c.args.turns.now c.ask_row-done.new.turns c.know_kept.ensures (record { row = c.handle.inside.row; file = c.handle.inside.file; mode = c.handle.inside.mode; work = c.handle.inside.work }) c.shut.result.row c.shut.ensures (rw (← c.handle.view_is) at c.requires.handle) c.in-Ok.ensures.shared)
 
 pub returns-in-Err-clause-back : goal.returns-in-Err-clause-back
 returns-in-Err-clause-back g c =
     rw (← c.handle.view_is)
-    (gives-back g.S.Store.tells c.args.turns.now c.ask_row-done.new.turns (op.SyncClose c.handle.inside.row) c.in-Err.stop (record { row = c.handle.inside.row; file = c.handle.inside.file; mode = c.handle.inside.mode; work = c.handle.inside.work }) c.ask_row-done.new.work c.kept.ensures c.kept-2.ensures refl
+    (gives-back g.S.Store.tells c.args.turns.now c.ask_row-done.new.turns (op.SyncClose c.handle.inside.row) c.in-Err.stop (record { row = c.handle.inside.row; file = c.handle.inside.file; mode = c.handle.inside.mode; work = c.handle.inside.work }) c.ask_row-done.new.work c.know_kept.ensures c.know_kept-2.ensures refl
     c.in-Err.ensures.shared (rw (← c.handle.view_is) at c.requires.handle) c.in-Err.ensures.same)

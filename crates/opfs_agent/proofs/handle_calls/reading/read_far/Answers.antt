@@ -13,5 +13,5 @@ ask_bytes-done-requires-clause-answer g c = read-told c.handle.inside.row c.args
 
 pub returns-clause-handle : goal.returns-clause-handle
 returns-clause-handle g c =
-    read-either g.S.Store.tells c.args.turns.now c.ask_bytes-done.new.turns c.kept.ensures c.kept-2.ensures (record { row = c.handle.inside.row; file = c.handle.inside.file; mode = c.handle.inside.mode; work = c.handle.inside.work }) c.ask_bytes-done.new.work (rw (← c.handle.view_is) at c.requires.handle)
+    read-either g.S.Store.tells c.args.turns.now c.ask_bytes-done.new.turns c.know_kept.ensures c.know_kept-2.ensures (record { row = c.handle.inside.row; file = c.handle.inside.file; mode = c.handle.inside.mode; work = c.handle.inside.work }) c.ask_bytes-done.new.work (rw (← c.handle.view_is) at c.requires.handle)
     (λ (bytes : Text) answered _. answered ≡ reply.Read bytes) c.args.len c.args.at c.ask_bytes-done.result c.ask_bytes-done.ensures.shared c.ask_bytes-done.ensures.left c.ask_bytes-done.ensures.same

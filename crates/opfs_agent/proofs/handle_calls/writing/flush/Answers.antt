@@ -12,5 +12,5 @@ ask_row-done-requires-clause-answer g c = flush-done c.handle.inside.row
 
 pub returns-clause-handle : goal.returns-clause-handle
 returns-clause-handle g c =
-    flushed-either g.S.Store.tells c.args.turns.now c.ask_row-done.new.turns c.kept.ensures c.kept-2.ensures (record { row = c.handle.inside.row; file = c.handle.inside.file; mode = c.handle.inside.mode; work = c.handle.inside.work }) c.ask_row-done.new.work (rw (← c.handle.view_is) at c.requires.handle)
+    flushed-either g.S.Store.tells c.args.turns.now c.ask_row-done.new.turns c.know_kept.ensures c.know_kept-2.ensures (record { row = c.handle.inside.row; file = c.handle.inside.file; mode = c.handle.inside.mode; work = c.handle.inside.work }) c.ask_row-done.new.work (rw (← c.handle.view_is) at c.requires.handle)
     (λ (u : Unit {0}) answered _. answered ≡ reply.Done) c.ask_row-done.result c.ask_row-done.ensures.shared c.ask_row-done.ensures.left c.ask_row-done.ensures.same

@@ -14,5 +14,5 @@ ask_length-done-requires-clause-answer g c = write-told c.handle.inside.row c.in
 
 pub returns-clause-handle : goal.returns-clause-handle
 returns-clause-handle g c =
-    written-either g.S.Store.tells c.args.turns.now c.ask_length-done.new.turns c.kept.ensures c.kept-2.ensures (record { row = c.handle.inside.row; file = c.handle.inside.file; mode = c.handle.inside.mode; work = c.handle.inside.work }) c.ask_length-done.new.work (rw (← c.handle.view_is) at c.requires.handle)
+    written-either g.S.Store.tells c.args.turns.now c.ask_length-done.new.turns c.know_kept.ensures c.know_kept-2.ensures (record { row = c.handle.inside.row; file = c.handle.inside.file; mode = c.handle.inside.mode; work = c.handle.inside.work }) c.ask_length-done.new.work (rw (← c.handle.view_is) at c.requires.handle)
     (λ (count : ℕ) answered _. answered ≡ reply.Length count) c.in-Ok.bytes c.args.at c.ask_length-done.result c.ask_length-done.ensures.shared c.ask_length-done.ensures.left c.ask_length-done.ensures.same

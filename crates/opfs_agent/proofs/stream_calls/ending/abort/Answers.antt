@@ -9,4 +9,4 @@ call-requires-clause-may g c = may-abort g.S.Store.tells c.args.turns.now (recor
 pub returns : goal.returns
 returns g c =
     rw (← c.stream.view_is)
-    (aborted-has g.S.Store.tells c.args.turns.now c.call.new.self c.kept.ensures (record { row = c.stream.inside.row; file = c.stream.inside.file; work = c.stream.inside.work }) (rw (← c.stream.view_is) at c.requires.stream) c.in-Ok.field-0.reply c.in-Ok.field-0.gift c.in-Ok.ensures.entered c.stream.inside.row refl)
+    (aborted-has g.S.Store.tells c.args.turns.now c.call.new.self c.know_kept.ensures (record { row = c.stream.inside.row; file = c.stream.inside.file; work = c.stream.inside.work }) (rw (← c.stream.view_is) at c.requires.stream) c.in-Ok.field-0.reply c.in-Ok.field-0.gift c.in-Ok.ensures.entered c.stream.inside.row refl)

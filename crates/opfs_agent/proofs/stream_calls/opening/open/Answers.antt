@@ -10,5 +10,5 @@ ask_row-requires-clause-answer g c = open-done c.in-Ok.asked c.args.keep
 
 pub returns : goal.returns
 returns g c =
-    opened-answer g.S.Store.tells c.args.turns.now c.ask_row.new.turns c.kept.ensures c.kept-2.ensures c.in-Ok.asked c.args.keep c.in_ok-ask_row.ensures.shared
+    opened-answer g.S.Store.tells c.args.turns.now c.ask_row.new.turns c.know_kept.ensures c.know_kept-2.ensures c.in-Ok.asked c.args.keep c.in_ok-ask_row.ensures.shared
     c.rows-row.result c.args.file.now c.in-Ok-copy.file c.ask_row.new.work c.rows-row.ensures c.in-Ok.ensures c.in-Ok-copy.ensures c.in_ok-ask_row.ensures.left

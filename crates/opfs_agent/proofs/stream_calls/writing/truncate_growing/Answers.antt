@@ -10,5 +10,5 @@ ask_row-done-requires-clause-answer g c = truncate-done c.stream.inside.row c.ar
 
 pub returns-clause-stream : goal.returns-clause-stream
 returns-clause-stream g c =
-    truncated-either g.S.Store.tells c.args.turns.now c.ask_row-done.new.turns c.kept.ensures c.kept-2.ensures (record { row = c.stream.inside.row; file = c.stream.inside.file; work = c.stream.inside.work }) c.ask_row-done.new.work c.args.size c.ask_row-done.result (rw (← c.stream.view_is) at c.requires.stream)
+    truncated-either g.S.Store.tells c.args.turns.now c.ask_row-done.new.turns c.know_kept.ensures c.know_kept-2.ensures (record { row = c.stream.inside.row; file = c.stream.inside.file; work = c.stream.inside.work }) c.ask_row-done.new.work c.args.size c.ask_row-done.result (rw (← c.stream.view_is) at c.requires.stream)
     c.ask_row-done.ensures.shared c.ask_row-done.ensures.left c.ask_row-done.ensures.same

@@ -15,5 +15,5 @@ ask_row-done-requires-clause-answer g c = write-done c.stream.inside.row c.in-Ok
 
 pub returns-clause-stream : goal.returns-clause-stream
 returns-clause-stream g c =
-    written-either g.S.Store.tells c.args.turns.now c.ask_row-done.new.turns c.kept.ensures c.kept-2.ensures (record { row = c.stream.inside.row; file = c.stream.inside.file; work = c.stream.inside.work }) c.ask_row-done.new.work c.in-Ok.bytes c.args.position c.ask_row-done.result (rw (← c.stream.view_is) at c.requires.stream)
+    written-either g.S.Store.tells c.args.turns.now c.ask_row-done.new.turns c.know_kept.ensures c.know_kept-2.ensures (record { row = c.stream.inside.row; file = c.stream.inside.file; work = c.stream.inside.work }) c.ask_row-done.new.work c.in-Ok.bytes c.args.position c.ask_row-done.result (rw (← c.stream.view_is) at c.requires.stream)
     c.ask_row-done.ensures.shared c.ask_row-done.ensures.left c.ask_row-done.ensures.same

@@ -10,18 +10,18 @@ use Rattle.opfs_agent.proofs.stream_calls.writing.write_within.Goals as goal
 pub keep-requires-clause-local : goal.keep-requires-clause-local
 keep-requires-clause-local g c =
     subst (λ (b : Text). IsLocal g.S.Store.tells c.args.turns.now (op.Write c.stream.inside.row b c.args.position) reply.Done 0) (sym c.in-Ok.ensures)
-    (write-local g.S.Store.tells c.args.turns.now c.kept.ensures (record { row = c.stream.inside.row; file = c.stream.inside.file; work = c.stream.inside.work }) (rw (← c.stream.view_is) at c.requires.stream) c.args.bytes.now c.args.position (rw (← c.stream.view_is) at c.requires.near))
+    (write-local g.S.Store.tells c.args.turns.now c.know_kept.ensures (record { row = c.stream.inside.row; file = c.stream.inside.file; work = c.stream.inside.work }) (rw (← c.stream.view_is) at c.requires.stream) c.args.bytes.now c.args.position (rw (← c.stream.view_is) at c.requires.near))
 
 pub returns-clause-local : goal.returns-clause-local
 returns-clause-local g c =
     rw (← c.stream.view_is)
     (local-done g.S.Store.tells c.args.turns.now c.keep.new.self (op.Write c.stream.inside.row c.args.bytes.now c.args.position)
-    (write-local g.S.Store.tells c.args.turns.now c.kept.ensures (record { row = c.stream.inside.row; file = c.stream.inside.file; work = c.stream.inside.work }) (rw (← c.stream.view_is) at c.requires.stream) c.args.bytes.now c.args.position (rw (← c.stream.view_is) at c.requires.near))
+    (write-local g.S.Store.tells c.args.turns.now c.know_kept.ensures (record { row = c.stream.inside.row; file = c.stream.inside.file; work = c.stream.inside.work }) (rw (← c.stream.view_is) at c.requires.stream) c.args.bytes.now c.args.position (rw (← c.stream.view_is) at c.requires.near))
     (subst (λ (b : Text). IsKept c.args.turns.now c.keep.new.self (op.Write c.stream.inside.row b c.args.position) reply.Done 0) c.in-Ok.ensures c.keep.ensures))
 
 pub returns-clause-stream : goal.returns-clause-stream
 returns-clause-stream g c =
-    write-has g.S.Store.tells c.args.turns.now c.kept.ensures (record { row = c.stream.inside.row; file = c.stream.inside.file; work = c.stream.inside.work }) (rw (← c.stream.view_is) at c.requires.stream) c.args.bytes.now c.args.position (rw (← c.stream.view_is) at c.requires.near) c.keep.new.self c.write_within.new.self
+    write-has g.S.Store.tells c.args.turns.now c.know_kept.ensures (record { row = c.stream.inside.row; file = c.stream.inside.file; work = c.stream.inside.work }) (rw (← c.stream.view_is) at c.requires.stream) c.args.bytes.now c.args.position (rw (← c.stream.view_is) at c.requires.near) c.keep.new.self c.write_within.new.self
     (subst (λ (b : Text). IsKept c.args.turns.now c.keep.new.self (op.Write c.stream.inside.row b c.args.position) reply.Done 0) c.in-Ok.ensures c.keep.ensures)
     (sym c.pages-before.ensures.pages ∙ c.pages-before.ensures.blocks) (sym c.pages-after.ensures.pages ∙ c.pages-after.ensures.blocks)
     c.write_within.ensures.bytes c.write_within.ensures.length c.write_within.ensures.position c.write_within.ensures.reserve c.write_within.ensures.stored

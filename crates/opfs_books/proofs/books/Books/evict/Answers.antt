@@ -17,7 +17,7 @@ commit_own-requires-clause-may g c =
     let b = c.args.self.now in
     let m = g.S.Shared.machine b.state in
     let t = g.S.Shared.tree b.state in
-    let order = subst (λ (xs : Rows). IsInOrder xs) c.rows-tree.ensures.rows c.in_order.ensures in
+    let order = subst (λ (xs : Rows). IsInOrder xs) c.rows-tree.ensures.rows c.know_order.ensures.order in
     subst (λ (x : Spelled). MayCommit c.rows-tree.result.now.rows c.shed.result.now x b.commits.room c.args.journal.now.areas.bytes) (sym c.clearing_of-own.ensures.plain)
     (may-evict c.lengths_follow_each_call.ensures c.calls_are_spelled.ensures g.D.Disk known.fixed known.recorded known.base known.gone b.history m t b.commits b.place c.args.journal.now known.are
     c.args.unit.now c.rows-tree.ensures.lines c.requires.root c.requires.mode c.requires.again order c.rows-tree.result.now.rows c.shed.result.now c.rows-tree.ensures.rows c.shed.ensures)
@@ -40,7 +40,7 @@ returns-in-Ok-clause-books g c f recorded base others are =
     let b = c.args.self.now in
     let m = g.S.Shared.machine b.state in
     let t = g.S.Shared.tree b.state in
-    let order = subst (λ (xs : Rows). IsInOrder xs) c.rows-tree.ensures.rows c.in_order.ensures in
+    let order = subst (λ (xs : Rows). IsInOrder xs) c.rows-tree.ensures.rows c.know_order.ensures.order in
     evict-done c.lengths_follow_each_call.ensures c.calls_are_spelled.ensures g.D.Disk f recorded base others b.history m t b.commits b.place c.args.journal.now are
     c.args.unit.now c.rows-tree.ensures.lines c.requires.root c.requires.mode c.requires.again order
     c.commits_keep_the_books.ensures.eviction c.requires.settled c.enter.new.history (g.S.Shared.machine c.clear.new.self) (g.S.Shared.tree c.clear.new.self)
@@ -52,7 +52,7 @@ returns-in-Ok-clause-shown g c f recorded base others are =
     let b = c.args.self.now in
     let m = g.S.Shared.machine b.state in
     let t = g.S.Shared.tree b.state in
-    let order = subst (λ (xs : Rows). IsInOrder xs) c.rows-tree.ensures.rows c.in_order.ensures in
+    let order = subst (λ (xs : Rows). IsInOrder xs) c.rows-tree.ensures.rows c.know_order.ensures.order in
     evict-shown c.lengths_follow_each_call.ensures c.calls_are_spelled.ensures g.D.Disk f recorded base others b.history m t b.commits b.place c.args.journal.now are
     c.args.unit.now c.rows-tree.ensures.lines c.requires.root c.requires.mode c.requires.again order
     c.commits_keep_the_books.ensures.shown c.requires.settled c.commit_own.new.journal c.commit_own.new.commits (inl (any-own-lent g.D.Disk m t c.rows-tree.result.now.rows c.shed.result.now c.rows-tree.ensures.rows c.shed.ensures c.args.journal.now c.commit_own.new.journal b.commits c.commit_own.new.commits (Evict c.args.unit.now) (subst (λ (x : Spelled). IsAnyOf g.D.Disk (IsNext (stored_in c.rows-tree.result.now.rows c.shed.result.now) x (committing c.args.journal.now b.commits)) (committing c.args.journal.now b.commits) (committing c.commit_own.new.journal c.commit_own.new.commits)) c.clearing_of-own.ensures.plain c.in-Ok.ensures.committed)))
@@ -65,7 +65,7 @@ returns-in-Err-clause-failed_books g c f recorded base others are victim =
     let b = c.args.self.now in
     let m = g.S.Shared.machine b.state in
     let t = g.S.Shared.tree b.state in
-    let order = subst (λ (xs : Rows). IsInOrder xs) c.rows-tree.ensures.rows c.in_order.ensures in
+    let order = subst (λ (xs : Rows). IsInOrder xs) c.rows-tree.ensures.rows c.know_order.ensures.order in
     evict-failed c.lengths_follow_each_call.ensures c.calls_are_spelled.ensures g.D.Disk f recorded base others b.history m t b.commits b.place c.args.journal.now are
     c.args.unit.now c.rows-tree.ensures.lines c.requires.root c.requires.mode c.requires.again order
     c.commits_keep_the_books.ensures.failed c.calls_may_fail.ensures c.requires.settled c.args.last.entry victim c.requires.placed
@@ -77,7 +77,7 @@ returns-in-Err-clause-shown g c f recorded base others are =
     let b = c.args.self.now in
     let m = g.S.Shared.machine b.state in
     let t = g.S.Shared.tree b.state in
-    let order = subst (λ (xs : Rows). IsInOrder xs) c.rows-tree.ensures.rows c.in_order.ensures in
+    let order = subst (λ (xs : Rows). IsInOrder xs) c.rows-tree.ensures.rows c.know_order.ensures.order in
     evict-shown c.lengths_follow_each_call.ensures c.calls_are_spelled.ensures g.D.Disk f recorded base others b.history m t b.commits b.place c.args.journal.now are
     c.args.unit.now c.rows-tree.ensures.lines c.requires.root c.requires.mode c.requires.again order
     c.commits_keep_the_books.ensures.shown c.requires.settled c.commit_own.new.journal c.commit_own.new.commits (inr (none-own-lent g.D.Disk m t c.rows-tree.result.now.rows c.shed.result.now c.rows-tree.ensures.rows c.shed.ensures c.args.journal.now c.commit_own.new.journal b.commits c.commit_own.new.commits (Evict c.args.unit.now) (subst (λ (x : Spelled). IsNoneOf g.D.Disk (IsNext (stored_in c.rows-tree.result.now.rows c.shed.result.now) x (committing c.args.journal.now b.commits)) (committing c.args.journal.now b.commits) (committing c.commit_own.new.journal c.commit_own.new.commits)) c.clearing_of-own.ensures.plain c.in-Err.ensures.halted)))

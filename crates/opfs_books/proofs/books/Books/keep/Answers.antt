@@ -19,7 +19,7 @@ returns-clause-books g c f recorded base gone are next sizes stores =
     let m = g.S.Shared.machine b.state in
     let t = g.S.Shared.tree b.state in
     let own = plain c.args.own.now in
-    let order = subst (λ (xs : Rows). IsInOrder xs) c.rows.ensures.rows c.in_order.ensures in
+    let order = subst (λ (xs : Rows). IsInOrder xs) c.rows.ensures.rows c.know_order.ensures.order in
     subst (λ (k : KeptBack). AreBooks g.D.Disk f recorded (book c.enter.new.history (g.S.Shared.machine c.apply.new.self) (g.S.Shared.tree c.apply.new.self) k None) c.args.journal.now) (sym c.keep.ensures)
     (keep-done c.lengths_follow_each_call.ensures c.calls_are_spelled.ensures g.D.Disk f recorded base gone b.history m t b.commits b.place c.args.journal.now are
     e.last.entry e.sizes e.extents next sizes c.requires.answers c.requires.answered c.rows.ensures.lines

@@ -17,7 +17,7 @@ commit_own-requires-clause-may g c =
     let m = g.S.Shared.machine b.state in
     let t = g.S.Shared.tree b.state in
     let own = plain c.args.own.now in
-    let order = subst (λ (xs : Rows). IsInOrder xs) c.rows-tree.ensures.rows c.in_order.ensures in
+    let order = subst (λ (xs : Rows). IsInOrder xs) c.rows-tree.ensures.rows c.know_order.ensures.order in
     may-commit c.lengths_follow_each_call.ensures c.calls_are_spelled.ensures g.D.Disk known.fixed known.recorded known.base known.gone b.history m t b.commits b.place c.args.journal.now known.are
     e.last.entry e.sizes e.extents next sizes c.requires.answers c.requires.answered c.rows-tree.ensures.lines
     own c.requires.spelled c.requires.come.stores.holds c.requires.come.stores.again order c.state_laws.ensures
@@ -40,7 +40,7 @@ returns-in-Ok-clause-books g c f recorded base gone are next sizes stores bytes 
     let m = g.S.Shared.machine b.state in
     let t = g.S.Shared.tree b.state in
     let own = plain c.args.own.now in
-    let order = subst (λ (xs : Rows). IsInOrder xs) c.rows-tree.ensures.rows c.in_order.ensures in
+    let order = subst (λ (xs : Rows). IsInOrder xs) c.rows-tree.ensures.rows c.know_order.ensures.order in
     store-done c.lengths_follow_each_call.ensures c.calls_are_spelled.ensures g.D.Disk f recorded base gone b.history m t b.commits b.place c.args.journal.now are
     e.last.entry e.sizes e.extents next sizes c.requires.answers c.requires.answered c.rows-tree.ensures.lines
     c.enter.new.history (g.S.Shared.machine c.apply.new.self) (g.S.Shared.tree c.apply.new.self) c.enter.ensures c.apply.ensures.machine c.apply.ensures.tree
@@ -54,7 +54,7 @@ returns-in-Ok-clause-shown g c f recorded base gone are next sizes stores bytes 
     let m = g.S.Shared.machine b.state in
     let t = g.S.Shared.tree b.state in
     let own = plain c.args.own.now in
-    let order = subst (λ (xs : Rows). IsInOrder xs) c.rows-tree.ensures.rows c.in_order.ensures in
+    let order = subst (λ (xs : Rows). IsInOrder xs) c.rows-tree.ensures.rows c.know_order.ensures.order in
     store-shown c.lengths_follow_each_call.ensures c.calls_are_spelled.ensures g.D.Disk f recorded base gone b.history m t b.commits b.place c.args.journal.now are
     e.last.entry e.sizes e.extents next sizes c.requires.answers c.requires.answered c.rows-tree.ensures.lines
     own c.requires.spelled stores.holds stores.again order c.state_laws.ensures
@@ -70,7 +70,7 @@ returns-in-Err-clause-failed_books g c f recorded base gone are next sizes store
     let m = g.S.Shared.machine b.state in
     let t = g.S.Shared.tree b.state in
     let own = plain c.args.own.now in
-    let order = subst (λ (xs : Rows). IsInOrder xs) c.rows-tree.ensures.rows c.in_order.ensures in
+    let order = subst (λ (xs : Rows). IsInOrder xs) c.rows-tree.ensures.rows c.know_order.ensures.order in
     store-failed c.lengths_follow_each_call.ensures c.calls_are_spelled.ensures g.D.Disk f recorded base gone b.history m t b.commits b.place c.args.journal.now are
     e.last.entry e.sizes e.extents next sizes c.requires.answers c.requires.answered c.rows-tree.ensures.lines
     own c.requires.spelled stores.holds stores.again order c.state_laws.ensures
@@ -85,7 +85,7 @@ returns-in-Err-clause-shown g c f recorded base gone are next sizes stores bytes
     let m = g.S.Shared.machine b.state in
     let t = g.S.Shared.tree b.state in
     let own = plain c.args.own.now in
-    let order = subst (λ (xs : Rows). IsInOrder xs) c.rows-tree.ensures.rows c.in_order.ensures in
+    let order = subst (λ (xs : Rows). IsInOrder xs) c.rows-tree.ensures.rows c.know_order.ensures.order in
     store-shown c.lengths_follow_each_call.ensures c.calls_are_spelled.ensures g.D.Disk f recorded base gone b.history m t b.commits b.place c.args.journal.now are
     e.last.entry e.sizes e.extents next sizes c.requires.answers c.requires.answered c.rows-tree.ensures.lines
     own c.requires.spelled stores.holds stores.again order c.state_laws.ensures

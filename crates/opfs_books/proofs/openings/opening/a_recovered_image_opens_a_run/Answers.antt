@@ -9,13 +9,13 @@ returns-clause-opened g c agents =
     let from = c.args.from.now in
     let shed = from.shed in
     let content = g.D.Disk.content from.journal.disk in
-    let sorted = c.in_order-2.ensures in
+    let sorted = c.know_order-2.ensures in
     record {
-      whole = whole from.geometry content from.tree shed from.map from.charge agents from.agrees c.in_order.ensures.order c.in_order.ensures.closed sorted;
+      whole = whole from.geometry content from.tree shed from.map from.charge agents from.agrees c.know_order.ensures.order c.know_order.ensures.closed sorted;
       blocks = refl;
       area = refl;
-      machine = same from.geometry content from.tree shed from.map from.charge agents from.agrees c.in_order.ensures.order c.in_order.ensures.closed sorted;
-      rows = λ i. record { rows = stored-same from.geometry.blocks from.tree from.agrees.parts.sound.files i; persistent = sym (modes from.geometry content from.tree shed from.map from.charge agents from.agrees c.in_order.ensures.order c.in_order.ensures.closed sorted) i };
+      machine = same from.geometry content from.tree shed from.map from.charge agents from.agrees c.know_order.ensures.order c.know_order.ensures.closed sorted;
+      rows = λ i. record { rows = stored-same from.geometry.blocks from.tree from.agrees.parts.sound.files i; persistent = sym (modes from.geometry content from.tree shed from.map from.charge agents from.agrees c.know_order.ensures.order c.know_order.ensures.closed sorted) i };
       begun = refl;
       journal = from.journal_of;
       image = from.image_of;
@@ -30,4 +30,4 @@ returns-clause-opened g c agents =
 pub returns-clause-begun : goal.returns-clause-begun
 returns-clause-begun g c agents =
     let from = c.args.from.now in
-    begins from.geometry (g.D.Disk.content from.journal.disk) from.tree from.shed from.map from.charge agents from.agrees c.in_order.ensures.order c.in_order.ensures.closed c.in_order-2.ensures
+    begins from.geometry (g.D.Disk.content from.journal.disk) from.tree from.shed from.map from.charge agents from.agrees c.know_order.ensures.order c.know_order.ensures.closed c.know_order-2.ensures

@@ -15,7 +15,7 @@ use Rattle.opfs_tree.specs.Rows.{Rows as Tree}
 use Rattle.opfs_pages.specs.HistoryLaws.Handles.{AreHandlesWhole}
 use Rattle.opfs_desk_steps.specs.Parts.Held.{AreHeld}
 use Rattle.opfs_desk_steps.specs.declared.parts.parts.Ledger.{Ledger}
-use Rattle.opfs_desk_steps.specs.declared.parts.parts.Pages.{Pages}
+use Rattle.opfs_desk_steps.specs.declared.parts.parts.OpenPages.{OpenPages}
 use Rattle.opfs_desk.specs.Resting.{IsResting}
 use Rattle.opfs_desk.proofs.Begun.{used-long, made-held, time-begun}
 use Rattle.opfs_desk.proofs.desk.Desk.make.Goals as goal
@@ -33,7 +33,7 @@ invariant_of-result g c =
     let from = c.args.from in
     let agents = c.args.agents.items in
     let l : Ledger g.row.D.Denot = record { journal = c.make-3.new.journal; books = c.in-Ok-make-3.books; freed = c.in-Ok.freed; alloc = c.args.alloc } in
-    let p : Pages = record { swap = c.make-in-Ok-make-3.result; space = c.in-Ok-make.space; base = c.data_base.result } in
+    let p : OpenPages = record { swap = c.make-in-Ok-make-3.result; space = c.in-Ok-make.space; base = c.data_base.result } in
     let state = c.in-Ok-make-2.state in
     let limits = c.limits_of-limits.ensures in
     let opens = c.a_recovered_image_opens_a_run.ensures.opened agents in

@@ -5,38 +5,38 @@ use Rattle.opfs_desk.proofs.dispatch.acting.act_as.Goals as goal
 use Rattle.opfs_desk.specs.declared.dispatch.kinds.CallKind.TheVariants as kind
 use Rattle.opfs_desk_steps.specs.Parts.Seen.{machine_in}
 
-pub act_told-requires-clause-go : goal.act_told-requires-clause-go
-act_told-requires-clause-go g c =
+pub act_done-requires-clause-go : goal.act_done-requires-clause-go
+act_done-requires-clause-go g c =
     plain-go g.D.Disk c.args.parts.now c.args.pending.now c.args.call c.args.work.now c.args.past.now (other-kind kind.Told (machine_in c.args.parts.now.ledger) c.args.call.agent c.args.call.op refl (as-kind _ kind.Told (machine_in c.args.parts.now.ledger) c.args.call.agent c.args.call.op c.in-Told.is c.requires.word)) c.requires.go
 
-pub act_told-requires-clause-word : goal.act_told-requires-clause-word
-act_told-requires-clause-word g c = (as-kind _ kind.Told (machine_in c.args.parts.now.ledger) c.args.call.agent c.args.call.op c.in-Told.is c.requires.word).0
+pub act_done-requires-clause-word : goal.act_done-requires-clause-word
+act_done-requires-clause-word g c = (as-kind _ kind.Told (machine_in c.args.parts.now.ledger) c.args.call.agent c.args.call.op c.in-Told.is c.requires.word).0
 
-pub act_told-requires-clause-only : goal.act_told-requires-clause-only
-act_told-requires-clause-only g c = (as-kind _ kind.Told (machine_in c.args.parts.now.ledger) c.args.call.agent c.args.call.op c.in-Told.is c.requires.word).1
+pub act_done-requires-clause-only : goal.act_done-requires-clause-only
+act_done-requires-clause-only g c = (as-kind _ kind.Told (machine_in c.args.parts.now.ledger) c.args.call.agent c.args.call.op c.in-Told.is c.requires.word).1
 
 pub returns-in-Told-clause-acted : goal.returns-in-Told-clause-acted
 returns-in-Told-clause-acted g c f recorded held whole asked =
-    c.act_told.ensures.acted f recorded held
+    c.act_done.ensures.acted f recorded held
     (plain-asked g.D.Disk.tells f.opening c.args.parts.now.ledger.books.history c.args.pending.now c.args.parts.now.ledger.books.state c.args.call c.args.work.now c.args.past.now (other-kind kind.Told (machine_in c.args.parts.now.ledger) c.args.call.agent c.args.call.op refl (as-kind _ kind.Told (machine_in c.args.parts.now.ledger) c.args.call.agent c.args.call.op c.in-Told.is c.requires.word)) asked)
 
-pub act_mode-requires-clause-go : goal.act_mode-requires-clause-go
-act_mode-requires-clause-go g c =
-    plain-go g.D.Disk c.args.parts.now c.args.pending.now c.args.call c.args.work.now c.args.past.now (other-kind kind.Asked (machine_in c.args.parts.now.ledger) c.args.call.agent c.args.call.op refl (as-kind _ kind.Asked (machine_in c.args.parts.now.ledger) c.args.call.agent c.args.call.op c.in-Asked.is c.requires.word)) c.requires.go
+pub act_persisted-requires-clause-go : goal.act_persisted-requires-clause-go
+act_persisted-requires-clause-go g c =
+    plain-go g.D.Disk c.args.parts.now c.args.pending.now c.args.call c.args.work.now c.args.past.now (other-kind kind.Persisted (machine_in c.args.parts.now.ledger) c.args.call.agent c.args.call.op refl (as-kind _ kind.Persisted (machine_in c.args.parts.now.ledger) c.args.call.agent c.args.call.op c.in-Asked.is c.requires.word)) c.requires.go
 
-pub act_mode-requires-clause-word : goal.act_mode-requires-clause-word
-act_mode-requires-clause-word g c = (as-kind _ kind.Asked (machine_in c.args.parts.now.ledger) c.args.call.agent c.args.call.op c.in-Asked.is c.requires.word).0
+pub act_persisted-requires-clause-word : goal.act_persisted-requires-clause-word
+act_persisted-requires-clause-word g c = (as-kind _ kind.Persisted (machine_in c.args.parts.now.ledger) c.args.call.agent c.args.call.op c.in-Asked.is c.requires.word).0
 
-pub act_mode-requires-clause-only : goal.act_mode-requires-clause-only
-act_mode-requires-clause-only g c = (as-kind _ kind.Asked (machine_in c.args.parts.now.ledger) c.args.call.agent c.args.call.op c.in-Asked.is c.requires.word).1
+pub act_persisted-requires-clause-only : goal.act_persisted-requires-clause-only
+act_persisted-requires-clause-only g c = (as-kind _ kind.Persisted (machine_in c.args.parts.now.ledger) c.args.call.agent c.args.call.op c.in-Asked.is c.requires.word).1
 
-pub returns-in_ok-act_mode-in-Asked-clause-acted : goal.returns-in_ok-act_mode-in-Asked-clause-acted
-returns-in_ok-act_mode-in-Asked-clause-acted g c f recorded held whole asked =
-    c.in_ok-act_mode-in-Asked.ensures.acted f recorded held
-    (plain-asked g.D.Disk.tells f.opening c.args.parts.now.ledger.books.history c.args.pending.now c.args.parts.now.ledger.books.state c.args.call c.args.work.now c.args.past.now (other-kind kind.Asked (machine_in c.args.parts.now.ledger) c.args.call.agent c.args.call.op refl (as-kind _ kind.Asked (machine_in c.args.parts.now.ledger) c.args.call.agent c.args.call.op c.in-Asked.is c.requires.word)) asked)
+pub returns-in_ok-act_persisted-in-Persisted-clause-acted : goal.returns-in_ok-act_persisted-in-Persisted-clause-acted
+returns-in_ok-act_persisted-in-Persisted-clause-acted g c f recorded held whole asked =
+    c.in_ok-act_persisted-in-Persisted.ensures.acted f recorded held
+    (plain-asked g.D.Disk.tells f.opening c.args.parts.now.ledger.books.history c.args.pending.now c.args.parts.now.ledger.books.state c.args.call c.args.work.now c.args.past.now (other-kind kind.Persisted (machine_in c.args.parts.now.ledger) c.args.call.agent c.args.call.op refl (as-kind _ kind.Persisted (machine_in c.args.parts.now.ledger) c.args.call.agent c.args.call.op c.in-Asked.is c.requires.word)) asked)
 
-pub returns-in_err-act_mode-in-Asked-clause-ends : goal.returns-in_err-act_mode-in-Asked-clause-ends
-returns-in_err-act_mode-in-Asked-clause-ends g c end = absurd (never-ends kind.Asked (machine_in c.args.parts.now.ledger) c.args.call.agent c.args.call.op refl (as-kind _ kind.Asked (machine_in c.args.parts.now.ledger) c.args.call.agent c.args.call.op c.in-Asked.is c.requires.word) end)
+pub returns-in_err-act_persisted-in-Persisted-clause-ends : goal.returns-in_err-act_persisted-in-Persisted-clause-ends
+returns-in_err-act_persisted-in-Persisted-clause-ends g c end = absurd (never-ends kind.Persisted (machine_in c.args.parts.now.ledger) c.args.call.agent c.args.call.op refl (as-kind _ kind.Persisted (machine_in c.args.parts.now.ledger) c.args.call.agent c.args.call.op c.in-Asked.is c.requires.word) end)
 
 pub act_persist-requires-clause-go : goal.act_persist-requires-clause-go
 act_persist-requires-clause-go g c =
@@ -74,20 +74,20 @@ returns-in-Estimate-clause-acted g c f recorded held whole asked =
     c.act_estimate.ensures.acted f recorded held
     (plain-asked g.D.Disk.tells f.opening c.args.parts.now.ledger.books.history c.args.pending.now c.args.parts.now.ledger.books.state c.args.call c.args.work.now c.args.past.now (other-kind kind.Estimate (machine_in c.args.parts.now.ledger) c.args.call.agent c.args.call.op refl (as-kind _ kind.Estimate (machine_in c.args.parts.now.ledger) c.args.call.agent c.args.call.op c.in-Estimate.is c.requires.word)) asked)
 
-pub act_kept-requires-clause-go : goal.act_kept-requires-clause-go
-act_kept-requires-clause-go g c =
+pub act_keep_back-requires-clause-go : goal.act_keep_back-requires-clause-go
+act_keep_back-requires-clause-go g c =
     plain-go g.D.Disk c.args.parts.now c.args.pending.now c.args.call c.args.work.now c.args.past.now (other-kind kind.Kept (machine_in c.args.parts.now.ledger) c.args.call.agent c.args.call.op refl (as-kind _ kind.Kept (machine_in c.args.parts.now.ledger) c.args.call.agent c.args.call.op c.in-Kept.is c.requires.word)) c.requires.go
 
-pub act_kept-requires-clause-word : goal.act_kept-requires-clause-word
-act_kept-requires-clause-word g c = as-kind _ kind.Kept (machine_in c.args.parts.now.ledger) c.args.call.agent c.args.call.op c.in-Kept.is c.requires.word
+pub act_keep_back-requires-clause-word : goal.act_keep_back-requires-clause-word
+act_keep_back-requires-clause-word g c = as-kind _ kind.Kept (machine_in c.args.parts.now.ledger) c.args.call.agent c.args.call.op c.in-Kept.is c.requires.word
 
-pub returns-in_ok-act_kept-in-Kept-clause-acted : goal.returns-in_ok-act_kept-in-Kept-clause-acted
-returns-in_ok-act_kept-in-Kept-clause-acted g c f recorded held whole asked =
-    c.in_ok-act_kept-in-Kept.ensures.acted f recorded held
+pub returns-in_ok-act_keep_back-in-Kept-clause-acted : goal.returns-in_ok-act_keep_back-in-Kept-clause-acted
+returns-in_ok-act_keep_back-in-Kept-clause-acted g c f recorded held whole asked =
+    c.in_ok-act_keep_back-in-Kept.ensures.acted f recorded held
     (plain-asked g.D.Disk.tells f.opening c.args.parts.now.ledger.books.history c.args.pending.now c.args.parts.now.ledger.books.state c.args.call c.args.work.now c.args.past.now (other-kind kind.Kept (machine_in c.args.parts.now.ledger) c.args.call.agent c.args.call.op refl (as-kind _ kind.Kept (machine_in c.args.parts.now.ledger) c.args.call.agent c.args.call.op c.in-Kept.is c.requires.word)) asked)
 
-pub returns-in_err-act_kept-in-Kept-clause-ends : goal.returns-in_err-act_kept-in-Kept-clause-ends
-returns-in_err-act_kept-in-Kept-clause-ends g c end = absurd (never-ends kind.Kept (machine_in c.args.parts.now.ledger) c.args.call.agent c.args.call.op refl (as-kind _ kind.Kept (machine_in c.args.parts.now.ledger) c.args.call.agent c.args.call.op c.in-Kept.is c.requires.word) end)
+pub returns-in_err-act_keep_back-in-Kept-clause-ends : goal.returns-in_err-act_keep_back-in-Kept-clause-ends
+returns-in_err-act_keep_back-in-Kept-clause-ends g c end = absurd (never-ends kind.Kept (machine_in c.args.parts.now.ledger) c.args.call.agent c.args.call.op refl (as-kind _ kind.Kept (machine_in c.args.parts.now.ledger) c.args.call.agent c.args.call.op c.in-Kept.is c.requires.word) end)
 
 pub act_get_file-requires-clause-go : goal.act_get_file-requires-clause-go
 act_get_file-requires-clause-go g c =
@@ -179,14 +179,14 @@ returns-in_ok-act_idle_flush-in-Idle-clause-acted g c f recorded held whole aske
 pub returns-in_err-act_idle_flush-in-Idle-clause-ends : goal.returns-in_err-act_idle_flush-in-Idle-clause-ends
 returns-in_err-act_idle_flush-in-Idle-clause-ends g c end = absurd (never-ends kind.Idle (machine_in c.args.parts.now.ledger) c.args.call.agent c.args.call.op refl (as-kind _ kind.Idle (machine_in c.args.parts.now.ledger) c.args.call.agent c.args.call.op c.in-Idle.is c.requires.word) end)
 
-pub act_leave-requires-clause-go : goal.act_leave-requires-clause-go
-act_leave-requires-clause-go g c =
+pub act_close_without_store-requires-clause-go : goal.act_close_without_store-requires-clause-go
+act_close_without_store-requires-clause-go g c =
     plain-go g.D.Disk c.args.parts.now c.args.pending.now c.args.call c.args.work.now c.args.past.now (other-kind kind.Left (machine_in c.args.parts.now.ledger) c.args.call.agent c.args.call.op refl (as-kind _ kind.Left (machine_in c.args.parts.now.ledger) c.args.call.agent c.args.call.op c.in-Left.is c.requires.word)) c.requires.go
 
-pub act_leave-requires-clause-word : goal.act_leave-requires-clause-word
-act_leave-requires-clause-word g c = as-kind _ kind.Left (machine_in c.args.parts.now.ledger) c.args.call.agent c.args.call.op c.in-Left.is c.requires.word
+pub act_close_without_store-requires-clause-word : goal.act_close_without_store-requires-clause-word
+act_close_without_store-requires-clause-word g c = as-kind _ kind.Left (machine_in c.args.parts.now.ledger) c.args.call.agent c.args.call.op c.in-Left.is c.requires.word
 
 pub returns-in-Left-clause-acted : goal.returns-in-Left-clause-acted
 returns-in-Left-clause-acted g c f recorded held whole asked =
-    c.act_leave.ensures.acted f recorded held
+    c.act_close_without_store.ensures.acted f recorded held
     (plain-asked g.D.Disk.tells f.opening c.args.parts.now.ledger.books.history c.args.pending.now c.args.parts.now.ledger.books.state c.args.call c.args.work.now c.args.past.now (other-kind kind.Left (machine_in c.args.parts.now.ledger) c.args.call.agent c.args.call.op refl (as-kind _ kind.Left (machine_in c.args.parts.now.ledger) c.args.call.agent c.args.call.op c.in-Left.is c.requires.word)) asked)

@@ -7,8 +7,8 @@ use Rattle.opfs_machine.specs.declared.state.Sizes.{Sizes}
 use Rattle.opfs_desk_steps.specs.Parts.Answered.{IsAnswered}
 use Rattle.opfs_desk_steps.specs.Parts.Acted.{HasActed}
 use Rattle.opfs_desk_steps.specs.Parts.Seen.{machine_in, call_in, units_in}
-use Rattle.opfs_desk_steps.specs.declared.parts.parts.Pages.{Pages}
-use Rattle.opfs_desk_steps.specs.declared.parts.parts.Parts.{Parts}
+use Rattle.opfs_desk_steps.specs.declared.parts.parts.OpenPages.{OpenPages}
+use Rattle.opfs_desk_steps.specs.declared.parts.parts.DeskParts.{DeskParts}
 use Rattle.opfs_desk_steps.specs.RowLaws.Opens.{next_row}
 use Rattle.opfs_desk_bytes.specs.Opening.Alike.{AreAlike}
 use Rattle.opfs_tree.specs.Rows.{IsInOrder}
@@ -106,7 +106,7 @@ returns-in-Ok-clear_call-clause-acted g c f recorded held asked =
     let mid = c.take_in.new.ledger in
     let back = c.clear_call.new.ledger in
     let new = c.enter_open.new.ledger in
-    let q : Pages = record { swap = c.open_pages.new.swap; space = p.space; base = p.base } in
+    let q : OpenPages = record { swap = c.open_pages.new.swap; space = p.space; base = p.base } in
     let asks = c.opening_laws.ensures.asks in
     let answers = c.opening_laws.ensures.answers in
     let is = c.take_in.ensures in
@@ -128,7 +128,7 @@ returns-in-Ok-clear_call-clause-acted g c f recorded held asked =
     subst (λ (z : Sizes). HasTold w f cleared.recorded back new p (told_entry (call_in call) reply.Done) z) c.in-Ok-clear_call.ensures.sizes
     (subst (λ (e : Entry). HasTold w f cleared.recorded back new p e c.in-Ok-clear_call.sizes) c.in-Ok-clear_call.ensures.entry
     (c.enter_open.ensures.told f cleared.recorded base (units_in call.clearing.items) p cleared.are may_come)) in
-    let now : Parts g.row.D.Denot = record { ledger = new; pages = q } in
+    let now : DeskParts g.row.D.Denot = record { ledger = new; pages = q } in
     subst (λ (n : ℕ). HasActed w f c.args.parts.now now c.args.pending.now (call_in call) c.args.work.now c.in-Ok.opened (opened_act n)) (sym row_is)
     (has-acted w asks answers f recorded l mid back p c.args.pending.now call c.args.work.now [] begins took way c.enter_open.ensures.tidy q pages (subst IsInOrder told.tree c.enter_open.ensures.order)
     c.opening_laws.ensures.opens c.opening_laws.ensures.laid new told c.opening_laws.ensures.states c.opening_laws.ensures.changes c.opening_laws.ensures.trees c.opening_laws.ensures.stored
@@ -142,7 +142,7 @@ returns-in-Err-clause-acted g c f recorded held asked =
     let call = c.args.call in
     let mid = c.take_in.new.ledger in
     let back = c.clear_call.new.ledger in
-    let q : Pages = record { swap = c.drop_row.new.self; space = p.space; base = p.base } in
+    let q : OpenPages = record { swap = c.drop_row.new.self; space = p.space; base = p.base } in
     let asks = c.opening_laws.ensures.asks in
     let is = c.take_in.ensures in
     let mid_held = is.held f recorded p held asked.may.pending in
@@ -157,6 +157,6 @@ returns-in-Err-clause-acted g c f recorded held asked =
     let q_held = alike-held w c.what_is_laid_goes_on.ensures.beside c.blocks_go_on.ensures f recorded base [] mid p q same mid_held in
     let fail = c.in-Err.ensures.failed f recorded q q_held (record { live = then.live; fitting = then.fitting; judged = then.judged; disk = on-disk base call.agent call.op c.requires.word }) in
     let row_is = number-is w asks f recorded l mid p c.args.pending.now call c.args.work.now [] held asked is.entries c.next_row-row.result c.next_row-row.ensures in
-    let now : Parts g.row.D.Denot = record { ledger = back; pages = q } in
+    let now : DeskParts g.row.D.Denot = record { ledger = back; pages = q } in
     c.opening_laws.ensures.acts.failed f recorded c.args.parts.now now mid c.args.pending.now call reply.Done c.args.work.now c.args.work.now (c.next_row-row.result - 1) held asked.may.pending took.taken fail refl
     (rows-left w f mid back q call reply.Done c.requires.word fail c.next_row-row.result row_is)

@@ -25,7 +25,7 @@ pub read_named-requires-clause-may : goal.read_named-requires-clause-may
 read_named-requires-clause-may g c found there =
     let may = c.requires.whole in
     let laws = c.getting_laws.ensures in
-    may-read laws.states g.D.Disk laws.files laws.between c.parts_lie_inside.ensures may.fixed may.recorded c.args.parts.now.ledger c.args.parts.now.pages may.are c.lines.ensures may.whole (file_read c.args.call.op) found there
+    may-read laws.states g.D.Disk laws.files laws.between c.parts_lie_inside.ensures may.fixed may.recorded c.args.parts.now.ledger c.args.parts.now.pages may.are c.know_rows_match_tree.ensures may.whole (file_read c.args.call.op) found there
 
 pub read_named-requires-clause-part : goal.read_named-requires-clause-part
 read_named-requires-clause-part g c =

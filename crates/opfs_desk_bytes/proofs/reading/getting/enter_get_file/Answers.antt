@@ -11,7 +11,7 @@ use Rattle.opfs_space.specs.Room.{Machine}
 use Rattle.opfs_desk_steps.proofs.Counts.{own-length}
 use Rattle.opfs_desk_steps.specs.Parts.Answered.{IsAnswered}
 use Rattle.opfs_desk_steps.specs.Parts.Seen.{machine_in, tree_in, call_in, units_in}
-use Rattle.opfs_desk_steps.specs.declared.parts.parts.Parts.{Parts}
+use Rattle.opfs_desk_steps.specs.declared.parts.parts.DeskParts.{DeskParts}
 use Rattle.opfs_desk_steps.specs.Going.{HasTakenIn, HasMadeWay, HasTold}
 use Rattle.opfs_desk_bytes.specs.Reading.Reading.{BeginsRead}
 use Rattle.opfs_desk_bytes.specs.Reading.Words.{file_read}
@@ -80,7 +80,7 @@ tell_last-requires-clause-may g c =
     record { taken = record { entries = is.entries; journal = is.journal; place = is.place }; held = held; prepared = is.prepared call.op may.asked.prepared; tree = is.tree } in
     let way : HasMadeWay g.D.Disk may.fixed mid back p call = record { entries = c.in-Ok.ensures.entries; prepared = c.in-Ok.ensures.prepared; tree = c.in-Ok.ensures.tree; cleared = cleared } in
     let here = file-there g.D.Disk laws.asks laws.answers may.fixed may.recorded l mid back p c.args.pending.now call c.args.work.now begins c.requires.word took in
-    let read = as-read laws.follow laws.local g.D.Disk may.fixed may.recorded l mid p call.agent c.args.pending.now may.are held is.entries may.asked.may.pending laws.states laws.files laws.between laws.handles c.lines.ensures is.tree is.journal (file_read call.op) here.0 here.1 c.args.read.bytes c.args.read.size c.args.read.stamp c.requires.read in
+    let read = as-read laws.follow laws.local g.D.Disk may.fixed may.recorded l mid p call.agent c.args.pending.now may.are held is.entries may.asked.may.pending laws.states laws.files laws.between laws.handles c.know_rows_match_tree.ensures is.tree is.journal (file_read call.op) here.0 here.1 c.args.read.bytes c.args.read.size c.args.read.stamp c.requires.read in
     record {
       fixed = may.fixed;
       recorded = cleared.recorded;
@@ -114,7 +114,7 @@ returns-in-Ok-clause-acted g c f recorded held whole asked =
     record { taken = record { entries = is.entries; journal = is.journal; place = is.place }; held = then; prepared = is.prepared call.op asked.prepared; tree = is.tree } in
     let way : HasMadeWay w f mid back p call = record { entries = c.in-Ok.ensures.entries; prepared = c.in-Ok.ensures.prepared; tree = c.in-Ok.ensures.tree; cleared = cleared } in
     let here = file-there w laws.asks laws.answers f recorded l mid back p c.args.pending.now call c.args.work.now begins c.requires.word took in
-    let read = as-read laws.follow laws.local w f recorded l mid p call.agent c.args.pending.now held then is.entries asked.may.pending laws.states laws.files laws.between laws.handles c.lines.ensures is.tree is.journal (file_read call.op) here.0 here.1 c.args.read.bytes c.args.read.size c.args.read.stamp c.requires.read in
+    let read = as-read laws.follow laws.local w f recorded l mid p call.agent c.args.pending.now held then is.entries asked.may.pending laws.states laws.files laws.between laws.handles c.know_rows_match_tree.ensures is.tree is.journal (file_read call.op) here.0 here.1 c.args.read.bytes c.args.read.size c.args.read.stamp c.requires.read in
     let its = answered w laws.asks laws.answers f recorded l mid back p c.args.pending.now call c.args.work.now begins c.requires.word took
     c.args.read.bytes c.args.read.size c.args.read.stamp read way in
     let may_come : IsAnswered w base (units_in call.clearing.items) back c.in-Ok.last.entry c.in-Ok.sizes =
@@ -124,7 +124,7 @@ returns-in-Ok-clause-acted g c f recorded held whole asked =
     subst (λ (z : Sizes). HasTold w f cleared.recorded back new p (told_entry (call_in call) (reply.FileInfo c.args.read.size c.args.read.stamp)) z) c.in-Ok.ensures.sizes
     (subst (λ (e : Entry). HasTold w f cleared.recorded back new p e c.in-Ok.sizes) c.in-Ok.ensures.entry
     (c.tell_last.ensures.told f cleared.recorded base (units_in call.clearing.items) p cleared.are may_come)) in
-    let now : Parts g.row.D.Denot = record { ledger = new; pages = p } in
+    let now : DeskParts g.row.D.Denot = record { ledger = new; pages = p } in
     has-acted w laws.asks laws.answers f recorded l mid back p c.args.pending.now call c.args.work.now begins c.requires.word took
     c.args.read.bytes c.args.read.size c.args.read.stamp read way laws.laid laws.spaces laws.others new told laws.acts whole
     c.args.parts.now now _ refl refl refl (omega (arith, c.rows-rows.ensures.count, c.rows-rows.ensures.few))
@@ -143,7 +143,7 @@ returns-in-Err-clause-acted g c f recorded held whole asked =
     let base = state_after f.opening mid.books.history in
     let ready = laws.asks.ready f recorded l mid p c.args.pending.now call c.args.work.now [] held asked is.entries then (is.prepared call.op asked.prepared) in
     let fail = c.in-Err.ensures.failed f recorded p then (record { live = ready.live; fitting = ready.fitting; judged = ready.judged; disk = on-disk base call.agent call.op c.requires.word }) in
-    let now : Parts g.row.D.Denot = record { ledger = back; pages = p } in
+    let now : DeskParts g.row.D.Denot = record { ledger = back; pages = p } in
     let count = ap (λ (m : Machine). length (agent_of m call.agent).own) then.books.machine ∙ own-length base call.agent ∙ sym (rows-failed w f mid back p call (reply.FileInfo c.args.read.size c.args.read.stamp) fail) in
     laws.acts.failed f recorded c.args.parts.now now mid c.args.pending.now call (reply.FileInfo c.args.read.size c.args.read.stamp) c.args.work.now c.args.work.now _ held asked.may.pending
     (record { entries = is.entries; journal = is.journal; place = is.place }) fail refl (omega (arith, c.rows-rows.ensures.count, c.rows-rows.ensures.few, count))

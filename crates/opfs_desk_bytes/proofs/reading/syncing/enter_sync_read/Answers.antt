@@ -12,7 +12,7 @@ use Rattle.opfs_space.specs.Room.{Machine}
 use Rattle.opfs_desk_steps.proofs.Counts.{own-length}
 use Rattle.opfs_desk_steps.specs.Parts.Answered.{IsAnswered}
 use Rattle.opfs_desk_steps.specs.Parts.Seen.{machine_in, tree_in, call_in, units_in}
-use Rattle.opfs_desk_steps.specs.declared.parts.parts.Parts.{Parts}
+use Rattle.opfs_desk_steps.specs.declared.parts.parts.DeskParts.{DeskParts}
 use Rattle.opfs_desk_steps.specs.Going.{HasTakenIn, HasMadeWay, HasTold}
 use Rattle.opfs_desk_bytes.specs.Reading.Reading.{BeginsRead}
 use Rattle.opfs_desk_bytes.proofs.reading.Failed.{rows-failed}
@@ -122,7 +122,7 @@ returns-in-Ok-clause-acted g c f recorded held whole asked =
     subst (λ (z : Sizes). HasTold w f cleared.recorded back new p (told_entry (call_in call) (reply.Read c.args.read.copy)) z) c.in-Ok.ensures.sizes
     (subst (λ (e : Entry). HasTold w f cleared.recorded back new p e c.in-Ok.sizes) c.in-Ok.ensures.entry
     (c.tell_last.ensures.told f cleared.recorded base (units_in call.clearing.items) p cleared.are may_come)) in
-    let now : Parts g.row.D.Denot = record { ledger = new; pages = p } in
+    let now : DeskParts g.row.D.Denot = record { ledger = new; pages = p } in
     let page_same : c.as_slice.result.now ≡ c.args.read.page.items = search rules in
     has-acted w laws.asks laws.answers laws.goes_on f recorded l mid back p c.args.pending.now call c.args.work.now begins c.requires.word took
     c.args.read.bytes c.args.read.copy c.args.read.cursor c.args.read.page.items read way laws.handles whole laws.laid laws.spaces laws.others new told
@@ -143,7 +143,7 @@ returns-in-Err-clause-acted g c f recorded held whole asked =
     let base = state_after f.opening mid.books.history in
     let ready = laws.asks.ready f recorded l mid p c.args.pending.now call c.args.work.now [] held asked is.entries then (is.prepared call.op asked.prepared) in
     let fail = c.in-Err.ensures.failed f recorded p then (record { live = ready.live; fitting = ready.fitting; judged = ready.judged; disk = on-disk base call.agent call.op c.requires.word }) in
-    let now : Parts g.row.D.Denot = record { ledger = back; pages = p } in
+    let now : DeskParts g.row.D.Denot = record { ledger = back; pages = p } in
     let count = ap (λ (m : Machine). length (agent_of m call.agent).own) then.books.machine ∙ own-length base call.agent ∙ sym (rows-failed w f mid back p call (reply.Read c.args.read.copy) fail) in
     laws.acts.failed f recorded c.args.parts.now now mid c.args.pending.now call (reply.Read c.args.read.copy) c.args.work.now c.args.work.now _ held asked.may.pending
     (record { entries = is.entries; journal = is.journal; place = is.place }) fail refl (omega (arith, c.rows-rows.ensures.count, c.rows-rows.ensures.few, count))

@@ -10,7 +10,7 @@ use Rattle.opfs_pages.specs.Stages.{changed}
 use Rattle.opfs_space.specs.Room.{Machine}
 use Rattle.opfs_desk_steps.specs.Parts.Acted.{HasActed}
 use Rattle.opfs_desk_steps.specs.Parts.Seen.{call_in, units_in}
-use Rattle.opfs_desk_steps.specs.declared.parts.parts.Parts.{Parts}
+use Rattle.opfs_desk_steps.specs.declared.parts.parts.DeskParts.{DeskParts}
 use Rattle.opfs_desk_bytes.specs.Reading.Reading.{BeginsRead}
 use Rattle.opfs_desk_bytes.proofs.reading.Failed.{rows-failed}
 use Rattle.opfs_desk_steps.proofs.Counts.{own-length}
@@ -47,8 +47,8 @@ rows-rows-requires g c =
     record { taken = record { entries = is.entries; journal = is.journal; place = is.place }; tree = is.tree; held = then; prepared = is.prepared call.op may.asked.prepared } in
     (ready w laws.asks laws.answers may.fixed may.recorded l mid p calls call work begins c.requires.word took).agent
 
-pub clear_way-requires : goal.clear_way-requires
-clear_way-requires g c = record {
+pub evict_for-requires : goal.evict_for-requires
+evict_for-requires g c = record {
   may =
       let may = c.requires.go in
       let w = g.D.Disk in
@@ -88,8 +88,8 @@ returns-in_default-clause-acted g c f recorded held asked =
     let its-ready = ready w laws.asks laws.answers f recorded l mid p calls call work begins c.requires.word took in
     let base = state_after f.opening mid.books.history in
     let fail = c.in_default.ensures.failed f recorded p then (record { live = its-ready.live; fitting = its-ready.fitting; judged = its-ready.judged; disk = on-disk _ _ _ _ c.requires.word its-ready.judged }) in
-    let now : Parts g.row.D.Denot = record { ledger = c.clear_way.new.ledger; pages = p } in
-    let count = ap (λ (m : Machine). length (agent_of m call.agent).own) then.books.machine ∙ own-length base call.agent ∙ sym (rows-failed w f mid c.clear_way.new.ledger p call c.reply_of.result fail) in
+    let now : DeskParts g.row.D.Denot = record { ledger = c.evict_for.new.ledger; pages = p } in
+    let count = ap (λ (m : Machine). length (agent_of m call.agent).own) then.books.machine ∙ own-length base call.agent ∙ sym (rows-failed w f mid c.evict_for.new.ledger p call c.reply_of.result fail) in
     subst (λ (a : Acted). HasActed w f c.args.parts.now now calls (call_in call) work work a) (sym c.faulted.ensures)
     (laws.acts.failed f recorded c.args.parts.now now mid calls call c.reply_of.result work work _ held asked.may.pending took.taken fail refl (omega (arith, c.rows-rows.ensures.count, c.rows-rows.ensures.few, count)))
 
@@ -110,10 +110,10 @@ enter_put-requires-clause-may g c =
     let begins : BeginsRead w may.fixed may.recorded l p calls call work = record { held = may.are; asked = may.asked } in
     let took : HasTakenIn w may.fixed may.recorded l mid p calls call =
     record { taken = record { entries = is.entries; journal = is.journal; place = is.place }; tree = is.tree; held = then; prepared = is.prepared call.op may.asked.prepared } in
-    let back = c.clear_way.new.ledger in
+    let back = c.evict_for.new.ledger in
     let cl = c.in-Ok.ensures in
     let way : HasClearedWay w may.fixed mid back p call =
-    record { entries = cl.entries; tree = cl.tree; lines = sym c.lines.ensures; prepared = cl.prepared; sure = cl.sure; leaves = cl.leaves; cleared = cl.cleared may.fixed may.recorded p then } in
+    record { entries = cl.entries; tree = cl.tree; lines = sym c.know_rows_match_tree.ensures; prepared = cl.prepared; sure = cl.sure; leaves = cl.leaves; cleared = cl.cleared may.fixed may.recorded p then } in
     let base = state_after may.fixed.opening mid.books.history in
     let units = units_in call.clearing.items in
     let its = answered w laws.asks laws.answers may.fixed may.recorded l mid p calls call work begins c.requires.word took plan.small back way in
@@ -121,7 +121,7 @@ enter_put-requires-clause-may g c =
     let got = gotten w laws.asks laws.answers may.fixed may.recorded l mid p calls call work begins c.requires.word took plan.small back way laws.inside laws.room laws.others c.args.target c.args.planned.put c.args.planned.page.items plan in
     let reply_is : c.reply_of.result ≡ reply_put call.op = reply-for call.op c.args.target c.args.given.now call.sizes c.requires.word plan.target c.requires.given c.reply_of.result c.reply_of.ensures in
     let entry_is : c.in-Ok.last.entry ≡ told_entry (call_in call) (reply_put call.op) = cl.entry ∙ ap (λ (r : Reply). told_entry (call_in call) r) reply_is in
-    let start : Parts g.row.D.Denot = record { ledger = back; pages = p } in
+    let start : DeskParts g.row.D.Denot = record { ledger = back; pages = p } in
     may-enter-same w start c.args.planned.put c.args.target.row (row_named call.op) c.args.given.now (bytes_put call.op) c.in-Ok.last.entry (told_entry (call_in call) (reply_put call.op)) c.in-Ok.sizes call.sizes
     plan.target.row c.requires.given entry_is cl.sizes
     (record { fixed = may.fixed; recorded = way.cleared.recorded; base = base; gone = units; to_put = put_may; gotten = got; answered = its })
@@ -155,10 +155,10 @@ returns-in-Ok-enter_put-clause-acted g c f recorded held asked =
     let begins : BeginsRead w f recorded l p calls call work = record { held = held; asked = asked } in
     let took : HasTakenIn w f recorded l mid p calls call =
     record { taken = record { entries = is.entries; journal = is.journal; place = is.place }; tree = is.tree; held = then; prepared = is.prepared call.op asked.prepared } in
-    let back = c.clear_way.new.ledger in
+    let back = c.evict_for.new.ledger in
     let cl = c.in-Ok.ensures in
     let way : HasClearedWay w f mid back p call =
-    record { entries = cl.entries; tree = cl.tree; lines = sym c.lines.ensures; prepared = cl.prepared; sure = cl.sure; leaves = cl.leaves; cleared = cl.cleared f recorded p then } in
+    record { entries = cl.entries; tree = cl.tree; lines = sym c.know_rows_match_tree.ensures; prepared = cl.prepared; sure = cl.sure; leaves = cl.leaves; cleared = cl.cleared f recorded p then } in
     let base = state_after f.opening mid.books.history in
     let units = units_in call.clearing.items in
     let its = answered w laws.asks laws.answers f recorded l mid p calls call work begins c.requires.word took plan.small back way in
@@ -166,7 +166,7 @@ returns-in-Ok-enter_put-clause-acted g c f recorded held asked =
     let got = gotten w laws.asks laws.answers f recorded l mid p calls call work begins c.requires.word took plan.small back way laws.inside laws.room laws.others c.args.target c.args.planned.put c.args.planned.page.items plan in
     let reply_is : c.reply_of.result ≡ reply_put call.op = reply-for call.op c.args.target c.args.given.now call.sizes c.requires.word plan.target c.requires.given c.reply_of.result c.reply_of.ensures in
     let entry_is : c.in-Ok.last.entry ≡ told_entry (call_in call) (reply_put call.op) = cl.entry ∙ ap (λ (r : Reply). told_entry (call_in call) r) reply_is in
-    let start : Parts g.row.D.Denot = record { ledger = back; pages = p } in
+    let start : DeskParts g.row.D.Denot = record { ledger = back; pages = p } in
     let new = c.enter_put.new.parts in
     let entered =
     enters-same w f way.cleared.recorded base units start new c.args.planned.put c.args.target.row (row_named call.op) c.args.given.now (bytes_put call.op) c.in-Ok.last.entry (told_entry (call_in call) (reply_put call.op)) c.in-Ok.sizes call.sizes
@@ -201,10 +201,10 @@ returns-clause-acted g c f recorded held asked =
     let begins : BeginsRead w f recorded l p calls call work = record { held = held; asked = asked } in
     let took : HasTakenIn w f recorded l mid p calls call =
     record { taken = record { entries = is.entries; journal = is.journal; place = is.place }; tree = is.tree; held = then; prepared = is.prepared call.op asked.prepared } in
-    let back = c.clear_way.new.ledger in
+    let back = c.evict_for.new.ledger in
     let cl = c.in-Ok.ensures in
     let way : HasClearedWay w f mid back p call =
-    record { entries = cl.entries; tree = cl.tree; lines = sym c.lines.ensures; prepared = cl.prepared; sure = cl.sure; leaves = cl.leaves; cleared = cl.cleared f recorded p then } in
+    record { entries = cl.entries; tree = cl.tree; lines = sym c.know_rows_match_tree.ensures; prepared = cl.prepared; sure = cl.sure; leaves = cl.leaves; cleared = cl.cleared f recorded p then } in
     let base = state_after f.opening mid.books.history in
     let units = units_in call.clearing.items in
     let its = answered w laws.asks laws.answers f recorded l mid p calls call work begins c.requires.word took plan.small back way in
@@ -212,7 +212,7 @@ returns-clause-acted g c f recorded held asked =
     let got = gotten w laws.asks laws.answers f recorded l mid p calls call work begins c.requires.word took plan.small back way laws.inside laws.room laws.others c.args.target c.args.planned.put c.args.planned.page.items plan in
     let reply_is : c.reply_of.result ≡ reply_put call.op = reply-for call.op c.args.target c.args.given.now call.sizes c.requires.word plan.target c.requires.given c.reply_of.result c.reply_of.ensures in
     let entry_is : c.in-Ok.last.entry ≡ told_entry (call_in call) (reply_put call.op) = cl.entry ∙ ap (λ (r : Reply). told_entry (call_in call) r) reply_is in
-    let start : Parts g.row.D.Denot = record { ledger = back; pages = p } in
+    let start : DeskParts g.row.D.Denot = record { ledger = back; pages = p } in
     let new = c.enter_put.new.parts in
     let its-ready = ready w laws.asks laws.answers f recorded l mid p calls call work begins c.requires.word took in
     let not =

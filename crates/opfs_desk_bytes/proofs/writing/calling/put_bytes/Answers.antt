@@ -6,7 +6,7 @@ use Rattle.opfs_pages.specs.Stages.{IsReady}
 use Rattle.opfs_records.specs.Replay.Built.{named}
 use Rattle.opfs_tree.specs.Rows.{Rows as Tree}
 use Rattle.opfs_desk_steps.specs.declared.parts.parts.Ledger.{Ledger}
-use Rattle.opfs_desk_steps.specs.declared.parts.parts.Pages.{Pages}
+use Rattle.opfs_desk_steps.specs.declared.parts.parts.OpenPages.{OpenPages}
 use Rattle.opfs_desk_bytes.proofs.reading.Readied.{read-acted, read-unacted}
 use Rattle.opfs_desk_bytes.proofs.writing.Planned.{acted-room, asked-room, is-plan, paged-room, planned-of, read-parts, stored-copy}
 use Rattle.opfs_desk_bytes.proofs.writing.Words.{on-disk}
@@ -46,7 +46,7 @@ enter_call-requires-clause-go g c =
     let p = c.args.parts.now.pages in
     let call = c.args.call in
     let is = c.in-Ok.ensures in
-    let q : Pages = record { swap = c.plan_call.new.swap; space = c.plan_call.new.space; base = p.base } in
+    let q : OpenPages = record { swap = c.plan_call.new.swap; space = c.plan_call.new.space; base = p.base } in
     let now : Ledger g.row.D.Denot = record { journal = c.plan_call.new.journal; books = l.books; freed = l.freed; alloc = l.alloc } in
     let tree_is : c.tree.result.now.rows ≡ l.books.state.store.tree = ap (λ x. x.rows) c.tree.ensures in
     let go = c.requires.go in
@@ -68,7 +68,7 @@ enter_call-requires-clause-plan g c =
     let p = c.args.parts.now.pages in
     let call = c.args.call in
     let is = c.in-Ok.ensures in
-    let q : Pages = record { swap = c.plan_call.new.swap; space = c.plan_call.new.space; base = p.base } in
+    let q : OpenPages = record { swap = c.plan_call.new.swap; space = c.plan_call.new.space; base = p.base } in
     let now : Ledger g.row.D.Denot = record { journal = c.plan_call.new.journal; books = l.books; freed = l.freed; alloc = l.alloc } in
     let tree_is : c.tree.result.now.rows ≡ l.books.state.store.tree = ap (λ x. x.rows) c.tree.ensures in
     let go = c.requires.go in
@@ -88,7 +88,7 @@ enter_call-requires-clause-planned g c f recorded held asked before row_is =
     let p = c.args.parts.now.pages in
     let call = c.args.call in
     let is = c.in-Ok.ensures in
-    let q : Pages = record { swap = c.plan_call.new.swap; space = c.plan_call.new.space; base = p.base } in
+    let q : OpenPages = record { swap = c.plan_call.new.swap; space = c.plan_call.new.space; base = p.base } in
     let now : Ledger g.row.D.Denot = record { journal = c.plan_call.new.journal; books = l.books; freed = l.freed; alloc = l.alloc } in
     let tree_is : c.tree.result.now.rows ≡ l.books.state.store.tree = ap (λ x. x.rows) c.tree.ensures in
     let go = c.requires.go in
@@ -111,7 +111,7 @@ fail_reading-requires g c = record {
       let p = c.args.parts.now.pages in
       let call = c.args.call in
       let is = c.in-Err-DiskFault.ensures in
-      let q : Pages = record { swap = c.plan_call.new.swap; space = c.plan_call.new.space; base = p.base } in
+      let q : OpenPages = record { swap = c.plan_call.new.swap; space = c.plan_call.new.space; base = p.base } in
       let now : Ledger g.row.D.Denot = record { journal = c.plan_call.new.journal; books = l.books; freed = l.freed; alloc = l.alloc } in
       let tree_is : c.tree.result.now.rows ≡ l.books.state.store.tree = ap (λ x. x.rows) c.tree.ensures in
       let go = c.requires.go in
@@ -144,7 +144,7 @@ returns-in-Ok-clause-acted g c f recorded held asked =
     let p = c.args.parts.now.pages in
     let call = c.args.call in
     let is = c.in-Ok.ensures in
-    let q : Pages = record { swap = c.plan_call.new.swap; space = c.plan_call.new.space; base = p.base } in
+    let q : OpenPages = record { swap = c.plan_call.new.swap; space = c.plan_call.new.space; base = p.base } in
     let now : Ledger g.row.D.Denot = record { journal = c.plan_call.new.journal; books = l.books; freed = l.freed; alloc = l.alloc } in
     let tree_is : c.tree.result.now.rows ≡ l.books.state.store.tree = ap (λ x. x.rows) c.tree.ensures in
     let go = c.requires.go in
@@ -163,7 +163,7 @@ returns-in-Err-DiskFault-clause-acted g c f recorded held asked =
     let p = c.args.parts.now.pages in
     let call = c.args.call in
     let is = c.in-Err-DiskFault.ensures in
-    let q : Pages = record { swap = c.plan_call.new.swap; space = c.plan_call.new.space; base = p.base } in
+    let q : OpenPages = record { swap = c.plan_call.new.swap; space = c.plan_call.new.space; base = p.base } in
     let now : Ledger g.row.D.Denot = record { journal = c.plan_call.new.journal; books = l.books; freed = l.freed; alloc = l.alloc } in
     let tree_is : c.tree.result.now.rows ≡ l.books.state.store.tree = ap (λ x. x.rows) c.tree.ensures in
     let go = c.requires.go in
@@ -181,7 +181,7 @@ returns-in-Err-NoMemory-clause-idle g c f recorded held =
     let p = c.args.parts.now.pages in
     let call = c.args.call in
     let is = c.in-Err-NoMemory.ensures in
-    let q : Pages = record { swap = c.plan_call.new.swap; space = c.plan_call.new.space; base = p.base } in
+    let q : OpenPages = record { swap = c.plan_call.new.swap; space = c.plan_call.new.space; base = p.base } in
     let now : Ledger g.row.D.Denot = record { journal = c.plan_call.new.journal; books = l.books; freed = l.freed; alloc = l.alloc } in
     let tree_is : c.tree.result.now.rows ≡ l.books.state.store.tree = ap (λ x. x.rows) c.tree.ensures in
     let go = c.requires.go in

@@ -40,7 +40,7 @@ returns g c = record {
         commits = is.commits;
         freed = omega (arith, c.clear.ensures.capacity, is.capacity);
         books = is.books f recorded base gone books answered.next answered.sizes;
-        order = c.step.ensures.order;
-        order_after = c.step-2.ensures.order;
+        order = c.know_order.ensures;
+        order_after = c.know_order-2.ensures;
       };
 }

@@ -10,7 +10,7 @@ use Rattle.opfs_space.specs.Room.{Machine}
 use Rattle.opfs_blocks.specs.Sets.{blocks_of, AreBelow}
 use Rattle.opfs_desk_contents.specs.Words.{ends_row, is_storing}
 use Rattle.opfs_desk_steps.specs.Parts.Seen.{call_in, machine_in}
-use Rattle.opfs_desk_steps.specs.declared.parts.parts.Parts.{Parts}
+use Rattle.opfs_desk_steps.specs.declared.parts.parts.DeskParts.{DeskParts}
 use Rattle.opfs_desk_entries.specs.Answers.Silent.{BeginsCall}
 use Rattle.opfs_desk_bytes.proofs.reading.Failed.{rows-failed}
 use Rattle.opfs_desk_steps.specs.Going.{HasTakenIn}
@@ -68,10 +68,10 @@ store_pages-requires-clause-may g c =
       prepared = is.prepared call.op go.asked.prepared;
       tree = is.tree;
     } in
-    let start : Parts g.row.D.Denot = record { ledger = mid; pages = p } in
+    let start : DeskParts g.row.D.Denot = record { ledger = mid; pages = p } in
     let last = c.call_parts-last in
     may-same w go.fixed start start call.agent plan.put plan.place work last.result.last.entry (told_entry (call_in call) reply.Done) last.result.sizes call.sizes c.args.row (row_named call.op) last.ensures.entry last.ensures.sizes c.requires.row
-    (may-store w laws.asks laws.answers laws.decide laws.follow laws.local go.fixed go.recorded l p calls call work begins c.requires.word c.requires.fits mid took laws.files laws.between c.lines.ensures plan c.requires.plan c.requires.content)
+    (may-store w laws.asks laws.answers laws.decide laws.follow laws.local go.fixed go.recorded l p calls call work begins c.requires.word c.requires.fits mid took laws.files laws.between c.know_rows_match_tree.ensures plan c.requires.plan c.requires.content)
 
 pub store_pages-requires-clause-word : goal.store_pages-requires-clause-word
 store_pages-requires-clause-word g c = ap (λ (x : Entry). is_storing x.op) c.call_parts-last.ensures.entry ∙ word-is (machine_in c.args.parts.now.ledger) c.args.call.agent c.args.call.op c.requires.word
@@ -99,13 +99,13 @@ leave_row-requires-clause-below g c =
       prepared = is.prepared call.op go.asked.prepared;
       tree = is.tree;
     } in
-    let start : Parts g.row.D.Denot = record { ledger = mid; pages = p } in
+    let start : DeskParts g.row.D.Denot = record { ledger = mid; pages = p } in
     let last = c.call_parts-last in
     let new = c.store_pages.new.parts in
     let runs = c.in-Ok.runs in
     let done =
     stores-same w go.fixed start new call.agent plan.put plan.place work runs (text w laws.asks laws.answers laws.decide laws.follow laws.local go.fixed go.recorded l p calls call work begins c.requires.word c.requires.fits mid took) last.result.last.entry (told_entry (call_in call) reply.Done) last.result.sizes call.sizes c.args.row (row_named call.op) last.ensures.entry last.ensures.sizes c.requires.row
-    (c.in-Ok.ensures.stored go.fixed go.recorded (text w laws.asks laws.answers laws.decide laws.follow laws.local go.fixed go.recorded l p calls call work begins c.requires.word c.requires.fits mid took) took.held) (stores-planned w laws.asks laws.answers laws.decide laws.follow laws.local go.fixed go.recorded l p calls call work begins c.requires.word c.requires.fits mid took laws.files laws.between c.lines.ensures plan c.requires.plan c.requires.content) in
+    (c.in-Ok.ensures.stored go.fixed go.recorded (text w laws.asks laws.answers laws.decide laws.follow laws.local go.fixed go.recorded l p calls call work begins c.requires.word c.requires.fits mid took) took.held) (stores-planned w laws.asks laws.answers laws.decide laws.follow laws.local go.fixed go.recorded l p calls call work begins c.requires.word c.requires.fits mid took laws.files laws.between c.know_rows_match_tree.ensures plan c.requires.plan c.requires.content) in
     let slice_is : c.as_slice.result.now ≡ runs = search rules in
     subst (λ (xs : List Extent). AreBelow (length new.pages.space.used) (blocks_of xs)) (sym slice_is)
     (runs-below w go.fixed done.cleared.recorded (state_after go.fixed.opening mid.books.history) done.back new.pages call.agent (row_named call.op) plan.put.pages runs done.cleared.are done.runs_are)
@@ -130,7 +130,7 @@ leave_row-requires-clause-end g c =
       prepared = is.prepared call.op go.asked.prepared;
       tree = is.tree;
     } in
-    let start : Parts g.row.D.Denot = record { ledger = mid; pages = p } in
+    let start : DeskParts g.row.D.Denot = record { ledger = mid; pages = p } in
     let last = c.call_parts-last in
     small w laws.follow laws.local go.fixed go.recorded l p calls call work begins (agent w laws.asks laws.answers laws.decide laws.follow laws.local go.fixed go.recorded l p calls call work begins c.requires.word c.requires.fits mid took) c.requires.word c.requires.fits laws.states laws.kept
 
@@ -155,7 +155,7 @@ returns-in-Ok-clause-acted g c f recorded held asked =
       prepared = is.prepared call.op asked.prepared;
       tree = is.tree;
     } in
-    let start : Parts g.row.D.Denot = record { ledger = mid; pages = p } in
+    let start : DeskParts g.row.D.Denot = record { ledger = mid; pages = p } in
     let last = c.call_parts-last in
     let new = c.store_pages.new.parts in
     let runs = c.in-Ok.runs in
@@ -164,13 +164,13 @@ returns-in-Ok-clause-acted g c f recorded held asked =
     let ready = its-ready w laws.asks laws.answers laws.decide laws.follow laws.local f recorded l p calls call work begins c.requires.word c.requires.fits mid took in
     let done =
     stores-same w f start new call.agent plan.put plan.place work runs (text w laws.asks laws.answers laws.decide laws.follow laws.local f recorded l p calls call work begins c.requires.word c.requires.fits mid took) last.result.last.entry (told_entry (call_in call) reply.Done) last.result.sizes call.sizes c.args.row (row_named call.op) last.ensures.entry last.ensures.sizes c.requires.row
-    (c.in-Ok.ensures.stored f recorded (text w laws.asks laws.answers laws.decide laws.follow laws.local f recorded l p calls call work begins c.requires.word c.requires.fits mid took) took.held) (stores-planned w laws.asks laws.answers laws.decide laws.follow laws.local f recorded l p calls call work begins c.requires.word c.requires.fits mid took laws.files laws.between c.lines.ensures plan c.requires.plan c.requires.content) in
+    (c.in-Ok.ensures.stored f recorded (text w laws.asks laws.answers laws.decide laws.follow laws.local f recorded l p calls call work begins c.requires.word c.requires.fits mid took) took.held) (stores-planned w laws.asks laws.answers laws.decide laws.follow laws.local f recorded l p calls call work begins c.requires.word c.requires.fits mid took laws.files laws.between c.know_rows_match_tree.ensures plan c.requires.plan c.requires.content) in
     let slice_is : c.as_slice.result.now ≡ runs = search rules in
     let left = leaves-same new.pages q call.agent c.args.row (row_named call.op) c.as_slice.result.now runs c.is_last-ends.result (ends_row call.op) work made c.requires.row slice_is c.is_last-ends.ensures c.leave_row.ensures in
     let count = ap (λ (m : Machine). length (agent_of m call.agent).own) took.held.books.machine ∙ own-length (state_after f.opening mid.books.history) call.agent in
-    has-acted w f mid p call work plan.place (text w laws.asks laws.answers laws.decide laws.follow laws.local f recorded l p calls call work begins c.requires.word c.requires.fits mid took) (reserve w laws.asks laws.answers laws.decide laws.follow laws.local f recorded l p calls call work begins c.requires.word c.requires.fits mid took) (call-planned w laws.asks laws.answers laws.decide laws.follow laws.local f recorded l p calls call work begins c.requires.word c.requires.fits mid took laws.files laws.between c.lines.ensures plan c.requires.plan c.requires.content)
+    has-acted w f mid p call work plan.place (text w laws.asks laws.answers laws.decide laws.follow laws.local f recorded l p calls call work begins c.requires.word c.requires.fits mid took) (reserve w laws.asks laws.answers laws.decide laws.follow laws.local f recorded l p calls call work begins c.requires.word c.requires.fits mid took) (call-planned w laws.asks laws.answers laws.decide laws.follow laws.local f recorded l p calls call work begins c.requires.word c.requires.fits mid took laws.files laws.between c.know_rows_match_tree.ensures plan c.requires.plan c.requires.content)
     plan.put.pages c.requires.plan.count new runs done q made left
-    more.contents more.trees more.others more.changes more.rows more.moves laws.kept more.spelled more.fails met.falls laws.acts c.lines.ensures recorded l p calls held asked.may.pending took.taken c.rows-rows.result
+    more.contents more.trees more.others more.changes more.rows more.moves laws.kept more.spelled more.fails met.falls laws.acts c.know_rows_match_tree.ensures recorded l p calls held asked.may.pending took.taken c.rows-rows.result
     (omega (arith, c.rows-rows.ensures.count, c.rows-rows.ensures.few, count))
 
 pub returns-in-Err-clause-acted : goal.returns-in-Err-clause-acted
@@ -192,12 +192,12 @@ returns-in-Err-clause-acted g c f recorded held asked =
       prepared = is.prepared call.op asked.prepared;
       tree = is.tree;
     } in
-    let start : Parts g.row.D.Denot = record { ledger = mid; pages = p } in
+    let start : DeskParts g.row.D.Denot = record { ledger = mid; pages = p } in
     let last = c.call_parts-last in
     let new = c.store_pages.new.parts in
     let fail =
     fails-same w f start new call.agent plan.put plan.place work (text w laws.asks laws.answers laws.decide laws.follow laws.local f recorded l p calls call work begins c.requires.word c.requires.fits mid took) last.result.last.entry (told_entry (call_in call) reply.Done) last.result.sizes call.sizes c.args.row (row_named call.op) last.ensures.entry last.ensures.sizes c.requires.row
-    (c.in-Err.ensures.failed f recorded (text w laws.asks laws.answers laws.decide laws.follow laws.local f recorded l p calls call work begins c.requires.word c.requires.fits mid took) took.held) (stores-planned w laws.asks laws.answers laws.decide laws.follow laws.local f recorded l p calls call work begins c.requires.word c.requires.fits mid took laws.files laws.between c.lines.ensures plan c.requires.plan c.requires.content) in
+    (c.in-Err.ensures.failed f recorded (text w laws.asks laws.answers laws.decide laws.follow laws.local f recorded l p calls call work begins c.requires.word c.requires.fits mid took) took.held) (stores-planned w laws.asks laws.answers laws.decide laws.follow laws.local f recorded l p calls call work begins c.requires.word c.requires.fits mid took laws.files laws.between c.know_rows_match_tree.ensures plan c.requires.plan c.requires.content) in
     let count =
     ap (λ (m : Machine). length (agent_of m call.agent).own) took.held.books.machine ∙ own-length (state_after f.opening mid.books.history) call.agent ∙ sym (rows-failed w f mid new.ledger new.pages call reply.Done fail) in
     laws.acts.failed f recorded c.args.parts.now new mid calls call reply.Done work work _ held asked.may.pending took.taken fail refl (omega (arith, c.rows-rows.ensures.count, c.rows-rows.ensures.few, count))

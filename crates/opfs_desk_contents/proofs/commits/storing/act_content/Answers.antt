@@ -4,8 +4,8 @@ use Rattle.opfs_desk_entries.specs.Answers.Silent.{BeginsCall}
 use Rattle.opfs_desk_contents.proofs.commits.More.{has-more}
 use Rattle.opfs_desk_contents.proofs.commits.storing.act_content.Goals as goal
 
-pub act_again-requires-clause-more : goal.act_again-requires-clause-more
-act_again-requires-clause-more g c =
+pub act_store_same_blocks-requires-clause-more : goal.act_store_same_blocks-requires-clause-more
+act_store_same_blocks-requires-clause-more g c =
     let go = c.requires.go in
     let laws = c.going_laws.ensures in
     let l = c.args.parts.now.ledger in

@@ -31,7 +31,7 @@ tell-rows-requires g c = record {
       let begins : BeginsCall w go.fixed go.recorded l p calls call c.args.work.now c.args.past.now = record { held = go.are; asked = go.asked } in
       let agent = (laws.asks.taken go.fixed go.recorded l p calls call c.args.work.now c.args.past.now go.are go.asked).agent in
       let s = state_after go.fixed.opening (l.books.history ++ calls) in
-      let rows = ap (λ (m : Machine). m.rows) (noted-is w laws.follow laws.local go.fixed go.recorded l p calls call c.args.work.now c.args.past.now begins agent) ∙ c.lines.ensures in
+      let rows = ap (λ (m : Machine). m.rows) (noted-is w laws.follow laws.local go.fixed go.recorded l p calls call c.args.work.now c.args.past.now begins agent) ∙ c.know_rows_match_tree.ensures in
       let its = next-told s (tree_in l) rows c.args.past.now call.sizes call.agent call.op c.in-Ok.next c.requires.word go.asked.may.given (record { reply = c.in-Ok.ensures.reply; told = c.in-Ok.ensures.told; gift = c.in-Ok.ensures.gift }) in
       record {
         fixed = go.fixed;
@@ -62,7 +62,7 @@ returns-clause-acted g c f recorded held asked =
     let begins : BeginsCall w f recorded l p calls call c.args.work.now c.args.past.now = record { held = held; asked = asked } in
     let agent = (laws.asks.taken f recorded l p calls call c.args.work.now c.args.past.now held asked).agent in
     let s = state_after f.opening (l.books.history ++ calls) in
-    let rows = ap (λ (m : Machine). m.rows) (noted-is w laws.follow laws.local f recorded l p calls call c.args.work.now c.args.past.now begins agent) ∙ c.lines.ensures in
+    let rows = ap (λ (m : Machine). m.rows) (noted-is w laws.follow laws.local f recorded l p calls call c.args.work.now c.args.past.now begins agent) ∙ c.know_rows_match_tree.ensures in
     let its = next-told s (tree_in l) rows c.args.past.now call.sizes call.agent call.op c.in-Ok.next c.requires.word asked.may.given (record { reply = c.in-Ok.ensures.reply; told = c.in-Ok.ensures.told; gift = c.in-Ok.ensures.gift }) in
     subst (λ (r : Reply). HasActed w f c.args.parts.now c.tell-rows.new.parts calls (call_in call) c.args.work.now c.args.work.now (record { reply = r; gift = c.in-Ok.next.gift; rows = c.tell-rows.result })) (its.told ∙ sym its.reply)
     (c.tell-rows.ensures.acted f recorded c.args.work.now c.args.past.now c.in-Ok.next.gift held
@@ -87,5 +87,5 @@ next_child-requires-clause-given g c =
     let begins : BeginsCall w go.fixed go.recorded l p calls call c.args.work.now c.args.past.now = record { held = go.are; asked = go.asked } in
     let agent = (laws.asks.taken go.fixed go.recorded l p calls call c.args.work.now c.args.past.now go.are go.asked).agent in
     let s = state_after go.fixed.opening (l.books.history ++ calls) in
-    let rows = ap (λ (m : Machine). m.rows) (noted-is w laws.follow laws.local go.fixed go.recorded l p calls call c.args.work.now c.args.past.now begins agent) ∙ c.lines.ensures in
+    let rows = ap (λ (m : Machine). m.rows) (noted-is w laws.follow laws.local go.fixed go.recorded l p calls call c.args.work.now c.args.past.now begins agent) ∙ c.know_rows_match_tree.ensures in
     up-to-by s (tree_in l) rows call.op c.args.past.now (option_copied c.args.last) from.reached

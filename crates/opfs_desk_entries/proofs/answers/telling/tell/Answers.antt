@@ -1,7 +1,7 @@
 use Rattle.std.proofs.Common.{[], refl, arith}
 use Rattle.opfs_machine.specs.Histories.{state_after}
 use Rattle.opfs_desk_steps.specs.Parts.Seen.{machine_in, tree_in}
-use Rattle.opfs_desk_steps.specs.declared.parts.parts.Parts.{Parts}
+use Rattle.opfs_desk_steps.specs.declared.parts.parts.DeskParts.{DeskParts}
 use Rattle.opfs_desk_steps.specs.Going.{HasTakenIn}
 use Rattle.opfs_desk_entries.specs.Answers.Silent.{BeginsCall}
 use Rattle.opfs_desk_entries.proofs.answers.TellsOnly.{agent-is, may-come, only, tell-acted}
@@ -33,8 +33,8 @@ rows-rows-requires g c =
     } in
     agent-is w laws.asks laws.answers laws.decide laws.follow laws.local laws.noted may.fixed may.recorded l mid p c.args.pending.now c.args.call may.work may.past c.args.reply begins may.telling took
 
-pub tell_in_hand-requires-clause-may : goal.tell_in_hand-requires-clause-may
-tell_in_hand-requires-clause-may g c =
+pub tell_ready-requires-clause-may : goal.tell_ready-requires-clause-may
+tell_ready-requires-clause-may g c =
     let w = g.D.Disk in
     let may = c.requires.may in
     let laws = c.telling_laws.ensures in
@@ -59,8 +59,8 @@ tell_in_hand-requires-clause-may g c =
       answered = may-come w laws.asks laws.answers laws.decide laws.follow laws.local laws.noted may.fixed may.recorded l mid p c.args.pending.now c.args.call may.work may.past c.args.reply begins may.telling took;
     }
 
-pub tell_in_hand-requires-clause-silent : goal.tell_in_hand-requires-clause-silent
-tell_in_hand-requires-clause-silent g c =
+pub tell_ready-requires-clause-silent : goal.tell_ready-requires-clause-silent
+tell_ready-requires-clause-silent g c =
     let w = g.D.Disk in
     let may = c.requires.may in
     let laws = c.telling_laws.ensures in
@@ -78,8 +78,8 @@ tell_in_hand-requires-clause-silent g c =
     silent (machine_in mid) (tree_in mid) c.args.call.agent c.args.call.op c.args.call.sizes
     (only w laws.asks laws.answers laws.decide laws.follow laws.local laws.noted may.fixed may.recorded l mid p c.args.pending.now c.args.call may.work may.past c.args.reply begins may.telling took)
 
-pub tell_in_hand-requires-clause-answered : goal.tell_in_hand-requires-clause-answered
-tell_in_hand-requires-clause-answered g c = c.requires.may.telling.done
+pub tell_ready-requires-clause-answered : goal.tell_ready-requires-clause-answered
+tell_ready-requires-clause-answered g c = c.requires.may.telling.done
 
 pub returns-clause-acted : goal.returns-clause-acted
 returns-clause-acted g c f recorded work past gift are telling given =
@@ -97,7 +97,7 @@ returns-clause-acted g c f recorded work past gift are telling given =
       tree = is.tree;
     } in
     let come = may-come w laws.asks laws.answers laws.decide laws.follow laws.local laws.noted f recorded l mid p c.args.pending.now c.args.call work past c.args.reply begins telling took in
-    let told = c.tell_in_hand.ensures.told f recorded (state_after f.opening mid.books.history) [] p took.held come in
-    let now : Parts g.row.D.Denot = record { ledger = c.tell_in_hand.new.ledger; pages = p } in
+    let told = c.tell_ready.ensures.told f recorded (state_after f.opening mid.books.history) [] p took.held come in
+    let now : DeskParts g.row.D.Denot = record { ledger = c.tell_ready.new.ledger; pages = p } in
     tell-acted w laws.asks laws.answers laws.decide laws.follow laws.local laws.noted f recorded l mid p c.args.pending.now c.args.call work past c.args.reply begins telling took
-    c.tell_in_hand.new.ledger told laws.rows laws.blocks laws.acts laws.shown gift given _ (omega (arith, c.rows-rows.ensures.count, c.rows-rows.ensures.few)) c.args.parts.now now refl refl refl
+    c.tell_ready.new.ledger told laws.rows laws.blocks laws.acts laws.shown gift given _ (omega (arith, c.rows-rows.ensures.count, c.rows-rows.ensures.few)) c.args.parts.now now refl refl refl

@@ -48,7 +48,7 @@ returns-in-Err-clause-failed g c f recorded base gone p are answered =
     (c.in-Err.ensures.failed f recorded base gone p are answered (may-be-stored w l e c.args.sizes c.requires.may c.requires.word c.requires.text c.requires.keys c.args.unit.now c.requires.unit own is f))
 
 pub returns-in-Ok-clause-tidy : goal.returns-in-Ok-clause-tidy
-returns-in-Ok-clause-tidy g c = record { lines = c.lines.ensures; order = c.step.ensures.order }
+returns-in-Ok-clause-tidy g c = record { lines = c.know_rows_match_tree.ensures; order = c.know_order.ensures }
 
 pub returns-in-Err-clause-tidy : goal.returns-in-Err-clause-tidy
-returns-in-Err-clause-tidy g c = record { lines = c.lines.ensures; order = c.step.ensures.order }
+returns-in-Err-clause-tidy g c = record { lines = c.know_rows_match_tree.ensures; order = c.know_order.ensures }

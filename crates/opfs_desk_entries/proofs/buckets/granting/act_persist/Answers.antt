@@ -10,7 +10,7 @@ use Rattle.opfs_machine.specs.Histories.{state_after}
 use Rattle.opfs_machine.specs.declared.state.Sizes.{Sizes}
 use Rattle.opfs_desk_steps.specs.Parts.Answered.{IsAnswered}
 use Rattle.opfs_desk_steps.specs.Parts.Seen.{machine_in, tree_in, call_in, units_in}
-use Rattle.opfs_desk_steps.specs.declared.parts.parts.Parts.{Parts}
+use Rattle.opfs_desk_steps.specs.declared.parts.parts.DeskParts.{DeskParts}
 use Rattle.opfs_desk_entries.specs.KeptBack.Changing.{HasChanged, HasNotChanged}
 use Rattle.opfs_desk_entries.specs.KeptBack.Keeping.{HasOwnKey}
 use Rattle.opfs_desk_steps.specs.Going.{HasTakenIn, HasMadeWay}
@@ -56,8 +56,8 @@ rows-rows-requires g c =
     record { taken = record { entries = is.entries; journal = is.journal; place = is.place }; held = is.held may.fixed may.recorded p may.are may.asked.may.pending; prepared = is.prepared call.op may.asked.prepared; tree = is.tree } in
     (ready w know.asks know.answers may.fixed may.recorded l mid l p c.args.pending.now call c.args.work.now (reply.Flag true) may.are may.asked took words).agent
 
-pub clear_way-requires : goal.clear_way-requires
-clear_way-requires g c = record {
+pub evict_for-requires : goal.evict_for-requires
+evict_for-requires g c = record {
   may =
       let w = g.D.Disk in
       let may = c.requires.go in
@@ -83,9 +83,9 @@ enter_mode-requires-clause-may g c =
     let p = c.args.parts.now.pages in
     let call = c.args.call in
     let mid = c.take_in.new.ledger in
-    let back = c.clear_way.new.ledger in
+    let back = c.evict_for.new.ledger in
     let is = c.take_in.ensures in
-    let clear = c.in-Ok-clear_way.ensures in
+    let clear = c.in-Ok-evict_for.ensures in
     let know = c.granting_laws.ensures in
     let held = is.held may.fixed may.recorded p may.are may.asked.may.pending in
     let cleared = clear.cleared may.fixed may.recorded p held in
@@ -105,7 +105,7 @@ enter_mode-requires-clause-may g c =
       pages = p;
       are = cleared.are;
       answered =
-          subst (λ (z : Sizes). IsAnswered w base (units_in call.clearing.items) back c.in-Ok-clear_way.last.entry z) (sym clear.sizes)
+          subst (λ (z : Sizes). IsAnswered w base (units_in call.clearing.items) back c.in-Ok-evict_for.last.entry z) (sym clear.sizes)
           (subst (λ (e : Entry). IsAnswered w base (units_in call.clearing.items) back e call.sizes) (sym clear.entry)
           (answered w know.asks know.answers may.fixed may.recorded l mid back p c.args.pending.now call c.args.work.now (reply.Flag true) may.are may.asked took words its way));
     }
@@ -118,9 +118,9 @@ enter_mode-requires-clause-word g c =
     let p = c.args.parts.now.pages in
     let call = c.args.call in
     let mid = c.take_in.new.ledger in
-    let back = c.clear_way.new.ledger in
+    let back = c.evict_for.new.ledger in
     let is = c.take_in.ensures in
-    let clear = c.in-Ok-clear_way.ensures in
+    let clear = c.in-Ok-evict_for.ensures in
     let know = c.granting_laws.ensures in
     let held = is.held may.fixed may.recorded p may.are may.asked.may.pending in
     let cleared = clear.cleared may.fixed may.recorded p held in
@@ -133,7 +133,7 @@ enter_mode-requires-clause-word g c =
     (gives-now w know.follow know.local know.reads know.counts may.fixed may.recorded l mid p c.args.pending.now call c.args.work.now may.are may.asked agent took c.requires.word back way keyed)
 
 pub enter_mode-requires-clause-flag : goal.enter_mode-requires-clause-flag
-enter_mode-requires-clause-flag g c = ap (λ (e : Entry). e.reply) c.in-Ok-clear_way.ensures.entry
+enter_mode-requires-clause-flag g c = ap (λ (e : Entry). e.reply) c.in-Ok-evict_for.ensures.entry
 
 pub enter_mode-requires-clause-unit : goal.enter_mode-requires-clause-unit
 enter_mode-requires-clause-unit g c =
@@ -142,15 +142,15 @@ enter_mode-requires-clause-unit g c =
     let l = c.args.parts.now.ledger in
     let p = c.args.parts.now.pages in
     let mid = c.take_in.new.ledger in
-    let back = c.clear_way.new.ledger in
+    let back = c.evict_for.new.ledger in
     let know = c.granting_laws.ensures in
     let call = c.args.call in
     let held = c.take_in.ensures.held may.fixed may.recorded p may.are may.asked.may.pending in
-    let cleared = c.in-Ok-clear_way.ensures.cleared may.fixed may.recorded p held in
+    let cleared = c.in-Ok-evict_for.ensures.cleared may.fixed may.recorded p held in
     let was = key-held w know.reads know.counts may.fixed may.recorded l p may.are call.agent in
     let now = key-back w know.reads know.counts may.fixed may.recorded mid p held call.agent cleared.recorded (units_in call.clearing.items) back cleared.are in
     c.in-Ok.ensures.unit ∙ ap (λ (x : Option Text). unit_named x call.op) (c.key-key.ensures ∙ was ∙ sym now)
-    ∙ ap (λ (e : Entry). unit_named (agent_of (machine_in back) e.agent).key e.op) (sym c.in-Ok-clear_way.ensures.entry)
+    ∙ ap (λ (e : Entry). unit_named (agent_of (machine_in back) e.agent).key e.op) (sym c.in-Ok-evict_for.ensures.entry)
 
 pub enter_mode-requires-clause-keys : goal.enter_mode-requires-clause-keys
 enter_mode-requires-clause-keys g c =
@@ -158,17 +158,17 @@ enter_mode-requires-clause-keys g c =
     let may = c.requires.go in
     let p = c.args.parts.now.pages in
     let mid = c.take_in.new.ledger in
-    let back = c.clear_way.new.ledger in
+    let back = c.evict_for.new.ledger in
     let know = c.granting_laws.ensures in
     let call = c.args.call in
     let held = c.take_in.ensures.held may.fixed may.recorded p may.are may.asked.may.pending in
-    let cleared = c.in-Ok-clear_way.ensures.cleared may.fixed may.recorded p held in
-    subst (λ (e : Entry). HasOwnKey (agent_of (machine_in back) e.agent).key) (sym c.in-Ok-clear_way.ensures.entry)
+    let cleared = c.in-Ok-evict_for.ensures.cleared may.fixed may.recorded p held in
+    subst (λ (e : Entry). HasOwnKey (agent_of (machine_in back) e.agent).key) (sym c.in-Ok-evict_for.ensures.entry)
     (key-own w know.reads know.counts may.fixed may.recorded mid p held call.agent cleared.recorded (units_in call.clearing.items) back cleared.are)
 
 pub enter_mode-requires-clause-text : goal.enter_mode-requires-clause-text
 enter_mode-requires-clause-text g c =
-    subst (λ (e : Entry). is_utf8 (bucket_named e.op) ≡ true) (sym c.in-Ok-clear_way.ensures.entry) c.unit_in.ensures.text
+    subst (λ (e : Entry). is_utf8 (bucket_named e.op) ≡ true) (sym c.in-Ok-evict_for.ensures.entry) c.unit_in.ensures.text
 
 pub returns-in_default-clause-idle : goal.returns-in_default-clause-idle
 returns-in_default-clause-idle g c f recorded held = unacted g.D.Disk c.granting_laws.ensures.shown f recorded c.args.parts.now held
@@ -181,10 +181,10 @@ returns-in-Ok-enter_mode-clause-acted g c f recorded held asked =
     let p = c.args.parts.now.pages in
     let call = c.args.call in
     let mid = c.take_in.new.ledger in
-    let back = c.clear_way.new.ledger in
+    let back = c.evict_for.new.ledger in
     let new = c.enter_mode.new.ledger in
     let is = c.take_in.ensures in
-    let clear = c.in-Ok-clear_way.ensures in
+    let clear = c.in-Ok-evict_for.ensures in
     let know = c.granting_laws.ensures in
     let e = told_entry (call_in call) (reply.Flag true) in
     let units = units_in call.clearing.items in
@@ -200,30 +200,30 @@ returns-in-Ok-enter_mode-clause-acted g c f recorded held asked =
     let way : HasMadeWay w f mid back p call = record { entries = clear.entries; prepared = clear.prepared; tree = clear.tree; cleared = cleared } in
     let keyed = key-back w know.reads know.counts f recorded mid p mid_held call.agent cleared.recorded units back cleared.are in
     let gives = gives-now w know.follow know.local know.reads know.counts f recorded l mid p c.args.pending.now call c.args.work.now held asked agent took c.requires.word back way keyed in
-    let may_come : IsAnswered w base units back c.in-Ok-clear_way.last.entry c.in-Ok-clear_way.sizes =
-    subst (λ (z : Sizes). IsAnswered w base units back c.in-Ok-clear_way.last.entry z) (sym clear.sizes)
+    let may_come : IsAnswered w base units back c.in-Ok-evict_for.last.entry c.in-Ok-evict_for.sizes =
+    subst (λ (z : Sizes). IsAnswered w base units back c.in-Ok-evict_for.last.entry z) (sym clear.sizes)
     (subst (λ (x : Entry). IsAnswered w base units back x call.sizes) (sym clear.entry)
     (answered w know.asks know.answers f recorded l mid back p c.args.pending.now call c.args.work.now (reply.Flag true) held asked took words its way)) in
     let changed : HasChanged w f cleared.recorded base units back new p e call.sizes (mode_now back e) =
     subst (λ (z : Sizes). HasChanged w f cleared.recorded base units back new p e z (mode_now back e)) clear.sizes
-    (subst (λ (x : Entry). HasChanged w f cleared.recorded base units back new p x c.in-Ok-clear_way.sizes (mode_now back x)) clear.entry
+    (subst (λ (x : Entry). HasChanged w f cleared.recorded base units back new p x c.in-Ok-evict_for.sizes (mode_now back x)) clear.entry
     (c.in-Ok-enter_mode.ensures.done f cleared.recorded base units p cleared.are may_come)) in
     has-acted w know.asks know.answers f recorded l mid back p c.args.pending.now call c.args.work.now (reply.Flag true) held asked took words its way
     c.enter_mode.ensures.tidy (mode_now back e) (spelled-mode (machine_in back) (tree_in back) call.agent call.op call.sizes gives) know.states know.spelled know.fails laws.falls new changed
     (no-more (machine_in back) (tree_in back) call.agent call.op call.sizes word) c.what_is_laid_goes_on.ensures.beside know.blocks know.acts _ (omega (arith, c.rows-rows.ensures.count, c.rows-rows.ensures.few))
 
-pub returns-in-Ok-clear_way-clause-acted : goal.returns-in-Ok-clear_way-clause-acted
-returns-in-Ok-clear_way-clause-acted g c f recorded held asked =
+pub returns-in-Ok-evict_for-clause-acted : goal.returns-in-Ok-evict_for-clause-acted
+returns-in-Ok-evict_for-clause-acted g c f recorded held asked =
     let w = g.D.Disk in
     let laws = g.met.D.Disk in
     let l = c.args.parts.now.ledger in
     let p = c.args.parts.now.pages in
     let call = c.args.call in
     let mid = c.take_in.new.ledger in
-    let back = c.clear_way.new.ledger in
+    let back = c.evict_for.new.ledger in
     let new = c.enter_mode.new.ledger in
     let is = c.take_in.ensures in
-    let clear = c.in-Ok-clear_way.ensures in
+    let clear = c.in-Ok-evict_for.ensures in
     let know = c.granting_laws.ensures in
     let e = told_entry (call_in call) (reply.Flag true) in
     let units = units_in call.clearing.items in
@@ -238,8 +238,8 @@ returns-in-Ok-clear_way-clause-acted g c f recorded held asked =
     let way : HasMadeWay w f mid back p call = record { entries = clear.entries; prepared = clear.prepared; tree = clear.tree; cleared = cleared } in
     let keyed = key-back w know.reads know.counts f recorded mid p mid_held call.agent cleared.recorded units back cleared.are in
     let gives = gives-now w know.follow know.local know.reads know.counts f recorded l mid p c.args.pending.now call c.args.work.now held asked agent took c.requires.word back way keyed in
-    let may_come : IsAnswered w base units back c.in-Ok-clear_way.last.entry c.in-Ok-clear_way.sizes =
-    subst (λ (z : Sizes). IsAnswered w base units back c.in-Ok-clear_way.last.entry z) (sym clear.sizes)
+    let may_come : IsAnswered w base units back c.in-Ok-evict_for.last.entry c.in-Ok-evict_for.sizes =
+    subst (λ (z : Sizes). IsAnswered w base units back c.in-Ok-evict_for.last.entry z) (sym clear.sizes)
     (subst (λ (x : Entry). IsAnswered w base units back x call.sizes) (sym clear.entry)
     (answered w know.asks know.answers f recorded l mid back p c.args.pending.now call c.args.work.now (reply.Flag true) held asked took words its way)) in
     let not : HasNotChanged w f cleared.recorded base units back new p e (mode_now back e) =
@@ -248,7 +248,7 @@ returns-in-Ok-clear_way-clause-acted g c f recorded held asked =
     let fail =
     failed-then w know.asks know.answers f recorded l mid back p c.args.pending.now call c.args.work.now (reply.Flag true) held asked took words its way
     c.enter_mode.ensures.tidy (mode_now back e) (spelled-mode (machine_in back) (tree_in back) call.agent call.op call.sizes gives) know.states know.spelled know.fails laws.falls new not in
-    let now : Parts g.row.D.Denot = record { ledger = new; pages = p } in
+    let now : DeskParts g.row.D.Denot = record { ledger = new; pages = p } in
     know.acts.failed f recorded c.args.parts.now now mid c.args.pending.now call (reply.Flag true) c.args.work.now c.args.work.now _ held asked.may.pending took.taken fail refl
     (omega (arith, c.rows-rows.ensures.count, c.rows-rows.ensures.few, rows-failed w know.asks know.answers f recorded l mid back p c.args.pending.now call c.args.work.now (reply.Flag true) held asked took words new p fail))
 
@@ -259,7 +259,7 @@ returns-clause-acted g c f recorded held asked =
     let p = c.args.parts.now.pages in
     let call = c.args.call in
     let mid = c.take_in.new.ledger in
-    let back = c.clear_way.new.ledger in
+    let back = c.evict_for.new.ledger in
     let is = c.take_in.ensures in
     let know = c.granting_laws.ensures in
     let mid_held = is.held f recorded p held asked.may.pending in
@@ -269,6 +269,6 @@ returns-clause-acted g c f recorded held asked =
     record { taken = record { entries = is.entries; journal = is.journal; place = is.place }; held = mid_held; prepared = is.prepared call.op asked.prepared; tree = is.tree } in
     let then = ready w know.asks know.answers f recorded l mid back p c.args.pending.now call c.args.work.now (reply.Flag true) held asked took words in
     let fail = c.in-Err.ensures.failed f recorded p mid_held (record { live = then.live; fitting = then.fitting; judged = then.judged; disk = words.disk base }) in
-    let now : Parts g.row.D.Denot = record { ledger = back; pages = p } in
+    let now : DeskParts g.row.D.Denot = record { ledger = back; pages = p } in
     know.acts.failed f recorded c.args.parts.now now mid c.args.pending.now call (reply.Flag true) c.args.work.now c.args.work.now _ held asked.may.pending took.taken fail refl
     (omega (arith, c.rows-rows.ensures.count, c.rows-rows.ensures.few, rows-failed w know.asks know.answers f recorded l mid back p c.args.pending.now call c.args.work.now (reply.Flag true) held asked took words back p fail))

@@ -10,22 +10,22 @@ use Rattle.opfs_desk_entries.proofs.kept_back.changing.enter_kept.Goals as goal
 
 pub enter_change-requires-clause-may : goal.enter_change-requires-clause-may
 enter_change-requires-clause-may g c =
-    may-store-call g.D.Disk c.args.ledger.now c.args.last.entry c.args.sizes c.requires.may c.requires.word c.lines.ensures c.requires.text c.requires.keys c.args.place.now c.requires.place c.moment-moment.result c.spelled-own.ensures.small c.moment-moment.ensures (plain c.spelled-own.result) c.spelled-own.ensures.is
+    may-store-call g.D.Disk c.args.ledger.now c.args.last.entry c.args.sizes c.requires.may c.requires.word c.know_rows_match_tree.ensures c.requires.text c.requires.keys c.args.place.now c.requires.place c.moment-moment.result c.spelled-own.ensures.small c.moment-moment.ensures (plain c.spelled-own.result) c.spelled-own.ensures.is
 
 pub enter_change-requires-clause-answered : goal.enter_change-requires-clause-answered
 enter_change-requires-clause-answered g c = ap is_refusal c.requires.done
 
 pub enter_change-requires-clause-spelled : goal.enter_change-requires-clause-spelled
 enter_change-requires-clause-spelled g c =
-    spelled-own g.D.Disk c.args.ledger.now c.args.last.entry c.args.sizes c.requires.may c.requires.word c.lines.ensures c.requires.text c.requires.keys c.args.place.now c.requires.place c.moment-moment.result c.spelled-own.ensures.small c.moment-moment.ensures (plain c.spelled-own.result) c.spelled-own.ensures.is
+    spelled-own g.D.Disk c.args.ledger.now c.args.last.entry c.args.sizes c.requires.may c.requires.word c.know_rows_match_tree.ensures c.requires.text c.requires.keys c.args.place.now c.requires.place c.moment-moment.result c.spelled-own.ensures.small c.moment-moment.ensures (plain c.spelled-own.result) c.spelled-own.ensures.is
 
 pub enter_change-requires-clause-quiet : goal.enter_change-requires-clause-quiet
 enter_change-requires-clause-quiet g c =
-    quiet-own g.D.Disk c.args.ledger.now c.args.last.entry c.args.sizes c.requires.may c.requires.word c.lines.ensures c.requires.text c.requires.keys c.args.place.now c.requires.place c.moment-moment.result c.spelled-own.ensures.small c.moment-moment.ensures (plain c.spelled-own.result) c.spelled-own.ensures.is
+    quiet-own g.D.Disk c.args.ledger.now c.args.last.entry c.args.sizes c.requires.may c.requires.word c.know_rows_match_tree.ensures c.requires.text c.requires.keys c.args.place.now c.requires.place c.moment-moment.result c.spelled-own.ensures.small c.moment-moment.ensures (plain c.spelled-own.result) c.spelled-own.ensures.is
 
 pub enter_change-requires-clause-fits : goal.enter_change-requires-clause-fits
 enter_change-requires-clause-fits g c =
-    fits-own g.D.Disk c.args.ledger.now c.args.last.entry c.args.sizes c.requires.may c.requires.word c.lines.ensures c.requires.text c.requires.keys c.args.place.now c.requires.place c.moment-moment.result c.spelled-own.ensures.small c.moment-moment.ensures (plain c.spelled-own.result) c.spelled-own.ensures.is
+    fits-own g.D.Disk c.args.ledger.now c.args.last.entry c.args.sizes c.requires.may c.requires.word c.know_rows_match_tree.ensures c.requires.text c.requires.keys c.args.place.now c.requires.place c.moment-moment.result c.spelled-own.ensures.small c.moment-moment.ensures (plain c.spelled-own.result) c.spelled-own.ensures.is
 
 pub returns-in-Ok-clause-done : goal.returns-in-Ok-clause-done
 returns-in-Ok-clause-done g c f recorded base gone p are answered =
@@ -37,8 +37,8 @@ returns-in-Ok-clause-done g c f recorded base gone p are answered =
     let its = c.moment-moment.ensures in
     let is = c.spelled-own.ensures.is in
     subst (λ (x : Spelled). HasChanged w f recorded base gone l c.enter_change.new.ledger p e c.args.sizes x)
-    (own-is w l e c.args.sizes c.requires.may c.requires.word c.lines.ensures c.requires.text c.requires.keys c.args.place.now c.requires.place c.moment-moment.result small its own is)
-    (c.in-Ok.ensures.done f recorded base gone p are answered (may-be-stored w l e c.args.sizes c.requires.may c.requires.word c.lines.ensures c.requires.text c.requires.keys c.args.place.now c.requires.place c.moment-moment.result small its own is f))
+    (own-is w l e c.args.sizes c.requires.may c.requires.word c.know_rows_match_tree.ensures c.requires.text c.requires.keys c.args.place.now c.requires.place c.moment-moment.result small its own is)
+    (c.in-Ok.ensures.done f recorded base gone p are answered (may-be-stored w l e c.args.sizes c.requires.may c.requires.word c.know_rows_match_tree.ensures c.requires.text c.requires.keys c.args.place.now c.requires.place c.moment-moment.result small its own is f))
 
 pub returns-in-Err-clause-failed : goal.returns-in-Err-clause-failed
 returns-in-Err-clause-failed g c f recorded base gone p are answered =
@@ -50,14 +50,14 @@ returns-in-Err-clause-failed g c f recorded base gone p are answered =
     let its = c.moment-moment.ensures in
     let is = c.spelled-own.ensures.is in
     subst (λ (x : Spelled). HasNotChanged w f recorded base gone l c.enter_change.new.ledger p e x)
-    (own-is w l e c.args.sizes c.requires.may c.requires.word c.lines.ensures c.requires.text c.requires.keys c.args.place.now c.requires.place c.moment-moment.result small its own is)
-    (c.in-Err.ensures.failed f recorded base gone p are answered (may-be-stored w l e c.args.sizes c.requires.may c.requires.word c.lines.ensures c.requires.text c.requires.keys c.args.place.now c.requires.place c.moment-moment.result small its own is f))
+    (own-is w l e c.args.sizes c.requires.may c.requires.word c.know_rows_match_tree.ensures c.requires.text c.requires.keys c.args.place.now c.requires.place c.moment-moment.result small its own is)
+    (c.in-Err.ensures.failed f recorded base gone p are answered (may-be-stored w l e c.args.sizes c.requires.may c.requires.word c.know_rows_match_tree.ensures c.requires.text c.requires.keys c.args.place.now c.requires.place c.moment-moment.result small its own is f))
 
 pub returns-in-Ok-clause-tidy : goal.returns-in-Ok-clause-tidy
-returns-in-Ok-clause-tidy g c = record { lines = c.lines.ensures; order = c.step.ensures.order }
+returns-in-Ok-clause-tidy g c = record { lines = c.know_rows_match_tree.ensures; order = c.know_order.ensures }
 
 pub returns-in-Err-clause-tidy : goal.returns-in-Err-clause-tidy
-returns-in-Err-clause-tidy g c = record { lines = c.lines.ensures; order = c.step.ensures.order }
+returns-in-Err-clause-tidy g c = record { lines = c.know_rows_match_tree.ensures; order = c.know_order.ensures }
 
 pub moment-moment-requires : goal.moment-moment-requires
 moment-moment-requires g c = c.requires.may.answered.change.agent
@@ -66,4 +66,4 @@ pub spelled-own-requires : goal.spelled-own-requires
 spelled-own-requires g c = record { word = kept-word (machine_in c.args.ledger.now) c.args.last.entry.agent c.args.last.entry.op c.requires.word }
 
 pub returns-in-Ok-clause-order : goal.returns-in-Ok-clause-order
-returns-in-Ok-clause-order g c = c.step-in-Ok.ensures.order
+returns-in-Ok-clause-order g c = c.know_order-in-Ok.ensures

@@ -38,7 +38,7 @@ returns-clause-fresh g c f recorded base gone p are none =
     let e = c.args.entering in
     let answered = c.requires.may.answered.change in
     let new : Ledger g.row.D.Denot = record { journal = l.journal; books = c.tell.new.self; freed = c.tell.new.freed; alloc = l.alloc } in
-    told-fresh g.D.Disk f recorded base gone l new p e.last.entry e.sizes e.extents c.calls_are_spelled.ensures are (sym c.lines.ensures) answered.kept answered.may c.requires.silent c.tell.ensures.machine c.tell.ensures.tree (ap (λ (k : KeptBack). k.count) c.tell.ensures.commits) none
+    told-fresh g.D.Disk f recorded base gone l new p e.last.entry e.sizes e.extents c.calls_are_spelled.ensures are (sym c.know_rows_match_tree.ensures) answered.kept answered.may c.requires.silent c.tell.ensures.machine c.tell.ensures.tree (ap (λ (k : KeptBack). k.count) c.tell.ensures.commits) none
 
 pub returns-clause-tied : goal.returns-clause-tied
 returns-clause-tied g c f p tied =

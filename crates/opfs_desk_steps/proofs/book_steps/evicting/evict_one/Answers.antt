@@ -13,7 +13,7 @@ pub evict-requires-clause-again : goal.evict-requires-clause-again
 evict-requires-clause-again g c =
     let may = c.requires.may in
     let l = c.args.ledger.now in
-    may-spell c.args.clearing.unit (machine_in l) (tree_in l) may.are.books.stored.writable.0 c.lines.ensures may.turn.root
+    may-spell c.args.clearing.unit (machine_in l) (tree_in l) may.are.books.stored.writable.0 c.know_rows_match_tree.ensures may.turn.root
 
 pub evict-requires-clause-may : goal.evict-requires-clause-may
 evict-requires-clause-may g c =
@@ -55,7 +55,7 @@ returns-in-Ok-clause-held g c f recorded base gone p are =
     let l = c.args.ledger.now in
     let done = c.in-Ok.ensures in
     let new : Ledger g.row.D.Denot = record { journal = c.evict.new.journal; books = c.evict.new.self; freed = c.evict.new.freed; alloc = l.alloc } in
-    evicted-held g.D.Disk f c.what_is_laid_goes_on.ensures.beside c.blocks_go_on.ensures c.only_its_own_calls_settle_a_row.ensures laws.counted recorded base gone l new p c.args.clearing.unit are may.turn.after c.step.ensures.order
+    evicted-held g.D.Disk f c.what_is_laid_goes_on.ensures.beside c.blocks_go_on.ensures c.only_its_own_calls_settle_a_row.ensures laws.counted recorded base gone l new p c.args.clearing.unit are may.turn.after c.know_order.ensures
     (done.books f recorded base gone are.books) done.leaves done.entries done.machine done.tree (omega (arith, c.clear.ensures.capacity, done.capacity))
 
 pub returns-in-Ok-clause-shown : goal.returns-in-Ok-clause-shown

@@ -1,7 +1,7 @@
 use Rattle.std.proofs.Common.{List, refl, sym, subst, ◌∙◌}
 use Rattle.std.specs.Vec.Iter.{into_iter_items}
 use Rattle.opfs_desk_steps.specs.Parts.Seen.{units_in}
-use Rattle.opfs_desk_steps.specs.declared.parts.call.Clearing.{Clearing}
+use Rattle.opfs_desk_steps.specs.declared.parts.call.Eviction.{Eviction}
 use Rattle.opfs_hist.specs.declared.entry.Entry.{Entry}
 use Rattle.opfs_machine.specs.Histories.{state_after}
 use Rattle.opfs_desk_steps.specs.BookSteps.Clearing.{IsOnWay, IsTurn, IsStillReady, MayEvict, IsEnteredFailed}
@@ -21,7 +21,7 @@ loop-next-init g c =
       entry = refl;
       leaves = leaves-here g.D.Disk l.journal;
       way =
-          subst (λ (rest : List Clearing). IsOnWay g.D.Disk l l c.args.call.entry c.args.clearing.items rest) (sym c.into_iter-next-iterator.ensures.into_iter_gives.0)
+          subst (λ (rest : List Eviction). IsOnWay g.D.Disk l l c.args.call.entry c.args.clearing.items rest) (sym c.into_iter-next-iterator.ensures.into_iter_gives.0)
           (way-begins g.D.Disk l c.args.call.entry c.args.clearing.items c.the_books_show_their_images.ensures ready c.requires.may.settled may.evictions);
     }
 
@@ -34,7 +34,7 @@ evict_one-requires g c = record {
       let e = c.args.call.entry in
       let inv = c.loop-next.invariant in
       let room = room-for g.D.Disk may.fixed may.recorded l may.pages may.are e (units_in all) may.judged c.state_laws.ensures.counts c.reads_leave_the_state.ensures c.evictions_make_room.ensures c.lengths_decide_each_ruling.ensures in
-      let on = subst (λ (rest : List Clearing). IsOnWay g.D.Disk l c.loop-next.ledger e all rest) c.in-Some.ensures.steps.0 inv.way in
+      let on = subst (λ (rest : List Eviction). IsOnWay g.D.Disk l c.loop-next.ledger e all rest) c.in-Some.ensures.steps.0 inv.way in
       subst (λ (x : Entry). MayEvict g.D.Disk c.loop-next.ledger x c.in-Some.next) (sym inv.entry)
       (next-may g.D.Disk l e all c.loop-next.ledger c.in-Some.next (into_iter_items c.next.new.self) on c.lengths_follow_each_call.ensures may.fixed may.recorded may.pages may.are may.judged room);
 }
@@ -46,7 +46,7 @@ loop-next-preserved g c =
     let all = c.args.clearing.items in
     let e = c.args.call.entry in
     let inv = c.loop-next.invariant in
-    let on = subst (λ (rest : List Clearing). IsOnWay g.D.Disk l c.loop-next.ledger e all rest) c.in-Some.ensures.steps.0 inv.way in
+    let on = subst (λ (rest : List Eviction). IsOnWay g.D.Disk l c.loop-next.ledger e all rest) c.in-Some.ensures.steps.0 inv.way in
     let done = c.in-Ok.ensures in
     let ready = subst (λ (x : Entry). IsStillReady c.evict_one.new.ledger x) inv.entry done.ready in
     record { next = tt; finite = tt; entry = done.last ∙ inv.entry; leaves = leaves-both g.D.Disk laws.falls l.journal c.loop-next.ledger.journal c.evict_one.new.ledger.journal inv.leaves done.leaves; way = way-goes-on g.D.Disk l e all c.loop-next.ledger c.in-Some.next (into_iter_items c.next.new.self) on laws.falls c.evict_one.new.ledger done.entries done.machine done.tree ready done.sure done.held done.leaves done.shown }
@@ -58,7 +58,7 @@ returns-in-Err-clause-failed g c f recorded p are judged =
     let all = c.args.clearing.items in
     let e = c.args.call.entry in
     let inv = c.loop-next.invariant in
-    let on = subst (λ (rest : List Clearing). IsOnWay g.D.Disk l c.loop-next.ledger e all rest) c.in-Some.ensures.steps.0 inv.way in
+    let on = subst (λ (rest : List Eviction). IsOnWay g.D.Disk l c.loop-next.ledger e all rest) c.in-Some.ensures.steps.0 inv.way in
     let done = c.in-Err.ensures in
     let new = c.evict_one.new.ledger in
     let room = room-for g.D.Disk f recorded l p are e (units_in all) judged c.state_laws.ensures.counts c.reads_leave_the_state.ensures c.evictions_make_room.ensures c.lengths_decide_each_ruling.ensures in

@@ -4,7 +4,7 @@ use Rattle.opfs_machine.specs.Replies.{sizes_of}
 use Rattle.opfs_machine.specs.Runs.{Call}
 use Rattle.opfs_desk_steps.specs.Parts.Asked.{AreEvictions}
 use Rattle.opfs_desk_steps.specs.Parts.Seen.{units_in}
-use Rattle.opfs_desk_steps.specs.declared.parts.call.Clearing.{Clearing}
+use Rattle.opfs_desk_steps.specs.declared.parts.call.Eviction.{Eviction}
 use Rattle.opfs_desk_steps.proofs.judging.Endings.{never-refused, takes-none}
 use Rattle.opfs_desk_steps.proofs.judging.Judged.{agent, judged-now}
 use Rattle.opfs_desk_steps.proofs.judging.Rows.{sizes-are}
@@ -43,7 +43,7 @@ returns-clause-asked g c f recorded p number past h may =
       sizes = c.sizes_for-sizes.ensures ∙ sizes-are g.D.Disk.tells f.opening _ c.args.agent c.args.op.now c.args.work.now may.copy;
       judged =
           never-refused now c.args.agent c.args.op.now c.requires.word may.fitting may.opened
-          ∙ ap (λ (xs : List Clearing). Ok (units_in xs)) (sym c.new-clearing.ensures.items);
+          ∙ ap (λ (xs : List Eviction). Ok (units_in xs)) (sym c.new-clearing.ensures.items);
       prepared = c.in-Ok.ensures.ready;
       evictions = subst AreEvictions (sym c.new-clearing.ensures.items) tt;
     }

@@ -32,5 +32,5 @@ returns-clause-stops g c = λ tell.
     let run = c.loop-at.invariant.running in
     subst (λ (xs : List KvOp). LeavesFronts c.args.agent.now c.loop-at.agent c.args.kv.now xs c.loop-at.list.items) all
     (leaves-fronts g.S.Store.tells c.args.agent.now c.loop-at.agent c.args.kv.now c.loop-at.kv (take c.loop-at.at c.args.ops.now) c.loop-at.list.items run.file
-    (stays-since g.S.Store.tells c.args.agent.now c.loop-at.agent c.kept.ensures c.kept-2.ensures c.args.kv.now.handle c.loop-at.kv.handle _ c.requires.stands.has run.stands.has run.row run.goes)
+    (stays-since g.S.Store.tells c.args.agent.now c.loop-at.agent c.know_kept.ensures c.know_kept-2.ensures c.args.kv.now.handle c.loop-at.kv.handle _ c.requires.stands.has run.stands.has run.row run.goes)
     run.stored run.goes run.doubts tell)

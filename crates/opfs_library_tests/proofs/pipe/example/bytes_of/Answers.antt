@@ -10,10 +10,10 @@ slice-bytes-requires-clause-room g c = room-of c.args.agent.now 50000001 (omega 
 
 pub returns-clause-ready : goal.returns-clause-ready
 returns-clause-ready g c =
-    local-ready g.S.Store.tells c.args.court.now c.args.agent.now c.slice-bytes.new.self c.kept.ensures c.kept-2.ensures (op.Slice (c.args.snapshot.now.row) 0 c.size.result) (GivesRead (window c.args.snapshot.now.bytes 0 c.size.result)) c.slice-bytes.result refl
+    local-ready g.S.Store.tells c.args.court.now c.args.agent.now c.slice-bytes.new.self c.know_kept.ensures c.know_kept-2.ensures (op.Slice (c.args.snapshot.now.row) 0 c.size.result) (GivesRead (window c.args.snapshot.now.bytes 0 c.size.result)) c.slice-bytes.result refl
     c.slice-bytes.ensures c.requires.ready
 
 pub returns-clause-goes : goal.returns-clause-goes
 returns-clause-goes g c =
-    local-on g.S.Store.tells c.args.court.now c.args.agent.now c.slice-bytes.new.self c.kept.ensures c.kept-2.ensures (op.Slice (c.args.snapshot.now.row) 0 c.size.result) (GivesRead (window c.args.snapshot.now.bytes 0 c.size.result)) c.slice-bytes.result
+    local-on g.S.Store.tells c.args.court.now c.args.agent.now c.slice-bytes.new.self c.know_kept.ensures c.know_kept-2.ensures (op.Slice (c.args.snapshot.now.row) 0 c.size.result) (GivesRead (window c.args.snapshot.now.bytes 0 c.size.result)) c.slice-bytes.result
     c.slice-bytes.ensures

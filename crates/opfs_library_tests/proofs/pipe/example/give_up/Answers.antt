@@ -8,9 +8,9 @@ abort-closed-requires-clause-room g c = room-of c.args.agent.now 50000003 (omega
 
 pub returns-clause-ready : goal.returns-clause-ready
 returns-clause-ready g c =
-    spent-ready g.S.Store.tells c.args.court.now c.args.agent.now c.abort-closed.new.self c.kept.ensures c.kept-2.ensures (op.Abort c.args.stream.row) c.args.stream.row c.abort-closed.result.row refl refl
+    spent-ready g.S.Store.tells c.args.court.now c.args.agent.now c.abort-closed.new.self c.know_kept.ensures c.know_kept-2.ensures (op.Abort c.args.stream.row) c.args.stream.row c.abort-closed.result.row refl refl
     c.abort-closed.ensures c.requires.ready
 
 pub returns-clause-goes : goal.returns-clause-goes
 returns-clause-goes g c =
-    spent-more g.S.Store.tells c.args.court.now c.args.agent.now c.abort-closed.new.self c.kept.ensures c.kept-2.ensures (op.Abort c.args.stream.row) c.args.stream.row c.abort-closed.result.row c.abort-closed.ensures
+    spent-more g.S.Store.tells c.args.court.now c.args.agent.now c.abort-closed.new.self c.know_kept.ensures c.know_kept-2.ensures (op.Abort c.args.stream.row) c.args.stream.row c.abort-closed.result.row c.abort-closed.ensures

@@ -8,21 +8,21 @@ pub open_target-opened-requires-clause-room : goal.open_target-opened-requires-c
 open_target-opened-requires-clause-room g c = room-of c.args.agent.now 40000000 (omega arith) c.requires.few
 
 pub open_target-opened-requires-clause-file : goal.open_target-opened-requires-clause-file
-open_target-opened-requires-clause-file g c = own-mine g.S.Store.tells c.args.agent.now c.args.file.now c.kept.ensures c.requires.mine
+open_target-opened-requires-clause-file g c = own-mine g.S.Store.tells c.args.agent.now c.args.file.now c.know_kept.ensures c.requires.mine
 
 pub returns-clause-goes : goal.returns-clause-goes
 returns-clause-goes g c =
-    shared-more g.S.Store.tells c.args.court.now c.args.agent.now c.open_target-opened.new.writer c.kept.ensures c.kept-2.ensures (op.CreateWritable c.args.file.now false) (GivesStream g.S.Store.tells c.open_target-opened.new.writer c.args.file.now)
+    shared-more g.S.Store.tells c.args.court.now c.args.agent.now c.open_target-opened.new.writer c.know_kept.ensures c.know_kept-2.ensures (op.CreateWritable c.args.file.now false) (GivesStream g.S.Store.tells c.open_target-opened.new.writer c.args.file.now)
     c.open_target-opened.result c.open_target-opened.ensures.shared
 
 pub returns-clause-not : goal.returns-clause-not
 returns-clause-not g c =
-    opened-not g.S.Store.tells c.args.court.now c.args.agent.now c.open_target-opened.new.writer c.kept.ensures c.kept-2.ensures c.args.file.now c.open_target-opened.result c.open_target-opened.ensures.shared c.requires.ready
+    opened-not g.S.Store.tells c.args.court.now c.args.agent.now c.open_target-opened.new.writer c.know_kept.ensures c.know_kept-2.ensures c.args.file.now c.open_target-opened.result c.open_target-opened.ensures.shared c.requires.ready
 
 pub returns-clause-ready : goal.returns-clause-ready
 returns-clause-ready g c =
-    opened-ready g.S.Store.tells c.args.court.now c.args.agent.now c.open_target-opened.new.writer c.kept.ensures c.kept-2.ensures c.args.file.now c.open_target-opened.result c.open_target-opened.ensures.shared c.requires.ready
+    opened-ready g.S.Store.tells c.args.court.now c.args.agent.now c.open_target-opened.new.writer c.know_kept.ensures c.know_kept-2.ensures c.args.file.now c.open_target-opened.result c.open_target-opened.ensures.shared c.requires.ready
 
 pub returns-clause-stream : goal.returns-clause-stream
 returns-clause-stream g c =
-    opened-has g.S.Store.tells c.args.court.now c.args.agent.now c.open_target-opened.new.writer c.kept.ensures c.kept-2.ensures c.args.file.now c.open_target-opened.result c.open_target-opened.ensures.shared
+    opened-has g.S.Store.tells c.args.court.now c.args.agent.now c.open_target-opened.new.writer c.know_kept.ensures c.know_kept-2.ensures c.args.file.now c.open_target-opened.result c.open_target-opened.ensures.shared

@@ -23,7 +23,7 @@ pub returns-clause-builds : goal.returns-clause-builds
 returns-clause-builds c size sound =
     let units = persistent_in c.args.shed.now.buckets in
     let bytes = both_parts _ _ c.write_units.new.into.items c.args.tree.now.rows units c.requires c.in_ok-write_rows.ensures.written c.in_ok-write_units.ensures.written in
-    snapshot_builds size c.args.tree.now.rows units c.write_units.new.into.items (sym bytes) c.in_directories.ensures.order c.in_directories.ensures.closed sound c.in_ok-write_rows.ensures.writable
+    snapshot_builds size c.args.tree.now.rows units c.write_units.new.into.items (sym bytes) c.know_order.ensures.order c.know_order.ensures.closed sound c.in_ok-write_rows.ensures.writable
     c.in_ok-write_units.ensures.ordered c.in_ok-write_units.ensures.writable
 
 pub returns-clause-fits : goal.returns-clause-fits

@@ -10,7 +10,7 @@ on_slot-done-requires-clause-slot g c =
     let o = c.args.op.now in
     let slots = c.args.slots.now.items in
     let found = lent-slot a.key slots c.args.row o c.requires.lends c.requires.may.names in
-    handed-has slots c.args.row o (IsLent o) found (lends-row c.args.row o c.requires.lends) g.S.Store.tells a a c.kept.ensures c.kept.ensures c.requires.table c.index_mut.result.now _ c.index_mut.ensures.value
+    handed-has slots c.args.row o (IsLent o) found (lends-row c.args.row o c.requires.lends) g.S.Store.tells a a c.know_kept.ensures c.know_kept.ensures c.requires.table c.index_mut.result.now _ c.index_mut.ensures.value
 
 pub on_slot-done-requires-clause-lent : goal.on_slot-done-requires-clause-lent
 on_slot-done-requires-clause-lent g c =
@@ -30,7 +30,7 @@ returns-clause-table g c =
     let found = lent-slot a.key slots c.args.row o c.requires.lends c.requires.may.names in
     let new = c.on_slot-done.new.slot in
     subst (HasTable T b) (sym (handed-set slots c.args.row o (IsLent o) found row new))
-    (handed-table slots c.args.row o (IsLent o) found row T a b c.kept.ensures c.kept-2.ensures c.requires.table c.on_slot-done.result new c.on_slot-done.ensures.called
+    (handed-table slots c.args.row o (IsLent o) found row T a b c.know_kept.ensures c.know_kept-2.ensures c.requires.table c.on_slot-done.result new c.on_slot-done.ensures.called
     (lends-none c.args.row o c.requires.lends) c.on_slot-done.ensures.slot)
 
 pub returns-clause-kinds : goal.returns-clause-kinds

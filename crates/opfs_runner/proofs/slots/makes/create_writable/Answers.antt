@@ -6,7 +6,7 @@ pub returns-clause-made : goal.returns-clause-made
 returns-clause-made g c =
     let h = c.in_ok-stream.ensures in
     record {
-      more = stream-grown g.S.Store.tells c.args.agent.now c.create_writable.new.self c.kept.ensures c.kept-2.ensures _ _ c.args.file.now c.args.keep h;
+      more = stream-grown g.S.Store.tells c.args.agent.now c.create_writable.new.self c.know_kept.ensures c.know_kept-2.ensures _ _ c.args.file.now c.args.keep h;
       slot = (h.gives.0, h.gives.3);
       kinds = λ kinds. refl;
     }

@@ -6,7 +6,7 @@ pub returns-clause-made : goal.returns-clause-made
 returns-clause-made g c =
     let h = c.in_ok-snapshot.ensures in
     record {
-      more = snapshot-grown g.S.Store.tells c.args.agent.now c.get_file.new.self c.kept.ensures c.kept-2.ensures _ _ c.args.file.now h;
+      more = snapshot-grown g.S.Store.tells c.args.agent.now c.get_file.new.self c.know_kept.ensures c.know_kept-2.ensures _ _ c.args.file.now h;
       slot = (h.gives.0, h.gives.2);
       kinds = λ kinds. refl;
     }

@@ -13,9 +13,9 @@ returns-in_err-slot-clause-table g c =
     let o = c.args.op.now in
     let why = c.in_err-slot.field-0.0 in
     subst (HasTable T b) (sym c.reserve.ensures.items)
-    (table-same T a b c.kept.ensures c.kept-2.ensures c.args.slots.now.items c.requires.table
-    (subst (Leaves T a b) (makes-row o c.requires.makes) (leaves-calls T a b c.kept.ensures c.kept-2.ensures o (Err why) c.in_err-slot.ensures.called))
-    (err-rows T a b c.kept.ensures c.kept-2.ensures o why c.in_err-slot.ensures.called (makes-nobody o c.requires.makes)))
+    (table-same T a b c.know_kept.ensures c.know_kept-2.ensures c.args.slots.now.items c.requires.table
+    (subst (Leaves T a b) (makes-row o c.requires.makes) (leaves-calls T a b c.know_kept.ensures c.know_kept-2.ensures o (Err why) c.in_err-slot.ensures.called))
+    (err-rows T a b c.know_kept.ensures c.know_kept-2.ensures o why c.in_err-slot.ensures.called (makes-nobody o c.requires.makes)))
 
 pub returns-clause-table : goal.returns-clause-table
 returns-clause-table g c =
@@ -25,6 +25,6 @@ returns-clause-table g c =
     let o = c.args.op.now in
     let made = c.in_ok-slot.ensures.made in
     subst (HasTable T b) (sym (c.push_reserved.ensures.items ∙ (λ i. c.reserve.ensures.items i ++ c.in_ok-slot.field-0.slot ∷ [])))
-    (table-more T a b c.kept.ensures c.kept-2.ensures c.args.slots.now.items c.requires.table c.in_ok-slot.field-0.slot
-    (subst (Leaves T a b) (makes-row o c.requires.makes) (leaves-calls T a b c.kept.ensures c.kept-2.ensures o (Ok c.in_ok-slot.field-0.reply) c.in_ok-slot.ensures.called))
+    (table-more T a b c.know_kept.ensures c.know_kept-2.ensures c.args.slots.now.items c.requires.table c.in_ok-slot.field-0.slot
+    (subst (Leaves T a b) (makes-row o c.requires.makes) (leaves-calls T a b c.know_kept.ensures c.know_kept-2.ensures o (Ok c.in_ok-slot.field-0.reply) c.in_ok-slot.ensures.called))
     made.more made.slot)

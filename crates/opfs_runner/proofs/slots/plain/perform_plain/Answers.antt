@@ -11,7 +11,7 @@ returns-clause-table g c =
     let b = c.call_plain-done.new.agent in
     let o = c.args.op.now in
     let done = c.call_plain-done in
-    table-same g.S.Store.tells a b c.kept.ensures c.kept-2.ensures c.args.slots.now c.requires.table
+    table-same g.S.Store.tells a b c.know_kept.ensures c.know_kept-2.ensures c.args.slots.now c.requires.table
     (subst (Leaves g.S.Store.tells a b) (plain-row a.key (kinds_of c.args.slots.now) o c.requires.plain c.requires.may.names)
-    (leaves-calls g.S.Store.tells a b c.kept.ensures c.kept-2.ensures o done.result done.ensures))
-    (rows-same g.S.Store.tells a b c.kept.ensures c.kept-2.ensures o done.result done.ensures (plain-none o c.requires.plain))
+    (leaves-calls g.S.Store.tells a b c.know_kept.ensures c.know_kept-2.ensures o done.result done.ensures))
+    (rows-same g.S.Store.tells a b c.know_kept.ensures c.know_kept-2.ensures o done.result done.ensures (plain-none o c.requires.plain))

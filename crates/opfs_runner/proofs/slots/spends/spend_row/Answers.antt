@@ -10,7 +10,7 @@ spend_slot-slot-requires-clause-slot g c =
     let o = c.args.op.now in
     let slots = c.args.slots.now.items in
     let found = spent-slot a.key slots c.args.row o c.requires.spends c.requires.may.names in
-    handed-has slots c.args.row o (IsSpent o) found (spends-row c.args.row o c.requires.spends) g.S.Store.tells a a c.kept.ensures c.kept.ensures c.requires.table
+    handed-has slots c.args.row o (IsSpent o) found (spends-row c.args.row o c.requires.spends) g.S.Store.tells a a c.know_kept.ensures c.know_kept.ensures c.requires.table
     c.replace-slot.result _ (c.replace-slot.ensures.value ∙ c.index_mut.ensures.value)
 
 pub spend_slot-slot-requires-clause-spent : goal.spend_slot-slot-requires-clause-spent
@@ -45,7 +45,7 @@ returns-clause-table g c =
     let found = spent-slot a.key slots c.args.row o c.requires.spends c.requires.may.names in
     let left = c.spend_slot-slot.result in
     subst (HasTable T b) (sym (c.put_back.ensures ∙ handed-place slots c.args.row o (IsSpent o) found row c.replace-slot.new.dest left.slot))
-    (handed-table slots c.args.row o (IsSpent o) found row T a b c.kept.ensures c.kept-2.ensures c.requires.table left.answer left.slot c.spend_slot-slot.ensures.called
+    (handed-table slots c.args.row o (IsSpent o) found row T a b c.know_kept.ensures c.know_kept-2.ensures c.requires.table left.answer left.slot c.spend_slot-slot.ensures.called
     (spends-none c.args.row o c.requires.spends) c.spend_slot-slot.ensures.left.slot)
 
 pub returns-clause-kinds : goal.returns-clause-kinds

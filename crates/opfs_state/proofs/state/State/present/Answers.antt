@@ -7,10 +7,10 @@ use Rattle.opfs_state.proofs.state.State.present.Goals as goal
 
 pub returns-in-Some : goal.returns-in-Some
 returns-in-Some c =
-    present-of c.self.inside.store.machine c.self.inside.store.tree (c.args.key.now, c.args.path.now) (Some c.in-Some.file.now) c.lines.ensures c.in-Some.ensures
+    present-of c.self.inside.store.machine c.self.inside.store.tree (c.args.key.now, c.args.path.now) (Some c.in-Some.file.now) c.know_rows_match_tree.ensures c.in-Some.ensures
     ∙ ap (λ (s : StateSeen). option_map {U = ℕ × ℕ} (λ (f : File ℕ). (f.present, f.stamp)) (file_at s.store.machine (c.args.key.now, c.args.path.now))) c.self.view_is
 
 pub returns-in-None : goal.returns-in-None
 returns-in-None c =
-    present-of c.self.inside.store.machine c.self.inside.store.tree (c.args.key.now, c.args.path.now) None c.lines.ensures c.in-None.ensures
+    present-of c.self.inside.store.machine c.self.inside.store.tree (c.args.key.now, c.args.path.now) None c.know_rows_match_tree.ensures c.in-None.ensures
     ∙ ap (λ (s : StateSeen). option_map {U = ℕ × ℕ} (λ (f : File ℕ). (f.present, f.stamp)) (file_at s.store.machine (c.args.key.now, c.args.path.now))) c.self.view_is

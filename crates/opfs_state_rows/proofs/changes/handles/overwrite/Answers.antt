@@ -39,13 +39,13 @@ grow_handle-requires-clause-room c =
 pub set_present-requires-clause-there : goal.set_present-requires-clause-there
 set_present-requires-clause-there c =
     let m = c.args.store.now.machine in
-    let held = held-in m c.args.store.now.tree c.requires.writes.handle.file (want_of c.requires.writes.handle.mode) c.lines.ensures (handle-held m c.args.agent c.args.row c.requires.writes.handle c.requires.kept c.requires.writes.is) in
+    let held = held-in m c.args.store.now.tree c.requires.writes.handle.file (want_of c.requires.writes.handle.mode) c.know_rows_match_tree.ensures (handle-held m c.args.agent c.args.row c.requires.writes.handle c.requires.kept c.requires.writes.is) in
     some-file (ap (file_at c.args.place.now) c.grow_handle.ensures.tree ∙ ap (λ p. file_at p c.args.store.now.tree) (sym c.requires.writes.same) ∙ held.found)
 
 pub set_present-requires-clause-quota : goal.set_present-requires-clause-quota
 set_present-requires-clause-quota c =
     let m = c.args.store.now.machine in
-    let held = held-in m c.args.store.now.tree c.requires.writes.handle.file (want_of c.requires.writes.handle.mode) c.lines.ensures (handle-held m c.args.agent c.args.row c.requires.writes.handle c.requires.kept c.requires.writes.is) in
+    let held = held-in m c.args.store.now.tree c.requires.writes.handle.file (want_of c.requires.writes.handle.mode) c.know_rows_match_tree.ensures (handle-held m c.args.agent c.args.row c.requires.writes.handle c.requires.kept c.requires.writes.is) in
     let found : handle_at m.agents (c.args.agent - 1) (c.args.row - 1) ≡ Some c.in-Some.handle.now = rw c.register-2.ensures at (sym c.in-Some.ensures) in
     let same = same-handle m c.args.agent (c.args.agent - 1) c.args.row (c.args.row - 1) c.requires.writes.handle c.in-Some.handle.now (place-number c.args.agent c.requires.above) (place-number c.args.row (handle-above m c.args.agent c.args.row c.requires.writes.handle c.requires.writes.is)) c.requires.writes.is found in
     let place : c.in-Some.handle.now.file ≡ c.args.place.now = ap (λ (w : HandleOutline). w.file) (sym same) ∙ c.requires.writes.same in

@@ -48,7 +48,7 @@ flush_by-requires-clause-there c =
     let m = c.args.store.now.machine in
     let v = c.into_parts-outline.result.0 in
     let found : handle_at m.agents (c.args.agent - 1) (c.args.row - 1) ≡ Some v = c.close_handle-handle.ensures.handle ∙ ap Some (sym c.into_parts-outline.ensures.outline) in
-    let held = held-in m c.args.store.now.tree v.file (want_of v.mode) c.lines.ensures (handle-held m (suc (c.args.agent - 1)) (suc (c.args.row - 1)) v c.requires.may.kept (opened-handle m (c.args.agent - 1) (c.args.row - 1) v found)) in
+    let held = held-in m c.args.store.now.tree v.file (want_of v.mode) c.know_rows_match_tree.ensures (handle-held m (suc (c.args.agent - 1)) (suc (c.args.row - 1)) v c.requires.may.kept (opened-handle m (c.args.agent - 1) (c.args.row - 1) v found)) in
     some-file (ap (file_at v.file) c.close_handle-handle.ensures.tree ∙ held.found)
 
 pub flush_by-requires-clause-room : goal.flush_by-requires-clause-room
@@ -56,7 +56,7 @@ flush_by-requires-clause-room c = λ writes.
     let m = c.args.store.now.machine in
     let v = c.into_parts-outline.result.0 in
     let found : handle_at m.agents (c.args.agent - 1) (c.args.row - 1) ≡ Some v = c.close_handle-handle.ensures.handle ∙ ap Some (sym c.into_parts-outline.ensures.outline) in
-    let held = held-in m c.args.store.now.tree v.file (want_of v.mode) c.lines.ensures (handle-held m (suc (c.args.agent - 1)) (suc (c.args.row - 1)) v c.requires.may.kept (opened-handle m (c.args.agent - 1) (c.args.row - 1) v found)) in
+    let held = held-in m c.args.store.now.tree v.file (want_of v.mode) c.know_rows_match_tree.ensures (handle-held m (suc (c.args.agent - 1)) (suc (c.args.row - 1)) v c.requires.may.kept (opened-handle m (c.args.agent - 1) (c.args.row - 1) v found)) in
     let room =
     flush-room m c.close_handle-handle.new.self.machine (c.args.agent - 1) (c.args.row - 1) v outline.ClosedHandle found c.close_handle-handle.ensures.machine (closed-handle-row v.file.0) refl refl c.requires.may.kept held.file held.there
     (subst (λ f. IsTakenAs (want_of v.mode) f.lock) (sym held.same) held.taken) writes in
@@ -79,7 +79,7 @@ unlock-requires-clause-there c =
     let m = c.args.store.now.machine in
     let v = c.into_parts-outline.result.0 in
     let found : handle_at m.agents (c.args.agent - 1) (c.args.row - 1) ≡ Some v = c.close_handle-handle.ensures.handle ∙ ap Some (sym c.into_parts-outline.ensures.outline) in
-    let held = held-in m c.args.store.now.tree v.file (want_of v.mode) c.lines.ensures (handle-held m (suc (c.args.agent - 1)) (suc (c.args.row - 1)) v c.requires.may.kept (opened-handle m (c.args.agent - 1) (c.args.row - 1) v found)) in
+    let held = held-in m c.args.store.now.tree v.file (want_of v.mode) c.know_rows_match_tree.ensures (handle-held m (suc (c.args.agent - 1)) (suc (c.args.row - 1)) v c.requires.may.kept (opened-handle m (c.args.agent - 1) (c.args.row - 1) v found)) in
     let there = changed-there c.args.store.now.tree v.mode v.file (flushed_in c.args.extents) held.row (λ f. refl) held.found in
     some-file (ap (file_at v.file) (c.flush_by.ensures.tree ∙ ap (λ (t : Rows). changed_by t v.mode v.file (flushed_in c.args.extents)) c.close_handle-handle.ensures.tree) ∙ there.1)
 
@@ -88,7 +88,7 @@ unlock-requires-clause-taken c =
     let m = c.args.store.now.machine in
     let v = c.into_parts-outline.result.0 in
     let found : handle_at m.agents (c.args.agent - 1) (c.args.row - 1) ≡ Some v = c.close_handle-handle.ensures.handle ∙ ap Some (sym c.into_parts-outline.ensures.outline) in
-    let held = held-in m c.args.store.now.tree v.file (want_of v.mode) c.lines.ensures (handle-held m (suc (c.args.agent - 1)) (suc (c.args.row - 1)) v c.requires.may.kept (opened-handle m (c.args.agent - 1) (c.args.row - 1) v found)) in
+    let held = held-in m c.args.store.now.tree v.file (want_of v.mode) c.know_rows_match_tree.ensures (handle-held m (suc (c.args.agent - 1)) (suc (c.args.row - 1)) v c.requires.may.kept (opened-handle m (c.args.agent - 1) (c.args.row - 1) v found)) in
     let there = changed-there c.args.store.now.tree v.mode v.file (flushed_in c.args.extents) held.row (λ f. refl) held.found in
     let want : c.into_parts-outline.result.1 ≡ want_of v.mode = c.into_parts-outline.ensures.held ∙ ap (λ (x : HandleOutline). want_of x.mode) (sym c.into_parts-outline.ensures.outline) in
     if-file _ _ there.0 (ap (file_at v.file) (c.flush_by.ensures.tree ∙ ap (λ (t : Rows). changed_by t v.mode v.file (flushed_in c.args.extents)) c.close_handle-handle.ensures.tree) ∙ there.1)

@@ -55,7 +55,7 @@ pub flush_by-requires-clause-there : goal.flush_by-requires-clause-there
 flush_by-requires-clause-there c =
     let m = c.args.store.now.machine in
     let w = flush-of m c.args.sizes c.args.agent c.args.row c.args.target c.requires.may.may c.requires.target in
-    let held = held-in m c.args.store.now.tree w.0.file (want_of w.0.mode) c.lines.ensures (handle-held m c.args.agent c.args.row w.0 c.requires.may.kept w.1) in
+    let held = held-in m c.args.store.now.tree w.0.file (want_of w.0.mode) c.know_rows_match_tree.ensures (handle-held m c.args.agent c.args.row w.0 c.requires.may.kept w.1) in
     some-file (ap (file_at c.in-Some.place) c.free_handle.ensures.tree ∙ ap (λ p. file_at p c.args.store.now.tree) (sym (one-place c.in-Some.is w.2)) ∙ held.found)
 
 pub flush_by-requires-clause-room : goal.flush_by-requires-clause-room
@@ -67,7 +67,7 @@ flush_by-requires-clause-room c = λ writes.
     let number = place-number c.args.row (handle-above m c.args.agent c.args.row w.0 w.1) in
     let same = same-handle m c.args.agent (c.args.agent - 1) c.args.row (c.args.row - 1) w.0 v (place-number c.args.agent c.requires.may.above) number w.1 found in
     let place : v.file ≡ c.in-Some.place = ap (λ (x : HandleOutline). x.file) (sym same) ∙ one-place c.in-Some.is w.2 in
-    let held = held-in m c.args.store.now.tree v.file (want_of v.mode) c.lines.ensures (handle-held m (suc (c.args.agent - 1)) (suc (c.args.row - 1)) v c.requires.may.kept (opened-handle m (c.args.agent - 1) (c.args.row - 1) v found)) in
+    let held = held-in m c.args.store.now.tree v.file (want_of v.mode) c.know_rows_match_tree.ensures (handle-held m (suc (c.args.agent - 1)) (suc (c.args.row - 1)) v c.requires.may.kept (opened-handle m (c.args.agent - 1) (c.args.row - 1) v found)) in
     let room =
     flush-room m c.free_handle.new.self.machine (c.args.agent - 1) (c.args.row - 1) v (outline.Handle (record v { reserve = 0 })) found (c.free_handle.ensures.machine v found) (handle-row (record v { reserve = 0 })) refl refl c.requires.may.kept held.file held.there
     (subst (λ f. IsTakenAs (want_of v.mode) f.lock) (sym held.same) held.taken) writes in

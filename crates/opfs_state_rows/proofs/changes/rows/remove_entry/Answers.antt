@@ -17,7 +17,7 @@ pub remove-requires-clause-there : goal.remove-requires-clause-there
 remove-requires-clause-there c =
     let s = c.args.store.now in
     let place = one-place c.in-Some.is (remove-target s.machine c.args.agent c.args.dir.now c.args.name.now c.args.recursive c.args.target c.requires.target) in
-    subst (λ p. IsSome (tree.row_at p s.tree)) place (remove-there s.machine s.tree c.args.sizes c.args.agent c.args.dir.now c.args.name.now c.args.recursive c.requires.may.may c.lines.ensures)
+    subst (λ p. IsSome (tree.row_at p s.tree)) place (remove-there s.machine s.tree c.args.sizes c.args.agent c.args.dir.now c.args.name.now c.args.recursive c.requires.may.may c.know_rows_match_tree.ensures)
 
 pub remove-requires-clause-room : goal.remove-requires-clause-room
 remove-requires-clause-room c =

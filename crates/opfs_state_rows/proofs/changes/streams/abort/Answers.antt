@@ -35,14 +35,14 @@ pub unlock-requires-clause-there : goal.unlock-requires-clause-there
 unlock-requires-clause-there c =
     let v = c.into_parts-outline.result.0 in
     let found : stream_at c.args.store.now.machine.agents (c.args.agent - 1) (c.args.row - 1) ≡ Some v = c.close_stream-stream.ensures.stream ∙ ap Some (sym c.into_parts-outline.ensures.outline) in
-    let held = held-in c.args.store.now.machine c.args.store.now.tree v.file want.Shared c.lines.ensures (stream-held c.args.store.now.machine (suc (c.args.agent - 1)) (suc (c.args.row - 1)) v c.requires.may.kept (opened-stream c.args.store.now.machine (c.args.agent - 1) (c.args.row - 1) v found)) in
+    let held = held-in c.args.store.now.machine c.args.store.now.tree v.file want.Shared c.know_rows_match_tree.ensures (stream-held c.args.store.now.machine (suc (c.args.agent - 1)) (suc (c.args.row - 1)) v c.requires.may.kept (opened-stream c.args.store.now.machine (c.args.agent - 1) (c.args.row - 1) v found)) in
     some-file (ap (file_at v.file) c.close_stream-stream.ensures.tree ∙ held.found)
 
 pub unlock-requires-clause-taken : goal.unlock-requires-clause-taken
 unlock-requires-clause-taken c =
     let v = c.into_parts-outline.result.0 in
     let found : stream_at c.args.store.now.machine.agents (c.args.agent - 1) (c.args.row - 1) ≡ Some v = c.close_stream-stream.ensures.stream ∙ ap Some (sym c.into_parts-outline.ensures.outline) in
-    let held = held-in c.args.store.now.machine c.args.store.now.tree v.file want.Shared c.lines.ensures (stream-held c.args.store.now.machine (suc (c.args.agent - 1)) (suc (c.args.row - 1)) v c.requires.may.kept (opened-stream c.args.store.now.machine (c.args.agent - 1) (c.args.row - 1) v found)) in
+    let held = held-in c.args.store.now.machine c.args.store.now.tree v.file want.Shared c.know_rows_match_tree.ensures (stream-held c.args.store.now.machine (suc (c.args.agent - 1)) (suc (c.args.row - 1)) v c.requires.may.kept (opened-stream c.args.store.now.machine (c.args.agent - 1) (c.args.row - 1) v found)) in
     if-file _ _ held.row (ap (file_at v.file) c.close_stream-stream.ensures.tree ∙ held.found) (subst (λ (x : Want). IsTakenAs x held.row.lock) (sym c.into_parts-outline.ensures.held) held.taken)
 
 pub returns-clause-done : goal.returns-clause-done

@@ -41,7 +41,7 @@ pub store_as-requires-clause-there : goal.store_as-requires-clause-there
 store_as-requires-clause-there c =
     let v = c.into_parts-outline.result.0 in
     let found : stream_at c.args.store.now.machine.agents (c.args.agent - 1) (c.args.row - 1) ≡ Some v = c.close_stream-stream.ensures.stream ∙ ap Some (sym c.into_parts-outline.ensures.outline) in
-    let held = held-in c.args.store.now.machine c.args.store.now.tree v.file want.Shared c.lines.ensures (stream-held c.args.store.now.machine (suc (c.args.agent - 1)) (suc (c.args.row - 1)) v c.requires.may.kept (opened-stream c.args.store.now.machine (c.args.agent - 1) (c.args.row - 1) v found)) in
+    let held = held-in c.args.store.now.machine c.args.store.now.tree v.file want.Shared c.know_rows_match_tree.ensures (stream-held c.args.store.now.machine (suc (c.args.agent - 1)) (suc (c.args.row - 1)) v c.requires.may.kept (opened-stream c.args.store.now.machine (c.args.agent - 1) (c.args.row - 1) v found)) in
     some-file (ap (file_at v.file) c.close_stream-stream.ensures.tree ∙ held.found)
 
 pub store_as-requires-clause-quota : goal.store_as-requires-clause-quota
@@ -51,7 +51,7 @@ store_as-requires-clause-quota c =
     let v = c.into_parts-outline.result.0 in
     let found : stream_at c.args.store.now.machine.agents (c.args.agent - 1) (c.args.row - 1) ≡ Some v = c.close_stream-stream.ensures.stream ∙ ap Some (sym c.into_parts-outline.ensures.outline) in
     let covers : blocks c.args.sizes.size ≤ v.reserve = sized-as c.args.store.now.machine c.args.sizes c.args.agent (c.args.agent - 1) c.args.row (c.args.row - 1) v (place-number c.args.agent c.requires.may.above) (place-number c.args.row (stream-above c.args.store.now.machine c.args.agent c.args.row w.0 w.1)) found c.requires.may.sized in
-    let held = held-in c.args.store.now.machine c.args.store.now.tree v.file want.Shared c.lines.ensures (stream-held c.args.store.now.machine (suc (c.args.agent - 1)) (suc (c.args.row - 1)) v c.requires.may.kept (opened-stream c.args.store.now.machine (c.args.agent - 1) (c.args.row - 1) v found)) in
+    let held = held-in c.args.store.now.machine c.args.store.now.tree v.file want.Shared c.know_rows_match_tree.ensures (stream-held c.args.store.now.machine (suc (c.args.agent - 1)) (suc (c.args.row - 1)) v c.requires.may.kept (opened-stream c.args.store.now.machine (c.args.agent - 1) (c.args.row - 1) v found)) in
     if-file (λ f. usage in_lengths c.close_stream-stream.new.self.machine (origin_of v.file.0) + blocks c.args.sizes.size < 2 ^ 64 + blocks f.present) _ held.row (ap (file_at v.file) c.close_stream-stream.ensures.tree ∙ held.found)
     (close-quota c.args.store.now.machine c.close_stream-stream.new.self.machine (c.args.agent - 1) (c.args.row - 1) c.args.sizes.size v found c.close_stream-stream.ensures.machine c.requires.may.kept covers c.held-held.result (blocks held.row.present) c.held-held.ensures.held c.held-held.type_inv)
 
@@ -62,7 +62,7 @@ store_as-requires-clause-room c =
     let v = c.into_parts-outline.result.0 in
     let found : stream_at c.args.store.now.machine.agents (c.args.agent - 1) (c.args.row - 1) ≡ Some v = c.close_stream-stream.ensures.stream ∙ ap Some (sym c.into_parts-outline.ensures.outline) in
     let covers : blocks c.args.sizes.size ≤ v.reserve = sized-as c.args.store.now.machine c.args.sizes c.args.agent (c.args.agent - 1) c.args.row (c.args.row - 1) v (place-number c.args.agent c.requires.may.above) (place-number c.args.row (stream-above c.args.store.now.machine c.args.agent c.args.row w.0 w.1)) found c.requires.may.sized in
-    let held = held-in c.args.store.now.machine c.args.store.now.tree v.file want.Shared c.lines.ensures (stream-held c.args.store.now.machine (suc (c.args.agent - 1)) (suc (c.args.row - 1)) v c.requires.may.kept (opened-stream c.args.store.now.machine (c.args.agent - 1) (c.args.row - 1) v found)) in
+    let held = held-in c.args.store.now.machine c.args.store.now.tree v.file want.Shared c.know_rows_match_tree.ensures (stream-held c.args.store.now.machine (suc (c.args.agent - 1)) (suc (c.args.row - 1)) v c.requires.may.kept (opened-stream c.args.store.now.machine (c.args.agent - 1) (c.args.row - 1) v found)) in
     if-file (λ f. pool in_lengths c.close_stream-stream.new.self.machine + blocks c.args.sizes.size ≤ c.close_stream-stream.new.self.machine.limits.blocks + blocks f.length) _ held.row (ap (file_at v.file) c.close_stream-stream.ensures.tree ∙ held.found)
     (close-room c.args.store.now.machine c.close_stream-stream.new.self.machine (c.args.agent - 1) (c.args.row - 1) c.args.sizes.size v found c.close_stream-stream.ensures.machine c.requires.may.kept covers (blocks held.row.length))
 
@@ -79,14 +79,14 @@ pub unlock-requires-clause-there : goal.unlock-requires-clause-there
 unlock-requires-clause-there c =
     let v = c.into_parts-outline.result.0 in
     let found : stream_at c.args.store.now.machine.agents (c.args.agent - 1) (c.args.row - 1) ≡ Some v = c.close_stream-stream.ensures.stream ∙ ap Some (sym c.into_parts-outline.ensures.outline) in
-    let held = held-in c.args.store.now.machine c.args.store.now.tree v.file want.Shared c.lines.ensures (stream-held c.args.store.now.machine (suc (c.args.agent - 1)) (suc (c.args.row - 1)) v c.requires.may.kept (opened-stream c.args.store.now.machine (c.args.agent - 1) (c.args.row - 1) v found)) in
+    let held = held-in c.args.store.now.machine c.args.store.now.tree v.file want.Shared c.know_rows_match_tree.ensures (stream-held c.args.store.now.machine (suc (c.args.agent - 1)) (suc (c.args.row - 1)) v c.requires.may.kept (opened-stream c.args.store.now.machine (c.args.agent - 1) (c.args.row - 1) v found)) in
     some-file (ap (file_at v.file) c.store_as.ensures.tree ∙ row-here v.file (stored_in c.args.sizes.size c.moment-moment.result c.args.extents) c.close_stream-stream.new.self.tree ∙ ap (λ (t : Rows). option_map (stored_in c.args.sizes.size c.moment-moment.result c.args.extents) (file_at v.file t)) c.close_stream-stream.ensures.tree ∙ ap (option_map (stored_in c.args.sizes.size c.moment-moment.result c.args.extents)) held.found)
 
 pub unlock-requires-clause-taken : goal.unlock-requires-clause-taken
 unlock-requires-clause-taken c =
     let v = c.into_parts-outline.result.0 in
     let found : stream_at c.args.store.now.machine.agents (c.args.agent - 1) (c.args.row - 1) ≡ Some v = c.close_stream-stream.ensures.stream ∙ ap Some (sym c.into_parts-outline.ensures.outline) in
-    let held = held-in c.args.store.now.machine c.args.store.now.tree v.file want.Shared c.lines.ensures (stream-held c.args.store.now.machine (suc (c.args.agent - 1)) (suc (c.args.row - 1)) v c.requires.may.kept (opened-stream c.args.store.now.machine (c.args.agent - 1) (c.args.row - 1) v found)) in
+    let held = held-in c.args.store.now.machine c.args.store.now.tree v.file want.Shared c.know_rows_match_tree.ensures (stream-held c.args.store.now.machine (suc (c.args.agent - 1)) (suc (c.args.row - 1)) v c.requires.may.kept (opened-stream c.args.store.now.machine (c.args.agent - 1) (c.args.row - 1) v found)) in
     if-file _ _ (stored_in c.args.sizes.size c.moment-moment.result c.args.extents held.row)
     (ap (file_at v.file) c.store_as.ensures.tree ∙ row-here v.file (stored_in c.args.sizes.size c.moment-moment.result c.args.extents) c.close_stream-stream.new.self.tree ∙ ap (λ (t : Rows). option_map (stored_in c.args.sizes.size c.moment-moment.result c.args.extents) (file_at v.file t)) c.close_stream-stream.ensures.tree ∙ ap (option_map (stored_in c.args.sizes.size c.moment-moment.result c.args.extents)) held.found)
     (subst (λ (x : Want). IsTakenAs x held.row.lock) (sym c.into_parts-outline.ensures.held) held.taken)

@@ -8,7 +8,7 @@ returns-clause-shared g c =
 
 pub returns-clause-left : goal.returns-clause-left
 returns-clause-left g c =
-    left-by g.S.Store.tells c.args.turns.now c.call-acted.new.self c.args.op c.call-acted.result c.answer.result c.args.work.now c.call-acted.new.work c.kept.ensures
+    left-by g.S.Store.tells c.args.turns.now c.call-acted.new.self c.args.op c.call-acted.result c.answer.result c.args.work.now c.call-acted.new.work c.know_kept.ensures
     c.call-acted.ensures.entered c.call-acted.ensures.left c.answer.ensures
 
 pub returns-clause-same : goal.returns-clause-same

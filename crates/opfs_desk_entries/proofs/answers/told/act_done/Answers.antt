@@ -4,7 +4,7 @@ use Rattle.opfs_store.specs.declared.acts.acted.Gift.TheVariants as gift
 use Rattle.opfs_laws.specs.Histories.Unread.{unread}
 use Rattle.opfs_machine.specs.Histories.{state_after}
 use Rattle.opfs_desk_entries.proofs.answers.Done.{answers-done, no-gift}
-use Rattle.opfs_desk_entries.proofs.answers.told.act_told.Goals as goal
+use Rattle.opfs_desk_entries.proofs.answers.told.act_done.Goals as goal
 
 pub tell-rows-requires : goal.tell-rows-requires
 tell-rows-requires g c = record {

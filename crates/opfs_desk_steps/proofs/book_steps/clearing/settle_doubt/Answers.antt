@@ -12,7 +12,7 @@ use Rattle.opfs_desk_steps.specs.declared.parts.parts.Ledger.{Ledger}
 use Rattle.opfs_state.specs.Verdicts.Callers.{IsAgent}
 use Rattle.opfs_desk_steps.proofs.book_steps.Held.{moved-held, fresh-same, refused-told}
 use Rattle.opfs_desk_steps.proofs.book_steps.Ways.{way-settled, way-told, way-same}
-use Rattle.opfs_desk_steps.proofs.book_steps.clearing.end_doubt.Goals as goal
+use Rattle.opfs_desk_steps.proofs.book_steps.clearing.settle_doubt.Goals as goal
 
 pub fail_call-requires : goal.fail_call-requires
 fail_call-requires g c = record {

@@ -8,7 +8,7 @@ use Rattle.opfs_desk_entries.specs.Answers.Silent.{BeginsCall}
 use Rattle.opfs_desk_entries.proofs.answers.Flags.{has-key, key-there, mode-answered, no-gift}
 use Rattle.opfs_desk_entries.proofs.answers.Noted.{noted-is, sum_of}
 use Rattle.opfs_desk_entries.proofs.answers.Unacted.{unacted}
-use Rattle.opfs_desk_entries.proofs.answers.modes.act_mode.Goals as goal
+use Rattle.opfs_desk_entries.proofs.answers.modes.act_persisted.Goals as goal
 
 pub mode-requires-clause-agent : goal.mode-requires-clause-agent
 mode-requires-clause-agent g c =

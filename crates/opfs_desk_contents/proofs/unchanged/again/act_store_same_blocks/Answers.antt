@@ -17,8 +17,8 @@ use Rattle.opfs_desk_contents.specs.Words.{is_storing}
 use Rattle.opfs_desk_entries.specs.KeptBack.Changing.{HasNotChanged}
 use Rattle.opfs_desk_steps.specs.Parts.Answered.{IsAnswered}
 use Rattle.opfs_desk_steps.specs.Parts.Seen.{machine_in, tree_in, book_in, call_in, units_in}
-use Rattle.opfs_desk_steps.specs.declared.parts.parts.Pages.{Pages}
-use Rattle.opfs_desk_steps.specs.declared.parts.parts.Parts.{Parts}
+use Rattle.opfs_desk_steps.specs.declared.parts.parts.OpenPages.{OpenPages}
+use Rattle.opfs_desk_steps.specs.declared.parts.parts.DeskParts.{DeskParts}
 use Rattle.opfs_desk_entries.specs.Answers.Silent.{BeginsCall}
 use Rattle.opfs_desk_steps.specs.Going.{HasTakenIn, HasMadeWay}
 use Rattle.opfs_desk_entries.proofs.kept_back.Kept.{unacted}
@@ -28,7 +28,7 @@ use Rattle.opfs_desk_steps.proofs.Counts.{own-length}
 use Rattle.opfs_desk_contents.proofs.unchanged.Reader.{CallingLaws}
 use Rattle.opfs_desk_contents.proofs.unchanged.Found.{handle-file, handle-stands, one-place, stores-word}
 use Rattle.opfs_desk_contents.proofs.unchanged.Stored.{ContentLaws, again-acted, answered, disk, failed-then, found, holds, may-clear, may-store, ready-now, stands, there}
-use Rattle.opfs_desk_contents.proofs.unchanged.again.act_again.Goals as goal
+use Rattle.opfs_desk_contents.proofs.unchanged.again.act_store_same_blocks.Goals as goal
 
 pub row_of-row-requires : goal.row_of-row-requires
 row_of-row-requires g c = stores-word (machine_in c.args.parts.now.ledger) c.args.call.agent c.args.call.op c.requires.word
@@ -85,8 +85,8 @@ rows-rows-requires g c =
     } in
     (ready-now w laws content may.fixed may.recorded l mid p calls call work begins c.requires.word c.requires.more took).agent
 
-pub clear_way-requires : goal.clear_way-requires
-clear_way-requires g c =
+pub evict_for-requires : goal.evict_for-requires
+evict_for-requires g c =
     let may = c.requires.go in
     let w = g.D.Disk in
     let disk_laws = g.met.D.Disk in
@@ -135,24 +135,24 @@ enter_again-requires-clause-may g c =
       prepared = is.prepared call.op may.asked.prepared;
       tree = is.tree;
     } in
-    let back = c.clear_way.new.ledger in
-    let clear = c.in-Ok-clear_way.ensures in
+    let back = c.evict_for.new.ledger in
+    let clear = c.in-Ok-evict_for.ensures in
     let cleared = clear.cleared may.fixed may.recorded p took.held in
     let way : HasMadeWay w may.fixed mid back p call = record { entries = clear.entries; prepared = clear.prepared; tree = clear.tree; cleared = cleared } in
-    let lines = c.lines.ensures in
+    let lines = c.know_rows_match_tree.ensures in
     let planned = c.in-Ok.ensures in
     let again = c.in-Ok.again in
-    subst (λ (z : Sizes). MayStoreContent w back c.in-Ok-clear_way.last.entry z again.place again.size again.runs None) (sym clear.sizes)
+    subst (λ (z : Sizes). MayStoreContent w back c.in-Ok-evict_for.last.entry z again.place again.size again.runs None) (sym clear.sizes)
     (subst (λ (e : Entry). MayStoreContent w back e call.sizes again.place again.size again.runs None) (sym clear.entry)
     (may-store w laws content may.fixed may.recorded l mid p calls call work begins c.requires.word c.requires.more took back way lines again.place again.size again.runs
     (ap (λ (n : ℕ). row_file (machine_in l) call.agent n) (sym c.row_of-row.ensures) ∙ planned.file) planned.size planned.runs))
 
 pub enter_again-requires-clause-word : goal.enter_again-requires-clause-word
 enter_again-requires-clause-word g c =
-    ap (λ (e : Entry). is_storing e.op) c.in-Ok-clear_way.ensures.entry ∙ stores-word (machine_in c.args.parts.now.ledger) c.args.call.agent c.args.call.op c.requires.word
+    ap (λ (e : Entry). is_storing e.op) c.in-Ok-evict_for.ensures.entry ∙ stores-word (machine_in c.args.parts.now.ledger) c.args.call.agent c.args.call.op c.requires.word
 
 pub enter_again-requires-clause-done : goal.enter_again-requires-clause-done
-enter_again-requires-clause-done g c = ap (λ (e : Entry). e.reply) c.in-Ok-clear_way.ensures.entry
+enter_again-requires-clause-done g c = ap (λ (e : Entry). e.reply) c.in-Ok-evict_for.ensures.entry
 
 pub returns-in_default-clause-idle : goal.returns-in_default-clause-idle
 returns-in_default-clause-idle g c f recorded held = unacted g.D.Disk c.calling_laws.ensures.shown f recorded c.args.parts.now held
@@ -180,11 +180,11 @@ returns-in-Ok-enter_again-clause-acted g c f recorded are whole asked =
       prepared = is.prepared call.op asked.prepared;
       tree = is.tree;
     } in
-    let back = c.clear_way.new.ledger in
-    let clear = c.in-Ok-clear_way.ensures in
+    let back = c.evict_for.new.ledger in
+    let clear = c.in-Ok-evict_for.ensures in
     let cleared = clear.cleared f recorded p took.held in
     let way : HasMadeWay w f mid back p call = record { entries = clear.entries; prepared = clear.prepared; tree = clear.tree; cleared = cleared } in
-    let lines = c.lines.ensures in
+    let lines = c.know_rows_match_tree.ensures in
     let planned = c.in-Ok.ensures in
     let again = c.in-Ok.again in
     let base = state_after f.opening mid.books.history in
@@ -197,19 +197,19 @@ returns-in-Ok-enter_again-clause-acted g c f recorded are whole asked =
     let can_hold = holds w laws content f recorded l mid p calls call work begins c.requires.word c.requires.more took back way lines again.place again.size again.runs of_row planned.size planned.runs in
     let bytes_stand = stands w laws content f recorded l mid p calls call work begins c.requires.word c.requires.more took back way lines again.place again.size again.runs of_row planned.size planned.runs in
     let come = answered w laws content f recorded l mid p calls call work begins c.requires.word c.requires.more took back way lines in
-    let may_come : IsAnswered w base units back c.in-Ok-clear_way.last.entry c.in-Ok-clear_way.sizes =
-    subst (λ (z : Sizes). IsAnswered w base units back c.in-Ok-clear_way.last.entry z) (sym clear.sizes) (subst (λ (e : Entry). IsAnswered w base units back e call.sizes) (sym clear.entry) come) in
-    let hold_now : CanHold f.geometry.blocks (content_now back c.in-Ok-clear_way.last.entry again.place row again.size again.runs) (book_in back).rows =
+    let may_come : IsAnswered w base units back c.in-Ok-evict_for.last.entry c.in-Ok-evict_for.sizes =
+    subst (λ (z : Sizes). IsAnswered w base units back c.in-Ok-evict_for.last.entry z) (sym clear.sizes) (subst (λ (e : Entry). IsAnswered w base units back e call.sizes) (sym clear.entry) come) in
+    let hold_now : CanHold f.geometry.blocks (content_now back c.in-Ok-evict_for.last.entry again.place row again.size again.runs) (book_in back).rows =
     subst (λ (e : Entry). CanHold f.geometry.blocks (content_now back e again.place row again.size again.runs) (book_in back).rows) (sym clear.entry) can_hold in
-    let stand_now : BytesStand w f base units back.journal c.in-Ok-clear_way.last.entry (content_now back c.in-Ok-clear_way.last.entry again.place row again.size again.runs) =
+    let stand_now : BytesStand w f base units back.journal c.in-Ok-evict_for.last.entry (content_now back c.in-Ok-evict_for.last.entry again.place row again.size again.runs) =
     subst (λ (e : Entry). BytesStand w f base units back.journal e (content_now back e again.place row again.size again.runs)) (sym clear.entry) bytes_stand in
     let saving : SavingLaws w = record { laid = save.laid; blocks = save.blocks; trees = save.trees; leave = save.leave; changes = save.changes } in
     let done = c.in-Ok-enter_again.ensures.stored f cleared.recorded base units p row cleared.are may_come is_there hold_now stand_now in
     let stored : HasStored w f base units back new p entry call.sizes None (content_now back entry again.place row again.size again.runs) =
     subst (λ (z : Sizes). HasStored w f base units back new p entry z None (content_now back entry again.place row again.size again.runs)) clear.sizes
-    (subst (λ (e : Entry). HasStored w f base units back new p e c.in-Ok-clear_way.sizes None (content_now back e again.place row again.size again.runs)) clear.entry done) in
+    (subst (λ (e : Entry). HasStored w f base units back new p e c.in-Ok-evict_for.sizes None (content_now back e again.place row again.size again.runs)) clear.entry done) in
     let left = c.leave_row.ensures in
-    let q : Pages = record { swap = c.leave_row.new.swap; space = p.space; base = p.base } in
+    let q : OpenPages = record { swap = c.leave_row.new.swap; space = p.space; base = p.base } in
     again-acted w laws content f recorded l mid p calls call work begins c.requires.word c.requires.more took back way lines again.place again.size again.runs of_row planned.size planned.runs
     saving new stored c.enter_again.ensures.order c.in-Ok-enter_again.ensures.order_now
     know.moves know.acts save.handles whole save.stand (sym c.pages-pages.ensures.pages ∙ c.pages-pages.ensures.blocks) q
@@ -217,8 +217,8 @@ returns-in-Ok-enter_again-clause-acted g c f recorded are whole asked =
     (λ last. subst (λ (n : ℕ). HasDropped p q call.agent n) c.row_of-row.ensures (record { others = left.others; gone = left.gone (c.is_last-ends.ensures ∙ last); base = refl; space = refl; kept = left.kept }))
     _ (omega (arith, c.rows-rows.ensures.count, c.rows-rows.ensures.few))
 
-pub returns-in-Ok-clear_way-clause-acted : goal.returns-in-Ok-clear_way-clause-acted
-returns-in-Ok-clear_way-clause-acted g c f recorded are whole asked =
+pub returns-in-Ok-evict_for-clause-acted : goal.returns-in-Ok-evict_for-clause-acted
+returns-in-Ok-evict_for-clause-acted g c f recorded are whole asked =
     let w = g.D.Disk in
     let disk_laws = g.met.D.Disk in
     let know = c.calling_laws.ensures in
@@ -240,11 +240,11 @@ returns-in-Ok-clear_way-clause-acted g c f recorded are whole asked =
       prepared = is.prepared call.op asked.prepared;
       tree = is.tree;
     } in
-    let back = c.clear_way.new.ledger in
-    let clear = c.in-Ok-clear_way.ensures in
+    let back = c.evict_for.new.ledger in
+    let clear = c.in-Ok-evict_for.ensures in
     let cleared = clear.cleared f recorded p took.held in
     let way : HasMadeWay w f mid back p call = record { entries = clear.entries; prepared = clear.prepared; tree = clear.tree; cleared = cleared } in
-    let lines = c.lines.ensures in
+    let lines = c.know_rows_match_tree.ensures in
     let planned = c.in-Ok.ensures in
     let again = c.in-Ok.again in
     let base = state_after f.opening mid.books.history in
@@ -257,17 +257,17 @@ returns-in-Ok-clear_way-clause-acted g c f recorded are whole asked =
     let can_hold = holds w laws content f recorded l mid p calls call work begins c.requires.word c.requires.more took back way lines again.place again.size again.runs of_row planned.size planned.runs in
     let bytes_stand = stands w laws content f recorded l mid p calls call work begins c.requires.word c.requires.more took back way lines again.place again.size again.runs of_row planned.size planned.runs in
     let come = answered w laws content f recorded l mid p calls call work begins c.requires.word c.requires.more took back way lines in
-    let may_come : IsAnswered w base units back c.in-Ok-clear_way.last.entry c.in-Ok-clear_way.sizes =
-    subst (λ (z : Sizes). IsAnswered w base units back c.in-Ok-clear_way.last.entry z) (sym clear.sizes) (subst (λ (e : Entry). IsAnswered w base units back e call.sizes) (sym clear.entry) come) in
-    let hold_now : CanHold f.geometry.blocks (content_now back c.in-Ok-clear_way.last.entry again.place row again.size again.runs) (book_in back).rows =
+    let may_come : IsAnswered w base units back c.in-Ok-evict_for.last.entry c.in-Ok-evict_for.sizes =
+    subst (λ (z : Sizes). IsAnswered w base units back c.in-Ok-evict_for.last.entry z) (sym clear.sizes) (subst (λ (e : Entry). IsAnswered w base units back e call.sizes) (sym clear.entry) come) in
+    let hold_now : CanHold f.geometry.blocks (content_now back c.in-Ok-evict_for.last.entry again.place row again.size again.runs) (book_in back).rows =
     subst (λ (e : Entry). CanHold f.geometry.blocks (content_now back e again.place row again.size again.runs) (book_in back).rows) (sym clear.entry) can_hold in
-    let stand_now : BytesStand w f base units back.journal c.in-Ok-clear_way.last.entry (content_now back c.in-Ok-clear_way.last.entry again.place row again.size again.runs) =
+    let stand_now : BytesStand w f base units back.journal c.in-Ok-evict_for.last.entry (content_now back c.in-Ok-evict_for.last.entry again.place row again.size again.runs) =
     subst (λ (e : Entry). BytesStand w f base units back.journal e (content_now back e again.place row again.size again.runs)) (sym clear.entry) bytes_stand in
     let not_done = c.in-Err-enter_again.ensures.failed f cleared.recorded base units p row cleared.are may_come is_there hold_now stand_now in
     let not : HasNotChanged w f cleared.recorded base units back new p entry (content_now back entry again.place row again.size again.runs) =
     subst (λ (e : Entry). HasNotChanged w f cleared.recorded base units back new p e (content_now back e again.place row again.size again.runs)) clear.entry not_done in
     let fail = failed-then w laws content f recorded l mid p calls call work begins c.requires.word c.requires.more took back way lines again.place again.size again.runs of_row planned.size planned.runs new c.enter_again.ensures.order not in
-    let now : Parts g.row.D.Denot = record { ledger = new; pages = p } in
+    let now : DeskParts g.row.D.Denot = record { ledger = new; pages = p } in
     let count = ap (λ (m : Machine). length (agent_of m call.agent).own) took.held.books.machine ∙ own-length base call.agent ∙ sym (rows-failed w f mid new p call reply.Done fail) in
     know.acts.failed f recorded c.args.parts.now now mid calls call reply.Done work work _ are asked.may.pending took.taken fail refl (omega (arith, c.rows-rows.ensures.count, c.rows-rows.ensures.few, count))
 
@@ -294,11 +294,11 @@ returns-clause-acted g c f recorded are whole asked =
       prepared = is.prepared call.op asked.prepared;
       tree = is.tree;
     } in
-    let back = c.clear_way.new.ledger in
+    let back = c.evict_for.new.ledger in
     let base = state_after f.opening mid.books.history in
     let then = ready-now w laws content f recorded l mid p calls call work begins c.requires.word c.requires.more took in
     let fail = c.in-Err.ensures.failed f recorded p took.held
     (record { live = then.live; fitting = then.fitting; judged = then.judged; disk = disk w laws content f recorded l mid p calls call work begins c.requires.word c.requires.more took }) in
-    let now : Parts g.row.D.Denot = record { ledger = back; pages = p } in
+    let now : DeskParts g.row.D.Denot = record { ledger = back; pages = p } in
     let count = ap (λ (m : Machine). length (agent_of m call.agent).own) took.held.books.machine ∙ own-length base call.agent ∙ sym (rows-failed w f mid back p call reply.Done fail) in
     know.acts.failed f recorded c.args.parts.now now mid calls call reply.Done work work _ are asked.may.pending took.taken fail refl (omega (arith, c.rows-rows.ensures.count, c.rows-rows.ensures.few, count))

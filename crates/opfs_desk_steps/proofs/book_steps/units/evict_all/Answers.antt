@@ -4,16 +4,16 @@ use Rattle.opfs_machine.specs.Histories.{state_after}
 use Rattle.opfs_desk_steps.proofs.book_steps.Doubt.{may-end, may-clear, then-cleared, then-failed}
 use Rattle.opfs_desk_steps.proofs.book_steps.Turns.{may-fail}
 use Rattle.opfs_desk_steps.proofs.book_steps.Leaves.{leaves-both}
-use Rattle.opfs_desk_steps.proofs.book_steps.units.make_way.Goals as goal
+use Rattle.opfs_desk_steps.proofs.book_steps.units.evict_all.Goals as goal
 
-pub end_doubt-requires : goal.end_doubt-requires
-end_doubt-requires g c = record { may = may-end g.D.Disk c.args.ledger.now c.args.last.entry c.args.clearing.items c.requires.may }
+pub settle_doubt-requires : goal.settle_doubt-requires
+settle_doubt-requires g c = record { may = may-end g.D.Disk c.args.ledger.now c.args.last.entry c.args.clearing.items c.requires.may }
 
 pub clear_units-requires : goal.clear_units-requires
 clear_units-requires g c = record {
   may =
       let done = c.in-Ok.ensures in
-      may-clear g.D.Disk c.args.ledger.now c.args.last.entry c.args.clearing.items c.end_doubt.new.ledger done.entries done.sure done.held c.requires.may done.state c.in-Ok.last.entry done.last;
+      may-clear g.D.Disk c.args.ledger.now c.args.last.entry c.args.clearing.items c.settle_doubt.new.ledger done.entries done.sure done.held c.requires.may done.state c.in-Ok.last.entry done.last;
 }
 
 pub returns-in-Ok-clear_units-clause-cleared : goal.returns-in-Ok-clear_units-clause-cleared
@@ -21,13 +21,13 @@ returns-in-Ok-clear_units-clause-cleared g c =
     let laws = g.met.D.Disk in
     let done = c.in-Ok.ensures in
     let its = c.in-Ok-clear_units.ensures in
-    then-cleared g.D.Disk c.args.ledger.now c.args.last.entry c.args.clearing.items c.end_doubt.new.ledger done.entries done.sure done.held laws.falls c.clear_units.new.ledger its.entries its.cleared
+    then-cleared g.D.Disk c.args.ledger.now c.args.last.entry c.args.clearing.items c.settle_doubt.new.ledger done.entries done.sure done.held laws.falls c.clear_units.new.ledger its.entries its.cleared
 
 pub returns-in-Err-clear_units-clause-failed : goal.returns-in-Err-clear_units-clause-failed
 returns-in-Err-clear_units-clause-failed g c =
     let laws = g.met.D.Disk in
     let done = c.in-Ok.ensures in
-    then-failed g.D.Disk c.args.ledger.now c.args.last.entry c.args.clearing.items c.end_doubt.new.ledger done.entries done.sure done.held laws.falls c.clear_units.new.ledger c.in-Ok.last.entry done.last c.in-Err-clear_units.ensures.failed
+    then-failed g.D.Disk c.args.ledger.now c.args.last.entry c.args.clearing.items c.settle_doubt.new.ledger done.entries done.sure done.held laws.falls c.clear_units.new.ledger c.in-Ok.last.entry done.last c.in-Err-clear_units.ensures.failed
 
 pub returns-in-Err-clause-failed : goal.returns-in-Err-clause-failed
 returns-in-Err-clause-failed g c f recorded p are judged =
@@ -38,4 +38,4 @@ returns-in-Err-clause-failed g c f recorded p are judged =
 pub returns-in-Ok-clear_units-clause-leaves : goal.returns-in-Ok-clear_units-clause-leaves
 returns-in-Ok-clear_units-clause-leaves g c =
     let laws = g.met.D.Disk in
-    leaves-both g.D.Disk laws.falls c.args.ledger.now.journal c.end_doubt.new.ledger.journal c.clear_units.new.ledger.journal c.in-Ok.ensures.leaves c.in-Ok-clear_units.ensures.leaves
+    leaves-both g.D.Disk laws.falls c.args.ledger.now.journal c.settle_doubt.new.ledger.journal c.clear_units.new.ledger.journal c.in-Ok.ensures.leaves c.in-Ok-clear_units.ensures.leaves

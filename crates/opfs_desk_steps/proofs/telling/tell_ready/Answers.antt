@@ -5,7 +5,7 @@ use Rattle.opfs_machine.specs.declared.state.Sizes.{Sizes}
 use Rattle.opfs_desk_steps.specs.Parts.Answered.{IsAnswered}
 use Rattle.opfs_desk_steps.specs.Parts.Seen.{call_in}
 use Rattle.opfs_desk_steps.specs.Going.{HasTold}
-use Rattle.opfs_desk_steps.proofs.telling.tell_in_hand.Goals as goal
+use Rattle.opfs_desk_steps.proofs.telling.tell_ready.Goals as goal
 
 pub returns-clause-told : goal.returns-clause-told
 returns-clause-told g c f recorded base gone p are answered =

@@ -2,13 +2,13 @@ use Rattle.std.proofs.Common.{[], refl, subst, arith}
 use Rattle.opfs_machine.specs.Histories.{state_after}
 use Rattle.opfs_machine.specs.Replies.{row_named}
 use Rattle.opfs_desk_steps.specs.Parts.Seen.{machine_in}
-use Rattle.opfs_desk_steps.specs.declared.parts.parts.Pages.{Pages}
-use Rattle.opfs_desk_steps.specs.declared.parts.parts.Parts.{Parts}
+use Rattle.opfs_desk_steps.specs.declared.parts.parts.OpenPages.{OpenPages}
+use Rattle.opfs_desk_steps.specs.declared.parts.parts.DeskParts.{DeskParts}
 use Rattle.opfs_desk_steps.specs.Going.{HasTakenIn}
 use Rattle.opfs_desk_entries.specs.Answers.Silent.{BeginsCall}
 use Rattle.opfs_desk_entries.proofs.releases.Ended.{HasDropped, agent-is, leave-acted, may-come, word-mid}
 use Rattle.opfs_desk_entries.proofs.releases.Words.{word-is}
-use Rattle.opfs_desk_entries.proofs.releases.leaving.act_leave.Goals as goal
+use Rattle.opfs_desk_entries.proofs.releases.leaving.act_close_without_store.Goals as goal
 
 pub row_of-row-requires : goal.row_of-row-requires
 row_of-row-requires g c = word-is (machine_in c.args.parts.now.ledger) c.args.call.agent c.args.call.op c.requires.word
@@ -101,11 +101,11 @@ returns-clause-acted g c f recorded are asked =
     } in
     let come = may-come w laws.asks laws.answers laws.decide laws.follow laws.local f recorded l mid p c.args.pending.now call c.args.work.now [] begins c.requires.word took in
     let told = c.enter_leave.ensures.told f recorded (state_after f.opening mid.books.history) [] p took.held come in
-    let q : Pages = record { swap = c.drop_row.new.self; space = p.space; base = p.base } in
+    let q : OpenPages = record { swap = c.drop_row.new.self; space = p.space; base = p.base } in
     let drop = c.drop_row.ensures in
     let dropped : HasDropped p q call.agent (row_named call.op) =
     subst (λ n. HasDropped p q call.agent n) c.row_of-row.ensures (record { others = drop.others; gone = drop.gone; base = refl; space = refl; kept = omega (arith, drop.kept) }) in
-    let now : Parts g.row.D.Denot = record { ledger = c.enter_leave.new.ledger; pages = q } in
+    let now : DeskParts g.row.D.Denot = record { ledger = c.enter_leave.new.ledger; pages = q } in
     leave-acted w laws.asks laws.answers laws.decide laws.follow laws.local f recorded l mid p c.args.pending.now call c.args.work.now [] begins c.requires.word took
     c.enter_leave.new.ledger told q dropped c.enter_leave.ensures.order
     laws.rows ends.go_on ends.trees ends.others ends.changes ends.moves laws.acts laws.shown _ (omega (arith, c.rows-rows.ensures.count, c.rows-rows.ensures.few)) c.args.parts.now now refl refl refl

@@ -4,7 +4,7 @@ use Rattle.opfs_books.specs.Openings.Openings.{fixed_by}
 use Rattle.opfs_desk_steps.specs.Parts.Seen.{book_in}
 use Rattle.opfs_desk.specs.Seen.{DeskSeen, entries_of}
 use Rattle.opfs_desk.proofs.Shown.{is-legal}
-use Rattle.opfs_desk.proofs.desk.Desk.legal.Goals as goal
+use Rattle.opfs_desk.proofs.desk.Desk.know_legal.Goals as goal
 
 pub returns-clause-legal : goal.returns-clause-legal
 returns-clause-legal g c =
