@@ -1,11 +1,13 @@
 //! The machine that the store is: what it holds, and what each call does. It is definitions (`specs/`); the types
-//! here are the shapes that they speak of.
+//! here are the shapes that they speak of, and the functions read what a call says by its own words.
 #![tactic(auto)]
 
 pub mod many;
+pub mod naming;
 pub mod own;
 pub mod state;
 
 pub use many::Many;
+pub use naming::{child_place, root_of, row_named, size_written, want_of};
 pub use own::{HandleOutline, HandleRow, IteratorRow, Outline, Own, StreamOutline, StreamRow};
-pub use state::{Agent, FileRow, Limits, Need, Party, Place, Posted, Row, Sizes, State};
+pub use state::{Agent, FileRow, Limits, Need, Party, Place, Posted, Row, Ruled, Sizes, State};

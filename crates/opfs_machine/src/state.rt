@@ -2,7 +2,9 @@
 
 use crate::many::Many;
 use opfs_base::{Bytes, Key, Path};
+use opfs_hist::Refusal;
 use opfs_locks::LockValue;
+use std::alloc::AllocError;
 
 /// A unit, and the names from its root down.
 pub type Place = (Key, Path);
@@ -108,3 +110,6 @@ pub struct Need {
     /// Bytes of the charge.
     pub charge: u64,
 }
+
+/// A ruling, or want of memory.
+pub type Ruled<T> = Result<Result<T, Refusal>, AllocError>;

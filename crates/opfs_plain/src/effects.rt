@@ -18,8 +18,8 @@ use crate::marks::{end, persist, post, set_moment, set_waiting};
 use crate::streams::{abort_stream, close_stream, open_stream, seek, truncate, write};
 use opfs_base::{Bytes, Data, Kind, Text, blocks, plus};
 use opfs_hist::Op;
-use opfs_machine::{Own, Sizes, State};
-use opfs_rulings::{reserve_at, size_written};
+use opfs_machine::{Own, Sizes, State, size_written};
+use opfs_rulings::reserve_at;
 use std::alloc::{AllocError, Global};
 
 /// Where a read of an access handle leaves the cursor.

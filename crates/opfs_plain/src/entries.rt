@@ -16,8 +16,8 @@ use crate::own_rows::add_own;
 use crate::rows::remove_within;
 use opfs_base::{Bytes, Kind, Locator, Name, Text};
 use opfs_locks::LockValue;
-use opfs_machine::{FileRow, IteratorRow, Many, Own, Place, Row, State};
-use opfs_rulings::{agent, child_place, file_at, next_given, place_of, put, root_of, row_at};
+use opfs_machine::{FileRow, IteratorRow, Many, Own, Place, Row, State, child_place, root_of};
+use opfs_rulings::{agent, file_at, next_given, place_of, put, row_at};
 use std::alloc::{AllocError, Global};
 
 /// Makes a row, where none is there.

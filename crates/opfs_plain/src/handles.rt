@@ -17,8 +17,8 @@ use crate::rows::index_of;
 use crate::splicing::{resized, spliced};
 use opfs_base::{Bytes, Data, Locator, blocks, copy_place};
 use opfs_hist::Mode;
-use opfs_machine::{HandleRow, Own, Place, Row, Sizes, State};
-use opfs_rulings::{PlacedRow, agent, open_handle, place_of, want_of};
+use opfs_machine::{HandleRow, Own, Place, Row, Sizes, State, want_of};
+use opfs_rulings::{PlacedRow, agent, open_handle, place_of};
 use std::alloc::{AllocError, Global};
 use std::mem;
 

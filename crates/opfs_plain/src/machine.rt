@@ -18,8 +18,8 @@ use crate::marks::set_waiting;
 use crate::rows::remove_within;
 use opfs_base::{Bytes, Key, Path, copy_key, is_valid_name, plus};
 use opfs_hist::{Entry, Op, Refusal, Reply};
-use opfs_machine::{Many, Own, State};
-use opfs_rulings::{agent, answer, is_agent, judge, put, row_named, sizes_of};
+use opfs_machine::{Many, Own, State, row_named};
+use opfs_rulings::{agent, answer, is_agent, judge, put, sizes_of};
 use std::alloc::{AllocError, Global};
 
 /// The key of an agent's origin; None for an opaque one, and where there is no such agent.

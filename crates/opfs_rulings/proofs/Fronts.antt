@@ -1,5 +1,5 @@
 -- The units that are cleared where the need fits as it is.
-use Rattle.std.proofs.Common.{◌≡◌, ℕ, true, List, [], ◌∷◌, Option, Some, None, Bool, false, ap}
+use Rattle.std.proofs.Common.{◌≡◌, ℕ, true, List, [], ◌∷◌, Some, None, false, ap}
 use Rattle.std.specs.Prelude.{option_map}
 use Rattle.opfs_base.specs.Texts.{Text}
 use Rattle.opfs_machine.specs.declared.own.Own.{Own}

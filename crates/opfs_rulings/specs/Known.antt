@@ -1,28 +1,17 @@
 -- What the plain machine's parts say of lists of rows and of agents.
-use Rattle.std.specs.Prelude.{◌≡◌, ℕ, ◌<◌, ◌≤◌, Bool, true, not, List, [], ◌∷◌, length, Option, None, Some, Ok, Err, IsTrue, slice_set}
-use Rattle.std.proofs.Common.{get_or}
+use Rattle.std.specs.Prelude.{ℕ, ◌<◌, ◌≤◌, Bool, true, not, List, [], ◌∷◌, length, Option, None, Some, Ok, Err}
 use Rattle.std.specs.Ordering.{is_gt}
 use Rattle.std.specs.declared.cmp.Ordering.{Ordering}
 use Rattle.std.specs.List.{list_any}
 use Rattle.opfs_base.specs.Texts.{Text, same_text}
-use Rattle.opfs_base.specs.Places.{Place}
 use Rattle.opfs_machine.specs.declared.own.Own.{Own}
 use Rattle.opfs_machine.specs.declared.state.Agent.{Agent}
-use Rattle.opfs_machine.specs.declared.state.FileRow.{FileRow}
-use Rattle.opfs_machine.specs.declared.state.Row.{Row}
 use Rattle.opfs_machine.specs.declared.state.State.{State}
-use Rattle.opfs_base.specs.Names.{is_valid_name}
-use Rattle.opfs_hist.specs.declared.op.Op.{Op}
-use Rattle.opfs_hist.specs.declared.op.Op.TheVariants.{GetDirectoryHandle, GetFileHandle, RemoveEntry, Next, Write, Seek, Truncate, Close, Abort, SyncRead, SyncWrite, SyncTruncate, SyncFlush, SyncClose, Discard}
 use Rattle.opfs_locks.specs.Taking.{Lock}
-use Rattle.opfs_machine.specs.declared.own.Own.TheVariants as own
-use Rattle.opfs_machine.specs.Agents.{agent_of}
-use Rattle.opfs_machine.specs.Contents.{and_given}
 use Rattle.opfs_machine.specs.declared.state.Need.{Need}
 use Rattle.opfs_machine.specs.Ruled.{Ruled}
 use Rattle.opfs_machine.specs.Rulings.{locked_by}
 use Rattle.opfs_machine.specs.Sums.{no_need}
-use Rattle.opfs_machine.specs.Rows.{Rows, change_at, changed_row}
 
 -- There is an agent of this number.
 pub record IsAgent (s : State Text Own) (k : ℕ) : Type 0 where

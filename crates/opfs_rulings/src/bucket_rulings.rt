@@ -8,10 +8,10 @@ ghost use Rattle.opfs_machine.specs.Sums.{is_persistent};
 ghost use Rattle.opfs_rulings.specs.Known.{IsAgent};
 
 use crate::agents::agent;
-use crate::rulings::{NO_NEED, Ruled};
+use crate::rulings::NO_NEED;
 use opfs_base::{Bytes, Key, Text, is_bucket_name, mode_charge, unit_of};
 use opfs_hist::Refusal;
-use opfs_machine::{Need, Own, State};
+use opfs_machine::{Need, Own, Ruled, State};
 use std::alloc::{AllocError, Global};
 
 /// Whether a unit's bucket is persistent.

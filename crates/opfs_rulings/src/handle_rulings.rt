@@ -6,24 +6,13 @@ ghost use Rattle.std.specs.Option.{option_copied};
 ghost use Rattle.opfs_machine.specs.Agents.{open_handle};
 ghost use Rattle.opfs_rulings.specs.Known.{IsAgent};
 ghost use Rattle.opfs_machine.specs.Contents.{in_bytes};
-ghost use Rattle.opfs_machine.specs.Rulings.{create_sync_ruling, grow_handle_ruling, handle_ruling, want_of};
+ghost use Rattle.opfs_machine.specs.Rulings.{create_sync_ruling, grow_handle_ruling, handle_ruling};
 
 use crate::agents::own_row;
-use crate::rulings::{NO_NEED, Ruled, file_at, is_located, lock_of, taken};
+use crate::rulings::{NO_NEED, file_at, is_located, lock_of, taken};
 use opfs_base::{Bytes, Kind, Locator, blocks, times};
 use opfs_hist::{Mode, Refusal};
-use opfs_locks::Want;
-use opfs_machine::{HandleRow, Need, Own, Sizes, State};
-
-/// How an access handle of a mode asks for its file's lock.
-pub fn want_of(mode: Mode) -> Want
-    ensures { result ≡ want_of mode }
-{
-    match mode {
-        Mode::ReadWrite => Want::Exclusive,
-        Mode::ReadOnly => Want::ReadOnly,
-    }
-}
+use opfs_machine::{HandleRow, Need, Own, Ruled, Sizes, State, want_of};
 
 /// createSyncAccessHandle.
 pub fn create_sync_ruling(state: &State<Bytes, Own>, at: &Locator, mode: Mode) -> Ruled<Need>

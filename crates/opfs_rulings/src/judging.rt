@@ -4,8 +4,7 @@
 ghost use Rattle.std.specs.Prelude.{◌≡◌, IfOk};
 ghost use Rattle.opfs_machine.specs.Agents.{party_of, same_party, is_posted};
 ghost use Rattle.opfs_machine.specs.Contents.{in_bytes};
-ghost use Rattle.opfs_machine.specs.Replies.{row_named};
-ghost use Rattle.opfs_machine.specs.Rulings.{ruling, await_ruling, size_written};
+ghost use Rattle.opfs_machine.specs.Rulings.{ruling, await_ruling};
 ghost use Rattle.opfs_machine.specs.Steps.{judged};
 ghost use Rattle.opfs_rulings.specs.Known.{IsAgent};
 
@@ -16,21 +15,13 @@ use crate::removals::remove_entry_ruling;
 use crate::replies::sizes_of;
 use crate::room::room_for;
 use crate::rulings::{
-    NO_NEED, Ruled, create_writable_ruling, get_directory_ruling, get_handle_ruling,
-    grow_stream_ruling, located_ruling, stream_ruling,
+    NO_NEED, create_writable_ruling, get_directory_ruling, get_handle_ruling, grow_stream_ruling,
+    located_ruling, stream_ruling,
 };
-use opfs_base::{Bytes, Data, Key, Kind, Text, plus};
+use opfs_base::{Bytes, Key, Kind, Text};
 use opfs_hist::{Op, Refusal};
-use opfs_machine::{Many, Need, Own, Party, Sizes, State};
-use std::alloc::{AllocError, Global};
-
-/// The length in bytes after a write.
-pub fn size_written(sizes: Sizes, position: Option<u64>, bytes: &Data) -> Result<u64, AllocError>
-    ensures { IfOk result (λ size. size ≡ size_written sizes position bytes.now) }
-{
-    let end = plus(position.unwrap_or(sizes.position), bytes.len())?;
-    Ok(sizes.size.max(end))
-}
+use opfs_machine::{Many, Need, Own, Party, Ruled, Sizes, State, row_named, size_written};
+use std::alloc::Global;
 
 /// Whether a tag was posted among a party's.
 fn is_posted(state: &State<Bytes, Own>, party: &Party, tag: &Text) -> bool
@@ -127,27 +118,6 @@ pub fn ruling(
         Op::Await { tag } => await_ruling(alloc, state, number, tag),
         Op::Unbound { .. } => Ok(Err(Refusal::Unbound)),
         _ => Ok(Ok(NO_NEED)),
-    }
-}
-
-/// The number of the stream or access handle that a call names; 0 where it names none.
-pub fn row_named(op: &Op) -> u32
-    ensures { result ≡ row_named op.now }
-{
-    match op {
-        Op::Write { row, .. }
-        | Op::Seek { row, .. }
-        | Op::Truncate { row, .. }
-        | Op::Close { row }
-        | Op::Abort { row }
-        | Op::SyncRead { row, .. }
-        | Op::SyncWrite { row, .. }
-        | Op::SyncTruncate { row, .. }
-        | Op::SyncGetSize { row }
-        | Op::SyncFlush { row }
-        | Op::SyncClose { row }
-        | Op::Discard { row } => *row,
-        _ => 0,
     }
 }
 

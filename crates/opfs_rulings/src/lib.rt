@@ -17,11 +17,11 @@ pub mod sums;
 
 pub use agents::{agent, is_agent, own_row, party_of};
 pub use disk::is_disk_op;
-pub use handle_rulings::{open_handle, want_of};
-pub use judging::{judge, row_named, size_written};
+pub use handle_rulings::open_handle;
+pub use judging::judge;
 pub use ordered::{insert, put};
 pub use replies::{answer, next_given, sizes_of};
 pub use rows::{PlacedRow, place_of, row_at};
-pub use rulings::{Ruled, child_place, file_at, first_reserve, root_of, taken};
+pub use rulings::{file_at, first_reserve, taken};
 pub use standing::may_enter;
 pub use sums::reserve_at;

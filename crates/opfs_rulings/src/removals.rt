@@ -8,11 +8,11 @@ ghost use Rattle.opfs_machine.specs.Rulings.{remove_entry_ruling};
 ghost use Rattle.opfs_rulings.specs.Known.{lock_ruling};
 
 use crate::rows::{PlacedRow, row_at};
-use crate::rulings::{NO_NEED, Ruled, child_place, is_located};
+use crate::rulings::{NO_NEED, is_located};
 use opfs_base::{Bytes, Key, Kind, Locator, Path, Text, child_name, is_valid_name, is_within};
 use opfs_hist::Refusal;
 use opfs_locks::LockValue;
-use opfs_machine::{Need, Own, Place, Row, State};
+use opfs_machine::{Need, Own, Place, Row, Ruled, State, child_place};
 use std::alloc::{AllocError, Global};
 
 /// Whether a directory has children.

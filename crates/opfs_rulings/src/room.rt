@@ -18,12 +18,11 @@ ghost use Rattle.opfs_machine.specs.Victims.{cleared, is_callers, none_taken, is
 use crate::bucket_rulings::is_persistent;
 use crate::ordered::insert;
 use crate::rows::PlacedRow;
-use crate::rulings::Ruled;
 use crate::sums::{is_of, mode_charges, reserves, row_charges, row_pool, usage};
 use opfs_base::{Bytes, Key, origin_of, plus, times};
 use opfs_hist::Refusal;
 use opfs_locks::LockValue;
-use opfs_machine::{Many, Need, Own, Place, Row, State};
+use opfs_machine::{Many, Need, Own, Place, Row, Ruled, State};
 use std::alloc::{AllocError, Global};
 
 /// The pool once some units are cleared.

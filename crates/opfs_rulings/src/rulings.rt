@@ -1,13 +1,11 @@
 //! What each call refuses, or asks for, in the order of the rules.
 #![tactic(auto, unfolding(opfs_machine::specs::Machine::machine))]
 
-ghost use Rattle.std.specs.Prelude.{◌≡◌, [], IfOk, IsTrue, if◌then◌else◌, option_map};
+ghost use Rattle.std.specs.Prelude.{◌≡◌, IfOk, if◌then◌else◌, option_map};
 ghost use Rattle.std.specs.Option.{option_copied};
 ghost use Rattle.opfs_base.specs.Blocks.{blocks};
-ghost use Rattle.opfs_base.specs.Names.{is_valid_name, fits_limits};
-ghost use Rattle.opfs_base.specs.Places.{place_of, child};
+ghost use Rattle.opfs_base.specs.Names.{fits_limits};
 ghost use Rattle.opfs_locks.specs.Taking.{taken};
-ghost use Rattle.opfs_base.specs.Units.{unit_of};
 ghost use Rattle.opfs_machine.specs.Agents.{open_stream};
 ghost use Rattle.opfs_machine.specs.Contents.{in_bytes};
 ghost use Rattle.opfs_machine.specs.Rows.{row_at, is_located, is_of_kind, file_at};
@@ -18,12 +16,12 @@ ghost use Rattle.opfs_rulings.specs.Known.{IsAgent};
 use crate::agents::{agent, own_row};
 use crate::rows::row_at;
 use opfs_base::{
-    Bytes, Key, Kind, Locator, Name, Path, Text, blocks, is_bucket_name, is_valid_name,
-    place_charge, times, unit_of,
+    Bytes, Key, Kind, Locator, Path, Text, blocks, is_bucket_name, is_valid_name, place_charge,
+    times,
 };
 use opfs_hist::Refusal;
 use opfs_locks::{LockValue, Want};
-use opfs_machine::{FileRow, Need, Own, Place, Row, State};
+use opfs_machine::{FileRow, Need, Own, Place, Row, Ruled, State, child_place, root_of};
 use std::alloc::{AllocError, Global};
 
 /// What asks for nothing.
@@ -32,9 +30,6 @@ pub const NO_NEED: Need = Need {
     pool: 0,
     charge: 0,
 };
-
-/// A ruling, or want of memory.
-pub type Ruled<T> = Result<Result<T, Refusal>, AllocError>;
 
 /// Whether a locator is located for a call that wants this kind.
 pub fn is_located(state: &State<Bytes, Own>, kind: Kind, at: &Locator) -> bool
@@ -58,13 +53,6 @@ pub fn located_ruling(state: &State<Bytes, Own>, kind: Kind, at: &Locator) -> Re
         return Err(Refusal::NotFoundError);
     }
     Ok(NO_NEED)
-}
-
-/// The place of a root.
-pub fn root_of(alloc: Global, origin: &Key, bucket: &Text) -> Result<Place, AllocError>
-    ensures { IfOk result (λ place. place ≡ (unit_of origin.now bucket.now, [])) }
-{
-    Ok((unit_of(alloc, origin, bucket.as_str())?, Path::root(alloc)))
 }
 
 /// What making a row asks for, where there is none.
@@ -99,17 +87,6 @@ pub fn get_directory_ruling(
     }
     let root = root_of(alloc, origin, bucket)?;
     Ok(Ok(making(state, Kind::Directory, &root)?))
-}
-
-/// The place of a child.
-pub fn child_place(alloc: Global, dir: &Locator, name: &Text) -> Result<Place, AllocError>
-    requires { IsTrue (is_valid_name name.now) }
-    ensures { IfOk result (λ place. place ≡ child (place_of dir.now) name.now) }
-{
-    let name = Name::read(alloc, name.as_str())?;
-    let key = dir.key.copy(alloc)?;
-    let path = dir.path.child(alloc, &name)?;
-    Ok((key, path))
 }
 
 /// Whether a child's name and path are within the limits.

@@ -9,9 +9,8 @@ ghost use Rattle.opfs_state.specs.Verdicts.Callers.{IsCaller};
 
 use crate::state::State;
 use opfs_hist::Op;
-use opfs_machine::Sizes;
+use opfs_machine::{Ruled, Sizes};
 use opfs_pool::Keys;
-use opfs_rulings::Ruled;
 use std::alloc::Global;
 
 impl State {

@@ -18,8 +18,7 @@ ghost use Rattle.opfs_state.specs.Verdicts.Callers.{IsAgent};
 use crate::state::Ready;
 use opfs_base::{Kind, Locator, Text, copy_place, mode_charge, place_charge};
 use opfs_hist::Op;
-use opfs_machine::Place;
-use opfs_rulings::{child_place, root_of};
+use opfs_machine::{Place, child_place, root_of};
 use opfs_state_rows::Standing;
 use std::alloc::{AllocError, Global};
 

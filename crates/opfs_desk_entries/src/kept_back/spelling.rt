@@ -11,8 +11,7 @@ ghost use Rattle.opfs_desk_entries.specs.KeptBack.Keeping.{is_of_entry, is_well_
 use opfs_base::{Key, Locator, Text};
 use opfs_codec::ChangeRef;
 use opfs_hist::Op;
-use opfs_machine::Place;
-use opfs_rulings::{child_place, root_of};
+use opfs_machine::{Place, child_place, root_of};
 use std::alloc::{AllocError, Global};
 
 // The place of a child. Its name is a text.

@@ -4,8 +4,7 @@ ghost use Rattle.std.specs.Prelude.{◌≡◌};
 ghost use Rattle.opfs_desk_steps.specs.Judging.Sizes.{sizes_by};
 
 use opfs_hist::Op;
-use opfs_machine::Sizes;
-use opfs_rulings::row_named;
+use opfs_machine::{Sizes, row_named};
 use opfs_work::Work;
 
 /// The sizes of the row that a call names, as its working copy has them; 0 where it names none.

@@ -9,8 +9,7 @@ use crate::verdicts::agents::{has_grant, is_posted, key};
 use crate::verdicts::rulings::NO_NEED;
 use opfs_base::{Text, is_bucket_name, mode_charge, unit_of};
 use opfs_hist::Refusal;
-use opfs_machine::Need;
-use opfs_rulings::Ruled;
+use opfs_machine::{Need, Ruled};
 use opfs_state_rows::Standing;
 use std::alloc::Global;
 

@@ -12,8 +12,7 @@ use crate::verdicts::locks::{is_given, lock_at};
 use crate::verdicts::rulings::{NO_NEED, is_located};
 use opfs_base::{Kind, Locator, blocks, times};
 use opfs_hist::{Mode, Refusal};
-use opfs_machine::{Need, Sizes};
-use opfs_rulings::{Ruled, want_of};
+use opfs_machine::{Need, Ruled, Sizes, want_of};
 use opfs_state_rows::Standing;
 
 /// createSyncAccessHandle.

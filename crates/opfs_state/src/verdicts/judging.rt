@@ -20,9 +20,8 @@ use crate::verdicts::rulings::{NO_NEED, get_directory_ruling, get_handle_ruling,
 use crate::verdicts::stream_rulings::{create_writable_ruling, grow_stream_ruling, stream_ruling};
 use opfs_base::Kind;
 use opfs_hist::{Op, Refusal};
-use opfs_machine::{Need, Sizes};
+use opfs_machine::{Need, Ruled, Sizes, size_written};
 use opfs_pool::Keys;
-use opfs_rulings::{Ruled, size_written};
 use opfs_state_rows::Standing;
 use std::alloc::Global;
 

@@ -10,8 +10,7 @@ use crate::verdicts::rulings::{NO_NEED, is_located};
 use opfs_base::{Kind, Locator, Text, is_valid_name};
 use opfs_hist::Refusal;
 use opfs_locks::LockValue;
-use opfs_machine::{Need, Place};
-use opfs_rulings::{Ruled, child_place};
+use opfs_machine::{Need, Place, Ruled, child_place};
 use opfs_state_rows::Standing;
 use std::alloc::Global;
 

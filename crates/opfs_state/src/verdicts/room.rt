@@ -14,9 +14,8 @@ ghost use Rattle.opfs_state.specs.Verdicts.Callers.{IsOrigin, AsksByKey};
 
 use opfs_base::Key;
 use opfs_hist::Refusal;
-use opfs_machine::Need;
+use opfs_machine::{Need, Ruled};
 use opfs_pool::Keys;
-use opfs_rulings::Ruled;
 use opfs_state_rows::Standing;
 use std::alloc::{AllocError, Global};
 

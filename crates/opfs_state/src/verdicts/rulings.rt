@@ -11,8 +11,7 @@ ghost use Rattle.opfs_state.specs.Verdicts.Callers.{IsAgent};
 use crate::verdicts::agents::key;
 use opfs_base::{Kind, Locator, Path, Text, is_bucket_name, is_valid_name, place_charge};
 use opfs_hist::Refusal;
-use opfs_machine::{Need, Place};
-use opfs_rulings::{Ruled, child_place, root_of};
+use opfs_machine::{Need, Place, Ruled, child_place, root_of};
 use opfs_state_rows::Standing;
 use std::alloc::{AllocError, Global};
 

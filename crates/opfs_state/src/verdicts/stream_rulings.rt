@@ -17,8 +17,7 @@ use crate::verdicts::rulings::{NO_NEED, is_located};
 use opfs_base::{Kind, Locator, blocks, times};
 use opfs_hist::Refusal;
 use opfs_locks::Want;
-use opfs_machine::Need;
-use opfs_rulings::Ruled;
+use opfs_machine::{Need, Ruled};
 use opfs_state_rows::Standing;
 use std::alloc::AllocError;
 
