@@ -1,4 +1,6 @@
 //! The program `opfs`: the one call, over the process's words, files, standard input and standard output.
+//!
+//! It stands on `opfs_files` and `opfs_top`.
 #![tactic(auto)]
 
 use opfs_base::{Bytes, Words};

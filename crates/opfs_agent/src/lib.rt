@@ -1,4 +1,6 @@
 //! Agents: what a page calls, by the names of the Standards, over any store that serves shared calls.
+//!
+//! It stands on `opfs_turns`; on it stand `opfs_runner` and `opfs_sync_files`.
 #![tactic(auto)]
 
 mod agent;

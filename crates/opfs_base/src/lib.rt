@@ -1,4 +1,7 @@
 //! Names, paths, keys, locators and lists of blocks: the words that the whole store shares.
+//!
+//! It stands on no other crate of this repository; on it stand `opfs_splice`, `opfs_hist`, `opfs_codec`, `opfs_data`,
+//! `opfs_tree`, `opfs_shed`, `opfs_pool` and `opfs_blocks`.
 #![tactic(auto)]
 
 pub mod bytes;

@@ -1,4 +1,6 @@
 //! A disk's data blocks as a set of used ones.
+//!
+//! It stands on `opfs_base`; on it stands `opfs_records`.
 #![tactic(auto)]
 
 mod bits;

@@ -1,5 +1,7 @@
 //! The books of a run: its history, the shared state, what is kept back of the changes, and the place of a doubt. Each call
 //! keeps them in step with the images that a crash may leave.
+//!
+//! It stands on `opfs_commit` and `opfs_state`; on it stands `opfs_desk_steps`.
 #![tactic(auto)]
 
 mod books;

@@ -1,4 +1,6 @@
 //! Changes of the store as bytes and back.
+//!
+//! It stands on `opfs_base`; on it stand `opfs_kv` and `opfs_records`.
 #![tactic(auto)]
 
 mod change;

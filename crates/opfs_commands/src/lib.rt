@@ -1,5 +1,7 @@
 //! The commands on an image: they make one, tell what it holds, check it, bring it into the format of now, put its text out,
 //! make one from such a text, and run the agents of a script over one; and which command words ask for.
+//!
+//! It stands on `opfs_migrate`, `opfs_dump` and `opfs_desk_runs`; on it stands `opfs_top`.
 #![tactic(auto)]
 
 mod answers;

@@ -1,4 +1,6 @@
 //! Changes that are committed to a journal.
+//!
+//! It stands on `opfs_image`; on it stands `opfs_books`.
 #![tactic(auto)]
 
 mod commits;

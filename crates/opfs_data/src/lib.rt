@@ -1,4 +1,6 @@
 //! Bytes over runs of data blocks, and the pages of working copies in blocks.
+//!
+//! It stands on `opfs_base` and `opfs_journal`; on it stand `opfs_space` and `opfs_image`.
 #![tactic(auto)]
 
 mod page;

@@ -1,6 +1,7 @@
-//! createWritable and createSyncAccessHandle under the turn (File System: createWritable, createSyncAccessHandle).
-//! Shared calls that read the bytes of files under the turn (File System: getFile, FileSystemSyncAccessHandle's read).
-//! write, truncate, and an access handle's write and truncate under the turn (File System: write a chunk; FileSystemSyncAccessHandle's write and truncate).
+//! Shared calls that open a row, read its bytes or put bytes into it, under the turn (File System: createWritable, createSyncAccessHandle,
+//! getFile, FileSystemSyncAccessHandle's read, write and truncate, and write a chunk).
+//!
+//! It stands on `opfs_desk_steps`; on it stands `opfs_desk_contents`.
 #![tactic(auto)]
 
 mod opening;

@@ -1,7 +1,9 @@
-//! Shared calls that neither store anything nor use the pages of a row.
-//! abort, discard and the close of a read-only access handle under the turn: the row leaves its pages and its lock, and nothing is stored.
-//! Shared calls whose change is no content: a root, a directory or a file is made, or an entry is removed. The change is kept back in memory, and is committed with the next content, eviction or end, or with the 64th that is kept back.
-//! estimate, and a persist that makes a bucket persistent, under the turn. An estimate only tells; the change of a persist is kept back in memory, and is committed with the next content, eviction or end, or with the 64th that is kept back.
+//! Shared calls that move no bytes. Some only tell: refused ones, persisted, estimate, an iterator's next, and posted tags. Some end a row
+//! that stores nothing: abort, discard, and the close of a read-only access handle; the row leaves its pages and its lock. And some
+//! change entries or buckets: their change is kept back in memory, and is committed with the next content, eviction or end, or with the
+//! 64th that is kept back.
+//!
+//! It stands on `opfs_desk_steps`; on it stands `opfs_desk_contents`.
 #![tactic(auto)]
 
 pub mod answers;

@@ -1,4 +1,6 @@
 //! A script that is run over an image which was recovered: the agents on threads of their own, over one desk, and what they leave.
+//!
+//! It stands on `opfs_memory`, `opfs_desk`, `opfs_runner`, `opfs_gen` and `opfs_judge`; on it stands `opfs_commands`.
 #![tactic(auto)]
 
 mod agents;

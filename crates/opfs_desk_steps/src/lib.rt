@@ -1,6 +1,8 @@
 //! Steps of a call under the turn. Laws: it is ready once its agent's pending calls are taken in, its entry may come once its units
 //! are cleared, and what the entry leaves of the history, the images and the counts. And what several kinds of calls do: a call is
 //! taken apart, its units are cleared, and it is entered where it stores nothing.
+//!
+//! It stands on `opfs_books` and `opfs_pages`; on it stand `opfs_desk_bytes` and `opfs_desk_entries`.
 #![tactic(auto)]
 
 mod apart;

@@ -1,5 +1,7 @@
 //! Tests of the shared store by runs over an image: what a run tells, what a disk that fails or stops leaves, and which
 //! bytes stand in the journal.
+//!
+//! It stands on `opfs_test_hosts`.
 #![tactic(auto)]
 
 #[cfg(test)]

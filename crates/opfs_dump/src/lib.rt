@@ -1,6 +1,7 @@
-//! Images as one JSON text: what an image's map is as a text, what bytes read as, and why they are refused.
-//! An image as one JSON text, put out piece by piece.
-//! One JSON text as an image: what bytes read as, and an image that stands for it.
+//! An image as one JSON text: what its map is as a text, put out piece by piece; what bytes read as, and why they are refused; and an
+//! image that stands for such a text.
+//!
+//! It stands on `opfs_script` and `opfs_tools`; on it stands `opfs_commands`.
 #![tactic(auto)]
 
 mod dumping;

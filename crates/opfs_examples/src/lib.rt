@@ -1,5 +1,7 @@
 //! Worked examples: histories that are legal, their transcripts, and an answer that each of them refuses. Each is the
 //! contract of a function that does nothing.
+//!
+//! It stands on `opfs_image` and `opfs_script_run`.
 #![tactic(auto)]
 
 pub mod alone;

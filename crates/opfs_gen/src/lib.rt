@@ -1,4 +1,6 @@
 //! Large runs from a number: the script that is made of it, and the summary of what its agents print.
+//!
+//! It stands on `opfs_transcripts`; on it stands `opfs_desk_runs`.
 #![tactic(auto)]
 
 mod drawing;

@@ -1,4 +1,6 @@
 //! Agents that leave marks in a hall, each on a thread of its own.
+//!
+//! It stands on `opfs_hall`.
 #![tactic(auto)]
 
 mod agents;

@@ -1,4 +1,6 @@
 //! What agents ask of the store, what it answers, and the history of both.
+//!
+//! It stands on `opfs_base` and `opfs_locks`; on it stand `opfs_print`, `opfs_script` and `opfs_machine`.
 #![tactic(auto)]
 
 pub mod entry;

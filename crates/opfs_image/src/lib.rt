@@ -1,4 +1,7 @@
 //! Images of the store: what they stand for, and how they are read and made.
+//!
+//! It stands on `opfs_data` and `opfs_records`; on it stand `opfs_commit`, `opfs_migrate`, `opfs_tools` and
+//! `opfs_examples`.
 #![tactic(auto)]
 
 mod formatting;

@@ -1,6 +1,6 @@
-//! Tests of the body of a checkpoint's record.
-//! Tests of changes that are committed.
-//! Tests of images as texts, and of texts as images.
+//! Tests of a checkpoint's record, of changes that are committed, and of images as texts and back.
+//!
+//! It stands on `opfs_memory`, `opfs_commit` and `opfs_dump`.
 #![tactic(auto)]
 
 mod commits;

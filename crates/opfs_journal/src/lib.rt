@@ -1,4 +1,6 @@
 //! A journal on a disk that may stop at any moment: a list of records that is added to or replaced as a whole.
+//!
+//! It stands on `opfs_outside`; on it stands `opfs_data`.
 #![tactic(auto)]
 
 mod areas;

@@ -1,5 +1,7 @@
 //! The judge of finished transcripts: whether a store could have printed one. It reads group after group, each its evictions
 //! and a call, as the machine has them.
+//!
+//! It stands on `opfs_script_kept`, `opfs_transcripts` and `opfs_plain`; on it stands `opfs_desk_runs`.
 #![tactic(auto)]
 
 pub mod agents;

@@ -1,5 +1,6 @@
-//! Tests of the pipe between two agents of a store, over a disk in memory.
-//! Tests of key-value files, over desks on disks in memory.
+//! The code of docs/LIBRARY.md: a key-value file and a pipe between two agents, over desks on disks in memory.
+//!
+//! It stands on `opfs_memory`, `opfs_desk`, `opfs_kv` and `opfs_pipe`.
 #![tactic(auto)]
 
 mod kv;

@@ -1,4 +1,6 @@
 //! File locks (File System: lock).
+//!
+//! It stands on no other crate of this repository; on it stand `opfs_hist` and `opfs_tree`.
 #![tactic(auto)]
 
 ghost use Rattle.std.specs.Prelude.{◌≡◌, ◌<◌, option_map, unwrap_or};

@@ -1,4 +1,6 @@
 //! The outside in memory: sources, sinks, disks and hosts whose calls fail where they are told to.
+//!
+//! It stands on `opfs_outside`; on it stands `opfs_desk_runs`.
 #![tactic(auto)]
 
 mod bytes;

@@ -1,4 +1,6 @@
 //! Images of format 1 made images of format 2.
+//!
+//! It stands on `opfs_image`; on it stands `opfs_commands`.
 #![tactic(auto)]
 
 mod counting;

@@ -1,4 +1,6 @@
 //! Pages between a working copy, its row in the store of pages, and the disk.
+//!
+//! It stands on `opfs_space` and `opfs_store`; on it stands `opfs_desk_steps`.
 #![tactic(auto)]
 
 mod bytes;

@@ -1,5 +1,7 @@
 //! A pipe between two agents: a range of one agent's snapshot becomes the content of another agent's file, over a ring of pieces,
 //! while both work.
+//!
+//! It stands on `opfs_sync_files`.
 #![tactic(auto)]
 
 mod draining;

@@ -1,6 +1,6 @@
-//! Tests of the commands on an image, over a host in memory.
-//! Tests of trials whose agents run on threads.
-//! Tests of large runs: what their summaries are.
+//! Tests of the commands on an image over a host in memory, of trials whose agents run on threads, and of the summaries of large runs.
+//!
+//! It stands on `opfs_commands`.
 #![tactic(auto)]
 
 mod commands;

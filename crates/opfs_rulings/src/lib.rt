@@ -1,4 +1,6 @@
 //! What each call refuses, asks for and answers, judged over a list of rows, with all sums added up anew at each call.
+//!
+//! It stands on `opfs_machine`; on it stands `opfs_plain`.
 #![tactic(auto)]
 
 pub mod agents;

@@ -1,4 +1,6 @@
 //! Tests of runs whose agents are on threads: what they print, when they run, and what they leave of an image.
+//!
+//! It stands on `opfs_files` and `opfs_test_hosts`.
 #![tactic(auto)]
 
 #[cfg(test)]

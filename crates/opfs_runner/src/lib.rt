@@ -1,4 +1,6 @@
 //! What runs the scripts of agents, each agent on a thread of its own, over any store that serves shared calls.
+//!
+//! It stands on `opfs_script_run` and `opfs_agent`; on it stands `opfs_desk_runs`.
 #![tactic(auto)]
 
 mod closing;

@@ -1,4 +1,6 @@
 //! Scripts: what agents are told to do.
+//!
+//! It stands on `opfs_hist`; on it stand `opfs_script_kept`, `opfs_script_run` and `opfs_dump`.
 #![tactic(auto)]
 
 mod agents;

@@ -1,5 +1,7 @@
-//! Scripts whose steps are kept as the JSON texts that tell them, each read when its turn comes.
-//! The reader of scripts that keeps each step as its text: it goes over the tokens of a JSON text once, and holds no tree of it.
+//! Scripts whose steps are kept as the JSON texts that tell them, each read when its turn comes; and their reader, which goes over the
+//! tokens of a JSON text once and holds no tree of it.
+//!
+//! It stands on `opfs_script`; on it stands `opfs_judge`.
 #![tactic(auto)]
 
 mod packed;

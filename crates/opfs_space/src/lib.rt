@@ -1,4 +1,6 @@
 //! Which data blocks are free, and which one page alone has.
+//!
+//! It stands on `opfs_data` and `opfs_records`; on it stands `opfs_pages`.
 #![tactic(auto)]
 
 mod files;

@@ -1,4 +1,6 @@
 //! Bytes by position.
+//!
+//! It stands on `opfs_base`; on it stand `opfs_machine` and `opfs_work`.
 #![tactic(auto)]
 
 ghost use Rattle.std.specs.Prelude.{◌≡◌, ◌+◌, ◌≤◌, ◌<◌, ◌++◌, length, IfOk, vec_len, replicate, drop};

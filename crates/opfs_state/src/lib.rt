@@ -1,4 +1,6 @@
 //! The shared state without bytes: it judges each shared call, clears units for it, and changes by it, as the machine says.
+//!
+//! It stands on `opfs_state_rows`; on it stands `opfs_books`.
 #![tactic(auto)]
 
 mod applying;

@@ -1,9 +1,8 @@
-//! Tests of disks over real files, of the host of the folder that a test runs in, and of streams.
-//! Tests of the disks and hosts in memory and of the journal over them.
-//! Tests of changes as bytes and of sets of blocks.
-//! Tests of the tree.
-//! Tests of the shed, the pool and working copies.
-//! Tests of bytes and pages in blocks.
+//! Tests of disks over real files and in memory, the journal, changes as bytes, sets of blocks, the tree, the shed, the pool, working
+//! copies, and bytes and pages in blocks.
+//!
+//! It stands on `opfs_memory`, `opfs_files`, `opfs_blocks`, `opfs_tree`, `opfs_shed`, `opfs_pool`, `opfs_codec`,
+//! `opfs_work` and `opfs_data`.
 #![tactic(auto)]
 
 mod codec;

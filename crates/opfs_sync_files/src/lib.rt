@@ -1,4 +1,6 @@
 //! Access handles by the bytes of their files: what each call of an agent does to them, and what it stores for good.
+//!
+//! It stands on `opfs_agent`; on it stand `opfs_kv` and `opfs_pipe`.
 #![tactic(auto)]
 
 mod ending;

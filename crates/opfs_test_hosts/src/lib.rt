@@ -1,5 +1,7 @@
 //! What crates of tests share: commands of the program over hosts in memory, the images that these leave, verdicts on
 //! transcripts, and scripts that are drawn from numbers.
+//!
+//! It stands on `opfs_top`.
 #![tactic(auto)]
 
 mod altering;

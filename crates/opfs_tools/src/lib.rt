@@ -1,4 +1,6 @@
 //! Texts about an image: what it has, and the digests of its files.
+//!
+//! It stands on `opfs_image` and `opfs_print`; on it stands `opfs_dump`.
 #![tactic(auto)]
 
 mod checking;

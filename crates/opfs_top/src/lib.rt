@@ -1,4 +1,6 @@
 //! The program's one call: the words of a command, its input and its output.
+//!
+//! It stands on `opfs_commands`; on it stands `opfs`.
 #![tactic(auto)]
 
 mod answer;

@@ -1,4 +1,6 @@
 //! Tests of the program's one call: transcripts, verdicts, runs over an image, refusals, and the ends of a command.
+//!
+//! It stands on `opfs_test_hosts`.
 #![tactic(auto)]
 
 #[cfg(test)]

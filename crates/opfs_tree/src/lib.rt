@@ -1,4 +1,6 @@
 //! The rows of the store as a tree: a finite map from places to directories and files, closed under parents.
+//!
+//! It stands on `opfs_base` and `opfs_locks`; on it stand `opfs_state_rows` and `opfs_records`.
 #![tactic(auto)]
 
 mod counted;

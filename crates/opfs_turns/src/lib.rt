@@ -1,4 +1,6 @@
 //! An agent's turns: how one call under the turn goes from the agent to the store and back.
+//!
+//! It stands on `opfs_store`; on it stands `opfs_agent`.
 #![tactic(auto)]
 
 pub mod asking;

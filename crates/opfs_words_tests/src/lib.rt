@@ -1,4 +1,6 @@
 //! Tests of names, keys, locks, splicing, histories, texts and scripts.
+//!
+//! It stands on `opfs_script_kept` and `opfs_script_run`.
 #![tactic(auto)]
 
 #[cfg(test)]

@@ -1,4 +1,6 @@
 //! The working copy of a stream or an access handle, in pages of 4,096 bytes.
+//!
+//! It stands on `opfs_splice`; on it stands `opfs_store`.
 #![tactic(auto)]
 
 pub mod buffer;
