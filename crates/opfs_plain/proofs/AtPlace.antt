@@ -1,5 +1,5 @@
 -- A row that is found at a place.
-use Rattle.std.proofs.Common.{◌≡◌, ℕ, suc, ◌<◌, Bool, true, false, List, ◌∷◌, ◌++◌, length, get_or, take, drop, slice_set, refl, sym, ◌∙◌, ap}
+use Rattle.std.proofs.Common.{◌≡◌, ℕ, suc, ◌<◌, Bool, true, false, ◌∷◌, ◌++◌, length, get_or, take, drop, slice_set, refl, sym, ◌∙◌, ap}
 use Rattle.std.proofs.lemmas.List.{set_split}
 use Rattle.std.specs.Ordering.{is_eq}
 use Rattle.opfs_base.specs.Places.{Place, place_cmp}

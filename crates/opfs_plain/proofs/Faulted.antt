@@ -1,5 +1,5 @@
 -- When a call may be answered with a disk fault.
-use Rattle.std.proofs.Common.{◌≡◌, ℕ, ◌+◌, ◌<◌, ◌≤◌, true, false, List, [], ◌∷◌, ◌++◌, length, take, drop, Option, Some, None, Result, Ok, Err, refl, sym, ap, ◌∙◌, arith, length-append}
+use Rattle.std.proofs.Common.{◌≡◌, ℕ, ◌+◌, ◌<◌, true, false, List, ◌++◌, length, take, drop, Option, Some, None, Ok, Err, refl, sym, ap, ◌∙◌, arith, length-append}
 use Rattle.std.specs.Prelude.{IfSome, IfNone}
 use Rattle.std.proofs.lemmas.Bool.{false≢true}
 use Rattle.std.proofs.lemmas.List.{take-append-drop}
@@ -11,7 +11,7 @@ use Rattle.opfs_hist.specs.declared.reply.Reply.TheVariants.{No}
 use Rattle.opfs_machine.specs.declared.own.Own.{Own}
 use Rattle.opfs_machine.specs.declared.state.State.{State}
 use Rattle.opfs_machine.specs.Histories.{IsFault, is_disk_op}
-use Rattle.opfs_machine.specs.Replies.{answer, sizes_of}
+use Rattle.opfs_machine.specs.Replies.{sizes_of}
 use Rattle.opfs_machine.specs.Steps.{is_refusal, outcome_of, judged, step}
 use Rattle.opfs_laws.proofs.Accepted.{answer-accepted}
 use Rattle.opfs_plain.specs.Faults.{MayFault}
@@ -41,10 +41,6 @@ front-faults s k op units front count is disk cut = record {
 -- A refused call has no disk fault.
 pub no-fault-refused : (s : State Text Own) (k : ℕ) (op : Op) (r : Refusal) (count : ℕ) → judged s k op ≡ Err r → MayFault s count k op → ⊥
 no-fault-refused s k op r count is may = false≢true (sym may.fault.accepted ∙ step-refused s k op r is)
-
--- Nor has one that needs no disk.
-pub no-fault-local : (s : State Text Own) (k : ℕ) (op : Op) (count : ℕ) → is_disk_op s k op ≡ false → MayFault s count k op → ⊥
-no-fault-local s k op count local may = false≢true (sym local ∙ may.fault.disk)
 
 -- Nor may more units be cleared before it than the call would have cleared.
 pub no-fault-few : (s : State Text Own) (k : ℕ) (op : Op) (units : List Text) (count : ℕ) → judged s k op ≡ Ok units → length units < count → MayFault s count k op → ⊥

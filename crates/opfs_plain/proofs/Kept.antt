@@ -1,19 +1,18 @@
 -- A history goes on with one more call of the machine.
-use Rattle.std.proofs.Common.{◌≡◌, ℕ, true, false, All, List, [], ◌∷◌, ◌++◌, map, fold, refl, sym, ap, ◌∙◌, subst, IsTrue, Result, Ok, Err, OnOk}
+use Rattle.std.proofs.Common.{◌≡◌, true, false, All, [], ◌++◌, fold, sym, ap, ◌∙◌, subst, IsTrue, Result, Ok, Err, OnOk}
 use Rattle.std.proofs.lemmas.List.Sums.{fold-append}
 use Rattle.std.proofs.lemmas.List.Elements.{All-append}
 use Rattle.opfs_base.specs.Texts.{Text}
-use Rattle.opfs_hist.specs.declared.entry.Entry.{Entry}
 use Rattle.opfs_machine.specs.declared.own.Own.{Own}
 use Rattle.opfs_machine.specs.declared.state.State.{State}
 use Rattle.opfs_machine.specs.Agents.{agent_of}
 use Rattle.opfs_machine.specs.Histories.{may_enter, LegalFrom, after_entry}
 use Rattle.opfs_machine.specs.Runs.{Call, group_of}
-use Rattle.opfs_machine.specs.Steps.{step, outcome_of, judged}
+use Rattle.opfs_machine.specs.Steps.{step, judged}
 use Rattle.opfs_laws.proofs.NeverFaults.{group_sound}
 use Rattle.opfs_machine.proofs.GoOn.{group-after, legal-group}
 use Rattle.opfs_hist.specs.Faults.{is_disk_fault}
-use Rattle.opfs_plain.specs.Keeping.{IsKept, IsEntered}
+use Rattle.opfs_plain.specs.Keeping.{IsKept}
 use Rattle.opfs_plain.specs.declared.plain.Plain.{Plain}
 
 step-after : (s : State Text Own) (c : Call) → may_enter s c.agent c.op ≡ true
@@ -38,10 +37,6 @@ kept-more start old new c kept live fitting is_after is_more =
           ∙ sym (fold-append after_entry start old.entries group)
           ∙ ap (fold after_entry start) (sym is_more);
     }
-
-pub is_entered : (old new : Plain) (c : Call) → new.entries ≡ old.entries ++ group_of old.state c (step old.state c.agent c.op)
-    → IsEntered old.entries new.entries c.agent c.number c.op
-is_entered old new c is_more = record { gone = (step old.state c.agent c.op).victims; reply = (step old.state c.agent c.op).answered; grown = is_more }
 
 -- The same where the call found its memory.
 pub kept_on : {A E : Type 0} (r : Result A E) (old new : Plain) (c : Call)

@@ -1,5 +1,5 @@
 -- What the plain machine's parts say of what they change.
-use Rattle.std.specs.Prelude.{◌≡◌, ℕ, ◌<◌, List, length, Option, IsTrue, slice_set}
+use Rattle.std.specs.Prelude.{◌≡◌, ℕ, ◌<◌, length, Option, IsTrue, slice_set}
 use Rattle.std.proofs.Common.{get_or}
 use Rattle.opfs_base.specs.Names.{is_valid_name}
 use Rattle.opfs_base.specs.Places.{Place}

@@ -13,7 +13,7 @@ use crate::machine::{enter_refused, evict_all};
 use opfs_base::{Bytes, Key};
 use opfs_hist::{Entry, Op, Refusal};
 use opfs_machine::{Many, Own, State};
-use opfs_rulings::{is_agent, is_disk_op, judge};
+use opfs_rulings::{is_disk_op, judge};
 use std::alloc::{AllocError, Global};
 
 /// So many of the first units; None where there are fewer.
@@ -65,6 +65,7 @@ fn enter_fault(
     op: Op,
     units: Many<Key>,
 ) -> Result<(), AllocError>
+    requires { IsAgent state.old agent }
     ensures state { OnOk result (state.new ≡ after_reply (fold evicted state.old units) agent op (No DiskFault)) }
     ensures told { OnOk result (entries.new.items ≡ entries.old.items ++ (map eviction units ++ faulted_entry (record { agent = agent; number = number; op = op }) ∷ [])) }
 {
@@ -74,10 +75,6 @@ fn enter_fault(
             drop(op);
             return Err(error);
         }
-    }
-    if !is_agent(state, agent) {
-        drop(op);
-        return Err(AllocError);
     }
     enter_refused(alloc, state, entries, agent, number, op, Refusal::DiskFault)
 }

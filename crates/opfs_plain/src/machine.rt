@@ -10,16 +10,16 @@ ghost use Rattle.opfs_machine.specs.Replies.{row_named, sizes_of};
 ghost use Rattle.opfs_machine.specs.Runs.{eviction, group_of, entry_of};
 ghost use Rattle.opfs_machine.specs.Steps.{judged, evicted, step, outcome_of, after_reply};
 ghost use Rattle.opfs_machine.specs.Victims.{cleared};
-ghost use Rattle.opfs_rulings.specs.Known.{IsAgent, IsOwn};
+ghost use Rattle.opfs_rulings.specs.Known.{IsAgent};
 ghost use Rattle.opfs_plain.specs.Changing.{IsFitting};
 
 use crate::effects::apply;
 use crate::marks::set_waiting;
 use crate::rows::remove_within;
-use opfs_base::{Bytes, Key, Path, copy_key, is_valid_name, plus};
+use opfs_base::{Bytes, Key, Path, copy_key, plus};
 use opfs_hist::{Entry, Op, Refusal, Reply};
 use opfs_machine::{Many, Own, State, row_named};
-use opfs_rulings::{agent, answer, is_agent, judge, put, sizes_of};
+use opfs_rulings::{answer, judge, put, sizes_of};
 use std::alloc::{AllocError, Global};
 
 /// The key of an agent's origin; None for an opaque one, and where there is no such agent.
@@ -136,40 +136,6 @@ fn perform(
     Ok(())
 }
 
-/// Whether an agent has an own row of a number.
-fn has_row(state: &State<Bytes, Own>, number: u32, row: u32) -> bool
-    requires { IsAgent state.now number }
-    ensures { IsTrue result → IsOwn (agent_of state.now number) row }
-{
-    row > 0 && row as usize <= agent(state, number).own.items.len()
-}
-
-/// Whether a call's name is valid where it makes or removes a child, and its row is there where it changes one.
-#[tactic(auto, unfolding(crate::specs::Changing::IsFittingFor))]
-fn is_fitting(state: &State<Bytes, Own>, number: u32, op: &Op) -> bool
-    requires { IsAgent state.now number }
-    ensures { IsTrue result → IsFitting state.now number op.now }
-{
-    match op {
-        Op::GetDirectoryHandle { name, .. }
-        | Op::GetFileHandle { name, .. }
-        | Op::RemoveEntry { name, .. } => is_valid_name(name.as_str()),
-        Op::Next { row, .. }
-        | Op::Write { row, .. }
-        | Op::Seek { row, .. }
-        | Op::Truncate { row, .. }
-        | Op::Close { row }
-        | Op::Abort { row }
-        | Op::SyncRead { row, .. }
-        | Op::SyncWrite { row, .. }
-        | Op::SyncTruncate { row, .. }
-        | Op::SyncFlush { row }
-        | Op::SyncClose { row }
-        | Op::Discard { row } => has_row(state, number, *row),
-        _ => true,
-    }
-}
-
 /// The evictions of a call that is not refused, its effect and its count.
 fn evict_and_perform(
     alloc: Global,
@@ -179,13 +145,12 @@ fn evict_and_perform(
     op: &Op,
     units: Many<Key>,
 ) -> Result<(), AllocError>
+    requires agent { IsAgent state.old agent }
+    requires fitting { IsFitting state.old agent op.now }
     ensures state { OnOk result (state.new ≡ (outcome_of state.old agent op.now (Ok units)).after) }
     ensures told { OnOk result (entries.new.items ≡ entries.old.items ++ map eviction units) }
 {
     evict_all(alloc, state, entries, units)?;
-    if !is_agent(state, agent) || !is_fitting(state, agent, op) {
-        return Err(AllocError);
-    }
     perform(alloc, state, agent, op)?;
     Ok(())
 }
@@ -220,7 +185,8 @@ fn enter_accepted(
     op: Op,
     units: Many<Key>,
 ) -> Result<(), AllocError>
-    requires { IsAgent state.old agent }
+    requires agent { IsAgent state.old agent }
+    requires fitting { IsFitting state.old agent op }
     ensures state { OnOk result (state.new ≡ (outcome_of state.old agent op (Ok units)).after) }
     ensures told { OnOk result (entries.new.items ≡ entries.old.items ++ group_of state.old (record { agent = agent; number = number; op = op }) (outcome_of state.old agent op (Ok units))) }
 {
@@ -246,7 +212,7 @@ fn enter_accepted(
     }
 }
 
-/// A call, with the evictions before it.
+/// A call that may have an entry, with the evictions before it.
 #[tactic(auto, unfolding(opfs_machine::specs::Steps::step))]
 pub fn enter(
     alloc: Global,
@@ -256,7 +222,8 @@ pub fn enter(
     number: u32,
     op: Op,
 ) -> Result<(), AllocError>
-    requires { IsAgent state.old agent }
+    requires agent { IsAgent state.old agent }
+    requires fitting { IsTrue (may_enter state.old agent op) }
     ensures state { OnOk result (state.new ≡ (step state.old agent op).after) }
     ensures told { OnOk result (entries.new.items ≡ entries.old.items ++ group_of state.old (record { agent = agent; number = number; op = op }) (step state.old agent op)) }
 {
