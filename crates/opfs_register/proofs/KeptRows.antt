@@ -6,17 +6,16 @@ use Rattle.std.specs.List.{list_any}
 use Rattle.opfs_machine.specs.Agents.{of_row, is_open_row}
 use Rattle.opfs_machine.specs.declared.own.Outline.{Outline}
 use Rattle.opfs_machine.specs.declared.own.Outline.TheVariants as outline
-use Rattle.opfs_register.specs.declared.kind.RowKind.TheVariants as row_kind
-use Rattle.opfs_register.specs.declared.open.Slot.{Slot}
-use Rattle.opfs_register.specs.declared.open.Slot.TheVariants as slot
-use Rattle.opfs_register.specs.Slots.{outline_in, kind_of_row, slot_row, place_in, Rises, row_of_slot, row_of_place, row_in, first_values, rows_in, keeping, IsNumbered, most_rows}
+use Rattle.opfs_register.specs.declared.open.HeldRow.{HeldRow}
+use Rattle.opfs_register.specs.declared.open.HeldRow.TheVariants as slot
+use Rattle.opfs_register.specs.Slots.{outline_in, slot_row, place_in, Rises, row_of_slot, row_of_place, row_in, first_values, rows_in, keeping, IsNumbered, most_rows}
 use Rattle.opfs_register.proofs.Numbers.{differs, ties, at_most, at_least, place-missing}
 use Rattle.opfs_register.proofs.FirstValues.{get-first, same-first, set-first, and-first, many-first, none-first, any-set}
 
 some_is : {A : Type 0} {x y : A} → Some x ≡ Some y → x ≡ y
 some_is h = cc
 
-pub slot_row_of : (s : Slot) → slot_row (outline_in s) ≡ Some (outline_in s)
+pub slot_row_of : (s : HeldRow) → slot_row (outline_in s) ≡ Some (outline_in s)
 slot_row_of (slot.Stream w) = refl
 slot_row_of slot.ClosedStream = refl
 slot_row_of (slot.Handle h) = refl
@@ -96,7 +95,7 @@ pub rises-more : (ns : List ℕ) (from c d : ℕ) → c ≤ d → Rises from ns 
 rises-more [] from c d le h = omega (arith, le, h)
 rises-more (m ∷ ms) from c d le h = (h.0, rises-more ms (m + 1) c d le h.1)
 
-module _ (ns : List ℕ) (ss : List Slot) (c : ℕ) (rising : Rises 0 ns c) (paired : length ss ≡ length ns) where
+module _ (ns : List ℕ) (ss : List HeldRow) (c : ℕ) (rising : Rises 0 ns c) (paired : length ss ≡ length ns) where
   pub place-inside : (n i : ℕ) → place_in ns n ≡ Some i → i < length ss
   place-inside n i is = omega (arith, paired, slice_get_within ns i n (place-at ns n i is))
 
@@ -106,7 +105,7 @@ module _ (ns : List ℕ) (ss : List Slot) (c : ℕ) (rising : Rises 0 ns c) (pai
       omega (arith, get_or_from_slice_get ns i n 0 there, at_most ns 0 c i rising (slice_get_within ns i n there))
 
   -- The slot of a number that was found, and what is where none was.
-  pub slot-found : (n i : ℕ) (found : Option Slot) → place_in ns n ≡ Some i → found ≡ slice_get ss i → option_map outline_in found ≡ of_row slot_row (slice_get (rows_in ns ss c) n)
+  pub slot-found : (n i : ℕ) (found : Option HeldRow) → place_in ns n ≡ Some i → found ≡ slice_get ss i → option_map outline_in found ≡ of_row slot_row (slice_get (rows_in ns ss c) n)
   slot-found n i found is result =
       let there = slot-at ss i (place-inside n i is) in
       ap (option_map outline_in) (result ∙ there.1) ∙ sym (slot_row_of there.0)
@@ -123,7 +122,7 @@ module _ (ns : List ℕ) (ss : List Slot) (c : ℕ) (rising : Rises 0 ns c) (pai
       cc
 
   -- Another slot in the place of one.
-  pub row-replaced : (n i : ℕ) (v : Slot) → place_in ns n ≡ Some i → rows_in ns (slice_set ss i v) c ≡ slice_set (rows_in ns ss c) n (outline_in v)
+  pub row-replaced : (n i : ℕ) (v : HeldRow) → place_in ns n ≡ Some i → rows_in ns (slice_set ss i v) c ≡ slice_set (rows_in ns ss c) n (outline_in v)
   row-replaced n i v is =
       set-first (row_in ns ss) (row_in ns (slice_set ss i v)) c n (outline_in v)
       (ap (row_of_place (slice_set ss i v)) is ∙ ap row_of_slot (get-set ss i v (place-inside n i is)))
@@ -143,7 +142,7 @@ module _ (ns : List ℕ) (ss : List Slot) (c : ℕ) (rising : Rises 0 ns c) (pai
       let is : outline.Iterator ≡ r = sym (ap (row_of_place ss) none) ∙ row-is (row_in ns ss) c n r there in
       sym (set-same (rows_in ns ss c) n (keeping reserve r) (there ∙ ap Some (sym is ∙ ap (keeping reserve) is)))
 
-  pub row-kept_so : (n i reserve : ℕ) (was v : Slot) → place_in ns n ≡ Some i → was ≡ get_or ss i was → outline_in v ≡ keeping reserve (outline_in was)
+  pub row-kept_so : (n i reserve : ℕ) (was v : HeldRow) → place_in ns n ≡ Some i → was ≡ get_or ss i was → outline_in v ≡ keeping reserve (outline_in was)
       → (r : Outline) → slice_get (rows_in ns ss c) n ≡ Some r → rows_in ns (slice_set ss i v) c ≡ slice_set (rows_in ns ss c) n (keeping reserve r)
   row-kept_so n i reserve was v is held same r there =
       row-replaced n i v is ∙ ap (slice_set (rows_in ns ss c) n) (same ∙ ap (keeping reserve) (was_is ∙ row-is (row_in ns ss) c n r there))
@@ -151,7 +150,7 @@ module _ (ns : List ℕ) (ss : List Slot) (c : ℕ) (rising : Rises 0 ns c) (pai
       was_is : outline_in was ≡ row_in ns ss n
       was_is = sym (ap (row_of_place ss) is ∙ ap row_of_slot (slice_get-get_or ss i was (place-inside n i is) ∙ ap Some (sym held)))
 
-  pub row-was : (n i : ℕ) (was : Slot) → place_in ns n ≡ Some i → was ≡ get_or ss i was → slice_get (rows_in ns ss c) n ≡ Some (outline_in was)
+  pub row-was : (n i : ℕ) (was : HeldRow) → place_in ns n ≡ Some i → was ≡ get_or ss i was → slice_get (rows_in ns ss c) n ≡ Some (outline_in was)
   row-was n i was is held =
       get-first (row_in ns ss) c n (number-inside n i is)
       ∙ ap Some (ap (row_of_place ss) is ∙ ap row_of_slot (slice_get-get_or ss i was (place-inside n i is) ∙ ap Some (sym held)))
@@ -164,7 +163,7 @@ module _ (ns : List ℕ) (ss : List Slot) (c : ℕ) (rising : Rises 0 ns c) (pai
   rows-more more = many-first (row_in ns ss) c more (c + more) outline.Iterator refl (λ n le. ap (row_of_place ss) (number-missing n le))
 
   -- One slot more.
-  pub rows-added : (s : Slot) → rows_in (ns ++ c ∷ []) (ss ++ s ∷ []) (c + 1) ≡ rows_in ns ss c ++ outline_in s ∷ []
+  pub rows-added : (s : HeldRow) → rows_in (ns ++ c ∷ []) (ss ++ s ∷ []) (c + 1) ≡ rows_in ns ss c ++ outline_in s ∷ []
   rows-added s =
       let next : c + 1 ≡ suc c = omega arith in
       ap (rows_in (ns ++ c ∷ []) (ss ++ s ∷ [])) next
@@ -182,26 +181,12 @@ module _ (ns : List ℕ) (ss : List Slot) (c : ℕ) (rising : Rises 0 ns c) (pai
       here : row_in (ns ++ c ∷ []) (ss ++ s ∷ []) c ≡ outline_in s
       here = ap (row_of_place (ss ++ s ∷ [])) (place-last ns c (number-missing c (omega arith))) ∙ ap row_of_slot (ap (slice_get (ss ++ s ∷ [])) (sym paired) ∙ get-last ss s)
 
--- What kind a row is of that has no slot.
-kind-of : (r : Outline) → None ≡ slot_row r → row_kind.Iterator ≡ kind_of_row r
-kind-of outline.Iterator none = refl
-kind-of (outline.Stream w) none = cc
-kind-of outline.ClosedStream none = cc
-kind-of (outline.Handle h) none = cc
-kind-of outline.ClosedHandle none = cc
-kind-of outline.Snapshot none = cc
-
-pub kind-missing : (ns : List ℕ) (ss : List Slot) (c n : ℕ) → n < c → None ≡ of_row slot_row (slice_get (rows_in ns ss c) n) → Some row_kind.Iterator ≡ option_map kind_of_row (slice_get (rows_in ns ss c) n)
-kind-missing ns ss c n lt none =
-    let there : slice_get (rows_in ns ss c) n ≡ Some (row_in ns ss n) = get-first (row_in ns ss) c n lt in
-    ap Some (kind-of (row_in ns ss n) (none ∙ ap (of_row slot_row) there)) ∙ ap (option_map kind_of_row) (sym there)
-
 -- Whether an open row is among them.
-some-more : (s : Slot) (ss : List Slot) (p : Option ℕ) → row_of_place (s ∷ ss) (option_map suc p) ≡ row_of_place ss p
+some-more : (s : HeldRow) (ss : List HeldRow) (p : Option ℕ) → row_of_place (s ∷ ss) (option_map suc p) ≡ row_of_place ss p
 some-more s ss None = refl
 some-more s ss (Some i) = refl
 
-pub any-open : (ns : List ℕ) (ss : List Slot) (from c : ℕ) → Rises from ns c → length ss ≡ length ns → list_any is_open_row (rows_in ns ss c) ≡ list_any (λ s. is_open_row (outline_in s)) ss
+pub any-open : (ns : List ℕ) (ss : List HeldRow) (from c : ℕ) → Rises from ns c → length ss ≡ length ns → list_any is_open_row (rows_in ns ss c) ≡ list_any (λ s. is_open_row (outline_in s)) ss
 any-open [] [] from c rising paired = none-first is_open_row c outline.Iterator refl
 any-open [] (s ∷ ss) from c rising paired = absurd (omega (arith, paired))
 any-open (m ∷ ms) [] from c rising paired = absurd (omega (arith, paired))
@@ -218,7 +203,7 @@ any-open (m ∷ ms) (s ∷ ss) from c rising paired =
     below : m < c
     below = at_most (m ∷ ms) from c 0 rising (omega arith)
 
-pub numbered-and : (ns : List ℕ) (ss : List Slot) (c : ℕ) (s : Slot) → IsNumbered c ns (length ss) → c < most_rows → IsNumbered (c + 1) (ns ++ c ∷ []) (length (ss ++ s ∷ []))
+pub numbered-and : (ns : List ℕ) (ss : List HeldRow) (c : ℕ) (s : HeldRow) → IsNumbered c ns (length ss) → c < most_rows → IsNumbered (c + 1) (ns ++ c ∷ []) (length (ss ++ s ∷ []))
 numbered-and ns ss c s held few = record {
   few = omega (arith, few);
   paired = omega (arith, held.paired, length-append ns (c ∷ []), length-append ss (s ∷ []));

@@ -6,27 +6,16 @@ use Rattle.opfs_machine.specs.declared.own.Outline.{Outline}
 use Rattle.opfs_machine.specs.declared.own.Outline.TheVariants as outline
 use Rattle.opfs_machine.specs.declared.own.StreamOutline.{StreamOutline}
 use Rattle.opfs_machine.specs.declared.state.Agent.{Agent}
-use Rattle.opfs_register.specs.declared.open.Slot.{Slot}
-use Rattle.opfs_register.specs.declared.open.Slot.TheVariants as slot
-use Rattle.opfs_register.specs.declared.kind.RowKind.{RowKind}
-use Rattle.opfs_register.specs.declared.kind.RowKind.TheVariants as row_kind
+use Rattle.opfs_register.specs.declared.open.HeldRow.{HeldRow}
+use Rattle.opfs_register.specs.declared.open.HeldRow.TheVariants as slot
 
 -- What the shared store knows of a row.
-abbrev pub outline_in : Slot → Outline
+abbrev pub outline_in : HeldRow → Outline
 outline_in (slot.Stream w) = outline.Stream w
 outline_in slot.ClosedStream = outline.ClosedStream
 outline_in (slot.Handle h) = outline.Handle h
 outline_in slot.ClosedHandle = outline.ClosedHandle
 outline_in slot.Snapshot = outline.Snapshot
-
--- What kind of row it is.
-abbrev pub kind_of_row : Outline → RowKind
-kind_of_row (outline.Stream w) = row_kind.Stream
-kind_of_row outline.ClosedStream = row_kind.ClosedStream
-kind_of_row (outline.Handle h) = row_kind.Handle
-kind_of_row outline.ClosedHandle = row_kind.ClosedHandle
-kind_of_row outline.Snapshot = row_kind.Snapshot
-kind_of_row outline.Iterator = row_kind.Iterator
 
 -- A row that is no iterator.
 abbrev pub slot_row : Outline → Option Outline
@@ -44,16 +33,16 @@ Rises from [] below = from ≤ below
 Rises from (m ∷ ms) below = (from ≤ m) × Rises (m + 1) ms below
 
 -- The row of a slot that is there, and else an iterator.
-abbrev pub row_of_slot : Option Slot → Outline
+abbrev pub row_of_slot : Option HeldRow → Outline
 row_of_slot None = outline.Iterator
 row_of_slot (Some s) = outline_in s
 
-abbrev pub row_of_place : List Slot → Option ℕ → Outline
+abbrev pub row_of_place : List HeldRow → Option ℕ → Outline
 row_of_place slots None = outline.Iterator
 row_of_place slots (Some i) = row_of_slot (slice_get slots i)
 
 -- The row of a number: the slot that has this number, and where none has it an iterator.
-abbrev pub row_in : List ℕ → List Slot → ℕ → Outline
+abbrev pub row_in : List ℕ → List HeldRow → ℕ → Outline
 row_in numbers slots n = row_of_place slots (place_in numbers n)
 
 -- The first so many values.
@@ -62,7 +51,7 @@ first_values f zero = []
 first_values f (suc k) = f 0 ∷ first_values (λ n. f (suc n)) k
 
 -- So many rows, of which some slots have these numbers; all others are iterators.
-abbrev pub rows_in : List ℕ → List Slot → ℕ → List Outline
+abbrev pub rows_in : List ℕ → List HeldRow → ℕ → List Outline
 rows_in numbers slots count = first_values (row_in numbers slots) count
 
 -- The own row at a place of an agent at a place, both counted from 0.

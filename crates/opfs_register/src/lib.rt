@@ -5,7 +5,6 @@
 #![tactic(auto)]
 
 mod circles;
-mod kind;
 mod open;
 mod posts;
 mod register;
@@ -16,7 +15,6 @@ mod tag_set;
 mod tags;
 mod uses;
 
-pub use kind::RowKind;
-pub use open::{OpenHandle, OpenStream, Slot};
+pub use open::{HeldRow, OpenHandle, OpenStream};
 pub use register::Register;
 pub use seat::Who;

@@ -3,11 +3,10 @@
 ghost use Rattle.std.specs.Prelude.{◌≡◌, Some, IsSome};
 ghost use Rattle.std.specs.Option.{option_copied};
 ghost use Rattle.opfs_machine.specs.Agents.{stream_in, handle_in, is_open_row};
-ghost use Rattle.opfs_register.specs.Slots.{outline_in, kind_of_row, keeping};
+ghost use Rattle.opfs_register.specs.Slots.{outline_in, keeping};
 ghost use Rattle.opfs_locks.specs.declared.Want.TheVariants as want;
 ghost use Rattle.opfs_machine.specs.Rulings.{want_of};
 
-use crate::kind::RowKind;
 use opfs_hist::Mode;
 use opfs_locks::Held;
 use opfs_machine::{HandleOutline, Place, StreamOutline};
@@ -49,8 +48,8 @@ impl Model for OpenHandle {
     ghost invariant = { λ handle. handle.held ≡ want_of handle.outline.mode };
 }
 
-/// An own row of an agent.
-pub enum Slot {
+/// An own row of an agent, with the lock that it holds while it is open.
+pub enum HeldRow {
     /// An open writable stream.
     Stream(OpenStream),
     /// A stream that was closed or aborted.
@@ -63,13 +62,13 @@ pub enum Slot {
     Snapshot,
 }
 
-impl Slot {
+impl HeldRow {
     /// The open stream that it is.
     pub(crate) fn stream(&self) -> Option<&StreamOutline>
         ensures { option_copied result ≡ stream_in (outline_in self.now) }
     {
         match self {
-            Slot::Stream(stream) => Some(stream.outline()),
+            HeldRow::Stream(stream) => Some(stream.outline()),
             _ => None,
         }
     }
@@ -79,21 +78,8 @@ impl Slot {
         ensures { option_copied result ≡ handle_in (outline_in self.now) }
     {
         match self {
-            Slot::Handle(handle) => Some(handle.outline()),
+            HeldRow::Handle(handle) => Some(handle.outline()),
             _ => None,
-        }
-    }
-
-    /// What kind of row it is.
-    pub(crate) fn kind(&self) -> RowKind
-        ensures { result ≡ kind_of_row (outline_in self.now) }
-    {
-        match self {
-            Slot::Stream(_) => RowKind::Stream,
-            Slot::ClosedStream => RowKind::ClosedStream,
-            Slot::Handle(_) => RowKind::Handle,
-            Slot::ClosedHandle => RowKind::ClosedHandle,
-            Slot::Snapshot => RowKind::Snapshot,
         }
     }
 
@@ -101,21 +87,21 @@ impl Slot {
     pub(crate) fn is_open(&self) -> bool
         ensures { result ≡ is_open_row (outline_in self.now) }
     {
-        matches!(self, Slot::Stream(_) | Slot::Handle(_))
+        matches!(self, HeldRow::Stream(_) | HeldRow::Handle(_))
     }
 
     /// Ends what it holds, without giving any lock back.
     pub(crate) fn end(self) {
         match self {
-            Slot::Stream(stream) => {
+            HeldRow::Stream(stream) => {
                 let (_outline, held) = stream.into_parts();
                 held.end();
             }
-            Slot::Handle(handle) => {
+            HeldRow::Handle(handle) => {
                 let (_outline, held) = handle.into_parts();
                 held.end();
             }
-            Slot::ClosedStream | Slot::ClosedHandle | Slot::Snapshot => (),
+            HeldRow::ClosedStream | HeldRow::ClosedHandle | HeldRow::Snapshot => (),
         }
     }
 
@@ -124,8 +110,8 @@ impl Slot {
         ensures { outline_in self.new ≡ keeping reserve (outline_in self.old) }
     {
         match self {
-            Slot::Stream(stream) => stream.set_reserve(reserve),
-            Slot::Handle(handle) => handle.set_reserve(reserve),
+            HeldRow::Stream(stream) => stream.set_reserve(reserve),
+            HeldRow::Handle(handle) => handle.set_reserve(reserve),
             _ => (),
         }
     }
@@ -136,13 +122,13 @@ impl Slot {
         ensures { Some result ≡ stream_in (outline_in self) }
     {
         match self {
-            Slot::Stream(stream) => stream,
-            Slot::Handle(handle) => {
+            HeldRow::Stream(stream) => stream,
+            HeldRow::Handle(handle) => {
                 let (_outline, held) = handle.into_parts();
                 held.end();
                 unreachable!()
             }
-            Slot::ClosedStream | Slot::ClosedHandle | Slot::Snapshot => { unreachable!() }
+            HeldRow::ClosedStream | HeldRow::ClosedHandle | HeldRow::Snapshot => { unreachable!() }
         }
     }
 
@@ -152,13 +138,13 @@ impl Slot {
         ensures { Some result ≡ handle_in (outline_in self) }
     {
         match self {
-            Slot::Handle(handle) => handle,
-            Slot::Stream(stream) => {
+            HeldRow::Handle(handle) => handle,
+            HeldRow::Stream(stream) => {
                 let (_outline, held) = stream.into_parts();
                 held.end();
                 unreachable!()
             }
-            Slot::ClosedStream | Slot::ClosedHandle | Slot::Snapshot => { unreachable!() }
+            HeldRow::ClosedStream | HeldRow::ClosedHandle | HeldRow::Snapshot => { unreachable!() }
         }
     }
 }

@@ -8,10 +8,9 @@ ghost use Rattle.opfs_machine.specs.declared.own.Outline.{Outline};
 ghost use Rattle.opfs_machine.specs.declared.own.Outline.TheVariants as outline;
 ghost use Rattle.opfs_register.specs.Registers.{bare, used_after};
 ghost use Rattle.opfs_register.specs.Seating.{agent_begun, noted, most_agents};
-ghost use Rattle.opfs_register.specs.Slots.{kind_of_row, slot_in, stream_at, handle_at, with_slot, keeping, most_rows};
+ghost use Rattle.opfs_register.specs.Slots.{slot_in, stream_at, handle_at, with_slot, keeping, most_rows};
 
-use crate::kind::RowKind;
-use crate::open::{OpenHandle, OpenStream, Slot};
+use crate::open::{HeldRow, OpenHandle, OpenStream};
 use crate::posts::Posts;
 use crate::seat::Who;
 use crate::seats::Seats;
@@ -103,14 +102,6 @@ impl Register {
         self.seats.seat(at).grant
     }
 
-    /// Whether an agent's script has not ended.
-    pub fn is_live(&self, at: usize) -> bool
-        requires { at < length self.now.agents }
-        ensures { result ≡ (agent_in self.now.agents (suc at)).live }
-    {
-        self.seats.seat(at).live
-    }
-
     /// An agent's clock.
     pub fn moment(&self, at: usize) -> u64
         requires { at < length self.now.agents }
@@ -126,13 +117,6 @@ impl Register {
         ensures few { result ≤ most_rows }
     {
         self.seats.seat(at).rows.count()
-    }
-
-    /// What kind of row is at a place of an agent at a place.
-    pub fn row_kind(&self, at: usize, n: usize) -> Option<RowKind>
-        ensures { result ≡ option_map kind_of_row (slot_in self.now.agents at n) }
-    {
-        self.seats.kind(at, n)
     }
 
     /// Whether an agent has an open stream or access handle.
@@ -213,7 +197,7 @@ impl Register {
         requires few { length (agent_in self.old.agents (suc at)).own < most_rows }
         ensures { self.new ≡ record self.old { agents = slice_set self.old.agents at (record (agent_in self.old.agents (suc at)) { own = (agent_in self.old.agents (suc at)).own ++ outline.Stream stream ∷ [] }); room = None } }
     {
-        self.seats.add_row(at, Slot::Stream(stream));
+        self.seats.add_row(at, HeldRow::Stream(stream));
     }
 
     /// Gives an agent that has room an open access handle. Takes no memory.
@@ -223,7 +207,7 @@ impl Register {
         requires few { length (agent_in self.old.agents (suc at)).own < most_rows }
         ensures { self.new ≡ record self.old { agents = slice_set self.old.agents at (record (agent_in self.old.agents (suc at)) { own = (agent_in self.old.agents (suc at)).own ++ outline.Handle handle ∷ [] }); room = None } }
     {
-        self.seats.add_row(at, Slot::Handle(handle));
+        self.seats.add_row(at, HeldRow::Handle(handle));
     }
 
     /// Gives an agent that has room a snapshot. Takes no memory.
@@ -233,7 +217,7 @@ impl Register {
         requires few { length (agent_in self.old.agents (suc at)).own < most_rows }
         ensures { self.new ≡ record self.old { agents = slice_set self.old.agents at (record (agent_in self.old.agents (suc at)) { own = (agent_in self.old.agents (suc at)).own ++ outline.Snapshot ∷ [] }); room = None } }
     {
-        self.seats.add_row(at, Slot::Snapshot);
+        self.seats.add_row(at, HeldRow::Snapshot);
     }
 
     /// Gives an agent one iterator more. Takes no memory.

@@ -6,10 +6,9 @@ ghost use Rattle.std.specs.Option.{option_copied};
 ghost use Rattle.opfs_machine.specs.Agents.{of_row, stream_in, handle_in, is_open_row};
 ghost use Rattle.opfs_machine.specs.declared.own.Outline.{Outline};
 ghost use Rattle.opfs_machine.specs.declared.own.Outline.TheVariants as outline;
-ghost use Rattle.opfs_register.specs.Slots.{Rises, place_in, outline_in, kind_of_row, slot_row, keeping, most_rows};
+ghost use Rattle.opfs_register.specs.Slots.{Rises, place_in, outline_in, slot_row, keeping, most_rows};
 
-use crate::kind::RowKind;
-use crate::open::{OpenHandle, OpenStream, Slot};
+use crate::open::{HeldRow, OpenHandle, OpenStream};
 use opfs_machine::{HandleOutline, StreamOutline};
 use std::alloc::{AllocError, Global};
 use std::marker::Model;
@@ -20,7 +19,7 @@ use std::mem::replace;
 pub struct OwnRows {
     count: usize,
     numbers: Vec<usize>,
-    slots: Vec<Slot>,
+    slots: Vec<HeldRow>,
     ready: bool,
 }
 
@@ -45,14 +44,14 @@ fn place_of(numbers: &[usize], n: usize, below: usize) -> Option<usize>
 }
 
 // The slot at a place.
-fn slot_at(slots: &[Slot], place: usize) -> Option<&Slot>
+fn slot_at(slots: &[HeldRow], place: usize) -> Option<&HeldRow>
     ensures { option_copied result ≡ slice_get slots.now place }
 {
     slots.get(place)
 }
 
 // Whether an open stream or access handle is among some slots.
-fn any_open(slots: &[Slot]) -> bool
+fn any_open(slots: &[HeldRow]) -> bool
     ensures { result ≡ list_any (λ slot. is_open_row (outline_in slot)) slots.now }
 {
     slots.iter().any(|slot| slot.is_open())
@@ -80,7 +79,7 @@ impl OwnRows {
     }
 
     // The row of a number, if it is no iterator.
-    fn slot(&self, n: usize) -> Option<&Slot>
+    fn slot(&self, n: usize) -> Option<&HeldRow>
         ensures { option_map outline_in (option_copied result) ≡ of_row slot_row (slice_get self.now.own n) }
     {
         match place_of(self.numbers.as_slice(), n, self.count) {
@@ -103,19 +102,6 @@ impl OwnRows {
         self.slot(n)?.handle()
     }
 
-    /// What kind of row has a number.
-    pub(crate) fn kind(&self, n: usize) -> Option<RowKind>
-        ensures { result ≡ option_map kind_of_row (slice_get self.now.own n) }
-    {
-        if n >= self.count {
-            return None;
-        }
-        match self.slot(n) {
-            Some(slot) => Some(slot.kind()),
-            None => Some(RowKind::Iterator),
-        }
-    }
-
     /// Whether an open stream or access handle is among them.
     pub(crate) fn has_open(&self) -> bool
         ensures { result ≡ list_any is_open_row self.now.own }
@@ -124,7 +110,7 @@ impl OwnRows {
     }
 
     /// Puts another row in the place of one that is no iterator, and gives that.
-    pub(crate) fn replace(&mut self, n: usize, slot: Slot) -> Slot
+    pub(crate) fn replace(&mut self, n: usize, slot: HeldRow) -> HeldRow
         requires { IsSome (of_row slot_row (slice_get self.old.own n)) }
         ensures rows { self.new ≡ record self.old { own = slice_set self.old.own n (outline_in slot) } }
         ensures old { slice_get self.old.own n ≡ Some (outline_in result) }
@@ -158,7 +144,7 @@ impl OwnRows {
     }
 
     /// Appends a row that is no iterator. Takes no memory.
-    pub(crate) fn add(&mut self, slot: Slot)
+    pub(crate) fn add(&mut self, slot: HeldRow)
         requires ready { IsTrue self.old.ready }
         requires few { length self.old.own < most_rows }
         ensures { self.new ≡ record { own = self.old.own ++ outline_in slot ∷ []; ready = false } }
@@ -190,7 +176,7 @@ impl OwnRows {
 }
 
 // Ends all slots.
-fn end_slots(slots: Vec<Slot>) {
+fn end_slots(slots: Vec<HeldRow>) {
     let mut slots = slots;
     while !slots.is_empty() {
         let slot = slots.take_last();

@@ -9,10 +9,9 @@ ghost use Rattle.opfs_register.specs.Seating.{agent_seen, agents_seen, agent_beg
 ghost use Rattle.opfs_base.specs.Texts.{Text};
 ghost use Rattle.std.specs.FinMap.Entries.{find};
 ghost use Rattle.opfs_register.specs.LastUses.{text_cmp, used_in, is_known};
-ghost use Rattle.opfs_register.specs.Slots.{outline_in, kind_of_row, slot_row, slot_in, with_slot, stream_at, handle_at, keeping, most_rows};
+ghost use Rattle.opfs_register.specs.Slots.{outline_in, slot_row, slot_in, with_slot, stream_at, handle_at, keeping, most_rows};
 
-use crate::kind::RowKind;
-use crate::open::{OpenHandle, OpenStream, Slot};
+use crate::open::{HeldRow, OpenHandle, OpenStream};
 use crate::seat::{Seat, Who, begin, end};
 use crate::uses::Uses;
 use opfs_base::{Bytes, Key};
@@ -141,15 +140,8 @@ impl Seats {
         self.items.get(at)?.rows.handle(n)
     }
 
-    /// What kind of row is at a place of an agent at a place.
-    pub(crate) fn kind(&self, at: usize, n: usize) -> Option<RowKind>
-        ensures { result ≡ option_map kind_of_row (slot_in self.now.agents at n) }
-    {
-        self.items.get(at)?.rows.kind(n)
-    }
-
     // Puts another row in the place of one that is no iterator, and gives that.
-    fn replace(&mut self, at: usize, n: usize, slot: Slot) -> Slot
+    fn replace(&mut self, at: usize, n: usize, slot: HeldRow) -> HeldRow
         requires { IsSome (of_row slot_row (slot_in self.old.agents at n)) }
         ensures seats { self.new ≡ record self.old { agents = with_slot self.old.agents at n (outline_in slot) } }
         ensures old { slot_in self.old.agents at n ≡ Some (outline_in result) }
@@ -171,7 +163,7 @@ impl Seats {
         ensures seats { self.new ≡ record self.old { agents = with_slot self.old.agents at n outline.ClosedStream } }
         ensures stream { stream_at self.old.agents at n ≡ Some result }
     {
-        self.replace(at, n, Slot::ClosedStream).into_stream()
+        self.replace(at, n, HeldRow::ClosedStream).into_stream()
     }
 
     /// Closes an open access handle, and gives it.
@@ -180,7 +172,7 @@ impl Seats {
         ensures seats { self.new ≡ record self.old { agents = with_slot self.old.agents at n outline.ClosedHandle } }
         ensures handle { handle_at self.old.agents at n ≡ Some result }
     {
-        self.replace(at, n, Slot::ClosedHandle).into_handle()
+        self.replace(at, n, HeldRow::ClosedHandle).into_handle()
     }
 
     /// Makes room for one row more of an agent.
@@ -195,7 +187,7 @@ impl Seats {
     }
 
     /// Gives an agent that has room one row more. Takes no memory.
-    pub(crate) fn add_row(&mut self, at: usize, slot: Slot)
+    pub(crate) fn add_row(&mut self, at: usize, slot: HeldRow)
         requires inside { at < length self.old.agents }
         requires room { self.old.room ≡ Some at }
         requires few { length (agent_in self.old.agents (suc at)).own < most_rows }

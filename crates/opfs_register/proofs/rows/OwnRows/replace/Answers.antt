@@ -1,6 +1,6 @@
 use Rattle.std.proofs.Common.{List, Some, sym, ap, ◌∙◌, rules, slice_set}
 use Rattle.opfs_machine.specs.declared.own.Outline.{Outline}
-use Rattle.opfs_register.specs.declared.open.Slot.{Slot}
+use Rattle.opfs_register.specs.declared.open.HeldRow.{HeldRow}
 use Rattle.opfs_register.specs.Slots.{outline_in, place_in, rows_in, Rowed}
 use Rattle.opfs_register.proofs.KeptRows.{row-kept, place-inside, row-replaced, row-was}
 use Rattle.opfs_register.proofs.rows.OwnRows.replace.Goals as goal
@@ -30,7 +30,7 @@ returns-clause-rows c =
     (ap with
     (row-replaced rows.numbers.items rows.slots.items rows.count held.rising held.paired c.args.n c.in-Some.place c.replace.new.dest
     (ap (λ ns. place_in ns c.args.n) (sym c.as_slice.ensures.value) ∙ sym c.place_of.ensures ∙ c.in-Some.is)
-    ∙ ap (λ (v : Slot). slice_set (rows_in rows.numbers.items rows.slots.items rows.count) c.args.n (outline_in v)) c.replace.ensures.after))
+    ∙ ap (λ (v : HeldRow). slice_set (rows_in rows.numbers.items rows.slots.items rows.count) c.args.n (outline_in v)) c.replace.ensures.after))
 
 pub returns-clause-old : goal.returns-clause-old
 returns-clause-old c =
@@ -39,4 +39,4 @@ returns-clause-old c =
     rw (← c.self.view_is)
     (row-was rows.numbers.items rows.slots.items rows.count held.rising held.paired c.args.n c.in-Some.place c.index_mut.result.now
     (ap (λ ns. place_in ns c.args.n) (sym c.as_slice.ensures.value) ∙ sym c.place_of.ensures ∙ c.in-Some.is) c.index_mut.ensures.value
-    ∙ ap (λ (v : Slot). Some (outline_in v)) (sym c.replace.ensures.value))
+    ∙ ap (λ (v : HeldRow). Some (outline_in v)) (sym c.replace.ensures.value))
