@@ -1,12 +1,9 @@
--- One history of a script's agents. This project's own.
-use Rattle.std.specs.Prelude.{◌≡◌, ℕ, ◌+◌, ◌≤◌, List, All, length, Some, slice_get}
-use Rattle.opfs_base.specs.Texts.{Text}
+-- Which histories are those of a script's agents. This project's own.
+use Rattle.std.specs.Prelude.{◌≡◌, ℕ, ◌+◌, List, Some, slice_get}
 use Rattle.opfs_hist.specs.declared.entry.Entry.{Entry}
 use Rattle.opfs_machine.specs.declared.state.Party.{Party}
 use Rattle.opfs_machine.specs.Alone.{IsAlone, project}
-use Rattle.opfs_machine.specs.Histories.{Legal}
 use Rattle.opfs_machine.specs.Openings.{Opening}
-use Rattle.opfs_print.specs.Lines.{text_of}
 use Rattle.opfs_script_run.specs.Runs.Running.{IsRun, IsCut, entries_of}
 use Rattle.opfs_script.specs.Scripts.{Asked}
 
@@ -21,13 +18,3 @@ EachCut script es = (k : ℕ) (a : Asked) → slice_get script k ≡ Some a → 
 -- Each party's part of a history is a run of the machine that has that party's rows, modes and agents alone.
 abbrev pub EachAlone : Opening → List Entry → Type 0
 EachAlone o es = (party : Party) → IsAlone o party (project o party es)
-
--- One legal history of the machine: each agent's calls stand once, in its order; no other entry stands in it but
--- evictions, whose agent is 0; and each party's part of it is a run of that party's own machine. The text is its
--- transcript. What rests on the disk holds where that tells the truth.
-pub record IsOneHistory (tells : Type 0) (Runs : List Asked → List Entry → Type 0) (o : Opening) (script : List Asked) (history : List Entry) (text : Text) : Type 0 where
-  pub printed : text ≡ text_of history
-  pub runs : Runs script history
-  pub agents : All (λ e. e.agent ≤ length script) history
-  pub legal : tells → Legal o history
-  pub alone : tells → EachAlone o history
