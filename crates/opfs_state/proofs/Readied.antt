@@ -43,10 +43,3 @@ free-row m t place lines none = none-row (row_at place t) (line-in m t place lin
 pub child-has : (m : Machine) (t : Rows) (dir : Place) (name : Text) → m.rows ≡ lines_of t → machine.row_at m dir ≡ Some line.Directory → HasParent (child dir name) t
 child-has m t dir name lines there = λ d n is.
     subst (λ p. row_at p t ≡ Some row.Dir) (child-parent dir d name n is) (directory-row (row_at dir t) (line-in m t dir lines ∙ there))
-
-pub root-has : (t : Rows) (unit : Text) → HasParent (unit, []) t
-root-has t unit = λ d n is. absurd (empty n d.1 (ap (λ (p : Place). p.1) is))
-  where
-    empty : (n : Text) (xs : List Text) → [] ≡ xs ++ n ∷ [] → ⊥
-    empty n [] e = cc
-    empty n (x ∷ xs) e = cc

@@ -158,9 +158,6 @@ some-cond : (b : Bool) (r : Row Text) (o : Option (Row Text)) → is_some o ≡ 
 some-cond true r o h = refl
 some-cond false r o h = h
 
-abbrev roots_with : Bool → Text → List Text → List Text
-roots_with b unit units = elim b as (λ x. List Text) [ true ↦ unit ∷ units | false ↦ units ]
-
 root-some : (unit : Text) (rows : Rows Text) → list_any (same_text unit) (filter_map root_unit rows) ≡ true → is_some (find place_cmp (unit, []) rows) ≡ true
 root-some unit [] h = cc
 root-some unit (e ∷ es) h =

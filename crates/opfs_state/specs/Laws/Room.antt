@@ -3,7 +3,6 @@ use Rattle.std.specs.Prelude.{◌≡◌, ℕ, true, false, List, ◌∷◌, ◌+
 use Rattle.opfs_base.specs.Texts.{Text}
 use Rattle.opfs_base.specs.Units.{unit_of}
 use Rattle.opfs_state_rows.specs.Changes.Allowed.{MayApply}
-use Rattle.opfs_state_rows.specs.Changes.Asking.{AreOwnUnits, is_beside}
 use Rattle.opfs_hist.specs.declared.entry.Entry.{Entry}
 use Rattle.opfs_hist.specs.declared.op.Op.{Op}
 use Rattle.opfs_laws.specs.Whole.{IsWholeOpening}

@@ -101,23 +101,6 @@ module _ (rows rest : tree.Rows) (place : Place) (r : Row) (start shed shed_afte
           ] refl;
     }
 
--- Nothing is counted, and then all.
-none_held : (n : ℕ) → 0 + n ≡ n
-none_held n = omega arith
-
-pub counted-none : (rows : tree.Rows) (shed : Storage) (pool : Blocks) → pool.shares ≡ [] → IsCounted rows rows shed shed pool
-counted-none rows shed pool none = record {
-  quota = refl;
-  buckets = λ u. refl;
-  usages = λ origin. refl;
-  modes = refl;
-  shared = λ u has. absurd (true_false (sym has ∙ ap (λ es. has_share es u) none));
-  known = λ place there gone. absurd (true_false (sym there ∙ gone));
-  blocks = λ u. ap (λ es. (share_at es u).blocks + files_in (same_text u) rows) none ∙ none_held (files_in (same_text u) rows);
-  held = ap (λ es. held es + files_in anywhere rows) none ∙ none_held (files_in anywhere rows);
-  marks = λ u has. absurd (true_false (sym has ∙ ap (λ es. has_share es u) none));
-}
-
 none_of : {X : Type 0} (o : Option X) → is_some o ≡ false → o ≡ None
 none_of None h = refl
 none_of (Some x) h = cc

@@ -62,9 +62,6 @@ module _ (rows : tree.Rows) (shed : Storage) (blocks : Blocks) (rest : Registere
   pub usage-known : usage_of (origin_of w.file.0) shed.buckets ≡ usage in_lengths m (origin_of w.file.0)
   usage-known = tied.usages (origin_of w.file.0) ∙ sym (usage-is m (origin_of w.file.0))
 
-  pub held-known : held blocks.shares ≡ pool in_lengths m
-  held-known = tied.held ∙ sym (pool-is m)
-
   module _ (shed_after : Storage) (blocks_after : Blocks) (rest_after : Registered) where
     module _ (more : ℕ) (added : shed_after ≡ shed_words.changed shed w.file.0 (record (bucket_at shed.buckets w.file.0) { usage = (bucket_at shed.buckets w.file.0).usage + more }))
         (set : (r : Outline) → slot_in rest.agents at n ≡ Some r → rest_after ≡ record rest { agents = with_slot rest.agents at n (keeping (w.reserve + more) r) }) where

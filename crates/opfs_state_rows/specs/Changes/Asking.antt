@@ -66,10 +66,6 @@ units_of m k o = []
 abbrev pub AreOwnUnits : Machine → ℕ → Op → Type 0
 AreOwnUnits m k o = AllByRecursion (λ unit. is_callers (agent_of m k).key unit ≡ true) (units_of m k o)
 
--- Whether a unit is none of these.
-abbrev pub is_beside : Text → Machine → ℕ → Op → Bool
-is_beside unit m k o = not (list_any (same_text unit) (units_of m k o))
-
 abbrev pub root_in : Option Text → Option (Place × Kind)
 root_in None = None
 root_in (Some unit) = Some ((unit, []), kind.Directory)
