@@ -1,12 +1,14 @@
 -- All that a call asks for stands ready.
 use Rattle.std.proofs.Common.{◌≡◌, ℕ, ◌-◌, Bool, true, false, cond, Option, Some, None, Result, Ok, Err, refl, sym, ap, ◌∙◌}
 use Rattle.std.specs.Prelude.{IfOk, OnOk}
+use Rattle.std.proofs.lemmas.Bool.{false≢true}
 use Rattle.opfs_base.specs.Names.{is_valid_name}
 use Rattle.opfs_base.specs.Places.{Place, place_of, child}
 use Rattle.opfs_base.specs.Texts.{Text}
 use Rattle.opfs_base.specs.declared.locator.Kind.{Kind}
 use Rattle.opfs_base.specs.declared.locator.Kind.TheVariants as kind
 use Rattle.opfs_base.specs.declared.locator.Locator.{Locator}
+use Rattle.opfs_state_rows.proofs.changes.ByMaking.{by-making}
 use Rattle.opfs_state_rows.proofs.changes.Rowed.{row-target, row-grows}
 use Rattle.opfs_state_rows.proofs.changes.Told.{located-directory}
 use Rattle.opfs_state_rows.specs.Changes.Asking.{made_at, place_for, target_of, growth_of, makes_row, makes_slot, makes_in_unit, tag_in, handle_place, root_place, bucket_unit, IsAccepted}
@@ -60,76 +62,10 @@ unfolding ruling
 remove-asked m k dir name recursive a = let ruled = ruled-of m k (op.RemoveEntry dir name recursive) a in remove-named m dir name recursive ruled.0 ruled.1
 
 row-slot : (o : Op) → makes_row o ≡ true → makes_slot o ≡ true → ⊥
-row-slot (op.GetDirectory bucket) h g = cc
-row-slot (op.GetDirectoryHandle dir name create) h g = cc
-row-slot (op.GetFileHandle dir name create) h g = cc
-row-slot (op.RemoveEntry dir name recursive) h g = cc
-row-slot (op.Values dir) h g = cc
-row-slot (op.Next n dir) h g = cc
-row-slot (op.Resolve dir entry) h g = cc
-row-slot (op.IsSameEntry entry to) h g = cc
-row-slot (op.GetFile at) h g = cc
-row-slot (op.Slice n at len) h g = cc
-row-slot (op.CreateWritable at keep) h g = cc
-row-slot (op.Write n bytes position) h g = cc
-row-slot (op.Seek n position) h g = cc
-row-slot (op.Truncate n size) h g = cc
-row-slot (op.Close n) h g = cc
-row-slot (op.Abort n) h g = cc
-row-slot (op.CreateSyncAccessHandle at mode) h g = cc
-row-slot (op.SyncRead n len at) h g = cc
-row-slot (op.SyncWrite n bytes at) h g = cc
-row-slot (op.SyncTruncate n size) h g = cc
-row-slot (op.SyncGetSize n) h g = cc
-row-slot (op.SyncFlush n) h g = cc
-row-slot (op.SyncClose n) h g = cc
-row-slot (op.Persist bucket) h g = cc
-row-slot (op.Persisted bucket) h g = cc
-row-slot op.Estimate h g = cc
-row-slot (op.Moment ms) h g = cc
-row-slot (op.Post tag) h g = cc
-row-slot (op.Await tag) h g = cc
-row-slot (op.Wait tag) h g = cc
-row-slot (op.Discard n) h g = cc
-row-slot op.End h g = cc
-row-slot (op.Unbound word) h g = cc
-row-slot (op.Evict unit) h g = cc
+row-slot = by-making (λ o. makes_slot o ≡ true → ⊥) (λ bucket h. cc) (λ dir name create h. cc) (λ dir name create h. cc)
 
 row-tag : (o : Op) (tag : Text) → makes_row o ≡ true → tag_in o ≡ Some tag → ⊥
-row-tag (op.GetDirectory bucket) text h g = cc
-row-tag (op.GetDirectoryHandle dir name create) text h g = cc
-row-tag (op.GetFileHandle dir name create) text h g = cc
-row-tag (op.RemoveEntry dir name recursive) text h g = cc
-row-tag (op.Values dir) text h g = cc
-row-tag (op.Next n dir) text h g = cc
-row-tag (op.Resolve dir entry) text h g = cc
-row-tag (op.IsSameEntry entry to) text h g = cc
-row-tag (op.GetFile at) text h g = cc
-row-tag (op.Slice n at len) text h g = cc
-row-tag (op.CreateWritable at keep) text h g = cc
-row-tag (op.Write n bytes position) text h g = cc
-row-tag (op.Seek n position) text h g = cc
-row-tag (op.Truncate n size) text h g = cc
-row-tag (op.Close n) text h g = cc
-row-tag (op.Abort n) text h g = cc
-row-tag (op.CreateSyncAccessHandle at mode) text h g = cc
-row-tag (op.SyncRead n len at) text h g = cc
-row-tag (op.SyncWrite n bytes at) text h g = cc
-row-tag (op.SyncTruncate n size) text h g = cc
-row-tag (op.SyncGetSize n) text h g = cc
-row-tag (op.SyncFlush n) text h g = cc
-row-tag (op.SyncClose n) text h g = cc
-row-tag (op.Persist bucket) text h g = cc
-row-tag (op.Persisted bucket) text h g = cc
-row-tag op.Estimate text h g = cc
-row-tag (op.Moment ms) text h g = cc
-row-tag (op.Post word) text h g = cc
-row-tag (op.Await word) text h g = cc
-row-tag (op.Wait word) text h g = cc
-row-tag (op.Discard n) text h g = cc
-row-tag op.End text h g = cc
-row-tag (op.Unbound word) text h g = cc
-row-tag (op.Evict unit) text h g = cc
+row-tag o tag = by-making (λ o. tag_in o ≡ Some tag → ⊥) (λ bucket h. cc) (λ dir name create h. cc) (λ dir name create h. cc) o
 
 pub row-ready : (s new : Seen) (own : Option Place) (more k : ℕ) (o : Op) → makes_row o ≡ true → HasStayed s new → IsRowReady new own more (place_for s.machine k o) → IsReady new own more k o
 row-ready s new own more k o makes stays r =
@@ -232,227 +168,60 @@ asks op.End = false
 asks (op.Unbound word) = false
 asks (op.Evict unit) = false
 
-quiet-target : (m : Machine) (k : ℕ) (o : Op) → asks o ≡ false → None ≡ target_of m k o
-unfolding target_of made_at
-quiet-target m k (op.GetDirectory bucket) h = cc
-quiet-target m k (op.GetDirectoryHandle dir name create) h = cc
-quiet-target m k (op.GetFileHandle dir name create) h = cc
-quiet-target m k (op.RemoveEntry dir name recursive) h = cc
-quiet-target m k (op.Values dir) h = refl
-quiet-target m k (op.Next n dir) h = refl
-quiet-target m k (op.Resolve dir entry) h = refl
-quiet-target m k (op.IsSameEntry entry to) h = refl
-quiet-target m k (op.GetFile at) h = cc
-quiet-target m k (op.Slice n at len) h = refl
-quiet-target m k (op.CreateWritable at keep) h = cc
-quiet-target m k (op.Write n bytes position) h = refl
-quiet-target m k (op.Seek n position) h = refl
-quiet-target m k (op.Truncate n size) h = refl
-quiet-target m k (op.Close n) h = refl
-quiet-target m k (op.Abort n) h = refl
-quiet-target m k (op.CreateSyncAccessHandle at mode) h = cc
-quiet-target m k (op.SyncRead n len at) h = refl
-quiet-target m k (op.SyncWrite n bytes at) h = cc
-quiet-target m k (op.SyncTruncate n size) h = cc
-quiet-target m k (op.SyncGetSize n) h = refl
-quiet-target m k (op.SyncFlush n) h = cc
-quiet-target m k (op.SyncClose n) h = refl
-quiet-target m k (op.Persist bucket) h = cc
-quiet-target m k (op.Persisted bucket) h = refl
-quiet-target m k op.Estimate h = refl
-quiet-target m k (op.Moment ms) h = refl
-quiet-target m k (op.Post tag) h = cc
-quiet-target m k (op.Await tag) h = refl
-quiet-target m k (op.Wait tag) h = cc
-quiet-target m k (op.Discard n) h = refl
-quiet-target m k op.End h = refl
-quiet-target m k (op.Unbound word) h = refl
-quiet-target m k (op.Evict unit) h = refl
+-- What a call makes for which nothing has to stand ready: no row, no place of its own, no own row and no tag.
+record MakesNothing (m : Machine) (k : ℕ) (o : Op) : Type 0 where
+  pub target : None ≡ target_of m k o
+  pub growth : 0 ≡ growth_of m k o
+  pub row : makes_row o ≡ false
+  pub unit : makes_in_unit o ≡ false
+  pub slot : makes_slot o ≡ false
+  pub tag : tag_in o ≡ None
 
-quiet-growth : (m : Machine) (k : ℕ) (o : Op) → asks o ≡ false → 0 ≡ growth_of m k o
-unfolding growth_of made_at
-quiet-growth m k (op.GetDirectory bucket) h = cc
-quiet-growth m k (op.GetDirectoryHandle dir name create) h = cc
-quiet-growth m k (op.GetFileHandle dir name create) h = cc
-quiet-growth m k (op.RemoveEntry dir name recursive) h = cc
-quiet-growth m k (op.Values dir) h = refl
-quiet-growth m k (op.Next n dir) h = refl
-quiet-growth m k (op.Resolve dir entry) h = refl
-quiet-growth m k (op.IsSameEntry entry to) h = refl
-quiet-growth m k (op.GetFile at) h = cc
-quiet-growth m k (op.Slice n at len) h = refl
-quiet-growth m k (op.CreateWritable at keep) h = cc
-quiet-growth m k (op.Write n bytes position) h = refl
-quiet-growth m k (op.Seek n position) h = refl
-quiet-growth m k (op.Truncate n size) h = refl
-quiet-growth m k (op.Close n) h = refl
-quiet-growth m k (op.Abort n) h = refl
-quiet-growth m k (op.CreateSyncAccessHandle at mode) h = cc
-quiet-growth m k (op.SyncRead n len at) h = refl
-quiet-growth m k (op.SyncWrite n bytes at) h = cc
-quiet-growth m k (op.SyncTruncate n size) h = cc
-quiet-growth m k (op.SyncGetSize n) h = refl
-quiet-growth m k (op.SyncFlush n) h = cc
-quiet-growth m k (op.SyncClose n) h = refl
-quiet-growth m k (op.Persist bucket) h = cc
-quiet-growth m k (op.Persisted bucket) h = refl
-quiet-growth m k op.Estimate h = refl
-quiet-growth m k (op.Moment ms) h = refl
-quiet-growth m k (op.Post tag) h = cc
-quiet-growth m k (op.Await tag) h = refl
-quiet-growth m k (op.Wait tag) h = cc
-quiet-growth m k (op.Discard n) h = refl
-quiet-growth m k op.End h = refl
-quiet-growth m k (op.Unbound word) h = refl
-quiet-growth m k (op.Evict unit) h = refl
+nothing-made : (m : Machine) (k : ℕ) (o : Op) → asks o ≡ false → MakesNothing m k o
+unfolding target_of growth_of made_at
+nothing-made m k (op.GetDirectory bucket) h = absurd (false≢true (sym h))
+nothing-made m k (op.GetDirectoryHandle dir name create) h = absurd (false≢true (sym h))
+nothing-made m k (op.GetFileHandle dir name create) h = absurd (false≢true (sym h))
+nothing-made m k (op.RemoveEntry dir name recursive) h = absurd (false≢true (sym h))
+nothing-made m k (op.Values dir) h = record { target = refl; growth = refl; row = refl; unit = refl; slot = refl; tag = refl }
+nothing-made m k (op.Next n dir) h = record { target = refl; growth = refl; row = refl; unit = refl; slot = refl; tag = refl }
+nothing-made m k (op.Resolve dir entry) h = record { target = refl; growth = refl; row = refl; unit = refl; slot = refl; tag = refl }
+nothing-made m k (op.IsSameEntry entry to) h = record { target = refl; growth = refl; row = refl; unit = refl; slot = refl; tag = refl }
+nothing-made m k (op.GetFile at) h = absurd (false≢true (sym h))
+nothing-made m k (op.Slice n at len) h = record { target = refl; growth = refl; row = refl; unit = refl; slot = refl; tag = refl }
+nothing-made m k (op.CreateWritable at keep) h = absurd (false≢true (sym h))
+nothing-made m k (op.Write n bytes position) h = record { target = refl; growth = refl; row = refl; unit = refl; slot = refl; tag = refl }
+nothing-made m k (op.Seek n position) h = record { target = refl; growth = refl; row = refl; unit = refl; slot = refl; tag = refl }
+nothing-made m k (op.Truncate n size) h = record { target = refl; growth = refl; row = refl; unit = refl; slot = refl; tag = refl }
+nothing-made m k (op.Close n) h = record { target = refl; growth = refl; row = refl; unit = refl; slot = refl; tag = refl }
+nothing-made m k (op.Abort n) h = record { target = refl; growth = refl; row = refl; unit = refl; slot = refl; tag = refl }
+nothing-made m k (op.CreateSyncAccessHandle at mode) h = absurd (false≢true (sym h))
+nothing-made m k (op.SyncRead n len at) h = record { target = refl; growth = refl; row = refl; unit = refl; slot = refl; tag = refl }
+nothing-made m k (op.SyncWrite n bytes at) h = absurd (false≢true (sym h))
+nothing-made m k (op.SyncTruncate n size) h = absurd (false≢true (sym h))
+nothing-made m k (op.SyncGetSize n) h = record { target = refl; growth = refl; row = refl; unit = refl; slot = refl; tag = refl }
+nothing-made m k (op.SyncFlush n) h = absurd (false≢true (sym h))
+nothing-made m k (op.SyncClose n) h = record { target = refl; growth = refl; row = refl; unit = refl; slot = refl; tag = refl }
+nothing-made m k (op.Persist bucket) h = absurd (false≢true (sym h))
+nothing-made m k (op.Persisted bucket) h = record { target = refl; growth = refl; row = refl; unit = refl; slot = refl; tag = refl }
+nothing-made m k op.Estimate h = record { target = refl; growth = refl; row = refl; unit = refl; slot = refl; tag = refl }
+nothing-made m k (op.Moment ms) h = record { target = refl; growth = refl; row = refl; unit = refl; slot = refl; tag = refl }
+nothing-made m k (op.Post tag) h = absurd (false≢true (sym h))
+nothing-made m k (op.Await tag) h = record { target = refl; growth = refl; row = refl; unit = refl; slot = refl; tag = refl }
+nothing-made m k (op.Wait tag) h = absurd (false≢true (sym h))
+nothing-made m k (op.Discard n) h = record { target = refl; growth = refl; row = refl; unit = refl; slot = refl; tag = refl }
+nothing-made m k op.End h = record { target = refl; growth = refl; row = refl; unit = refl; slot = refl; tag = refl }
+nothing-made m k (op.Unbound word) h = record { target = refl; growth = refl; row = refl; unit = refl; slot = refl; tag = refl }
+nothing-made m k (op.Evict unit) h = record { target = refl; growth = refl; row = refl; unit = refl; slot = refl; tag = refl }
 
-quiet-makes : (o : Op) → asks o ≡ false → makes_row o ≡ false
-quiet-makes (op.GetDirectory bucket) h = cc
-quiet-makes (op.GetDirectoryHandle dir name create) h = cc
-quiet-makes (op.GetFileHandle dir name create) h = cc
-quiet-makes (op.RemoveEntry dir name recursive) h = cc
-quiet-makes (op.Values dir) h = refl
-quiet-makes (op.Next n dir) h = refl
-quiet-makes (op.Resolve dir entry) h = refl
-quiet-makes (op.IsSameEntry entry to) h = refl
-quiet-makes (op.GetFile at) h = cc
-quiet-makes (op.Slice n at len) h = refl
-quiet-makes (op.CreateWritable at keep) h = cc
-quiet-makes (op.Write n bytes position) h = refl
-quiet-makes (op.Seek n position) h = refl
-quiet-makes (op.Truncate n size) h = refl
-quiet-makes (op.Close n) h = refl
-quiet-makes (op.Abort n) h = refl
-quiet-makes (op.CreateSyncAccessHandle at mode) h = cc
-quiet-makes (op.SyncRead n len at) h = refl
-quiet-makes (op.SyncWrite n bytes at) h = cc
-quiet-makes (op.SyncTruncate n size) h = cc
-quiet-makes (op.SyncGetSize n) h = refl
-quiet-makes (op.SyncFlush n) h = cc
-quiet-makes (op.SyncClose n) h = refl
-quiet-makes (op.Persist bucket) h = cc
-quiet-makes (op.Persisted bucket) h = refl
-quiet-makes op.Estimate h = refl
-quiet-makes (op.Moment ms) h = refl
-quiet-makes (op.Post tag) h = cc
-quiet-makes (op.Await tag) h = refl
-quiet-makes (op.Wait tag) h = cc
-quiet-makes (op.Discard n) h = refl
-quiet-makes op.End h = refl
-quiet-makes (op.Unbound word) h = refl
-quiet-makes (op.Evict unit) h = refl
-
-quiet-unit : (o : Op) → asks o ≡ false → makes_in_unit o ≡ true → ⊥
-quiet-unit (op.GetDirectory bucket) h g = cc
-quiet-unit (op.GetDirectoryHandle dir name create) h g = cc
-quiet-unit (op.GetFileHandle dir name create) h g = cc
-quiet-unit (op.RemoveEntry dir name recursive) h g = cc
-quiet-unit (op.Values dir) h g = cc
-quiet-unit (op.Next n dir) h g = cc
-quiet-unit (op.Resolve dir entry) h g = cc
-quiet-unit (op.IsSameEntry entry to) h g = cc
-quiet-unit (op.GetFile at) h g = cc
-quiet-unit (op.Slice n at len) h g = cc
-quiet-unit (op.CreateWritable at keep) h g = cc
-quiet-unit (op.Write n bytes position) h g = cc
-quiet-unit (op.Seek n position) h g = cc
-quiet-unit (op.Truncate n size) h g = cc
-quiet-unit (op.Close n) h g = cc
-quiet-unit (op.Abort n) h g = cc
-quiet-unit (op.CreateSyncAccessHandle at mode) h g = cc
-quiet-unit (op.SyncRead n len at) h g = cc
-quiet-unit (op.SyncWrite n bytes at) h g = cc
-quiet-unit (op.SyncTruncate n size) h g = cc
-quiet-unit (op.SyncGetSize n) h g = cc
-quiet-unit (op.SyncFlush n) h g = cc
-quiet-unit (op.SyncClose n) h g = cc
-quiet-unit (op.Persist bucket) h g = cc
-quiet-unit (op.Persisted bucket) h g = cc
-quiet-unit op.Estimate h g = cc
-quiet-unit (op.Moment ms) h g = cc
-quiet-unit (op.Post tag) h g = cc
-quiet-unit (op.Await tag) h g = cc
-quiet-unit (op.Wait tag) h g = cc
-quiet-unit (op.Discard n) h g = cc
-quiet-unit op.End h g = cc
-quiet-unit (op.Unbound word) h g = cc
-quiet-unit (op.Evict unit) h g = cc
-
-quiet-slot : (o : Op) → asks o ≡ false → makes_slot o ≡ true → ⊥
-quiet-slot (op.GetDirectory bucket) h g = cc
-quiet-slot (op.GetDirectoryHandle dir name create) h g = cc
-quiet-slot (op.GetFileHandle dir name create) h g = cc
-quiet-slot (op.RemoveEntry dir name recursive) h g = cc
-quiet-slot (op.Values dir) h g = cc
-quiet-slot (op.Next n dir) h g = cc
-quiet-slot (op.Resolve dir entry) h g = cc
-quiet-slot (op.IsSameEntry entry to) h g = cc
-quiet-slot (op.GetFile at) h g = cc
-quiet-slot (op.Slice n at len) h g = cc
-quiet-slot (op.CreateWritable at keep) h g = cc
-quiet-slot (op.Write n bytes position) h g = cc
-quiet-slot (op.Seek n position) h g = cc
-quiet-slot (op.Truncate n size) h g = cc
-quiet-slot (op.Close n) h g = cc
-quiet-slot (op.Abort n) h g = cc
-quiet-slot (op.CreateSyncAccessHandle at mode) h g = cc
-quiet-slot (op.SyncRead n len at) h g = cc
-quiet-slot (op.SyncWrite n bytes at) h g = cc
-quiet-slot (op.SyncTruncate n size) h g = cc
-quiet-slot (op.SyncGetSize n) h g = cc
-quiet-slot (op.SyncFlush n) h g = cc
-quiet-slot (op.SyncClose n) h g = cc
-quiet-slot (op.Persist bucket) h g = cc
-quiet-slot (op.Persisted bucket) h g = cc
-quiet-slot op.Estimate h g = cc
-quiet-slot (op.Moment ms) h g = cc
-quiet-slot (op.Post tag) h g = cc
-quiet-slot (op.Await tag) h g = cc
-quiet-slot (op.Wait tag) h g = cc
-quiet-slot (op.Discard n) h g = cc
-quiet-slot op.End h g = cc
-quiet-slot (op.Unbound word) h g = cc
-quiet-slot (op.Evict unit) h g = cc
-
-quiet-tag : (o : Op) (text : Text) → asks o ≡ false → tag_in o ≡ Some text → ⊥
-quiet-tag (op.GetDirectory bucket) text h g = cc
-quiet-tag (op.GetDirectoryHandle dir name create) text h g = cc
-quiet-tag (op.GetFileHandle dir name create) text h g = cc
-quiet-tag (op.RemoveEntry dir name recursive) text h g = cc
-quiet-tag (op.Values dir) text h g = cc
-quiet-tag (op.Next n dir) text h g = cc
-quiet-tag (op.Resolve dir entry) text h g = cc
-quiet-tag (op.IsSameEntry entry to) text h g = cc
-quiet-tag (op.GetFile at) text h g = cc
-quiet-tag (op.Slice n at len) text h g = cc
-quiet-tag (op.CreateWritable at keep) text h g = cc
-quiet-tag (op.Write n bytes position) text h g = cc
-quiet-tag (op.Seek n position) text h g = cc
-quiet-tag (op.Truncate n size) text h g = cc
-quiet-tag (op.Close n) text h g = cc
-quiet-tag (op.Abort n) text h g = cc
-quiet-tag (op.CreateSyncAccessHandle at mode) text h g = cc
-quiet-tag (op.SyncRead n len at) text h g = cc
-quiet-tag (op.SyncWrite n bytes at) text h g = cc
-quiet-tag (op.SyncTruncate n size) text h g = cc
-quiet-tag (op.SyncGetSize n) text h g = cc
-quiet-tag (op.SyncFlush n) text h g = cc
-quiet-tag (op.SyncClose n) text h g = cc
-quiet-tag (op.Persist bucket) text h g = cc
-quiet-tag (op.Persisted bucket) text h g = cc
-quiet-tag op.Estimate text h g = cc
-quiet-tag (op.Moment ms) text h g = cc
-quiet-tag (op.Post tag) text h g = cc
-quiet-tag (op.Await tag) text h g = cc
-quiet-tag (op.Wait tag) text h g = cc
-quiet-tag (op.Discard n) text h g = cc
-quiet-tag op.End text h g = cc
-quiet-tag (op.Unbound word) text h g = cc
-quiet-tag (op.Evict unit) text h g = cc
+no-tag : (tag : Text) → None ≡ Some tag → ⊥
+no-tag tag h = cc
 
 pub quiet-ready : (s new : Seen) (k : ℕ) (o : Op) → asks o ≡ false → HasStayed s new → new.prepared.place ≡ None → IsReady new None 0 k o
 quiet-ready s new k o quiet stays none =
-    other-ready s new None 0 k o (quiet-makes o quiet) stays none (quiet-target s.machine k o quiet) (quiet-growth s.machine k o quiet) (λ p made is. absurd (quiet-unit o quiet made)) (λ slot. absurd (quiet-slot o quiet slot)) (λ t is. absurd (quiet-tag o t quiet is))
+    let made = nothing-made s.machine k o quiet in
+    other-ready s new None 0 k o made.row stays none made.target made.growth (λ p makes is. absurd (false≢true (sym made.unit ∙ makes)))
+    (λ makes. absurd (false≢true (sym made.slot ∙ makes))) (λ tag is. absurd (no-tag tag (sym made.tag ∙ is)))
 
 -- Calls that ask for something.
 module _ (s new : Seen) (own : Option Place) (more k : ℕ) (stays : HasStayed s new) (none : new.prepared.place ≡ None) where

@@ -1,3 +1,4 @@
+pub mod ByMaking
 pub mod Covering
 pub mod Ended
 pub mod Fewer

@@ -31,6 +31,7 @@ use Rattle.opfs_tree.specs.Ready.Ready.{new_row as new_tree_row}
 use Rattle.opfs_state_rows.proofs.standing.Lines.{there-at}
 use Rattle.opfs_state_rows.specs.Standing.Coming.{IsReadyFor}
 use Rattle.opfs_state_rows.specs.Standing.Seen.{Machine, Seen, Prepared, lines_of}
+use Rattle.opfs_state_rows.proofs.changes.ByMaking.{by-making}
 use Rattle.opfs_state_rows.proofs.changes.Found.{some-is}
 use Rattle.opfs_state_rows.proofs.changes.Told.{same-need}
 use Rattle.opfs_state_rows.specs.Changes.Allowed.{MayApply}
@@ -40,114 +41,15 @@ use Rattle.opfs_tree.specs.Rows as tree
 
 pub row-target : (m : Machine) (k : ℕ) (o : Op) → makes_row o ≡ true → target_of m k o ≡ place_in (place_for m k o)
 unfolding target_of
-row-target m k (op.GetDirectory bucket) h = refl
-row-target m k (op.GetDirectoryHandle dir name create) h = refl
-row-target m k (op.GetFileHandle dir name create) h = refl
-row-target m k (op.RemoveEntry dir name recursive) h = cc
-row-target m k (op.Values dir) h = cc
-row-target m k (op.Next n dir) h = cc
-row-target m k (op.Resolve dir entry) h = cc
-row-target m k (op.IsSameEntry entry to) h = cc
-row-target m k (op.GetFile at) h = cc
-row-target m k (op.Slice n at len) h = cc
-row-target m k (op.CreateWritable at keep) h = cc
-row-target m k (op.Write n bytes position) h = cc
-row-target m k (op.Seek n position) h = cc
-row-target m k (op.Truncate n size) h = cc
-row-target m k (op.Close n) h = cc
-row-target m k (op.Abort n) h = cc
-row-target m k (op.CreateSyncAccessHandle at mode) h = cc
-row-target m k (op.SyncRead n len at) h = cc
-row-target m k (op.SyncWrite n bytes at) h = cc
-row-target m k (op.SyncTruncate n size) h = cc
-row-target m k (op.SyncGetSize n) h = cc
-row-target m k (op.SyncFlush n) h = cc
-row-target m k (op.SyncClose n) h = cc
-row-target m k (op.Persist bucket) h = cc
-row-target m k (op.Persisted bucket) h = cc
-row-target m k op.Estimate h = cc
-row-target m k (op.Moment ms) h = cc
-row-target m k (op.Post tag) h = cc
-row-target m k (op.Await tag) h = cc
-row-target m k (op.Wait tag) h = cc
-row-target m k (op.Discard n) h = cc
-row-target m k op.End h = cc
-row-target m k (op.Unbound word) h = cc
-row-target m k (op.Evict unit) h = cc
+row-target m k = by-making (λ o. target_of m k o ≡ place_in (place_for m k o)) (λ bucket. refl) (λ dir name create. refl) (λ dir name create. refl)
 
 pub row-grows : (m : Machine) (k : ℕ) (o : Op) → makes_row o ≡ true → growth_of m k o ≡ row_growth (place_for m k o)
 unfolding growth_of
-row-grows m k (op.GetDirectory bucket) h = refl
-row-grows m k (op.GetDirectoryHandle dir name create) h = refl
-row-grows m k (op.GetFileHandle dir name create) h = refl
-row-grows m k (op.RemoveEntry dir name recursive) h = cc
-row-grows m k (op.Values dir) h = cc
-row-grows m k (op.Next n dir) h = cc
-row-grows m k (op.Resolve dir entry) h = cc
-row-grows m k (op.IsSameEntry entry to) h = cc
-row-grows m k (op.GetFile at) h = cc
-row-grows m k (op.Slice n at len) h = cc
-row-grows m k (op.CreateWritable at keep) h = cc
-row-grows m k (op.Write n bytes position) h = cc
-row-grows m k (op.Seek n position) h = cc
-row-grows m k (op.Truncate n size) h = cc
-row-grows m k (op.Close n) h = cc
-row-grows m k (op.Abort n) h = cc
-row-grows m k (op.CreateSyncAccessHandle at mode) h = cc
-row-grows m k (op.SyncRead n len at) h = cc
-row-grows m k (op.SyncWrite n bytes at) h = cc
-row-grows m k (op.SyncTruncate n size) h = cc
-row-grows m k (op.SyncGetSize n) h = cc
-row-grows m k (op.SyncFlush n) h = cc
-row-grows m k (op.SyncClose n) h = cc
-row-grows m k (op.Persist bucket) h = cc
-row-grows m k (op.Persisted bucket) h = cc
-row-grows m k op.Estimate h = cc
-row-grows m k (op.Moment ms) h = cc
-row-grows m k (op.Post tag) h = cc
-row-grows m k (op.Await tag) h = cc
-row-grows m k (op.Wait tag) h = cc
-row-grows m k (op.Discard n) h = cc
-row-grows m k op.End h = cc
-row-grows m k (op.Unbound word) h = cc
-row-grows m k (op.Evict unit) h = cc
+row-grows m k = by-making (λ o. growth_of m k o ≡ row_growth (place_for m k o)) (λ bucket. refl) (λ dir name create. refl) (λ dir name create. refl)
 
 row-tree : (m : Machine) (t : tree.Rows) (z : Sizes) (k : ℕ) (o : Op) (extents : Option (List Extent)) → makes_row o ≡ true → tree_by m t k o z extents ≡ grown_by t (moment_of m k) (place_for m k o)
 unfolding tree_by
-row-tree m t z k (op.GetDirectory bucket) extents h = refl
-row-tree m t z k (op.GetDirectoryHandle dir name create) extents h = refl
-row-tree m t z k (op.GetFileHandle dir name create) extents h = refl
-row-tree m t z k (op.RemoveEntry dir name recursive) extents h = cc
-row-tree m t z k (op.Values dir) extents h = cc
-row-tree m t z k (op.Next n dir) extents h = cc
-row-tree m t z k (op.Resolve dir entry) extents h = cc
-row-tree m t z k (op.IsSameEntry entry to) extents h = cc
-row-tree m t z k (op.GetFile at) extents h = cc
-row-tree m t z k (op.Slice n at len) extents h = cc
-row-tree m t z k (op.CreateWritable at keep) extents h = cc
-row-tree m t z k (op.Write n bytes position) extents h = cc
-row-tree m t z k (op.Seek n position) extents h = cc
-row-tree m t z k (op.Truncate n size) extents h = cc
-row-tree m t z k (op.Close n) extents h = cc
-row-tree m t z k (op.Abort n) extents h = cc
-row-tree m t z k (op.CreateSyncAccessHandle at mode) extents h = cc
-row-tree m t z k (op.SyncRead n len at) extents h = cc
-row-tree m t z k (op.SyncWrite n bytes at) extents h = cc
-row-tree m t z k (op.SyncTruncate n size) extents h = cc
-row-tree m t z k (op.SyncGetSize n) extents h = cc
-row-tree m t z k (op.SyncFlush n) extents h = cc
-row-tree m t z k (op.SyncClose n) extents h = cc
-row-tree m t z k (op.Persist bucket) extents h = cc
-row-tree m t z k (op.Persisted bucket) extents h = cc
-row-tree m t z k op.Estimate extents h = cc
-row-tree m t z k (op.Moment ms) extents h = cc
-row-tree m t z k (op.Post tag) extents h = cc
-row-tree m t z k (op.Await tag) extents h = cc
-row-tree m t z k (op.Wait tag) extents h = cc
-row-tree m t z k (op.Discard n) extents h = cc
-row-tree m t z k op.End extents h = cc
-row-tree m t z k (op.Unbound word) extents h = cc
-row-tree m t z k (op.Evict unit) extents h = cc
+row-tree m t z k o extents = by-making (λ o. tree_by m t k o z extents ≡ grown_by t (moment_of m k) (place_for m k o)) (λ bucket. refl) (λ dir name create. refl) (λ dir name create. refl) o
 
 -- The machine with the row that a call makes.
 abbrev pub made_by : Machine → ℕ → Option (Place × Kind) → Machine
@@ -164,40 +66,10 @@ bucket-made m stamp bucket (Some origin) = free-made m stamp (row_at m (unit_of 
 
 pub row-effect : (m : Machine) (z : Sizes) (k : ℕ) (o : Op) → makes_row o ≡ true → effect in_lengths m z k o ≡ made_by m (moment_of m k) (place_for m k o)
 unfolding effect made_at
-row-effect m z k (op.GetDirectory bucket) h = bucket-made m (moment_of m k) bucket (agent_of m k).key
-row-effect m z k (op.GetDirectoryHandle dir name create) h = free-made m (moment_of m k) (row_at m (child (place_of dir) name)) (child (place_of dir) name, kind.Directory)
-row-effect m z k (op.GetFileHandle dir name create) h = free-made m (moment_of m k) (row_at m (child (place_of dir) name)) (child (place_of dir) name, kind.File)
-row-effect m z k (op.RemoveEntry dir name recursive) h = cc
-row-effect m z k (op.Values dir) h = cc
-row-effect m z k (op.Next n dir) h = cc
-row-effect m z k (op.Resolve dir entry) h = cc
-row-effect m z k (op.IsSameEntry entry to) h = cc
-row-effect m z k (op.GetFile at) h = cc
-row-effect m z k (op.Slice n at len) h = cc
-row-effect m z k (op.CreateWritable at keep) h = cc
-row-effect m z k (op.Write n bytes position) h = cc
-row-effect m z k (op.Seek n position) h = cc
-row-effect m z k (op.Truncate n size) h = cc
-row-effect m z k (op.Close n) h = cc
-row-effect m z k (op.Abort n) h = cc
-row-effect m z k (op.CreateSyncAccessHandle at mode) h = cc
-row-effect m z k (op.SyncRead n len at) h = cc
-row-effect m z k (op.SyncWrite n bytes at) h = cc
-row-effect m z k (op.SyncTruncate n size) h = cc
-row-effect m z k (op.SyncGetSize n) h = cc
-row-effect m z k (op.SyncFlush n) h = cc
-row-effect m z k (op.SyncClose n) h = cc
-row-effect m z k (op.Persist bucket) h = cc
-row-effect m z k (op.Persisted bucket) h = cc
-row-effect m z k op.Estimate h = cc
-row-effect m z k (op.Moment ms) h = cc
-row-effect m z k (op.Post tag) h = cc
-row-effect m z k (op.Await tag) h = cc
-row-effect m z k (op.Wait tag) h = cc
-row-effect m z k (op.Discard n) h = cc
-row-effect m z k op.End h = cc
-row-effect m z k (op.Unbound word) h = cc
-row-effect m z k (op.Evict unit) h = cc
+row-effect m z k =
+    by-making (λ o. effect in_lengths m z k o ≡ made_by m (moment_of m k) (place_for m k o)) (λ bucket. bucket-made m (moment_of m k) bucket (agent_of m k).key)
+    (λ dir name create. free-made m (moment_of m k) (row_at m (child (place_of dir) name)) (child (place_of dir) name, kind.Directory))
+    (λ dir name create. free-made m (moment_of m k) (row_at m (child (place_of dir) name)) (child (place_of dir) name, kind.File))
 
 pub in-place : (e : Option (Place × Kind)) (p : Place) → place_in e ≡ Some p → (k : Kind) × (e ≡ Some (p, k))
 in-place None p h = cc
@@ -233,40 +105,10 @@ handle-growth m k dir name create need h =
 
 row-need : (m : Machine) (z : Sizes) (k : ℕ) (o : Op) (need : Need) → makes_row o ≡ true → ruling in_lengths m z k o ≡ Ok need → need.charge ≡ row_growth (place_for m k o)
 unfolding ruling made_at
-row-need m z k (op.GetDirectory bucket) need h ruled = directory-growth m k bucket need ruled
-row-need m z k (op.GetDirectoryHandle dir name create) need h ruled = handle-growth m kind.Directory dir name create need ruled
-row-need m z k (op.GetFileHandle dir name create) need h ruled = handle-growth m kind.File dir name create need ruled
-row-need m z k (op.RemoveEntry dir name recursive) need h ruled = cc
-row-need m z k (op.Values dir) need h ruled = cc
-row-need m z k (op.Next n dir) need h ruled = cc
-row-need m z k (op.Resolve dir entry) need h ruled = cc
-row-need m z k (op.IsSameEntry entry to) need h ruled = cc
-row-need m z k (op.GetFile at) need h ruled = cc
-row-need m z k (op.Slice n at len) need h ruled = cc
-row-need m z k (op.CreateWritable at keep) need h ruled = cc
-row-need m z k (op.Write n bytes position) need h ruled = cc
-row-need m z k (op.Seek n position) need h ruled = cc
-row-need m z k (op.Truncate n size) need h ruled = cc
-row-need m z k (op.Close n) need h ruled = cc
-row-need m z k (op.Abort n) need h ruled = cc
-row-need m z k (op.CreateSyncAccessHandle at mode) need h ruled = cc
-row-need m z k (op.SyncRead n len at) need h ruled = cc
-row-need m z k (op.SyncWrite n bytes at) need h ruled = cc
-row-need m z k (op.SyncTruncate n size) need h ruled = cc
-row-need m z k (op.SyncGetSize n) need h ruled = cc
-row-need m z k (op.SyncFlush n) need h ruled = cc
-row-need m z k (op.SyncClose n) need h ruled = cc
-row-need m z k (op.Persist bucket) need h ruled = cc
-row-need m z k (op.Persisted bucket) need h ruled = cc
-row-need m z k op.Estimate need h ruled = cc
-row-need m z k (op.Moment ms) need h ruled = cc
-row-need m z k (op.Post tag) need h ruled = cc
-row-need m z k (op.Await tag) need h ruled = cc
-row-need m z k (op.Wait tag) need h ruled = cc
-row-need m z k (op.Discard n) need h ruled = cc
-row-need m z k op.End need h ruled = cc
-row-need m z k (op.Unbound word) need h ruled = cc
-row-need m z k (op.Evict unit) need h ruled = cc
+row-need m z k o need makes ruled =
+    by-making (λ o. ruling in_lengths m z k o ≡ Ok need → need.charge ≡ row_growth (place_for m k o)) (λ bucket told. directory-growth m k bucket need told)
+    (λ dir name create told. handle-growth m kind.Directory dir name create need told)
+    (λ dir name create told. handle-growth m kind.File dir name create need told) o makes ruled
 
 pub row-area : (m : Machine) (z : Sizes) (k : ℕ) (o : Op) (growth area : ℕ) → makes_row o ≡ true → MayApply m z k o → growth ≡ growth_of m k o → area ≡ m.limits.area → area < 2 ^ 64 → charge in_lengths m + growth < 2 ^ 64
 row-area m z k o growth area makes may is limit small = omega (arith, may.area, row-need m z k o may.need makes may.ruled, row-grows m k o makes, is, limit, small)
