@@ -51,7 +51,7 @@ pub(crate) fn perform(
     match op {
         Op::GetDirectory { .. } | Op::GetDirectoryHandle { .. } | Op::GetFileHandle { .. } =>
             make_row(store, sizes, agent, op, target, growth),
-        Op::Values { dir } => values(store, sizes, agent, dir),
+        Op::Values { .. } => values(store, agent),
         Op::GetFile { file } => get_file(store, sizes, agent, file),
         Op::CreateWritable { file, keep } => create_writable(
             store, sizes, agent, file, *keep, target,
@@ -71,12 +71,12 @@ pub(crate) fn perform(
         ),
         Op::SyncTruncate { row, size } => sync_truncate(store, sizes, agent, *row, *size, target),
         Op::Persist { bucket } => persist(store, sizes, agent, bucket, target, growth),
-        Op::Moment { ms } => set_moment(store, sizes, agent, *ms),
-        Op::Post { tag } => post(store, sizes, agent, tag),
-        Op::Await { tag } => await_tag(store, sizes, agent, tag),
-        Op::Wait { tag } => wait(store, sizes, agent, tag),
+        Op::Moment { ms } => set_moment(store, agent, *ms),
+        Op::Post { tag } => post(store, agent, tag),
+        Op::Await { .. } => await_tag(store, agent),
+        Op::Wait { tag } => wait(store, agent, tag),
         Op::Discard { row } => discard(store, sizes, agent, *row),
-        Op::End => end(store, sizes, agent),
+        Op::End => end(store, agent),
         Op::RemoveEntry { .. } | Op::Close { .. } | Op::SyncFlush { .. } | Op::SyncClose { .. } => {
             unreachable!()
         }
@@ -90,7 +90,7 @@ pub(crate) fn perform(
         | Op::Persisted { .. }
         | Op::Estimate
         | Op::Unbound { .. }
-        | Op::Evict { .. } => tell(store, sizes, agent, op),
+        | Op::Evict { .. } => tell(store, agent, op),
     }
 }
 

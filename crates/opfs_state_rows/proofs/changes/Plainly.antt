@@ -5,6 +5,7 @@ use Rattle.opfs_base.specs.Places.{place_of}
 use Rattle.opfs_base.specs.Texts.{Text}
 use Rattle.opfs_base.specs.declared.extents.Extent.{Extent}
 use Rattle.opfs_base.specs.declared.locator.Locator.{Locator}
+use Rattle.opfs_hist.specs.declared.op.Op.{Op}
 use Rattle.opfs_hist.specs.declared.op.Op.TheVariants as op
 use Rattle.opfs_machine.specs.declared.own.Outline.{Outline}
 use Rattle.opfs_machine.specs.declared.own.Outline.TheVariants as outline
@@ -22,9 +23,12 @@ use Rattle.opfs_state_rows.proofs.standing.AgentMoves.{number}
 use Rattle.opfs_state_rows.specs.Standing.Noted.{with_sum}
 use Rattle.opfs_state_rows.specs.Standing.Seen.{Machine, Seen}
 use Rattle.opfs_state_rows.proofs.changes.Told.{file-told}
-use Rattle.opfs_state_rows.specs.Changes.Allowed.{MayApply}
+use Rattle.opfs_state_rows.specs.Changes.Allowed.{MayApply, MayCount, MayDo}
 use Rattle.opfs_state_rows.specs.Changes.Asking.{made_at}
 use Rattle.opfs_state_rows.specs.Changes.Changed.{IsDone, tree_by}
+
+pub may_count : (m : Machine) (z : Sizes) (k : ℕ) (o : Op) → MayDo m z k o → MayCount m k
+may_count m z k o may = record { above = may.above; within = may.within; few = may.few; entries = may.entries }
 
 module _ (s one last : Seen) (z : Sizes) (at : ℕ) (extents : Option (List Extent)) (count : last ≡ record one { machine = counted one.machine (suc at) }) (tree : one.tree ≡ s.tree) where
   machine-of : (m : Machine) → one.machine ≡ m → last.machine ≡ counted m (suc at)

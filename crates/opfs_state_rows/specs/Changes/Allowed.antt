@@ -38,3 +38,10 @@ pub record MayDo (m : Machine) (z : Sizes) (k : ℕ) (o : Op) : Type 0 where
   pub sized : IsSized m z k o
   pub few : length (agent_of m k).own < most_rows
   pub entries : m.entries + 1 < 2 ^ 64
+
+-- What a call may rely on that nothing is judged of but that it is made: its agent, and numbers that have room.
+pub record MayCount (m : Machine) (k : ℕ) : Type 0 where
+  pub above : 0 < k
+  pub within : k ≤ length m.agents
+  pub few : length (agent_of m k).own < most_rows
+  pub entries : m.entries + 1 < 2 ^ 64

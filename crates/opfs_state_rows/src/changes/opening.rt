@@ -32,8 +32,6 @@ pub fn get_file(store: &mut Standing, sizes: Sizes, agent: u32, file: &Locator)
     ensures done { (extents : Option (List Extent)) → IsDone store.old store.new sizes agent (op.GetFile file.now) extents }
     ensures place { store.new.prepared.place ≡ store.old.prepared.place }
 {
-    let _ = sizes;
-    let _ = file;
     let at = agent as usize - 1;
     store.add_snapshot(at);
     store.count(at);
@@ -57,7 +55,6 @@ pub fn create_writable(
     let Some(place) = target else {
         unreachable!();
     };
-    let _ = sizes;
     let at = agent as usize - 1;
     // There are so many data blocks, a count of 64 bits.
     let _blocks = data_blocks(store);
@@ -85,7 +82,6 @@ pub fn create_sync(
     let Some(place) = target else {
         unreachable!();
     };
-    let _ = sizes;
     let at = agent as usize - 1;
     let held = take(store, file, want_of(mode));
     store.open_handle(at, OpenHandle::make(place, mode, held));

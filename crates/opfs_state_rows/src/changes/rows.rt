@@ -33,8 +33,6 @@ pub fn make_row(
     ensures done { (extents : Option (List Extent)) → IsDone store.old store.new sizes agent op.now extents }
     ensures place { store.new.prepared.place ≡ None }
 {
-    let _ = sizes;
-    let _ = op;
     let at = agent as usize - 1;
     let Some(place) = target else {
         store.count(at);
@@ -70,10 +68,6 @@ pub fn remove_entry(
     let Some(place) = target else {
         unreachable!();
     };
-    let _ = sizes;
-    let _ = dir;
-    let _ = name;
-    let _ = recursive;
     store.know_rows_match_tree();
     store.remove(&place.0, &place.1, freed);
     store.count(agent as usize - 1);
@@ -95,8 +89,6 @@ pub fn persist(
     ensures done { (extents : Option (List Extent)) → IsDone store.old store.new sizes agent (op.Persist bucket.now) extents }
     ensures prepared { store.new.prepared ≡ store.old.prepared }
 {
-    let _ = sizes;
-    let _ = bucket;
     let at = agent as usize - 1;
     let Some(place) = target else {
         store.count(at);

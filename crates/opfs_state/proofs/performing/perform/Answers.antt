@@ -1,4 +1,5 @@
 use Rattle.std.proofs.Common.{refl, sym, subst}
+use Rattle.opfs_state_rows.proofs.changes.Plainly.{may_count}
 use Rattle.opfs_state_rows.specs.Changes.Changed.{IsDone}
 use Rattle.opfs_state.proofs.performing.perform.Goals as goal
 
@@ -9,7 +10,7 @@ pub wait-requires-clause-ready : goal.wait-requires-clause-ready
 wait-requires-clause-ready c = c.requires.ready.tag c.in-Wait.tag (rw c.in-Wait.is refl)
 
 pub returns-in-Values-clause-done : goal.returns-in-Values-clause-done
-returns-in-Values-clause-done c = λ extents. subst (λ o. IsDone c.args.store.now c.values.new.store c.args.sizes c.args.agent o extents) (sym c.in-Values.is) (c.values.ensures.done extents)
+returns-in-Values-clause-done c = λ extents. subst (λ o. IsDone c.args.store.now c.values.new.store c.args.sizes c.args.agent o extents) (sym c.in-Values.is) (c.values.ensures.done c.args.sizes _ extents)
 
 pub returns-in-GetFile-clause-done : goal.returns-in-GetFile-clause-done
 returns-in-GetFile-clause-done c = λ extents. subst (λ o. IsDone c.args.store.now c.get_file.new.store c.args.sizes c.args.agent o extents) (sym c.in-GetFile.is) (c.get_file.ensures.done extents)
@@ -39,19 +40,43 @@ pub returns-in-Persist-clause-done : goal.returns-in-Persist-clause-done
 returns-in-Persist-clause-done c = λ extents. subst (λ o. IsDone c.args.store.now c.persist.new.store c.args.sizes c.args.agent o extents) (sym c.in-Persist.is) (c.persist.ensures.done extents)
 
 pub returns-in-Moment-clause-done : goal.returns-in-Moment-clause-done
-returns-in-Moment-clause-done c = λ extents. subst (λ o. IsDone c.args.store.now c.set_moment.new.store c.args.sizes c.args.agent o extents) (sym c.in-Moment.is) (c.set_moment.ensures.done extents)
+returns-in-Moment-clause-done c = λ extents. subst (λ o. IsDone c.args.store.now c.set_moment.new.store c.args.sizes c.args.agent o extents) (sym c.in-Moment.is) (c.set_moment.ensures.done c.args.sizes extents)
 
 pub returns-in-Post-clause-done : goal.returns-in-Post-clause-done
-returns-in-Post-clause-done c = λ extents. subst (λ o. IsDone c.args.store.now c.post.new.store c.args.sizes c.args.agent o extents) (sym c.in-Post.is) (c.post.ensures.done extents)
+returns-in-Post-clause-done c = λ extents. subst (λ o. IsDone c.args.store.now c.post.new.store c.args.sizes c.args.agent o extents) (sym c.in-Post.is) (c.post.ensures.done c.args.sizes extents)
 
 pub returns-in-Await-clause-done : goal.returns-in-Await-clause-done
-returns-in-Await-clause-done c = λ extents. subst (λ o. IsDone c.args.store.now c.await_tag.new.store c.args.sizes c.args.agent o extents) (sym c.in-Await.is) (c.await_tag.ensures.done extents)
+returns-in-Await-clause-done c = λ extents. subst (λ o. IsDone c.args.store.now c.await_tag.new.store c.args.sizes c.args.agent o extents) (sym c.in-Await.is) (c.await_tag.ensures.done c.args.sizes _ extents)
 
 pub returns-in-Wait-clause-done : goal.returns-in-Wait-clause-done
-returns-in-Wait-clause-done c = λ extents. subst (λ o. IsDone c.args.store.now c.wait.new.store c.args.sizes c.args.agent o extents) (sym c.in-Wait.is) (c.wait.ensures.done extents)
+returns-in-Wait-clause-done c = λ extents. subst (λ o. IsDone c.args.store.now c.wait.new.store c.args.sizes c.args.agent o extents) (sym c.in-Wait.is) (c.wait.ensures.done c.args.sizes extents)
 
 pub returns-in-Discard-clause-done : goal.returns-in-Discard-clause-done
 returns-in-Discard-clause-done c = λ extents. subst (λ o. IsDone c.args.store.now c.discard.new.store c.args.sizes c.args.agent o extents) (sym c.in-Discard.is) (c.discard.ensures.done extents)
 
 pub returns-in-End-clause-done : goal.returns-in-End-clause-done
-returns-in-End-clause-done c = λ extents. subst (λ o. IsDone c.args.store.now c.end.new.store c.args.sizes c.args.agent o extents) (sym c.in-End.is) (c.end.ensures.done extents)
+returns-in-End-clause-done c = λ extents. subst (λ o. IsDone c.args.store.now c.end.new.store c.args.sizes c.args.agent o extents) (sym c.in-End.is) (c.end.ensures.done c.args.sizes extents)
+
+pub values-requires : goal.values-requires
+values-requires c = record { may = may_count c.args.store.now.machine c.args.sizes c.args.agent c.args.op.now c.requires.may }
+
+pub set_moment-requires : goal.set_moment-requires
+set_moment-requires c = record { may = may_count c.args.store.now.machine c.args.sizes c.args.agent c.args.op.now c.requires.may }
+
+pub post-requires-clause-may : goal.post-requires-clause-may
+post-requires-clause-may c = may_count c.args.store.now.machine c.args.sizes c.args.agent c.args.op.now c.requires.may
+
+pub wait-requires-clause-may : goal.wait-requires-clause-may
+wait-requires-clause-may c = may_count c.args.store.now.machine c.args.sizes c.args.agent c.args.op.now c.requires.may
+
+pub await_tag-requires : goal.await_tag-requires
+await_tag-requires c = record { may = may_count c.args.store.now.machine c.args.sizes c.args.agent c.args.op.now c.requires.may }
+
+pub end-requires : goal.end-requires
+end-requires c = record { may = may_count c.args.store.now.machine c.args.sizes c.args.agent c.args.op.now c.requires.may }
+
+pub tell-requires-clause-may : goal.tell-requires-clause-may
+tell-requires-clause-may c = may_count c.args.store.now.machine c.args.sizes c.args.agent c.args.op.now c.requires.may
+
+pub returns-in-Next-clause-done : goal.returns-in-Next-clause-done
+returns-in-Next-clause-done c = λ extents. c.tell.ensures.done c.args.sizes extents

@@ -7,6 +7,6 @@ use Rattle.opfs_state_rows.proofs.changes.Plainly.{await-done}
 use Rattle.opfs_state_rows.proofs.changes.agents.await_tag.Goals as goal
 
 pub returns-clause-done : goal.returns-clause-done
-returns-clause-done c = λ extents.
-    subst (λ k. IsDone c.args.store.now c.count.new.self c.args.sizes k (op.Await c.args.tag.now) extents) (place-number c.args.agent c.requires.may.above)
-    (await-done c.args.store.now c.stop_waiting.new.self c.count.new.self c.args.sizes (c.args.agent - 1) extents c.count.ensures (ap (λ (x : Seen). x.tree) c.stop_waiting.ensures) c.args.tag.now (ap (λ (x : Seen). x.machine) c.stop_waiting.ensures))
+returns-clause-done c = λ z tag extents.
+    subst (λ k. IsDone c.args.store.now c.count.new.self z k (op.Await tag) extents) (place-number c.args.agent c.requires.may.above)
+    (await-done c.args.store.now c.stop_waiting.new.self c.count.new.self z (c.args.agent - 1) extents c.count.ensures (ap (λ (x : Seen). x.tree) c.stop_waiting.ensures) tag (ap (λ (x : Seen). x.machine) c.stop_waiting.ensures))

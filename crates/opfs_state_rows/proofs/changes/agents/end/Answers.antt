@@ -7,6 +7,6 @@ use Rattle.opfs_state_rows.proofs.changes.Plainly.{end-done}
 use Rattle.opfs_state_rows.proofs.changes.agents.end.Goals as goal
 
 pub returns-clause-done : goal.returns-clause-done
-returns-clause-done c = λ extents.
-    subst (λ k. IsDone c.args.store.now c.count.new.self c.args.sizes k op.End extents) (place-number c.args.agent c.requires.may.above)
-    (end-done c.args.store.now c.end_agent.new.self c.count.new.self c.args.sizes (c.args.agent - 1) extents c.count.ensures (ap (λ (x : Seen). x.tree) c.end_agent.ensures) (ap (λ (x : Seen). x.machine) c.end_agent.ensures))
+returns-clause-done c = λ z extents.
+    subst (λ k. IsDone c.args.store.now c.count.new.self z k op.End extents) (place-number c.args.agent c.requires.may.above)
+    (end-done c.args.store.now c.end_agent.new.self c.count.new.self z (c.args.agent - 1) extents c.count.ensures (ap (λ (x : Seen). x.tree) c.end_agent.ensures) (ap (λ (x : Seen). x.machine) c.end_agent.ensures))

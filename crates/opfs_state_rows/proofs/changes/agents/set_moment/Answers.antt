@@ -7,6 +7,6 @@ use Rattle.opfs_state_rows.proofs.changes.Plainly.{moment-done}
 use Rattle.opfs_state_rows.proofs.changes.agents.set_moment.Goals as goal
 
 pub returns-clause-done : goal.returns-clause-done
-returns-clause-done c = λ extents.
-    subst (λ k. IsDone c.args.store.now c.count.new.self c.args.sizes k (op.Moment c.args.ms) extents) (place-number c.args.agent c.requires.may.above)
-    (moment-done c.args.store.now c.note.new.self c.count.new.self c.args.sizes (c.args.agent - 1) extents c.count.ensures (ap (λ (x : Seen). x.tree) c.note.ensures) c.args.ms (ap (λ (x : Seen). x.machine) c.note.ensures))
+returns-clause-done c = λ z extents.
+    subst (λ k. IsDone c.args.store.now c.count.new.self z k (op.Moment c.args.ms) extents) (place-number c.args.agent c.requires.may.above)
+    (moment-done c.args.store.now c.note.new.self c.count.new.self z (c.args.agent - 1) extents c.count.ensures (ap (λ (x : Seen). x.tree) c.note.ensures) c.args.ms (ap (λ (x : Seen). x.machine) c.note.ensures))

@@ -7,6 +7,6 @@ use Rattle.opfs_state_rows.proofs.changes.Plainly.{values-done}
 use Rattle.opfs_state_rows.proofs.changes.agents.values.Goals as goal
 
 pub returns-clause-done : goal.returns-clause-done
-returns-clause-done c = λ extents.
-    subst (λ k. IsDone c.args.store.now c.count.new.self c.args.sizes k (op.Values c.args.dir.now) extents) (place-number c.args.agent c.requires.may.above)
-    (values-done c.args.store.now c.add_iterator.new.self c.count.new.self c.args.sizes (c.args.agent - 1) extents c.count.ensures (ap (λ (x : Seen). x.tree) c.add_iterator.ensures) c.args.dir.now (ap (λ (x : Seen). x.machine) c.add_iterator.ensures))
+returns-clause-done c = λ z dir extents.
+    subst (λ k. IsDone c.args.store.now c.count.new.self z k (op.Values dir) extents) (place-number c.args.agent c.requires.may.above)
+    (values-done c.args.store.now c.add_iterator.new.self c.count.new.self z (c.args.agent - 1) extents c.count.ensures (ap (λ (x : Seen). x.tree) c.add_iterator.ensures) dir (ap (λ (x : Seen). x.machine) c.add_iterator.ensures))

@@ -18,11 +18,11 @@ count-requires-clause-entries c =
     omega (arith, ap (λ (x : Seen). x.machine.entries) then, c.requires.may.entries)
 
 pub returns-clause-done : goal.returns-clause-done
-returns-clause-done c = λ extents.
+returns-clause-done c = λ z extents.
     let number = place-number c.args.agent c.requires.may.above in
     let then = c.wait.ensures (record { party = party_of c.args.store.now.machine (suc (c.args.agent - 1)); tag = c.args.tag.now }) (c.requires.ready ∙ ap (λ k. Some (record { party = party_of c.args.store.now.machine k; tag = c.args.tag.now })) (sym number)) in
-    subst (λ k. IsDone c.args.store.now c.count.new.self c.args.sizes k (op.Wait c.args.tag.now) extents) number
-    (wait-done c.args.store.now c.wait.new.self c.count.new.self c.args.sizes (c.args.agent - 1) extents c.count.ensures (ap (λ (x : Seen). x.tree) then) c.args.tag.now (ap (λ (x : Seen). x.machine) then))
+    subst (λ k. IsDone c.args.store.now c.count.new.self z k (op.Wait c.args.tag.now) extents) number
+    (wait-done c.args.store.now c.wait.new.self c.count.new.self z (c.args.agent - 1) extents c.count.ensures (ap (λ (x : Seen). x.tree) then) c.args.tag.now (ap (λ (x : Seen). x.machine) then))
 
 pub returns-clause-place : goal.returns-clause-place
 returns-clause-place c =
