@@ -1,12 +1,12 @@
 -- Judging does not see what pending entries leave.
-use Rattle.std.proofs.Common.{◌≡◌, ℕ, zero, suc, ◌+◌, ◌-◌, ◌*◌, ◌<◌, ◌≤◌, ◌==◌, Bool, true, false, ◌&&◌, ◌||◌, not, cond, if◌then◌else◌, List, [], ◌∷◌, ◌++◌, fold, map, filter, length, sum_by, slice_set, Option, Some, None, Ok, Err, option_map, refl, sym, ap, ◌∙◌, subst, arith}
+use Rattle.std.proofs.Common.{◌≡◌, ℕ, zero, suc, ◌+◌, ◌-◌, ◌*◌, ◌<◌, ◌==◌, Bool, true, false, ◌&&◌, ◌||◌, not, cond, List, [], ◌∷◌, ◌++◌, fold, map, filter, length, Option, Some, None, Ok, Err, option_map, refl, sym, ap, ◌∙◌, arith}
 use Rattle.std.specs.Prelude.{slice_get, unwrap_or, replicate, nat_le}
 use Rattle.std.proofs.lemmas.List.Folds.{sum_by-replicate}
 use Rattle.std.proofs.lemmas.List.Sums.{sum_by-append}
 use Rattle.std.specs.Cmp.Lexicographic.{slice_cmp, nat_list_cmp_total, texts_ties}
 use Rattle.std.specs.FinMap.Entries.{find, find-put}
-use Rattle.std.specs.Ordering.{nat_cmp, is_eq, eq_by_cmp}
-use Rattle.opfs_base.specs.Measures.{block_charge, mode_charge}
+use Rattle.std.specs.Ordering.{nat_cmp}
+use Rattle.opfs_base.specs.Measures.{block_charge}
 use Rattle.opfs_base.specs.Blocks.{blocks}
 use Rattle.opfs_base.specs.Texts.{Text, same_text}
 use Rattle.opfs_base.specs.Units.{is_bucket_name, unit_of, origin_of}
@@ -22,9 +22,8 @@ use Rattle.opfs_machine.specs.declared.own.Outline.{Outline}
 use Rattle.opfs_machine.specs.declared.own.Outline.TheVariants as outline
 use Rattle.opfs_machine.specs.declared.state.Agent.{Agent}
 use Rattle.opfs_machine.specs.declared.state.Need.{Need}
-use Rattle.opfs_machine.specs.declared.state.Party.{Party}
 use Rattle.opfs_machine.specs.declared.state.Sizes.{Sizes}
-use Rattle.opfs_machine.specs.Agents.{agent_of, own_of, of_row, stream_in, handle_in, open_stream, open_handle, is_posted, last_use, party_of, party_with, nobody}
+use Rattle.opfs_machine.specs.Agents.{agent_of, own_of, of_row, stream_in, handle_in, open_stream, open_handle, is_posted, last_use, party_with}
 use Rattle.opfs_machine.specs.Contents.{in_lengths}
 use Rattle.opfs_machine.specs.Ordered.{insert_by}
 use Rattle.opfs_machine.specs.Replies.{origin_in}
@@ -32,12 +31,12 @@ use Rattle.opfs_machine.specs.Rows.{row_at, file_at}
 use Rattle.opfs_machine.specs.Ruled.{Ruled, ◌>>=◌, ◌>>◌, unless, some_or}
 use Rattle.opfs_machine.specs.Rulings.{ruling, making, get_directory_ruling, get_handle_ruling, remove_entry_ruling, located_ruling, create_writable_ruling, grow_stream_ruling, stream_ruling, create_sync_ruling, grow_handle_ruling, handle_ruling, persisting, persist_ruling, persisted_ruling, estimate_ruling, await_ruling, reserve_for, is_read_write, locked_by, lock_in, size_written}
 use Rattle.opfs_machine.specs.Steps.{room_for}
-use Rattle.opfs_machine.specs.Sums.{all_own, row_reserve, reserve_of, usage, pool, charge, fits_pool, keeps_blocks, no_need}
+use Rattle.opfs_machine.specs.Sums.{row_reserve, reserve_of, usage, pool, charge, fits_pool, keeps_blocks, no_need}
 use Rattle.opfs_machine.specs.Victims.{is_callers, is_candidate, candidates, cleared, shortest_front, victims, root_units, use_cmp}
 use Rattle.opfs_register.specs.Seating.{noted, used_by}
 use Rattle.opfs_state_rows.proofs.standing.AgentMoves.{number, own-set}
 use Rattle.opfs_state_rows.proofs.standing.Units.{same_unit, unit_itself}
-use Rattle.opfs_state_rows.specs.Standing.Noted.{with_sum, used_more}
+use Rattle.opfs_state_rows.specs.Standing.Noted.{with_sum}
 use Rattle.opfs_state_rows.specs.Standing.Seen.{Machine}
 use Rattle.opfs_state.proofs.laws.Readying.{agent-noted, handle-noted}
 use Rattle.opfs_state.specs.Verdicts.Callers.{IsAgent}

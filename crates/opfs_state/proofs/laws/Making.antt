@@ -1,6 +1,6 @@
 -- What was judged may be applied once its units are cleared.
-use Rattle.std.proofs.Common.{◌≡◌, ℕ, zero, suc, ◌+◌, ◌*◌, ◌≤◌, Bool, true, false, cond, not, ◌&&◌, ◌||◌, All, List, [], ◌∷◌, ◌++◌, filter, fold, length, Option, Some, None, Ok, refl, sym, ap, ◌∙◌, subst, arith}
-use Rattle.std.specs.Prelude.{◌==◌, IsSome, is_some, nat_le, option_map, T}
+use Rattle.std.proofs.Common.{◌≡◌, ℕ, ◌+◌, ◌*◌, ◌≤◌, Bool, true, false, cond, not, ◌&&◌, ◌||◌, All, List, [], ◌∷◌, ◌++◌, filter, fold, length, Option, Some, None, Ok, refl, sym, ap, ◌∙◌, subst, arith}
+use Rattle.std.specs.Prelude.{◌==◌, is_some, nat_le, option_map, T}
 use Rattle.std.specs.List.{list_any, filter_map, cons_option}
 use Rattle.std.specs.FinMap.Entries.{find, is_sorted}
 use Rattle.std.specs.Ordering.{eq_by_cmp}
@@ -10,10 +10,9 @@ use Rattle.opfs_state_rows.proofs.standing.Units.{same_unit, unit_itself}
 use Rattle.opfs_base.specs.Measures.{is_root}
 use Rattle.opfs_base.specs.Places.{Place, place_cmp, is_within}
 use Rattle.opfs_base.specs.Texts.{Text, same_text}
-use Rattle.opfs_state_rows.specs.Changes.Allowed.{MayApply}
 use Rattle.opfs_hist.specs.declared.op.Op.{Op}
 use Rattle.opfs_laws.proofs.CoveredKept.{covered-gone}
-use Rattle.opfs_laws.proofs.Gone.{IsGiven, bind-gave, then-gave, some-gave, unless-gave, given-candidates}
+use Rattle.opfs_laws.proofs.Gone.{bind-gave, then-gave, some-gave, unless-gave, given-candidates}
 use Rattle.opfs_laws.proofs.Growing.{Grows, plain_charge, grows-without}
 use Rattle.opfs_laws.proofs.LocksEffect.{Untaken, locks-fold}
 use Rattle.opfs_laws.proofs.Bounded.{modes-gone}
@@ -33,8 +32,6 @@ use Rattle.opfs_laws.specs.Lengths.Outlines.{in_lengths_of, on_row}
 use Rattle.opfs_machine.specs.declared.own.HandleRow.{HandleRow}
 use Rattle.opfs_machine.specs.declared.own.Own.{Own}
 use Rattle.opfs_machine.specs.declared.own.Own.TheVariants as own
-use Rattle.opfs_machine.specs.declared.own.StreamRow.{StreamRow}
-use Rattle.opfs_machine.specs.declared.state.Agent.{Agent}
 use Rattle.opfs_machine.specs.declared.state.Need.{Need}
 use Rattle.opfs_machine.specs.declared.state.Party.{Party}
 use Rattle.opfs_machine.specs.declared.state.Party.TheVariants.{Origin, Alone}
@@ -49,15 +46,14 @@ use Rattle.opfs_machine.specs.Rows.{row_at, file_of, Rows}
 use Rattle.opfs_machine.specs.Rulings.{ruling}
 use Rattle.opfs_machine.specs.Steps.{evicted, room_for}
 use Rattle.opfs_machine.specs.Sums.{fits_pool, fits_area, is_persistent, pool, charge}
-use Rattle.opfs_machine.specs.Victims.{is_candidate, is_callers, candidates, cleared, shortest_front, victims, root_units, root_unit, none_taken}
+use Rattle.opfs_machine.specs.Victims.{is_candidate, is_callers, candidates, cleared, shortest_front, victims, root_unit, none_taken}
 use Rattle.opfs_laws.proofs.separation.Alike.{Alike, alike-same, alike-then, alike-back}
-use Rattle.opfs_laws.proofs.separation.Clearing.{Evictable, may-evict, may-others, evictable-after, evicted-apart, evicted-ordered}
-use Rattle.opfs_laws.proofs.separation.Fronts.{Fine, front-fine}
+use Rattle.opfs_laws.proofs.separation.Clearing.{may-evict, may-others, evictable-after, evicted-apart, evicted-ordered}
+use Rattle.opfs_laws.proofs.separation.Fronts.{front-fine}
 use Rattle.opfs_laws.proofs.separation.Reading.{Reads, ours-reads}
 use Rattle.opfs_laws.proofs.separation.SameRuling.{ruling-same}
-use Rattle.opfs_laws.proofs.separation.Sides.{Ours}
 use Rattle.opfs_laws.proofs.separation.Small.{InOrder}
-use Rattle.opfs_state.specs.Laws.Room.{HasOwnBuckets, MayClear, HasRoom}
+use Rattle.opfs_state.specs.Laws.Room.{HasOwnBuckets, HasRoom}
 
 told : (b : Bool) → b ≡ true → T b
 told true h = tt
