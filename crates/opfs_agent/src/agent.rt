@@ -1,21 +1,26 @@
 //! An agent, and how it makes its calls.
 
-ghost use Rattle.std.specs.Prelude.{◌≡◌, ◌≤◌, false, IfOk, IfErr, IsTrue};
+ghost use Rattle.std.specs.Prelude.{◌≡◌, ◌≤◌, false, true, [], IfOk, IfErr, OnOk, OnErr, IsTrue};
 ghost use Rattle.std.specs.Option.{option_copied};
 ghost use Rattle.opfs_hist.specs.declared.op.Op.TheVariants as op;
 ghost use Rattle.opfs_hist.specs.declared.reply.Reply.TheVariants as reply;
 ghost use Rattle.opfs_machine.specs.Histories.{may_enter};
 ghost use Rattle.opfs_machine.specs.Steps.{is_refusal};
-ghost use Rattle.opfs_turns.specs.Agents.{state_of, IsAgent};
-ghost use Rattle.opfs_turns.specs.Calls.{HasRoom, new_agent, MayBegin, HasEnded, IsLocal};
-ghost use Rattle.opfs_turns.specs.Asking.Answers.{Shared, MayAskPlainly, IsAnsweredBy, IsFlag};
+ghost use Rattle.opfs_laws.specs.Leaving.{is_end};
+ghost use Rattle.opfs_store.specs.Acts.Acting.{IsSameCopy, StandsForLeft, row_left, always_acts};
+ghost use Rattle.opfs_turns.specs.Agents.{state_of, known, IsAgent};
+ghost use Rattle.opfs_turns.specs.Calls.{HasRoom, MayAsk, new_agent, MayBegin, HasEnded, IsEntered, IsKept, IsLocal};
+ghost use Rattle.opfs_turns.specs.Asking.Answers.{Shared, MayAskPlainly, IsAnsweredBy, IsFlag, IsLength, IsRead};
 ghost use Rattle.opfs_turns.specs.Asking.Locals.{Local, Stopped, IsWhy};
 
-use opfs_base::Key;
+use opfs_base::{Bytes, Key};
 use opfs_hall::{Hall, Pass};
 use opfs_hist::{Op, Refusal, Reply, Room};
 use opfs_store::{Acted, Store};
-use opfs_turns::{Stop, Turns, ask, ask_done, ask_flag, keep_call, keep_refusal};
+use opfs_turns::{
+    Stop, Turns, ask, ask_bytes, ask_done, ask_flag, ask_length, ask_row, keep_call, keep_refusal,
+};
+use opfs_work::Work;
 use std::alloc::Global;
 use std::marker::Model;
 use std::sync::Wait;
@@ -140,6 +145,99 @@ impl<S: Store> Agent<S> {
         ensures { Shared S.tells self.old self.new op (λ flag answered _. answered ≡ reply.Flag flag) result }
     {
         ask_flag(rt, self.alloc, &mut self.turns, court, op)
+    }
+
+    // Makes a shared call on an open row, with its working copy, or one that makes an open row, with a fresh one, and that is
+    // answered by Done alone.
+    pub(crate) fn ask_row<R: Wait>(
+        &mut self,
+        rt: &R,
+        court: &Hall<S>,
+        op: Op,
+        work: &mut Work,
+    ) -> Result<(), Stop>
+        requires own { self.old.pass.hall ≡ court.now }
+        requires room { HasRoom self.old }
+        requires may { MayAsk S.tells self.old op work.old [] }
+        requires stays { is_end op ≡ false }
+        requires answer { IsAnsweredBy op (λ answered. answered ≡ reply.Done) }
+        ensures shared { Shared S.tells self.old self.new op (λ _ answered _. answered ≡ reply.Done) result }
+        ensures left { OnOk result (StandsForLeft S.tells self.new.opening (known self.new) self.new.pass.agent (row_left self.new.rows op) work.new) }
+        ensures same { OnErr result (IsSameCopy work.old work.new) }
+    {
+        ask_row(rt, self.alloc, &mut self.turns, court, op, work)
+    }
+
+    // The same of a call that is answered by a number of bytes alone.
+    pub(crate) fn ask_length<R: Wait>(
+        &mut self,
+        rt: &R,
+        court: &Hall<S>,
+        op: Op,
+        work: &mut Work,
+    ) -> Result<u64, Stop>
+        requires own { self.old.pass.hall ≡ court.now }
+        requires room { HasRoom self.old }
+        requires may { MayAsk S.tells self.old op work.old [] }
+        requires stays { is_end op ≡ false }
+        requires answer { IsAnsweredBy op IsLength }
+        ensures shared { Shared S.tells self.old self.new op (λ count answered _. answered ≡ reply.Length count) result }
+        ensures left { OnOk result (StandsForLeft S.tells self.new.opening (known self.new) self.new.pass.agent (row_left self.new.rows op) work.new) }
+        ensures same { OnErr result (IsSameCopy work.old work.new) }
+    {
+        ask_length(rt, self.alloc, &mut self.turns, court, op, work)
+    }
+
+    // The same of a call that is answered by bytes alone.
+    pub(crate) fn ask_bytes<R: Wait>(
+        &mut self,
+        rt: &R,
+        court: &Hall<S>,
+        op: Op,
+        work: &mut Work,
+    ) -> Result<Bytes, Stop>
+        requires own { self.old.pass.hall ≡ court.now }
+        requires room { HasRoom self.old }
+        requires may { MayAsk S.tells self.old op work.old [] }
+        requires stays { is_end op ≡ false }
+        requires answer { IsAnsweredBy op IsRead }
+        ensures shared { Shared S.tells self.old self.new op (λ bytes answered _. answered ≡ reply.Read bytes) result }
+        ensures left { OnOk result (StandsForLeft S.tells self.new.opening (known self.new) self.new.pass.agent (row_left self.new.rows op) work.new) }
+        ensures same { OnErr result (IsSameCopy work.old work.new) }
+    {
+        ask_bytes(rt, self.alloc, &mut self.turns, court, op, work)
+    }
+
+    // Keeps a local call with its answer. Takes no memory.
+    pub(crate) fn keep(&mut self, room: Room, op: Op, reply: Reply, made: u32)
+        requires room { HasRoom self.old }
+        requires local { IsLocal S.tells self.old op reply made }
+        requires few { made ≤ 1 }
+        ensures { IsKept self.old self.new op reply made }
+    {
+        self.turns.keep(room, op, reply, made);
+    }
+
+    // Makes a shared call that is never refused, and that spends its row, with the place of its entry. Takes no memory.
+    pub(crate) fn end_row<R: Wait>(
+        &mut self,
+        rt: &R,
+        court: &Hall<S>,
+        room: Room,
+        op: Op,
+        work: &mut Work,
+    ) -> Acted
+        requires own { self.old.pass.hall ≡ court.now }
+        requires room { HasRoom self.old }
+        requires may { MayAsk S.tells self.old op work.old [] }
+        requires stays { is_end op ≡ false }
+        requires always { always_acts op ≡ true }
+        ensures { IsEntered S.tells self.old self.new op result.reply result.gift }
+    {
+        let Ok(acted) = self.turns.call(rt, court, room, op, work, &[]) else {
+            unreachable!();
+        };
+        acted
     }
 
     // Keeps a local call that is not refused, with its answer.

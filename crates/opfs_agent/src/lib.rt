@@ -7,21 +7,14 @@ mod agent;
 mod buckets;
 mod entries;
 pub mod handle_calls;
-mod handles;
 mod iteration;
 mod locals;
 mod snapshots;
 pub mod stream_calls;
-mod streams;
 
 pub use agent::Agent;
-pub use handle_calls::{
-    ClosedSync, SyncHandle, discard, flush, read, read_far, size, truncate, write,
-};
+pub use handle_calls::{ClosedSync, SyncHandle};
 pub use iteration::Iter;
 pub use opfs_turns::Stop;
 pub use snapshots::Snapshot;
-pub use stream_calls::{
-    ClosedStream, Writable, abort, seek, truncate_growing, truncate_within, write_growing,
-    write_within,
-};
+pub use stream_calls::{ClosedStream, Writable};

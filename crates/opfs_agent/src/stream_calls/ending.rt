@@ -1,68 +1,78 @@
 //! How a stream ends (File System: close, abort).
 
-ghost use Rattle.std.specs.Prelude.{◌≡◌, Ok, Err, IfOk, IfErr};
+ghost use Rattle.std.specs.Prelude.{◌≡◌, true, IfOk, IfErr};
 ghost use Rattle.opfs_hist.specs.declared.op.Op.TheVariants as op;
-ghost use Rattle.opfs_hist.specs.declared.reply.Reply.TheVariants as reply;
-ghost use Rattle.opfs_turns.specs.Calls.{HasRoom, IsEntered};
-ghost use Rattle.opfs_store.specs.declared.acts.acted.Gift.{Gift};
+ghost use Rattle.opfs_hist.specs.declared.reply.Refusal.TheVariants as refusal;
+ghost use Rattle.opfs_machine.specs.Replies.{row_named};
+ghost use Rattle.opfs_turns.specs.Calls.{HasRoom};
+ghost use Rattle.opfs_turns.specs.Asking.Locals.{Stopped, IsWhy, is_stream_op};
 ghost use Rattle.opfs_turns.specs.Asking.Rows.{HasStream, HasClosedStream};
 ghost use Rattle.opfs_agent.specs.StreamCalls.Ends.{GivesBack, IsClosed};
 
+use crate::agent::Agent;
 use crate::stream_calls::stream::{ClosedStream, Writable};
 use opfs_hall::Hall;
-use opfs_hist::Op;
+use opfs_hist::{Op, Refusal};
 use opfs_store::Store;
-use opfs_turns::{Stop, Turns, ask_row};
-use std::alloc::Global;
+use opfs_turns::Stop;
 use std::sync::Wait;
 
-/// Closes a stream: its file has its bytes, for good. The stream comes back open where that is refused.
-pub fn close<S: Store, R: Wait>(
-    rt: &R,
-    alloc: Global,
-    turns: &mut Turns<S>,
-    court: &Hall<S>,
-    mut stream: Writable,
-) -> Result<ClosedStream, (Writable, Stop)>
-    requires own { turns.old.pass.hall ≡ court.now }
-    requires room { HasRoom turns.old }
-    requires stream { HasStream S.tells turns.old stream }
-    ensures closed { IfOk result (λ closed. IsClosed S.tells turns.old turns.new (op.Close stream.row) stream.row closed.row) }
-    ensures back { IfErr result (λ back. GivesBack S.tells turns.old turns.new (op.Close stream.row) stream back.0 back.1) }
-{
-    turns.know_kept();
-    let row = stream.row;
-    let done = ask_row(rt, alloc, turns, court, Op::Close { row }, &mut stream.work);
-    turns.know_kept();
-    match done {
-        Ok(()) => Ok(shut(stream)),
-        Err(stop) => Err((stream, stop)),
+impl<S: Store> Agent<S> {
+    /// Closes a stream: its file has its bytes, for good (File System: close). The stream comes back open where that is
+    /// refused.
+    pub fn close_writable<R: Wait>(
+        &mut self,
+        rt: &R,
+        court: &Hall<S>,
+        mut stream: Writable,
+    ) -> Result<ClosedStream, (Writable, Stop)>
+        requires own { self.old.pass.hall ≡ court.now }
+        requires room { HasRoom self.old }
+        requires stream { HasStream S.tells self.old stream }
+        ensures closed { IfOk result (λ closed. IsClosed S.tells self.old self.new (op.Close stream.row) stream.row closed.row) }
+        ensures back { IfErr result (λ back. GivesBack S.tells self.old self.new (op.Close stream.row) stream back.0 back.1) }
+    {
+        self.know_kept();
+        let row = stream.row;
+        let done = self.ask_row(rt, court, Op::Close { row }, &mut stream.work);
+        self.know_kept();
+        match done {
+            Ok(()) => Ok(shut(stream)),
+            Err(stop) => Err((stream, stop)),
+        }
     }
-}
 
-/// Aborts a stream: its file is as it was. Takes no memory.
-pub fn abort<S: Store, R: Wait>(
-    rt: &R,
-    turns: &mut Turns<S>,
-    court: &Hall<S>,
-    stream: Writable,
-) -> ClosedStream
-    requires own { turns.old.pass.hall ≡ court.now }
-    requires room { HasRoom turns.old }
-    requires stream { HasStream S.tells turns.old stream }
-    ensures { IsClosed S.tells turns.old turns.new (op.Abort stream.row) stream.row result.row }
-{
-    turns.know_kept();
-    let Writable {
-        row,
-        file: _,
-        mut work,
-        room,
-    } = stream;
-    let Ok(_) = turns.call(rt, court, room, Op::Abort { row }, &mut work, &[]) else {
-        unreachable!();
-    };
-    ClosedStream { row }
+    /// Aborts a stream: its file is as it was (File System: abort). Takes no memory.
+    pub fn abort<R: Wait>(&mut self, rt: &R, court: &Hall<S>, stream: Writable) -> ClosedStream
+        requires own { self.old.pass.hall ≡ court.now }
+        requires room { HasRoom self.old }
+        requires stream { HasStream S.tells self.old stream }
+        ensures { IsClosed S.tells self.old self.new (op.Abort stream.row) stream.row result.row }
+    {
+        self.know_kept();
+        let Writable {
+            row,
+            file: _,
+            mut work,
+            room,
+        } = stream;
+        let _acted = self.end_row(rt, court, room, Op::Abort { row }, &mut work);
+        ClosedStream { row }
+    }
+
+    /// Keeps a call on a closed stream: it is refused as TypeError.
+    pub fn on_closed_stream(&mut self, stream: &ClosedStream, op: Op) -> Stop
+        requires room { HasRoom self.old }
+        requires stream { HasClosedStream self.old stream.now.row }
+        requires word { is_stream_op op ≡ true }
+        requires row { row_named op ≡ stream.now.row }
+        ensures stopped { Stopped S.tells self.old self.new op result }
+        ensures why { IsWhy result refusal.TypeError }
+    {
+        self.know_kept();
+        let _ = stream;
+        self.keep_refusal(op, Refusal::TypeError)
+    }
 }
 
 // What is left of a stream.
