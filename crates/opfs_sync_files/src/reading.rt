@@ -8,7 +8,6 @@ ghost use Rattle.opfs_sync_files.specs.Entries.{IsCaused};
 ghost use Rattle.opfs_sync_files.specs.Files.{file_bytes, stored_of, ReadsOnce};
 ghost use Rattle.opfs_sync_files.specs.Still.{NoBytes, IsStill};
 ghost use Rattle.opfs_turns.specs.Calls.{HasRoom};
-ghost use Rattle.opfs_work.specs.Works.{IsNearRead};
 
 use opfs_agent::Agent;
 use opfs_agent::handle_calls::SyncHandle;
@@ -56,59 +55,12 @@ pub fn read<S: Store, R: Wait>(
     ensures stored { stored_of agent.new handle.new ≡ stored_of agent.old handle.old }
     ensures cause { IfErr result (IsCaused agent.old agent.new) }
 {
+    agent.know_kept();
     if handle.near(len, Some(at)) {
-        return read_near(agent, handle, len, at);
+        let done = agent.sync_read(handle, len, Some(at));
+        agent.know_kept();
+        return done;
     }
-    read_far(rt, court, agent, handle, len, at)
-}
-
-// The same where the handle has the bytes.
-fn read_near<S: Store>(
-    agent: &mut Agent<S>,
-    handle: &mut SyncHandle,
-    len: u64,
-    at: u64,
-) -> Result<Bytes, Stop>
-    requires room { HasRoom agent.old }
-    requires handle { HasHandle S.tells agent.old handle.old }
-    requires near { IsNearRead handle.old.work at len }
-    ensures still { IsStill S.tells agent.old agent.new handle.old handle.new NoBytes }
-    ensures once { ReadsOnce S.tells agent.old agent.new handle.old.row len at result }
-    ensures read { IfOk result (λ bytes. S.tells → bytes ≡ window (file_bytes agent.old handle.old) at len) }
-    ensures long { IfOk result (λ bytes. length bytes ≡ length (window (file_bytes agent.old handle.old) at len)) }
-    ensures same { file_bytes agent.new handle.new ≡ file_bytes agent.old handle.old }
-    ensures stored { stored_of agent.new handle.new ≡ stored_of agent.old handle.old }
-    ensures cause { IfErr result (IsCaused agent.old agent.new) }
-{
-    agent.know_kept();
-    let done = agent.sync_read(handle, len, Some(at));
-    agent.know_kept();
-    done
-}
-
-// The same under the turn.
-fn read_far<S: Store, R: Wait>(
-    rt: &R,
-    court: &Hall<S>,
-    agent: &mut Agent<S>,
-    handle: &mut SyncHandle,
-    len: u64,
-    at: u64,
-) -> Result<Bytes, Stop>
-    requires own { agent.old.pass.hall ≡ court.now }
-    requires room { HasRoom agent.old }
-    requires handle { HasHandle S.tells agent.old handle.old }
-    requires len { IsSmall len }
-    requires at { IsSmall at }
-    ensures still { IsStill S.tells agent.old agent.new handle.old handle.new NoBytes }
-    ensures once { ReadsOnce S.tells agent.old agent.new handle.old.row len at result }
-    ensures read { IfOk result (λ bytes. S.tells → bytes ≡ window (file_bytes agent.old handle.old) at len) }
-    ensures long { IfOk result (λ bytes. length bytes ≡ length (window (file_bytes agent.old handle.old) at len)) }
-    ensures same { file_bytes agent.new handle.new ≡ file_bytes agent.old handle.old }
-    ensures stored { stored_of agent.new handle.new ≡ stored_of agent.old handle.old }
-    ensures cause { IfErr result (IsCaused agent.old agent.new) }
-{
-    agent.know_kept();
     let done = agent.sync_read_far(rt, court, handle, len, Some(at));
     agent.know_kept();
     done
