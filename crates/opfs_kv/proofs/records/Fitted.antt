@@ -1,19 +1,12 @@
 -- What an index's records take.
-use Rattle.std.proofs.Common.{◌≡◌, ℕ, ◌+◌, ◌≤◌, Bool, true, false, cond, [], ◌∷◌, length, Option, Some, None, Ordering, Less, Equal, Greater, refl, sym, ap, ◌∙◌, arith, sum_by}
-use Rattle.std.specs.Cmp.{tied_itself}
-use Rattle.std.specs.Cmp.Lexicographic.{nat_list_cmp_total}
+use Rattle.std.proofs.Common.{◌≡◌, ℕ, ◌+◌, ◌≤◌, Bool, true, false, cond, [], ◌∷◌, length, Option, Some, None, Ordering, Less, Equal, Greater, arith, sum_by}
 use Rattle.std.specs.List.{AllByRecursion}
-use Rattle.std.specs.List.Sorted.{IsStrictlySortedBy}
-use Rattle.std.specs.Map.{lookup, set_value, keys_of}
-use Rattle.std.specs.Ordering.{match_ordering, is_eq}
+use Rattle.std.specs.Ordering.{match_ordering}
 use Rattle.std.proofs.lemmas.List.Sums.{sum_by-cons}
-use Rattle.std.proofs.lemmas.Map.{lookup-none}
-use Rattle.std.proofs.lemmas.Map.Entries.{none_below_head}
-use Rattle.std.proofs.lemmas.Map.Keys.{sorted_tail}
 use Rattle.opfs_base.specs.Texts.{Text}
 use Rattle.opfs_kv.specs.Records.Heads.{size_by}
 use Rattle.opfs_kv.specs.Records.Indexes.{Places, IsEntry, IsFitting, cost_of}
-use Rattle.opfs_kv.specs.Records.Maps.{key_cmp, is_key, found, with_key, without_key}
+use Rattle.opfs_kv.specs.Records.Maps.{key_cmp, is_key, with_key, without_key}
 use Rattle.opfs_kv.specs.Records.Records.{IsKey}
 use Rattle.opfs_kv.specs.Records.Scans.{put_in}
 use Rattle.opfs_kv.specs.declared.records.place.Place.{Place}
@@ -72,52 +65,3 @@ fitting-out room more index key fit enough = record { good = good-out index key 
 pub fitting-put : (at : ℕ) (index : Places) (key : Text) (len : Option ℕ) → IsFitting at index → IsKey key → IsSize len → IsFitting (at + size_by (length key) len) (put_in at index key len)
 fitting-put at index key (Some n) fit good small = fitting-with at (at + (6 + length key + n)) index key (record { at = at + (6 + length key); len = n }) fit (good, small) (omega arith)
 fitting-put at index key None fit good small = fitting-out at (at + (2 + length key)) index key fit (omega arith)
-
--- ---- what gave a key its place is taken back
-
-none-some : (p : Place) → ◌≡◌ {A = Option Place} None (Some p) → ⊥
-none-some p e = cc
-
-same-place : (p q : Place) → ◌≡◌ {A = Option Place} (Some p) (Some q) → p ≡ q
-same-place p q e = cc
-
-at-itself : (key : Text) → is_key key key ≡ true
-at-itself key = ap is_eq (tied_itself nat_list_cmp_total key)
-
-pub back-none : (old : Places) (key : Text) (place : Place) → None ≡ found old key → without_key (with_key old key place) key ≡ old
-back-none [] key place is = ap (λ (b : Bool). cond b [] ((key, place) ∷ [])) (at-itself key)
-back-none (e ∷ es) key place is = by (back-none es key place) (key_cmp key e.0) refl is
-  where
-    by : (None ≡ found es key → without_key (with_key es key place) key ≡ es) → (o : Ordering) → key_cmp key e.0 ≡ o → None ≡ cond (is_eq o) (Some e.1) (found es key) → without_key (match_ordering o ((key, place) ∷ (e ∷ es)) ((e.0, place) ∷ es) (e ∷ with_key es key place)) key ≡ e ∷ es
-    by rest Less o is = ap (λ (b : Bool). cond b (e ∷ es) ((key, place) ∷ without_key (e ∷ es) key)) (at-itself key)
-    by rest Equal o is = absurd (none-some e.1 is)
-    by rest Greater o is = ap (λ (r : Ordering). cond (is_eq r) (with_key es key place) (e ∷ without_key (with_key es key place) key)) o ∙ ap (λ (t : Places). e ∷ t) (rest is)
-
-abbrev pub IsSorted : Places → Type 0
-IsSorted index = IsStrictlySortedBy key_cmp (keys_of index)
-
-sorted-tail : (e : Text × Place) (es : Places) → IsSorted (e ∷ es) → IsSorted es
-sorted-tail e es sorted = sorted_tail key_cmp e.0 (keys_of es) sorted
-
-none-less : (key : Text) (e : Text × Place) (es : Places) → IsSorted (e ∷ es) → key_cmp key e.0 ≡ Less → found es key ≡ None
-none-less key e es sorted less = lookup-none (is_key key) es (none_below_head nat_list_cmp_total key e es sorted less).1
-
-pub back-some : (old : Places) (key : Text) (place before : Place) → IsSorted old → Some before ≡ found old key → set_value (is_key key) (with_key old key place) before ≡ old
-back-some [] key place before sorted is = absurd (none-some before (sym is))
-back-some (e ∷ es) key place before sorted is = by (back-some es key place before (sorted-tail e es sorted)) (key_cmp key e.0) refl is
-  where
-    by : (Some before ≡ found es key → set_value (is_key key) (with_key es key place) before ≡ es) → (o : Ordering) → key_cmp key e.0 ≡ o → Some before ≡ cond (is_eq o) (Some e.1) (found es key) → set_value (is_key key) (match_ordering o ((key, place) ∷ (e ∷ es)) ((e.0, place) ∷ es) (e ∷ with_key es key place)) before ≡ e ∷ es
-    by rest Less o is = absurd (none-some before (sym (is ∙ none-less key e es sorted o)))
-    by rest Equal o is =
-        ap (λ (r : Ordering). cond (is_eq r) ((e.0, before) ∷ es) ((e.0, place) ∷ set_value (is_key key) es before)) o
-        ∙ ap (λ (p : Place). (e.0, p) ∷ es) (same-place before e.1 is)
-    by rest Greater o is = ap (λ (r : Ordering). cond (is_eq r) ((e.0, before) ∷ with_key es key place) (e ∷ set_value (is_key key) (with_key es key place) before)) o ∙ ap (λ (t : Places). e ∷ t) (rest is)
-
--- A value that is set at a key that is not there changes nothing.
-pub set_value-none : (test : Text → Bool) (es : Places) (place : Place) → lookup test es ≡ None → set_value test es place ≡ es
-set_value-none test [] place is = refl
-set_value-none test (e ∷ es) place is =
-    elim (test e.0) as (λ (b : Bool). cond b (Some e.1) (lookup test es) ≡ None → cond b ((e.0, place) ∷ es) (e ∷ set_value test es place) ≡ e ∷ es) [
-      | true ↦ λ h. absurd (none-some e.1 (sym h))
-      | false ↦ λ h. ap (λ (t : Places). e ∷ t) (set_value-none test es place h)
-    ] is

@@ -2,8 +2,8 @@
 
 ghost use Rattle.std.specs.Prelude.{◌≡◌, [], OnOk, OnErr, is_some};
 ghost use Rattle.std.specs.List.Sorted.{IsStrictlySortedBy};
-ghost use Rattle.std.specs.Map.{set_value, keys_of};
-ghost use Rattle.opfs_kv.specs.Records.Maps.{key_cmp, is_key, found, with_key, without_key};
+ghost use Rattle.std.specs.Map.{keys_of};
+ghost use Rattle.opfs_kv.specs.Records.Maps.{key_cmp, found, with_key, without_key};
 ghost use Rattle.opfs_kv.specs.Records.Indexes.{Places};
 ghost use Rattle.opfs_kv.specs.declared.records.place.Place.{Place};
 
@@ -62,16 +62,6 @@ impl Index {
         self.map.remove(key).is_some()
     }
 
-    /// Takes back what gave a key its place, where the key had this one before, or none. Takes no memory.
-    pub fn take_back(&mut self, key: &Bytes, before: Option<Place>)
-        ensures { (old : Places) (place : Place) → IsStrictlySortedBy key_cmp (keys_of old) → before ≡ found old key.now → self.old ≡ with_key old key.now place → self.new ≡ old }
-    {
-        match before {
-            Some(place) => set_place(&mut self.map, key, place),
-            None => leave_out(&mut self.map, key),
-        }
-    }
-
     /// What the type keeps: the keys rise.
     pub fn know_kept(&self)
         ensures { IsStrictlySortedBy key_cmp (keys_of self.now) }
@@ -85,20 +75,4 @@ impl Index {
     {
         &self.map
     }
-}
-
-// Sets the place of a key that is there.
-fn set_place(map: &mut BTreeMap<Bytes, Place>, key: &Bytes, place: Place)
-    ensures { map.new.entries ≡ set_value (is_key key.now) map.old.entries place }
-{
-    if let Some(held) = map.get_mut(key) {
-        *held = place;
-    }
-}
-
-// Takes a key out.
-fn leave_out(map: &mut BTreeMap<Bytes, Place>, key: &Bytes)
-    ensures { map.new.entries ≡ without_key map.old.entries key.now }
-{
-    map.remove(key);
 }
