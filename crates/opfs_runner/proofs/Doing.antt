@@ -20,9 +20,9 @@ use Rattle.opfs_runner.specs.RunLaws.Kinds as rows
 use Rattle.opfs_runner.specs.RunLaws.Kinds.{RowKind, sort_at, kinds_after}
 use Rattle.opfs_runner.specs.RunLaws.Leaving.{snapshot_bound, row_left}
 use Rattle.opfs_runner.proofs.run_laws.Stepped.{leaves}
-use Rattle.opfs_runner.specs.Slots.Called.{Calls, IsCalled, IsStill}
-use Rattle.opfs_runner.specs.Slots.Tables.{kinds_of, kinds_told, HasTable}
-use Rattle.opfs_runner.specs.declared.slots.table.Slot.{Slot}
+use Rattle.opfs_runner.specs.AgentRows.Called.{Calls, IsCalled, IsStill}
+use Rattle.opfs_runner.specs.AgentRows.Tables.{kinds_of, kinds_told, HasTable}
+use Rattle.opfs_runner.specs.declared.agent_rows.agent_row.AgentRow.{AgentRow}
 use Rattle.opfs_runner.specs.Stepping.{own_entries, IsWaitedFor, GoesOn, IsDone, IsNotDone, IsNoted, IsTaken, IsTried}
 use Rattle.opfs_runner.proofs.Counting.{entered-own, made-own, looked-own, turned-own, begun-wait}
 
@@ -131,7 +131,7 @@ module _ {O : Type 0} (tells : Type 0) (a b : AgentSeen O) (kept : IsAgent tells
 some-same : {X : Type 0} {x y : X} → Some x ≡ Some y → x ≡ y
 some-same e = cc
 
-module _ {O : Type 0} (tells : Type 0) (a b : AgentSeen O) (kept : IsAgent tells a) (old new : List Slot) (h then_h : Hand) (s : Step) (o : Op) (asked : o ≡ op_of h s)
+module _ {O : Type 0} (tells : Type 0) (a b : AgentSeen O) (kept : IsAgent tells a) (old new : List AgentRow) (h then_h : Hand) (s : Step) (o : Op) (asked : o ≡ op_of h s)
     (table : HasTable tells b new) where
   noted : (r : Reply) → IsCalled tells a b o r → kinds_of new ≡ kinds_after (kinds_of old) o r → IsNoted tells a b old new h s
   noted r called kinds = record {
@@ -159,8 +159,8 @@ module _ {O : Type 0} (tells : Type 0) (a b : AgentSeen O) (kept : IsAgent tells
   stepped (Err stop.NoMemory) false called kinds take = inr (record { done = subst (IsNotDone a b) asked (still-not tells a b kept o called); table = table; kinds = kinds })
 
 -- Nothing was asked.
-pub not-asked : {O : Type 0} (tells : Type 0) (a : AgentSeen O) (slots : List Slot) (h : Hand) (s : Step) → HasTable tells a slots → IsTried tells a a slots slots h h s false
-not-asked tells a slots h s table = inr (record {
+pub not-asked : {O : Type 0} (tells : Type 0) (a : AgentSeen O) (agent_rows : List AgentRow) (h : Hand) (s : Step) → HasTable tells a agent_rows → IsTried tells a a agent_rows agent_rows h h s false
+not-asked tells a agent_rows h s table = inr (record {
   done = record { goes = record { same = refl; key = refl; few = omega arith }; waited = inl refl; next = refl };
   table = table;
   kinds = refl;
@@ -172,7 +172,7 @@ left-fits : (kinds : List RowKind) (x : Option ℕ) → ((n : ℕ) → x ≡ Som
 left-fits kinds None each = tt
 left-fits kinds (Some n) each = each n refl
 
-module _ {O : Type 0} (tells : Type 0) (a b : AgentSeen O) (old mid : List Slot) (h then_h : Hand) (s : Step) (tried : IsTried tells a b old mid h then_h s true) where
+module _ {O : Type 0} (tells : Type 0) (a b : AgentSeen O) (old mid : List AgentRow) (h then_h : Hand) (s : Step) (tried : IsTried tells a b old mid h then_h s true) where
   -- What is left is a snapshot's row.
   pub left-there : Agrees h (kinds_of old) → keeps_bounds s ≡ true → (before now row : Option ℕ) → before ≡ snapshot_bound h s → row ≡ row_left before now
       → IfSome row (λ n. sort_at (kinds_of mid) n ≡ Some rows.snapshot)

@@ -30,21 +30,21 @@ use Rattle.opfs_runner.specs.RunLaws.Kinds.{RowKind, kinds_changed, kinds_after,
 use Rattle.opfs_runner.specs.RunLaws.Leaving.{row_left, snapshot_bound, kinds_without, kinds_stepped}
 use Rattle.opfs_runner.proofs.run_laws.StepOps.{waits}
 use Rattle.opfs_runner.proofs.run_laws.Stepped.{begins, goes, opened-then}
-use Rattle.opfs_runner.specs.Slots.Tables.{kind_of, kinds_of, HasTable}
-use Rattle.opfs_runner.specs.declared.slots.table.Slot.{Slot}
+use Rattle.opfs_runner.specs.AgentRows.Tables.{kind_of, kinds_of, HasTable}
+use Rattle.opfs_runner.specs.declared.agent_rows.agent_row.AgentRow.{AgentRow}
 use Rattle.opfs_runner.specs.Ending.{Closes}
 use Rattle.opfs_runner.specs.Stepping.{own_entries, IsWaitedFor, IsDone, IsNoted, IsPassed, IsStepped}
 
 -- So many steps were made, and their hand has taken note.
-pub record UnderWay {O : Type 0} (tells : Type 0) (asked : Asked) (start : PassSeen O Entry) (a : AgentSeen O) (slots : List Slot) (h : Hand) (done : ℕ) : Type 0 where
+pub record UnderWay {O : Type 0} (tells : Type 0) (asked : Asked) (start : PassSeen O Entry) (a : AgentSeen O) (agent_rows : List AgentRow) (h : Hand) (done : ℕ) : Type 0 where
   pub cuts : Cuts asked (own_entries a) h a.number false done (drop done asked.steps)
-  pub agrees : Agrees h (kinds_of slots)
+  pub agrees : Agrees h (kinds_of agent_rows)
   pub hand_key : h.key ≡ asked.key
   pub own_key : a.key ≡ asked.key
-  pub table : HasTable tells a slots
+  pub table : HasTable tells a agent_rows
   pub same : a.pass ≡ record start { base = a.pass.base }
   pub entries : a.entries ≤ done + done
-  pub rows : length slots ≤ done
+  pub rows : length agent_rows ≤ done
 
 -- ---- the key stays
 
@@ -91,14 +91,14 @@ rows-stepped h kinds s r =
     let same = rows-without (kinds_after kinds (op_of h s) r) (row_left (snapshot_bound h s) (snapshot_bound (hand_then h s (op_of h s) r) s)) in
     omega (arith, after, same)
 
-slots-stepped : (old new : List Slot) (h : Hand) (s : Step) (r : Reply) (done : ℕ) → kinds_of new ≡ kinds_stepped h (kinds_of old) s r → length old ≤ done → length new ≤ done + 1
-slots-stepped old new h s r done kinds few =
+agent_rows-stepped : (old new : List AgentRow) (h : Hand) (s : Step) (r : Reply) (done : ℕ) → kinds_of new ≡ kinds_stepped h (kinds_of old) s r → length old ≤ done → length new ≤ done + 1
+agent_rows-stepped old new h s r done kinds few =
     let after = rows-stepped h (kinds_of old) s r in
     let long = ap length kinds in
     omega (arith, after, long, few, length-map old kind_of, length-map new kind_of)
 
-slots-more : (old new : List Slot) (o : Op) (r : Reply) (done : ℕ) → kinds_of new ≡ kinds_after (kinds_of old) o r → length old ≤ done → length new ≤ done + 1
-slots-more old new o r done kinds few =
+agent_rows-more : (old new : List AgentRow) (o : Op) (r : Reply) (done : ℕ) → kinds_of new ≡ kinds_after (kinds_of old) o r → length old ≤ done → length new ≤ done + 1
+agent_rows-more old new o r done kinds few =
     let after = rows-after (kinds_of old) o r in
     let long = ap length kinds in
     omega (arith, after, long, few, length-map old kind_of, length-map new kind_of)
@@ -128,7 +128,7 @@ cut-closes asked so_far h n waited done left rows cuts same rest end = record {
   run = λ e. absurd (false≢true e);
 }
 
-module _ {O : Type 0} (tells : Type 0) (asked : Asked) (start : PassSeen O Entry) (a b : AgentSeen O) (old new : List Slot) (h then_h : Hand) (done : ℕ) (s : Step) (left : List Step)
+module _ {O : Type 0} (tells : Type 0) (asked : Asked) (start : PassSeen O Entry) (a b : AgentSeen O) (old new : List AgentRow) (h then_h : Hand) (done : ℕ) (s : Step) (left : List Step)
     (fine : is_origin_key asked.key ≡ true) (way : UnderWay tells asked start a old h done) (next : drop done asked.steps ≡ s ∷ left) (fits : keeps_bounds s ≡ true) where
   cuts : Cuts asked (own_entries a) h a.number false done (s ∷ left)
   cuts = subst (Cuts asked (own_entries a) h a.number false done) next way.cuts
@@ -158,7 +158,7 @@ module _ {O : Type 0} (tells : Type 0) (asked : Asked) (start : PassSeen O Entry
     table = p.table;
     same = then-same p.done.goes.same;
     entries = let few = p.done.goes.few in omega (arith, few, way.entries);
-    rows = slots-stepped old new h s p.answered done p.kinds way.rows;
+    rows = agent_rows-stepped old new h s p.answered done p.kinds way.rows;
   }
 
   -- What is known where the run stops there.
@@ -175,22 +175,22 @@ module _ {O : Type 0} (tells : Type 0) (asked : Asked) (start : PassSeen O Entry
 
 -- ---- before the first step, and behind the last
 
-pub no-table : {O : Type 0} (tells : Type 0) (a : AgentSeen O) (slots : List Slot) → a.rows ≡ 0 → slots ≡ [] → HasTable tells a slots
-no-table {O} tells a slots rows empty = subst (HasTable tells a) (sym empty) (record { count = sym rows; each = λ i s is. absurd (nothing i s is) })
+pub no-table : {O : Type 0} (tells : Type 0) (a : AgentSeen O) (agent_rows : List AgentRow) → a.rows ≡ 0 → agent_rows ≡ [] → HasTable tells a agent_rows
+no-table {O} tells a agent_rows rows empty = subst (HasTable tells a) (sym empty) (record { count = sym rows; each = λ i s is. absurd (nothing i s is) })
   where
-    nothing : (i : ℕ) (s : Slot) → slice_get {X = Slot} [] i ≡ Some s → ⊥
+    nothing : (i : ℕ) (s : AgentRow) → slice_get {X = AgentRow} [] i ≡ Some s → ⊥
     nothing i s is = cc
 
-pub way-begins : {O : Type 0} (tells : Type 0) (asked : Asked) (a : AgentSeen O) (slots : List Slot) (h : Hand) → a.pass.base ≡ [] → a.pending ≡ [] → a.number ≡ 1 → a.entries ≡ 0 → a.rows ≡ 0
-    → a.key ≡ asked.key → slots ≡ [] → h ≡ empty_hand asked.key → UnderWay tells asked a.pass a slots h 0
-way-begins tells asked a slots h fresh none number entries rows key empty hand = record {
+pub way-begins : {O : Type 0} (tells : Type 0) (asked : Asked) (a : AgentSeen O) (agent_rows : List AgentRow) (h : Hand) → a.pass.base ≡ [] → a.pending ≡ [] → a.number ≡ 1 → a.entries ≡ 0 → a.rows ≡ 0
+    → a.key ≡ asked.key → agent_rows ≡ [] → h ≡ empty_hand asked.key → UnderWay tells asked a.pass a agent_rows h 0
+way-begins tells asked a agent_rows h fresh none number entries rows key empty hand = record {
   cuts = subst (λ n. Cuts asked (own_entries a) h n false 0 asked.steps) (sym number)
       (subst (λ x. Cuts asked (own_entries a) x 1 false 0 asked.steps) (sym hand)
       (subst (λ es. Cuts asked es (empty_hand asked.key) 1 false 0 asked.steps) (sym own_none) (cuts_begin asked)));
-  agrees = subst (λ x. Agrees x (kinds_of slots)) (sym hand) (subst (λ ks. Agrees (empty_hand asked.key) (kinds_of ks)) (sym empty) (begins asked.key));
+  agrees = subst (λ x. Agrees x (kinds_of agent_rows)) (sym hand) (subst (λ ks. Agrees (empty_hand asked.key) (kinds_of ks)) (sym empty) (begins asked.key));
   hand_key = ap (λ (x : Hand). x.key) hand;
   own_key = key;
-  table = no-table tells a slots rows empty;
+  table = no-table tells a agent_rows rows empty;
   same = refl;
   entries = omega (arith, entries);
   rows = let long = ap length empty in omega (arith, long);
@@ -200,17 +200,17 @@ way-begins tells asked a slots h fresh none number entries rows key empty hand =
     own_none = (λ i. entries_of a.pass.agent (fresh i ++ none i))
 
 -- Without a hand nothing was made.
-pub none-closes : {O : Type 0} (tells : Type 0) (asked : Asked) (a : AgentSeen O) (slots : List Slot) → a.pass.base ≡ [] → a.pending ≡ [] → a.number ≡ 1 → slots ≡ []
-    → Closes asked false (own_entries a) a.number (open_rows 1 (kinds_of slots))
-none-closes tells asked a slots fresh none number empty =
+pub none-closes : {O : Type 0} (tells : Type 0) (asked : Asked) (a : AgentSeen O) (agent_rows : List AgentRow) → a.pass.base ≡ [] → a.pending ≡ [] → a.number ≡ 1 → agent_rows ≡ []
+    → Closes asked false (own_entries a) a.number (open_rows 1 (kinds_of agent_rows))
+none-closes tells asked a agent_rows fresh none number empty =
     let own_none : own_entries a ≡ [] = (λ i. entries_of a.pass.agent (fresh i ++ none i)) in
-    subst (λ es. Closes asked false es a.number (open_rows 1 (kinds_of slots))) (sym own_none)
-    (subst (λ n. Closes asked false [] n (open_rows 1 (kinds_of slots))) (sym number)
-    (cut-closes asked [] (empty_hand asked.key) 1 false 0 asked.steps (open_rows 1 (kinds_of slots)) (cuts_begin asked) (ap (λ ks. open_rows 1 (kinds_of ks)) empty)))
+    subst (λ es. Closes asked false es a.number (open_rows 1 (kinds_of agent_rows))) (sym own_none)
+    (subst (λ n. Closes asked false [] n (open_rows 1 (kinds_of agent_rows))) (sym number)
+    (cut-closes asked [] (empty_hand asked.key) 1 false 0 asked.steps (open_rows 1 (kinds_of agent_rows)) (cuts_begin asked) (ap (λ ks. open_rows 1 (kinds_of ks)) empty)))
 
-pub way-ends : {O : Type 0} (tells : Type 0) (asked : Asked) (start : PassSeen O Entry) (a : AgentSeen O) (slots : List Slot) (h : Hand) (done : ℕ) → UnderWay tells asked start a slots h done
-    → done ≡ length asked.steps → Closes asked true (own_entries a) a.number (open_rows 1 (kinds_of slots))
-way-ends tells asked start a slots h done way all rest end =
+pub way-ends : {O : Type 0} (tells : Type 0) (asked : Asked) (start : PassSeen O Entry) (a : AgentSeen O) (agent_rows : List AgentRow) (h : Hand) (done : ℕ) → UnderWay tells asked start a agent_rows h done
+    → done ≡ length asked.steps → Closes asked true (own_entries a) a.number (open_rows 1 (kinds_of agent_rows))
+way-ends tells asked start a agent_rows h done way all rest end =
     let last : IsEnd a.number h.opened rest = subst (λ os. IsEnd a.number os rest) (sym way.agrees.still_open) end in
     let none : drop done asked.steps ≡ [] = drop_all done asked.steps (omega (arith, all)) in
     let cuts : Cuts asked (own_entries a) h a.number false (length asked.steps) [] =
@@ -241,15 +241,15 @@ step-next asked i s is within =
     let one : suc i ≡ i + 1 = omega arith in
     drop-cons asked.steps i s within ∙ (λ j. sym is j ∷ drop (one j) asked.steps)
 
-module _ {O : Type 0} (tells : Type 0) (asked : Asked) (start : PassSeen O Entry) (a : AgentSeen O) (slots : List Slot) (h : Hand) (done : ℕ) (way : UnderWay tells asked start a slots h done) (few : done ≤ 20000) where
+module _ {O : Type 0} (tells : Type 0) (asked : Asked) (start : PassSeen O Entry) (a : AgentSeen O) (agent_rows : List AgentRow) (h : Hand) (done : ℕ) (way : UnderWay tells asked start a agent_rows h done) (few : done ≤ 20000) where
   pub way-room : HasRoom a
   way-room = record { rows = omega (arith, few, way.rows, way.table.count); entries = omega (arith, few, way.entries) }
 
-  pub way-few : (a.entries ≤ 50000) × (length slots ≤ 20000)
+  pub way-few : (a.entries ≤ 50000) × (length agent_rows ≤ 20000)
   way-few = (omega (arith, few, way.entries), omega (arith, few, way.rows))
 
 -- What a step that stops the run leaves.
-module _ {O : Type 0} (tells : Type 0) (a b : AgentSeen O) (old new : List Slot) (h then_h : Hand) (s : Step) where
+module _ {O : Type 0} (tells : Type 0) (a b : AgentSeen O) (old new : List AgentRow) (h then_h : Hand) (s : Step) where
   pub stop-table : IsStepped tells a b old new h then_h s false → HasTable tells b new
   stop-table (inl n) = n.table
   stop-table (inr l) = l.table
@@ -260,7 +260,7 @@ module _ {O : Type 0} (tells : Type 0) (a b : AgentSeen O) (old new : List Slot)
 
   pub stop-few : (done : ℕ) → done < 20000 → a.entries ≤ done + done → length old ≤ done → IsStepped tells a b old new h then_h s false → (b.entries ≤ 50000) × (length new ≤ 20000)
   stop-few done few entries rows (inl n) =
-      let more = slots-more old new (op_of h s) n.answered done n.kinds rows in
+      let more = agent_rows-more old new (op_of h s) n.answered done n.kinds rows in
       let few_more = n.done.goes.few in
       (omega (arith, few, entries, few_more), omega (arith, few, more))
   stop-few done few entries rows (inr l) =

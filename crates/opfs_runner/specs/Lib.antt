@@ -1,5 +1,5 @@
 pub mod RunLaws
-pub mod Slots
+pub mod AgentRows
 pub mod Ending
 pub mod Laws
 pub mod Runs

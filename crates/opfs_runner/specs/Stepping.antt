@@ -14,8 +14,8 @@ use Rattle.opfs_script_run.specs.Runs.Running.{entries_of, op_of, hand_then}
 use Rattle.opfs_script.specs.declared.step.Step.{Step}
 use Rattle.opfs_runner.specs.RunLaws.Kinds.{kinds_after}
 use Rattle.opfs_runner.specs.RunLaws.Leaving.{kinds_stepped}
-use Rattle.opfs_runner.specs.Slots.Tables.{kinds_of, HasTable}
-use Rattle.opfs_runner.specs.declared.slots.table.Slot.{Slot}
+use Rattle.opfs_runner.specs.AgentRows.Tables.{kinds_of, HasTable}
+use Rattle.opfs_runner.specs.declared.agent_rows.agent_row.AgentRow.{AgentRow}
 
 -- All that an agent has entered or will enter.
 abbrev pub own_entries : {O : Type 0} → AgentSeen O → List Entry
@@ -71,24 +71,24 @@ pub record IsTaken (h then_h : Hand) (s : Step) (o : Op) (answer : Result Reply 
   pub noted : then_h ≡ hand_then h s o answered
 
 -- The call of a step was made; or it was not.
-pub record IsNoted {O : Type 0} (tells : Type 0) (a b : AgentSeen O) (old new : List Slot) (h : Hand) (s : Step) : Type 0 where
+pub record IsNoted {O : Type 0} (tells : Type 0) (a b : AgentSeen O) (old new : List AgentRow) (h : Hand) (s : Step) : Type 0 where
   pub answered : Reply
   pub done : IsDone a b (op_of h s) answered
   pub table : HasTable tells b new
   pub kinds : kinds_of new ≡ kinds_after (kinds_of old) (op_of h s) answered
 
-pub record IsLeft {O : Type 0} (tells : Type 0) (a b : AgentSeen O) (old new : List Slot) (h : Hand) (s : Step) : Type 0 where
+pub record IsLeft {O : Type 0} (tells : Type 0) (a b : AgentSeen O) (old new : List AgentRow) (h : Hand) (s : Step) : Type 0 where
   pub done : IsNotDone a b (op_of h s)
   pub table : HasTable tells b new
   pub kinds : kinds_of new ≡ kinds_of old
 
 -- It was made, and the hand has taken note; or it was made alone; or it was not.
-abbrev pub IsTried : {O : Type 0} → Type 0 → AgentSeen O → AgentSeen O → List Slot → List Slot → Hand → Hand → Step → Bool → Type 0
+abbrev pub IsTried : {O : Type 0} → Type 0 → AgentSeen O → AgentSeen O → List AgentRow → List AgentRow → Hand → Hand → Step → Bool → Type 0
 IsTried tells a b old new h then_h s true = (n : IsNoted tells a b old new h s) × (then_h ≡ hand_then h s (op_of h s) n.answered)
 IsTried tells a b old new h then_h s false = IsNoted tells a b old new h s ⊎ IsLeft tells a b old new h s
 
 -- The whole step was made: the hand has taken note, and the snapshot that the step's variable no longer names is gone.
-pub record IsPassed {O : Type 0} (tells : Type 0) (a b : AgentSeen O) (old new : List Slot) (h then_h : Hand) (s : Step) : Type 0 where
+pub record IsPassed {O : Type 0} (tells : Type 0) (a b : AgentSeen O) (old new : List AgentRow) (h then_h : Hand) (s : Step) : Type 0 where
   pub answered : Reply
   pub done : IsDone a b (op_of h s) answered
   pub noted : then_h ≡ hand_then h s (op_of h s) answered
@@ -96,6 +96,6 @@ pub record IsPassed {O : Type 0} (tells : Type 0) (a b : AgentSeen O) (old new :
   pub kinds : kinds_of new ≡ kinds_stepped h (kinds_of old) s answered
 
 -- It was made, or the run stops there.
-abbrev pub IsStepped : {O : Type 0} → Type 0 → AgentSeen O → AgentSeen O → List Slot → List Slot → Hand → Hand → Step → Bool → Type 0
+abbrev pub IsStepped : {O : Type 0} → Type 0 → AgentSeen O → AgentSeen O → List AgentRow → List AgentRow → Hand → Hand → Step → Bool → Type 0
 IsStepped tells a b old new h then_h s true = IsPassed tells a b old new h then_h s
 IsStepped tells a b old new h then_h s false = IsNoted tells a b old new h s ⊎ IsLeft tells a b old new h s

@@ -33,9 +33,9 @@ pub fn run_agent<S: Store, R: Wait, G: Gate>(
     ensures { HasRun court.now script.now agent.pass.agent result.pass result.whole }
 {
     agent.know_kept();
-    let mut slots = Vec::new(agent.alloc());
-    let whole = run_steps(rt, court, &mut agent, &mut slots, script, gate);
-    end_rows(rt, court, &mut agent, slots);
+    let mut agent_rows = Vec::new(agent.alloc());
+    let whole = run_steps(rt, court, &mut agent, &mut agent_rows, script, gate);
+    end_rows(rt, court, &mut agent, agent_rows);
     let pass = agent.end(rt, court);
     Ended { pass, whole }
 }

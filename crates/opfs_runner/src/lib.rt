@@ -3,19 +3,19 @@
 //! It stands on `opfs_script_run` and `opfs_agent`; on it stands `opfs_desk_runs`.
 #![tactic(auto)]
 
+pub mod agent_rows;
 mod closing;
 pub mod ended;
 mod ends;
 pub mod history;
 mod run;
 pub mod run_laws;
-pub mod slots;
 mod snapshots;
 mod steps;
 mod threads;
 
+pub use agent_rows::{AgentRow, forget, perform};
 pub use closing::close_hall;
 pub use ended::{Ended, run_agent};
 pub use run::{Ran, run_scripts};
-pub use slots::{Slot, forget, perform};
 pub use threads::run_all;

@@ -6,12 +6,12 @@ ghost use Rattle.opfs_script.specs.Limits.{keeps_bounds};
 ghost use Rattle.opfs_turns.specs.Calls.{HasRoom};
 ghost use Rattle.opfs_runner.specs.RunLaws.Agreeing.{Agrees};
 ghost use Rattle.opfs_runner.specs.RunLaws.Kinds.{open_rows, MayPerform};
-ghost use Rattle.opfs_runner.specs.Slots.Tables.{kinds_of, HasTable};
+ghost use Rattle.opfs_runner.specs.AgentRows.Tables.{kinds_of, HasTable};
 ghost use Rattle.opfs_runner.specs.Ending.{Closes};
 ghost use Rattle.opfs_runner.specs.Runs.{IsReady};
 ghost use Rattle.opfs_runner.specs.Stepping.{own_entries, reply_of, IsTaken, IsTried, IsStepped};
 
-use crate::slots::{Slot, forget, perform};
+use crate::agent_rows::{AgentRow, forget, perform};
 use crate::snapshots::{row_left, snapshot_bound};
 use opfs_agent::{Agent, Stop};
 use opfs_base::copy_key;
@@ -50,21 +50,21 @@ fn run_asked<S: Store, R: Wait>(
     rt: &R,
     court: &Hall<S>,
     agent: &mut Agent<S>,
-    slots: &mut Vec<Slot>,
+    agent_rows: &mut Vec<AgentRow>,
     hand: &mut Hand,
     step: &Step,
     op: &Op,
 ) -> bool
     requires own { agent.old.pass.hall ≡ court.now }
     requires room { HasRoom agent.old }
-    requires table { HasTable S.tells agent.old slots.old.items }
-    requires may { MayPerform agent.old.key (kinds_of slots.old.items) op.now }
+    requires table { HasTable S.tells agent.old agent_rows.old.items }
+    requires may { MayPerform agent.old.key (kinds_of agent_rows.old.items) op.now }
     requires asked { op.now ≡ op_of hand.old step.now }
-    ensures { IsTried S.tells agent.old agent.new slots.old.items slots.new.items hand.old hand.new step.now result }
+    ensures { IsTried S.tells agent.old agent.new agent_rows.old.items agent_rows.new.items hand.old hand.new step.now result }
 {
     agent.know_kept();
     let alloc = agent.alloc();
-    let answer = perform(rt, court, agent, slots, op);
+    let answer = perform(rt, court, agent, agent_rows, op);
     agent.know_kept();
     note(alloc, hand, step, op, answer)
 }
@@ -74,22 +74,22 @@ fn run_step<S: Store, R: Wait>(
     rt: &R,
     court: &Hall<S>,
     agent: &mut Agent<S>,
-    slots: &mut Vec<Slot>,
+    agent_rows: &mut Vec<AgentRow>,
     hand: &mut Hand,
     step: &Step,
 ) -> bool
     requires own { agent.old.pass.hall ≡ court.now }
     requires room { HasRoom agent.old }
-    requires table { HasTable S.tells agent.old slots.old.items }
-    requires agrees { Agrees hand.old (kinds_of slots.old.items) }
+    requires table { HasTable S.tells agent.old agent_rows.old.items }
+    requires agrees { Agrees hand.old (kinds_of agent_rows.old.items) }
     requires key { hand.old.key ≡ agent.old.key }
     requires bounds { keeps_bounds step.now ≡ true }
-    ensures { IsTried S.tells agent.old agent.new slots.old.items slots.new.items hand.old hand.new step.now result }
+    ensures { IsTried S.tells agent.old agent.new agent_rows.old.items agent_rows.new.items hand.old hand.new step.now result }
 {
     let Ok(op) = hand.op_of(agent.alloc(), step) else {
         return false;
     };
-    let done = run_asked(rt, court, agent, slots, hand, step, &op);
+    let done = run_asked(rt, court, agent, agent_rows, hand, step, &op);
     drop(op);
     done
 }
@@ -99,24 +99,24 @@ fn make_step<S: Store, R: Wait>(
     rt: &R,
     court: &Hall<S>,
     agent: &mut Agent<S>,
-    slots: &mut Vec<Slot>,
+    agent_rows: &mut Vec<AgentRow>,
     hand: &mut Hand,
     step: &Step,
 ) -> bool
     requires own { agent.old.pass.hall ≡ court.now }
     requires room { HasRoom agent.old }
-    requires table { HasTable S.tells agent.old slots.old.items }
-    requires agrees { Agrees hand.old (kinds_of slots.old.items) }
+    requires table { HasTable S.tells agent.old agent_rows.old.items }
+    requires agrees { Agrees hand.old (kinds_of agent_rows.old.items) }
     requires key { hand.old.key ≡ agent.old.key }
     requires bounds { keeps_bounds step.now ≡ true }
-    ensures { IsStepped S.tells agent.old agent.new slots.old.items slots.new.items hand.old hand.new step.now result }
+    ensures { IsStepped S.tells agent.old agent.new agent_rows.old.items agent_rows.new.items hand.old hand.new step.now result }
 {
     let before = snapshot_bound(hand, step);
-    if !run_step(rt, court, agent, slots, hand, step) {
+    if !run_step(rt, court, agent, agent_rows, hand, step) {
         return false;
     }
     let now = snapshot_bound(hand, step);
-    forget(agent, slots, row_left(before, now));
+    forget(agent, agent_rows, row_left(before, now));
     true
 }
 
@@ -125,7 +125,7 @@ fn pass_step<S: Store, R: Wait, G: Gate>(
     rt: &R,
     court: &Hall<S>,
     agent: &mut Agent<S>,
-    slots: &mut Vec<Slot>,
+    agent_rows: &mut Vec<AgentRow>,
     hand: &mut Hand,
     step: &Step,
     gate: &G,
@@ -133,15 +133,15 @@ fn pass_step<S: Store, R: Wait, G: Gate>(
 ) -> bool
     requires own { agent.old.pass.hall ≡ court.now }
     requires room { HasRoom agent.old }
-    requires table { HasTable S.tells agent.old slots.old.items }
-    requires agrees { Agrees hand.old (kinds_of slots.old.items) }
+    requires table { HasTable S.tells agent.old agent_rows.old.items }
+    requires agrees { Agrees hand.old (kinds_of agent_rows.old.items) }
     requires key { hand.old.key ≡ agent.old.key }
     requires bounds { keeps_bounds step.now ≡ true }
-    ensures { IsStepped S.tells agent.old agent.new slots.old.items slots.new.items hand.old hand.new step.now result }
+    ensures { IsStepped S.tells agent.old agent.new agent_rows.old.items agent_rows.new.items hand.old hand.new step.now result }
 {
     let agent_number = agent.number();
     gate.before(agent_number, number);
-    let done = make_step(rt, court, agent, slots, hand, step);
+    let done = make_step(rt, court, agent, agent_rows, hand, step);
     gate.after(agent_number, number);
     done
 }
@@ -151,16 +151,16 @@ pub fn run_steps<S: Store, R: Wait, G: Gate>(
     rt: &R,
     court: &Hall<S>,
     agent: &mut Agent<S>,
-    slots: &mut Vec<Slot>,
+    agent_rows: &mut Vec<AgentRow>,
     script: &AgentScript,
     gate: &G,
 ) -> bool
     requires ready { IsReady court.now script.now agent.old }
-    requires none { slots.old.items ≡ [] }
-    ensures table { HasTable S.tells agent.new slots.new.items }
-    ensures few { (agent.new.entries ≤ 50000) × (length slots.new.items ≤ 20000) }
+    requires none { agent_rows.old.items ≡ [] }
+    ensures table { HasTable S.tells agent.new agent_rows.new.items }
+    ensures few { (agent.new.entries ≤ 50000) × (length agent_rows.new.items ≤ 20000) }
     ensures same { agent.new.pass ≡ record agent.old.pass { base = agent.new.pass.base } }
-    ensures closes { Closes script.now result (own_entries agent.new) agent.new.number (open_rows 1 (kinds_of slots.new.items)) }
+    ensures closes { Closes script.now result (own_entries agent.new) agent.new.number (open_rows 1 (kinds_of agent_rows.new.items)) }
 {
     agent.know_kept();
     let alloc = agent.alloc();
@@ -172,7 +172,7 @@ pub fn run_steps<S: Store, R: Wait, G: Gate>(
     let mut number = 0;
     for step in steps {
         number += 1;
-        if !pass_step(rt, court, agent, slots, &mut hand, step, gate, number) {
+        if !pass_step(rt, court, agent, agent_rows, &mut hand, step, gate, number) {
             return false;
         }
     }

@@ -4,31 +4,31 @@ use Rattle.std.proofs.lemmas.List.{reverse-reverse}
 use Rattle.opfs_runner.proofs.Endings.{Ending, ending-begins, ending-first, ending-more, ending-none, ending-closes, pop-left, nothing-left}
 use Rattle.opfs_runner.proofs.ends.end_rows.Goals as goal
 
-pub loop-slot-init : goal.loop-slot-init
-loop-slot-init g c =
+pub loop-agent_row-init : goal.loop-agent_row-init
+loop-agent_row-init g c =
     let T = g.S.Store.tells in
     let a = c.args.agent.now in
-    let slots = c.args.slots.items in
-    subst (Ending T a slots a) (sym (ap reverse c.reverse.ensures.items ∙ reverse-reverse slots)) (ending-begins T a slots c.know_kept.ensures c.requires.table c.requires.few.0 c.requires.few.1)
+    let agent_rows = c.args.agent_rows.items in
+    subst (Ending T a agent_rows a) (sym (ap reverse c.reverse.ensures.items ∙ reverse-reverse agent_rows)) (ending-begins T a agent_rows c.know_kept.ensures c.requires.table c.requires.few.0 c.requires.few.1)
 
-pub end_slot-requires-clause-slot : goal.end_slot-requires-clause-slot
-end_slot-requires-clause-slot g c =
+pub end_agent_row-requires-clause-agent_row : goal.end_agent_row-requires-clause-agent_row
+end_agent_row-requires-clause-agent_row g c =
     let T = g.S.Store.tells in
-    let left = pop-left c.loop-slot.slots.items c.pop.new.self.items c.in-Some.slot c.in-Some.ensures.items in
-    ending-first T c.args.agent.now c.loop-slot.agent c.args.slots.items c.in-Some.slot (reverse c.pop.new.self.items)
-    (subst (Ending T c.args.agent.now c.args.slots.items c.loop-slot.agent) left c.loop-slot.invariant)
+    let left = pop-left c.loop-agent_row.agent_rows.items c.pop.new.self.items c.in-Some.agent_row c.in-Some.ensures.items in
+    ending-first T c.args.agent.now c.loop-agent_row.agent c.args.agent_rows.items c.in-Some.agent_row (reverse c.pop.new.self.items)
+    (subst (Ending T c.args.agent.now c.args.agent_rows.items c.loop-agent_row.agent) left c.loop-agent_row.invariant)
 
-pub loop-slot-preserved : goal.loop-slot-preserved
-loop-slot-preserved g c =
+pub loop-agent_row-preserved : goal.loop-agent_row-preserved
+loop-agent_row-preserved g c =
     let T = g.S.Store.tells in
-    let left = pop-left c.loop-slot.slots.items c.pop.new.self.items c.in-Some.slot c.in-Some.ensures.items in
-    ending-more T c.args.agent.now c.loop-slot.agent c.end_slot.new.agent c.args.slots.items (reverse c.pop.new.self.items) c.in-Some.slot
-    (subst (Ending T c.args.agent.now c.args.slots.items c.loop-slot.agent) left c.loop-slot.invariant) c.know_kept-in-loop-slot.ensures c.end_slot.ensures
+    let left = pop-left c.loop-agent_row.agent_rows.items c.pop.new.self.items c.in-Some.agent_row c.in-Some.ensures.items in
+    ending-more T c.args.agent.now c.loop-agent_row.agent c.end_agent_row.new.agent c.args.agent_rows.items (reverse c.pop.new.self.items) c.in-Some.agent_row
+    (subst (Ending T c.args.agent.now c.args.agent_rows.items c.loop-agent_row.agent) left c.loop-agent_row.invariant) c.know_kept-in-loop-agent_row.ensures c.end_agent_row.ensures
 
 pub returns-clause-none : goal.returns-clause-none
 returns-clause-none g c =
-    ending-none g.S.Store.tells c.args.agent.now c.loop-slot.agent c.args.slots.items (reverse c.loop-slot.slots.items) (nothing-left c.loop-slot.slots.items (omega (arith, c.in_default.ensures.cases.0, c.loop-slot.slots.ok))) c.loop-slot.invariant
+    ending-none g.S.Store.tells c.args.agent.now c.loop-agent_row.agent c.args.agent_rows.items (reverse c.loop-agent_row.agent_rows.items) (nothing-left c.loop-agent_row.agent_rows.items (omega (arith, c.in_default.ensures.cases.0, c.loop-agent_row.agent_rows.ok))) c.loop-agent_row.invariant
 
 pub returns-clause-closes : goal.returns-clause-closes
 returns-clause-closes g c =
-    ending-closes g.S.Store.tells c.args.agent.now c.loop-slot.agent c.args.slots.items (reverse c.loop-slot.slots.items) (nothing-left c.loop-slot.slots.items (omega (arith, c.in_default.ensures.cases.0, c.loop-slot.slots.ok))) c.loop-slot.invariant
+    ending-closes g.S.Store.tells c.args.agent.now c.loop-agent_row.agent c.args.agent_rows.items (reverse c.loop-agent_row.agent_rows.items) (nothing-left c.loop-agent_row.agent_rows.items (omega (arith, c.in_default.ensures.cases.0, c.loop-agent_row.agent_rows.ok))) c.loop-agent_row.invariant

@@ -6,7 +6,7 @@ use Rattle.opfs_runner.proofs.steps.run_steps.Goals as goal
 
 pub returns-in_default-clause-closes : goal.returns-in_default-clause-closes
 returns-in_default-clause-closes g c =
-    none-closes g.S.Store.tells c.args.script.now c.args.agent.now c.args.slots.now.items c.requires.ready.fresh c.requires.ready.pending c.requires.ready.number c.requires.none
+    none-closes g.S.Store.tells c.args.script.now c.args.agent.now c.args.agent_rows.now.items c.requires.ready.fresh c.requires.ready.pending c.requires.ready.number c.requires.none
 
 pub pass_step-requires-clause-bounds : goal.pass_step-requires-clause-bounds
 pass_step-requires-clause-bounds g c κs inside =
@@ -21,7 +21,7 @@ returns-then-not-pass_step-clause-few g c =
     let within : i < length c.args.script.now.steps = subst (λ (xs : List Step). i < length xs) c.steps-steps.ensures.steps c.loop-step-test.true in
     let way = c.loop-step.invariant.0 in
     let few = few-steps c.args.script.now c.steps-steps.ensures.limits in
-    stop-few g.S.Store.tells c.loop-step.agent c.pass_step.new.agent c.loop-step.slots.items c.pass_step.new.slots.items c.loop-step.hand c.pass_step.new.hand c.step-item.result
+    stop-few g.S.Store.tells c.loop-step.agent c.pass_step.new.agent c.loop-step.agent_rows.items c.pass_step.new.agent_rows.items c.loop-step.hand c.pass_step.new.hand c.step-item.result
     i (omega (arith, within, few)) way.entries way.rows c.if-not-pass_step.ensures
 
 pub returns-then-not-pass_step-clause-closes : goal.returns-then-not-pass_step-clause-closes
@@ -32,7 +32,7 @@ returns-then-not-pass_step-clause-closes g c =
     let within : i < length asked.steps = subst (λ (xs : List Step). i < length xs) c.steps-steps.ensures.steps c.loop-step-test.true in
     let item = c.step-item.is ∙ ap (λ (xs : List Step). get_or xs i s) c.steps-steps.ensures.steps in
     let fits = subst (λ (x : Step). keeps_bounds x ≡ true) (sym item) (step-fits asked c.steps-steps.ensures.limits i s within) in
-    way-stops g.S.Store.tells asked c.args.agent.now.pass c.loop-step.agent c.pass_step.new.agent c.loop-step.slots.items c.pass_step.new.slots.items c.loop-step.hand c.pass_step.new.hand i s
+    way-stops g.S.Store.tells asked c.args.agent.now.pass c.loop-step.agent c.pass_step.new.agent c.loop-step.agent_rows.items c.pass_step.new.agent_rows.items c.loop-step.hand c.pass_step.new.hand i s
     (drop (i + 1) asked.steps) (key-fine asked c.steps-steps.ensures.limits) c.loop-step.invariant.0 (step-next asked i s item within) fits c.if-not-pass_step.ensures
 
 pub loop-step-preserved : goal.loop-step-preserved
@@ -43,7 +43,7 @@ loop-step-preserved g c =
     let within : i < length asked.steps = subst (λ (xs : List Step). i < length xs) c.steps-steps.ensures.steps c.loop-step-test.true in
     let item = c.step-item.is ∙ ap (λ (xs : List Step). get_or xs i s) c.steps-steps.ensures.steps in
     let fits = subst (λ (x : Step). keeps_bounds x ≡ true) (sym item) (step-fits asked c.steps-steps.ensures.limits i s within) in (
-      way-more g.S.Store.tells asked c.args.agent.now.pass c.loop-step.agent c.pass_step.new.agent c.loop-step.slots.items c.pass_step.new.slots.items c.loop-step.hand c.pass_step.new.hand i s
+      way-more g.S.Store.tells asked c.args.agent.now.pass c.loop-step.agent c.pass_step.new.agent c.loop-step.agent_rows.items c.pass_step.new.agent_rows.items c.loop-step.hand c.pass_step.new.hand i s
           (drop (i + 1) asked.steps) (key-fine asked c.steps-steps.ensures.limits) c.loop-step.invariant.0 (step-next asked i s item within) fits refl c.if-not-pass_step.ensures,
       ap (λ (n : ℕ). n + 1) c.loop-step.invariant.1,
     )
@@ -51,5 +51,5 @@ loop-step-preserved g c =
 pub returns-clause-closes : goal.returns-clause-closes
 returns-clause-closes g c =
     let same : length c.steps-steps.result.now ≡ length c.args.script.now.steps = ap length c.steps-steps.ensures.steps in
-    way-ends g.S.Store.tells c.args.script.now c.args.agent.now.pass c.loop-step.agent c.loop-step.slots.items c.loop-step.hand c.loop-step.step-index c.loop-step.invariant.0
+    way-ends g.S.Store.tells c.args.script.now c.args.agent.now.pass c.loop-step.agent c.loop-step.agent_rows.items c.loop-step.hand c.loop-step.step-index c.loop-step.invariant.0
     (omega (arith, same, c.loop-step-test.false, c.loop-step.auto.step-index-end))

@@ -1,6 +1,0 @@
-pub mod Forgotten
-pub mod Grown
-pub mod Handed
-pub mod Resting
-pub mod Slotted
-pub mod Using
