@@ -3,5 +3,4 @@ mod acting;
 mod calling;
 mod kinds;
 
-pub use acting::act_asked;
 pub use calling::act_call;

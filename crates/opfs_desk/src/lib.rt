@@ -15,5 +15,5 @@ mod standing;
 mod waiting;
 
 pub use desk::Desk;
-pub use dispatch::{act_asked, act_call};
+pub use dispatch::act_call;
 pub use standing::Opened;

@@ -4,12 +4,11 @@ ghost use Rattle.std.specs.Option.{option_copied};
 ghost use Rattle.std.specs.Prelude.{◌≡◌, true, [], IfOk, OnOk, OnErr, IsTrue, is_ok};
 ghost use Rattle.opfs_store.specs.Acts.Acting.{IsSameCopy, always_acts};
 ghost use Rattle.opfs_books.specs.Laws.Books.{Fixed};
-ghost use Rattle.opfs_desk.specs.Dispatch.Kinds.{IsOfKind};
 ghost use Rattle.opfs_pages.specs.HistoryLaws.Handles.{AreHandlesWhole};
 ghost use Rattle.opfs_desk_steps.specs.Parts.Acted.{HasActed, IsUnacted};
 ghost use Rattle.opfs_desk_steps.specs.Parts.Asked.{IsAsked, MayGo};
 ghost use Rattle.opfs_desk_steps.specs.Parts.Held.{AreHeldWhole};
-ghost use Rattle.opfs_desk_steps.specs.Parts.Seen.{machine_in, call_in};
+ghost use Rattle.opfs_desk_steps.specs.Parts.Seen.{call_in};
 ghost use Rattle.opfs_desk_entries.specs.Answers.Next.{MayGoFrom};
 ghost use Rattle.opfs_desk_bytes.specs.Reading.Reading.{HaveWholeHandles};
 ghost use Rattle.opfs_desk_steps.specs.Ready.{AskedCallsAreReady};
@@ -43,48 +42,9 @@ fn asking_laws<D: Disk>()
     local_calls_are_known_by_their_word();
 }
 
-// Acts a call of a kind.
-fn act_as<D: Disk>(
-    kind: CallKind,
-    parts: &mut DeskParts<D>,
-    call: ReadyCall,
-    pending: &mut Pending,
-    work: &mut Work,
-    past: &[Name],
-    last: Option<&Name>,
-) -> Result<Acted, AllocError>
-    requires go { MayGo D.Disk parts.old call pending.old work.old past.now }
-    requires given { MayGoFrom D.Disk parts.old call pending.old work.old past.now (option_copied last) }
-    requires whole { HaveWholeHandles D.Disk parts.old }
-    requires word { IsOfKind kind (machine_in parts.old.ledger) call.agent call.op }
-    ensures acted { IfOk result (λ acted. (f : Fixed D) (recorded : Built) → AreHeldWhole D.Disk f recorded parts.old.ledger parts.old.pages → AreHandlesWhole f.opening parts.old.ledger.books.history
-        → IsAsked D.tells f.opening parts.old.ledger.books.history pending.old parts.old.ledger.books.state call work.old past.now
-        → HasActed D.Disk f parts.old parts.new pending.old (call_in call) work.old work.new acted) }
-    ensures taken { OnOk result (pending.new ≡ []) }
-    ensures unacted { OnErr result ((pending.new ≡ pending.old) × IsSameCopy work.old work.new) }
-    ensures idle { OnErr result ((f : Fixed D) (recorded : Built) → AreHeldWhole D.Disk f recorded parts.old.ledger parts.old.pages → IsUnacted D.Disk f parts.old parts.new) }
-    ensures ends { always_acts call.op ≡ true → IsTrue (is_ok result) }
-{
-    match kind {
-        CallKind::Told => Ok(act_done(parts, call, pending, work)),
-        CallKind::Persisted => Ok(act_persisted(parts, call, pending, work)?),
-        CallKind::Given => Ok(act_persist(parts, call, pending, work)?),
-        CallKind::Next => Ok(act_next(parts, call, pending, work, past, last)?),
-        CallKind::Estimate => Ok(act_estimate(parts, call, pending, work)),
-        CallKind::Kept => Ok(act_keep_back(parts, call, pending, work)?),
-        CallKind::GetFile => Ok(act_get_file(parts, call, pending, work)?),
-        CallKind::Opened => Ok(act_open(parts, call, pending, work)?),
-        CallKind::Put => Ok(act_put(parts, call, pending, work)?),
-        CallKind::SyncRead => Ok(act_sync_read(parts, call, pending, work)?),
-        CallKind::Stored => Ok(act_content(parts, call, pending, work)?),
-        CallKind::Idle => Ok(act_idle_flush(parts, call, pending, work)?),
-        CallKind::Left => Ok(act_close_without_store(parts, call, pending, work)),
-    }
-}
-
 /// Acts a call that is not refused, and for which all of the shared state stands ready: takes in its agent's pending calls, clears
 /// its units, and enters it. Where there is no memory nothing is entered; abort, discard and end take none.
-pub fn act_asked<D: Disk>(
+pub fn act_by_kind<D: Disk>(
     parts: &mut DeskParts<D>,
     call: ReadyCall,
     pending: &mut Pending,
@@ -105,5 +65,19 @@ pub fn act_asked<D: Disk>(
 {
     asking_laws::<D>();
     let kind = kind_of(&parts.ledger.books.state, call.agent, &call.op);
-    act_as(kind, parts, call, pending, work, past, last)
+    match kind {
+        CallKind::Told => Ok(act_done(parts, call, pending, work)),
+        CallKind::Persisted => Ok(act_persisted(parts, call, pending, work)?),
+        CallKind::Given => Ok(act_persist(parts, call, pending, work)?),
+        CallKind::Next => Ok(act_next(parts, call, pending, work, past, last)?),
+        CallKind::Estimate => Ok(act_estimate(parts, call, pending, work)),
+        CallKind::Kept => Ok(act_keep_back(parts, call, pending, work)?),
+        CallKind::GetFile => Ok(act_get_file(parts, call, pending, work)?),
+        CallKind::Opened => Ok(act_open(parts, call, pending, work)?),
+        CallKind::Put => Ok(act_put(parts, call, pending, work)?),
+        CallKind::SyncRead => Ok(act_sync_read(parts, call, pending, work)?),
+        CallKind::Stored => Ok(act_content(parts, call, pending, work)?),
+        CallKind::Idle => Ok(act_idle_flush(parts, call, pending, work)?),
+        CallKind::Left => Ok(act_close_without_store(parts, call, pending, work)),
+    }
 }

@@ -5,16 +5,9 @@ ghost use Rattle.std.specs.Prelude.{◌≡◌, true, [], IfOk, OnOk, OnErr, IsTr
 ghost use Rattle.opfs_store.specs.Acts.Acting.{IsSameCopy, always_acts};
 ghost use Rattle.opfs_books.specs.Laws.Books.{Fixed};
 ghost use Rattle.opfs_desk.specs.Dispatch.Calling.{HasNoneReady, IsCalled, IsLeftAlone, MayCall, MayCallFrom};
-ghost use Rattle.opfs_pages.specs.HistoryLaws.Handles.{AreHandlesWhole};
 ghost use Rattle.opfs_desk_steps.specs.Parts.Acted.{HasActed};
-ghost use Rattle.opfs_desk_steps.specs.Parts.Asked.{IsAsked, MayGo};
-ghost use Rattle.opfs_desk_steps.specs.Parts.Held.{AreHeldWhole};
-ghost use Rattle.opfs_desk_steps.specs.Parts.Seen.{call_in};
-ghost use Rattle.opfs_desk_entries.specs.Answers.Next.{MayGoFrom};
-ghost use Rattle.opfs_desk_bytes.specs.Reading.Reading.{HaveWholeHandles};
-ghost use Rattle.opfs_records.specs.Replay.Built.{Built};
 
-use crate::dispatch::acting::act_asked;
+use crate::dispatch::acting::act_by_kind;
 use opfs_base::Name;
 use opfs_books::the_books_show_their_images;
 use opfs_desk_entries::act_refused;
@@ -30,35 +23,6 @@ fn cancel<D: Disk>(ledger: &mut Ledger<D>)
     ensures { HasNoneReady ledger.old ledger.new }
 {
     ledger.books.state.cancel();
-}
-
-// Acts a call for which all stands ready; where there is no memory nothing stands ready afterwards.
-fn act_or_cancel<D: Disk>(
-    parts: &mut DeskParts<D>,
-    call: ReadyCall,
-    pending: &mut Pending,
-    work: &mut Work,
-    past: &[Name],
-    last: Option<&Name>,
-) -> Result<Acted, AllocError>
-    requires go { MayGo D.Disk parts.old call pending.old work.old past.now }
-    requires given { MayGoFrom D.Disk parts.old call pending.old work.old past.now (option_copied last) }
-    requires whole { HaveWholeHandles D.Disk parts.old }
-    ensures acted { IfOk result (λ acted. (f : Fixed D) (recorded : Built) → AreHeldWhole D.Disk f recorded parts.old.ledger parts.old.pages → AreHandlesWhole f.opening parts.old.ledger.books.history
-        → IsAsked D.tells f.opening parts.old.ledger.books.history pending.old parts.old.ledger.books.state call work.old past.now
-        → HasActed D.Disk f parts.old parts.new pending.old (call_in call) work.old work.new acted) }
-    ensures taken { OnOk result (pending.new ≡ []) }
-    ensures unacted { OnErr result ((pending.new ≡ pending.old) × IsSameCopy work.old work.new) }
-    ensures alone { OnErr result ((f : Fixed D) (recorded : Built) → AreHeldWhole D.Disk f recorded parts.old.ledger parts.old.pages → IsLeftAlone D.Disk f parts.old parts.new) }
-    ensures ends { always_acts call.op ≡ true → IsTrue (is_ok result) }
-{
-    match act_asked(parts, call, pending, work, past, last) {
-        Ok(acted) => Ok(acted),
-        Err(error) => {
-            cancel(&mut parts.ledger);
-            Err(error)
-        }
-    }
 }
 
 /// Makes one shared call of an agent: judges it, takes in the agent's pending calls, clears units where it needs room, and enters it
@@ -98,7 +62,13 @@ pub fn act_call<D: Disk>(
                 sizes,
                 clearing,
             };
-            Ok(act_or_cancel(parts, call, pending, work, past, last)?)
+            match act_by_kind(parts, call, pending, work, past, last) {
+                Ok(acted) => Ok(acted),
+                Err(error) => {
+                    cancel(&mut parts.ledger);
+                    Err(error)
+                }
+            }
         }
         Err(error) => Err(error),
     }
