@@ -10,7 +10,7 @@ mod units;
 
 pub use clearing::settle_doubt;
 pub use committing::commit_kept;
-pub use entering::{store_call, tell_call};
+pub use entering::store_call;
 pub use refusing::{fail_call, refuse_call};
 pub use taking::take_in;
 pub use units::evict_all;

@@ -17,7 +17,7 @@ mod telling;
 
 pub use apart::{CallParts, call_parts};
 pub use book_steps::{
-    commit_kept, evict_all, fail_call, refuse_call, settle_doubt, store_call, take_in, tell_call,
+    commit_kept, evict_all, fail_call, refuse_call, settle_doubt, store_call, take_in,
 };
 pub use clearing::{clear_call, evict_for};
 pub use iterating::{Followed, Iterators, asked_row, may_make};

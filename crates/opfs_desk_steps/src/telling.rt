@@ -17,9 +17,8 @@ ghost use Rattle.opfs_machine.specs.Steps.{is_refusal};
 ghost use Rattle.opfs_records.specs.Replay.Built.{Built};
 
 use crate::apart::{CallParts, call_parts};
-use crate::book_steps::tell_call;
 use crate::parts::{Ledger, ReadyCall};
-use opfs_books::{Entering, EntryWithRoom};
+use opfs_books::{Entering, EntryWithRoom, calls_are_spelled, the_state_is_kept};
 use opfs_hist::Reply;
 use opfs_machine::Sizes;
 use opfs_outside::Disk;
@@ -34,18 +33,23 @@ pub fn tell_last<D: Disk>(ledger: &mut Ledger<D>, last: EntryWithRoom, sizes: Si
     ensures told { (f : Fixed D) (recorded : Built) (base : State Text Own) (gone : List Text) (p : OpenPages) → AreHeldAt D.Disk f recorded base gone ledger.old p → IsAnswered D.Disk base gone ledger.old last.entry sizes
         → HasTold D.Disk f recorded ledger.old ledger.new p last.entry sizes }
 {
-    let extents = None;
-    tell_call(
-        ledger,
+    the_state_is_kept::<D>();
+    calls_are_spelled();
+    ledger.books.state.know_rows_match_tree();
+    ledger.freed.clear();
+    ledger.books.tell(
+        ledger.alloc,
+        &ledger.journal,
         Entering {
             last,
             sizes,
-            extents,
+            extents: None,
         },
+        &mut ledger.freed,
     );
 }
 
-/// Enters a call in hand, for which no unit is cleared, so.
+/// Enters a call for which all stands ready, and for which no unit is cleared, so.
 pub fn tell_ready<D: Disk>(ledger: &mut Ledger<D>, call: ReadyCall, reply: Reply)
     requires may { MayAnswer D.Disk ledger.old (told_entry (call_in call) reply) call.sizes }
     requires answered { is_refusal reply ≡ false }

@@ -1,6 +1,6 @@
-//! Calls that are answered: those that store nothing, and those that store a content or one more change than may be kept back.
+//! Calls that store a content, or one more change than may be kept back.
 
-ghost use Rattle.std.specs.Prelude.{◌≡◌, ◌≤◌, ◌++◌, ◌∷◌, [], List, Some, None, true, false, fold, OnOk, OnErr};
+ghost use Rattle.std.specs.Prelude.{◌≡◌, ◌≤◌, ◌++◌, ◌∷◌, [], List, Some, true, false, fold, OnOk, OnErr};
 ghost use Rattle.opfs_base.specs.Texts.{Text};
 ghost use Rattle.opfs_books.specs.Stored.Spelled.{spelled_by};
 ghost use Rattle.opfs_books.specs.Laws.Books.{Fixed, AreBooks};
@@ -8,7 +8,7 @@ ghost use Rattle.opfs_books.specs.Laws.Laws.{LeavesPages, ShowsTold, told, faile
 ghost use Rattle.opfs_books.specs.Seen.{MayStore, BytesStand, stored_change};
 ghost use Rattle.opfs_state_rows.specs.Changes.Changed.{tree_by};
 ghost use Rattle.opfs_codec.specs.Fields.{plain, Fits};
-ghost use Rattle.opfs_desk_steps.specs.Parts.Answered.{IsAnswered, MayAnswer};
+ghost use Rattle.opfs_desk_steps.specs.Parts.Answered.{IsAnswered};
 ghost use Rattle.opfs_desk_steps.specs.Parts.Held.{AreTied, AreHeldAt, AreHeldWhole};
 ghost use Rattle.opfs_desk_steps.specs.Parts.Seen.{machine_in, tree_in, book_in};
 ghost use Rattle.opfs_desk_steps.specs.declared.parts.parts.OpenPages.{OpenPages};
@@ -23,36 +23,12 @@ ghost use Rattle.opfs_outside.specs.Faults.{Rose};
 ghost use Rattle.opfs_records.specs.Replay.Built.{Built};
 
 use crate::parts::Ledger;
-use opfs_books::{Entering, calls_are_spelled, the_state_is_kept};
+use opfs_books::{Entering, the_state_is_kept};
 use opfs_codec::ChangeRef;
 use opfs_journal::DiskFault;
 use opfs_laws::steady::settling::only_its_own_calls_settle_a_row;
 use opfs_outside::Disk;
 use opfs_pages::{blocks_go_on, what_is_laid_goes_on};
-
-/// Enters a call that is answered and stores nothing. The pages are the caller's.
-pub fn tell_call<D: Disk>(ledger: &mut Ledger<D>, entering: Entering)
-    requires may { MayAnswer D.Disk ledger.old entering.last.entry entering.sizes }
-    requires answered { is_refusal entering.last.entry.reply ≡ false }
-    requires silent { spelled_by (machine_in ledger.old) (tree_in ledger.old) entering.last.entry.agent entering.last.entry.op entering.sizes entering.extents ≡ None }
-    ensures journal { ledger.new.journal ≡ ledger.old.journal }
-    ensures entries { ledger.new.books.history ≡ ledger.old.books.history ++ entering.last.entry ∷ [] }
-    ensures machine { machine_in ledger.new ≡ counted (effect in_lengths (machine_in ledger.old) entering.sizes entering.last.entry.agent entering.last.entry.op) entering.last.entry.agent }
-    ensures tree { tree_in ledger.new ≡ tree_by (machine_in ledger.old) (tree_in ledger.old) entering.last.entry.agent entering.last.entry.op entering.sizes entering.extents }
-    ensures idle { ledger.new.books.state.store.prepared.place ≡ None }
-    ensures books { (f : Fixed D) (recorded : Built) (base : State Text Own) (gone : List Text) (p : OpenPages) → AreHeldAt D.Disk f recorded base gone ledger.old p → IsAnswered D.Disk base gone ledger.old entering.last.entry entering.sizes
-        → AreBooks D.Disk f recorded (book_in ledger.new) ledger.new.journal }
-    ensures fresh { (f : Fixed D) (recorded : Built) (base : State Text Own) (gone : List Text) (p : OpenPages) → AreHeldAt D.Disk f recorded base gone ledger.old p → ledger.new.books.commits.count ≡ 0 → recorded ≡ (book_in ledger.new).rows }
-    ensures tied { (f : Fixed D) (p : OpenPages) → AreTied D.Disk f ledger.old p → AreTied D.Disk f ledger.new p }
-{
-    the_state_is_kept::<D>();
-    calls_are_spelled();
-    ledger.books.state.know_rows_match_tree();
-    ledger.freed.clear();
-    ledger
-        .books
-        .tell(ledger.alloc, &ledger.journal, entering, &mut ledger.freed);
-}
 
 /// Commits what a call stores, with what is kept back, and enters the call. Where the disk fails, the call is entered so, and what
 /// it would have stored may be in doubt. The pages are the caller's where the call is answered.

@@ -1,15 +1,46 @@
+use Rattle.std.proofs.Common.{◌++◌, length, None, refl, sym, ap, arith}
+use Rattle.opfs_state_rows.specs.Changes.Changed.{freed_in}
+use Rattle.opfs_commit.specs.Seen.{KeptBack}
+use Rattle.opfs_desk_steps.specs.Parts.Seen.{machine_in, tree_in, book_in}
+use Rattle.opfs_desk_steps.specs.declared.parts.parts.Ledger.{Ledger}
+use Rattle.opfs_desk_steps.proofs.book_steps.Books.{room-freed, may-apply}
+use Rattle.opfs_desk_steps.proofs.book_steps.Held.{tied-same}
+use Rattle.opfs_desk_steps.proofs.book_steps.Fresh.{told-fresh}
 use Rattle.opfs_desk_steps.proofs.telling.tell_last.Goals as goal
+
+pub tell-requires-clause-come : goal.tell-requires-clause-come
+tell-requires-clause-come g c =
+    let may = c.requires.may in
+    record { known = record { fixed = may.fixed; recorded = may.recorded; base = may.base; gone = may.gone; are = may.are.books }; next = may.answered.next; sizes = may.answered.sizes }
+
+pub tell-requires-clause-may : goal.tell-requires-clause-may
+tell-requires-clause-may g c =
+    let may = c.requires.may in
+    let l = c.args.ledger.now in
+    may-apply g.D.Disk may.fixed may.recorded may.base may.gone l may.pages may.are (c.the_state_is_kept.ensures.short may.fixed may.recorded may.base may.gone (book_in l) l.journal may.are.books) c.args.last.entry c.args.sizes may.answered.change
+
+pub tell-requires-clause-room : goal.tell-requires-clause-room
+tell-requires-clause-room g c =
+    let may = c.requires.may in
+    let l = c.args.ledger.now in
+    let room = room-freed g.D.Disk may.fixed may.recorded may.base may.gone l may.pages may.are c.args.last.entry.agent c.args.last.entry.op None in
+    let none = ap (λ xs. length (xs ++ freed_in (machine_in l) (tree_in l) c.args.last.entry.agent c.args.last.entry.op None)) c.clear.ensures.items in
+    omega (arith, room, none, c.clear.ensures.capacity)
 
 pub returns-clause-told : goal.returns-clause-told
 returns-clause-told g c f recorded base gone p are answered =
-    let is = c.tell_call.ensures in
+    let w = g.D.Disk in
+    let l = c.args.ledger.now in
+    let is = c.tell.ensures in
+    let may = c.requires.may.answered.change in
+    let new : Ledger g.row.D.Denot = record { journal = l.journal; books = c.tell.new.self; freed = c.tell.new.freed; alloc = l.alloc } in
     record {
-      journal = is.journal;
+      journal = refl;
       entries = is.entries;
       machine = is.machine;
       tree = is.tree;
       idle = is.idle;
-      books = is.books f recorded base gone p are answered;
-      tied = is.tied f p are.tied;
-      fresh = is.fresh f recorded base gone p are;
+      books = is.books f recorded base gone are.books answered.next answered.sizes;
+      tied = tied-same w f l new p are.tied refl (omega (arith, c.clear.ensures.capacity, is.capacity));
+      fresh = told-fresh w f recorded base gone l new p c.args.last.entry c.args.sizes None c.calls_are_spelled.ensures are (sym c.know_rows_match_tree.ensures) may.kept may.may c.requires.silent is.machine is.tree (ap (λ (k : KeptBack). k.count) is.commits);
     }
