@@ -19,5 +19,4 @@ pub mod verdict;
 
 pub use judging::judge;
 pub use packed::judge_packed;
-pub use trial::run_script;
 pub use verdict::Verdict;

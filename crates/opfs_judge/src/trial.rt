@@ -1,7 +1,2 @@
-//! Trials: a script's agents run one after another on the plain machine, over an empty store.
-mod numbers;
+//! Trials: what a script's agents begin with, over an empty store.
 pub mod opening;
-mod runner;
-pub mod trial;
-
-pub use trial::run_script;

@@ -2,7 +2,7 @@ use Rattle.std.proofs.Common.{IsTrue, arith}
 use Rattle.std.proofs.lemmas.Grind.{common_steps}
 use Rattle.opfs_script.specs.Limits.{is_origin_key}
 use Rattle.opfs_script.specs.Scripts.{Asked}
-use Rattle.opfs_judge.proofs.trial.Turns.{All_take_more}
+use Rattle.opfs_judge.proofs.trial.Keys.{All_take_more}
 use Rattle.opfs_judge.proofs.trial.opening.agents_of.Goals as goal
 
 pub loop-script-preserved : goal.loop-script-preserved
