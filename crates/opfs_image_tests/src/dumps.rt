@@ -2,8 +2,4 @@
 #[cfg(test)]
 mod drawn;
 #[cfg(test)]
-mod hostile;
-#[cfg(test)]
 mod images;
-#[cfg(test)]
-mod worked;

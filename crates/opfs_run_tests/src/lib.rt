@@ -8,10 +8,6 @@ mod altering;
 #[cfg(test)]
 mod crowds;
 #[cfg(test)]
-mod damage;
-#[cfg(test)]
-mod faults;
-#[cfg(test)]
 mod folders;
 #[cfg(test)]
 mod gates;
@@ -20,5 +16,7 @@ mod judge;
 mod judging;
 #[cfg(test)]
 mod meetings;
+#[cfg(test)]
+mod refusals;
 #[cfg(test)]
 mod tags;

@@ -1,7 +1,7 @@
 //! Agents that post and await.
 
 use crate::gates::{Delay, Late};
-use opfs_test_hosts::{judged, lines_with, new_image, run_behind, run_over};
+use opfs_test_hosts::{new_image, run_behind};
 use std::alloc::AllocError;
 use std::sync::Wait;
 use std::test::Fail;
@@ -103,95 +103,6 @@ fn agents_meet_as_they_may_and_in_each_such_way(rt: HostRuntime) -> Result<(), F
     for meeting in MEETINGS {
         let met = is_met(&rt, &meeting, 40)?;
         assert!(rt; met, "{}", meeting.4);
-    }
-    Ok(())
-}
-
-// A script, what was told of a run of it, and the verdict on that.
-const VERDICTS: [(&str, &str, &str); 9] = [
-    (LEFT_ALONE, IS_STUCK, "0\nunsettled\n"),
-    (BOTH_POST, FIRST_ENDS, "0\nyes\n"),
-    (BOTH_POST, SECOND_ENDS, "0\nyes\n"),
-    (BOTH_POST, SECOND_IS_GONE, "0\nyes\n"),
-    (BOTH_POST, IS_STUCK, "0\nunsettled\n"),
-    (
-        BOTH_POST,
-        "0\n1.1 post ok\n1.2 await ok\n1.3 end ok\n2.1 await ok\n2.2 post ok\n2.3 end ok\n",
-        "0\nno\n",
-    ),
-    (
-        BOTH_POST,
-        "0\n2.1 await ok\n1.1 post ok\n2.2 post ok\n2.3 end ok\n1.2 await ok\n1.3 end ok\n",
-        "0\nno\n",
-    ),
-    (NONE_POSTS, FIRST_STUCK, "0\nunsettled\n"),
-    (
-        NONE_POSTS,
-        "0\n1.1 await ok\n1.2 end ok\n2.1 await ok\n2.2 end ok\n",
-        "0\nno\n",
-    ),
-];
-
-#[test]
-fn who_awaits_in_vain_is_not_judged(rt: HostRuntime) -> Result<(), Fail> {
-    for (script, told, line) in VERDICTS {
-        let verdict = judged(&rt, script, told)?;
-        assert_eq!(rt; verdict.as_str(), line, "{told}");
-    }
-    Ok(())
-}
-
-// A script, one of its agents, and the lines of that agent: what it awaits is never posted to it, or was posted.
-const AWAITS: [(&str, &str, &str); 6] = [
-    (
-        r#"{"agents":[{"origin":"https://a.example","steps":[{"do":"await","tag":"p"},{"do":"persisted"}]}]}"#,
-        "1.",
-        "1.1 await Stuck\n1.2 persisted ok false\n1.3 end ok\n",
-    ),
-    (
-        r#"{"agents":[{"origin":"https://a.example","steps":[{"do":"await","tag":"p"}]},
-        {"origin":"https://b.example","steps":[{"do":"post","tag":"p"}]}]}"#,
-        "1.",
-        "1.1 await Stuck\n1.2 end ok\n",
-    ),
-    (
-        r#"{"agents":[{"origin":"https://a.example","steps":[{"do":"post","tag":"p"},{"do":"await","tag":"p"},{"do":"await","tag":"p"}]}]}"#,
-        "1.",
-        "1.1 post ok\n1.2 await ok\n1.3 await ok\n1.4 end ok\n",
-    ),
-    (
-        r#"{"agents":[{"origin":"data:,x","steps":[{"do":"post","tag":"p"},{"do":"await","tag":"p"},{"do":"await","tag":"q"}]},
-        {"origin":"data:,x","steps":[{"do":"post","tag":"q"}]}]}"#,
-        "1.",
-        "1.1 post ok\n1.2 await ok\n1.3 await Stuck\n1.4 end ok\n",
-    ),
-    (
-        r#"{"agents":[{"origin":"https://a.example","steps":[{"do":"await","tag":"p"}]},
-        {"origin":"https://a.example/x","steps":[]},
-        {"origin":"https://a.example","steps":[{"do":"persisted"}]}]}"#,
-        "1.",
-        "1.1 await Stuck\n1.2 end ok\n",
-    ),
-    (
-        r#"{"agents":[{"origin":"https://a.example","steps":[{"do":"await","tag":"p"}]},
-        {"origin":"https://a.example","steps":[{"do":"await","tag":"q"},{"do":"post","tag":"p"}]},
-        {"origin":"https://a.example","steps":[{"do":"post","tag":"q"}]}]}"#,
-        "1.",
-        "1.1 await ok\n1.2 end ok\n",
-    ),
-];
-
-#[test]
-fn who_awaits_in_vain_is_stuck(rt: HostRuntime) -> Result<(), Fail> {
-    let alloc = rt.alloc();
-    let gate = Late {
-        before: &[],
-        after: &[],
-    };
-    for (script, front, lines) in AWAITS {
-        let text = run_over(&rt, &new_image(alloc, "1 1 1")?, script)?;
-        let some = lines_with(alloc, text.as_str(), front)?;
-        assert_eq!(rt; some.as_str(), lines, "{script}");
     }
     Ok(())
 }

@@ -17,10 +17,11 @@ pub fn bytes_of(alloc: Global, text: &str) -> Result<Vec<u8>, AllocError> {
     text.as_bytes().to_vec(alloc)
 }
 
-// The words of a command, which stand apart by blanks.
+// The words of a command, which stand apart by blanks; two quotes stand for an empty one.
 fn words_of(alloc: Global, command: &str) -> Result<Words, AllocError> {
     let mut items = Vec::new(alloc);
     for word in command.split_whitespace() {
+        let word = if word == "''" { "" } else { word };
         items.push(Bytes::from_vec(bytes_of(alloc, word)?))?;
     }
     Ok(Words::from_vec(items))

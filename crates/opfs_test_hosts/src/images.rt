@@ -10,21 +10,6 @@ const CALLS: u64 = 65_536;
 
 const WRITTEN: u64 = 16_777_216;
 
-// A host with this image at the path `I`. Its own calls of the first numbers fail; those of its disks of the second
-// numbers, and all behind the stop.
-fn host_that_fails(
-    alloc: Global,
-    image: &[u8],
-    own: &[u64],
-    fails: &[u64],
-    stop: Option<u64>,
-) -> Result<MemHost, AllocError> {
-    let images = Vec::from_array(alloc, [(bytes_of(alloc, "I")?, image.to_vec(alloc)?)])?;
-    let own = own.to_vec(alloc)?;
-    let fails = fails.to_vec(alloc)?;
-    MemHost::make(alloc, images, own, fails, stop, CALLS, WRITTEN)
-}
-
 /// A host with this image at the path `I`, whose disks fail these calls, and all behind the stop.
 pub fn host_of(
     alloc: Global,
@@ -32,17 +17,15 @@ pub fn host_of(
     fails: &[u64],
     stop: Option<u64>,
 ) -> Result<MemHost, AllocError> {
-    host_that_fails(alloc, image, &[], fails, stop)
+    let images = Vec::from_array(alloc, [(bytes_of(alloc, "I")?, image.to_vec(alloc)?)])?;
+    let own = Vec::new(alloc);
+    let fails = fails.to_vec(alloc)?;
+    MemHost::make(alloc, images, own, fails, stop, CALLS, WRITTEN)
 }
 
 /// A host with this image at the path `I`.
 pub fn host_with(alloc: Global, image: &[u8]) -> Result<MemHost, AllocError> {
-    host_that_fails(alloc, image, &[], &[], None)
-}
-
-/// A host with this image at the path `I`, whose own calls of these numbers fail.
-pub fn failing_host(alloc: Global, image: &[u8], own: &[u64]) -> Result<MemHost, AllocError> {
-    host_that_fails(alloc, image, own, &[], None)
+    host_of(alloc, image, &[], None)
 }
 
 /// A host without images.
@@ -95,18 +78,4 @@ pub fn image_after(
         return Ok(Vec::new(alloc));
     }
     disk.image(alloc, calls, choice)
-}
-
-/// What `check` tells of the image that a crash leaves after so many calls of the disk that was given back last.
-pub fn checked_after(
-    alloc: Global,
-    host: &MemHost,
-    calls: u64,
-    choice: &[u8],
-) -> Result<String, AllocError> {
-    let Some(disk) = host.given("I") else {
-        return String::from_str(alloc, "no disk");
-    };
-    let image = image_after(alloc, disk, calls, choice)?;
-    checked(alloc, &image)
 }

@@ -1,7 +1,7 @@
 //! What crates of tests share: commands of the program over hosts in memory, the images that these leave, verdicts on
 //! transcripts, and scripts that are drawn from numbers.
 //!
-//! It stands on `opfs_top`.
+//! It stands on `opfs_top`; on it stands `opfs_cases`.
 #![tactic(auto)]
 
 mod altering;
@@ -17,8 +17,5 @@ pub use asking::{
 };
 pub use asks::{Ask, first_other};
 pub use drawing::{Deck, Draws, FEW_NAMES, push_agent, script_of};
-pub use images::{
-    calls, checked, checked_after, content, failing_host, host, host_of, host_with, image_after,
-    new_image,
-};
+pub use images::{calls, checked, content, host, host_of, host_with, image_after, new_image};
 pub use judging::{judged, lines_with};

@@ -6,13 +6,6 @@ use opfs_memory::{MemDisk, MemSink};
 use opfs_outside::Disk;
 use std::alloc::{AllocError, Global};
 
-/// Writes these bytes at a place, as far as there is room.
-pub fn put(image: &mut [u8], at: usize, bytes: &[u8]) {
-    for (to, from) in image.iter_mut().skip(at).zip(bytes) {
-        *to = *from;
-    }
-}
-
 /// A disk of these bytes.
 pub fn disk_of(alloc: Global, content: Vec<u8>, fails: Vec<u64>) -> Result<MemDisk, AllocError> {
     MemDisk::make(alloc, content, fails, None, 4096, 1_048_576)
@@ -60,31 +53,4 @@ pub fn answer(alloc: Global, text: &[u8]) -> Result<String, AllocError> {
         Err(why) => refused_line(alloc, why)?,
     };
     String::from_str(alloc, line.trim_end())
-}
-
-/// The text of an image with the file `note`.
-pub const NOTE: &[u8] =
-    b"{\"areas\":4,\"blocks\":16,\"persistent\":[],\"quota\":8,\"rows\":[{\"key\":\"https://a.example\",\"path\":[]},{\"hex\":\"68656c6c6f\",\"key\":\"https://a.example\",\"path\":[\"note\"],\"stamp\":0}],\"version\":2}\n";
-
-// The records of an area with the file `note`.
-fn note_records(alloc: Global) -> Result<Vec<u8>, AllocError> {
-    let mut bytes = b"\xa5\x01\x00\x00\x00\x10\xa5\x84\x00\x00\x00".to_vec(alloc)?;
-    bytes.extend_from_slice(b"\x01\x11\x00https://a.example\x07default")?;
-    bytes.extend_from_slice(b"\x03\x11\x00https://a.example\x07default\x01\x04note")?;
-    bytes.extend_from_slice(b"\x00\x00\x00\x00\x00\x00\x00\x00")?;
-    bytes.extend_from_slice(b"\x05\x11\x00https://a.example\x07default\x01\x04note")?;
-    bytes.extend_from_slice(b"\x00\x00\x00\x00\x00\x00\x00\x00")?;
-    bytes.extend_from_slice(b"\x05\x00\x00\x00\x00\x00\x00\x00")?;
-    bytes.extend_from_slice(b"\x01\x00\x00\x00\x00\x00\x00\x00\x01\x00\x00\x00\x00")?;
-    Ok(bytes)
-}
-
-/// An image of 16 blocks, areas of 4 blocks and a quota of 8, with the file `note` of the bytes `hello`.
-pub fn note_image(alloc: Global) -> Result<Vec<u8>, AllocError> {
-    let mut image = vec![in alloc; 0u8; 102_400]?;
-    put(&mut image, 0, b"OPFSIMG1\x02");
-    put(&mut image, 12, &[4, 0, 0, 0, 16, 0, 0, 0, 8]);
-    put(&mut image, 4096, &note_records(alloc)?);
-    put(&mut image, 36864, b"hello");
-    Ok(image)
 }

@@ -1,3 +1,0 @@
-//! Tests of large runs: what their summaries are.
-#[cfg(test)]
-mod runs;
