@@ -130,14 +130,12 @@ impl PageWrites {
     }
 
     /// Makes room for the pages without a block in so many runs of blocks.
-    pub fn reserve(&mut self, extents: usize) -> Result<(), AllocError>
+    pub fn reserve(&mut self, extents: u32) -> Result<(), AllocError>
         ensures room { OnOk result (length self.new.runs + length self.new.moves + extents ≤ self.new.room) }
         ensures same { self.new ≡ record self.old { room = self.new.room } }
         ensures bytes { (given : List ℕ) → HasBytes self.old given → HasBytes self.new given }
     {
-        let Some(more) = self.moves.len().checked_add(extents) else {
-            return Err(AllocError);
-        };
+        let more = self.moves.len() + extents as usize;
         self.runs.reserve(more)?;
         Ok(())
     }

@@ -48,7 +48,7 @@ fn with_room(alloc: Global, writes: PageWrites, pages: u64) -> Result<Put, Alloc
         return Err(AllocError);
     };
     let mut writes = writes;
-    writes.reserve(moves as usize)?;
+    writes.reserve(moves)?;
     let mut extents = Vec::new(alloc);
     extents.reserve(moves as usize)?;
     Ok(Put {
