@@ -16,12 +16,6 @@ use Rattle.opfs_pages.specs.Copies.{IsPageOf, IsBegun, IsCopy}
 
 -- ---- a write
 
-pub left_alone : (old given page' : List ℕ) (page at : ℕ) → (at + length given ≤ 4096 * page) → IsPageOf old page page' → IsPageOf (splice old at given) page page'
-left_alone old given page' page at past is = record {
-  size = is.size;
-  at = λ k below. is.at k below ∙ sym (splice_behind old at given (4096 * page + k) (omega arith));
-}
-
 pub not_reached : (old given into : List ℕ) (page at from to : ℕ) → from ≡ max at (4096 * page) → to ≡ min (at + length given) (4096 * page + 4096) → to ≤ from → IsPageOf old page into → IsPageOf (splice old at given) page into
 not_reached old given into page at from to from_is to_is none is = record {
   size = is.size;

@@ -4,31 +4,20 @@ use Rattle.std.specs.List.{AllByRecursion, IsDistinct}
 use Rattle.std.proofs.lemmas.Bool.{cases_lt, eqb-true}
 use Rattle.opfs_base.specs.Blocks.{blocks}
 use Rattle.opfs_data.specs.Pages.{NamesPage, blank, page_of}
-use Rattle.opfs_data.specs.Rows.{Rows, pages_at}
+use Rattle.opfs_data.specs.Rows.{pages_at}
 use Rattle.opfs_data.specs.Writes.{PageWrite, WriteList, Run, HasBytes, page_writes, page_moves, run_pages, writes_of}
 use Rattle.opfs_space.specs.Holders.{Writes}
 use Rattle.opfs_space.specs.Plans.{own_block, AreAlike}
 use Rattle.opfs_data.specs.declared.page.Page.{Page as Stored}
-use Rattle.opfs_journal.specs.declared.areas.Areas.{Areas}
-use Rattle.opfs_space.specs.Spaces.{SpaceSeen}
 use Rattle.opfs_work.specs.declared.pages.Page.{Page}
 use Rattle.opfs_work.specs.declared.pages.Page.TheVariants.{Zero, Near, Clean, Far}
 use Rattle.opfs_work.specs.Pages.{page_at, is_far, is_held}
 use Rattle.opfs_work.specs.Works.{WorkingCopy}
 use Rattle.opfs_pages.specs.Copies.{IsCopy, AreHeld, IsHeld, IsNamed, IsRight, AreRight, HasMore}
-use Rattle.opfs_pages.specs.Stages.{Stage, Stages, IsPlanned, IsAtRest, IsUnwritten, IsWhole, IsReady, IsStaged, changed}
+use Rattle.opfs_pages.specs.Stages.{Stage, Stages, IsPlanned, IsAtRest, IsUnwritten, IsWhole, IsStaged, changed}
 use Rattle.opfs_pages.proofs.Named.{names_left, names_right, names_run}
 
 -- ---- nothing, one after another, a page that is at rest
-
-pub stages_none : (tells : Type 0) (s : Stage) (from : ℕ) (w : WriteList) → Stages tells s from from w w
-stages_none tells s from w = record {
-  right = λ told bytes copy held is. is;
-  bytes = λ is. is;
-  named = λ i is. is;
-  known = λ i above below. absurd (omega (arith, above, below));
-  planned = λ is. is;
-}
 
 pub stages_more : (tells : Type 0) (s : Stage) (from mid to : ℕ) (w v u : WriteList) → Stages tells s from mid w v → Stages tells s mid to v u → Stages tells s from to w u
 stages_more tells s from mid to w v u first second = record {
@@ -265,11 +254,6 @@ far_within (p ∷ pages) (suc i) far = let lt = far_within pages i far in omega 
 
 pub held_page : (bytes : List ℕ) (work : WorkingCopy) (c : List ℕ) (base : ℕ) (pages : List Stored) (page : ℕ) → AreHeld bytes work c base pages → IsHeld bytes work page (page_of c base (get_or pages page blank))
 held_page bytes work c base pages page held far = held.held page (far_within work.pages page far) (λ above below. held_far (page_at work.pages page) far)
-
--- a row can be staged also after a read
-pub still_ready : (work : WorkingCopy) (swap : Rows) (space : SpaceSeen) (agent row base end end' : ℕ) (areas areas' : Areas) → end' ≡ end → areas' ≡ areas → IsReady work swap space agent row base end areas → IsReady work swap space agent row base end' areas'
-still_ready work swap space agent row base end end' areas areas' same_end same_areas is =
-    subst (λ (e : ℕ). IsReady work swap space agent row base e areas') (sym same_end) (subst (λ (a : Areas). IsReady work swap space agent row base end a) (sym same_areas) is)
 
 -- ---- all of a row
 

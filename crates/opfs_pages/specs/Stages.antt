@@ -14,6 +14,8 @@ use Rattle.opfs_splice.specs.Splicing.{splice, resize}
 use Rattle.opfs_work.specs.Pages.{page_at, is_zero}
 use Rattle.opfs_work.specs.Works.{WorkingCopy, IsStored}
 use Rattle.opfs_pages.specs.Copies.{IsCopy, AreHeld, HasFar, IsNamed, IsRight}
+use Rattle.opfs_pages.specs.declared.row_put.PagePut.{PagePut}
+use Rattle.opfs_pages.specs.declared.row_put.PageSource.{PageSource}
 
 -- A row's bytes after a write at a position and then a new size (File System: write a chunk; truncate). A write leaves its own
 -- size; a new size and a content write no bytes.
@@ -34,6 +36,22 @@ pub record Stage : Type 0 where
   pub given : List ℕ
   pub size : ℕ
   pub whole : Bool
+
+-- What pages are staged of, by a call and by what they are read from.
+abbrev pub stage_of : PageSource → PagePut → List ℕ → Stage
+stage_of source put content = record {
+  own = source.space.now.own;
+  swap = source.swap.now;
+  agent = put.agent;
+  row = put.row;
+  work = source.work.now;
+  content = content;
+  base = source.base;
+  at = put.at;
+  given = put.given.now;
+  size = put.size;
+  whole = put.whole;
+}
 
 -- the page is all zeros, or past the last one
 abbrev pub IsEmpty : WorkingCopy → ℕ → Type 0
@@ -81,6 +99,9 @@ pub record IsReady (work : WorkingCopy) (swap : Rows) (space : SpaceSeen) (agent
   pub far : HasFar work base end (pages_at agent row swap)
   pub below : AreAllBelow (length space.used) swap
   pub part : IsDataPart areas base
+
+abbrev pub IsReadyFor : PageSource → PagePut → ℕ → Areas → Type 0
+IsReadyFor source put end areas = IsReady source.work.now source.swap.now source.space.now put.agent put.row source.base end areas
 
 -- All pages of a row after a call are staged: those of the list have the row's bytes, each of the others is at rest, and no page
 -- is named twice.

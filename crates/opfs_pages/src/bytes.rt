@@ -1,10 +1,10 @@
 // The bytes of a page under a write and under a cut.
-ghost use Rattle.std.specs.Prelude.{◌≡◌, ℕ, ◌+◌, ◌-◌, ◌*◌, ◌^◌, ◌<◌, ◌≤◌, List, length, slice_index};
+ghost use Rattle.std.specs.Prelude.{◌≡◌, ℕ, ◌+◌, ◌-◌, ◌*◌, ◌^◌, ◌<◌, ◌≤◌, List, length, slice_index, IfOk};
 ghost use Rattle.opfs_splice.specs.Splicing.{splice, resize};
 ghost use Rattle.opfs_pages.specs.Copies.{IsPageOf, IsBegun};
 
-// The bytes of a page.
-const PAGE: u64 = 4096;
+use opfs_base::BLOCK_SIZE;
+use std::alloc::{AllocError, Global};
 
 /// Makes a page of a row that of the row after a write at a position (File System: write a chunk).
 pub fn overlay(into: &mut [u8], page: u64, at: u64, given: &[u8])
@@ -14,9 +14,9 @@ pub fn overlay(into: &mut [u8], page: u64, at: u64, given: &[u8])
     ensures written { (old : List ℕ) → IsPageOf old page into.old → IsPageOf (splice old at given.now) page into.new }
     ensures whole { length into.new ≡ 4096 }
 {
-    let start = page * PAGE;
+    let start = page * BLOCK_SIZE;
     let from = at.max(start);
-    let to = (at + given.len() as u64).min(start + PAGE);
+    let to = (at + given.len() as u64).min(start + BLOCK_SIZE);
     if to <= from {
         return;
     }
@@ -33,8 +33,17 @@ pub fn cut_page(into: &mut [u8], page: u64, size: u64)
     ensures filled { (bytes : List ℕ) → length bytes ≡ size → IsBegun bytes page into.old → IsPageOf bytes page into.new }
     ensures whole { length into.new ≡ 4096 }
 {
-    let offset = size.saturating_sub(page * PAGE).min(PAGE);
+    let offset = size.saturating_sub(page * BLOCK_SIZE).min(BLOCK_SIZE);
     clear(into, offset as usize);
+}
+
+// So many zeros.
+pub(crate) fn zeros(alloc: Global, len: usize) -> Result<Vec<u8>, AllocError>
+    ensures { IfOk result (λ bytes. length bytes.items ≡ len) }
+{
+    let mut bytes = Vec::new(alloc);
+    bytes.resize(len, 0)?;
+    Ok(bytes)
 }
 
 // Copies bytes over others.

@@ -3,28 +3,17 @@ ghost use Rattle.std.specs.Prelude.{ℕ, ◌≡◌, ◌+◌, ◌^◌, ◌<◌, �
 ghost use Rattle.opfs_base.specs.Blocks.{blocks};
 ghost use Rattle.opfs_outside.specs.Faults.{Rose};
 ghost use Rattle.opfs_data.specs.Calls.{Reads};
-ghost use Rattle.opfs_pages.specs.Stages.{IsUnwritten, IsWhole, IsReady, Stages, IsStaged};
+ghost use Rattle.opfs_pages.specs.Stages.{IsUnwritten, IsWhole, IsReadyFor, Stages, IsStaged, stage_of};
 
+use crate::bytes::zeros;
+use crate::row_put::{PagePut, PageSource};
 use crate::stages::stage_range;
-use opfs_data::{DataRefusal, PageWrites, Swap};
+use opfs_base::BLOCK_SIZE;
+use opfs_data::{DataRefusal, PageWrites};
 use opfs_journal::Journal;
 use opfs_outside::Disk;
-use opfs_space::Space;
-use opfs_work::Work;
 use opfs_work::sizes::blocks;
-use std::alloc::{AllocError, Global};
-
-// The bytes of a page.
-const PAGE: usize = 4096;
-
-// A buffer of so many bytes.
-fn buffer_of(alloc: Global, len: usize) -> Result<Vec<u8>, AllocError>
-    ensures { IfOk result (λ buffer. length buffer.items ≡ len) }
-{
-    let mut buffer = Vec::new(alloc);
-    buffer.resize(len, 0)?;
-    Ok(buffer)
-}
+use std::alloc::Global;
 
 // The pages that a call touches lie between two numbers.
 fn touched_pages(length: u64, at: u64, len: u64, size: u64) -> (u64, u64)
@@ -40,52 +29,38 @@ fn touched_pages(length: u64, at: u64, len: u64, size: u64) -> (u64, u64)
     if to <= from {
         return (0, 0);
     }
-    (from / 4096, blocks(to))
+    (from / BLOCK_SIZE, blocks(to))
 }
 
 // Stages the pages that a write at a position and then a new size leave changed. The walk goes over these and those that were
 // changed before.
 fn walk_changes<D: Disk>(
-    work: &Work,
-    swap: &Swap,
-    space: &Space,
+    source: &PageSource<'_>,
+    put: &PagePut<'_>,
     journal: &mut Journal<D>,
-    base: u64,
-    agent: u32,
-    row: u32,
-    at: u64,
-    given: &[u8],
-    size: u64,
     buffer: &mut [u8],
     writes: &mut PageWrites,
 ) -> Result<(), DataRefusal>
     requires buffer { length buffer.old ≡ 4096 }
-    requires size { size < 2 ^ 63 }
-    requires stays { at + length given.now ≤ size }
-    requires ready { IsReady work.now swap.now space.now agent row base (D.size journal.old.disk) journal.old.areas }
+    requires size { put.now.size < 2 ^ 63 }
+    requires stays { put.now.at + length put.now.given.now ≤ put.now.size }
+    requires change { put.now.whole ≡ false }
+    requires ready { IsReadyFor source.now put.now (D.size journal.old.disk) journal.old.areas }
     ensures reads { Reads D.Disk journal.old journal.new }
-    ensures staged { OnOk result (Stages D.tells (record { own = space.now.own; swap = swap.now; agent = agent; row = row; work = work.now; content = D.content journal.old.disk; base = base; at = at; given = given.now; size = size; whole = false }) 0 (blocks size) writes.old writes.new) }
+    ensures staged { OnOk result (Stages D.tells (stage_of source.now put.now (D.content journal.old.disk)) 0 (blocks put.now.size) writes.old writes.new) }
     ensures cause { IsErrOf result DataRefusal.DiskFault → Rose (D.faults journal.old.disk) (D.faults journal.new.disk) }
 {
-    let end = blocks(size);
+    let end = blocks(put.size);
+    let work = source.work;
     let _pages = work.pages();
-    let (first, last) = touched_pages(work.size(), at, given.len() as u64, size);
+    let (first, last) = touched_pages(work.size(), put.at, put.given.len() as u64, put.size);
     let from = work.changed_from().min(first);
     let mid = work.changed_to().min(first).max(from);
     let next = work.changed_from().max(last).min(end);
     let to = work.changed_to().min(end).max(next);
-    stage_range(
-        work, swap, space, journal, base, agent, row, from, mid, at, given, size, false, buffer,
-        writes,
-    )?;
-    stage_range(
-        work, swap, space, journal, base, agent, row, first, last, at, given, size, false, buffer,
-        writes,
-    )?;
-    stage_range(
-        work, swap, space, journal, base, agent, row, next, to, at, given, size, false, buffer,
-        writes,
-    )?;
+    stage_range(source, put, journal, from, mid, buffer, writes)?;
+    stage_range(source, put, journal, first, last, buffer, writes)?;
+    stage_range(source, put, journal, next, to, buffer, writes)?;
     Ok(())
 }
 
@@ -93,141 +68,41 @@ fn walk_changes<D: Disk>(
 /// yet. Whole pages of the write are the call's own bytes.
 pub fn stage_changes<D: Disk>(
     alloc: Global,
-    work: &Work,
-    swap: &Swap,
-    space: &Space,
+    source: &PageSource<'_>,
+    put: &PagePut<'_>,
     journal: &mut Journal<D>,
-    base: u64,
-    agent: u32,
-    row: u32,
-    at: u64,
-    given: &[u8],
-    size: u64,
 ) -> Result<PageWrites, DataRefusal>
-    requires size { size < 2 ^ 63 }
-    requires stays { at + length given.now ≤ size }
-    requires ready { IsReady work.now swap.now space.now agent row base (D.size journal.old.disk) journal.old.areas }
+    requires size { put.now.size < 2 ^ 63 }
+    requires stays { put.now.at + length put.now.given.now ≤ put.now.size }
+    requires change { put.now.whole ≡ false }
+    requires ready { IsReadyFor source.now put.now (D.size journal.old.disk) journal.old.areas }
     ensures reads { Reads D.Disk journal.old journal.new }
-    ensures staged { IfOk result (IsStaged D.tells (record { own = space.now.own; swap = swap.now; agent = agent; row = row; work = work.now; content = D.content journal.old.disk; base = base; at = at; given = given.now; size = size; whole = false })) }
+    ensures staged { IfOk result (IsStaged D.tells (stage_of source.now put.now (D.content journal.old.disk))) }
     ensures cause { IsErrOf result DataRefusal.DiskFault → Rose (D.faults journal.old.disk) (D.faults journal.new.disk) }
 {
     let mut writes = PageWrites::make(alloc);
-    let mut buffer = buffer_of(alloc, PAGE)?;
-    walk_changes(
-        work,
-        swap,
-        space,
-        journal,
-        base,
-        agent,
-        row,
-        at,
-        given,
-        size,
-        &mut buffer,
-        &mut writes,
-    )?;
-    Ok(writes)
-}
-
-/// The pages that a write at a position leaves changed, with all memory and all reads: nothing is written yet. Whole pages are
-/// the call's own bytes.
-pub fn stage_write<D: Disk>(
-    alloc: Global,
-    work: &Work,
-    swap: &Swap,
-    space: &Space,
-    journal: &mut Journal<D>,
-    base: u64,
-    agent: u32,
-    row: u32,
-    at: u64,
-    given: &[u8],
-) -> Result<PageWrites, DataRefusal>
-    requires end { at + length given.now < 2 ^ 63 }
-    requires small { work.now.length < 2 ^ 63 }
-    requires ready { IsReady work.now swap.now space.now agent row base (D.size journal.old.disk) journal.old.areas }
-    ensures reads { Reads D.Disk journal.old journal.new }
-    ensures staged { IfOk result (IsStaged D.tells (record { own = space.now.own; swap = swap.now; agent = agent; row = row; work = work.now; content = D.content journal.old.disk; base = base; at = at; given = given.now; size = max work.now.length (at + length given.now); whole = false })) }
-    ensures cause { IsErrOf result DataRefusal.DiskFault → Rose (D.faults journal.old.disk) (D.faults journal.new.disk) }
-{
-    let size = work.size().max(at + given.len() as u64);
-    let writes = stage_changes(
-        alloc, work, swap, space, journal, base, agent, row, at, given, size,
-    )?;
-    Ok(writes)
-}
-
-/// The same for a new size.
-pub fn stage_size<D: Disk>(
-    alloc: Global,
-    work: &Work,
-    swap: &Swap,
-    space: &Space,
-    journal: &mut Journal<D>,
-    base: u64,
-    agent: u32,
-    row: u32,
-    size: u64,
-) -> Result<PageWrites, DataRefusal>
-    requires size { size < 2 ^ 63 }
-    requires ready { IsReady work.now swap.now space.now agent row base (D.size journal.old.disk) journal.old.areas }
-    ensures reads { Reads D.Disk journal.old journal.new }
-    ensures staged { IfOk result (IsStaged D.tells (record { own = space.now.own; swap = swap.now; agent = agent; row = row; work = work.now; content = D.content journal.old.disk; base = base; at = 0; given = []; size = size; whole = false })) }
-    ensures cause { IsErrOf result DataRefusal.DiskFault → Rose (D.faults journal.old.disk) (D.faults journal.new.disk) }
-{
-    let writes = stage_changes(
-        alloc,
-        work,
-        swap,
-        space,
-        journal,
-        base,
-        agent,
-        row,
-        0,
-        &[],
-        size,
-    )?;
+    let mut buffer = zeros(alloc, BLOCK_SIZE as usize)?;
+    walk_changes(source, put, journal, &mut buffer, &mut writes)?;
     Ok(writes)
 }
 
 /// The pages that a content wants beside those that the store has: those that were changed, and one for each that has no block.
 pub fn stage_content<D: Disk>(
     alloc: Global,
-    work: &Work,
-    swap: &Swap,
-    space: &Space,
+    source: &PageSource<'_>,
+    put: &PagePut<'_>,
     journal: &mut Journal<D>,
-    base: u64,
-    agent: u32,
-    row: u32,
 ) -> Result<PageWrites, DataRefusal>
-    requires small { work.now.length < 2 ^ 63 }
-    requires ready { IsReady work.now swap.now space.now agent row base (D.size journal.old.disk) journal.old.areas }
+    requires size { put.now.size < 2 ^ 63 }
+    requires stays { put.now.at + length put.now.given.now ≤ put.now.size }
+    requires ready { IsReadyFor source.now put.now (D.size journal.old.disk) journal.old.areas }
     ensures reads { Reads D.Disk journal.old journal.new }
-    ensures staged { IfOk result (IsStaged D.tells (record { own = space.now.own; swap = swap.now; agent = agent; row = row; work = work.now; content = D.content journal.old.disk; base = base; at = 0; given = []; size = work.now.length; whole = true })) }
+    ensures staged { IfOk result (IsStaged D.tells (stage_of source.now put.now (D.content journal.old.disk))) }
     ensures cause { IsErrOf result DataRefusal.DiskFault → Rose (D.faults journal.old.disk) (D.faults journal.new.disk) }
 {
     let mut writes = PageWrites::make(alloc);
-    let mut buffer = buffer_of(alloc, PAGE)?;
-    let size = work.size();
-    stage_range(
-        work,
-        swap,
-        space,
-        journal,
-        base,
-        agent,
-        row,
-        0,
-        blocks(size),
-        0,
-        &[],
-        size,
-        true,
-        &mut buffer,
-        &mut writes,
-    )?;
+    let mut buffer = zeros(alloc, BLOCK_SIZE as usize)?;
+    let end = blocks(put.size);
+    stage_range(source, put, journal, 0, end, &mut buffer, &mut writes)?;
     Ok(writes)
 }

@@ -6,6 +6,7 @@ ghost use Rattle.opfs_work.specs.Pages.{page_at, is_far};
 ghost use Rattle.opfs_work.specs.Works.{IsStored};
 ghost use Rattle.opfs_pages.specs.Copies.{IsCopy, IsPageOf};
 
+use opfs_base::BLOCK_SIZE;
 use opfs_work::Work;
 use opfs_work::sizes::blocks;
 
@@ -42,21 +43,6 @@ pub fn leave_size(work: &mut Work, size: u64)
     work.resize_far(size);
 }
 
-/// Brings a page that is elsewhere into memory, where there is room: that of the position, when a call leaves it elsewhere. Its
-/// bytes are the row's. Takes no memory.
-pub fn bring_page(work: &mut Work, page: u64, bytes: &[u8])
-    requires size { length bytes.now ≡ 4096 }
-    requires tail { (i : ℕ) → work.old.length ≤ i → i / 4096 ≡ page → slice_index bytes.now (i % 4096) ≡ 0 }
-    ensures copy { (row : List ℕ) → IsCopy row work.old → IsPageOf row page bytes.now → IsCopy row work.new }
-    ensures stored { (k : ℕ) → IsStored work.old k → IsStored work.new k }
-    ensures rest { work.new ≡ record work.old { pages = work.new.pages } }
-{
-    if page >= work.pages() || !work.is_far(page) || work.resident() >= 256 {
-        return;
-    }
-    work.bring(page, bytes);
-}
-
 // Sends the pages that hold a byte between two positions far.
 fn forget_touched(work: &mut Work, from: u64, to: u64)
     requires { to < 2 ^ 63 }
@@ -69,5 +55,5 @@ fn forget_touched(work: &mut Work, from: u64, to: u64)
         return;
     }
     let last = blocks(to).min(work.pages());
-    work.forget(from / 4096, last);
+    work.forget(from / BLOCK_SIZE, last);
 }

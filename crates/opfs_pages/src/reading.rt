@@ -49,3 +49,32 @@ pub fn read_page<D: Disk>(
     cut_page(into, page, work.size());
     Ok(())
 }
+
+/// The same for any page, and zeros past the row's last one.
+pub fn fill_page<D: Disk>(
+    work: &Work,
+    swap: &Swap,
+    journal: &mut Journal<D>,
+    base: u64,
+    agent: u32,
+    row: u32,
+    page: u64,
+    buffer: &mut [u8],
+) -> Result<(), DiskFault>
+    requires buffer { length buffer.old ≡ 4096 }
+    requires held { is_far (page_at work.now.pages page) ≡ true → page < length (pages_at agent row swap.now) }
+    requires lies { is_far (page_at work.now.pages page) ≡ true → LiesIn base (D.size journal.old.disk) (swap_page agent row page swap.now).block }
+    requires part { IsDataPart journal.old.areas base }
+    ensures reads { Reads D.Disk journal.old journal.new }
+    ensures read { OnOk result (D.tells → (bytes : List ℕ) → IsCopy bytes work.now
+        → IsHeld bytes work.now page (page_of (D.content journal.old.disk) base (swap_page agent row page swap.now)) → IsPageOf bytes page buffer.new) }
+    ensures buffer { length buffer.new ≡ 4096 }
+    ensures cause { OnErr result (Rose (D.faults journal.old.disk) (D.faults journal.new.disk)) }
+{
+    if page >= work.pages() {
+        buffer.fill(0);
+        return Ok(());
+    }
+    read_page(work, swap, journal, base, agent, row, page, buffer)?;
+    Ok(())
+}

@@ -10,84 +10,56 @@ ghost use Rattle.opfs_pages.specs.Copies.{IsPageOf, IsCopy, IsHeld, IsNamed, IsR
 ghost use Rattle.opfs_pages.specs.Stages.{changed};
 
 use crate::bytes::{cut_page, overlay};
-use crate::reading::read_page;
-use opfs_data::{DataRefusal, PageWrites, Swap};
-use opfs_journal::{DiskFault, Journal};
+use crate::reading::fill_page;
+use crate::row_put::{PagePut, PageSource};
+use opfs_base::BLOCK_SIZE;
+use opfs_data::{DataRefusal, PageWrites};
+use opfs_journal::Journal;
 use opfs_outside::Disk;
-use opfs_work::Work;
 use std::alloc::AllocError;
-
-// The bytes of a page.
-const PAGE: u64 = 4096;
 
 /// Adds a page of a row, as a write at a position and then a new size leave it, to those that are to be written: into a block,
 /// or into one that it gets later. The page's bytes are put together in a buffer. All memory and all reads come before the list
 /// changes; where one of them fails the list has the same pages.
-pub fn stage_page<D: Disk>(
-    work: &Work,
-    swap: &Swap,
+pub(crate) fn stage_page<D: Disk>(
+    source: &PageSource<'_>,
+    put: &PagePut<'_>,
     journal: &mut Journal<D>,
-    base: u64,
-    agent: u32,
-    row: u32,
     page: u64,
-    at: u64,
-    given: &[u8],
-    size: u64,
     block: Option<u32>,
     buffer: &mut [u8],
     writes: &mut PageWrites,
 ) -> Result<(), DataRefusal>
     requires buffer { length buffer.old ≡ 4096 }
     requires page { page < 2 ^ 51 }
-    requires end { at + length given.now < 2 ^ 63 }
-    requires held { is_far (page_at work.now.pages page) ≡ true → page < length (pages_at agent row swap.now) }
-    requires lies { is_far (page_at work.now.pages page) ≡ true → LiesIn base (D.size journal.old.disk) (swap_page agent row page swap.now).block }
-    requires part { IsDataPart journal.old.areas base }
+    requires end { put.now.at + length put.now.given.now < 2 ^ 63 }
+    requires held { is_far (page_at source.now.work.now.pages page) ≡ true → page < length (pages_at put.now.agent put.now.row source.now.swap.now) }
+    requires lies { is_far (page_at source.now.work.now.pages page) ≡ true → LiesIn source.now.base (D.size journal.old.disk) (swap_page put.now.agent put.now.row page source.now.swap.now).block }
+    requires part { IsDataPart journal.old.areas source.now.base }
     ensures reads { Reads D.Disk journal.old journal.new }
-    ensures right { OnOk result (D.tells → (bytes : List ℕ) → IsCopy bytes work.now
-        → IsHeld bytes work.now page (page_of (D.content journal.old.disk) base (swap_page agent row page swap.now))
-        → IsRight (changed bytes at given.now size) writes.old given.now → IsRight (changed bytes at given.now size) writes.new given.now) }
-    ensures named { OnOk result ((p : ℕ) → (p ≡ page) ⊎ IsNamed writes.old given.now p → IsNamed writes.new given.now p) }
-    ensures bytes { OnOk result (HasBytes writes.old given.now → HasBytes writes.new given.now) }
-    ensures added { OnOk result (HasMore block ((record { page = page; block = unwrap_or block 0; bytes = buffer.new }) ∷ []) writes.old writes.new given.now) }
-    ensures same { OnErr result (HasSame writes.old writes.new given.now) }
+    ensures right { OnOk result (D.tells → (bytes : List ℕ) → IsCopy bytes source.now.work.now
+        → IsHeld bytes source.now.work.now page (page_of (D.content journal.old.disk) source.now.base (swap_page put.now.agent put.now.row page source.now.swap.now))
+        → IsRight (changed bytes put.now.at put.now.given.now put.now.size) writes.old put.now.given.now → IsRight (changed bytes put.now.at put.now.given.now put.now.size) writes.new put.now.given.now) }
+    ensures named { OnOk result ((p : ℕ) → (p ≡ page) ⊎ IsNamed writes.old put.now.given.now p → IsNamed writes.new put.now.given.now p) }
+    ensures bytes { OnOk result (HasBytes writes.old put.now.given.now → HasBytes writes.new put.now.given.now) }
+    ensures added { OnOk result (HasMore block ((record { page = page; block = unwrap_or block 0; bytes = buffer.new }) ∷ []) writes.old writes.new put.now.given.now) }
+    ensures same { OnErr result (HasSame writes.old writes.new put.now.given.now) }
     ensures buffer { length buffer.new ≡ 4096 }
     ensures cause { IsErrOf result DataRefusal.DiskFault → Rose (D.faults journal.old.disk) (D.faults journal.new.disk) }
 {
-    fill_page(work, swap, journal, base, agent, row, page, buffer)?;
-    overlay(buffer, page, at, given);
-    cut_page(buffer, page, size);
+    fill_page(
+        source.work,
+        source.swap,
+        journal,
+        source.base,
+        put.agent,
+        put.row,
+        page,
+        buffer,
+    )?;
+    overlay(buffer, page, put.at, put.given);
+    cut_page(buffer, page, put.size);
     add_page(writes, page, block, buffer)?;
-    Ok(())
-}
-
-// A page of a row, and zeros past its last one.
-fn fill_page<D: Disk>(
-    work: &Work,
-    swap: &Swap,
-    journal: &mut Journal<D>,
-    base: u64,
-    agent: u32,
-    row: u32,
-    page: u64,
-    buffer: &mut [u8],
-) -> Result<(), DiskFault>
-    requires buffer { length buffer.old ≡ 4096 }
-    requires held { is_far (page_at work.now.pages page) ≡ true → page < length (pages_at agent row swap.now) }
-    requires lies { is_far (page_at work.now.pages page) ≡ true → LiesIn base (D.size journal.old.disk) (swap_page agent row page swap.now).block }
-    requires part { IsDataPart journal.old.areas base }
-    ensures reads { Reads D.Disk journal.old journal.new }
-    ensures read { OnOk result (D.tells → (bytes : List ℕ) → IsCopy bytes work.now
-        → IsHeld bytes work.now page (page_of (D.content journal.old.disk) base (swap_page agent row page swap.now)) → IsPageOf bytes page buffer.new) }
-    ensures buffer { length buffer.new ≡ 4096 }
-    ensures cause { OnErr result (Rose (D.faults journal.old.disk) (D.faults journal.new.disk)) }
-{
-    if page >= work.pages() {
-        buffer.fill(0);
-        return Ok(());
-    }
-    read_page(work, swap, journal, base, agent, row, page, buffer)?;
     Ok(())
 }
 
@@ -115,29 +87,26 @@ fn add_page(
 
 /// Adds pages that a write covers whole, with the bytes of the call themselves: no read and no copy. They go into blocks from
 /// one on, or into ones that they get later. Where there is no memory the list has the same pages.
-pub fn stage_whole(
+pub(crate) fn stage_whole(
+    put: &PagePut<'_>,
     page: u64,
     count: u32,
-    at: u64,
-    given: &[u8],
-    size: u64,
     block: Option<u32>,
     writes: &mut PageWrites,
 ) -> Result<(), AllocError>
     requires some { 0 < count }
-    requires begins { at ≤ 4096 * page }
-    requires ends { 4096 * (page + count) ≤ at + length given.now }
-    requires end { at + length given.now < 2 ^ 63 }
-    requires stays { 4096 * (page + count) ≤ size }
+    requires begins { put.now.at ≤ 4096 * page }
+    requires ends { 4096 * (page + count) ≤ put.now.at + length put.now.given.now }
+    requires end { put.now.at + length put.now.given.now < 2 ^ 63 }
+    requires stays { 4096 * (page + count) ≤ put.now.size }
     requires blocks { (b : ℕ) → block ≡ Some b → b + count ≤ 2 ^ 32 }
-    ensures right { OnOk result ((old : List ℕ) → IsRight (changed old at given.now size) writes.old given.now → IsRight (changed old at given.now size) writes.new given.now) }
-    ensures named { OnOk result ((p : ℕ) → ((page ≤ p) × (p < page + count)) ⊎ IsNamed writes.old given.now p → IsNamed writes.new given.now p) }
-    ensures bytes { OnOk result (HasBytes writes.old given.now → HasBytes writes.new given.now) }
-    ensures added { OnOk result (HasMore block (run_pages given.now page (unwrap_or block 0) (4096 * page - at) count) writes.old writes.new given.now) }
-    ensures same { OnErr result (HasSame writes.old writes.new given.now) }
+    ensures right { OnOk result ((old : List ℕ) → IsRight (changed old put.now.at put.now.given.now put.now.size) writes.old put.now.given.now → IsRight (changed old put.now.at put.now.given.now put.now.size) writes.new put.now.given.now) }
+    ensures named { OnOk result ((p : ℕ) → ((page ≤ p) × (p < page + count)) ⊎ IsNamed writes.old put.now.given.now p → IsNamed writes.new put.now.given.now p) }
+    ensures bytes { OnOk result (HasBytes writes.old put.now.given.now → HasBytes writes.new put.now.given.now) }
+    ensures added { OnOk result (HasMore block (run_pages put.now.given.now page (unwrap_or block 0) (4096 * page - put.now.at) count) writes.old writes.new put.now.given.now) }
+    ensures same { OnErr result (HasSame writes.old writes.new put.now.given.now) }
 {
-    let _ = size;
-    let from = page * PAGE - at;
+    let from = page * BLOCK_SIZE - put.at;
     match block {
         Some(block) => writes.add(page, count, block, from)?,
         None => writes.add_move(page, count, from)?,

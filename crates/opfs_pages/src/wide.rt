@@ -10,13 +10,11 @@ ghost use Rattle.opfs_pages.specs.Copies.{IsCopy, IsBegun, AreHeld, HasFar};
 
 use crate::bytes::copy_into;
 use crate::reading::read_page;
+use opfs_base::BLOCK_SIZE;
 use opfs_data::Swap;
 use opfs_journal::{DiskFault, Journal};
 use opfs_outside::Disk;
 use opfs_work::Work;
-
-// The bytes of a page.
-const PAGE: u64 = 4096;
 
 /// Reads bytes of an open row from a position on: from its working copy, or from the store. A buffer has each page. Takes no
 /// memory.
@@ -47,8 +45,17 @@ pub fn read_bytes<D: Disk>(
     while done < len {
         let place = at + done;
         prove!(place < size);
-        read_page(work, swap, journal, base, agent, row, place / PAGE, buffer)?;
-        done += copy_part(buffer, place % PAGE, into, done);
+        read_page(
+            work,
+            swap,
+            journal,
+            base,
+            agent,
+            row,
+            place / BLOCK_SIZE,
+            buffer,
+        )?;
+        done += copy_part(buffer, place % BLOCK_SIZE, into, done);
     }
     Ok(())
 }
@@ -79,8 +86,8 @@ pub fn read_stored<D: Disk>(
     let mut done = 0;
     while done < len {
         let place = at + done;
-        swap.read(journal, base, agent, row, place / PAGE, buffer)?;
-        done += copy_part(buffer, place % PAGE, into, done);
+        swap.read(journal, base, agent, row, place / BLOCK_SIZE, buffer)?;
+        done += copy_part(buffer, place % BLOCK_SIZE, into, done);
     }
     Ok(())
 }
@@ -97,7 +104,7 @@ fn copy_part(page: &[u8], offset: u64, into: &mut [u8], done: u64) -> u64
     ensures before { (k : ℕ) → k < done → slice_index into.new k ≡ slice_index into.old k }
     ensures size { length into.new ≡ length into.old }
 {
-    let count = (PAGE - offset).min(into.len() as u64 - done);
+    let count = (BLOCK_SIZE - offset).min(into.len() as u64 - done);
     let chunk = &page[offset as usize..(offset + count) as usize];
     copy_into(into, done as usize, chunk);
     count

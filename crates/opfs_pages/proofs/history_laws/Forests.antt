@@ -70,7 +70,3 @@ put-extents place q r rows free none =
 pub put-has : (place : Place) (r : Row) (rows : Rows) → row_at place rows ≡ None → extents_of r ≡ [] → (f : Option Place) (b : ℕ) → file_has (put place_cmp place r rows) f b ≡ file_has rows f b
 put-has place r rows free none None b = refl
 put-has place r rows free none (Some q) b = ap (λ (es : List Extent). has_block (blocks_of es) b) (put-extents place q r rows free none)
-
--- Two changes, one after the other.
-pub both-same : (a b c : Rows) → HasSameBlocks a b → HasSameBlocks b c → HasSameBlocks a c
-both-same a b c first second = record { named = λ x. second.named x ∙ first.named x; has = λ f x. second.has f x ∙ first.has f x }

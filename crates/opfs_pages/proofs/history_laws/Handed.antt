@@ -3,18 +3,15 @@ use Rattle.std.proofs.Common.{◌≡◌, ℕ, ◌<◌, true, List, length, Some,
 use Rattle.std.proofs.lemmas.Bool.{cases_lt, false≢true}
 use Rattle.std.proofs.lemmas.List.{get_or_past}
 use Rattle.opfs_store.specs.Copies.Copies.{StandsFor}
-use Rattle.opfs_data.specs.Pages.{LiesIn}
-use Rattle.opfs_data.specs.Rows.{Rows, pages_at, page_at as swap_page}
+use Rattle.opfs_data.specs.Rows.{Rows}
 use Rattle.opfs_hist.specs.declared.entry.Entry.{Entry}
 use Rattle.opfs_machine.specs.Histories.{state_after}
 use Rattle.opfs_machine.specs.Openings.{Opening}
-use Rattle.opfs_pages.specs.Copies.{IsCopy, AreHeld, HasFar}
 use Rattle.opfs_laws.specs.Steady.Steady.{open_bytes, row_bytes}
 use Rattle.opfs_work.specs.declared.pages.Page.{Page}
 use Rattle.opfs_work.specs.declared.pages.Page.TheVariants.{Zero, Near, Clean, Far}
 use Rattle.opfs_work.specs.Pages.{page_at, is_far, is_held}
 use Rattle.opfs_work.specs.Works.{WorkingCopy}
-use Rattle.opfs_pages.specs.HistoryLaws.Told.{AreThere, AreTold}
 
 far-held : (p : Page) → is_far p ≡ true → is_held p ≡ true
 far-held Zero is = absurd (false≢true is)
@@ -31,15 +28,3 @@ far-within work i far = elim (cases_lt i (length work.pages)) [
 module _ (tells : Type 0) (o : Opening) (h : List Entry) (swap : Rows) (k n : ℕ) (work : WorkingCopy) (stands : StandsFor tells o h k n work) where
   pub handed-bytes : row_bytes (state_after o h) k n ≡ Some stands.copy.bytes
   handed-bytes = ap (open_bytes (state_after o h)) stands.there ∙ stands.copy.open_row
-
-  pub handed-far : (base end : ℕ) → AreThere o h swap → ((i : ℕ) → LiesIn base end (swap_page k n i swap).block) → HasFar work base end (pages_at k n swap)
-  handed-far base end there lies = record {
-    there = λ i far. there k n i (stands.held i (far-within work i far) (λ from to. far-held (page_at work.pages i) far));
-    lies = λ i far. lies i;
-  }
-
-  pub handed-copy : tells → IsCopy stands.copy.bytes work
-  handed-copy told = record { same = stands.copy.same told }
-
-  pub handed-held : (base : ℕ) (c : List ℕ) → AreTold o h base c swap → AreHeld stands.copy.bytes work c base (pages_at k n swap)
-  handed-held base c told = record { held = λ i within stored. told.begins k n i (stands.held i within stored) stands.copy.bytes handed-bytes }

@@ -1,5 +1,5 @@
 -- What the store's pages tell of a row whose pages were put.
-use Rattle.std.proofs.Common.{◌≡◌, ◌⊎◌, ℕ, ◌*◌, ◌<◌, ◌++◌, List, [], ◌∷◌, length, sym, ap, subst, ◌∙◌, inl, inr, arith}
+use Rattle.std.proofs.Common.{◌≡◌, ◌⊎◌, ℕ, ◌<◌, ◌++◌, List, [], ◌∷◌, length, sym, ap, subst, ◌∙◌, inl, inr, arith}
 use Rattle.std.specs.List.{AllByRecursion}
 use Rattle.std.proofs.lemmas.Bool.{cases_eq, cases_lt}
 use Rattle.std.proofs.lemmas.List.{get_or_past}
@@ -59,9 +59,6 @@ found (w ∷ ws) row read i named right given = elim named [
 
 pub page-begun : (bytes page : List ℕ) (i : ℕ) → IsPageOf bytes i page → IsBegun bytes i page
 page-begun bytes page i is = record { size = is.size; at = λ k below inside. is.at k below }
-
-pub page-within : (n i : ℕ) → 4096 * i < n → i < blocks n
-page-within n i below = omega arith
 
 -- ---- a row whose pages were put
 

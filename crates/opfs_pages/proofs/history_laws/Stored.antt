@@ -4,7 +4,6 @@ use Rattle.opfs_base.specs.Places.{Place}
 use Rattle.opfs_base.specs.declared.extents.Extent.{Extent}
 use Rattle.opfs_blocks.specs.Sets.{marked, blocks_of}
 use Rattle.opfs_data.specs.Rows.{IsOther}
-use Rattle.opfs_records.specs.Replay.Built.{named, has_block}
 use Rattle.opfs_space.specs.Files.{file_has}
 use Rattle.opfs_space.specs.Holders.{HasPage, IsStored, KeepsRow}
 use Rattle.opfs_space.specs.Room.{Machine}
@@ -22,9 +21,6 @@ use Rattle.opfs_pages.proofs.history_laws.Spacing.{stays-same}
 module _ (m t : Machine) (s r : Shelf) (agent row : ℕ) (place : Place) (extents : List Extent) (is : IsContentOf m t s r agent row place extents) where
   abbrev blocks : List ℕ
   blocks = blocks_of extents
-
-  was-none : (b : ℕ) → has_block (named s.recorded) b ≡ true → has_block (named s.tree) b ≡ true
-  was-none = is.nothing_kept
 
   keeps : (k n : ℕ) → IsOther agent row k n → KeepsRow (holders_of m s) (holders_of t r) k n
   keeps k n apart =

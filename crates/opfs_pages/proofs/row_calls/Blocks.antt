@@ -1,6 +1,6 @@
 -- The blocks of pages, one after another.
 use Rattle.std.proofs.Common.{◌≡◌, ℕ, zero, suc, ◌+◌, ◌<◌, ◌++◌, List, [], ◌∷◌, length, take, get_or, Option, Some, None, refl, sym, ap, ◌∙◌, append_assoc, append-nil, arith}
-use Rattle.std.specs.List.{AllByRecursion, range_with_len}
+use Rattle.std.specs.List.{range_with_len}
 use Rattle.opfs_base.specs.declared.extents.Extent.{Extent}
 use Rattle.opfs_blocks.specs.Sets.{blocks_of}
 use Rattle.opfs_blocks.proofs.SetLemmas.{range_more, blocks_of-append}
@@ -28,14 +28,3 @@ run-longer es start count block is =
     ∙ ap (λ (xs : List ℕ). blocks_of es ++ xs) (append-nil (range_with_len start (count + 1)) ∙ range_more start count ∙ ap (λ (n : ℕ). range_with_len start count ++ n ∷ []) is)
     ∙ sym (append_assoc (blocks_of es) (range_with_len start count) (block ∷ []))
     ∙ ap (λ (xs : List ℕ). xs ++ block ∷ []) (sym (blocks_of-append es ((record { start = start; count = count }) ∷ []) ∙ ap (λ (xs : List ℕ). blocks_of es ++ xs) (append-nil (range_with_len start count))))
-
-pub run-new : (es : List Extent) (block : ℕ) → blocks_of (es ++ (record { start = block; count = 1 }) ∷ []) ≡ blocks_of es ++ block ∷ []
-run-new es block = blocks_of-append es ((record { start = block; count = 1 }) ∷ [])
-
-pub all-pushed : (P : Extent → Type 0) (es : List Extent) (e : Extent) → AllByRecursion P es → P e → AllByRecursion P (es ++ e ∷ [])
-all-pushed P [] e all here = (here, tt)
-all-pushed P (x ∷ es) e all here = (all.0, all-pushed P es e all.1 here)
-
-pub all-popped : (P : Extent → Type 0) (es : List Extent) (e : Extent) → AllByRecursion P (es ++ e ∷ []) → AllByRecursion P es × P e
-all-popped P [] e all = (tt, all.0)
-all-popped P (x ∷ es) e all = let rest = all-popped P es e all.1 in ((all.0, rest.0), rest.1)

@@ -3,7 +3,7 @@ use Rattle.std.proofs.Common.{◌≡◌, ◌⊎◌, ℕ, suc, ◌+◌, ◌*◌, 
 use Rattle.std.specs.List.{range_with_len}
 use Rattle.std.proofs.lemmas.Bool.{false≢true, cases_eq, cases_lt}
 use Rattle.std.proofs.lemmas.Grind.{same_number_lists}
-use Rattle.std.proofs.lemmas.List.{get_or_past, get_or-set_same, get_or-set_other, get_or-append_right, length-replicate, length-set}
+use Rattle.std.proofs.lemmas.List.{get_or_past, get_or-set_same, get_or-set_other, get_or-append_right, length-replicate}
 use Rattle.std.proofs.lemmas.List.FromFn.{length-map-range_with_len, get_or-map-range_with_len}
 use Rattle.std.proofs.lemmas.List.Sums.{sum_by-cons}
 use Rattle.opfs_splice.specs.Splicing.{resize}
@@ -71,9 +71,6 @@ far-inside ps k far = elim (cases_lt k (length ps)) [
   | inr past ↦ absurd (false≢true (ap is_far (sym (get_or_past ps k Zero past)) ∙ far))
 ]
 
-pub past-near : (ps : List Page) (k : ℕ) → length ps ≤ k → is_far (page_at ps k) ≡ false
-past-near ps k past = ap is_far (get_or_past ps k Zero past)
-
 far-held : (p : Page) → is_far p ≡ true → is_held p ≡ true
 far-held Zero is = absurd (false≢true is)
 far-held (Near bytes) is = absurd (false≢true is)
@@ -106,9 +103,6 @@ module _ (old mid new : WorkingCopy) (page : ℕ) (bytes : List ℕ) (mid_is : m
       let from_is : new.changed_from ≡ old.changed_from = ap (λ (w : WorkingCopy). w.changed_from) is ∙ ap (λ (w : WorkingCopy). w.changed_from) mid_is in
       let to_is : new.changed_to ≡ old.changed_to = ap (λ (w : WorkingCopy). w.changed_to) is ∙ ap (λ (w : WorkingCopy). w.changed_to) mid_is in
       held-new k (held-mid k (stored (omega (arith, from, from_is)) (omega (arith, to, to_is))))
-
-  pub way-pages : length new.pages ≡ length mid.pages
-  way-pages = ap length pages_are ∙ length-set mid.pages page (Clean bytes)
 
 -- what stands behind the end of a page that was cut
 pub cut-tail : (old new : List ℕ) (page size i : ℕ) → length old ≡ 4096 → ((row : List ℕ) → IsPageOf row page old → IsPageOf (resize row size) page new) → size ≤ i → i / 4096 ≡ page → slice_index new (i % 4096) ≡ 0

@@ -4,7 +4,6 @@ use Rattle.opfs_base.specs.Texts.{Text}
 use Rattle.opfs_data.specs.Pages.{page_of}
 use Rattle.opfs_data.specs.Rows.{Rows, row_of, pages_at, page_at, IsOther}
 use Rattle.opfs_hist.specs.declared.entry.Entry.{Entry}
-use Rattle.opfs_laws.specs.Lengths.Outlines.{in_lengths_of}
 use Rattle.opfs_machine.specs.Histories.{state_after}
 use Rattle.opfs_machine.specs.Openings.{Opening}
 use Rattle.opfs_pages.specs.Copies.{IsBegun}
@@ -20,11 +19,6 @@ AreRowed m swap = (k n : ℕ) → is_some (row_of k n swap) ≡ is_some (open_at
 -- Each steady page is among the pages of its row.
 abbrev pub AreThere : Opening → List Entry → Rows → Type 0
 AreThere o h swap = (k n i : ℕ) → is_steady o h k n i ≡ true → i < length (pages_at k n swap)
-
--- What holds over any disk: there are pages for just the open rows, and each steady page is among them.
-pub record ArePaged (o : Opening) (h : List Entry) (swap : Rows) : Type 0 where
-  pub rows : AreRowed (in_lengths_of (state_after o h)) swap
-  pub there : AreThere o h swap
 
 -- The store's page begins as the row's bytes there.
 abbrev pub IsToldAt : Opening → List Entry → ℕ → List ℕ → Rows → ℕ → ℕ → ℕ → Type 0

@@ -10,11 +10,9 @@ ghost use Rattle.opfs_work.specs.Works.{IsStored};
 
 use crate::row_calls::leave::bring_near;
 use crate::{leave_size, leave_write};
+use opfs_base::BLOCK_SIZE;
 use opfs_work::Work;
 use opfs_work::sizes::blocks;
-
-// The bytes of a page.
-const PAGE: u64 = 4096;
 
 // Moves to a position, and reserves what the bytes take.
 fn move_to(work: &mut Work, position: u64)
@@ -41,7 +39,7 @@ pub fn after_write(work: &mut Work, at: u64, len: u64, page: &[u8])
 {
     leave_write(work, at, len);
     move_to(work, at + len);
-    bring_near(work, (at + len) / PAGE, page);
+    bring_near(work, (at + len) / BLOCK_SIZE, page);
 }
 
 /// Leaves what is right after a cut or an extension to a size: the row's bytes, the position within them, as many blocks reserved
@@ -61,7 +59,7 @@ pub fn after_size(work: &mut Work, size: u64, page: &[u8])
     let position = work.position().min(size);
     leave_size(work, size);
     move_to(work, position);
-    bring_near(work, position / PAGE, page);
+    bring_near(work, position / BLOCK_SIZE, page);
 }
 
 /// Leaves what is right after a flush: the same bytes, the same position, and nothing reserved. Takes no memory.

@@ -17,10 +17,11 @@ ghost use Rattle.opfs_pages.specs.RowCalls.Plans.{shelf, IsStagedFor, AreGotten}
 ghost use Rattle.opfs_space.specs.Room.{Machine};
 ghost use Rattle.opfs_tree.specs.Rows.{Rows as Tree};
 
+use crate::bytes::zeros;
 use crate::row_calls::leave::page_after;
 use crate::row_calls::plan::plan_put;
-use crate::row_calls::reads::zeros;
 use crate::writing::Put;
+use opfs_base::BLOCK_SIZE;
 use opfs_data::{DataRefusal, Swap};
 use opfs_journal::Journal;
 use opfs_outside::Disk;
@@ -29,9 +30,6 @@ use opfs_tree::ReadyTree;
 use opfs_work::Work;
 use opfs_work::sizes::blocks;
 use std::alloc::Global;
-
-// The bytes of a page.
-const PAGE: u64 = 4096;
 
 // Reads the page of a position as a write at a place and then a new size leave it.
 fn page_left<D: Disk>(
@@ -57,8 +55,8 @@ fn page_left<D: Disk>(
     ensures tail { IfOk result (λ page. (i : ℕ) → size ≤ i → i / 4096 ≡ position / 4096 → slice_index page.items (i % 4096) ≡ 0) }
     ensures cause { IsErrOf result DataRefusal.DiskFault → Rose (D.faults journal.old.disk) (D.faults journal.new.disk) }
 {
-    let mut page = zeros(alloc, PAGE as usize)?;
-    let number = position / PAGE;
+    let mut page = zeros(alloc, BLOCK_SIZE as usize)?;
+    let number = position / BLOCK_SIZE;
     page_after(
         work, swap, journal, base, agent, row, number, at, given, size, &mut page,
     )?;

@@ -11,7 +11,7 @@ ghost use Rattle.opfs_splice.specs.Splicing.{resize};
 ghost use Rattle.opfs_work.specs.Pages.{page_at, is_far, near_count};
 ghost use Rattle.opfs_work.specs.Works.{IsStored};
 
-use crate::{cut_page, overlay, read_page};
+use crate::{cut_page, fill_page, overlay};
 use opfs_data::Swap;
 use opfs_journal::{DiskFault, Journal};
 use opfs_outside::Disk;
@@ -44,38 +44,9 @@ pub fn page_after<D: Disk>(
     ensures buffer { length buffer.new ≡ 4096 }
     ensures cause { OnErr result (Rose (D.faults journal.old.disk) (D.faults journal.new.disk)) }
 {
-    fill(work, swap, journal, base, agent, row, page, buffer)?;
+    fill_page(work, swap, journal, base, agent, row, page, buffer)?;
     overlay(buffer, page, at, given);
     cut(buffer, page, size);
-    Ok(())
-}
-
-// A page of a row, and zeros past its last one.
-fn fill<D: Disk>(
-    work: &Work,
-    swap: &Swap,
-    journal: &mut Journal<D>,
-    base: u64,
-    agent: u32,
-    row: u32,
-    page: u64,
-    buffer: &mut [u8],
-) -> Result<(), DiskFault>
-    requires buffer { length buffer.old ≡ 4096 }
-    requires held { is_far (page_at work.now.pages page) ≡ true → page < length (pages_at agent row swap.now) }
-    requires lies { is_far (page_at work.now.pages page) ≡ true → LiesIn base (D.size journal.old.disk) (swap_page agent row page swap.now).block }
-    requires part { IsDataPart journal.old.areas base }
-    ensures reads { Reads D.Disk journal.old journal.new }
-    ensures read { OnOk result (D.tells → (bytes : List ℕ) → IsCopy bytes work.now
-        → IsHeld bytes work.now page (page_of (D.content journal.old.disk) base (swap_page agent row page swap.now)) → IsPageOf bytes page buffer.new) }
-    ensures buffer { length buffer.new ≡ 4096 }
-    ensures cause { OnErr result (Rose (D.faults journal.old.disk) (D.faults journal.new.disk)) }
-{
-    if page >= work.pages() {
-        buffer.fill(0);
-        return Ok(());
-    }
-    read_page(work, swap, journal, base, agent, row, page, buffer)?;
     Ok(())
 }
 

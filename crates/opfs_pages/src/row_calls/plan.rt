@@ -9,7 +9,7 @@ ghost use Rattle.opfs_data.specs.Pages.{LiesIn, IsDataPart};
 ghost use Rattle.opfs_data.specs.Rows.{row_of, pages_at};
 ghost use Rattle.opfs_pages.specs.HistoryLaws.Spaced.{AreSpaced};
 ghost use Rattle.opfs_outside.specs.Faults.{Rose};
-ghost use Rattle.opfs_pages.specs.Stages.{IsReady, IsStaged};
+ghost use Rattle.opfs_pages.specs.Stages.{IsReady, IsReadyFor, IsStaged, stage_of};
 ghost use Rattle.opfs_pages.specs.Writing.Puts.{HasSamePages, IsReady as IsPutReady};
 ghost use Rattle.opfs_records.specs.Replay.Built.{named, has_block};
 ghost use Rattle.opfs_space.specs.Holders.{AreAllBelow, AreSwept};
@@ -20,7 +20,7 @@ ghost use Rattle.opfs_space.specs.Room.{Machine};
 ghost use Rattle.opfs_tree.specs.Rows.{Rows as Tree};
 
 use crate::writing::Put;
-use crate::{stage_changes, stage_content};
+use crate::{PagePut, PageSource, stage_changes, stage_content};
 use opfs_data::{DataRefusal, PageWrites, Swap};
 use opfs_journal::Journal;
 use opfs_outside::Disk;
@@ -33,33 +33,22 @@ use std::alloc::Global;
 // The pages that a write at a position and then a new size leave changed; or, of a content, those that it wants.
 fn stage<D: Disk>(
     alloc: Global,
-    work: &Work,
-    swap: &Swap,
-    space: &Space,
+    source: &PageSource<'_>,
+    put: &PagePut<'_>,
     journal: &mut Journal<D>,
-    base: u64,
-    agent: u32,
-    row: u32,
-    at: u64,
-    given: &[u8],
-    size: u64,
-    whole: bool,
 ) -> Result<PageWrites, DataRefusal>
-    requires size { size < 2 ^ 63 }
-    requires stays { at + length given.now ≤ size }
-    requires content { whole ≡ true → (at ≡ 0) × (given.now ≡ []) × (size ≡ work.now.length) }
-    requires ready { IsReady work.now swap.now space.now agent row base (D.size journal.old.disk) journal.old.areas }
+    requires size { put.now.size < 2 ^ 63 }
+    requires stays { put.now.at + length put.now.given.now ≤ put.now.size }
+    requires ready { IsReadyFor source.now put.now (D.size journal.old.disk) journal.old.areas }
     ensures reads { Reads D.Disk journal.old journal.new }
-    ensures staged { IfOk result (IsStaged D.tells (record { own = space.now.own; swap = swap.now; agent = agent; row = row; work = work.now; content = D.content journal.old.disk; base = base; at = at; given = given.now; size = size; whole = whole })) }
+    ensures staged { IfOk result (IsStaged D.tells (stage_of source.now put.now (D.content journal.old.disk))) }
     ensures cause { IsErrOf result DataRefusal.DiskFault → Rose (D.faults journal.old.disk) (D.faults journal.new.disk) }
 {
-    if whole {
-        let writes = stage_content(alloc, work, swap, space, journal, base, agent, row)?;
+    if put.whole {
+        let writes = stage_content(alloc, source, put, journal)?;
         return Ok(writes);
     }
-    let writes = stage_changes(
-        alloc, work, swap, space, journal, base, agent, row, at, given, size,
-    )?;
+    let writes = stage_changes(alloc, source, put, journal)?;
     Ok(writes)
 }
 
@@ -71,35 +60,34 @@ fn try_put<D: Disk>(
     space: &mut Space,
     journal: &mut Journal<D>,
     base: u64,
-    agent: u32,
-    row: u32,
-    at: u64,
-    given: &[u8],
-    size: u64,
-    whole: bool,
+    put: &PagePut<'_>,
 ) -> Result<Put, DataRefusal>
-    requires size { size < 2 ^ 63 }
-    requires stays { at + length given.now ≤ size }
-    requires content { whole ≡ true → (at ≡ 0) × (given.now ≡ []) × (size ≡ work.now.length) }
-    requires there { is_some (row_of agent row swap.old) ≡ true }
-    requires lies { AllByRecursion (λ page. LiesIn base (D.size journal.old.disk) page.block) (pages_at agent row swap.old) }
-    requires ready { IsReady work.now swap.old space.old agent row base (D.size journal.old.disk) journal.old.areas }
-    ensures pages { HasSamePages agent row swap.old swap.new }
+    requires size { put.now.size < 2 ^ 63 }
+    requires stays { put.now.at + length put.now.given.now ≤ put.now.size }
+    requires there { is_some (row_of put.now.agent put.now.row swap.old) ≡ true }
+    requires lies { AllByRecursion (λ page. LiesIn base (D.size journal.old.disk) page.block) (pages_at put.now.agent put.now.row swap.old) }
+    requires ready { IsReady work.now swap.old space.old put.now.agent put.now.row base (D.size journal.old.disk) journal.old.areas }
+    ensures pages { HasSamePages put.now.agent put.now.row swap.old swap.new }
     ensures reads { Reads D.Disk journal.old journal.new }
-    ensures staged { IfOk result (λ put. IsStagedFor D.tells work.now (D.content journal.old.disk) base swap.old agent row at given.now size whole put.writes) }
-    ensures planned { IfOk result (λ put. ArePlanned space.old.own swap.old agent row (blocks size) (page_writes put.writes given.now) (page_moves put.writes given.now)) }
-    ensures ready { IfOk result (λ put. IsPutReady D.tells (D.content journal.new.disk) base swap.new agent row (blocks size) put.writes put.moves (vec_capacity put.extents)) }
-    ensures count { IfOk result (λ put. put.pages ≡ blocks size) }
-    ensures taken { IfOk result (λ put. HasTaken put.taken space.old space.new put.moves put.extents.items) }
+    ensures staged { IfOk result (λ made. IsStagedFor D.tells work.now (D.content journal.old.disk) base swap.old put.now.agent put.now.row put.now.at put.now.given.now put.now.size put.now.whole made.writes) }
+    ensures planned { IfOk result (λ made. ArePlanned space.old.own swap.old put.now.agent put.now.row (blocks put.now.size) (page_writes made.writes put.now.given.now) (page_moves made.writes put.now.given.now)) }
+    ensures ready { IfOk result (λ made. IsPutReady D.tells (D.content journal.new.disk) base swap.new put.now.agent put.now.row (blocks put.now.size) made.writes made.moves (vec_capacity made.extents)) }
+    ensures count { IfOk result (λ made. made.pages ≡ blocks put.now.size) }
+    ensures taken { IfOk result (λ made. HasTaken made.taken space.old space.new made.moves made.extents.items) }
     ensures err { OnErr result (space.new ≡ space.old) }
     ensures cause { IsErrOf result DataRefusal.DiskFault → Rose (D.faults journal.old.disk) (D.faults journal.new.disk) }
 {
-    let writes = stage(
-        alloc, work, swap, space, journal, base, agent, row, at, given, size, whole,
-    )?;
-    let mut put = Put::ready(alloc, swap, journal, base, agent, row, blocks(size), writes)?;
-    put.take(space);
-    Ok(put)
+    let source = PageSource {
+        work,
+        swap,
+        space,
+        base,
+    };
+    let writes = stage(alloc, &source, put, journal)?;
+    let size = blocks(put.size);
+    let mut made = Put::ready(alloc, swap, journal, base, put.agent, put.row, size, writes)?;
+    made.take(space);
+    Ok(made)
 }
 
 // Finds anew which blocks one page alone has, and no file.
@@ -133,7 +121,6 @@ pub fn plan_put<D: Disk>(
 ) -> Result<Put, DataRefusal>
     requires size { size < 2 ^ 63 }
     requires stays { at + length given.now ≤ size }
-    requires content { whole ≡ true → (at ≡ 0) × (given.now ≡ []) × (size ≡ work.now.length) }
     requires there { is_some (row_of agent row swap.old) ≡ true }
     requires lies { AllByRecursion (λ page. LiesIn base (D.size journal.old.disk) page.block) (pages_at agent row swap.old) }
     requires ready { IsReady work.now swap.old space.old agent row base (D.size journal.old.disk) journal.old.areas }
@@ -148,15 +135,19 @@ pub fn plan_put<D: Disk>(
         → AreGotten put.taken m (shelf recorded tree.now.rows swap.new) space.new base (D.size journal.old.disk) agent row (blocks size) put.writes given.now put.extents.items) }
     ensures cause { IsErrOf result DataRefusal.DiskFault → Rose (D.faults journal.old.disk) (D.faults journal.new.disk) }
 {
-    let put = try_put(
-        alloc, work, swap, space, journal, base, agent, row, at, given, size, whole,
-    )?;
+    let wanted = PagePut {
+        agent,
+        row,
+        at,
+        given,
+        size,
+        whole,
+    };
+    let put = try_put(alloc, work, swap, space, journal, base, &wanted)?;
     if put.taken {
         return Ok(put);
     }
     look_anew(space, tree, swap);
-    let put = try_put(
-        alloc, work, swap, space, journal, base, agent, row, at, given, size, whole,
-    )?;
+    let put = try_put(alloc, work, swap, space, journal, base, &wanted)?;
     Ok(put)
 }

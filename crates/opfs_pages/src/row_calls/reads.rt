@@ -8,25 +8,14 @@ ghost use Rattle.opfs_outside.specs.Faults.{Rose};
 ghost use Rattle.opfs_pages.specs.Copies.{IsCopy, IsBegun, AreHeld, HasFar};
 ghost use Rattle.opfs_splice.specs.Splicing.{window};
 
+use crate::bytes::zeros;
 use crate::{read_bytes, read_stored};
-use opfs_base::Bytes;
+use opfs_base::{BLOCK_SIZE, Bytes};
 use opfs_data::{DataRefusal, Swap};
 use opfs_journal::Journal;
 use opfs_outside::Disk;
 use opfs_work::Work;
-use std::alloc::{AllocError, Global};
-
-// The bytes of a page.
-const PAGE: usize = 4096;
-
-// So many zeros.
-pub(crate) fn zeros(alloc: Global, len: usize) -> Result<Vec<u8>, AllocError>
-    ensures { IfOk result (λ bytes. length bytes.items ≡ len) }
-{
-    let mut bytes = Vec::new(alloc);
-    bytes.resize(len, 0)?;
-    Ok(bytes)
-}
+use std::alloc::Global;
 
 /// Reads bytes of an open row from a position on, as many as there are: from its working copy, or from the store.
 pub fn read_row<D: Disk>(
@@ -50,7 +39,7 @@ pub fn read_row<D: Disk>(
     let size = work.size();
     let start = at.min(size);
     let len = len.min(size - start);
-    let mut buffer = zeros(alloc, PAGE)?;
+    let mut buffer = zeros(alloc, BLOCK_SIZE as usize)?;
     let mut bytes = zeros(alloc, len as usize)?;
     read_bytes(
         work,
@@ -86,7 +75,7 @@ pub fn read_handle<D: Disk>(
         → ((i : ℕ) → 4096 * i < length row_bytes → IsBegun row_bytes i (page_of (D.content journal.old.disk) base (swap_page agent row i swap.now))) → bytes ≡ row_bytes) }
     ensures cause { IsErrOf result DataRefusal.DiskFault → Rose (D.faults journal.old.disk) (D.faults journal.new.disk) }
 {
-    let mut buffer = zeros(alloc, PAGE)?;
+    let mut buffer = zeros(alloc, BLOCK_SIZE as usize)?;
     let mut bytes = zeros(alloc, size as usize)?;
     read_stored(swap, journal, base, agent, row, 0, &mut buffer, &mut bytes)?;
     Ok(Bytes::from_vec(bytes))

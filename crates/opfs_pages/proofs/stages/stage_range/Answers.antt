@@ -1,6 +1,6 @@
 use Rattle.std.proofs.Common.{arith}
 use Rattle.opfs_data.proofs.CallLemmas.{reads_more}
-use Rattle.opfs_pages.specs.Stages.{Stage}
+use Rattle.opfs_pages.specs.Stages.{Stage, stage_of}
 use Rattle.opfs_pages.proofs.Steps.{stages_more, stages_read}
 use Rattle.opfs_pages.proofs.stages.stage_range.Goals as goal
 
@@ -8,19 +8,7 @@ pub loop-page-preserved : goal.loop-page-preserved
 loop-page-preserved g c =
     let laws = g.met.D.Disk in
     let at = c.loop-page.invariant in
-    let s : Stage = record {
-      own = c.args.space.now.own;
-      swap = c.args.swap.now;
-      agent = c.args.agent;
-      row = c.args.row;
-      work = c.args.work.now;
-      content = g.D.Disk.content c.args.journal.now.disk;
-      base = c.args.base;
-      at = c.args.at;
-      given = c.args.given.now;
-      size = c.args.size;
-      whole = c.args.whole;
-    } in
+    let s : Stage = stage_of c.args.source.now c.args.put.now (g.D.Disk.content c.args.journal.now.disk) in
     record {
       begins = omega (arith, at.begins, c.in_ok-page.ensures.next.0);
       ends = c.in_ok-page.ensures.next.1;

@@ -1,6 +1,6 @@
 use Rattle.std.proofs.Common.{◌≡◌, ◌≤◌, ◌-◌, length}
 use Rattle.opfs_data.specs.Calls.{Reads}
-use Rattle.opfs_pages.specs.Stages.{Stages}
+use Rattle.opfs_pages.specs.Stages.{Stages, stage_of}
 use Rattle.opfs_pages.proofs.stages.stage_range.Given as goal
 
 abbrev pub invariant-loop-page : goal.invariant-loop-page
@@ -9,19 +9,7 @@ invariant-loop-page g l = record {
   ends : l.page ≤ l.to;
   buffer : length l.buffer ≡ 4096;
   reads : Reads g.D.Disk l.fn.journal l.journal;
-  staged : Stages g.D.Disk.tells (record {
-    own = l.space.own;
-    swap = l.swap;
-    agent = l.agent;
-    row = l.row;
-    work = l.work;
-    content = g.D.Disk.content l.fn.journal.disk;
-    base = l.base;
-    at = l.at;
-    given = l.given;
-    size = l.size;
-    whole = l.whole;
-  }) l.from l.page l.fn.writes l.writes;
+  staged : Stages g.D.Disk.tells (stage_of l.source l.put (g.D.Disk.content l.fn.journal.disk)) l.from l.page l.fn.writes l.writes;
 }
 
 abbrev pub decreases-loop-page : goal.decreases-loop-page

@@ -1,7 +1,7 @@
 use Rattle.std.proofs.Common.{◌≡◌, ℕ, length, replicate, ◌∙◌, arith}
 use Rattle.std.proofs.lemmas.List.{length-replicate}
 use Rattle.opfs_pages.proofs.PageBytes.{past_whole, zeros_at}
-use Rattle.opfs_pages.proofs.staging.fill_page.Goals as goal
+use Rattle.opfs_pages.proofs.reading.fill_page.Goals as goal
 
 pub returns-then-page-pages-clause-read : goal.returns-then-page-pages-clause-read
 returns-then-page-pages-clause-read g c = λ told bytes is held.

@@ -1,0 +1,24 @@
+// What a call puts of a row's pages, and what pages are read from.
+use opfs_data::Swap;
+use opfs_space::Space;
+use opfs_work::Work;
+
+/// What a call leaves of a row: bytes at a position and then a size; or a content, where each page has to have a block.
+#[derive(Clone, Copy)]
+pub struct PagePut<'a> {
+    pub agent: u32,
+    pub row: u32,
+    pub at: u64,
+    pub given: &'a [u8],
+    pub size: u64,
+    pub whole: bool,
+}
+
+/// What a row's pages are read from: its working copy, and the pages of all rows. Block 0 begins at byte `base` of the disk.
+#[derive(Clone, Copy)]
+pub struct PageSource<'a> {
+    pub work: &'a Work,
+    pub swap: &'a Swap,
+    pub space: &'a Space,
+    pub base: u64,
+}
