@@ -3,11 +3,13 @@
 ghost use Rattle.std.specs.Prelude.{◌≡◌, ◌⊎◌, ◌+◌, ◌<◌, ◌≤◌, ◌++◌, ℕ, true, false, List, [], length, IfOk, IfErr, OnOk, OnErr, IsErrOf};
 ghost use Rattle.opfs_codec.specs.Charges.{charge};
 ghost use Rattle.opfs_codec.specs.Fields.{plain, Fits, HasFewExtents};
-ghost use Rattle.opfs_codec.specs.Spelling.{spelling};
+ghost use Rattle.opfs_codec.specs.Spelling.{spelling, IsChange};
 ghost use Rattle.opfs_codec.specs.declared.change.Format.TheVariants.{New};
 ghost use Rattle.opfs_commit.specs.Calls.{IsCommitted, IsHalted, IsReplaced, IsNotReplaced, IsAnyOf, IsNoneOf, IsNext, IsNextAlone, BuildsAfter, BuildsAll, stored_in, HasRoomAfter, HasRoomFor};
 ghost use Rattle.opfs_commit.specs.Seen.{KeptBack, committing, emptied, has_room, with_back, with_kept, with_own, IsQuiet};
 ghost use Rattle.opfs_outside.specs.Faults.{Rose};
+ghost use Rattle.opfs_records.specs.Checkpoint.Written.{AreWritable};
+ghost use Rattle.opfs_records.specs.Replay.Sums.{persistent_in};
 
 use crate::records::{add_record, put_record};
 use opfs_codec::{ChangeRef, charge, write};
@@ -96,8 +98,7 @@ impl Commits {
 
     /// Commits a change with what is kept back: by a record more, or where that has no room, by a snapshot of what a tree
     /// and a shed store after the change in the place of all records. The tree and the shed have what is kept back. Neither
-    /// has room where the charge of what is built, with a record's 7 bytes, passes the room or the area, or where something
-    /// has no spelling.
+    /// has room where the charge of what is built, with a record's 7 bytes, passes the room or the area.
     pub fn commit<D: Disk>(
         &mut self,
         journal: &mut Journal<D>,
@@ -107,6 +108,8 @@ impl Commits {
     ) -> Result<(), JournalRefusal>
         requires settled { journal.old.in_doubt ≡ false }
         requires spare { self.old.room ≤ journal.old.spare }
+        requires writable { AreWritable tree.now.rows (persistent_in shed.now.buckets) }
+        requires again { IsChange New (plain own.now) }
         requires fits { Fits (plain own.now) }
         ensures committed { OnOk result (IsAnyOf D.Disk (IsNext (stored_in tree.now.rows shed.now) (plain own.now) (committing journal.old self.old)) (committing journal.old self.old) (committing journal.new self.new)) }
         ensures halted { IsErrOf result JournalRefusal.DiskFault → IsNoneOf D.Disk (IsNext (stored_in tree.now.rows shed.now) (plain own.now) (committing journal.old self.old)) (committing journal.old self.old) (committing journal.new self.new) }
@@ -133,6 +136,7 @@ impl Commits {
     ) -> Result<(), JournalRefusal>
         requires settled { journal.old.in_doubt ≡ false }
         requires spare { self.old.room ≤ journal.old.spare }
+        requires writable { AreWritable tree.now.rows (persistent_in shed.now.buckets) }
         ensures committed { OnOk result (IsAnyOf D.Disk (IsNextAlone (stored_in tree.now.rows shed.now) (committing journal.old self.old)) (committing journal.old self.old) (committing journal.new self.new)) }
         ensures halted { IsErrOf result JournalRefusal.DiskFault → IsNoneOf D.Disk (IsNextAlone (stored_in tree.now.rows shed.now) (committing journal.old self.old)) (committing journal.old self.old) (committing journal.new self.new) }
         ensures unchanged { IsErrOf result JournalRefusal.NoRoom → (journal.new ≡ journal.old) × (self.new ≡ self.old) }
@@ -203,7 +207,7 @@ impl Commits {
 
     /// Writes a snapshot of what a tree and a shed store after one change more in the place of all records. The tree and
     /// the shed have what is kept back. It has no room where the charge of what is built, with a record's 7 bytes, passes
-    /// the room or the area, or where something has no spelling.
+    /// the room or the area.
     pub fn replace<D: Disk>(
         &mut self,
         journal: &mut Journal<D>,
@@ -213,6 +217,8 @@ impl Commits {
     ) -> Result<(), JournalRefusal>
         requires settled { journal.old.in_doubt ≡ false }
         requires spare { self.old.room ≤ journal.old.spare }
+        requires writable { AreWritable tree.now.rows (persistent_in shed.now.buckets) }
+        requires again { IsChange New (plain own.now) }
         ensures replaced { OnOk result (IsReplaced D.Disk (BuildsAfter (stored_in tree.now.rows shed.now) (plain own.now)) (committing journal.old self.old) (committing journal.new self.new)) }
         ensures halted { IsErrOf result JournalRefusal.DiskFault → IsNotReplaced D.Disk (BuildsAfter (stored_in tree.now.rows shed.now) (plain own.now)) (committing journal.old self.old) (committing journal.new self.new) }
         ensures unchanged { IsErrOf result JournalRefusal.NoRoom → (journal.new ≡ journal.old) × (self.new ≡ self.old) }
@@ -243,6 +249,7 @@ impl Commits {
     ) -> Result<(), JournalRefusal>
         requires settled { journal.old.in_doubt ≡ false }
         requires spare { self.old.room ≤ journal.old.spare }
+        requires writable { AreWritable tree.now.rows (persistent_in shed.now.buckets) }
         ensures replaced { OnOk result (IsReplaced D.Disk (BuildsAll (stored_in tree.now.rows shed.now)) (committing journal.old self.old) (committing journal.new self.new)) }
         ensures halted { IsErrOf result JournalRefusal.DiskFault → IsNotReplaced D.Disk (BuildsAll (stored_in tree.now.rows shed.now)) (committing journal.old self.old) (committing journal.new self.new) }
         ensures unchanged { IsErrOf result JournalRefusal.NoRoom → (journal.new ≡ journal.old) × (self.new ≡ self.old) }

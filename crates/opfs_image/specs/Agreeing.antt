@@ -6,6 +6,7 @@ use Rattle.opfs_journal.specs.Format.{records_of}
 use Rattle.opfs_journal.specs.Seen.{Seen, kept}
 use Rattle.opfs_records.specs.Replay.Built.{Built, IsSound, used_by}
 use Rattle.opfs_records.specs.Replay.Sums.{charge_of, usage_in, persistent_in}
+use Rattle.opfs_records.specs.Checkpoint.Written.{AreWritable}
 use Rattle.opfs_shed.specs.Buckets.{Storage, bucket_at}
 use Rattle.opfs_tree.specs.Rows.{Rows}
 use Rattle.opfs_image.specs.Reading.{read_as}
@@ -17,10 +18,11 @@ abbrev pub built_in : Rows → Storage → Built
 built_in rows shed = record { rows = rows; persistent = persistent_in shed.buckets }
 
 -- What was built agrees with a geometry, whatever the disk tells: each file has its blocks, no block is named twice, and
--- every lock is open; the used blocks are those of the files; the quota and the usages are the geometry's and the files';
--- and the charge is that of what is built.
+-- every lock is open; all has a spelling in format 2; the used blocks are those of the files; the quota and the usages
+-- are the geometry's and the files'; and the charge is that of what is built.
 pub record IsRebuilt (g : Geometry) (rows : Rows) (shed : Storage) (used : List Bool) (charge : ℕ) : Type 0 where
   pub sound : IsSound g.blocks rows
+  pub writable : AreWritable rows (persistent_in shed.buckets)
   pub used_are : used ≡ used_by g.blocks rows
   pub quota : shed.quota ≡ g.quota
   pub usage : (unit : Text) → (bucket_at shed.buckets unit).usage ≡ usage_in unit rows

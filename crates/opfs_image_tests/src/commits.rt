@@ -1,4 +1,4 @@
 //! Tests of changes that are committed.
 #[cfg(test)]
 mod stops;
-mod works;
+pub mod works;

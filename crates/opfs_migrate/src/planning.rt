@@ -10,7 +10,7 @@ ghost use Rattle.opfs_migrate.specs.Migrating.{IsPlanned};
 ghost use Rattle.opfs_records.specs.Replay.Applying.{rows_of};
 ghost use Rattle.opfs_records.specs.Replay.Built.{IsSound};
 ghost use Rattle.opfs_records.specs.Replay.Sums.{charge_of, persistent_in};
-ghost use Rattle.opfs_records.specs.Checkpoint.Written.{stored_rows};
+ghost use Rattle.opfs_records.specs.Checkpoint.Written.{stored_rows, AreWritable};
 
 use crate::counting::count_files;
 use opfs_codec::Format;
@@ -54,6 +54,7 @@ pub(crate) fn read_plan<D: Disk>(alloc: Global, disk: &mut D) -> Result<Plan, Im
 
 // One record of format 2 that builds what was read.
 fn spell(alloc: Global, parts: Rebuilt) -> Result<Vec<u8>, AllocError>
+    requires { AreWritable parts.tree (persistent_in parts.shed.buckets) }
     ensures builds { IfOk result (λ body. (size : ℕ) → IsSound size (stored_rows parts.tree) → rows_of New size (body.items ∷ []) ≡ Some (record { rows = stored_rows parts.tree; persistent = persistent_in parts.shed.buckets })) }
     ensures fits { IfOk result (λ body. (size : ℕ) → IsSound size (stored_rows parts.tree) → length body.items ≤ charge_of New (record { rows = stored_rows parts.tree; persistent = persistent_in parts.shed.buckets })) }
 {

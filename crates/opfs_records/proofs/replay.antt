@@ -6,3 +6,4 @@ pub mod Keeping
 pub mod Parents
 pub mod Persistent
 pub mod Rows
+pub mod Writable

@@ -9,4 +9,4 @@ mod units;
 
 pub use after::snapshot_after;
 pub use body::snapshot;
-pub use checks::is_spelled;
+pub use checks::are_writable;

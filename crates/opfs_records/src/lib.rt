@@ -7,5 +7,5 @@
 pub mod checkpoint;
 pub mod replay;
 
-pub use checkpoint::{is_spelled, snapshot, snapshot_after};
+pub use checkpoint::{are_writable, snapshot, snapshot_after};
 pub use replay::{Rebuilt, Replay};

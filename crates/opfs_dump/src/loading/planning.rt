@@ -15,7 +15,7 @@ use crate::loading::following::{is_behind, stands};
 use crate::text::{Dumped, DumpedFile, DumpedRow};
 use opfs_base::{Extent, Extents, Key, blocks};
 use opfs_locks::FileLock;
-use opfs_records::snapshot;
+use opfs_records::{are_writable, snapshot};
 use opfs_shed::Shed;
 use opfs_tree::{FileRow, ReadyTree, Row, Tree};
 use std::alloc::{AllocError, Global};
@@ -155,6 +155,9 @@ fn spell(alloc: Global, tree: Tree, shed: &Shed) -> Result<Vec<u8>, AllocError>
     ensures builds { IfOk result (λ body. (size : ℕ) → IsSound size (stored_rows tree) → rows_of New size (body.items ∷ []) ≡ Some (record { rows = stored_rows tree; persistent = persistent_in shed.now.buckets })) }
 {
     let tree = ReadyTree::make(alloc, tree);
+    if !are_writable(&tree, shed) {
+        return Err(AllocError);
+    }
     let mut body = Vec::new(alloc);
     snapshot(&tree, shed, &mut body)?;
     Ok(body)

@@ -5,6 +5,8 @@ ghost use Rattle.std.specs.Prelude.{◌≡◌, ◌<◌, ◌≤◌, false, IfOk};
 ghost use Rattle.opfs_codec.specs.Fields.{plain};
 ghost use Rattle.opfs_codec.specs.Spelling.{IsChange};
 ghost use Rattle.opfs_codec.specs.declared.change.Format.TheVariants.{New};
+ghost use Rattle.opfs_records.specs.Checkpoint.Written.{AreWritable};
+ghost use Rattle.opfs_records.specs.Replay.Sums.{persistent_in};
 
 use opfs_codec::{Change, ChangeRef, Format, read};
 use opfs_commit::{Commits, settle};
@@ -76,9 +78,9 @@ fn keep(commits: &mut Commits, own: &Change) -> Result<(), AllocError>
     Ok(())
 }
 
-// The same change, borrowed.
+/// The same change, borrowed.
 #[tactic(auto, unfolding(opfs_codec::specs::Fields::plain))]
-fn borrowed(change: &Change) -> ChangeRef<'_>
+pub fn borrowed(change: &Change) -> ChangeRef<'_>
     ensures { plain result ≡ change.now }
 {
     match change {
@@ -110,7 +112,9 @@ pub fn first_image(alloc: Global) -> Result<Vec<u8>, AllocError> {
 }
 
 // The rows after the first changes.
-fn rebuilt(alloc: Global, changes: usize) -> Result<Rebuilt, AllocError> {
+fn rebuilt(alloc: Global, changes: usize) -> Result<Rebuilt, AllocError>
+    ensures { IfOk result (λ all. AreWritable all.tree (persistent_in all.shed.buckets)) }
+{
     let mut replay = Replay::make(alloc, 2, 2)?;
     for bytes in CHANGES.iter().take(changes) {
         replay = replay.body(alloc, Format::New, bytes)?.ok_or(AllocError)?;
@@ -141,6 +145,7 @@ fn replace_with(
     changes: usize,
     own: &Change,
 ) -> Result<(), AllocError>
+    requires spelled { IsChange New own.now }
     requires settled { journal.old.in_doubt ≡ false }
     requires spare { commits.old.room ≤ journal.old.spare }
     ensures { commits.new.room ≤ journal.new.spare }

@@ -2,7 +2,7 @@
 
 use crate::snapshots::growing::{add_child, add_root, empty_file, persist, short_file};
 use opfs_base::{Key, Path};
-use opfs_records::snapshot;
+use opfs_records::{are_writable, snapshot};
 use opfs_shed::Shed;
 use opfs_tree::{ReadyTree, Row, Tree};
 use std::alloc::{AllocError, Global};
@@ -41,7 +41,10 @@ fn written(alloc: Global) -> Result<Vec<u8>, AllocError> {
     let shed = two_modes(alloc, &first, &second)?;
     let mut bytes = Vec::new(alloc);
     bytes.push(9)?;
-    snapshot(&ReadyTree::make(alloc, tree), &shed, &mut bytes)?;
+    let tree = ReadyTree::make(alloc, tree);
+    if are_writable(&tree, &shed) {
+        snapshot(&tree, &shed, &mut bytes)?;
+    }
     Ok(bytes)
 }
 
@@ -69,8 +72,7 @@ fn is_written(alloc: Global, unit: &str, row: Row) -> Result<bool, AllocError> {
     let mut tree = Tree::make(alloc);
     add_root(alloc, &mut tree, &key, row)?;
     let shed = Shed::make(alloc, 100);
-    let mut bytes = Vec::new(alloc);
-    Ok(snapshot(&ReadyTree::make(alloc, tree), &shed, &mut bytes).is_ok())
+    Ok(are_writable(&ReadyTree::make(alloc, tree), &shed))
 }
 
 #[test]

@@ -29,17 +29,15 @@ charge_rows rows = sum_by (λ e. row_charge New e.0 e.1) rows
 -- Some of the rows are written behind what a buffer held, and the rest is left.
 pub record RowsLeft (rows rest : Rows) (start now : List ℕ) (room room_now : ℕ) : Type 0 where
   pub written : now ++ rows_bytes rest ≡ start ++ rows_bytes rows
-  pub writable : AllWritable rest → AllWritable rows
-  pub left : AllWritable rows → AllWritable rest
+  pub left : AllWritable rest
   pub fits : (size : ℕ) → AllSound size rows → AllSound size rest × (length now + charge_rows rest ≤ length start + charge_rows rows)
   pub capacity : room ≤ room_now
 
 module _ (rows rest next : Rows) (place : Place) (r : Row) (start now : List ℕ) (room room_now : ℕ) (so_far : RowsLeft rows rest start now room room_now) (is : rest ≡ (place, r) ∷ next) where
-  pub one_written : (new : List ℕ) (room_new : ℕ) → new ≡ now ++ row_bytes place r → IsWritableRow place r → room_now ≤ room_new → RowsLeft rows next start new room room_new
-  one_written new room_new written good grown = record {
+  pub one_written : (new : List ℕ) (room_new : ℕ) → new ≡ now ++ row_bytes place r → room_now ≤ room_new → RowsLeft rows next start new room room_new
+  one_written new room_new written grown = record {
     written = ap (λ (xs : List ℕ). xs ++ rows_bytes next) written ∙ append_assoc now (row_bytes place r) (rows_bytes next) ∙ ap (λ (xs : Rows). now ++ rows_bytes xs) (sym is) ∙ so_far.written;
-    writable = λ all. so_far.writable (subst AllWritable (sym is) (good, all));
-    left = λ all. (subst AllWritable is (so_far.left all)).1;
+    left = (subst AllWritable is so_far.left).1;
     fits = λ size sound.
         let before = so_far.fits size sound in
         let all = subst (AllSound size) is before.0 in
@@ -49,12 +47,16 @@ module _ (rows rest next : Rows) (place : Place) (r : Row) (start now : List ℕ
     capacity = omega (arith, so_far.capacity, grown);
   }
 
+  -- The next row can be written.
+  pub row_next : IsWritableRow place r
+  row_next = (subst AllWritable is so_far.left).0
+
   -- Where there is room for the charge of all, there is for the next row's.
-  pub room_next : (size : ℕ) → AllSound size rows → AllWritable rows → length start + charge_rows rows ≤ room → IsSoundRow size (stored_row r) × IsWritableRow place r × (length now + row_charge New place r ≤ room_now)
-  room_next size sound good le =
+  pub room_next : (size : ℕ) → AllSound size rows → length start + charge_rows rows ≤ room → IsSoundRow size (stored_row r) × (length now + row_charge New place r ≤ room_now)
+  room_next size sound le =
       let before = so_far.fits size sound in
       let cost : charge_rows rest ≡ row_charge New place r + charge_rows next = ap charge_rows is ∙ sum_by-cons (λ (e : Place × Row). row_charge New e.0 e.1) (place, r) next in
-      ((subst (AllSound size) is before.0).0, (subst AllWritable is (so_far.left good)).0, omega (arith, before.1, cost, le, so_far.capacity))
+      ((subst (AllSound size) is before.0).0, omega (arith, before.1, cost, le, so_far.capacity))
 
 -- Where a walk came to, the row there is followed by the rows above it.
 pub came_to : (walk next : Option Place) (rows : Rows) (r : Row) (unit : Text) (path : List Text) → IsSomeAnd next (λ place. rows_above walk rows ≡ (place, r) ∷ rows_above (Some place) rows)
@@ -75,17 +77,15 @@ AllKeys units = AllByRecursion (IsKey New) units
 -- Some of the units are written behind what a buffer held, and the rest is left.
 pub record UnitsLeft (units rest : List Text) (start now : List ℕ) (room room_now : ℕ) : Type 0 where
   pub written : now ++ units_bytes rest ≡ start ++ units_bytes units
-  pub writable : AllKeys rest → AllKeys units
-  pub left : AllKeys units → AllKeys rest
+  pub left : AllKeys rest
   pub fits : length now + charge_units rest ≡ length start + charge_units units
   pub capacity : room ≤ room_now
 
 module _ (units rest next : List Text) (u : Text) (start now : List ℕ) (room room_now : ℕ) (so_far : UnitsLeft units rest start now room room_now) (is : rest ≡ u ∷ next) where
-  pub unit_written : (new : List ℕ) (room_new : ℕ) → new ≡ now ++ spelling New (Persist u) → IsKey New u → room_now ≤ room_new → UnitsLeft units next start new room room_new
-  unit_written new room_new written good grown = record {
+  pub unit_written : (new : List ℕ) (room_new : ℕ) → new ≡ now ++ spelling New (Persist u) → room_now ≤ room_new → UnitsLeft units next start new room room_new
+  unit_written new room_new written grown = record {
     written = ap (λ (xs : List ℕ). xs ++ units_bytes next) written ∙ append_assoc now (spelling New (Persist u)) (units_bytes next) ∙ ap (λ (us : List Text). now ++ units_bytes us) (sym is) ∙ so_far.written;
-    writable = λ all. so_far.writable (subst AllKeys (sym is) (good, all));
-    left = λ all. (subst AllKeys is (so_far.left all)).1;
+    left = (subst AllKeys is so_far.left).1;
     fits =
         let bytes : length new ≡ length now + length (spelling New (Persist u)) = ap length written ∙ length-append now (spelling New (Persist u)) in
         let cost : charge_units rest ≡ (3 + unit_bytes u) + charge_units next = ap charge_units is ∙ sum_by-cons (λ (x : Text). 3 + unit_bytes x) u next in
@@ -93,7 +93,10 @@ module _ (units rest next : List Text) (u : Text) (start now : List ℕ) (room r
     capacity = omega (arith, so_far.capacity, grown);
   }
 
-  pub unit_room : AllKeys units → length start + charge_units units ≤ room → IsKey New u × (length now + (3 + unit_bytes u) ≤ room_now)
-  unit_room good le =
+  pub unit_next : IsKey New u
+  unit_next = (subst AllKeys is so_far.left).0
+
+  pub unit_room : length start + charge_units units ≤ room → length now + (3 + unit_bytes u) ≤ room_now
+  unit_room le =
       let cost : charge_units rest ≡ (3 + unit_bytes u) + charge_units next = ap charge_units is ∙ sum_by-cons (λ (x : Text). 3 + unit_bytes x) u next in
-      ((subst AllKeys is (so_far.left good)).0, omega (arith, so_far.fits, cost, le, so_far.capacity))
+      omega (arith, so_far.fits, cost, le, so_far.capacity)

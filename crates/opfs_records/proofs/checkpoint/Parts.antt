@@ -25,10 +25,6 @@ charge_append (e ∷ es) next =
     omega (arith, sum_by-cons (λ (x : Place × Row). row_charge New x.0 x.1) e (es ++ next), sum_by-cons (λ (x : Place × Row). row_charge New x.0 x.1) e es, charge_append es next)
 
 module _ (P : Place × Row → Type 0) where
-  all_both : (part next : Rows) → AllByRecursion P part → AllByRecursion P next → AllByRecursion P (part ++ next)
-  all_both [] next first second = second
-  all_both (e ∷ es) next first second = (first.0, all_both es next first.1 second)
-
   all_split : (part next : Rows) → AllByRecursion P (part ++ next) → AllByRecursion P part × AllByRecursion P next
   all_split [] next all = (tt, all)
   all_split (e ∷ es) next all = let rest = all_split es next all.1 in ((all.0, rest.0), rest.1)
@@ -52,12 +48,11 @@ module _ (change : Change) (rows rest : Rows) (next : Rows) (place : Place) (r :
   split : rows_after change rest ≡ part ++ rows_after change next
   split = ap (rows_after change) is ∙ one_left change (place, r) next
 
-  pub part_written : (new : List ℕ) (room_new : ℕ) → new ≡ now ++ rows_bytes part → AllWritable part → room_now ≤ room_new → RowsLeft (rows_after change rows) (rows_after change next) start new room room_new
-  part_written new room_new written good grown = record {
+  pub part_written : (new : List ℕ) (room_new : ℕ) → new ≡ now ++ rows_bytes part → room_now ≤ room_new → RowsLeft (rows_after change rows) (rows_after change next) start new room room_new
+  part_written new room_new written grown = record {
     written = ap (λ (xs : List ℕ). xs ++ rows_bytes (rows_after change next)) written ∙ append_assoc now (rows_bytes part) (rows_bytes (rows_after change next))
         ∙ ap (λ (xs : List ℕ). now ++ xs) (sym (bytes_append part (rows_after change next))) ∙ ap (λ (xs : Rows). now ++ rows_bytes xs) (sym split) ∙ so_far.written;
-    writable = λ all. so_far.writable (subst AllWritable (sym split) (all_both (λ e. IsWritableRow e.0 e.1) part (rows_after change next) good all));
-    left = λ all. (all_split (λ e. IsWritableRow e.0 e.1) part (rows_after change next) (subst AllWritable split (so_far.left all))).1;
+    left = (all_split (λ e. IsWritableRow e.0 e.1) part (rows_after change next) (subst AllWritable split so_far.left)).1;
     fits = λ size sound.
         let before = so_far.fits size sound in
         let all = all_split (λ e. IsSoundRow size (stored_row e.1)) part (rows_after change next) (subst (AllSound size) split before.0) in
@@ -67,13 +62,16 @@ module _ (change : Change) (rows rest : Rows) (next : Rows) (place : Place) (r :
     capacity = omega (arith, so_far.capacity, grown);
   }
 
+  -- What is left of the next row can be written.
+  pub part_next : AllWritable part
+  part_next = (all_split (λ e. IsWritableRow e.0 e.1) part (rows_after change next) (subst AllWritable split so_far.left)).0
+
   -- Where there is room for the charge of all, there is for the next row's.
-  pub part_room : (size : ℕ) → AllSound size (rows_after change rows) → AllWritable (rows_after change rows) → length start + charge_rows (rows_after change rows) ≤ room → AllSound size part × AllWritable part × (length now + charge_rows part ≤ room_now)
-  part_room size sound good le =
+  pub part_room : (size : ℕ) → AllSound size (rows_after change rows) → length start + charge_rows (rows_after change rows) ≤ room → AllSound size part × (length now + charge_rows part ≤ room_now)
+  part_room size sound le =
       let before = so_far.fits size sound in
       let cost : charge_rows (rows_after change rest) ≡ charge_rows part + charge_rows (rows_after change next) = ap charge_rows split ∙ charge_append part (rows_after change next) in (
         (all_split (λ e. IsSoundRow size (stored_row e.1)) part (rows_after change next) (subst (AllSound size) split before.0)).0,
-        (all_split (λ e. IsWritableRow e.0 e.1) part (rows_after change next) (subst AllWritable split (so_far.left good))).0,
         omega (arith, before.1, cost, le, so_far.capacity),
       )
 

@@ -14,6 +14,7 @@ use Rattle.opfs_records.specs.Replay.Applying.{tried}
 use Rattle.opfs_records.specs.Replay.Built.{IsSoundRow, named}
 use Rattle.opfs_records.specs.Replay.Replaying.{Replayed}
 use Rattle.opfs_records.specs.Replay.Sums.{key_bytes, persistent_in}
+use Rattle.opfs_records.specs.Checkpoint.Written.{AreWritable}
 
 -- How often a list names a block.
 abbrev pub times : ℕ → List ℕ → ℕ
@@ -44,13 +45,15 @@ share unit other count = if same_text unit other then count else 0
 abbrev pub persistent_bucket : Bucket
 persistent_bucket = record { persistent = true; usage = 0 }
 
--- The rows are sound, the used blocks are theirs, and the buckets are the persistent ones, with their charge.
+-- The rows are sound, the used blocks are theirs, and the buckets are the persistent ones, with their charge. All have a
+-- spelling in format 2.
 pub record IsKept (rows : Rows) (used : List Bool) (buckets : Buckets) (most charge : ℕ) : Type 0 where
   pub files : AllByRecursion (λ e. IsSoundRow (length used) e.1) rows
   pub marked : AreMarked used (named rows)
   pub few : extent_count rows ≤ most
   pub modes : AllByRecursion (λ e. e.1 ≡ persistent_bucket) buckets
   pub ordered : IsTrue (is_sorted text_cmp buckets)
+  pub writable : AreWritable rows (persistent_in buckets)
   pub sum : charge ≡ sum_by (λ unit. 3 + key_bytes New unit) (persistent_in buckets)
 
 -- What a change makes of a replay: None where it can't be applied.

@@ -11,7 +11,6 @@ ghost use Rattle.opfs_records.specs.Replay.Sums.{charge_of, persistent_in};
 ghost use Rattle.opfs_records.specs.Checkpoint.After.{is_shown, made_bytes};
 ghost use Rattle.opfs_records.specs.Checkpoint.Written.{AreWritable, stored_rows};
 
-use crate::checkpoint::checks::is_spelled;
 use crate::checkpoint::rows_after::write_rows_after;
 use crate::checkpoint::units::write_units;
 use opfs_codec::{ChangeRef, write};
@@ -24,19 +23,19 @@ use std::alloc::AllocError;
 /// shed. The tree and the shed do not have the change yet. It is no longer than the charge of what it builds in bytes.
 /// Takes memory only as the buffer grows, and none where it has room for the charge; where there is no memory, the
 /// buffer is left empty.
-///
-/// A row, a unit or a change that has no spelling is answered as want of memory too. An image has none.
 pub fn snapshot_after(
     tree: &ReadyTree,
     shed: &Shed,
     own: &ChangeRef<'_>,
     into: &mut Vec<u8>,
 ) -> Result<(), AllocError>
+    requires writable { AreWritable tree.now.rows (persistent_in shed.now.buckets) }
+    requires again { IsChange New (plain own.now) }
     ensures builds { OnOk result ((size : ℕ) (next : Built) → IsSound size (stored_rows tree.now.rows) → tried New size (record { rows = stored_rows tree.now.rows; persistent = persistent_in shed.now.buckets }) (plain own.now) ≡ Some next → rows_of New size (into.new.items ∷ []) ≡ Some next) }
     ensures fits { OnOk result ((size : ℕ) (next : Built) → IsSound size (stored_rows tree.now.rows) → tried New size (record { rows = stored_rows tree.now.rows; persistent = persistent_in shed.now.buckets }) (plain own.now) ≡ Some next → length into.new.items ≤ charge_of New next) }
     ensures err { OnErr result (into.new.items ≡ []) }
     ensures capacity { vec_capacity into.old ≤ vec_capacity into.new }
-    ensures room { (size : ℕ) (next : Built) → IsSound size (stored_rows tree.now.rows) → tried New size (record { rows = stored_rows tree.now.rows; persistent = persistent_in shed.now.buckets }) (plain own.now) ≡ Some next → AreWritable tree.now.rows (persistent_in shed.now.buckets) → IsChange New (plain own.now) → charge_of New next ≤ vec_capacity into.old → IsTrue (is_ok result) }
+    ensures room { (size : ℕ) (next : Built) → IsSound size (stored_rows tree.now.rows) → tried New size (record { rows = stored_rows tree.now.rows; persistent = persistent_in shed.now.buckets }) (plain own.now) ≡ Some next → charge_of New next ≤ vec_capacity into.old → IsTrue (is_ok result) }
 {
     into.clear();
     match write_after(tree, shed, own, into) {
@@ -55,17 +54,16 @@ fn write_after(
     own: &ChangeRef<'_>,
     into: &mut Vec<u8>,
 ) -> Result<(), AllocError>
-    requires { into.old.items ≡ [] }
+    requires empty { into.old.items ≡ [] }
+    requires writable { AreWritable tree.now.rows (persistent_in shed.now.buckets) }
+    requires again { IsChange New (plain own.now) }
     ensures builds { OnOk result ((size : ℕ) (next : Built) → IsSound size (stored_rows tree.now.rows) → tried New size (record { rows = stored_rows tree.now.rows; persistent = persistent_in shed.now.buckets }) (plain own.now) ≡ Some next → rows_of New size (into.new.items ∷ []) ≡ Some next) }
     ensures fits { OnOk result ((size : ℕ) (next : Built) → IsSound size (stored_rows tree.now.rows) → tried New size (record { rows = stored_rows tree.now.rows; persistent = persistent_in shed.now.buckets }) (plain own.now) ≡ Some next → length into.new.items ≤ charge_of New next) }
     ensures capacity { vec_capacity into.old ≤ vec_capacity into.new }
-    ensures room { (size : ℕ) (next : Built) → IsSound size (stored_rows tree.now.rows) → tried New size (record { rows = stored_rows tree.now.rows; persistent = persistent_in shed.now.buckets }) (plain own.now) ≡ Some next → AreWritable tree.now.rows (persistent_in shed.now.buckets) → IsChange New (plain own.now) → charge_of New next ≤ vec_capacity into.old → IsTrue (is_ok result) }
+    ensures room { (size : ℕ) (next : Built) → IsSound size (stored_rows tree.now.rows) → tried New size (record { rows = stored_rows tree.now.rows; persistent = persistent_in shed.now.buckets }) (plain own.now) ≡ Some next → charge_of New next ≤ vec_capacity into.old → IsTrue (is_ok result) }
 {
     tree.know_order();
     shed.know_order();
-    if !is_spelled(own) {
-        return Err(AllocError);
-    }
     write_rows_after(tree, own, into)?;
     write_units(shed, into)?;
     write_made(shed, own, into)?;

@@ -18,16 +18,14 @@ use std::alloc::AllocError;
 /// persistent units of a shed. It is no longer than their charge in
 /// bytes. Takes memory only as the buffer grows, and none where it has room for the charge; where there is no memory,
 /// the buffer is left empty.
-///
-/// A row or a unit that no list of changes can spell is answered as want of memory too. An image has none.
 pub fn snapshot(tree: &ReadyTree, shed: &Shed, into: &mut Vec<u8>) -> Result<(), AllocError>
+    requires { AreWritable tree.now.rows (persistent_in shed.now.buckets) }
     ensures bytes { OnOk result (into.new.items ≡ built_bytes (record { rows = tree.now.rows; persistent = persistent_in shed.now.buckets })) }
     ensures builds { OnOk result ((size : ℕ) → IsSound size (stored_rows tree.now.rows) → rows_of New size (into.new.items ∷ []) ≡ Some (record { rows = stored_rows tree.now.rows; persistent = persistent_in shed.now.buckets })) }
     ensures fits { OnOk result ((size : ℕ) → IsSound size (stored_rows tree.now.rows) → length into.new.items ≤ charge_of New (record { rows = stored_rows tree.now.rows; persistent = persistent_in shed.now.buckets })) }
-    ensures writable { OnOk result (AreWritable tree.now.rows (persistent_in shed.now.buckets)) }
     ensures err { OnErr result (into.new.items ≡ []) }
     ensures capacity { vec_capacity into.old ≤ vec_capacity into.new }
-    ensures room { (size : ℕ) → IsSound size (stored_rows tree.now.rows) → AreWritable tree.now.rows (persistent_in shed.now.buckets) → charge_of New (record { rows = stored_rows tree.now.rows; persistent = persistent_in shed.now.buckets }) ≤ vec_capacity into.old → IsTrue (is_ok result) }
+    ensures room { (size : ℕ) → IsSound size (stored_rows tree.now.rows) → charge_of New (record { rows = stored_rows tree.now.rows; persistent = persistent_in shed.now.buckets }) ≤ vec_capacity into.old → IsTrue (is_ok result) }
 {
     into.clear();
     match write_all(tree, shed, into) {
@@ -41,13 +39,13 @@ pub fn snapshot(tree: &ReadyTree, shed: &Shed, into: &mut Vec<u8>) -> Result<(),
 
 // Writes the body into an empty buffer.
 fn write_all(tree: &ReadyTree, shed: &Shed, into: &mut Vec<u8>) -> Result<(), AllocError>
-    requires { into.old.items ≡ [] }
+    requires empty { into.old.items ≡ [] }
+    requires writable { AreWritable tree.now.rows (persistent_in shed.now.buckets) }
     ensures bytes { OnOk result (into.new.items ≡ built_bytes (record { rows = tree.now.rows; persistent = persistent_in shed.now.buckets })) }
     ensures builds { OnOk result ((size : ℕ) → IsSound size (stored_rows tree.now.rows) → rows_of New size (into.new.items ∷ []) ≡ Some (record { rows = stored_rows tree.now.rows; persistent = persistent_in shed.now.buckets })) }
     ensures fits { OnOk result ((size : ℕ) → IsSound size (stored_rows tree.now.rows) → length into.new.items ≤ charge_of New (record { rows = stored_rows tree.now.rows; persistent = persistent_in shed.now.buckets })) }
-    ensures writable { OnOk result (AreWritable tree.now.rows (persistent_in shed.now.buckets)) }
     ensures capacity { vec_capacity into.old ≤ vec_capacity into.new }
-    ensures room { (size : ℕ) → IsSound size (stored_rows tree.now.rows) → AreWritable tree.now.rows (persistent_in shed.now.buckets) → charge_of New (record { rows = stored_rows tree.now.rows; persistent = persistent_in shed.now.buckets }) ≤ vec_capacity into.old → IsTrue (is_ok result) }
+    ensures room { (size : ℕ) → IsSound size (stored_rows tree.now.rows) → charge_of New (record { rows = stored_rows tree.now.rows; persistent = persistent_in shed.now.buckets }) ≤ vec_capacity into.old → IsTrue (is_ok result) }
 {
     tree.know_order();
     write_rows(tree, into)?;

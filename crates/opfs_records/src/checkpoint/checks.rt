@@ -1,22 +1,56 @@
-//! Whether rows and units have a spelling that is read. Those of an image have, so none of these tests fails there.
+//! Whether rows and units have a spelling that is read.
 
 ghost use Rattle.std.specs.Prelude.{◌≡◌, ◌↔◌, ◌<◌, ◌≤◌, ◌^◌, true, false, length, IsTrue};
 ghost use Rattle.std.specs.List.{AllByRecursion};
 ghost use Rattle.opfs_base.specs.Texts.{same_text};
 ghost use Rattle.opfs_base.specs.Units.{is_bucket_name, default_bucket};
-ghost use Rattle.opfs_codec.specs.Fields.{plain};
-ghost use Rattle.opfs_codec.specs.Spelling.{IsText, IsKey, IsName, IsPath, IsExtent, AreExtents, IsChange, is_key_text};
+ghost use Rattle.opfs_codec.specs.Spelling.{IsText, IsKey, IsName, IsPath, IsExtent, AreExtents, is_key_text};
 ghost use Rattle.opfs_codec.specs.declared.change.Format.TheVariants.{New};
 ghost use Rattle.opfs_records.specs.Checkpoint.Contents.{as_file};
-ghost use Rattle.opfs_records.specs.Checkpoint.Written.{IsWritablePlace, IsWritableFile, IsWritableRow};
+ghost use Rattle.opfs_records.specs.Checkpoint.Written.{IsWritablePlace, IsWritableFile, IsWritableRow, AreWritable};
+ghost use Rattle.opfs_records.specs.Replay.Sums.{persistent_in};
 
 use crate::checkpoint::content::FileContent;
 use opfs_base::{Extent, Key, Name, Path, is_bucket_name, origin_of};
-use opfs_codec::ChangeRef;
-use opfs_tree::Row;
+use opfs_shed::Shed;
+use opfs_tree::{ReadyTree, Row, Walk};
 
-/// Whether a unit has an origin of 1 to 255 bytes and a bucket's name, and is the unit of the two.
-pub(crate) fn is_key(unit: &Key) -> bool
+/// Whether all rows of a tree and all persistent units of a shed have a spelling that is read. Those of an image have.
+pub fn are_writable(tree: &ReadyTree, shed: &Shed) -> bool
+    ensures { IsTrue result ↔ AreWritable tree.now.rows (persistent_in shed.now.buckets) }
+{
+    are_rows(tree) && are_units(shed)
+}
+
+// Whether all rows have.
+fn are_rows(tree: &ReadyTree) -> bool
+    ensures { IsTrue result ↔ AllByRecursion (λ e. IsWritableRow e.0 e.1) tree.now.rows }
+{
+    let mut walk = Walk::make();
+    while let Some(row) = tree.step(&mut walk) {
+        if !is_writable(walk.key(), walk.path(), row) {
+            return false;
+        }
+    }
+    true
+}
+
+// Whether all persistent units have.
+fn are_units(shed: &Shed) -> bool
+    ensures { IsTrue result ↔ AllByRecursion (IsKey New) (persistent_in shed.now.buckets) }
+{
+    let mut last = None;
+    while let Some(unit) = shed.persistent_after(last) {
+        if !is_key(unit) {
+            return false;
+        }
+        last = Some(unit);
+    }
+    true
+}
+
+// Whether a unit has an origin of 1 to 255 bytes and a bucket's name, and is the unit of the two.
+fn is_key(unit: &Key) -> bool
     ensures { IsTrue result ↔ IsKey New unit.now }
 {
     let unit = unit.as_bytes();
@@ -27,45 +61,14 @@ pub(crate) fn is_key(unit: &Key) -> bool
     is_origin(&unit[..end]) && is_named_bucket(&unit[end + 1..])
 }
 
-/// Whether a row has a spelling that is read.
-pub(crate) fn is_writable(unit: &Key, path: &Path, row: &Row) -> bool
+// Whether a row has a spelling that is read.
+fn is_writable(unit: &Key, path: &Path, row: &Row) -> bool
     ensures { IsTrue result ↔ IsWritableRow (unit.now, path.now) row.now }
 {
     match row {
         Row::Dir => is_place(unit, path),
         Row::File(file) => is_file(unit, path, &FileContent::of(file)),
     }
-}
-
-/// Whether a change has a spelling that is read.
-#[tactic(auto, unfolding(opfs_codec::specs::Fields::plain, opfs_codec::specs::Spelling::IsChange))]
-pub fn is_spelled(change: &ChangeRef<'_>) -> bool
-    ensures { IsTrue result ↔ IsChange New (plain change.now) }
-{
-    match change {
-        ChangeRef::MakeRoot(unit) => is_key(unit),
-        ChangeRef::MakeDir(unit, path) => is_at_path(unit, path),
-        ChangeRef::MakeFile(unit, path, stamp) => {
-            let _stamp = *stamp;
-            is_at_path(unit, path)
-        }
-        ChangeRef::Remove(unit, path) => is_at_path(unit, path),
-        ChangeRef::Content(unit, path, stamp, length, extents) => {
-            let _stamp = *stamp;
-            let _length = *length;
-            is_at_path(unit, path) && are_extents(extents.as_slice())
-        }
-        ChangeRef::Persist(unit) => is_key(unit),
-        ChangeRef::Evict(unit) => is_key(unit),
-    }
-}
-
-// Whether a unit and a path have a spelling that is read.
-fn is_at_path(unit: &Key, path: &Path) -> bool
-    ensures { IsTrue result ↔ (IsKey New unit.now × IsPath path.now) }
-{
-    let names = path.names();
-    is_key(unit) && names.len() <= 255 && are_names(names)
 }
 
 // Whether bytes are a text of 1 to 255 bytes.
@@ -122,8 +125,8 @@ fn is_name(name: &Name) -> bool
     name.as_str().len() <= 255
 }
 
-/// Whether a file can stand at a place.
-pub(crate) fn is_file(unit: &Key, path: &Path, file: &FileContent<'_>) -> bool
+// Whether a file can stand at a place.
+fn is_file(unit: &Key, path: &Path, file: &FileContent<'_>) -> bool
     ensures { IsTrue result ↔ (IsWritablePlace (unit.now, path.now) × IsWritableFile path.now (as_file file.now)) }
 {
     is_place(unit, path) && is_content(path, file)

@@ -11,19 +11,18 @@ ghost use Rattle.opfs_records.specs.Replay.Built.{IsSoundRow};
 ghost use Rattle.opfs_records.specs.Replay.Sums.{row_charge};
 ghost use Rattle.opfs_tree.specs.declared.row.Row.TheVariants as row;
 
-use crate::checkpoint::checks::is_writable;
 use crate::checkpoint::content::FileContent;
 use opfs_base::{Key, Path};
 use opfs_codec::{ChangeRef, write};
 use opfs_tree::{ReadyTree, Row, Walk};
 use std::alloc::AllocError;
 
-/// Appends the changes that build the rows. A row that has no spelling is answered as want of memory; an image has none.
+/// Appends the changes that build the rows.
 pub(crate) fn write_rows(tree: &ReadyTree, into: &mut Vec<u8>) -> Result<(), AllocError>
+    requires { AllByRecursion (λ e. IsWritableRow e.0 e.1) tree.now.rows }
     ensures written { OnOk result (into.new.items ≡ into.old.items ++ rows_bytes tree.now.rows) }
-    ensures writable { OnOk result (AllByRecursion (λ e. IsWritableRow e.0 e.1) tree.now.rows) }
     ensures capacity { vec_capacity into.old ≤ vec_capacity into.new }
-    ensures room { (size : ℕ) → AllByRecursion (λ e. IsSoundRow size (stored_row e.1)) tree.now.rows → AllByRecursion (λ e. IsWritableRow e.0 e.1) tree.now.rows → vec_len into.old + sum_by (λ e. row_charge New e.0 e.1) tree.now.rows ≤ vec_capacity into.old → IsTrue (is_ok result) }
+    ensures room { (size : ℕ) → AllByRecursion (λ e. IsSoundRow size (stored_row e.1)) tree.now.rows → vec_len into.old + sum_by (λ e. row_charge New e.0 e.1) tree.now.rows ≤ vec_capacity into.old → IsTrue (is_ok result) }
 {
     let mut walk = Walk::make();
     while let Some(row) = tree.step(&mut walk) {
@@ -39,14 +38,11 @@ pub(crate) fn write_row(
     row: &Row,
     into: &mut Vec<u8>,
 ) -> Result<(), AllocError>
+    requires { IsWritableRow (unit.now, path.now) row.now }
     ensures written { OnOk result (into.new.items ≡ into.old.items ++ row_bytes (unit.now, path.now) row.now) }
-    ensures writable { OnOk result (IsWritableRow (unit.now, path.now) row.now) }
     ensures capacity { vec_capacity into.old ≤ vec_capacity into.new }
-    ensures room { (size : ℕ) → IsSoundRow size (stored_row row.now) → IsWritableRow (unit.now, path.now) row.now → vec_len into.old + row_charge New (unit.now, path.now) row.now ≤ vec_capacity into.old → IsTrue (is_ok result) }
+    ensures room { (size : ℕ) → IsSoundRow size (stored_row row.now) → vec_len into.old + row_charge New (unit.now, path.now) row.now ≤ vec_capacity into.old → IsTrue (is_ok result) }
 {
-    if !is_writable(unit, path, row) {
-        return Err(AllocError);
-    }
     match row {
         Row::Dir => write_dir(unit, path, into)?,
         Row::File(file) => write_file(unit, path, &FileContent::of(file), into)?,

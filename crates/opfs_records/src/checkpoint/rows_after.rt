@@ -12,7 +12,6 @@ ghost use Rattle.opfs_records.specs.Checkpoint.Contents.{as_file};
 ghost use Rattle.opfs_records.specs.Checkpoint.Written.{file_bytes, row_bytes, rows_bytes, IsWritablePlace, IsWritableFile, IsWritableRow, stored_row};
 ghost use Rattle.opfs_tree.specs.declared.row.Row.TheVariants as row;
 
-use crate::checkpoint::checks::is_file;
 use crate::checkpoint::content::FileContent;
 use crate::checkpoint::rows::{write_file, write_row};
 use opfs_base::{Key, Path, begins_with};
@@ -20,17 +19,16 @@ use opfs_codec::ChangeRef;
 use opfs_tree::{ReadyTree, Row, Walk};
 use std::alloc::AllocError;
 
-/// Appends the changes that build the rows which a change leaves, with the content that it gives. A row that has no
-/// spelling is answered as want of memory; an image has none.
+/// Appends the changes that build the rows which a change leaves, with the content that it gives.
 pub(crate) fn write_rows_after(
     tree: &ReadyTree,
     own: &ChangeRef<'_>,
     into: &mut Vec<u8>,
 ) -> Result<(), AllocError>
+    requires { AllByRecursion (λ e. IsWritableRow e.0 e.1) (rows_after (plain own.now) tree.now.rows) }
     ensures written { OnOk result (into.new.items ≡ into.old.items ++ rows_bytes (rows_after (plain own.now) tree.now.rows)) }
-    ensures writable { OnOk result (AllByRecursion (λ e. IsWritableRow e.0 e.1) (rows_after (plain own.now) tree.now.rows)) }
     ensures capacity { vec_capacity into.old ≤ vec_capacity into.new }
-    ensures room { (size : ℕ) → AllByRecursion (λ e. IsSoundRow size (stored_row e.1)) (rows_after (plain own.now) tree.now.rows) → AllByRecursion (λ e. IsWritableRow e.0 e.1) (rows_after (plain own.now) tree.now.rows) → vec_len into.old + sum_by (λ e. row_charge New e.0 e.1) (rows_after (plain own.now) tree.now.rows) ≤ vec_capacity into.old → IsTrue (is_ok result) }
+    ensures room { (size : ℕ) → AllByRecursion (λ e. IsSoundRow size (stored_row e.1)) (rows_after (plain own.now) tree.now.rows) → vec_len into.old + sum_by (λ e. row_charge New e.0 e.1) (rows_after (plain own.now) tree.now.rows) ≤ vec_capacity into.old → IsTrue (is_ok result) }
 {
     let mut walk = Walk::make();
     while let Some(row) = tree.step(&mut walk) {
@@ -47,10 +45,10 @@ fn write_row_after(
     row: &Row,
     into: &mut Vec<u8>,
 ) -> Result<(), AllocError>
+    requires { AllByRecursion (λ e. IsWritableRow e.0 e.1) (rows_after (plain own.now) (((unit.now, path.now), row.now) ∷ [])) }
     ensures written { OnOk result (into.new.items ≡ into.old.items ++ rows_bytes (rows_after (plain own.now) (((unit.now, path.now), row.now) ∷ []))) }
-    ensures writable { OnOk result (AllByRecursion (λ e. IsWritableRow e.0 e.1) (rows_after (plain own.now) (((unit.now, path.now), row.now) ∷ []))) }
     ensures capacity { vec_capacity into.old ≤ vec_capacity into.new }
-    ensures room { (size : ℕ) → AllByRecursion (λ e. IsSoundRow size (stored_row e.1)) (rows_after (plain own.now) (((unit.now, path.now), row.now) ∷ [])) → AllByRecursion (λ e. IsWritableRow e.0 e.1) (rows_after (plain own.now) (((unit.now, path.now), row.now) ∷ [])) → vec_len into.old + sum_by (λ e. row_charge New e.0 e.1) (rows_after (plain own.now) (((unit.now, path.now), row.now) ∷ [])) ≤ vec_capacity into.old → IsTrue (is_ok result) }
+    ensures room { (size : ℕ) → AllByRecursion (λ e. IsSoundRow size (stored_row e.1)) (rows_after (plain own.now) (((unit.now, path.now), row.now) ∷ [])) → vec_len into.old + sum_by (λ e. row_charge New e.0 e.1) (rows_after (plain own.now) (((unit.now, path.now), row.now) ∷ [])) ≤ vec_capacity into.old → IsTrue (is_ok result) }
 {
     if leaves_out(own, unit, path) {
         return Ok(());
@@ -67,10 +65,10 @@ fn write_row_with(
     row: &Row,
     into: &mut Vec<u8>,
 ) -> Result<(), AllocError>
+    requires { IsWritableRow (unit.now, path.now) (row_with (given (plain own.now) (unit.now, path.now)) row.now) }
     ensures written { OnOk result (into.new.items ≡ into.old.items ++ row_bytes (unit.now, path.now) (row_with (given (plain own.now) (unit.now, path.now)) row.now)) }
-    ensures writable { OnOk result (IsWritableRow (unit.now, path.now) (row_with (given (plain own.now) (unit.now, path.now)) row.now)) }
     ensures capacity { vec_capacity into.old ≤ vec_capacity into.new }
-    ensures room { (size : ℕ) → IsSoundRow size (stored_row (row_with (given (plain own.now) (unit.now, path.now)) row.now)) → IsWritableRow (unit.now, path.now) (row_with (given (plain own.now) (unit.now, path.now)) row.now) → vec_len into.old + row_charge New (unit.now, path.now) (row_with (given (plain own.now) (unit.now, path.now)) row.now) ≤ vec_capacity into.old → IsTrue (is_ok result) }
+    ensures room { (size : ℕ) → IsSoundRow size (stored_row (row_with (given (plain own.now) (unit.now, path.now)) row.now)) → vec_len into.old + row_charge New (unit.now, path.now) (row_with (given (plain own.now) (unit.now, path.now)) row.now) ≤ vec_capacity into.old → IsTrue (is_ok result) }
 {
     match content_for(own, unit, path) {
         Some(content) => write_given(unit, path, row, &content, into)?,
@@ -87,34 +85,15 @@ fn write_given(
     content: &FileContent<'_>,
     into: &mut Vec<u8>,
 ) -> Result<(), AllocError>
+    requires { IsWritableRow (unit.now, path.now) (row_with (Some (as_file content.now)) row.now) }
     ensures written { OnOk result (into.new.items ≡ into.old.items ++ row_bytes (unit.now, path.now) (row_with (Some (as_file content.now)) row.now)) }
-    ensures writable { OnOk result (IsWritableRow (unit.now, path.now) (row_with (Some (as_file content.now)) row.now)) }
     ensures capacity { vec_capacity into.old ≤ vec_capacity into.new }
-    ensures room { (size : ℕ) → IsSoundRow size (stored_row (row_with (Some (as_file content.now)) row.now)) → IsWritableRow (unit.now, path.now) (row_with (Some (as_file content.now)) row.now) → vec_len into.old + row_charge New (unit.now, path.now) (row_with (Some (as_file content.now)) row.now) ≤ vec_capacity into.old → IsTrue (is_ok result) }
+    ensures room { (size : ℕ) → IsSoundRow size (stored_row (row_with (Some (as_file content.now)) row.now)) → vec_len into.old + row_charge New (unit.now, path.now) (row_with (Some (as_file content.now)) row.now) ≤ vec_capacity into.old → IsTrue (is_ok result) }
 {
     match row {
         Row::Dir => write_row(unit, path, row, into)?,
-        Row::File(_) => write_content(unit, path, content, into)?,
+        Row::File(_) => write_file(unit, path, content, into)?,
     }
-    Ok(())
-}
-
-// Appends the changes that make a file with a content.
-fn write_content(
-    unit: &Key,
-    path: &Path,
-    content: &FileContent<'_>,
-    into: &mut Vec<u8>,
-) -> Result<(), AllocError>
-    ensures written { OnOk result (into.new.items ≡ into.old.items ++ file_bytes unit.now path.now (as_file content.now)) }
-    ensures writable { OnOk result (IsWritablePlace (unit.now, path.now) × IsWritableFile path.now (as_file content.now)) }
-    ensures capacity { vec_capacity into.old ≤ vec_capacity into.new }
-    ensures room { length content.now.extents.now ≤ blocks content.now.length → IsWritablePlace (unit.now, path.now) × IsWritableFile path.now (as_file content.now) → vec_len into.old + row_charge New (unit.now, path.now) (row.File (as_file content.now)) ≤ vec_capacity into.old → IsTrue (is_ok result) }
-{
-    if !is_file(unit, path, content) {
-        return Err(AllocError);
-    }
-    write_file(unit, path, content, into)?;
     Ok(())
 }
 

@@ -11,7 +11,6 @@ ghost use Rattle.opfs_records.specs.Replay.Sums.{persistent_in};
 ghost use Rattle.opfs_shed.specs.Buckets.{text_cmp};
 ghost use Rattle.opfs_records.specs.Checkpoint.Written.{units_bytes};
 
-use crate::checkpoint::checks::is_key;
 use opfs_base::Key;
 use opfs_codec::{ChangeRef, write};
 use opfs_shed::Shed;
@@ -19,11 +18,11 @@ use std::alloc::AllocError;
 
 /// Appends the changes that make the persistent units so.
 pub(crate) fn write_units(shed: &Shed, into: &mut Vec<u8>) -> Result<(), AllocError>
+    requires { AllByRecursion (IsKey New) (persistent_in shed.now.buckets) }
     ensures written { OnOk result (into.new.items ≡ into.old.items ++ units_bytes (persistent_in shed.now.buckets)) }
-    ensures writable { OnOk result (AllByRecursion (IsKey New) (persistent_in shed.now.buckets)) }
     ensures ordered { OnOk result (IsStrictlySortedBy text_cmp (persistent_in shed.now.buckets)) }
     ensures capacity { vec_capacity into.old ≤ vec_capacity into.new }
-    ensures room { AllByRecursion (IsKey New) (persistent_in shed.now.buckets) → vec_len into.old + sum_by (λ unit. 3 + unit_bytes unit) (persistent_in shed.now.buckets) ≤ vec_capacity into.old → IsTrue (is_ok result) }
+    ensures room { vec_len into.old + sum_by (λ unit. 3 + unit_bytes unit) (persistent_in shed.now.buckets) ≤ vec_capacity into.old → IsTrue (is_ok result) }
 {
     let mut last = None;
     while let Some(unit) = shed.persistent_after(last) {
@@ -36,14 +35,11 @@ pub(crate) fn write_units(shed: &Shed, into: &mut Vec<u8>) -> Result<(), AllocEr
 // Appends the change that makes a unit persistent.
 #[tactic(auto, unfolding(opfs_codec::specs::Fields::plain, opfs_codec::specs::Fields::Fits, opfs_codec::specs::Fields::HasFewExtents, opfs_codec::specs::Charges::charge))]
 fn write_unit(unit: &Key, into: &mut Vec<u8>) -> Result<(), AllocError>
+    requires { IsKey New unit.now }
     ensures written { OnOk result (into.new.items ≡ into.old.items ++ spelling New (Persist unit.now)) }
-    ensures writable { OnOk result (IsKey New unit.now) }
     ensures capacity { vec_capacity into.old ≤ vec_capacity into.new }
-    ensures room { IsKey New unit.now → vec_len into.old + (3 + unit_bytes unit.now) ≤ vec_capacity into.old → IsTrue (is_ok result) }
+    ensures room { vec_len into.old + (3 + unit_bytes unit.now) ≤ vec_capacity into.old → IsTrue (is_ok result) }
 {
-    if !is_key(unit) {
-        return Err(AllocError);
-    }
     write(&ChangeRef::Persist(unit), into)?;
     Ok(())
 }

@@ -4,6 +4,8 @@ ghost use Rattle.std.specs.Prelude.{◌≡◌, ◌<◌, ◌≤◌, ◌&&◌, [],
 ghost use Rattle.std.specs.Ordering.{nat_cmp};
 ghost use Rattle.std.specs.Cmp.Lexicographic.{slice_cmp};
 ghost use Rattle.opfs_codec.specs.Reading.{change_at};
+ghost use Rattle.opfs_codec.specs.Spelling.{IsKey, IsPath, AreExtents, IsChange};
+ghost use Rattle.opfs_records.specs.Checkpoint.Written.{AreWritable, IsWritableRow};
 ghost use Rattle.opfs_codec.specs.declared.change.Change.TheVariants.{MakeRoot, MakeDir, MakeFile, Remove, Content, Persist, Evict};
 ghost use Rattle.opfs_codec.specs.declared.change.Format.TheVariants.{New};
 ghost use Rattle.opfs_machine.specs.Ordered.{insert_by};
@@ -11,7 +13,7 @@ ghost use Rattle.opfs_tree.specs.Rows.{row_at, extents_of, HasParent};
 ghost use Rattle.opfs_records.specs.Replay.Applying.{built_by, is_root, is_persistent, empty_file, with_row, without_row};
 ghost use Rattle.opfs_records.specs.Replay.Built.{nothing_built, used_by, IsSound, IsSoundRow};
 ghost use Rattle.opfs_records.specs.Replay.Kept.{Applies};
-ghost use Rattle.opfs_records.specs.Replay.Sums.{charge_of, AreShared};
+ghost use Rattle.opfs_records.specs.Replay.Sums.{charge_of, persistent_in, AreShared};
 
 use crate::replay::places::{free_place, is_taken, is_unit_in};
 use crate::replay::stores::{remove, store};
@@ -113,6 +115,7 @@ impl Replay {
         ensures shared { IfOk result (λ all. AreShared self.built all.shed.buckets) }
         ensures quota { IfOk result (λ all. all.shed.quota ≡ self.quota) }
         ensures sound { IfOk result (λ all. IsSound self.size self.built.rows) }
+        ensures writable { IfOk result (λ all. AreWritable all.tree (persistent_in all.shed.buckets)) }
         ensures used { IfOk result (λ all. all.map ≡ used_by self.size self.built.rows) }
         ensures charge { IfOk result (λ all. all.charge ≡ charge_of New self.built) }
     {
@@ -140,6 +143,7 @@ impl Replay {
         format: Format,
         change: Change,
     ) -> Result<Option<Replay>, AllocError>
+        requires { IsChange format change }
         ensures { IfOk result (Applies format self change) }
     {
         match change {
@@ -163,6 +167,7 @@ impl Replay {
         format: Format,
         unit: Key,
     ) -> Result<Option<Replay>, AllocError>
+        requires { IsKey format unit }
         ensures { IfOk result (Applies format self (MakeRoot unit)) }
     {
         let path = Path::root(alloc);
@@ -182,6 +187,7 @@ impl Replay {
         unit: Key,
         path: Path,
     ) -> Result<Option<Replay>, AllocError>
+        requires { IsKey format unit × IsPath path }
         ensures { IfOk result (Applies format self (MakeDir unit path)) }
     {
         if !is_unit_in(format, &unit) {
@@ -204,6 +210,7 @@ impl Replay {
         path: Path,
         stamp: u64,
     ) -> Result<Option<Replay>, AllocError>
+        requires { IsKey format unit × IsPath path }
         ensures { IfOk result (Applies format self (MakeFile unit path stamp)) }
     {
         if !is_unit_in(format, &unit) {
@@ -228,6 +235,7 @@ impl Replay {
         requires parent { HasParent (unit.now, path.now) self.built.rows }
         requires bare { extents_of row ≡ [] }
         requires sound { IsSoundRow self.size row }
+        requires writable { IsWritableRow (unit.now, path.now) row }
         ensures built { IfOk result (λ next. next.built ≡ with_row self.built (unit.now, path.now) row) }
         ensures size { IfOk result (λ next. next.size ≡ self.size) }
         ensures quota { IfOk result (λ next. next.quota ≡ self.quota) }
@@ -318,6 +326,7 @@ impl Replay {
         bytes: u64,
         extents: Extents,
     ) -> Result<Option<Replay>, AllocError>
+        requires { AreExtents extents }
         ensures { IfOk result (Applies format self (Content unit path stamp bytes extents)) }
     {
         if !is_unit_in(format, &unit) {
@@ -353,6 +362,7 @@ impl Replay {
     // Makes a unit persistent.
     #[tactic(auto, unfolding(crate::specs::Replay::Applying::can_apply, crate::specs::Replay::Applying::applied))]
     fn persist(self, format: Format, unit: Key) -> Result<Option<Replay>, AllocError>
+        requires { IsKey format unit }
         ensures { IfOk result (Applies format self (Persist unit)) }
     {
         if !is_unit_in(format, &unit) {
@@ -367,7 +377,8 @@ impl Replay {
 
     // Adds a persistent unit.
     fn with_persistent(self, unit: &Key) -> Result<Replay, AllocError>
-        requires { is_persistent self.built unit.now ≡ false }
+        requires new { is_persistent self.built unit.now ≡ false }
+        requires key { IsKey New unit.now }
         ensures rows { IfOk result (λ next. next.built ≡ record self.built { persistent = insert_by (slice_cmp nat_cmp) unit.now self.built.persistent }) }
         ensures size { IfOk result (λ next. next.size ≡ self.size) }
         ensures quota { IfOk result (λ next. next.quota ≡ self.quota) }
@@ -403,6 +414,7 @@ fn read_change(
 ) -> Result<Option<(Change, u64)>, AllocError>
     ensures exact { IfOk result (λ r. option_map (λ x. (x.0, drop x.1 bytes.now)) r ≡ change_at format (drop at bytes.now)) }
     ensures forth { IfOk result (λ r. IfSome r (λ x. (at < x.1) × (x.1 ≤ length bytes.now))) }
+    ensures change { IfOk result (λ r. IfSome r (λ x. IsChange format x.0)) }
 {
     match format {
         Format::Old => read_old(alloc, bytes, at),

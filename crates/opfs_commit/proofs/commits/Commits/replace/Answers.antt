@@ -6,7 +6,7 @@ pub returns-in_default-clause-no_room : goal.returns-in_default-clause-no_room
 returns-in_default-clause-no_room g c =
     rw (← c.self.view_is) (λ h size most has. elim (cases_lt c.self.inside.room most) as (λ t. (c.self.inside.room < most) ⊎ (c.args.journal.now.areas.bytes < most + 7)) [
       | inl lt ↦ inl lt
-      | inr le ↦ absurd (false≢true (c.in_default.ensures.room size has.next has.sound has.found has.writable has.again (omega (arith, has.fits, le, c.self.invariant.1))))
+      | inr le ↦ absurd (false≢true (c.in_default.ensures.room size has.next has.sound has.found (omega (arith, has.fits, le, c.self.invariant.1))))
     ])
 
 pub returns-then-len-self-clause-no_room : goal.returns-then-len-self-clause-no_room

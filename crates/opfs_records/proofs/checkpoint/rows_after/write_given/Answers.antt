@@ -5,8 +5,8 @@ use Rattle.opfs_records.proofs.checkpoint.rows_after.write_given.Goals as goal
 
 pub returns-in_err-write_row-in-Dir-clause-room : goal.returns-in_err-write_row-in-Dir-clause-room
 returns-in_err-write_row-in-Dir-clause-room c size =
-    rw c.in-Dir.is (λ sound good le. absurd (false≢true (c.in_err-write_row-in-Dir.ensures.room size (rw c.in-Dir.is sound) (rw c.in-Dir.is good) (rw c.in-Dir.is le))))
+    rw c.in-Dir.is (λ sound le. absurd (false≢true (c.in_err-write_row-in-Dir.ensures.room size (rw c.in-Dir.is sound) (rw c.in-Dir.is le))))
 
-pub returns-in_err-write_content-in-File-clause-room : goal.returns-in_err-write_content-in-File-clause-room
-returns-in_err-write_content-in-File-clause-room c size =
-    rw c.in-File.is (λ sound good le. absurd (false≢true (c.in_err-write_content-in-File.ensures.room (omega (arith, few_extents c.args.content.now.extents.now sound.some, sound.whole)) good le)))
+pub returns-in_err-write_file-in-File-clause-room : goal.returns-in_err-write_file-in-File-clause-room
+returns-in_err-write_file-in-File-clause-room c size =
+    rw c.in-File.is (λ sound le. absurd (false≢true (c.in_err-write_file-in-File.ensures.room (omega (arith, few_extents c.args.content.now.extents.now sound.some, sound.whole)) le)))

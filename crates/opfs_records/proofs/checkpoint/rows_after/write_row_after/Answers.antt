@@ -7,4 +7,4 @@ use Rattle.opfs_records.proofs.checkpoint.rows_after.write_row_after.Goals as go
 pub returns-in_err-write_row_with-clause-room : goal.returns-in_err-write_row_with-clause-room
 returns-in_err-write_row_with-clause-room c size =
     rw (left_one (plain c.args.own.now) (c.args.unit.now, c.args.path.now) c.args.row.now (sym c.leaves_out.ensures ∙ c.if-leaves_out.false))
-    (λ sound good le. absurd (false≢true (c.in_err-write_row_with.ensures.room size sound.0 good.0 (omega (arith, le)))))
+    (λ sound le. absurd (false≢true (c.in_err-write_row_with.ensures.room size sound.0 (omega (arith, le)))))

@@ -2,13 +2,18 @@ use Rattle.std.proofs.Common.{length, ap, arith}
 use Rattle.std.proofs.lemmas.Bool.{false≢true}
 use Rattle.opfs_records.proofs.checkpoint.Left.{came_to}
 use Rattle.opfs_codec.specs.Fields.{plain}
-use Rattle.opfs_records.proofs.checkpoint.Parts.{part_written, part_room}
+use Rattle.opfs_records.proofs.checkpoint.Parts.{part_written, part_next, part_room}
 use Rattle.opfs_records.proofs.checkpoint.rows_after.write_rows_after.Goals as goal
 
 pub loop-row-preserved : goal.loop-row-preserved
 loop-row-preserved c =
     let at = came_to c.loop-row.walk c.step.new.walk c.args.tree.now.rows c.in-Some.row.now c.key.result.now c.path.result.now c.in-Some.ensures.next c.key.ensures c.path.ensures in
-    part_written (plain c.args.own.now) c.args.tree.now.rows _ _ (c.key.result.now, c.path.result.now) c.in-Some.row.now _ _ _ _ c.loop-row.invariant at _ _ c.in_ok-write_row_after.ensures.written c.in_ok-write_row_after.ensures.writable c.in_ok-write_row_after.ensures.capacity
+    part_written (plain c.args.own.now) c.args.tree.now.rows _ _ (c.key.result.now, c.path.result.now) c.in-Some.row.now _ _ _ _ c.loop-row.invariant at _ _ c.in_ok-write_row_after.ensures.written c.in_ok-write_row_after.ensures.capacity
+
+pub write_row_after-requires : goal.write_row_after-requires
+write_row_after-requires c =
+    let at = came_to c.loop-row.walk c.step.new.walk c.args.tree.now.rows c.in-Some.row.now c.key.result.now c.path.result.now c.in-Some.ensures.next c.key.ensures c.path.ensures in
+    part_next (plain c.args.own.now) c.args.tree.now.rows _ _ (c.key.result.now, c.path.result.now) c.in-Some.row.now _ _ _ _ c.loop-row.invariant at
 
 pub loop-row-smaller : goal.loop-row-smaller
 loop-row-smaller c =
@@ -16,7 +21,7 @@ loop-row-smaller c =
     omega (arith, ap length at)
 
 pub returns-in_err-write_row_after-clause-room : goal.returns-in_err-write_row_after-clause-room
-returns-in_err-write_row_after-clause-room c size sound good le =
+returns-in_err-write_row_after-clause-room c size sound le =
     let at = came_to c.loop-row.walk c.step.new.walk c.args.tree.now.rows c.in-Some.row.now c.key.result.now c.path.result.now c.in-Some.ensures.next c.key.ensures c.path.ensures in
-    let room = part_room (plain c.args.own.now) c.args.tree.now.rows _ _ (c.key.result.now, c.path.result.now) c.in-Some.row.now _ _ _ _ c.loop-row.invariant at size sound good (omega (arith, le, c.args.into.now.ok.0)) in
-    absurd (false≢true (c.in_err-write_row_after.ensures.room size room.0 room.1 (omega (arith, room.2, c.loop-row.into.ok.0))))
+    let room = part_room (plain c.args.own.now) c.args.tree.now.rows _ _ (c.key.result.now, c.path.result.now) c.in-Some.row.now _ _ _ _ c.loop-row.invariant at size sound (omega (arith, le, c.args.into.now.ok.0)) in
+    absurd (false≢true (c.in_err-write_row_after.ensures.room size room.0 (omega (arith, room.1, c.loop-row.into.ok.0))))

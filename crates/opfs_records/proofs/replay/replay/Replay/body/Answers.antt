@@ -32,3 +32,6 @@ loop-at-preserved c =
 
 pub returns : goal.returns
 returns c = (all_done _ _ _ _ _ _ _ _ c.loop-at.invariant (omega (arith, length-drop c.loop-at.at c.args.bytes.now)), c.loop-at.invariant.same_size, c.loop-at.invariant.same_quota)
+
+pub apply-requires : goal.apply-requires
+apply-requires c = rw c.in-Some.is at c.in_ok-change.ensures.change

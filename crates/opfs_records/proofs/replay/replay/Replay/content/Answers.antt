@@ -13,4 +13,4 @@ invariant_of-result c =
     let most : c.in_ok-most.most ≡ c.self.inside.most + length c.args.extents = omega (arith, c.in_ok-most.ensures, c.len.ensures) in
     let others = named_beside (c.args.unit, c.args.path) c.self.inside.tree in
     rw stores.rows (kept_stored c.self.inside.tree c.self.inside.map c.self.inside.shed.buckets c.self.inside.most c.self.inside.charge (c.args.unit, c.args.path) c.args.bytes c.args.stamp c.args.extents c.store.new.map others c.in_ok-most.most
-    c.self.invariant (can_hold_of (length c.self.inside.map) others c.args.bytes c.args.extents (is_some (file_at (c.args.unit, c.args.path) c.self.inside.tree)) true stores.exact refl) marked stores.size few most)
+    c.self.invariant (can_hold_of (length c.self.inside.map) others c.args.bytes c.args.extents (is_some (file_at (c.args.unit, c.args.path) c.self.inside.tree)) true stores.exact refl) marked stores.size few most (omega arith) (omega arith) c.requires)
