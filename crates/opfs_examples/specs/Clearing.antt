@@ -145,3 +145,45 @@ only_the_persistent_bucket_is_safe_history =
 
 abbrev pub OnlyThePersistentBucketIsSafe : Type 0
 OnlyThePersistentBucketIsSafe = IsAnswered (room_for 16384 1 4 (record { key = Some b_example; grant = true } ∷ record { key = Some a_example; grant = false } ∷ [])) only_the_persistent_bucket_is_safe_history 10 (refused (refusal.DataFull 1 1 1))
+
+-- A call that changes and opens nothing is a use of its origin.
+abbrev pub a_use_need_not_change_anything_history : List Entry
+a_use_need_not_change_anything_history =
+    by 1 1 (op.GetDirectory default_bucket) reply.Done
+    ∷ by 1 2 (op.GetFileHandle (directory_of a_example) (codes "f") true) reply.Done
+    ∷ by 1 3 (op.CreateWritable (file_in a_example (codes "f" ∷ [])) false) reply.Done
+    ∷ by 1 4 (op.Write 1 (codes "x") None) reply.Done
+    ∷ by 1 5 (op.Close 1) reply.Done
+    ∷ by 2 1 (op.GetDirectory default_bucket) reply.Done
+    ∷ by 2 2 (op.GetFileHandle (directory_of b_example) (codes "f") true) reply.Done
+    ∷ by 2 3 (op.CreateWritable (file_in b_example (codes "f" ∷ [])) false) reply.Done
+    ∷ by 2 4 (op.Write 1 (codes "x") None) reply.Done
+    ∷ by 2 5 (op.Close 1) reply.Done
+    ∷ by 1 6 (op.Persisted default_bucket) (reply.Flag false)
+    ∷ by 3 1 (op.GetDirectory default_bucket) reply.Done
+    ∷ by 3 2 (op.GetFileHandle (directory_of c_example) (codes "f") true) reply.Done
+    ∷ by 3 3 (op.CreateWritable (file_in c_example (codes "f" ∷ [])) false) reply.Done
+    ∷ evicting b_example
+    ∷ by 3 4 (op.Write 1 (codes "x") None) reply.Done
+    ∷ []
+
+abbrev pub AUseNeedNotChangeAnything : Type 0
+AUseNeedNotChangeAnything = IsAnswered (room_for 16384 2 4 (record { key = Some a_example; grant = false } ∷ record { key = Some b_example; grant = false } ∷ record { key = Some c_example; grant = false } ∷ [])) a_use_need_not_change_anything_history 15 (refused (refusal.DataFull 2 1 2))
+
+-- A bucket stays while a file of it is open to an access handle that only reads.
+abbrev pub a_reader_keeps_its_bucket_history : List Entry
+a_reader_keeps_its_bucket_history =
+    by 1 1 (op.GetDirectory default_bucket) reply.Done
+    ∷ by 1 2 (op.GetFileHandle (directory_of a_example) (codes "f") true) reply.Done
+    ∷ by 1 3 (op.CreateWritable (file_in a_example (codes "f" ∷ [])) false) reply.Done
+    ∷ by 1 4 (op.Write 1 (codes "x") None) reply.Done
+    ∷ by 1 5 (op.Close 1) reply.Done
+    ∷ by 1 6 (op.CreateSyncAccessHandle (file_in a_example (codes "f" ∷ [])) mode.ReadOnly) reply.Done
+    ∷ by 2 1 (op.GetDirectory default_bucket) reply.Done
+    ∷ by 2 2 (op.GetFileHandle (directory_of b_example) (codes "f") true) reply.Done
+    ∷ by 2 3 (op.CreateWritable (file_in b_example (codes "f" ∷ [])) false) reply.Done
+    ∷ by 2 4 (op.Write 1 (replicate 8192 65) None) (refused (refusal.DataFull 1 2 2))
+    ∷ []
+
+abbrev pub AReaderKeepsItsBucket : Type 0
+AReaderKeepsItsBucket = IsAnswered (room_for 16384 2 4 (record { key = Some a_example; grant = false } ∷ record { key = Some b_example; grant = false } ∷ [])) a_reader_keeps_its_bucket_history 9 reply.Done

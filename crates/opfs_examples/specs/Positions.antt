@@ -93,3 +93,30 @@ an_extended_stream_keeps_its_offset_history =
 
 abbrev pub AnExtendedStreamKeepsItsOffset : Type 0
 AnExtendedStreamKeepsItsOffset = IsAnswered (room_for 16384 16 4 (record { key = Some a_example; grant = false } ∷ [])) an_extended_stream_keeps_its_offset_history 6 (reply.FileInfo 6 0)
+
+-- A write of no bytes past the end fills what lies between.
+abbrev pub a_write_of_nothing_fills_a_gap_history : List Entry
+a_write_of_nothing_fills_a_gap_history =
+    by 1 1 (op.GetDirectory default_bucket) reply.Done
+    ∷ by 1 2 (op.GetFileHandle (directory_of a_example) (codes "f") true) reply.Done
+    ∷ by 1 3 (op.CreateWritable (file_in a_example (codes "f" ∷ [])) false) reply.Done
+    ∷ by 1 4 (op.Write 1 [] (Some 5)) reply.Done
+    ∷ by 1 5 (op.Close 1) reply.Done
+    ∷ by 1 6 (op.GetFile (file_in a_example (codes "f" ∷ []))) (reply.FileInfo 5 0)
+    ∷ []
+
+abbrev pub AWriteOfNothingFillsAGap : Type 0
+AWriteOfNothingFillsAGap = IsAnswered (room_for 16384 16 4 (record { key = Some a_example; grant = false } ∷ [])) a_write_of_nothing_fills_a_gap_history 5 (reply.FileInfo 0 0)
+
+-- So it does by an access handle.
+abbrev pub a_handle_that_writes_nothing_fills_a_gap_history : List Entry
+a_handle_that_writes_nothing_fills_a_gap_history =
+    by 1 1 (op.GetDirectory default_bucket) reply.Done
+    ∷ by 1 2 (op.GetFileHandle (directory_of a_example) (codes "f") true) reply.Done
+    ∷ by 1 3 (op.CreateSyncAccessHandle (file_in a_example (codes "f" ∷ [])) mode.ReadWrite) reply.Done
+    ∷ by 1 4 (op.SyncWrite 1 [] (Some 5)) (reply.Length 0)
+    ∷ by 1 5 (op.SyncGetSize 1) (reply.Length 5)
+    ∷ []
+
+abbrev pub AHandleThatWritesNothingFillsAGap : Type 0
+AHandleThatWritesNothingFillsAGap = IsAnswered (room_for 16384 16 4 (record { key = Some a_example; grant = false } ∷ [])) a_handle_that_writes_nothing_fills_a_gap_history 4 (reply.Length 0)

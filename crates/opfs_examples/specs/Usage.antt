@@ -113,3 +113,19 @@ a_reserve_stays_at_a_truncate_history =
 
 abbrev pub AReserveStaysAtATruncate : Type 0
 AReserveStaysAtATruncate = IsAnswered (room_for 16384 16 4 (record { key = Some a_example; grant = false } ∷ [])) a_reserve_stays_at_a_truncate_history 5 (reply.Estimate 0 16384)
+
+-- The blocks that an access handle keeps are not fewer for a truncate.
+abbrev pub a_reserve_of_a_handle_stays_at_a_truncate_history : List Entry
+a_reserve_of_a_handle_stays_at_a_truncate_history =
+    by 1 1 (op.GetDirectory default_bucket) reply.Done
+    ∷ by 1 2 (op.GetFileHandle (directory_of a_example) (codes "f") true) reply.Done
+    ∷ by 1 3 (op.CreateSyncAccessHandle (file_in a_example (codes "f" ∷ [])) mode.ReadWrite) reply.Done
+    ∷ by 1 4 (op.SyncWrite 1 (replicate 8192 65) None) (reply.Length 8192)
+    ∷ by 1 5 (op.SyncTruncate 1 0) reply.Done
+    ∷ by 1 6 (op.GetFileHandle (directory_of a_example) (codes "g") true) reply.Done
+    ∷ by 1 7 (op.CreateWritable (file_in a_example (codes "g" ∷ [])) false) reply.Done
+    ∷ by 1 8 (op.Write 2 (codes "x") None) (refused (refusal.DataFull 2 1 2))
+    ∷ []
+
+abbrev pub AReserveOfAHandleStaysAtATruncate : Type 0
+AReserveOfAHandleStaysAtATruncate = IsAnswered (room_for 16384 2 4 (record { key = Some a_example; grant = false } ∷ [])) a_reserve_of_a_handle_stays_at_a_truncate_history 7 reply.Done

@@ -1,6 +1,6 @@
 //! Examples of what the quota counts: each a history, with another answer to its last call that is refused.
 
-ghost use Rattle.opfs_examples.specs.Usage.{NamedBucketsShareTheQuota, WhatIsWrittenCountsBeforeAFlush, AReserveOfAHandleIsFreeOfQuota, AWriteOverBytesNeedsNoQuota, AWriteOfAHandleNeedsQuota, KeptDataNeedQuota, AReserveStaysAtATruncate};
+ghost use Rattle.opfs_examples.specs.Usage.{NamedBucketsShareTheQuota, WhatIsWrittenCountsBeforeAFlush, AReserveOfAHandleIsFreeOfQuota, AWriteOverBytesNeedsNoQuota, AWriteOfAHandleNeedsQuota, KeptDataNeedQuota, AReserveStaysAtATruncate, AReserveOfAHandleStaysAtATruncate};
 
 /// All buckets of an origin share its quota.
 pub fn named_buckets_share_the_quota()
@@ -35,4 +35,9 @@ pub fn kept_data_need_quota()
 /// A stream that is cut keeps its blocks.
 pub fn a_reserve_stays_at_a_truncate()
     ensures { AReserveStaysAtATruncate }
+{}
+
+/// The blocks that an access handle keeps are not fewer for a truncate.
+pub fn a_reserve_of_a_handle_stays_at_a_truncate()
+    ensures { AReserveOfAHandleStaysAtATruncate }
 {}
