@@ -19,8 +19,7 @@ use Rattle.opfs_journal.specs.Seen.{Seen}
 use Rattle.opfs_machine.specs.Changes.{floor}
 use Rattle.opfs_outside.specs.declared.disk.Disk.{Ghosts as DiskWords}
 use Rattle.opfs_records.specs.Replay.Built.{Built, IsSound}
-use Rattle.opfs_records.specs.Replay.Sums.{row_charge, charge_of, persistent_in}
-use Rattle.opfs_shed.specs.Buckets.{Storage}
+use Rattle.opfs_records.specs.Replay.Sums.{row_charge, charge_of}
 use Rattle.opfs_records.specs.Checkpoint.Written.{AreWritable, stored_rows}
 use Rattle.opfs_records.proofs.checkpoint.StoredRows.{stored_writable}
 use Rattle.opfs_state_rows.specs.Standing.Seen.{Machine}
@@ -48,15 +47,13 @@ none-some : (n : ℕ) → ◌≡◌ {A = Option ℕ} None (Some n) → ⊥
 none-some n h = cc
 
 pub starts : {D : Type 0} (w : DiskWords D) → (w.tells → CommitLaws w) → (f : Fixed D) (recorded : Built) (m : Machine) (t : Rows) (room : ℕ) (j : Seen D) → IsOpened w f recorded m t room j
-    → (rows : Rows) (shed : Storage) → rows ≡ t → persistent_in shed.buckets ≡ m.persistent → AreWritable rows (persistent_in shed.buckets)
     → (j2 : Seen D) (back : KeptBack) → j2 ≡ record j { spare = j2.spare } → room ≤ j2.spare → back ≡ record { bytes = []; count = 0; long = false; room = room }
     → AreBooks w f recorded (book [] m t back None) j2
-starts {D} w laws f recorded m t room j is rows shed same modes writable j2 back journal spare none =
+starts {D} w laws f recorded m t room j is j2 back journal spare none =
     let o = f.opening in
     let b = book [] m t back None in
     let disk : f.begun ≡ j2.disk = is.begun ∙ sym (ap (λ (x : Seen D). x.disk) journal) in
-    let stored_writes : AreWritable (stored_rows t) m.persistent =
-    subst (λ us. AreWritable (stored_rows t) us) modes (subst (λ (x : Rows). AreWritable (stored_rows x) (persistent_in shed.buckets)) same (stored_writable rows writable.0, writable.1)) in
+    let stored_writes : AreWritable (stored_rows t) m.persistent = (stored_writable t is.writable.0, is.writable.1) in
     let fits : charge_of New (stored_built t m.persistent) + 7 ≤ area_bytes f.geometry = subst (λ (x : Built). charge_of New x + 7 ≤ area_bytes f.geometry) (sym is.rows) is.fits in
     let account : begun_with o f.geometry recorded ≡ account_of f recorded b = λ i. record { opening = o; geometry = f.geometry; told = []; doubted = []; recorded = recorded; rows = sym is.rows i } in
     let images : (t2 : w.tells) → AreImages w (begun_with o f.geometry recorded) (committing j2 back) = λ t2.

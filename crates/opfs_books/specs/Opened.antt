@@ -11,6 +11,7 @@ use Rattle.opfs_laws.specs.Whole.{IsWholeOpening}
 use Rattle.opfs_laws.specs.Lengths.Outlines.{in_lengths_of}
 use Rattle.opfs_machine.specs.Openings.{begun}
 use Rattle.opfs_outside.specs.declared.disk.Disk.{Ghosts as DiskWords}
+use Rattle.opfs_records.specs.Checkpoint.Written.{AreWritable}
 use Rattle.opfs_records.specs.Replay.Built.{Built, IsSound}
 use Rattle.opfs_records.specs.Replay.Sums.{charge_of}
 use Rattle.opfs_state_rows.specs.Standing.Seen.{Machine}
@@ -31,5 +32,6 @@ pub record IsOpened {D : Type 0} (w : DiskWords D) (f : Fixed D) (recorded : Bui
   pub stored : f.opening.stored ≡ filled (data_base f.geometry) (w.content j.disk) recorded
   pub sound : IsSound f.geometry.blocks recorded.rows
   pub fits : charge_of New recorded + 7 ≤ area_bytes f.geometry
+  pub writable : AreWritable t m.persistent
   pub range : area_bytes f.geometry ≤ 16777216
   pub asked : room ≡ area_bytes f.geometry

@@ -1,4 +1,5 @@
-use Rattle.std.proofs.Common.{refl, sym, arith}
+use Rattle.std.proofs.Common.{refl, sym, subst, arith}
+use Rattle.opfs_records.specs.Checkpoint.Written.{AreWritable}
 use Rattle.opfs_books.proofs.openings.Begun.{stored-same}
 use Rattle.opfs_books.proofs.openings.Opened.{same, modes, whole, begins, in-range}
 use Rattle.opfs_books.proofs.openings.opening.a_recovered_image_opens_a_run.Goals as goal
@@ -22,6 +23,7 @@ returns-clause-opened g c agents =
       stored = refl;
       sound = from.agrees.parts.sound;
       fits = omega (arith, from.agrees.fits, from.agrees.parts.charge_is);
+      writable = subst (λ us. AreWritable from.tree us) (modes from.geometry content from.tree shed from.map from.charge agents from.agrees c.know_order.ensures.order c.know_order.ensures.closed sorted) from.agrees.parts.writable;
       range = in-range from.geometry from.agrees.range;
       asked = refl;
     }
