@@ -1,6 +1,6 @@
 pub mod Rows
 pub mod Units
-pub mod Judged
+pub mod Judgements
 pub mod Same
 pub mod Named
 pub mod Endings

@@ -1,6 +1,6 @@
 use Rattle.std.proofs.Common.{Ok, sym, ap, ◌∙◌}
 use Rattle.opfs_machine.specs.Runs.{Call}
-use Rattle.opfs_desk_steps.proofs.judging.Judged.{agent, caller, kept, own, judged-now}
+use Rattle.opfs_desk_steps.proofs.judging.Judgements.{agent, caller, kept, own, judged-now}
 use Rattle.opfs_desk_steps.proofs.judging.Rows.{sizes-are}
 use Rattle.opfs_desk_steps.proofs.judging.Same.{same-held}
 use Rattle.opfs_desk_steps.proofs.judging.asking.ask_call.Goals as goal
