@@ -23,21 +23,21 @@ returns-in-Told-clause-acted g c f recorded held whole asked =
 
 pub act_persisted-requires-clause-go : goal.act_persisted-requires-clause-go
 act_persisted-requires-clause-go g c =
-    plain-go g.D.Disk c.args.parts.now c.args.pending.now c.args.call c.args.work.now c.args.past.now (other-kind kind.Persisted (machine_in c.args.parts.now.ledger) c.args.call.agent c.args.call.op refl (as-kind _ kind.Persisted (machine_in c.args.parts.now.ledger) c.args.call.agent c.args.call.op c.in-Asked.is c.kind_of-kind.ensures)) c.requires.go
+    plain-go g.D.Disk c.args.parts.now c.args.pending.now c.args.call c.args.work.now c.args.past.now (other-kind kind.Persisted (machine_in c.args.parts.now.ledger) c.args.call.agent c.args.call.op refl (as-kind _ kind.Persisted (machine_in c.args.parts.now.ledger) c.args.call.agent c.args.call.op c.in-Persisted.is c.kind_of-kind.ensures)) c.requires.go
 
 pub act_persisted-requires-clause-word : goal.act_persisted-requires-clause-word
-act_persisted-requires-clause-word g c = (as-kind _ kind.Persisted (machine_in c.args.parts.now.ledger) c.args.call.agent c.args.call.op c.in-Asked.is c.kind_of-kind.ensures).0
+act_persisted-requires-clause-word g c = (as-kind _ kind.Persisted (machine_in c.args.parts.now.ledger) c.args.call.agent c.args.call.op c.in-Persisted.is c.kind_of-kind.ensures).0
 
 pub act_persisted-requires-clause-only : goal.act_persisted-requires-clause-only
-act_persisted-requires-clause-only g c = (as-kind _ kind.Persisted (machine_in c.args.parts.now.ledger) c.args.call.agent c.args.call.op c.in-Asked.is c.kind_of-kind.ensures).1
+act_persisted-requires-clause-only g c = (as-kind _ kind.Persisted (machine_in c.args.parts.now.ledger) c.args.call.agent c.args.call.op c.in-Persisted.is c.kind_of-kind.ensures).1
 
 pub returns-in_ok-act_persisted-in-Persisted-clause-acted : goal.returns-in_ok-act_persisted-in-Persisted-clause-acted
 returns-in_ok-act_persisted-in-Persisted-clause-acted g c f recorded held whole asked =
     c.in_ok-act_persisted-in-Persisted.ensures.acted f recorded held
-    (plain-asked g.D.Disk.tells f.opening c.args.parts.now.ledger.books.history c.args.pending.now c.args.parts.now.ledger.books.state c.args.call c.args.work.now c.args.past.now (other-kind kind.Persisted (machine_in c.args.parts.now.ledger) c.args.call.agent c.args.call.op refl (as-kind _ kind.Persisted (machine_in c.args.parts.now.ledger) c.args.call.agent c.args.call.op c.in-Asked.is c.kind_of-kind.ensures)) asked)
+    (plain-asked g.D.Disk.tells f.opening c.args.parts.now.ledger.books.history c.args.pending.now c.args.parts.now.ledger.books.state c.args.call c.args.work.now c.args.past.now (other-kind kind.Persisted (machine_in c.args.parts.now.ledger) c.args.call.agent c.args.call.op refl (as-kind _ kind.Persisted (machine_in c.args.parts.now.ledger) c.args.call.agent c.args.call.op c.in-Persisted.is c.kind_of-kind.ensures)) asked)
 
 pub returns-in_err-act_persisted-in-Persisted-clause-ends : goal.returns-in_err-act_persisted-in-Persisted-clause-ends
-returns-in_err-act_persisted-in-Persisted-clause-ends g c end = absurd (never-ends kind.Persisted (machine_in c.args.parts.now.ledger) c.args.call.agent c.args.call.op refl (as-kind _ kind.Persisted (machine_in c.args.parts.now.ledger) c.args.call.agent c.args.call.op c.in-Asked.is c.kind_of-kind.ensures) end)
+returns-in_err-act_persisted-in-Persisted-clause-ends g c end = absurd (never-ends kind.Persisted (machine_in c.args.parts.now.ledger) c.args.call.agent c.args.call.op refl (as-kind _ kind.Persisted (machine_in c.args.parts.now.ledger) c.args.call.agent c.args.call.op c.in-Persisted.is c.kind_of-kind.ensures) end)
 
 pub act_persist-requires-clause-go : goal.act_persist-requires-clause-go
 act_persist-requires-clause-go g c =
