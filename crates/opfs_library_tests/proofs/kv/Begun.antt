@@ -20,7 +20,7 @@ use Rattle.opfs_machine.specs.Contents.{outline_of}
 use Rattle.opfs_machine.specs.Openings.{Opening, Who, agent_begun, begun}
 use Rattle.opfs_turns.specs.Calls.{MayBegin, new_agent}
 use Rattle.url.specs.Parser.{parse_url}
-use Rattle.url.specs.Parts.{DeskParts, text_between}
+use Rattle.url.specs.Parts.{Parts, text_between}
 use Rattle.url.specs.declared.slicing.Position.TheVariants.{BeforeHost, AfterPort}
 use Rattle.opfs_library_tests.specs.Kv.Ready.{IsOneAgent, IsReady}
 
@@ -93,7 +93,7 @@ long-checked key own is =
 long-origin : (scheme rest : Text) → nat_le 1 (length (scheme ++ (codes "://" ++ rest))) ≡ true
 long-origin scheme rest = le-leb 1 (length (scheme ++ (codes "://" ++ rest))) (omega (arith, length-append scheme (codes "://" ++ rest), length-append (codes "://") rest))
 
-long-parts : (url : DeskParts) (own : Text) → key_of_parts url ≡ Ok own → is_key_text own ≡ true
+long-parts : (url : Parts) (own : Text) → key_of_parts url ≡ Ok own → is_key_text own ≡ true
 long-parts url own is =
     elim (has_tuple_origin url.scheme) as (λ t. elim t [ true ↦ checked_key (origin_text url) | false ↦ Err refusal.Opaque ] ≡ Ok own → is_key_text own ≡ true) [
       | true ↦ λ h.
@@ -102,7 +102,7 @@ long-parts url own is =
       | false ↦ λ h. absurd (never refusal.Opaque own h)
     ] is
 
-long-of : {E : Type 0} (read : Result DeskParts E) (own : Text) → ◌≡◌ {A = Result Text KeyRefusal} (elim read [ Ok url ↦ key_of_parts url | Err error ↦ Err refusal.BadUrl ]) (Ok own) → is_key_text own ≡ true
+long-of : {E : Type 0} (read : Result Parts E) (own : Text) → ◌≡◌ {A = Result Text KeyRefusal} (elim read [ Ok url ↦ key_of_parts url | Err error ↦ Err refusal.BadUrl ]) (Ok own) → is_key_text own ≡ true
 long-of (Ok url) own is = long-parts url own is
 long-of (Err error) own is = absurd (never refusal.BadUrl own is)
 
