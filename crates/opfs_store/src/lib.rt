@@ -6,5 +6,7 @@
 
 mod acts;
 pub mod copies;
+mod counts;
 
 pub use acts::{Acted, AwaitState, Gift, Store};
+pub use counts::know_faults_rose;

@@ -1,6 +1,6 @@
 -- What a shared call leaves: the history with its entry, the reply, what is given beside it, and the working copy. This
 -- project's own.
-use Rattle.std.specs.Prelude.{◌≡◌, ℕ, zero, suc, ◌++◌, ◌<◌, ◌/◌, Bool, true, false, List, [], ◌∷◌, length, replicate, IsTrue}
+use Rattle.std.specs.Prelude.{◌≡◌, ℕ, zero, suc, ◌++◌, ◌<◌, ◌/◌, Bool, true, false, List, [], length, replicate}
 use Rattle.opfs_base.specs.Places.{place_of, child_of}
 use Rattle.opfs_base.specs.Texts.{Text}
 use Rattle.opfs_hist.specs.Faults.{is_disk_fault}
@@ -23,6 +23,7 @@ use Rattle.opfs_outside.specs.Faults.{Rose}
 use Rattle.opfs_store.specs.Copies.Copies.{StandsFor}
 use Rattle.opfs_work.specs.Pages.{page_at, is_far}
 use Rattle.opfs_work.specs.Works.{WorkingCopy}
+use Rattle.opfs_store.specs.declared.acts.acted.Acted.{Acted}
 use Rattle.opfs_store.specs.declared.acts.acted.AwaitState.{AwaitState}
 use Rattle.opfs_store.specs.declared.acts.acted.AwaitState.TheVariants as await
 use Rattle.opfs_store.specs.declared.acts.acted.Gift.{Gift}
@@ -111,3 +112,30 @@ pub record IsLeft (tells : Type 0) (o : Opening) (new : List Entry) (c : Call) (
   pub refused : is_refusal answered ≡ true → IsSameCopy before after
   pub stands : is_refusal answered ≡ false → StandsForLeft tells o new c.agent (row_left (length (agent_of (state_after o new) c.agent).own) c.op) after
   pub near : is_refusal answered ≡ false → brings_position c.op ≡ true → IsPositionNear after
+
+-- What a shared call has in hand at one moment: the entries of the store, how often its disk has failed, the agent's pending
+-- calls, and the working copy.
+pub record InHand : Type 0 where
+  pub entries : List Entry
+  pub faults : ℕ
+  pub pending : List Entry
+  pub work : WorkingCopy
+
+abbrev pub in_hand : List Entry → ℕ → List Entry → WorkingCopy → InHand
+in_hand entries faults pending work = record { entries = entries; faults = faults; pending = pending; work = work }
+
+-- A call has its entry: the history has grown by it, the pending calls are taken in, and this was answered and given beside it;
+-- a disk fault only where the count rose in this call.
+pub record IsServed (tells : Type 0) (o : Opening) (before after : InHand) (c : Call) (done : Acted) : Type 0 where
+  pub acted : IsActed tells o before.entries before.pending c done.reply after.entries
+  pub taken : after.pending ≡ []
+  pub left : IsLeft tells o after.entries c done.reply before.work after.work
+  pub gift : IsGift tells (state_after o (before.entries ++ before.pending)) c.op done.reply done.gift
+  pub rows : done.rows ≡ length (agent_of (state_after o after.entries) c.agent).own
+  pub fault : HasFaultOnlyIfRose done.reply before.faults after.faults
+
+-- Nothing was entered or taken in, and the working copy is as before, its room aside.
+pub record IsUnserved (before after : InHand) : Type 0 where
+  pub entries : after.entries ≡ before.entries
+  pub pending : after.pending ≡ before.pending
+  pub work : IsSameCopy before.work after.work

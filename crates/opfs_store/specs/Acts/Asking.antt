@@ -1,6 +1,6 @@
 -- What a shared call asks of its caller: the standing conditions on numbers, rows and entries, and what it hands in. This
 -- project's own.
-use Rattle.std.specs.Prelude.{◌≡◌, ℕ, zero, suc, ◌<◌, ◌≤◌, ◌==◌, ◌||◌, ◌++◌, Bool, true, false, List, [], ◌∷◌, length, count_by, Option, Some, None, unwrap_or, IsTrue}
+use Rattle.std.specs.Prelude.{◌≡◌, ℕ, zero, suc, ◌<◌, ◌≤◌, ◌==◌, ◌||◌, ◌++◌, Bool, true, false, List, [], length, count_by, Option, Some, unwrap_or, IsTrue}
 use Rattle.opfs_base.specs.Texts.{Text}
 use Rattle.opfs_hist.specs.declared.entry.Entry.{Entry}
 use Rattle.opfs_hist.specs.declared.op.Op.{Op}

@@ -9,14 +9,15 @@ use std::alloc::AllocError;
 
 /// A store that many agents share, one call at a time. Its history is legal from its opening.
 pub trait Store: Chronicle<Entry = Entry> {
-    ghost use Rattle.std.specs.Prelude.{◌≡◌, ◌++◌, ℕ, [], length, IfOk, OnErr, is_ok, IsTrue, true};
+    ghost use Rattle.std.specs.Prelude.{◌≡◌, ◌++◌, ◌≤◌, ℕ, IfOk, OnErr, is_ok, IsTrue, true};
+    ghost use Rattle.opfs_hist.specs.Faults.{disk_faults};
     ghost use Rattle.opfs_hist.specs.declared.entry.Entry.{Entry};
-    ghost use Rattle.opfs_machine.specs.Agents.{agent_of};
     ghost use Rattle.opfs_machine.specs.Histories.{state_after};
     ghost use Rattle.opfs_machine.specs.Openings.{Opening};
     ghost use Rattle.opfs_laws.specs.Histories.Unread.{IsTold};
+    ghost use Rattle.opfs_outside.specs.Faults.{RoseBy};
     ghost use Rattle.opfs_store.specs.Acts.Asking.{MayAct, IsThere};
-    ghost use Rattle.opfs_store.specs.Acts.Acting.{IsActed, IsGift, IsLeft, IsSameCopy, always_acts, awaited};
+    ghost use Rattle.opfs_store.specs.Acts.Acting.{in_hand, IsServed, IsUnserved, always_acts, awaited};
 
     /// Whether the bytes that it gives are told. It is no function of the value.
     ghost tells: { Type 0 };
@@ -24,9 +25,16 @@ pub trait Store: Chronicle<Entry = Entry> {
     /// The machine's opening.
     ghost opened: { Self.Opening → Opening };
 
+    /// How often its disk has failed.
+    ghost faults: { Self → ℕ };
+
+    /// How often its disk had failed when it was opened.
+    ghost faults_before: { Self.Opening → ℕ };
+
     /// Makes one shared call: takes in the agent's pending calls, clears units where the call needs room, and enters the
-    /// call with its reply. Where there is no memory nothing is entered, and the working copy has another room at most;
-    /// abort, discard and end take none.
+    /// call with its reply. A disk fault is answered only where the count of the disk's faults rose in this call; it never falls.
+    /// Where there is no memory nothing is entered, and the working copy has another room at most; abort, discard and end
+    /// take none.
     fn act(
         &mut self,
         agent: u32,
@@ -39,12 +47,9 @@ pub trait Store: Chronicle<Entry = Entry> {
     ) -> Result<Acted, AllocError>
         requires may { MayAct tells (opened (Self.opening self.old)) (Self.entries self.old) pending.old (record { agent = agent; number = number; op = op }) work.old past.now }
         ensures opening { Self.opening self.new ≡ Self.opening self.old }
-        ensures acted { IfOk result (λ acted. IsActed tells (opened (Self.opening self.old)) (Self.entries self.old) pending.old (record { agent = agent; number = number; op = op }) acted.reply (Self.entries self.new)) }
-        ensures taken { IfOk result (λ acted. pending.new ≡ []) }
-        ensures left { IfOk result (λ acted. IsLeft tells (opened (Self.opening self.old)) (Self.entries self.new) (record { agent = agent; number = number; op = op }) acted.reply work.old work.new) }
-        ensures gift { IfOk result (λ acted. IsGift tells (state_after (opened (Self.opening self.old)) (Self.entries self.old ++ pending.old)) op acted.reply acted.gift) }
-        ensures rows { IfOk result (λ acted. acted.rows ≡ length (agent_of (state_after (opened (Self.opening self.old)) (Self.entries self.new)) agent).own) }
-        ensures unacted { OnErr result ((Self.entries self.new ≡ Self.entries self.old) × (pending.new ≡ pending.old) × IsSameCopy work.old work.new) }
+        ensures risen { faults self.old ≤ faults self.new }
+        ensures served { IfOk result (λ acted. IsServed tells (opened (Self.opening self.old)) (in_hand (Self.entries self.old) (faults self.old) pending.old work.old) (in_hand (Self.entries self.new) (faults self.new) pending.new work.new) (record { agent = agent; number = number; op = op }) acted) }
+        ensures unserved { OnErr result (IsUnserved (in_hand (Self.entries self.old) (faults self.old) pending.old work.old) (in_hand (Self.entries self.new) (faults self.new) pending.new work.new)) }
         ensures ends { always_acts op ≡ true → IsTrue (is_ok result) };
 
     /// How a tag stands for an agent (this project's own). Takes no memory.
@@ -55,6 +60,11 @@ pub trait Store: Chronicle<Entry = Entry> {
     /// What the store's type keeps: its history is legal, but for the bytes of reads where it does not tell.
     fn know_legal(&self)
         ensures { IsTold tells (opened (Self.opening self.now)) (Self.entries self.now) };
+
+    /// What the store's type keeps of faults: each entry that tells of a disk fault has its own rise of the count since the
+    /// store was opened.
+    fn know_counts(&self)
+        ensures { RoseBy (disk_faults (Self.entries self.now)) (faults_before (Self.opening self.now)) (faults self.now) };
 
     /// An entry is its agent's.
     ghost owned: { (e : Entry) → Self.owner e ≡ e.agent };
