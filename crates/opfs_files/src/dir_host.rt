@@ -144,6 +144,10 @@ impl<R: Files<File = File>> Host for DirHost<R> {
 
     ghost trail = { λ _ _ _. ⊥ };
 
+    ghost moment = { λ _ _. 0 };
+
+    ghost since = { λ _ _ _ _. ⊥ };
+
     ghost faults = { host_faults };
 
     ghost own_faults = { host_own_faults };

@@ -2,9 +2,9 @@
 use Rattle.std.proofs.Common.{◌≡◌, ◌≢◌, ◌↔◌, ℕ, ◌⊎◌, Option, Some, None, List, [], ◌∷◌, ◌++◌, replicate, refl, sym, ◌∙◌, ap, subst, inl, inr, Result, Ok, Err}
 use Rattle.std.specs.Prelude.{IfSome, IfOk, OnOk, OnErr, option_map, unwrap_or, slice_set}
 use Rattle.std.specs.List.{position, slice_get}
-use Rattle.opfs_memory.specs.Drives.{Drive, LeftSince, content_of}
-use Rattle.opfs_memory.specs.Shelves.{Spot, Shelf, is_at, spot_at, image_at, given_at, asked, spot_lent, spot_made, spot_given, LeftBy, Trail}
-use Rattle.opfs_memory.proofs.Shelving.{spot_now, other, kept, spot_more, other_more, trail_same, left_push, push_left}
+use Rattle.opfs_memory.specs.Drives.{Drive, LeftSince, content_of, moment_of}
+use Rattle.opfs_memory.specs.Shelves.{Spot, Shelf, is_at, spot_at, image_at, given_at, asked, spot_lent, spot_made, spot_given, newest, moments_of, moments_at, LeftBy, LeftOf, LeftAt, Trail}
+use Rattle.opfs_memory.proofs.Shelving.{spot_now, other, kept, spot_more, other_more, trail_same, left_push, push_left, newest-push}
 
 -- a disk that did nothing reads as its first content
 pub reads_first : (d : Drive) → d.log ≡ [] → content_of d ≡ d.first
@@ -74,6 +74,18 @@ module _ (path : List ℕ) (h m n : Shelf) (same : m.places ≡ h.places) (at : 
         λ left. elim (left_push here.0.given disk c (subst (λ ds. LeftBy ds c) new left)) [ inl was ↦ inl (subst (λ ds. LeftBy ds c) (sym old) was) | inr now ↦ inr now ],
         λ left. subst (λ ds. LeftBy ds c) (sym new) (push_left here.0.given disk c (elim left [ inl was ↦ inl (subst (λ ds. LeftBy ds c) old was) | inr now ↦ inr now ])),
       )
+
+  -- it is the last one there
+  last : newest (given_at n path) ≡ Some disk
+  last =
+      let here = spot_now path h m n same at is (spot_given disk) (λ s. refl) change in
+      ap (λ o. newest (given_in o)) here.3 ∙ newest-push here.0.given disk
+
+  pub given_moment : moments_at n path ≡ moment_of disk
+  given_moment = ap moments_of last
+
+  pub given_since : (t : ℕ) (c : List ℕ) → LeftAt n path t c ↔ LeftSince disk t c
+  given_since t c = (subst (λ o. LeftOf o t c) last, subst (λ o. LeftOf o t c) (sym last))
 
   pub given_other_images : (p : List ℕ) → p ≢ path → image_at n p ≡ image_at h p
   given_other_images p ne = other path h m n same at is (spot_given disk) (λ s. refl) change (λ (s : Spot). s.image) p ne

@@ -3,9 +3,10 @@ use Rattle.std.proofs.Common.{◌≡◌, ◌≢◌, ◌↔◌, ℕ, suc, zero, �
 use Rattle.std.specs.Prelude.{IfSome, option_map, unwrap_or, slice_set, nat_lt, nat_eq}
 use Rattle.std.specs.List.{position, position_or_len, slice_get}
 use Rattle.std.specs.Cmp.Lexicographic.{pointwise, bytes_decides}
+use Rattle.std.proofs.lemmas.List.{length-append}
 use Rattle.std.proofs.lemmas.Bool.{ltb-true, lt-ltb, both_ways, cases_lt}
 use Rattle.opfs_memory.specs.Drives.{Drive, LeftSince}
-use Rattle.opfs_memory.specs.Shelves.{Spot, Shelf, is_at, spot_at, given_at, LeftBy, Trail, can_take}
+use Rattle.opfs_memory.specs.Shelves.{Spot, Shelf, is_at, spot_at, given_at, newest, LeftBy, Trail, can_take}
 
 pub at_own : (path : List ℕ) (s : Spot) → s.path ≡ path → is_at path s ≡ true
 at_own path s e = (bytes_decides s.path path).1 e
@@ -125,6 +126,13 @@ push_left [] d c (inr h) = inl h
 push_left (x ∷ ds) d c (inl (inl h)) = inl h
 push_left (x ∷ ds) d c (inl (inr h)) = inr (push_left ds d c (inl h))
 push_left (x ∷ ds) d c (inr h) = inr (push_left ds d c (inr h))
+
+pub newest-push : (ds : List Drive) (d : Drive) → newest (ds ++ d ∷ []) ≡ Some d
+newest-push ds d = ap (λ n. slice_get (ds ++ d ∷ []) n) (omega (arith, length-append ds (d ∷ []))) ∙ got ds d
+  where
+    got : (ds : List Drive) (d : Drive) → slice_get (ds ++ d ∷ []) (length ds) ≡ Some d
+    got [] d = refl
+    got (x ∷ ds) d = got ds d
 
 -- one change at the first spot of the path
 module _ (path : List ℕ) (h m n : Shelf) (same : m.places ≡ h.places) (at : ℕ) (is : position (is_at path) m.places ≡ Some at) (f : Spot → Spot) (keeps : (s : Spot) → (f s).path ≡ s.path)

@@ -3,7 +3,7 @@ use Rattle.std.specs.Prelude.{ℕ, ◌+◌, ◌-◌, Bool, false, if◌then◌el
 use Rattle.std.specs.Cmp.Lexicographic.{pointwise}
 use Rattle.std.specs.List.{position, slice_get}
 use Rattle.opfs_memory.specs.Counts.{counted, is_named}
-use Rattle.opfs_memory.specs.Drives.{Drive, LeftSince, content_of}
+use Rattle.opfs_memory.specs.Drives.{Drive, LeftSince, content_of, moment_of}
 
 -- A path and its image, the disks that were given back there, the last of them last, and how many more may be.
 pub record Spot : Type 0 where
@@ -55,6 +55,21 @@ LeftBy (disk ∷ disks) c = LeftSince disk 0 c ⊎ LeftBy disks c
 
 abbrev pub Trail : Shelf → List ℕ → List ℕ → Type 0
 Trail host path c = LeftBy (given_at host path) c
+
+-- the moments of the last disk, and what a stop may have left of it from one of them on
+abbrev pub moments_of : Option Drive → ℕ
+moments_of (Some disk) = moment_of disk
+moments_of None = 0
+
+abbrev pub LeftOf : Option Drive → ℕ → List ℕ → Type 0
+LeftOf (Some disk) t c = LeftSince disk t c
+LeftOf None t c = ⊥
+
+abbrev pub moments_at : Shelf → List ℕ → ℕ
+moments_at host path = moments_of (newest (given_at host path))
+
+abbrev pub LeftAt : Shelf → List ℕ → ℕ → List ℕ → Type 0
+LeftAt host path t c = LeftOf (newest (given_at host path)) t c
 
 -- a fetched disk of this content
 abbrev pub fetched_disk : Shelf → List ℕ → Drive

@@ -343,7 +343,7 @@ impl Host for MemHost {
 
     ghost use Rattle.std.specs.Prelude.{◌≡◌, ◌≢◌, ◌↔◌, ◌⊎◌, ◌+◌, ◌-◌, ◌^◌, ◌≤◌, ℕ, List, Some, None, length, min, replicate, is_err, IsErrOf, IsTrue, IfOk, OnOk, OnErr};
     ghost use Rattle.opfs_memory.specs.Drives.{LeftSince, content_of, moment_of};
-    ghost use Rattle.opfs_memory.specs.Shelves.{image_at, Trail, fetched_disk, fetch_fails, return_fails};
+    ghost use Rattle.opfs_memory.specs.Shelves.{image_at, moments_at, Trail, LeftAt, fetched_disk, fetch_fails, return_fails};
     ghost use Rattle.opfs_outside.specs.Faults.{Rose, RoseBy};
 
     ghost tells = { Unit {0} };
@@ -351,6 +351,10 @@ impl Host for MemHost {
     ghost image = { image_at };
 
     ghost trail = { Trail };
+
+    ghost moment = { moments_at };
+
+    ghost since = { LeftAt };
 
     ghost faults = { λ host. min host.all (2 ^ 64 - 1) };
 
@@ -395,6 +399,8 @@ impl Host for MemHost {
         ensures fails { is_err result ≡ return_fails self.old path.now }
         ensures content { OnOk result (image_at self.new path.now ≡ Some (content_of disk)) }
         ensures trail { OnOk result ((c : List ℕ) → Trail self.new path.now c ↔ (Trail self.old path.now c ⊎ LeftSince disk 0 c)) }
+        ensures moment { OnOk result (moments_at self.new path.now ≡ moment_of disk) }
+        ensures since { OnOk result ((t : ℕ) (c : List ℕ) → LeftAt self.new path.now t c ↔ LeftSince disk t c) }
         ensures other_images { OnOk result ((p : List ℕ) → p ≢ path.now → image_at self.new p ≡ image_at self.old p) }
         ensures other_trails { OnOk result ((p c : List ℕ) → p ≢ path.now → Trail self.new p c ↔ Trail self.old p c) }
         ensures own_later { min self.old.own (2 ^ 64 - 1) ≤ min self.new.own (2 ^ 64 - 1) }

@@ -8,13 +8,16 @@ use Rattle.opfs_outside.specs.declared.stream.Sink.{Ghosts as SinkWords}
 use Rattle.opfs_outside.specs.declared.stream.Source.{Ghosts as SourceWords}
 use Rattle.opfs_outside.specs.Faults.{Rose}
 
--- A host, before and after a call: its images by path, what a stop may have left there, its own faults, and all faults.
+-- A host, before and after a call: its images by path, what a stop may have left there, its own faults, and all faults; and
+-- after it, of the disk that was last given back at each path, its moments and what a stop may have left from each of them on.
 pub record HostTurn : Type 1 where
   pub tells : Type 0
   pub image : List ℕ → Option (List ℕ)
   pub image_after : List ℕ → Option (List ℕ)
   pub trail : List ℕ → List ℕ → Type 0
   pub trail_after : List ℕ → List ℕ → Type 0
+  pub moment_after : List ℕ → ℕ
+  pub since_after : List ℕ → ℕ → List ℕ → Type 0
   pub own : ℕ
   pub own_after : ℕ
   pub faults : ℕ
@@ -27,6 +30,8 @@ of_host h old new = record {
   image_after = h.image new;
   trail = h.trail old;
   trail_after = h.trail new;
+  moment_after = h.moment new;
+  since_after = h.since new;
   own = h.own_faults old;
   own_after = h.own_faults new;
   faults = h.faults old;
@@ -47,11 +52,13 @@ pub record ImageStays (h : HostTurn) (path : List ℕ) : Type 0 where
   pub image : h.image_after path ≡ h.image path
   pub trail : (c : List ℕ) → h.trail_after path c → h.trail path c ⊎ (h.image path ≡ Some c)
 
--- A disk was given back: its content is the image at the path, what a stop may have left of it is added to the trail there,
--- and every other path is as before.
-pub record GivenBack (h : HostTurn) (path content : List ℕ) (left : List ℕ → Type 0) : Type 0 where
+-- A disk was given back after this last moment: its content is the image at the path, what a stop may have left of it from
+-- each moment on is known there, all of that is added to the trail, and every other path is as before.
+pub record GivenBack (h : HostTurn) (path content : List ℕ) (last : ℕ) (left : ℕ → List ℕ → Type 0) : Type 0 where
   pub image : h.image_after path ≡ Some content
-  pub trail : (c : List ℕ) → h.trail_after path c ↔ (h.trail path c ⊎ left c)
+  pub trail : (c : List ℕ) → h.trail_after path c ↔ (h.trail path c ⊎ left 0 c)
+  pub moment : h.moment_after path ≡ last
+  pub since : (t : ℕ) (c : List ℕ) → h.since_after path t c ↔ left t c
   pub others : OthersAsBefore h path
 
 -- A count of a host rose: that of its own faults, or that of all, which has those of its disks.

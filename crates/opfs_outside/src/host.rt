@@ -31,6 +31,12 @@ pub trait Host {
     /// The images that a stop may have left at a path since the host was made.
     ghost trail: { Self → List ℕ → List ℕ → Type 0 };
 
+    /// How many moments the disk had that was last given back at a path.
+    ghost moment: { Self → List ℕ → ℕ };
+
+    /// The images that a stop may have left at a path from that moment of that disk on.
+    ghost since: { Self → List ℕ → ℕ → List ℕ → Type 0 };
+
     /// How often it or a disk that was given back has failed.
     ghost faults: { Self → ℕ };
 
@@ -59,6 +65,8 @@ pub trait Host {
     fn give_back(&mut self, path: &str, disk: Self::D) -> Result<(), Failed>
         ensures content { OnOk result (tells → image self.new path.now ≡ Some (Self.D.content disk)) }
         ensures trail { OnOk result (tells → (c : List ℕ) → trail self.new path.now c ↔ (trail self.old path.now c ⊎ Self.D.since disk 0 c)) }
+        ensures moment { OnOk result (tells → moment self.new path.now ≡ Self.D.moment disk) }
+        ensures since { OnOk result (tells → (t : ℕ) (c : List ℕ) → since self.new path.now t c ↔ Self.D.since disk t c) }
         ensures other_images { OnOk result (tells → (p : List ℕ) → p ≢ path.now → image self.new p ≡ image self.old p) }
         ensures other_trails { OnOk result (tells → (p c : List ℕ) → p ≢ path.now → trail self.new p c ↔ trail self.old p c) }
         ensures own_later { own_faults self.old ≤ own_faults self.new }

@@ -1,7 +1,7 @@
 use Rattle.std.proofs.Common.{◌≡◌, true, false, sym, ◌∙◌, ap}
 use Rattle.opfs_memory.specs.Shelves.{Shelf, spot_at, can_take}
 use Rattle.opfs_memory.proofs.Shelving.{out_at, fails_as}
-use Rattle.opfs_memory.proofs.HostCalls.{given_content, given_trail, given_other_images, given_other_trails}
+use Rattle.opfs_memory.proofs.HostCalls.{given_content, given_trail, given_moment, given_since, given_other_images, given_other_trails}
 use Rattle.opfs_memory.proofs.mem_host.MemHostHost.give_back.Goals as goal
 
 pub returns-in-Some-clause-content : goal.returns-in-Some-clause-content
@@ -15,6 +15,18 @@ returns-in-Some-clause-trail c = λ k.
     let m = c.take_faults.new.self in
     let same : m.places ≡ c.args.self.now.places = ap (λ (x : Shelf). x.places) c.take_faults.ensures ∙ ap (λ (x : Shelf). x.places) c.is_named-named.ensures.counted in
     given_trail c.args.path.now c.args.self.now m c.keep.new.self same c.in-Some.at c.in-Some.ensures.0 c.args.disk c.keep.ensures.after k
+
+pub returns-in-Some-clause-moment : goal.returns-in-Some-clause-moment
+returns-in-Some-clause-moment c =
+    let m = c.take_faults.new.self in
+    let same : m.places ≡ c.args.self.now.places = ap (λ (x : Shelf). x.places) c.take_faults.ensures ∙ ap (λ (x : Shelf). x.places) c.is_named-named.ensures.counted in
+    given_moment c.args.path.now c.args.self.now m c.keep.new.self same c.in-Some.at c.in-Some.ensures.0 c.args.disk c.keep.ensures.after
+
+pub returns-in-Some-clause-since : goal.returns-in-Some-clause-since
+returns-in-Some-clause-since c = λ t k.
+    let m = c.take_faults.new.self in
+    let same : m.places ≡ c.args.self.now.places = ap (λ (x : Shelf). x.places) c.take_faults.ensures ∙ ap (λ (x : Shelf). x.places) c.is_named-named.ensures.counted in
+    given_since c.args.path.now c.args.self.now m c.keep.new.self same c.in-Some.at c.in-Some.ensures.0 c.args.disk c.keep.ensures.after t k
 
 pub returns-in-Some-clause-other_images : goal.returns-in-Some-clause-other_images
 returns-in-Some-clause-other_images c = λ p ne.
