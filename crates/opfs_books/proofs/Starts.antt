@@ -27,6 +27,7 @@ use Rattle.opfs_tree.specs.Rows.{Rows}
 use Rattle.opfs_tree.specs.declared.row.Row.{Row}
 use Rattle.opfs_tree.specs.declared.row.Row.TheVariants as row
 use Rattle.opfs_books.specs.Opened.{IsOpened}
+use Rattle.opfs_books.proofs.laws.Fronts.{none-recent}
 use Rattle.opfs_books.specs.Seen.{book}
 
 root-charged : (place : Place) (r : Row) → one_if (is_root place) ≤ row_charge New place r
@@ -43,9 +44,6 @@ few-roots : (b : Built) → roots b ≤ charge_of New b
 unfolding charge_of
 few-roots b = omega (arith, roots-charged b.rows)
 
-none-some : (n : ℕ) → ◌≡◌ {A = Option ℕ} None (Some n) → ⊥
-none-some n h = cc
-
 pub starts : {D : Type 0} (w : DiskWords D) → (w.tells → CommitLaws w) → (f : Fixed D) (recorded : Built) (m : Machine) (t : Rows) (room : ℕ) (j : Seen D) → IsOpened w f recorded m t room j
     → (j2 : Seen D) (back : KeptBack) → j2 ≡ record j { spare = j2.spare } → room ≤ j2.spare → back ≡ record { bytes = []; count = 0; long = false; room = room }
     → AreBooks w f recorded (book [] m t back None) j2
@@ -58,17 +56,16 @@ starts {D} w laws f recorded m t room j is j2 back journal spare none =
     let account : begun_with o f.geometry recorded ≡ account_of f recorded b = λ i. record { opening = o; geometry = f.geometry; told = []; doubted = []; recorded = recorded; rows = sym is.rows i } in
     let images : (t2 : w.tells) → AreImages w (begun_with o f.geometry recorded) (committing j2 back) = λ t2.
     (laws t2).begins o f.geometry recorded j (committing j2 back)
-    (record { journal = is.journal; image = is.image t2; stored = is.stored; same = journal; none = λ i. record { bytes = ap (λ (x : KeptBack). x.bytes) none i; count = ap (λ (x : KeptBack). x.count) none i; long = ap (λ (x : KeptBack). x.long) none i; room = back.room } }) in
+    (record { limits = is.limits; journal = is.journal; image = is.image t2; stored = is.stored; same = journal; none = λ i. record { bytes = ap (λ (x : KeptBack). x.bytes) none i; count = ap (λ (x : KeptBack). x.count) none i; long = ap (λ (x : KeptBack). x.long) none i; room = back.room } }) in
     record {
       whole = is.whole;
-      blocks = is.blocks;
-      area = is.area;
+      limits = is.limits;
       told = record { real = []; opened = (refl, refl); alike = refl; told = λ t2. refl };
       machine = is.machine;
       few = record { each = λ k. omega arith; agents = λ k far. refl; none = refl; gone = omega (arith, few-roots (stored_built t m.persistent), fits, is.range) };
       images = λ t2. subst (λ a. AreImages w a (committing j2 back)) account (images t2);
       trail = λ t2 steady. subst (λ (d : D). IsTrail w o [] d j2.disk) (sym disk) ((laws t2).trail_begins o (floor []) j2.disk ((laws t2).fronts (begun_with o f.geometry recorded) (committing j2 back) (images t2)));
-      inside = λ n h. absurd (none-some n h);
+      recent = none-recent o [] None refl;
       counted = record {
         faults = inl (omega (arith, ap w.faults disk));
         fewer = omega (arith, ap w.faults disk);

@@ -7,3 +7,4 @@ pub mod Storing
 pub mod Committing
 pub mod Settling
 pub mod Pending
+pub mod Fronts

@@ -1,3 +1,4 @@
 pub mod Books
 pub mod Laws
 pub mod Commits
+pub mod Fronts

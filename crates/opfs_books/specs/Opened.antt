@@ -5,7 +5,7 @@ use Rattle.opfs_books.specs.Stored.Spelled.{stored_built}
 use Rattle.opfs_codec.specs.declared.change.Format.TheVariants.{New}
 use Rattle.opfs_image.specs.Agreeing.{IsJournalOf, IsImageOf}
 use Rattle.opfs_image.specs.Filling.{filled}
-use Rattle.opfs_image.specs.Superblock.{area_bytes, data_base}
+use Rattle.opfs_image.specs.Superblock.{area_bytes, data_base, limits_by}
 use Rattle.opfs_journal.specs.Seen.{Seen}
 use Rattle.opfs_laws.specs.Whole.{IsWholeOpening}
 use Rattle.opfs_laws.specs.Lengths.Outlines.{in_lengths_of}
@@ -19,11 +19,10 @@ use Rattle.opfs_tree.specs.Rows.{Rows}
 use Rattle.std.specs.Prelude.{ℕ, ◌+◌, ◌≤◌}
 
 -- A run begins over an image that was recovered: its opening is the machine's over what the journal's records build, with
--- the image's sizes, and what stands ready is that.
+-- the image's sizes and quota, and what stands ready is that.
 pub record IsOpened {D : Type 0} (w : DiskWords D) (f : Fixed D) (recorded : Built) (m : Machine) (t : Rows) (room : ℕ) (j : Seen D) : Type 0 where
   pub whole : IsWholeOpening f.opening
-  pub blocks : f.opening.limits.blocks ≡ f.geometry.blocks
-  pub area : f.opening.limits.area ≡ area_bytes f.geometry
+  pub limits : f.opening.limits ≡ limits_by f.geometry
   pub machine : m ≡ in_lengths_of (begun f.opening)
   pub rows : stored_built t m.persistent ≡ recorded
   pub begun : f.begun ≡ j.disk

@@ -96,7 +96,8 @@ shown_more o least all more c s = record {
   split = sym (append_assoc s.shown s.rest more) ∙ ap (λ xs. xs ++ more) s.split;
   enough = s.enough;
   stands = s.stands;
+  sizes = s.sizes;
 }
 
 pub shown_least : (o : Opening) (least less : ℕ) (all : List Change) (c : List ℕ) → less ≤ least → IsShown o least all c → IsShown o less all c
-shown_least o least less all c le s = record { shown = s.shown; rest = s.rest; split = s.split; enough = omega (arith, le, s.enough); stands = s.stands }
+shown_least o least less all c le s = record { shown = s.shown; rest = s.rest; split = s.split; enough = omega (arith, le, s.enough); stands = s.stands; sizes = s.sizes }

@@ -19,7 +19,7 @@ use Rattle.opfs_commit.proofs.Spelling.{room_is}
 use Rattle.opfs_commit.proofs.Writing.{kept_none}
 use Rattle.opfs_image.specs.Agreeing.{IsJournalOf, IsImageOf}
 use Rattle.opfs_image.specs.Filling.{filled}
-use Rattle.opfs_image.specs.Superblock.{area_bytes, areas_of, data_base}
+use Rattle.opfs_image.specs.Superblock.{area_bytes, areas_of, data_base, limits_by}
 use Rattle.opfs_image.specs.declared.geometry.Geometry.{Geometry}
 use Rattle.opfs_image.proofs.Layering.{layered}
 use Rattle.opfs_journal.specs.Format.{Stored, records_of}
@@ -53,6 +53,7 @@ module _ {D : Type 0} (w : DiskWords D) (a : Account) (k : Committing D) (images
       acked = images.acked;
       later = images.later ++ change ∷ [];
       split = sym (append_assoc images.acked images.later (change ∷ [])) ∙ ap (λ (xs : List Change). xs ++ change ∷ []) images.split;
+      limits = images.limits;
       areas = images.areas;
       reads = images.reads;
       kept_back = record {
@@ -113,7 +114,7 @@ some_same : (s t : Stored) → Some s ≡ Some t → s ≡ t
 some_same s t e = cc
 
 module _ {D : Type 0} (w : DiskWords D) (o : Opening) (g : Geometry) (built : Built) (journal : Seen D) (of : IsJournalOf w.size g journal) (image : IsImageOf w.content w.moment w.since g built journal)
-    (stored : o.stored ≡ filled (data_base g) (w.content journal.disk) built) where
+    (limits : o.limits ≡ limits_by g) (stored : o.stored ≡ filled (data_base g) (w.content journal.disk) built) where
   pub begun_images : (k : Committing D) → k.journal ≡ record journal { spare = k.journal.spare } → k.back.bytes ≡ [] → k.back.count ≡ 0 → k.back.long ≡ false
       → AreImages w (record { opening = o; geometry = g; told = []; doubted = []; recorded = built; rows = built }) k
   begun_images k is bytes count long =
@@ -126,6 +127,7 @@ module _ {D : Type 0} (w : DiskWords D) (o : Opening) (g : Geometry) (built : Bu
         acked = [];
         later = [];
         split = refl;
+        limits = limits;
         areas = of.areas;
         reads = reads;
         kept_back = kept_none g.blocks built;

@@ -25,6 +25,7 @@ module _ {D : Type 0} (w : DiskWords D) (a : Account) (k : Committing D) (images
     split = images.split;
     enough = floor_kept a.told images.acked images.later images.split images.kept_back.quiet;
     stands = stands_by a.geometry (kept k.journal) a.recorded (durable a.opening images.acked) c images.reads h records;
+    sizes = record { geometry = a.geometry; found = h.geometry; limits = sym images.limits };
   }
 
   -- One with the records in doubt shows all, with what is in doubt.
@@ -36,6 +37,7 @@ module _ {D : Type 0} (w : DiskWords D) (a : Account) (k : Committing D) (images
     split = append-nil (a.told ++ a.doubted);
     enough = omega (arith, floor_most a.told, length-append a.told a.doubted);
     stands = stands_by a.geometry k.journal.doubt doubt.over (durable a.opening (a.told ++ a.doubted)) c doubt.reads h records;
+    sizes = record { geometry = a.geometry; found = h.geometry; limits = sym images.limits };
   }
 
   -- So each image that a crash may leave now shows a front, at least up to the last content.
@@ -53,6 +55,7 @@ module _ {D : Type 0} (w : DiskWords D) (a : Account) (k : Committing D) (images
         split = sym (append_assoc s.shown s.rest a.doubted) ∙ ap (λ xs. xs ++ a.doubted) s.split;
         enough = s.enough;
         stands = s.stands;
+        sizes = s.sizes;
       }
 
   -- The present rows hold, in the content, all that was told.

@@ -23,6 +23,7 @@ none_doubted w a own k images settled = record {
   acked = images.acked;
   later = images.later;
   split = images.split;
+  limits = images.limits;
   areas = images.areas;
   reads = images.reads;
   kept_back = images.kept_back;
@@ -61,6 +62,7 @@ module _ {D : Type 0} (w : DiskWords D) (full : IsFull w) (whole : IsWhole w) (f
       acked = images.acked;
       later = images.later;
       split = images.split;
+      limits = images.limits;
       areas = areas ∙ images.areas;
       reads = subst (λ (s : Stored). IsReadAs a.geometry s a.recorded) (sym shut.records) images.reads;
       kept_back = kept_still;
@@ -91,6 +93,7 @@ module _ {D : Type 0} (w : DiskWords D) (full : IsFull w) (whole : IsWhole w) (f
         acked = images.acked;
         later = images.later;
         split = images.split;
+        limits = images.limits;
         areas = areas ∙ images.areas;
         reads = subst (λ (s : Stored). IsReadAs a.geometry s a.recorded) (sym shut.records) images.reads;
         kept_back = kept_still;

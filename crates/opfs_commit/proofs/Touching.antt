@@ -61,6 +61,7 @@ module _ {D : Type 0} (w : DiskWords D) (falls : Falls w) (a : Account) (old new
       acked = images.acked;
       later = images.later;
       split = images.split;
+      limits = images.limits;
       areas = areas ∙ images.areas;
       reads = reads_still;
       kept_back = kept_still;
@@ -92,6 +93,7 @@ module _ {D : Type 0} (w : DiskWords D) (falls : Falls w) (a : Account) (old new
       acked = images.acked;
       later = images.later;
       split = images.split;
+      limits = images.limits;
       areas = areas ∙ images.areas;
       reads = reads_still;
       kept_back = kept_still;

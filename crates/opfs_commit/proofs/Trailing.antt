@@ -1,15 +1,15 @@
 -- How the images that a run leaves on its way grow.
-use Rattle.std.proofs.Common.{◌≡◌, ◌⊎◌, ℕ, ◌+◌, ◌<◌, ◌≤◌, true, false, List, [], ◌∷◌, ◌++◌, length, take, Some, inl, inr, sym, ap, subst, ◌∙◌, arith}
+use Rattle.std.proofs.Common.{◌≡◌, ◌⊎◌, ℕ, zero, suc, ◌+◌, ◌<◌, ◌≤◌, true, false, List, [], ◌∷◌, ◌++◌, length, take, Some, inl, inr, sym, ap, subst, ◌∙◌, arith}
 use Rattle.std.specs.Prelude.{slice_index_or}
-use Rattle.std.proofs.lemmas.Bool.{true≢false, cases_lt}
-use Rattle.std.proofs.lemmas.List.{length-append, get_or_append_left, take-append-le, take_all}
+use Rattle.std.proofs.lemmas.Bool.{true≢false, false≢true, cases_lt}
+use Rattle.std.proofs.lemmas.List.{append-nil, length-append, get_or_append_left, take-append-le, take_all}
 use Rattle.std.proofs.Math.Seq.{get_or-append_seam}
 use Rattle.opfs_commit.specs.Images.{Account, AreImages}
 use Rattle.opfs_commit.specs.Seen.{Committing}
 use Rattle.opfs_commit.specs.Shown.{IsShown, ShowsSince, ShowsEither}
 use Rattle.opfs_commit.specs.Trail.{IsContentAt, IsLeftAt, IsTrail}
-use Rattle.opfs_commit.proofs.Holding.{shown_more, shown_least}
-use Rattle.opfs_commit.proofs.Resting.{finished}
+use Rattle.opfs_commit.proofs.Holding.{AllQuiet, stands_by, shown_more, shown_least}
+use Rattle.opfs_commit.proofs.Resting.{none_left, finished}
 use Rattle.opfs_commit.proofs.Writing.{Falls}
 use Rattle.opfs_image.specs.Filling.{Stands}
 use Rattle.opfs_image.specs.Superblock.{areas_of}
@@ -132,3 +132,38 @@ committed_image w reads a k images none sure crashes =
     let records : records_of (areas_of a.geometry) (w.content k.journal.disk) ≡ Some (kept k.journal) =
     (elim (images.one_of (w.content k.journal.disk) now) [ inl is ↦ is | inr both ↦ absurd (true≢false (sym both.0 ∙ sure)) ]) in
     (w.content k.journal.disk, (now, finished w a k images none records))
+
+-- ---- a content that was told last
+
+-- What is kept back has no content.
+quiet_at : (later : List Change) (i : ℕ) → AllQuiet later → i < length later → is_content (slice_index_or later i (evict [])) ≡ false
+quiet_at [] i quiet lt = absurd (omega (arith, lt))
+quiet_at (x ∷ xs) zero quiet lt = quiet.0
+quiet_at (x ∷ xs) (suc i) quiet lt = quiet_at xs i quiet.1 (omega (arith, lt))
+
+quiet_behind : (acked later : List Change) (i : ℕ) → AllQuiet later → length acked ≤ i → i < length (acked ++ later) → is_content (slice_index_or (acked ++ later) i (evict [])) ≡ false
+quiet_behind [] later i quiet le lt = quiet_at later i quiet lt
+quiet_behind (x ∷ xs) later zero quiet le lt = absurd (omega (arith, le))
+quiet_behind (x ∷ xs) later (suc i) quiet le lt = quiet_behind xs later i quiet (omega (arith, le)) (omega (arith, lt))
+
+-- So nothing is kept back where a content is the last that was told.
+none_kept : (told acked later : List Change) (n : ℕ) → acked ++ later ≡ told → AllQuiet later → IsContentAt told n → n + 1 ≡ length told → later ≡ []
+none_kept told acked later n split quiet at last =
+    let long : length told ≡ length acked + length later = sym (ap length split) ∙ length-append acked later in
+    none_left later (elim (cases_lt n (length acked)) [
+      | inl lt ↦ omega (arith, lt, last, long)
+      | inr le ↦ absurd (false≢true (
+          sym (subst (λ (xs : List Change). is_content (slice_index_or xs n (evict [])) ≡ false) split (quiet_behind acked later n quiet le (omega (arith, at.0, long, length-append acked later)))) ∙ at.1))
+    ])
+
+pub last_stands : {D : Type 0} (w : DiskWords D) (reads : w.crashes → (d : D) → w.since d (w.moment d) (w.content d)) (a : Account) (k : Committing D) (n : ℕ) → AreImages w a k → IsContentAt a.told n → n + 1 ≡ length a.told
+    → a.doubted ≡ [] → w.crashes → Stands (w.content k.journal.disk) (durable a.opening a.told)
+last_stands w reads a k n images at last none crashes =
+    let c = w.content k.journal.disk in
+    elim (images.one_of c (reads crashes k.journal.disk)) [
+      | inl records ↦ finished w a k images (sym images.count ∙ ap length (none_kept a.told images.acked images.later n images.split images.kept_back.quiet at last)) records
+      | inr both ↦
+          let doubt = images.doubt both.0 in
+          subst (λ (xs : List Change). Stands c (durable a.opening xs)) (ap (λ (xs : List Change). a.told ++ xs) none ∙ append-nil a.told)
+          (stands_by a.geometry k.journal.doubt doubt.over (durable a.opening (a.told ++ a.doubted)) c doubt.reads doubt.here both.1)
+    ]

@@ -86,6 +86,7 @@ module _ {D : Type 0} (w : DiskWords D) (full : IsFull w) (whole : IsWhole w) (f
     split = append-nil (a.told ++ own);
     enough = omega (arith, floor_most a.told, length-append a.told own);
     stands = stands_by a.geometry next built (durable a.opening (a.told ++ own)) c to_store.reads h records;
+    sizes = record { geometry = a.geometry; found = h.geometry; limits = sym images.limits };
   }
 
   module _ (one : IsOneOf w next j new.journal) where
@@ -108,6 +109,7 @@ module _ {D : Type 0} (w : DiskWords D) (full : IsFull w) (whole : IsWhole w) (f
         acked = a.told ++ own;
         later = [];
         split = append-nil (a.told ++ own);
+        limits = images.limits;
         areas = areas ∙ images.areas;
         reads = subst (λ (s : Stored). IsReadAs a.geometry s built) (sym is.records) to_store.reads;
         kept_back = subst (λ (b : KeptBack). AreKeptBack a.geometry.blocks b.bytes b.long [] built built) (sym none) (kept_none a.geometry.blocks built);
@@ -147,6 +149,7 @@ module _ {D : Type 0} (w : DiskWords D) (full : IsFull w) (whole : IsWhole w) (f
       acked = images.acked;
       later = images.later;
       split = images.split;
+      limits = images.limits;
       areas = areas ∙ images.areas;
       reads = subst (λ (s : Stored). IsReadAs a.geometry s a.recorded) (sym torn.records) images.reads;
       kept_back = subst (λ (b : KeptBack). AreKeptBack a.geometry.blocks b.bytes b.long images.later a.recorded a.rows) (sym same) images.kept_back;

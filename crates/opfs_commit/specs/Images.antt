@@ -3,7 +3,7 @@ use Rattle.std.specs.Prelude.{◌≡◌, ℕ, ◌⊎◌, true, List, [], ◌∷�
 use Rattle.opfs_commit.specs.Keeping.{AreKeptBack}
 use Rattle.opfs_commit.specs.Seen.{Committing}
 use Rattle.opfs_commit.specs.Shown.{IsReadAs, Holds}
-use Rattle.opfs_image.specs.Superblock.{areas_of}
+use Rattle.opfs_image.specs.Superblock.{areas_of, limits_by}
 use Rattle.opfs_image.specs.declared.geometry.Geometry.{Geometry}
 use Rattle.opfs_journal.specs.Format.{records_of}
 use Rattle.opfs_journal.specs.Seen.{Seen, kept}
@@ -34,12 +34,13 @@ pub record IsDoubt {D : Type 0} (w : DiskWords D) (a : Account) (j : Seen D) : T
   pub here : Holds a.geometry over (durable a.opening (a.told ++ a.doubted)) (w.content j.disk)
   pub holds : (c : List ℕ) → MayBe w j c → Holds a.geometry over (durable a.opening (a.told ++ a.doubted)) c
 
--- The journal's records build what holds all that was told but for what is kept back, in each image and in the
--- content, whichever records it has. Each image has the journal's records, or those in doubt.
+-- The opening's sizes are the geometry's. The journal's records build what holds all that was told but for what is kept
+-- back, in each image and in the content, whichever records it has. Each image has the journal's records, or those in doubt.
 pub record AreImages {D : Type 0} (w : DiskWords D) (a : Account) (k : Committing D) : Type 0 where
   pub acked : List Change
   pub later : List Change
   pub split : acked ++ later ≡ a.told
+  pub limits : a.opening.limits ≡ limits_by a.geometry
   pub areas : k.journal.areas ≡ areas_of a.geometry
   pub reads : IsReadAs a.geometry (kept k.journal) a.recorded
   pub kept_back : AreKeptBack a.geometry.blocks k.back.bytes k.back.long later a.recorded a.rows

@@ -1,5 +1,5 @@
 -- The laws of images that a crash may leave while changes are committed. This project's own.
-use Rattle.std.specs.Prelude.{◌≡◌, ℕ, ◌+◌, ◌≤◌, ◌++◌, false, List, [], ◌∷◌, Some}
+use Rattle.std.specs.Prelude.{◌≡◌, ℕ, ◌+◌, ◌≤◌, ◌++◌, false, List, [], ◌∷◌, length, Some}
 use Rattle.opfs_base.specs.declared.extents.Extent.{Extent}
 use Rattle.opfs_codec.specs.Spelling.{IsChange}
 use Rattle.opfs_codec.specs.declared.change.Change.{Change as Spelled}
@@ -9,7 +9,7 @@ use Rattle.opfs_commit.specs.Images.{Account, AreImages, committed, doubting, ke
 use Rattle.opfs_commit.specs.Making.{IsToStore, IsKept, IsReadyFor, IsOwn, IsWhole, IsBegun, AreBeside, begun_with, told_as, new_bytes}
 use Rattle.opfs_commit.specs.Seen.{KeptBack, Committing, committing, with_kept, with_back, with_own, IsQuiet}
 use Rattle.opfs_commit.specs.Shown.{ShowsSince, ShowsEither}
-use Rattle.opfs_commit.specs.Trail.{IsTrail}
+use Rattle.opfs_commit.specs.Trail.{IsContentAt, IsTrail}
 use Rattle.opfs_data.specs.Calls.{Reads}
 use Rattle.opfs_image.specs.Filling.{Stands, filled}
 use Rattle.opfs_image.specs.Superblock.{area_bytes, areas_of, data_base}
@@ -113,6 +113,12 @@ RowsHoldWhatWasTold {D} w = (a : Account) (k : Committing D) → AreImages w a k
 abbrev pub ContentsStand : {D : Type 0} → DiskWords D → Type 0
 ContentsStand {D} w =
     (a : Account) (k : Committing D) → AreImages w a k → k.back.count ≡ 0 → records_of (areas_of a.geometry) (w.content k.journal.disk) ≡ Some (kept k.journal) → Stands (w.content k.journal.disk) (durable a.opening a.told)
+
+-- The content stands for all that was told where the last change of it is a content, behind which nothing is kept back, and
+-- nothing is in doubt: whichever records it has.
+abbrev pub LastContentsStand : {D : Type 0} → DiskWords D → Type 0
+LastContentsStand {D} w =
+    (a : Account) (k : Committing D) (n : ℕ) → AreImages w a k → IsContentAt a.told n → n + 1 ≡ length a.told → a.doubted ≡ [] → w.crashes → Stands (w.content k.journal.disk) (durable a.opening a.told)
 
 -- A call that only reads leaves the images as they are, and so does one that writes pages aside of what the records name. At
 -- each moment of it an image shows what one of before may show.

@@ -13,7 +13,7 @@ use Rattle.opfs_data.specs.Calls.{Writes}
 use Rattle.opfs_data.specs.Places.{Aside, bytes_of}
 use Rattle.opfs_image.specs.Agreeing.{IsJournalOf, IsImageOf}
 use Rattle.opfs_image.specs.Filling.{Names, filled}
-use Rattle.opfs_image.specs.Superblock.{area_bytes, data_base}
+use Rattle.opfs_image.specs.Superblock.{area_bytes, data_base, limits_by}
 use Rattle.opfs_image.specs.declared.geometry.Geometry.{Geometry}
 use Rattle.opfs_journal.specs.Format.{Stored}
 use Rattle.opfs_journal.specs.Seen.{Seen}
@@ -62,6 +62,7 @@ abbrev pub begun_with : Opening → Geometry → Built → Account
 begun_with o g built = record { opening = o; geometry = g; told = []; doubted = []; recorded = built; rows = built }
 
 pub record IsBegun {D : Type 0} (w : DiskWords D) (o : Opening) (g : Geometry) (built : Built) (recovered : Seen D) (k : Committing D) : Type 0 where
+  pub limits : o.limits ≡ limits_by g
   pub journal : IsJournalOf w.size g recovered
   pub image : IsImageOf w.content w.moment w.since g built recovered
   pub stored : o.stored ≡ filled (data_base g) (w.content recovered.disk) built

@@ -2,7 +2,7 @@
 use Rattle.std.specs.Prelude.{◌≡◌, ℕ, ◌+◌, ◌≤◌, ◌⊎◌, List, ◌++◌, length, Some, Ok}
 use Rattle.opfs_codec.specs.declared.change.Format.TheVariants.{New}
 use Rattle.opfs_image.specs.Filling.{Stands, filled}
-use Rattle.opfs_image.specs.Superblock.{area_bytes, data_base, geometry_of}
+use Rattle.opfs_image.specs.Superblock.{area_bytes, data_base, geometry_of, limits_by}
 use Rattle.opfs_image.specs.declared.geometry.Geometry.{Geometry}
 use Rattle.opfs_journal.specs.Format.{Stored}
 use Rattle.opfs_machine.specs.Changes.{Change, durable}
@@ -12,13 +12,21 @@ use Rattle.opfs_records.specs.Replay.Applying.{rows_of}
 use Rattle.opfs_records.specs.Replay.Built.{Built}
 use Rattle.opfs_records.specs.Replay.Sums.{charge_of}
 
--- The image stands for what is stored after a front of these changes, with so many of them at least.
+-- The image has the sizes of an opening, and its quota.
+pub record HasSizes (o : Opening) (c : List ℕ) : Type 0 where
+  pub geometry : Geometry
+  pub found : geometry_of c ≡ Ok geometry
+  pub limits : limits_by geometry ≡ o.limits
+
+-- The image stands for what is stored after a front of these changes, with so many of them at least, and has the opening's
+-- sizes.
 pub record IsShown (o : Opening) (least : ℕ) (all : List Change) (c : List ℕ) : Type 0 where
   pub shown : List Change
   pub rest : List Change
   pub split : shown ++ rest ≡ all
   pub enough : least ≤ length shown
   pub stands : Stands c (durable o shown)
+  pub sizes : HasSizes o c
 
 -- The records are of format 2, and build this, whose charge fits an area with a record's 7 bytes.
 pub record IsReadAs (g : Geometry) (stored : Stored) (b : Built) : Type 0 where

@@ -8,6 +8,7 @@ use Rattle.opfs_base.specs.Texts.{same_text}
 use Rattle.opfs_outside.specs.Bytes.{window}
 use Rattle.opfs_journal.specs.Format.{number_at}
 use Rattle.opfs_journal.specs.declared.areas.Areas.{Areas}
+use Rattle.opfs_machine.specs.declared.state.Limits.{Limits}
 use Rattle.opfs_image.specs.declared.geometry.Geometry.{Geometry}
 use Rattle.opfs_image.specs.declared.refusal.ImageRefusal.{ImageRefusal}
 use Rattle.opfs_image.specs.declared.refusal.ImageRefusal.TheVariants as refusal
@@ -31,6 +32,10 @@ is_in_range g = is_between 1 4096 g.areas && is_between 1 65536 g.blocks && is_b
 -- the bytes of an area, where the areas and the data part begin, and the least length of an image
 abbrev pub area_bytes : Geometry → ℕ
 area_bytes g = 4096 * g.areas
+
+-- how much a store over an image of these sizes may hold
+abbrev pub limits_by : Geometry → Limits
+limits_by g = record { area = area_bytes g; blocks = g.blocks; quota = g.quota }
 
 abbrev pub areas_of : Geometry → Areas
 areas_of g = record { first = 4096; bytes = area_bytes g }

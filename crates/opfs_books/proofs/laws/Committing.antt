@@ -36,8 +36,9 @@ use Rattle.opfs_books.specs.Laws.Books.{Fixed, Book, IsToldAt, IsNext, AreCounte
 use Rattle.opfs_books.specs.Laws.Commits.{CommitLaws, StateLaws}
 use Rattle.opfs_books.specs.Laws.Laws.{told, IsEntered, IsCovered, CommittedCallsKeepTheBooks, CommittedEvictionsKeepTheBooks, FailedCommitsKeepTheBooks, KeepingBackKeepsTheBooks}
 use Rattle.opfs_books.proofs.laws.Counting.{rose-before, rose-once-more, counted-later, counted-entry}
-use Rattle.opfs_books.proofs.laws.Entering.{told-new, machine-new, changes-new, length-new, few-new, counted-new}
+use Rattle.opfs_books.proofs.laws.Entering.{told-new, machine-new, changes-new, few-new, counted-new}
 use Rattle.opfs_books.proofs.laws.Few.{few-eviction}
+use Rattle.opfs_books.proofs.laws.Fronts.{none-recent, last-recent}
 use Rattle.opfs_books.proofs.laws.Sound.{next_good, next_roots, evicted_roots, evicted_charge}
 use Rattle.opfs_books.proofs.laws.Storing.{done-images, done-trail, done-later, done-back, done-sure, done-stays, failed-images, failed-later, failed-stays, failed-back, next-room}
 use Rattle.opfs_books.proofs.laws.Told.{told-evicted, told-state, changes-more}
@@ -50,12 +51,6 @@ fault-refuses r h = absurd (false≢true h)
 -- The state of a whole history is kept.
 pub whole-state : (tells : Type 0) (o : Opening) (h : List Entry) (base : State Text Own) → IsToldAt tells o h base [] → (r : List Entry) × Legal o r × (state_after o r ≡ base)
 whole-state tells o h base t = (t.real, open-whole (begun o) [] t.real base [] refl t.opened, sym (unread-state o h t.real t.alike) ∙ told-state tells o h base [] t)
-
-none-some : (n : ℕ) → ◌≡◌ {A = Option ℕ} None (Some n) → ⊥
-none-some n h = cc
-
-some-same : (m n : ℕ) → ◌≡◌ {A = Option ℕ} (Some m) (Some n) → m ≡ n
-some-same m n h = cc
 
 module _ (states : StateLaws) {D : Type 0} (w : DiskWords D) where
   pub kept-state : (f : Fixed D) (recorded : Built) (base : State Text Own) (b : Book) (j : Seen D) → AreBooksAt w f recorded base [] b j → IsWhole base × Kept b.machine
@@ -75,7 +70,7 @@ module _ (states : StateLaws) {D : Type 0} (w : DiskWords D) where
         let machine : new.machine ≡ in_lengths_of (state_after o new.entries) = machine-new w f recorded base gone b new old e are next entered in
         let kept = subst Kept (sym machine) (states.lengths.whole (state_after o new.entries) whole) in
         let same : (state_after o new.entries).limits ≡ o.limits = ap (λ (s : State Text Own). s.limits) (sym there.2) ∙ states.counts.limits o there.0 there.1 in
-        let limits : new.machine.limits.area ≡ area_bytes f.geometry = ap (λ m. m.limits.area) machine ∙ ap (λ l. l.area) same ∙ are.area in
+        let limits : new.machine.limits.area ≡ area_bytes f.geometry = ap (λ m. m.limits.area) machine ∙ ap (λ l. l.area) (same ∙ are.limits) in
         omega (arith, kept.area, covered, limits)
 
   module _ (laws : w.tells → CommitLaws w) (most : (d : D) → w.faults d ≤ 2 ^ 64 - 1) where
@@ -92,14 +87,13 @@ module _ (states : StateLaws) {D : Type 0} (w : DiskWords D) where
         let sure = done-sure w laws most f recorded base gone b old are settled spelled new.rows change made fits same j new.back any in
         record {
           whole = are.whole;
-          blocks = are.blocks;
-          area = are.area;
+          limits = are.limits;
           told = told-new w f recorded base gone b new old e are next entered;
           machine = machine-new w f recorded base gone b new old e are next entered;
           few = few-new w f recorded base gone b new old e are next entered (next_roots f.geometry.blocks b.rows new.rows spelled made.found);
           images = λ t. subst (λ a. AreImages w a (committing j new.back)) account (done-images w laws most f recorded base gone b old are settled spelled new.rows change made fits same j new.back any t);
           trail = λ t steady. subst (λ cs. IsTrail w o cs f.begun j.disk) (sym grown) (done-trail w laws most f recorded base gone b old are settled spelled new.rows change made fits same j new.back any t steady);
-          inside = λ n is. absurd (none-some n (sym place ∙ is));
+          recent = none-recent o new.entries new.place place;
           counted = counted-new w f recorded base gone b new old e are next entered j
               (counted-later (w.faults f.begun) (w.faults old.disk) (w.faults j.disk) b.entries old.in_doubt j.in_doubt (most j.disk) are.counted
               (done-later w laws most f recorded base gone b old are settled spelled new.rows change made fits same j new.back any) (λ d. absurd (false≢true (sym sure ∙ d))))
@@ -131,14 +125,13 @@ module _ (states : StateLaws) {D : Type 0} (w : DiskWords D) where
         (done-later w laws most f recorded base gone b old are settled spelled new.rows change made fits same j new.back any) (λ d. absurd (false≢true (sym sure ∙ d))) in
         record {
           whole = are.whole;
-          blocks = are.blocks;
-          area = are.area;
+          limits = are.limits;
           told = subst (λ es. IsToldAt w.tells o es base (gone ++ unit ∷ [])) (sym entries) (told-evicted w.tells o b.entries base gone are.told unit);
           machine = machine;
           few = subst (λ es. AreFew es new.rows) (sym entries) (few-eviction b.entries unit b.rows new.rows are.few (evicted_roots size b.rows new.rows unit made.found));
           images = λ t. subst (λ a. AreImages w a (committing j new.back)) account (done-images w laws most f recorded base gone b old are settled spelled new.rows change made fits same j new.back any t);
           trail = λ t steady. subst (λ cs. IsTrail w o cs f.begun j.disk) (sym grown) (done-trail w laws most f recorded base gone b old are settled spelled new.rows change made fits same j new.back any t steady);
-          inside = λ n is. absurd (none-some n (sym place ∙ is));
+          recent = none-recent o new.entries new.place place;
           counted = subst (λ es. AreCounted (w.faults f.begun) (w.faults j.disk) es j.in_doubt) (sym entries) (counted-entry (w.faults f.begun) (w.faults j.disk) b.entries (eviction unit) j.in_doubt counted (λ h. absurd (false≢true h)));
           areas = stays.areas ∙ are.areas;
           spare = omega (arith, back.0, stays.spare, are.spare);
@@ -165,14 +158,13 @@ module _ (states : StateLaws) {D : Type 0} (w : DiskWords D) where
         let counted = counted-later (w.faults f.begun) (w.faults old.disk) (w.faults j.disk) b.entries old.in_doubt j.in_doubt (most j.disk) are.counted later (λ d. inr rose) in
         record {
           whole = are.whole;
-          blocks = are.blocks;
-          area = are.area;
+          limits = are.limits;
           told = told-new w f recorded base gone b new old e are its entered;
           machine = machine-new w f recorded base gone b new old e are its entered;
           few = few-new w f recorded base gone b new old e are its entered (omega (arith, ap roots rows));
           images = λ t. subst (λ a. AreImages w a (committing j new.back)) (account t) (failed-images w laws most f recorded base gone b old are settled spelled next change made fits same j new.back none t);
           trail = λ t steady. absurd (steady (rose-before (w.faults f.begun) (w.faults old.disk) (w.faults j.disk) are.counted.fewer rose));
-          inside = λ n is. omega (arith, some-same (length b.entries) n (sym place ∙ is), length-new w f recorded base gone b new old e are its entered);
+          recent = last-recent o b.entries new.entries e new.place entered.entries place;
           counted = counted-new w f recorded base gone b new old e are its entered j counted
               (λ h. rose-once-more (disk_faults b.entries) (w.faults f.begun) (w.faults old.disk) (w.faults j.disk) (most j.disk) are.counted.faults later rose);
           areas = stays.areas ∙ are.areas;
@@ -194,8 +186,7 @@ module _ (states : StateLaws) {D : Type 0} (w : DiskWords D) where
         let good = next_good f.geometry.blocks b.rows new.rows spelled are.stored.sound are.stored.writable made.order made.again made.found in
         record {
           whole = are.whole;
-          blocks = are.blocks;
-          area = are.area;
+          limits = are.limits;
           told = told-new w f recorded base gone b new j e are its entered;
           machine = machine-new w f recorded base gone b new j e are its entered;
           few = few-new w f recorded base gone b new j e are its entered (next_roots f.geometry.blocks b.rows new.rows spelled made.found);
@@ -204,7 +195,7 @@ module _ (states : StateLaws) {D : Type 0} (w : DiskWords D) where
               let more = (laws t).kept (doubting (account_of f recorded b) []) (committing j b.back) spelled change new.rows sure settled (is_kept t) in
               subst (λ a. AreImages w a (committing j new.back)) account (subst (λ k. AreImages w (keeping (doubting (account_of f recorded b) []) change new.rows) (committing j k)) (sym back) more);
           trail = λ t steady. subst (λ cs. IsTrail w o cs f.begun j.disk) (sym grown) ((laws t).trail_kept o (told f b) change f.begun j.disk (are.trail t steady) (is_kept t).quiet);
-          inside = λ n is. absurd (none-some n (sym place ∙ is));
+          recent = none-recent o new.entries new.place place;
           counted = counted-new w f recorded base gone b new j e are its entered j are.counted (λ h. absurd (false≢true (sym plain ∙ h)));
           areas = are.areas;
           spare = omega (arith, ap (λ (k : KeptBack). k.room) back, are.spare);

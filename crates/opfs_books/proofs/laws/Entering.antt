@@ -1,6 +1,5 @@
 -- What an entry leaves of the history, and an entry that stores nothing of the books.
 use Rattle.std.proofs.Common.{◌≡◌, ℕ, ◌+◌, ◌<◌, ◌≤◌, false, List, [], ◌∷◌, ◌++◌, fold, length, Option, Some, None, is_some, refl, sym, ap, ◌∙◌, subst, append-nil, arith}
-use Rattle.std.proofs.lemmas.List.{length-append}
 use Rattle.opfs_base.specs.Texts.{Text}
 use Rattle.opfs_commit.specs.Images.{AreImages}
 use Rattle.opfs_commit.specs.Seen.{KeptBack, committing}
@@ -23,6 +22,7 @@ use Rattle.opfs_books.specs.Laws.Books.{Fixed, Book, IsToldAt, IsNext, AreCounte
 use Rattle.opfs_books.specs.Laws.Laws.{IsEntered, HasRisen, TellsKeepTheBooks}
 use Rattle.opfs_books.proofs.laws.Counting.{counted-entry}
 use Rattle.opfs_books.proofs.laws.Few.{few-call}
+use Rattle.opfs_books.proofs.laws.Fronts.{still-recent}
 use Rattle.opfs_books.proofs.laws.Told.{told-state, told-next, next-state, next-reply, next-plain, changes-more}
 
 -- A doubt stays as the history goes on.
@@ -53,9 +53,6 @@ module _ {D : Type 0} (w : DiskWords D) (f : Fixed D) (recorded : Built) (base :
   pub changes-new : changes o new.entries ≡ changes o b.entries ++ entry_changes (fold evicted base gone) e
   changes-new = ap (changes o) entered.entries ∙ changes-more o b.entries e ∙ ap (λ s. changes o b.entries ++ entry_changes s e) state-now
 
-  pub length-new : length new.entries ≡ length b.entries + 1
-  length-new = ap length entered.entries ∙ length-append b.entries (e ∷ [])
-
   pub few-new : roots new.rows ≤ roots b.rows + 1 → AreFew new.entries new.rows
   few-new made = subst (λ es. AreFew es new.rows) (sym entered.entries) (few-call b.entries e not-eviction b.rows new.rows are.few entered.placed made)
 
@@ -68,7 +65,7 @@ module _ {D : Type 0} (w : DiskWords D) (f : Fixed D) (recorded : Built) (base :
     changes-same = changes-new ∙ ap (λ cs. changes o b.entries ++ cs) none ∙ append-nil (changes o b.entries)
 
     doubted-same : doubted o new.entries new.place ≡ doubted o b.entries b.place
-    doubted-same = (λ i. doubted o (entered.entries i) (place i)) ∙ doubted-more o b.entries (e ∷ []) b.place are.inside
+    doubted-same = (λ i. doubted o (entered.entries i) (place i)) ∙ doubted-more o b.entries (e ∷ []) b.place are.recent.inside
 
     account-same : account_of f recorded new ≡ account_of f recorded b
     account-same = λ i. record { opening = f.opening; geometry = f.geometry; told = changes-same i; doubted = doubted-same i; recorded = recorded; rows = rows i }
@@ -76,14 +73,13 @@ module _ {D : Type 0} (w : DiskWords D) (f : Fixed D) (recorded : Built) (base :
     pub told_keeps : AreBooks w f recorded new j
     told_keeps = record {
       whole = are.whole;
-      blocks = are.blocks;
-      area = are.area;
+      limits = are.limits;
       told = told-new;
       machine = machine-new;
       few = few-new (omega (arith, ap roots rows));
       images = λ t. subst (λ a. AreImages w a (committing j new.back)) (sym account-same) (subst (λ k. AreImages w (account_of f recorded b) (committing j k)) (sym back) (are.images t));
       trail = λ t steady. subst (λ cs. IsTrail w o cs f.begun j.disk) (sym changes-same) (are.trail t steady);
-      inside = λ n is. omega (arith, are.inside n (sym place ∙ is), length-new);
+      recent = still-recent o b.entries (e ∷ []) new.entries b.place new.place are.recent entered.entries place changes-same;
       counted = counted-new j are.counted risen;
       areas = are.areas;
       spare = subst (λ (k : KeptBack). k.room ≤ j.spare) (sym back) are.spare;

@@ -36,6 +36,7 @@ use Rattle.opfs_books.proofs.laws.Committing.{kept-state}
 use Rattle.opfs_books.proofs.laws.Counting.{count-append, count-cons, one_false, rose-once-more}
 use Rattle.opfs_books.proofs.laws.Entering.{doubted-more}
 use Rattle.opfs_books.proofs.laws.Few.{few-calls, short-history}
+use Rattle.opfs_books.proofs.laws.Fronts.{still-recent}
 use Rattle.opfs_books.proofs.laws.Told.{told-whole, whole-told, told-state}
 
 fault-unread : (r : Reply) → is_disk_fault (unread r) ≡ is_disk_fault r
@@ -70,20 +71,19 @@ pending-keeps states w f recorded b new j k es are pending entries machine rows 
     told-more w.tells o h es p.real t (go-on o t.real p.real t.legal (pending-legal (state_after o t.real) k p.real (subst (λ s. ArePending s k p.real) (unread-state o h t.real t.alike) p.pending))).0 p.alike p.told in
     let stored : changes o new.entries ≡ changes o h =
     ap (changes o) entries ∙ changes-append (begun o) h es ∙ ap (λ cs. changes o h ++ cs) (pending-stores-none states w.tells k (state_after o h) es pending) ∙ append-nil (changes o h) in
-    let doubt_same : doubted o new.entries new.place ≡ doubted o h b.place = (λ i. doubted o (entries i) (place i)) ∙ doubted-more o h es b.place are.inside in
+    let doubt_same : doubted o new.entries new.place ≡ doubted o h b.place = (λ i. doubted o (entries i) (place i)) ∙ doubted-more o h es b.place are.recent.inside in
     let account : account_of f recorded new ≡ account_of f recorded b =
     λ i. record { opening = f.opening; geometry = f.geometry; told = stored i; doubted = doubt_same i; recorded = recorded; rows = rows i } in
     let faults : disk_faults new.entries ≡ disk_faults h = ap disk_faults entries ∙ pending-faults states w.tells k (state_after o h) h es pending in
     record {
       whole = are.whole;
-      blocks = are.blocks;
-      area = are.area;
+      limits = are.limits;
       told = subst (λ es. IsToldAt w.tells o es (state_after o es) []) (sym entries) (whole-told w.tells o (h ++ es) told);
       machine = machine ∙ ap (λ es. in_lengths_of (state_after o es)) (sym entries);
       few = subst (λ x. AreFew x new.rows) (sym entries) (subst (λ x. AreFew (h ++ es) x) (sym rows) (few-calls h es k b.rows (pending-plain states w.tells k (state_after o h) es pending) are.few first last room));
       images = λ t. subst (λ a. AreImages w a (committing j new.back)) (sym account) (subst (λ k. AreImages w (account_of f recorded b) (committing j k)) (sym back) (are.images t));
       trail = λ t steady. subst (λ cs. IsTrail w o cs f.begun j.disk) (sym stored) (are.trail t steady);
-      inside = λ n is. omega (arith, are.inside n (sym place ∙ is), ap length entries, length-append h es);
+      recent = still-recent o h es new.entries b.place new.place are.recent entries place stored;
       counted = record {
         faults = subst (λ n. RoseBy n (w.faults f.begun) (w.faults j.disk)) (sym faults) are.counted.faults;
         fewer = are.counted.fewer;

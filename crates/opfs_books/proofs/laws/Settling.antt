@@ -24,12 +24,10 @@ use Rattle.opfs_outside.specs.declared.disk.Disk.{Ghosts as DiskWords}
 use Rattle.opfs_records.specs.Replay.Built.{Built}
 use Rattle.opfs_books.specs.Laws.Books.{Fixed, Book, account_of, AreBooksAt}
 use Rattle.opfs_books.specs.Laws.Commits.{CommitLaws}
-use Rattle.opfs_books.specs.Laws.Laws.{told, doubt, ShowsTold, SettlingKeepsTheBooks, UnsettledKeepsTheBooks, SettlingShows, CommittedAloneKeepsTheBooks, FailedAloneKeepsTheBooks, AloneShows, ReadsKeepTheBooks, PagesKeepTheBooks, BooksShowTheirImages, CommitsShow}
+use Rattle.opfs_books.specs.Laws.Laws.{told, doubt, ShowsTold, SettlingKeepsTheBooks, UnsettledKeepsTheBooks, SettlingShows, CommittedAloneKeepsTheBooks, FailedAloneKeepsTheBooks, AloneShows, ReadsKeepTheBooks, PagesKeepTheBooks, BooksShowTheirImages, BooksStandAtAContent, CommitsShow}
 use Rattle.opfs_books.proofs.laws.Counting.{rose-before, rose-later, counted-later}
+use Rattle.opfs_books.proofs.laws.Fronts.{none-recent}
 use Rattle.opfs_books.proofs.laws.Storing.{done-shown, failed-shown}
-
-none-some : (n : ℕ) → ◌≡◌ {A = Option ℕ} None (Some n) → ⊥
-none-some n h = cc
 
 module _ {D : Type 0} (w : DiskWords D) (laws : w.tells → CommitLaws w) (most : (d : D) → w.faults d ≤ 2 ^ 64 - 1) where
   module _ (f : Fixed D) (recorded : Built) (base : State Text Own) (gone : List Text) (b : Book) (old : Seen D) (are : AreBooksAt w f recorded base gone b old) where
@@ -79,14 +77,13 @@ module _ {D : Type 0} (w : DiskWords D) (laws : w.tells → CommitLaws w) (most 
     pub settled-books : (new : Book) (j : Seen D) → IsSettled w old j → new ≡ record b { place = None } → AreBooksAt w f recorded base gone new j
     settled-books new j is same = subst (λ x. AreBooksAt w f recorded base gone x j) (sym same) (record {
       whole = are.whole;
-      blocks = are.blocks;
-      area = are.area;
+      limits = are.limits;
       told = are.told;
       machine = are.machine;
       few = are.few;
       images = λ t. (laws t).ends account b.back old j (are.images t) is;
       trail = settled-trail j is;
-      inside = λ n h. absurd (none-some n h);
+      recent = none-recent f.opening b.entries None refl;
       counted = counted-later (w.faults f.begun) (w.faults old.disk) (w.faults j.disk) b.entries old.in_doubt j.in_doubt (most j.disk) are.counted is.later (λ d. absurd (false≢true (sym is.sure ∙ d)));
       areas = is.stays.areas ∙ are.areas;
       spare = omega (arith, is.stays.spare, are.spare);
@@ -98,14 +95,13 @@ module _ {D : Type 0} (w : DiskWords D) (laws : w.tells → CommitLaws w) (most 
     pub unsettled-books : (j : Seen D) → IsUnsettled w old j → AreBooksAt w f recorded base gone b j
     unsettled-books j is = record {
       whole = are.whole;
-      blocks = are.blocks;
-      area = are.area;
+      limits = are.limits;
       told = are.told;
       machine = are.machine;
       few = are.few;
       images = λ t. (laws t).stays account b.back old j (are.images t) is;
       trail = λ t steady. absurd (steady-before j is.later steady (are.counted.raised is.was));
-      inside = are.inside;
+      recent = are.recent;
       counted = counted-later (w.faults f.begun) (w.faults old.disk) (w.faults j.disk) b.entries old.in_doubt j.in_doubt (most j.disk) are.counted is.later (λ d. inl is.was);
       areas = is.stays.areas ∙ are.areas;
       spare = omega (arith, is.stays.spare, are.spare);
@@ -121,14 +117,13 @@ module _ {D : Type 0} (w : DiskWords D) (laws : w.tells → CommitLaws w) (most 
     pub read-books : (j : Seen D) → Reads w old j → AreBooksAt w f recorded base gone b j
     read-books j is = record {
       whole = are.whole;
-      blocks = are.blocks;
-      area = are.area;
+      limits = are.limits;
       told = are.told;
       machine = are.machine;
       few = are.few;
       images = λ t. (laws t).reads account b.back old j (are.images t) is;
       trail = trail-goes-on j is.later (λ t. (is.told t).time) (read-shown j is);
-      inside = are.inside;
+      recent = are.recent;
       counted = counted-later (w.faults f.begun) (w.faults old.disk) (w.faults j.disk) b.entries old.in_doubt j.in_doubt (most j.disk) are.counted is.later (λ d. inl (sym is.in_doubt ∙ d));
       areas = is.stays.areas ∙ are.areas;
       spare = omega (arith, is.stays.spare, are.spare);
@@ -145,14 +140,13 @@ module _ {D : Type 0} (w : DiskWords D) (laws : w.tells → CommitLaws w) (most 
     pub page-books : (extents : List Extent) (j : Seen D) → AreBeside w account extents old j → AreBooksAt w f recorded base gone b j
     page-books extents j is = record {
       whole = are.whole;
-      blocks = are.blocks;
-      area = are.area;
+      limits = are.limits;
       told = are.told;
       machine = are.machine;
       few = are.few;
       images = λ t. (laws t).pages account b.back extents old j (are.images t) is;
       trail = λ t steady. (laws t).trail_on f.opening (told f b) (floor (told f b)) f.begun old.disk j.disk (are.trail t (steady-before j is.writes.later steady)) (is.writes.told t).time (page-shown extents j is t);
-      inside = are.inside;
+      recent = are.recent;
       counted = counted-later (w.faults f.begun) (w.faults old.disk) (w.faults j.disk) b.entries old.in_doubt j.in_doubt (most j.disk) are.counted is.writes.later (λ d. inl (sym is.writes.in_doubt ∙ d));
       areas = is.writes.stays.areas ∙ are.areas;
       spare = omega (arith, is.writes.stays.spare, are.spare);
@@ -180,8 +174,7 @@ module _ {D : Type 0} (w : DiskWords D) (laws : w.tells → CommitLaws w) (most 
       pub alone-books : (new : Book) (j : Seen D) → new ≡ record b { place = None; back = new.back } → IsAnyOf w (IsNextAlone b.rows (committing old b.back)) (committing old b.back) (committing j new.back) → AreBooksAt w f b.rows base gone new j
       alone-books new j same any = subst (λ x. AreBooksAt w f b.rows base gone x j) (sym same) (record {
         whole = are.whole;
-        blocks = are.blocks;
-        area = are.area;
+        limits = are.limits;
         told = are.told;
         machine = are.machine;
         few = are.few;
@@ -190,7 +183,7 @@ module _ {D : Type 0} (w : DiskWords D) (laws : w.tells → CommitLaws w) (most 
             subst (λ all. AreImages w (record { opening = f.opening; geometry = f.geometry; told = all; doubted = []; recorded = b.rows; rows = b.rows }) (committing j new.back)) (append-nil (told f b)) done;
         trail = λ t steady.
             (laws t).trail_on f.opening (told f b) (floor (told f b)) f.begun old.disk j.disk (are.trail t (steady-before j any.committed.journal.later steady)) (any.committed.journal.told t).written.time (alone-shown j new.back (inl any) t);
-        inside = λ n h. absurd (none-some n h);
+        recent = none-recent f.opening b.entries None refl;
         counted = counted-later (w.faults f.begun) (w.faults old.disk) (w.faults j.disk) b.entries old.in_doubt j.in_doubt (most j.disk) are.counted any.committed.journal.later (λ d. absurd (false≢true (sym any.committed.journal.sure ∙ d)));
         areas = any.committed.journal.stays.areas ∙ are.areas;
         spare = omega (arith, ap (λ (k : KeptBack). k.room) any.committed.none, any.committed.journal.stays.spare, are.spare);
@@ -203,14 +196,13 @@ module _ {D : Type 0} (w : DiskWords D) (laws : w.tells → CommitLaws w) (most 
           → AreBooksAt w f recorded base gone new j
       alone-failed new j same none rose = subst (λ x. AreBooksAt w f recorded base gone x j) (sym same) (record {
         whole = are.whole;
-        blocks = are.blocks;
-        area = are.area;
+        limits = are.limits;
         told = are.told;
         machine = are.machine;
         few = are.few;
         images = λ t. (laws t).in_doubt account [] none.next b.rows (committing old b.back) (committing j new.back) (ready t none.next none.kind) none.halted;
         trail = λ t steady. absurd (steady (rose-before (w.faults f.begun) (w.faults old.disk) (w.faults j.disk) are.counted.fewer rose));
-        inside = λ n h. absurd (none-some n h);
+        recent = none-recent f.opening b.entries None refl;
         counted = counted-later (w.faults f.begun) (w.faults old.disk) (w.faults j.disk) b.entries old.in_doubt j.in_doubt (most j.disk) are.counted none.halted.journal.later (λ d. inr rose);
         areas = none.halted.journal.stays.areas ∙ are.areas;
         spare = omega (arith, ap (λ (k : KeptBack). k.room) none.halted.same, none.halted.journal.stays.spare, are.spare);
@@ -246,6 +238,9 @@ module _ {D : Type 0} (w : DiskWords D) (laws : w.tells → CommitLaws w) (most 
 
   pub books-show : BooksShowTheirImages w
   books-show f recorded base gone b j are = rest-shown f recorded base gone b j are
+
+  pub stands-last : BooksStandAtAContent w
+  stands-last f recorded base gone b j are t n at last none crashes = (laws t).last_content (account_of f recorded b) (committing j b.back) n (are.images t) at last none crashes
 
   pub commits-show : CommitsShow w
   commits-show f recorded base gone b old j back spelled next change are is_sure made fits same (inl any) = done-shown w laws most f recorded base gone b old are is_sure spelled next change made fits same j back any

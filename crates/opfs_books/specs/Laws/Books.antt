@@ -1,6 +1,6 @@
 -- What the books of a run hold, and what is kept of them: the history, the images that a crash may leave, and the counts of
 -- faults. This project's own.
-use Rattle.std.specs.Prelude.{◌≡◌, ℕ, ◌+◌, ◌<◌, ◌≤◌, ◌^◌, ◌==◌, ◌&&◌, not, true, Bool, List, [], fold, map, length, count_by, Option, Some, is_some}
+use Rattle.std.specs.Prelude.{◌≡◌, ℕ, ◌+◌, ◌<◌, ◌≤◌, ◌^◌, ◌==◌, ◌&&◌, not, true, Bool, List, [], fold, map, count_by, Option, is_some}
 use Rattle.opfs_base.specs.Texts.{Text}
 use Rattle.opfs_codec.specs.declared.change.Format.TheVariants.{New}
 use Rattle.opfs_commit.specs.Images.{Account, AreImages}
@@ -11,7 +11,7 @@ use Rattle.opfs_hist.specs.declared.entry.Entry.{Entry}
 use Rattle.opfs_laws.specs.Histories.Doubts.{doubted}
 use Rattle.opfs_laws.specs.Histories.Opened.{IsOpenAt}
 use Rattle.opfs_laws.specs.Histories.Unread.{unread_entry}
-use Rattle.opfs_image.specs.Superblock.{area_bytes, areas_of}
+use Rattle.opfs_image.specs.Superblock.{area_bytes, areas_of, limits_by}
 use Rattle.opfs_image.specs.declared.geometry.Geometry.{Geometry}
 use Rattle.opfs_journal.specs.Seen.{Seen}
 use Rattle.opfs_laws.specs.Whole.{IsWholeOpening}
@@ -29,6 +29,7 @@ use Rattle.opfs_records.specs.Replay.Built.{Built, IsSound}
 use Rattle.opfs_records.specs.Replay.Sums.{charge_of}
 use Rattle.opfs_records.specs.Checkpoint.Written.{AreWritable}
 use Rattle.opfs_base.specs.Measures.{is_root}
+use Rattle.opfs_books.specs.Laws.Fronts.{IsRecent}
 
 -- What never changes in a run: its opening as the machine has it, over the disk as it was then; the sizes of the image; and
 -- that disk.
@@ -117,18 +118,17 @@ account_of f recorded b = record {
 
 -- The books while a call is made: its evictions stand, and its entry does not.
 pub record AreBooksAt {D : Type 0} (w : DiskWords D) (f : Fixed D) (recorded : Built) (base : State Text Own) (gone : List Text) (b : Book) (j : Seen D) : Type 0 where
-  -- the run began whole, with the image's sizes
+  -- the run began whole, with the image's sizes and quota
   pub whole : IsWholeOpening f.opening
-  pub blocks : f.opening.limits.blocks ≡ f.geometry.blocks
-  pub area : f.opening.limits.area ≡ area_bytes f.geometry
+  pub limits : f.opening.limits ≡ limits_by f.geometry
   -- the history, and the machine that it leaves
   pub told : IsToldAt w.tells f.opening b.entries base gone
   pub machine : b.machine ≡ in_lengths_of (fold evicted base gone)
   pub few : AreFew b.entries b.rows
-  -- the images, and the trail of a disk that never failed
+  -- the images, and the trail of a disk that never failed; behind the entry whose change may be in doubt nothing was stored
   pub images : w.tells → AreImages w (account_of f recorded b) (committing j b.back)
   pub trail : w.tells → (Rose (w.faults f.begun) (w.faults j.disk) → ⊥) → IsTrail w f.opening (changes f.opening b.entries) f.begun j.disk
-  pub inside : (n : ℕ) → b.place ≡ Some n → n < length b.entries
+  pub recent : IsRecent f.opening b.entries b.place
   -- the counts
   pub counted : AreCounted (w.faults f.begun) (w.faults j.disk) b.entries j.in_doubt
   -- room for what is to be written

@@ -10,6 +10,7 @@ use Rattle.opfs_commit.specs.Calls.{IsSettled, IsUnsettled, IsNext as IsNextReco
 use Rattle.opfs_commit.specs.Making.{AreBeside, told_as, new_bytes}
 use Rattle.opfs_commit.specs.Seen.{KeptBack, committing, with_kept, IsQuiet}
 use Rattle.opfs_commit.specs.Shown.{ShowsSince}
+use Rattle.opfs_commit.specs.Trail.{IsContentAt}
 use Rattle.opfs_data.specs.Calls.{Reads}
 use Rattle.opfs_hist.specs.Faults.{is_disk_fault, disk_faults}
 use Rattle.opfs_hist.specs.declared.entry.Entry.{Entry}
@@ -17,6 +18,7 @@ use Rattle.opfs_hist.specs.declared.reply.Refusal.TheVariants as refusal
 use Rattle.opfs_hist.specs.declared.reply.Reply.TheVariants as reply
 use Rattle.opfs_laws.specs.Histories.Doubts.{doubted, faulted}
 use Rattle.opfs_laws.specs.Histories.Unread.{ArePendingFor}
+use Rattle.opfs_image.specs.Filling.{Stands}
 use Rattle.opfs_image.specs.Superblock.{area_bytes, data_base}
 use Rattle.opfs_journal.specs.Clauses.{Outside}
 use Rattle.opfs_journal.specs.Seen.{Seen, Stays}
@@ -25,7 +27,7 @@ use Rattle.opfs_laws.specs.Lengths.Kept.{Kept}
 use Rattle.opfs_laws.specs.Lengths.Outlines.{in_lengths_of}
 use Rattle.opfs_machine.specs.declared.own.Own.{Own}
 use Rattle.opfs_machine.specs.declared.state.State.{State}
-use Rattle.opfs_machine.specs.Changes.{Change, entry_changes, changes, floor}
+use Rattle.opfs_machine.specs.Changes.{Change, durable, entry_changes, changes, floor}
 use Rattle.opfs_machine.specs.Contents.{in_lengths}
 use Rattle.opfs_machine.specs.Histories.{IsCall, state_after}
 use Rattle.opfs_machine.specs.Runs.{eviction}
@@ -213,6 +215,14 @@ abbrev pub BooksShowTheirImages : {D : Type 0} → DiskWords D → Type 0
 BooksShowTheirImages {D} w =
     (f : Fixed D) (recorded : Built) (base : State Text Own) (gone : List Text) (b : Book) (j : Seen D)
     → AreBooksAt w f recorded base gone b j → ShowsTold w f b (told f b ++ doubt f b j) j j
+
+-- Where the last change that was told is a content and nothing is in doubt, the disk as it reads stands for all that was told,
+-- wherever a crash may come at all.
+abbrev pub BooksStandAtAContent : {D : Type 0} → DiskWords D → Type 0
+BooksStandAtAContent {D} w =
+    (f : Fixed D) (recorded : Built) (base : State Text Own) (gone : List Text) (b : Book) (j : Seen D)
+    → AreBooksAt w f recorded base gone b j → w.tells → (n : ℕ) → IsContentAt (told f b) n → n + 1 ≡ length (told f b)
+    → doubted f.opening b.entries b.place ≡ [] → w.crashes → Stands (w.content j.disk) (durable f.opening (told f b))
 
 -- The state of books between calls is that of a legal history, and is kept as such.
 pub record BooksKeepTheState {D : Type 0} (w : DiskWords D) : Type 0 where

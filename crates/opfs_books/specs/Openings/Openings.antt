@@ -4,19 +4,15 @@ use Rattle.std.specs.Prelude.{ℕ, List, map}
 use Rattle.opfs_books.specs.Laws.Books.{Fixed}
 use Rattle.opfs_image.specs.Agreeing.{built_in}
 use Rattle.opfs_image.specs.Filling.{filled}
-use Rattle.opfs_image.specs.Superblock.{area_bytes, data_base}
+use Rattle.opfs_image.specs.Superblock.{data_base}
+pub use Rattle.opfs_image.specs.Superblock.{limits_by}
 use Rattle.opfs_image.specs.declared.geometry.Geometry.{Geometry}
 use Rattle.opfs_image.specs.declared.recovered.Recovered.{Recovered}
-use Rattle.opfs_machine.specs.declared.state.Limits.{Limits}
 use Rattle.opfs_machine.specs.Openings.{Opening}
 use Rattle.opfs_machine.specs.Openings.{Who as Caller}
 use Rattle.opfs_outside.specs.declared.disk.Disk.{Ghosts as DiskWords}
 use Rattle.opfs_records.specs.Replay.Built.{Built}
 use Rattle.opfs_register.specs.declared.seat.Who.{Who}
-
--- How much a store over an image of these sizes may hold.
-abbrev pub limits_by : Geometry → Limits
-limits_by g = record { area = area_bytes g; blocks = g.blocks; quota = g.quota }
 
 -- An agent as the machine has it.
 abbrev pub caller_by : Who → Caller

@@ -3,7 +3,7 @@
 ghost use Rattle.opfs_books.specs.Laws.Commits.{CommitLaws, StateLaws};
 ghost use Rattle.opfs_books.specs.Laws.Laws.{TellsKeepTheBooks, PendingKeepsTheBooks, SettlingKeepsTheBooks, UnsettledKeepsTheBooks, SettlingShows, KeepingBackKeepsTheBooks};
 ghost use Rattle.opfs_books.specs.Laws.Laws.{CommittedCallsKeepTheBooks, CommittedEvictionsKeepTheBooks, FailedCommitsKeepTheBooks, CommitsShow, CommittedAloneKeepsTheBooks, FailedAloneKeepsTheBooks, AloneShows};
-ghost use Rattle.opfs_books.specs.Laws.Laws.{ReadsKeepTheBooks, PagesKeepTheBooks, BooksShowTheirImages, BooksKeepTheState, FaultsAreCounted};
+ghost use Rattle.opfs_books.specs.Laws.Laws.{ReadsKeepTheBooks, PagesKeepTheBooks, BooksShowTheirImages, BooksStandAtAContent, BooksKeepTheState, FaultsAreCounted};
 
 use opfs_commit::{
     a_change_is_kept_back, a_doubt_ends, a_run_begins_with_its_image, a_trail_grows,
@@ -106,6 +106,13 @@ pub fn pages_beside_leave_the_books<D: Disk>()
 /// What the images show at rest.
 pub fn the_books_show_their_images<D: Disk>()
     ensures { BooksShowTheirImages D.Disk }
+{
+    commit_laws::<D>();
+}
+
+/// What the disk stands for behind a content that was told last.
+pub fn a_last_content_stands<D: Disk>()
+    ensures { BooksStandAtAContent D.Disk }
 {
     commit_laws::<D>();
 }

@@ -1,4 +1,5 @@
 use Rattle.opfs_commit.proofs.Resting.{rows_are, finished}
+use Rattle.opfs_commit.proofs.Trailing.{last_stands}
 use Rattle.opfs_commit.proofs.laws.the_rows_hold_what_was_told.Goals as goal
 
 pub returns-clause-rows : goal.returns-clause-rows
@@ -8,3 +9,8 @@ returns-clause-rows g s told a k images =
 pub returns-clause-finished : goal.returns-clause-finished
 returns-clause-finished g s told a k images none records =
     finished g.D.Disk a k images none records
+
+pub returns-clause-last_content : goal.returns-clause-last_content
+returns-clause-last_content g s told a k n images at last none crashes =
+    let laws = g.met.D.Disk in
+    last_stands g.D.Disk laws.reads a k n images at last none crashes

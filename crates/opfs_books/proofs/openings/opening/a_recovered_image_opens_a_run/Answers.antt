@@ -13,8 +13,7 @@ returns-clause-opened g c agents =
     let sorted = c.know_order-2.ensures in
     record {
       whole = whole from.geometry content from.tree shed from.map from.charge agents from.agrees c.know_order.ensures.order c.know_order.ensures.closed sorted;
-      blocks = refl;
-      area = refl;
+      limits = refl;
       machine = same from.geometry content from.tree shed from.map from.charge agents from.agrees c.know_order.ensures.order c.know_order.ensures.closed sorted;
       rows = λ i. record { rows = stored-same from.geometry.blocks from.tree from.agrees.parts.sound.files i; persistent = sym (modes from.geometry content from.tree shed from.map from.charge agents from.agrees c.know_order.ensures.order c.know_order.ensures.closed sorted) i };
       begun = refl;
