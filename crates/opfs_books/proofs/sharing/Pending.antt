@@ -25,7 +25,7 @@ use Rattle.opfs_laws.specs.Lengths.Outlines.{local_change}
 use Rattle.opfs_machine.specs.declared.own.Outline.{Outline}
 use Rattle.opfs_machine.specs.declared.own.Outline.TheVariants as outline
 use Rattle.opfs_machine.specs.declared.state.Agent.{Agent}
-use Rattle.opfs_machine.specs.Agents.{agent_of, agent_in, counted, nobody, used_now, with_agent}
+use Rattle.opfs_machine.specs.Agents.{agent_of, counted, nobody, used_now, with_agent}
 use Rattle.opfs_machine.specs.Steps.{is_refusal}
 use Rattle.opfs_register.specs.Seating.{noted as noted_agent, used_by}
 use Rattle.opfs_state_rows.proofs.standing.AgentMoves.{number, agent-set}

@@ -1,5 +1,5 @@
 -- What a call that stores something leaves of the tree is what the machine has then.
-use Rattle.std.proofs.Common.{◌≡◌, ℕ, Bool, true, false, not, ◌&&◌, List, [], ◌∷◌, ◌++◌, filter, Option, Some, None, option_map, refl, sym, ap, ◌∙◌, subst}
+use Rattle.std.proofs.Common.{◌≡◌, ℕ, Bool, true, false, not, List, [], filter, Option, Some, None, option_map, refl, sym, ap, ◌∙◌}
 use Rattle.std.specs.Prelude.{if◌then◌else◌}
 use Rattle.std.specs.FinMap.Entries.{put}
 use Rattle.opfs_base.specs.Places.{Place, place_cmp, place_of, child, is_within}
@@ -8,7 +8,7 @@ use Rattle.opfs_base.specs.Units.{unit_of}
 use Rattle.opfs_base.specs.declared.extents.Extent.{Extent}
 use Rattle.opfs_base.specs.declared.locator.Kind.{Kind}
 use Rattle.opfs_base.specs.declared.locator.Kind.TheVariants as kind
-use Rattle.opfs_state_rows.specs.Changes.Asking.{root_in, bucket_unit, made_at, where_free, free_in, place_for}
+use Rattle.opfs_state_rows.specs.Changes.Asking.{root_in, made_at, where_free, free_in}
 use Rattle.opfs_state_rows.specs.Changes.Changed.{stored_in, flushed_in, grown_by, closed_by, flushed_by, ended_by, tree_by}
 use Rattle.opfs_codec.specs.declared.change.Change.{Change as Spelled}
 use Rattle.opfs_hist.specs.declared.op.Mode.{Mode}
@@ -21,8 +21,8 @@ use Rattle.opfs_machine.specs.declared.state.Row.{Row as Line}
 use Rattle.opfs_machine.specs.declared.state.Sizes.{Sizes}
 use Rattle.opfs_machine.specs.Agents.{agent_of, own_of, with_own, open_stream, open_handle, of_row, stream_in}
 use Rattle.opfs_machine.specs.Contents.{in_lengths}
-use Rattle.opfs_machine.specs.Effects.{moment_of, made, with_changed, content_of, opens_bucket, closes_stream, flushes, closes_handle, persists, effect}
-use Rattle.opfs_machine.specs.Effects.{new_row as new_line, replaced, flushed}
+use Rattle.opfs_machine.specs.Effects.{moment_of, with_changed, content_of, opens_bucket, closes_stream, flushes, closes_handle, persists, effect}
+use Rattle.opfs_machine.specs.Effects.{replaced, flushed}
 use Rattle.opfs_machine.specs.Effects.{unlocked as line_unlocked}
 use Rattle.opfs_machine.specs.Rows.{with_file, row_at}
 use Rattle.opfs_machine.specs.Rows.{change_at as line_change_at}
@@ -32,7 +32,7 @@ use Rattle.opfs_state_rows.specs.Standing.Seen.{Machine, line_of, lines_of}
 use Rattle.opfs_state_rows.proofs.standing.GoneMoves.{lines-without}
 use Rattle.opfs_state_rows.proofs.standing.Lines.{lines-changed}
 use Rattle.opfs_state_rows.proofs.standing.RowMoves.{lines-put}
-use Rattle.opfs_tree.specs.Rows.{Rows, change_at, unlocked, without}
+use Rattle.opfs_tree.specs.Rows.{Rows, change_at, unlocked}
 use Rattle.opfs_books.specs.Stored.Spelled.{spelled_by}
 
 none_spelled : (c : Spelled) → ◌≡◌ {A = Option Spelled} None (Some c) → ⊥
