@@ -1,15 +1,17 @@
 -- One record takes the place of all: it is written into the other area, whose first gate is closed, and then that gate
 -- is opened.
 use Rattle.std.proofs.Common.{◌≡◌, ℕ, zero, suc, ◌+◌, ◌-◌, ◌*◌, ◌%◌, ◌<◌, ◌≤◌, ◌⊎◌, Bool, true, false, not, List, [], ◌∷◌, length, inl, inr, refl, sym, ◌∙◌, ap, subst, arith, Option, Some, None}
-use Rattle.std.specs.Prelude.{slice_index, ◌==◌}
+use Rattle.std.specs.Prelude.{slice_index, ◌==◌, is_some}
 use Rattle.opfs_outside.specs.Bytes.{Same, Beside}
+use Rattle.opfs_outside.specs.declared.disk.Disk.{Ghosts as DiskWords}
+use Rattle.opfs_journal.specs.Calls.{IsTorn, IsDurable}
 use Rattle.opfs_journal.specs.Clauses.{Outside, After, OneOf}
 use Rattle.opfs_journal.specs.Format.{begin_of, is_generation, next_of, format_of, Stored, records_of, framed}
 use Rattle.opfs_journal.specs.Reading.{Shape, bodies_of, stored_of, Rests}
-use Rattle.opfs_journal.specs.Seen.{seen, kept, one_record}
+use Rattle.opfs_journal.specs.Seen.{Seen, seen, kept, one_record}
 use Rattle.opfs_journal.specs.Standing.{Stands, Torn, Wrote, IsAtRest, IsInDoubt, IsPoised, Told, Began, IsFramed, alone}
 use Rattle.opfs_journal.specs.declared.areas.Areas.{Areas}
-use Rattle.opfs_journal.proofs.Appends.{in_areas}
+use Rattle.opfs_journal.proofs.Appends.{torn_as, wrote_as, in_areas}
 use Rattle.opfs_journal.proofs.Chains.{walks_le}
 use Rattle.opfs_journal.proofs.Frames.{is_framed, length-framed}
 use Rattle.opfs_journal.proofs.Gates.{poised_other, stands_closed_same, stands_ruled_same}
@@ -87,12 +89,76 @@ next_byte g format h = of_small (next_of g) format (omega arith) h
     of_small (suc (suc zero)) format h (inr e) = rw e (refl, refl, refl)
     of_small (suc (suc (suc n))) format h e = absurd (omega arith)
 
-module _ {D : Type 0} (content : D → List ℕ) (moment : D → ℕ) (since : D → ℕ → List ℕ → Type 0)
-    (falls : (d : D) (t u : ℕ) (c : List ℕ) → t ≤ u → since d u c → since d t c)
-    (a : Areas) (second : Bool) (generation tail : ℕ) (closed : Bool) (spare : ℕ) (doubt : Option ℕ) (old d1 d2 : D) (b : List ℕ) (format : ℕ)
-    (t : Told a second generation tail closed doubt (content old) (since old (moment old))) (sure : doubt ≡ None) (least : 7 ≤ a.bytes) (most : a.bytes ≤ 16777216)
-    (room : length b + 7 ≤ a.bytes) (in_format : (format ≡ 1) ⊎ (format ≡ 2)) (k : IsClosed content moment since a t.shape old d1)
-    (torn2 : Torn content moment since (begin_of a (not second) + 1) (length (framed ((next_of generation + 16 * (format - 1)) ∷ b))) d1 d2) where
+pub not_closed : (closed : Bool) → (closed ≡ true → ⊥) → closed ≡ false
+not_closed true never = absurd (never refl)
+not_closed false never = refl
+
+module _ {D : Type 0} (w : DiskWords D) (falls : (d : D) (t u : ℕ) (c : List ℕ) → t ≤ u → w.since d u c → w.since d t c)
+    (a : Areas) (second : Bool) (generation tail : ℕ) (closed : Bool) (spare : ℕ) (doubt : Option ℕ) (old d1 : D)
+    (t : Told a second generation tail closed doubt (w.content old) (w.since old (w.moment old))) (sure : doubt ≡ None) (least : 7 ≤ a.bytes)
+    (at : ℕ) (at_is : at ≡ begin_of a (not second)) where
+  abbrev named : at ≡ begin_of a (not t.shape.second)
+  named = at_is ∙ sym (ap (λ x. begin_of a (not x)) t.of_second)
+
+  abbrev before : Seen D
+  before = seen w.content a generation tail spare doubt old
+
+  -- after the gate is closed, where it before not
+  pub closes : (closed ≡ true → d1 ≡ old) → (closed ≡ false → Torn w.content w.moment w.since at 1 old d1) → (closed ≡ false → Wrote w.content w.moment w.since at (0 ∷ []) d1)
+      → IsClosed w.content w.moment w.since a t.shape old d1
+  closes none torn wrote =
+      is_closed w.content w.moment w.since falls a t.shape least closed old d1 (t.rest sure) none
+      (λ e. subst (λ g. Torn w.content w.moment w.since g 1 old d1) named (torn e)) (λ e. subst (λ g. Wrote w.content w.moment w.since g (0 ∷ []) d1) named (wrote e))
+
+  -- and where that failed
+  module _ (e : closed ≡ false) (torn_there : Torn w.content w.moment w.since at 1 old d1) where
+    rest0 : IsAtRest a t.shape false (w.content old) (w.since old (w.moment old))
+    rest0 = subst (λ x. IsAtRest a t.shape x (w.content old) (w.since old (w.moment old))) e (t.rest sure)
+
+    torn : Torn w.content w.moment w.since (begin_of a (not t.shape.second)) 1 old d1
+    torn = subst (λ g. Torn w.content w.moment w.since g 1 old d1) named torn_there
+
+    rest1 : IsAtRest a t.shape false (w.content d1) (w.since d1 (w.moment d1))
+    rest1 = closing_rest w.content w.moment w.since falls a t.shape least old d1 rest0 torn
+
+    pub told1 : (t' : Told a second generation tail closed doubt (w.content d1) (w.since d1 (w.moment d1))) × (t'.shape ≡ t.shape)
+    told1 = told_at_rest a second generation tail closed doubt (w.content d1) (w.since d1 (w.moment d1)) t.shape t.of_second t.of_generation t.of_tail sure
+        (subst (λ x. IsAtRest a t.shape x (w.content d1) (w.since d1 (w.moment d1))) (sym e) rest1)
+
+    began1 : Began w.content w.moment w.since a old d1
+    began1 = closing_began w.content w.moment w.since falls a t.shape least old d1 rest0 torn
+
+    kept_old : kept before ≡ stored_of t.shape
+    kept_old = kept_told w.content a second generation tail closed spare old (w.since old (w.moment old)) doubt t
+
+    moments1 : (next : Stored) (c : List ℕ) → w.since d1 (w.moment old) c
+        → OneOf (records_of a) (w.since old (w.moment old)) (Outside a) (kept before) next (w.content old) c
+    moments1 next c is = subst (λ (r : Stored). OneOf (records_of a) (w.since old (w.moment old)) (Outside a) r next (w.content old) c) (sym kept_old)
+        (only_before w.content w.moment w.since falls a t.shape false old d1 next began1 (closing_images w.content w.moment w.since falls a t.shape least old d1 rest0 torn) c is)
+
+    records1 : kept (seen w.content a generation tail spare doubt d1) ≡ kept before
+    records1 = kept_told w.content a second generation tail closed spare d1 (w.since d1 (w.moment d1)) doubt told1.0 ∙ ap stored_of told1.1 ∙ sym kept_old
+
+    known1 : (c : List ℕ) → w.since d1 (w.moment d1) c → records_of a c ≡ Some (kept before)
+    known1 c is = stored_at a t.shape c (rest1.images c is).rests ∙ ap (λ r. Some r) (sym kept_old)
+
+    pub stopped1 : (next : Stored) → IsTorn w next before (seen w.content a generation tail spare doubt d1)
+    stopped1 next = record {
+      written = record { outside = began1.outside; time = began1.time; moments = moments1 next };
+      records = records1;
+      doubt = λ unsure. absurd (cc (ap is_some sure, unsure));
+      known = λ _. known1;
+      behind = λ unsure. absurd (cc (ap is_some sure, unsure));
+    }
+
+module _ {D : Type 0} (w : DiskWords D) (falls : (d : D) (t u : ℕ) (c : List ℕ) → t ≤ u → w.since d u c → w.since d t c)
+    (a : Areas) (second : Bool) (generation tail : ℕ) (closed : Bool) (spare : ℕ) (doubt : Option ℕ) (old d1 : D)
+    (t : Told a second generation tail closed doubt (w.content old) (w.since old (w.moment old))) (sure : doubt ≡ None) (least : 7 ≤ a.bytes)
+    (at : ℕ) (at_is : at ≡ begin_of a (not second)) (none : closed ≡ true → d1 ≡ old)
+    (torn_first : closed ≡ false → Torn w.content w.moment w.since at 1 old d1) (wrote_first : closed ≡ false → Wrote w.content w.moment w.since at (0 ∷ []) d1)
+    (b : List ℕ) (format : ℕ) (most : a.bytes ≤ 16777216) (room : length b + 7 ≤ a.bytes) (in_format : (format ≡ 1) ⊎ (format ≡ 2))
+    (bytes : List ℕ) (bytes_are : bytes ≡ framed ((next_of generation + 16 * (format - 1)) ∷ b))
+    (d2 : D) (torn_there : Torn w.content w.moment w.since (at + 1) (length bytes) d1 d2) where
   abbrev gate : ℕ
   gate = begin_of a (not second)
 
@@ -104,6 +170,15 @@ module _ {D : Type 0} (content : D → List ℕ) (moment : D → ℕ) (since : D
 
   abbrev s' : Shape
   s' = alone a s byte b
+
+  abbrev was : Seen D
+  was = seen w.content a generation tail spare doubt old
+
+  k : IsClosed w.content w.moment w.since a s old d1
+  k = closes w falls a second generation tail closed spare doubt old d1 t sure least at at_is none torn_first wrote_first
+
+  torn2 : Torn w.content w.moment w.since (gate + 1) (length (framed (byte ∷ b))) d1 d2
+  torn2 = torn_as w.content w.moment w.since (at + 1) (gate + 1) bytes (framed (byte ∷ b)) d1 d2 (ap (λ x. x + 1) at_is) bytes_are torn_there
 
   size : length (framed (byte ∷ b)) ≡ length b + 6
   size = omega (arith, length-framed (byte ∷ b))
@@ -123,132 +198,116 @@ module _ {D : Type 0} (content : D → List ℕ) (moment : D → ℕ) (since : D
       let high = in_areas a (not second) (gate + 7 + length b) (omega arith) (omega (arith, room)) in
       (low.0, high.1)
 
-  kept_is : kept (seen content a generation tail spare doubt old) ≡ stored_of s
-  kept_is = kept_told content a second generation tail closed spare old (since old (moment old)) doubt t
+  kept_is : kept was ≡ stored_of s
+  kept_is = kept_told w.content a second generation tail closed spare old (w.since old (w.moment old)) doubt t
 
   stored_is : stored_of s' ≡ one_record format b
   stored_is = ap (λ f. one_record f b) (next_byte generation format in_format).2
 
   -- the record is written, or in part
-  rest2 : IsAtRest a s true (content d2) (since d2 (moment d2))
-  rest2 = staged_rest content moment since falls a s true d1 d2 (gate + 1) (length (framed (byte ∷ b))) keeps k.rest torn2
+  rest2 : IsAtRest a s true (w.content d2) (w.since d2 (w.moment d2))
+  rest2 = staged_rest w.content w.moment w.since falls a s true d1 d2 (gate + 1) (length (framed (byte ∷ b))) keeps k.rest torn2
 
-  pub told2 : (t' : Told a second generation tail true doubt (content d2) (since d2 (moment d2))) × (t'.shape ≡ s)
-  told2 = told_at_rest a second generation tail true doubt (content d2) (since d2 (moment d2)) s t.of_second t.of_generation t.of_tail sure rest2
+  pub told2 : (t' : Told a second generation tail true doubt (w.content d2) (w.since d2 (w.moment d2))) × (t'.shape ≡ s)
+  told2 = told_at_rest a second generation tail true doubt (w.content d2) (w.since d2 (w.moment d2)) s t.of_second t.of_generation t.of_tail sure rest2
 
-  pub began2 : Began content moment since a old d2
-  began2 = began_more content moment since falls a old d1 d2 (gate + 1) (length (framed (byte ∷ b))) (omega (arith, gate_in)) (omega (arith, gate_in, size)) k.began torn2
+  began2 : Began w.content w.moment w.since a old d2
+  began2 = began_more w.content w.moment w.since falls a old d1 d2 (gate + 1) (length (framed (byte ∷ b))) (omega (arith, gate_in)) (omega (arith, gate_in, size)) k.began torn2
 
-  images2 : (c : List ℕ) → since d2 (moment old) c → Rests a s c
-  images2 = images_more content moment since falls a s true old d1 d2 (gate + 1) (length (framed (byte ∷ b))) keeps k.began k.images k.rest torn2
+  images2 : (c : List ℕ) → w.since d2 (w.moment old) c → Rests a s c
+  images2 = images_more w.content w.moment w.since falls a s true old d1 d2 (gate + 1) (length (framed (byte ∷ b))) keeps k.began k.images k.rest torn2
 
-  pub moments2 : (c : List ℕ) → since d2 (moment old) c
-      → OneOf (records_of a) (since old (moment old)) (Outside a) (kept (seen content a generation tail spare doubt old)) (one_record format b) (content old) c
-  moments2 c is = subst (λ (r : Stored). OneOf (records_of a) (since old (moment old)) (Outside a) r (one_record format b) (content old) c) (sym kept_is) (only_before content moment since falls a s true old d2 (one_record format b) began2 images2 c is)
+  moments2 : (c : List ℕ) → w.since d2 (w.moment old) c
+      → OneOf (records_of a) (w.since old (w.moment old)) (Outside a) (kept was) (one_record format b) (w.content old) c
+  moments2 c is = subst (λ (r : Stored). OneOf (records_of a) (w.since old (w.moment old)) (Outside a) r (one_record format b) (w.content old) c) (sym kept_is) (only_before w.content w.moment w.since falls a s true old d2 (one_record format b) began2 images2 c is)
 
-  pub records2 : kept (seen content a generation tail spare doubt d2) ≡ kept (seen content a generation tail spare doubt old)
-  records2 = kept_told content a second generation tail true spare d2 (since d2 (moment d2)) doubt told2.0 ∙ ap stored_of told2.1 ∙ sym kept_is
+  records2 : kept (seen w.content a generation tail spare doubt d2) ≡ kept was
+  records2 = kept_told w.content a second generation tail true spare d2 (w.since d2 (w.moment d2)) doubt told2.0 ∙ ap stored_of told2.1 ∙ sym kept_is
 
-  pub known2 : (c : List ℕ) → since d2 (moment d2) c → records_of a c ≡ Some (kept (seen content a generation tail spare doubt old))
+  known2 : (c : List ℕ) → w.since d2 (w.moment d2) c → records_of a c ≡ Some (kept was)
   known2 c is = stored_at a s c (rest2.images c is).rests ∙ ap (λ r. Some r) (sym kept_is)
 
-  module _ (wrote2 : Wrote content moment since (begin_of a (not second) + 1) (framed ((next_of generation + 16 * (format - 1)) ∷ b)) d2) where
-    poised2 : IsPoised a gate s true s' false (content d2)
-    poised2 =
-        let frame : IsFramed (content d2) gate (byte ∷ b) = is_framed (content d2) gate (byte ∷ b) (omega (arith, room, most)) wrote2.written in
-        let n = next_byte generation format in_format in
-        subst (λ g. IsPoised a g s true s' false (content d2)) other_is
-        (poised_other a s (content d2) byte b least rest2.here (subst (λ g. IsFramed (content d2) g (byte ∷ b)) (sym other_is) frame) (omega (arith, room)) n.0 (n.1 ∙ ap next_of (sym t.of_generation)))
+  pub stopped2 : IsTorn w (one_record format b) was (seen w.content a generation tail spare doubt d2)
+  stopped2 = record {
+    written = record { outside = began2.outside; time = began2.time; moments = moments2 };
+    records = records2;
+    doubt = λ unsure. absurd (cc (ap is_some sure, unsure));
+    known = λ _. known2;
+    behind = λ unsure. absurd (cc (ap is_some sure, unsure));
+  }
 
-    unsure2 : IsInDoubt a gate s true s' false (content d2) (since d2 (moment d2))
+  module _ (wrote_there : Wrote w.content w.moment w.since (at + 1) bytes d2) where
+    wrote2 : Wrote w.content w.moment w.since (gate + 1) (framed (byte ∷ b)) d2
+    wrote2 = wrote_as w.content w.moment w.since (at + 1) (gate + 1) bytes (framed (byte ∷ b)) d2 (ap (λ x. x + 1) at_is) bytes_are wrote_there
+
+    poised2 : IsPoised a gate s true s' false (w.content d2)
+    poised2 =
+        let frame : IsFramed (w.content d2) gate (byte ∷ b) = is_framed (w.content d2) gate (byte ∷ b) (omega (arith, room, most)) wrote2.written in
+        let n = next_byte generation format in_format in
+        subst (λ g. IsPoised a g s true s' false (w.content d2)) other_is
+        (poised_other a s (w.content d2) byte b least rest2.here (subst (λ g. IsFramed (w.content d2) g (byte ∷ b)) (sym other_is) frame) (omega (arith, room)) n.0 (n.1 ∙ ap next_of (sym t.of_generation)))
+
+    unsure2 : IsInDoubt a gate s true s' false (w.content d2) (w.since d2 (w.moment d2))
     unsure2 = record { poised = poised2; behind = λ c is i other. ap (λ d. slice_index d i) (wrote2.durable c is) }
 
-    module _ (d3 : D) (torn3 : Torn content moment since gate 1 d2 d3) where
+    module _ (d3 : D) (torn_gate : Torn w.content w.moment w.since at 1 d2 d3) where
+      torn3 : Torn w.content w.moment w.since gate 1 d2 d3
+      torn3 = subst (λ x. Torn w.content w.moment w.since x 1 d2 d3) at_is torn_gate
+
       gate_to : gate < a.first + 2 * a.bytes
       gate_to = omega (arith, gate_in)
 
-      pub began3 : Began content moment since a old d3
-      began3 = opened_began content moment since falls a s true s' false old d2 d3 gate gate_in.0 gate_to began2 images2 unsure2 torn3
+      began3 : Began w.content w.moment w.since a old d3
+      began3 = opened_began w.content w.moment w.since falls a s true s' false old d2 d3 gate gate_in.0 gate_to began2 images2 unsure2 torn3
 
-      pub moments3 : (c : List ℕ) → since d3 (moment old) c
-          → OneOf (records_of a) (since old (moment old)) (Outside a) (kept (seen content a generation tail spare doubt old)) (one_record format b) (content old) c
+      moments3 : (c : List ℕ) → w.since d3 (w.moment old) c
+          → OneOf (records_of a) (w.since old (w.moment old)) (Outside a) (kept was) (one_record format b) (w.content old) c
       moments3 c is =
-          let raw = opened_moments content moment since falls a s true s' false old d2 d3 gate gate_in.0 gate_to began2 images2 unsure2 torn3 c is in
-          let named = subst (λ (r : Stored). OneOf (records_of a) (since old (moment old)) (Outside a) (stored_of s) r (content old) c) stored_is raw in
-          subst (λ (r : Stored). OneOf (records_of a) (since old (moment old)) (Outside a) r (one_record format b) (content old) c) (sym kept_is) named
+          let raw = opened_moments w.content w.moment w.since falls a s true s' false old d2 d3 gate gate_in.0 gate_to began2 images2 unsure2 torn3 c is in
+          let named = subst (λ (r : Stored). OneOf (records_of a) (w.since old (w.moment old)) (Outside a) (stored_of s) r (w.content old) c) stored_is raw in
+          subst (λ (r : Stored). OneOf (records_of a) (w.since old (w.moment old)) (Outside a) r (one_record format b) (w.content old) c) (sym kept_is) named
 
       -- the gate is in doubt
-      pub told3 : (t' : Told a second generation tail true (Some gate) (content d3) (since d3 (moment d3))) × (t'.shape ≡ s) × (t'.next ≡ s')
-      told3 = told_in_doubt a second generation tail true gate (content d3) (since d3 (moment d3)) s s' false t.of_second t.of_generation t.of_tail
-          (opened_unsure content moment since falls a s true s' false old d2 d3 gate gate_in.0 gate_to began2 images2 unsure2 torn3)
+      pub told3 : (t' : Told a second generation tail true (Some gate) (w.content d3) (w.since d3 (w.moment d3))) × (t'.shape ≡ s) × (t'.next ≡ s')
+      told3 = told_in_doubt a second generation tail true gate (w.content d3) (w.since d3 (w.moment d3)) s s' false t.of_second t.of_generation t.of_tail
+          (opened_unsure w.content w.moment w.since falls a s true s' false old d2 d3 gate gate_in.0 gate_to began2 images2 unsure2 torn3)
 
-      pub records3 : kept (seen content a generation tail spare (Some gate) d3) ≡ kept (seen content a generation tail spare doubt old)
-      records3 = kept_told content a second generation tail true spare d3 (since d3 (moment d3)) (Some gate) told3.0 ∙ ap stored_of told3.1 ∙ sym kept_is
+      records3 : kept (seen w.content a generation tail spare (Some gate) d3) ≡ kept was
+      records3 = kept_told w.content a second generation tail true spare d3 (w.since d3 (w.moment d3)) (Some gate) told3.0 ∙ ap stored_of told3.1 ∙ sym kept_is
 
-      pub doubt3 : gate < length (content d3) → (seen content a generation tail spare (Some gate) d3).doubt ≡ one_record format b
-      doubt3 inside = doubt_told content a second generation tail true spare d3 (since d3 (moment d3)) gate (Some gate) refl told3.0 inside ∙ ap stored_of told3.2 ∙ stored_is
+      doubt3 : gate < length (w.content d3) → (seen w.content a generation tail spare (Some gate) d3).doubt ≡ one_record format b
+      doubt3 inside = doubt_told w.content a second generation tail true spare d3 (w.since d3 (w.moment d3)) gate (Some gate) refl told3.0 inside ∙ ap stored_of told3.2 ∙ stored_is
 
-      pub behind3 : (c : List ℕ) → since d3 (moment d3) c → Same (Outside a) c (content d3)
-      behind3 = opened_behind content moment since falls a s true s' false old d2 d3 gate gate_in.0 gate_to began2 images2 unsure2 torn3
+      behind3 : (c : List ℕ) → w.since d3 (w.moment d3) c → Same (Outside a) c (w.content d3)
+      behind3 = opened_behind w.content w.moment w.since falls a s true s' false old d2 d3 gate gate_in.0 gate_to began2 images2 unsure2 torn3
+
+      pub stopped3 : gate < length (w.content d3) → IsTorn w (one_record format b) was (seen w.content a generation tail spare (Some gate) d3)
+      stopped3 inside = record {
+        written = record { outside = began3.outside; time = began3.time; moments = moments3 };
+        records = records3;
+        doubt = λ _. doubt3 inside;
+        known = λ settled. absurd (cc settled);
+        behind = λ _. behind3;
+      }
 
       -- the gate is open for good
-      module _ (wrote3 : Wrote content moment since gate (165 ∷ []) d3) where
-        pub told4 : (t' : Told a (not second) byte (length b + 6) false doubt (content d3) (since d3 (moment d3))) × (t'.shape ≡ s')
-        told4 = told_at_rest a (not second) byte (length b + 6) false doubt (content d3) (since d3 (moment d3)) s' (ap not t.of_second) refl
-            (omega (arith, other_is)) sure (opens content moment since falls a s true s' false old d2 d3 gate gate_in.0 gate_to began2 images2 unsure2 torn3 wrote3)
+      module _ (wrote_gate : Wrote w.content w.moment w.since at (165 ∷ []) d3) where
+        wrote3 : Wrote w.content w.moment w.since gate (165 ∷ []) d3
+        wrote3 = subst (λ x. Wrote w.content w.moment w.since x (165 ∷ []) d3) at_is wrote_gate
 
-        pub records4 : kept (seen content a byte (length b + 6) spare doubt d3) ≡ one_record format b
-        records4 = kept_told content a (not second) byte (length b + 6) false spare d3 (since d3 (moment d3)) doubt told4.0 ∙ ap stored_of told4.1 ∙ stored_is
+        pub told4 : (t' : Told a (not second) byte (length b + 6) false doubt (w.content d3) (w.since d3 (w.moment d3))) × (t'.shape ≡ s')
+        told4 = told_at_rest a (not second) byte (length b + 6) false doubt (w.content d3) (w.since d3 (w.moment d3)) s' (ap not t.of_second) refl
+            (omega (arith, other_is)) sure (opens w.content w.moment w.since falls a s true s' false old d2 d3 gate gate_in.0 gate_to began2 images2 unsure2 torn3 wrote3)
 
-        pub durable4 : (c : List ℕ) → since d3 (moment d3) c → After (records_of a) (one_record format b) (content old) (Outside a) c
-        durable4 c is = subst (λ (r : Stored). After (records_of a) r (content old) (Outside a) c) stored_is (opened_after content moment since falls a s true s' false old d2 d3 gate gate_in.0 gate_to began2 images2 unsure2 torn3 wrote3 c is)
+        records4 : kept (seen w.content a byte (length b + 6) spare doubt d3) ≡ one_record format b
+        records4 = kept_told w.content a (not second) byte (length b + 6) false spare d3 (w.since d3 (w.moment d3)) doubt told4.0 ∙ ap stored_of told4.1 ∙ stored_is
 
-pub not_closed : (closed : Bool) → (closed ≡ true → ⊥) → closed ≡ false
-not_closed true never = absurd (never refl)
-not_closed false never = refl
+        durable4 : (c : List ℕ) → w.since d3 (w.moment d3) c → After (records_of a) (one_record format b) (w.content old) (Outside a) c
+        durable4 c is = subst (λ (r : Stored). After (records_of a) r (w.content old) (Outside a) c) stored_is (opened_after w.content w.moment w.since falls a s true s' false old d2 d3 gate gate_in.0 gate_to began2 images2 unsure2 torn3 wrote3 c is)
 
-module _ {D : Type 0} (content : D → List ℕ) (moment : D → ℕ) (since : D → ℕ → List ℕ → Type 0)
-    (falls : (d : D) (t u : ℕ) (c : List ℕ) → t ≤ u → since d u c → since d t c)
-    (a : Areas) (second : Bool) (generation tail : ℕ) (closed : Bool) (spare : ℕ) (doubt : Option ℕ) (old d1 : D)
-    (t : Told a second generation tail closed doubt (content old) (since old (moment old))) (sure : doubt ≡ None) (least : 7 ≤ a.bytes) where
-  abbrev named : begin_of a (not second) ≡ begin_of a (not t.shape.second)
-  named = sym (ap (λ x. begin_of a (not x)) t.of_second)
-
-  -- after the gate is closed, where it was not
-  pub closes : (closed ≡ true → d1 ≡ old) → (closed ≡ false → Torn content moment since (begin_of a (not second)) 1 old d1) → (closed ≡ false → Wrote content moment since (begin_of a (not second)) (0 ∷ []) d1)
-      → IsClosed content moment since a t.shape old d1
-  closes none torn wrote =
-      is_closed content moment since falls a t.shape least closed old d1 (t.rest sure) none
-      (λ e. subst (λ g. Torn content moment since g 1 old d1) named (torn e)) (λ e. subst (λ g. Wrote content moment since g (0 ∷ []) d1) named (wrote e))
-
-  -- and where that failed
-  module _ (e : closed ≡ false) (torn1 : Torn content moment since (begin_of a (not second)) 1 old d1) where
-    rest0 : IsAtRest a t.shape false (content old) (since old (moment old))
-    rest0 = subst (λ x. IsAtRest a t.shape x (content old) (since old (moment old))) e (t.rest sure)
-
-    torn : Torn content moment since (begin_of a (not t.shape.second)) 1 old d1
-    torn = subst (λ g. Torn content moment since g 1 old d1) named torn1
-
-    rest1 : IsAtRest a t.shape false (content d1) (since d1 (moment d1))
-    rest1 = closing_rest content moment since falls a t.shape least old d1 rest0 torn
-
-    pub told1 : (t' : Told a second generation tail closed doubt (content d1) (since d1 (moment d1))) × (t'.shape ≡ t.shape)
-    told1 = told_at_rest a second generation tail closed doubt (content d1) (since d1 (moment d1)) t.shape t.of_second t.of_generation t.of_tail sure
-        (subst (λ x. IsAtRest a t.shape x (content d1) (since d1 (moment d1))) (sym e) rest1)
-
-    pub began1 : Began content moment since a old d1
-    began1 = closing_began content moment since falls a t.shape least old d1 rest0 torn
-
-    kept_old : kept (seen content a generation tail spare doubt old) ≡ stored_of t.shape
-    kept_old = kept_told content a second generation tail closed spare old (since old (moment old)) doubt t
-
-    pub moments1 : (next : Stored) (c : List ℕ) → since d1 (moment old) c
-        → OneOf (records_of a) (since old (moment old)) (Outside a) (kept (seen content a generation tail spare doubt old)) next (content old) c
-    moments1 next c is = subst (λ (r : Stored). OneOf (records_of a) (since old (moment old)) (Outside a) r next (content old) c) (sym kept_old)
-        (only_before content moment since falls a t.shape false old d1 next began1 (closing_images content moment since falls a t.shape least old d1 rest0 torn) c is)
-
-    pub records1 : kept (seen content a generation tail spare doubt d1) ≡ kept (seen content a generation tail spare doubt old)
-    records1 = kept_told content a second generation tail closed spare d1 (since d1 (moment d1)) doubt told1.0 ∙ ap stored_of told1.1 ∙ sym kept_old
-
-    pub known1 : (c : List ℕ) → since d1 (moment d1) c → records_of a c ≡ Some (kept (seen content a generation tail spare doubt old))
-    known1 c is = stored_at a t.shape c (rest1.images c is).rests ∙ ap (λ r. Some r) (sym kept_old)
+        pub stored4 : IsDurable w (one_record format b) was (seen w.content a byte (length b + 6) spare doubt d3)
+        stored4 = record {
+          written = record { outside = began3.outside; time = began3.time; moments = moments3 };
+          records = records4;
+          durable = durable4;
+        }

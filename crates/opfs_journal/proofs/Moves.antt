@@ -4,6 +4,8 @@ use Rattle.std.specs.Prelude.{slice_index, ◌==◌}
 use Rattle.std.proofs.lemmas.Bool.{cases_Bool}
 use Rattle.opfs_outside.specs.Bytes.{Same, Beside}
 use Rattle.opfs_outside.specs.Moments.{Elapses}
+use Rattle.opfs_outside.specs.declared.disk.Disk.{Ghosts as DiskWords}
+use Rattle.opfs_journal.specs.Calls.{IsShut}
 use Rattle.opfs_journal.specs.Clauses.{Outside, OutsideBut, Before, OneOf}
 use Rattle.opfs_journal.specs.Format.{is_open, begin_of, Stored, records_of}
 use Rattle.opfs_journal.specs.Reading.{Shape, stored_of}
@@ -164,6 +166,22 @@ module _ {D : Type 0} (content : D → List ℕ) (moment : D → ℕ) (since : D
         let kept_is = kept_told content a second generation tail closed spare old (since old (moment old)) doubt t in
         let doubt_is = doubt_told content a second generation tail closed spare old (since old (moment old)) gate doubt e t inside in
         rw (kept_is, doubt_is) (settle_moments a gate t.shape closed t.next t.next_closed old new (t.unsure gate e) torn from to c is)
+
+-- the gate in doubt was written, whatever the journal then knows of it
+pub shut : {D : Type 0} (w : DiskWords D) (falls : (d : D) (t u : ℕ) (c : List ℕ) → t ≤ u → w.since d u c → w.since d t c)
+    (a : Areas) (second : Bool) (generation tail : ℕ) (closed : Bool) (spare : ℕ) (doubt later : Option ℕ) (gate : ℕ) (old new : D) (e : doubt ≡ Some gate)
+    (t : Told a second generation tail closed doubt (w.content old) (w.since old (w.moment old))) → Torn w.content w.moment w.since gate 1 old new
+    → a.first ≤ gate → gate < a.first + 2 * a.bytes → gate < length (w.content old) → (t' : Told a second generation tail closed later (w.content new) (w.since new (w.moment new))) → t'.shape ≡ t.shape
+    → IsShut w (seen w.content a generation tail spare doubt old) (seen w.content a generation tail spare later new)
+shut w falls a second generation tail closed spare doubt later gate old new e t torn from to inside t' same = record {
+  written = record {
+    outside = settle_outside w.content w.moment w.since falls a gate t.shape closed t.next t.next_closed old new (t.unsure gate e) torn from to;
+    time = torn.time;
+    moments = settle_one_of w.content w.moment w.since falls a second generation tail closed doubt gate old new e t torn spare from to inside;
+  };
+  records = kept_told w.content a second generation tail closed spare new (w.since new (w.moment new)) later t' ∙ ap stored_of same
+      ∙ sym (kept_told w.content a second generation tail closed spare old (w.since old (w.moment old)) doubt t);
+}
 
 -- every image at rest has the records
 pub durable_at_rest : {D : Type 0} (content : D → List ℕ) (a : Areas) (second : Bool) (generation tail : ℕ) (closed : Bool) (spare : ℕ) (disk : D) (now : List ℕ → Type 0) (doubt : Option ℕ)

@@ -4,7 +4,8 @@ ghost use Rattle.std.specs.Prelude.{◌≡◌, ◌≢◌, ◌⊎◌, ◌+◌, �
 ghost use Rattle.opfs_outside.specs.Bytes.{Same, window, Beside};
 ghost use Rattle.opfs_outside.specs.Faults.{Rose};
 ghost use Rattle.opfs_outside.specs.Moments.{Elapses};
-ghost use Rattle.opfs_journal.specs.Clauses.{Outside, OutsideBut, Before, After, OneOf};
+ghost use Rattle.opfs_journal.specs.Calls.{AreKept, IsStored, IsStopped, IsSettled, IsUnsettled};
+ghost use Rattle.opfs_journal.specs.Clauses.{OutsideBut, Before};
 ghost use Rattle.opfs_journal.specs.Format.{read_areas, records_of};
 ghost use Rattle.opfs_journal.specs.Walking.{OnlyRead};
 ghost use Rattle.opfs_journal.specs.Seen.{Stays, kept, one_record, with_record};
@@ -163,21 +164,8 @@ impl<D: Disk> Journal<D> {
 
     /// Ends the doubt, if there is one: closes the gate in doubt, and syncs. Without doubt it calls no disk.
     pub fn settle(&mut self) -> Result<(), DiskFault>
-        ensures stays { Stays D.size self.old self.new }
-        ensures tail { self.new.tail ≡ self.old.tail }
-        ensures format { self.new.format ≡ self.old.format }
-        ensures none { self.old.in_doubt ≡ false → self.new ≡ self.old }
-        ensures ok { OnOk result (self.new.in_doubt ≡ false) }
-        ensures in_doubt { OnErr result (self.new.in_doubt ≡ true) }
-        ensures records { D.tells → self.new.records ≡ self.old.records }
-        ensures doubt { OnErr result (D.tells → self.new.doubt ≡ self.old.doubt) }
-        ensures outside { D.tells → Same (Outside self.old.areas) (D.content self.new.disk) (D.content self.old.disk) }
-        ensures time { D.tells → Elapses D.moment D.since self.old.disk self.new.disk }
-        ensures moments { D.tells → self.old.in_doubt ≡ true → (c : List ℕ) → D.since self.new.disk (D.moment self.old.disk) c
-            → OneOf (records_of self.old.areas) (D.since self.old.disk (D.moment self.old.disk)) (Outside self.old.areas) (kept self.old) self.old.doubt (D.content self.old.disk) c }
-        ensures durable { OnOk result (D.tells → (c : List ℕ) → D.since self.new.disk (D.moment self.new.disk) c → records_of self.old.areas c ≡ Some (kept self.old)) }
-        ensures behind { OnErr result (D.tells → (c : List ℕ) → D.since self.new.disk (D.moment self.new.disk) c → Same (Outside self.old.areas) c (D.content self.new.disk)) }
-        ensures later { D.faults self.old.disk ≤ D.faults self.new.disk }
+        ensures settled { OnOk result (IsSettled D.Disk self.old self.new) }
+        ensures unsettled { OnErr result (IsUnsettled D.Disk self.old self.new) }
         ensures cause { OnErr result (Rose (D.faults self.old.disk) (D.faults self.new.disk)) }
     {
         if let Some(gate) = self.doubt {
@@ -192,25 +180,12 @@ impl<D: Disk> Journal<D> {
     pub fn append(&mut self, bytes: &[u8]) -> Result<(), JournalRefusal>
         requires settled { self.old.in_doubt ≡ false }
         requires spare { length bytes.now ≤ self.old.spare }
-        ensures stays { Stays D.size self.old self.new }
-        ensures format { self.new.format ≡ self.old.format }
+        ensures stored { OnOk result (IsStored D.Disk (with_record (kept self.old) bytes.now) self.old self.new) }
+        ensures stopped { IsErrOf result JournalRefusal.DiskFault → IsStopped D.Disk (with_record (kept self.old) bytes.now) self.old self.new }
+        ensures tail { OnOk result (self.new.tail ≡ self.old.tail + 5 + length bytes.now) }
         ensures no_room { IsErrOf result JournalRefusal.NoRoom ↔ (self.old.areas.bytes < self.old.tail + length bytes.now + 6) }
         ensures unchanged { IsErrOf result JournalRefusal.NoRoom → self.new ≡ self.old }
-        ensures sure { OnOk result (self.new.in_doubt ≡ false) }
-        ensures tail { OnOk result (self.new.tail ≡ self.old.tail + 5 + length bytes.now) }
-        ensures same_tail { OnErr result (self.new.tail ≡ self.old.tail) }
-        ensures records { OnOk result (D.tells → self.new.records ≡ self.old.records ++ bytes.now ∷ []) }
-        ensures same_records { OnErr result (D.tells → self.new.records ≡ self.old.records) }
-        ensures doubt { OnErr result (D.tells → self.new.in_doubt ≡ true → self.new.doubt ≡ with_record (kept self.old) bytes.now) }
-        ensures outside { D.tells → Same (Outside self.old.areas) (D.content self.new.disk) (D.content self.old.disk) }
-        ensures time { D.tells → Elapses D.moment D.since self.old.disk self.new.disk }
-        ensures moments { D.tells → (c : List ℕ) → D.since self.new.disk (D.moment self.old.disk) c
-            → OneOf (records_of self.old.areas) (D.since self.old.disk (D.moment self.old.disk)) (Outside self.old.areas) (kept self.old) (with_record (kept self.old) bytes.now) (D.content self.old.disk) c }
-        ensures durable { OnOk result (D.tells → (c : List ℕ) → D.since self.new.disk (D.moment self.new.disk) c
-            → After (records_of self.old.areas) (with_record (kept self.old) bytes.now) (D.content self.old.disk) (Outside self.old.areas) c) }
-        ensures known { OnErr result (D.tells → self.new.in_doubt ≡ false → (c : List ℕ) → D.since self.new.disk (D.moment self.new.disk) c → records_of self.old.areas c ≡ Some (kept self.old)) }
-        ensures behind { OnErr result (D.tells → self.new.in_doubt ≡ true → (c : List ℕ) → D.since self.new.disk (D.moment self.new.disk) c → Same (Outside self.old.areas) c (D.content self.new.disk)) }
-        ensures later { D.faults self.old.disk ≤ D.faults self.new.disk }
+        ensures at_rest { IsErrOf result JournalRefusal.NoRoom → D.tells → AreKept D.Disk self.new }
         ensures cause { IsErrOf result JournalRefusal.DiskFault → Rose (D.faults self.old.disk) (D.faults self.new.disk) }
     {
         let len = bytes.len() as u64;
@@ -233,26 +208,12 @@ impl<D: Disk> Journal<D> {
     pub fn checkpoint(&mut self, bytes: &[u8]) -> Result<(), JournalRefusal>
         requires settled { self.old.in_doubt ≡ false }
         requires spare { length bytes.now ≤ self.old.spare }
-        ensures stays { Stays D.size self.old self.new }
-        ensures format { OnOk result (self.new.format ≡ self.old.format) }
-        ensures same_format { OnErr result (self.new.format ≡ self.old.format) }
+        ensures stored { OnOk result (IsStored D.Disk (one_record self.old.format bytes.now) self.old self.new) }
+        ensures stopped { IsErrOf result JournalRefusal.DiskFault → IsStopped D.Disk (one_record self.old.format bytes.now) self.old self.new }
+        ensures tail { OnOk result (self.new.tail ≡ length bytes.now + 6) }
         ensures no_room { IsErrOf result JournalRefusal.NoRoom ↔ (self.old.areas.bytes < length bytes.now + 7) }
         ensures unchanged { IsErrOf result JournalRefusal.NoRoom → self.new ≡ self.old }
-        ensures sure { OnOk result (self.new.in_doubt ≡ false) }
-        ensures tail { OnOk result (self.new.tail ≡ length bytes.now + 6) }
-        ensures same_tail { OnErr result (self.new.tail ≡ self.old.tail) }
-        ensures records { OnOk result (D.tells → self.new.records ≡ bytes.now ∷ []) }
-        ensures same_records { OnErr result (D.tells → self.new.records ≡ self.old.records) }
-        ensures doubt { OnErr result (D.tells → self.new.in_doubt ≡ true → self.new.doubt ≡ one_record self.old.format bytes.now) }
-        ensures outside { D.tells → Same (Outside self.old.areas) (D.content self.new.disk) (D.content self.old.disk) }
-        ensures time { D.tells → Elapses D.moment D.since self.old.disk self.new.disk }
-        ensures moments { D.tells → (c : List ℕ) → D.since self.new.disk (D.moment self.old.disk) c
-            → OneOf (records_of self.old.areas) (D.since self.old.disk (D.moment self.old.disk)) (Outside self.old.areas) (kept self.old) (one_record self.old.format bytes.now) (D.content self.old.disk) c }
-        ensures durable { OnOk result (D.tells → (c : List ℕ) → D.since self.new.disk (D.moment self.new.disk) c
-            → After (records_of self.old.areas) (one_record self.old.format bytes.now) (D.content self.old.disk) (Outside self.old.areas) c) }
-        ensures known { OnErr result (D.tells → self.new.in_doubt ≡ false → (c : List ℕ) → D.since self.new.disk (D.moment self.new.disk) c → records_of self.old.areas c ≡ Some (kept self.old)) }
-        ensures behind { OnErr result (D.tells → self.new.in_doubt ≡ true → (c : List ℕ) → D.since self.new.disk (D.moment self.new.disk) c → Same (Outside self.old.areas) c (D.content self.new.disk)) }
-        ensures later { D.faults self.old.disk ≤ D.faults self.new.disk }
+        ensures at_rest { IsErrOf result JournalRefusal.NoRoom → D.tells → AreKept D.Disk self.new }
         ensures cause { IsErrOf result JournalRefusal.DiskFault → Rose (D.faults self.old.disk) (D.faults self.new.disk) }
     {
         let format = if self.generation < 16 { 1 } else { 2 };
@@ -264,26 +225,12 @@ impl<D: Disk> Journal<D> {
         requires format { self.old.format ≡ 1 }
         requires settled { self.old.in_doubt ≡ false }
         requires spare { length bytes.now ≤ self.old.spare }
-        ensures stays { Stays D.size self.old self.new }
-        ensures format { OnOk result (self.new.format ≡ 2) }
-        ensures same_format { OnErr result (self.new.format ≡ self.old.format) }
+        ensures stored { OnOk result (IsStored D.Disk (one_record 2 bytes.now) self.old self.new) }
+        ensures stopped { IsErrOf result JournalRefusal.DiskFault → IsStopped D.Disk (one_record 2 bytes.now) self.old self.new }
+        ensures tail { OnOk result (self.new.tail ≡ length bytes.now + 6) }
         ensures no_room { IsErrOf result JournalRefusal.NoRoom ↔ (self.old.areas.bytes < length bytes.now + 7) }
         ensures unchanged { IsErrOf result JournalRefusal.NoRoom → self.new ≡ self.old }
-        ensures sure { OnOk result (self.new.in_doubt ≡ false) }
-        ensures tail { OnOk result (self.new.tail ≡ length bytes.now + 6) }
-        ensures same_tail { OnErr result (self.new.tail ≡ self.old.tail) }
-        ensures records { OnOk result (D.tells → self.new.records ≡ bytes.now ∷ []) }
-        ensures same_records { OnErr result (D.tells → self.new.records ≡ self.old.records) }
-        ensures doubt { OnErr result (D.tells → self.new.in_doubt ≡ true → self.new.doubt ≡ one_record 2 bytes.now) }
-        ensures outside { D.tells → Same (Outside self.old.areas) (D.content self.new.disk) (D.content self.old.disk) }
-        ensures time { D.tells → Elapses D.moment D.since self.old.disk self.new.disk }
-        ensures moments { D.tells → (c : List ℕ) → D.since self.new.disk (D.moment self.old.disk) c
-            → OneOf (records_of self.old.areas) (D.since self.old.disk (D.moment self.old.disk)) (Outside self.old.areas) (kept self.old) (one_record 2 bytes.now) (D.content self.old.disk) c }
-        ensures durable { OnOk result (D.tells → (c : List ℕ) → D.since self.new.disk (D.moment self.new.disk) c
-            → After (records_of self.old.areas) (one_record 2 bytes.now) (D.content self.old.disk) (Outside self.old.areas) c) }
-        ensures known { OnErr result (D.tells → self.new.in_doubt ≡ false → (c : List ℕ) → D.since self.new.disk (D.moment self.new.disk) c → records_of self.old.areas c ≡ Some (kept self.old)) }
-        ensures behind { OnErr result (D.tells → self.new.in_doubt ≡ true → (c : List ℕ) → D.since self.new.disk (D.moment self.new.disk) c → Same (Outside self.old.areas) c (D.content self.new.disk)) }
-        ensures later { D.faults self.old.disk ≤ D.faults self.new.disk }
+        ensures at_rest { IsErrOf result JournalRefusal.NoRoom → D.tells → AreKept D.Disk self.new }
         ensures cause { IsErrOf result JournalRefusal.DiskFault → Rose (D.faults self.old.disk) (D.faults self.new.disk) }
     {
         self.rule_anew(2, bytes)
@@ -294,26 +241,12 @@ impl<D: Disk> Journal<D> {
         requires known { (format ≡ 1) ⊎ (format ≡ 2) }
         requires settled { self.old.in_doubt ≡ false }
         requires spare { length bytes.now ≤ self.old.spare }
-        ensures stays { Stays D.size self.old self.new }
-        ensures format { OnOk result (self.new.format ≡ format) }
-        ensures same_format { OnErr result (self.new.format ≡ self.old.format) }
+        ensures stored { OnOk result (IsStored D.Disk (one_record format bytes.now) self.old self.new) }
+        ensures stopped { IsErrOf result JournalRefusal.DiskFault → IsStopped D.Disk (one_record format bytes.now) self.old self.new }
+        ensures tail { OnOk result (self.new.tail ≡ length bytes.now + 6) }
         ensures no_room { IsErrOf result JournalRefusal.NoRoom ↔ (self.old.areas.bytes < length bytes.now + 7) }
         ensures unchanged { IsErrOf result JournalRefusal.NoRoom → self.new ≡ self.old }
-        ensures sure { OnOk result (self.new.in_doubt ≡ false) }
-        ensures tail { OnOk result (self.new.tail ≡ length bytes.now + 6) }
-        ensures same_tail { OnErr result (self.new.tail ≡ self.old.tail) }
-        ensures records { OnOk result (D.tells → self.new.records ≡ bytes.now ∷ []) }
-        ensures same_records { OnErr result (D.tells → self.new.records ≡ self.old.records) }
-        ensures doubt { OnErr result (D.tells → self.new.in_doubt ≡ true → self.new.doubt ≡ one_record format bytes.now) }
-        ensures outside { D.tells → Same (Outside self.old.areas) (D.content self.new.disk) (D.content self.old.disk) }
-        ensures time { D.tells → Elapses D.moment D.since self.old.disk self.new.disk }
-        ensures moments { D.tells → (c : List ℕ) → D.since self.new.disk (D.moment self.old.disk) c
-            → OneOf (records_of self.old.areas) (D.since self.old.disk (D.moment self.old.disk)) (Outside self.old.areas) (kept self.old) (one_record format bytes.now) (D.content self.old.disk) c }
-        ensures durable { OnOk result (D.tells → (c : List ℕ) → D.since self.new.disk (D.moment self.new.disk) c
-            → After (records_of self.old.areas) (one_record format bytes.now) (D.content self.old.disk) (Outside self.old.areas) c) }
-        ensures known { OnErr result (D.tells → self.new.in_doubt ≡ false → (c : List ℕ) → D.since self.new.disk (D.moment self.new.disk) c → records_of self.old.areas c ≡ Some (kept self.old)) }
-        ensures behind { OnErr result (D.tells → self.new.in_doubt ≡ true → (c : List ℕ) → D.since self.new.disk (D.moment self.new.disk) c → Same (Outside self.old.areas) c (D.content self.new.disk)) }
-        ensures later { D.faults self.old.disk ≤ D.faults self.new.disk }
+        ensures at_rest { IsErrOf result JournalRefusal.NoRoom → D.tells → AreKept D.Disk self.new }
         ensures cause { IsErrOf result JournalRefusal.DiskFault → Rose (D.faults self.old.disk) (D.faults self.new.disk) }
     {
         if self.areas.bytes < (bytes.len() as u64).saturating_add(7) {

@@ -1,151 +1,74 @@
-use Rattle.std.proofs.Common.{◌≡◌, ◌+◌, ◌-◌, ◌*◌, ◌<◌, ◌≤◌, false, not, [], ◌∷◌, refl, sym, ◌∙◌, ap, subst, arith, length, None}
-use Rattle.opfs_journal.specs.Format.{Stored, begin_of, next_of, framed}
+use Rattle.std.proofs.Common.{◌≡◌, ◌+◌, ◌-◌, ◌*◌, ◌<◌, ◌≤◌, false, not, ◌∷◌, refl, sym, ◌∙◌, ap, subst, arith, length, None}
+use Rattle.std.specs.Prelude.{is_some}
+use Rattle.opfs_journal.specs.Format.{begin_of, next_of, framed}
 use Rattle.opfs_journal.specs.Seen.{one_record}
 use Rattle.opfs_journal.specs.Standing.{Bounds}
-use Rattle.opfs_journal.proofs.Appends.{torn_as, wrote_as, in_areas, gate_bounds_of}
-use Rattle.opfs_journal.proofs.Checkpoints as closing
-use Rattle.opfs_journal.proofs.Checkpoints.{next_byte, not_closed, closes, told2, records2, began2, moments2, known2, told3, records3, doubt3, began3, moments3, behind3, told4, records4, durable4}
+use Rattle.opfs_journal.proofs.Appends.{in_areas, gate_bounds_of}
+use Rattle.opfs_journal.proofs.Checkpoints.{next_byte, not_closed, told1, stopped1, told2, stopped2, told3, stopped3, told4, stored4}
 use Rattle.opfs_journal.proofs.Frames.{length-framed}
-use Rattle.opfs_journal.proofs.Moves.{at_start, durable_at_rest}
-use Rattle.opfs_journal.proofs.Views.{none_from, some_same, on_err, if_no_error}
+use Rattle.opfs_journal.proofs.Moves.{durable_at_rest}
+use Rattle.opfs_journal.proofs.Views.{none_from, some_same, if_no_error}
 use Rattle.opfs_journal.proofs.journal.Journal.rule_anew.Goals as goal
 
-pub returns-then-self-saturating_add-clause-moments : goal.returns-then-self-saturating_add-clause-moments
-returns-then-self-saturating_add-clause-moments g c =
-    let laws = g.met.D.Disk in
+pub returns-then-self-saturating_add-clause-at_rest : goal.returns-then-self-saturating_add-clause-at_rest
+returns-then-self-saturating_add-clause-at_rest g c =
     let j = c.self.inside in
     let was = c.self.invariant.0 in
-    let old = j.disk in
-    let b = c.args.bytes.now in
     let sure : j.doubt ≡ None = none_from j.doubt (rw (← c.self.view_is) at c.requires.settled) in
-    rw (← c.self.view_is) (λ told i is. at_start g.D.Disk.content g.D.Disk.moment g.D.Disk.since (laws.falls told) j.areas j.second j.generation j.tail j.closed j.spare old j.doubt (was.told told) sure (one_record c.args.format b) i is)
-
-pub returns-then-self-saturating_add-clause-known : goal.returns-then-self-saturating_add-clause-known
-returns-then-self-saturating_add-clause-known g c =
-    let j = c.self.inside in
-    let was = c.self.invariant.0 in
-    let old = j.disk in
-    let b = c.args.bytes.now in
-    let sure : j.doubt ≡ None = none_from j.doubt (rw (← c.self.view_is) at c.requires.settled) in
-    rw (← c.self.view_is) (λ told _ i is. durable_at_rest g.D.Disk.content j.areas j.second j.generation j.tail j.closed j.spare old (g.D.Disk.since old (g.D.Disk.moment old)) j.doubt (was.told told) sure i is)
+    rw (← c.self.view_is) (λ _ told i is. durable_at_rest g.D.Disk.content j.areas j.second j.generation j.tail j.closed j.spare j.disk (g.D.Disk.since j.disk (g.D.Disk.moment j.disk)) j.doubt (was.told told) sure i is)
 
 pub invariant_of-self : goal.invariant_of-self
 invariant_of-self g c =
     let laws = g.met.D.Disk in
     let j = c.self.inside in
     let was = c.self.invariant.0 in
-    let old = j.disk in
-    let b = c.args.bytes.now in
     let sure : j.doubt ≡ None = none_from j.doubt (rw (← c.self.view_is) at c.requires.settled) in
-    let room : length b + 7 ≤ j.areas.bytes = omega (arith, c.if-self-saturating_add.false, c.saturating_add.ensures, was.bounds.most) in
     let d1 = c.close_gate.new.disk in
-    let at0 : c.begin-other.result ≡ begin_of j.areas (not j.second) = c.begin-other.ensures in
     let shut : j.closed ≡ false = not_closed j.closed (λ e. absurd (cc (c.in_err-close_gate.ensures.ok e))) in (
       record {
         bounds = subst (λ n. Bounds j.areas n j.generation j.tail j.doubt) (sym c.close_gate.ensures.size) was.bounds;
-        told = λ told. (closing.told1 g.D.Disk.content g.D.Disk.moment g.D.Disk.since (laws.falls told) j.areas j.second j.generation j.tail j.closed j.spare j.doubt old d1 (was.told told) sure was.bounds.least shut (torn_as g.D.Disk.content g.D.Disk.moment g.D.Disk.since c.begin-other.result (begin_of j.areas (not j.second)) (0 ∷ []) (0 ∷ []) old d1 at0 refl (c.close_gate.ensures.torn shut told))).0;
+        told = λ told. (told1 g.D.Disk (laws.falls told) j.areas j.second j.generation j.tail j.closed j.spare j.doubt j.disk d1 (was.told told) sure was.bounds.least c.begin-other.result c.begin-other.ensures shut (c.close_gate.ensures.torn shut told)).0;
       },
       c.self.invariant.1,
     )
 
-pub returns-in_err-close_gate-clause-same_records : goal.returns-in_err-close_gate-clause-same_records
-returns-in_err-close_gate-clause-same_records g c =
+pub returns-in_err-close_gate-clause-stopped : goal.returns-in_err-close_gate-clause-stopped
+returns-in_err-close_gate-clause-stopped g c =
     let laws = g.met.D.Disk in
     let j = c.self.inside in
     let was = c.self.invariant.0 in
-    let old = j.disk in
-    let b = c.args.bytes.now in
     let sure : j.doubt ≡ None = none_from j.doubt (rw (← c.self.view_is) at c.requires.settled) in
-    let room : length b + 7 ≤ j.areas.bytes = omega (arith, c.if-self-saturating_add.false, c.saturating_add.ensures, was.bounds.most) in
     let d1 = c.close_gate.new.disk in
-    let at0 : c.begin-other.result ≡ begin_of j.areas (not j.second) = c.begin-other.ensures in
     let shut : j.closed ≡ false = not_closed j.closed (λ e. absurd (cc (c.in_err-close_gate.ensures.ok e))) in
-    rw (← c.self.view_is) (on_err c.from_residual.result (λ told. ap (λ (k : Stored). k.records) (closing.records1 g.D.Disk.content g.D.Disk.moment g.D.Disk.since (laws.falls told) j.areas j.second j.generation j.tail j.closed j.spare j.doubt old d1 (was.told told) sure was.bounds.least shut (torn_as g.D.Disk.content g.D.Disk.moment g.D.Disk.since c.begin-other.result (begin_of j.areas (not j.second)) (0 ∷ []) (0 ∷ []) old d1 at0 refl (c.close_gate.ensures.torn shut told)))))
-
-pub returns-in_err-close_gate-clause-outside : goal.returns-in_err-close_gate-clause-outside
-returns-in_err-close_gate-clause-outside g c =
-    let laws = g.met.D.Disk in
-    let j = c.self.inside in
-    let was = c.self.invariant.0 in
-    let old = j.disk in
-    let b = c.args.bytes.now in
-    let sure : j.doubt ≡ None = none_from j.doubt (rw (← c.self.view_is) at c.requires.settled) in
-    let room : length b + 7 ≤ j.areas.bytes = omega (arith, c.if-self-saturating_add.false, c.saturating_add.ensures, was.bounds.most) in
-    let d1 = c.close_gate.new.disk in
-    let at0 : c.begin-other.result ≡ begin_of j.areas (not j.second) = c.begin-other.ensures in
-    let shut : j.closed ≡ false = not_closed j.closed (λ e. absurd (cc (c.in_err-close_gate.ensures.ok e))) in
-    rw (← c.self.view_is) (λ told. (closing.began1 g.D.Disk.content g.D.Disk.moment g.D.Disk.since (laws.falls told) j.areas j.second j.generation j.tail j.closed j.spare j.doubt old d1 (was.told told) sure was.bounds.least shut (torn_as g.D.Disk.content g.D.Disk.moment g.D.Disk.since c.begin-other.result (begin_of j.areas (not j.second)) (0 ∷ []) (0 ∷ []) old d1 at0 refl (c.close_gate.ensures.torn shut told))).outside)
-
-pub returns-in_err-close_gate-clause-time : goal.returns-in_err-close_gate-clause-time
-returns-in_err-close_gate-clause-time g c =
-    let laws = g.met.D.Disk in
-    let j = c.self.inside in
-    let was = c.self.invariant.0 in
-    let old = j.disk in
-    let b = c.args.bytes.now in
-    let sure : j.doubt ≡ None = none_from j.doubt (rw (← c.self.view_is) at c.requires.settled) in
-    let room : length b + 7 ≤ j.areas.bytes = omega (arith, c.if-self-saturating_add.false, c.saturating_add.ensures, was.bounds.most) in
-    let d1 = c.close_gate.new.disk in
-    let at0 : c.begin-other.result ≡ begin_of j.areas (not j.second) = c.begin-other.ensures in
-    let shut : j.closed ≡ false = not_closed j.closed (λ e. absurd (cc (c.in_err-close_gate.ensures.ok e))) in
-    rw (← c.self.view_is) (λ told. (closing.began1 g.D.Disk.content g.D.Disk.moment g.D.Disk.since (laws.falls told) j.areas j.second j.generation j.tail j.closed j.spare j.doubt old d1 (was.told told) sure was.bounds.least shut (torn_as g.D.Disk.content g.D.Disk.moment g.D.Disk.since c.begin-other.result (begin_of j.areas (not j.second)) (0 ∷ []) (0 ∷ []) old d1 at0 refl (c.close_gate.ensures.torn shut told))).time)
-
-pub returns-in_err-close_gate-clause-moments : goal.returns-in_err-close_gate-clause-moments
-returns-in_err-close_gate-clause-moments g c =
-    let laws = g.met.D.Disk in
-    let j = c.self.inside in
-    let was = c.self.invariant.0 in
-    let old = j.disk in
-    let b = c.args.bytes.now in
-    let sure : j.doubt ≡ None = none_from j.doubt (rw (← c.self.view_is) at c.requires.settled) in
-    let room : length b + 7 ≤ j.areas.bytes = omega (arith, c.if-self-saturating_add.false, c.saturating_add.ensures, was.bounds.most) in
-    let d1 = c.close_gate.new.disk in
-    let at0 : c.begin-other.result ≡ begin_of j.areas (not j.second) = c.begin-other.ensures in
-    let shut : j.closed ≡ false = not_closed j.closed (λ e. absurd (cc (c.in_err-close_gate.ensures.ok e))) in
-    rw (← c.self.view_is) (λ told. closing.moments1 g.D.Disk.content g.D.Disk.moment g.D.Disk.since (laws.falls told) j.areas j.second j.generation j.tail j.closed j.spare j.doubt old d1 (was.told told) sure was.bounds.least shut (torn_as g.D.Disk.content g.D.Disk.moment g.D.Disk.since c.begin-other.result (begin_of j.areas (not j.second)) (0 ∷ []) (0 ∷ []) old d1 at0 refl (c.close_gate.ensures.torn shut told)) (one_record c.args.format b))
-
-pub returns-in_err-close_gate-clause-known : goal.returns-in_err-close_gate-clause-known
-returns-in_err-close_gate-clause-known g c =
-    let laws = g.met.D.Disk in
-    let j = c.self.inside in
-    let was = c.self.invariant.0 in
-    let old = j.disk in
-    let b = c.args.bytes.now in
-    let sure : j.doubt ≡ None = none_from j.doubt (rw (← c.self.view_is) at c.requires.settled) in
-    let room : length b + 7 ≤ j.areas.bytes = omega (arith, c.if-self-saturating_add.false, c.saturating_add.ensures, was.bounds.most) in
-    let d1 = c.close_gate.new.disk in
-    let at0 : c.begin-other.result ≡ begin_of j.areas (not j.second) = c.begin-other.ensures in
-    let shut : j.closed ≡ false = not_closed j.closed (λ e. absurd (cc (c.in_err-close_gate.ensures.ok e))) in
-    rw (← c.self.view_is) (on_err c.from_residual.result (λ told _. closing.known1 g.D.Disk.content g.D.Disk.moment g.D.Disk.since (laws.falls told) j.areas j.second j.generation j.tail j.closed j.spare j.doubt old d1 (was.told told) sure was.bounds.least shut (torn_as g.D.Disk.content g.D.Disk.moment g.D.Disk.since c.begin-other.result (begin_of j.areas (not j.second)) (0 ∷ []) (0 ∷ []) old d1 at0 refl (c.close_gate.ensures.torn shut told))))
+    rw (← c.self.view_is) (λ _. record {
+      stays = record { areas = refl; length = c.close_gate.ensures.size; spare = refl };
+      tail = refl;
+      format = refl;
+      later = c.close_gate.ensures.later;
+      told = λ told. stopped1 g.D.Disk (laws.falls told) j.areas j.second j.generation j.tail j.closed j.spare j.doubt j.disk d1 (was.told told) sure was.bounds.least c.begin-other.result c.begin-other.ensures shut (c.close_gate.ensures.torn shut told) (one_record c.args.format c.args.bytes.now);
+    })
 
 pub write_synced-requires : goal.write_synced-requires
 write_synced-requires g c =
     let j = c.self.inside in
     let was = c.self.invariant.0 in
-    let old = j.disk in
     let b = c.args.bytes.now in
-    let sure : j.doubt ≡ None = none_from j.doubt (rw (← c.self.view_is) at c.requires.settled) in
     let room : length b + 7 ≤ j.areas.bytes = omega (arith, c.if-self-saturating_add.false, c.saturating_add.ensures, was.bounds.most) in
-    let at0 : c.begin-other.result ≡ begin_of j.areas (not j.second) = c.begin-other.ensures in
     let buffer : c.deref.result.now ≡ framed ((next_of j.generation + 16 * (c.args.format - 1)) ∷ b) = c.deref.ensures.value ∙ c.frame.ensures.bytes in
-    let at1 : c.begin-other.result + 1 ≡ begin_of j.areas (not j.second) + 1 = ap (λ x. x + 1) at0 in
     let high = (in_areas j.areas (not j.second) (begin_of j.areas (not j.second) + 7 + length b) (omega arith) (omega (arith, room))).1 in
-    omega (arith, high, was.bounds.lies, at1, ap length buffer, length-framed ((next_of j.generation + 16 * (c.args.format - 1)) ∷ b), c.close_gate.ensures.size)
+    omega (arith, high, was.bounds.lies, c.begin-other.ensures, ap length buffer, length-framed ((next_of j.generation + 16 * (c.args.format - 1)) ∷ b), c.close_gate.ensures.size)
 
 pub invariant_of-self-in_err-write_synced : goal.invariant_of-self-in_err-write_synced
 invariant_of-self-in_err-write_synced g c =
     let laws = g.met.D.Disk in
     let j = c.self.inside in
     let was = c.self.invariant.0 in
-    let old = j.disk in
     let b = c.args.bytes.now in
     let sure : j.doubt ≡ None = none_from j.doubt (rw (← c.self.view_is) at c.requires.settled) in
     let room : length b + 7 ≤ j.areas.bytes = omega (arith, c.if-self-saturating_add.false, c.saturating_add.ensures, was.bounds.most) in
     let d1 = c.close_gate.new.disk in
-    let at0 : c.begin-other.result ≡ begin_of j.areas (not j.second) = c.begin-other.ensures in
     let d2 = c.write_synced.new.disk in
-    let buffer : c.deref.result.now ≡ framed ((next_of j.generation + 16 * (c.args.format - 1)) ∷ b) = c.deref.ensures.value ∙ c.frame.ensures.bytes in
-    let at1 : c.begin-other.result + 1 ≡ begin_of j.areas (not j.second) + 1 = ap (λ x. x + 1) at0 in (
+    let buffer : c.deref.result.now ≡ framed ((next_of j.generation + 16 * (c.args.format - 1)) ∷ b) = c.deref.ensures.value ∙ c.frame.ensures.bytes in (
       record {
         bounds = record {
           lies = omega (arith, was.bounds.lies, c.close_gate.ensures.size, c.write_synced.ensures.size);
@@ -156,105 +79,43 @@ invariant_of-self-in_err-write_synced g c =
           known = was.bounds.known;
           gate = was.bounds.gate;
         };
-        told = λ told. (told2 g.D.Disk.content g.D.Disk.moment g.D.Disk.since (laws.falls told) j.areas j.second j.generation j.tail j.closed j.spare j.doubt old d1 d2 b c.args.format (was.told told) sure was.bounds.least was.bounds.most room c.requires.known (closes g.D.Disk.content g.D.Disk.moment g.D.Disk.since (laws.falls told) j.areas j.second j.generation j.tail j.closed j.spare j.doubt old d1 (was.told told) sure was.bounds.least c.close_gate.ensures.none (λ e. torn_as g.D.Disk.content g.D.Disk.moment g.D.Disk.since c.begin-other.result (begin_of j.areas (not j.second)) (0 ∷ []) (0 ∷ []) old d1 at0 refl (c.close_gate.ensures.torn e told)) (λ e. wrote_as g.D.Disk.content g.D.Disk.moment g.D.Disk.since c.begin-other.result (begin_of j.areas (not j.second)) (0 ∷ []) (0 ∷ []) d1 at0 refl (c.in_ok-close_gate.ensures.done e told))) (torn_as g.D.Disk.content g.D.Disk.moment g.D.Disk.since (c.begin-other.result + 1) (begin_of j.areas (not j.second) + 1) c.deref.result.now (framed ((next_of j.generation + 16 * (c.args.format - 1)) ∷ b)) d1 d2 at1 buffer (c.write_synced.ensures.torn told))).0;
+        told = λ told. (told2 g.D.Disk (laws.falls told) j.areas j.second j.generation j.tail j.closed j.spare j.doubt j.disk d1 (was.told told) sure was.bounds.least c.begin-other.result c.begin-other.ensures c.close_gate.ensures.none (λ e. c.close_gate.ensures.torn e told) (λ e. c.in_ok-close_gate.ensures.done e told)
+            b c.args.format was.bounds.most room c.requires.known c.deref.result.now buffer d2 (c.write_synced.ensures.torn told)).0;
       },
       omega (arith, c.self.invariant.1, c.frame.ensures.capacity),
     )
 
-pub returns-in_err-write_synced-clause-same_records : goal.returns-in_err-write_synced-clause-same_records
-returns-in_err-write_synced-clause-same_records g c =
+pub returns-in_err-write_synced-clause-stopped : goal.returns-in_err-write_synced-clause-stopped
+returns-in_err-write_synced-clause-stopped g c =
     let laws = g.met.D.Disk in
     let j = c.self.inside in
     let was = c.self.invariant.0 in
-    let old = j.disk in
     let b = c.args.bytes.now in
     let sure : j.doubt ≡ None = none_from j.doubt (rw (← c.self.view_is) at c.requires.settled) in
     let room : length b + 7 ≤ j.areas.bytes = omega (arith, c.if-self-saturating_add.false, c.saturating_add.ensures, was.bounds.most) in
     let d1 = c.close_gate.new.disk in
-    let at0 : c.begin-other.result ≡ begin_of j.areas (not j.second) = c.begin-other.ensures in
     let d2 = c.write_synced.new.disk in
     let buffer : c.deref.result.now ≡ framed ((next_of j.generation + 16 * (c.args.format - 1)) ∷ b) = c.deref.ensures.value ∙ c.frame.ensures.bytes in
-    let at1 : c.begin-other.result + 1 ≡ begin_of j.areas (not j.second) + 1 = ap (λ x. x + 1) at0 in
-    rw (← c.self.view_is) (on_err c.from_residual-in_err-write_synced.result (λ told. ap (λ (k : Stored). k.records) (records2 g.D.Disk.content g.D.Disk.moment g.D.Disk.since (laws.falls told) j.areas j.second j.generation j.tail j.closed j.spare j.doubt old d1 d2 b c.args.format (was.told told) sure was.bounds.least was.bounds.most room c.requires.known (closes g.D.Disk.content g.D.Disk.moment g.D.Disk.since (laws.falls told) j.areas j.second j.generation j.tail j.closed j.spare j.doubt old d1 (was.told told) sure was.bounds.least c.close_gate.ensures.none (λ e. torn_as g.D.Disk.content g.D.Disk.moment g.D.Disk.since c.begin-other.result (begin_of j.areas (not j.second)) (0 ∷ []) (0 ∷ []) old d1 at0 refl (c.close_gate.ensures.torn e told)) (λ e. wrote_as g.D.Disk.content g.D.Disk.moment g.D.Disk.since c.begin-other.result (begin_of j.areas (not j.second)) (0 ∷ []) (0 ∷ []) d1 at0 refl (c.in_ok-close_gate.ensures.done e told))) (torn_as g.D.Disk.content g.D.Disk.moment g.D.Disk.since (c.begin-other.result + 1) (begin_of j.areas (not j.second) + 1) c.deref.result.now (framed ((next_of j.generation + 16 * (c.args.format - 1)) ∷ b)) d1 d2 at1 buffer (c.write_synced.ensures.torn told)))))
-
-pub returns-in_err-write_synced-clause-outside : goal.returns-in_err-write_synced-clause-outside
-returns-in_err-write_synced-clause-outside g c =
-    let laws = g.met.D.Disk in
-    let j = c.self.inside in
-    let was = c.self.invariant.0 in
-    let old = j.disk in
-    let b = c.args.bytes.now in
-    let sure : j.doubt ≡ None = none_from j.doubt (rw (← c.self.view_is) at c.requires.settled) in
-    let room : length b + 7 ≤ j.areas.bytes = omega (arith, c.if-self-saturating_add.false, c.saturating_add.ensures, was.bounds.most) in
-    let d1 = c.close_gate.new.disk in
-    let at0 : c.begin-other.result ≡ begin_of j.areas (not j.second) = c.begin-other.ensures in
-    let d2 = c.write_synced.new.disk in
-    let buffer : c.deref.result.now ≡ framed ((next_of j.generation + 16 * (c.args.format - 1)) ∷ b) = c.deref.ensures.value ∙ c.frame.ensures.bytes in
-    let at1 : c.begin-other.result + 1 ≡ begin_of j.areas (not j.second) + 1 = ap (λ x. x + 1) at0 in
-    rw (← c.self.view_is) (λ told. (began2 g.D.Disk.content g.D.Disk.moment g.D.Disk.since (laws.falls told) j.areas j.second j.generation j.tail j.closed j.spare j.doubt old d1 d2 b c.args.format (was.told told) sure was.bounds.least was.bounds.most room c.requires.known (closes g.D.Disk.content g.D.Disk.moment g.D.Disk.since (laws.falls told) j.areas j.second j.generation j.tail j.closed j.spare j.doubt old d1 (was.told told) sure was.bounds.least c.close_gate.ensures.none (λ e. torn_as g.D.Disk.content g.D.Disk.moment g.D.Disk.since c.begin-other.result (begin_of j.areas (not j.second)) (0 ∷ []) (0 ∷ []) old d1 at0 refl (c.close_gate.ensures.torn e told)) (λ e. wrote_as g.D.Disk.content g.D.Disk.moment g.D.Disk.since c.begin-other.result (begin_of j.areas (not j.second)) (0 ∷ []) (0 ∷ []) d1 at0 refl (c.in_ok-close_gate.ensures.done e told))) (torn_as g.D.Disk.content g.D.Disk.moment g.D.Disk.since (c.begin-other.result + 1) (begin_of j.areas (not j.second) + 1) c.deref.result.now (framed ((next_of j.generation + 16 * (c.args.format - 1)) ∷ b)) d1 d2 at1 buffer (c.write_synced.ensures.torn told))).outside)
-
-pub returns-in_err-write_synced-clause-time : goal.returns-in_err-write_synced-clause-time
-returns-in_err-write_synced-clause-time g c =
-    let laws = g.met.D.Disk in
-    let j = c.self.inside in
-    let was = c.self.invariant.0 in
-    let old = j.disk in
-    let b = c.args.bytes.now in
-    let sure : j.doubt ≡ None = none_from j.doubt (rw (← c.self.view_is) at c.requires.settled) in
-    let room : length b + 7 ≤ j.areas.bytes = omega (arith, c.if-self-saturating_add.false, c.saturating_add.ensures, was.bounds.most) in
-    let d1 = c.close_gate.new.disk in
-    let at0 : c.begin-other.result ≡ begin_of j.areas (not j.second) = c.begin-other.ensures in
-    let d2 = c.write_synced.new.disk in
-    let buffer : c.deref.result.now ≡ framed ((next_of j.generation + 16 * (c.args.format - 1)) ∷ b) = c.deref.ensures.value ∙ c.frame.ensures.bytes in
-    let at1 : c.begin-other.result + 1 ≡ begin_of j.areas (not j.second) + 1 = ap (λ x. x + 1) at0 in
-    rw (← c.self.view_is) (λ told. (began2 g.D.Disk.content g.D.Disk.moment g.D.Disk.since (laws.falls told) j.areas j.second j.generation j.tail j.closed j.spare j.doubt old d1 d2 b c.args.format (was.told told) sure was.bounds.least was.bounds.most room c.requires.known (closes g.D.Disk.content g.D.Disk.moment g.D.Disk.since (laws.falls told) j.areas j.second j.generation j.tail j.closed j.spare j.doubt old d1 (was.told told) sure was.bounds.least c.close_gate.ensures.none (λ e. torn_as g.D.Disk.content g.D.Disk.moment g.D.Disk.since c.begin-other.result (begin_of j.areas (not j.second)) (0 ∷ []) (0 ∷ []) old d1 at0 refl (c.close_gate.ensures.torn e told)) (λ e. wrote_as g.D.Disk.content g.D.Disk.moment g.D.Disk.since c.begin-other.result (begin_of j.areas (not j.second)) (0 ∷ []) (0 ∷ []) d1 at0 refl (c.in_ok-close_gate.ensures.done e told))) (torn_as g.D.Disk.content g.D.Disk.moment g.D.Disk.since (c.begin-other.result + 1) (begin_of j.areas (not j.second) + 1) c.deref.result.now (framed ((next_of j.generation + 16 * (c.args.format - 1)) ∷ b)) d1 d2 at1 buffer (c.write_synced.ensures.torn told))).time)
-
-pub returns-in_err-write_synced-clause-moments : goal.returns-in_err-write_synced-clause-moments
-returns-in_err-write_synced-clause-moments g c =
-    let laws = g.met.D.Disk in
-    let j = c.self.inside in
-    let was = c.self.invariant.0 in
-    let old = j.disk in
-    let b = c.args.bytes.now in
-    let sure : j.doubt ≡ None = none_from j.doubt (rw (← c.self.view_is) at c.requires.settled) in
-    let room : length b + 7 ≤ j.areas.bytes = omega (arith, c.if-self-saturating_add.false, c.saturating_add.ensures, was.bounds.most) in
-    let d1 = c.close_gate.new.disk in
-    let at0 : c.begin-other.result ≡ begin_of j.areas (not j.second) = c.begin-other.ensures in
-    let d2 = c.write_synced.new.disk in
-    let buffer : c.deref.result.now ≡ framed ((next_of j.generation + 16 * (c.args.format - 1)) ∷ b) = c.deref.ensures.value ∙ c.frame.ensures.bytes in
-    let at1 : c.begin-other.result + 1 ≡ begin_of j.areas (not j.second) + 1 = ap (λ x. x + 1) at0 in
-    rw (← c.self.view_is) (λ told. moments2 g.D.Disk.content g.D.Disk.moment g.D.Disk.since (laws.falls told) j.areas j.second j.generation j.tail j.closed j.spare j.doubt old d1 d2 b c.args.format (was.told told) sure was.bounds.least was.bounds.most room c.requires.known (closes g.D.Disk.content g.D.Disk.moment g.D.Disk.since (laws.falls told) j.areas j.second j.generation j.tail j.closed j.spare j.doubt old d1 (was.told told) sure was.bounds.least c.close_gate.ensures.none (λ e. torn_as g.D.Disk.content g.D.Disk.moment g.D.Disk.since c.begin-other.result (begin_of j.areas (not j.second)) (0 ∷ []) (0 ∷ []) old d1 at0 refl (c.close_gate.ensures.torn e told)) (λ e. wrote_as g.D.Disk.content g.D.Disk.moment g.D.Disk.since c.begin-other.result (begin_of j.areas (not j.second)) (0 ∷ []) (0 ∷ []) d1 at0 refl (c.in_ok-close_gate.ensures.done e told))) (torn_as g.D.Disk.content g.D.Disk.moment g.D.Disk.since (c.begin-other.result + 1) (begin_of j.areas (not j.second) + 1) c.deref.result.now (framed ((next_of j.generation + 16 * (c.args.format - 1)) ∷ b)) d1 d2 at1 buffer (c.write_synced.ensures.torn told)))
-
-pub returns-in_err-write_synced-clause-known : goal.returns-in_err-write_synced-clause-known
-returns-in_err-write_synced-clause-known g c =
-    let laws = g.met.D.Disk in
-    let j = c.self.inside in
-    let was = c.self.invariant.0 in
-    let old = j.disk in
-    let b = c.args.bytes.now in
-    let sure : j.doubt ≡ None = none_from j.doubt (rw (← c.self.view_is) at c.requires.settled) in
-    let room : length b + 7 ≤ j.areas.bytes = omega (arith, c.if-self-saturating_add.false, c.saturating_add.ensures, was.bounds.most) in
-    let d1 = c.close_gate.new.disk in
-    let at0 : c.begin-other.result ≡ begin_of j.areas (not j.second) = c.begin-other.ensures in
-    let d2 = c.write_synced.new.disk in
-    let buffer : c.deref.result.now ≡ framed ((next_of j.generation + 16 * (c.args.format - 1)) ∷ b) = c.deref.ensures.value ∙ c.frame.ensures.bytes in
-    let at1 : c.begin-other.result + 1 ≡ begin_of j.areas (not j.second) + 1 = ap (λ x. x + 1) at0 in
-    rw (← c.self.view_is) (on_err c.from_residual-in_err-write_synced.result (λ told _. known2 g.D.Disk.content g.D.Disk.moment g.D.Disk.since (laws.falls told) j.areas j.second j.generation j.tail j.closed j.spare j.doubt old d1 d2 b c.args.format (was.told told) sure was.bounds.least was.bounds.most room c.requires.known (closes g.D.Disk.content g.D.Disk.moment g.D.Disk.since (laws.falls told) j.areas j.second j.generation j.tail j.closed j.spare j.doubt old d1 (was.told told) sure was.bounds.least c.close_gate.ensures.none (λ e. torn_as g.D.Disk.content g.D.Disk.moment g.D.Disk.since c.begin-other.result (begin_of j.areas (not j.second)) (0 ∷ []) (0 ∷ []) old d1 at0 refl (c.close_gate.ensures.torn e told)) (λ e. wrote_as g.D.Disk.content g.D.Disk.moment g.D.Disk.since c.begin-other.result (begin_of j.areas (not j.second)) (0 ∷ []) (0 ∷ []) d1 at0 refl (c.in_ok-close_gate.ensures.done e told))) (torn_as g.D.Disk.content g.D.Disk.moment g.D.Disk.since (c.begin-other.result + 1) (begin_of j.areas (not j.second) + 1) c.deref.result.now (framed ((next_of j.generation + 16 * (c.args.format - 1)) ∷ b)) d1 d2 at1 buffer (c.write_synced.ensures.torn told))))
+    rw (← c.self.view_is) (λ _. record {
+      stays = record { areas = refl; length = c.write_synced.ensures.size ∙ c.close_gate.ensures.size; spare = refl };
+      tail = refl;
+      format = refl;
+      later = omega (arith, c.close_gate.ensures.later, c.write_synced.ensures.later);
+      told = λ told. stopped2 g.D.Disk (laws.falls told) j.areas j.second j.generation j.tail j.closed j.spare j.doubt j.disk d1 (was.told told) sure was.bounds.least c.begin-other.result c.begin-other.ensures c.close_gate.ensures.none (λ e. c.close_gate.ensures.torn e told) (λ e. c.in_ok-close_gate.ensures.done e told)
+          b c.args.format was.bounds.most room c.requires.known c.deref.result.now buffer d2 (c.write_synced.ensures.torn told);
+    })
 
 pub invariant_of-self-then-is_err : goal.invariant_of-self-then-is_err
 invariant_of-self-then-is_err g c =
     let laws = g.met.D.Disk in
     let j = c.self.inside in
     let was = c.self.invariant.0 in
-    let old = j.disk in
     let b = c.args.bytes.now in
     let sure : j.doubt ≡ None = none_from j.doubt (rw (← c.self.view_is) at c.requires.settled) in
     let room : length b + 7 ≤ j.areas.bytes = omega (arith, c.if-self-saturating_add.false, c.saturating_add.ensures, was.bounds.most) in
     let d1 = c.close_gate.new.disk in
-    let at0 : c.begin-other.result ≡ begin_of j.areas (not j.second) = c.begin-other.ensures in
     let d2 = c.write_synced.new.disk in
     let buffer : c.deref.result.now ≡ framed ((next_of j.generation + 16 * (c.args.format - 1)) ∷ b) = c.deref.ensures.value ∙ c.frame.ensures.bytes in
-    let at1 : c.begin-other.result + 1 ≡ begin_of j.areas (not j.second) + 1 = ap (λ x. x + 1) at0 in
     let d3 = c.write_synced-2.new.disk in
     rw c.begin-other.ensures (
       record {
@@ -267,129 +128,48 @@ invariant_of-self-then-is_err g c =
           known = was.bounds.known;
           gate = λ gate is. subst (λ x. (j.areas.first ≤ x) × (x < j.areas.first + 2 * j.areas.bytes)) (some_same is) (gate_bounds_of j.areas (not j.second) was.bounds.least);
         };
-        told = λ told. (told3 g.D.Disk.content g.D.Disk.moment g.D.Disk.since (laws.falls told) j.areas j.second j.generation j.tail j.closed j.spare j.doubt old d1 d2 b c.args.format (was.told told) sure was.bounds.least was.bounds.most room c.requires.known (closes g.D.Disk.content g.D.Disk.moment g.D.Disk.since (laws.falls told) j.areas j.second j.generation j.tail j.closed j.spare j.doubt old d1 (was.told told) sure was.bounds.least c.close_gate.ensures.none (λ e. torn_as g.D.Disk.content g.D.Disk.moment g.D.Disk.since c.begin-other.result (begin_of j.areas (not j.second)) (0 ∷ []) (0 ∷ []) old d1 at0 refl (c.close_gate.ensures.torn e told)) (λ e. wrote_as g.D.Disk.content g.D.Disk.moment g.D.Disk.since c.begin-other.result (begin_of j.areas (not j.second)) (0 ∷ []) (0 ∷ []) d1 at0 refl (c.in_ok-close_gate.ensures.done e told))) (torn_as g.D.Disk.content g.D.Disk.moment g.D.Disk.since (c.begin-other.result + 1) (begin_of j.areas (not j.second) + 1) c.deref.result.now (framed ((next_of j.generation + 16 * (c.args.format - 1)) ∷ b)) d1 d2 at1 buffer (c.write_synced.ensures.torn told)) (wrote_as g.D.Disk.content g.D.Disk.moment g.D.Disk.since (c.begin-other.result + 1) (begin_of j.areas (not j.second) + 1) c.deref.result.now (framed ((next_of j.generation + 16 * (c.args.format - 1)) ∷ b)) d2 at1 buffer (c.in_ok-write_synced.ensures.done told)) d3 (torn_as g.D.Disk.content g.D.Disk.moment g.D.Disk.since c.begin-other.result (begin_of j.areas (not j.second)) (165 ∷ []) (165 ∷ []) d2 d3 at0 refl (c.write_synced-2.ensures.torn told))).0;
+        told = λ told. (told3 g.D.Disk (laws.falls told) j.areas j.second j.generation j.tail j.closed j.spare j.doubt j.disk d1 (was.told told) sure was.bounds.least c.begin-other.result c.begin-other.ensures c.close_gate.ensures.none (λ e. c.close_gate.ensures.torn e told) (λ e. c.in_ok-close_gate.ensures.done e told)
+            b c.args.format was.bounds.most room c.requires.known c.deref.result.now buffer d2 (c.write_synced.ensures.torn told) (c.in_ok-write_synced.ensures.done told) d3 (c.write_synced-2.ensures.torn told)).0;
       },
       omega (arith, c.self.invariant.1, c.frame.ensures.capacity),
     )
 
-pub returns-then-is_err-clause-same_records : goal.returns-then-is_err-clause-same_records
-returns-then-is_err-clause-same_records g c =
+pub returns-then-is_err-clause-stopped : goal.returns-then-is_err-clause-stopped
+returns-then-is_err-clause-stopped g c =
     let laws = g.met.D.Disk in
     let j = c.self.inside in
     let was = c.self.invariant.0 in
-    let old = j.disk in
     let b = c.args.bytes.now in
     let sure : j.doubt ≡ None = none_from j.doubt (rw (← c.self.view_is) at c.requires.settled) in
     let room : length b + 7 ≤ j.areas.bytes = omega (arith, c.if-self-saturating_add.false, c.saturating_add.ensures, was.bounds.most) in
     let d1 = c.close_gate.new.disk in
-    let at0 : c.begin-other.result ≡ begin_of j.areas (not j.second) = c.begin-other.ensures in
     let d2 = c.write_synced.new.disk in
     let buffer : c.deref.result.now ≡ framed ((next_of j.generation + 16 * (c.args.format - 1)) ∷ b) = c.deref.ensures.value ∙ c.frame.ensures.bytes in
-    let at1 : c.begin-other.result + 1 ≡ begin_of j.areas (not j.second) + 1 = ap (λ x. x + 1) at0 in
-    let d3 = c.write_synced-2.new.disk in
-    rw (← c.self.view_is, c.begin-other.ensures) (λ told. ap (λ (k : Stored). k.records) (records3 g.D.Disk.content g.D.Disk.moment g.D.Disk.since (laws.falls told) j.areas j.second j.generation j.tail j.closed j.spare j.doubt old d1 d2 b c.args.format (was.told told) sure was.bounds.least was.bounds.most room c.requires.known (closes g.D.Disk.content g.D.Disk.moment g.D.Disk.since (laws.falls told) j.areas j.second j.generation j.tail j.closed j.spare j.doubt old d1 (was.told told) sure was.bounds.least c.close_gate.ensures.none (λ e. torn_as g.D.Disk.content g.D.Disk.moment g.D.Disk.since c.begin-other.result (begin_of j.areas (not j.second)) (0 ∷ []) (0 ∷ []) old d1 at0 refl (c.close_gate.ensures.torn e told)) (λ e. wrote_as g.D.Disk.content g.D.Disk.moment g.D.Disk.since c.begin-other.result (begin_of j.areas (not j.second)) (0 ∷ []) (0 ∷ []) d1 at0 refl (c.in_ok-close_gate.ensures.done e told))) (torn_as g.D.Disk.content g.D.Disk.moment g.D.Disk.since (c.begin-other.result + 1) (begin_of j.areas (not j.second) + 1) c.deref.result.now (framed ((next_of j.generation + 16 * (c.args.format - 1)) ∷ b)) d1 d2 at1 buffer (c.write_synced.ensures.torn told)) (wrote_as g.D.Disk.content g.D.Disk.moment g.D.Disk.since (c.begin-other.result + 1) (begin_of j.areas (not j.second) + 1) c.deref.result.now (framed ((next_of j.generation + 16 * (c.args.format - 1)) ∷ b)) d2 at1 buffer (c.in_ok-write_synced.ensures.done told)) d3 (torn_as g.D.Disk.content g.D.Disk.moment g.D.Disk.since c.begin-other.result (begin_of j.areas (not j.second)) (165 ∷ []) (165 ∷ []) d2 d3 at0 refl (c.write_synced-2.ensures.torn told))))
-
-pub returns-then-is_err-clause-doubt : goal.returns-then-is_err-clause-doubt
-returns-then-is_err-clause-doubt g c =
-    let laws = g.met.D.Disk in
-    let j = c.self.inside in
-    let was = c.self.invariant.0 in
-    let old = j.disk in
-    let b = c.args.bytes.now in
-    let sure : j.doubt ≡ None = none_from j.doubt (rw (← c.self.view_is) at c.requires.settled) in
-    let room : length b + 7 ≤ j.areas.bytes = omega (arith, c.if-self-saturating_add.false, c.saturating_add.ensures, was.bounds.most) in
-    let d1 = c.close_gate.new.disk in
-    let at0 : c.begin-other.result ≡ begin_of j.areas (not j.second) = c.begin-other.ensures in
-    let d2 = c.write_synced.new.disk in
-    let buffer : c.deref.result.now ≡ framed ((next_of j.generation + 16 * (c.args.format - 1)) ∷ b) = c.deref.ensures.value ∙ c.frame.ensures.bytes in
-    let at1 : c.begin-other.result + 1 ≡ begin_of j.areas (not j.second) + 1 = ap (λ x. x + 1) at0 in
     let d3 = c.write_synced-2.new.disk in
     let inside = gate_bounds_of j.areas (not j.second) was.bounds.least in
-    rw c.begin-other.ensures (λ told _. doubt3 g.D.Disk.content g.D.Disk.moment g.D.Disk.since (laws.falls told) j.areas j.second j.generation j.tail j.closed j.spare j.doubt old d1 d2 b c.args.format (was.told told) sure was.bounds.least was.bounds.most room c.requires.known (closes g.D.Disk.content g.D.Disk.moment g.D.Disk.since (laws.falls told) j.areas j.second j.generation j.tail j.closed j.spare j.doubt old d1 (was.told told) sure was.bounds.least c.close_gate.ensures.none (λ e. torn_as g.D.Disk.content g.D.Disk.moment g.D.Disk.since c.begin-other.result (begin_of j.areas (not j.second)) (0 ∷ []) (0 ∷ []) old d1 at0 refl (c.close_gate.ensures.torn e told)) (λ e. wrote_as g.D.Disk.content g.D.Disk.moment g.D.Disk.since c.begin-other.result (begin_of j.areas (not j.second)) (0 ∷ []) (0 ∷ []) d1 at0 refl (c.in_ok-close_gate.ensures.done e told))) (torn_as g.D.Disk.content g.D.Disk.moment g.D.Disk.since (c.begin-other.result + 1) (begin_of j.areas (not j.second) + 1) c.deref.result.now (framed ((next_of j.generation + 16 * (c.args.format - 1)) ∷ b)) d1 d2 at1 buffer (c.write_synced.ensures.torn told)) (wrote_as g.D.Disk.content g.D.Disk.moment g.D.Disk.since (c.begin-other.result + 1) (begin_of j.areas (not j.second) + 1) c.deref.result.now (framed ((next_of j.generation + 16 * (c.args.format - 1)) ∷ b)) d2 at1 buffer (c.in_ok-write_synced.ensures.done told)) d3 (torn_as g.D.Disk.content g.D.Disk.moment g.D.Disk.since c.begin-other.result (begin_of j.areas (not j.second)) (165 ∷ []) (165 ∷ []) d2 d3 at0 refl (c.write_synced-2.ensures.torn told)) (omega (arith, inside.1, was.bounds.lies, laws.full told d3, c.close_gate.ensures.size, c.write_synced.ensures.size, c.write_synced-2.ensures.size)))
-
-pub returns-then-is_err-clause-outside : goal.returns-then-is_err-clause-outside
-returns-then-is_err-clause-outside g c =
-    let laws = g.met.D.Disk in
-    let j = c.self.inside in
-    let was = c.self.invariant.0 in
-    let old = j.disk in
-    let b = c.args.bytes.now in
-    let sure : j.doubt ≡ None = none_from j.doubt (rw (← c.self.view_is) at c.requires.settled) in
-    let room : length b + 7 ≤ j.areas.bytes = omega (arith, c.if-self-saturating_add.false, c.saturating_add.ensures, was.bounds.most) in
-    let d1 = c.close_gate.new.disk in
-    let at0 : c.begin-other.result ≡ begin_of j.areas (not j.second) = c.begin-other.ensures in
-    let d2 = c.write_synced.new.disk in
-    let buffer : c.deref.result.now ≡ framed ((next_of j.generation + 16 * (c.args.format - 1)) ∷ b) = c.deref.ensures.value ∙ c.frame.ensures.bytes in
-    let at1 : c.begin-other.result + 1 ≡ begin_of j.areas (not j.second) + 1 = ap (λ x. x + 1) at0 in
-    let d3 = c.write_synced-2.new.disk in
-    rw (← c.self.view_is) (λ told. (began3 g.D.Disk.content g.D.Disk.moment g.D.Disk.since (laws.falls told) j.areas j.second j.generation j.tail j.closed j.spare j.doubt old d1 d2 b c.args.format (was.told told) sure was.bounds.least was.bounds.most room c.requires.known (closes g.D.Disk.content g.D.Disk.moment g.D.Disk.since (laws.falls told) j.areas j.second j.generation j.tail j.closed j.spare j.doubt old d1 (was.told told) sure was.bounds.least c.close_gate.ensures.none (λ e. torn_as g.D.Disk.content g.D.Disk.moment g.D.Disk.since c.begin-other.result (begin_of j.areas (not j.second)) (0 ∷ []) (0 ∷ []) old d1 at0 refl (c.close_gate.ensures.torn e told)) (λ e. wrote_as g.D.Disk.content g.D.Disk.moment g.D.Disk.since c.begin-other.result (begin_of j.areas (not j.second)) (0 ∷ []) (0 ∷ []) d1 at0 refl (c.in_ok-close_gate.ensures.done e told))) (torn_as g.D.Disk.content g.D.Disk.moment g.D.Disk.since (c.begin-other.result + 1) (begin_of j.areas (not j.second) + 1) c.deref.result.now (framed ((next_of j.generation + 16 * (c.args.format - 1)) ∷ b)) d1 d2 at1 buffer (c.write_synced.ensures.torn told)) (wrote_as g.D.Disk.content g.D.Disk.moment g.D.Disk.since (c.begin-other.result + 1) (begin_of j.areas (not j.second) + 1) c.deref.result.now (framed ((next_of j.generation + 16 * (c.args.format - 1)) ∷ b)) d2 at1 buffer (c.in_ok-write_synced.ensures.done told)) d3 (torn_as g.D.Disk.content g.D.Disk.moment g.D.Disk.since c.begin-other.result (begin_of j.areas (not j.second)) (165 ∷ []) (165 ∷ []) d2 d3 at0 refl (c.write_synced-2.ensures.torn told))).outside)
-
-pub returns-then-is_err-clause-time : goal.returns-then-is_err-clause-time
-returns-then-is_err-clause-time g c =
-    let laws = g.met.D.Disk in
-    let j = c.self.inside in
-    let was = c.self.invariant.0 in
-    let old = j.disk in
-    let b = c.args.bytes.now in
-    let sure : j.doubt ≡ None = none_from j.doubt (rw (← c.self.view_is) at c.requires.settled) in
-    let room : length b + 7 ≤ j.areas.bytes = omega (arith, c.if-self-saturating_add.false, c.saturating_add.ensures, was.bounds.most) in
-    let d1 = c.close_gate.new.disk in
-    let at0 : c.begin-other.result ≡ begin_of j.areas (not j.second) = c.begin-other.ensures in
-    let d2 = c.write_synced.new.disk in
-    let buffer : c.deref.result.now ≡ framed ((next_of j.generation + 16 * (c.args.format - 1)) ∷ b) = c.deref.ensures.value ∙ c.frame.ensures.bytes in
-    let at1 : c.begin-other.result + 1 ≡ begin_of j.areas (not j.second) + 1 = ap (λ x. x + 1) at0 in
-    let d3 = c.write_synced-2.new.disk in
-    rw (← c.self.view_is) (λ told. (began3 g.D.Disk.content g.D.Disk.moment g.D.Disk.since (laws.falls told) j.areas j.second j.generation j.tail j.closed j.spare j.doubt old d1 d2 b c.args.format (was.told told) sure was.bounds.least was.bounds.most room c.requires.known (closes g.D.Disk.content g.D.Disk.moment g.D.Disk.since (laws.falls told) j.areas j.second j.generation j.tail j.closed j.spare j.doubt old d1 (was.told told) sure was.bounds.least c.close_gate.ensures.none (λ e. torn_as g.D.Disk.content g.D.Disk.moment g.D.Disk.since c.begin-other.result (begin_of j.areas (not j.second)) (0 ∷ []) (0 ∷ []) old d1 at0 refl (c.close_gate.ensures.torn e told)) (λ e. wrote_as g.D.Disk.content g.D.Disk.moment g.D.Disk.since c.begin-other.result (begin_of j.areas (not j.second)) (0 ∷ []) (0 ∷ []) d1 at0 refl (c.in_ok-close_gate.ensures.done e told))) (torn_as g.D.Disk.content g.D.Disk.moment g.D.Disk.since (c.begin-other.result + 1) (begin_of j.areas (not j.second) + 1) c.deref.result.now (framed ((next_of j.generation + 16 * (c.args.format - 1)) ∷ b)) d1 d2 at1 buffer (c.write_synced.ensures.torn told)) (wrote_as g.D.Disk.content g.D.Disk.moment g.D.Disk.since (c.begin-other.result + 1) (begin_of j.areas (not j.second) + 1) c.deref.result.now (framed ((next_of j.generation + 16 * (c.args.format - 1)) ∷ b)) d2 at1 buffer (c.in_ok-write_synced.ensures.done told)) d3 (torn_as g.D.Disk.content g.D.Disk.moment g.D.Disk.since c.begin-other.result (begin_of j.areas (not j.second)) (165 ∷ []) (165 ∷ []) d2 d3 at0 refl (c.write_synced-2.ensures.torn told))).time)
-
-pub returns-then-is_err-clause-moments : goal.returns-then-is_err-clause-moments
-returns-then-is_err-clause-moments g c =
-    let laws = g.met.D.Disk in
-    let j = c.self.inside in
-    let was = c.self.invariant.0 in
-    let old = j.disk in
-    let b = c.args.bytes.now in
-    let sure : j.doubt ≡ None = none_from j.doubt (rw (← c.self.view_is) at c.requires.settled) in
-    let room : length b + 7 ≤ j.areas.bytes = omega (arith, c.if-self-saturating_add.false, c.saturating_add.ensures, was.bounds.most) in
-    let d1 = c.close_gate.new.disk in
-    let at0 : c.begin-other.result ≡ begin_of j.areas (not j.second) = c.begin-other.ensures in
-    let d2 = c.write_synced.new.disk in
-    let buffer : c.deref.result.now ≡ framed ((next_of j.generation + 16 * (c.args.format - 1)) ∷ b) = c.deref.ensures.value ∙ c.frame.ensures.bytes in
-    let at1 : c.begin-other.result + 1 ≡ begin_of j.areas (not j.second) + 1 = ap (λ x. x + 1) at0 in
-    let d3 = c.write_synced-2.new.disk in
-    rw (← c.self.view_is) (λ told. moments3 g.D.Disk.content g.D.Disk.moment g.D.Disk.since (laws.falls told) j.areas j.second j.generation j.tail j.closed j.spare j.doubt old d1 d2 b c.args.format (was.told told) sure was.bounds.least was.bounds.most room c.requires.known (closes g.D.Disk.content g.D.Disk.moment g.D.Disk.since (laws.falls told) j.areas j.second j.generation j.tail j.closed j.spare j.doubt old d1 (was.told told) sure was.bounds.least c.close_gate.ensures.none (λ e. torn_as g.D.Disk.content g.D.Disk.moment g.D.Disk.since c.begin-other.result (begin_of j.areas (not j.second)) (0 ∷ []) (0 ∷ []) old d1 at0 refl (c.close_gate.ensures.torn e told)) (λ e. wrote_as g.D.Disk.content g.D.Disk.moment g.D.Disk.since c.begin-other.result (begin_of j.areas (not j.second)) (0 ∷ []) (0 ∷ []) d1 at0 refl (c.in_ok-close_gate.ensures.done e told))) (torn_as g.D.Disk.content g.D.Disk.moment g.D.Disk.since (c.begin-other.result + 1) (begin_of j.areas (not j.second) + 1) c.deref.result.now (framed ((next_of j.generation + 16 * (c.args.format - 1)) ∷ b)) d1 d2 at1 buffer (c.write_synced.ensures.torn told)) (wrote_as g.D.Disk.content g.D.Disk.moment g.D.Disk.since (c.begin-other.result + 1) (begin_of j.areas (not j.second) + 1) c.deref.result.now (framed ((next_of j.generation + 16 * (c.args.format - 1)) ∷ b)) d2 at1 buffer (c.in_ok-write_synced.ensures.done told)) d3 (torn_as g.D.Disk.content g.D.Disk.moment g.D.Disk.since c.begin-other.result (begin_of j.areas (not j.second)) (165 ∷ []) (165 ∷ []) d2 d3 at0 refl (c.write_synced-2.ensures.torn told)))
-
-pub returns-then-is_err-clause-behind : goal.returns-then-is_err-clause-behind
-returns-then-is_err-clause-behind g c =
-    let laws = g.met.D.Disk in
-    let j = c.self.inside in
-    let was = c.self.invariant.0 in
-    let old = j.disk in
-    let b = c.args.bytes.now in
-    let sure : j.doubt ≡ None = none_from j.doubt (rw (← c.self.view_is) at c.requires.settled) in
-    let room : length b + 7 ≤ j.areas.bytes = omega (arith, c.if-self-saturating_add.false, c.saturating_add.ensures, was.bounds.most) in
-    let d1 = c.close_gate.new.disk in
-    let at0 : c.begin-other.result ≡ begin_of j.areas (not j.second) = c.begin-other.ensures in
-    let d2 = c.write_synced.new.disk in
-    let buffer : c.deref.result.now ≡ framed ((next_of j.generation + 16 * (c.args.format - 1)) ∷ b) = c.deref.ensures.value ∙ c.frame.ensures.bytes in
-    let at1 : c.begin-other.result + 1 ≡ begin_of j.areas (not j.second) + 1 = ap (λ x. x + 1) at0 in
-    let d3 = c.write_synced-2.new.disk in
-    rw (← c.self.view_is) (λ told _. behind3 g.D.Disk.content g.D.Disk.moment g.D.Disk.since (laws.falls told) j.areas j.second j.generation j.tail j.closed j.spare j.doubt old d1 d2 b c.args.format (was.told told) sure was.bounds.least was.bounds.most room c.requires.known (closes g.D.Disk.content g.D.Disk.moment g.D.Disk.since (laws.falls told) j.areas j.second j.generation j.tail j.closed j.spare j.doubt old d1 (was.told told) sure was.bounds.least c.close_gate.ensures.none (λ e. torn_as g.D.Disk.content g.D.Disk.moment g.D.Disk.since c.begin-other.result (begin_of j.areas (not j.second)) (0 ∷ []) (0 ∷ []) old d1 at0 refl (c.close_gate.ensures.torn e told)) (λ e. wrote_as g.D.Disk.content g.D.Disk.moment g.D.Disk.since c.begin-other.result (begin_of j.areas (not j.second)) (0 ∷ []) (0 ∷ []) d1 at0 refl (c.in_ok-close_gate.ensures.done e told))) (torn_as g.D.Disk.content g.D.Disk.moment g.D.Disk.since (c.begin-other.result + 1) (begin_of j.areas (not j.second) + 1) c.deref.result.now (framed ((next_of j.generation + 16 * (c.args.format - 1)) ∷ b)) d1 d2 at1 buffer (c.write_synced.ensures.torn told)) (wrote_as g.D.Disk.content g.D.Disk.moment g.D.Disk.since (c.begin-other.result + 1) (begin_of j.areas (not j.second) + 1) c.deref.result.now (framed ((next_of j.generation + 16 * (c.args.format - 1)) ∷ b)) d2 at1 buffer (c.in_ok-write_synced.ensures.done told)) d3 (torn_as g.D.Disk.content g.D.Disk.moment g.D.Disk.since c.begin-other.result (begin_of j.areas (not j.second)) (165 ∷ []) (165 ∷ []) d2 d3 at0 refl (c.write_synced-2.ensures.torn told)))
+    rw (← c.self.view_is, c.begin-other.ensures) (λ _. record {
+      stays = record { areas = refl; length = c.write_synced-2.ensures.size ∙ c.write_synced.ensures.size ∙ c.close_gate.ensures.size; spare = refl };
+      tail = refl;
+      format = refl;
+      later = omega (arith, c.close_gate.ensures.later, c.write_synced.ensures.later, c.write_synced-2.ensures.later);
+      told = λ told. stopped3 g.D.Disk (laws.falls told) j.areas j.second j.generation j.tail j.closed j.spare j.doubt j.disk d1 (was.told told) sure was.bounds.least c.begin-other.result c.begin-other.ensures c.close_gate.ensures.none (λ e. c.close_gate.ensures.torn e told) (λ e. c.in_ok-close_gate.ensures.done e told)
+          b c.args.format was.bounds.most room c.requires.known c.deref.result.now buffer d2 (c.write_synced.ensures.torn told) (c.in_ok-write_synced.ensures.done told) d3 (c.write_synced-2.ensures.torn told)
+          (omega (arith, inside.1, was.bounds.lies, laws.full told d3, c.close_gate.ensures.size, c.write_synced.ensures.size, c.write_synced-2.ensures.size));
+    })
 
 pub invariant_of-self-2 : goal.invariant_of-self-2
 invariant_of-self-2 g c =
     let laws = g.met.D.Disk in
     let j = c.self.inside in
     let was = c.self.invariant.0 in
-    let old = j.disk in
     let b = c.args.bytes.now in
     let sure : j.doubt ≡ None = none_from j.doubt (rw (← c.self.view_is) at c.requires.settled) in
     let room : length b + 7 ≤ j.areas.bytes = omega (arith, c.if-self-saturating_add.false, c.saturating_add.ensures, was.bounds.most) in
     let d1 = c.close_gate.new.disk in
-    let at0 : c.begin-other.result ≡ begin_of j.areas (not j.second) = c.begin-other.ensures in
     let d2 = c.write_synced.new.disk in
     let buffer : c.deref.result.now ≡ framed ((next_of j.generation + 16 * (c.args.format - 1)) ∷ b) = c.deref.ensures.value ∙ c.frame.ensures.bytes in
-    let at1 : c.begin-other.result + 1 ≡ begin_of j.areas (not j.second) + 1 = ap (λ x. x + 1) at0 in
-    let d3 = c.write_synced-2.new.disk in (
+    let d3 = c.write_synced-2.new.disk in
+    let no_fault = if_no_error c.write_synced-2.result (sym c.is_err.ensures.value ∙ c.if-is_err.false) c.write_synced-2.ensures.done in (
       record {
         bounds = record {
           lies = omega (arith, was.bounds.lies, c.close_gate.ensures.size, c.write_synced.ensures.size, c.write_synced-2.ensures.size);
@@ -400,92 +180,30 @@ invariant_of-self-2 g c =
           known = (next_byte j.generation c.args.format c.requires.known).0;
           gate = was.bounds.gate;
         };
-        told = λ told. (told4 g.D.Disk.content g.D.Disk.moment g.D.Disk.since (laws.falls told) j.areas j.second j.generation j.tail j.closed j.spare j.doubt old d1 d2 b c.args.format (was.told told) sure was.bounds.least was.bounds.most room c.requires.known (closes g.D.Disk.content g.D.Disk.moment g.D.Disk.since (laws.falls told) j.areas j.second j.generation j.tail j.closed j.spare j.doubt old d1 (was.told told) sure was.bounds.least c.close_gate.ensures.none (λ e. torn_as g.D.Disk.content g.D.Disk.moment g.D.Disk.since c.begin-other.result (begin_of j.areas (not j.second)) (0 ∷ []) (0 ∷ []) old d1 at0 refl (c.close_gate.ensures.torn e told)) (λ e. wrote_as g.D.Disk.content g.D.Disk.moment g.D.Disk.since c.begin-other.result (begin_of j.areas (not j.second)) (0 ∷ []) (0 ∷ []) d1 at0 refl (c.in_ok-close_gate.ensures.done e told))) (torn_as g.D.Disk.content g.D.Disk.moment g.D.Disk.since (c.begin-other.result + 1) (begin_of j.areas (not j.second) + 1) c.deref.result.now (framed ((next_of j.generation + 16 * (c.args.format - 1)) ∷ b)) d1 d2 at1 buffer (c.write_synced.ensures.torn told)) (wrote_as g.D.Disk.content g.D.Disk.moment g.D.Disk.since (c.begin-other.result + 1) (begin_of j.areas (not j.second) + 1) c.deref.result.now (framed ((next_of j.generation + 16 * (c.args.format - 1)) ∷ b)) d2 at1 buffer (c.in_ok-write_synced.ensures.done told)) d3 (torn_as g.D.Disk.content g.D.Disk.moment g.D.Disk.since c.begin-other.result (begin_of j.areas (not j.second)) (165 ∷ []) (165 ∷ []) d2 d3 at0 refl (c.write_synced-2.ensures.torn told)) (wrote_as g.D.Disk.content g.D.Disk.moment g.D.Disk.since c.begin-other.result (begin_of j.areas (not j.second)) (165 ∷ []) (165 ∷ []) d3 at0 refl (if_no_error c.write_synced-2.result (sym c.is_err.ensures.value ∙ c.if-is_err.false) c.write_synced-2.ensures.done told))).0;
+        told = λ told. (told4 g.D.Disk (laws.falls told) j.areas j.second j.generation j.tail j.closed j.spare j.doubt j.disk d1 (was.told told) sure was.bounds.least c.begin-other.result c.begin-other.ensures c.close_gate.ensures.none (λ e. c.close_gate.ensures.torn e told) (λ e. c.in_ok-close_gate.ensures.done e told)
+            b c.args.format was.bounds.most room c.requires.known c.deref.result.now buffer d2 (c.write_synced.ensures.torn told) (c.in_ok-write_synced.ensures.done told) d3 (c.write_synced-2.ensures.torn told) (no_fault told)).0;
       },
       omega (arith, c.self.invariant.1, c.frame.ensures.capacity),
     )
 
-pub returns-clause-records : goal.returns-clause-records
-returns-clause-records g c =
+pub returns-clause-stored : goal.returns-clause-stored
+returns-clause-stored g c =
     let laws = g.met.D.Disk in
     let j = c.self.inside in
     let was = c.self.invariant.0 in
-    let old = j.disk in
     let b = c.args.bytes.now in
     let sure : j.doubt ≡ None = none_from j.doubt (rw (← c.self.view_is) at c.requires.settled) in
     let room : length b + 7 ≤ j.areas.bytes = omega (arith, c.if-self-saturating_add.false, c.saturating_add.ensures, was.bounds.most) in
     let d1 = c.close_gate.new.disk in
-    let at0 : c.begin-other.result ≡ begin_of j.areas (not j.second) = c.begin-other.ensures in
     let d2 = c.write_synced.new.disk in
     let buffer : c.deref.result.now ≡ framed ((next_of j.generation + 16 * (c.args.format - 1)) ∷ b) = c.deref.ensures.value ∙ c.frame.ensures.bytes in
-    let at1 : c.begin-other.result + 1 ≡ begin_of j.areas (not j.second) + 1 = ap (λ x. x + 1) at0 in
     let d3 = c.write_synced-2.new.disk in
-    (λ told. ap (λ (k : Stored). k.records) (records4 g.D.Disk.content g.D.Disk.moment g.D.Disk.since (laws.falls told) j.areas j.second j.generation j.tail j.closed j.spare j.doubt old d1 d2 b c.args.format (was.told told) sure was.bounds.least was.bounds.most room c.requires.known (closes g.D.Disk.content g.D.Disk.moment g.D.Disk.since (laws.falls told) j.areas j.second j.generation j.tail j.closed j.spare j.doubt old d1 (was.told told) sure was.bounds.least c.close_gate.ensures.none (λ e. torn_as g.D.Disk.content g.D.Disk.moment g.D.Disk.since c.begin-other.result (begin_of j.areas (not j.second)) (0 ∷ []) (0 ∷ []) old d1 at0 refl (c.close_gate.ensures.torn e told)) (λ e. wrote_as g.D.Disk.content g.D.Disk.moment g.D.Disk.since c.begin-other.result (begin_of j.areas (not j.second)) (0 ∷ []) (0 ∷ []) d1 at0 refl (c.in_ok-close_gate.ensures.done e told))) (torn_as g.D.Disk.content g.D.Disk.moment g.D.Disk.since (c.begin-other.result + 1) (begin_of j.areas (not j.second) + 1) c.deref.result.now (framed ((next_of j.generation + 16 * (c.args.format - 1)) ∷ b)) d1 d2 at1 buffer (c.write_synced.ensures.torn told)) (wrote_as g.D.Disk.content g.D.Disk.moment g.D.Disk.since (c.begin-other.result + 1) (begin_of j.areas (not j.second) + 1) c.deref.result.now (framed ((next_of j.generation + 16 * (c.args.format - 1)) ∷ b)) d2 at1 buffer (c.in_ok-write_synced.ensures.done told)) d3 (torn_as g.D.Disk.content g.D.Disk.moment g.D.Disk.since c.begin-other.result (begin_of j.areas (not j.second)) (165 ∷ []) (165 ∷ []) d2 d3 at0 refl (c.write_synced-2.ensures.torn told)) (wrote_as g.D.Disk.content g.D.Disk.moment g.D.Disk.since c.begin-other.result (begin_of j.areas (not j.second)) (165 ∷ []) (165 ∷ []) d3 at0 refl (if_no_error c.write_synced-2.result (sym c.is_err.ensures.value ∙ c.if-is_err.false) c.write_synced-2.ensures.done told))))
-
-pub returns-clause-outside : goal.returns-clause-outside
-returns-clause-outside g c =
-    let laws = g.met.D.Disk in
-    let j = c.self.inside in
-    let was = c.self.invariant.0 in
-    let old = j.disk in
-    let b = c.args.bytes.now in
-    let sure : j.doubt ≡ None = none_from j.doubt (rw (← c.self.view_is) at c.requires.settled) in
-    let room : length b + 7 ≤ j.areas.bytes = omega (arith, c.if-self-saturating_add.false, c.saturating_add.ensures, was.bounds.most) in
-    let d1 = c.close_gate.new.disk in
-    let at0 : c.begin-other.result ≡ begin_of j.areas (not j.second) = c.begin-other.ensures in
-    let d2 = c.write_synced.new.disk in
-    let buffer : c.deref.result.now ≡ framed ((next_of j.generation + 16 * (c.args.format - 1)) ∷ b) = c.deref.ensures.value ∙ c.frame.ensures.bytes in
-    let at1 : c.begin-other.result + 1 ≡ begin_of j.areas (not j.second) + 1 = ap (λ x. x + 1) at0 in
-    let d3 = c.write_synced-2.new.disk in
-    rw (← c.self.view_is) (λ told. (began3 g.D.Disk.content g.D.Disk.moment g.D.Disk.since (laws.falls told) j.areas j.second j.generation j.tail j.closed j.spare j.doubt old d1 d2 b c.args.format (was.told told) sure was.bounds.least was.bounds.most room c.requires.known (closes g.D.Disk.content g.D.Disk.moment g.D.Disk.since (laws.falls told) j.areas j.second j.generation j.tail j.closed j.spare j.doubt old d1 (was.told told) sure was.bounds.least c.close_gate.ensures.none (λ e. torn_as g.D.Disk.content g.D.Disk.moment g.D.Disk.since c.begin-other.result (begin_of j.areas (not j.second)) (0 ∷ []) (0 ∷ []) old d1 at0 refl (c.close_gate.ensures.torn e told)) (λ e. wrote_as g.D.Disk.content g.D.Disk.moment g.D.Disk.since c.begin-other.result (begin_of j.areas (not j.second)) (0 ∷ []) (0 ∷ []) d1 at0 refl (c.in_ok-close_gate.ensures.done e told))) (torn_as g.D.Disk.content g.D.Disk.moment g.D.Disk.since (c.begin-other.result + 1) (begin_of j.areas (not j.second) + 1) c.deref.result.now (framed ((next_of j.generation + 16 * (c.args.format - 1)) ∷ b)) d1 d2 at1 buffer (c.write_synced.ensures.torn told)) (wrote_as g.D.Disk.content g.D.Disk.moment g.D.Disk.since (c.begin-other.result + 1) (begin_of j.areas (not j.second) + 1) c.deref.result.now (framed ((next_of j.generation + 16 * (c.args.format - 1)) ∷ b)) d2 at1 buffer (c.in_ok-write_synced.ensures.done told)) d3 (torn_as g.D.Disk.content g.D.Disk.moment g.D.Disk.since c.begin-other.result (begin_of j.areas (not j.second)) (165 ∷ []) (165 ∷ []) d2 d3 at0 refl (c.write_synced-2.ensures.torn told))).outside)
-
-pub returns-clause-time : goal.returns-clause-time
-returns-clause-time g c =
-    let laws = g.met.D.Disk in
-    let j = c.self.inside in
-    let was = c.self.invariant.0 in
-    let old = j.disk in
-    let b = c.args.bytes.now in
-    let sure : j.doubt ≡ None = none_from j.doubt (rw (← c.self.view_is) at c.requires.settled) in
-    let room : length b + 7 ≤ j.areas.bytes = omega (arith, c.if-self-saturating_add.false, c.saturating_add.ensures, was.bounds.most) in
-    let d1 = c.close_gate.new.disk in
-    let at0 : c.begin-other.result ≡ begin_of j.areas (not j.second) = c.begin-other.ensures in
-    let d2 = c.write_synced.new.disk in
-    let buffer : c.deref.result.now ≡ framed ((next_of j.generation + 16 * (c.args.format - 1)) ∷ b) = c.deref.ensures.value ∙ c.frame.ensures.bytes in
-    let at1 : c.begin-other.result + 1 ≡ begin_of j.areas (not j.second) + 1 = ap (λ x. x + 1) at0 in
-    let d3 = c.write_synced-2.new.disk in
-    rw (← c.self.view_is) (λ told. (began3 g.D.Disk.content g.D.Disk.moment g.D.Disk.since (laws.falls told) j.areas j.second j.generation j.tail j.closed j.spare j.doubt old d1 d2 b c.args.format (was.told told) sure was.bounds.least was.bounds.most room c.requires.known (closes g.D.Disk.content g.D.Disk.moment g.D.Disk.since (laws.falls told) j.areas j.second j.generation j.tail j.closed j.spare j.doubt old d1 (was.told told) sure was.bounds.least c.close_gate.ensures.none (λ e. torn_as g.D.Disk.content g.D.Disk.moment g.D.Disk.since c.begin-other.result (begin_of j.areas (not j.second)) (0 ∷ []) (0 ∷ []) old d1 at0 refl (c.close_gate.ensures.torn e told)) (λ e. wrote_as g.D.Disk.content g.D.Disk.moment g.D.Disk.since c.begin-other.result (begin_of j.areas (not j.second)) (0 ∷ []) (0 ∷ []) d1 at0 refl (c.in_ok-close_gate.ensures.done e told))) (torn_as g.D.Disk.content g.D.Disk.moment g.D.Disk.since (c.begin-other.result + 1) (begin_of j.areas (not j.second) + 1) c.deref.result.now (framed ((next_of j.generation + 16 * (c.args.format - 1)) ∷ b)) d1 d2 at1 buffer (c.write_synced.ensures.torn told)) (wrote_as g.D.Disk.content g.D.Disk.moment g.D.Disk.since (c.begin-other.result + 1) (begin_of j.areas (not j.second) + 1) c.deref.result.now (framed ((next_of j.generation + 16 * (c.args.format - 1)) ∷ b)) d2 at1 buffer (c.in_ok-write_synced.ensures.done told)) d3 (torn_as g.D.Disk.content g.D.Disk.moment g.D.Disk.since c.begin-other.result (begin_of j.areas (not j.second)) (165 ∷ []) (165 ∷ []) d2 d3 at0 refl (c.write_synced-2.ensures.torn told))).time)
-
-pub returns-clause-moments : goal.returns-clause-moments
-returns-clause-moments g c =
-    let laws = g.met.D.Disk in
-    let j = c.self.inside in
-    let was = c.self.invariant.0 in
-    let old = j.disk in
-    let b = c.args.bytes.now in
-    let sure : j.doubt ≡ None = none_from j.doubt (rw (← c.self.view_is) at c.requires.settled) in
-    let room : length b + 7 ≤ j.areas.bytes = omega (arith, c.if-self-saturating_add.false, c.saturating_add.ensures, was.bounds.most) in
-    let d1 = c.close_gate.new.disk in
-    let at0 : c.begin-other.result ≡ begin_of j.areas (not j.second) = c.begin-other.ensures in
-    let d2 = c.write_synced.new.disk in
-    let buffer : c.deref.result.now ≡ framed ((next_of j.generation + 16 * (c.args.format - 1)) ∷ b) = c.deref.ensures.value ∙ c.frame.ensures.bytes in
-    let at1 : c.begin-other.result + 1 ≡ begin_of j.areas (not j.second) + 1 = ap (λ x. x + 1) at0 in
-    let d3 = c.write_synced-2.new.disk in
-    rw (← c.self.view_is) (λ told. moments3 g.D.Disk.content g.D.Disk.moment g.D.Disk.since (laws.falls told) j.areas j.second j.generation j.tail j.closed j.spare j.doubt old d1 d2 b c.args.format (was.told told) sure was.bounds.least was.bounds.most room c.requires.known (closes g.D.Disk.content g.D.Disk.moment g.D.Disk.since (laws.falls told) j.areas j.second j.generation j.tail j.closed j.spare j.doubt old d1 (was.told told) sure was.bounds.least c.close_gate.ensures.none (λ e. torn_as g.D.Disk.content g.D.Disk.moment g.D.Disk.since c.begin-other.result (begin_of j.areas (not j.second)) (0 ∷ []) (0 ∷ []) old d1 at0 refl (c.close_gate.ensures.torn e told)) (λ e. wrote_as g.D.Disk.content g.D.Disk.moment g.D.Disk.since c.begin-other.result (begin_of j.areas (not j.second)) (0 ∷ []) (0 ∷ []) d1 at0 refl (c.in_ok-close_gate.ensures.done e told))) (torn_as g.D.Disk.content g.D.Disk.moment g.D.Disk.since (c.begin-other.result + 1) (begin_of j.areas (not j.second) + 1) c.deref.result.now (framed ((next_of j.generation + 16 * (c.args.format - 1)) ∷ b)) d1 d2 at1 buffer (c.write_synced.ensures.torn told)) (wrote_as g.D.Disk.content g.D.Disk.moment g.D.Disk.since (c.begin-other.result + 1) (begin_of j.areas (not j.second) + 1) c.deref.result.now (framed ((next_of j.generation + 16 * (c.args.format - 1)) ∷ b)) d2 at1 buffer (c.in_ok-write_synced.ensures.done told)) d3 (torn_as g.D.Disk.content g.D.Disk.moment g.D.Disk.since c.begin-other.result (begin_of j.areas (not j.second)) (165 ∷ []) (165 ∷ []) d2 d3 at0 refl (c.write_synced-2.ensures.torn told)))
-
-pub returns-clause-durable : goal.returns-clause-durable
-returns-clause-durable g c =
-    let laws = g.met.D.Disk in
-    let j = c.self.inside in
-    let was = c.self.invariant.0 in
-    let old = j.disk in
-    let b = c.args.bytes.now in
-    let sure : j.doubt ≡ None = none_from j.doubt (rw (← c.self.view_is) at c.requires.settled) in
-    let room : length b + 7 ≤ j.areas.bytes = omega (arith, c.if-self-saturating_add.false, c.saturating_add.ensures, was.bounds.most) in
-    let d1 = c.close_gate.new.disk in
-    let at0 : c.begin-other.result ≡ begin_of j.areas (not j.second) = c.begin-other.ensures in
-    let d2 = c.write_synced.new.disk in
-    let buffer : c.deref.result.now ≡ framed ((next_of j.generation + 16 * (c.args.format - 1)) ∷ b) = c.deref.ensures.value ∙ c.frame.ensures.bytes in
-    let at1 : c.begin-other.result + 1 ≡ begin_of j.areas (not j.second) + 1 = ap (λ x. x + 1) at0 in
-    let d3 = c.write_synced-2.new.disk in
-    rw (← c.self.view_is) (λ told. durable4 g.D.Disk.content g.D.Disk.moment g.D.Disk.since (laws.falls told) j.areas j.second j.generation j.tail j.closed j.spare j.doubt old d1 d2 b c.args.format (was.told told) sure was.bounds.least was.bounds.most room c.requires.known (closes g.D.Disk.content g.D.Disk.moment g.D.Disk.since (laws.falls told) j.areas j.second j.generation j.tail j.closed j.spare j.doubt old d1 (was.told told) sure was.bounds.least c.close_gate.ensures.none (λ e. torn_as g.D.Disk.content g.D.Disk.moment g.D.Disk.since c.begin-other.result (begin_of j.areas (not j.second)) (0 ∷ []) (0 ∷ []) old d1 at0 refl (c.close_gate.ensures.torn e told)) (λ e. wrote_as g.D.Disk.content g.D.Disk.moment g.D.Disk.since c.begin-other.result (begin_of j.areas (not j.second)) (0 ∷ []) (0 ∷ []) d1 at0 refl (c.in_ok-close_gate.ensures.done e told))) (torn_as g.D.Disk.content g.D.Disk.moment g.D.Disk.since (c.begin-other.result + 1) (begin_of j.areas (not j.second) + 1) c.deref.result.now (framed ((next_of j.generation + 16 * (c.args.format - 1)) ∷ b)) d1 d2 at1 buffer (c.write_synced.ensures.torn told)) (wrote_as g.D.Disk.content g.D.Disk.moment g.D.Disk.since (c.begin-other.result + 1) (begin_of j.areas (not j.second) + 1) c.deref.result.now (framed ((next_of j.generation + 16 * (c.args.format - 1)) ∷ b)) d2 at1 buffer (c.in_ok-write_synced.ensures.done told)) d3 (torn_as g.D.Disk.content g.D.Disk.moment g.D.Disk.since c.begin-other.result (begin_of j.areas (not j.second)) (165 ∷ []) (165 ∷ []) d2 d3 at0 refl (c.write_synced-2.ensures.torn told)) (wrote_as g.D.Disk.content g.D.Disk.moment g.D.Disk.since c.begin-other.result (begin_of j.areas (not j.second)) (165 ∷ []) (165 ∷ []) d3 at0 refl (if_no_error c.write_synced-2.result (sym c.is_err.ensures.value ∙ c.if-is_err.false) c.write_synced-2.ensures.done told)))
+    let no_fault = if_no_error c.write_synced-2.result (sym c.is_err.ensures.value ∙ c.if-is_err.false) c.write_synced-2.ensures.done in
+    rw (← c.self.view_is) (record {
+      stays = record { areas = refl; length = c.write_synced-2.ensures.size ∙ c.write_synced.ensures.size ∙ c.close_gate.ensures.size; spare = refl };
+      format = (next_byte j.generation c.args.format c.requires.known).2;
+      sure = ap is_some sure;
+      later = omega (arith, c.close_gate.ensures.later, c.write_synced.ensures.later, c.write_synced-2.ensures.later);
+      told = λ told. stored4 g.D.Disk (laws.falls told) j.areas j.second j.generation j.tail j.closed j.spare j.doubt j.disk d1 (was.told told) sure was.bounds.least c.begin-other.result c.begin-other.ensures c.close_gate.ensures.none (λ e. c.close_gate.ensures.torn e told) (λ e. c.in_ok-close_gate.ensures.done e told)
+          b c.args.format was.bounds.most room c.requires.known c.deref.result.now buffer d2 (c.write_synced.ensures.torn told) (c.in_ok-write_synced.ensures.done told) d3 (c.write_synced-2.ensures.torn told) (no_fault told);
+    })
