@@ -1,25 +1,22 @@
 -- An image whose areas alone are written.
-use Rattle.std.proofs.Common.{◌≡◌, ℕ, ◌+◌, ◌<◌, ◌≤◌, List, [], ◌∷◌, length, inl, inr, refl, sym, ◌∙◌, ap, subst, arith}
-use Rattle.std.specs.Prelude.{Some, Result, Ok, Err, nat_lt, if◌then◌else◌}
-use Rattle.opfs_base.specs.declared.extents.Extent.{Extent}
+use Rattle.std.proofs.Common.{◌≡◌, ℕ, ◌+◌, ◌≤◌, List, length, inl, inr, refl, sym, ◌∙◌, ap, subst, arith}
+use Rattle.std.specs.Prelude.{Some, Result, Ok, Err}
 use Rattle.opfs_codec.specs.declared.change.Format.{Format}
 use Rattle.opfs_codec.specs.declared.change.Format.TheVariants.{Old, New}
 use Rattle.opfs_machine.specs.Openings.{Map}
-use Rattle.opfs_outside.specs.Bytes.{Same, window}
-use Rattle.opfs_outside.specs.Windows.{same_window}
+use Rattle.opfs_outside.specs.Bytes.{Same}
 use Rattle.opfs_journal.specs.Clauses.{Outside}
 use Rattle.opfs_journal.specs.Format.{records_of}
 use Rattle.opfs_journal.specs.Seen.{one_record}
 use Rattle.opfs_records.specs.Replay.Applying.{rows_of}
 use Rattle.opfs_records.specs.Replay.Built.{all_extents}
 use Rattle.opfs_records.specs.Replay.Sums.{charge_of}
-use Rattle.opfs_image.specs.Filling.{filled, AreIn, map_of, Stands, StandsOld}
+use Rattle.opfs_image.specs.Filling.{filled, map_of, Stands, StandsOld}
 use Rattle.opfs_image.specs.Layers.{IsLayered}
 use Rattle.opfs_image.specs.Reading.{Image, read_as}
-use Rattle.opfs_image.specs.Superblock.{geometry_by, geometry_of, areas_of, area_bytes, data_base}
+use Rattle.opfs_image.specs.Superblock.{geometry_of, areas_of, area_bytes, data_base}
 use Rattle.opfs_image.specs.declared.geometry.Geometry.{Geometry}
 use Rattle.opfs_image.specs.declared.refusal.ImageRefusal.{ImageRefusal}
-use Rattle.opfs_image.specs.declared.refusal.ImageRefusal.TheVariants as refusal
 use Rattle.opfs_image.proofs.Layering.{layered, unlayered}
 use Rattle.opfs_image.proofs.Beside.{same_geometry, in_data}
 use Rattle.opfs_image.proofs.Named.{same_filled}

@@ -1,6 +1,9 @@
 -- What a migration keeps, and why it is refused. This project's own.
 use Rattle.std.specs.Prelude.{◌≡◌, ◌≤◌, ℕ, ◌⊎◌, Bool, true, false, List, [], ◌∷◌, count_by, is_some, Some, Ok}
 use Rattle.opfs_codec.specs.declared.change.Format.TheVariants.{Old, New}
+use Rattle.opfs_journal.specs.Calls.{IsOneOf}
+use Rattle.opfs_journal.specs.Format.{Stored as Records}
+use Rattle.opfs_journal.specs.Seen.{Seen, Stays}
 use Rattle.opfs_machine.specs.Openings.{Map, Stored, folder, document}
 use Rattle.opfs_outside.specs.Moments.{Elapses}
 use Rattle.opfs_outside.specs.declared.disk.Disk.{Ghosts as DiskWords}
@@ -8,7 +11,7 @@ use Rattle.opfs_records.specs.Replay.Applying.{rows_of}
 use Rattle.opfs_records.specs.Replay.Built.{Built}
 use Rattle.opfs_tree.specs.Rows.{file_in}
 use Rattle.opfs_image.specs.Filling.{Stands, StandsOld}
-use Rattle.opfs_image.specs.Reading.{Image, read_as}
+use Rattle.opfs_image.specs.Reading.{read_as}
 use Rattle.opfs_image.specs.declared.geometry.Geometry.{Geometry}
 
 -- the files of a map
@@ -46,3 +49,9 @@ pub record Moved {D : Type 0} (w : DiskWords D) (old new : D) : Type 0 where
   pub length : w.size new ≡ w.size old
   pub later : w.faults old ≤ w.faults new
   pub told : w.tells → KeptSince w old new
+
+-- Whatever a call that writes these records answered: what no call changes, and each image since the start.
+pub record IsTried {D : Type 0} (w : DiskWords D) (next : Records) (old new : Seen D) : Type 0 where
+  pub stays : Stays w.size old new
+  pub later : w.faults old.disk ≤ w.faults new.disk
+  pub told : w.tells → IsOneOf w next old new

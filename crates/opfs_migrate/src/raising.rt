@@ -3,15 +3,15 @@
 ghost use Rattle.std.specs.Prelude.{◌≡◌, ◌≢◌, ◌⊎◌, ◌+◌, ◌≤◌, ℕ, List, true, false, length, Some, IfOk, IfErr, OnOk, OnErr, IsErrOf};
 ghost use Rattle.opfs_outside.specs.Bytes.{Same};
 ghost use Rattle.opfs_outside.specs.Faults.{Rose};
-ghost use Rattle.opfs_outside.specs.Moments.{Elapses};
 ghost use Rattle.opfs_journal.specs.Format.{records_of};
-ghost use Rattle.opfs_journal.specs.Clauses.{Outside, After, OneOf};
+ghost use Rattle.opfs_journal.specs.Calls.{IsStored};
+ghost use Rattle.opfs_journal.specs.Clauses.{Outside};
 ghost use Rattle.opfs_journal.specs.Seen.{kept, one_record};
 ghost use Rattle.opfs_journal.specs.Walking.{OnlyRead};
 ghost use Rattle.opfs_machine.specs.Openings.{Map};
 ghost use Rattle.opfs_image.specs.Filling.{Stands, StandsOld};
 ghost use Rattle.opfs_image.specs.Superblock.{areas_of, area_bytes, image_size, is_in_range};
-ghost use Rattle.opfs_migrate.specs.Migrating.{AreMigrated, IsPlanned, Moved};
+ghost use Rattle.opfs_migrate.specs.Migrating.{AreMigrated, IsPlanned, IsTried, Moved};
 
 use crate::planning::Plan;
 use opfs_image::ImageRefusal;
@@ -25,18 +25,9 @@ fn write_over<D: Disk>(journal: &mut Journal<D>, body: &[u8]) -> Result<(), Imag
     requires settled { journal.old.in_doubt ≡ false }
     requires spare { length body.now ≤ journal.old.spare }
     requires fits { length body.now + 7 ≤ journal.old.areas.bytes }
-    ensures length { D.size journal.new.disk ≡ D.size journal.old.disk }
-    ensures areas { journal.new.areas ≡ journal.old.areas }
-    ensures sure { OnOk result (journal.new.in_doubt ≡ false) }
-    ensures kept { OnOk result (D.tells → kept journal.new ≡ one_record 2 body.now) }
-    ensures outside { D.tells → Same (Outside journal.old.areas) (D.content journal.new.disk) (D.content journal.old.disk) }
-    ensures time { D.tells → Elapses D.moment D.since journal.old.disk journal.new.disk }
-    ensures moments { D.tells → (c : List ℕ) → D.since journal.new.disk (D.moment journal.old.disk) c
-        → OneOf (records_of journal.old.areas) (D.since journal.old.disk (D.moment journal.old.disk)) (Outside journal.old.areas) (kept journal.old) (one_record 2 body.now) (D.content journal.old.disk) c }
-    ensures durable { OnOk result (D.tells → (c : List ℕ) → D.since journal.new.disk (D.moment journal.new.disk) c
-        → After (records_of journal.old.areas) (one_record 2 body.now) (D.content journal.old.disk) (Outside journal.old.areas) c) }
+    ensures tried { IsTried D.Disk (one_record 2 body.now) journal.old journal.new }
+    ensures stored { OnOk result (IsStored D.Disk (one_record 2 body.now) journal.old journal.new) }
     ensures refused { IfErr result (λ e. e ≡ ImageRefusal.DiskFault) }
-    ensures later { D.faults journal.old.disk ≤ D.faults journal.new.disk }
     ensures cause { OnErr result (Rose (D.faults journal.old.disk) (D.faults journal.new.disk)) }
 {
     match journal.raise(body) {

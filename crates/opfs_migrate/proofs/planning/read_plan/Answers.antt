@@ -1,7 +1,7 @@
 use Rattle.std.proofs.Common.{Some, sym, ap, subst, ◌∙◌, arith}
 use Rattle.opfs_codec.specs.declared.change.Format.TheVariants.{New}
 use Rattle.opfs_tree.specs.Rows.{Rows}
-use Rattle.opfs_records.specs.Replay.Built.{Built, IsSound}
+use Rattle.opfs_records.specs.Replay.Built.{IsSound}
 use Rattle.opfs_records.specs.Replay.Sums.{charge_of, persistent_in}
 use Rattle.opfs_records.proofs.checkpoint.StoredRows.{sound_stored}
 use Rattle.opfs_image.specs.Agreeing.{built_in}

@@ -1,4 +1,4 @@
-use Rattle.std.proofs.Common.{◌≤◌, length, sym, ap, subst}
+use Rattle.std.proofs.Common.{◌≤◌, length, ap, subst}
 use Rattle.opfs_codec.specs.declared.change.Format.TheVariants.{New}
 use Rattle.opfs_tree.specs.Ready.Ready.{ReadyRows}
 use Rattle.opfs_records.specs.Replay.Built.{IsSound}
