@@ -103,6 +103,14 @@ pub same-books : {D : Type 0} (w : DiskWords D) (f : Fixed D) (recorded : Built)
 same-books {D} w f recorded base gone b next old new same still are =
     subst (λ (x : Book). AreBooksAt w f recorded base gone x new) (sym same) (subst (λ (x : Seen D). AreBooksAt w f recorded base gone b x) (sym still) are)
 
+-- What is kept back was committed, or there was nothing.
+pub either-books : {D : Type 0} (w : DiskWords D) (f : Fixed D) (recorded : Built) (base : State Text Own) (gone : List Text) (mid new : Book) (middle j : Seen D) (written : Bool) → AreBooksAt w f recorded base gone mid middle
+    → (written ≡ true → AreBooksAt w f mid.rows base gone new j) → (written ≡ false → (new ≡ mid) × (j ≡ middle)) → (after : Built) × AreBooksAt w f after base gone new j
+either-books w f recorded base gone mid new middle j written are committed untouched = elim written as (λ v. written ≡ v → (after : Built) × AreBooksAt w f after base gone new j) [
+  | true ↦ λ is. (mid.rows, committed is)
+  | false ↦ λ is. (recorded, same-books w f recorded base gone mid new middle j (untouched is).0 (untouched is).1 are)
+] refl
+
 pub sure-doubt : {D : Type 0} (f : Fixed D) (b : Book) (j : Seen D) → j.in_doubt ≡ false → told f b ++ doubt f b j ≡ told f b
 sure-doubt f b j is = ap (λ (d : Bool). told f b ++ (if d then doubted f.opening b.entries b.place else [])) is ∙ append-nil (told f b)
 

@@ -100,13 +100,13 @@ module _ {D : Type 0} (w : DiskWords D) (a : Account) (k : Committing D) (images
 
   -- So do those of a commit.
   pub next_to_store : (spelled : Spelled) (change : Change) (built : Built) (next : Stored) → IsSound g.blocks a.rows.rows → IsOwn w a spelled change built k.journal → IsNext a.rows spelled k next → IsToStore w a (change ∷ []) next built k.journal
-  next_to_store spelled change built next sound is (inl kind) = subst (λ (s : Stored). IsToStore w a (change ∷ []) s built k.journal) (sym kind.1) (own_to_store kind.0 spelled change built is.again is.found is.fits is.makes)
+  next_to_store spelled change built next sound is (inl kind) = subst (λ (s : Stored). IsToStore w a (change ∷ []) s built k.journal) (sym kind.same) (own_to_store (room_is k.back (charge spelled) kind.room.short).0 spelled change built is.again is.found is.fits is.makes)
   next_to_store spelled change built next sound is (inr kind) =
-      subst (λ (s : Stored). IsToStore w a (change ∷ []) s built k.journal) (sym kind.2) (alone_to_store (change ∷ []) kind.0 built (kind.1 g.blocks built sound is.found) is.fits is.makes)
+      subst (λ (s : Stored). IsToStore w a (change ∷ []) s built k.journal) (sym kind.same) (alone_to_store (change ∷ []) kind.body built (kind.kind g.blocks built sound is.found) is.fits is.makes)
 
   pub next_alone_to_store : (next : Stored) → IsSound g.blocks a.rows.rows → charge_of New a.rows + 7 ≤ area_bytes g → IsNextAlone a.rows k next → IsToStore w a [] next a.rows k.journal
-  next_alone_to_store next sound fits (inl kind) = subst (λ (s : Stored). IsToStore w a [] s a.rows k.journal) (sym kind.1) (kept_to_store kind.0 fits)
-  next_alone_to_store next sound fits (inr kind) = subst (λ (s : Stored). IsToStore w a [] s a.rows k.journal) (sym kind.2) (alone_to_store [] kind.0 a.rows (kind.1 g.blocks sound) fits refl)
+  next_alone_to_store next sound fits (inl kind) = subst (λ (s : Stored). IsToStore w a [] s a.rows k.journal) (sym kind.same) (kept_to_store kind.room.short fits)
+  next_alone_to_store next sound fits (inr kind) = subst (λ (s : Stored). IsToStore w a [] s a.rows k.journal) (sym kind.same) (alone_to_store [] kind.body a.rows (kind.kind g.blocks sound) fits refl)
 
 -- ---- as it begins
 

@@ -1,5 +1,6 @@
 -- What the images show now.
-use Rattle.std.proofs.Common.{◌≡◌, ℕ, List, [], ◌∷◌, ◌++◌, length, fold, Some, inl, inr, refl, sym, ap, subst, ◌∙◌, append_assoc, arith}
+use Rattle.std.proofs.Common.{◌≡◌, ℕ, false, List, [], ◌∷◌, ◌++◌, length, fold, Some, inl, inr, refl, sym, ap, subst, ◌∙◌, append_assoc, arith}
+use Rattle.std.proofs.lemmas.Bool.{true≢false}
 use Rattle.std.proofs.lemmas.List.{append-nil, length-append}
 use Rattle.opfs_commit.specs.Images.{Account, MayBe, IsDoubt, AreImages}
 use Rattle.opfs_commit.specs.Seen.{Committing}
@@ -66,10 +67,23 @@ module _ {D : Type 0} (w : DiskWords D) (a : Account) (k : Committing D) (images
       ∙ sym (durable-append a.opening images.acked images.later)
       ∙ ap (durable a.opening) images.split
 
+  all_acked : k.back.count ≡ 0 → images.acked ≡ a.told
+  all_acked none =
+      let empty : images.later ≡ [] = none_left images.later (images.count ∙ none) in
+      sym (append-nil images.acked) ∙ ap (λ xs. images.acked ++ xs) (sym empty) ∙ images.split
+
+  -- With nothing kept back and no gate in doubt, each image stands for all that was told.
+  pub rest_stands : k.back.count ≡ 0 → k.journal.in_doubt ≡ false → (c : List ℕ) → MayBe w k.journal c → Stands c (durable a.opening a.told)
+  rest_stands none sure c now =
+      elim (images.one_of c now) [
+        | inl records ↦
+            subst (λ (xs : List Change). Stands c (durable a.opening xs)) (all_acked none)
+            (stands_by a.geometry (kept k.journal) a.recorded (durable a.opening images.acked) c images.reads (images.holds c now) records)
+        | inr both ↦ absurd (true≢false (sym both.0 ∙ sure))
+      ]
+
   -- With nothing kept back, a content that has the journal's records stands for all that was told.
   pub finished : k.back.count ≡ 0 → records_of (areas_of a.geometry) (w.content k.journal.disk) ≡ Some (kept k.journal) → Stands (w.content k.journal.disk) (durable a.opening a.told)
   finished none records =
-      let empty : images.later ≡ [] = none_left images.later (images.count ∙ none) in
-      let all : images.acked ≡ a.told = sym (append-nil images.acked) ∙ ap (λ xs. images.acked ++ xs) (sym empty) ∙ images.split in
-      subst (λ (xs : List Change). Stands (w.content k.journal.disk) (durable a.opening xs)) all
+      subst (λ (xs : List Change). Stands (w.content k.journal.disk) (durable a.opening xs)) (all_acked none)
       (stands_by a.geometry (kept k.journal) a.recorded (durable a.opening images.acked) (w.content k.journal.disk) images.reads images.here records)

@@ -5,7 +5,7 @@ use Rattle.opfs_codec.specs.Spelling.{IsChange}
 use Rattle.opfs_codec.specs.declared.change.Change.{Change as Spelled}
 use Rattle.opfs_codec.specs.declared.change.Format.TheVariants.{New}
 use Rattle.opfs_commit.specs.Calls.{IsOneOf, IsCommitted, IsHalted, IsSettled, IsUnsettled, IsNext, IsNextAlone}
-use Rattle.opfs_commit.specs.Images.{Account, AreImages, committed, doubting, keeping, sure}
+use Rattle.opfs_commit.specs.Images.{Account, MayBe, AreImages, committed, doubting, keeping, sure}
 use Rattle.opfs_commit.specs.Making.{IsToStore, IsKept, IsReadyFor, IsOwn, IsWhole, IsBegun, AreBeside, begun_with, told_as, new_bytes}
 use Rattle.opfs_commit.specs.Seen.{KeptBack, Committing, committing, with_kept, with_back, with_own, IsQuiet}
 use Rattle.opfs_commit.specs.Shown.{ShowsSince, ShowsEither}
@@ -113,6 +113,11 @@ RowsHoldWhatWasTold {D} w = (a : Account) (k : Committing D) → AreImages w a k
 abbrev pub ContentsStand : {D : Type 0} → DiskWords D → Type 0
 ContentsStand {D} w =
     (a : Account) (k : Committing D) → AreImages w a k → k.back.count ≡ 0 → records_of (areas_of a.geometry) (w.content k.journal.disk) ≡ Some (kept k.journal) → Stands (w.content k.journal.disk) (durable a.opening a.told)
+
+-- With nothing kept back and no gate in doubt, each image that a crash may leave now stands for all that was told.
+abbrev pub ImagesStand : {D : Type 0} → DiskWords D → Type 0
+ImagesStand {D} w =
+    (a : Account) (k : Committing D) → AreImages w a k → k.back.count ≡ 0 → k.journal.in_doubt ≡ false → (c : List ℕ) → MayBe w k.journal c → Stands c (durable a.opening a.told)
 
 -- The content stands for all that was told where the last change of it is a content, behind which nothing is kept back, and
 -- nothing is in doubt: whichever records it has.

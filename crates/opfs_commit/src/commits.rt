@@ -5,7 +5,7 @@ ghost use Rattle.opfs_codec.specs.Charges.{charge};
 ghost use Rattle.opfs_codec.specs.Fields.{plain, Fits, HasFewExtents};
 ghost use Rattle.opfs_codec.specs.Spelling.{spelling, IsChange};
 ghost use Rattle.opfs_codec.specs.declared.change.Format.TheVariants.{New};
-ghost use Rattle.opfs_commit.specs.Calls.{IsCommitted, IsHalted, IsReplaced, IsNotReplaced, IsAnyOf, IsNoneOf, IsNext, IsNextAlone, BuildsAfter, BuildsAll, stored_in, HasRoomAfter, HasRoomFor};
+ghost use Rattle.opfs_commit.specs.Calls.{IsCommitted, IsHalted, IsReplaced, IsNotReplaced, IsAnyOf, IsNoneOf, IsNext, IsNextAlone, BuildsAfter, BuildsAll, stored_in, HasRoomAfter, HasRoomFor, HasRecordRoom, LacksRecordRoom, HasBackRoom, LacksBackRoom};
 ghost use Rattle.opfs_commit.specs.Seen.{KeptBack, committing, emptied, has_room, with_back, with_kept, with_own, IsQuiet};
 ghost use Rattle.opfs_outside.specs.Faults.{Rose};
 ghost use Rattle.opfs_records.specs.Checkpoint.Written.{AreWritable};
@@ -96,9 +96,10 @@ impl Commits {
         self.count += 1;
     }
 
-    /// Commits a change with what is kept back: by a record more, or where that has no room, by a snapshot of what a tree
+    /// Commits a change with what is kept back: by a record more, or only where that has no room, by a snapshot of what a tree
     /// and a shed store after the change in the place of all records. The tree and the shed have what is kept back. Neither
-    /// has room where the charge of what is built, with a record's 7 bytes, passes the room or the area.
+    /// has room only where the charge of what is built, with a record's 7 bytes, passes the room or the area; and one has
+    /// where it was written. A snapshot may be shorter than that charge, and have room where the charge has none.
     pub fn commit<D: Disk>(
         &mut self,
         journal: &mut Journal<D>,
@@ -114,6 +115,7 @@ impl Commits {
         ensures committed { OnOk result (IsAnyOf D.Disk (IsNext (stored_in tree.now.rows shed.now) (plain own.now) (committing journal.old self.old)) (committing journal.old self.old) (committing journal.new self.new)) }
         ensures halted { IsErrOf result JournalRefusal.DiskFault → IsNoneOf D.Disk (IsNext (stored_in tree.now.rows shed.now) (plain own.now) (committing journal.old self.old)) (committing journal.old self.old) (committing journal.new self.new) }
         ensures unchanged { IsErrOf result JournalRefusal.NoRoom → (journal.new ≡ journal.old) × (self.new ≡ self.old) }
+        ensures lacks { IsErrOf result JournalRefusal.NoRoom → HasFewExtents (plain own.now) → LacksRecordRoom (plain own.now) (committing journal.old self.old) }
         ensures no_room { IsErrOf result JournalRefusal.NoRoom → (size most : ℕ) → HasRoomAfter size most tree.now.rows shed.now (plain own.now) → (self.old.room < most) ⊎ (journal.old.areas.bytes < most + 7) }
         ensures cause { IsErrOf result JournalRefusal.DiskFault → Rose (D.faults journal.old.disk) (D.faults journal.new.disk) }
     {
@@ -140,6 +142,7 @@ impl Commits {
         ensures committed { OnOk result (IsAnyOf D.Disk (IsNextAlone (stored_in tree.now.rows shed.now) (committing journal.old self.old)) (committing journal.old self.old) (committing journal.new self.new)) }
         ensures halted { IsErrOf result JournalRefusal.DiskFault → IsNoneOf D.Disk (IsNextAlone (stored_in tree.now.rows shed.now) (committing journal.old self.old)) (committing journal.old self.old) (committing journal.new self.new) }
         ensures unchanged { IsErrOf result JournalRefusal.NoRoom → (journal.new ≡ journal.old) × (self.new ≡ self.old) }
+        ensures lacks { IsErrOf result JournalRefusal.NoRoom → LacksBackRoom (committing journal.old self.old) }
         ensures no_room { IsErrOf result JournalRefusal.NoRoom → (size most : ℕ) → HasRoomFor size most tree.now.rows shed.now → (self.old.room < most) ⊎ (journal.old.areas.bytes < most + 7) }
         ensures cause { IsErrOf result JournalRefusal.DiskFault → Rose (D.faults journal.old.disk) (D.faults journal.new.disk) }
     {
@@ -166,9 +169,10 @@ impl Commits {
         requires fits { Fits (plain own.now) }
         ensures committed { OnOk result (IsCommitted D.Disk (with_own (committing journal.old self.old) (plain own.now)) (committing journal.old self.old) (committing journal.new self.new)) }
         ensures halted { IsErrOf result JournalRefusal.DiskFault → IsHalted D.Disk (with_own (committing journal.old self.old) (plain own.now)) (committing journal.old self.old) (committing journal.new self.new) }
-        ensures long { self.old.long ≡ true → IsErrOf result JournalRefusal.NoRoom }
+        ensures room { OnOk result (HasRecordRoom (plain own.now) (committing journal.old self.old)) }
+        ensures halted_room { IsErrOf result JournalRefusal.DiskFault → HasRecordRoom (plain own.now) (committing journal.old self.old) }
         ensures unchanged { IsErrOf result JournalRefusal.NoRoom → (journal.new ≡ journal.old) × (self.new ≡ self.old) }
-        ensures no_room { IsErrOf result JournalRefusal.NoRoom → HasFewExtents (plain own.now) → (has_room self.old (charge (plain own.now)) ≡ false) ⊎ (journal.old.areas.bytes < journal.old.tail + length (self.old.bytes ++ spelling New (plain own.now)) + 6) }
+        ensures no_room { IsErrOf result JournalRefusal.NoRoom → HasFewExtents (plain own.now) → LacksRecordRoom (plain own.now) (committing journal.old self.old) }
         ensures cause { IsErrOf result JournalRefusal.DiskFault → Rose (D.faults journal.old.disk) (D.faults journal.new.disk) }
     {
         let kept = self.bytes.len();
@@ -192,9 +196,10 @@ impl Commits {
         requires spare { self.old.room ≤ journal.old.spare }
         ensures committed { OnOk result (IsCommitted D.Disk (with_back (committing journal.old self.old)) (committing journal.old self.old) (committing journal.new self.new)) }
         ensures halted { IsErrOf result JournalRefusal.DiskFault → IsHalted D.Disk (with_back (committing journal.old self.old)) (committing journal.old self.old) (committing journal.new self.new) }
-        ensures long { self.old.long ≡ true → IsErrOf result JournalRefusal.NoRoom }
+        ensures room { OnOk result (HasBackRoom (committing journal.old self.old)) }
+        ensures halted_room { IsErrOf result JournalRefusal.DiskFault → HasBackRoom (committing journal.old self.old) }
         ensures unchanged { IsErrOf result JournalRefusal.NoRoom → (journal.new ≡ journal.old) × (self.new ≡ self.old) }
-        ensures no_room { IsErrOf result JournalRefusal.NoRoom → (self.old.long ≡ true) ⊎ (journal.old.areas.bytes < journal.old.tail + length self.old.bytes + 6) }
+        ensures no_room { IsErrOf result JournalRefusal.NoRoom → LacksBackRoom (committing journal.old self.old) }
         ensures cause { IsErrOf result JournalRefusal.DiskFault → Rose (D.faults journal.old.disk) (D.faults journal.new.disk) }
     {
         if self.long {
@@ -275,7 +280,7 @@ impl Commits {
     fn spell_own(&mut self, own: &ChangeRef<'_>) -> Result<(), JournalRefusal>
         requires fits { Fits (plain own.now) }
         ensures ok { OnOk result (self.new ≡ record self.old { bytes = self.old.bytes ++ spelling New (plain own.now) }) }
-        ensures short { OnOk result (self.old.long ≡ false) }
+        ensures short { OnOk result (has_room self.old (charge (plain own.now)) ≡ true) }
         ensures err { OnErr result (self.new ≡ self.old) }
         ensures no_room { IfErr result (λ refusal. refusal ≡ JournalRefusal.NoRoom) }
         ensures room { OnErr result (HasFewExtents (plain own.now) → has_room self.old (charge (plain own.now)) ≡ false) }

@@ -1,7 +1,7 @@
 //! Laws of the images that a crash may leave while changes are committed.
 
 ghost use Rattle.opfs_commit.specs.Laws.{ImagesShowFronts, RecordsAreDurable, RecordsMayBeInDoubt, RecordsShowFronts, DoubtsEnd, DoubtsMayStay, DoubtsNeedAGate, EndsShowFronts, FailedEndsShowFronts};
-ghost use Rattle.opfs_commit.specs.Laws.{ChangesAreKeptBack, OwnIsToStore, KeptIsToStore, WholeIsToStore, NextIsToStore, NextAloneIsToStore, RunsBeginWithTheirImage, RowsHoldWhatWasTold, ContentsStand, LastContentsStand};
+ghost use Rattle.opfs_commit.specs.Laws.{ChangesAreKeptBack, OwnIsToStore, KeptIsToStore, WholeIsToStore, NextIsToStore, NextAloneIsToStore, RunsBeginWithTheirImage, RowsHoldWhatWasTold, ContentsStand, ImagesStand, LastContentsStand};
 ghost use Rattle.opfs_commit.specs.Laws.{ReadsLeaveImages, ReadsShowFronts, PagesBesideLeaveImages, PagesBesideShowFronts, MomentsFollow, MomentsFollowADoubt, MomentsGoOn, TrailsBegin, TrailsGoOn, TrailsGrowKept, TrailsGrowCommitted, ChangesGoThroughFilling, QuietChangesMayBeKept};
 
 use opfs_outside::Disk;
@@ -46,10 +46,11 @@ pub fn records_are_to_be_stored<D: Disk>()
     ensures next_alone { D.tells → NextAloneIsToStore D.Disk }
 {}
 
-/// What the present rows hold, and what a content stands for, with the journal's records or with any.
+/// What the present rows hold, and what a content stands for, with the journal's records or with any; and each image at rest.
 pub fn the_rows_hold_what_was_told<D: Disk>()
     ensures rows { D.tells → RowsHoldWhatWasTold D.Disk }
     ensures finished { D.tells → ContentsStand D.Disk }
+    ensures at_rest { D.tells → ImagesStand D.Disk }
     ensures last_content { D.tells → LastContentsStand D.Disk }
 {}
 

@@ -24,7 +24,7 @@ use Rattle.opfs_outside.specs.declared.disk.Disk.{Ghosts as DiskWords}
 use Rattle.opfs_records.specs.Replay.Built.{Built}
 use Rattle.opfs_books.specs.Laws.Books.{Fixed, Book, account_of, AreBooksAt}
 use Rattle.opfs_books.specs.Laws.Commits.{CommitLaws}
-use Rattle.opfs_books.specs.Laws.Laws.{told, doubt, ShowsTold, SettlingKeepsTheBooks, UnsettledKeepsTheBooks, SettlingShows, CommittedAloneKeepsTheBooks, FailedAloneKeepsTheBooks, AloneShows, ReadsKeepTheBooks, PagesKeepTheBooks, BooksShowTheirImages, BooksStandAtAContent, CommitsShow}
+use Rattle.opfs_books.specs.Laws.Laws.{told, doubt, ShowsTold, SettlingKeepsTheBooks, UnsettledKeepsTheBooks, SettlingShows, CommittedAloneKeepsTheBooks, FailedAloneKeepsTheBooks, AloneShows, ReadsKeepTheBooks, PagesKeepTheBooks, BooksShowTheirImages, BooksStandAtRest, BooksStandAtAContent, CommitsShow}
 use Rattle.opfs_books.proofs.laws.Counting.{rose-before, rose-later, counted-later}
 use Rattle.opfs_books.proofs.laws.Fronts.{none-recent}
 use Rattle.opfs_books.proofs.laws.Storing.{done-shown, failed-shown}
@@ -238,6 +238,9 @@ module _ {D : Type 0} (w : DiskWords D) (laws : w.tells → CommitLaws w) (most 
 
   pub books-show : BooksShowTheirImages w
   books-show f recorded base gone b j are = rest-shown f recorded base gone b j are
+
+  pub stands-rest : BooksStandAtRest w
+  stands-rest f recorded base gone b j are none sure t c now = (laws t).at_rest (account_of f recorded b) (committing j b.back) (are.images t) none sure c now
 
   pub stands-last : BooksStandAtAContent w
   stands-last f recorded base gone b j are t n at last none crashes = (laws t).last_content (account_of f recorded b) (committing j b.back) n (are.images t) at last none crashes

@@ -1,6 +1,6 @@
 -- The laws that the books rest on, together: those of commits over one disk, and those of states. This project's own.
 use Rattle.opfs_commit.specs.Laws.{ImagesShowFronts, RecordsAreDurable, RecordsMayBeInDoubt, RecordsShowFronts, DoubtsEnd, DoubtsMayStay, DoubtsNeedAGate, EndsShowFronts, FailedEndsShowFronts}
-use Rattle.opfs_commit.specs.Laws.{ChangesAreKeptBack, NextIsToStore, NextAloneIsToStore, RunsBeginWithTheirImage, RowsHoldWhatWasTold, ContentsStand, LastContentsStand}
+use Rattle.opfs_commit.specs.Laws.{ChangesAreKeptBack, NextIsToStore, NextAloneIsToStore, RunsBeginWithTheirImage, RowsHoldWhatWasTold, ContentsStand, ImagesStand, LastContentsStand}
 use Rattle.opfs_commit.specs.Laws.{ReadsLeaveImages, ReadsShowFronts, PagesBesideLeaveImages, PagesBesideShowFronts, TrailsBegin, TrailsGoOn, TrailsGrowKept, TrailsGrowCommitted, ChangesGoThroughFilling, QuietChangesMayBeKept}
 use Rattle.opfs_laws.specs.Counting.{AStateCountsItsHistory}
 use Rattle.opfs_laws.specs.Faults.{TheMachineNeverFaults}
@@ -24,6 +24,7 @@ pub record CommitLaws {D : Type 0} (w : DiskWords D) : Type 0 where
   pub begins : RunsBeginWithTheirImage w
   pub rows : RowsHoldWhatWasTold w
   pub finished : ContentsStand w
+  pub at_rest : ImagesStand w
   pub last_content : LastContentsStand w
   pub reads : ReadsLeaveImages w
   pub reads_shown : ReadsShowFronts w

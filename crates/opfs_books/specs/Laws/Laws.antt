@@ -7,6 +7,7 @@ use Rattle.opfs_codec.specs.declared.change.Change.{Change as Spelled}
 use Rattle.opfs_codec.specs.declared.change.Change.TheVariants.{Evict}
 use Rattle.opfs_codec.specs.declared.change.Format.TheVariants.{New}
 use Rattle.opfs_commit.specs.Calls.{IsSettled, IsUnsettled, IsNext as IsNextRecord, IsNextAlone, IsAnyOf, IsNoneOf}
+use Rattle.opfs_commit.specs.Images.{MayBe}
 use Rattle.opfs_commit.specs.Making.{AreBeside, told_as, new_bytes}
 use Rattle.opfs_commit.specs.Seen.{KeptBack, committing, with_kept, IsQuiet}
 use Rattle.opfs_commit.specs.Shown.{ShowsSince}
@@ -60,6 +61,10 @@ pub record LeavesPages {D : Type 0} (w : DiskWords D) (old new : Seen D) : Type 
 -- Each image since the start shows a front of these changes, with all that was told up to the last content of then.
 abbrev pub ShowsTold : {D : Type 0} → DiskWords D → Fixed D → Book → List Change → Seen D → Seen D → Type 0
 ShowsTold w f b all old new = w.tells → ShowsSince w f.opening (floor (told f b)) all old.disk new.disk
+
+-- Each image that a crash may leave now stands for all that was told.
+abbrev pub StandsWhole : {D : Type 0} → DiskWords D → Fixed D → Book → Seen D → Type 0
+StandsWhole w f b j = w.tells → (c : List ℕ) → MayBe w j c → Stands c (durable f.opening (told f b))
 
 -- The entry of a call is added, and the machine in lengths follows it.
 pub record IsEntered (base : State Text Own) (gone : List Text) (e : Entry) (b new : Book) : Type 0 where
@@ -215,6 +220,12 @@ abbrev pub BooksShowTheirImages : {D : Type 0} → DiskWords D → Type 0
 BooksShowTheirImages {D} w =
     (f : Fixed D) (recorded : Built) (base : State Text Own) (gone : List Text) (b : Book) (j : Seen D)
     → AreBooksAt w f recorded base gone b j → ShowsTold w f b (told f b ++ doubt f b j) j j
+
+-- With nothing kept back and no gate in doubt, each image that a crash may leave now stands for all that was told.
+abbrev pub BooksStandAtRest : {D : Type 0} → DiskWords D → Type 0
+BooksStandAtRest {D} w =
+    (f : Fixed D) (recorded : Built) (base : State Text Own) (gone : List Text) (b : Book) (j : Seen D)
+    → AreBooksAt w f recorded base gone b j → b.back.count ≡ 0 → j.in_doubt ≡ false → StandsWhole w f b j
 
 -- Where the last change that was told is a content and nothing is in doubt, the disk as it reads stands for all that was told,
 -- wherever a crash may come at all.

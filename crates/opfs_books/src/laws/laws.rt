@@ -3,7 +3,7 @@
 ghost use Rattle.opfs_books.specs.Laws.Commits.{CommitLaws, StateLaws};
 ghost use Rattle.opfs_books.specs.Laws.Laws.{TellsKeepTheBooks, PendingKeepsTheBooks, SettlingKeepsTheBooks, UnsettledKeepsTheBooks, SettlingShows, KeepingBackKeepsTheBooks};
 ghost use Rattle.opfs_books.specs.Laws.Laws.{CommittedCallsKeepTheBooks, CommittedEvictionsKeepTheBooks, FailedCommitsKeepTheBooks, CommitsShow, CommittedAloneKeepsTheBooks, FailedAloneKeepsTheBooks, AloneShows};
-ghost use Rattle.opfs_books.specs.Laws.Laws.{ReadsKeepTheBooks, PagesKeepTheBooks, BooksShowTheirImages, BooksStandAtAContent, BooksKeepTheState, FaultsAreCounted};
+ghost use Rattle.opfs_books.specs.Laws.Laws.{ReadsKeepTheBooks, PagesKeepTheBooks, BooksShowTheirImages, BooksStandAtRest, BooksStandAtAContent, BooksKeepTheState, FaultsAreCounted};
 
 use opfs_commit::{
     a_change_is_kept_back, a_doubt_ends, a_run_begins_with_its_image, a_trail_grows,
@@ -106,6 +106,13 @@ pub fn pages_beside_leave_the_books<D: Disk>()
 /// What the images show at rest.
 pub fn the_books_show_their_images<D: Disk>()
     ensures { BooksShowTheirImages D.Disk }
+{
+    commit_laws::<D>();
+}
+
+/// What each image stands for with nothing kept back and no gate in doubt.
+pub fn the_books_stand_at_rest<D: Disk>()
+    ensures { BooksStandAtRest D.Disk }
 {
     commit_laws::<D>();
 }

@@ -17,6 +17,7 @@ returns g c = λ told. record {
   begins = c.a_run_begins_with_its_image.ensures told;
   rows = c.the_rows_hold_what_was_told.ensures.rows told;
   finished = c.the_rows_hold_what_was_told.ensures.finished told;
+  at_rest = c.the_rows_hold_what_was_told.ensures.at_rest told;
   last_content = c.the_rows_hold_what_was_told.ensures.last_content told;
   reads = c.other_calls_leave_the_images.ensures.reads told;
   reads_shown = c.other_calls_leave_the_images.ensures.shown told;

@@ -2,7 +2,7 @@ use Rattle.std.proofs.Common.{◌≡◌, true, sym, ◌∙◌, arith}
 use Rattle.opfs_codec.specs.Charges.{charge}
 use Rattle.opfs_codec.specs.Fields.{plain}
 use Rattle.opfs_commit.specs.Seen.{KeptBack, has_room}
-use Rattle.opfs_commit.proofs.Spelling.{room_is, spelled_room}
+use Rattle.opfs_commit.proofs.Spelling.{spelled_room}
 use Rattle.opfs_commit.proofs.commits.Commits.spell_own.Goals as goal
 
 pub returns-then-len-self-clause-room : goal.returns-then-len-self-clause-room
@@ -18,6 +18,4 @@ returns-then-len-self-clause-room c few =
     ))
 
 pub returns-clause-short : goal.returns-clause-short
-returns-clause-short c =
-    let k : KeptBack = c.args.self.now in
-    (room_is k (charge (plain c.args.own.now)) (sym c.has_room.ensures ∙ c.if-not-has_room.false)).0
+returns-clause-short c = sym c.has_room.ensures ∙ c.if-not-has_room.false
