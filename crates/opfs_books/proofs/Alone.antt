@@ -5,10 +5,11 @@ use Rattle.opfs_base.specs.Texts.{Text}
 use Rattle.opfs_books.specs.Stored.Spelled.{stored_built}
 use Rattle.opfs_books.specs.Laws.Books.{Fixed, Book, AreBooksAt}
 use Rattle.opfs_books.specs.Laws.Laws.{LeavesPages, ShowsTold, told, doubt, BooksShowTheirImages}
-use Rattle.opfs_commit.specs.Calls.{IsAnyOf, IsNoneOf, IsNext, IsNextAlone, IsSettled, IsUnsettled, stored_in}
+use Rattle.opfs_commit.specs.Calls.{IsAnyOf, IsNoneOf, IsNext, IsNextAlone, stored_in}
 use Rattle.opfs_commit.specs.Seen.{KeptBack, Committing, committing}
 use Rattle.opfs_commit.specs.Shown.{ShowsSince, IsShown}
 use Rattle.opfs_commit.proofs.Holding.{shown_more}
+use Rattle.opfs_journal.specs.Calls.{IsSettled, IsUnsettled}
 use Rattle.opfs_journal.specs.Clauses.{Outside}
 use Rattle.opfs_outside.specs.Bytes.{Same}
 use Rattle.opfs_outside.specs.Moments.{Elapses, elapses-trans, each_of_both}

@@ -5,7 +5,7 @@ ghost use Rattle.opfs_base.specs.Texts.{Text};
 ghost use Rattle.opfs_books.specs.Laws.Books.{Fixed, AreBooksAt};
 ghost use Rattle.opfs_books.specs.Laws.Laws.{LeavesPages, ShowsTold, StandsWhole, told, doubt};
 ghost use Rattle.opfs_books.specs.Seen.{book_of, AreKnown, IsFinished};
-ghost use Rattle.opfs_commit.specs.Calls.{IsSettled, IsUnsettled};
+ghost use Rattle.opfs_journal.specs.Calls.{IsSettled, IsUnsettled};
 ghost use Rattle.opfs_machine.specs.declared.own.Own.{Own};
 ghost use Rattle.opfs_machine.specs.declared.state.State.{State};
 ghost use Rattle.opfs_outside.specs.Faults.{Rose};
@@ -19,7 +19,6 @@ use crate::laws::{
 };
 use crate::sharing::Shared;
 use crate::stored::calls_are_spelled;
-use opfs_commit::settle;
 use opfs_journal::{DiskFault, Journal};
 use opfs_laws::lengths::bridge::lengths_follow_each_call;
 use opfs_outside::Disk;
@@ -42,7 +41,7 @@ impl<S: Shared> Books<S> {
         ensures cause { OnErr result (Rose (D.faults journal.old.disk) (D.faults journal.new.disk)) }
     {
         settling_keeps_the_books::<D>();
-        match settle(journal) {
+        match journal.settle() {
             Ok(()) => {
                 self.place = None;
                 Ok(())
@@ -76,7 +75,8 @@ impl<S: Shared> Books<S> {
         the_books_show_their_images::<D>();
         calls_are_spelled();
         lengths_follow_each_call();
-        if self.commits.count() == 0 {
+        let nothing = self.commits.count() == 0;
+        if nothing {
             return Ok(false);
         }
         self.place = None;

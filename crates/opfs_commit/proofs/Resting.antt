@@ -2,12 +2,13 @@
 use Rattle.std.proofs.Common.{◌≡◌, ℕ, false, List, [], ◌∷◌, ◌++◌, length, fold, Some, inl, inr, refl, sym, ap, subst, ◌∙◌, append_assoc, arith}
 use Rattle.std.proofs.lemmas.Bool.{true≢false}
 use Rattle.std.proofs.lemmas.List.{append-nil, length-append}
-use Rattle.opfs_commit.specs.Images.{Account, MayBe, IsDoubt, AreImages}
+use Rattle.opfs_commit.specs.Images.{Account, IsDoubt, AreImages}
 use Rattle.opfs_commit.specs.Seen.{Committing}
 use Rattle.opfs_commit.specs.Shown.{IsShown, Holds}
 use Rattle.opfs_commit.proofs.Holding.{stands_by, floor_kept, floor_most, durable-append}
 use Rattle.opfs_image.specs.Filling.{Stands, filled}
 use Rattle.opfs_image.specs.Superblock.{areas_of, data_base}
+use Rattle.opfs_journal.specs.Calls.{MayBe}
 use Rattle.opfs_journal.specs.Format.{records_of}
 use Rattle.opfs_journal.specs.Seen.{kept}
 use Rattle.opfs_machine.specs.Changes.{Change, durable, changed, floor}

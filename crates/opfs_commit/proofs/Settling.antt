@@ -1,14 +1,14 @@
 -- What a call that ends a doubt leaves of the images.
 use Rattle.std.proofs.Common.{◌≡◌, ℕ, Bool, true, false, List, [], ◌++◌, length, Some, inl, inr, refl, sym, ap, subst, ◌∙◌}
 use Rattle.std.proofs.lemmas.Bool.{true≢false}
-use Rattle.opfs_commit.specs.Calls.{IsShut}
-use Rattle.opfs_commit.specs.Images.{Account, MayBe, IsDoubt, AreImages, doubting, sure}
+use Rattle.opfs_commit.specs.Images.{Account, IsDoubt, AreImages, doubting, sure}
 use Rattle.opfs_commit.specs.Keeping.{AreKeptBack}
 use Rattle.opfs_commit.specs.Seen.{KeptBack, Committing}
 use Rattle.opfs_commit.specs.Shown.{IsReadAs, ShowsSince}
 use Rattle.opfs_commit.proofs.Holding.{same_holds, shown_more}
 use Rattle.opfs_commit.proofs.Resting.{shown_kept, shown_doubt, at_rest}
 use Rattle.opfs_commit.proofs.Writing.{IsFull, IsWhole, Falls, from_before, from_content, still_here, still_held, same_records}
+use Rattle.opfs_journal.specs.Calls.{IsShut, MayBe}
 use Rattle.opfs_journal.specs.Clauses.{Outside}
 use Rattle.opfs_journal.specs.Format.{Stored, records_of}
 use Rattle.opfs_journal.specs.Seen.{Seen, kept}

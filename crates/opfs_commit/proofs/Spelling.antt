@@ -1,7 +1,7 @@
 -- Spellings that have room.
-use Rattle.std.proofs.Common.{◌≡◌, ℕ, ◌+◌, ◌≤◌, ◌++◌, Bool, true, false, not, List, length, refl, sym, ap, ◌∙◌, arith}
+use Rattle.std.proofs.Common.{◌≡◌, ℕ, ◌+◌, ◌≤◌, ◌++◌, Bool, true, false, not, List, length, refl, ap, arith}
 use Rattle.std.specs.Prelude.{nat_le}
-use Rattle.std.proofs.lemmas.Bool.{and_parts, leb-true, false≢true, true≢false}
+use Rattle.std.proofs.lemmas.Bool.{and_parts, leb-true, false≢true}
 use Rattle.std.proofs.lemmas.List.{length-append}
 use Rattle.opfs_codec.specs.Charges.{charge}
 use Rattle.opfs_codec.specs.Fields.{HasFewExtents}
@@ -36,8 +36,3 @@ room_is k n h =
 pub spelled_room : (k : KeptBack) (change : Change) (new : List ℕ) → has_room k (charge change) ≡ true → HasFewExtents change → new ≡ k.bytes ++ spelling New change → length new ≤ k.room
 spelled_room k change new room few is =
     omega (arith, (room_is k (charge change) room).1, spelling_below change few, ap length is, length-append k.bytes (spelling New change))
-
--- A gate that is still in doubt was so before.
-pub unsure_before : (b b' : Bool) → (b ≡ false → b' ≡ b) → b' ≡ true → b ≡ true
-unsure_before true b' none is = refl
-unsure_before false b' none is = absurd (true≢false (sym is ∙ none refl))

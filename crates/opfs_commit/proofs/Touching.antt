@@ -2,7 +2,7 @@
 use Rattle.std.proofs.Common.{◌≡◌, ◌⊎◌, ℕ, true, false, List, ◌++◌, Some, inl, inr, sym, ap, subst, ◌∙◌}
 use Rattle.std.proofs.lemmas.Bool.{true≢false}
 use Rattle.opfs_base.specs.declared.extents.Extent.{Extent}
-use Rattle.opfs_commit.specs.Images.{Account, MayBe, IsDoubt, AreImages}
+use Rattle.opfs_commit.specs.Images.{Account, IsDoubt, AreImages}
 use Rattle.opfs_commit.specs.Keeping.{AreKeptBack}
 use Rattle.opfs_commit.specs.Seen.{KeptBack, Committing}
 use Rattle.opfs_commit.specs.Shown.{IsReadAs, Holds, ShowsSince}
@@ -13,6 +13,7 @@ use Rattle.opfs_data.specs.Calls.{OutsideRuns}
 use Rattle.opfs_data.specs.Places.{Aside}
 use Rattle.opfs_image.specs.Filling.{Names}
 use Rattle.opfs_image.specs.Superblock.{areas_of, data_base}
+use Rattle.opfs_journal.specs.Calls.{MayBe}
 use Rattle.opfs_journal.specs.Clauses.{Before}
 use Rattle.opfs_journal.specs.Format.{Stored, records_of}
 use Rattle.opfs_journal.specs.Seen.{Seen, kept}

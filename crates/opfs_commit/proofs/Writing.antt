@@ -2,14 +2,14 @@
 use Rattle.std.proofs.Common.{◌≡◌, ◌⊎◌, ℕ, ◌≤◌, Bool, true, false, List, [], ◌++◌, length, Some, inl, inr, refl, sym, ap, subst, ◌∙◌, arith}
 use Rattle.std.proofs.lemmas.List.{append-nil, length-append}
 use Rattle.std.proofs.lemmas.Bool.{true≢false}
-use Rattle.opfs_commit.specs.Calls.{IsOneOf, IsDurable, IsTorn}
-use Rattle.opfs_commit.specs.Images.{Account, MayBe, IsDoubt, AreImages, committed, doubting}
+use Rattle.opfs_commit.specs.Images.{Account, IsDoubt, AreImages, committed, doubting}
 use Rattle.opfs_commit.specs.Keeping.{AreKeptBack}
 use Rattle.opfs_commit.specs.Making.{IsToStore}
 use Rattle.opfs_commit.specs.Seen.{KeptBack, Committing, emptied}
 use Rattle.opfs_commit.specs.Shown.{IsShown, IsReadAs, Holds}
 use Rattle.opfs_commit.proofs.Holding.{same_holds, stands_by, floor_most, shown_more}
 use Rattle.opfs_commit.proofs.Resting.{shown_kept}
+use Rattle.opfs_journal.specs.Calls.{IsOneOf, IsDurable, IsTorn, MayBe}
 use Rattle.opfs_journal.specs.Clauses.{Outside, Before}
 use Rattle.opfs_journal.specs.Format.{Stored, records_of}
 use Rattle.opfs_journal.specs.Seen.{Seen, kept}

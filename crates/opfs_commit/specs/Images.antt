@@ -5,6 +5,7 @@ use Rattle.opfs_commit.specs.Seen.{Committing}
 use Rattle.opfs_commit.specs.Shown.{IsReadAs, Holds}
 use Rattle.opfs_image.specs.Superblock.{areas_of, limits_by}
 use Rattle.opfs_image.specs.declared.geometry.Geometry.{Geometry}
+use Rattle.opfs_journal.specs.Calls.{MayBe}
 use Rattle.opfs_journal.specs.Format.{records_of}
 use Rattle.opfs_journal.specs.Seen.{Seen, kept}
 use Rattle.opfs_machine.specs.Changes.{Change, durable}
@@ -22,10 +23,6 @@ pub record Account : Type 0 where
   pub doubted : List Change
   pub recorded : Built
   pub rows : Built
-
--- An image that a crash may leave now.
-abbrev pub MayBe : {D : Type 0} → DiskWords D → Seen D → List ℕ → Type 0
-MayBe w j c = w.since j.disk (w.moment j.disk) c
 
 -- The records in doubt build rows that hold all that was told with what is in doubt, in each image and in the content.
 pub record IsDoubt {D : Type 0} (w : DiskWords D) (a : Account) (j : Seen D) : Type 0 where

@@ -4,8 +4,8 @@ use Rattle.opfs_base.specs.declared.extents.Extent.{Extent}
 use Rattle.opfs_codec.specs.Spelling.{IsChange}
 use Rattle.opfs_codec.specs.declared.change.Change.{Change as Spelled}
 use Rattle.opfs_codec.specs.declared.change.Format.TheVariants.{New}
-use Rattle.opfs_commit.specs.Calls.{IsOneOf, IsCommitted, IsHalted, IsSettled, IsUnsettled, IsNext, IsNextAlone}
-use Rattle.opfs_commit.specs.Images.{Account, MayBe, AreImages, committed, doubting, keeping, sure}
+use Rattle.opfs_commit.specs.Calls.{IsCommitted, IsHalted, IsNext, IsNextAlone}
+use Rattle.opfs_commit.specs.Images.{Account, AreImages, committed, doubting, keeping, sure}
 use Rattle.opfs_commit.specs.Making.{IsToStore, IsKept, IsReadyFor, IsOwn, IsWhole, IsBegun, AreBeside, begun_with, told_as, new_bytes}
 use Rattle.opfs_commit.specs.Seen.{KeptBack, Committing, committing, with_kept, with_back, with_own, IsQuiet}
 use Rattle.opfs_commit.specs.Shown.{ShowsSince, ShowsEither}
@@ -14,6 +14,7 @@ use Rattle.opfs_data.specs.Calls.{Reads}
 use Rattle.opfs_image.specs.Filling.{Stands, filled}
 use Rattle.opfs_image.specs.Superblock.{area_bytes, areas_of, data_base}
 use Rattle.opfs_image.specs.declared.geometry.Geometry.{Geometry}
+use Rattle.opfs_journal.specs.Calls.{IsOneOf, IsSettled, IsUnsettled, MayBe}
 use Rattle.opfs_journal.specs.Format.{Stored, records_of}
 use Rattle.opfs_journal.specs.Seen.{Seen, Stays, kept, one_record}
 use Rattle.opfs_machine.specs.Changes.{Change, changed, durable, is_content, floor}

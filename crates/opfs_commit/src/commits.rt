@@ -11,7 +11,6 @@ ghost use Rattle.opfs_outside.specs.Faults.{Rose};
 ghost use Rattle.opfs_records.specs.Checkpoint.Written.{AreWritable};
 ghost use Rattle.opfs_records.specs.Replay.Sums.{persistent_in};
 
-use crate::records::{add_record, put_record};
 use opfs_codec::{ChangeRef, charge, write};
 use opfs_journal::{Journal, JournalRefusal};
 use opfs_outside::Disk;
@@ -177,7 +176,7 @@ impl Commits {
     {
         let kept = self.bytes.len();
         self.spell_own(own)?;
-        match add_record(journal, &self.bytes) {
+        match journal.append(&self.bytes) {
             Ok(()) => {
                 self.forget();
                 Ok(())
@@ -205,7 +204,7 @@ impl Commits {
         if self.long {
             return Err(JournalRefusal::NoRoom);
         }
-        add_record(journal, &self.bytes)?;
+        journal.append(&self.bytes)?;
         self.forget();
         Ok(())
     }
@@ -236,7 +235,7 @@ impl Commits {
         if self.alone.len() as u64 > self.room {
             return Err(JournalRefusal::NoRoom);
         }
-        match put_record(journal, &self.alone) {
+        match journal.checkpoint(&self.alone) {
             Ok(()) => {
                 self.forget();
                 Ok(())
@@ -267,7 +266,7 @@ impl Commits {
         if self.alone.len() as u64 > self.room {
             return Err(JournalRefusal::NoRoom);
         }
-        match put_record(journal, &self.alone) {
+        match journal.checkpoint(&self.alone) {
             Ok(()) => {
                 self.forget();
                 Ok(())

@@ -5,7 +5,6 @@
 
 mod commits;
 mod laws;
-mod records;
 
 pub use commits::Commits;
 pub use laws::{
@@ -14,4 +13,3 @@ pub use laws::{
     other_calls_leave_the_images, records_are_to_be_stored, records_are_written,
     the_rows_hold_what_was_told,
 };
-pub use records::settle;

@@ -5,7 +5,7 @@ use Rattle.std.specs.Prelude.{if◌then◌else◌}
 use Rattle.std.proofs.lemmas.Bool.{false≢true}
 use Rattle.opfs_base.specs.Texts.{Text}
 use Rattle.opfs_base.specs.declared.extents.Extent.{Extent}
-use Rattle.opfs_commit.specs.Calls.{IsAnyOf, IsNoneOf, IsNextAlone, IsSettled, IsUnsettled}
+use Rattle.opfs_commit.specs.Calls.{IsAnyOf, IsNoneOf, IsNextAlone}
 use Rattle.opfs_commit.specs.Images.{Account, AreImages, doubting}
 use Rattle.opfs_commit.specs.Making.{IsReadyFor, AreBeside}
 use Rattle.opfs_commit.specs.Seen.{KeptBack, committing}
@@ -13,6 +13,7 @@ use Rattle.opfs_commit.specs.Shown.{ShowsSince}
 use Rattle.opfs_commit.specs.Trail.{IsTrail}
 use Rattle.opfs_data.specs.Calls.{Reads}
 use Rattle.opfs_laws.specs.Histories.Doubts.{doubted}
+use Rattle.opfs_journal.specs.Calls.{IsSettled, IsUnsettled}
 use Rattle.opfs_journal.specs.Format.{Stored}
 use Rattle.opfs_journal.specs.Seen.{Seen}
 use Rattle.opfs_machine.specs.declared.own.Own.{Own}

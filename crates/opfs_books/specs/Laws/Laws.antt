@@ -6,8 +6,7 @@ use Rattle.opfs_codec.specs.Spelling.{IsChange}
 use Rattle.opfs_codec.specs.declared.change.Change.{Change as Spelled}
 use Rattle.opfs_codec.specs.declared.change.Change.TheVariants.{Evict}
 use Rattle.opfs_codec.specs.declared.change.Format.TheVariants.{New}
-use Rattle.opfs_commit.specs.Calls.{IsSettled, IsUnsettled, IsNext as IsNextRecord, IsNextAlone, IsAnyOf, IsNoneOf}
-use Rattle.opfs_commit.specs.Images.{MayBe}
+use Rattle.opfs_commit.specs.Calls.{IsNext as IsNextRecord, IsNextAlone, IsAnyOf, IsNoneOf}
 use Rattle.opfs_commit.specs.Making.{AreBeside, told_as, new_bytes}
 use Rattle.opfs_commit.specs.Seen.{KeptBack, committing, with_kept, IsQuiet}
 use Rattle.opfs_commit.specs.Shown.{ShowsSince}
@@ -21,6 +20,7 @@ use Rattle.opfs_laws.specs.Histories.Doubts.{doubted, faulted}
 use Rattle.opfs_laws.specs.Histories.Unread.{ArePendingFor}
 use Rattle.opfs_image.specs.Filling.{Stands}
 use Rattle.opfs_image.specs.Superblock.{area_bytes, data_base}
+use Rattle.opfs_journal.specs.Calls.{IsSettled, IsUnsettled, MayBe}
 use Rattle.opfs_journal.specs.Clauses.{Outside}
 use Rattle.opfs_journal.specs.Seen.{Seen, Stays}
 use Rattle.opfs_laws.specs.Whole.{IsWhole}

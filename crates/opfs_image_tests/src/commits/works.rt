@@ -9,7 +9,7 @@ ghost use Rattle.opfs_records.specs.Checkpoint.Written.{AreWritable};
 ghost use Rattle.opfs_records.specs.Replay.Sums.{persistent_in};
 
 use opfs_codec::{Change, ChangeRef, Format, read};
-use opfs_commit::{Commits, settle};
+use opfs_commit::Commits;
 use opfs_image::{Geometry, Recovered, format, recover};
 use opfs_journal::Journal;
 use opfs_memory::MemDisk;
@@ -222,7 +222,7 @@ fn settle_and_write(
     requires spare { commits.old.room ≤ journal.old.spare }
     ensures { commits.new.room ≤ journal.new.spare }
 {
-    match settle(journal) {
+    match journal.settle() {
         Ok(()) => write_record(alloc, commits, journal, way, changes),
         Err(_) => Err(AllocError),
     }

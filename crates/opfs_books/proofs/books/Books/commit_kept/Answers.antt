@@ -4,8 +4,8 @@ use Rattle.opfs_books.proofs.Alone.{any-lent, none-lent, rest-shown}
 use Rattle.opfs_books.proofs.Evictions.{may-alone}
 use Rattle.opfs_books.proofs.books.Books.commit_kept.Goals as goal
 
-pub returns-then-count-eq0-clause-shown : goal.returns-then-count-eq0-clause-shown
-returns-then-count-eq0-clause-shown g c f recorded base gone are =
+pub returns-then-nothing-clause-shown : goal.returns-then-nothing-clause-shown
+returns-then-nothing-clause-shown g c f recorded base gone are =
     rest-shown g.D.Disk c.the_books_show_their_images.ensures f recorded base gone (book_of g.S.Shared c.args.self.now) c.args.journal.now are c.requires.settled
 
 pub commit_alone-requires-clause-may : goal.commit_alone-requires-clause-may
