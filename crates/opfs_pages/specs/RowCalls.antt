@@ -1,2 +1,4 @@
 pub mod Plans
 pub mod Rows
+pub mod Planned
+pub mod Finding

@@ -28,8 +28,8 @@ pub use leaving::{leave_size, leave_write};
 pub use reading::{fill_page, read_page};
 pub use row_calls::{
     Planned, after_flush, after_size, after_write, bring_near, collect_blocks, find_blocks,
-    open_row, page_after, plan_call, plan_put, put_row, read_handle, read_row,
+    open_row, page_after, plan_call, plan_put, read_handle, read_row,
 };
-pub use row_put::{PagePut, PageSource};
+pub use row_put::{PagePut, PageSource, Planning};
 pub use wide::{read_bytes, read_stored};
 pub use writing::{Put, planned_pages_get_their_blocks};

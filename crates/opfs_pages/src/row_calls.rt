@@ -8,7 +8,6 @@ mod leave;
 mod opening;
 mod plan;
 mod reads;
-mod write;
 
 pub use after::{after_flush, after_size, after_write};
 pub use call::{Planned, plan_call};
@@ -18,4 +17,3 @@ pub use leave::{bring_near, page_after};
 pub use opening::open_row;
 pub use plan::plan_put;
 pub use reads::{read_handle, read_row};
-pub use write::put_row;

@@ -1,7 +1,9 @@
 // What a call puts of a row's pages, and what pages are read from.
 use opfs_data::Swap;
 use opfs_space::Space;
+use opfs_tree::ReadyTree;
 use opfs_work::Work;
+use std::alloc::Global;
 
 /// What a call leaves of a row: bytes at a position and then a size; or a content, where each page has to have a block.
 #[derive(Clone, Copy)]
@@ -20,5 +22,14 @@ pub struct PageSource<'a> {
     pub work: &'a Work,
     pub swap: &'a Swap,
     pub space: &'a Space,
+    pub base: u64,
+}
+
+/// What a put is planned over beside the pages of rows: the memory, the rows of the tree with their blocks, and the byte of the disk
+/// where block 0 begins.
+#[derive(Clone, Copy)]
+pub struct Planning<'a> {
+    pub alloc: Global,
+    pub tree: &'a ReadyTree,
     pub base: u64,
 }

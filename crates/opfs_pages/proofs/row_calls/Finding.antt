@@ -23,7 +23,9 @@ use Rattle.opfs_machine.specs.Sums.{reserve_of}
 use Rattle.opfs_pages.specs.HistoryLaws.Open.{if_open, reserve_in}
 use Rattle.opfs_pages.specs.HistoryLaws.Spaced.{AreSpaced}
 use Rattle.opfs_pages.proofs.history_laws.Holding.{holders_of, are-holders, spaced-blocks, blocks-spaced}
-use Rattle.opfs_pages.specs.RowCalls.Plans.{shelf, HaveBlocks, WaitForBlocks, MayFindBlocks}
+use Rattle.opfs_pages.specs.RowCalls.Finding.{MayFindBlocks}
+use Rattle.opfs_pages.specs.RowCalls.Plans.{shelf, HaveBlocks, WaitForBlocks}
+use Rattle.opfs_pages.specs.declared.writing.put.Put.{Put}
 
 -- ---- a page's own block
 
@@ -135,14 +137,14 @@ open-reserve (Some outline.ClosedHandle) = refl
 open-reserve (Some outline.Snapshot) = refl
 open-reserve (Some outline.Iterator) = refl
 
-pub enough-blocks : (tree : Tree) (swap : Rows) (space : SpaceSeen) (agent row pages : ℕ) (w : WriteList) (moves : ℕ) (extents : List Extent) (then found : Used)
-    → MayFindBlocks tree swap space agent row pages w moves extents → AreSwept (length space.used) (has_block (named tree)) swap then found → moves ≤ length (free_blocks then)
+pub enough-blocks : (tree : Tree) (swap : Rows) (space : SpaceSeen) (agent row : ℕ) (put : Put) (then found : Used)
+    → MayFindBlocks tree swap space agent row put → AreSwept (length space.used) (has_block (named tree)) swap then found → put.moves ≤ length (free_blocks then)
 unfolding own_block
-enough-blocks tree swap space agent row pages w moves extents then found may swept =
+enough-blocks tree swap space agent row put then found may swept =
     let s = shelf may.recorded tree swap in
     let h = holders_of may.machine s in
     let are = spaced-blocks may.machine s space may.spaced in
-    let move = page_moves w may.given in
+    let move = page_moves put.writes may.given in
     let exact = may.waits.exact h (are-holders may.machine s) in
     let is : IsOfMachine may.machine h tree = record {
       reserve = λ k n. open-reserve (own_of (agent_of may.machine k) n);

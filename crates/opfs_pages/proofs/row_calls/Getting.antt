@@ -26,6 +26,14 @@ use Rattle.opfs_pages.specs.RowCalls.Plans.{shelf, KnowsOwn, HaveBlocks, WaitFor
 
 -- ---- the same pages
 
+pub same-twice : (agent row : ℕ) (old mid new : Rows) → HasSamePages agent row old mid → HasSamePages agent row mid new → HasSamePages agent row old new
+same-twice agent row old mid new first second = record {
+  there = second.there;
+  same = second.same ∙ first.same;
+  others = λ a r apart. second.others a r apart ∙ first.others a r apart;
+  kept = second.kept ∙ first.kept;
+}
+
 pub pages-same : (agent row : ℕ) (old new : Rows) → HasSamePages agent row old new → (k n : ℕ) → pages_at k n new ≡ pages_at k n old
 pages-same agent row old new is k n = elim (other-or agent row k n) [
   | inl apart ↦ ap (λ o. (unwrap_or o no_row).pages) (is.others k n apart)

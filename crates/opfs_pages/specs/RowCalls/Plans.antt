@@ -1,18 +1,15 @@
 -- Pages of a row that a call puts: planned, with memory, and with blocks where these were free. This project's own.
-use Rattle.std.specs.Prelude.{◌≡◌, ℕ, ◌≤◌, Bool, true, false, List, [], length, sum_by}
+use Rattle.std.specs.Prelude.{◌≡◌, ℕ, Bool, true, false, List, []}
 use Rattle.opfs_base.specs.declared.extents.Extent.{Extent}
 use Rattle.opfs_blocks.specs.Sets.{Used}
 use Rattle.opfs_data.specs.Rows.{Rows, pages_at}
 use Rattle.opfs_data.specs.Writes.{WriteList, page_writes, page_moves}
-use Rattle.opfs_pages.specs.HistoryLaws.Spaced.{Shelf, AreHolders, AreSpaced}
-use Rattle.opfs_machine.specs.Contents.{in_lengths}
-use Rattle.opfs_machine.specs.Sums.{durable_blocks}
+use Rattle.opfs_pages.specs.HistoryLaws.Spaced.{Shelf, AreHolders}
 use Rattle.opfs_pages.specs.Stages.{IsStaged}
 use Rattle.opfs_pages.specs.Writing.Puts.{IsPlaced, IsTaken, all_writes}
-use Rattle.opfs_records.specs.Replay.Built.{named, has_block}
 use Rattle.opfs_space.specs.Holders.{Holders, AreMine}
 use Rattle.opfs_space.specs.Plans.{ArePlanned}
-use Rattle.opfs_space.specs.Room.{Machine, IsExact, HasRoom}
+use Rattle.opfs_space.specs.Room.{Machine, IsExact}
 use Rattle.opfs_space.specs.Spaces.{SpaceSeen}
 use Rattle.opfs_tree.specs.Rows.{Rows as Tree}
 use Rattle.opfs_work.specs.Works.{WorkingCopy}
@@ -52,19 +49,3 @@ AreGotten false m s space base end agent row pages w given extents = WaitForBloc
 abbrev pub HasTaken : Bool → SpaceSeen → SpaceSeen → ℕ → List Extent → Type 0
 HasTaken true old new count extents = IsTaken old new count extents
 HasTaken false old new count extents = (new ≡ old) × (extents ≡ [])
-
--- Blocks may be found for a put that waits: the machine has room for what the row is to keep, nothing is kept back, and the
--- rows are those of the machine.
-pub record MayFindBlocks (tree : Tree) (swap : Rows) (space : SpaceSeen) (agent row pages : ℕ) (w : WriteList) (moves : ℕ) (extents : List Extent) : Type 0 where
-  pub machine : Machine
-  pub recorded : Tree
-  pub given : List ℕ
-  pub reserve : ℕ
-  pub need : ℕ
-  pub spaced : AreSpaced machine (shelf recorded tree swap) space
-  pub settled : (b : ℕ) → has_block (named recorded) b ≡ true → has_block (named tree) b ≡ true
-  pub waits : WaitForBlocks machine (shelf recorded tree swap) space agent row pages w given extents
-  pub room : HasRoom machine agent row reserve need
-  pub within : pages ≤ reserve
-  pub blocks : length (named tree) ≡ sum_by (λ e. durable_blocks in_lengths e.1) machine.rows
-  pub count : length (page_moves w given) ≡ moves

@@ -11,7 +11,7 @@ ghost use Rattle.opfs_splice.specs.Splicing.{resize};
 ghost use Rattle.opfs_work.specs.Pages.{page_at, is_far, near_count};
 ghost use Rattle.opfs_work.specs.Works.{IsStored};
 
-use crate::{cut_page, fill_page, overlay};
+use crate::{PagePut, cut_page, fill_page, overlay};
 use opfs_data::Swap;
 use opfs_journal::{DiskFault, Journal};
 use opfs_outside::Disk;
@@ -19,34 +19,39 @@ use opfs_work::Work;
 
 /// Reads a page of a row as a write at a position and then a new size leave it, filled up with 0. Takes no memory.
 pub fn page_after<D: Disk>(
+    wanted: &PagePut<'_>,
+    page: u64,
+    base: u64,
     work: &Work,
     swap: &Swap,
     journal: &mut Journal<D>,
-    base: u64,
-    agent: u32,
-    row: u32,
-    page: u64,
-    at: u64,
-    given: &[u8],
-    size: u64,
     buffer: &mut [u8],
 ) -> Result<(), DiskFault>
     requires buffer { length buffer.old ≡ 4096 }
     requires page { page < 2 ^ 51 }
-    requires end { at + length given.now < 2 ^ 63 }
-    requires held { is_far (page_at work.now.pages page) ≡ true → page < length (pages_at agent row swap.now) }
-    requires lies { is_far (page_at work.now.pages page) ≡ true → LiesIn base (D.size journal.old.disk) (swap_page agent row page swap.now).block }
+    requires end { wanted.now.at + length wanted.now.given.now < 2 ^ 63 }
+    requires held { is_far (page_at work.now.pages page) ≡ true → page < length (pages_at wanted.now.agent wanted.now.row swap.now) }
+    requires lies { is_far (page_at work.now.pages page) ≡ true → LiesIn base (D.size journal.old.disk) (swap_page wanted.now.agent wanted.now.row page swap.now).block }
     requires part { IsDataPart journal.old.areas base }
     ensures reads { Reads D.Disk journal.old journal.new }
     ensures read { OnOk result (D.tells → (bytes : List ℕ) → IsCopy bytes work.now
-        → IsHeld bytes work.now page (page_of (D.content journal.old.disk) base (swap_page agent row page swap.now)) → IsPageOf (changed bytes at given.now size) page buffer.new) }
-    ensures tail { OnOk result ((i : ℕ) → size ≤ i → i / 4096 ≡ page → slice_index buffer.new (i % 4096) ≡ 0) }
+        → IsHeld bytes work.now page (page_of (D.content journal.old.disk) base (swap_page wanted.now.agent wanted.now.row page swap.now)) → IsPageOf (changed bytes wanted.now.at wanted.now.given.now wanted.now.size) page buffer.new) }
+    ensures tail { OnOk result ((i : ℕ) → wanted.now.size ≤ i → i / 4096 ≡ page → slice_index buffer.new (i % 4096) ≡ 0) }
     ensures buffer { length buffer.new ≡ 4096 }
     ensures cause { OnErr result (Rose (D.faults journal.old.disk) (D.faults journal.new.disk)) }
 {
-    fill_page(work, swap, journal, base, agent, row, page, buffer)?;
-    overlay(buffer, page, at, given);
-    cut(buffer, page, size);
+    fill_page(
+        work,
+        swap,
+        journal,
+        base,
+        wanted.agent,
+        wanted.row,
+        page,
+        buffer,
+    )?;
+    overlay(buffer, page, wanted.at, wanted.given);
+    cut(buffer, page, wanted.size);
     Ok(())
 }
 

@@ -7,20 +7,18 @@ ghost use Rattle.opfs_blocks.specs.Sets.{AreBelow};
 ghost use Rattle.opfs_data.specs.Calls.{Reads};
 ghost use Rattle.opfs_data.specs.Pages.{LiesIn, IsDataPart};
 ghost use Rattle.opfs_data.specs.Rows.{row_of, pages_at};
-ghost use Rattle.opfs_pages.specs.HistoryLaws.Spaced.{AreSpaced};
 ghost use Rattle.opfs_outside.specs.Faults.{Rose};
 ghost use Rattle.opfs_pages.specs.Stages.{IsReady, IsReadyFor, IsStaged, stage_of};
 ghost use Rattle.opfs_pages.specs.Writing.Puts.{HasSamePages, IsReady as IsPutReady};
 ghost use Rattle.opfs_records.specs.Replay.Built.{named, has_block};
 ghost use Rattle.opfs_space.specs.Holders.{AreAllBelow, AreSwept};
-ghost use Rattle.opfs_pages.specs.RowCalls.Plans.{shelf, IsStagedFor, HasTaken, AreGotten};
+ghost use Rattle.opfs_pages.specs.RowCalls.Plans.{IsStagedFor, HasTaken};
+ghost use Rattle.opfs_pages.specs.RowCalls.Planned.{MayPlan, LeavesPlanned, IsPutPlanned, pages_seen};
 ghost use Rattle.opfs_space.specs.Plans.{ArePlanned};
 ghost use Rattle.opfs_data.specs.Writes.{page_writes, page_moves};
-ghost use Rattle.opfs_space.specs.Room.{Machine};
-ghost use Rattle.opfs_tree.specs.Rows.{Rows as Tree};
 
 use crate::writing::Put;
-use crate::{PagePut, PageSource, stage_changes, stage_content};
+use crate::{PagePut, PageSource, Planning, stage_changes, stage_content};
 use opfs_data::{DataRefusal, PageWrites, Swap};
 use opfs_journal::Journal;
 use opfs_outside::Disk;
@@ -105,49 +103,25 @@ fn look_anew(space: &mut Space, tree: &ReadyTree, swap: &Swap)
 /// Plans what a call puts of a row's pages: a write at a position and then a new size, or a content. It has all memory and all
 /// reads, and the blocks where enough are free; where they are not, which pages want one is known exactly. Nothing is written.
 pub fn plan_put<D: Disk>(
-    alloc: Global,
+    planning: &Planning<'_>,
+    wanted: &PagePut<'_>,
     work: &Work,
     swap: &mut Swap,
     space: &mut Space,
-    tree: &ReadyTree,
     journal: &mut Journal<D>,
-    base: u64,
-    agent: u32,
-    row: u32,
-    at: u64,
-    given: &[u8],
-    size: u64,
-    whole: bool,
 ) -> Result<Put, DataRefusal>
-    requires size { size < 2 ^ 63 }
-    requires stays { at + length given.now ≤ size }
-    requires there { is_some (row_of agent row swap.old) ≡ true }
-    requires lies { AllByRecursion (λ page. LiesIn base (D.size journal.old.disk) page.block) (pages_at agent row swap.old) }
-    requires ready { IsReady work.now swap.old space.old agent row base (D.size journal.old.disk) journal.old.areas }
-    requires files { AreBelow (length space.old.used) (named tree.now.rows) }
-    ensures pages { HasSamePages agent row swap.old swap.new }
-    ensures reads { Reads D.Disk journal.old journal.new }
-    ensures staged { IfOk result (λ put. IsStagedFor D.tells work.now (D.content journal.old.disk) base swap.old agent row at given.now size whole put.writes) }
-    ensures ready { IfOk result (λ put. IsPutReady D.tells (D.content journal.new.disk) base swap.new agent row (blocks size) put.writes put.moves (vec_capacity put.extents)) }
-    ensures count { IfOk result (λ put. put.pages ≡ blocks size) }
-    ensures spaced { (m : Machine) (recorded : Tree) → AreSpaced m (shelf recorded tree.now.rows swap.old) space.old → AreSpaced m (shelf recorded tree.now.rows swap.new) space.new }
-    ensures gotten { IfOk result (λ put. (m : Machine) (recorded : Tree) → AreSpaced m (shelf recorded tree.now.rows swap.old) space.old → base + 4096 * length space.old.used ≤ D.size journal.old.disk → length space.old.used ≤ 2 ^ 32
-        → AreGotten put.taken m (shelf recorded tree.now.rows swap.new) space.new base (D.size journal.old.disk) agent row (blocks size) put.writes given.now put.extents.items) }
+    requires may { MayPlan D.Disk planning.now wanted.now work.now (pages_seen swap.old space.old journal.old) }
+    ensures left { LeavesPlanned D.Disk planning.now wanted.now (pages_seen swap.old space.old journal.old) (pages_seen swap.new space.new journal.new) }
+    ensures planned { IfOk result (λ put. IsPutPlanned D.Disk planning.now wanted.now work.now (pages_seen swap.old space.old journal.old) (pages_seen swap.new space.new journal.new) put) }
     ensures cause { IsErrOf result DataRefusal.DiskFault → Rose (D.faults journal.old.disk) (D.faults journal.new.disk) }
 {
-    let wanted = PagePut {
-        agent,
-        row,
-        at,
-        given,
-        size,
-        whole,
-    };
-    let put = try_put(alloc, work, swap, space, journal, base, &wanted)?;
+    let alloc = planning.alloc;
+    let base = planning.base;
+    let put = try_put(alloc, work, swap, space, journal, base, wanted)?;
     if put.taken {
         return Ok(put);
     }
-    look_anew(space, tree, swap);
-    let put = try_put(alloc, work, swap, space, journal, base, &wanted)?;
+    look_anew(space, planning.tree, swap);
+    let put = try_put(alloc, work, swap, space, journal, base, wanted)?;
     Ok(put)
 }
