@@ -4,4 +4,5 @@ pub mod Stored
 pub mod Committing
 pub mod Opened
 pub mod Seen
+pub mod Calls
 pub mod Openings

@@ -1,12 +1,12 @@
 //! Units that are cleared for a call, and pending calls.
 
-ghost use Rattle.std.specs.Prelude.{◌≡◌, ◌++◌, ◌∷◌, ◌≤◌, ◌+◌, ℕ, true, false, List, [], None, Some, fold, length, vec_capacity, OnOk, OnErr, IfOk, is_some, IsTrue};
+ghost use Rattle.std.specs.Prelude.{◌≡◌, ◌++◌, ◌∷◌, ◌≤◌, ◌+◌, List, [], None, Some, length, vec_capacity, OnOk, OnErr, IfOk};
 ghost use Rattle.opfs_base.specs.Texts.{Text};
-ghost use Rattle.opfs_books.specs.Stored.Spelled.{stored_built};
-ghost use Rattle.opfs_books.specs.Laws.Books.{Fixed, IsPlaced, AreBooks, AreBooksAt, calls_of};
+ghost use Rattle.opfs_books.specs.Calls.{MayEvictIn, HasEvicted, HasFailedIn};
+ghost use Rattle.opfs_books.specs.Laws.Books.{Fixed, AreBooks, AreBooksAt, calls_of};
 ghost use Rattle.opfs_books.specs.Laws.Laws.{LeavesPages, ShowsTold, told, failed};
 ghost use Rattle.opfs_books.specs.Sharing.Noting.{noted, IsSumOf};
-ghost use Rattle.opfs_books.specs.Seen.{book_of, AreKnown, MayTakeIn, IsVictim};
+ghost use Rattle.opfs_books.specs.Seen.{book_of, MayTakeIn, IsVictim};
 ghost use Rattle.opfs_codec.specs.Fields.{plain, Fits};
 ghost use Rattle.opfs_codec.specs.Spelling.{IsChange};
 ghost use Rattle.opfs_codec.specs.declared.change.Change.TheVariants.{Evict};
@@ -15,17 +15,11 @@ ghost use Rattle.opfs_hist.specs.declared.history.PendingSum.{PendingSum};
 ghost use Rattle.opfs_laws.specs.Histories.Unread.{ArePendingFor};
 ghost use Rattle.opfs_machine.specs.declared.own.Own.{Own};
 ghost use Rattle.opfs_machine.specs.declared.state.State.{State};
-ghost use Rattle.opfs_machine.specs.Agents.{counted};
 ghost use Rattle.opfs_machine.specs.Changes.{evict};
-ghost use Rattle.opfs_machine.specs.Effects.{refused};
 ghost use Rattle.opfs_machine.specs.Histories.{state_after};
-ghost use Rattle.opfs_machine.specs.Rows.{row_at};
 ghost use Rattle.opfs_machine.specs.Runs.{eviction};
 ghost use Rattle.opfs_machine.specs.Steps.{evicted};
-ghost use Rattle.opfs_machine.specs.Sums.{is_persistent};
-ghost use Rattle.opfs_outside.specs.Faults.{Rose};
 ghost use Rattle.opfs_records.specs.Replay.Built.{Built};
-ghost use Rattle.opfs_tree.specs.Rows.{extents_within, without};
 
 use crate::books::Books;
 use crate::committing::commit_own;
@@ -63,39 +57,16 @@ impl<S: Shared> Books<S> {
         last: EntryWithRoom,
         freed: &mut Vec<Extent>,
     ) -> Result<EntryWithRoom, DiskFault>
-        requires known { AreKnown D.Disk (book_of S.Shared self.old) journal.old }
-        requires placed { IsPlaced self.old.history last.entry.agent }
-        requires settled { journal.old.in_doubt ≡ false }
-        requires told { gone.entry ≡ eviction unit.now }
-        requires root { IsTrue (is_some (row_at (S.machine self.old.state) (unit.now, []))) }
-        requires mode { is_persistent (S.machine self.old.state) unit.now ≡ false }
-        requires again { IsChange New (Evict unit.now) }
-        requires may { S.may_clear self.old.state unit.now }
-        requires may_refuse { S.may_refuse self.old.state last.entry.agent last.entry.op }
-        requires room { length (freed.old.items ++ extents_within (unit.now, []) (S.tree self.old.state)) ≤ vec_capacity freed.old }
+        requires { MayEvictIn S.Shared D.Disk self.old journal.old unit.now gone.entry last.entry freed.old }
         ensures last { IfOk result (λ back. back.entry ≡ last.entry) }
-        ensures entries { OnOk result (self.new.history ≡ self.old.history ++ eviction unit.now ∷ []) }
-        ensures machine { OnOk result (S.machine self.new.state ≡ evicted (S.machine self.old.state) unit.now) }
-        ensures tree { OnOk result (S.tree self.new.state ≡ without (unit.now, []) (S.tree self.old.state)) }
-        ensures standby { OnOk result (S.standby self.new.state ≡ S.standby self.old.state) }
-        ensures none { OnOk result (self.new.commits.count ≡ 0) }
-        ensures sure { OnOk result (journal.new.in_doubt ≡ false) }
-        ensures freed { OnOk result (freed.new.items ≡ freed.old.items ++ extents_within (unit.now, []) (S.tree self.old.state)) }
-        ensures failed { OnErr result (self.new.history ≡ self.old.history ++ failed last.entry ∷ []) }
-        ensures failed_machine { OnErr result (S.machine self.new.state ≡ counted (refused (S.machine self.old.state) last.entry.agent last.entry.op) last.entry.agent) }
-        ensures failed_tree { OnErr result (S.tree self.new.state ≡ S.tree self.old.state) }
-        ensures failed_idle { OnErr result ((S.standby self.new.state).prepared.place ≡ None) }
-        ensures failed_freed { OnErr result (freed.new ≡ freed.old) }
-        ensures failed_commits { OnErr result (self.new.commits ≡ self.old.commits) }
-        ensures capacity { vec_capacity freed.old ≤ vec_capacity freed.new }
-        ensures leaves { LeavesPages D.Disk journal.old journal.new }
-        ensures books { OnOk result ((f : Fixed D) (recorded : Built) (base : State Text Own) (others : List Text) → AreBooksAt D.Disk f recorded base others (book_of S.Shared self.old) journal.old
-            → AreBooksAt D.Disk f (book_of S.Shared self.new).rows base (others ++ unit.now ∷ []) (book_of S.Shared self.new) journal.new) }
+        ensures evicted { OnOk result (HasEvicted S.Shared D.Disk unit.now self.old self.new journal.old journal.new freed.old.items freed.new.items) }
+        ensures failed { OnErr result (HasFailedIn S.Shared D.Disk last.entry self.old self.new journal.old journal.new freed.old freed.new) }
         ensures failed_books { OnErr result ((f : Fixed D) (recorded : Built) (base : State Text Own) (others : List Text) → AreBooksAt D.Disk f recorded base others (book_of S.Shared self.old) journal.old
             → IsVictim base others last.entry unit.now → AreBooks D.Disk f recorded (book_of S.Shared self.new) journal.new) }
         ensures shown { (f : Fixed D) (recorded : Built) (base : State Text Own) (others : List Text) → AreBooksAt D.Disk f recorded base others (book_of S.Shared self.old) journal.old
             → ShowsTold D.Disk f (book_of S.Shared self.old) (told f (book_of S.Shared self.old) ++ evict unit.now ∷ []) journal.old journal.new }
-        ensures cause { OnErr result (Rose (D.faults journal.old.disk) (D.faults journal.new.disk)) }
+        ensures leaves { LeavesPages D.Disk journal.old journal.new }
+        ensures capacity { vec_capacity freed.old ≤ vec_capacity freed.new }
     {
         commits_keep_the_books::<D>();
         calls_are_spelled();

@@ -1,6 +1,6 @@
 //! The end of a doubt, and commits of what is kept back alone.
 
-ghost use Rattle.std.specs.Prelude.{◌≡◌, ◌++◌, ◌==◌, ◌≤◌, ℕ, true, false, not, is_ok, IsTrue, List, None, OnOk, OnErr, IfOk};
+ghost use Rattle.std.specs.Prelude.{◌≡◌, ◌++◌, ◌==◌, true, false, not, is_ok, IsTrue, List, None, OnOk, OnErr, IfOk};
 ghost use Rattle.opfs_base.specs.Texts.{Text};
 ghost use Rattle.opfs_books.specs.Laws.Books.{Fixed, AreBooksAt};
 ghost use Rattle.opfs_books.specs.Laws.Laws.{LeavesPages, ShowsTold, StandsWhole, told, doubt};

@@ -1,22 +1,16 @@
 //! Calls that store something.
 
-ghost use Rattle.std.specs.Prelude.{◌≡◌, ◌++◌, ◌∷◌, ◌≤◌, ◌<◌, ℕ, true, false, List, [], None, Some, fold, length, vec_capacity, OnOk, OnErr, IfOk};
+ghost use Rattle.std.specs.Prelude.{◌≡◌, ◌++◌, ◌∷◌, ◌≤◌, ◌<◌, List, [], None, Some, fold, vec_capacity, OnOk, OnErr};
 ghost use Rattle.opfs_base.specs.Texts.{Text};
-ghost use Rattle.opfs_books.specs.Stored.Spelled.{spelled_by, bytes_stored};
+ghost use Rattle.opfs_books.specs.Calls.{MayStoreIn, HasStored, HasFailedIn};
 ghost use Rattle.opfs_books.specs.Laws.Books.{Fixed, IsNext, AreBooks, AreBooksAt};
 ghost use Rattle.opfs_books.specs.Laws.Laws.{LeavesPages, ShowsTold, told, failed};
-ghost use Rattle.opfs_books.specs.Seen.{book_of, MayAnswer, MayCommitCall, MayStore, BytesStand, stored_change};
-ghost use Rattle.opfs_state_rows.specs.Changes.Changed.{tree_by, freed_in};
-ghost use Rattle.opfs_codec.specs.Fields.{plain, Fits};
-ghost use Rattle.opfs_commit.specs.Seen.{emptied, with_kept, IsQuiet};
+ghost use Rattle.opfs_books.specs.Seen.{book_of, MayStore, BytesStand, stored_change};
+ghost use Rattle.opfs_codec.specs.Fields.{plain};
 ghost use Rattle.opfs_machine.specs.declared.own.Own.{Own};
 ghost use Rattle.opfs_machine.specs.declared.state.State.{State};
-ghost use Rattle.opfs_machine.specs.Agents.{counted};
-ghost use Rattle.opfs_machine.specs.Contents.{in_lengths};
-ghost use Rattle.opfs_machine.specs.Effects.{effect, refused};
 ghost use Rattle.opfs_machine.specs.Replies.{sizes_of};
-ghost use Rattle.opfs_machine.specs.Steps.{evicted, is_refusal};
-ghost use Rattle.opfs_outside.specs.Faults.{Rose};
+ghost use Rattle.opfs_machine.specs.Steps.{evicted};
 ghost use Rattle.opfs_records.specs.Replay.Built.{Built};
 
 use crate::books::Books;
@@ -43,33 +37,9 @@ impl<S: Shared> Books<S> {
         entering: Entering,
         freed: &mut Vec<Extent>,
     ) -> Result<(), DiskFault>
-        requires come { MayCommitCall D.Disk (book_of S.Shared self.old) journal.old entering.last.entry entering.sizes (plain own.now) }
-        requires answers { MayAnswer (book_of S.Shared self.old) entering.last.entry entering.sizes }
-        requires answered { is_refusal entering.last.entry.reply ≡ false }
-        requires settled { journal.old.in_doubt ≡ false }
-        requires spelled { spelled_by (S.machine self.old.state) (S.tree self.old.state) entering.last.entry.agent entering.last.entry.op entering.sizes entering.extents ≡ Some (plain own.now) }
-        requires fits { Fits (plain own.now) }
-        requires may { S.may_apply self.old.state entering.last.entry.agent entering.last.entry.op entering.sizes entering.extents }
-        requires may_refuse { S.may_refuse self.old.state entering.last.entry.agent entering.last.entry.op }
-        requires room { length (freed.old.items ++ freed_in (S.machine self.old.state) (S.tree self.old.state) entering.last.entry.agent entering.last.entry.op entering.extents) ≤ vec_capacity freed.old }
-        ensures entries { OnOk result (self.new.history ≡ self.old.history ++ entering.last.entry ∷ []) }
-        ensures machine { OnOk result (S.machine self.new.state ≡ counted (effect in_lengths (S.machine self.old.state) entering.sizes entering.last.entry.agent entering.last.entry.op) entering.last.entry.agent) }
-        ensures tree { OnOk result (S.tree self.new.state ≡ tree_by (S.machine self.old.state) (S.tree self.old.state) entering.last.entry.agent entering.last.entry.op entering.sizes entering.extents) }
-        ensures idle { (S.standby self.new.state).prepared.place ≡ None }
-        ensures none { OnOk result (self.new.commits.count ≡ 0) }
-        ensures sure { OnOk result (journal.new.in_doubt ≡ false) }
-        ensures freed { OnOk result (freed.new.items ≡ freed.old.items ++ freed_in (S.machine self.old.state) (S.tree self.old.state) entering.last.entry.agent entering.last.entry.op entering.extents) }
-        ensures failed { OnErr result (self.new.history ≡ self.old.history ++ failed entering.last.entry ∷ []) }
-        ensures failed_machine { OnErr result (S.machine self.new.state ≡ counted (refused (S.machine self.old.state) entering.last.entry.agent entering.last.entry.op) entering.last.entry.agent) }
-        ensures failed_tree { OnErr result (S.tree self.new.state ≡ S.tree self.old.state) }
-        ensures failed_freed { OnErr result (freed.new ≡ freed.old) }
-        ensures failed_commits { OnErr result (self.new.commits ≡ self.old.commits) }
-        ensures capacity { vec_capacity freed.old ≤ vec_capacity freed.new }
-        ensures leaves { LeavesPages D.Disk journal.old journal.new }
-        ensures books { OnOk result ((f : Fixed D) (recorded : Built) (base : State Text Own) (gone : List Text) → AreBooksAt D.Disk f recorded base gone (book_of S.Shared self.old) journal.old
-            → IsNext D.tells base gone entering.last.entry → entering.sizes ≡ sizes_of (fold evicted base gone) entering.last.entry.agent entering.last.entry.op
-            → MayStore f (book_of S.Shared self.old) (plain own.now) → BytesStand D.Disk f base gone journal.old entering.last.entry (plain own.now)
-            → AreBooks D.Disk f (book_of S.Shared self.new).rows (book_of S.Shared self.new) journal.new) }
+        requires { MayStoreIn S.Shared D.Disk self.old journal.old entering.last.entry entering.sizes entering.extents (plain own.now) freed.old }
+        ensures stored { OnOk result (HasStored S.Shared D.Disk entering.last.entry entering.sizes entering.extents (plain own.now) self.old self.new journal.old journal.new freed.old.items freed.new.items) }
+        ensures failed { OnErr result (HasFailedIn S.Shared D.Disk entering.last.entry self.old self.new journal.old journal.new freed.old freed.new) }
         ensures failed_books { OnErr result ((f : Fixed D) (recorded : Built) (base : State Text Own) (gone : List Text) → AreBooksAt D.Disk f recorded base gone (book_of S.Shared self.old) journal.old
             → IsNext D.tells base gone entering.last.entry → entering.sizes ≡ sizes_of (fold evicted base gone) entering.last.entry.agent entering.last.entry.op
             → MayStore f (book_of S.Shared self.old) (plain own.now) → BytesStand D.Disk f base gone journal.old entering.last.entry (plain own.now)
@@ -78,7 +48,8 @@ impl<S: Shared> Books<S> {
             → IsNext D.tells base gone entering.last.entry → entering.sizes ≡ sizes_of (fold evicted base gone) entering.last.entry.agent entering.last.entry.op
             → MayStore f (book_of S.Shared self.old) (plain own.now) → BytesStand D.Disk f base gone journal.old entering.last.entry (plain own.now)
             → ShowsTold D.Disk f (book_of S.Shared self.old) (told f (book_of S.Shared self.old) ++ stored_change base gone entering.last.entry (plain own.now) ∷ []) journal.old journal.new }
-        ensures cause { OnErr result (Rose (D.faults journal.old.disk) (D.faults journal.new.disk)) }
+        ensures leaves { LeavesPages D.Disk journal.old journal.new }
+        ensures capacity { vec_capacity freed.old ≤ vec_capacity freed.new }
     {
         commits_keep_the_books::<D>();
         calls_are_spelled();

@@ -1,8 +1,8 @@
-use Rattle.std.proofs.Common.{[], ◌∷◌, ◌++◌, inl, inr, sym, ap, subst, ◌∙◌}
+use Rattle.std.proofs.Common.{[], ◌∷◌, ◌++◌, inl, inr, refl, sym, ap, subst, ◌∙◌}
 use Rattle.opfs_codec.specs.declared.change.Change.{Change as Spelled}
 use Rattle.opfs_codec.specs.declared.change.Change.TheVariants.{Evict}
 use Rattle.opfs_commit.specs.Calls.{IsAnyOf, IsNoneOf, IsNext, stored_in}
-use Rattle.opfs_commit.specs.Seen.{committing}
+use Rattle.opfs_commit.specs.Seen.{KeptBack, committing}
 use Rattle.opfs_hist.specs.declared.entry.Entry.{Entry}
 use Rattle.opfs_tree.specs.Rows.{Rows, IsInOrder}
 use Rattle.opfs_books.specs.Committing.{MayCommit}
@@ -35,17 +35,28 @@ enter-requires-in-Err g c =
 pub returns-in-Ok-clause-leaves : goal.returns-in-Ok-clause-leaves
 returns-in-Ok-clause-leaves g c = any-leaves g.D.Disk _ _ _ c.in-Ok.ensures.committed
 
-pub returns-in-Ok-clause-books : goal.returns-in-Ok-clause-books
-returns-in-Ok-clause-books g c f recorded base others are =
-    let b = c.args.self.now in
-    let m = g.S.Shared.machine b.state in
-    let t = g.S.Shared.tree b.state in
-    let order = subst (λ (xs : Rows). IsInOrder xs) c.rows-tree.ensures.rows c.know_order.ensures.order in
-    evict-done c.lengths_follow_each_call.ensures c.calls_are_spelled.ensures g.D.Disk f recorded base others b.history m t b.commits b.place c.args.journal.now are
-    c.args.unit.now c.rows-tree.ensures.lines c.requires.root c.requires.mode c.requires.again order
-    c.commits_keep_the_books.ensures.eviction c.requires.settled c.enter.new.history (g.S.Shared.machine c.clear.new.self) (g.S.Shared.tree c.clear.new.self)
-    (c.enter.ensures ∙ ap (λ (x : Entry). b.history ++ x ∷ []) c.requires.told) c.clear.ensures.machine c.clear.ensures.tree
-    c.commit_own.new.journal c.commit_own.new.commits (any-own-lent g.D.Disk m t c.rows-tree.result.now.rows c.shed.result.now c.rows-tree.ensures.rows c.shed.ensures c.args.journal.now c.commit_own.new.journal b.commits c.commit_own.new.commits (Evict c.args.unit.now) (subst (λ (x : Spelled). IsAnyOf g.D.Disk (IsNext (stored_in c.rows-tree.result.now.rows c.shed.result.now) x (committing c.args.journal.now b.commits)) (committing c.args.journal.now b.commits) (committing c.commit_own.new.journal c.commit_own.new.commits)) c.clearing_of-own.ensures.plain c.in-Ok.ensures.committed))
+pub returns-in-Ok-clause-evicted : goal.returns-in-Ok-clause-evicted
+returns-in-Ok-clause-evicted g c =
+    let committed = c.in-Ok.ensures.committed.committed in
+    record {
+      entries = c.enter.ensures ∙ ap (λ (x : Entry). c.args.self.now.history ++ x ∷ []) c.requires.told;
+      machine = c.clear.ensures.machine;
+      tree = c.clear.ensures.tree;
+      standby = c.clear.ensures.standby;
+      none = ap (λ (k : KeptBack). k.count) committed.none;
+      sure = committed.journal.sure;
+      freed = c.clear.ensures.freed;
+      books = λ f recorded base others are.
+          let b = c.args.self.now in
+          let m = g.S.Shared.machine b.state in
+          let t = g.S.Shared.tree b.state in
+          let order = subst (λ (xs : Rows). IsInOrder xs) c.rows-tree.ensures.rows c.know_order.ensures.order in
+          evict-done c.lengths_follow_each_call.ensures c.calls_are_spelled.ensures g.D.Disk f recorded base others b.history m t b.commits b.place c.args.journal.now are
+          c.args.unit.now c.rows-tree.ensures.lines c.requires.root c.requires.mode c.requires.again order
+          c.commits_keep_the_books.ensures.eviction c.requires.settled c.enter.new.history (g.S.Shared.machine c.clear.new.self) (g.S.Shared.tree c.clear.new.self)
+          (c.enter.ensures ∙ ap (λ (x : Entry). b.history ++ x ∷ []) c.requires.told) c.clear.ensures.machine c.clear.ensures.tree
+          c.commit_own.new.journal c.commit_own.new.commits (any-own-lent g.D.Disk m t c.rows-tree.result.now.rows c.shed.result.now c.rows-tree.ensures.rows c.shed.ensures c.args.journal.now c.commit_own.new.journal b.commits c.commit_own.new.commits (Evict c.args.unit.now) (subst (λ (x : Spelled). IsAnyOf g.D.Disk (IsNext (stored_in c.rows-tree.result.now.rows c.shed.result.now) x (committing c.args.journal.now b.commits)) (committing c.args.journal.now b.commits) (committing c.commit_own.new.journal c.commit_own.new.commits)) c.clearing_of-own.ensures.plain c.in-Ok.ensures.committed));
+    }
 
 pub returns-in-Ok-clause-shown : goal.returns-in-Ok-clause-shown
 returns-in-Ok-clause-shown g c f recorded base others are =
@@ -82,5 +93,14 @@ returns-in-Err-clause-shown g c f recorded base others are =
     c.args.unit.now c.rows-tree.ensures.lines c.requires.root c.requires.mode c.requires.again order
     c.commits_keep_the_books.ensures.shown c.requires.settled c.commit_own.new.journal c.commit_own.new.commits (inr (none-own-lent g.D.Disk m t c.rows-tree.result.now.rows c.shed.result.now c.rows-tree.ensures.rows c.shed.ensures c.args.journal.now c.commit_own.new.journal b.commits c.commit_own.new.commits (Evict c.args.unit.now) (subst (λ (x : Spelled). IsNoneOf g.D.Disk (IsNext (stored_in c.rows-tree.result.now.rows c.shed.result.now) x (committing c.args.journal.now b.commits)) (committing c.args.journal.now b.commits) (committing c.commit_own.new.journal c.commit_own.new.commits)) c.clearing_of-own.ensures.plain c.in-Err.ensures.halted)))
 
-pub returns-in-Err-clause-failed_commits : goal.returns-in-Err-clause-failed_commits
-returns-in-Err-clause-failed_commits g c = c.in-Err.ensures.halted.halted.same
+pub returns-in-Err-clause-failed : goal.returns-in-Err-clause-failed
+returns-in-Err-clause-failed g c =
+    record {
+      entries = c.enter-in-Err.ensures ∙ ap (λ (x : Entry). c.args.self.now.history ++ x ∷ []) c.with_fault.ensures;
+      machine = c.refuse.ensures.machine;
+      tree = c.refuse.ensures.tree;
+      idle = c.refuse.ensures.idle;
+      commits = c.in-Err.ensures.halted.halted.same;
+      freed = refl;
+      cause = c.in-Err.ensures.cause;
+    }

@@ -1,4 +1,5 @@
-use Rattle.std.proofs.Common.{[], ◌∷◌, ◌++◌, inl, inr, ap, subst, ◌∙◌}
+use Rattle.std.proofs.Common.{[], ◌∷◌, ◌++◌, inl, inr, refl, ap, subst, ◌∙◌}
+use Rattle.opfs_commit.specs.Seen.{KeptBack}
 use Rattle.opfs_hist.specs.declared.entry.Entry.{Entry}
 use Rattle.opfs_codec.specs.Fields.{plain}
 use Rattle.opfs_tree.specs.Rows.{Rows, IsInOrder}
@@ -33,19 +34,30 @@ enter-requires-in-Err g c =
     let known = c.requires.come.come.known in
     c.the_state_is_kept.ensures.short known.fixed known.recorded known.base known.gone (book_of g.S.Shared c.args.self.now) c.args.journal.now known.are
 
-pub returns-in-Ok-clause-books : goal.returns-in-Ok-clause-books
-returns-in-Ok-clause-books g c f recorded base gone are next sizes stores bytes =
-    let b = c.args.self.now in
-    let e = c.args.entering in
-    let m = g.S.Shared.machine b.state in
-    let t = g.S.Shared.tree b.state in
-    let own = plain c.args.own.now in
-    let order = subst (λ (xs : Rows). IsInOrder xs) c.rows-tree.ensures.rows c.know_order.ensures.order in
-    store-done c.lengths_follow_each_call.ensures c.calls_are_spelled.ensures g.D.Disk f recorded base gone b.history m t b.commits b.place c.args.journal.now are
-    e.last.entry e.sizes e.extents next sizes c.requires.answers c.requires.answered c.rows-tree.ensures.lines
-    c.enter.new.history (g.S.Shared.machine c.apply.new.self) (g.S.Shared.tree c.apply.new.self) c.enter.ensures c.apply.ensures.machine c.apply.ensures.tree
-    own c.requires.spelled stores.holds stores.again order
-    c.commits_keep_the_books.ensures.call c.requires.settled bytes c.commit_own.new.journal c.commit_own.new.commits (any-own-lent g.D.Disk m t c.rows-tree.result.now.rows c.shed.result.now c.rows-tree.ensures.rows c.shed.ensures c.args.journal.now c.commit_own.new.journal b.commits c.commit_own.new.commits own c.in-Ok.ensures.committed)
+pub returns-in-Ok-clause-stored : goal.returns-in-Ok-clause-stored
+returns-in-Ok-clause-stored g c =
+    let committed = c.in-Ok.ensures.committed.committed in
+    record {
+      entries = c.enter.ensures;
+      machine = c.apply.ensures.machine;
+      tree = c.apply.ensures.tree;
+      idle = c.apply.ensures.idle;
+      none = ap (λ (k : KeptBack). k.count) committed.none;
+      sure = committed.journal.sure;
+      freed = c.apply.ensures.freed;
+      books = λ f recorded base gone are next sizes stores bytes.
+          let b = c.args.self.now in
+          let e = c.args.entering in
+          let m = g.S.Shared.machine b.state in
+          let t = g.S.Shared.tree b.state in
+          let own = plain c.args.own.now in
+          let order = subst (λ (xs : Rows). IsInOrder xs) c.rows-tree.ensures.rows c.know_order.ensures.order in
+          store-done c.lengths_follow_each_call.ensures c.calls_are_spelled.ensures g.D.Disk f recorded base gone b.history m t b.commits b.place c.args.journal.now are
+          e.last.entry e.sizes e.extents next sizes c.requires.answers c.requires.answered c.rows-tree.ensures.lines
+          c.enter.new.history (g.S.Shared.machine c.apply.new.self) (g.S.Shared.tree c.apply.new.self) c.enter.ensures c.apply.ensures.machine c.apply.ensures.tree
+          own c.requires.spelled stores.holds stores.again order
+          c.commits_keep_the_books.ensures.call c.requires.settled bytes c.commit_own.new.journal c.commit_own.new.commits (any-own-lent g.D.Disk m t c.rows-tree.result.now.rows c.shed.result.now c.rows-tree.ensures.rows c.shed.ensures c.args.journal.now c.commit_own.new.journal b.commits c.commit_own.new.commits own c.in-Ok.ensures.committed);
+    }
 
 pub returns-in-Ok-clause-shown : goal.returns-in-Ok-clause-shown
 returns-in-Ok-clause-shown g c f recorded base gone are next sizes stores bytes =
@@ -91,5 +103,14 @@ returns-in-Err-clause-shown g c f recorded base gone are next sizes stores bytes
     own c.requires.spelled stores.holds stores.again order c.state_laws.ensures
     c.commits_keep_the_books.ensures.shown c.requires.settled bytes c.commit_own.new.journal c.commit_own.new.commits (inr (none-own-lent g.D.Disk m t c.rows-tree.result.now.rows c.shed.result.now c.rows-tree.ensures.rows c.shed.ensures c.args.journal.now c.commit_own.new.journal b.commits c.commit_own.new.commits own c.in-Err.ensures.halted))
 
-pub returns-in-Err-clause-failed_commits : goal.returns-in-Err-clause-failed_commits
-returns-in-Err-clause-failed_commits g c = c.in-Err.ensures.halted.halted.same
+pub returns-in-Err-clause-failed : goal.returns-in-Err-clause-failed
+returns-in-Err-clause-failed g c =
+    record {
+      entries = c.enter-in-Err.ensures ∙ ap (λ (x : Entry). c.args.self.now.history ++ x ∷ []) c.with_fault.ensures;
+      machine = c.refuse.ensures.machine;
+      tree = c.refuse.ensures.tree;
+      idle = c.refuse.ensures.idle;
+      commits = c.in-Err.ensures.halted.halted.same;
+      freed = refl;
+      cause = c.in-Err.ensures.cause;
+    }
