@@ -1,6 +1,7 @@
 pub mod Adding
+pub mod InTurn
 pub mod ListsRead
 pub mod Lying
+pub mod Modes
 pub mod Orders
-pub mod Persistent
 pub mod StandsFor

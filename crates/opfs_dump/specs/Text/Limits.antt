@@ -1,5 +1,5 @@
 -- What a text must keep to be the dump of an image: units, orders, rows that can be made, and room. This project's own.
-use Rattle.std.specs.Prelude.{ℕ, ◌-◌, slice_get, Bool, true, false, not, ◌&&◌, List, [], ◌∷◌, length, map, sum_by, is_some, if◌then◌else◌, Option, Some, None}
+use Rattle.std.specs.Prelude.{ℕ, ◌-◌, slice_get, Bool, true, false, not, ◌&&◌, List, [], ◌∷◌, ◌++◌, length, map, sum_by, is_some, if◌then◌else◌, Option, Some, None}
 use Rattle.std.specs.List.{list_all}
 use Rattle.std.specs.Ordering.{is_lt, nat_cmp}
 use Rattle.std.specs.Cmp.Lexicographic.{slice_cmp}
@@ -69,6 +69,11 @@ is_behind (Some last) place = is_lt (place_cmp last place)
 -- Whether a row may follow others: it comes behind them, its unit is one, and it can be made.
 unfoldable pub may_follow : List (Place × Stored) → Place × Stored → Bool
 may_follow done e = is_behind (last_of (places_of done)) e.0 && is_unit e.0.0 && can_stand (bare_rows done) e.0 e.1
+
+-- Whether each of these rows may follow those that are done and those before it.
+abbrev pub may_all_follow : List (Place × Stored) → List (Place × Stored) → Bool
+may_all_follow done [] = true
+may_all_follow done (e ∷ more) = may_follow done e && may_all_follow (done ++ e ∷ []) more
 
 -- The blocks that files take.
 abbrev pub stored_blocks : Stored → ℕ

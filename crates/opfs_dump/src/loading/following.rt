@@ -21,11 +21,11 @@ use opfs_locks::FileLock;
 use opfs_machine::Place;
 use opfs_tree::{FileRow, Row, Tree};
 use serde_json::Value;
-use std::alloc::{AllocError, Global};
+use std::alloc::Global;
 use std::cmp::Ordering;
 
-/// Whether a place comes behind that of the last row.
-pub(crate) fn is_behind(rows: &[DumpedRow], place: &Place) -> bool
+// Whether a place comes behind that of the last row.
+fn is_behind(rows: &[DumpedRow], place: &Place) -> bool
     ensures { result ≡ is_behind (last_of (places_of (map row_of rows.now))) place.now }
 {
     match rows.last() {
@@ -202,20 +202,4 @@ pub(crate) fn add_row(
     insert(alloc, tree, &row)?;
     rows.push(row)?;
     Ok(())
-}
-
-/// Whether a row can be made, for a row that is borrowed.
-pub(crate) fn stands(alloc: Global, tree: &Tree, row: &DumpedRow) -> Result<bool, AllocError>
-    ensures stands { IfOk result (λ is. IsTrue is → can_stand tree.now row.now.place (stored_of row.now.file) ≡ true) }
-    ensures order { IsInOrder tree.now }
-{
-    let _none = tree.kind(&row.place.0, &row.place.1);
-    if row.place.1.names().is_empty() {
-        return Ok(is_new_root(tree, row));
-    }
-    let path = row.place.1.copy(alloc)?;
-    match free_path(tree, &row.place.0, path) {
-        Ok(_) => Ok(true),
-        Err(_) => Ok(false),
-    }
 }

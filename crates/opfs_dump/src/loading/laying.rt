@@ -101,6 +101,7 @@ fn store_rows<D: Disk>(
 // Puts one record in the place of all.
 fn put_record<D: Disk>(journal: &mut Journal<D>, body: &[u8]) -> Result<(), LayStop>
     requires settled { journal.old.in_doubt ≡ false }
+    requires fits { length body.now + 7 ≤ journal.old.areas.bytes }
     ensures areas { journal.new.areas ≡ journal.old.areas }
     ensures length { D.size journal.new.disk ≡ D.size journal.old.disk }
     ensures kept { OnOk result (D.tells → kept journal.new ≡ one_record journal.old.format body.now) }
@@ -114,7 +115,7 @@ fn put_record<D: Disk>(journal: &mut Journal<D>, body: &[u8]) -> Result<(), LayS
     }
     match journal.checkpoint(body) {
         Ok(()) => Ok(()),
-        Err(JournalRefusal::NoRoom) => Err(LayStop::NoMemory),
+        Err(JournalRefusal::NoRoom) => unreachable!(),
         Err(JournalRefusal::DiskFault) => Err(LayStop::DiskFault),
     }
 }
@@ -131,6 +132,7 @@ fn write_all<D: Disk>(
     requires lies { base + 4096 * blocks_needed (map row_of rows.now) ≤ D.size journal.old.disk }
     requires behind { journal.old.areas.first + 2 * journal.old.areas.bytes ≤ base }
     requires base { base < 2 ^ 63 }
+    requires fits { length body.now + 7 ≤ journal.old.areas.bytes }
     ensures areas { journal.new.areas ≡ journal.old.areas }
     ensures length { D.size journal.new.disk ≡ D.size journal.old.disk }
     ensures written { OnOk result (D.tells → IsWritten base (D.content journal.old.disk) (D.content journal.new.disk) journal.old.areas (map row_of rows.now)) }
@@ -152,6 +154,7 @@ fn lay_over<D: Disk>(journal: Journal<D>, dumped: &Dumped, body: &[u8]) -> (D, R
     requires few { blocks_needed (dump_of dumped.now).map.rows ≤ dumped.now.geometry.blocks }
     requires range { is_in_range dumped.now.geometry ≡ true }
     requires fits { charge_of_map (dump_of dumped.now).map + 7 ≤ area_bytes dumped.now.geometry }
+    requires short { length body.now ≤ charge_of_map (dump_of dumped.now).map }
     ensures stands { OnOk result.1 (D.tells → StandsAs dumped.now.geometry (dump_of dumped.now).map (D.content result.0)) }
     ensures size { D.size result.0 ≡ D.size journal.disk }
     ensures later { D.faults journal.disk ≤ D.faults result.0 }
@@ -171,6 +174,7 @@ fn lay_on<D: Disk>(alloc: Global, dumped: &Dumped, body: &[u8], disk: D) -> (D, 
     requires few { blocks_needed (dump_of dumped.now).map.rows ≤ dumped.now.geometry.blocks }
     requires range { is_in_range dumped.now.geometry ≡ true }
     requires fits { charge_of_map (dump_of dumped.now).map + 7 ≤ area_bytes dumped.now.geometry }
+    requires short { length body.now ≤ charge_of_map (dump_of dumped.now).map }
     ensures stands { OnOk result.1 (D.tells → StandsAs dumped.now.geometry (dump_of dumped.now).map (D.content result.0)) }
     ensures size { D.size result.0 ≡ D.size disk }
     ensures later { D.faults disk ≤ D.faults result.0 }

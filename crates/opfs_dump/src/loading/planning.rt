@@ -1,17 +1,19 @@
 //! The one record of an image's journal that builds what was read.
 
-ghost use Rattle.std.specs.Prelude.{ℕ, ◌≡◌, ◌+◌, ◌≤◌, [], ◌++◌, ◌∷◌, map, Some, IfOk, OnOk, IsTrue};
+ghost use Rattle.std.specs.Prelude.{ℕ, ◌≡◌, ◌+◌, ◌^◌, ◌<◌, ◌≤◌, [], ◌∷◌, true, length, map, Some, IfOk, OnOk};
+ghost use Rattle.std.specs.FinMap.Entries.{put};
+ghost use Rattle.opfs_base.specs.Places.{place_cmp};
 ghost use Rattle.opfs_codec.specs.declared.change.Format.TheVariants.{New};
-ghost use Rattle.opfs_dump.specs.Text.Limits.{blocks_needed, stored_blocks};
+ghost use Rattle.opfs_dump.specs.Text.Limits.{blocks_needed, can_stand, charge_of_map, is_rising, may_all_follow, stored_blocks};
 ghost use Rattle.opfs_dump.specs.Text.Seen.{row_of, stored_of};
 ghost use Rattle.opfs_dump.specs.Text.Whole.{dump_of};
 ghost use Rattle.opfs_records.specs.Replay.Applying.{rows_of};
 ghost use Rattle.opfs_records.specs.Replay.Built.{IsSound};
-ghost use Rattle.opfs_records.specs.Replay.Sums.{persistent_in};
+ghost use Rattle.opfs_records.specs.Replay.Sums.{charge_of, persistent_in};
 ghost use Rattle.opfs_records.specs.Checkpoint.Written.{stored_rows};
+ghost use Rattle.opfs_tree.specs.Rows.{IsInOrder};
 ghost use Rattle.opfs_dump.specs.Loading.Laid.{laid, laid_map, laid_row, laid_run};
 
-use crate::loading::following::{is_behind, stands};
 use crate::text::{Dumped, DumpedFile, DumpedRow};
 use opfs_base::{Extent, Extents, Key, blocks};
 use opfs_locks::FileLock;
@@ -58,84 +60,48 @@ fn laid_row(
 }
 
 // The blocks that a file takes.
-fn count_of(file: &Option<DumpedFile>) -> Result<u32, AllocError>
-    ensures { IfOk result (λ count. count ≡ stored_blocks (stored_of file.now)) }
+fn count_of(file: &Option<DumpedFile>) -> u32
+    requires { stored_blocks (stored_of file.now) < 2 ^ 32 }
+    ensures { result ≡ stored_blocks (stored_of file.now) }
 {
     match file {
-        None => Ok(0),
-        Some(file) => u32::try_from(blocks(file.bytes.len() as u64)).map_err(|_| AllocError),
+        None => 0,
+        Some(file) => blocks(file.bytes.len() as u64) as u32,
     }
 }
 
-// The number behind those of so many blocks from one on, at most the size.
-fn behind(at: u32, count: u32, size: u32) -> Result<u32, AllocError>
-    ensures sum { IfOk result (λ next. next ≡ at + count) }
-    ensures below { IfOk result (λ next. next ≤ size) }
+// Adds a row whose file has the blocks from one on, and gives the number behind them.
+fn add_laid(alloc: Global, tree: &mut Tree, row: &DumpedRow, at: u32) -> Result<u32, AllocError>
+    requires stands { can_stand tree.old row.now.place (stored_of row.now.file) ≡ true }
+    requires small { at + stored_blocks (stored_of row.now.file) < 2 ^ 32 }
+    ensures tree { OnOk result (tree.new ≡ put place_cmp row.now.place (laid_row at (stored_of row.now.file)) tree.old) }
+    ensures order { IsInOrder tree.old }
+    ensures next { IfOk result (λ next. next ≡ at + stored_blocks (stored_of row.now.file)) }
 {
-    match at.checked_add(count) {
-        Some(next) if next <= size => Ok(next),
-        _ => Err(AllocError),
-    }
-}
-
-// Adds a row behind others, and gives the number behind its blocks.
-fn add_laid(
-    alloc: Global,
-    tree: &mut Tree,
-    done: &[DumpedRow],
-    row: &DumpedRow,
-    at: u32,
-    size: u32,
-) -> Result<u32, AllocError>
-    requires tree { tree.old ≡ laid 0 (map row_of done.now) }
-    requires at { at ≡ blocks_needed (map row_of done.now) }
-    ensures tree { OnOk result (tree.new ≡ laid 0 (map row_of done.now ++ row_of row.now ∷ [])) }
-    ensures next { IfOk result (λ next. next ≡ blocks_needed (map row_of done.now ++ row_of row.now ∷ [])) }
-    ensures below { IfOk result (λ next. next ≤ size) }
-{
-    let count = count_of(&row.file)?;
-    let next = behind(at, count, size)?;
+    tree.know_order();
+    let count = count_of(&row.file);
     let made = laid_row(alloc, &row.file, at, count)?;
-    if !is_behind(done, &row.place) {
-        return Err(AllocError);
-    }
-    let free = stands(alloc, tree, row)?;
-    if !free {
-        return Err(AllocError);
-    }
     tree.add(alloc, &row.place.0, &row.place.1, made)?;
-    Ok(next)
+    Ok(at + count)
 }
 
 // The rows with their blocks.
-fn laid_tree(alloc: Global, rows: &[DumpedRow], size: u32) -> Result<Tree, AllocError>
-    ensures tree { IfOk result (λ tree. tree ≡ laid 0 (map row_of rows.now)) }
-    ensures fits { OnOk result (blocks_needed (map row_of rows.now) ≤ size) }
+fn laid_tree(alloc: Global, rows: &[DumpedRow]) -> Result<Tree, AllocError>
+    requires order { may_all_follow [] (map row_of rows.now) ≡ true }
+    requires few { blocks_needed (map row_of rows.now) < 2 ^ 32 }
+    ensures { IfOk result (λ tree. tree ≡ laid 0 (map row_of rows.now)) }
 {
     let mut tree = Tree::make(alloc);
     let mut at = 0;
-    for (number, row) in rows.iter().enumerate() {
-        at = add_laid(alloc, &mut tree, &rows[..number], row, at, size)?;
+    for row in rows {
+        at = add_laid(alloc, &mut tree, row, at)?;
     }
     Ok(tree)
 }
 
-// Whether these are the persistent units of a shed.
-fn are_persistent(shed: &Shed, units: &[Key]) -> bool
-    ensures { IsTrue result → persistent_in shed.now.buckets ≡ units.now }
-{
-    let mut last: Option<&Key> = None;
-    for unit in units {
-        match shed.persistent_after(last) {
-            Some(next) if *next == *unit => last = Some(next),
-            _ => return false,
-        }
-    }
-    shed.persistent_after(last).is_none()
-}
-
 // The modes of the persistent units.
 fn shed_of(alloc: Global, units: &[Key]) -> Result<Shed, AllocError>
+    requires { is_rising units.now ≡ true }
     ensures { IfOk result (λ shed. persistent_in shed.buckets ≡ units.now) }
 {
     let mut shed = Shed::make(alloc, 0);
@@ -143,16 +109,13 @@ fn shed_of(alloc: Global, units: &[Key]) -> Result<Shed, AllocError>
         shed.touch(unit)?;
         shed.set_persistent(unit);
     }
-    if are_persistent(&shed, units) {
-        Ok(shed)
-    } else {
-        Err(AllocError)
-    }
+    Ok(shed)
 }
 
 // One record that builds a tree with the modes of a shed.
 fn spell(alloc: Global, tree: Tree, shed: &Shed) -> Result<Vec<u8>, AllocError>
     ensures builds { IfOk result (λ body. (size : ℕ) → IsSound size (stored_rows tree) → rows_of New size (body.items ∷ []) ≡ Some (record { rows = stored_rows tree; persistent = persistent_in shed.now.buckets })) }
+    ensures fits { IfOk result (λ body. (size : ℕ) → IsSound size (stored_rows tree) → length body.items ≤ charge_of New (record { rows = stored_rows tree; persistent = persistent_in shed.now.buckets })) }
 {
     let tree = ReadyTree::make(alloc, tree);
     if !are_writable(&tree, shed) {
@@ -166,9 +129,9 @@ fn spell(alloc: Global, tree: Tree, shed: &Shed) -> Result<Vec<u8>, AllocError>
 /// The body of the record.
 pub(crate) fn body_of(alloc: Global, dumped: &Dumped) -> Result<Vec<u8>, AllocError>
     ensures builds { IfOk result (λ body. rows_of New dumped.now.geometry.blocks (body.items ∷ []) ≡ Some (laid_map (dump_of dumped.now).map)) }
-    ensures fits { OnOk result (blocks_needed (dump_of dumped.now).map.rows ≤ dumped.now.geometry.blocks) }
+    ensures short { IfOk result (λ body. length body.items ≤ charge_of_map (dump_of dumped.now).map) }
 {
-    let tree = laid_tree(alloc, &dumped.rows, dumped.geometry.blocks)?;
+    let tree = laid_tree(alloc, &dumped.rows)?;
     let shed = shed_of(alloc, &dumped.persistent)?;
     let body = spell(alloc, tree, &shed)?;
     Ok(body)

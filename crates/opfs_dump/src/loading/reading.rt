@@ -1,10 +1,11 @@
 //! What bytes read as.
 
-ghost use Rattle.std.specs.Prelude.{◌≡◌, ◌⊎◌, map, true, None, Some, Ok, Err, IfOk, IfErr};
+ghost use Rattle.std.specs.Prelude.{◌≡◌, ◌⊎◌, [], map, true, None, Some, Ok, Err, IfOk, IfErr};
 ghost use Rattle.serde_json.specs.View.{view};
 ghost use Rattle.opfs_script.specs.Reading.{json_of};
+ghost use Rattle.opfs_dump.specs.Text.Limits.{are_units, may_all_follow};
 ghost use Rattle.opfs_dump.specs.Text.Reading.{if_fits, if_json, if_topped, reads_dump};
-ghost use Rattle.opfs_dump.specs.Text.Seen.{map_of};
+ghost use Rattle.opfs_dump.specs.Text.Seen.{map_of, row_of};
 ghost use Rattle.opfs_dump.specs.Text.Whole.{dump_of};
 ghost use Rattle.opfs_image.specs.Superblock.{is_in_range};
 ghost use Rattle.opfs_dump.specs.Loading.Answers.{Answers};
@@ -44,7 +45,9 @@ fn fitting(
     rows: Vec<DumpedRow>,
     persistent: Vec<Key>,
 ) -> Result<Dumped, DumpRefusal>
-    requires { is_in_range geometry ≡ true }
+    requires range { is_in_range geometry ≡ true }
+    requires order { may_all_follow [] (map row_of rows.items) ≡ true }
+    requires units { are_units persistent.items ≡ true }
     ensures { Answers dump_of result (if_fits (record { geometry = geometry; map = map_of rows.items persistent.items })) }
 {
     let need = blocks_needed(&rows)?;
@@ -71,7 +74,8 @@ fn with_rows(
     persistent: Vec<Key>,
     rows: &[Value],
 ) -> Result<Dumped, DumpRefusal>
-    requires { is_in_range geometry ≡ true }
+    requires range { is_in_range geometry ≡ true }
+    requires units { are_units persistent.items ≡ true }
     ensures { Answers dump_of result (if_topped (Some (record { geometry = geometry; persistent = persistent.items; rows = map view rows.now }))) }
 {
     let rows = rows_of(alloc, rows)?;

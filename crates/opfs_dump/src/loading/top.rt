@@ -3,6 +3,7 @@
 ghost use Rattle.std.specs.Prelude.{◌≡◌, ◌≤◌, ◌^◌, ℕ, Some, true, IfOk, IfSome, MatchOption};
 ghost use Rattle.opfs_script.specs.Members.{number};
 ghost use Rattle.serde_json.specs.View.{view};
+ghost use Rattle.opfs_dump.specs.Text.Limits.{are_units};
 ghost use Rattle.opfs_dump.specs.Text.Reading.{is_version, parts_in, sizes_in, top_in};
 ghost use Rattle.opfs_image.specs.Superblock.{is_in_range};
 ghost use Rattle.opfs_dump.specs.Loading.Answers.{Reads};
@@ -66,6 +67,7 @@ fn is_version(value: &Value) -> bool
 fn parts_in<'a>(alloc: Global, value: &'a Value) -> Result<Top<'a>, Fault>
     ensures parts { Reads top_of result (parts_in (view value.now)) }
     ensures range { IfOk result (λ top. is_in_range top.geometry ≡ true) }
+    ensures units { IfOk result (λ top. are_units top.persistent.items ≡ true) }
 {
     let Some(geometry) = sizes_in(value) else {
         return Err(Fault::Form);
@@ -86,6 +88,7 @@ fn parts_in<'a>(alloc: Global, value: &'a Value) -> Result<Top<'a>, Fault>
 pub(crate) fn top_in<'a>(alloc: Global, value: &'a Value) -> Result<Top<'a>, Fault>
     ensures top { Reads top_of result (top_in (view value.now)) }
     ensures range { IfOk result (λ top. is_in_range top.geometry ≡ true) }
+    ensures units { IfOk result (λ top. are_units top.persistent.items ≡ true) }
 {
     if !has_only(
         value,

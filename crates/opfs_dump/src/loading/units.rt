@@ -1,6 +1,6 @@
 //! Units.
 
-ghost use Rattle.std.specs.Prelude.{◌≡◌, ◌&&◌, map, not};
+ghost use Rattle.std.specs.Prelude.{◌≡◌, ◌&&◌, map, not, true, IfOk};
 ghost use Rattle.std.specs.List.{list_all};
 ghost use Rattle.serde_json.specs.View.{view};
 ghost use Rattle.opfs_base.specs.Keys.{is_origin};
@@ -136,7 +136,8 @@ fn are_units(keys: &[Key]) -> bool
 
 /// The persistent units of a dump.
 pub(crate) fn units_in(alloc: Global, value: &Value) -> Result<Vec<Key>, Fault>
-    ensures { Reads (λ keys. keys.items) result (units_in (view value.now)) }
+    ensures read { Reads (λ keys. keys.items) result (units_in (view value.now)) }
+    ensures units { IfOk result (λ keys. are_units keys.items ≡ true) }
 {
     let Some(items) = values(value, "persistent") else {
         return Err(Fault::Form);

@@ -1,21 +1,16 @@
-use Rattle.std.proofs.Common.{sym, ap, ◌∙◌}
-use Rattle.std.specs.Prelude.{map}
+use Rattle.std.proofs.Common.{ap, ◌∙◌}
 use Rattle.std.specs.FinMap.Entries.{put}
 use Rattle.opfs_base.specs.Places.{place_cmp}
 use Rattle.opfs_tree.specs.declared.row.Row.{Row}
-use Rattle.opfs_dump.specs.Text.Seen.{row_of, stored_of}
-use Rattle.opfs_dump.proofs.loading.Lying.{laid_put}
+use Rattle.opfs_dump.specs.Text.Seen.{stored_of}
 use Rattle.opfs_dump.proofs.loading.Orders.{standing}
 use Rattle.opfs_dump.proofs.loading.planning.add_laid.Goals as goal
 
 pub add-requires-clause-free : goal.add-requires-clause-free
-add-requires-clause-free c = (standing c.args.tree.now c.args.row.now.place (stored_of c.args.row.now.file) (c.in_ok-free.ensures.stands c.if-not-free.false)).0
+add-requires-clause-free c = (standing c.args.tree.now c.args.row.now.place (stored_of c.args.row.now.file) c.requires.stands).0
 
 pub add-requires-clause-parent : goal.add-requires-clause-parent
-add-requires-clause-parent c = (standing c.args.tree.now c.args.row.now.place (stored_of c.args.row.now.file) (c.in_ok-free.ensures.stands c.if-not-free.false)).1
+add-requires-clause-parent c = (standing c.args.tree.now c.args.row.now.place (stored_of c.args.row.now.file) c.requires.stands).1
 
 pub returns-clause-tree : goal.returns-clause-tree
-returns-clause-tree c =
-    laid_put (map row_of c.args.done.now) (row_of c.args.row.now) c.args.at c.args.tree.now c.add.new.self c.requires.tree c.requires.at c.in_ok-free.ensures.order
-    (sym c.is_behind.ensures ∙ c.if-not-is_behind.false)
-    (c.in_ok-add.ensures.ok ∙ ap (λ (x : Row). put place_cmp c.args.row.now.place x c.args.tree.now) c.in_ok-made.ensures)
+returns-clause-tree c = c.in_ok-add.ensures.ok ∙ ap (λ (x : Row). put place_cmp c.args.row.now.place x c.args.tree.now) c.in_ok-made.ensures

@@ -5,6 +5,7 @@ use Rattle.serde_json.specs.View.{view}
 use Rattle.serde_json.specs.declared.value.Value.{Value}
 use Rattle.opfs_dump.specs.Text.Seen.{row_of}
 use Rattle.opfs_dump.proofs.loading.ListsRead.{rows_next, rows_bad, rows_done}
+use Rattle.opfs_dump.proofs.loading.InTurn.{follows_more}
 use Rattle.opfs_dump.proofs.loading.Orders.{drop_next}
 use Rattle.opfs_dump.proofs.loading.rows.rows_of.Goals as goal
 
@@ -22,6 +23,7 @@ loop-at-preserved c =
     let next = ap (map view) (drop_next vs at c.index-values-at.result c.index-values-at.is (omega (arith, c.loop-at-test.true, c.loop-at.auto))) in
     record {
       tree = c.in-Ok.ensures.tree;
+      order = follows_more (map row_of c.loop-at.rows.items) (map row_of c.add_row.new.rows.items) _ c.in-Ok.ensures.added c.loop-at.invariant.order;
       so_far = rows_next (at + 1) (map view (drop at vs)) (map view (drop (at + 1) vs)) (view c.index-values-at.result) (map row_of c.loop-at.rows.items) (map row_of c.add_row.new.rows.items) _ next c.in-Ok.ensures.added c.loop-at.invariant.so_far;
     }
 
