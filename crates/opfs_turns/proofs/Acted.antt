@@ -19,7 +19,8 @@ use Rattle.opfs_laws.proofs.Numbers.{number-of}
 use Rattle.opfs_laws.specs.Histories.Opened.{added}
 use Rattle.opfs_laws.specs.Histories.Unread.{IsTold, ArePendingFor}
 use Rattle.opfs_store.specs.declared.acts.acted.Gift.{Gift}
-use Rattle.opfs_store.specs.Acts.Acting.{told_entry, IsCallFor, IsActed, IsGift}
+use Rattle.opfs_store.specs.declared.acts.acted.Acted.{Acted}
+use Rattle.opfs_store.specs.Acts.Acting.{told_entry, IsCallFor, IsActed, IsGift, InHand, IsServed, IsUnserved}
 use Rattle.opfs_store.specs.Acts.Asking.{MayAct, IsThere}
 use Rattle.opfs_work.specs.Works.{WorkingCopy}
 use Rattle.opfs_turns.specs.declared.notes.Notes.{Notes}
@@ -221,11 +222,14 @@ module _ (owner : Entry → ℕ) (owned : (e : Entry) → owner e ≡ e.agent) (
       (All-cons Mine e [] (inl (owned e ∙ here)) (All-nil Mine)))
 
   -- What a turn leaves: the call's entries or nothing.
-  pub adds : {A E P : Type 0} (tells : Type 0) (o : Opening) (list : List Entry) (number : ℕ) (called : Op) (pending new : List Entry) (reply_of : A → Reply) (r : Result A E)
-      → ArePendingFor tells (state_after o list) k pending
-      → IfOk r (λ a. IsActed tells o list pending (record { agent = k; number = number; op = called }) (reply_of a) new) → OnErr r P → (P → new ≡ list)
-      → Adds owner k list new
-  adds tells o list number called pending new reply_of (Ok a) local acted unacted stays =
-      let is = acted in
-      (added pending is.gone (told_entry (record { agent = k; number = number; op = called }) (reply_of a)), is.grown, added-own pending is.gone (told_entry (record { agent = k; number = number; op = called }) (reply_of a)) (pending-own tells (state_after o list) k pending local) refl)
-  adds tells o list number called pending new reply_of (Err e) local acted unacted stays = ([], stays unacted ∙ sym (append-nil list), All-nil Mine)
+  pub adds : {E : Type 0} (tells : Type 0) (o : Opening) (before after : InHand) (c : Call) → c.agent ≡ k → (r : Result Acted E)
+      → ArePendingFor tells (state_after o before.entries) k before.pending
+      → IfOk r (λ done. IsServed tells o before after c done) → OnErr r (IsUnserved before after)
+      → Adds owner k before.entries after.entries
+  adds tells o before after c is_mine (Ok done) local served unserved =
+      let acted = served.acted in (
+        added before.pending acted.gone (told_entry c done.reply),
+        acted.grown,
+        added-own before.pending acted.gone (told_entry c done.reply) (pending-own tells (state_after o before.entries) k before.pending local) is_mine,
+      )
+  adds tells o before after c is_mine (Err e) local served unserved = ([], unserved.entries ∙ sym (append-nil before.entries), All-nil Mine)

@@ -3,6 +3,7 @@ pub mod Awaiting
 pub mod Beside
 pub mod Beginning
 pub mod Counts
+pub mod Faults
 pub mod Keeping
 pub mod Others
 pub mod Standing

@@ -3,3 +3,4 @@ pub mod Calls
 pub mod Waiting
 pub mod Asking
 pub mod OtherRows
+pub mod Faulting

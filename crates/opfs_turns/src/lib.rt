@@ -4,6 +4,7 @@
 #![tactic(auto)]
 
 pub mod asking;
+mod faulting;
 mod notes;
 pub mod other_rows;
 mod turn;
@@ -14,5 +15,6 @@ pub use asking::{
     Stop, answer, ask, ask_bytes, ask_done, ask_estimate, ask_flag, ask_length, ask_past, ask_row,
     ask_work, keep_call, keep_refusal,
 };
+pub use faulting::a_told_fault_has_its_rise;
 pub use notes::Notes;
 pub use turns::Turns;

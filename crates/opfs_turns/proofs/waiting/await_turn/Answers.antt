@@ -1,5 +1,4 @@
 use Rattle.std.proofs.Common.{ℕ, ◌+◌, [], length, None, Some, refl, sym, ap, ◌∙◌, subst, inl, inr, arith}
-use Rattle.std.specs.Prelude.{IfOk}
 use Rattle.opfs_base.specs.Texts.{Text}
 use Rattle.opfs_hall.specs.History.{Adds}
 use Rattle.opfs_hall.specs.Seen.{at_rest}
@@ -8,7 +7,7 @@ use Rattle.opfs_hist.specs.declared.reply.Reply.TheVariants as reply
 use Rattle.opfs_machine.specs.Agents.{agent_of}
 use Rattle.opfs_machine.specs.Histories.{state_after}
 use Rattle.opfs_laws.specs.Histories.Unread.{IsTold}
-use Rattle.opfs_store.specs.Acts.Acting.{IsActed, awaited}
+use Rattle.opfs_store.specs.Acts.Acting.{IsActed, in_hand, awaited}
 use Rattle.opfs_store.specs.Acts.Asking.{MayAct, IsThere}
 use Rattle.opfs_turns.specs.Agents.{IsAgent, seen}
 use Rattle.opfs_turns.specs.Waiting.{IsWaiting, await_reply}
@@ -38,15 +37,15 @@ act-acted-requires g c = record {
 pub leave-requires-clause-adds : goal.leave-requires-clause-adds
 leave-requires-clause-adds g c =
     subst (λ p. Adds g.S.Chronicle.owner p.agent p.base (g.S.Chronicle.entries c.act-acted.new.self)) (sym c.enter-turn.ensures.pass)
-    (adds g.S.Chronicle.owner g.met.S.Store.owned c.args.pass.now.agent g.S.Store.tells (g.S.Store.opened (g.S.Chronicle.opening c.enter-turn.result.value)) (g.S.Chronicle.entries c.enter-turn.result.value)
-    c.args.notes.now.number (op.Await c.in_ok-room.field-0.tag) c.args.notes.now.pending (g.S.Chronicle.entries c.act-acted.new.self) (λ acted. acted.reply) c.act-acted.result
+    (adds g.S.Chronicle.owner g.met.S.Store.owned c.args.pass.now.agent g.S.Store.tells (g.S.Store.opened (g.S.Chronicle.opening c.enter-turn.result.value))
+    (in_hand (g.S.Chronicle.entries c.enter-turn.result.value) (g.S.Store.faults c.enter-turn.result.value) c.args.notes.now.pending c.fresh-work.result) (in_hand (g.S.Chronicle.entries c.act-acted.new.self) (g.S.Store.faults c.act-acted.new.self) c.act-acted.new.pending c.act-acted.new.work)
+    (record { agent = c.agent-agent.result; number = c.args.notes.now.number; op = op.Await c.in_ok-room.field-0.tag }) c.agent-agent.ensures c.act-acted.result
     (await-acts g.S.Store.tells g.S.Store.opened c.args.pass.now c.args.notes.now g.S.Chronicle.owner g.met.S.Store.owned c.requires.agent
     (g.S.Store.opened (g.S.Chronicle.opening c.enter-turn.result.value)) (ap g.S.Store.opened (c.enter-turn.ensures.opening ∙ ap (λ h. h.opening) (sym c.requires.own)))
     (g.S.Chronicle.entries c.enter-turn.result.value) c.enter-turn.ensures.grows c.know_legal.ensures
     c.args.tag.now c.await_state-stands.result (c.await_state-stands.ensures ∙ (λ i. awaited (state_after (g.S.Store.opened (g.S.Chronicle.opening c.enter-turn.result.value)) (g.S.Chronicle.entries c.enter-turn.result.value)) (c.agent-agent.ensures i) (c.as_str.ensures i))) c.waits_for-begun.result c.waits_for-begun.ensures
     c.in-Answer.posted c.fresh-work.result c.fresh-work.ensures c.requires.room (sym c.plan_for.ensures ∙ c.in-Answer.is)).pending
-    (subst (λ (k : ℕ). IfOk c.act-acted.result (λ acted. IsActed g.S.Store.tells (g.S.Store.opened (g.S.Chronicle.opening c.enter-turn.result.value)) (g.S.Chronicle.entries c.enter-turn.result.value) c.args.notes.now.pending (record { agent = k; number = c.args.notes.now.number; op = op.Await c.in_ok-room.field-0.tag }) acted.reply (g.S.Chronicle.entries c.act-acted.new.self))) c.agent-agent.ensures c.act-acted.ensures.acted)
-    c.act-acted.ensures.unacted (λ h. h.0))
+    c.act-acted.ensures.served c.act-acted.ensures.unserved)
 
 pub overflow_add-notes : goal.overflow_add-notes
 overflow_add-notes g c = omega (arith, number-small-waiting g.S.Store.tells (seen g.S.Store.opened c.args.pass.now c.args.notes.now) c.requires.agent c.requires.room)
@@ -58,17 +57,17 @@ returns-in-Ok-clause-agent g c =
     (g.S.Chronicle.entries c.enter-turn.result.value) c.enter-turn.ensures.grows c.know_legal.ensures
     (op.Await c.args.tag.now) c.in-Ok.acted.reply (g.S.Chronicle.entries c.act-acted.new.self)
     (subst (λ (t : Text). IsActed g.S.Store.tells (g.S.Store.opened (g.S.Chronicle.opening c.enter-turn.result.value)) (g.S.Chronicle.entries c.enter-turn.result.value) c.args.notes.now.pending (record { agent = c.args.pass.now.agent; number = c.args.notes.now.number; op = op.Await t }) c.in-Ok.acted.reply (g.S.Chronicle.entries c.act-acted.new.self)) c.in_ok-room.ensures.0
-    (subst (λ (k : ℕ). IsActed g.S.Store.tells (g.S.Store.opened (g.S.Chronicle.opening c.enter-turn.result.value)) (g.S.Chronicle.entries c.enter-turn.result.value) c.args.notes.now.pending (record { agent = k; number = c.args.notes.now.number; op = op.Await c.in_ok-room.field-0.tag }) c.in-Ok.acted.reply (g.S.Chronicle.entries c.act-acted.new.self)) c.agent-agent.ensures c.in-Ok.ensures.acted))
+    (subst (λ (k : ℕ). IsActed g.S.Store.tells (g.S.Store.opened (g.S.Chronicle.opening c.enter-turn.result.value)) (g.S.Chronicle.entries c.enter-turn.result.value) c.args.notes.now.pending (record { agent = k; number = c.args.notes.now.number; op = op.Await c.in_ok-room.field-0.tag }) c.in-Ok.acted.reply (g.S.Chronicle.entries c.act-acted.new.self)) c.agent-agent.ensures c.in-Ok.ensures.served.acted))
     (subst (λ o. IsTold g.S.Store.tells (g.S.Store.opened o) (g.S.Chronicle.entries c.act-acted.new.self)) c.act-acted.ensures.opening c.know_legal-in-Answer.ensures)
     c.leave.new.pass (c.leave.ensures ∙ ap (λ p. at_rest p (g.S.Chronicle.entries c.act-acted.new.self)) c.enter-turn.ensures.pass)
-    c.act-acted.new.pending c.in-Ok.ensures.taken c.in-Ok.acted.rows
+    c.act-acted.new.pending c.in-Ok.ensures.served.taken c.in-Ok.acted.rows
     (await_reply c.in-Answer.posted) None (c.args.notes.now.number + 1)
     (await-asks g.S.Store.tells g.S.Store.opened c.args.pass.now c.args.notes.now g.S.Chronicle.owner g.met.S.Store.owned c.requires.agent
     (g.S.Store.opened (g.S.Chronicle.opening c.enter-turn.result.value)) (ap g.S.Store.opened (c.enter-turn.ensures.opening ∙ ap (λ h. h.opening) (sym c.requires.own)))
     (g.S.Chronicle.entries c.enter-turn.result.value) c.enter-turn.ensures.grows c.know_legal.ensures
     c.args.tag.now c.await_state-stands.result (c.await_state-stands.ensures ∙ (λ i. awaited (state_after (g.S.Store.opened (g.S.Chronicle.opening c.enter-turn.result.value)) (g.S.Chronicle.entries c.enter-turn.result.value)) (c.agent-agent.ensures i) (c.as_str.ensures i))) c.waits_for-begun.result c.waits_for-begun.ensures
     c.in-Answer.posted (sym c.plan_for.ensures ∙ c.in-Answer.is))
-    (c.in-Ok.ensures.rows ∙ ap (λ (k : ℕ). length (agent_of (state_after (g.S.Store.opened (g.S.Chronicle.opening c.enter-turn.result.value)) (g.S.Chronicle.entries c.act-acted.new.self)) k).own) c.agent-agent.ensures)
+    (c.in-Ok.ensures.served.rows ∙ ap (λ (k : ℕ). length (agent_of (state_after (g.S.Store.opened (g.S.Chronicle.opening c.enter-turn.result.value)) (g.S.Chronicle.entries c.act-acted.new.self)) k).own) c.agent-agent.ensures)
     refl
 
 pub returns-in-Ok-clause-turned : goal.returns-in-Ok-clause-turned
@@ -79,10 +78,10 @@ returns-in-Ok-clause-turned g c = record {
       (g.S.Chronicle.entries c.enter-turn.result.value) c.enter-turn.ensures.grows c.know_legal.ensures
       (op.Await c.args.tag.now) c.in-Ok.acted.reply (g.S.Chronicle.entries c.act-acted.new.self)
       (subst (λ (t : Text). IsActed g.S.Store.tells (g.S.Store.opened (g.S.Chronicle.opening c.enter-turn.result.value)) (g.S.Chronicle.entries c.enter-turn.result.value) c.args.notes.now.pending (record { agent = c.args.pass.now.agent; number = c.args.notes.now.number; op = op.Await t }) c.in-Ok.acted.reply (g.S.Chronicle.entries c.act-acted.new.self)) c.in_ok-room.ensures.0
-      (subst (λ (k : ℕ). IsActed g.S.Store.tells (g.S.Store.opened (g.S.Chronicle.opening c.enter-turn.result.value)) (g.S.Chronicle.entries c.enter-turn.result.value) c.args.notes.now.pending (record { agent = k; number = c.args.notes.now.number; op = op.Await c.in_ok-room.field-0.tag }) c.in-Ok.acted.reply (g.S.Chronicle.entries c.act-acted.new.self)) c.agent-agent.ensures c.in-Ok.ensures.acted))
+      (subst (λ (k : ℕ). IsActed g.S.Store.tells (g.S.Store.opened (g.S.Chronicle.opening c.enter-turn.result.value)) (g.S.Chronicle.entries c.enter-turn.result.value) c.args.notes.now.pending (record { agent = k; number = c.args.notes.now.number; op = op.Await c.in_ok-room.field-0.tag }) c.in-Ok.acted.reply (g.S.Chronicle.entries c.act-acted.new.self)) c.agent-agent.ensures c.in-Ok.ensures.served.acted))
       (subst (λ o. IsTold g.S.Store.tells (g.S.Store.opened o) (g.S.Chronicle.entries c.act-acted.new.self)) c.act-acted.ensures.opening c.know_legal-in-Answer.ensures)
       c.leave.new.pass (c.leave.ensures ∙ ap (λ p. at_rest p (g.S.Chronicle.entries c.act-acted.new.self)) c.enter-turn.ensures.pass)
-      c.act-acted.new.pending c.in-Ok.ensures.taken c.in-Ok.acted.rows
+      c.act-acted.new.pending c.in-Ok.ensures.served.taken c.in-Ok.acted.rows
       (await_reply c.in-Answer.posted) None (c.args.notes.now.number + 1)
       (await-asks g.S.Store.tells g.S.Store.opened c.args.pass.now c.args.notes.now g.S.Chronicle.owner g.met.S.Store.owned c.requires.agent
       (g.S.Store.opened (g.S.Chronicle.opening c.enter-turn.result.value)) (ap g.S.Store.opened (c.enter-turn.ensures.opening ∙ ap (λ h. h.opening) (sym c.requires.own)))
@@ -95,34 +94,34 @@ returns-in-Ok-clause-turned g c = record {
       (g.S.Chronicle.entries c.enter-turn.result.value) c.enter-turn.ensures.grows c.know_legal.ensures
       (op.Await c.args.tag.now) c.in-Ok.acted.reply (g.S.Chronicle.entries c.act-acted.new.self)
       (subst (λ (t : Text). IsActed g.S.Store.tells (g.S.Store.opened (g.S.Chronicle.opening c.enter-turn.result.value)) (g.S.Chronicle.entries c.enter-turn.result.value) c.args.notes.now.pending (record { agent = c.args.pass.now.agent; number = c.args.notes.now.number; op = op.Await t }) c.in-Ok.acted.reply (g.S.Chronicle.entries c.act-acted.new.self)) c.in_ok-room.ensures.0
-      (subst (λ (k : ℕ). IsActed g.S.Store.tells (g.S.Store.opened (g.S.Chronicle.opening c.enter-turn.result.value)) (g.S.Chronicle.entries c.enter-turn.result.value) c.args.notes.now.pending (record { agent = k; number = c.args.notes.now.number; op = op.Await c.in_ok-room.field-0.tag }) c.in-Ok.acted.reply (g.S.Chronicle.entries c.act-acted.new.self)) c.agent-agent.ensures c.in-Ok.ensures.acted))
+      (subst (λ (k : ℕ). IsActed g.S.Store.tells (g.S.Store.opened (g.S.Chronicle.opening c.enter-turn.result.value)) (g.S.Chronicle.entries c.enter-turn.result.value) c.args.notes.now.pending (record { agent = k; number = c.args.notes.now.number; op = op.Await c.in_ok-room.field-0.tag }) c.in-Ok.acted.reply (g.S.Chronicle.entries c.act-acted.new.self)) c.agent-agent.ensures c.in-Ok.ensures.served.acted))
       (subst (λ o. IsTold g.S.Store.tells (g.S.Store.opened o) (g.S.Chronicle.entries c.act-acted.new.self)) c.act-acted.ensures.opening c.know_legal-in-Answer.ensures)
       c.leave.new.pass (c.leave.ensures ∙ ap (λ p. at_rest p (g.S.Chronicle.entries c.act-acted.new.self)) c.enter-turn.ensures.pass)
-      c.act-acted.new.pending c.in-Ok.ensures.taken c.in-Ok.acted.rows
+      c.act-acted.new.pending c.in-Ok.ensures.served.taken c.in-Ok.acted.rows
       (await_reply c.in-Answer.posted) None (c.args.notes.now.number + 1)
       (await-asks g.S.Store.tells g.S.Store.opened c.args.pass.now c.args.notes.now g.S.Chronicle.owner g.met.S.Store.owned c.requires.agent
       (g.S.Store.opened (g.S.Chronicle.opening c.enter-turn.result.value)) (ap g.S.Store.opened (c.enter-turn.ensures.opening ∙ ap (λ h. h.opening) (sym c.requires.own)))
       (g.S.Chronicle.entries c.enter-turn.result.value) c.enter-turn.ensures.grows c.know_legal.ensures
       c.args.tag.now c.await_state-stands.result (c.await_state-stands.ensures ∙ (λ i. awaited (state_after (g.S.Store.opened (g.S.Chronicle.opening c.enter-turn.result.value)) (g.S.Chronicle.entries c.enter-turn.result.value)) (c.agent-agent.ensures i) (c.as_str.ensures i))) c.waits_for-begun.result c.waits_for-begun.ensures
       c.in-Answer.posted (sym c.plan_for.ensures ∙ c.in-Answer.is))
-      (c.in-Ok.ensures.rows ∙ ap (λ (k : ℕ). length (agent_of (state_after (g.S.Store.opened (g.S.Chronicle.opening c.enter-turn.result.value)) (g.S.Chronicle.entries c.act-acted.new.self)) k).own) c.agent-agent.ensures);
+      (c.in-Ok.ensures.served.rows ∙ ap (λ (k : ℕ). length (agent_of (state_after (g.S.Store.opened (g.S.Chronicle.opening c.enter-turn.result.value)) (g.S.Chronicle.entries c.act-acted.new.self)) k).own) c.agent-agent.ensures);
 }
 
 pub returns-in-Answer-clause-agent : goal.returns-in-Answer-clause-agent
 returns-in-Answer-clause-agent g c = unacted-agent g.S.Store.tells g.S.Store.opened c.args.pass.now c.args.notes.now g.S.Chronicle.owner g.met.S.Store.owned c.requires.agent
     (g.S.Store.opened (g.S.Chronicle.opening c.enter-turn.result.value)) (ap g.S.Store.opened (c.enter-turn.ensures.opening ∙ ap (λ h. h.opening) (sym c.requires.own)))
     (g.S.Chronicle.entries c.enter-turn.result.value) c.enter-turn.ensures.grows c.know_legal.ensures
-    (g.S.Chronicle.entries c.act-acted.new.self) c.in-Err.ensures.unacted.0
+    (g.S.Chronicle.entries c.act-acted.new.self) c.in-Err.ensures.unserved.entries
     c.leave.new.pass (c.leave.ensures ∙ ap (λ p. at_rest p (g.S.Chronicle.entries c.act-acted.new.self)) c.enter-turn.ensures.pass)
-    c.act-acted.new.pending c.in-Err.ensures.unacted.1
+    c.act-acted.new.pending c.in-Err.ensures.unserved.pending
 
 pub returns-in-Answer-clause-turned : goal.returns-in-Answer-clause-turned
 returns-in-Answer-clause-turned g c = unacted-looked g.S.Store.tells g.S.Store.opened c.args.pass.now c.args.notes.now g.S.Chronicle.owner g.met.S.Store.owned c.requires.agent
     (g.S.Store.opened (g.S.Chronicle.opening c.enter-turn.result.value)) (ap g.S.Store.opened (c.enter-turn.ensures.opening ∙ ap (λ h. h.opening) (sym c.requires.own)))
     (g.S.Chronicle.entries c.enter-turn.result.value) c.enter-turn.ensures.grows c.know_legal.ensures
-    (g.S.Chronicle.entries c.act-acted.new.self) c.in-Err.ensures.unacted.0
+    (g.S.Chronicle.entries c.act-acted.new.self) c.in-Err.ensures.unserved.entries
     c.leave.new.pass (c.leave.ensures ∙ ap (λ p. at_rest p (g.S.Chronicle.entries c.act-acted.new.self)) c.enter-turn.ensures.pass)
-    c.act-acted.new.pending c.in-Err.ensures.unacted.1
+    c.act-acted.new.pending c.in-Err.ensures.unserved.pending
 
 pub act-acted-requires-in-Begin : goal.act-acted-requires-in-Begin
 act-acted-requires-in-Begin g c = record {
@@ -139,15 +138,15 @@ act-acted-requires-in-Begin g c = record {
 pub leave-requires-in-Begin-clause-adds : goal.leave-requires-in-Begin-clause-adds
 leave-requires-in-Begin-clause-adds g c =
     subst (λ p. Adds g.S.Chronicle.owner p.agent p.base (g.S.Chronicle.entries c.act-acted-in-Begin.new.self)) (sym c.enter-turn.ensures.pass)
-    (adds g.S.Chronicle.owner g.met.S.Store.owned c.args.pass.now.agent g.S.Store.tells (g.S.Store.opened (g.S.Chronicle.opening c.enter-turn.result.value)) (g.S.Chronicle.entries c.enter-turn.result.value)
-    c.args.notes.now.number (op.Wait c.in_ok-room.field-0.tag) c.args.notes.now.pending (g.S.Chronicle.entries c.act-acted-in-Begin.new.self) (λ acted. acted.reply) c.act-acted-in-Begin.result
+    (adds g.S.Chronicle.owner g.met.S.Store.owned c.args.pass.now.agent g.S.Store.tells (g.S.Store.opened (g.S.Chronicle.opening c.enter-turn.result.value))
+    (in_hand (g.S.Chronicle.entries c.enter-turn.result.value) (g.S.Store.faults c.enter-turn.result.value) c.args.notes.now.pending c.fresh-work.result) (in_hand (g.S.Chronicle.entries c.act-acted-in-Begin.new.self) (g.S.Store.faults c.act-acted-in-Begin.new.self) c.act-acted-in-Begin.new.pending c.act-acted-in-Begin.new.work)
+    (record { agent = c.agent-agent.result; number = c.args.notes.now.number; op = op.Wait c.in_ok-room.field-0.tag }) c.agent-agent.ensures c.act-acted-in-Begin.result
     (wait-acts g.S.Store.tells g.S.Store.opened c.args.pass.now c.args.notes.now g.S.Chronicle.owner g.met.S.Store.owned c.requires.agent
     (g.S.Store.opened (g.S.Chronicle.opening c.enter-turn.result.value)) (ap g.S.Store.opened (c.enter-turn.ensures.opening ∙ ap (λ h. h.opening) (sym c.requires.own)))
     (g.S.Chronicle.entries c.enter-turn.result.value) c.enter-turn.ensures.grows c.know_legal.ensures
     c.args.tag.now c.await_state-stands.result (c.await_state-stands.ensures ∙ (λ i. awaited (state_after (g.S.Store.opened (g.S.Chronicle.opening c.enter-turn.result.value)) (g.S.Chronicle.entries c.enter-turn.result.value)) (c.agent-agent.ensures i) (c.as_str.ensures i))) c.waits_for-begun.result c.waits_for-begun.ensures
     c.fresh-work.result c.fresh-work.ensures c.requires.room (sym c.plan_for.ensures ∙ c.in-Begin.is)).pending
-    (subst (λ (k : ℕ). IfOk c.act-acted-in-Begin.result (λ acted. IsActed g.S.Store.tells (g.S.Store.opened (g.S.Chronicle.opening c.enter-turn.result.value)) (g.S.Chronicle.entries c.enter-turn.result.value) c.args.notes.now.pending (record { agent = k; number = c.args.notes.now.number; op = op.Wait c.in_ok-room.field-0.tag }) acted.reply (g.S.Chronicle.entries c.act-acted-in-Begin.new.self))) c.agent-agent.ensures c.act-acted-in-Begin.ensures.acted)
-    c.act-acted-in-Begin.ensures.unacted (λ h. h.0))
+    c.act-acted-in-Begin.ensures.served c.act-acted-in-Begin.ensures.unserved)
 
 pub returns-in-Ok-acted-clause-agent : goal.returns-in-Ok-acted-clause-agent
 returns-in-Ok-acted-clause-agent g c =
@@ -157,16 +156,16 @@ returns-in-Ok-acted-clause-agent g c =
     (g.S.Chronicle.entries c.enter-turn.result.value) c.enter-turn.ensures.grows c.know_legal.ensures
     (op.Wait c.args.tag.now) c.in-Ok-acted.acted.reply (g.S.Chronicle.entries c.act-acted-in-Begin.new.self)
     (subst (λ (t : Text). IsActed g.S.Store.tells (g.S.Store.opened (g.S.Chronicle.opening c.enter-turn.result.value)) (g.S.Chronicle.entries c.enter-turn.result.value) c.args.notes.now.pending (record { agent = c.args.pass.now.agent; number = c.args.notes.now.number; op = op.Wait t }) c.in-Ok-acted.acted.reply (g.S.Chronicle.entries c.act-acted-in-Begin.new.self)) c.in_ok-room.ensures.0
-    (subst (λ (k : ℕ). IsActed g.S.Store.tells (g.S.Store.opened (g.S.Chronicle.opening c.enter-turn.result.value)) (g.S.Chronicle.entries c.enter-turn.result.value) c.args.notes.now.pending (record { agent = k; number = c.args.notes.now.number; op = op.Wait c.in_ok-room.field-0.tag }) c.in-Ok-acted.acted.reply (g.S.Chronicle.entries c.act-acted-in-Begin.new.self)) c.agent-agent.ensures c.in-Ok-acted.ensures.acted))
+    (subst (λ (k : ℕ). IsActed g.S.Store.tells (g.S.Store.opened (g.S.Chronicle.opening c.enter-turn.result.value)) (g.S.Chronicle.entries c.enter-turn.result.value) c.args.notes.now.pending (record { agent = k; number = c.args.notes.now.number; op = op.Wait c.in_ok-room.field-0.tag }) c.in-Ok-acted.acted.reply (g.S.Chronicle.entries c.act-acted-in-Begin.new.self)) c.agent-agent.ensures c.in-Ok-acted.ensures.served.acted))
     (subst (λ o. IsTold g.S.Store.tells (g.S.Store.opened o) (g.S.Chronicle.entries c.act-acted-in-Begin.new.self)) c.act-acted-in-Begin.ensures.opening c.know_legal-in-Begin.ensures)
     c.leave-in-Begin.new.pass (c.leave-in-Begin.ensures ∙ ap (λ p. at_rest p (g.S.Chronicle.entries c.act-acted-in-Begin.new.self)) c.enter-turn.ensures.pass)
-    c.act-acted-in-Begin.new.pending c.in-Ok-acted.ensures.taken c.in-Ok-acted.acted.rows
+    c.act-acted-in-Begin.new.pending c.in-Ok-acted.ensures.served.taken c.in-Ok-acted.acted.rows
     reply.Done (Some c.args.tag.now) c.args.notes.now.number
     (wait-asks g.S.Store.tells g.S.Store.opened c.args.pass.now c.args.notes.now g.S.Chronicle.owner g.met.S.Store.owned c.requires.agent
     (g.S.Store.opened (g.S.Chronicle.opening c.enter-turn.result.value)) (ap g.S.Store.opened (c.enter-turn.ensures.opening ∙ ap (λ h. h.opening) (sym c.requires.own)))
     (g.S.Chronicle.entries c.enter-turn.result.value) c.enter-turn.ensures.grows c.know_legal.ensures
     c.args.tag.now c.await_state-stands.result (c.await_state-stands.ensures ∙ (λ i. awaited (state_after (g.S.Store.opened (g.S.Chronicle.opening c.enter-turn.result.value)) (g.S.Chronicle.entries c.enter-turn.result.value)) (c.agent-agent.ensures i) (c.as_str.ensures i))) c.waits_for-begun.result c.waits_for-begun.ensures)
-    (c.in-Ok-acted.ensures.rows ∙ ap (λ (k : ℕ). length (agent_of (state_after (g.S.Store.opened (g.S.Chronicle.opening c.enter-turn.result.value)) (g.S.Chronicle.entries c.act-acted-in-Begin.new.self)) k).own) c.agent-agent.ensures)
+    (c.in-Ok-acted.ensures.served.rows ∙ ap (λ (k : ℕ). length (agent_of (state_after (g.S.Store.opened (g.S.Chronicle.opening c.enter-turn.result.value)) (g.S.Chronicle.entries c.act-acted-in-Begin.new.self)) k).own) c.agent-agent.ensures)
     (omega arith))
 
 pub returns-in-Ok-acted-clause-turned : goal.returns-in-Ok-acted-clause-turned
@@ -179,10 +178,10 @@ returns-in-Ok-acted-clause-turned g c =
           (g.S.Chronicle.entries c.enter-turn.result.value) c.enter-turn.ensures.grows c.know_legal.ensures
           (op.Wait c.args.tag.now) c.in-Ok-acted.acted.reply (g.S.Chronicle.entries c.act-acted-in-Begin.new.self)
           (subst (λ (t : Text). IsActed g.S.Store.tells (g.S.Store.opened (g.S.Chronicle.opening c.enter-turn.result.value)) (g.S.Chronicle.entries c.enter-turn.result.value) c.args.notes.now.pending (record { agent = c.args.pass.now.agent; number = c.args.notes.now.number; op = op.Wait t }) c.in-Ok-acted.acted.reply (g.S.Chronicle.entries c.act-acted-in-Begin.new.self)) c.in_ok-room.ensures.0
-          (subst (λ (k : ℕ). IsActed g.S.Store.tells (g.S.Store.opened (g.S.Chronicle.opening c.enter-turn.result.value)) (g.S.Chronicle.entries c.enter-turn.result.value) c.args.notes.now.pending (record { agent = k; number = c.args.notes.now.number; op = op.Wait c.in_ok-room.field-0.tag }) c.in-Ok-acted.acted.reply (g.S.Chronicle.entries c.act-acted-in-Begin.new.self)) c.agent-agent.ensures c.in-Ok-acted.ensures.acted))
+          (subst (λ (k : ℕ). IsActed g.S.Store.tells (g.S.Store.opened (g.S.Chronicle.opening c.enter-turn.result.value)) (g.S.Chronicle.entries c.enter-turn.result.value) c.args.notes.now.pending (record { agent = k; number = c.args.notes.now.number; op = op.Wait c.in_ok-room.field-0.tag }) c.in-Ok-acted.acted.reply (g.S.Chronicle.entries c.act-acted-in-Begin.new.self)) c.agent-agent.ensures c.in-Ok-acted.ensures.served.acted))
           (subst (λ o. IsTold g.S.Store.tells (g.S.Store.opened o) (g.S.Chronicle.entries c.act-acted-in-Begin.new.self)) c.act-acted-in-Begin.ensures.opening c.know_legal-in-Begin.ensures)
           c.leave-in-Begin.new.pass (c.leave-in-Begin.ensures ∙ ap (λ p. at_rest p (g.S.Chronicle.entries c.act-acted-in-Begin.new.self)) c.enter-turn.ensures.pass)
-          c.act-acted-in-Begin.new.pending c.in-Ok-acted.ensures.taken c.in-Ok-acted.acted.rows
+          c.act-acted-in-Begin.new.pending c.in-Ok-acted.ensures.served.taken c.in-Ok-acted.acted.rows
           reply.Done (Some c.args.tag.now) c.args.notes.now.number
           (wait-asks g.S.Store.tells g.S.Store.opened c.args.pass.now c.args.notes.now g.S.Chronicle.owner g.met.S.Store.owned c.requires.agent
           (g.S.Store.opened (g.S.Chronicle.opening c.enter-turn.result.value)) (ap g.S.Store.opened (c.enter-turn.ensures.opening ∙ ap (λ h. h.opening) (sym c.requires.own)))
@@ -200,33 +199,33 @@ returns-in-Ok-acted-clause-turned g c =
           (g.S.Chronicle.entries c.enter-turn.result.value) c.enter-turn.ensures.grows c.know_legal.ensures
           (op.Wait c.args.tag.now) c.in-Ok-acted.acted.reply (g.S.Chronicle.entries c.act-acted-in-Begin.new.self)
           (subst (λ (t : Text). IsActed g.S.Store.tells (g.S.Store.opened (g.S.Chronicle.opening c.enter-turn.result.value)) (g.S.Chronicle.entries c.enter-turn.result.value) c.args.notes.now.pending (record { agent = c.args.pass.now.agent; number = c.args.notes.now.number; op = op.Wait t }) c.in-Ok-acted.acted.reply (g.S.Chronicle.entries c.act-acted-in-Begin.new.self)) c.in_ok-room.ensures.0
-          (subst (λ (k : ℕ). IsActed g.S.Store.tells (g.S.Store.opened (g.S.Chronicle.opening c.enter-turn.result.value)) (g.S.Chronicle.entries c.enter-turn.result.value) c.args.notes.now.pending (record { agent = k; number = c.args.notes.now.number; op = op.Wait c.in_ok-room.field-0.tag }) c.in-Ok-acted.acted.reply (g.S.Chronicle.entries c.act-acted-in-Begin.new.self)) c.agent-agent.ensures c.in-Ok-acted.ensures.acted))
+          (subst (λ (k : ℕ). IsActed g.S.Store.tells (g.S.Store.opened (g.S.Chronicle.opening c.enter-turn.result.value)) (g.S.Chronicle.entries c.enter-turn.result.value) c.args.notes.now.pending (record { agent = k; number = c.args.notes.now.number; op = op.Wait c.in_ok-room.field-0.tag }) c.in-Ok-acted.acted.reply (g.S.Chronicle.entries c.act-acted-in-Begin.new.self)) c.agent-agent.ensures c.in-Ok-acted.ensures.served.acted))
           (subst (λ o. IsTold g.S.Store.tells (g.S.Store.opened o) (g.S.Chronicle.entries c.act-acted-in-Begin.new.self)) c.act-acted-in-Begin.ensures.opening c.know_legal-in-Begin.ensures)
           c.leave-in-Begin.new.pass (c.leave-in-Begin.ensures ∙ ap (λ p. at_rest p (g.S.Chronicle.entries c.act-acted-in-Begin.new.self)) c.enter-turn.ensures.pass)
-          c.act-acted-in-Begin.new.pending c.in-Ok-acted.ensures.taken c.in-Ok-acted.acted.rows
+          c.act-acted-in-Begin.new.pending c.in-Ok-acted.ensures.served.taken c.in-Ok-acted.acted.rows
           reply.Done (Some c.args.tag.now) c.args.notes.now.number
           (wait-asks g.S.Store.tells g.S.Store.opened c.args.pass.now c.args.notes.now g.S.Chronicle.owner g.met.S.Store.owned c.requires.agent
           (g.S.Store.opened (g.S.Chronicle.opening c.enter-turn.result.value)) (ap g.S.Store.opened (c.enter-turn.ensures.opening ∙ ap (λ h. h.opening) (sym c.requires.own)))
           (g.S.Chronicle.entries c.enter-turn.result.value) c.enter-turn.ensures.grows c.know_legal.ensures
           c.args.tag.now c.await_state-stands.result (c.await_state-stands.ensures ∙ (λ i. awaited (state_after (g.S.Store.opened (g.S.Chronicle.opening c.enter-turn.result.value)) (g.S.Chronicle.entries c.enter-turn.result.value)) (c.agent-agent.ensures i) (c.as_str.ensures i))) c.waits_for-begun.result c.waits_for-begun.ensures)
-          (c.in-Ok-acted.ensures.rows ∙ ap (λ (k : ℕ). length (agent_of (state_after (g.S.Store.opened (g.S.Chronicle.opening c.enter-turn.result.value)) (g.S.Chronicle.entries c.act-acted-in-Begin.new.self)) k).own) c.agent-agent.ensures);
+          (c.in-Ok-acted.ensures.served.rows ∙ ap (λ (k : ℕ). length (agent_of (state_after (g.S.Store.opened (g.S.Chronicle.opening c.enter-turn.result.value)) (g.S.Chronicle.entries c.act-acted-in-Begin.new.self)) k).own) c.agent-agent.ensures);
     }))
 
 pub returns-in-Begin-clause-agent : goal.returns-in-Begin-clause-agent
 returns-in-Begin-clause-agent g c = unacted-agent g.S.Store.tells g.S.Store.opened c.args.pass.now c.args.notes.now g.S.Chronicle.owner g.met.S.Store.owned c.requires.agent
     (g.S.Store.opened (g.S.Chronicle.opening c.enter-turn.result.value)) (ap g.S.Store.opened (c.enter-turn.ensures.opening ∙ ap (λ h. h.opening) (sym c.requires.own)))
     (g.S.Chronicle.entries c.enter-turn.result.value) c.enter-turn.ensures.grows c.know_legal.ensures
-    (g.S.Chronicle.entries c.act-acted-in-Begin.new.self) c.in-Err-acted.ensures.unacted.0
+    (g.S.Chronicle.entries c.act-acted-in-Begin.new.self) c.in-Err-acted.ensures.unserved.entries
     c.leave-in-Begin.new.pass (c.leave-in-Begin.ensures ∙ ap (λ p. at_rest p (g.S.Chronicle.entries c.act-acted-in-Begin.new.self)) c.enter-turn.ensures.pass)
-    c.act-acted-in-Begin.new.pending c.in-Err-acted.ensures.unacted.1
+    c.act-acted-in-Begin.new.pending c.in-Err-acted.ensures.unserved.pending
 
 pub returns-in-Begin-clause-turned : goal.returns-in-Begin-clause-turned
 returns-in-Begin-clause-turned g c = unacted-looked g.S.Store.tells g.S.Store.opened c.args.pass.now c.args.notes.now g.S.Chronicle.owner g.met.S.Store.owned c.requires.agent
     (g.S.Store.opened (g.S.Chronicle.opening c.enter-turn.result.value)) (ap g.S.Store.opened (c.enter-turn.ensures.opening ∙ ap (λ h. h.opening) (sym c.requires.own)))
     (g.S.Chronicle.entries c.enter-turn.result.value) c.enter-turn.ensures.grows c.know_legal.ensures
-    (g.S.Chronicle.entries c.act-acted-in-Begin.new.self) c.in-Err-acted.ensures.unacted.0
+    (g.S.Chronicle.entries c.act-acted-in-Begin.new.self) c.in-Err-acted.ensures.unserved.entries
     c.leave-in-Begin.new.pass (c.leave-in-Begin.ensures ∙ ap (λ p. at_rest p (g.S.Chronicle.entries c.act-acted-in-Begin.new.self)) c.enter-turn.ensures.pass)
-    c.act-acted-in-Begin.new.pending c.in-Err-acted.ensures.unacted.1
+    c.act-acted-in-Begin.new.pending c.in-Err-acted.ensures.unserved.pending
 
 pub returns-clause-agent : goal.returns-clause-agent
 returns-clause-agent g c = unacted-agent g.S.Store.tells g.S.Store.opened c.args.pass.now c.args.notes.now g.S.Chronicle.owner g.met.S.Store.owned c.requires.agent
