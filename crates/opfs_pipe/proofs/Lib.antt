@@ -4,6 +4,7 @@ pub mod Filled
 pub mod Halts
 pub mod Joined
 pub mod Lists
+pub mod Near
 pub mod Opened
 pub mod Passes
 pub mod Piped

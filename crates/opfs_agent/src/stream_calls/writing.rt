@@ -21,8 +21,7 @@ use opfs_turns::Stop;
 use std::sync::Wait;
 
 impl<S: Store> Agent<S> {
-    /// Writes bytes at a position, or else at the offset, under the turn (File System: write a chunk). It serves also where
-    /// the stream has what it needs.
+    /// Writes bytes that do not fit, at a position, or else at the offset, under the turn (File System: write a chunk).
     pub fn write_growing<R: Wait>(
         &mut self,
         rt: &R,
@@ -34,6 +33,7 @@ impl<S: Store> Agent<S> {
         requires own { self.old.pass.hall ≡ court.now }
         requires room { HasRoom self.old }
         requires stream { HasStream S.tells self.old stream.old }
+        requires far { ¬ IsNearWrite stream.old.work (place_in stream.old.work position) (length bytes.now) }
         requires small { IsSmallData bytes.now × IsSmallPlace position }
         ensures shared { Shared S.tells self.old self.new (op.Write stream.old.row bytes.now position) (λ _ answered _. answered ≡ reply.Done) result }
         ensures stream { HasStream S.tells self.new stream.new }
@@ -54,7 +54,7 @@ impl<S: Store> Agent<S> {
         done
     }
 
-    /// Cuts or extends the bytes to a size under the turn (File System: truncate). It serves also where the size fits.
+    /// Cuts or extends the bytes to a size that does not fit, under the turn (File System: truncate).
     pub fn truncate_growing<R: Wait>(
         &mut self,
         rt: &R,
@@ -65,6 +65,7 @@ impl<S: Store> Agent<S> {
         requires own { self.old.pass.hall ≡ court.now }
         requires room { HasRoom self.old }
         requires stream { HasStream S.tells self.old stream.old }
+        requires far { ¬ IsNearSize stream.old.work size }
         requires small { IsSmall size }
         ensures shared { Shared S.tells self.old self.new (op.Truncate stream.old.row size) (λ _ answered _. answered ≡ reply.Done) result }
         ensures stream { HasStream S.tells self.new stream.new }

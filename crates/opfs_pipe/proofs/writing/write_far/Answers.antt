@@ -1,6 +1,6 @@
 use Rattle.std.proofs.Common.{◌≤◌, arith}
 use Rattle.opfs_pipe.proofs.Joined.{write-does}
-use Rattle.opfs_pipe.proofs.writing.write_data.Goals as goal
+use Rattle.opfs_pipe.proofs.writing.write_far.Goals as goal
 
 pub write_growing-done-requires-clause-small : goal.write_growing-done-requires-clause-small
 write_growing-done-requires-clause-small g c = (omega (arith, c.requires.small), omega arith)
