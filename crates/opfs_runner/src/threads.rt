@@ -1,6 +1,6 @@
 //! Agents on threads of their own.
 
-ghost use Rattle.std.specs.Prelude.{◌≡◌, ◌≢◌, [], ◌&&◌, length, false, IfNone, IfSome};
+ghost use Rattle.std.specs.Prelude.{◌≡◌, ◌≢◌, ◌↔◌, [], ◌&&◌, length, false, is_none, IsTrue, IfSome};
 ghost use Rattle.std.specs.Thread.{IsSend, IsSync};
 ghost use Rattle.opfs_hall.specs.Seen.{joined};
 ghost use Rattle.opfs_runner.specs.Runs.{IsReady, HasRun, IsReadyFor, HasRunAll};
@@ -31,7 +31,7 @@ fn join_runs<S: Store>(court: &Hall<S>, first: Ended<S>, second: Ended<S>) -> En
 }
 
 /// Runs the scripts of all agents at the same time, each agent on a thread of its own. After want of memory an agent ends, and
-/// the others go on.
+/// the others go on. It gives nothing exactly where there is no agent.
 pub fn run_all<S: Store + Send, R: Threads + Wait + Sync, G: Gate>(
     rt: &R,
     court: &Hall<S>,
@@ -40,7 +40,7 @@ pub fn run_all<S: Store + Send, R: Threads + Wait + Sync, G: Gate>(
     gate: &G,
 ) -> Option<Ended<S>>
     requires { IsReadyFor court.now scripts.now agents.items }
-    ensures none { IfNone result (agents.items ≡ []) }
+    ensures none { IsTrue (is_none result) ↔ (agents.items ≡ []) }
     ensures run { IfSome result (λ r. HasRunAll court.now scripts.now (length agents.items) r.pass r.whole) }
 {
     let agent = agents.pop()?;
@@ -55,7 +55,7 @@ pub fn run_all<S: Store + Send, R: Threads + Wait + Sync, G: Gate>(
         move || -> Option<Ended<S>>
             requires sync { IsSend S.row × IsSync R.row × IsSync G.row }
             requires ready { IsReadyFor court.now scripts.now agents.items }
-            ensures none { IfNone result (agents.items ≡ []) }
+            ensures none { IsTrue (is_none result) ↔ (agents.items ≡ []) }
             ensures run { IfSome result (λ r. HasRunAll court.entry.now scripts.entry.now (length agents.items) r.pass r.whole) }
         { run_all(rt, court, agents, scripts, gate) },
     );

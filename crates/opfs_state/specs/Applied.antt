@@ -13,11 +13,14 @@ use Rattle.opfs_state_rows.specs.Standing.Seen.{Machine, Seen, is_known, lines_o
 use Rattle.opfs_tree.specs.Rows.{Rows}
 
 -- The store; the place that the call in hand changes, in memory of its own, and what the call adds to the charge by the
--- row or mode that it makes.
+-- row or mode that it makes, in bytes of an area.
 pub record StateSeen : Type 0 where
   pub store : Seen
   pub target : Option Place
   pub growth : ℕ
+
+abbrev pub bytes_added : StateSeen → ℕ
+bytes_added s = s.growth
 
 -- The machine at the beginning.
 abbrev pub opened : Rows → Storage → Limits → List Who → Machine

@@ -65,21 +65,28 @@ impl State {
     }
 
     /// A call that is refused, that answers Stuck, or that answers a disk fault: only that the answer Stuck ends the
-    /// agent's waiting. Takes no memory.
+    /// agent's waiting. Nothing stands ready for it any more; units, room and tag that were made ready stay. Takes no memory.
     pub fn refuse(&mut self, agent: u32, op: &Op)
         requires agent { IsAgent self.old.store.machine agent }
         requires entries { self.old.store.machine.entries + 1 < 2 ^ 64 }
         ensures machine { self.new.store.machine ≡ counted (refused self.old.store.machine agent op.now) agent }
         ensures tree { self.new.store.tree ≡ self.old.store.tree }
         ensures place { self.new.store.prepared.place ≡ None }
+        ensures prepared { self.new.store.prepared ≡ record self.old.store.prepared { place = None } }
+        ensures target { self.new.target ≡ None }
+        ensures growth { self.new.growth ≡ 0 }
     {
+        self.ready = None;
         self.store.cancel();
         refuse(&mut self.store, agent, op);
     }
 
-    /// Nothing stands ready any more. Takes no memory.
+    /// No place stands ready any more, and nothing else beside the store; units, room and tag that were made ready stay, as
+    /// all the rest does. Takes no memory.
     pub fn cancel(&mut self)
-        ensures { self.new.store ≡ record self.old.store { prepared = record self.old.store.prepared { place = None } } }
+        ensures store { self.new.store ≡ record self.old.store { prepared = record self.old.store.prepared { place = None } } }
+        ensures target { self.new.target ≡ None }
+        ensures growth { self.new.growth ≡ 0 }
     {
         self.ready = None;
         self.store.cancel();

@@ -10,6 +10,7 @@ ghost use Rattle.opfs_machine.specs.Sums.{is_persistent, usage};
 ghost use Rattle.opfs_register.specs.Seating.{most_agents};
 ghost use Rattle.opfs_register.specs.Slots.{most_rows};
 ghost use Rattle.opfs_state_rows.specs.Standing.Seen.{lines_of, persistent_in};
+ghost use Rattle.opfs_state.specs.Applied.{bytes_added};
 ghost use Rattle.opfs_state.specs.Reading.{row_file};
 ghost use Rattle.opfs_tree.specs.Rows.{extents_within, least_above, least_not_in, children_of, rows_above, IsInOrder};
 ghost use Rattle.opfs_tree.specs.Rows.{file_at as file_in_tree};
@@ -138,9 +139,10 @@ impl State {
         self.store.shed().quota()
     }
 
-    /// The blocks that the row or mode adds that the call makes for which all stands ready.
+    /// How many bytes of an area the row or mode takes that the call makes for which all stands ready: what the call adds to
+    /// the charge, the blocks that it keeps aside. 0 where it makes none.
     pub fn growth(&self) -> u64
-        ensures { result ≡ self.now.growth }
+        ensures { result ≡ bytes_added self.now }
     {
         match &self.ready {
             Some(ready) => ready.growth,

@@ -3,7 +3,7 @@
 ghost use Rattle.std.specs.Prelude.{◌≡◌, ◌<◌, ◌≤◌, ◌^◌, None, option_map, ◌∷◌, [], Some, IfOk, IfNone, IfSome, IsSomeAnd, length};
 ghost use Rattle.opfs_machine.specs.Contents.{in_lengths};
 ghost use Rattle.opfs_machine.specs.Rows.{row_at, file_at, kind_of, rows_within, has_children, first_locked};
-ghost use Rattle.opfs_machine.specs.Sums.{is_persistent, usage, pool, charge, fits_quota, fits_area, fits_pool};
+ghost use Rattle.opfs_machine.specs.Sums.{is_persistent, usage, pool, charge};
 ghost use Rattle.std.specs.Option.{option_copied};
 ghost use Rattle.opfs_tree.specs.Rows.{file_at as file_in_tree};
 ghost use Rattle.opfs_tree.specs.Rows.{extents_within, least_above, least_not_in, children_of, rows_above, IsInOrder};
@@ -126,34 +126,6 @@ impl Standing {
         ensures within { result ≤ self.now.machine.limits.blocks }
     {
         self.pool.count()
-    }
-
-    /// Whether the origin of a unit may use so many blocks more; nothing more may always be used.
-    pub fn fits_quota(&self, unit: &Key, need: u64) -> bool
-        ensures { result ≡ fits_quota in_lengths self.now.machine (origin_of unit.now) need }
-    {
-        let free = self
-            .register
-            .limits()
-            .quota
-            .saturating_sub(self.usage(unit));
-        need == 0 || need <= free
-    }
-
-    /// Whether the charge may grow by so much; it may always stay.
-    pub fn fits_area(&self, growth: u64) -> bool
-        requires { charge in_lengths self.now.machine < 2 ^ 64 }
-        ensures { result ≡ fits_area in_lengths self.now.machine growth }
-    {
-        let free = self.register.limits().area.saturating_sub(self.charge());
-        growth == 0 || growth <= free.saturating_sub(7)
-    }
-
-    /// Whether there are so many blocks more; none may always be kept.
-    pub fn fits_pool(&self, need: u64) -> bool
-        ensures { result ≡ fits_pool in_lengths self.now.machine need }
-    {
-        need == 0 || self.pool.room(need)
     }
 
     /// The file at a place with its blocks; None where none is.

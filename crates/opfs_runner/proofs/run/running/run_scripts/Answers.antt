@@ -1,4 +1,4 @@
-use Rattle.std.proofs.Common.{◌≡◌, ◌+◌, [], length, map, rules, sym, ap, ◌∙◌, subst, arith}
+use Rattle.std.proofs.Common.{◌≡◌, ◌+◌, [], length, map, rules, refl, sym, ap, ◌∙◌, subst, arith}
 use Rattle.opfs_hall.specs.Seen.{AreNew, HasAll, new_pass}
 use Rattle.opfs_runner.specs.Run.Begun.{AreAgentsOf}
 use Rattle.opfs_runner.proofs.run.Begun.{agents-count, keys_of, may-begin, new-starters, ready}
@@ -100,6 +100,6 @@ close-store-requires-clause-all g c =
     let one = c.begin_all.ensures.owner of (new-starters g.S.Store.opened of scripts agents-of starters same passes new) in
     let owner : c.unwrap-owner.result ≡ new_pass of 0 [] = search (rules, one) in
     let none : length scripts ≡ 0 =
-    sym (agents-count g.S.Store.opened of scripts agents-of starters same passes new c.begin_all.new.agents.items c.begin_all.ensures.count) ∙ ap length c.in-None.ensures.none in
+    sym (agents-count g.S.Store.opened of scripts agents-of starters same passes new c.begin_all.new.agents.items c.begin_all.ensures.count) ∙ ap length (c.in-None.ensures.none.0 refl) in
     let agents : of.agents ≡ length scripts = search rules in
     subst HasAll (sym owner) (λ k most other. absurd (other (omega (arith, most, agents, none))))
