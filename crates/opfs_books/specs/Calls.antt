@@ -55,19 +55,22 @@ pub record HasStored {S D : Type 0} (s : SharedWords S) (w : DiskWords D) (e : E
   pub tree : s.tree new.state ≡ tree_by (s.machine b.state) (s.tree b.state) e.agent e.op z extents
   pub idle : (s.standby new.state).prepared.place ≡ None
   pub none : new.commits.count ≡ 0
+  pub place : new.place ≡ None
   pub sure : j.in_doubt ≡ false
   pub freed : after ≡ free ++ freed_in (s.machine b.state) (s.tree b.state) e.agent e.op extents
   pub books : (f : Fixed D) (recorded : Built) (base : State Text Own) (gone : List Text) → AreBooksAt w f recorded base gone (book_of s b) old
       → IsNext w.tells base gone e → z ≡ sizes_of (fold evicted base gone) e.agent e.op → MayStore f (book_of s b) own → BytesStand w f base gone old e own
       → AreBooks w f (book_of s new).rows (book_of s new) j
 
--- The disk failed in a commit for a call: the call is entered so, and all else is as it was.
+-- The disk failed in a commit for a call: the call is entered so, what it would have stored next may be in doubt, and all else is as
+-- it was.
 pub record HasFailedIn {S D : Type 0} (s : SharedWords S) (w : DiskWords D) (e : Entry) (b new : Books S) (old j : Seen D) (free after : Vec Extent Global) : Type 0 where
   pub entries : new.history ≡ b.history ++ failed e ∷ []
   pub machine : s.machine new.state ≡ counted (refused (s.machine b.state) e.agent e.op) e.agent
   pub tree : s.tree new.state ≡ s.tree b.state
   pub idle : (s.standby new.state).prepared.place ≡ None
   pub commits : new.commits ≡ b.commits
+  pub place : new.place ≡ Some (length b.history)
   pub freed : after ≡ free
   pub cause : Rose (w.faults old.disk) (w.faults j.disk)
 
@@ -92,6 +95,7 @@ pub record HasEvicted {S D : Type 0} (s : SharedWords S) (w : DiskWords D) (unit
   pub tree : s.tree new.state ≡ without (unit, []) (s.tree b.state)
   pub standby : s.standby new.state ≡ s.standby b.state
   pub none : new.commits.count ≡ 0
+  pub place : new.place ≡ None
   pub sure : j.in_doubt ≡ false
   pub freed : after ≡ free ++ extents_within (unit, []) (s.tree b.state)
   pub books : (f : Fixed D) (recorded : Built) (base : State Text Own) (others : List Text) → AreBooksAt w f recorded base others (book_of s b) old
@@ -118,6 +122,7 @@ pub record HasKept {S D : Type 0} (s : SharedWords S) (w : DiskWords D) (e : Ent
   pub tree : s.tree new.state ≡ tree_by (s.machine b.state) (s.tree b.state) e.agent e.op z extents
   pub idle : (s.standby new.state).prepared.place ≡ None
   pub commits : new.commits ≡ with_kept b.commits own
+  pub place : new.place ≡ None
   pub freed : after ≡ free ++ freed_in (s.machine b.state) (s.tree b.state) e.agent e.op extents
   pub books : (f : Fixed D) (recorded : Built) (base : State Text Own) (gone : List Text) → AreBooksAt w f recorded base gone (book_of s b) j
       → IsNext w.tells base gone e → z ≡ sizes_of (fold evicted base gone) e.agent e.op → MayStore f (book_of s b) own

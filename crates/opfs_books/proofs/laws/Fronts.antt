@@ -1,5 +1,6 @@
 -- What a stop may leave of a history, and of a longer one.
-use Rattle.std.proofs.Common.{◌≡◌, ℕ, ◌+◌, ◌≤◌, List, [], ◌∷◌, ◌++◌, length, take, Option, Some, None, inl, inr, refl, sym, ap, ◌∙◌, subst, append-nil, arith}
+use Rattle.std.proofs.Common.{◌≡◌, ℕ, ◌+◌, ◌≤◌, Bool, true, false, List, [], ◌∷◌, ◌++◌, length, take, Option, Some, None, inl, inr, refl, sym, ap, ◌∙◌, subst, append-nil, arith}
+use Rattle.std.specs.Prelude.{if◌then◌else◌}
 use Rattle.std.proofs.lemmas.Bool.{cases_lt}
 use Rattle.std.proofs.lemmas.List.{length-append, take-append-le, take_all}
 use Rattle.opfs_commit.specs.Shown.{IsShown}
@@ -54,6 +55,11 @@ module _ (o : Opening) where
 
   pub shown-told : (least : ℕ) (h : List Entry) (c : List ℕ) → IsShown o least (changes o h) c → IsShownOnce o least h c
   shown-told least h c shown = shown-once least h None c (none-recent h None refl) (subst (λ cs. IsShown o least cs c) (sym (append-nil (changes o h))) shown)
+
+  -- So it is with what is in doubt where a gate is.
+  pub doubt-once : (least : ℕ) (h : List Entry) (place : Option ℕ) (unsure : Bool) (c : List ℕ) → IsRecent o h place → IsShown o least (changes o h ++ (if unsure then doubted o h place else [])) c → IsShownOnce o least h c
+  doubt-once least h place true c recent shown = shown-once least h place c recent shown
+  doubt-once least h place false c recent shown = shown-told least h c (subst (λ cs. IsShown o least cs c) (append-nil (changes o h)) shown)
 
   -- With less it shows that too, and of a longer history.
   pub once-least : (least less : ℕ) (h : List Entry) (c : List ℕ) → less ≤ least → IsShownOnce o least h c → IsShownOnce o less h c

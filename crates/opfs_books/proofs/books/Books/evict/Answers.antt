@@ -1,4 +1,4 @@
-use Rattle.std.proofs.Common.{[], ◌∷◌, ◌++◌, inl, inr, refl, sym, ap, subst, ◌∙◌}
+use Rattle.std.proofs.Common.{[], ◌∷◌, ◌++◌, inl, inr, ℕ, Some, refl, sym, ap, subst, ◌∙◌}
 use Rattle.opfs_codec.specs.declared.change.Change.{Change as Spelled}
 use Rattle.opfs_codec.specs.declared.change.Change.TheVariants.{Evict}
 use Rattle.opfs_commit.specs.Calls.{IsAnyOf, IsNoneOf, IsNext, stored_in}
@@ -44,6 +44,7 @@ returns-in-Ok-clause-evicted g c =
       tree = c.clear.ensures.tree;
       standby = c.clear.ensures.standby;
       none = ap (λ (k : KeptBack). k.count) committed.none;
+      place = refl;
       sure = committed.journal.sure;
       freed = c.clear.ensures.freed;
       books = λ f recorded base others are.
@@ -101,6 +102,7 @@ returns-in-Err-clause-failed g c =
       tree = c.refuse.ensures.tree;
       idle = c.refuse.ensures.idle;
       commits = c.in-Err.ensures.halted.halted.same;
+      place = ap (λ (n : ℕ). Some n) c.len-place.ensures;
       freed = refl;
       cause = c.in-Err.ensures.cause;
     }

@@ -1,4 +1,4 @@
-use Rattle.std.proofs.Common.{None, sym, subst}
+use Rattle.std.proofs.Common.{None, refl, sym, subst}
 use Rattle.opfs_codec.specs.Fields.{plain}
 use Rattle.opfs_tree.specs.Rows.{Rows, IsInOrder}
 use Rattle.opfs_books.specs.Laws.Books.{AreBooks}
@@ -20,6 +20,7 @@ returns-clause-kept g c =
       tree = c.apply.ensures.tree;
       idle = c.apply.ensures.idle;
       commits = c.keep.ensures;
+      place = refl;
       freed = c.apply.ensures.freed;
       books = λ f recorded base gone are next sizes stores.
           let b = c.args.self.now in

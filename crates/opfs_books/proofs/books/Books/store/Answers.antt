@@ -1,4 +1,4 @@
-use Rattle.std.proofs.Common.{[], ◌∷◌, ◌++◌, inl, inr, refl, ap, subst, ◌∙◌}
+use Rattle.std.proofs.Common.{[], ◌∷◌, ◌++◌, inl, inr, ℕ, Some, refl, ap, subst, ◌∙◌}
 use Rattle.opfs_commit.specs.Seen.{KeptBack}
 use Rattle.opfs_hist.specs.declared.entry.Entry.{Entry}
 use Rattle.opfs_codec.specs.Fields.{plain}
@@ -43,6 +43,7 @@ returns-in-Ok-clause-stored g c =
       tree = c.apply.ensures.tree;
       idle = c.apply.ensures.idle;
       none = ap (λ (k : KeptBack). k.count) committed.none;
+      place = refl;
       sure = committed.journal.sure;
       freed = c.apply.ensures.freed;
       books = λ f recorded base gone are next sizes stores bytes.
@@ -111,6 +112,7 @@ returns-in-Err-clause-failed g c =
       tree = c.refuse.ensures.tree;
       idle = c.refuse.ensures.idle;
       commits = c.in-Err.ensures.halted.halted.same;
+      place = ap (λ (n : ℕ). Some n) c.len-place.ensures;
       freed = refl;
       cause = c.in-Err.ensures.cause;
     }
