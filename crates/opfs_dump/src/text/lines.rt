@@ -1,6 +1,6 @@
 //! What loading tells.
 
-ghost use Rattle.std.specs.Prelude.{◌≡◌, IfOk, string_bytes};
+ghost use Rattle.std.specs.Prelude.{◌≡◌, ◌≢◌, IfOk, string_bytes};
 ghost use Rattle.opfs_dump.specs.Text.Texts.{loaded_line, refusal_text, refused_line};
 
 use crate::text::refusal::DumpRefusal;
@@ -15,6 +15,7 @@ pub fn loaded_line(alloc: Global, rows: usize) -> Result<String, AllocError>
 
 // Why a text is refused, with its numbers.
 fn refusal_text(alloc: Global, why: DumpRefusal) -> Result<String, AllocError>
+    requires { why ≢ DumpRefusal.NoMemory }
     ensures { IfOk result (λ text. string_bytes text ≡ refusal_text why) }
 {
     match why {
@@ -23,7 +24,7 @@ fn refusal_text(alloc: Global, why: DumpRefusal) -> Result<String, AllocError>
         DumpRefusal::BadDump(row) => format!(in alloc; "BadDump {row}"),
         DumpRefusal::Full(need, blocks) => format!(in alloc; "Full {need} {blocks}"),
         DumpRefusal::Overfull(charge, area) => format!(in alloc; "Overfull {charge} {area}"),
-        DumpRefusal::NoMemory => Err(AllocError),
+        DumpRefusal::NoMemory => unreachable!(),
     }
 }
 
