@@ -1,11 +1,9 @@
 -- The writer's side, piece by piece.
-use Rattle.std.proofs.Common.{◌≡◌, ℕ, ◌+◌, ◌≤◌, List, [], ◌∷◌, ◌++◌, append-nil, append_assoc, length, refl, sym, ap, ◌∙◌, subst, arith}
-use Rattle.std.proofs.lemmas.List.{length-append}
+use Rattle.std.proofs.Common.{◌≡◌, List, [], ◌∷◌, ◌++◌, append-nil, append_assoc, sym, ap, ◌∙◌, subst}
 use Rattle.opfs_base.specs.Texts.{Text}
 use Rattle.opfs_turns.specs.Asking.Rows.{HasStream, StreamSeen}
 use Rattle.opfs_turns.specs.declared.asking.stop.Stop.{Stop}
 use Rattle.opfs_turns.specs.Agents.{AgentSeen}
-use Rattle.opfs_turns.specs.Calls.{HasRoom}
 use Rattle.opfs_pipe.specs.Sides.{Drained, Failed, Lost, Written}
 use Rattle.opfs_pipe.proofs.Joined.{failed-then, written-none, written-then}
 

@@ -1,12 +1,12 @@
 -- A round, from how its two sides ended.
-use Rattle.std.proofs.Common.{◌≡◌, ℕ, ◌+◌, ◌<◌, ◌≤◌, List, [], ◌∷◌, ◌++◌, append-nil, Result, Ok, Err, refl, sym, ap, ◌∙◌, subst}
+use Rattle.std.proofs.Common.{◌≡◌, ℕ, List, [], ◌++◌, append-nil, Result, Ok, Err, sym, ap, ◌∙◌, subst}
 use Rattle.opfs_base.specs.Texts.{Text}
 use Rattle.opfs_turns.specs.Asking.Rows.{SnapshotSeen, StreamSeen}
 use Rattle.opfs_turns.specs.declared.asking.stop.Stop.{Stop}
 use Rattle.opfs_turns.specs.Agents.{AgentSeen}
 use Rattle.opfs_pipe.specs.Pieces.{IsCut}
 use Rattle.opfs_pipe.specs.Rounds.{HasRound}
-use Rattle.opfs_pipe.specs.Sides.{Drained, Filled, HasDrained, HasFilled, Lost}
+use Rattle.opfs_pipe.specs.Sides.{Drained, HasDrained, HasFilled, Lost}
 use Rattle.opfs_pipe.proofs.Passes.{filled-any, round-done, round-lost, round-lost-later}
 
 module _ {O : Type 0} (tells : Type 0) (ra rb wa wb : AgentSeen O) (x : SnapshotSeen) (at place end : ℕ) (y z : StreamSeen) (was pushed is got popped gotten known : List Text) (r : Result ℕ Stop) (d : Result (Unit {0}) Stop)

@@ -1,11 +1,10 @@
 -- What the two sides do, one after another.
-use Rattle.std.proofs.Common.{◌≡◌, ◌≢◌, ℕ, zero, suc, ◌+◌, ◌≤◌, true, false, List, [], ◌∷◌, ◌++◌, append-nil, append_assoc, length, map, Option, Some, None, Result, Ok, Err, IfOk, IfErr, refl, sym, ap, ◌∙◌, subst, arith}
+use Rattle.std.proofs.Common.{◌≡◌, ◌≢◌, ℕ, ◌+◌, true, false, List, [], ◌∷◌, ◌++◌, append-nil, append_assoc, length, map, Option, Some, None, Result, Ok, Err, IfOk, IfErr, refl, sym, ap, ◌∙◌, subst, arith}
 use Rattle.std.specs.List.{concat}
 use Rattle.std.proofs.lemmas.List.{length-append}
 use Rattle.std.proofs.lemmas.List.Folds.{concat-append}
-use Rattle.opfs_store.specs.declared.acts.acted.Gift.{Gift}
 use Rattle.opfs_base.specs.Texts.{Text}
-use Rattle.opfs_turns.specs.Asking.Answers.{HasAnswer, Shared}
+use Rattle.opfs_turns.specs.Asking.Answers.{Shared}
 use Rattle.opfs_turns.specs.Asking.Locals.{HasLocalAnswer, IsMade, Local}
 use Rattle.opfs_turns.specs.Asking.Rows.{HasSnapshot, HasStream, SnapshotSeen, StreamSeen}
 use Rattle.opfs_turns.specs.declared.asking.stop.Stop.{Stop}
@@ -17,7 +16,6 @@ use Rattle.opfs_hist.specs.declared.op.Op.TheVariants as op
 use Rattle.opfs_hist.specs.declared.reply.Refusal.{Refusal}
 use Rattle.opfs_hist.specs.declared.reply.Reply.{Reply}
 use Rattle.opfs_hist.specs.declared.reply.Reply.TheVariants as reply
-use Rattle.opfs_laws.specs.Histories.Unread.{unread}
 use Rattle.opfs_laws.specs.Leaving.{asks_nobody, row_used}
 use Rattle.opfs_machine.specs.declared.own.Own.{Own}
 use Rattle.opfs_machine.specs.declared.own.Own.TheVariants as own
@@ -28,7 +26,6 @@ use Rattle.opfs_agent.specs.StreamCalls.Ends.{GivesBack, IsClosed, WasStopped}
 use Rattle.opfs_sync_files.specs.Entries.{GoesOn}
 use Rattle.opfs_sync_files.proofs.Knowing.{goes-most, goes-none, goes-then}
 use Rattle.opfs_turns.specs.Agents.{AgentSeen, IsAgent, own_row, state_of}
-use Rattle.opfs_turns.specs.Calls.{HasLooked}
 use Rattle.opfs_pipe.specs.Pieces.{slices_of, write_of}
 use Rattle.opfs_pipe.specs.Sides.{Failed, HasWritten, IsLast, IsOn, IsStored, Sliced, Written}
 use Rattle.opfs_sync_files.specs.Resting.{LeavesRest}

@@ -1,11 +1,9 @@
 -- A write at the end of a stream that fits.
-use Rattle.std.proofs.Common.{◌≡◌, ℕ, ◌+◌, max, false, List, [], ◌∷◌, ◌++◌, append-nil, length, Option, Some, None, Result, Ok, Err, refl, sym, ap, ◌∙◌, subst, arith}
-use Rattle.std.specs.List.{concat}
+use Rattle.std.proofs.Common.{◌≡◌, ◌+◌, max, [], ◌∷◌, ◌++◌, append-nil, length, Some, None, Result, Ok, Err, refl, sym, ap, ◌∙◌, subst, arith}
 use Rattle.opfs_base.specs.Texts.{Text}
 use Rattle.opfs_hist.specs.declared.op.Op.{Op}
 use Rattle.opfs_hist.specs.declared.op.Op.TheVariants as op
 use Rattle.opfs_hist.specs.declared.reply.Refusal.{Refusal}
-use Rattle.opfs_hist.specs.declared.reply.Reply.{Reply}
 use Rattle.opfs_hist.specs.declared.reply.Reply.TheVariants as reply
 use Rattle.opfs_laws.specs.Histories.Unread.{unread}
 use Rattle.opfs_machine.specs.declared.own.Own.{Own}
@@ -17,7 +15,7 @@ use Rattle.opfs_machine.specs.Rulings.{reserve_for}
 use Rattle.opfs_splice.specs.Splicing.{splice}
 use Rattle.opfs_work.specs.Works.{place_in, IsNearWrite}
 use Rattle.opfs_turns.specs.Agents.{AgentSeen, IsAgent, own_row}
-use Rattle.opfs_turns.specs.Asking.Locals.{HasLocalAnswer, IsMade, Local}
+use Rattle.opfs_turns.specs.Asking.Locals.{IsMade, Local}
 use Rattle.opfs_turns.specs.Asking.Rows.{HasStream, StreamSeen}
 use Rattle.opfs_turns.specs.declared.asking.stop.Stop.{Stop}
 use Rattle.opfs_turns.specs.declared.asking.stop.Stop.TheVariants as stop

@@ -1,8 +1,6 @@
 -- The rounds of a pipe.
-use Rattle.std.proofs.Common.{◌≡◌, ℕ, ◌+◌, ◌<◌, ◌≤◌, List, [], ◌∷◌, ◌++◌, append-nil, append_assoc, length, Result, Ok, Err, refl, sym, ap, ◌∙◌, subst, arith}
-use Rattle.std.specs.List.{concat}
-use Rattle.std.proofs.lemmas.List.{append_cancel_left, length-append}
-use Rattle.std.proofs.lemmas.List.Folds.{concat-append}
+use Rattle.std.proofs.Common.{◌≡◌, ℕ, ◌+◌, ◌≤◌, List, [], ◌∷◌, ◌++◌, append-nil, append_assoc, Result, Ok, Err, refl, sym, ap, ◌∙◌, subst, arith}
+use Rattle.std.proofs.lemmas.List.{append_cancel_left}
 use Rattle.opfs_base.specs.Texts.{Text}
 use Rattle.opfs_turns.specs.Asking.Rows.{HasSnapshot, HasStream, SnapshotSeen, StreamSeen}
 use Rattle.opfs_turns.specs.declared.asking.stop.Stop.{Stop}
@@ -10,7 +8,7 @@ use Rattle.opfs_turns.specs.declared.asking.stop.Stop.TheVariants as stop
 use Rattle.opfs_splice.specs.Splicing.{window}
 use Rattle.opfs_turns.specs.Agents.{AgentSeen}
 use Rattle.opfs_pipe.specs.Pieces.{IsCut}
-use Rattle.opfs_pipe.specs.Rounds.{Halted, HasMoved, HasRound, Moved, MovedPart, Passed}
+use Rattle.opfs_pipe.specs.Rounds.{HasMoved, HasRound}
 use Rattle.opfs_pipe.specs.Sides.{Drained, Failed, Filled, HasFilled, Lost, Sliced, Written}
 use Rattle.opfs_pipe.proofs.Joined.{failed-then, sliced-none, sliced-then, written-failed, written-none, written-then}
 use Rattle.opfs_pipe.proofs.Lists.{cut-few, cut-front, cut-whole}

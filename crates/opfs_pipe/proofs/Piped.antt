@@ -1,15 +1,12 @@
 -- A pipe, from what was moved and how the close went.
-use Rattle.std.proofs.Common.{◌≡◌, ℕ, ◌+◌, ◌≤◌, List, [], ◌∷◌, ◌++◌, append-nil, append_assoc, length, map, Result, Ok, Err, IfOk, IfErr, refl, sym, ap, ◌∙◌, subst, arith}
+use Rattle.std.proofs.Common.{◌≡◌, ℕ, ◌+◌, [], ◌∷◌, ◌++◌, append-nil, length, Result, Ok, Err, IfOk, IfErr, sym, ap, ◌∙◌, subst, arith}
 use Rattle.std.specs.List.{concat}
 use Rattle.std.proofs.lemmas.List.{length-append}
 use Rattle.opfs_base.specs.Places.{place_of}
 use Rattle.opfs_base.specs.Texts.{Text}
-use Rattle.opfs_turns.specs.Asking.Rows.{HasClosedStream, HasSnapshot, HasStream, SnapshotSeen, StreamSeen}
+use Rattle.opfs_turns.specs.Asking.Rows.{HasClosedStream, SnapshotSeen, StreamSeen}
 use Rattle.opfs_turns.specs.declared.asking.stop.Stop.{Stop}
-use Rattle.opfs_hist.specs.declared.entry.Entry.{Entry}
-use Rattle.opfs_hist.specs.declared.op.Op.{Op}
 use Rattle.opfs_hist.specs.declared.op.Op.TheVariants as op
-use Rattle.opfs_hist.specs.declared.reply.Reply.{Reply}
 use Rattle.opfs_hist.specs.declared.reply.Reply.TheVariants as reply
 use Rattle.opfs_machine.specs.Changes.{content, entry_changes}
 use Rattle.opfs_machine.specs.Histories.{state_after}
@@ -17,7 +14,6 @@ use Rattle.opfs_splice.specs.Splicing.{window}
 use Rattle.opfs_sync_files.specs.Entries.{GoesOn}
 use Rattle.opfs_sync_files.proofs.Knowing.{goes-most, goes-then}
 use Rattle.opfs_turns.specs.Agents.{AgentSeen}
-use Rattle.opfs_pipe.specs.Pieces.{slices_of, write_of}
 use Rattle.opfs_pipe.specs.Pipes.{HasGivenBack, HasPiped}
 use Rattle.opfs_pipe.specs.Rounds.{Moved, MovedPart}
 use Rattle.opfs_pipe.specs.Sides.{Failed, IsLast, IsStored}

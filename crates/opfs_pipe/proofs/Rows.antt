@@ -1,20 +1,14 @@
 -- The row of a stream behind a write at its offset, and behind a close.
-use Rattle.std.proofs.Common.{◌≡◌, ℕ, ◌+◌, ◌-◌, ◌≤◌, max, Bool, true, false, List, [], ◌∷◌, ◌++◌, append-nil, append_assoc, length, take, drop, replicate, map, fold, Option, Some, None, Result, Ok, Err, refl, sym, ap, ◌∙◌, subst, arith}
-use Rattle.std.specs.List.{concat}
+use Rattle.std.proofs.Common.{◌≡◌, ℕ, ◌+◌, ◌-◌, true, [], ◌++◌, append-nil, length, take, drop, replicate, Some, None, Err, refl, sym, ap, ◌∙◌, arith}
 use Rattle.std.proofs.lemmas.List.{length-append, drop_all}
-use Rattle.std.proofs.lemmas.List.Sums.{fold-append}
 use Rattle.std.proofs.Math.Seq.{take-length}
 use Rattle.opfs_store.specs.declared.acts.acted.Gift.{Gift}
-use Rattle.opfs_store.specs.Acts.Acting.{IsSameCopy, told_entry}
-use Rattle.opfs_base.specs.Places.{place_of}
 use Rattle.opfs_base.specs.Texts.{Text}
 use Rattle.opfs_turns.specs.Asking.Answers.{HasAnswer, Shared}
 use Rattle.opfs_turns.specs.Asking.Rows.{HasStream, StreamSeen}
 use Rattle.opfs_turns.specs.declared.asking.stop.Stop.{Stop}
-use Rattle.opfs_turns.specs.declared.asking.stop.Stop.TheVariants as stop
-use Rattle.opfs_turns.proofs.asking.Entered.{s, t, list, known-is, row-there}
-use Rattle.opfs_turns.proofs.asking.Rowed.{own_agent, stopped-own}
-use Rattle.opfs_hist.specs.declared.entry.Entry.{Entry}
+use Rattle.opfs_turns.proofs.asking.Entered.{t, row-there}
+use Rattle.opfs_turns.proofs.asking.Rowed.{stopped-own}
 use Rattle.opfs_hist.specs.declared.op.Op.{Op}
 use Rattle.opfs_hist.specs.declared.op.Op.TheVariants as op
 use Rattle.opfs_hist.specs.declared.reply.Reply.{Reply}
@@ -27,22 +21,16 @@ use Rattle.opfs_machine.specs.declared.state.Agent.{Agent}
 use Rattle.opfs_machine.specs.declared.state.Sizes.{Sizes}
 use Rattle.opfs_machine.specs.declared.state.State.{State}
 use Rattle.opfs_machine.specs.Agents.{agent_of, own_of}
-use Rattle.opfs_machine.specs.Changes.{Change, content, entry_changes, stored_by, stream_stored}
 use Rattle.opfs_machine.specs.Contents.{outline_of, written_row}
-use Rattle.opfs_machine.specs.Effects.{effect, moment_of}
-use Rattle.opfs_machine.specs.Histories.{after_entry, state_after}
-use Rattle.opfs_machine.specs.Openings.{begun}
+use Rattle.opfs_machine.specs.Effects.{effect}
 use Rattle.opfs_machine.specs.Replies.{sizes_in, sizes_of}
 use Rattle.opfs_machine.specs.Rulings.{reserve_for, size_written, start_of}
-use Rattle.opfs_machine.specs.Runs.{eviction}
-use Rattle.opfs_machine.specs.Steps.{evicted}
 use Rattle.opfs_machine.specs.Sums.{reserve_of}
 use Rattle.opfs_splice.specs.Splicing.{splice}
 use Rattle.opfs_agent.proofs.stream_calls.Facts.{facts, row-is}
 use Rattle.opfs_agent.proofs.stream_calls.Shared.{changed-row, own-then}
 use Rattle.opfs_turns.specs.Agents.{AgentSeen, IsAgent, own_row}
-use Rattle.opfs_turns.specs.Calls.{before_call, call_of, IsEntered}
-use Rattle.opfs_pipe.specs.Streams.{StoresLast, buffer_in, offset_in, stream_bytes, stream_offset}
+use Rattle.opfs_pipe.specs.Streams.{buffer_in, offset_in, stream_bytes, stream_offset}
 
 abbrev pub IsDone : Unit {0} → Reply → Gift → Type 0
 IsDone x answered given = answered ≡ reply.Done

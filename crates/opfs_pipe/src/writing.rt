@@ -16,11 +16,7 @@ use opfs_turns::Stop;
 use std::sync::Wait;
 
 // Writes bytes at the end of a stream that fit, with no turn.
-fn write_near<S: Store>(
-    writer: &mut Agent<S>,
-    to: &mut Writable,
-    bytes: &Data,
-) -> Result<(), Stop>
+fn write_near<S: Store>(writer: &mut Agent<S>, to: &mut Writable, bytes: &Data) -> Result<(), Stop>
     requires room { HasRoom writer.old }
     requires stream { HasStream S.tells writer.old to.old }
     requires near { IsNearWrite to.old.work (place_in to.old.work None) (length bytes.now) }

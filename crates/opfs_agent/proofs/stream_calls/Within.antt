@@ -180,10 +180,10 @@ module _ {O : Type 0} (tells : Type 0) (a : AgentSeen O) (kept : IsAgent tells a
         plain-call tells a kept called (ap (λ r. fits_stream r (size_written (sizes_in s r) position bytes)) there ∙ most-test (blocks size) (facts tells a x has).w.reserve fits) (ap is_stream there) reply.Done refl
         (sym (granted-answer s k called write-ruled))
 
-    abbrev written : StreamRow
+    abbrev pub written : StreamRow
     written = record (facts tells a x has).w { buffer = splice (facts tells a x has).w.buffer place bytes; offset = place + length bytes; reserve = reserve_for (facts tells a x has).w.reserve size }
 
-    write-row : own_of (agent_of (step s k called).after k) x.row ≡ Some (own.Stream written)
+    pub write-row : own_of (agent_of (step s k called).after k) x.row ≡ Some (own.Stream written)
     unfolding effect
     write-row =
         ap (λ u. own_of (agent_of u k) x.row) (granted-after s k called write-ruled)

@@ -254,10 +254,14 @@ module _ {O : Type 0} (tells : Type 0) (hall : HallSeen O) (a b : AgentSeen O) (
   taken-has at (Ok x) h = h.gives.2
   taken-has at (Err why) h = tt
 
-  -- A part of one.
+  -- A call with no turn.
+  pub local-used : {T : Type 0} (called : Op) (Gives : T → Reply → Type 0) (r : Result T Stop) (n : ℕ) → row_used called ≡ n → Local tells a b called 0 Gives r → IsReady hall a n → IsReady hall b n
+  local-used called Gives r n used h ready =
+      ready-on n 1 (local-goes tells a b kept later called Gives r h) (subst (LeavesRest tells a b) used (rest-local tells a b kept later called Gives r h)) ready
+
+  -- A part of a snapshot.
   pub local-ready : {T : Type 0} (called : Op) (Gives : T → Reply → Type 0) (r : Result T Stop) → row_used called ≡ 0 → Local tells a b called 0 Gives r → IsReady hall a 0 → IsReady hall b 0
-  local-ready called Gives r used h ready =
-      ready-on 0 1 (local-goes tells a b kept later called Gives r h) (subst (LeavesRest tells a b) used (rest-local tells a b kept later called Gives r h)) ready
+  local-ready called Gives r used h ready = local-used called Gives r 0 used h ready
 
   pub local-on : {T : Type 0} (called : Op) (Gives : T → Reply → Type 0) (r : Result T Stop) → Local tells a b called 0 Gives r → Goes a b 1
   local-on called Gives r h = goes-on (row_used called) 1 1 (omega arith) (local-goes tells a b kept later called Gives r h) (rest-local tells a b kept later called Gives r h)

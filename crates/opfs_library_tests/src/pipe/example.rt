@@ -123,6 +123,34 @@ pub fn save<S: Store, R: Wait>(
     }
 }
 
+/// Writes bytes at a place of a stream: with no turn where they fit, else under the turn.
+pub fn write_at<S: Store, R: Wait>(
+    rt: &R,
+    court: &Hall<S>,
+    agent: &mut Agent<S>,
+    stream: &mut Writable,
+    bytes: &Data,
+    at: u64,
+) -> Result<(), Stop>
+    requires ready { IsReady court.now agent.old stream.old.row }
+    requires few { HasMade agent.old 50000001 }
+    requires stream { HasStream S.tells agent.old stream.old }
+    requires small { IsSmallData bytes.now × IsSmall at }
+    ensures ready { IsReady court.now agent.new stream.new.row }
+    ensures goes { Goes agent.old agent.new 1 }
+    ensures stream { HasStream S.tells agent.new stream.new }
+{
+    agent.know_kept();
+    if stream.fits(Some(at), bytes.len()) {
+        let near = agent.write_within(stream, bytes, Some(at));
+        agent.know_kept();
+        return near;
+    }
+    let far = agent.write_growing(rt, court, stream, bytes, Some(at));
+    agent.know_kept();
+    far
+}
+
 /// Writes bytes at a place of a stream, and closes it. Where that is refused the file is as it was.
 pub fn fill<S: Store, R: Wait>(
     rt: &R,
@@ -139,10 +167,7 @@ pub fn fill<S: Store, R: Wait>(
     ensures ready { IsReady court.now agent.new 0 }
     ensures goes { Goes agent.old agent.new 3 }
 {
-    agent.know_kept();
-    let written = agent.write_growing(rt, court, &mut stream, bytes, Some(at));
-    agent.know_kept();
-    match written {
+    match write_at(rt, court, agent, &mut stream, bytes, at) {
         Ok(()) => save(rt, court, agent, stream),
         Err(stop) => {
             give_up(rt, court, agent, stream);

@@ -1,8 +1,7 @@
-use Rattle.std.proofs.Common.{◌≡◌, ◌+◌, ◌-◌, ◌≤◌, [], ◌∷◌, ◌++◌, append_assoc, length, rules, refl, sym, ap, ◌∙◌, arith}
+use Rattle.std.proofs.Common.{[], ◌∷◌, ◌++◌, append_assoc, length, rules, sym, ap, ◌∙◌, arith}
 use Rattle.std.proofs.lemmas.List.{length-append}
 use Rattle.rtrb.specs.Ring.{known_items, received}
-use Rattle.opfs_pipe.proofs.Drains.{drained-lost, drained-more, drained-none}
-use Rattle.opfs_pipe.proofs.Joined.{written-end}
+use Rattle.opfs_pipe.proofs.Drains.{drained-lost, drained-more}
 use Rattle.opfs_pipe.proofs.Rooms.{drain-room}
 use Rattle.opfs_pipe.proofs.draining.drain_known.Goals as goal
 

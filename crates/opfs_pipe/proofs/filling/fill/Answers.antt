@@ -1,4 +1,4 @@
-use Rattle.std.proofs.Common.{◌≡◌, ◌+◌, ◌-◌, ◌<◌, ◌≤◌, min, rules, refl, sym, ◌∙◌, subst, arith}
+use Rattle.std.proofs.Common.{◌≡◌, ◌-◌, min, rules, sym, ◌∙◌, subst, arith}
 use Rattle.rtrb.specs.Ring.{sent}
 use Rattle.opfs_pipe.specs.Sides.{Filled}
 use Rattle.opfs_pipe.proofs.Filled.{filled-more, filled-none, filled-still}

@@ -1,4 +1,4 @@
-use Rattle.std.proofs.Common.{◌≡◌, ◌+◌, ◌-◌, ◌≤◌, min, rules, refl, sym, ap, ◌∙◌, subst, arith}
+use Rattle.std.proofs.Common.{◌≡◌, ◌-◌, min, rules, refl, subst}
 use Rattle.std.specs.Prelude.{length}
 use Rattle.opfs_base.specs.Texts.{Text}
 use Rattle.opfs_splice.specs.Splicing.{window}

@@ -1,4 +1,3 @@
-use Rattle.std.proofs.Common.{◌≡◌, sym, ◌∙◌}
 use Rattle.rtrb.specs.Ring.{known_items, received, sent}
 use Rattle.opfs_pipe.proofs.Halts.{halted-early, halted-late, went-on}
 use Rattle.opfs_pipe.proofs.rounds.round.Goals as goal

@@ -1,8 +1,7 @@
-use Rattle.std.proofs.Common.{◌≡◌, ◌+◌, ◌-◌, ◌<◌, ◌≤◌, sym, ap, ◌∙◌, subst, refl, arith}
+use Rattle.std.proofs.Common.{sym, ◌∙◌, arith}
 use Rattle.rtrb.specs.Ring.{sent}
-use Rattle.opfs_pipe.proofs.Joined.{written-end}
 use Rattle.opfs_pipe.proofs.Lists.{cut-none}
-use Rattle.opfs_pipe.proofs.Passes.{going-done, going-halts, going-more, going-none}
+use Rattle.opfs_pipe.proofs.Passes.{going-halts, going-more, going-none}
 use Rattle.opfs_pipe.proofs.rounds.run_rounds.Goals as goal
 
 pub loop-next-init : goal.loop-next-init

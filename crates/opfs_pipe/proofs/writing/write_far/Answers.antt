@@ -1,4 +1,4 @@
-use Rattle.std.proofs.Common.{◌≤◌, arith}
+use Rattle.std.proofs.Common.{arith}
 use Rattle.opfs_pipe.proofs.Joined.{write-does}
 use Rattle.opfs_pipe.proofs.writing.write_far.Goals as goal
 
