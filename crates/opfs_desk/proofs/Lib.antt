@@ -2,5 +2,9 @@ pub mod Apart
 pub mod Begun
 pub mod Called
 pub mod Iterated
+pub mod Moments
+pub mod Passed
 pub mod Shown
+pub mod Storing
+pub mod Sure
 pub mod Tags

@@ -1,9 +1,9 @@
 //! The end of a run.
 
-ghost use Rattle.std.specs.Prelude.{◌≡◌, ◌≤◌, OnOk, OnErr};
+ghost use Rattle.std.specs.Prelude.{◌≡◌, ◌≤◌, [], OnOk, OnErr};
 ghost use Rattle.opfs_desk.specs.Apart.{IsToldApart};
 ghost use Rattle.opfs_desk.specs.Seen.{entries_of, disk_of};
-ghost use Rattle.opfs_desk.specs.Ending.{EndsTime, EndsTrail, KeepsSizes, LeavesFront, ShowsEnding, StandsWhole};
+ghost use Rattle.opfs_desk.specs.Ending.{EndsFronts, EndsKept, EndsTime, EndsWhole, KeepsSizes, LeavesFront, ShowsEnding, StandsWhole};
 ghost use Rattle.opfs_hist.specs.Faults.{disk_faults};
 ghost use Rattle.opfs_outside.specs.Faults.{Rose, RoseBy};
 
@@ -17,13 +17,16 @@ use opfs_outside::Disk;
 
 impl<D: Disk> Desk<D> {
     /// Ends the run: ends the doubt, commits what is kept back, and gives the disk and the history, in which each party's replies are
-    /// those of its own calls. At Ok the image stands for all that the history stored. Takes no memory.
+    /// those of its own calls. At Ok the image stands for all that the history stored, and so does each that a crash may leave. Takes no
+    /// memory.
     pub fn finish(self) -> (D, History, Result<(), DiskFault>)
         ensures history { result.1 ≡ entries_of self }
         ensures apart { IsToldApart D.tells self.fixed.opening result.1 }
         ensures stands { OnOk result.2 (StandsWhole D.Disk self result.0) }
+        ensures whole { OnOk result.2 (EndsWhole D.Disk self result.0) }
         ensures shown { ShowsEnding D.Disk self result.0 }
-        ensures trail { EndsTrail D.Disk self result.0 }
+        ensures fronts { EndsFronts D.Disk self result.0 }
+        ensures keeps { EndsKept D.Disk self result.0 }
         ensures left { D.tells → LeavesFront D.Disk self.fixed.opening result.1 result.0 }
         ensures sizes { KeepsSizes D.Disk self result.0 }
         ensures time { EndsTime D.Disk self result.0 }
@@ -60,8 +63,10 @@ impl<D: Disk> Desk<D> {
         state.end();
         (journal.give_back(), history, done)
     }
+
     /// Gives the disk back as it is, where no agent has begun. Takes no memory.
     pub fn leave(self) -> D
+        requires none { entries_of self ≡ [] }
         ensures { result ≡ disk_of self }
     {
         let Desk {

@@ -7,7 +7,9 @@ ghost use Rattle.opfs_books.specs.Openings.Openings.{fixed_by};
 
 use crate::desk::Desk;
 use opfs_base::Extent;
-use opfs_books::{Books, a_recovered_image_opens_a_run, limits_of};
+use opfs_books::{
+    Books, a_recovered_image_opens_a_run, limits_of, the_books_show_their_images,
+};
 use opfs_data::Swap;
 use opfs_desk_steps::{DeskParts, Iterators, Ledger, OpenPages};
 use opfs_hall::Told;
@@ -42,6 +44,7 @@ impl<D: Disk> Desk<D> {
         a_recovered_image_opens_a_run(&from);
         first_blocks_are_right();
         handles_stay_whole();
+        the_books_show_their_images::<D>();
         let who = Told::of(&agents);
         let told = Told::of(&from);
         let Recovered {

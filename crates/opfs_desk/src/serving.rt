@@ -1,6 +1,7 @@
 //! The desk serves agents.
 
 ghost use Rattle.std.specs.Prelude.{refl};
+ghost use Rattle.opfs_desk.specs.Seen.{disk_of};
 
 use crate::desk::Desk;
 use opfs_base::Name;
@@ -14,6 +15,10 @@ impl<D: Disk> Store for Desk<D> {
     ghost tells = { D.tells };
 
     ghost opened = { λ o. o.fixed.opening };
+
+    ghost faults = { λ d. D.faults (disk_of d) };
+
+    ghost faults_before = { λ o. D.faults o.fixed.begun };
 
     fn act(
         &mut self,
@@ -34,6 +39,10 @@ impl<D: Disk> Store for Desk<D> {
 
     fn know_legal(&self) {
         Desk::know_legal(self)
+    }
+
+    fn know_counts(&self) {
+        Desk::counts(self)
     }
 
     ghost owned = { λ e. refl };

@@ -1,11 +1,10 @@
 //! What the desk keeps.
 
-ghost use Rattle.std.specs.Prelude.{◌<◌, ◌^◌, length};
-ghost use Rattle.opfs_commit.specs.Trail.{IsTrail};
-ghost use Rattle.opfs_desk.specs.Seen.{entries_of, disk_of, ShowsNow, CountsFaults};
+ghost use Rattle.std.specs.Prelude.{◌≡◌, ◌++◌, ◌<◌, ◌^◌, List, length};
+ghost use Rattle.opfs_desk.specs.Moments.{KeepsContents, ShowsFronts};
+ghost use Rattle.opfs_desk.specs.Seen.{entries_of, disk_of, CountsFaults, HasAcknowledged, ShowsNow};
+ghost use Rattle.opfs_hist.specs.declared.entry.Entry.{Entry};
 ghost use Rattle.opfs_laws.specs.Histories.Unread.{IsTold};
-ghost use Rattle.opfs_machine.specs.Changes.{changes};
-ghost use Rattle.opfs_outside.specs.Faults.{Rose};
 
 use crate::desk::Desk;
 use opfs_books::{the_books_show_their_images, the_state_is_kept};
@@ -30,11 +29,21 @@ impl<D: Disk> Desk<D> {
         let _ = &self.parts;
     }
 
-    /// What the type keeps of the trail: as long as the disk has not failed since the run began, each image since shows a front of
-    /// what was told, and there is one for each content.
-    pub fn trail(&self)
-        ensures { D.tells → (Rose (D.faults self.now.fixed.begun) (D.faults (disk_of self.now)) → ⊥) → IsTrail D.Disk self.now.fixed.opening (changes self.now.fixed.opening (entries_of self.now)) self.now.fixed.begun (disk_of self.now) }
+    /// What the type keeps of each moment: each image since the run began shows a front of what is stored, and each content has been
+    /// kept since a moment.
+    pub fn know_moments(&self)
+        ensures fronts { D.tells → ShowsFronts D.Disk self.now.fixed.opening (entries_of self.now) self.now.fixed.begun (disk_of self.now) }
+        ensures keeps { D.tells → KeepsContents D.Disk self.now.fixed.opening (entries_of self.now) (disk_of self.now) }
     {
+        let _ = &self.parts;
+    }
+
+    /// What is acknowledged stays: each image that a crash may leave now has all that any front of the history stored up to its last
+    /// content.
+    pub fn know_acknowledged(&self)
+        ensures { D.tells → (front rest : List Entry) → entries_of self.now ≡ front ++ rest → HasAcknowledged D.Disk self.now front }
+    {
+        the_books_show_their_images::<D>();
         let _ = &self.parts;
     }
 

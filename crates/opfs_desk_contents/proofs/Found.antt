@@ -1,5 +1,5 @@
 -- Blocks for pages that wait for them, and what is held then.
-use Rattle.std.proofs.Common.{◌≡◌, ℕ, Bool, true, false, List, [], length, Some, refl, sym, ap, subst, ◌∙◌, arith}
+use Rattle.std.proofs.Common.{◌≡◌, ℕ, ◌≤◌, Bool, true, false, List, [], length, Some, refl, sym, ap, subst, ◌∙◌, arith}
 use Rattle.std.proofs.lemmas.Bool.{false≢true}
 use Rattle.opfs_base.specs.declared.extents.Extent.{Extent}
 use Rattle.opfs_books.specs.Laws.Books.{Fixed}
@@ -22,14 +22,17 @@ use Rattle.opfs_machine.specs.Sums.{reserve_of}
 use Rattle.opfs_outside.specs.declared.disk.Disk.{Ghosts as DiskWords}
 use Rattle.opfs_pages.specs.declared.writing.put.Put.{Put}
 use Rattle.opfs_records.specs.Replay.Built.{Built, has_block, named}
-use Rattle.opfs_pages.specs.RowCalls.Plans.{shelf, AreGotten, KnowsOwn, MayFindBlocks, WaitForBlocks}
+use Rattle.opfs_pages.specs.RowCalls.Finding.{MayFindBlocks}
+use Rattle.opfs_pages.specs.RowCalls.Plans.{shelf, AreGotten, KnowsOwn, WaitForBlocks}
 use Rattle.opfs_records.specs.Checkpoint.Written.{stored_rows}
 use Rattle.opfs_space.specs.Room.{Machine}
 use Rattle.opfs_space.specs.Spaces.{SpaceSeen}
 use Rattle.opfs_state_rows.specs.Standing.Seen.{lines_of}
 use Rattle.opfs_state.specs.Applied.{StateSeen}
 use Rattle.opfs_tree.specs.Rows.{Rows as Tree}
-use Rattle.opfs_blocks.specs.Sets.{Used}
+use Rattle.opfs_blocks.specs.Sets.{AreBelow, Used}
+use Rattle.opfs_space.specs.Holders.{AreAllBelow}
+use Rattle.std.specs.Vec.{vec_capacity}
 use Rattle.opfs_desk_contents.specs.Putting.{KeepsEnough}
 
 -- What is known of a row's own blocks does not depend on the machine, nor on what is recorded.
@@ -80,8 +83,8 @@ module _ {D : Type 0} (w : DiskWords D) (f : Fixed D) (new : Ledger D) (p : Open
   -- Nothing is kept back any more, so there is room.
   pub may-find : BooksKeepTheState w → TreesNameStoredBlocks → (machine_in new).rows ≡ lines_of (tree_in new) → (agent row : ℕ) (put : Put) → KeepsEnough new agent row put.pages → length (page_moves put.writes []) ≡ put.moves
       → WaitForBlocks (machine_in new) (shelf (stored_rows (tree_in new)) (tree_in new) p.swap) p.space agent row put.pages put.writes [] put.extents.items
-      → MayFindBlocks (tree_in new) p.swap p.space agent row put.pages put.writes put.moves put.extents.items
-  may-find states trees lines agent row put enough count waits =
+      → AreBelow (length p.space.used) (named (tree_in new)) → AreAllBelow (length p.space.used) p.swap → put.moves ≤ vec_capacity put.extents → MayFindBlocks (tree_in new) p.swap p.space agent row put
+  may-find states trees lines agent row put enough count waits files pages runs =
       let kept : Kept (machine_in new) = states.kept f (book_in new).rows (state_after f.opening new.books.history) (book_in new) new.journal are.books in
       record {
         machine = machine_in new;
@@ -89,6 +92,8 @@ module _ {D : Type 0} (w : DiskWords D) (f : Fixed D) (new : Ledger D) (p : Open
         given = [];
         reserve = reserve_of enough.own;
         need = 0;
+        files = files;
+        pages = pages;
         spaced = are.laid.spaced;
         settled = λ b has. settled-rows (tree_in new) b has;
         waits = waits;
@@ -96,6 +101,7 @@ module _ {D : Type 0} (w : DiskWords D) (f : Fixed D) (new : Ledger D) (p : Open
         within = enough.within;
         blocks = trees (machine_in new) (tree_in new) f.geometry.blocks (sym lines) are.books.stored.sound;
         count = count;
+        runs = runs;
       }
 
   -- The space is right for who has which block.

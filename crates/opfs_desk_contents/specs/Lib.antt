@@ -5,3 +5,4 @@ pub mod Storing
 pub mod Blocks
 pub mod Unchanged
 pub mod Commits
+pub mod Planning

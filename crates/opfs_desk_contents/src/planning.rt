@@ -1,21 +1,10 @@
 //! What a call that stores a row's content wants before its first write.
 
-ghost use Rattle.std.specs.Prelude.{◌≡◌, ◌≤◌, ◌<◌, ◌+◌, ◌*◌, ◌^◌, ℕ, List, [], true, Some, length, is_some, IfOk, IsErrOf};
+ghost use Rattle.std.specs.Prelude.{◌≡◌, ◌≤◌, [], true, Some, is_some, IfOk, IsErrOf};
 ghost use Rattle.std.specs.Vec.{vec_capacity};
-ghost use Rattle.opfs_base.specs.Blocks.{blocks};
-ghost use Rattle.opfs_data.specs.Calls.{Reads};
-ghost use Rattle.opfs_data.specs.Rows.{row_of};
-ghost use Rattle.opfs_desk_contents.specs.Putting.{IsStagedWhole};
-ghost use Rattle.opfs_pages.specs.HistoryLaws.Spaced.{AreSpaced};
-ghost use Rattle.opfs_desk_steps.specs.Parts.Seen.{machine_in, tree_in};
-ghost use Rattle.opfs_desk_steps.specs.RowLaws.Inside.{AreInside};
+ghost use Rattle.opfs_desk_contents.specs.Planning.{MayPlanContent, LeavesContentPlanned, IsContentReady};
 ghost use Rattle.opfs_outside.specs.Faults.{Rose};
-ghost use Rattle.opfs_pages.specs.Stages.{IsReady};
-ghost use Rattle.opfs_pages.specs.Writing.Puts.{HasSamePages, IsReady as IsPutReady};
-ghost use Rattle.opfs_pages.specs.RowCalls.Plans.{shelf, AreGotten};
-ghost use Rattle.opfs_space.specs.Room.{Machine};
 ghost use Rattle.opfs_state.specs.Reading.{row_file};
-ghost use Rattle.opfs_tree.specs.Rows.{Rows as Tree};
 ghost use Rattle.opfs_state.specs.Verdicts.Callers.{IsAgent};
 
 use opfs_base::{Extent, copy_place};
@@ -23,7 +12,7 @@ use opfs_data::DataRefusal;
 use opfs_desk_steps::DeskParts;
 use opfs_machine::Place;
 use opfs_outside::Disk;
-use opfs_pages::{Put, plan_put};
+use opfs_pages::{PagePut, Planning, Put, plan_put};
 use opfs_state::State;
 use opfs_work::Work;
 use std::alloc::{AllocError, Global};
@@ -67,46 +56,33 @@ pub fn plan_content<D: Disk>(
     row: u32,
     work: &Work,
 ) -> Result<Plan, DataRefusal>
-    requires small { work.now.length < 2 ^ 63 }
-    requires inside { AreInside D.Disk parts.old.ledger parts.old.pages }
-    requires ready { IsReady work.now parts.old.pages.swap parts.old.pages.space agent row parts.old.pages.base (D.size parts.old.ledger.journal.disk) parts.old.ledger.journal.areas }
-    requires open { is_some (row_of agent row parts.old.pages.swap) ≡ true }
-    requires agent { IsAgent (machine_in parts.old.ledger) agent }
-    requires there { is_some (row_file (machine_in parts.old.ledger) agent row) ≡ true }
-    ensures books { parts.new.ledger.books ≡ parts.old.ledger.books }
-    ensures freed { parts.new.ledger.freed ≡ parts.old.ledger.freed }
-    ensures base { parts.new.pages.base ≡ parts.old.pages.base }
-    ensures reads { Reads D.Disk parts.old.ledger.journal parts.new.ledger.journal }
-    ensures pages { HasSamePages agent row parts.old.pages.swap parts.new.pages.swap }
-    ensures spaced { (m : Machine) (recorded : Tree) → AreSpaced m (shelf recorded (tree_in parts.old.ledger) parts.old.pages.swap) parts.old.pages.space → AreSpaced m (shelf recorded (tree_in parts.old.ledger) parts.new.pages.swap) parts.new.pages.space }
-    ensures staged { IfOk result (λ plan. IsStagedWhole D.Disk parts.old agent row work.now plan.put.writes) }
-    ensures ready { IfOk result (λ plan. IsPutReady D.tells (D.content parts.new.ledger.journal.disk) parts.new.pages.base parts.new.pages.swap agent row (blocks work.now.length) plan.put.writes plan.put.moves (vec_capacity plan.put.extents)) }
-    ensures count { IfOk result (λ plan. plan.put.pages ≡ blocks work.now.length) }
-    ensures gotten { IfOk result (λ plan. (m : Machine) (recorded : Tree) → AreSpaced m (shelf recorded (tree_in parts.old.ledger) parts.old.pages.swap) parts.old.pages.space
-        → AreGotten plan.put.taken m (shelf recorded (tree_in parts.old.ledger) parts.new.pages.swap) parts.new.pages.space parts.new.pages.base (D.size parts.old.ledger.journal.disk) agent row (blocks work.now.length) plan.put.writes [] plan.put.extents.items) }
-    ensures file { IfOk result (λ plan. row_file (machine_in parts.old.ledger) agent row ≡ Some plan.place) }
-    ensures empty { IfOk result (λ plan. plan.runs.items ≡ []) }
-    ensures none { IfOk result (λ plan. plan.copy.items ≡ []) }
-    ensures room { IfOk result (λ plan. blocks work.now.length ≤ vec_capacity plan.runs) }
-    ensures space { IfOk result (λ plan. blocks work.now.length ≤ vec_capacity plan.copy) }
+    requires may { MayPlanContent D.Disk parts.old agent row work.now }
+    ensures left { LeavesContentPlanned D.Disk parts.old parts.new agent row }
+    ensures planned { IfOk result (λ plan. IsContentReady D.Disk parts.old parts.new agent row work.now plan) }
     ensures cause { IsErrOf result DataRefusal.DiskFault → Rose (D.faults parts.old.ledger.journal.disk) (D.faults parts.new.ledger.journal.disk) }
 {
     let alloc = parts.ledger.alloc;
     let size = work.size();
-    let put = plan_put(
+    let planning = Planning {
         alloc,
+        tree: parts.ledger.books.state.tree(),
+        base: parts.pages.base,
+    };
+    let wanted = PagePut {
+        agent,
+        row,
+        at: 0,
+        given: &[],
+        size,
+        whole: true,
+    };
+    let put = plan_put(
+        &planning,
+        &wanted,
         work,
         &mut parts.pages.swap,
         &mut parts.pages.space,
-        parts.ledger.books.state.tree(),
         &mut parts.ledger.journal,
-        parts.pages.base,
-        agent,
-        row,
-        0,
-        &[],
-        size,
-        true,
     )?;
     let place = file_of(alloc, &parts.ledger.books.state, agent, row)?;
     let runs = room_for(alloc, put.pages)?;

@@ -60,7 +60,7 @@ module _ {D : Type 0} (w : DiskWords D) (stays : ADoubtStays) where
       ap (λ (j : Seen D). doubt f (book_in mid) j) taken.journal
       ∙ ap (λ (cs : List Change). if old.journal.in_doubt then cs else [])
       (ap (λ (es : List Entry). doubted f.opening es mid.books.place) taken.entries
-      ∙ (ap (λ (n : Option ℕ). doubted f.opening (old.books.history ++ calls) n) taken.place ∙ doubt-kept stays f.opening old.books.history calls old.books.place held.books.inside))
+      ∙ (ap (λ (n : Option ℕ). doubted f.opening (old.books.history ++ calls) n) taken.place ∙ doubt-kept stays f.opening old.books.history calls old.books.place held.books.recent.inside))
       in
       record {
         later = let at = ap (λ (j : Seen D). w.faults j.disk) taken.journal in omega (arith, at, way.later);

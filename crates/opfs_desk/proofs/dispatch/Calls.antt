@@ -5,7 +5,7 @@ use Rattle.opfs_store.specs.Acts.Asking.{MayAct}
 use Rattle.opfs_store.specs.declared.acts.acted.Acted.{Acted}
 use Rattle.opfs_base.specs.Texts.{Text}
 use Rattle.opfs_books.specs.Laws.Books.{Fixed}
-use Rattle.opfs_books.specs.Laws.Laws.{BooksShowTheirImages}
+use Rattle.opfs_data.specs.Calls.{Reads}
 use Rattle.opfs_commit.specs.Shown.{ShowsEither}
 use Rattle.opfs_hist.specs.declared.entry.Entry.{Entry}
 use Rattle.opfs_hist.specs.declared.op.Op.{Op}
@@ -26,7 +26,7 @@ use Rattle.opfs_desk_steps.specs.Judging.Asking.{IsAskedAs, IsReadied}
 use Rattle.opfs_desk_steps.specs.declared.judging.judged.Judged.{Judged}
 use Rattle.opfs_desk_steps.specs.declared.judging.judged.Judged.TheVariants as judged
 use Rattle.opfs_desk_steps.specs.declared.judging.judged.Readiness.{Readiness}
-use Rattle.opfs_desk_steps.proofs.judging.Same.{same-held, with_state}
+use Rattle.opfs_desk_steps.proofs.judging.Same.{same-held}
 use Rattle.opfs_pages.specs.HistoryLaws.Handles.{AreHandlesWhole}
 use Rattle.opfs_desk_steps.specs.Parts.Acted.{HasActed, IsUnacted, IsWay}
 use Rattle.opfs_desk_steps.specs.Parts.Asked.{AreEvictions, IsAsked}
@@ -39,16 +39,12 @@ use Rattle.opfs_desk_steps.specs.declared.parts.parts.OpenPages.{OpenPages}
 use Rattle.opfs_desk_steps.specs.declared.parts.parts.DeskParts.{DeskParts}
 use Rattle.opfs_desk_entries.specs.Answers.Refused.{IsRefusedCall}
 use Rattle.opfs_desk_bytes.specs.Reading.Reading.{HaveWholeHandles}
-use Rattle.opfs_desk_steps.proofs.book_steps.Ways.{way-here}
+use Rattle.opfs_desk_steps.proofs.book_steps.Ways.{reads-here}
 use Rattle.opfs_desk.specs.Dispatch.Calling.{HasNoneReady, IsLeftAlone}
 
 -- ---- nothing stands ready any more
 
 module _ {D : Type 0} (w : DiskWords D) (f : Fixed D) (old : DeskParts D) where
-  -- The way is that of before: it does not see what stands ready.
-  way-same : (all : List Change) (l : Ledger D) (s : StateSeen) → IsWay w f all old.ledger l → IsWay w f all old.ledger (with_state l s)
-  way-same all l s way = record { later = way.later; time = way.time; shown = way.shown }
-
   pub left-alone : (l new : Ledger D) (p : OpenPages) → HasNoneReady l new → IsUnacted w f old (record { ledger = l; pages = p }) → IsLeftAlone w f old (record { ledger = new; pages = p })
   left-alone l new p none un =
       subst (λ (x : Ledger D). IsLeftAlone w f old (record { ledger = x; pages = p })) (sym none.rest)
@@ -59,7 +55,7 @@ module _ {D : Type 0} (w : DiskWords D) (f : Fixed D) (old : DeskParts D) where
           idle = none.idle;
         };
         entries = un.entries;
-        way = way-same _ l new.books.state un.way;
+        reads = un.reads;
       })
 
 -- ---- what became of a call that was asked for
@@ -103,7 +99,7 @@ module _ {D : Type 0} (w : DiskWords D) (f : Fixed D) (old : DeskParts D) (mid :
   }
 
   pub alone-before : (new : DeskParts D) → IsLeftAlone w f parts_then new → IsLeftAlone w f old new
-  alone-before new alone = record { held = alone.held; entries = alone.entries ∙ entries; way = way-before _ new.ledger alone.way }
+  alone-before new alone = record { held = alone.held; entries = alone.entries ∙ entries; reads = subst (λ (j : Seen D). Reads w j new.ledger.journal) journal alone.reads }
 
   -- ---- and what is asked of it then
 
@@ -126,9 +122,9 @@ module _ {D : Type 0} (w : DiskWords D) (f : Fixed D) (old : DeskParts D) (mid :
   pub whole-now : (recorded : Built) → AreHeldWhole w f recorded mid old.pages → AreHandlesWhole f.opening old.ledger.books.history → HaveWholeHandles w parts_then
   whole-now recorded are whole = record { fixed = f; recorded = recorded; are = are; whole = subst (AreHandlesWhole f.opening) (sym entries) whole }
 
-  pub alone-now : (recorded : Built) → BooksShowTheirImages w → AreHeldWhole w f recorded old.ledger old.pages → AreHeldWhole w f recorded mid old.pages → mid.books.state.store.prepared.place ≡ None → IsLeftAlone w f old parts_then
-  alone-now recorded rest are held idle = record {
+  pub alone-now : (recorded : Built) → AreHeldWhole w f recorded mid old.pages → mid.books.state.store.prepared.place ≡ None → IsLeftAlone w f old parts_then
+  alone-now recorded held idle = record {
     held = record { recorded = recorded; are = held; idle = idle };
     entries = entries;
-    way = way-here w f recorded (state_after f.opening old.ledger.books.history) [] old.ledger mid _ rest are.books journal;
+    reads = subst (λ (j : Seen D). Reads w j mid.journal) journal (reads-here w mid.journal);
   }

@@ -3,8 +3,8 @@ use Rattle.std.specs.Prelude.{◌≡◌, ◌++◌, List, Option, None}
 use Rattle.opfs_store.specs.Acts.Asking.{MayAct}
 use Rattle.opfs_base.specs.Texts.{Text}
 use Rattle.opfs_books.specs.Laws.Books.{Fixed}
+use Rattle.opfs_data.specs.Calls.{Reads}
 use Rattle.opfs_pages.specs.HistoryLaws.Handles.{AreHandlesWhole}
-use Rattle.opfs_desk_steps.specs.Parts.Acted.{IsWayNow}
 use Rattle.opfs_desk_steps.specs.Parts.Held.{AreHeld}
 use Rattle.opfs_desk_steps.specs.Parts.Seen.{machine_in, tree_in}
 use Rattle.opfs_desk_steps.specs.declared.parts.parts.Ledger.{Ledger}
@@ -33,11 +33,11 @@ pub record MayCallFrom {D : Type 0} (w : DiskWords D) (p : DeskParts D) (calls :
   pub may : MayCall w p calls c work past
   pub reached : IsUpTo (names_of (state_after may.fixed.opening (p.ledger.books.history ++ calls))) c.op past last
 
--- There was no memory: nothing was entered, and nothing stands ready; the disk may have been read.
+-- There was no memory: nothing was entered, the disk was only read, and nothing stands ready.
 pub record IsLeftAlone {D : Type 0} (w : DiskWords D) (f : Fixed D) (old new : DeskParts D) : Type 0 where
   pub held : AreHeld w f new
   pub entries : new.ledger.books.history ≡ old.ledger.books.history
-  pub way : IsWayNow w f old.ledger new.ledger
+  pub reads : Reads w old.ledger.journal new.ledger.journal
 
 -- Nothing stands ready for a call any more; all else is as before.
 pub record HasNoneReady {D : Type 0} (old new : Ledger D) : Type 0 where

@@ -9,7 +9,6 @@ ghost use Rattle.opfs_desk_steps.specs.Parts.Acted.{HasActed};
 
 use crate::dispatch::acting::act_by_kind;
 use opfs_base::Name;
-use opfs_books::the_books_show_their_images;
 use opfs_desk_entries::act_refused;
 use opfs_desk_steps::{DeskParts, Judged, Ledger, Readiness, ReadyCall, ask_call};
 use opfs_hist::{Op, Pending, Room};
@@ -48,7 +47,6 @@ pub fn act_call<D: Disk>(
     ensures alone { OnErr result ((f : Fixed D) → IsCalled D.Disk f parts.old pending.old (record { agent = agent; number = number; op = op }) work.old past.now → IsLeftAlone D.Disk f parts.old parts.new) }
     ensures ends { always_acts op ≡ true → IsTrue (is_ok result) }
 {
-    the_books_show_their_images::<D>();
     match ask_call(&mut parts.ledger, agent, &op, pending, work) {
         Ok(Judged::Refused(refusal)) => Ok(act_refused(
             parts, room, agent, number, op, refusal, pending,

@@ -1,9 +1,8 @@
 -- What the steps of a call that opens a row give, as its lemmas ask.
-use Rattle.std.proofs.Common.{◌≡◌, ℕ, ◌+◌, true, is_some, List, [], ◌++◌, length, refl, sym, ap, subst, arith}
+use Rattle.std.proofs.Common.{◌≡◌, ℕ, ◌+◌, true, is_some, List, ◌++◌, length, refl, sym, ap, subst, arith}
 use Rattle.std.specs.Prelude.{count_by}
 use Rattle.opfs_base.specs.Texts.{Text}
 use Rattle.opfs_books.specs.Laws.Books.{Fixed}
-use Rattle.opfs_books.specs.Laws.Laws.{BooksShowTheirImages}
 use Rattle.opfs_data.specs.Pages.{pages_in}
 use Rattle.opfs_data.specs.Rows.{Rows, row_of, pages_at, kept_count, OthersStay}
 use Rattle.opfs_hist.specs.Sums.{makes_row}
@@ -24,16 +23,16 @@ use Rattle.opfs_desk_steps.specs.declared.parts.parts.DeskParts.{DeskParts}
 use Rattle.opfs_desk_steps.specs.RowLaws.Opens.{next_row, opened_extents}
 use Rattle.opfs_desk_steps.specs.Ready.{AskedCallsAreReady}
 use Rattle.opfs_desk_bytes.specs.Opening.Opening.{HasPages}
-use Rattle.opfs_desk_steps.proofs.book_steps.Ways.{way-here}
+use Rattle.opfs_desk_steps.proofs.book_steps.Ways.{reads-here}
 
 -- There was no memory for the row.
-pub unacted : {D : Type 0} (w : DiskWords D) → BooksShowTheirImages w → (f : Fixed D) (recorded : Built) (old : DeskParts D) (swap : Rows) → swap ≡ old.pages.swap → AreHeldWhole w f recorded old.ledger old.pages
+pub unacted : {D : Type 0} (w : DiskWords D) (f : Fixed D) (recorded : Built) (old : DeskParts D) (swap : Rows) → swap ≡ old.pages.swap → AreHeldWhole w f recorded old.ledger old.pages
     → IsUnacted w f old (record { ledger = old.ledger; pages = record { swap = swap; space = old.pages.space; base = old.pages.base } })
-unacted w show f recorded old swap same held = record {
+unacted w f recorded old swap same held = record {
   recorded = recorded;
   are = subst (λ (x : Rows). AreHeldWhole w f recorded old.ledger (record { swap = x; space = old.pages.space; base = old.pages.base })) (sym same) held;
   entries = refl;
-  way = way-here w f recorded (state_after f.opening old.ledger.books.history) [] old.ledger old.ledger _ show held.books refl;
+  reads = reads-here w old.ledger.journal;
 }
 
 -- The number of the row is that which the agent makes next.

@@ -126,7 +126,8 @@ module _ (states : StateLaws) {D : Type 0} (w : DiskWords D) (files : FilesAreSt
       let kept : Kept m = subst Kept (sym held.books.machine) (states.lengths.whole s whole) in
       let few = few-blocks m kept place (file_line found) (machine-file m (tree_in v) place found lines there) in
       let most = ap (λ (y : Limits). y.blocks) (limits-are states w f recorded v p held) in
-      few-bytes found.present (omega (arith, few, most, held.books.blocks, (range_parts f.geometry held.tied.range).1))
+      let blocks-are = ap (λ (y : Limits). y.blocks) held.books.limits in
+      few-bytes found.present (omega (arith, few, most, blocks-are, (range_parts f.geometry held.tied.range).1))
 
   -- Where no handle may write it, its bytes are stored.
   pub durable : NoneWrites → x.present ≡ x.durable

@@ -1,11 +1,11 @@
 -- Parts whose disk was read.
 use Rattle.std.specs.Vec.{vec_capacity}
-use Rattle.std.proofs.Common.{◌≡◌, ◌⊎◌, ℕ, ◌-◌, ◌^◌, ◌≤◌, Bool, if◌then◌else◌, List, [], ◌++◌, refl, sym, ap, subst, inr, arith}
+use Rattle.std.proofs.Common.{◌≡◌, ◌⊎◌, ℕ, ◌-◌, ◌^◌, ◌≤◌, Bool, if◌then◌else◌, List, [], ◌++◌, sym, ap, subst, inr, arith}
 use Rattle.opfs_store.specs.Acts.Acting.{IsActed, IsGift}
 use Rattle.opfs_store.specs.declared.acts.acted.Acted.{Acted}
 use Rattle.opfs_base.specs.Texts.{Text}
 use Rattle.opfs_books.specs.Laws.Books.{Fixed, AreBooksAt}
-use Rattle.opfs_books.specs.Laws.Laws.{BooksShowTheirImages, ReadsKeepTheBooks, told}
+use Rattle.opfs_books.specs.Laws.Laws.{ReadsKeepTheBooks}
 use Rattle.opfs_books.proofs.laws.Counting.{rose-before}
 use Rattle.opfs_books.specs.Seen.{book}
 use Rattle.opfs_books.specs.declared.books.Books.{Books}
@@ -20,7 +20,6 @@ use Rattle.opfs_desk_steps.specs.declared.parts.parts.Ledger.{Ledger}
 use Rattle.opfs_desk_steps.specs.declared.parts.parts.OpenPages.{OpenPages}
 use Rattle.opfs_desk_steps.specs.declared.parts.parts.DeskParts.{DeskParts}
 use Rattle.opfs_desk_steps.proofs.book_steps.Held.{tied-later}
-use Rattle.opfs_desk_steps.proofs.book_steps.Ways.{way-here}
 use Rattle.opfs_hist.specs.declared.entry.Entry.{Entry}
 use Rattle.opfs_laws.specs.Histories.Doubts.{doubted}
 use Rattle.opfs_machine.specs.declared.own.Own.{Own}
@@ -81,12 +80,5 @@ module _ {D : Type 0} (w : DiskWords D) (f : Fixed D) (l now : Ledger D) (same :
   }
 
   -- Where there was no memory then, the parts are kept as they were.
-  pub read-unacted : ReadsKeepTheBooks w → Falls w → BooksShowTheirImages w → (recorded : Built) (p q r : OpenPages) → AreHeldWhole w f recorded l p → AreHeldWhole w f recorded now q → IsUnacted w f (record { ledger = l; pages = r }) (record { ledger = now; pages = q })
-  read-unacted keep falls shows recorded p q r held after = record {
-    recorded = recorded;
-    are = after;
-    entries = ap (λ (b : Books StateSeen). b.history) same;
-    way =
-        read-way keep falls recorded (state_after f.opening l.books.history) [] p held (told f (book_in now)) now
-        (way-here w f recorded (state_after f.opening now.books.history) [] now now (told f (book_in now)) shows after.books refl);
-  }
+  pub read-unacted : (recorded : Built) (q r : OpenPages) → AreHeldWhole w f recorded now q → IsUnacted w f (record { ledger = l; pages = r }) (record { ledger = now; pages = q })
+  read-unacted recorded q r after = record { recorded = recorded; are = after; entries = ap (λ (b : Books StateSeen). b.history) same; reads = reads }

@@ -22,7 +22,8 @@ use Rattle.opfs_outside.specs.declared.disk.Disk.{Ghosts as DiskWords}
 use Rattle.opfs_pages.specs.Writing.Puts.{IsReady}
 use Rattle.opfs_pages.specs.declared.writing.put.Put.{Put}
 use Rattle.opfs_records.specs.Replay.Built.{Built, named, has_block}
-use Rattle.opfs_pages.specs.RowCalls.Plans.{shelf, AreGotten, HaveBlocks, KnowsOwn, MayFindBlocks, WaitForBlocks}
+use Rattle.opfs_pages.specs.RowCalls.Finding.{MayFindBlocks}
+use Rattle.opfs_pages.specs.RowCalls.Plans.{shelf, AreGotten, HaveBlocks, KnowsOwn, WaitForBlocks}
 use Rattle.opfs_space.specs.Holders.{AreAllBelow, AreBlocks, HasPage}
 use Rattle.opfs_space.specs.Room.{Machine}
 use Rattle.opfs_space.specs.Spaces.{SpaceSeen}
@@ -138,13 +139,15 @@ module _ {D : Type 0} (w : DiskWords D) (f : Fixed D) (recorded : Built) (base :
     room-next : HasRoomFor (machine_in next) agent row put.pages
     room-next = subst (λ (m : Machine). HasRoomFor m agent row put.pages) (sym machine-same) to.room
 
-    pub may-find : TreesNameStoredBlocks → MayFindBlocks (tree_in next) p.pages.swap p.pages.space agent row put.pages put.writes put.moves put.extents.items
+    pub may-find : TreesNameStoredBlocks → MayFindBlocks (tree_in next) p.pages.swap p.pages.space agent row put
     may-find names = record {
       machine = machine_in next;
       recorded = (book_in next).rows.rows;
       given = given;
       reserve = room-next.reserve;
       need = room-next.need;
+      files = subst (λ (t : Tree). AreBelow (length p.pages.space.used) (named t)) (sym tree-same) files-below;
+      pages = pages-below;
       spaced = are.laid.spaced;
       settled = settled-next;
       waits = waits-next;
@@ -152,6 +155,7 @@ module _ {D : Type 0} (w : DiskWords D) (f : Fixed D) (recorded : Built) (base :
       within = room-next.within;
       blocks = names (machine_in next) (tree_in next) f.geometry.blocks lines-next are.books.stored.sound;
       count = to.ready.count given;
+      runs = to.ready.extents;
     }
 
     -- And the blocks are found.

@@ -2,7 +2,6 @@
 use Rattle.std.proofs.Common.{◌≡◌, ◌⊎◌, ℕ, ◌+◌, ◌^◌, ◌<◌, ◌≤◌, ◌||◌, nat_le, Bool, true, false, List, [], ◌∷◌, ◌++◌, fold, sum_by, refl, sym, ap, subst, ◌∙◌, inl, inr, arith}
 use Rattle.opfs_base.specs.Texts.{Text}
 use Rattle.opfs_books.specs.Laws.Books.{Fixed, IsToldAt}
-use Rattle.opfs_books.specs.Laws.Laws.{BooksShowTheirImages, told}
 use Rattle.opfs_books.proofs.laws.Told.{whole-told, told-whole}
 use Rattle.opfs_state_rows.specs.Changes.Allowed.{MayApply}
 use Rattle.opfs_hist.specs.declared.entry.Entry.{Entry}
@@ -29,14 +28,14 @@ use Rattle.opfs_work.specs.Works.{WorkingCopy}
 use Rattle.opfs_desk_steps.specs.Parts.Acted.{IsUnacted}
 use Rattle.opfs_desk_steps.specs.Parts.Asked.{IsAsked}
 use Rattle.opfs_desk_steps.specs.Parts.Held.{AreHeldWhole}
-use Rattle.opfs_desk_steps.specs.Parts.Seen.{book_in, units_in}
+use Rattle.opfs_desk_steps.specs.Parts.Seen.{units_in}
 use Rattle.opfs_desk_steps.specs.declared.parts.call.ReadyCall.{ReadyCall}
 use Rattle.opfs_desk_steps.specs.declared.parts.parts.Ledger.{Ledger}
 use Rattle.opfs_desk_steps.specs.declared.parts.parts.OpenPages.{OpenPages}
 use Rattle.opfs_desk_steps.specs.declared.parts.parts.DeskParts.{DeskParts}
 use Rattle.opfs_desk_steps.specs.RowLaws.Inside.{PartsLieInside}
 use Rattle.opfs_desk_steps.specs.RowLaws.Puts.{HasRoomForRow, PutsHaveRoom, puts_row, size_put}
-use Rattle.opfs_desk_steps.proofs.book_steps.Ways.{way-here}
+use Rattle.opfs_desk_steps.proofs.book_steps.Ways.{reads-here}
 use Rattle.opfs_desk_steps.proofs.book_steps.Real.{real, real-legal, real-state, has-room}
 
 one-of : (a b : Bool) → (a || b) ≡ true → (a ≡ true) ⊎ (b ≡ true)
@@ -111,10 +110,10 @@ module _ {D : Type 0} (w : DiskWords D) (reads : ReadsLeaveTheState) (counts : A
       omega (arith, below, within, few, size, limits)
 
 -- Where nothing was done, the parts are kept as they were.
-pub unacted : {D : Type 0} (w : DiskWords D) → BooksShowTheirImages w → (f : Fixed D) (recorded : Built) (p : DeskParts D) → AreHeldWhole w f recorded p.ledger p.pages → IsUnacted w f p p
-unacted w shows f recorded p held = record {
+pub unacted : {D : Type 0} (w : DiskWords D) (f : Fixed D) (recorded : Built) (p : DeskParts D) → AreHeldWhole w f recorded p.ledger p.pages → IsUnacted w f p p
+unacted w f recorded p held = record {
   recorded = recorded;
   are = held;
   entries = refl;
-  way = way-here w f recorded (state_after f.opening p.ledger.books.history) [] p.ledger p.ledger (told f (book_in p.ledger)) shows held.books refl;
+  reads = reads-here w p.ledger.journal;
 }

@@ -1,9 +1,9 @@
 -- What the images show while pages are put, one step after another; and that pages read as before where only the journal was used.
 use Rattle.std.specs.Prelude.{MatchOption}
-use Rattle.std.proofs.Common.{◌≡◌, ℕ, ◌+◌, ◌*◌, ◌≤◌, Bool, true, false, if◌then◌else◌, List, [], ◌∷◌, ◌++◌, slice_index_or, Option, Some, None, refl, sym, ap, subst, ◌∙◌, inl, inr, append-nil, arith}
+use Rattle.std.proofs.Common.{◌≡◌, ℕ, ◌+◌, ◌*◌, ◌≤◌, Bool, true, false, if◌then◌else◌, List, [], ◌∷◌, ◌++◌, slice_index_or, Option, Some, None, refl, sym, ap, subst, ◌∙◌, inr, append-nil, arith}
 use Rattle.opfs_base.specs.Texts.{Text}
 use Rattle.opfs_books.specs.Laws.Books.{Fixed, AreBooksAt}
-use Rattle.opfs_books.specs.Laws.Laws.{BooksShowTheirImages, LeavesPages, told}
+use Rattle.opfs_books.specs.Laws.Laws.{BooksShowTheirImages, told}
 use Rattle.opfs_commit.specs.Shown.{IsShown}
 use Rattle.opfs_data.specs.declared.page.Page.{Page}
 use Rattle.opfs_data.specs.declared.page.SavedPage.{SavedPage}
@@ -11,13 +11,12 @@ use Rattle.opfs_data.specs.Pages.{bytes_by, page_of, blank, block_bytes, AreNow}
 use Rattle.opfs_data.specs.Rows.{Rows, pages_at, row_at}
 use Rattle.opfs_data.specs.Writes.{WriteList}
 use Rattle.opfs_journal.specs.Clauses.{Outside}
-use Rattle.opfs_journal.specs.Seen.{Seen}
 use Rattle.opfs_journal.specs.declared.areas.Areas.{Areas}
 use Rattle.opfs_machine.specs.declared.own.Own.{Own}
 use Rattle.opfs_machine.specs.declared.state.State.{State}
 use Rattle.opfs_machine.specs.Changes.{Change, floor}
 use Rattle.opfs_outside.specs.Bytes.{Same, window}
-use Rattle.opfs_outside.specs.Moments.{Elapses, elapses-trans, each_of_both}
+use Rattle.opfs_outside.specs.Moments.{elapses-trans, each_of_both}
 use Rattle.opfs_outside.specs.Windows.{same_window}
 use Rattle.opfs_outside.specs.declared.disk.Disk.{Ghosts as DiskWords}
 use Rattle.opfs_pages.specs.Writing.Puts.{IsReady}

@@ -31,7 +31,7 @@ use opfs_laws::going_on::legal_histories_go_on;
 use opfs_laws::histories::unread::reads_leave_the_state;
 use opfs_laws::lengths::bridge::lengths_decide_each_ruling;
 use opfs_outside::Disk;
-use opfs_pages::{plan_call, what_is_laid_goes_on};
+use opfs_pages::{PagePut, Planning, plan_call, what_is_laid_goes_on};
 use opfs_state::laws::room::evictions_make_room;
 use opfs_store::Acted;
 use opfs_work::Work;
@@ -57,26 +57,32 @@ fn put_bytes<D: Disk>(
     ensures idle { OnErr result ((f : Fixed D) (recorded : Built) → AreHeldWhole D.Disk f recorded parts.old.ledger parts.old.pages → IsUnacted D.Disk f parts.old parts.new) }
 {
     reads_leave_the_books::<D>();
-    the_books_show_their_images::<D>();
     what_is_laid_goes_on::<D>();
     copies_are_stored::<D>();
     parts_lie_inside::<D>();
     let _pages = work.pages();
     let target = target_of(&call.op, &call.sizes);
+    let planning = Planning {
+        alloc: parts.ledger.alloc,
+        tree: parts.ledger.books.state.tree(),
+        base: parts.pages.base,
+    };
+    let wanted = PagePut {
+        agent: call.agent,
+        row: target.row,
+        at: target.at,
+        given,
+        size: target.size,
+        whole: false,
+    };
     match plan_call(
-        parts.ledger.alloc,
+        &planning,
+        &wanted,
+        target.position,
         work,
         &mut parts.pages.swap,
         &mut parts.pages.space,
-        parts.ledger.books.state.tree(),
         &mut parts.ledger.journal,
-        parts.pages.base,
-        call.agent,
-        target.row,
-        target.at,
-        given,
-        target.size,
-        target.position,
     ) {
         Ok(planned) => Ok(enter_call(parts, call, target, planned, given, pending, work)),
         Err(DataRefusal::DiskFault) => Ok(fail_reading(parts, call, pending)),

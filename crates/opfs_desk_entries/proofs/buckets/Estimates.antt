@@ -128,7 +128,8 @@ module _ {D : Type 0} (w : DiskWords D) (states : StateLaws) (kept : BooksKeepTh
   few-used k =
       let keeps = kept.kept f recorded (state_after f.opening l.books.history) (book_in l) l.journal held.books in
       let most = ap (λ (x : Limits). x.blocks) (limits-are states w f recorded l p held) in
-      omega (arith, keeps.usage (origin_in (agent_of (machine_in l) k).key), keeps.pool, most, held.books.blocks, (range_parts f.geometry held.tied.range).1)
+      let blocks-are = ap (λ (x : Limits). x.blocks) held.books.limits in
+      omega (arith, keeps.usage (origin_in (agent_of (machine_in l) k).key), keeps.pool, most, blocks-are, (range_parts f.geometry held.tied.range).1)
 
   pub small-quota : (machine_in l).limits.quota ≤ 65536
   small-quota = omega (arith, ap (λ (x : Limits). x.quota) (limits-are states w f recorded l p held), held.tied.quota, (range_parts f.geometry held.tied.range).2)

@@ -105,12 +105,3 @@ module _ {D : Type 0} (w : DiskWords D) (asks : AskedCallsAreReady w) (answers :
         has-acted =
             acted-through w asks answers f recorded l mid back p calls c work reply.Done begins.held begins.asked took words its-reply way
             tidy (change_now back entry) spelled states spells fails falls new changed less beside blocks acts
-
--- There was no memory.
-pub unacted : {D : Type 0} (w : DiskWords D) → BooksShowTheirImages w → (f : Fixed D) (recorded : Built) (old : DeskParts D) → AreHeldWhole w f recorded old.ledger old.pages → IsUnacted w f old old
-unacted w show f recorded old held = record {
-  recorded = recorded;
-  are = held;
-  entries = refl;
-  way = way-here w f recorded (state_after f.opening old.ledger.books.history) [] old.ledger old.ledger _ show held.books refl;
-}

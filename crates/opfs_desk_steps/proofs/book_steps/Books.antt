@@ -28,7 +28,7 @@ use Rattle.opfs_desk_steps.proofs.book_steps.Freed.{within-few, freed-few}
 
 module _ {D : Type 0} (w : DiskWords D) (f : Fixed D) (recorded : Built) (base : State Text Own) (gone : List Text) (l : Ledger D) (p : OpenPages) (are : AreHeldAt w f recorded base gone l p) where
   limits-same : (machine_in l).limits.blocks ≡ f.geometry.blocks
-  limits-same = ap (λ x. x.blocks) (limits-are w.tells f.opening l.books.history base gone (machine_in l) are.books.told are.books.machine) ∙ are.books.blocks
+  limits-same = ap (λ x. x.blocks) (limits-are w.tells f.opening l.books.history base gone (machine_in l) are.books.told are.books.machine) ∙ ap (λ x. x.blocks) are.books.limits
 
   once : IsTrue (is_once (named (tree_in l)))
   once = subst (λ (xs : List ℕ). IsTrue (is_once xs)) (stored-named (tree_in l)) are.books.stored.sound.once

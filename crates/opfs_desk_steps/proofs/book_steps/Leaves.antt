@@ -1,5 +1,5 @@
 -- Pages read as before where only the journal was used.
-use Rattle.std.proofs.Common.{ℕ, ◌≤◌, List, inl, refl, sym, subst, ◌∙◌, arith}
+use Rattle.std.proofs.Common.{ℕ, List, inl, refl, sym, subst, ◌∙◌, arith}
 use Rattle.opfs_books.specs.Laws.Laws.{LeavesPages}
 use Rattle.opfs_journal.specs.Clauses.{Outside}
 use Rattle.opfs_journal.specs.Seen.{Seen}

@@ -6,6 +6,7 @@ use Rattle.opfs_books.specs.Laws.Books.{Fixed, IsToldAt, AreBooksAt}
 use Rattle.opfs_books.specs.Laws.Laws.{told, doubt, ShowsTold, BooksShowTheirImages}
 use Rattle.opfs_commit.specs.Shown.{IsShown}
 use Rattle.opfs_commit.proofs.Holding.{shown_more, shown_least}
+use Rattle.opfs_data.specs.Calls.{Reads}
 use Rattle.opfs_hist.specs.declared.entry.Entry.{Entry}
 use Rattle.opfs_laws.specs.Histories.Doubts.{doubted, faulted}
 use Rattle.opfs_laws.proofs.histories.Doubting.{doubt-next}
@@ -48,6 +49,17 @@ floor-more xs ys = floor-grows xs ys 0 0 (omega arith)
 
 elapses-here : {J : Type 0} (moment : J → ℕ) (since : J → ℕ → List ℕ → Type 0) (j : J) → Elapses moment since j j
 elapses-here moment since j = record { later = omega arith; split = λ t c within left. inl left; keeps = λ t c within left. left }
+
+-- The disk was not used: nothing but reads.
+pub reads-here : {D : Type 0} (w : DiskWords D) (j : Seen D) → Reads w j j
+reads-here w j = record {
+  stays = record { areas = refl; length = refl; spare = refl };
+  tail = refl;
+  format = refl;
+  in_doubt = refl;
+  later = omega arith;
+  told = λ t. record { records = refl; doubt = refl; same = refl; time = elapses-here w.moment w.since j.disk; moments = λ c left. left };
+}
 
 module _ {D : Type 0} (w : DiskWords D) (f : Fixed D) where
   -- The disk was not used.

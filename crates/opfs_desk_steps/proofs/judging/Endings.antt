@@ -1,5 +1,5 @@
 -- Calls that end what is open, or the agent: they are not refused, and no unit is cleared for them.
-use Rattle.std.proofs.Common.{◌≡◌, ℕ, true, List, [], Option, Some, Ok, refl, ap, ◌∙◌}
+use Rattle.std.proofs.Common.{◌≡◌, ℕ, true, [], Option, Some, Ok, refl, ap, ◌∙◌}
 use Rattle.std.specs.Prelude.{IsTrue}
 use Rattle.std.proofs.lemmas.Bool.{false≢true}
 use Rattle.opfs_store.specs.Acts.Acting.{always_acts}

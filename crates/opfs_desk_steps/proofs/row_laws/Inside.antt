@@ -99,7 +99,7 @@ module _ (states : StateLaws) {D : Type 0} (w : DiskWords D) where
 
   pub size-is : (f : Fixed D) (recorded : Built) (l : Ledger D) (p : OpenPages) → AreHeldWhole w f recorded l p → length p.space.used ≡ f.geometry.blocks
   size-is f recorded l p held =
-      held.laid.spaced.size ∙ ap (λ (x : Limits). x.blocks) (limits-are f recorded l p held) ∙ held.books.blocks
+      held.laid.spaced.size ∙ ap (λ (x : Limits). x.blocks) (limits-are f recorded l p held) ∙ ap (λ (x : Limits). x.blocks) held.books.limits
 
   pub lie-inside : PartsLieInside w
   lie-inside f recorded l p held =

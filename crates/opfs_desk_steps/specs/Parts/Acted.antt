@@ -1,11 +1,12 @@
 -- What a call under the turn leaves of the parts: one legal step, and what a stop within it may leave. This project's own.
-use Rattle.std.specs.Prelude.{◌≡◌, ℕ, ◌≤◌, ◌-◌, List, ◌∷◌, [], ◌++◌, map, length, None, Some}
+use Rattle.std.specs.Prelude.{◌≡◌, ◌≤◌, ◌-◌, List, ◌∷◌, [], ◌++◌, map, length, None, Some}
 use Rattle.opfs_store.specs.Acts.Acting.{IsActed, IsGift, IsLeft, HasFaultOnlyIfRose}
 use Rattle.opfs_store.specs.declared.acts.acted.Acted.{Acted}
 use Rattle.opfs_base.specs.Texts.{Text}
 use Rattle.opfs_books.specs.Laws.Books.{Fixed}
 use Rattle.opfs_books.specs.Laws.Laws.{told, doubt, failed}
 use Rattle.opfs_commit.specs.Shown.{ShowsEither}
+use Rattle.opfs_data.specs.Calls.{Reads}
 use Rattle.opfs_hist.specs.declared.entry.Entry.{Entry}
 use Rattle.opfs_laws.specs.Histories.Doubts.{doubted}
 use Rattle.opfs_machine.specs.Agents.{agent_of}
@@ -53,12 +54,12 @@ pub record HasActed {D : Type 0} (w : DiskWords D) (f : Fixed D) (old new : Desk
   pub fault : HasFaultOnlyIfRose done.reply (w.faults old.ledger.journal.disk) (w.faults new.ledger.journal.disk)
   pub way : IsWayEnded w f old.ledger new.ledger
 
--- There was no memory: nothing was entered, and the parts are kept; the disk may have been read.
+-- There was no memory: nothing was entered, the disk was only read, and the parts are kept.
 pub record IsUnacted {D : Type 0} (w : DiskWords D) (f : Fixed D) (old new : DeskParts D) : Type 0 where
   pub recorded : Built
   pub are : AreHeldWhole w f recorded new.ledger new.pages
   pub entries : new.ledger.books.history ≡ old.ledger.books.history
-  pub way : IsWayNow w f old.ledger new.ledger
+  pub reads : Reads w old.ledger.journal new.ledger.journal
 
 -- All units are cleared for a call, and no gate is in doubt. The pages are as they were.
 pub record AreCleared {D : Type 0} (w : DiskWords D) (f : Fixed D) (units : List Text) (old new : Ledger D) (p : OpenPages) : Type 0 where

@@ -1,5 +1,5 @@
 -- A call whose units are cleared, and whose entry may come now. This project's own.
-use Rattle.std.specs.Prelude.{◌≡◌, ℕ, ◌<◌, true, List, fold, length}
+use Rattle.std.specs.Prelude.{◌≡◌, ◌<◌, true, List, fold, length}
 use Rattle.opfs_base.specs.Texts.{Text}
 use Rattle.opfs_books.specs.Laws.Books.{Fixed, IsNext, IsPlaced}
 use Rattle.opfs_state_rows.specs.Changes.Allowed.{MayApply, IsSized}

@@ -1,5 +1,5 @@
 -- What is asked of a call under the turn, once it is judged and all stands ready. This project's own.
-use Rattle.std.specs.Prelude.{◌≡◌, ℕ, List, ◌++◌, Ok}
+use Rattle.std.specs.Prelude.{◌≡◌, List, ◌++◌, Ok}
 use Rattle.std.specs.List.{AllByRecursion}
 use Rattle.opfs_store.specs.Acts.Asking.{MayAct}
 use Rattle.opfs_base.specs.Texts.{Text}

@@ -1,5 +1,5 @@
 -- The parts of the shared store as they are seen. This project's own.
-use Rattle.std.specs.Prelude.{ℕ, List, map, None}
+use Rattle.std.specs.Prelude.{List, map}
 use Rattle.opfs_base.specs.Texts.{Text}
 use Rattle.opfs_books.specs.Laws.Books.{Book}
 use Rattle.opfs_books.specs.Seen.{book}

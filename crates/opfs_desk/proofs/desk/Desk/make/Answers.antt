@@ -18,6 +18,8 @@ use Rattle.opfs_desk_steps.specs.declared.parts.parts.Ledger.{Ledger}
 use Rattle.opfs_desk_steps.specs.declared.parts.parts.OpenPages.{OpenPages}
 use Rattle.opfs_desk.specs.Resting.{IsResting}
 use Rattle.opfs_desk.proofs.Begun.{used-long, made-held, time-begun}
+use Rattle.opfs_desk.proofs.Moments.{fronts-none, keeps-none}
+use Rattle.opfs_desk.proofs.Passed.{once-now}
 use Rattle.opfs_desk.proofs.desk.Desk.make.Goals as goal
 
 pub make-requires : goal.make-requires
@@ -54,7 +56,15 @@ invariant_of-result g c =
     let none : AreReached (state_after f.opening l.books.history) [] = λ k n last is. absurd (no-name last is) in
     subst (λ (x : Recovered g.row.D.Denot g.D.Disk). IsResting g.D.Disk (fixed_by g.D.Disk x c.of-who.result.value.items) (record { ledger = l; pages = p }) c.make-in-Ok-make-3-2.result) (sym c.of-told.ensures)
     (rw (c.of-who.ensures) (record {
-      rest = record { held = held; whole = whole; time = λ t. time-begun g.D.Disk from.journal.disk l.journal.disk (ap (λ (j : Seen g.row.D.Denot). j.disk) done.journal) };
+      rest = record {
+        held = held;
+        whole = whole;
+        time = λ t. time-begun g.D.Disk from.journal.disk l.journal.disk (ap (λ (j : Seen g.row.D.Denot). j.disk) done.journal);
+        fronts = λ t.
+            fronts-none g.D.Disk f.opening l.books.history from.journal.disk l.journal.disk (ap (λ (j : Seen g.row.D.Denot). j.disk) done.journal)
+            (once-now g.D.Disk f l c.the_books_show_their_images.ensures held.recorded (state_after f.opening l.books.history) [] held.are.books t);
+        keeps = λ t. keeps-none g.D.Disk f.opening l.books.history l.journal.disk done.history;
+      };
       reached = subst (AreReached (state_after f.opening l.books.history)) (sym c.make-in-Ok-make-3-2.ensures) none;
     }))
   where

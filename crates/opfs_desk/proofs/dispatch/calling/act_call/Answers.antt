@@ -123,7 +123,7 @@ returns-in-Err-clause-alone g c f called =
     let old = c.args.parts.now in
     let recorded = called.held.recorded in
     let asks = c.in-Err.ensures in
-    alone-now g.D.Disk f old c.ask_call.new.ledger asks.journal asks.entries asks.place recorded c.the_books_show_their_images.ensures called.held.are (asks.held f recorded old.pages called.held.are) asks.idle
+    alone-now g.D.Disk f old c.ask_call.new.ledger asks.journal asks.entries asks.place recorded (asks.held f recorded old.pages called.held.are) asks.idle
 
 pub act_by_kind-requires-clause-given : goal.act_by_kind-requires-clause-given
 act_by_kind-requires-clause-given g c =

@@ -95,7 +95,7 @@ enter_open-requires-clause-may g c =
 
 pub returns-in_default-clause-idle : goal.returns-in_default-clause-idle
 returns-in_default-clause-idle g c f recorded held =
-    unacted g.D.Disk c.opening_laws.ensures.shown f recorded c.args.parts.now c.open_pages.new.swap c.in_default.ensures.err held
+    unacted g.D.Disk f recorded c.args.parts.now c.open_pages.new.swap c.in_default.ensures.err held
 
 pub returns-in-Ok-clear_call-clause-acted : goal.returns-in-Ok-clear_call-clause-acted
 returns-in-Ok-clear_call-clause-acted g c f recorded held asked =

@@ -99,4 +99,4 @@ returns-in-Err-NoMemory-clause-idle g c f recorded held =
     let reads = c.in-Err-NoMemory.ensures.reads in
     let keep = c.reading_laws.ensures.reads in
     let then = read-held g.D.Disk f l now refl reads keep laws.counted recorded (state_after f.opening l.books.history) [] p (omega arith) held in
-    read-unacted g.D.Disk f l now refl reads keep laws.falls c.reading_laws.ensures.shown recorded p p p held then
+    read-unacted g.D.Disk f l now refl reads recorded p p then

@@ -18,7 +18,7 @@ put_bytes-requires-in-Fill-clause-small g c =
     may.are may.asked c.requires.word
 
 pub returns-in_err-held-clause-idle : goal.returns-in_err-held-clause-idle
-returns-in_err-held-clause-idle g c = on_err c.from_residual.result _ (λ f recorded held. unacted g.D.Disk c.size_laws.ensures.shown f recorded c.args.parts.now held)
+returns-in_err-held-clause-idle g c = on_err c.from_residual.result _ (λ f recorded held. unacted g.D.Disk f recorded c.args.parts.now held)
 
 pub returns-in_err-bytes-in-Fill-clause-idle : goal.returns-in_err-bytes-in-Fill-clause-idle
-returns-in_err-bytes-in-Fill-clause-idle g c = on_err c.from_residual-in_err-bytes-in-Fill.result _ (λ f recorded held. unacted g.D.Disk c.size_laws.ensures.shown f recorded c.args.parts.now held)
+returns-in_err-bytes-in-Fill-clause-idle g c = on_err c.from_residual-in_err-bytes-in-Fill.result _ (λ f recorded held. unacted g.D.Disk f recorded c.args.parts.now held)

@@ -1,4 +1,4 @@
-use Rattle.std.proofs.Common.{rules, ◌≡◌, ℕ, [], is_some, true, length, refl, sym, ap, subst, Err}
+use Rattle.std.proofs.Common.{rules, ◌≡◌, ℕ, ◌<◌, ◌^◌, List, [], is_some, true, length, refl, sym, ap, subst, Err, arith}
 use Rattle.opfs_base.specs.Blocks.{blocks}
 use Rattle.opfs_blocks.specs.Sets.{AreBelow}
 use Rattle.opfs_data.specs.Rows.{row_of}
@@ -9,33 +9,29 @@ use Rattle.opfs_desk_steps.specs.declared.parts.parts.Ledger.{Ledger}
 use Rattle.opfs_desk_steps.specs.declared.parts.parts.OpenPages.{OpenPages}
 use Rattle.opfs_desk_bytes.proofs.reading.Readied.{read-acted, read-unacted}
 use Rattle.opfs_desk_bytes.proofs.writing.Planned.{acted-room, asked-room, is-plan, paged-room, planned-of, read-parts, stored-copy}
-use Rattle.opfs_desk_bytes.proofs.writing.Words.{on-disk}
+use Rattle.opfs_desk_bytes.proofs.writing.Words.{on-disk, stays as stays-within}
 use Rattle.opfs_desk_bytes.proofs.writing.calling.put_bytes.Goals as goal
 
-pub plan_call-requires-clause-there : goal.plan_call-requires-clause-there
-plan_call-requires-clause-there g c =
-    let may = c.requires.go in
-    subst (λ (n : ℕ). is_some (row_of c.args.call.agent n c.args.parts.now.pages.swap) ≡ true) (sym c.target_of-target.ensures.row)
-    (stored-copy g.D.Disk c.copies_are_stored.ensures.copies may.fixed may.recorded c.args.parts.now.ledger c.args.parts.now.pages c.args.pending.now c.args.call c.args.work.now [] may.are may.asked c.requires.word).there
-
-pub plan_call-requires-clause-lies : goal.plan_call-requires-clause-lies
-plan_call-requires-clause-lies g c =
-    let may = c.requires.go in
-    (c.parts_lie_inside.ensures may.fixed may.recorded c.args.parts.now.ledger c.args.parts.now.pages may.are).lies c.args.call.agent c.target_of-target.result.row
-
-pub plan_call-requires-clause-ready : goal.plan_call-requires-clause-ready
-plan_call-requires-clause-ready g c =
+pub plan_call-requires-clause-may : goal.plan_call-requires-clause-may
+plan_call-requires-clause-may g c =
     let may = c.requires.go in
     let l = c.args.parts.now.ledger in
     let p = c.args.parts.now.pages in
-    subst (λ (n : ℕ). IsReady c.args.work.now p.swap p.space c.args.call.agent n p.base (g.D.Disk.size l.journal.disk) l.journal.areas) (sym c.target_of-target.ensures.row)
-    (stored-copy g.D.Disk c.copies_are_stored.ensures.copies may.fixed may.recorded l p c.args.pending.now c.args.call c.args.work.now [] may.are may.asked c.requires.word).ready
-
-pub plan_call-requires-clause-files : goal.plan_call-requires-clause-files
-plan_call-requires-clause-files g c =
-    let may = c.requires.go in
-    subst (λ (t : Tree). AreBelow (length c.args.parts.now.pages.space.used) (named t)) (sym (ap (λ x. x.rows) c.tree.ensures))
-    (c.parts_lie_inside.ensures may.fixed may.recorded c.args.parts.now.ledger c.args.parts.now.pages may.are).files
+    let call = c.args.call in
+    let t = c.target_of-target.ensures in
+    let inside = c.parts_lie_inside.ensures may.fixed may.recorded l p may.are in
+    let copy = stored-copy g.D.Disk c.copies_are_stored.ensures.copies may.fixed may.recorded l p c.args.pending.now call c.args.work.now [] may.are may.asked c.requires.word in
+    record {
+      size = subst (λ (n : ℕ). n < 2 ^ 63) (sym t.size) c.requires.small;
+      stays =
+          let within = stays-within call.sizes call.op c.requires.word in
+          let long = ap (λ (xs : List ℕ). length xs) c.requires.given in
+          omega (arith, t.at, t.size, long, within);
+      there = subst (λ (n : ℕ). is_some (row_of call.agent n p.swap) ≡ true) (sym t.row) copy.there;
+      lies = inside.lies call.agent c.target_of-target.result.row;
+      ready = subst (λ (n : ℕ). IsReady c.args.work.now p.swap p.space call.agent n p.base (g.D.Disk.size l.journal.disk) l.journal.areas) (sym t.row) copy.ready;
+      files = subst (λ (r : Tree). AreBelow (length p.space.used) (named r)) (sym (ap (λ x. x.rows) c.tree.ensures)) inside.files;
+    }
 
 pub enter_call-requires-clause-go : goal.enter_call-requires-clause-go
 enter_call-requires-clause-go g c =
@@ -55,7 +51,7 @@ enter_call-requires-clause-go g c =
     record {
       fixed = may.fixed;
       recorded = may.recorded;
-      are = read-parts w c.what_is_laid_goes_on.ensures.beside c.reads_leave_the_books.ensures laws.counted may.fixed may.recorded l p c.plan_call.new.journal q call may.are is.reads c.target_of-target.result.row there is.pages refl c.tree.result.now.rows tree_is is.spaced;
+      are = read-parts w c.what_is_laid_goes_on.ensures.beside c.reads_leave_the_books.ensures laws.counted may.fixed may.recorded l p c.plan_call.new.journal q call may.are is.left.reads c.target_of-target.result.row there is.left.pages refl c.tree.result.now.rows tree_is is.left.spaced;
       asked = asked-room w.tells may.fixed.opening l.books.history c.args.pending.now l.books.state call c.args.work.now c.plan_call.new.work [] is.same may.asked;
     }
 
@@ -76,9 +72,9 @@ enter_call-requires-clause-plan g c =
     (stored-copy w c.copies_are_stored.ensures.copies go.fixed go.recorded l p c.args.pending.now call c.args.work.now [] go.are go.asked c.requires.word).there in
     let t = c.target_of-target in
     is-plan w c.what_is_laid_goes_on.ensures.beside c.reads_leave_the_books.ensures laws.counted may.fixed may.recorded l p c.plan_call.new.journal q call
-    may.are is.reads t.result.row there is.pages refl c.tree.result.now.rows tree_is is.spaced
+    may.are is.left.reads t.result.row there is.left.pages refl c.tree.result.now.rows tree_is is.left.spaced
     c.parts_lie_inside.ensures t.result (record { row = t.ensures.row; at = t.ensures.at; size = t.ensures.size; position = t.ensures.position; writes = t.ensures.writes; counts = t.ensures.counts }) t.ensures.row
-    c.args.given.now c.requires.given c.plan_call.new.work c.in-Ok.planned.put c.in-Ok.planned.page.items c.requires.small is.count is.staged.staged.bytes is.ready is.gotten is.whole is.tail is.room
+    c.args.given.now c.requires.given c.plan_call.new.work c.in-Ok.planned.put c.in-Ok.planned.page.items c.requires.small is.planned.put.count is.planned.put.staged.staged.bytes is.planned.put.ready is.planned.put.gotten is.planned.page.whole is.planned.page.tail is.planned.room
 
 pub enter_call-requires-clause-planned : goal.enter_call-requires-clause-planned
 enter_call-requires-clause-planned g c f recorded held asked before row_is =
@@ -99,7 +95,7 @@ enter_call-requires-clause-planned g c f recorded held asked before row_is =
     let paged = paged-room c.args.work.now c.plan_call.new.work is.same first in
     planned-of w c.copies_are_stored.ensures.copies f recorded now p q c.args.pending.now call c.args.work.now c.plan_call.new.work (w.content l.journal.disk) held asked c.requires.word
     t.result (record { row = t.ensures.row; at = t.ensures.at; size = t.ensures.size; position = t.ensures.position; writes = t.ensures.writes; counts = t.ensures.counts })
-    c.args.given.now c.requires.given is.same is.pages refl (λ told. (is.reads.told told).same) paged c.in-Ok.planned.put.writes c.in-Ok.planned.page.items is.staged is.page before row_is
+    c.args.given.now c.requires.given is.same is.left.pages refl (λ told. (is.left.reads.told told).same) paged c.in-Ok.planned.put.writes c.in-Ok.planned.page.items is.planned.put.staged is.planned.page.page before row_is
 
 pub fail_reading-requires : goal.fail_reading-requires
 fail_reading-requires g c = record {
@@ -126,9 +122,9 @@ fail_reading-requires g c = record {
         past = [];
         failed = record {
           held = may.are;
-          are = read-parts w c.what_is_laid_goes_on.ensures.beside c.reads_leave_the_books.ensures laws.counted may.fixed may.recorded l p c.plan_call.new.journal q call may.are is.reads c.target_of-target.result.row there is.pages refl c.tree.result.now.rows tree_is is.spaced;
+          are = read-parts w c.what_is_laid_goes_on.ensures.beside c.reads_leave_the_books.ensures laws.counted may.fixed may.recorded l p c.plan_call.new.journal q call may.are is.left.reads c.target_of-target.result.row there is.left.pages refl c.tree.result.now.rows tree_is is.left.spaced;
           books = refl;
-          reads = is.reads;
+          reads = is.left.reads;
           asked = may.asked;
           disk = on-disk _ _ _ _ c.requires.word may.asked.judged;
           rose = is.cause (λ i. Err (c.in-Err-DiskFault.field-0-is i));
@@ -150,9 +146,9 @@ returns-in-Ok-clause-acted g c f recorded held asked =
     let go = c.requires.go in
     let there : is_some (row_of call.agent c.target_of-target.result.row p.swap) ≡ true = subst (λ (n : ℕ). is_some (row_of call.agent n p.swap) ≡ true) (sym c.target_of-target.ensures.row)
     (stored-copy w c.copies_are_stored.ensures.copies go.fixed go.recorded l p c.args.pending.now call c.args.work.now [] go.are go.asked c.requires.word).there in
-    let then = read-parts w c.what_is_laid_goes_on.ensures.beside c.reads_leave_the_books.ensures laws.counted f recorded l p c.plan_call.new.journal q call held is.reads c.target_of-target.result.row there is.pages refl c.tree.result.now.rows tree_is is.spaced in
+    let then = read-parts w c.what_is_laid_goes_on.ensures.beside c.reads_leave_the_books.ensures laws.counted f recorded l p c.plan_call.new.journal q call held is.left.reads c.target_of-target.result.row there is.left.pages refl c.tree.result.now.rows tree_is is.left.spaced in
     acted-room w f (record { ledger = l; pages = p }) c.enter_call.new.parts c.args.pending.now _ c.args.work.now c.plan_call.new.work _ _ is.same
-    (read-acted w f l now refl is.reads c.reads_leave_the_books.ensures laws.falls recorded p q p held c.enter_call.new.parts c.args.pending.now _ c.plan_call.new.work _ _
+    (read-acted w f l now refl is.left.reads c.reads_leave_the_books.ensures laws.falls recorded p q p held c.enter_call.new.parts c.args.pending.now _ c.plan_call.new.work _ _
     (c.enter_call.ensures.acted f recorded then (asked-room w.tells f.opening l.books.history c.args.pending.now l.books.state call c.args.work.now c.plan_call.new.work [] is.same asked)))
 
 pub returns-in-Err-DiskFault-clause-acted : goal.returns-in-Err-DiskFault-clause-acted
@@ -169,9 +165,9 @@ returns-in-Err-DiskFault-clause-acted g c f recorded held asked =
     let go = c.requires.go in
     let there : is_some (row_of call.agent c.target_of-target.result.row p.swap) ≡ true = subst (λ (n : ℕ). is_some (row_of call.agent n p.swap) ≡ true) (sym c.target_of-target.ensures.row)
     (stored-copy w c.copies_are_stored.ensures.copies go.fixed go.recorded l p c.args.pending.now call c.args.work.now [] go.are go.asked c.requires.word).there in
-    let then = read-parts w c.what_is_laid_goes_on.ensures.beside c.reads_leave_the_books.ensures laws.counted f recorded l p c.plan_call.new.journal q call held is.reads c.target_of-target.result.row there is.pages refl c.tree.result.now.rows tree_is is.spaced in
+    let then = read-parts w c.what_is_laid_goes_on.ensures.beside c.reads_leave_the_books.ensures laws.counted f recorded l p c.plan_call.new.journal q call held is.left.reads c.target_of-target.result.row there is.left.pages refl c.tree.result.now.rows tree_is is.left.spaced in
     c.fail_reading.ensures.acted f recorded l p p c.args.work.now c.plan_call.new.work []
-    (record { held = held; are = then; books = refl; reads = is.reads; asked = asked; disk = on-disk _ _ _ _ c.requires.word asked.judged; rose = is.cause (λ i. Err (c.in-Err-DiskFault.field-0-is i)) }) is.same
+    (record { held = held; are = then; books = refl; reads = is.left.reads; asked = asked; disk = on-disk _ _ _ _ c.requires.word asked.judged; rose = is.cause (λ i. Err (c.in-Err-DiskFault.field-0-is i)) }) is.same
 
 pub returns-in-Err-NoMemory-clause-idle : goal.returns-in-Err-NoMemory-clause-idle
 returns-in-Err-NoMemory-clause-idle g c f recorded held =
@@ -187,5 +183,5 @@ returns-in-Err-NoMemory-clause-idle g c f recorded held =
     let go = c.requires.go in
     let there : is_some (row_of call.agent c.target_of-target.result.row p.swap) ≡ true = subst (λ (n : ℕ). is_some (row_of call.agent n p.swap) ≡ true) (sym c.target_of-target.ensures.row)
     (stored-copy w c.copies_are_stored.ensures.copies go.fixed go.recorded l p c.args.pending.now call c.args.work.now [] go.are go.asked c.requires.word).there in
-    let then = read-parts w c.what_is_laid_goes_on.ensures.beside c.reads_leave_the_books.ensures laws.counted f recorded l p c.plan_call.new.journal q call held is.reads c.target_of-target.result.row there is.pages refl c.tree.result.now.rows tree_is is.spaced in
-    read-unacted w f l now refl is.reads c.reads_leave_the_books.ensures laws.falls c.the_books_show_their_images.ensures recorded p q p held then
+    let then = read-parts w c.what_is_laid_goes_on.ensures.beside c.reads_leave_the_books.ensures laws.counted f recorded l p c.plan_call.new.journal q call held is.left.reads c.target_of-target.result.row there is.left.pages refl c.tree.result.now.rows tree_is is.left.spaced in
+    read-unacted w f l now refl is.left.reads recorded q p then

@@ -21,7 +21,7 @@ use Rattle.opfs_desk_steps.specs.declared.parts.parts.OpenPages.{OpenPages}
 use Rattle.opfs_desk_steps.specs.declared.parts.parts.DeskParts.{DeskParts}
 use Rattle.opfs_desk_entries.specs.Answers.Silent.{BeginsCall}
 use Rattle.opfs_desk_steps.specs.Going.{HasTakenIn, HasMadeWay}
-use Rattle.opfs_desk_entries.proofs.kept_back.Kept.{unacted}
+use Rattle.opfs_desk_entries.proofs.answers.Unacted.{unacted}
 use Rattle.opfs_desk_contents.proofs.unchanged.Entered.{HasDropped, SavingLaws}
 use Rattle.opfs_desk_bytes.proofs.reading.Failed.{rows-failed}
 use Rattle.opfs_desk_steps.proofs.Counts.{own-length}
@@ -155,7 +155,7 @@ pub enter_again-requires-clause-done : goal.enter_again-requires-clause-done
 enter_again-requires-clause-done g c = ap (λ (e : Entry). e.reply) c.in-Ok-evict_for.ensures.entry
 
 pub returns-in_default-clause-idle : goal.returns-in_default-clause-idle
-returns-in_default-clause-idle g c f recorded held = unacted g.D.Disk c.calling_laws.ensures.shown f recorded c.args.parts.now held
+returns-in_default-clause-idle g c f recorded held = unacted g.D.Disk f recorded c.args.parts.now held
 
 pub returns-in-Ok-enter_again-clause-acted : goal.returns-in-Ok-enter_again-clause-acted
 returns-in-Ok-enter_again-clause-acted g c f recorded are whole asked =

@@ -61,7 +61,7 @@ tell-rows-requires g c = record {
 }
 
 pub returns-in_default-clause-idle : goal.returns-in_default-clause-idle
-returns-in_default-clause-idle g c f recorded held = unacted g.D.Disk c.telling_laws.ensures.shown f recorded c.args.parts.now held
+returns-in_default-clause-idle g c f recorded held = unacted g.D.Disk f recorded c.args.parts.now held
 
 pub returns-clause-acted : goal.returns-clause-acted
 returns-clause-acted g c f recorded held asked =

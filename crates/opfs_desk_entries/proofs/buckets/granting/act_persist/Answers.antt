@@ -15,7 +15,7 @@ use Rattle.opfs_desk_entries.specs.KeptBack.Changing.{HasChanged, HasNotChanged}
 use Rattle.opfs_desk_entries.specs.KeptBack.Keeping.{HasOwnKey}
 use Rattle.opfs_desk_steps.specs.Going.{HasTakenIn, HasMadeWay}
 use Rattle.opfs_desk_entries.proofs.kept_back.Keys.{key-held, key-back, key-own}
-use Rattle.opfs_desk_entries.proofs.kept_back.Kept.{unacted}
+use Rattle.opfs_desk_entries.proofs.answers.Unacted.{unacted}
 use Rattle.opfs_desk_entries.proofs.kept_back.Through.{ready, answered, rows-failed, failed-then, has-acted}
 use Rattle.opfs_desk_entries.specs.Buckets.Granting.{gives_mode, bucket_named, unit_named, mode_now}
 use Rattle.opfs_desk_entries.proofs.buckets.Granted.{its-reply, gives-now}
@@ -171,7 +171,7 @@ enter_mode-requires-clause-text g c =
     subst (λ (e : Entry). is_utf8 (bucket_named e.op) ≡ true) (sym c.in-Ok-evict_for.ensures.entry) c.unit_in.ensures.text
 
 pub returns-in_default-clause-idle : goal.returns-in_default-clause-idle
-returns-in_default-clause-idle g c f recorded held = unacted g.D.Disk c.granting_laws.ensures.shown f recorded c.args.parts.now held
+returns-in_default-clause-idle g c f recorded held = unacted g.D.Disk f recorded c.args.parts.now held
 
 pub returns-in-Ok-enter_mode-clause-acted : goal.returns-in-Ok-enter_mode-clause-acted
 returns-in-Ok-enter_mode-clause-acted g c f recorded held asked =

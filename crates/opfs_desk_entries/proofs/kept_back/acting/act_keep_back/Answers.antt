@@ -16,7 +16,8 @@ use Rattle.opfs_desk_entries.specs.KeptBack.Keeping.{keeps_back, is_well_named, 
 use Rattle.opfs_desk_steps.specs.Going.{HasTakenIn, HasMadeWay}
 use Rattle.opfs_desk_entries.specs.KeptBack.Steps.{BeginsKeeping, change_now}
 use Rattle.opfs_desk_entries.proofs.kept_back.Keys.{key-held, key-back, key-own}
-use Rattle.opfs_desk_entries.proofs.kept_back.Kept.{ready, answered, keeps-now, rows-failed, failed-then, has-acted, unacted}
+use Rattle.opfs_desk_entries.proofs.kept_back.Kept.{ready, answered, keeps-now, rows-failed, failed-then, has-acted}
+use Rattle.opfs_desk_entries.proofs.answers.Unacted.{unacted}
 use Rattle.opfs_desk_entries.proofs.kept_back.Spelled.{name-valid}
 use Rattle.opfs_desk_entries.proofs.kept_back.Words.{kept-word, on-disk}
 use Rattle.opfs_desk_entries.proofs.kept_back.acting.act_keep_back.Goals as goal
@@ -168,7 +169,7 @@ enter_kept-requires-clause-text g c =
     subst (λ (e : Entry). is_utf8 (entry_name e.op) ≡ true) (sym c.in-Ok-evict_for.ensures.entry) c.entry_of.ensures.text
 
 pub returns-in_default-clause-idle : goal.returns-in_default-clause-idle
-returns-in_default-clause-idle g c f recorded held = unacted g.D.Disk c.keeping_laws.ensures.shown f recorded c.args.parts.now held
+returns-in_default-clause-idle g c f recorded held = unacted g.D.Disk f recorded c.args.parts.now held
 
 pub returns-in-Ok-enter_kept-clause-acted : goal.returns-in-Ok-enter_kept-clause-acted
 returns-in-Ok-enter_kept-clause-acted g c f recorded held asked =

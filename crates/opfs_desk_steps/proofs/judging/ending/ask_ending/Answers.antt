@@ -5,7 +5,7 @@ use Rattle.opfs_machine.specs.Runs.{Call}
 use Rattle.opfs_desk_steps.specs.Parts.Asked.{AreEvictions}
 use Rattle.opfs_desk_steps.specs.Parts.Seen.{units_in}
 use Rattle.opfs_desk_steps.specs.declared.parts.call.Eviction.{Eviction}
-use Rattle.opfs_desk_steps.proofs.judging.Endings.{never-refused, takes-none}
+use Rattle.opfs_desk_steps.proofs.judging.Endings.{never-refused}
 use Rattle.opfs_desk_steps.proofs.judging.Judgements.{agent, judged-now}
 use Rattle.opfs_desk_steps.proofs.judging.Rows.{sizes-are}
 use Rattle.opfs_desk_steps.proofs.judging.Same.{same-held}
