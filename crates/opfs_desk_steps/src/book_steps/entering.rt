@@ -1,25 +1,17 @@
 //! Calls that store a content, or one more change than may be kept back.
 
-ghost use Rattle.std.specs.Prelude.{◌≡◌, ◌≤◌, ◌++◌, ◌∷◌, [], List, Some, true, false, fold, OnOk, OnErr};
+ghost use Rattle.std.specs.Prelude.{◌++◌, ◌∷◌, [], List, OnOk, OnErr};
 ghost use Rattle.opfs_base.specs.Texts.{Text};
-ghost use Rattle.opfs_books.specs.Stored.Spelled.{spelled_by};
-ghost use Rattle.opfs_books.specs.Laws.Books.{Fixed, AreBooks};
-ghost use Rattle.opfs_books.specs.Laws.Laws.{LeavesPages, ShowsTold, told, failed};
-ghost use Rattle.opfs_books.specs.Seen.{MayStore, BytesStand, stored_change};
-ghost use Rattle.opfs_state_rows.specs.Changes.Changed.{tree_by};
-ghost use Rattle.opfs_codec.specs.Fields.{plain, Fits};
-ghost use Rattle.opfs_desk_steps.specs.Parts.Answered.{IsAnswered};
-ghost use Rattle.opfs_desk_steps.specs.Parts.Held.{AreTied, AreHeldAt, AreHeldWhole};
-ghost use Rattle.opfs_desk_steps.specs.Parts.Seen.{machine_in, tree_in, book_in};
+ghost use Rattle.opfs_books.specs.Laws.Books.{Fixed};
+ghost use Rattle.opfs_books.specs.Laws.Laws.{LeavesPages, ShowsTold, told};
+ghost use Rattle.opfs_books.specs.Seen.{stored_change};
+ghost use Rattle.opfs_codec.specs.Fields.{plain};
+ghost use Rattle.opfs_desk_steps.specs.Parts.Held.{AreTied};
+ghost use Rattle.opfs_desk_steps.specs.Parts.Seen.{book_in};
 ghost use Rattle.opfs_desk_steps.specs.declared.parts.parts.OpenPages.{OpenPages};
-ghost use Rattle.opfs_desk_steps.specs.BookSteps.Entering.{MayStoreCall};
+ghost use Rattle.opfs_desk_steps.specs.BookSteps.Entering.{MayCommit, IsCommittedOver, HasCommitted, HasNotCommitted};
 ghost use Rattle.opfs_machine.specs.declared.own.Own.{Own};
 ghost use Rattle.opfs_machine.specs.declared.state.State.{State};
-ghost use Rattle.opfs_machine.specs.Agents.{counted};
-ghost use Rattle.opfs_machine.specs.Contents.{in_lengths};
-ghost use Rattle.opfs_machine.specs.Effects.{effect};
-ghost use Rattle.opfs_machine.specs.Steps.{is_refusal};
-ghost use Rattle.opfs_outside.specs.Faults.{Rose};
 ghost use Rattle.opfs_records.specs.Replay.Built.{Built};
 
 use crate::parts::Ledger;
@@ -37,30 +29,13 @@ pub fn store_call<D: Disk>(
     own: &ChangeRef<'_>,
     entering: Entering,
 ) -> Result<(), DiskFault>
-    requires may { MayStoreCall D.Disk ledger.old entering.last.entry entering.sizes (plain own.now) }
-    requires answered { is_refusal entering.last.entry.reply ≡ false }
-    requires spelled { spelled_by (machine_in ledger.old) (tree_in ledger.old) entering.last.entry.agent entering.last.entry.op entering.sizes entering.extents ≡ Some (plain own.now) }
-    requires fits { Fits (plain own.now) }
-    requires settled { ledger.old.journal.in_doubt ≡ false }
-    ensures entries { OnOk result (ledger.new.books.history ≡ ledger.old.books.history ++ entering.last.entry ∷ []) }
-    ensures machine { OnOk result (machine_in ledger.new ≡ counted (effect in_lengths (machine_in ledger.old) entering.sizes entering.last.entry.agent entering.last.entry.op) entering.last.entry.agent) }
-    ensures tree { OnOk result (tree_in ledger.new ≡ tree_by (machine_in ledger.old) (tree_in ledger.old) entering.last.entry.agent entering.last.entry.op entering.sizes entering.extents) }
-    ensures idle { ledger.new.books.state.store.prepared.place ≡ None }
-    ensures none { OnOk result (ledger.new.books.commits.count ≡ 0) }
-    ensures sure { OnOk result (ledger.new.journal.in_doubt ≡ false) }
-    ensures failed { OnErr result (ledger.new.books.history ≡ ledger.old.books.history ++ failed entering.last.entry ∷ []) }
+    requires { MayCommit D.Disk ledger.old entering.last.entry entering.sizes entering.extents (plain own.now) }
+    ensures committed { OnOk result (HasCommitted D.Disk ledger.old ledger.new entering.last.entry entering.sizes entering.extents (plain own.now)) }
+    ensures failed { OnErr result (HasNotCommitted D.Disk ledger.old ledger.new entering.last.entry entering.sizes (plain own.now)) }
     ensures leaves { LeavesPages D.Disk ledger.old.journal ledger.new.journal }
-    ensures books { OnOk result ((f : Fixed D) (recorded : Built) (base : State Text Own) (gone : List Text) (p : OpenPages) → AreHeldAt D.Disk f recorded base gone ledger.old p → IsAnswered D.Disk base gone ledger.old entering.last.entry entering.sizes
-        → MayStore f (book_in ledger.old) (plain own.now) → BytesStand D.Disk f base gone ledger.old.journal entering.last.entry (plain own.now)
-        → AreBooks D.Disk f (book_in ledger.new).rows (book_in ledger.new) ledger.new.journal) }
-    ensures held { OnErr result ((f : Fixed D) (recorded : Built) (base : State Text Own) (gone : List Text) (p : OpenPages) → AreHeldAt D.Disk f recorded base gone ledger.old p → IsAnswered D.Disk base gone ledger.old entering.last.entry entering.sizes
-        → MayStore f (book_in ledger.old) (plain own.now) → BytesStand D.Disk f base gone ledger.old.journal entering.last.entry (plain own.now)
-        → AreHeldWhole D.Disk f recorded ledger.new p) }
-    ensures shown { (f : Fixed D) (recorded : Built) (base : State Text Own) (gone : List Text) (p : OpenPages) → AreHeldAt D.Disk f recorded base gone ledger.old p → IsAnswered D.Disk base gone ledger.old entering.last.entry entering.sizes
-        → MayStore f (book_in ledger.old) (plain own.now) → BytesStand D.Disk f base gone ledger.old.journal entering.last.entry (plain own.now)
+    ensures shown { (f : Fixed D) (recorded : Built) (base : State Text Own) (gone : List Text) (p : OpenPages) → IsCommittedOver D.Disk f recorded base gone ledger.old p entering.last.entry entering.sizes (plain own.now)
         → ShowsTold D.Disk f (book_in ledger.old) (told f (book_in ledger.old) ++ stored_change base gone entering.last.entry (plain own.now) ∷ []) ledger.old.journal ledger.new.journal }
     ensures tied { (f : Fixed D) (p : OpenPages) → AreTied D.Disk f ledger.old p → AreTied D.Disk f ledger.new p }
-    ensures cause { OnErr result (Rose (D.faults ledger.old.journal.disk) (D.faults ledger.new.journal.disk)) }
 {
     what_is_laid_goes_on::<D>();
     blocks_go_on();

@@ -7,12 +7,14 @@ use Rattle.opfs_codec.specs.declared.change.Change.TheVariants.{Content}
 use Rattle.opfs_codec.specs.declared.change.Format.TheVariants.{New}
 use Rattle.opfs_codec.proofs.WritingLemmas.{change_fits}
 use Rattle.opfs_desk_entries.specs.KeptBack.Changing.{HasNotChanged}
+use Rattle.opfs_desk_steps.specs.BookSteps.Entering.{IsCommittedOver}
+use Rattle.opfs_machine.specs.Steps.{is_refusal}
 use Rattle.opfs_desk_contents.specs.Storing.{HasStored, content_now}
 use Rattle.opfs_desk_contents.proofs.Entered.{content-again, may-be-stored}
 use Rattle.opfs_desk_contents.proofs.storing.enter_content.Goals as goal
 
-pub store_call-requires-clause-may : goal.store_call-requires-clause-may
-store_call-requires-clause-may g c =
+pub store_call-requires : goal.store_call-requires
+store_call-requires g c =
     let may = c.requires.may in
     let l = c.args.ledger.now in
     let place = c.args.place.now in
@@ -21,19 +23,13 @@ store_call-requires-clause-may g c =
     let own = plain c.content_of-own.result in
     let same : own ≡ content_now l c.args.last.entry place may.row c.args.size runs = is.is ∙ ap (λ n. Content place.0 place.1 n c.args.size runs) (c.stamp_of-stamp.ensures may.row may.there) in
     let again : IsChange New own = subst (IsChange New) (sym is.is) (content-again place c.stamp_of-stamp.result c.args.size runs may.written is.moment is.small may.runs_are) in
-    record { answer = may.answer; stores = may-be-stored may.answer.fixed l own (content_now l c.args.last.entry place may.row c.args.size runs) same again may.holds }
-
-pub store_call-requires-clause-spelled : goal.store_call-requires-clause-spelled
-store_call-requires-clause-spelled g c =
-    let may = c.requires.may in
-    let place = c.args.place.now in
-    may.spelled ∙ ap (λ (x : Spelled). Some x) (sym (c.content_of-own.ensures.is ∙ ap (λ n. Content place.0 place.1 n c.args.size c.args.runs.now) (c.stamp_of-stamp.ensures may.row may.there)))
-
-pub store_call-requires-clause-fits : goal.store_call-requires-clause-fits
-store_call-requires-clause-fits g c =
-    let may = c.requires.may in
-    let is = c.content_of-own.ensures in
-    change_fits (plain c.content_of-own.result) (subst (IsChange New) (sym is.is) (content-again c.args.place.now c.stamp_of-stamp.result c.args.size c.args.runs.now may.written is.moment is.small may.runs_are))
+    record {
+      may = record { answer = may.answer; stores = may-be-stored may.answer.fixed l own (content_now l c.args.last.entry place may.row c.args.size runs) same again may.holds };
+      answered = ap is_refusal c.requires.done;
+      spelled = may.spelled ∙ ap (λ (x : Spelled). Some x) (sym same);
+      fits = change_fits own again;
+      settled = c.requires.settled;
+    }
 
 pub returns-in-Ok-clause-stored : goal.returns-in-Ok-clause-stored
 returns-in-Ok-clause-stored g c f recorded base gone p row are answered there holds stands =
@@ -51,17 +47,19 @@ returns-in-Ok-clause-stored g c f recorded base gone p row are answered there ho
     let again : IsChange New own = subst (IsChange New) (sym is.is) (content-again place c.stamp_of-stamp.result c.args.size runs may.written is.moment is.small may.runs_are) in
     let stores = may-be-stored f l own now same again holds in
     let bytes : BytesStand w f base gone l.journal e own = subst (λ (x : Spelled). BytesStand w f base gone l.journal e x) (sym same) stands in
-    let done = c.in-Ok.ensures in
+    let done = c.in-Ok.ensures.committed in
+    let leaves = c.in-Ok.ensures.leaves in
+    let over : IsCommittedOver w f recorded base gone l p e c.args.sizes own = record { are = are; answered = answered; stores = stores; bytes = bytes } in
     subst (λ (x : Spelled). HasStored w f base gone l new p e c.args.sizes c.args.extents x) same
     (record {
       entries = done.entries;
       machine = done.machine;
       tree = done.tree;
       idle = done.idle;
-      books = done.books f recorded base gone p are answered stores bytes;
-      tied = done.tied f p are.tied;
-      leaves = done.leaves;
-      shown = record { later = done.leaves.later; time = done.leaves.time; shown = done.shown f recorded base gone p are answered stores bytes };
+      books = done.books f recorded base gone p over;
+      tied = c.in-Ok.ensures.tied f p are.tied;
+      leaves = leaves;
+      shown = record { later = leaves.later; time = leaves.time; shown = c.in-Ok.ensures.shown f recorded base gone p over };
     })
 
 pub returns-in-Err-clause-failed : goal.returns-in-Err-clause-failed
@@ -80,12 +78,14 @@ returns-in-Err-clause-failed g c f recorded base gone p row are answered there h
     let again : IsChange New own = subst (IsChange New) (sym is.is) (content-again place c.stamp_of-stamp.result c.args.size runs may.written is.moment is.small may.runs_are) in
     let stores = may-be-stored f l own now same again holds in
     let bytes : BytesStand w f base gone l.journal e own = subst (λ (x : Spelled). BytesStand w f base gone l.journal e x) (sym same) stands in
-    let done = c.in-Err.ensures in
+    let done = c.in-Err.ensures.failed in
+    let leaves = c.in-Err.ensures.leaves in
+    let over : IsCommittedOver w f recorded base gone l p e c.args.sizes own = record { are = are; answered = answered; stores = stores; bytes = bytes } in
     subst (λ (x : Spelled). HasNotChanged w f recorded base gone l new p e x) same
     (record {
-      entries = done.failed;
+      entries = done.entries;
       idle = done.idle;
-      are = done.held f recorded base gone p are answered stores bytes;
+      are = done.held f recorded base gone p over;
       rose = done.cause;
-      shown = record { later = done.leaves.later; time = done.leaves.time; shown = done.shown f recorded base gone p are answered stores bytes };
+      shown = record { later = leaves.later; time = leaves.time; shown = c.in-Err.ensures.shown f recorded base gone p over };
     })

@@ -1,4 +1,4 @@
-use Rattle.std.proofs.Common.{◌++◌, length, refl, ap, arith}
+use Rattle.std.proofs.Common.{rules, ◌++◌, length, refl, ap, arith}
 use Rattle.opfs_state_rows.specs.Changes.Changed.{freed_in}
 use Rattle.opfs_desk_steps.specs.Parts.Seen.{machine_in, tree_in, book_in}
 use Rattle.opfs_desk_steps.specs.declared.parts.parts.Ledger.{Ledger}
@@ -6,32 +6,33 @@ use Rattle.opfs_desk_steps.proofs.book_steps.Books.{room-freed, may-apply}
 use Rattle.opfs_desk_steps.proofs.book_steps.Held.{tied-same}
 use Rattle.opfs_desk_entries.proofs.kept_back.entering.keep_call.Goals as goal
 
-pub keep-requires-clause-come : goal.keep-requires-clause-come
-keep-requires-clause-come g c =
+pub keep-requires : goal.keep-requires
+keep-requires g c =
     let may = c.requires.may.answer in
+    let l = c.args.ledger.now in
+    let e = c.args.entering in
+    let short = c.the_state_is_kept.ensures.short may.fixed may.recorded may.base may.gone (book_in l) l.journal may.are.books in
     record {
-      come = record { known = record { fixed = may.fixed; recorded = may.recorded; base = may.base; gone = may.gone; are = may.are.books }; next = may.answered.next; sizes = may.answered.sizes };
-      stores = c.requires.may.stores;
+      come = record {
+        come = record { known = record { fixed = may.fixed; recorded = may.recorded; base = may.base; gone = may.gone; are = may.are.books }; next = may.answered.next; sizes = may.answered.sizes };
+        stores = c.requires.may.stores;
+      };
+      answers = search rules;
+      answered = c.requires.answered;
+      settled = c.requires.settled;
+      few = c.requires.few;
+      quiet = c.requires.quiet;
+      spelled = c.requires.spelled;
+      fits = c.requires.fits;
+      may = may-apply g.D.Disk may.fixed may.recorded may.base may.gone l may.pages may.are short e.last.entry e.sizes may.answered.change;
+      room =
+          let room = room-freed g.D.Disk may.fixed may.recorded may.base may.gone l may.pages may.are e.last.entry.agent e.last.entry.op e.extents in
+          let none = ap (λ xs. length (xs ++ freed_in (machine_in l) (tree_in l) e.last.entry.agent e.last.entry.op e.extents)) c.clear.ensures.items in
+          omega (arith, room, none, c.clear.ensures.capacity);
     }
 
-pub keep-requires-clause-may : goal.keep-requires-clause-may
-keep-requires-clause-may g c =
-    let may = c.requires.may.answer in
-    let l = c.args.ledger.now in
-    let e = c.args.entering in
-    may-apply g.D.Disk may.fixed may.recorded may.base may.gone l may.pages may.are (c.the_state_is_kept.ensures.short may.fixed may.recorded may.base may.gone (book_in l) l.journal may.are.books) e.last.entry e.sizes may.answered.change
-
-pub keep-requires-clause-room : goal.keep-requires-clause-room
-keep-requires-clause-room g c =
-    let may = c.requires.may.answer in
-    let l = c.args.ledger.now in
-    let e = c.args.entering in
-    let room = room-freed g.D.Disk may.fixed may.recorded may.base may.gone l may.pages may.are e.last.entry.agent e.last.entry.op e.extents in
-    let none = ap (λ xs. length (xs ++ freed_in (machine_in l) (tree_in l) e.last.entry.agent e.last.entry.op e.extents)) c.clear.ensures.items in
-    omega (arith, room, none, c.clear.ensures.capacity)
-
 pub returns-clause-books : goal.returns-clause-books
-returns-clause-books g c f recorded base gone p are answered stores = c.keep.ensures.books f recorded base gone are.books answered.next answered.sizes stores
+returns-clause-books g c f recorded base gone p are answered stores = c.keep.ensures.kept.books f recorded base gone are.books answered.next answered.sizes stores
 
 pub returns-clause-tied : goal.returns-clause-tied
 returns-clause-tied g c f p tied =

@@ -1,4 +1,4 @@
-use Rattle.std.proofs.Common.{◌++◌, length, refl, ap, arith}
+use Rattle.std.proofs.Common.{rules, ◌++◌, length, refl, ap, arith}
 use Rattle.opfs_books.specs.Laws.Laws.{failed}
 use Rattle.opfs_state_rows.specs.Changes.Changed.{freed_in}
 use Rattle.opfs_desk_steps.specs.Parts.Seen.{machine_in, tree_in, book_in}
@@ -7,41 +7,45 @@ use Rattle.opfs_desk_steps.proofs.book_steps.Books.{room-freed, may-apply, may-r
 use Rattle.opfs_desk_steps.proofs.book_steps.Held.{tied-moved, failed-held}
 use Rattle.opfs_desk_steps.proofs.book_steps.entering.store_call.Goals as goal
 
-pub store-requires-clause-come : goal.store-requires-clause-come
-store-requires-clause-come g c =
+pub store-requires : goal.store-requires
+store-requires g c =
     let may = c.requires.may.answer in
+    let l = c.args.ledger.now in
+    let e = c.args.entering in
+    let short = c.the_state_is_kept.ensures.short may.fixed may.recorded may.base may.gone (book_in l) l.journal may.are.books in
     record {
-      come = record { known = record { fixed = may.fixed; recorded = may.recorded; base = may.base; gone = may.gone; are = may.are.books }; next = may.answered.next; sizes = may.answered.sizes };
-      stores = c.requires.may.stores;
+      come = record {
+        come = record { known = record { fixed = may.fixed; recorded = may.recorded; base = may.base; gone = may.gone; are = may.are.books }; next = may.answered.next; sizes = may.answered.sizes };
+        stores = c.requires.may.stores;
+      };
+      answers = search rules;
+      answered = c.requires.answered;
+      settled = c.requires.settled;
+      spelled = c.requires.spelled;
+      fits = c.requires.fits;
+      may = may-apply g.D.Disk may.fixed may.recorded may.base may.gone l may.pages may.are short e.last.entry e.sizes may.answered.change;
+      may_refuse = may-refuse g.D.Disk may.fixed may.recorded may.base may.gone l may.pages may.are short e.last.entry.agent may.answered.change.agent;
+      room =
+          let room = room-freed g.D.Disk may.fixed may.recorded may.base may.gone l may.pages may.are e.last.entry.agent e.last.entry.op e.extents in
+          let none = ap (λ xs. length (xs ++ freed_in (machine_in l) (tree_in l) e.last.entry.agent e.last.entry.op e.extents)) c.clear.ensures.items in
+          omega (arith, room, none, c.clear.ensures.capacity);
     }
 
-pub store-requires-clause-may : goal.store-requires-clause-may
-store-requires-clause-may g c =
-    let may = c.requires.may.answer in
-    let l = c.args.ledger.now in
-    let e = c.args.entering in
-    may-apply g.D.Disk may.fixed may.recorded may.base may.gone l may.pages may.are (c.the_state_is_kept.ensures.short may.fixed may.recorded may.base may.gone (book_in l) l.journal may.are.books) e.last.entry e.sizes may.answered.change
-
-pub store-requires-clause-may_refuse : goal.store-requires-clause-may_refuse
-store-requires-clause-may_refuse g c =
-    let may = c.requires.may.answer in
-    let l = c.args.ledger.now in
-    may-refuse g.D.Disk may.fixed may.recorded may.base may.gone l may.pages may.are (c.the_state_is_kept.ensures.short may.fixed may.recorded may.base may.gone (book_in l) l.journal may.are.books) c.args.entering.last.entry.agent may.answered.change.agent
-
-pub store-requires-clause-room : goal.store-requires-clause-room
-store-requires-clause-room g c =
-    let may = c.requires.may.answer in
-    let l = c.args.ledger.now in
-    let e = c.args.entering in
-    let room = room-freed g.D.Disk may.fixed may.recorded may.base may.gone l may.pages may.are e.last.entry.agent e.last.entry.op e.extents in
-    let none = ap (λ xs. length (xs ++ freed_in (machine_in l) (tree_in l) e.last.entry.agent e.last.entry.op e.extents)) c.clear.ensures.items in
-    omega (arith, room, none, c.clear.ensures.capacity)
-
-pub returns-in-Ok-clause-books : goal.returns-in-Ok-clause-books
-returns-in-Ok-clause-books g c f recorded base gone p are answered stores stand = c.in-Ok.ensures.books f recorded base gone are.books answered.next answered.sizes stores stand
+pub returns-in-Ok-clause-committed : goal.returns-in-Ok-clause-committed
+returns-in-Ok-clause-committed g c =
+    let done = c.in-Ok.ensures.stored in
+    record {
+      entries = done.entries;
+      machine = done.machine;
+      tree = done.tree;
+      idle = done.idle;
+      none = done.none;
+      sure = done.sure;
+      books = λ f recorded base gone p over. done.books f recorded base gone over.are.books over.answered.next over.answered.sizes over.stores over.bytes;
+    }
 
 pub returns-in-Ok-clause-shown : goal.returns-in-Ok-clause-shown
-returns-in-Ok-clause-shown g c f recorded base gone p are answered stores stand = c.in-Ok.ensures.shown f recorded base gone are.books answered.next answered.sizes stores stand
+returns-in-Ok-clause-shown g c f recorded base gone p over = c.in-Ok.ensures.shown f recorded base gone over.are.books over.answered.next over.answered.sizes over.stores over.bytes
 
 pub returns-in-Ok-clause-tied : goal.returns-in-Ok-clause-tied
 returns-in-Ok-clause-tied g c f p tied =
@@ -50,17 +54,24 @@ returns-in-Ok-clause-tied g c f p tied =
     let new : Ledger g.row.D.Denot = record { journal = c.store.new.journal; books = c.store.new.self; freed = c.store.new.freed; alloc = l.alloc } in
     tied-moved g.D.Disk f laws.counted l new p tied c.in-Ok.ensures.leaves (omega (arith, c.clear.ensures.capacity, c.in-Ok.ensures.capacity))
 
-pub returns-in-Err-clause-held : goal.returns-in-Err-clause-held
-returns-in-Err-clause-held g c f recorded base gone p are answered stores stand =
+pub returns-in-Err-clause-failed : goal.returns-in-Err-clause-failed
+returns-in-Err-clause-failed g c =
     let laws = g.met.D.Disk in
     let l = c.args.ledger.now in
     let new : Ledger g.row.D.Denot = record { journal = c.store.new.journal; books = c.store.new.self; freed = c.store.new.freed; alloc = l.alloc } in
     let done = c.in-Err.ensures in
-    failed-held g.D.Disk f c.what_is_laid_goes_on.ensures.beside c.blocks_go_on.ensures c.only_its_own_calls_settle_a_row.ensures laws.counted recorded base gone l new p (failed c.args.entering.last.entry) are refl answered.change.agent
-    (done.failed_books f recorded base gone are.books answered.next answered.sizes stores stand) done.leaves done.failed done.failed_machine done.failed_tree (omega (arith, c.clear.ensures.capacity, done.capacity)) done.failed_commits
+    let fails = done.failed in
+    record {
+      entries = fails.entries;
+      idle = fails.idle;
+      held = λ f recorded base gone p over.
+          failed-held g.D.Disk f c.what_is_laid_goes_on.ensures.beside c.blocks_go_on.ensures c.only_its_own_calls_settle_a_row.ensures laws.counted recorded base gone l new p (failed c.args.entering.last.entry) over.are refl over.answered.change.agent
+          (done.failed_books f recorded base gone over.are.books over.answered.next over.answered.sizes over.stores over.bytes) done.leaves fails.entries fails.machine fails.tree (omega (arith, c.clear.ensures.capacity, done.capacity)) fails.commits;
+      cause = fails.cause;
+    }
 
 pub returns-in-Err-clause-shown : goal.returns-in-Err-clause-shown
-returns-in-Err-clause-shown g c f recorded base gone p are answered stores stand = c.in-Err.ensures.shown f recorded base gone are.books answered.next answered.sizes stores stand
+returns-in-Err-clause-shown g c f recorded base gone p over = c.in-Err.ensures.shown f recorded base gone over.are.books over.answered.next over.answered.sizes over.stores over.bytes
 
 pub returns-in-Err-clause-tied : goal.returns-in-Err-clause-tied
 returns-in-Err-clause-tied g c f p tied =
