@@ -124,10 +124,10 @@ module _ {D : Type 0} (w : DiskWords D) (f : Fixed D) (old new : DeskParts D) (c
   keeps-acted shows stands reads t =
       keeps-on w o h (added calls gone entry) now grown old.ledger.journal.disk new.ledger.journal.disk (has.way.time t) (way-once t) (rest.keeps t)
       (λ crashes n le content.
-          let last = own-content n le content in
-          let fine = stored-no-fault (fold evicted (state_after o (h ++ calls)) gone) entry last.change last.alone in
-          let none = none-in-doubt fine (let end = last.last in omega (arith, le, end)) in
-          let books = has.held.are.books in
-          kept-now w o now n new.ledger.journal.disk content last.last (reads crashes new.ledger.journal.disk)
-          (stands f has.held.recorded (state_after o now) [] (book_in new.ledger) new.ledger.journal books t n content last.last none crashes)
-          (once-now w f new.ledger shows has.held.recorded (state_after o now) [] books t))
+      let last = own-content n le content in
+      let fine = stored-no-fault (fold evicted (state_after o (h ++ calls)) gone) entry last.change last.alone in
+      let none = none-in-doubt fine (let end = last.last in omega (arith, le, end)) in
+      let books = has.held.are.books in
+      kept-now w o now n new.ledger.journal.disk content last.last (reads crashes new.ledger.journal.disk)
+      (stands f has.held.recorded (state_after o now) [] (book_in new.ledger) new.ledger.journal books t n content last.last none crashes)
+      (once-now w f new.ledger shows has.held.recorded (state_after o now) [] books t))

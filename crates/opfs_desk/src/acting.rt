@@ -1,10 +1,10 @@
 //! One shared call.
 
-ghost use Rattle.std.specs.Prelude.{◌≡◌, true, IfOk, OnErr, IsTrue, is_ok};
+ghost use Rattle.std.specs.Prelude.{◌≡◌, ◌≤◌, true, IfOk, OnErr, IsTrue, is_ok};
 ghost use Rattle.opfs_store.specs.Acts.Acting.{always_acts};
 ghost use Rattle.opfs_store.specs.Acts.Asking.{MayAct};
 ghost use Rattle.opfs_desk.specs.Passing.{HasNotServed, HasServed};
-ghost use Rattle.opfs_desk.specs.Seen.{entries_of};
+ghost use Rattle.opfs_desk.specs.Seen.{disk_of, entries_of};
 
 use crate::desk::Desk;
 use crate::dispatch::act_call;
@@ -35,6 +35,7 @@ impl<D: Disk> Desk<D> {
     ) -> Result<Acted, AllocError>
         requires may { MayAct D.tells self.old.fixed.opening (entries_of self.old) pending.old (record { agent = agent; number = number; op = op }) work.old past.now }
         ensures fixed { self.new.fixed ≡ self.old.fixed }
+        ensures later { D.faults (disk_of self.old) ≤ D.faults (disk_of self.new) }
         ensures served { IfOk result (λ acted. HasServed D.Disk self.old self.new pending.old pending.new work.old work.new (record { agent = agent; number = number; op = op }) acted) }
         ensures unserved { OnErr result (HasNotServed D.Disk self.old self.new pending.old pending.new work.old work.new) }
         ensures ends { always_acts op ≡ true → IsTrue (is_ok result) }

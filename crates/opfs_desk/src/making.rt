@@ -7,9 +7,7 @@ ghost use Rattle.opfs_books.specs.Openings.Openings.{fixed_by};
 
 use crate::desk::Desk;
 use opfs_base::Extent;
-use opfs_books::{
-    Books, a_recovered_image_opens_a_run, limits_of, the_books_show_their_images,
-};
+use opfs_books::{Books, a_recovered_image_opens_a_run, limits_of, the_books_show_their_images};
 use opfs_data::Swap;
 use opfs_desk_steps::{DeskParts, Iterators, Ledger, OpenPages};
 use opfs_hall::Told;

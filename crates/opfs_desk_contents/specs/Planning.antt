@@ -1,5 +1,5 @@
 -- What is planned of a row's content before a call stores it, over parts that are kept. This project's own.
-use Rattle.std.specs.Prelude.{◌≡◌, ℕ, ◌+◌, ◌*◌, ◌^◌, ◌<◌, ◌≤◌, true, [], length, Some, is_some}
+use Rattle.std.specs.Prelude.{◌≡◌, ℕ, ◌^◌, ◌<◌, ◌≤◌, true, [], Some, is_some}
 use Rattle.std.specs.Vec.{vec_capacity}
 use Rattle.opfs_base.specs.Blocks.{blocks}
 use Rattle.opfs_data.specs.Calls.{Reads}

@@ -1,4 +1,4 @@
-use Rattle.std.proofs.Common.{◌≡◌, length, [], refl, sym, ap, subst, ◌∙◌, arith}
+use Rattle.std.proofs.Common.{◌≡◌, length, [], refl, sym, ap, subst, arith}
 use Rattle.opfs_blocks.specs.Sets.{AreBelow}
 use Rattle.opfs_books.specs.Laws.Laws.{told}
 use Rattle.opfs_desk_steps.specs.Parts.Held.{AreHeldAt, AreHeldWhole}

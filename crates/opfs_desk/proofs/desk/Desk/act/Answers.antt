@@ -1,5 +1,6 @@
 use Rattle.std.proofs.Common.{refl, ◌∙◌}
 use Rattle.std.specs.Option.{option_copied}
+use Rattle.opfs_data.proofs.SwapLemmas.{on_err}
 use Rattle.opfs_machine.specs.Runs.{Call}
 use Rattle.opfs_books.specs.Openings.Openings.{fixed_by}
 use Rattle.opfs_desk.proofs.Called.{is-called, is-told, rests-acted, rests-alone}
@@ -57,6 +58,22 @@ invariant_of-self-2 g c =
           c.asked_row-row.ensures c.take-last.ensures.others c.self.invariant.rest.held.are.books.whole (is-told g.D.Disk f old c.self.invariant.rest) c.act_call.new.parts.ledger.books.history c.in_ok-acted.acted.reply c.in_ok-acted.acted.gift has.acted has.gift
           (record { agent = c.args.agent; row = c.asked_row-row.result; makes = c.may_make-makes.result; known = c.is_some.result }) refl refl c.may_make-makes.ensures c.take-last.result c.take-last.ensures.name c.is_some.ensures c.follow.new.self c.follow.ensures;
     }
+
+pub returns-clause-later : goal.returns-clause-later
+returns-clause-later g c =
+    let f = fixed_by g.D.Disk c.self.inside.from.value c.self.inside.agents.value.items in
+    let call : Call = record { agent = c.args.agent; number = c.args.number; op = c.args.op } in
+    let old = c.self.inside.parts in
+    let may = rw (← c.self.view_is) at c.requires.may in
+    rw (← c.self.view_is) ((c.in_ok-acted.ensures.acted f (is-called g.D.Disk f old c.args.pending.now call c.args.work.now c.args.past.now c.self.invariant.rest may)).way.later)
+
+pub returns-in_err-acted-clause-later : goal.returns-in_err-acted-clause-later
+returns-in_err-acted-clause-later g c =
+    let f = fixed_by g.D.Disk c.self.inside.from.value c.self.inside.agents.value.items in
+    let call : Call = record { agent = c.args.agent; number = c.args.number; op = c.args.op } in
+    let old = c.self.inside.parts in
+    let may = rw (← c.self.view_is) at c.requires.may in
+    rw (← c.self.view_is) ((c.in_err-acted.ensures.alone f (is-called g.D.Disk f old c.args.pending.now call c.args.work.now c.args.past.now c.self.invariant.rest may)).reads.later)
 
 pub returns-clause-served : goal.returns-clause-served
 returns-clause-served g c =
