@@ -113,14 +113,19 @@ class Headless:
     def __exit__(self, *_):
         self.server.shutdown()
         try:
-            os.killpg(self.job.pid, signal.SIGTERM)
+            self.send("Browser.close")
             self.job.wait(10)
+        except (AttributeError, OSError, subprocess.TimeoutExpired):
+            self.end()
+        shutil.rmtree(self.profile, ignore_errors=True)
+
+    def end(self):
+        """Ends a Chromium that does not close by itself, with its own processes."""
+        try:
+            os.killpg(self.job.pid, signal.SIGKILL)
         except ProcessLookupError:
             pass
-        except subprocess.TimeoutExpired:
-            os.killpg(self.job.pid, signal.SIGKILL)
         self.job.wait()
-        shutil.rmtree(self.profile, ignore_errors=True)
 
     def address(self):
         """Where Chromium listens, which it writes into its profile."""
