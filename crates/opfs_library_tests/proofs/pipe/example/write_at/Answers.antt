@@ -1,6 +1,5 @@
-use Rattle.std.proofs.Common.{Some, sym, subst, refl, arith}
+use Rattle.std.proofs.Common.{◌≡◌, Some, sym, subst, refl, arith}
 use Rattle.opfs_hist.specs.declared.op.Op.TheVariants as op
-use Rattle.opfs_hist.specs.declared.reply.Reply.{Reply}
 use Rattle.opfs_hist.specs.declared.reply.Reply.TheVariants as reply
 use Rattle.opfs_pipe.proofs.Rows.{IsDone}
 use Rattle.opfs_library_tests.specs.Pipe.Ready.{IsReady}
@@ -24,13 +23,13 @@ returns-then-fits-clause-goes g c =
     local-on g.S.Store.tells c.args.court.now c.args.agent.now c.write_within-near.new.self c.know_kept.ensures c.know_kept-then-fits.ensures (op.Write c.args.stream.now.row c.args.bytes.now (Some c.args.at)) (λ v answered. answered ≡ reply.Done) c.write_within-near.result
     c.write_within-near.ensures.local
 
-pub returns-else-fits-clause-ready : goal.returns-else-fits-clause-ready
-returns-else-fits-clause-ready g c =
+pub returns-clause-ready : goal.returns-clause-ready
+returns-clause-ready g c =
     subst (IsReady c.args.court.now c.write_growing-far.new.self) (sym c.write_growing-far.ensures.same.0)
     (shared-ready g.S.Store.tells c.args.court.now c.args.agent.now c.write_growing-far.new.self c.know_kept.ensures c.know_kept-2.ensures (op.Write c.args.stream.now.row c.args.bytes.now (Some c.args.at)) IsDone c.write_growing-far.result refl
     c.write_growing-far.ensures.shared c.args.stream.now.row refl c.requires.ready)
 
-pub returns-else-fits-clause-goes : goal.returns-else-fits-clause-goes
-returns-else-fits-clause-goes g c =
+pub returns-clause-goes : goal.returns-clause-goes
+returns-clause-goes g c =
     shared-on g.S.Store.tells c.args.court.now c.args.agent.now c.write_growing-far.new.self c.know_kept.ensures c.know_kept-2.ensures (op.Write c.args.stream.now.row c.args.bytes.now (Some c.args.at)) IsDone c.write_growing-far.result refl
     c.write_growing-far.ensures.shared
