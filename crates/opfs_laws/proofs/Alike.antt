@@ -19,7 +19,7 @@ use Rattle.opfs_machine.specs.Agents.{agent_of, own_of, open_stream, open_handle
 use Rattle.opfs_machine.specs.Contents.{in_bytes, outline_of, written_row, truncated_row, sought_row, moved_row}
 use Rattle.opfs_machine.specs.Effects.{effect, refused, with_changed, cursor_after_read, closes_handle, closes_stream, aborts_stream, changes_file, flushes}
 use Rattle.opfs_machine.specs.OwnRows.{Mine, mine, is_local, handle_file, fits_stream, is_closed_stream, is_closed_handle}
-use Rattle.opfs_machine.specs.Replies.{answer, sizes_of, sizes_in, row_named, snapshot_in, handle_bytes}
+use Rattle.opfs_machine.specs.Replies.{answer, sizes_of, sizes_in, snapshot_in, handle_bytes}
 use Rattle.opfs_machine.specs.Ruled.{Ruled, ◌>>=◌, some_or}
 use Rattle.opfs_machine.specs.Rulings.{ruling, grow_stream_ruling, stream_ruling, grow_handle_ruling, handle_ruling, start_of, size_written, reserve_for}
 use Rattle.opfs_machine.specs.Steps.{judged, outcome_of, step, room_for, after_reply, is_refusal, Outcome}
@@ -143,9 +143,6 @@ module _ (s t : State Text Own) (k : ℕ) (same : mine s k ≡ mine t k) where
   row-sizes : (n : ℕ) → sizes_in s (own_of (agent_of s k) n) ≡ sizes_in t (own_of (agent_of t k) n)
   row-sizes n = sizes-in (own_of (agent_of s k) n) (λ r is. row-files n r is) ∙ ap (sizes_in t) (own-alike n)
 
-  pub sizes-alike : (o : Op) → sizes_of s k o ≡ sizes_of t k o
-  sizes-alike o = row-sizes (row_named o)
-
   bytes-in : (o : Option Own) → ((r : Own) → o ≡ Some r → handle_file s r ≡ handle_file t r)
       → handle_bytes s (of_row (λ r. handle_in (outline_of r)) o) ≡ handle_bytes t (of_row (λ r. handle_in (outline_of r)) o)
   bytes-in None h = refl
@@ -229,9 +226,6 @@ module _ (s t : State Text Own) (k : ℕ) (same : mine s k ≡ mine t k) where
       ∙ ap (λ z. reply.Read (window (handle_bytes t (open_handle in_bytes t k n)) (start_of z at) len)) (row-sizes n)
   answer-alike (op.SyncGetSize n) h = ap (λ z. reply.Length z.size) (row-sizes n)
   answer-alike o h = refl
-
-  changed_mine : ℕ → (Own → Own) → Mine → Mine
-  changed_mine n change m = with_rows m (changed_rows m.rows n change (row_in m.rows n))
 
   changed-is : (u : State Text Own) (n : ℕ) (change : Own → Own) → IsNumber u k → ((r : Own) → handle_file u (change r) ≡ handle_file u r)
       → mine (with_changed u k n change) k ≡ with_rows (mine u k) (changed_rows (mine u k).rows n change (row_in (mine u k).rows n))

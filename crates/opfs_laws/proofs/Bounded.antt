@@ -116,7 +116,7 @@ like-pool : (s t : State Text Own) → IsLike s t → pool in_bytes s ≡ pool i
 like-pool s t h =
     ap (λ rows. pool in_bytes (record s { rows = rows })) h.rows ∙ ap (λ agents. pool in_bytes (record t { agents = agents })) h.agents
 
-grows-gone : (gone : List Text) (s : State Text Own) → Grows s (fold evicted s gone) 0 0
+pub grows-gone : (gone : List Text) (s : State Text Own) → Grows s (fold evicted s gone) 0 0
 grows-gone [] s = record { pool = omega arith; plain = omega arith }
 grows-gone (unit ∷ units) s =
     let a = grows-without s (unit, []) in
@@ -146,7 +146,7 @@ module _ (s : State Text Own) (gone : List Text) (k : ℕ) (need : Need) (files 
   handle-stays : (n : ℕ) → open_handle in_bytes after k n ≡ open_handle in_bytes s k n
   handle-stays n = ap (λ a. of_row (λ r. handle_in (outline_of r)) (own_of a n)) (agent-stays gone s k)
 
-  needs-after : (o : Op) → may_enter s k o ≡ true → Needs s (sizes_of s k o) k o need → Needs after (sizes_of after k o) k o need
+  pub needs-after : (o : Op) → may_enter s k o ≡ true → Needs s (sizes_of s k o) k o need → Needs after (sizes_of after k o) k o need
   unfolding may_enter
   needs-after (op.CreateWritable at keep) may n =
       n ∙ ap (λ f. keeps_blocks (cond keep (blocks (size_in in_bytes f)) 0)) (sym (ap file_of (row-stays s s (agent_of s k).key gone (place_of at) all (sym (callers-own (agent_of s k).key at) ∙ may))))

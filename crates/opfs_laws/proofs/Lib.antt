@@ -5,6 +5,7 @@ pub mod Allowed
 pub mod Apart
 pub mod Bounded
 pub mod Building
+pub mod Closed
 pub mod CountsUp
 pub mod CoveredBegun
 pub mod CoveredKept

@@ -1,4 +1,6 @@
 pub mod Builds
+pub mod Charges
+pub mod Closes
 pub mod Contents
 pub mod Counting
 pub mod Covered

@@ -4,6 +4,8 @@
 //! It stands on `opfs_machine`; on it stand `opfs_transcripts`, `opfs_plain`, `opfs_store` and `opfs_state_rows`.
 #![tactic(auto)]
 
+pub mod charges;
+pub mod closes;
 pub mod counted;
 pub mod files;
 pub mod going_on;

@@ -16,8 +16,7 @@ use Rattle.opfs_machine.specs.Openings.{Opening, begun}
 use Rattle.opfs_machine.specs.Replies.{sizes_of}
 use Rattle.opfs_machine.specs.Steps.{is_refusal, step}
 use Rattle.opfs_laws.specs.GoingOn.{ArePending}
-use Rattle.opfs_laws.specs.Histories.Opened.{IsOpen}
-use Rattle.opfs_laws.specs.Histories.Unread.{unread, unread_entry, IsTold, IsToldOpen, ArePendingFor, ArePendingTold, ReadsLeaveTheState}
+use Rattle.opfs_laws.specs.Histories.Unread.{unread, unread_entry, IsTold, ArePendingFor, ArePendingTold, ReadsLeaveTheState}
 
 pub refuses-same : (r : Reply) → is_refusal (unread r) ≡ is_refusal r
 refuses-same (reply.Read bytes) = refl
@@ -87,15 +86,6 @@ pub told-more : (tells : Type 0) (o : Opening) (h more real : List Entry) (t : I
 told-more tells o h more real t legal alike told = record {
   real = t.real ++ real;
   legal = legal;
-  alike = joined-alike h more t.real real t.alike alike;
-  told = λ tell i. t.told tell i ++ told tell i;
-}
-
-pub told-more-open : (tells : Type 0) (o : Opening) (h more real : List Entry) (t : IsToldOpen tells o h) → IsOpen o (t.real ++ real)
-    → map unread_entry more ≡ map unread_entry real → (tells → more ≡ real) → IsToldOpen tells o (h ++ more)
-told-more-open tells o h more real t opened alike told = record {
-  real = t.real ++ real;
-  opened = opened;
   alike = joined-alike h more t.real real t.alike alike;
   told = λ tell i. t.told tell i ++ told tell i;
 }
