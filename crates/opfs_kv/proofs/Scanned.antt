@@ -100,14 +100,6 @@ open-cause tells a b c m whole (kv_stop.Full long need) goes small h = absurd h
 
 -- ---- several pieces
 
-pub scanned-first : (tells : Type 0) (bytes : Text) (size : ℕ) → IsScanned tells bytes 0 [] 0 size []
-scanned-first tells bytes size = record {
-  on = omega arith;
-  inside = omega arith;
-  fitting = record { good = tt; fits = omega arith };
-  read = λ tell. record { records = []; good = tt; are = refl; long = refl; index_is = refl };
-}
-
 pub scanned-then : (tells : Type 0) (bytes : Text) (size at next : ℕ) (old mid new : Places) → IsScanned tells bytes 0 old at size mid → IsScanned tells bytes at mid next size new → IsScanned tells bytes 0 old next size new
 scanned-then tells bytes size at next old mid new x y = record {
   on = omega (arith, x.on, y.on);

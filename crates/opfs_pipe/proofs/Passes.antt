@@ -1,5 +1,5 @@
 -- The rounds of a pipe.
-use Rattle.std.proofs.Common.{◌≡◌, ℕ, ◌+◌, ◌≤◌, List, [], ◌∷◌, ◌++◌, append-nil, append_assoc, Result, Ok, Err, refl, sym, ap, ◌∙◌, subst, arith}
+use Rattle.std.proofs.Common.{◌≡◌, ℕ, ◌+◌, ◌≤◌, List, [], ◌∷◌, ◌++◌, append-nil, append_assoc, Result, Ok, Err, sym, ap, ◌∙◌, subst, arith}
 use Rattle.std.proofs.lemmas.List.{append_cancel_left}
 use Rattle.opfs_base.specs.Texts.{Text}
 use Rattle.opfs_turns.specs.Asking.Rows.{HasSnapshot, HasStream, SnapshotSeen, StreamSeen}
@@ -11,7 +11,7 @@ use Rattle.opfs_pipe.specs.Pieces.{IsCut}
 use Rattle.opfs_pipe.specs.Rounds.{HasMoved, HasRound}
 use Rattle.opfs_pipe.specs.Sides.{Drained, Failed, Filled, HasFilled, Lost, Sliced, Written}
 use Rattle.opfs_pipe.proofs.Joined.{failed-then, sliced-none, sliced-then, written-failed, written-none, written-then}
-use Rattle.opfs_pipe.proofs.Lists.{cut-few, cut-front, cut-whole}
+use Rattle.opfs_pipe.proofs.Lists.{cut-few, cut-front}
 
 -- ---- one round
 
@@ -141,31 +141,7 @@ module _ {O : Type 0} (tells : Type 0) (ra wa : AgentSeen O) (x : SnapshotSeen) 
           failed = failed-then tells wa wb wc y z v was p.written why g.written p.failed;
         }
 
-  pub going-done : (rb wb : AgentSeen O) (next : ℕ) (z : StreamSeen) (pieces : List Text) → Going tells ra rb wa wb x at next end y z pieces → end ≤ next → (count : ℕ) → end ≡ at + count
-      → HasMoved tells ra rb wa wb x at y z (window x.bytes at count) (Ok tt)
-  going-done rb wb next z pieces g over count end_is =
-      let last : next ≡ end = omega (arith, over, g.cut.within) in record {
-        pieces = pieces;
-        few = cut-few x.bytes at next end pieces g.cut small;
-        whole = cut-whole x.bytes at end count pieces (subst (λ n. IsCut x.bytes at n end pieces) last g.cut) end_is;
-        sliced = g.sliced;
-        written = g.written;
-      }
-
--- There was no memory for the ring; or there is nothing to move.
-pub moved-not : {O : Type 0} (tells : Type 0) (r w : AgentSeen O) (x : SnapshotSeen) (at : ℕ) (y : StreamSeen) (range : Text) → HasSnapshot tells r x → HasStream tells w y → HasMoved tells r r w w x at y y range (Err stop.NoMemory)
-moved-not tells r w x at y range snapshot stream = record {
-  pieces = [];
-  few = omega arith;
-  left = range;
-  part = refl;
-  sliced = sliced-none tells r x at snapshot;
-  written = [];
-  rest = [];
-  front = refl;
-  failed = written-failed tells w w y y [] (written-none tells w y stream);
-}
-
+-- There is nothing to move.
 pub moved-nothing : {O : Type 0} (tells : Type 0) (r w : AgentSeen O) (x : SnapshotSeen) (at : ℕ) (y : StreamSeen) (range : Text) → HasSnapshot tells r x → HasStream tells w y → range ≡ [] → HasMoved tells r r w w x at y y range (Ok tt)
 moved-nothing tells r w x at y range snapshot stream none = record {
   pieces = [];

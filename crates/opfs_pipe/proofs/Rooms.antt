@@ -1,11 +1,10 @@
 -- That there is room for the entries of a pipe.
-use Rattle.std.proofs.Common.{◌≡◌, ℕ, ◌+◌, ◌≤◌, List, ◌++◌, length, sym, ap, ◌∙◌, arith}
+use Rattle.std.proofs.Common.{◌≡◌, ℕ, ◌+◌, ◌≤◌, List, length, ap, ◌∙◌, arith}
 use Rattle.std.proofs.lemmas.List.{length-append}
 use Rattle.opfs_base.specs.Texts.{Text}
 use Rattle.opfs_turns.specs.Asking.Rows.{SnapshotSeen, StreamSeen}
 use Rattle.opfs_turns.specs.Agents.{AgentSeen}
 use Rattle.opfs_turns.specs.Calls.{HasRoom}
-use Rattle.opfs_pipe.specs.Pieces.{IsCut}
 use Rattle.opfs_pipe.specs.Sides.{Drained, Filled}
 use Rattle.opfs_pipe.proofs.Lists.{cut-few}
 
@@ -23,17 +22,3 @@ module _ {O : Type 0} (tells : Type 0) where
   -- The writer, for one write more.
   pub drain-room : (a b : AgentSeen O) (x y : StreamSeen) (got gotten : List Text) (d : Drained tells a b x y got gotten) (most : ℕ) → IsFew a most → most + length d.pieces ≤ 60000000 → HasRoom b
   drain-room a b x y got gotten d most few small = record { rows = omega (arith, d.written.goes.rows, few.0); entries = omega (arith, d.written.goes.entries, few.1, small) }
-
-  -- The writer, before a round and when both have worked in it.
-  pub work-few : (a : AgentSeen O) (bytes : Text) (at next end : ℕ) (was : List Text) → IsCut bytes at next end was → end ≤ at + 268435456 → IsFew a (59000000 + length was) → IsFew a 59500000
-  work-few a bytes at next end was cut small few = let most = cut-few bytes at next end was cut small in (few.0, omega (arith, few.1, most))
-
-  pub known-few : (a b : AgentSeen O) (x y : StreamSeen) (was gotten known is : List Text) (bytes : Text) (at next end : ℕ) → Drained tells a b x y was gotten → gotten ++ known ≡ is → IsCut bytes at next end is → end ≤ at + 268435456 → IsFew a (59000000 + length was)
-      → (b.rows ≤ 60000000) × (b.entries + length known ≤ 60000000)
-  known-few a b x y was gotten known is bytes at next end d fifo cut small few =
-      let count : length was + length d.pieces + length known ≡ length is =
-      sym (ap (λ n. n + length known) (ap length d.grown ∙ length-append was d.pieces)) ∙ sym (length-append gotten known) ∙ ap length fifo in
-      let most = cut-few bytes at next end is cut small in (
-        omega (arith, d.written.goes.rows, few.0),
-        omega (arith, d.written.goes.entries, few.1, count, most),
-      )

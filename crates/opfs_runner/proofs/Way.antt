@@ -15,7 +15,6 @@ use Rattle.opfs_hist.specs.declared.op.Op.TheVariants as op
 use Rattle.opfs_hist.specs.declared.reply.Reply.{Reply}
 use Rattle.opfs_hist.specs.declared.reply.Reply.TheVariants as reply
 use Rattle.opfs_turns.specs.Agents.{AgentSeen}
-use Rattle.opfs_turns.specs.Calls.{HasRoom}
 use Rattle.opfs_script_run.specs.declared.runs.hand.Hand.{Hand}
 use Rattle.opfs_script_run.specs.declared.runs.hand.Open.{Open}
 use Rattle.opfs_script_run.specs.Runs.Cuts.{Cuts}
@@ -240,13 +239,6 @@ pub step-next : (asked : Asked) (i : ℕ) (s : Step) → s ≡ get_or asked.step
 step-next asked i s is within =
     let one : suc i ≡ i + 1 = omega arith in
     drop-cons asked.steps i s within ∙ (λ j. sym is j ∷ drop (one j) asked.steps)
-
-module _ {O : Type 0} (tells : Type 0) (asked : Asked) (start : PassSeen O Entry) (a : AgentSeen O) (agent_rows : List AgentRow) (h : Hand) (done : ℕ) (way : UnderWay tells asked start a agent_rows h done) (few : done ≤ 20000) where
-  pub way-room : HasRoom a
-  way-room = record { rows = omega (arith, few, way.rows, way.table.count); entries = omega (arith, few, way.entries) }
-
-  pub way-few : (a.entries ≤ 50000) × (length agent_rows ≤ 20000)
-  way-few = (omega (arith, few, way.entries), omega (arith, few, way.rows))
 
 -- What a step that stops the run leaves.
 module _ {O : Type 0} (tells : Type 0) (a b : AgentSeen O) (old new : List AgentRow) (h then_h : Hand) (s : Step) where

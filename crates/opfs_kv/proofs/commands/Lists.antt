@@ -38,9 +38,6 @@ replies-more m (p ∷ ops) (x ∷ rs) o r h one = (h.0, replies-more (after_op m
 
 -- ---- what they stored
 
-empty-text : (text : Text) (texts : List Text) → text ∷ texts ≡ [] → ⊥
-empty-text text texts is = cc
-
 -- What was stored before is nothing where more comes after nothing.
 by-more : (b : Bool) (m : Map) (texts more : List Text) (P Q : List Text → Type 0) → ((rest : List Text) → P rest → Q (rest ++ more)) → AreStoredBy b m texts P → AreStoredBy b m (texts ++ more) Q
 by-more true m [] more P Q goes h = absurd h

@@ -1,5 +1,5 @@
 -- A map that is written by key, entry by entry.
-use Rattle.std.proofs.Common.{◌≡◌, ℕ, ◌+◌, ◌≤◌, List, [], ◌∷◌, ◌++◌, length, map, drop, Some, refl, sym, ap, subst, ◌∙◌, append_assoc, arith}
+use Rattle.std.proofs.Common.{◌≡◌, ℕ, ◌+◌, ◌≤◌, List, [], ◌∷◌, ◌++◌, length, map, drop, Some, sym, ap, subst, ◌∙◌, append_assoc, arith}
 use Rattle.std.specs.List.{AllByRecursion}
 use Rattle.std.proofs.lemmas.List.{length-take, length-append}
 use Rattle.std.proofs.lemmas.List.Sums.{sum_by-cons}
@@ -22,9 +22,6 @@ pub record IsPacked (bytes : Text) (all rest : Places) (made : Text) (index : Pl
   pub fitting : IsFitting (length made) index
   pub bytes_are : made ++ log_of (records_in bytes rest) ≡ log_of (records_in bytes all)
   pub index_is : indexed (length made) (records_in bytes rest) index ≡ indexed 0 (records_in bytes all) []
-
-pub packed-first : (bytes : Text) (all : Places) → AllByRecursion IsEntry all → IsPacked bytes all all [] []
-packed-first bytes all good = record { good = good; short = omega arith; fitting = record { good = tt; fits = omega arith }; bytes_are = refl; index_is = refl }
 
 window-short : (bytes : Text) (at len : ℕ) → length (window bytes at len) ≤ len
 window-short bytes at len = omega (arith, length-take len (drop at bytes))

@@ -45,9 +45,6 @@ module _ (agent_rows : List AgentRow) (m : ℕ) (o : Op) (P : RowKind → Type 0
   pub handed-within : (t : AgentRow) → m - 1 < length (slice_set agent_rows (m - 1) t)
   handed-within t = let within = slice_get_within agent_rows (m - 1) found.agent_row there in omega (arith, within, length-set agent_rows (m - 1) t)
 
-  pub handed-inside : m - 1 < length agent_rows
-  handed-inside = slice_get_within agent_rows (m - 1) found.agent_row there
-
   pub handed-taken : (t : AgentRow) → slice_get (slice_set agent_rows (m - 1) t) (m - 1) ≡ Some t
   handed-taken t = get-set agent_rows (m - 1) found.agent_row t there
 

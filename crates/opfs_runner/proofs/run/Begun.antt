@@ -12,7 +12,6 @@ use Rattle.opfs_machine.specs.Openings.{Opening, agent_begun, begun}
 use Rattle.opfs_runner.specs.Runs.{IsReadyFor}
 use Rattle.opfs_script.specs.Scripts.{Asked}
 use Rattle.opfs_script_run.specs.Stage.Openings.{who_of}
-use Rattle.opfs_script_run.specs.Stage.Runs.{EachCut, EachRuns}
 use Rattle.opfs_turns.specs.Agents.{AgentSeen}
 use Rattle.opfs_turns.specs.Calls.{MayBegin, new_agent}
 use Rattle.opfs_runner.specs.declared.run.agents.Starter.{Starter}
@@ -152,9 +151,6 @@ length-keys : (scripts : List Asked) → length (map (λ (s : Asked). s.key) scr
 length-keys [] = refl
 length-keys (s ∷ more) = ap suc (length-keys more)
 
-nothing : (k : ℕ) (a : Asked) → slice_get [] k ≡ Some a → ⊥
-nothing k a is = cc
-
 module _ {O : Type 0} (opened : O → Opening) (of : HallSeen O) (scripts : List Asked) (agents-of : AreAgentsOf (opened of.opening) scripts) where
   abbrev keys : List (Option Text)
   keys = map (λ (s : Asked). s.key) scripts
@@ -195,9 +191,6 @@ module _ {O : Type 0} (opened : O → Opening) (of : HallSeen O) (scripts : List
   starters-all : length starters ≡ length scripts
   starters-all = sym (length-map starters (λ s. s.key)) ∙ ap length same ∙ length-keys scripts
 
-  pub passes-count : length passes ≡ length starters + 1
-  passes-count = new.0 ∙ ap (λ n. n + 1) (sym starters-all)
-
   pub may-begin : MayBeginAll opened (keys_of starters) passes
   may-begin = subst (λ (ks : List (Option Text)). MayBeginAll opened ks passes) (sym same) (may-all opened of scripts agents-of passes new)
 
@@ -209,11 +202,3 @@ module _ {O : Type 0} (opened : O → Opening) (of : HallSeen O) (scripts : List
 
   pub agents-count : (agents : List (AgentSeen O)) → length agents ≡ length starters → length agents ≡ length scripts
   agents-count agents is = is ∙ starters-all
-
--- ---- no agents
-
-pub none-cut : (scripts : List Asked) (es : List Entry) → scripts ≡ [] → EachCut scripts es
-none-cut scripts es none k a is = absurd (nothing k a (ap (λ ss. slice_get ss k) (sym none) ∙ is))
-
-pub none-runs : (scripts : List Asked) (es : List Entry) → scripts ≡ [] → EachRuns scripts es
-none-runs scripts es none k a is = absurd (nothing k a (ap (λ ss. slice_get ss k) (sym none) ∙ is))
