@@ -50,9 +50,9 @@ module _ {H D : Type 0} (w : HostWords H D) (old mid new : H) (path : Text) wher
     trail = λ c. (λ x. ((first p other).trail c).0 (((second p other).trail c).0 x), λ x. ((second p other).trail c).1 (((first p other).trail c).1 x));
   }
 
-  pub only_read : (content back : Text) (left : Text → Type 0) → ((p : Text) → w.image mid p ≡ w.image old p) → ((p c : Text) → w.trail mid p c ↔ w.trail old p c) → w.image mid path ≡ Some content → back ≡ content → ((c : Text) → left c → c ≡ content)
-      → GivenBack (of_host w mid new) path back left → ImageStays (of_host w old new) path
-  only_read content back left images trails there same only given = record {
+  pub only_read : (content back : Text) (last : ℕ) (left : ℕ → Text → Type 0) → ((p : Text) → w.image mid p ≡ w.image old p) → ((p c : Text) → w.trail mid p c ↔ w.trail old p c) → w.image mid path ≡ Some content → back ≡ content → ((c : Text) → left 0 c → c ≡ content)
+      → GivenBack (of_host w mid new) path back last left → ImageStays (of_host w old new) path
+  only_read content back last left images trails there same only given = record {
     image = given.image ∙ ap (λ (x : Text). Some x) same ∙ sym there ∙ images path;
     trail = λ c x. elim ((given.trail c).0 x) [
       | inl was ↦ inl ((trails path c).0 was)

@@ -3,8 +3,9 @@ use Rattle.std.proofs.Common.{◌≡◌, ◌≢◌, ◌⊎◌, ◌↔◌, ℕ, �
 use Rattle.std.specs.Prelude.{Some, Result, Ok, Err, IsOk, IsErr, OnOk, OnErr}
 use Rattle.std.specs.declared.alloc.AllocError.{AllocError}
 use Rattle.opfs_base.specs.Texts.{Text}
-use Rattle.opfs_desk_runs.specs.Runs.{IsFront, IsHistoryOf, IsImageOf, IsLeft, IsRunOn, opening_in}
-use Rattle.opfs_desk_runs.proofs.Sized.{stood-for}
+use Rattle.opfs_books.specs.Laws.Fronts.{IsShownOnce}
+use Rattle.opfs_desk_runs.specs.Runs.{IsHistoryOf, IsImageOf, IsKeptSince, IsLeft, IsRunOn, opening_in}
+use Rattle.opfs_desk_runs.proofs.Fronts.{first-shown}
 use Rattle.opfs_desk_runs.specs.declared.running.Completion.{Completion}
 use Rattle.opfs_hist.specs.Faults.{disk_faults}
 use Rattle.opfs_hist.specs.declared.entry.Entry.{Entry}
@@ -80,6 +81,7 @@ pub record IsFetched {H D : Type 0} (h : HostWords H D) (w : DiskWords D) (path 
   pub counted : (x : H) → h.faults x ≤ 2 ^ 64 - 1
   pub disk_counted : (d : D) → w.faults d ≤ 2 ^ 64 - 1
   pub fresh : w.faults disk ≡ 0
+  pub falls : w.tells → (d : D) (t u : ℕ) (c : Text) → t ≤ u → w.since d u c → w.since d t c
   pub first : w.moment disk ≡ 0
   pub one : w.tells → (c : Text) → w.since disk 0 c → c ≡ w.content disk
   pub there : h.tells → h.image mid path ≡ Some (w.content disk)
@@ -94,7 +96,7 @@ module _ {H D : Type 0} (h : HostWords H D) (w : DiskWords D) (path : Text) (scr
   turn = of_host h old new
 
   abbrev Given : Type 0
-  Given = h.tells → GivenBack (of_host h mid new) path (w.content now) (w.since now 0)
+  Given = h.tells → GivenBack (of_host h mid new) path (w.content now) (w.moment now) (w.since now)
 
   disk-rose : Rose (w.faults first) (w.faults now) → Rose (h.faults old) (h.faults new)
   disk-rose rose = elim (host_rose ⊥ (h.faults old) (h.faults mid) (h.faults new) (w.faults first) (w.faults now) fetched.fresh fetched.later (by_less (w.faults now) (h.own_faults new - h.own_faults mid) (h.faults mid) (h.faults new) later)
@@ -117,11 +119,11 @@ module _ {H D : Type 0} (h : HostWords H D) (w : DiskWords D) (path : Text) (scr
 
   -- ---- the disk was only read
 
-  module _ (only : OnlyRead w first now) (back : h.tells → HostServed (of_host h mid new) → GivenBack (of_host h mid new) path (w.content now) (w.since now 0)) where
-    stays-by : h.tells → GivenBack (of_host h mid new) path (w.content now) (w.since now 0) → ImageStays turn path
+  module _ (only : OnlyRead w first now) (back : h.tells → HostServed (of_host h mid new) → GivenBack (of_host h mid new) path (w.content now) (w.moment now) (w.since now)) where
+    stays-by : h.tells → GivenBack (of_host h mid new) path (w.content now) (w.moment now) (w.since now) → ImageStays turn path
     stays-by t given =
         let read = only.told (fetched.to_disk t) in
-        only_read h old mid new path (w.content first) (w.content now) (w.since now 0) (fetched.images t) (fetched.trails t) (fetched.there t) read.same
+        only_read h old mid new path (w.content first) (w.content now) (w.moment now) (w.since now) (fetched.images t) (fetched.trails t) (fetched.there t) read.same
         (one_since (w.content first) (w.moment first) (w.since first) (w.since now) fetched.first (fetched.one (fetched.to_disk t)) read.moments) given
 
     not-run : IsNotRun turn path
@@ -140,18 +142,29 @@ module _ {H D : Type 0} (h : HostWords H D) (w : DiskWords D) (path : Text) (scr
     disk-now P is = subst P same is
 
     -- what the image stood for is the first front
-    first-front : h.tells → (c : Text) → w.since first 0 c → IsFront o run.history c
+    first-front : h.tells → (c : Text) → w.since first 0 c → IsShownOnce o 0 run.history c
     first-front t c left =
-        subst (λ (x : Text). IsFront o run.history x) (sym (fetched.one (fetched.to_disk t) c left))
-        (record { shown = []; rest = changes o run.history; split = refl; enough = omega arith; stands = stood-for on.geometry on.before (w.content first) (on.stood (fetched.to_disk t)) })
+        subst (λ (x : Text). IsShownOnce o 0 run.history x) (sym (fetched.one (fetched.to_disk t) c left))
+        (first-shown on.geometry on.before script run.history (w.content first) (on.stood (fetched.to_disk t)))
 
-    module _ (Back : Type 0) (given : h.tells → Back → GivenBack (of_host h mid new) path (w.content now) (w.since now 0)) where
+    module _ (Back : Type 0) (given : h.tells → Back → GivenBack (of_host h mid new) path (w.content now) (w.moment now) (w.since now)) where
       stands-by : h.tells → Back → IsImageOf on.geometry (durable o (changes o run.history)) (w.content run.disk) → HasImage on.geometry (durable o (changes o run.history)) (h.image new path)
       stands-by t back is = (w.content now, (given t back).image, image-now (IsImageOf on.geometry (durable o (changes o run.history))) is)
 
-      stops-by : h.tells → Back → (Rose (h.faults old) (h.faults new) → ⊥) → LeavesFronts turn path o run.history
-      stops-by t back never =
-          let left = on.over.stops (fetched.to_disk t) (λ rose. never (disk-rose (disk-now (λ (d : D). Rose (w.faults first) (w.faults d)) rose))) in
+      -- the moments of the disk are those of the path
+      kept-at : (g : GivenBack (of_host h mid new) path (w.content now) (w.moment now) (w.since now)) (n : ℕ) → IsKeptSince (w.moment now) (w.since now) o run.history n → IsKeptSince (h.moment new path) (h.since new path) o run.history n
+      kept-at g n is = record {
+        moment = is.moment;
+        within = subst (λ (m : ℕ). is.moment ≤ m) (sym g.moment) is.within;
+        image = is.image;
+        left = (g.since is.moment is.image).1 is.left;
+        stands = is.stands;
+        each = λ c left. is.each c ((g.since is.moment c).0 left);
+      }
+
+      stops-by : h.tells → Back → LeavesFronts turn path o run.history
+      stops-by t back =
+          let left = on.over.stops (fetched.to_disk t) in
           let g = given t back in
           record {
             fronts = λ c trail. elim ((g.trail c).0 trail) [
@@ -161,9 +174,8 @@ module _ {H D : Type 0} (h : HostWords H D) (w : DiskWords D) (path : Text) (scr
                 | inr front ↦ inr front
               ]
             ];
-            stores = λ n content.
-                let s = left.stores (fetched.crashes t) n content 0 (omega arith) in
-                (s.0, (g.trail s.0).1 (inr (disk-now (λ (d : D). w.since d 0 s.0) s.1)), s.2);
+            moments = λ at c since. (g.trail c).1 (inr (fetched.falls (fetched.to_disk t) now 0 at c (omega arith) ((g.since at c).0 since)));
+            keeps = λ n content. kept-at g n (disk-now (λ (d : D). IsKeptSince (w.moment d) (w.since d) o run.history n) (left.keeps (fetched.crashes t) n content));
           }
 
       run-at : (whole : Bool) → run.whole ≡ whole → IsRunAt turn path Back whole script run.history
@@ -192,7 +204,7 @@ module _ {H D : Type 0} (h : HostWords H D) (w : DiskWords D) (path : Text) (scr
     }
 
     -- where it did not
-    run-failed : (text answered : Text) → (h.tells → HostServed (of_host h mid new) → GivenBack (of_host h mid new) path (w.content now) (w.since now 0)) → run.whole ≡ true → text ≡ text_of run.history → answered ≡ text ++ status_text end.Host
+    run-failed : (text answered : Text) → (h.tells → HostServed (of_host h mid new) → GivenBack (of_host h mid new) path (w.content now) (w.moment now) (w.since now)) → run.whole ≡ true → text ≡ text_of run.history → answered ≡ text ++ status_text end.Host
         → HostFailed turn → RoseBy (disk_faults run.history + 1) turn.faults turn.faults_after ⊎ (turn.own_after ≡ 2 ^ 64 - 1) → IsRunFailed turn path script answered
     run-failed text answered back whole printed is failed counted = record {
       history = run.history;
@@ -202,7 +214,7 @@ module _ {H D : Type 0} (h : HostWords H D) (w : DiskWords D) (path : Text) (scr
       counted = counted;
     }
 
-    run-short : (h.tells → HostServed (of_host h mid new) → GivenBack (of_host h mid new) path (w.content now) (w.since now 0)) → IsRunShort turn path script
+    run-short : (h.tells → HostServed (of_host h mid new) → GivenBack (of_host h mid new) path (w.content now) (w.moment now) (w.since now)) → IsRunShort turn path script
     run-short back = inr (run.whole, run.history, run-at (HostServed turn) (λ t quiet. back t (served quiet)) run.whole refl)
 
     -- the fault of the end, and one of the host at giving back
@@ -223,7 +235,7 @@ module _ {H D : Type 0} (h : HostWords H D) (w : DiskWords D) (path : Text) (scr
 
   -- ---- the answer, by how the run ended
 
-  module _ (back : h.tells → HostServed (of_host h mid new) → GivenBack (of_host h mid new) path (w.content now) (w.since now 0)) where
+  module _ (back : h.tells → HostServed (of_host h mid new) → GivenBack (of_host h mid new) path (w.content now) (w.moment now) (w.since now)) where
     abbrev Fault : Type 0
     Fault = Rose (h.own_faults mid) (h.own_faults new)
 
@@ -279,7 +291,7 @@ module _ {H D : Type 0} (h : HostWords H D) (w : DiskWords D) (path : Text) (scr
 
     pub others-at : (e : Result RunEnd AllocError) (r : Result ToolAnswer AllocError) → IsGivenOr Given Fault e r → h.tells → NoneFailed turn r → OthersAsBefore turn path
     others-at e r how t none =
-        let given : GivenBack (of_host h mid new) path (w.content now) (w.since now 0) = elim none [
+        let given : GivenBack (of_host h mid new) path (w.content now) (w.moment now) (w.since now) = elim none [
           | inl quiet ↦ back t (served quiet)
           | inr is ↦ given-by e is.0 is.2 (subst (λ (x : Result ToolAnswer AllocError). IsGivenOr Given Fault e x) is.1 how) t
         ] in

@@ -2,12 +2,12 @@
 use Rattle.std.specs.Prelude.{◌≡◌, ◌≢◌, ◌⊎◌, ℕ, ◌+◌, ◌-◌, ◌^◌, Bool, true, List, ◌++◌, Option, Some, Result, Ok, Err, IsOk, IsErr}
 use Rattle.std.specs.declared.alloc.AllocError.{AllocError}
 use Rattle.opfs_base.specs.Texts.{Text}
+use Rattle.opfs_books.specs.Laws.Fronts.{IsShownOnce}
 use Rattle.opfs_commit.specs.Trail.{IsContentAt}
-use Rattle.opfs_desk_runs.specs.Runs.{IsFront, IsHistoryOf, IsImageOf, IsLeft, IsRunOn, opening_in, stored_after}
+use Rattle.opfs_desk_runs.specs.Runs.{IsHistoryOf, IsImageOf, IsKeptSince, IsLeft, IsRunOn, opening_in}
 use Rattle.opfs_desk_runs.specs.declared.running.Completion.{Completion}
 use Rattle.opfs_hist.specs.Faults.{disk_faults}
 use Rattle.opfs_hist.specs.declared.entry.Entry.{Entry}
-use Rattle.opfs_image.specs.Filling.{Stands}
 use Rattle.opfs_image.specs.declared.geometry.Geometry.{Geometry}
 use Rattle.opfs_image.specs.declared.refusal.ImageRefusal.{ImageRefusal}
 use Rattle.opfs_image.specs.declared.refusal.ImageRefusal.TheVariants as image
@@ -120,11 +120,12 @@ HasImage g m found = (c : Text) × (found ≡ Some c) × IsImageOf g m c
 abbrev pub HasLeft : Opening → List Entry → Option Text → Type 0
 HasLeft o history found = (c : Text) × (found ≡ Some c) × IsLeft o history c
 
--- What a stop may have left at a path since: what it may have left there before, and fronts of the history; and for each content one
--- that stands for what is stored after the changes up to and with that one.
+-- What a stop may have left at a path since: what it may have left there before, and fronts of the history; and from some moment of the
+-- run on, no image lacks what a close or a flush has stored. The images of moments are those on the path's trail.
 pub record LeavesFronts (h : HostTurn) (path : Text) (o : Opening) (history : List Entry) : Type 0 where
-  pub fronts : (c : Text) → h.trail_after path c → h.trail path c ⊎ IsFront o history c
-  pub stores : (n : ℕ) → IsContentAt (changes o history) n → (c : Text) × h.trail_after path c × Stands c (stored_after o history (n + 1))
+  pub fronts : (c : Text) → h.trail_after path c → h.trail path c ⊎ IsShownOnce o 0 history c
+  pub moments : (t : ℕ) (c : Text) → h.since_after path t c → h.trail_after path c
+  pub keeps : (n : ℕ) → IsContentAt (changes o history) n → IsKeptSince (h.moment_after path) (h.since_after path) o history n
 
 -- A run over the image at a path: its history over what the image stood for; and where the disk was given back, what is left there.
 pub record IsRunAt (h : HostTurn) (path : Text) (Back : Type 0) (whole : Bool) (script : List Asked) (history : List Entry) : Type 0 where
@@ -134,7 +135,7 @@ pub record IsRunAt (h : HostTurn) (path : Text) (Back : Type 0) (whole : Bool) (
   pub is : IsRunHistory h.tells whole (run_opening geometry before script) script history
   pub left : h.tells → Back → HasLeft (run_opening geometry before script) history (h.image_after path)
   pub stands : h.tells → Back → (Rose h.faults h.faults_after → ⊥) → HasImage geometry (durable (run_opening geometry before script) (changes (run_opening geometry before script) history)) (h.image_after path)
-  pub stops : h.tells → Back → (Rose h.faults h.faults_after → ⊥) → LeavesFronts h path (run_opening geometry before script) history
+  pub stops : h.tells → Back → LeavesFronts h path (run_opening geometry before script) history
   pub faults : RoseBy (disk_faults history) h.faults h.faults_after
 
 -- The run and its end went well: the text is the transcript, and the image stands for all that the history stored.

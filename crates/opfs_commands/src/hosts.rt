@@ -26,8 +26,8 @@ pub(crate) fn give_back<H: Host>(
     disk: H::D,
     answer: Result<ToolAnswer, AllocError>,
 ) -> Result<ToolAnswer, AllocError>
-    ensures kept { IfOk result (λ a. ((answer ≡ Ok a) × (H.tells → GivenBack (of_host H.Host host.old host.new) path.now (H.D.content disk) (H.D.since disk 0))) ⊎ (Rose (H.own_faults host.old) (H.own_faults host.new) × (a.end ≡ ToolEnd.Host) × (a.text ≡ status_text end.Host))) }
-    ensures back { H.tells → HostServed (of_host H.Host host.old host.new) → GivenBack (of_host H.Host host.old host.new) path.now (H.D.content disk) (H.D.since disk 0) }
+    ensures kept { IfOk result (λ a. ((answer ≡ Ok a) × (H.tells → GivenBack (of_host H.Host host.old host.new) path.now (H.D.content disk) (H.D.moment disk) (H.D.since disk))) ⊎ (Rose (H.own_faults host.old) (H.own_faults host.new) × (a.end ≡ ToolEnd.Host) × (a.text ≡ status_text end.Host))) }
+    ensures back { H.tells → HostServed (of_host H.Host host.old host.new) → GivenBack (of_host H.Host host.old host.new) path.now (H.D.content disk) (H.D.moment disk) (H.D.since disk) }
     ensures own_later { H.own_faults host.old ≤ H.own_faults host.new }
     ensures later { RoseBy (H.D.faults disk) (H.faults host.old) (H.faults host.new) }
 {

@@ -97,7 +97,7 @@ fn give_text_back<H: Host>(
     dumped: Dumped,
 ) -> Result<Dumped, Result<ToolAnswer, AllocError>>
     ensures same { IfOk result (λ d. d ≡ dumped) }
-    ensures back { IsOk result → H.tells → GivenBack (of_host H.Host host.old host.new) path.now (H.D.content disk) (H.D.since disk 0) }
+    ensures back { IsOk result → H.tells → GivenBack (of_host H.Host host.old host.new) path.now (H.D.content disk) (H.D.moment disk) (H.D.since disk) }
     ensures failed { IfErr result (λ r. Rose (H.own_faults host.old) (H.own_faults host.new) × IfOk r (λ a. (a.end ≡ ToolEnd.Host) × (a.text ≡ status_text end.Host))) }
     ensures own_later { H.own_faults host.old ≤ H.own_faults host.new }
     ensures later { RoseBy (H.D.faults disk) (H.faults host.old) (H.faults host.new) }

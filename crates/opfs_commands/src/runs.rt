@@ -144,8 +144,8 @@ fn end_at<H: Host>(
     disk: H::D,
     end: Result<RunEnd, AllocError>,
 ) -> Result<ToolAnswer, AllocError>
-    ensures kept { IsGivenOr (H.tells → GivenBack (of_host H.Host host.old host.new) path.now (H.D.content disk) (H.D.since disk 0)) (Rose (H.own_faults host.old) (H.own_faults host.new)) end result }
-    ensures back { H.tells → HostServed (of_host H.Host host.old host.new) → GivenBack (of_host H.Host host.old host.new) path.now (H.D.content disk) (H.D.since disk 0) }
+    ensures kept { IsGivenOr (H.tells → GivenBack (of_host H.Host host.old host.new) path.now (H.D.content disk) (H.D.moment disk) (H.D.since disk)) (Rose (H.own_faults host.old) (H.own_faults host.new)) end result }
+    ensures back { H.tells → HostServed (of_host H.Host host.old host.new) → GivenBack (of_host H.Host host.old host.new) path.now (H.D.content disk) (H.D.moment disk) (H.D.since disk) }
     ensures own_later { H.own_faults host.old ≤ H.own_faults host.new }
     ensures later { RoseBy (H.D.faults disk + (H.own_faults host.new - H.own_faults host.old)) (H.faults host.old) (H.faults host.new) }
 {

@@ -12,16 +12,12 @@ use Rattle.opfs_image.specs.declared.recovered.Recovered.{Recovered}
 use Rattle.opfs_journal.specs.Walking.{OnlyRead}
 use Rattle.opfs_machine.specs.Changes.{changes, durable}
 use Rattle.opfs_machine.specs.Openings.{Map, Opening}
-use Rattle.opfs_outside.specs.Faults.{Rose, RoseBy}
+use Rattle.opfs_outside.specs.Faults.{RoseBy}
 use Rattle.opfs_outside.specs.declared.disk.Disk.{Ghosts as DiskWords}
 use Rattle.opfs_script.specs.Scripts.{Asked}
-use Rattle.opfs_desk_runs.specs.Runs.{IsFront, IsImageOf, IsRunOn, IsRunOver, LeavesFronts, opening_over}
+use Rattle.opfs_desk_runs.specs.Runs.{IsImageOf, IsRunOn, IsRunOver, LeavesFronts, opening_over}
 use Rattle.opfs_desk_runs.specs.declared.running.Completion.{Completion}
 use Rattle.opfs_desk_runs.proofs.Runs.{on-err}
-
-rose-before : (old mid new : ℕ) → old ≤ mid → Rose mid new → Rose old new
-rose-before old mid new le (inl h) = inl (omega (arith, le, h))
-rose-before old mid new le (inr h) = inr h
 
 by-before : (n old mid new : ℕ) → old ≤ mid → RoseBy n mid new → RoseBy n old new
 by-before n old mid new le (inl h) = inl (omega (arith, le, h))
@@ -40,7 +36,7 @@ module _ {D : Type 0} (w : DiskWords D) (falls : w.tells → (d : D) (t u : ℕ)
           ]
           | inr front ↦ inr front
         ];
-        stores = λ crashes n content at le. left.stores crashes n content at (omega (arith, le, time.later));
+        keeps = left.keeps;
       }
 
   run-before : (g : Geometry) (o : Opening) (script : List Asked) (run : Completion D) → IsRunOver w g o script begun run → IsRunOver w g o script old run
@@ -48,7 +44,7 @@ module _ {D : Type 0} (w : DiskWords D) (falls : w.tells → (d : D) (t u : ℕ)
     history = is.history;
     stands = is.stands;
     left = is.left;
-    stops = λ t never. fronts-before o run.history run.disk t (is.stops t (λ rose. never (rose-before (w.faults old) (w.faults begun) (w.faults run.disk) only.later rose)));
+    stops = λ t. fronts-before o run.history run.disk t (is.stops t);
     faults = by-before (disk_faults run.history) (w.faults old) (w.faults begun) (w.faults run.disk) only.later is.faults;
     failed = on-err run.done _ _ (λ rose. by-before (disk_faults run.history + 1) (w.faults old) (w.faults begun) (w.faults run.disk) only.later rose) is.failed;
   }

@@ -1,4 +1,5 @@
 pub mod Disks
+pub mod Fronts
 pub mod Keys
 pub mod Runs
 pub mod Sized

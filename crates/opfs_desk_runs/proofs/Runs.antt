@@ -4,7 +4,7 @@ use Rattle.std.specs.Prelude.{Result, Ok, Err, OnOk, OnErr}
 use Rattle.std.proofs.lemmas.List.{length-map}
 use Rattle.opfs_books.specs.Laws.Books.{AreCounted}
 use Rattle.opfs_desk.specs.Apart.{IsToldApart}
-use Rattle.opfs_desk.specs.Ending.{EndsTime, EndsTrail, KeepsSizes, LeavesFront, StandsWhole}
+use Rattle.opfs_desk.specs.Ending.{EndsFronts, EndsKept, EndsTime, KeepsSizes, LeavesFront, StandsWhole}
 use Rattle.opfs_desk.specs.Seen.{DeskSeen, entries_of}
 use Rattle.opfs_hist.specs.Faults.{disk_faults}
 use Rattle.opfs_hist.specs.declared.entry.Entry.{Entry}
@@ -62,43 +62,43 @@ is-history tells whole o script h agents cut runs apart = record {
   alone = λ t. subst (λ (es : List Entry). EachAlone o es) (sym (apart.told.told t)) apart.alone;
 }
 
-module _ {D : Type 0} (w : DiskWords D) (falls : w.tells → (d : D) (t u : ℕ) (c : List ℕ) → t ≤ u → w.since d u c → w.since d t c) (reads : w.crashes → (d : D) → w.since d (w.moment d) (w.content d))
+module _ {D : Type 0} (w : DiskWords D) (reads : w.crashes → (d : D) → w.since d (w.moment d) (w.content d))
     (d : DeskSeen D) (script : List Asked) (run : Completion D) (history : run.history ≡ entries_of d) where
   abbrev o : Opening
   o = d.fixed.opening
 
   is-left : LeavesFront w o run.history run.disk → w.crashes → IsLeft o run.history (w.content run.disk)
-  is-left left may = record { place = left.place; shown = left.shown (w.content run.disk) (reads may run.disk) }
+  is-left left may = record { place = left.place; recent = left.recent; shown = left.shown (w.content run.disk) (reads may run.disk) }
 
   is-image : KeepsSizes w d run.disk → StandsWhole w d run.disk → w.tells → IsImageOf d.fixed.geometry (durable o (changes o run.history)) (w.content run.disk)
   is-image sizes stands t =
       subst (λ (es : List Entry). IsImageOf d.fixed.geometry (durable o (changes o es)) (w.content run.disk)) (sym history)
       (sized d.fixed.geometry (durable o (changes o (entries_of d))) (w.content run.disk) (sizes t) (stands t))
 
-  leaves-fronts : EndsTime w d run.disk → EndsTrail w d run.disk → w.tells → (Rose (w.faults d.fixed.begun) (w.faults run.disk) → ⊥) → LeavesFronts w o run.history d.fixed.begun run.disk
-  leaves-fronts time trail t never =
+  leaves-fronts : EndsTime w d run.disk → EndsFronts w d run.disk → EndsKept w d run.disk → w.tells → LeavesFronts w o run.history d.fixed.begun run.disk
+  leaves-fronts time fronts keeps t =
       subst (λ (es : List Entry). LeavesFronts w o es d.fixed.begun run.disk) (sym history)
       (record {
         fronts = λ at c le left. elim ((time t).split at c le left) [
           | inl was ↦ inl was
-          | inr is ↦ inr ((trail t never).fronts c is)
+          | inr is ↦ inr (fronts t c is)
         ];
-        stores = λ crashes n content at le.
-            let i = (trail t never).each crashes n content in
-            (i.image, falls t run.disk at (w.moment d.fixed.begun) i.image le i.left, i.stands);
+        keeps = λ crashes n content.
+            let k = keeps t crashes n content in
+            record { moment = k.moment; within = k.passed; image = k.image.0; left = k.image.1; stands = k.image.2; each = k.since };
       })
 
   run-ended : o.agents ≡ map who_of script → EachCut script (entries_of d) → (run.whole ≡ true → EachRuns script (entries_of d)) → IsToldApart w.tells o run.history
-      → OnOk run.done (StandsWhole w d run.disk) → (w.tells → LeavesFront w o run.history run.disk) → EndsTrail w d run.disk → KeepsSizes w d run.disk → EndsTime w d run.disk
+      → OnOk run.done (StandsWhole w d run.disk) → (w.tells → LeavesFront w o run.history run.disk) → EndsFronts w d run.disk → EndsKept w d run.disk → KeepsSizes w d run.disk → EndsTime w d run.disk
       → RoseBy (disk_faults (entries_of d)) (w.faults d.fixed.begun) (w.faults run.disk) → OnErr run.done (RoseBy (disk_faults (entries_of d) + 1) (w.faults d.fixed.begun) (w.faults run.disk))
       → IsRunOver w d.fixed.geometry o script d.fixed.begun run
-  run-ended agents cut runs apart stands left trail sizes time faults failed = record {
+  run-ended agents cut runs apart stands left fronts keeps sizes time faults failed = record {
     history =
         is-history w.tells run.whole o script run.history agents (subst (λ (es : List Entry). EachCut script es) (sym history) cut)
         (λ whole. subst (λ (es : List Entry). EachRuns script es) (sym history) (runs whole)) apart;
     stands = on-ok run.done _ _ (λ whole. is-image sizes whole) stands;
     left = λ t may. is-left (left t) may;
-    stops = leaves-fronts time trail;
+    stops = leaves-fronts time fronts keeps;
     faults = subst (λ (es : List Entry). RoseBy (disk_faults es) (w.faults d.fixed.begun) (w.faults run.disk)) (sym history) faults;
     failed = subst (λ (es : List Entry). OnErr run.done (RoseBy (disk_faults es + 1) (w.faults d.fixed.begun) (w.faults run.disk))) (sym history) failed;
   }
@@ -109,11 +109,11 @@ module _ {D : Type 0} (w : DiskWords D) (falls : w.tells → (d : D) (t u : ℕ)
     opens = ap (λ f. f.opening) fixed ∙ same-opening w from agents script same
 
     pub run-over : EachCut script (entries_of d) → (run.whole ≡ true → EachRuns script (entries_of d)) → IsToldApart w.tells o run.history
-        → OnOk run.done (StandsWhole w d run.disk) → (w.tells → LeavesFront w o run.history run.disk) → EndsTrail w d run.disk → KeepsSizes w d run.disk → EndsTime w d run.disk
+        → OnOk run.done (StandsWhole w d run.disk) → (w.tells → LeavesFront w o run.history run.disk) → EndsFronts w d run.disk → EndsKept w d run.disk → KeepsSizes w d run.disk → EndsTime w d run.disk
         → RoseBy (disk_faults (entries_of d)) (w.faults d.fixed.begun) (w.faults run.disk) → OnErr run.done (RoseBy (disk_faults (entries_of d) + 1) (w.faults d.fixed.begun) (w.faults run.disk))
         → IsRunOver w from.geometry (opening_over w from script) script from.journal.disk run
-    run-over cut runs apart stands left trail sizes time faults failed =
+    run-over cut runs apart stands left fronts keeps sizes time faults failed =
         subst (λ (g : Geometry). IsRunOver w g (opening_over w from script) script from.journal.disk run) (ap (λ f. f.geometry) fixed)
         (subst (λ (x : Opening). IsRunOver w d.fixed.geometry x script from.journal.disk run) opens
         (subst (λ (x : D). IsRunOver w d.fixed.geometry o script x run) (ap (λ f. f.begun) fixed)
-        (run-ended (ap (λ x. x.agents) opens) cut runs apart stands left trail sizes time faults failed)))
+        (run-ended (ap (λ x. x.agents) opens) cut runs apart stands left fronts keeps sizes time faults failed)))

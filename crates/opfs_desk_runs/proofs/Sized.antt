@@ -3,7 +3,7 @@ use Rattle.std.proofs.Common.{◌≡◌, ℕ, List, Some, None, refl, sym, ap, �
 use Rattle.std.specs.Prelude.{Result, Ok, Err}
 use Rattle.opfs_codec.specs.declared.change.Format.TheVariants.{New}
 use Rattle.opfs_image.specs.Filling.{Stands, filled, map_of}
-use Rattle.opfs_image.specs.Reading.{built_in_area, image_of, read_as, read_from}
+use Rattle.opfs_image.specs.Reading.{Image, built_in_area, image_of, read_as, read_from}
 use Rattle.opfs_image.specs.Superblock.{areas_of, data_base, geometry_of}
 use Rattle.opfs_image.specs.declared.geometry.Geometry.{Geometry}
 use Rattle.opfs_image.specs.declared.refusal.ImageRefusal.{ImageRefusal}
@@ -28,6 +28,21 @@ by-built g m c (Ok b) reads stands = record {
 pub sized : (g : Geometry) (m : Map) (c : List ℕ) → geometry_of c ≡ Ok g → Stands c m → IsImageOf g m c
 sized g m c sizes stands =
     by-built g m c (built_in_area New New g c (chosen_in (areas_of g) c)) (ap (read_from New New c) sizes) stands
+
+ok-same : {A E : Type 0} (a b : A) → Ok a ≡ Ok {E = E} b → a ≡ b
+ok-same a b is = cc
+
+of-image : (g found : Geometry) (b : Built) (r : Result Built ImageRefusal) → image_of found r ≡ Ok (record { geometry = g; built = b }) → found ≡ g
+of-image g found b (Err e) is = absurd (cc is)
+of-image g found b (Ok other) is = let same : record { geometry = found; built = other } ≡ record { geometry = g; built = b } = ok-same _ _ is in ap (λ (i : Image). i.geometry) same
+
+by-geometry : (g : Geometry) (b : Built) (c : List ℕ) (r : Result Geometry ImageRefusal) → read_from New New c r ≡ Ok (record { geometry = g; built = b }) → r ≡ Ok g
+by-geometry g b c (Err e) is = absurd (cc is)
+by-geometry g b c (Ok found) is = ap (λ (x : Geometry). Ok x) (of-image g found b (built_in_area New New found c (chosen_in (areas_of found) c)) is)
+
+-- the sizes of an image
+pub sizes-of : (g : Geometry) (m : Map) (c : List ℕ) → IsImageOf g m c → geometry_of c ≡ Ok g
+sizes-of g m c is = by-geometry g is.built c (geometry_of c) is.reads
 
 -- what an image of these sizes stands for
 pub stood-for : (g : Geometry) (m : Map) (c : List ℕ) → IsImageOf g m c → Stands c m

@@ -1,5 +1,6 @@
 -- A run of a script's agents over an image that was recovered. This project's own.
 use Rattle.std.specs.Prelude.{◌≡◌, ◌≤◌, ◌⊎◌, ℕ, ◌+◌, Bool, true, List, ◌++◌, All, length, take, Option, Ok, OnOk, OnErr}
+use Rattle.opfs_books.specs.Laws.Fronts.{IsRecent, IsShownOnce}
 use Rattle.opfs_commit.specs.Shown.{IsShown}
 use Rattle.opfs_commit.specs.Trail.{IsContentAt}
 use Rattle.opfs_desk.specs.Apart.{IsToldApart}
@@ -18,7 +19,7 @@ use Rattle.opfs_machine.specs.Changes.{changes, durable, floor}
 use Rattle.opfs_machine.specs.Histories.{Legal}
 use Rattle.opfs_machine.specs.Openings.{Map, Opening}
 use Rattle.opfs_books.specs.Openings.Openings.{limits_by}
-use Rattle.opfs_outside.specs.Faults.{Rose, RoseBy}
+use Rattle.opfs_outside.specs.Faults.{RoseBy}
 use Rattle.opfs_records.specs.Replay.Built.{Built}
 use Rattle.opfs_outside.specs.declared.disk.Disk.{Ghosts as DiskWords}
 use Rattle.opfs_script.specs.Scripts.{Asked}
@@ -50,30 +51,38 @@ pub record IsImageOf (g : Geometry) (m : Map) (c : List ℕ) : Type 0 where
 abbrev pub stored_after : Opening → List Entry → ℕ → Map
 stored_after o history n = durable o (take n (changes o history))
 
--- The image stands for what is stored after a front of the history's changes.
-abbrev pub IsFront : Opening → List Entry → List ℕ → Type 0
-IsFront o history c = IsShown o 0 (changes o history) c
-
--- The image stands for what is stored after a front of the history's changes, with what one entry may have left in doubt; it has all
--- changes up to the last content.
+-- The image stands for what is stored after the history's changes, or after a front of them that has all up to the last content, with what
+-- a call in which the disk failed, and behind which nothing was stored, may have left in doubt.
 pub record IsLeft (o : Opening) (history : List Entry) (c : List ℕ) : Type 0 where
   pub place : Option ℕ
+  pub recent : IsRecent o history place
   pub shown : IsShown o (floor (changes o history)) (changes o history ++ doubted o history place) c
 
--- The images that a crash may have left since a disk was so: those of then, and fronts of the history; and for each content one that
--- stands for what is stored after the changes up to and with that one.
+-- From a moment on no image lacks the content at a place of the history's changes; and one of these images stands for just what was
+-- stored up to and with it. As many moments have passed as are told, and images are those that a stop may leave at some moment from
+-- one on.
+pub record IsKeptSince (passed : ℕ) (since : ℕ → List ℕ → Type 0) (o : Opening) (history : List Entry) (n : ℕ) : Type 0 where
+  pub moment : ℕ
+  pub within : moment ≤ passed
+  pub image : List ℕ
+  pub left : since moment image
+  pub stands : Stands image (stored_after o history (n + 1))
+  pub each : (c : List ℕ) → since moment c → IsShownOnce o (n + 1) history c
+
+-- The images that a crash may have left since a disk was so: those of then, and fronts of the history; and from some moment on none lacks
+-- what a close or a flush has stored.
 pub record LeavesFronts {D : Type 0} (w : DiskWords D) (o : Opening) (history : List Entry) (begun now : D) : Type 0 where
-  pub fronts : (t : ℕ) (c : List ℕ) → t ≤ w.moment begun → w.since now t c → w.since begun t c ⊎ IsFront o history c
-  pub stores : w.crashes → (n : ℕ) → IsContentAt (changes o history) n → (t : ℕ) → t ≤ w.moment begun → (c : List ℕ) × w.since now t c × Stands c (stored_after o history (n + 1))
+  pub fronts : (t : ℕ) (c : List ℕ) → t ≤ w.moment begun → w.since now t c → w.since begun t c ⊎ IsShownOnce o 0 history c
+  pub keeps : w.crashes → (n : ℕ) → IsContentAt (changes o history) n → IsKeptSince (w.moment now) (w.since now) o history n
 
 -- A run over a disk that began so, and what it left: one history; where the end did not fail, an image that stands for all that the
--- history stored; else one that stands for a front of it; as long as the disk did not fail, fronts on the way; and no more faults in the
--- history than the disk's count has risen, one less where the end failed.
+-- history stored; else one that stands for a front of it; at each moment on the way a front, whether the disk failed or not; and no more
+-- faults in the history than the disk's count has risen, one less where the end failed.
 pub record IsRunOver {D : Type 0} (w : DiskWords D) (g : Geometry) (o : Opening) (script : List Asked) (begun : D) (run : Completion D) : Type 0 where
   pub history : IsHistoryOf w.tells run.whole o script run.history
   pub stands : OnOk run.done (w.tells → IsImageOf g (durable o (changes o run.history)) (w.content run.disk))
   pub left : w.tells → w.crashes → IsLeft o run.history (w.content run.disk)
-  pub stops : w.tells → (Rose (w.faults begun) (w.faults run.disk) → ⊥) → LeavesFronts w o run.history begun run.disk
+  pub stops : w.tells → LeavesFronts w o run.history begun run.disk
   pub faults : RoseBy (disk_faults run.history) (w.faults begun) (w.faults run.disk)
   pub failed : OnErr run.done (RoseBy (disk_faults run.history + 1) (w.faults begun) (w.faults run.disk))
 

@@ -3,7 +3,7 @@
 ghost use Rattle.std.specs.Prelude.{◌≡◌, ◌≢◌, ◌+◌, ◌≤◌, [], length, true, Err, IfOk, IfErr, OnOk, OnErr};
 ghost use Rattle.opfs_codec.specs.declared.change.Format.TheVariants.{New};
 ghost use Rattle.opfs_desk.specs.Apart.{IsToldApart};
-ghost use Rattle.opfs_desk.specs.Ending.{EndsTime, EndsTrail, KeepsSizes, LeavesFront, StandsWhole};
+ghost use Rattle.opfs_desk.specs.Ending.{EndsFronts, EndsKept, EndsTime, KeepsSizes, LeavesFront, StandsWhole};
 ghost use Rattle.opfs_desk.specs.Seen.{entries_of};
 ghost use Rattle.opfs_desk_runs.specs.Runs.{IsRunOn, IsRunOver, opening_over};
 ghost use Rattle.opfs_hist.specs.Faults.{disk_faults};
@@ -40,7 +40,8 @@ fn end_run<D: Disk>(desk: Desk<D>, whole: bool) -> Completion<D>
     ensures apart { IsToldApart D.tells desk.fixed.opening result.history }
     ensures stands { OnOk result.done (StandsWhole D.Disk desk result.disk) }
     ensures left { D.tells → LeavesFront D.Disk desk.fixed.opening result.history result.disk }
-    ensures trail { EndsTrail D.Disk desk result.disk }
+    ensures fronts { EndsFronts D.Disk desk result.disk }
+    ensures keeps { EndsKept D.Disk desk result.disk }
     ensures sizes { KeepsSizes D.Disk desk result.disk }
     ensures time { EndsTime D.Disk desk result.disk }
     ensures faults { RoseBy (disk_faults (entries_of desk)) (D.faults desk.fixed.begun) (D.faults result.disk) }

@@ -32,11 +32,12 @@ module _ (h : HostTurn) (path : Text) (script : List Asked) where
     before = is.at.before;
     history = is.history;
     stood = is.at.stood;
-    one = record { printed = is.printed; runs = is.at.is.runs refl; agents = is.at.is.agents; legal = is.at.is.legal; alone = is.at.is.alone };
-    apart = is.at.is;
+    printed = is.printed;
+    one = record { runs = is.at.is.runs refl; agents = is.at.is.agents; legal = is.at.is.legal; alone = is.at.is.alone };
+    untold = is.at.is.apart;
     stands = is.stands;
+    stops = λ t. is.at.stops t tt;
     faults = is.at.faults;
-    stops = λ t quiet. is.at.stops t tt quiet;
   }
 
   ended_by : (e : ToolEnd) (text : Text) → RanTo h path script e text → RunEnded h path script (status_of e) text
@@ -57,7 +58,7 @@ module _ (h : HostTurn) (path : Text) (script : List Asked) where
     is = at.is;
     left = λ t served. at.left t tt;
     stands = λ t served quiet. at.stands t tt quiet;
-    stops = λ t served quiet. at.stops t tt quiet;
+    stops = λ t served. at.stops t tt;
     faults = at.faults;
   }
 
@@ -88,7 +89,7 @@ module _ (h : HostTurn) (path : Text) (script : List Asked) where
     bytes_ran status.Done text is = record { script = script; read = read; kind = is }
     bytes_ran status.Usage text is = absurd is
     bytes_ran status.Script text is = absurd is
-    bytes_ran status.Image text is = is
+    bytes_ran status.Image text is = record { script = script; read = read; kind = is }
     bytes_ran status.Host text is = record { script = script; read = read; kind = is }
     bytes_ran status.Source text is = absurd is
     bytes_ran status.Sink text is = absurd is
@@ -104,7 +105,7 @@ module _ (s : SourceTurn) (h : HostTurn) (path bytes : Text) (read : ReadWhole s
   source_ran status.Done text is = record { bytes = bytes; whole = read; kind = is }
   source_ran status.Usage text is = absurd is
   source_ran status.Script text is = inl (record { bytes = bytes; whole = read; kind = is })
-  source_ran status.Image text is = is
+  source_ran status.Image text is = record { bytes = bytes; whole = read; kind = is }
   source_ran status.Host text is = record { bytes = bytes; whole = read; kind = is }
   source_ran status.Source text is = absurd is
   source_ran status.Sink text is = absurd is
@@ -132,7 +133,7 @@ run_ends words s h path asked status.Sink text is = absurd is
 run_ends words s h path asked status.Memory text is = absurd is
 
 pub refused_stays : (s : SourceTurn) (h : HostTurn) (path : Text) (ended : Status) (text : Text) → SourceRan s h path ended text → ended ≡ status.Image → h.tells → ImageStays h path
-refused_stays s h path ended text is same told = let refused : SourceRan s h path status.Image text = subst (λ e. SourceRan s h path e text) same is in refused.stays told
+refused_stays s h path ended text is same told = let refused : SourceRan s h path status.Image text = subst (λ e. SourceRan s h path e text) same is in refused.kind.kind.stays told
 
 -- what is left where the words ask for a run, and nothing where they ask for another command
 abbrev Leaves : SourceTurn → HostTurn → Command → Type 0

@@ -11,7 +11,7 @@ use Rattle.opfs_print.specs.declared.end.End.TheVariants as end
 use Rattle.opfs_print.specs.Status.{status_text}
 use Rattle.opfs_script.specs.Scripts.{Asked}
 use Rattle.opfs_top.specs.Doing.{IsFrontOf, IsRefused, IsTooLong, OfSource, TaskDone, TaskRefused}
-use Rattle.opfs_top.specs.Headline.{IsHeadline, IsRunStopped, OfScript}
+use Rattle.opfs_top.specs.Headline.{IsHeadline, IsRefusedRun, IsRunStopped, OfScript}
 use Rattle.opfs_top.specs.declared.answer.Answer.{Answer}
 use Rattle.opfs_top.specs.declared.answer.Task.{Task}
 use Rattle.opfs_top.specs.declared.status.Status.{Status}
@@ -60,7 +60,7 @@ RunEnded h path script ended text = ⊥
 abbrev pub BytesRan : HostTurn → Text → Text → Status → Text → Type 0
 BytesRan h path bytes status.Done text = OfScript (IsHeadline h path) bytes text
 BytesRan h path bytes status.Script text = IsRefused bytes text
-BytesRan h path bytes status.Image text = IsRunRefused h path text
+BytesRan h path bytes status.Image text = OfScript (IsRefusedRun h path) bytes text
 BytesRan h path bytes status.Host text = OfScript (IsRunStopped h path) bytes text
 BytesRan h path bytes ended text = ⊥
 
@@ -68,7 +68,7 @@ BytesRan h path bytes ended text = ⊥
 abbrev pub SourceRan : SourceTurn → HostTurn → Text → Status → Text → Type 0
 SourceRan s h path status.Done text = OfSource s (OfScript (IsHeadline h path)) text
 SourceRan s h path status.Script text = OfSource s IsRefused text ⊎ IsTooLong s text
-SourceRan s h path status.Image text = IsRunRefused h path text
+SourceRan s h path status.Image text = OfSource s (OfScript (IsRefusedRun h path)) text
 SourceRan s h path status.Host text = OfSource s (OfScript (IsRunStopped h path)) text
 SourceRan s h path status.Source text = SourceFailed s × (text ≡ status_text end.Source)
 SourceRan s h path ended text = ⊥

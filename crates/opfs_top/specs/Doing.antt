@@ -5,7 +5,7 @@ use Rattle.std.specs.Prelude.{◌≡◌, ◌≢◌, ◌⊎◌, ◌++◌, ℕ, �
 use Rattle.opfs_base.specs.Texts.{Text}
 use Rattle.opfs_commands.specs.Commands.{Command, trial, running, judgement, generating, on_image, loading, Asks, AsksNothing}
 use Rattle.opfs_commands.specs.Kinds.{DoneKind, RefusedKind, IsDumping, IsReading, IsMigration}
-use Rattle.opfs_commands.specs.Ran.{IsNotRun, IsRunRefused}
+use Rattle.opfs_commands.specs.Ran.{IsNotRun}
 use Rattle.opfs_commands.specs.Telling.{IsLoaded, IsNoDump, IsOfImage}
 use Rattle.opfs_gen.specs.Summing.{gen_text}
 use Rattle.opfs_hist.specs.declared.entry.Entry.{Entry}
@@ -23,7 +23,7 @@ use Rattle.opfs_script.specs.declared.refusal.ScriptRefusal.TheVariants as refus
 use Rattle.opfs_script.specs.Reading.{reads}
 use Rattle.opfs_script.specs.Scripts.{Asked}
 use Rattle.opfs_judge.specs.Trial.Trials.{IsTrial}
-use Rattle.opfs_top.specs.Headline.{HasRun, IsHeadline, IsRunStopped, OfScript}
+use Rattle.opfs_top.specs.Headline.{HasRun, IsHeadline, IsRefusedRun, IsRunStopped, OfScript}
 use Rattle.opfs_top.specs.declared.answer.Task.{Task}
 use Rattle.opfs_top.specs.declared.answer.Task.TheVariants as task
 use Rattle.opfs_top.specs.declared.status.Status.{Status}
@@ -156,14 +156,23 @@ RefusedScript (generating g) s text = ⊥
 RefusedScript (on_image path action) s text = ⊥
 RefusedScript (loading image from) s text = ⊥
 
--- The command takes an image, or the text of one, which is refused.
-abbrev pub RefusedImage : Command → HostTurn → Text → Type 0
-RefusedImage trial h text = ⊥
-RefusedImage (running path) h text = IsRunRefused h path text
-RefusedImage judgement h text = ⊥
-RefusedImage (generating g) h text = ⊥
-RefusedImage (on_image path action) h text = h.tells → RefusedKind action (h.image path) text
-RefusedImage (loading image from) h text = h.tells → IsOfImage IsNoDump (h.image from) text
+-- The command takes an image, or the text of one, which is refused; a run has read its script before.
+abbrev pub RefusedImage : Command → SourceTurn → HostTurn → Text → Type 0
+RefusedImage trial s h text = ⊥
+RefusedImage (running path) s h text = OfSource s (OfScript (IsRefusedRun h path)) text
+RefusedImage judgement s h text = ⊥
+RefusedImage (generating g) s h text = ⊥
+RefusedImage (on_image path action) s h text = h.tells → RefusedKind action (h.image path) text
+RefusedImage (loading image from) s h text = h.tells → IsOfImage IsNoDump (h.image from) text
+
+-- The same of a command on an image alone.
+abbrev pub RefusedWithImage : Command → HostTurn → Text → Type 0
+RefusedWithImage trial h text = ⊥
+RefusedWithImage (running path) h text = ⊥
+RefusedWithImage judgement h text = ⊥
+RefusedWithImage (generating g) h text = ⊥
+RefusedWithImage (on_image path action) h text = h.tells → RefusedKind action (h.image path) text
+RefusedWithImage (loading image from) h text = h.tells → IsOfImage IsNoDump (h.image from) text
 
 -- The command takes a script, or an image.
 abbrev pub TakesScript : Command → Type 0
@@ -217,8 +226,8 @@ pub record IsNoTool (words : List Text) (text : Text) : Type 0 where
 abbrev pub IsBadScript : List Text → SourceTurn → Text → Type 0
 IsBadScript words s text = Asks words (λ command. RefusedScript command s text)
 
-abbrev pub IsBadImage : List Text → HostTurn → Text → Type 0
-IsBadImage words h text = Asks words (λ command. RefusedImage command h text)
+abbrev pub IsBadImage : List Text → SourceTurn → HostTurn → Text → Type 0
+IsBadImage words s h text = Asks words (λ command. RefusedImage command s h text)
 
 -- No text, or a front of one of a kind.
 abbrev pub IsFrontOf : (Text → Type 0) → Text → Type 0
@@ -246,7 +255,7 @@ abbrev pub Ended : List Text → SourceTurn → HostTurn → Status → Text →
 Ended words s h status.Done text = IsDone words s h text
 Ended words s h status.Usage text = IsUsage words text
 Ended words s h status.Script text = IsBadScript words s text
-Ended words s h status.Image text = IsBadImage words h text
+Ended words s h status.Image text = IsBadImage words s h text
 Ended words s h status.Host text = IsFault words s h text
 Ended words s h status.Source text = IsSourceFault words s text
 Ended words s h ended text = ⊥
@@ -260,7 +269,7 @@ pub record IsSomeEnd (words : List Text) (s : SourceTurn) (h : HostTurn) (text :
 abbrev pub ToolEnded : List Text → HostTurn → Status → Text → Type 0
 ToolEnded words h status.Done text = Asks words (λ command. DidWithImage command h text)
 ToolEnded words h status.Usage text = IsNoTool words text
-ToolEnded words h status.Image text = IsBadImage words h text
+ToolEnded words h status.Image text = Asks words (λ command. RefusedWithImage command h text)
 ToolEnded words h status.Host text = IsHostFault words h text
 ToolEnded words h ended text = ⊥
 

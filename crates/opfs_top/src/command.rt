@@ -7,7 +7,7 @@ ghost use Rattle.opfs_commands.specs.Telling.{IsStoodFor};
 ghost use Rattle.opfs_machine.specs.Openings.{Map};
 ghost use Rattle.opfs_migrate.specs.Migrating.{StandsEither};
 ghost use Rattle.opfs_outside.specs.Turns.{of_host, of_sink, of_source, AsBefore, ImageStays, Puts, PutsFront, SinkFailed};
-ghost use Rattle.opfs_top.specs.Doing.{DidWithImage, IsDone, IsUsage, IsBadScript, IsBadImage, IsEarly, IsFault, IsHostFault, IsNoTool, IsSourceFault, IsSomeEnd, IsSomeToolEnd, IsTool, LeavesRun, Migrates, Names, NoneFailed, OfSource, TakesImage, Tells, TookDumped};
+ghost use Rattle.opfs_top.specs.Doing.{DidWithImage, IsDone, IsUsage, IsBadScript, IsBadImage, IsEarly, IsFault, IsHostFault, IsNoTool, IsSourceFault, IsSomeEnd, IsSomeToolEnd, IsTool, LeavesRun, Migrates, Names, NoneFailed, OfSource, RefusedWithImage, TakesImage, Tells, TookDumped};
 ghost use Rattle.opfs_top.specs.Headline.{IsHeadline, OfScript};
 
 use crate::answer::Answer;
@@ -30,7 +30,7 @@ pub fn opfs_tool<H: Host, K: Sink>(
 ) -> Status
     ensures done { result ≡ Status.Done → Puts (of_sink K.Sink sink.old sink.new) (λ text. Asks words.now (λ command. DidWithImage command (of_host H.Host host.old host.new) text)) }
     ensures usage { result ≡ Status.Usage → Puts (of_sink K.Sink sink.old sink.new) (IsNoTool words.now) }
-    ensures image { result ≡ Status.Image → Puts (of_sink K.Sink sink.old sink.new) (IsBadImage words.now (of_host H.Host host.old host.new)) }
+    ensures image { result ≡ Status.Image → Puts (of_sink K.Sink sink.old sink.new) (λ text. Asks words.now (λ command. RefusedWithImage command (of_host H.Host host.old host.new) text)) }
     ensures host { result ≡ Status.Host → Puts (of_sink K.Sink sink.old sink.new) (IsHostFault words.now (of_host H.Host host.old host.new)) }
     ensures sink { result ≡ Status.Sink → PutsFront (of_sink K.Sink sink.old sink.new) (IsSomeToolEnd words.now (of_host H.Host host.old host.new)) }
     ensures sink_cause { result ≡ Status.Sink → SinkFailed (of_sink K.Sink sink.old sink.new) }
@@ -80,7 +80,7 @@ pub fn opfs<R: AllocGlobal + Threads + Wait + Sync, H: Host, S: Source, K: Sink,
     ensures done { result ≡ Status.Done → Puts (of_sink K.Sink sink.old sink.new) (IsDone words.now (of_source S.Source source.old source.new) (of_host H.Host host.old host.new)) }
     ensures usage { result ≡ Status.Usage → Puts (of_sink K.Sink sink.old sink.new) (IsUsage words.now) }
     ensures script { result ≡ Status.Script → Puts (of_sink K.Sink sink.old sink.new) (IsBadScript words.now (of_source S.Source source.old source.new)) }
-    ensures image { result ≡ Status.Image → Puts (of_sink K.Sink sink.old sink.new) (IsBadImage words.now (of_host H.Host host.old host.new)) }
+    ensures image { result ≡ Status.Image → Puts (of_sink K.Sink sink.old sink.new) (IsBadImage words.now (of_source S.Source source.old source.new) (of_host H.Host host.old host.new)) }
     ensures host { result ≡ Status.Host → Puts (of_sink K.Sink sink.old sink.new) (IsFault words.now (of_source S.Source source.old source.new) (of_host H.Host host.old host.new)) }
     ensures source { result ≡ Status.Source → Puts (of_sink K.Sink sink.old sink.new) (IsSourceFault words.now (of_source S.Source source.old source.new)) }
     ensures sink { result ≡ Status.Sink → PutsFront (of_sink K.Sink sink.old sink.new) (IsSomeEnd words.now (of_source S.Source source.old source.new) (of_host H.Host host.old host.new)) }
