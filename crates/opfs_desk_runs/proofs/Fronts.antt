@@ -22,6 +22,6 @@ first-shown g before script history c is = record {
     split = refl;
     enough = omega arith;
     stands = stood-for g before c is;
-    sizes = record { geometry = g; read = sizes-of g before c is; limits = refl };
+    sizes = record { geometry = g; found = sizes-of g before c is; limits = refl };
   };
 }
