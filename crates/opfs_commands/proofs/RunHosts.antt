@@ -155,11 +155,9 @@ module _ {H D : Type 0} (h : HostWords H D) (w : DiskWords D) (path : Text) (scr
       kept-at : (g : GivenBack (of_host h mid new) path (w.content now) (w.moment now) (w.since now)) (n : ℕ) → IsKeptSince (w.moment now) (w.since now) o run.history n → IsKeptSince (h.moment new path) (h.since new path) o run.history n
       kept-at g n is = record {
         moment = is.moment;
-        within = subst (λ (m : ℕ). is.moment ≤ m) (sym g.moment) is.within;
-        image = is.image;
-        left = (g.since is.moment is.image).1 is.left;
-        stands = is.stands;
-        each = λ c left. is.each c ((g.since is.moment c).0 left);
+        passed = subst (λ (m : ℕ). is.moment ≤ m) (sym g.moment) is.passed;
+        image = (is.image.0, (g.since is.moment is.image.0).1 is.image.1, is.image.2);
+        since = λ c left. is.since c ((g.since is.moment c).0 left);
       }
 
       stops-by : h.tells → Back → LeavesFronts turn path o run.history

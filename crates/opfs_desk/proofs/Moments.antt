@@ -134,7 +134,7 @@ module _ {D : Type 0} (w : DiskWords D) (o : Opening) (h more whole : List Entry
   ]
 
   -- A content of before.
-  kept-on : (n : ℕ) → IsContentAt (changes o h) n → IsKeptSince w o h n old → IsKeptSince w o whole n new
+  kept-on : (n : ℕ) → IsContentAt (changes o h) n → IsKeptSince (w.moment old) (w.since old) o h n → IsKeptSince (w.moment new) (w.since new) o whole n
   kept-on n content was = record {
     moment = was.moment;
     passed = omega (arith, was.passed, time.later);
@@ -149,7 +149,7 @@ module _ {D : Type 0} (w : DiskWords D) (o : Opening) (h more whole : List Entry
       front = ap (λ (xs : List Change). take (n + 1) xs) grown ∙ take-append-le (n + 1) (changes o h) (changes_from (state_after o h) more) (let lt = content.0 in omega (arith, lt))
 
   -- Contents, where those that were told since are kept.
-  pub keeps-on : KeepsContents w o h old → (w.crashes → (n : ℕ) → length (changes o h) ≤ n → IsContentAt (changes o whole) n → IsKeptSince w o whole n new) → KeepsContents w o whole new
+  pub keeps-on : KeepsContents w o h old → (w.crashes → (n : ℕ) → length (changes o h) ≤ n → IsContentAt (changes o whole) n → IsKeptSince (w.moment new) (w.since new) o whole n) → KeepsContents w o whole new
   keeps-on keeps told crashes n content = elim (cases_lt n (length (changes o h))) [
     | inl lt ↦ let was = first-content (changes o h) (changes_from (state_after o h) more) n lt (subst (λ (xs : List Change). IsContentAt xs n) grown content) in kept-on n was (keeps crashes n was)
     | inr le ↦ told crashes n le content
@@ -174,7 +174,7 @@ module _ {D : Type 0} (w : DiskWords D) (o : Opening) (h whole : List Entry) (sa
 
 -- A content that is the last change, in the disk as it reads and in each image of now.
 pub kept-now : {D : Type 0} (w : DiskWords D) (o : Opening) (h : List Entry) (n : ℕ) (now : D) → IsContentAt (changes o h) n → n + 1 ≡ length (changes o h) → w.since now (w.moment now) (w.content now) → Stands (w.content now) (durable o (changes o h))
-    → ((c : List ℕ) → w.since now (w.moment now) c → IsShownOnce o (floor (changes o h)) h c) → IsKeptSince w o h n now
+    → ((c : List ℕ) → w.since now (w.moment now) c → IsShownOnce o (floor (changes o h)) h c) → IsKeptSince (w.moment now) (w.since now) o h n
 kept-now w o h n now content last here stands shown = record {
   moment = w.moment now;
   passed = omega arith;

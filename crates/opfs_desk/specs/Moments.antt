@@ -9,12 +9,13 @@ use Rattle.opfs_machine.specs.Openings.{Opening}
 use Rattle.opfs_outside.specs.declared.disk.Disk.{Ghosts as DiskWords}
 
 -- The content at a place of what a history stores has been kept since a moment: an image since then stands for what was stored up to
--- and with it, and each image since then has it.
-pub record IsKeptSince {D : Type 0} (w : DiskWords D) (o : Opening) (h : List Entry) (n : ℕ) (now : D) : Type 0 where
+-- and with it, and each image since then has it. So many moments have passed, and images are those that a stop may leave at some
+-- moment from one on.
+pub record IsKeptSince (last : ℕ) (left : ℕ → List ℕ → Type 0) (o : Opening) (h : List Entry) (n : ℕ) : Type 0 where
   pub moment : ℕ
-  pub passed : moment ≤ w.moment now
-  pub image : (c : List ℕ) × w.since now moment c × Stands c (durable o (take (n + 1) (changes o h)))
-  pub since : (c : List ℕ) → w.since now moment c → IsShownOnce o (n + 1) h c
+  pub passed : moment ≤ last
+  pub image : (c : List ℕ) × left moment c × Stands c (durable o (take (n + 1) (changes o h)))
+  pub since : (c : List ℕ) → left moment c → IsShownOnce o (n + 1) h c
 
 -- Each image since the run began shows a front of what the history stores, with what one call of it left in doubt.
 abbrev pub ShowsFronts : {D : Type 0} → DiskWords D → Opening → List Entry → D → D → Type 0
@@ -22,4 +23,4 @@ ShowsFronts w o h begun now = (c : List ℕ) → w.since now (w.moment begun) c 
 
 -- Each content of the history has been kept since a moment.
 abbrev pub KeepsContents : {D : Type 0} → DiskWords D → Opening → List Entry → D → Type 0
-KeepsContents w o h now = w.crashes → (n : ℕ) → IsContentAt (changes o h) n → IsKeptSince w o h n now
+KeepsContents w o h now = w.crashes → (n : ℕ) → IsContentAt (changes o h) n → IsKeptSince (w.moment now) (w.since now) o h n

@@ -83,9 +83,7 @@ module _ {D : Type 0} (w : DiskWords D) (reads : w.crashes → (d : D) → w.sin
           | inl was ↦ inl was
           | inr is ↦ inr (fronts t c is)
         ];
-        keeps = λ crashes n content.
-            let k = keeps t crashes n content in
-            record { moment = k.moment; within = k.passed; image = k.image.0; left = k.image.1; stands = k.image.2; each = k.since };
+        keeps = keeps t;
       })
 
   run-ended : o.agents ≡ map who_of script → EachCut script (entries_of d) → (run.whole ≡ true → EachRuns script (entries_of d)) → IsToldApart w.tells o run.history

@@ -3,14 +3,15 @@ use Rattle.std.specs.Prelude.{◌≡◌, ◌≤◌, ◌⊎◌, ℕ, ◌+◌, Boo
 use Rattle.opfs_books.specs.Laws.Fronts.{IsRecent, IsShownOnce}
 use Rattle.opfs_commit.specs.Shown.{IsShown}
 use Rattle.opfs_commit.specs.Trail.{IsContentAt}
-use Rattle.opfs_desk.specs.Apart.{IsToldApart}
+pub use Rattle.opfs_desk.specs.Apart.{IsToldApart}
+pub use Rattle.opfs_desk.specs.Moments.{IsKeptSince}
 use Rattle.opfs_desk_runs.specs.declared.running.Completion.{Completion}
 use Rattle.opfs_hist.specs.Faults.{disk_faults}
 use Rattle.opfs_hist.specs.declared.entry.Entry.{Entry}
 use Rattle.opfs_laws.specs.Histories.Doubts.{doubted}
 use Rattle.opfs_image.specs.Agreeing.{built_in}
 use Rattle.opfs_codec.specs.declared.change.Format.TheVariants.{New}
-use Rattle.opfs_image.specs.Filling.{Stands, filled}
+use Rattle.opfs_image.specs.Filling.{filled}
 use Rattle.opfs_image.specs.Reading.{read_as}
 use Rattle.opfs_image.specs.Superblock.{data_base}
 use Rattle.opfs_image.specs.declared.geometry.Geometry.{Geometry}
@@ -47,27 +48,12 @@ pub record IsImageOf (g : Geometry) (m : Map) (c : List ℕ) : Type 0 where
   pub reads : read_as New New c ≡ Ok (record { geometry = g; built = built })
   pub stands : filled (data_base g) c built ≡ m
 
--- What is stored after so many of a history's changes.
-abbrev pub stored_after : Opening → List Entry → ℕ → Map
-stored_after o history n = durable o (take n (changes o history))
-
 -- The image stands for what is stored after the history's changes, or after a front of them that has all up to the last content, with what
 -- a call in which the disk failed, and behind which nothing was stored, may have left in doubt.
 pub record IsLeft (o : Opening) (history : List Entry) (c : List ℕ) : Type 0 where
   pub place : Option ℕ
   pub recent : IsRecent o history place
   pub shown : IsShown o (floor (changes o history)) (changes o history ++ doubted o history place) c
-
--- From a moment on no image lacks the content at a place of the history's changes; and one of these images stands for just what was
--- stored up to and with it. As many moments have passed as are told, and images are those that a stop may leave at some moment from
--- one on.
-pub record IsKeptSince (passed : ℕ) (since : ℕ → List ℕ → Type 0) (o : Opening) (history : List Entry) (n : ℕ) : Type 0 where
-  pub moment : ℕ
-  pub within : moment ≤ passed
-  pub image : List ℕ
-  pub left : since moment image
-  pub stands : Stands image (stored_after o history (n + 1))
-  pub each : (c : List ℕ) → since moment c → IsShownOnce o (n + 1) history c
 
 -- The images that a crash may have left since a disk was so: those of then, and fronts of the history; and from some moment on none lacks
 -- what a close or a flush has stored.

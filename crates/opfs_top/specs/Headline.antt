@@ -2,7 +2,7 @@
 use Rattle.std.specs.Prelude.{◌≡◌, ◌⊎◌, ◌≤◌, Bool, true, List, All, length, Ok}
 use Rattle.opfs_base.specs.Texts.{Text}
 use Rattle.opfs_commands.specs.Ran.{run_opening, HasImage, IsNotRun, IsRunAt, IsRunFailed, IsRunFault, IsRunRefused, LeavesFronts}
-use Rattle.opfs_desk.specs.Apart.{IsToldApart}
+use Rattle.opfs_desk_runs.specs.Runs.{IsToldApart}
 use Rattle.opfs_hist.specs.Faults.{disk_faults}
 use Rattle.opfs_hist.specs.declared.entry.Entry.{Entry}
 use Rattle.opfs_image.specs.declared.geometry.Geometry.{Geometry}
