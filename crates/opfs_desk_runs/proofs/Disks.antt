@@ -1,17 +1,12 @@
 -- A run over the image that a disk holds.
-use Rattle.std.proofs.Common.{◌≡◌, ◌≤◌, ◌⊎◌, ℕ, ◌+◌, ◌-◌, ◌^◌, List, [], ◌++◌, take, inl, inr, refl, sym, ap, ◌∙◌, subst, arith}
-use Rattle.std.specs.Prelude.{Result, Ok, Err, OnOk, OnErr}
-use Rattle.opfs_codec.specs.declared.change.Format.TheVariants.{New}
+use Rattle.std.proofs.Common.{◌≤◌, ℕ, ◌+◌, List, inl, inr, refl, subst, arith}
 use Rattle.opfs_hist.specs.Faults.{disk_faults}
 use Rattle.opfs_hist.specs.declared.entry.Entry.{Entry}
 use Rattle.opfs_image.specs.Agreeing.{built_in}
-use Rattle.opfs_image.specs.Filling.{filled}
-use Rattle.opfs_image.specs.Superblock.{data_base}
 use Rattle.opfs_image.specs.declared.geometry.Geometry.{Geometry}
 use Rattle.opfs_image.specs.declared.recovered.Recovered.{Recovered}
 use Rattle.opfs_journal.specs.Walking.{OnlyRead}
-use Rattle.opfs_machine.specs.Changes.{changes, durable}
-use Rattle.opfs_machine.specs.Openings.{Map, Opening}
+use Rattle.opfs_machine.specs.Openings.{Opening}
 use Rattle.opfs_outside.specs.Faults.{RoseBy}
 use Rattle.opfs_outside.specs.declared.disk.Disk.{Ghosts as DiskWords}
 use Rattle.opfs_script.specs.Scripts.{Asked}

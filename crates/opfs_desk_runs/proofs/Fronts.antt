@@ -1,5 +1,5 @@
 -- What a run begins with is the first front.
-use Rattle.std.proofs.Common.{◌≡◌, ℕ, List, [], ◌++◌, Option, Some, None, take, refl, arith}
+use Rattle.std.proofs.Common.{ℕ, List, [], ◌++◌, None, take, refl, arith}
 use Rattle.opfs_books.specs.Laws.Fronts.{IsShownOnce}
 use Rattle.opfs_hist.specs.declared.entry.Entry.{Entry}
 use Rattle.opfs_image.specs.declared.geometry.Geometry.{Geometry}

@@ -1,5 +1,5 @@
 -- An image of known sizes.
-use Rattle.std.proofs.Common.{◌≡◌, ℕ, List, Some, None, refl, sym, ap, ◌∙◌, subst}
+use Rattle.std.proofs.Common.{◌≡◌, ℕ, List, Some, None, refl, sym, ap, ◌∙◌}
 use Rattle.std.specs.Prelude.{Result, Ok, Err}
 use Rattle.opfs_codec.specs.declared.change.Format.TheVariants.{New}
 use Rattle.opfs_image.specs.Filling.{Stands, filled, map_of}
@@ -29,12 +29,12 @@ pub sized : (g : Geometry) (m : Map) (c : List ℕ) → geometry_of c ≡ Ok g �
 sized g m c sizes stands =
     by-built g m c (built_in_area New New g c (chosen_in (areas_of g) c)) (ap (read_from New New c) sizes) stands
 
-ok-same : {A E : Type 0} (a b : A) → Ok a ≡ Ok {E = E} b → a ≡ b
-ok-same a b is = cc
+ok-same : (r : Result Image ImageRefusal) (a b : Image) → r ≡ Ok a → r ≡ Ok b → a ≡ b
+ok-same r a b x y = cc
 
 of-image : (g found : Geometry) (b : Built) (r : Result Built ImageRefusal) → image_of found r ≡ Ok (record { geometry = g; built = b }) → found ≡ g
 of-image g found b (Err e) is = absurd (cc is)
-of-image g found b (Ok other) is = let same : record { geometry = found; built = other } ≡ record { geometry = g; built = b } = ok-same _ _ is in ap (λ (i : Image). i.geometry) same
+of-image g found b (Ok other) is = ap (λ (i : Image). i.geometry) (ok-same (image_of found (Ok other)) (record { geometry = found; built = other }) (record { geometry = g; built = b }) refl is)
 
 by-geometry : (g : Geometry) (b : Built) (c : List ℕ) (r : Result Geometry ImageRefusal) → read_from New New c r ≡ Ok (record { geometry = g; built = b }) → r ≡ Ok g
 by-geometry g b c (Err e) is = absurd (cc is)

@@ -1,5 +1,5 @@
 -- The agents of a legal history.
-use Rattle.std.proofs.Common.{◌≡◌, ℕ, ◌≤◌, ◌-◌, List, [], ◌∷◌, ◌++◌, fold, map, length, All, Option, Some, None, refl, sym, ap, ◌∙◌, subst, arith}
+use Rattle.std.proofs.Common.{◌≡◌, ℕ, ◌≤◌, ◌-◌, List, [], ◌∷◌, ◌++◌, fold, map, length, All, Option, Some, None, refl, ap, ◌∙◌, arith}
 use Rattle.std.proofs.lemmas.List.{length-map, length-set}
 use Rattle.std.proofs.lemmas.List.Elements.{All-cons, All-head, All-nil, All-tail}
 use Rattle.opfs_base.specs.Texts.{Text}
@@ -8,7 +8,6 @@ use Rattle.opfs_laws.specs.Histories.Unread.{unread_entry}
 use Rattle.opfs_laws.proofs.Acting.{changed-acts}
 use Rattle.opfs_laws.proofs.Going.{NextFrom}
 use Rattle.opfs_laws.proofs.LocksEffect.{number-after}
-use Rattle.opfs_laws.proofs.Numbers.{IsNumber}
 use Rattle.opfs_machine.specs.declared.own.Own.{Own}
 use Rattle.opfs_machine.specs.declared.state.State.{State}
 use Rattle.opfs_machine.specs.Histories.{evicted_by, Legal, LegalFrom}

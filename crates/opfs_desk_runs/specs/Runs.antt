@@ -1,5 +1,5 @@
 -- A run of a script's agents over an image that was recovered. This project's own.
-use Rattle.std.specs.Prelude.{◌≡◌, ◌≤◌, ◌⊎◌, ℕ, ◌+◌, Bool, true, List, ◌++◌, All, length, take, Option, Ok, OnOk, OnErr}
+use Rattle.std.specs.Prelude.{◌≡◌, ◌≤◌, ◌⊎◌, ℕ, ◌+◌, Bool, true, List, ◌++◌, All, length, Option, Ok, OnOk, OnErr}
 use Rattle.opfs_books.specs.Laws.Fronts.{IsRecent, IsShownOnce}
 use Rattle.opfs_commit.specs.Shown.{IsShown}
 use Rattle.opfs_commit.specs.Trail.{IsContentAt}

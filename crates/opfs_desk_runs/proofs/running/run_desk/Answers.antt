@@ -1,5 +1,4 @@
 use Rattle.std.proofs.Common.{ap}
-use Rattle.opfs_desk.specs.declared.standing.Opened.{Opened}
 use Rattle.opfs_desk_runs.proofs.running.run_desk.Goals as goal
 
 pub returns-clause-fixed : goal.returns-clause-fixed
