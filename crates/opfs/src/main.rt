@@ -8,7 +8,8 @@ use opfs_files::{DirHost, StdinSource, StdoutSink};
 use opfs_top::{OpenGate, Status, opfs};
 use std::alloc::AllocError;
 use std::env::{self, Env};
-use std::io::ErrorKind;
+use std::fs::{File, Files};
+use std::io::{self, ErrorKind};
 use std::process::ExitCode;
 
 /// The words of the command line behind the program's name. Where one is no UTF-8 there are none.
@@ -29,7 +30,19 @@ fn words_of<R: Env + AllocGlobal>(rt: &R) -> Result<Words, AllocError> {
     Ok(Words::from_vec(words))
 }
 
+/// Three files that nobody uses. Where a standard stream is closed, one of them has its number: else the image would be opened as that stream, and
+/// what is put out would be written over it.
+fn hold_streams<R: Files<File = File>>(
+    files: &R,
+) -> (io::Result<File>, io::Result<File>, io::Result<File>) {
+    let input = File::open(files, "/dev/null");
+    let output = File::open(files, "/dev/null");
+    let errors = File::open(files, "/dev/null");
+    (input, output, errors)
+}
+
 fn main(rt: HostRuntime) -> ExitCode {
+    let _held = hold_streams(&rt);
     let mut host = DirHost::make(&rt);
     let mut source = StdinSource::make(rt.stdin());
     let mut sink = StdoutSink::make(rt.stdout());

@@ -4,7 +4,7 @@ ghost use Rattle.opfs_files.specs.Shown.{disk_size, disk_faults, host_faults, ho
 
 use crate::FileDisk;
 use opfs_outside::{Failed, Host, HostStop};
-use std::fs::{File, Files, OpenFile};
+use std::fs::{self, File, Files, OpenFile};
 use std::io::{self, ErrorKind};
 use std::path::Path;
 
@@ -26,6 +26,15 @@ fn is_read_only(kind: ErrorKind) -> bool {
     )
 }
 
+/// Opens what is at a path for reading, where that is a file: opening a pipe would wait for who writes it.
+fn open_to_read<R: Files<File = File>>(files: &R, path: &str) -> io::Result<File> {
+    let found = fs::metadata(files, path)?;
+    if !found.is_file() {
+        return Err(io::Error::from(ErrorKind::InvalidInput));
+    }
+    File::open(files, path)
+}
+
 /// Opens the file at a path for reading and writing, and with `make` makes a missing one. Without, a file that may only be
 /// read is opened for reading, and each write to it fails.
 fn open_file<R: Files<File = File>>(files: &R, path: &str, make: bool) -> io::Result<File> {
@@ -35,7 +44,7 @@ fn open_file<R: Files<File = File>>(files: &R, path: &str, make: bool) -> io::Re
         .create(make)
         .open(files, path);
     match opened {
-        Err(error) if !make && is_read_only(error.kind()) => File::open(files, path),
+        Err(error) if !make && is_read_only(error.kind()) => open_to_read(files, path),
         opened => opened,
     }
 }

@@ -1,6 +1,6 @@
 //! A store as a program makes it: an image in memory, a desk of one agent and its hall, a file of the agent, and the end.
 
-ghost use Rattle.std.specs.Prelude.{◌≡◌, [], ◌∷◌, false, Some, length, IfOk, OnErr};
+ghost use Rattle.std.specs.Prelude.{◌≡◌, [], ◌∷◌, false, Some, length, IfErr, IfOk, OnErr};
 ghost use Rattle.opfs_codec.specs.Spelling.{IsText, is_origin_text};
 ghost use Rattle.opfs_desk.specs.Seen.{entries_of};
 ghost use Rattle.opfs_hall.specs.Seen.{AreNew, new_pass};
@@ -110,7 +110,8 @@ pub fn begin<S: Store, R: AllocGlobal>(rt: &R, store: S, key: Key) -> Result<Ses
     requires empty { S.entries store ≡ [] }
     requires agent { IsOneAgent (S.opened (S.opening store)) key }
     requires key { IsText is_origin_text key }
-    ensures { IfOk result (λ session. IsBegun S.tells session.court session.owner session.agent) }
+    ensures begun { IfOk result (λ session. IsBegun S.tells session.court session.owner session.agent) }
+    ensures err { IfErr result (λ back. back ≡ store) }
 {
     let alloc = rt.alloc();
     let Ok(room) = Room::make(alloc) else {

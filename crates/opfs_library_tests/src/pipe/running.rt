@@ -1,6 +1,6 @@
 //! Two agents of one desk over a disk in memory: how they begin and end.
 
-ghost use Rattle.std.specs.Prelude.{◌≡◌, ◌∷◌, [], true, false, map, IfOk};
+ghost use Rattle.std.specs.Prelude.{◌≡◌, ◌∷◌, [], true, false, map, IfErr, IfOk};
 ghost use Rattle.opfs_codec.specs.Spelling.{IsText, is_origin_text};
 ghost use Rattle.opfs_desk.specs.Seen.{entries_of};
 ghost use Rattle.opfs_hall.specs.Seen.{AreNew, new_pass};
@@ -156,6 +156,7 @@ pub fn meet<S: Store, R: AllocGlobal>(
     ensures agents { IfOk result (λ m. m.court.agents ≡ 2) }
     ensures reader { IfOk result (λ m. Stands m.court m.reader 1 0) }
     ensures writer { IfOk result (λ m. Stands m.court m.writer 2 0) }
+    ensures err { IfErr result (λ back. back ≡ store) }
 {
     let alloc = rt.alloc();
     let (court, passes) = Hall::make(rt, store, 2)?;

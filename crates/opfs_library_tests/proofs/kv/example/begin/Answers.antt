@@ -9,8 +9,8 @@ begin-agent-requires g c =
     let one : IsOneAgent (g.S.Store.opened of.opening) c.args.key = search rules in
     may-begin g.S.Store.tells g.S.Store.opened of c.args.key one _ (search rules)
 
-pub returns : goal.returns
-returns g c =
+pub returns-clause-begun : goal.returns-clause-begun
+returns-clause-begun g c =
     let of = c.in_ok-court.court in
     let one : IsOneAgent (g.S.Store.opened of.opening) c.args.key = search rules in
     record {
