@@ -27,7 +27,7 @@ returns-clause-refused g c =
     (λ told back only.
     let dtold = g.met.H.Host.disk_tells told in
     let read = only.told dtold in
-    only_read g.H.Host c.args.host.now c.fetch.new.self c.give_back.new.host c.args.path.now (g.H.D.Disk.content c.in-Ok.disk) (g.H.D.Disk.content c.migrate_disk-disk.result.0) (g.H.D.Disk.since c.migrate_disk-disk.result.0 0)
+    only_read g.H.Host c.args.host.now c.fetch.new.self c.give_back.new.host c.args.path.now (g.H.D.Disk.content c.in-Ok.disk) (g.H.D.Disk.content c.migrate_disk-disk.result.0) (g.H.D.Disk.moment c.migrate_disk-disk.result.0) (g.H.D.Disk.since c.migrate_disk-disk.result.0)
     (c.fetch.ensures.images_stay told refl) (c.fetch.ensures.trails_stay told refl) (c.in-Ok.ensures.content told) read.same
     (one_since (g.H.D.Disk.content c.in-Ok.disk) (g.H.D.Disk.moment c.in-Ok.disk) (g.H.D.Disk.since c.in-Ok.disk) (g.H.D.Disk.since c.migrate_disk-disk.result.0) c.in-Ok.ensures.first (c.in-Ok.ensures.one_image dtold) read.moments) back)
     c.migrate_disk-disk.ensures.refused c.give_back.ensures.kept

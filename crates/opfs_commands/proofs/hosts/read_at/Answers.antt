@@ -27,6 +27,6 @@ returns-clause-reads g c = λ told none.
     let back = was_given (of_host g.H.Host c.args.host.now c.give_back.new.host) g.H.Host.tells _ (g.H.Host.own_faults c.fetch.new.self)
     c.give_back.result c.read_disk-disk.result.1 told c.fetch.ensures.own_later c.give_back.ensures.back c.give_back.ensures.kept none in
     let read = c.read_disk-disk.ensures.only.told dtold in
-    only_read g.H.Host c.args.host.now c.fetch.new.self c.give_back.new.host c.args.path.now (g.H.D.Disk.content c.in-Ok.disk) (g.H.D.Disk.content c.read_disk-disk.result.0) (g.H.D.Disk.since c.read_disk-disk.result.0 0)
+    only_read g.H.Host c.args.host.now c.fetch.new.self c.give_back.new.host c.args.path.now (g.H.D.Disk.content c.in-Ok.disk) (g.H.D.Disk.content c.read_disk-disk.result.0) (g.H.D.Disk.moment c.read_disk-disk.result.0) (g.H.D.Disk.since c.read_disk-disk.result.0)
     (c.fetch.ensures.images_stay told refl) (c.fetch.ensures.trails_stay told refl) (c.in-Ok.ensures.content told) read.same
     (one_since (g.H.D.Disk.content c.in-Ok.disk) (g.H.D.Disk.moment c.in-Ok.disk) (g.H.D.Disk.since c.in-Ok.disk) (g.H.D.Disk.since c.read_disk-disk.result.0) c.in-Ok.ensures.first (c.in-Ok.ensures.one_image dtold) read.moments) back

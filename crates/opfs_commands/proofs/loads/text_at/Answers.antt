@@ -22,7 +22,7 @@ returns-in-Err-clause-stays_not g c = λ told none.
     c.give_back.result c.in-Err.answer told c.fetch.ensures.own_later c.give_back.ensures.back c.give_back.ensures.kept none in
     let read = c.text_on-disk.ensures.only.told dtold in
     record {
-      stays = only_read g.H.Host c.args.host.now c.fetch.new.self c.give_back.new.host c.args.path.now (g.H.D.Disk.content c.in-Ok.disk) (g.H.D.Disk.content c.text_on-disk.result.0) (g.H.D.Disk.since c.text_on-disk.result.0 0)
+      stays = only_read g.H.Host c.args.host.now c.fetch.new.self c.give_back.new.host c.args.path.now (g.H.D.Disk.content c.in-Ok.disk) (g.H.D.Disk.content c.text_on-disk.result.0) (g.H.D.Disk.moment c.text_on-disk.result.0) (g.H.D.Disk.since c.text_on-disk.result.0)
           (c.fetch.ensures.images_stay told refl) (c.fetch.ensures.trails_stay told refl) (c.in-Ok.ensures.content told) read.same
           (one_since (g.H.D.Disk.content c.in-Ok.disk) (g.H.D.Disk.moment c.in-Ok.disk) (g.H.D.Disk.since c.in-Ok.disk) (g.H.D.Disk.since c.text_on-disk.result.0) c.in-Ok.ensures.first (c.in-Ok.ensures.one_image dtold) read.moments) back;
       others = others_stay g.H.Host c.args.host.now c.fetch.new.self c.give_back.new.host c.args.path.now
@@ -35,7 +35,7 @@ returns-in-Ok-read-clause-stays g c = λ ok told.
     let back = c.give_text_back.ensures.back ok told in
     let read = c.text_on-disk.ensures.only.told dtold in
     record {
-      stays = only_read g.H.Host c.args.host.now c.fetch.new.self c.give_text_back.new.host c.args.path.now (g.H.D.Disk.content c.in-Ok.disk) (g.H.D.Disk.content c.text_on-disk.result.0) (g.H.D.Disk.since c.text_on-disk.result.0 0)
+      stays = only_read g.H.Host c.args.host.now c.fetch.new.self c.give_text_back.new.host c.args.path.now (g.H.D.Disk.content c.in-Ok.disk) (g.H.D.Disk.content c.text_on-disk.result.0) (g.H.D.Disk.moment c.text_on-disk.result.0) (g.H.D.Disk.since c.text_on-disk.result.0)
           (c.fetch.ensures.images_stay told refl) (c.fetch.ensures.trails_stay told refl) (c.in-Ok.ensures.content told) read.same
           (one_since (g.H.D.Disk.content c.in-Ok.disk) (g.H.D.Disk.moment c.in-Ok.disk) (g.H.D.Disk.since c.in-Ok.disk) (g.H.D.Disk.since c.text_on-disk.result.0) c.in-Ok.ensures.first (c.in-Ok.ensures.one_image dtold) read.moments) back;
       others = others_stay g.H.Host c.args.host.now c.fetch.new.self c.give_text_back.new.host c.args.path.now
