@@ -1,6 +1,6 @@
-//! How the books begin and end.
+//! How the books begin, let go what was told, and end.
 
-ghost use Rattle.std.specs.Prelude.{◌≡◌, ◌≤◌, [], false, None, IfOk, IfErr};
+ghost use Rattle.std.specs.Prelude.{◌≡◌, ◌+◌, ◌≤◌, ◌<◌, ◌^◌, [], None, drop, length, IfOk, IfErr};
 ghost use Rattle.opfs_books.specs.Laws.Books.{Fixed, AreBooks};
 ghost use Rattle.opfs_books.specs.Opened.{IsOpened};
 ghost use Rattle.opfs_books.specs.Seen.{book_of};
@@ -10,7 +10,7 @@ use crate::books::Books;
 use crate::laws::commit_laws;
 use crate::sharing::Shared;
 use opfs_commit::Commits;
-use opfs_hist::History;
+use opfs_hist::{Given, History};
 use opfs_journal::Journal;
 use opfs_outside::Disk;
 use std::alloc::Global;
@@ -43,6 +43,17 @@ impl<S: Shared> Books<S> {
             }),
             Err(_) => Err(state),
         }
+    }
+
+    /// Gives out the entries that were not given out before: the books stand for the same history, and no longer hold them. Takes
+    /// no memory, and as long for many as for one.
+    pub fn give_out(&mut self, alloc: Global) -> Given
+        ensures kept { self.new ≡ self.old }
+        ensures entries { result.entries ≡ drop result.place self.old.history }
+        ensures place { result.place + length result.entries ≡ length self.old.history }
+        ensures fits { result.place + length result.entries < 2 ^ 63 }
+    {
+        self.history.give_out(alloc)
     }
 
     /// Gives the history and the state.

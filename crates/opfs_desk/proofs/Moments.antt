@@ -1,18 +1,14 @@
 -- What a stop leaves at each moment, as a run goes on.
-use Rattle.std.proofs.Common.{◌≡◌, ◌⊎◌, ℕ, ◌+◌, ◌<◌, ◌≤◌, zero, suc, true, false, List, [], ◌∷◌, ◌++◌, map, length, take, Option, refl, sym, ap, subst, ◌∙◌, inl, inr, append-nil, arith}
-use Rattle.std.specs.Prelude.{slice_index_or}
+use Rattle.std.proofs.Common.{◌≡◌, ℕ, ◌+◌, ◌<◌, ◌≤◌, zero, suc, true, false, List, [], ◌∷◌, ◌++◌, map, length, take, refl, sym, ap, subst, ◌∙◌, inl, inr, append-nil, arith}
 use Rattle.std.proofs.lemmas.Bool.{cases_lt, false≢true}
-use Rattle.std.proofs.lemmas.List.{get_or_append_left, length-append, take-append-le, take_all}
-use Rattle.std.proofs.Math.Seq.{take-append_seam}
+use Rattle.std.proofs.lemmas.List.{get_or_append_left, take-append-le, take_all}
 use Rattle.opfs_base.specs.Texts.{Text}
-use Rattle.opfs_books.specs.Laws.Fronts.{IsRecent, IsShownOnce}
-use Rattle.opfs_commit.specs.Shown.{IsShown}
+use Rattle.opfs_books.specs.Laws.Fronts.{IsShownOnce}
+use Rattle.opfs_books.proofs.laws.Fronts.{once-least, once-more}
 use Rattle.opfs_commit.specs.Trail.{IsContentAt}
-use Rattle.opfs_commit.proofs.Holding.{shown_least}
 use Rattle.opfs_hist.specs.declared.entry.Entry.{Entry}
 use Rattle.opfs_desk_steps.proofs.book_steps.Ways.{floor-more}
 use Rattle.opfs_image.specs.Filling.{Stands}
-use Rattle.opfs_laws.specs.Histories.Doubts.{doubted}
 use Rattle.opfs_laws.proofs.histories.Adding.{changes-append}
 use Rattle.opfs_machine.specs.Changes.{Change, changes, changes_from, durable, evict, floor, floor_from, is_content}
 use Rattle.opfs_machine.specs.Histories.{state_after}
@@ -20,45 +16,6 @@ use Rattle.opfs_machine.specs.Openings.{Opening, begun as opened}
 use Rattle.opfs_outside.specs.Moments.{Elapses}
 use Rattle.opfs_outside.specs.declared.disk.Disk.{Ghosts as DiskWords}
 use Rattle.opfs_desk.specs.Moments.{IsKeptSince, KeepsContents, ShowsFronts}
-
--- ---- one image
-
-module _ (o : Opening) (h : List Entry) (c : List ℕ) where
-  -- The whole history, with what is in doubt of it.
-  pub once-whole : (least : ℕ) (place : Option ℕ) → IsRecent o h place → IsShown o least (changes o h ++ doubted o h place) c → IsShownOnce o least h c
-  once-whole least place recent shown = record {
-    count = length h;
-    place = place;
-    recent = subst (λ (es : List Entry). IsRecent o es place) (sym all) recent;
-    shown = subst (λ (es : List Entry). IsShown o least (changes o es ++ doubted o es place) c) (sym all) shown;
-  }
-    where
-      all : take (length h) h ≡ h
-      all = take_all (length h) h (omega arith)
-
-  pub once-least : (least less : ℕ) → less ≤ least → IsShownOnce o least h c → IsShownOnce o less h c
-  once-least least less le once = record {
-    count = once.count;
-    place = once.place;
-    recent = once.recent;
-    shown = shown_least o least less (changes o (take once.count h) ++ doubted o (take once.count h) once.place) c le once.shown;
-  }
-
-  -- The history goes on.
-  pub once-more : (least : ℕ) (more : List Entry) → IsShownOnce o least h c → IsShownOnce o least (h ++ more) c
-  once-more least more once = by-count (cases_lt (length h) once.count)
-    where
-      same : (n : ℕ) → take n (h ++ more) ≡ take once.count h → IsShownOnce o least (h ++ more) c
-      same n is = record {
-        count = n;
-        place = once.place;
-        recent = subst (λ (es : List Entry). IsRecent o es once.place) (sym is) once.recent;
-        shown = subst (λ (es : List Entry). IsShown o least (changes o es ++ doubted o es once.place) c) (sym is) once.shown;
-      }
-
-      by-count : (length h < once.count) ⊎ (once.count ≤ length h) → IsShownOnce o least (h ++ more) c
-      by-count (inl above) = same (length h) (take-append_seam h more ∙ sym (take_all once.count h (omega (arith, above))))
-      by-count (inr le) = same once.count (take-append-le once.count h more le)
 
 -- ---- contents
 
@@ -124,13 +81,13 @@ module _ {D : Type 0} (w : DiskWords D) (o : Opening) (h more whole : List Entry
   grown = ap (changes o) is ∙ changes-append (opened o) h more
 
   on-whole : (least : ℕ) (c : List ℕ) → IsShownOnce o least h c → IsShownOnce o least whole c
-  on-whole least c once = subst (λ (es : List Entry). IsShownOnce o least es c) (sym is) (once-more o h c least more once)
+  on-whole least c once = subst (λ (es : List Entry). IsShownOnce o least es c) (sym is) (once-more o least h more c once)
 
   -- Images since the run began.
   pub fronts-on : (begun : D) → w.moment begun ≤ w.moment old → ShowsFronts w o h begun old → ShowsFronts w o whole begun new
   fronts-on begun later fronts c left = elim (time.split (w.moment begun) c later left) [
     | inl was ↦ on-whole 0 c (fronts c was)
-    | inr now ↦ once-least o whole c (floor (changes o h)) 0 (omega arith) (way c now)
+    | inr now ↦ once-least o (floor (changes o h)) 0 whole c (omega arith) (way c now)
   ]
 
   -- A content of before.
@@ -141,7 +98,7 @@ module _ {D : Type 0} (w : DiskWords D) (o : Opening) (h more whole : List Entry
     image = (was.image.0, time.keeps was.moment was.image.0 was.passed was.image.1, subst (λ (xs : List Change). Stands was.image.0 (durable o xs)) (sym front) was.image.2);
     since = λ c left. elim (time.split was.moment c was.passed left) [
       | inl before ↦ on-whole (n + 1) c (was.since c before)
-      | inr now ↦ once-least o whole c (floor (changes o h)) (n + 1) (content-above (changes o h) n content) (way c now)
+      | inr now ↦ once-least o (floor (changes o h)) (n + 1) whole c (content-above (changes o h) n content) (way c now)
     ];
   }
     where
@@ -179,7 +136,7 @@ kept-now w o h n now content last here stands shown = record {
   moment = w.moment now;
   passed = omega arith;
   image = (w.content now, here, subst (λ (xs : List Change). Stands (w.content now) (durable o xs)) (sym (take_all (n + 1) (changes o h) (omega (arith, last)))) stands);
-  since = λ c left. once-least o h c (floor (changes o h)) (n + 1) (content-above (changes o h) n content) (shown c left);
+  since = λ c left. once-least o (floor (changes o h)) (n + 1) h c (content-above (changes o h) n content) (shown c left);
 }
 
 -- Before anything is told.
@@ -187,10 +144,10 @@ pub keeps-none : {D : Type 0} (w : DiskWords D) (o : Opening) (h : List Entry) (
 keeps-none w o h now none crashes n content = absurd (let lt = content.0 in let e : length (changes o h) ≡ 0 = ap (λ (es : List Entry). length (changes o es)) none in omega (arith, lt, e))
 
 pub fronts-none : {D : Type 0} (w : DiskWords D) (o : Opening) (h : List Entry) (begun now : D) → now ≡ begun → ((c : List ℕ) → w.since now (w.moment now) c → IsShownOnce o (floor (changes o h)) h c) → ShowsFronts w o h begun now
-fronts-none w o h begun now same shown c left = once-least o h c (floor (changes o h)) 0 (omega arith) (shown c (subst (λ x. w.since now (w.moment x) c) (sym same) left))
+fronts-none w o h begun now same shown c left = once-least o (floor (changes o h)) 0 h c (omega arith) (shown c (subst (λ x. w.since now (w.moment x) c) (sym same) left))
 
 -- A front of the history has no higher floor.
 pub once-front : (o : Opening) (h front rest : List Entry) (c : List ℕ) → h ≡ front ++ rest → IsShownOnce o (floor (changes o h)) h c → IsShownOnce o (floor (changes o front)) h c
 once-front o h front rest c is once =
-    once-least o h c (floor (changes o h)) (floor (changes o front))
+    once-least o (floor (changes o h)) (floor (changes o front)) h c
     (let grown = ap floor (ap (changes o) is ∙ changes-append (opened o) front rest) in let up = floor-more (changes o front) (changes_from (state_after o front) rest) in omega (arith, grown, up)) once

@@ -4,9 +4,11 @@ use Rattle.std.proofs.lemmas.List.{length-append}
 use Rattle.opfs_base.specs.Texts.{Text}
 use Rattle.opfs_books.specs.Laws.Books.{Fixed, AreBooksAt}
 use Rattle.opfs_books.specs.Laws.Fronts.{IsRecent, IsShownOnce}
+use Rattle.opfs_books.proofs.laws.Fronts.{once-more, shown-once}
 use Rattle.opfs_books.specs.Laws.Laws.{BooksShowTheirImages, BooksStandAtAContent, told, doubt}
 use Rattle.opfs_commit.specs.Shown.{IsShown}
 use Rattle.opfs_commit.specs.Trail.{IsContentAt}
+use Rattle.opfs_commit.proofs.Holding.{floor_most}
 use Rattle.opfs_hist.specs.Faults.{is_disk_fault}
 use Rattle.opfs_hist.specs.declared.entry.Entry.{Entry}
 use Rattle.opfs_laws.specs.Histories.Doubts.{doubted}
@@ -31,7 +33,7 @@ use Rattle.opfs_desk_steps.specs.declared.parts.parts.Ledger.{Ledger}
 use Rattle.opfs_desk_steps.proofs.book_steps.Taken.{pending-told}
 use Rattle.opfs_desk.specs.Moments.{KeepsContents, ShowsFronts}
 use Rattle.opfs_desk.specs.Resting.{IsAtRest}
-use Rattle.opfs_desk.proofs.Moments.{IsLastContent, fronts-on, keeps-on, kept-now, last-content, once-more, once-whole}
+use Rattle.opfs_desk.proofs.Moments.{IsLastContent, fronts-on, keeps-on, kept-now, last-content}
 use Rattle.opfs_desk.proofs.Storing.{added-changes, own-few}
 use Rattle.opfs_desk.proofs.Sure.{none-doubted, recent-if, recent-last, stored-no-fault}
 
@@ -48,15 +50,15 @@ doubt-none false cs none = refl
 
 module _ {D : Type 0} (w : DiskWords D) (f : Fixed D) (l : Ledger D) where
   -- With what is in doubt.
-  pub once-doubt : IsRecent f.opening l.books.history l.books.place → (least : ℕ) (c : List ℕ) → IsShown f.opening least (told f (book_in l) ++ doubt f (book_in l) l.journal) c → IsShownOnce f.opening least l.books.history c
-  once-doubt recent least c is =
-      once-whole f.opening l.books.history c least (if l.journal.in_doubt then l.books.place else None) (recent-if l.journal.in_doubt f.opening l.books.history l.books.place recent)
+  pub once-doubt : IsRecent f.opening l.books.history l.books.place → (least : ℕ) → least ≤ length (changes f.opening l.books.history) → (c : List ℕ) → IsShown f.opening least (told f (book_in l) ++ doubt f (book_in l) l.journal) c → IsShownOnce f.opening least l.books.history c
+  once-doubt recent least full c is =
+      shown-once f.opening least l.books.history (if l.journal.in_doubt then l.books.place else None) c (recent-if l.journal.in_doubt f.opening l.books.history l.books.place recent) full
       (subst (λ (more : List Change). IsShown f.opening least (changes f.opening l.books.history ++ more) c) (doubt-by l.journal.in_doubt f.opening l.books.history l.books.place) is)
 
   -- Those that a crash may leave now.
   pub once-now : BooksShowTheirImages w → (recorded : Built) (base : State Text Own) (gone : List Text) → AreBooksAt w f recorded base gone (book_in l) l.journal → w.tells
       → (c : List ℕ) → w.since l.journal.disk (w.moment l.journal.disk) c → IsShownOnce f.opening (floor (changes f.opening l.books.history)) l.books.history c
-  once-now law recorded base gone are t c left = once-doubt are.recent (floor (told f (book_in l))) c (law f recorded base gone (book_in l) l.journal are t c left)
+  once-now law recorded base gone are t c left = once-doubt are.recent (floor (told f (book_in l))) (floor_most (told f (book_in l))) c (law f recorded base gone (book_in l) l.journal are t c left)
 
 -- ---- a call
 
@@ -90,19 +92,22 @@ module _ {D : Type 0} (w : DiskWords D) (f : Fixed D) (old new : DeskParts D) (c
       let one = length-append (map eviction gone) (entry ∷ []) in
       omega (arith, whole, group, one)
 
+  changes-are : changes o now ≡ changes o h ++ (map evict gone ++ own)
+  changes-are = ap (changes o) grown ∙ added-changes w.tells o h calls c.agent gone entry pending
+
+  more-told : length (changes o h) ≤ length (changes o now)
+  more-told = let size = ap (λ (cs : List Change). length cs) changes-are ∙ length-append (changes o h) (map evict gone ++ own) in omega (arith, size)
+
   way-once : w.tells → (x : List ℕ) → w.since new.ledger.journal.disk (w.moment old.ledger.journal.disk) x → IsShownOnce o (floor (changes o h)) now x
   way-once t x left = elim (has.way.shown t x left) [
-    | inl is ↦ once-whole o now x (floor (changes o h)) (Some (length now - 1)) (recent-last o now some) is
+    | inl is ↦ shown-once o (floor (changes o h)) now (Some (length now - 1)) x (recent-last o now some) (let most = floor_most (changes o h) in omega (arith, most, more-told)) is
     | inr is ↦
         subst (λ (es : List Entry). IsShownOnce o (floor (changes o h)) es x) (sym grown)
-        (once-more o h x (floor (changes o h)) (added calls gone entry) (once-doubt w f old.ledger rest.held.are.books.recent (floor (changes o h)) x is))
+        (once-more o (floor (changes o h)) h (added calls gone entry) x (once-doubt w f old.ledger rest.held.are.books.recent (floor (changes o h)) (floor_most (changes o h)) x is))
   ]
 
   pub fronts-acted : w.tells → ShowsFronts w o now f.begun new.ledger.journal.disk
   fronts-acted t = fronts-on w o h (added calls gone entry) now grown old.ledger.journal.disk new.ledger.journal.disk (has.way.time t) (way-once t) f.begun (rest.time t).later (rest.fronts t)
-
-  changes-are : changes o now ≡ changes o h ++ (map evict gone ++ own)
-  changes-are = ap (changes o) grown ∙ added-changes w.tells o h calls c.agent gone entry pending
 
   -- A content that was told since is the call's own.
   own-content : (n : ℕ) → length (changes o h) ≤ n → IsContentAt (changes o now) n → IsLastContent (changes o now) own n

@@ -8,6 +8,7 @@ use Rattle.opfs_books.proofs.laws.Told.{told-whole}
 use Rattle.opfs_books.specs.Seen.{IsFinished}
 use Rattle.opfs_commit.specs.Seen.{committing}
 use Rattle.opfs_commit.specs.Shown.{ShowsSince, IsShown}
+use Rattle.opfs_commit.proofs.Holding.{floor_most}
 use Rattle.opfs_hist.specs.declared.entry.Entry.{Entry}
 use Rattle.opfs_hist.specs.Faults.{disk_faults}
 use Rattle.opfs_laws.specs.Histories.Doubts.{doubted}
@@ -64,7 +65,7 @@ module _ {D : Type 0} (w : DiskWords D) (d : DeskSeen D) (recorded : Built) (are
     -- Each image on the way to the end.
     ends-way : w.tells → (c : List ℕ) → w.since disk (w.moment (disk_of d)) c → IsShownOnce d.fixed.opening (floor (changes d.fixed.opening (entries_of d))) (entries_of d) c
     ends-way t c left =
-        once-doubt w d.fixed d.parts.ledger are.books.recent (floor (changes d.fixed.opening (entries_of d))) c (done.shown t c (subst (λ (x : D). w.since x (w.moment (disk_of d)) c) same left))
+        once-doubt w d.fixed d.parts.ledger are.books.recent (floor (changes d.fixed.opening (entries_of d))) (floor_most (changes d.fixed.opening (entries_of d))) c (done.shown t c (subst (λ (x : D). w.since x (w.moment (disk_of d)) c) same left))
 
     ends-elapsed : (w.tells → Elapses w.moment w.since (disk_of d) new.journal.disk) → w.tells → Elapses w.moment w.since (disk_of d) disk
     ends-elapsed time t = subst (λ (x : D). Elapses w.moment w.since (disk_of d) x) (sym same) (time t)

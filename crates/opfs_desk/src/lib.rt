@@ -8,6 +8,7 @@ mod acting;
 mod desk;
 mod dispatch;
 mod ending;
+mod giving;
 mod making;
 mod serving;
 mod showing;

@@ -16,6 +16,7 @@ first-shown g before script history c is = record {
   count = 0;
   place = None;
   recent = record { inside = λ n none. absurd (cc none); last = λ n none. absurd (cc none) };
+  full = omega arith;
   shown = record {
     shown = [];
     rest = changes (opening_in g before script) (take 0 history) ++ doubted (opening_in g before script) (take 0 history) None;

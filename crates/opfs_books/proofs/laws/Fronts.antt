@@ -43,23 +43,30 @@ module _ (o : Opening) where
       }
 
   -- What a history shows with what is in doubt of an entry, or with nothing, it shows once.
-  pub shown-once : (least : ℕ) (h : List Entry) (place : Option ℕ) (c : List ℕ) → IsRecent o h place → IsShown o least (changes o h ++ doubted o h place) c → IsShownOnce o least h c
-  shown-once least h place c recent shown =
+  pub shown-once : (least : ℕ) (h : List Entry) (place : Option ℕ) (c : List ℕ) → IsRecent o h place → least ≤ length (changes o h) → IsShown o least (changes o h ++ doubted o h place) c → IsShownOnce o least h c
+  shown-once least h place c recent full shown =
       let whole : take (length h) h ≡ h = take_all (length h) h (omega arith) in
       record {
         count = length h;
         place = place;
         recent = subst (λ (es : List Entry). IsRecent o es place) (sym whole) recent;
+        full = subst (λ (es : List Entry). least ≤ length (changes o es)) (sym whole) full;
         shown = subst (λ (es : List Entry). IsShown o least (changes o es ++ doubted o es place) c) (sym whole) shown;
       }
 
+  told-full : (least : ℕ) (h : List Entry) (c : List ℕ) → IsShown o least (changes o h) c → least ≤ length (changes o h)
+  told-full least h c shown =
+      let size : length (changes o h) ≡ length shown.shown + length shown.rest = ap length (sym shown.split) ∙ length-append shown.shown shown.rest in
+      omega (arith, shown.enough, size)
+
   pub shown-told : (least : ℕ) (h : List Entry) (c : List ℕ) → IsShown o least (changes o h) c → IsShownOnce o least h c
-  shown-told least h c shown = shown-once least h None c (none-recent h None refl) (subst (λ cs. IsShown o least cs c) (sym (append-nil (changes o h))) shown)
+  shown-told least h c shown =
+      shown-once least h None c (none-recent h None refl) (told-full least h c shown) (subst (λ cs. IsShown o least cs c) (sym (append-nil (changes o h))) shown)
 
   -- So it is with what is in doubt where a gate is.
-  pub doubt-once : (least : ℕ) (h : List Entry) (place : Option ℕ) (unsure : Bool) (c : List ℕ) → IsRecent o h place → IsShown o least (changes o h ++ (if unsure then doubted o h place else [])) c → IsShownOnce o least h c
-  doubt-once least h place true c recent shown = shown-once least h place c recent shown
-  doubt-once least h place false c recent shown = shown-told least h c (subst (λ cs. IsShown o least cs c) (append-nil (changes o h)) shown)
+  pub doubt-once : (least : ℕ) (h : List Entry) (place : Option ℕ) (unsure : Bool) (c : List ℕ) → IsRecent o h place → least ≤ length (changes o h) → IsShown o least (changes o h ++ (if unsure then doubted o h place else [])) c → IsShownOnce o least h c
+  doubt-once least h place true c recent full shown = shown-once least h place c recent full shown
+  doubt-once least h place false c recent full shown = shown-told least h c (subst (λ cs. IsShown o least cs c) (append-nil (changes o h)) shown)
 
   -- With less it shows that too, and of a longer history.
   pub once-least : (least less : ℕ) (h : List Entry) (c : List ℕ) → less ≤ least → IsShownOnce o least h c → IsShownOnce o less h c
@@ -67,6 +74,7 @@ module _ (o : Opening) where
     count = s.count;
     place = s.place;
     recent = s.recent;
+    full = omega (arith, le, s.full);
     shown = shown_least o least less (changes o (take s.count h) ++ doubted o (take s.count h) s.place) c le s.shown;
   }
 
@@ -75,6 +83,7 @@ module _ (o : Opening) where
     count = count;
     place = s.place;
     recent = subst (λ (es : List Entry). IsRecent o es s.place) (sym same) s.recent;
+    full = subst (λ (es : List Entry). least ≤ length (changes o es)) (sym same) s.full;
     shown = subst (λ (es : List Entry). IsShown o least (changes o es ++ doubted o es s.place) c) (sym same) s.shown;
   }
 
