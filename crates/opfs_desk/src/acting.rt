@@ -7,7 +7,7 @@ ghost use Rattle.opfs_desk.specs.Passing.{HasNotServed, HasServed};
 ghost use Rattle.opfs_desk.specs.Seen.{disk_of, entries_of};
 
 use crate::desk::Desk;
-use crate::dispatch::act_call;
+use crate::dispatch::{AskedCall, act_call};
 use opfs_base::Name;
 use opfs_books::{a_last_content_stands, the_books_show_their_images};
 use opfs_desk_bytes::handles_go_on;
@@ -47,25 +47,21 @@ impl<D: Disk> Desk<D> {
         let row = asked_row(&op);
         let makes = may_make(&op);
         let last = self.iterators.take(agent, row);
-        let acted = act_call(
-            &mut self.parts,
+        let call = AskedCall {
             agent,
             number,
-            pending,
-            room,
             op,
-            work,
-            past,
-            last.as_ref(),
-        )?;
-        let call = Followed {
+            room,
+        };
+        let acted = act_call(&mut self.parts, call, pending, work, past, last.as_ref())?;
+        let followed = Followed {
             agent,
             row,
             makes,
             known: last.is_some(),
         };
         let alloc = self.parts.ledger.alloc;
-        self.iterators.follow(alloc, call, &acted.gift, past);
+        self.iterators.follow(alloc, followed, &acted.gift, past);
         Ok(acted)
     }
 }

@@ -3,4 +3,4 @@ mod acting;
 mod calling;
 mod kinds;
 
-pub use calling::act_call;
+pub use calling::{AskedCall, act_call};

@@ -16,5 +16,5 @@ mod standing;
 mod waiting;
 
 pub use desk::Desk;
-pub use dispatch::act_call;
+pub use dispatch::{AskedCall, act_call};
 pub use standing::Opened;

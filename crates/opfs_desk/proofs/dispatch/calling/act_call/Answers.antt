@@ -19,7 +19,7 @@ ask_call-requires g c = record {
         fixed = may.fixed;
         recorded = called.held.recorded;
         pages = c.args.parts.now.pages;
-        number = c.args.number;
+        number = c.args.call.number;
         past = c.args.past.now;
         are = called.held.are;
         idle = called.held.idle;
@@ -35,7 +35,7 @@ act_refused-requires g c = record {
       let f = may.fixed in
       let old = c.args.parts.now in
       let recorded = called.held.recorded in
-      let call : Call = record { agent = c.args.agent; number = c.args.number; op = c.args.op } in
+      let call : Call = record { agent = c.args.call.agent; number = c.args.call.number; op = c.args.call.op } in
       let asks = c.in-Ok-Refused.ensures in
       record {
         fixed = f;
@@ -45,8 +45,8 @@ act_refused-requires g c = record {
         are = asks.held f recorded old.pages called.held.are;
         asked =
             refused-now g.D.Disk f old c.ask_call.new.ledger asks.journal asks.entries asks.place c.args.pending.now call _ c.args.work.now c.args.past.now called.may
-            (refused-as f.opening old.ledger.books.history c.args.pending.now c.ask_call.new.ledger.books.state c.args.agent c.args.op _ _ c.in-Ok-Refused.field-0-is
-            (asks.asked f recorded old.pages c.args.number c.args.past.now called.held.are called.may));
+            (refused-as f.opening old.ledger.books.history c.args.pending.now c.ask_call.new.ledger.books.state c.args.call.agent c.args.call.op _ _ c.in-Ok-Refused.field-0-is
+            (asks.asked f recorded old.pages c.args.call.number c.args.past.now called.held.are called.may));
       };
 }
 
@@ -64,8 +64,8 @@ act_by_kind-requires-clause-go g c =
       are = asks.held f recorded old.pages called.held.are;
       asked =
           readied-now g.D.Disk f old c.ask_call.new.ledger asks.journal asks.entries asks.place c.args.pending.now _ _ c.args.work.now c.args.past.now refl refl called.may
-          (readied-as f.opening old.ledger.books.history c.args.pending.now c.ask_call.new.ledger.books.state c.args.agent c.args.op _ _ c.in-Ok-Ready.field-0-is
-          (asks.asked f recorded old.pages c.args.number c.args.past.now called.held.are called.may));
+          (readied-as f.opening old.ledger.books.history c.args.pending.now c.ask_call.new.ledger.books.state c.args.call.agent c.args.call.op _ _ c.in-Ok-Ready.field-0-is
+          (asks.asked f recorded old.pages c.args.call.number c.args.past.now called.held.are called.may));
     }
 
 pub act_by_kind-requires-clause-whole : goal.act_by_kind-requires-clause-whole
@@ -82,20 +82,20 @@ pub returns-in-Ok-Refused-clause-acted : goal.returns-in-Ok-Refused-clause-acted
 returns-in-Ok-Refused-clause-acted g c f called =
     let old = c.args.parts.now in
     let recorded = called.held.recorded in
-    let call : Call = record { agent = c.args.agent; number = c.args.number; op = c.args.op } in
+    let call : Call = record { agent = c.args.call.agent; number = c.args.call.number; op = c.args.call.op } in
     let mid = c.ask_call.new.ledger in
     let asks = c.in-Ok-Refused.ensures in
     acted-before g.D.Disk f old mid asks.journal asks.entries asks.place c.act_refused.new.parts c.args.pending.now call c.args.work.now c.args.work.now _
     (c.act_refused.ensures.acted f recorded c.args.work.now c.args.past.now (asks.held f recorded old.pages called.held.are)
     (refused-now g.D.Disk f old mid asks.journal asks.entries asks.place c.args.pending.now call _ c.args.work.now c.args.past.now called.may
-    (refused-as f.opening old.ledger.books.history c.args.pending.now c.ask_call.new.ledger.books.state c.args.agent c.args.op _ _ c.in-Ok-Refused.field-0-is
-    (asks.asked f recorded old.pages c.args.number c.args.past.now called.held.are called.may))))
+    (refused-as f.opening old.ledger.books.history c.args.pending.now c.ask_call.new.ledger.books.state c.args.call.agent c.args.call.op _ _ c.in-Ok-Refused.field-0-is
+    (asks.asked f recorded old.pages c.args.call.number c.args.past.now called.held.are called.may))))
 
 pub returns-in-Ok-clause-acted : goal.returns-in-Ok-clause-acted
 returns-in-Ok-clause-acted g c f called =
     let old = c.args.parts.now in
     let recorded = called.held.recorded in
-    let call : Call = record { agent = c.args.agent; number = c.args.number; op = c.args.op } in
+    let call : Call = record { agent = c.args.call.agent; number = c.args.call.number; op = c.args.call.op } in
     let mid = c.ask_call.new.ledger in
     let asks = c.in-Ok-Ready.ensures in
     let held = asks.held f recorded old.pages called.held.are in
@@ -103,8 +103,8 @@ returns-in-Ok-clause-acted g c f called =
     acted-before g.D.Disk f old mid asks.journal asks.entries asks.place new.parts c.args.pending.now call c.args.work.now new.work _
     (c.in-Ok.ensures.acted f recorded held (subst (AreHandlesWhole f.opening) (sym asks.entries) called.whole)
     (readied-now g.D.Disk f old mid asks.journal asks.entries asks.place c.args.pending.now _ _ c.args.work.now c.args.past.now refl refl called.may
-    (readied-as f.opening old.ledger.books.history c.args.pending.now c.ask_call.new.ledger.books.state c.args.agent c.args.op _ _ c.in-Ok-Ready.field-0-is
-    (asks.asked f recorded old.pages c.args.number c.args.past.now called.held.are called.may))))
+    (readied-as f.opening old.ledger.books.history c.args.pending.now c.ask_call.new.ledger.books.state c.args.call.agent c.args.call.op _ _ c.in-Ok-Ready.field-0-is
+    (asks.asked f recorded old.pages c.args.call.number c.args.past.now called.held.are called.may))))
 
 pub returns-in-Err-act_by_kind-clause-alone : goal.returns-in-Err-act_by_kind-clause-alone
 returns-in-Err-act_by_kind-clause-alone g c f called =
@@ -141,10 +141,10 @@ act_by_kind-requires-clause-given g c =
         are = asks.held f recorded old.pages called.held.are;
         asked =
             readied-now g.D.Disk f old c.ask_call.new.ledger asks.journal asks.entries asks.place c.args.pending.now _ _ c.args.work.now c.args.past.now refl refl called.may
-            (readied-as f.opening old.ledger.books.history c.args.pending.now c.ask_call.new.ledger.books.state c.args.agent c.args.op _ _ c.in-Ok-Ready.field-0-is
-            (asks.asked f recorded old.pages c.args.number c.args.past.now called.held.are called.may));
+            (readied-as f.opening old.ledger.books.history c.args.pending.now c.ask_call.new.ledger.books.state c.args.call.agent c.args.call.op _ _ c.in-Ok-Ready.field-0-is
+            (asks.asked f recorded old.pages c.args.call.number c.args.past.now called.held.are called.may));
       };
       reached =
-          subst (λ (h : List Entry). IsUpTo (names_of (state_after f.opening (h ++ c.args.pending.now))) c.args.op c.args.past.now (option_copied c.args.last)) (sym asks.entries)
+          subst (λ (h : List Entry). IsUpTo (names_of (state_after f.opening (h ++ c.args.pending.now))) c.args.call.op c.args.past.now (option_copied c.args.last)) (sym asks.entries)
           from.reached;
     }
