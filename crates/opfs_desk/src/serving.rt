@@ -5,7 +5,7 @@ ghost use Rattle.opfs_desk.specs.Seen.{disk_of};
 
 use crate::desk::Desk;
 use opfs_base::Name;
-use opfs_hist::{Op, Pending, Room};
+use opfs_hist::{Given, Op, Pending, Room};
 use opfs_outside::Disk;
 use opfs_store::{Acted, AwaitState, Store};
 use opfs_work::Work;
@@ -35,6 +35,10 @@ impl<D: Disk> Store for Desk<D> {
 
     fn await_state(&self, agent: u32, tag: &str) -> AwaitState {
         Desk::await_state(self, agent, tag)
+    }
+
+    fn give_out(&mut self) -> Given {
+        Desk::give_out(self)
     }
 
     fn know_legal(&self) {

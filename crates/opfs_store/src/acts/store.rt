@@ -3,13 +3,13 @@
 use crate::acts::acted::{Acted, AwaitState};
 use opfs_base::Name;
 use opfs_hall::Chronicle;
-use opfs_hist::{Entry, Op, Pending, Room};
+use opfs_hist::{Entry, Given, Op, Pending, Room};
 use opfs_work::Work;
 use std::alloc::AllocError;
 
 /// A store that many agents share, one call at a time. Its history is legal from its opening.
 pub trait Store: Chronicle<Entry = Entry> {
-    ghost use Rattle.std.specs.Prelude.{◌≡◌, ◌++◌, ◌≤◌, ℕ, IfOk, OnErr, is_ok, IsTrue, true};
+    ghost use Rattle.std.specs.Prelude.{◌≡◌, ◌++◌, ◌+◌, ◌^◌, ◌<◌, ◌≤◌, ℕ, drop, length, IfOk, OnErr, is_ok, IsTrue, true};
     ghost use Rattle.opfs_hist.specs.Faults.{disk_faults};
     ghost use Rattle.opfs_hist.specs.declared.entry.Entry.{Entry};
     ghost use Rattle.opfs_machine.specs.Histories.{state_after};
@@ -56,6 +56,14 @@ pub trait Store: Chronicle<Entry = Entry> {
     fn await_state(&self, agent: u32, tag: &str) -> AwaitState
         requires { IsThere (state_after (opened (Self.opening self.now)) (Self.entries self.now)) agent }
         ensures { result ≡ awaited (state_after (opened (Self.opening self.now)) (Self.entries self.now)) agent tag.now };
+
+    /// Gives out the entries that were not given out before. It stands for the same history, and no longer holds them. Takes no
+    /// memory.
+    fn give_out(&mut self) -> Given
+        ensures kept { self.new ≡ self.old }
+        ensures entries { result.entries ≡ drop result.place (Self.entries self.old) }
+        ensures place { result.place + length result.entries ≡ length (Self.entries self.old) }
+        ensures fits { result.place + length result.entries < 2 ^ 63 };
 
     /// What the store's type keeps: its history is legal, but for the bytes of reads where it does not tell.
     fn know_legal(&self)

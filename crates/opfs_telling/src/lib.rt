@@ -1,0 +1,12 @@
+//! A store whose history is told to a sink while it grows, so that what was told is let go.
+#![tactic(auto)]
+
+mod output;
+mod standing;
+mod teller;
+mod telling;
+
+pub use output::put_all;
+pub use standing::Began;
+pub use teller::{Parts, Teller};
+pub use telling::{Progress, State, put_out, tell};

@@ -1,0 +1,124 @@
+//! A store that tells its history to a sink.
+
+ghost use Rattle.std.specs.Prelude.{◌≡◌, []};
+ghost use Rattle.opfs_telling.specs.Telling.{IsTold};
+
+use crate::telling::{Progress, tell};
+use opfs_base::Name;
+use opfs_hall::Told;
+use opfs_hist::{Given, Op, Pending, Room};
+use opfs_outside::Sink;
+use opfs_store::{Acted, AwaitState, Store};
+use opfs_work::Work;
+use std::alloc::{AllocError, Global};
+use std::marker::Model;
+
+/// A store, and the sink to which the lines of its history go. It remembers how the sink was at the beginning.
+pub struct Teller<S: Store, K: Sink> {
+    store: S,
+    sink: K,
+    progress: Progress,
+    begun: Told<K>,
+    alloc: Global,
+}
+
+impl<S: Store, K: Sink> Model for Teller<S, K> {
+    ghost use Rattle.opfs_telling.specs.Seen.{TellerSeen};
+    ghost use Rattle.opfs_telling.specs.Telling.{IsTold};
+
+    ghost Value = { TellerSeen S K };
+
+    ghost view = { λ t. record { store = t.store; begun = t.begun.value; sink = t.sink; progress = t.progress } };
+
+    ghost invariant = { λ t. IsTold K.Sink t.begun.value t.sink t.progress (S.entries t.store) };
+}
+
+/// What a store that told its history leaves: the store, the sink, and how far it was told.
+pub struct Parts<S, K> {
+    pub store: S,
+    pub sink: K,
+    pub progress: Progress,
+}
+
+impl<S: Store, K: Sink> Teller<S, K> {
+    /// A store without entries, which tells its history to a sink from now on. Takes no memory.
+    pub fn make(alloc: Global, store: S, sink: K) -> Teller<S, K>
+        requires empty { S.entries store ≡ [] }
+        ensures store { result.store ≡ store }
+        ensures begun { result.begun ≡ sink }
+        ensures sink { result.sink ≡ sink }
+    {
+        let begun = Told::of(&sink);
+        Teller {
+            store,
+            sink,
+            progress: Progress::make(alloc),
+            begun,
+            alloc,
+        }
+    }
+
+    /// Takes it apart.
+    pub fn into_parts(self) -> Parts<S, K>
+        ensures store { result.store ≡ self.store }
+        ensures sink { result.sink ≡ self.sink }
+        ensures told { IsTold K.Sink self.begun result.sink result.progress (S.entries result.store) }
+    {
+        let Teller {
+            store,
+            sink,
+            progress,
+            begun: _,
+            alloc: _,
+        } = self;
+        Parts {
+            store,
+            sink,
+            progress,
+        }
+    }
+}
+
+impl<S: Store, K: Sink> Store for Teller<S, K> {
+    ghost tells = { S.tells };
+
+    ghost opened = { λ o. S.opened o.of };
+
+    ghost faults = { λ t. S.faults t.store };
+
+    ghost faults_before = { λ o. S.faults_before o.of };
+
+    fn act(
+        &mut self,
+        agent: u32,
+        number: u32,
+        pending: &mut Pending,
+        room: Room,
+        op: Op,
+        work: &mut Work,
+        past: &[Name],
+    ) -> Result<Acted, AllocError> {
+        let acted = self.store.act(agent, number, pending, room, op, work, past);
+        let given = self.store.give_out();
+        tell(self.alloc, &mut self.sink, &mut self.progress, given);
+        acted
+    }
+
+    fn await_state(&self, agent: u32, tag: &str) -> AwaitState {
+        self.store.await_state(agent, tag)
+    }
+
+    fn give_out(&mut self) -> Given {
+        self.store.give_out()
+    }
+
+    fn know_legal(&self) {
+        self.store.know_legal();
+    }
+
+    fn know_counts(&self) {
+        self.store.know_counts();
+    }
+
+    ghost owned = { S.owned };
+}
