@@ -1,6 +1,6 @@
 //! How the books begin, let go what was told, and end.
 
-ghost use Rattle.std.specs.Prelude.{◌≡◌, ◌+◌, ◌≤◌, ◌<◌, ◌^◌, [], None, drop, length, IfOk, IfErr};
+ghost use Rattle.std.specs.Prelude.{◌≡◌, ◌+◌, ◌≤◌, ◌<◌, ◌^◌, [], false, None, drop, length, IfOk, IfErr};
 ghost use Rattle.opfs_books.specs.Laws.Books.{Fixed, AreBooks};
 ghost use Rattle.opfs_books.specs.Opened.{IsOpened};
 ghost use Rattle.opfs_books.specs.Seen.{book_of};
