@@ -1,5 +1,7 @@
 //! The ends that a command may come to where a call of the disk fails.
 
+ghost use Rattle.std.specs.Prelude.{◌≡◌, ◌↔◌, ◌≤◌, true};
+
 /// An end: what is told, with the status; the marks that the image may then have, and those that a crash at any moment from the
 /// failed call on may leave; how often it was met, and how often it is to be.
 #[derive(Drop)]
@@ -27,7 +29,9 @@ impl End {
     }
 
     /// Whether it was met as often as it is to be.
-    pub fn is_met(&self) -> bool {
+    pub fn is_met(&self) -> bool
+        ensures { result ≡ true ↔ ((self.now.least ≤ self.now.met) × (self.now.met ≤ self.now.most)) }
+    {
         self.least <= self.met && self.met <= self.most
     }
 }
