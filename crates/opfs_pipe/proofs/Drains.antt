@@ -4,7 +4,7 @@ use Rattle.opfs_base.specs.Texts.{Text}
 use Rattle.opfs_turns.specs.Asking.Rows.{HasStream, StreamSeen}
 use Rattle.opfs_turns.specs.declared.asking.stop.Stop.{Stop}
 use Rattle.opfs_turns.specs.Agents.{AgentSeen}
-use Rattle.opfs_pipe.specs.Sides.{Drained, Failed, Lost, Written}
+use Rattle.opfs_pipe.specs.Sides.{Drained, Failed, IsWrite, Lost, Written}
 use Rattle.opfs_pipe.proofs.Joined.{failed-then, written-none, written-then}
 
 module _ {O : Type 0} (tells : Type 0) (a : AgentSeen O) (x : StreamSeen) (got : List Text) where
@@ -22,10 +22,10 @@ module _ {O : Type 0} (tells : Type 0) (a : AgentSeen O) (x : StreamSeen) (got :
       written = written-then tells a b c x y z d.pieces (piece ∷ []) d.written w;
     }
 
-    pub drained-lost : (c : AgentSeen O) (z : StreamSeen) (piece : Text) (more : List Text) (why : Stop) → more ≡ gotten ++ piece ∷ [] → Failed tells b c y z [] why → Lost tells a c x z got more why
+    pub drained-lost : (c : AgentSeen O) (z : StreamSeen) (piece : Text) (more : List Text) (why : Stop) → more ≡ gotten ++ piece ∷ [] → Failed tells b c y z [] (IsWrite piece) why → Lost tells a c x z got more why
     drained-lost c z piece more why is f = record {
       pieces = d.pieces;
       lost = piece;
       grown = grown-one piece more is;
-      failed = subst (λ ps. Failed tells a c x z ps why) (append-nil d.pieces) (failed-then tells a b c x y z d.pieces [] why d.written f);
+      failed = subst (λ ps. Failed tells a c x z ps (IsWrite piece) why) (append-nil d.pieces) (failed-then tells a b c x y z d.pieces [] (IsWrite piece) why d.written f);
     }

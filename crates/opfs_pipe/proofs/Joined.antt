@@ -27,7 +27,7 @@ use Rattle.opfs_sync_files.specs.Entries.{GoesOn}
 use Rattle.opfs_sync_files.proofs.Knowing.{goes-most, goes-none, goes-then}
 use Rattle.opfs_turns.specs.Agents.{AgentSeen, IsAgent, own_row, state_of}
 use Rattle.opfs_pipe.specs.Pieces.{slices_of, write_of}
-use Rattle.opfs_pipe.specs.Sides.{Failed, HasWritten, IsLast, IsOn, IsStored, Sliced, Written}
+use Rattle.opfs_pipe.specs.Sides.{Failed, HasWritten, IsClose, IsLast, IsStored, IsWrite, Sliced, Written}
 use Rattle.opfs_sync_files.specs.Resting.{LeavesRest}
 use Rattle.opfs_sync_files.proofs.Resting.{rest-entered, rest-looked, rest-made, rest-none, rest-then}
 use Rattle.opfs_pipe.specs.Streams.{buffer_in, calls_of, offset_in, stream_bytes, stream_offset}
@@ -68,8 +68,8 @@ written-then tells a b c x y z ps qs p q = record {
       ∙ ap (λ ts. calls_of a ++ ts) (sym (writes-join x.row ps qs));
 }
 
-pub failed-then : {O : Type 0} (tells : Type 0) (a b c : AgentSeen O) (x y z : StreamSeen) (ps qs : List Text) (why : Stop) → Written tells a b x y ps → Failed tells b c y z qs why → Failed tells a c x z (ps ++ qs) why
-failed-then tells a b c x y z ps qs why p q = record {
+pub failed-then : {O : Type 0} (tells : Type 0) (a b c : AgentSeen O) (x y z : StreamSeen) (ps qs : List Text) (Next : ℕ → Op → Type 0) (why : Stop) → Written tells a b x y ps → Failed tells b c y z qs Next why → Failed tells a c x z (ps ++ qs) Next why
+failed-then tells a b c x y z ps qs Next why p q = record {
   has = q.has;
   row = q.row ∙ p.row;
   file = q.file ∙ p.file;
@@ -77,7 +77,7 @@ failed-then tells a b c x y z ps qs why p q = record {
   others = rest-then tells a b c x.row p.others (subst (LeavesRest tells b c) p.row q.others);
   bytes = q.bytes ∙ ap (λ (t : Text). t ++ concat qs) p.bytes ∙ append_assoc (stream_bytes a x) (concat ps) (concat qs) ∙ ap (λ (t : Text). stream_bytes a x ++ t) (sym (concat-append ps qs));
   last = q.last;
-  is_last = subst (λ n. IsLast n why q.last) p.row q.is_last;
+  is_last = subst (λ n. IsLast (Next n) why q.last) p.row q.is_last;
   calls =
       q.calls
       ∙ (λ i. (p.calls i ++ map (write_of (p.row i)) qs) ++ q.last)
@@ -85,8 +85,8 @@ failed-then tells a b c x y z ps qs why p q = record {
 }
 
 -- There was no memory for the next piece.
-pub written-failed : {O : Type 0} (tells : Type 0) (a b : AgentSeen O) (x y : StreamSeen) (ps : List Text) → Written tells a b x y ps → Failed tells a b x y ps stop.NoMemory
-written-failed tells a b x y ps p = record {
+pub written-failed : {O : Type 0} (tells : Type 0) (a b : AgentSeen O) (x y : StreamSeen) (ps : List Text) (Next : ℕ → Op → Type 0) → Written tells a b x y ps → Failed tells a b x y ps Next stop.NoMemory
+written-failed tells a b x y ps Next p = record {
   has = p.has;
   row = p.row;
   file = p.file;
@@ -97,6 +97,11 @@ written-failed tells a b x y ps p = record {
   is_last = refl;
   calls = p.calls ∙ sym (append-nil (calls_of a ++ map (write_of x.row) ps));
 }
+
+-- The call that was refused is one of more calls.
+pub last-may : (Next May : Op → Type 0) (why : Stop) (last : List (Op × Reply)) → ((o : Op) → Next o → May o) → IsLast Next why last → IsLast May why last
+last-may Next May (stop.No r) last may h = (h.0, may h.0 h.1, h.2)
+last-may Next May stop.NoMemory last may h = h
 
 -- The next write is at the end again.
 pub written-end : {O : Type 0} (tells : Type 0) (a b : AgentSeen O) (x y : StreamSeen) (ps : List Text) → Written tells a b x y ps → stream_offset a x ≡ length (stream_bytes a x) → stream_offset b y ≡ length (stream_bytes b y)
@@ -173,13 +178,13 @@ sliced-stopped tells a b kept x has at size stop.NoMemory h = subst (λ c. Slice
 -- ---- the writer's side
 
 module _ {O : Type 0} (tells : Type 0) (a b : AgentSeen O) (kept : IsAgent tells a) (later : IsAgent tells b) (x y : StreamSeen) (then_has : HasStream tells b y) (row : y.row ≡ x.row) (file : y.file ≡ x.file) where
-  module _ (called : Op) (on : IsOn x.row called) (used : row_used called ≡ x.row) (plain : asks_for_row called ≡ false) (nobody : asks_nobody called ≡ true) where
+  module _ (called : Op) (Next : ℕ → Op → Type 0) (on : Next x.row called) (used : row_used called ≡ x.row) (plain : asks_for_row called ≡ false) (nobody : asks_nobody called ≡ true) where
     same-bytes : (why : Stop) → Shared tells a b called IsDone (Err why) → stream_bytes b y ≡ stream_bytes a x ++ concat []
     same-bytes why h =
         ap (λ n. buffer_in (own_row b n)) row ∙ ap buffer_in (stopped-row tells a b kept called why nobody h x.row) ∙ sym (append-nil (stream_bytes a x))
 
     -- A call that gives nothing.
-    pub stopped-failed : (why : Stop) → Shared tells a b called IsDone (Err why) → Failed tells a b x y [] why
+    pub stopped-failed : (why : Stop) → Shared tells a b called IsDone (Err why) → Failed tells a b x y [] Next why
     stopped-failed (stop.No r) h = record {
       has = then_has;
       row = row;
@@ -225,7 +230,7 @@ write-does tells a b kept later x y has piece (Ok v) at_end h then_has same =
       calls = calls-entered tells a b kept called h.answered h.given h.entered ∙ ap (λ (z : Reply). calls_of a ++ (called, z) ∷ []) h.gives;
     }
 write-does tells a b kept later x y has piece (Err why) at_end h then_has same =
-    stopped-failed tells a b kept later x y then_has same.0 same.1 (op.Write x.row piece None) refl refl refl refl why h
+    stopped-failed tells a b kept later x y then_has same.0 same.1 (op.Write x.row piece None) (IsWrite piece) refl refl refl refl why h
 
 -- ---- the close
 
@@ -245,7 +250,7 @@ module _ {O : Type 0} (tells : Type 0) (a b : AgentSeen O) (kept : IsAgent tells
   }
   close-stores (Err back) h = tt
 
-  pub close-fails : (r : Result ClosedStream (StreamSeen × Stop)) → IfErr r (λ back. GivesBack tells a b (op.Close x.row) x back.0 back.1) → IfErr r (λ back. Failed tells a b x back.0 [] back.1)
+  pub close-fails : (r : Result ClosedStream (StreamSeen × Stop)) → IfErr r (λ back. GivesBack tells a b (op.Close x.row) x back.0 back.1) → IfErr r (λ back. Failed tells a b x back.0 [] IsClose back.1)
   close-fails (Ok closed) h = tt
   close-fails (Err back) h =
-      stopped-failed tells a b kept later x back.0 h.open_still h.row h.file (op.Close x.row) refl refl refl refl back.1 (as-shared tells a b (op.Close x.row) back.1 h.stopped)
+      stopped-failed tells a b kept later x back.0 h.open_still h.row h.file (op.Close x.row) IsClose refl refl refl refl back.1 (as-shared tells a b (op.Close x.row) back.1 h.stopped)

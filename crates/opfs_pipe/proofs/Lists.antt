@@ -1,6 +1,6 @@
 -- Ranges in pieces.
 use Rattle.std.proofs.Common.{◌≡◌, ℕ, ◌+◌, ◌-◌, ◌<◌, ◌≤◌, min, List, [], ◌∷◌, ◌++◌, append-nil, length, map, take, drop, refl, sym, ap, ◌∙◌, arith}
-use Rattle.std.specs.List.{concat}
+use Rattle.std.specs.List.{AllByRecursion, concat}
 use Rattle.std.proofs.lemmas.List.{length-append, length-drop, drop-drop, map-append, take_min}
 use Rattle.std.proofs.lemmas.List.Folds.{concat-append}
 use Rattle.std.proofs.Math.Seq.{take-add}
@@ -9,7 +9,7 @@ use Rattle.opfs_turns.proofs.asking.Plains.{window-length}
 use Rattle.opfs_hist.specs.declared.op.Op.TheVariants as op
 use Rattle.opfs_hist.specs.declared.reply.Reply.TheVariants as reply
 use Rattle.opfs_splice.specs.Splicing.{window}
-use Rattle.opfs_pipe.specs.Pieces.{IsCut, slices_of, write_of}
+use Rattle.opfs_pipe.specs.Pieces.{ArePages, IsCut, IsPage, slices_of, write_of}
 
 -- Two windows, one behind the other.
 pub windows-join : (bytes : Text) (at n m : ℕ) → window bytes at (n + m) ≡ window bytes at n ++ window bytes (at + n) m
@@ -24,6 +24,17 @@ concat-one piece = append-nil piece
 
 pub concat-more : (pieces : List Text) (piece : Text) → concat (pieces ++ piece ∷ []) ≡ concat pieces ++ piece
 concat-more pieces piece = concat-append pieces (piece ∷ []) ∙ ap (λ (xs : Text). concat pieces ++ xs) (concat-one piece)
+
+-- ---- pages
+
+pub all-pages : (pieces : List Text) (piece : Text) → AllByRecursion IsPage pieces → length piece ≡ 4096 → AllByRecursion IsPage (pieces ++ piece ∷ [])
+all-pages [] piece all is = (is, tt)
+all-pages (p ∷ pieces) piece all is = (all.0, all-pages pieces piece all.1 is)
+
+pub pages-more : (pieces : List Text) (piece : Text) → AllByRecursion IsPage pieces → 0 < length piece → length piece ≤ 4096 → ArePages (pieces ++ piece ∷ [])
+pages-more [] piece all some short = (some, short)
+pages-more (p ∷ []) piece all some short = (all.0, (some, short))
+pages-more (p ∷ (q ∷ pieces)) piece all some short = (all.0, pages-more (q ∷ pieces) piece all.1 some short)
 
 -- ---- cuts
 
@@ -54,6 +65,8 @@ module _ (bytes : Text) (at next end : ℕ) (pieces : List Text) (cut : IsCut by
     within = omega (arith, size_is, more);
     few = omega (arith, length-more, count-more, cut.full more, size_is, more);
     full = λ still. omega (arith, length-more, count-more, cut.full more, size_is, still);
+    whole_pages = λ still. all-pages pieces (window bytes next size) (cut.whole_pages more) (omega (arith, piece-length, size_is, still));
+    pages = pages-more pieces (window bytes next size) (cut.whole_pages more) (omega (arith, piece-length, size_is, more)) (omega (arith, piece-length, size_is));
   }
 
 pub cut-none : (bytes : Text) (at end : ℕ) → at ≤ end → IsCut bytes at at end []
@@ -63,6 +76,8 @@ cut-none bytes at end within = record {
   within = within;
   few = omega arith;
   full = λ more. refl;
+  whole_pages = λ more. tt;
+  pages = tt;
 }
 
 -- At the end the pieces are the whole range.

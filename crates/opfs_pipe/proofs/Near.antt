@@ -27,7 +27,7 @@ use Rattle.opfs_sync_files.specs.Resting.{LeavesRest}
 use Rattle.opfs_sync_files.proofs.Knowing.{goes-most, goes-none}
 use Rattle.opfs_sync_files.proofs.Resting.{rest-made, rest-none}
 use Rattle.opfs_sync_files.proofs.Served.{made-goes}
-use Rattle.opfs_pipe.specs.Sides.{Failed, HasWritten, Written}
+use Rattle.opfs_pipe.specs.Sides.{Failed, HasWritten, IsWrite, Written}
 use Rattle.opfs_pipe.specs.Streams.{buffer_in, calls_of, offset_in, stream_bytes, stream_offset}
 use Rattle.opfs_pipe.proofs.Calls.{calls-made}
 use Rattle.opfs_pipe.proofs.Lists.{concat-one}
@@ -72,7 +72,7 @@ module _ {O : Type 0} (tells : Type 0) (a b : AgentSeen O) (kept : IsAgent tells
     }
 
   -- There was no memory.
-  near-failed : b ≡ a → Failed tells a b x y [] stop.NoMemory
+  near-failed : b ≡ a → Failed tells a b x y [] (IsWrite piece) stop.NoMemory
   near-failed same = record {
     has = then_has;
     row = row;

@@ -9,7 +9,7 @@ use Rattle.opfs_splice.specs.Splicing.{window}
 use Rattle.opfs_turns.specs.Agents.{AgentSeen}
 use Rattle.opfs_pipe.specs.Pieces.{IsCut}
 use Rattle.opfs_pipe.specs.Rounds.{HasMoved, HasRound}
-use Rattle.opfs_pipe.specs.Sides.{Drained, Failed, Filled, HasFilled, Lost, Sliced, Written}
+use Rattle.opfs_pipe.specs.Sides.{Drained, Failed, Filled, HasFilled, IsNextWrite, IsWrite, Lost, Sliced, Written}
 use Rattle.opfs_pipe.proofs.Joined.{failed-then, sliced-none, sliced-then, written-failed, written-none, written-then}
 use Rattle.opfs_pipe.proofs.Lists.{cut-few, cut-front}
 
@@ -68,7 +68,7 @@ module _ {O : Type 0} (tells : Type 0) (ra rb wa wb : AgentSeen O) (x : Snapshot
             written = written;
             rest = l.lost ∷ known;
             front = append_cancel_left was (written ++ (l.lost ∷ known)) f.pieces pieces_are;
-            failed = failed-then tells wa wb wc y y2 z first.pieces l.pieces why first.written l.failed;
+            failed = failed-then tells wa wb wc y y2 z first.pieces l.pieces (IsWrite l.lost) why first.written l.failed;
           },
         )
 
@@ -92,7 +92,7 @@ module _ {O : Type 0} (tells : Type 0) (ra rb wa wb : AgentSeen O) (x : Snapshot
         let f = h.1.1 in
         let pieces = first.pieces ++ second.pieces in
         let same : pieces ≡ f.pieces = append_cancel_left was pieces f.pieces (sym (append_assoc was first.pieces second.pieces) ∙ ap (λ ps. ps ++ second.pieces) (sym first.grown) ∙ sym second.grown ∙ all ∙ f.grown) in
-        let failed : Failed tells wa wc y z pieces stop.NoMemory = written-failed tells wa wc y z pieces (written-then tells wa wb wc y y2 z first.pieces second.pieces first.written second.written) in (
+        let failed : Failed tells wa wc y z pieces (IsNextWrite []) stop.NoMemory = written-failed tells wa wc y z pieces (IsNextWrite []) (written-then tells wa wb wc y y2 z first.pieces second.pieces first.written second.written) in (
           (h.1.0, f.cut),
           record {
             pieces = f.pieces;
@@ -101,7 +101,7 @@ module _ {O : Type 0} (tells : Type 0) (ra rb wa wb : AgentSeen O) (x : Snapshot
             written = pieces;
             rest = [];
             front = append-nil pieces ∙ same;
-            failed = subst (Failed tells wa wc y z pieces) (sym h.0) failed;
+            failed = subst (Failed tells wa wc y z pieces (IsNextWrite [])) (sym h.0) failed;
           },
         )
 
@@ -132,13 +132,14 @@ module _ {O : Type 0} (tells : Type 0) (ra wa : AgentSeen O) (x : SnapshotSeen) 
         let front = cut-front x.bytes at h.0.0 end count is h.0.1 end_is in record {
           pieces = is;
           few = cut-few x.bytes at h.0.0 end is h.0.1 small;
+          pages = h.0.1.pages;
           left = front.0;
           part = front.1;
           sliced = subst (Sliced tells ra rc x at) (sym p.grown) (sliced-then tells ra rb rc x at place was p.pieces g.sliced g.cut.place p.sliced);
           written = was ++ p.written;
           rest = p.rest;
           front = append_assoc was p.written p.rest ∙ ap (λ ps. was ++ ps) p.front ∙ sym p.grown;
-          failed = failed-then tells wa wb wc y z v was p.written why g.written p.failed;
+          failed = failed-then tells wa wb wc y z v was p.written (IsNextWrite p.rest) why g.written p.failed;
         }
 
 -- There is nothing to move.
@@ -146,6 +147,7 @@ pub moved-nothing : {O : Type 0} (tells : Type 0) (r w : AgentSeen O) (x : Snaps
 moved-nothing tells r w x at y range snapshot stream none = record {
   pieces = [];
   few = omega arith;
+  pages = tt;
   whole = sym none;
   sliced = sliced-none tells r x at snapshot;
   written = written-none tells w y stream;

@@ -1,12 +1,22 @@
 -- A range of bytes in pieces. This project's own.
 use Rattle.std.specs.Prelude.{◌≡◌, ℕ, ◌+◌, ◌*◌, ◌<◌, ◌≤◌, List, [], ◌∷◌, length, None}
-use Rattle.std.specs.List.{concat}
+use Rattle.std.specs.List.{AllByRecursion, concat}
 use Rattle.opfs_base.specs.Texts.{Text}
 use Rattle.opfs_hist.specs.declared.op.Op.{Op}
 use Rattle.opfs_hist.specs.declared.op.Op.TheVariants as op
 use Rattle.opfs_hist.specs.declared.reply.Reply.{Reply}
 use Rattle.opfs_hist.specs.declared.reply.Reply.TheVariants as reply
 use Rattle.opfs_splice.specs.Splicing.{window}
+
+-- All pieces are of a page but for the last one, which may be shorter and has some bytes.
+abbrev pub ArePages : List Text → Type 0
+ArePages [] = Unit {0}
+ArePages (piece ∷ []) = (0 < length piece) × (length piece ≤ 4096)
+ArePages (piece ∷ (next ∷ pieces)) = (length piece ≡ 4096) × ArePages (next ∷ pieces)
+
+-- A piece of a page.
+abbrev pub IsPage : Text → Type 0
+IsPage piece = length piece ≡ 4096
 
 -- From a place on, up to the next one, bytes are cut into pieces, in order. All are of a page, but for the last at the end.
 pub record IsCut (bytes : Text) (at next end : ℕ) (pieces : List Text) : Type 0 where
@@ -15,6 +25,8 @@ pub record IsCut (bytes : Text) (at next end : ℕ) (pieces : List Text) : Type 
   pub within : next ≤ end
   pub few : 4096 * length pieces ≤ length (concat pieces) + 4095
   pub full : next < end → 4096 * length pieces ≡ length (concat pieces)
+  pub whole_pages : next < end → AllByRecursion IsPage pieces
+  pub pages : ArePages pieces
 
 -- The slices of a snapshot's row that give these pieces, one behind the other from a place on.
 abbrev pub slices_of : ℕ → ℕ → List Text → List (Op × Reply)

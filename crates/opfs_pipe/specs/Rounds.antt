@@ -5,8 +5,8 @@ use Rattle.opfs_base.specs.Texts.{Text}
 use Rattle.opfs_turns.specs.Asking.Rows.{SnapshotSeen, StreamSeen}
 use Rattle.opfs_turns.specs.declared.asking.stop.Stop.{Stop}
 use Rattle.opfs_turns.specs.Agents.{AgentSeen}
-use Rattle.opfs_pipe.specs.Pieces.{IsCut}
-use Rattle.opfs_pipe.specs.Sides.{Failed, Sliced, Written}
+use Rattle.opfs_pipe.specs.Pieces.{ArePages, IsCut}
+use Rattle.opfs_pipe.specs.Sides.{Failed, IsNextWrite, Sliced, Written}
 
 -- Pieces went through the ring: what was sliced was written.
 pub record Passed {O : Type 0} (tells : Type 0) (reader_old reader_new writer_old writer_new : AgentSeen O) (x : SnapshotSeen) (place : ℕ) (old new : StreamSeen) (was is : List Text) : Type 0 where
@@ -23,7 +23,7 @@ pub record Halted {O : Type 0} (tells : Type 0) (reader_old reader_new writer_ol
   pub written : List Text
   pub rest : List Text
   pub front : written ++ rest ≡ pieces
-  pub failed : Failed tells writer_old writer_new old new written why
+  pub failed : Failed tells writer_old writer_new old new written (IsNextWrite rest) why
 
 -- A round passes pieces on, and gets on; or it halts, at some place.
 abbrev pub HasRound : {O : Type 0} → Type 0 → AgentSeen O → AgentSeen O → AgentSeen O → AgentSeen O → SnapshotSeen → ℕ → ℕ → ℕ → StreamSeen → StreamSeen → List Text → List Text → Result ℕ Stop → Type 0
@@ -34,6 +34,7 @@ HasRound tells rb ra wb wa x at place end old new was is (Err why) = ((next : �
 pub record Moved {O : Type 0} (tells : Type 0) (reader_old reader_new writer_old writer_new : AgentSeen O) (x : SnapshotSeen) (at : ℕ) (old new : StreamSeen) (range : Text) : Type 0 where
   pub pieces : List Text
   pub few : length pieces ≤ 65536
+  pub pages : ArePages pieces
   pub whole : concat pieces ≡ range
   pub sliced : Sliced tells reader_old reader_new x at pieces
   pub written : Written tells writer_old writer_new old new pieces
@@ -42,13 +43,14 @@ pub record Moved {O : Type 0} (tells : Type 0) (reader_old reader_new writer_old
 pub record MovedPart {O : Type 0} (tells : Type 0) (reader_old reader_new writer_old writer_new : AgentSeen O) (x : SnapshotSeen) (at : ℕ) (old new : StreamSeen) (range : Text) (why : Stop) : Type 0 where
   pub pieces : List Text
   pub few : length pieces ≤ 65536
+  pub pages : ArePages pieces
   pub left : Text
   pub part : concat pieces ++ left ≡ range
   pub sliced : Sliced tells reader_old reader_new x at pieces
   pub written : List Text
   pub rest : List Text
   pub front : written ++ rest ≡ pieces
-  pub failed : Failed tells writer_old writer_new old new written why
+  pub failed : Failed tells writer_old writer_new old new written (IsNextWrite rest) why
 
 abbrev pub HasMoved : {O : Type 0} → Type 0 → AgentSeen O → AgentSeen O → AgentSeen O → AgentSeen O → SnapshotSeen → ℕ → StreamSeen → StreamSeen → Text → Result (Unit {0}) Stop → Type 0
 HasMoved tells rb ra wb wa x at old new range (Ok done) = Moved tells rb ra wb wa x at old new range

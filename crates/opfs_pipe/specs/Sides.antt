@@ -1,5 +1,5 @@
 -- What the two sides of a pipe do. This project's own.
-use Rattle.std.specs.Prelude.{◌≡◌, ℕ, ◌+◌, ◌<◌, List, [], ◌∷◌, ◌++◌, length, map, Result, Ok, Err}
+use Rattle.std.specs.Prelude.{◌≡◌, ℕ, ◌+◌, ◌<◌, List, [], ◌∷◌, ◌++◌, length, map, None, Result, Ok, Err}
 use Rattle.std.specs.List.{concat}
 use Rattle.opfs_base.specs.Texts.{Text}
 use Rattle.opfs_turns.specs.Asking.Rows.{HasClosedStream, HasSnapshot, HasStream, SnapshotSeen, StreamSeen}
@@ -49,19 +49,30 @@ pub record Written {O : Type 0} (tells : Type 0) (before after : AgentSeen O) (o
   pub offset : stream_offset after new ≡ stream_offset before old + length (concat pieces)
   pub calls : calls_of after ≡ calls_of before ++ map (write_of old.row) pieces
 
--- A call on a stream's row that a pipe makes there.
-abbrev pub IsOn : ℕ → Op → Type 0
-IsOn row (op.Write n piece position) = n ≡ row
-IsOn row (op.Close n) = n ≡ row
-IsOn row called = ⊥
+-- The call of a row that comes next: the write of a piece at no position; that of the first of these pieces; or the close, where no
+-- piece is left, and no byte of the range behind them.
+abbrev pub IsWrite : Text → ℕ → Op → Type 0
+IsWrite piece row called = called ≡ op.Write row piece None
 
--- The call that was refused, a write or the close; none for want of memory.
-abbrev pub IsLast : ℕ → Stop → List (Op × Reply) → Type 0
-IsLast row (stop.No r) last = (called : Op) × IsOn row called × (last ≡ (called, reply.No r) ∷ [])
-IsLast row stop.NoMemory last = last ≡ []
+abbrev pub IsClose : ℕ → Op → Type 0
+IsClose row called = called ≡ op.Close row
 
--- It has written these pieces, and no more: the next call was refused, or there was no memory. The stream is open.
-pub record Failed {O : Type 0} (tells : Type 0) (before after : AgentSeen O) (old new : StreamSeen) (pieces : List Text) (why : Stop) : Type 0 where
+abbrev pub IsNextWrite : List Text → ℕ → Op → Type 0
+IsNextWrite [] row called = ⊥
+IsNextWrite (piece ∷ rest) row called = called ≡ op.Write row piece None
+
+abbrev pub IsNext : List Text → Text → ℕ → Op → Type 0
+IsNext [] left row called = (called ≡ op.Close row) × (left ≡ [])
+IsNext (piece ∷ rest) left row called = called ≡ op.Write row piece None
+
+-- The call that was refused, which is one of these; none for want of memory.
+abbrev pub IsLast : (Op → Type 0) → Stop → List (Op × Reply) → Type 0
+IsLast Next (stop.No r) last = (called : Op) × Next called × (last ≡ (called, reply.No r) ∷ [])
+IsLast Next stop.NoMemory last = last ≡ []
+
+-- It has written these pieces, and no more: the next call, which is one of these, was refused, or there was no memory. The stream is
+-- open.
+pub record Failed {O : Type 0} (tells : Type 0) (before after : AgentSeen O) (old new : StreamSeen) (pieces : List Text) (Next : ℕ → Op → Type 0) (why : Stop) : Type 0 where
   pub has : HasStream tells after new
   pub row : new.row ≡ old.row
   pub file : new.file ≡ old.file
@@ -69,13 +80,13 @@ pub record Failed {O : Type 0} (tells : Type 0) (before after : AgentSeen O) (ol
   pub others : LeavesRest tells before after old.row
   pub bytes : stream_bytes after new ≡ stream_bytes before old ++ concat pieces
   pub last : List (Op × Reply)
-  pub is_last : IsLast old.row why last
+  pub is_last : IsLast (Next old.row) why last
   pub calls : calls_of after ≡ (calls_of before ++ map (write_of old.row) pieces) ++ last
 
 -- One piece was written, or it was not.
 abbrev pub HasWritten : {O : Type 0} → Type 0 → AgentSeen O → AgentSeen O → StreamSeen → StreamSeen → Text → Result (Unit {0}) Stop → Type 0
 HasWritten tells before after old new piece (Ok done) = Written tells before after old new (piece ∷ [])
-HasWritten tells before after old new piece (Err why) = Failed tells before after old new [] why
+HasWritten tells before after old new piece (Err why) = Failed tells before after old new [] (IsWrite piece) why
 
 -- All pieces that were popped were written.
 pub record Drained {O : Type 0} (tells : Type 0) (before after : AgentSeen O) (old new : StreamSeen) (got gotten : List Text) : Type 0 where
@@ -88,7 +99,7 @@ pub record Lost {O : Type 0} (tells : Type 0) (before after : AgentSeen O) (old 
   pub pieces : List Text
   pub lost : Text
   pub grown : gotten ≡ got ++ (pieces ++ lost ∷ [])
-  pub failed : Failed tells before after old new pieces why
+  pub failed : Failed tells before after old new pieces (IsWrite lost) why
 
 abbrev pub HasDrained : {O : Type 0} → Type 0 → AgentSeen O → AgentSeen O → StreamSeen → StreamSeen → List Text → List Text → Result (Unit {0}) Stop → Type 0
 HasDrained tells before after old new got gotten (Ok done) = Drained tells before after old new got gotten

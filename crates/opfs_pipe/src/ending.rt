@@ -3,7 +3,7 @@
 ghost use Rattle.std.specs.Prelude.{◌≡◌, [], IfErr, IfOk};
 ghost use Rattle.opfs_turns.specs.Asking.Rows.{HasStream};
 ghost use Rattle.opfs_turns.specs.Calls.{HasRoom};
-ghost use Rattle.opfs_pipe.specs.Sides.{Failed, IsStored};
+ghost use Rattle.opfs_pipe.specs.Sides.{Failed, IsClose, IsStored};
 ghost use Rattle.opfs_pipe.specs.Streams.{stream_bytes};
 
 use opfs_agent::Agent;
@@ -24,7 +24,7 @@ pub(crate) fn close<S: Store, R: Wait>(
     requires room { HasRoom writer.old }
     requires stream { HasStream S.tells writer.old to }
     ensures stored { IfOk result (λ closed. IsStored S.tells writer.old writer.new to closed.row (stream_bytes writer.old to)) }
-    ensures back { IfErr result (λ back. Failed S.tells writer.old writer.new to back.0 [] back.1) }
+    ensures back { IfErr result (λ back. Failed S.tells writer.old writer.new to back.0 [] IsClose back.1) }
 {
     writer.know_kept();
     let done = writer.close_writable(rt, court, to);

@@ -52,7 +52,7 @@ use Rattle.opfs_laws.proofs.steady.Others.{bytes-alike}
 use Rattle.opfs_turns.specs.Agents.{AgentSeen, IsAgent, state_of}
 use Rattle.opfs_turns.specs.Calls.{call_of, before_call, IsEntered}
 use Rattle.opfs_turns.proofs.Others.{Splits, alike-split, pending-for, told-seen, told-stay-before}
-use Rattle.opfs_sync_files.specs.Entries.{IsIn, HasEntry, GoesOn}
+use Rattle.opfs_sync_files.specs.Entries.{IsIn, HasEntry, GoesOn, TheCall}
 use Rattle.opfs_sync_files.specs.Files.{contents_at, file_bytes, flushed_by, stored_of}
 use Rattle.opfs_sync_files.proofs.Holding.{file_held, held, pending-held}
 use Rattle.opfs_sync_files.proofs.Knowing.{in-left, in-right, in-either, in-last}
@@ -190,12 +190,13 @@ module _ {O : Type 0} (tells : Type 0) (before after : AgentSeen O) (kept : IsAg
 
   -- ---- what it adds
 
-  pub entered-entry : HasEntry before after answered
+  pub entered-entry : HasEntry before after (TheCall called) answered
   entered-entry = record {
     entry = last;
     there = subst (IsIn last) (sym (known-is tells before after kept called answered given e ∙ whole-is)) (in-last last (turn ++ map eviction e.gone));
     mine = refl;
     added = omega arith;
+    asked = refl;
     told = refl;
   }
 

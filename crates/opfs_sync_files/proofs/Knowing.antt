@@ -1,6 +1,7 @@
 -- What an agent's calls add to what it knows.
 use Rattle.std.proofs.Common.{◌≡◌, ◌⊎◌, ℕ, ◌+◌, ◌≤◌, List, [], ◌∷◌, ◌++◌, append_assoc, append-nil, refl, sym, ap, ◌∙◌, inl, inr, arith}
 use Rattle.opfs_hist.specs.declared.entry.Entry.{Entry}
+use Rattle.opfs_hist.specs.declared.op.Op.{Op}
 use Rattle.opfs_hist.specs.declared.reply.Reply.{Reply}
 use Rattle.opfs_turns.specs.Agents.{AgentSeen}
 use Rattle.opfs_sync_files.specs.Entries.{IsIn, HasEntry, IsCaused, GoesOn}
@@ -50,16 +51,24 @@ pub goes-most : {O : Type 0} (a b : AgentSeen O) (m n : ℕ) → m ≤ n → Goe
 goes-most a b m n few x = record { hall = x.hall; agent = x.agent; opening_is = x.opening_is; rows = x.rows; entries = omega (arith, x.entries, few); number = x.number; knows = x.knows; newer = x.newer; grown = x.grown }
 
 -- An entry that a later call added, and one that an earlier call added.
-pub entry-later : {O : Type 0} (a b c : AgentSeen O) (m : ℕ) (r : Reply) → GoesOn a b m → HasEntry b c r → HasEntry a c r
-entry-later a b c m r x h = record { entry = h.entry; there = h.there; mine = h.mine ∙ x.agent; added = omega (arith, x.number, h.added); told = h.told }
+pub entry-later : {O : Type 0} (a b c : AgentSeen O) (Asked : Op → Type 0) (m : ℕ) (r : Reply) → GoesOn a b m → HasEntry b c Asked r → HasEntry a c Asked r
+entry-later a b c Asked m r x h = record { entry = h.entry; there = h.there; mine = h.mine ∙ x.agent; added = omega (arith, x.number, h.added); asked = h.asked; told = h.told }
 
-pub entry-earlier : {O : Type 0} (a b c : AgentSeen O) (n : ℕ) (r : Reply) → HasEntry a b r → GoesOn b c n → HasEntry a c r
-entry-earlier a b c n r h y = record { entry = h.entry; there = y.knows h.entry h.there; mine = h.mine; added = h.added; told = h.told }
+pub entry-earlier : {O : Type 0} (a b c : AgentSeen O) (Asked : Op → Type 0) (n : ℕ) (r : Reply) → HasEntry a b Asked r → GoesOn b c n → HasEntry a c Asked r
+entry-earlier a b c Asked n r h y = record { entry = h.entry; there = y.knows h.entry h.there; mine = h.mine; added = h.added; asked = h.asked; told = h.told }
 
-pub caused-later : {O : Type 0} (a b c : AgentSeen O) (m : ℕ) (why : Stop) → GoesOn a b m → IsCaused b c why → IsCaused a c why
-caused-later a b c m (stop.No r) x h = entry-later a b c m _ x h
-caused-later a b c m stop.NoMemory x h = tt
+-- An entry of a call is one of each of more calls.
+pub entry-may : {O : Type 0} (a b : AgentSeen O) (Asked May : Op → Type 0) (r : Reply) → ((o : Op) → Asked o → May o) → HasEntry a b Asked r → HasEntry a b May r
+entry-may a b Asked May r may h = record { entry = h.entry; there = h.there; mine = h.mine; added = h.added; asked = may h.entry.op h.asked; told = h.told }
 
-pub caused-earlier : {O : Type 0} (a b c : AgentSeen O) (n : ℕ) (why : Stop) → IsCaused a b why → GoesOn b c n → IsCaused a c why
-caused-earlier a b c n (stop.No r) h y = entry-earlier a b c n _ h y
-caused-earlier a b c n stop.NoMemory h y = tt
+pub caused-later : {O : Type 0} (a b c : AgentSeen O) (Asked : Op → Type 0) (m : ℕ) (why : Stop) → GoesOn a b m → IsCaused b c Asked why → IsCaused a c Asked why
+caused-later a b c Asked m (stop.No r) x h = entry-later a b c Asked m _ x h
+caused-later a b c Asked m stop.NoMemory x h = tt
+
+pub caused-earlier : {O : Type 0} (a b c : AgentSeen O) (Asked : Op → Type 0) (n : ℕ) (why : Stop) → IsCaused a b Asked why → GoesOn b c n → IsCaused a c Asked why
+caused-earlier a b c Asked n (stop.No r) h y = entry-earlier a b c Asked n _ h y
+caused-earlier a b c Asked n stop.NoMemory h y = tt
+
+pub caused-may : {O : Type 0} (a b : AgentSeen O) (Asked May : Op → Type 0) (why : Stop) → ((o : Op) → Asked o → May o) → IsCaused a b Asked why → IsCaused a b May why
+caused-may a b Asked May (stop.No r) may h = entry-may a b Asked May _ may h
+caused-may a b Asked May stop.NoMemory may h = tt

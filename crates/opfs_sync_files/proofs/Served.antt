@@ -47,7 +47,8 @@ use Rattle.opfs_laws.proofs.steady.Others.{bytes-alike}
 use Rattle.opfs_turns.specs.Agents.{AgentSeen, IsAgent, known, state_of}
 use Rattle.opfs_turns.specs.Calls.{IsEntered, HasLooked, kept_entry}
 use Rattle.opfs_turns.proofs.Keeping.{state-after}
-use Rattle.opfs_sync_files.specs.Entries.{IsIn, HasEntry, IsCaused, GoesOn}
+use Rattle.opfs_sync_files.specs.Doubts.{DoubtsStore}
+use Rattle.opfs_sync_files.specs.Entries.{IsIn, HasEntry, IsCaused, GoesOn, TheCall}
 use Rattle.opfs_sync_files.specs.Files.{contents_at, file_bytes, flushed_by, stored_of, written}
 use Rattle.opfs_sync_files.specs.Still.{TheBytes, IsStill}
 use Rattle.opfs_sync_files.specs.Resting.{LeavesRest}
@@ -138,12 +139,13 @@ module _ {O : Type 0} (tells : Type 0) (before after : AgentSeen O) (kept : IsAg
       grown = ap (λ (a : AgentSeen O). a.pass.base) h.kept ∙ sym (append-nil before.pass.base);
     }
 
-    pub made-entry : HasEntry before after answered
+    pub made-entry : HasEntry before after (TheCall called) answered
     made-entry = record {
       entry = kept_entry before called answered;
       there = subst (IsIn (kept_entry before called answered)) (sym made-known) (in-right _ before.pass.base _ (in-last _ before.pending));
       mine = refl;
       added = omega arith;
+      asked = refl;
       told = refl;
     }
 
@@ -157,7 +159,7 @@ module _ {O : Type 0} (tells : Type 0) (before after : AgentSeen O) (kept : IsAg
   shared-goes called Gives (Err (stop.No r)) none h = entered-goes tells before after kept later called (reply.No r) h.given h.entered none
   shared-goes called Gives (Err stop.NoMemory) none h = looked-goes h
 
-  pub shared-caused : {T : Type 0} (called : Op) (Gives : T → Reply → Gift → Type 0) (why : Stop) → Shared tells before after called Gives (Err why) → IsCaused before after why
+  pub shared-caused : {T : Type 0} (called : Op) (Gives : T → Reply → Gift → Type 0) (why : Stop) → Shared tells before after called Gives (Err why) → IsCaused before after (TheCall called) why
   shared-caused called Gives (stop.No r) h = entered-entry tells before after kept later called (reply.No r) h.given h.entered
   shared-caused called Gives stop.NoMemory h = tt
 
@@ -166,7 +168,7 @@ module _ {O : Type 0} (tells : Type 0) (before after : AgentSeen O) (kept : IsAg
   local-goes called Gives (Err (stop.No r)) h = made-goes called (reply.No r) h
   local-goes called Gives (Err stop.NoMemory) h = subst (λ a. GoesOn before a 1) (sym h) (goes-most before before 0 1 (omega arith) (goes-none before))
 
-  pub local-caused : {T : Type 0} (called : Op) (Gives : T → Reply → Type 0) (why : Stop) → Local tells before after called 0 Gives (Err why) → IsCaused before after why
+  pub local-caused : {T : Type 0} (called : Op) (Gives : T → Reply → Type 0) (why : Stop) → Local tells before after called 0 Gives (Err why) → IsCaused before after (TheCall called) why
   local-caused called Gives (stop.No r) h = made-entry called (reply.No r) h
   local-caused called Gives stop.NoMemory h = tt
 
@@ -175,11 +177,11 @@ module _ {O : Type 0} (tells : Type 0) (before after : AgentSeen O) (kept : IsAg
   local-stored called Gives (Err (stop.No r)) x y same h = made-stored called (reply.No r) h x y same
   local-stored called Gives (Err stop.NoMemory) x y same h = λ i. contents_at (place_of (same i)) (changes (h i).opening (h i).pass.base)
 
-  pub shared-cause : {T : Type 0} (called : Op) (Gives : T → Reply → Gift → Type 0) (r : Result T Stop) → Shared tells before after called Gives r → IfErr r (IsCaused before after)
+  pub shared-cause : {T : Type 0} (called : Op) (Gives : T → Reply → Gift → Type 0) (r : Result T Stop) → Shared tells before after called Gives r → IfErr r (IsCaused before after (TheCall called))
   shared-cause called Gives (Ok v) h = tt
   shared-cause called Gives (Err why) h = shared-caused called Gives why h
 
-  pub local-cause : {T : Type 0} (called : Op) (Gives : T → Reply → Type 0) (r : Result T Stop) → Local tells before after called 0 Gives r → IfErr r (IsCaused before after)
+  pub local-cause : {T : Type 0} (called : Op) (Gives : T → Reply → Type 0) (r : Result T Stop) → Local tells before after called 0 Gives r → IfErr r (IsCaused before after (TheCall called))
   local-cause called Gives (Ok v) h = tt
   local-cause called Gives (Err why) h = local-caused called Gives why h
 
@@ -488,6 +490,12 @@ module _ {O : Type 0} (tells : Type 0) (before after : AgentSeen O) (kept : IsAg
   close-stores (Ok closed) done = close-stored tells before after kept later x has x refl IsAnyDone closed.row done
   close-stores (Err e) done = tt
 
+  pub close-doubts : (r : Result ClosedSync (HandleSeen × Stop)) → Done r → IfOk r (λ closed. tells → DoubtsStore before.opening before.pass.base after.pass.base (place_of x.file) (TheBytes (file_bytes before x)))
+  close-doubts (Ok closed) done =
+      shared-doubts tells before kept x has (TheBytes (file_bytes before x)) after later (op.SyncClose x.row) IsAnyDone (Ok tt) (close-decides before x)
+      (record { answered = reply.Done; given = done.given; entered = done.entered; accepted = refl; gives = refl })
+  close-doubts (Err e) done = tt
+
   pub close-still : (r : Result ClosedSync (HandleSeen × Stop)) → Back r → IfErr r (λ back. IsStill tells before after x back.0 (TheBytes (file_bytes before x)))
   close-still (Ok closed) back = tt
   close-still (Err e) back = record {
@@ -508,6 +516,6 @@ module _ {O : Type 0} (tells : Type 0) (before after : AgentSeen O) (kept : IsAg
   close-unstored (Ok closed) back = tt
   close-unstored (Err e) back = stopped-stored tells before after kept later x has e.0 back.file (op.SyncClose x.row) IsAnyDone e.1 (as-shared tells before after (op.SyncClose x.row) e.1 back.stopped)
 
-  pub close-cause : (r : Result ClosedSync (HandleSeen × Stop)) → Back r → IfErr r (λ back. IsCaused before after back.1)
+  pub close-cause : (r : Result ClosedSync (HandleSeen × Stop)) → Back r → IfErr r (λ back. IsCaused before after (TheCall (op.SyncClose x.row)) back.1)
   close-cause (Ok closed) back = tt
   close-cause (Err e) back = shared-caused tells before after kept later (op.SyncClose x.row) IsAnyDone e.1 (as-shared tells before after (op.SyncClose x.row) e.1 back.stopped)

@@ -1,8 +1,11 @@
 //! How an access handle ends.
 
 ghost use Rattle.std.specs.Prelude.{◌≡◌, ◌++◌, IfOk, IfErr};
+ghost use Rattle.opfs_hist.specs.declared.op.Op.TheVariants as op;
 ghost use Rattle.opfs_turns.specs.Asking.Rows.{HasClosedHandle, HasHandle};
-ghost use Rattle.opfs_sync_files.specs.Entries.{GoesOn, IsCaused};
+ghost use Rattle.opfs_base.specs.Places.{place_of};
+ghost use Rattle.opfs_sync_files.specs.Doubts.{DoubtsStore};
+ghost use Rattle.opfs_sync_files.specs.Entries.{GoesOn, IsCaused, TheCall};
 ghost use Rattle.opfs_sync_files.specs.Files.{file_bytes, flushed_by, stored_of};
 ghost use Rattle.opfs_sync_files.specs.Resting.{LeavesRest};
 ghost use Rattle.opfs_sync_files.specs.Still.{TheBytes, IsStill};
@@ -30,10 +33,11 @@ pub fn close<S: Store, R: Wait>(
     ensures goes { GoesOn agent.old agent.new 1 }
     ensures others { LeavesRest S.tells agent.old agent.new handle.row }
     ensures stored { IfOk result (λ closed. stored_of agent.new handle ≡ stored_of agent.old handle ++ flushed_by handle.mode (file_bytes agent.old handle)) }
+    ensures doubts { IfOk result (λ closed. S.tells → DoubtsStore agent.old.opening agent.old.pass.base agent.new.pass.base (place_of handle.file) (TheBytes (file_bytes agent.old handle))) }
     ensures still { IfErr result (λ back. IsStill S.tells agent.old agent.new handle back.0 (TheBytes (file_bytes agent.old handle))) }
     ensures same { IfErr result (λ back. file_bytes agent.new back.0 ≡ file_bytes agent.old handle) }
     ensures unstored { IfErr result (λ back. stored_of agent.new back.0 ≡ stored_of agent.old handle) }
-    ensures cause { IfErr result (λ back. IsCaused agent.old agent.new back.1) }
+    ensures cause { IfErr result (λ back. IsCaused agent.old agent.new (TheCall (op.SyncClose handle.row)) back.1) }
 {
     agent.know_kept();
     let done = agent.close_sync(rt, court, handle);

@@ -1,10 +1,11 @@
 //! How a file is read through its access handle.
 
-ghost use Rattle.std.specs.Prelude.{◌≡◌, length, IfOk, IfErr};
+ghost use Rattle.std.specs.Prelude.{◌≡◌, length, IfOk, IfErr, Some};
+ghost use Rattle.opfs_hist.specs.declared.op.Op.TheVariants as op;
 ghost use Rattle.opfs_store.specs.Acts.Asking.{IsSmall};
 ghost use Rattle.opfs_turns.specs.Asking.Rows.{HasHandle};
 ghost use Rattle.opfs_splice.specs.Splicing.{window};
-ghost use Rattle.opfs_sync_files.specs.Entries.{IsCaused};
+ghost use Rattle.opfs_sync_files.specs.Entries.{IsCaused, TheCall};
 ghost use Rattle.opfs_sync_files.specs.Files.{file_bytes, stored_of, ReadsOnce};
 ghost use Rattle.opfs_sync_files.specs.Still.{NoBytes, IsStill};
 ghost use Rattle.opfs_turns.specs.Calls.{HasRoom};
@@ -25,7 +26,7 @@ pub fn size<S: Store>(agent: &mut Agent<S>, handle: &SyncHandle) -> Result<u64, 
     ensures size { IfOk result (λ size. size ≡ length (file_bytes agent.old handle.now)) }
     ensures same { file_bytes agent.new handle.now ≡ file_bytes agent.old handle.now }
     ensures stored { stored_of agent.new handle.now ≡ stored_of agent.old handle.now }
-    ensures cause { IfErr result (IsCaused agent.old agent.new) }
+    ensures cause { IfErr result (IsCaused agent.old agent.new (TheCall (op.SyncGetSize handle.now.row))) }
 {
     agent.know_kept();
     let done = agent.sync_size(handle);
@@ -53,7 +54,7 @@ pub fn read<S: Store, R: Wait>(
     ensures long { IfOk result (λ bytes. length bytes ≡ length (window (file_bytes agent.old handle.old) at len)) }
     ensures same { file_bytes agent.new handle.new ≡ file_bytes agent.old handle.old }
     ensures stored { stored_of agent.new handle.new ≡ stored_of agent.old handle.old }
-    ensures cause { IfErr result (IsCaused agent.old agent.new) }
+    ensures cause { IfErr result (IsCaused agent.old agent.new (TheCall (op.SyncRead handle.old.row len (Some at)))) }
 {
     agent.know_kept();
     if handle.near(len, Some(at)) {

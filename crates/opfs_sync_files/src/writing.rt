@@ -1,10 +1,11 @@
 //! How a file is changed through its access handle, and stored.
 
-ghost use Rattle.std.specs.Prelude.{◌≡◌, ◌++◌, length, OnOk, OnErr, IfErr};
+ghost use Rattle.std.specs.Prelude.{◌≡◌, ◌++◌, length, OnOk, OnErr, IfErr, Some};
+ghost use Rattle.opfs_hist.specs.declared.op.Op.TheVariants as op;
 ghost use Rattle.opfs_store.specs.Acts.Asking.{IsSmall, IsSmallData};
 ghost use Rattle.opfs_turns.specs.Asking.Rows.{HasHandle};
 ghost use Rattle.opfs_splice.specs.Splicing.{resize, splice};
-ghost use Rattle.opfs_sync_files.specs.Entries.{IsCaused};
+ghost use Rattle.opfs_sync_files.specs.Entries.{IsCaused, TheCall};
 ghost use Rattle.opfs_sync_files.specs.Files.{file_bytes, flushed_by, stored_of, written};
 ghost use Rattle.opfs_sync_files.specs.Still.{NoBytes, TheBytes, IsStill};
 ghost use Rattle.opfs_turns.specs.Calls.{HasRoom};
@@ -45,7 +46,7 @@ pub fn write<S: Store, R: Wait>(
     ensures wrote { OnOk result (file_bytes agent.new handle.new ≡ splice (file_bytes agent.old handle.old) at bytes.now) }
     ensures same { OnErr result (file_bytes agent.new handle.new ≡ file_bytes agent.old handle.old) }
     ensures stored { stored_of agent.new handle.new ≡ stored_of agent.old handle.old }
-    ensures cause { IfErr result (IsCaused agent.old agent.new) }
+    ensures cause { IfErr result (IsCaused agent.old agent.new (TheCall (op.SyncWrite handle.old.row bytes.now (Some at)))) }
 {
     agent.know_kept();
     let done = agent.sync_write(rt, court, handle, bytes, Some(at));
@@ -69,7 +70,7 @@ pub fn truncate<S: Store, R: Wait>(
     ensures cut { OnOk result (file_bytes agent.new handle.new ≡ resize (file_bytes agent.old handle.old) size) }
     ensures same { OnErr result (file_bytes agent.new handle.new ≡ file_bytes agent.old handle.old) }
     ensures stored { stored_of agent.new handle.new ≡ stored_of agent.old handle.old }
-    ensures cause { IfErr result (IsCaused agent.old agent.new) }
+    ensures cause { IfErr result (IsCaused agent.old agent.new (TheCall (op.SyncTruncate handle.old.row size))) }
 {
     agent.know_kept();
     let done = agent.sync_truncate(rt, court, handle, size);
@@ -91,7 +92,7 @@ pub fn flush<S: Store, R: Wait>(
     ensures same { file_bytes agent.new handle.new ≡ file_bytes agent.old handle.old }
     ensures stored { OnOk result (stored_of agent.new handle.new ≡ stored_of agent.old handle.old ++ flushed_by handle.old.mode (file_bytes agent.old handle.old)) }
     ensures unstored { OnErr result (stored_of agent.new handle.new ≡ stored_of agent.old handle.old) }
-    ensures cause { IfErr result (IsCaused agent.old agent.new) }
+    ensures cause { IfErr result (IsCaused agent.old agent.new (TheCall (op.SyncFlush handle.old.row))) }
 {
     agent.know_kept();
     let done = agent.sync_flush(rt, court, handle);

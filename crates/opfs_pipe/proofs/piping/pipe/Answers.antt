@@ -5,7 +5,7 @@ use Rattle.opfs_splice.specs.Splicing.{window}
 use Rattle.opfs_agent.specs.declared.stream_calls.stream.ClosedStream.{ClosedStream}
 use Rattle.opfs_sync_files.specs.Entries.{GoesOn}
 use Rattle.opfs_pipe.specs.Pipes.{HasGivenBack, HasPiped}
-use Rattle.opfs_pipe.specs.Sides.{Failed, IsStored}
+use Rattle.opfs_pipe.specs.Sides.{Failed, IsClose, IsStored}
 use Rattle.opfs_sync_files.specs.Resting.{LeavesRest}
 use Rattle.opfs_pipe.specs.Streams.{StoresLast, stream_bytes}
 use Rattle.opfs_pipe.proofs.Piped.{if-ok, if-err, if-either, moved-reads, part-back, part-goes, part-reads, piped-calls, piped-closed, piped-content, piped-goes, piped-rest, stopped-back, stopped-goes, stopped-rest}
@@ -40,7 +40,7 @@ returns-in-Ok-clause-calls g c =
 
 pub returns-in-Ok-clause-back : goal.returns-in-Ok-clause-back
 returns-in-Ok-clause-back g c =
-    if-err c.close.result (λ (z : StreamSeen × Stop). Failed g.S.Store.tells c.move_range.new.writer c.close.new.writer c.move_range.new.to z.0 [] z.1) (λ (z : StreamSeen × Stop). HasGivenBack g.S.Store.tells c.args.reader.now c.move_range.new.reader c.args.writer.now c.close.new.writer c.args.from.now c.args.at c.args.len c.args.to z.0 z.1)
+    if-err c.close.result (λ (z : StreamSeen × Stop). Failed g.S.Store.tells c.move_range.new.writer c.close.new.writer c.move_range.new.to z.0 [] IsClose z.1) (λ (z : StreamSeen × Stop). HasGivenBack g.S.Store.tells c.args.reader.now c.move_range.new.reader c.args.writer.now c.close.new.writer c.args.from.now c.args.at c.args.len c.args.to z.0 z.1)
     (λ z f. stopped-back g.S.Store.tells c.args.reader.now c.move_range.new.reader c.args.writer.now c.move_range.new.writer c.args.from.now c.args.at c.args.len c.args.to c.move_range.new.to c.requires.empty.0 c.in-Ok.ensures c.close.new.writer z.0 z.1 f) c.close.ensures.back
 
 pub returns-in-Ok-clause-reader : goal.returns-in-Ok-clause-reader
@@ -57,12 +57,12 @@ returns-in-Ok-clause-reader_rows g c =
 
 pub returns-in-Ok-clause-writer : goal.returns-in-Ok-clause-writer
 returns-in-Ok-clause-writer g c =
-    if-either c.close.result (λ (z : ClosedStream). IsStored g.S.Store.tells c.move_range.new.writer c.close.new.writer c.move_range.new.to z.row (stream_bytes c.move_range.new.writer c.move_range.new.to)) (λ (z : StreamSeen × Stop). Failed g.S.Store.tells c.move_range.new.writer c.close.new.writer c.move_range.new.to z.0 [] z.1) (GoesOn c.args.writer.now c.close.new.writer 65537)
+    if-either c.close.result (λ (z : ClosedStream). IsStored g.S.Store.tells c.move_range.new.writer c.close.new.writer c.move_range.new.to z.row (stream_bytes c.move_range.new.writer c.move_range.new.to)) (λ (z : StreamSeen × Stop). Failed g.S.Store.tells c.move_range.new.writer c.close.new.writer c.move_range.new.to z.0 [] IsClose z.1) (GoesOn c.args.writer.now c.close.new.writer 65537)
     (λ z s. piped-goes g.S.Store.tells c.args.reader.now c.move_range.new.reader c.args.writer.now c.move_range.new.writer c.args.from.now c.args.at c.args.len c.args.to c.move_range.new.to c.requires.empty.0 c.in-Ok.ensures c.close.new.writer z.row s) (λ z f. stopped-goes g.S.Store.tells c.args.reader.now c.move_range.new.reader c.args.writer.now c.move_range.new.writer c.args.from.now c.args.at c.args.len c.args.to c.move_range.new.to c.requires.empty.0 c.in-Ok.ensures c.close.new.writer z.0 z.1 f) c.close.ensures.stored c.close.ensures.back
 
 pub returns-in-Ok-clause-writer_rows : goal.returns-in-Ok-clause-writer_rows
 returns-in-Ok-clause-writer_rows g c =
-    if-either c.close.result (λ (z : ClosedStream). IsStored g.S.Store.tells c.move_range.new.writer c.close.new.writer c.move_range.new.to z.row (stream_bytes c.move_range.new.writer c.move_range.new.to)) (λ (z : StreamSeen × Stop). Failed g.S.Store.tells c.move_range.new.writer c.close.new.writer c.move_range.new.to z.0 [] z.1) (LeavesRest g.S.Store.tells c.args.writer.now c.close.new.writer c.args.to.row)
+    if-either c.close.result (λ (z : ClosedStream). IsStored g.S.Store.tells c.move_range.new.writer c.close.new.writer c.move_range.new.to z.row (stream_bytes c.move_range.new.writer c.move_range.new.to)) (λ (z : StreamSeen × Stop). Failed g.S.Store.tells c.move_range.new.writer c.close.new.writer c.move_range.new.to z.0 [] IsClose z.1) (LeavesRest g.S.Store.tells c.args.writer.now c.close.new.writer c.args.to.row)
     (λ z s. piped-rest g.S.Store.tells c.args.reader.now c.move_range.new.reader c.args.writer.now c.move_range.new.writer c.args.from.now c.args.at c.args.len c.args.to c.move_range.new.to c.requires.empty.0 c.in-Ok.ensures c.close.new.writer z.row s) (λ z f. stopped-rest g.S.Store.tells c.args.reader.now c.move_range.new.reader c.args.writer.now c.move_range.new.writer c.args.from.now c.args.at c.args.len c.args.to c.move_range.new.to c.requires.empty.0 c.in-Ok.ensures c.close.new.writer z.0 z.1 f) c.close.ensures.stored c.close.ensures.back
 
 pub returns-in-Err-clause-back : goal.returns-in-Err-clause-back

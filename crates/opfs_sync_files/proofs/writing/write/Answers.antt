@@ -4,7 +4,7 @@ use Rattle.opfs_hist.specs.declared.op.Op.TheVariants as op
 use Rattle.opfs_hist.specs.declared.reply.Reply.{Reply}
 use Rattle.opfs_hist.specs.declared.reply.Reply.TheVariants as reply
 use Rattle.opfs_splice.specs.Splicing.{splice}
-use Rattle.opfs_sync_files.specs.Entries.{IsCaused}
+use Rattle.opfs_sync_files.specs.Entries.{IsCaused, TheCall}
 use Rattle.opfs_sync_files.specs.Files.{file_bytes}
 use Rattle.opfs_sync_files.specs.Still.{NoBytes}
 use Rattle.opfs_sync_files.proofs.Faulted.{write-decides}
@@ -27,4 +27,4 @@ returns-clause-stored g c = wrote-stored g.S.Store.tells c.args.agent.now c.sync
 
 pub returns-clause-cause : goal.returns-clause-cause
 returns-clause-cause g c =
-    subst (λ r. IfErr r (IsCaused c.args.agent.now c.sync_write-done.new.self)) (sym c.written.ensures) (written-cause c.sync_write-done.result (IsCaused c.args.agent.now c.sync_write-done.new.self) (shared-cause g.S.Store.tells c.args.agent.now c.sync_write-done.new.self c.know_kept.ensures c.know_kept-2.ensures (op.SyncWrite c.args.handle.now.row c.args.bytes.now (Some c.args.at)) (λ (count : ℕ) (answered : Reply) (given : Gift). answered ≡ reply.Length count) c.sync_write-done.result c.sync_write-done.ensures.shared))
+    subst (λ r. IfErr r (IsCaused c.args.agent.now c.sync_write-done.new.self (TheCall (op.SyncWrite c.args.handle.now.row c.args.bytes.now (Some c.args.at))))) (sym c.written.ensures) (written-cause c.sync_write-done.result (IsCaused c.args.agent.now c.sync_write-done.new.self (TheCall (op.SyncWrite c.args.handle.now.row c.args.bytes.now (Some c.args.at)))) (shared-cause g.S.Store.tells c.args.agent.now c.sync_write-done.new.self c.know_kept.ensures c.know_kept-2.ensures (op.SyncWrite c.args.handle.now.row c.args.bytes.now (Some c.args.at)) (λ (count : ℕ) (answered : Reply) (given : Gift). answered ≡ reply.Length count) c.sync_write-done.result c.sync_write-done.ensures.shared))
