@@ -8,6 +8,7 @@ use Rattle.opfs_agent.specs.declared.handle_calls.handle.ClosedSync.{ClosedSync}
 use Rattle.opfs_kv.specs.Records.Indexes.{read_out}
 use Rattle.opfs_kv.specs.Records.Maps.{Map}
 use Rattle.opfs_machine.specs.Changes.{changes}
+use Rattle.opfs_sync_files.specs.Doubts.{DoubtsStore}
 use Rattle.opfs_sync_files.specs.Entries.{GoesOn}
 use Rattle.opfs_sync_files.specs.Files.{contents_at, file_bytes, flushed_by, stored_of}
 use Rattle.opfs_sync_files.specs.Still.{TheBytes, IsStill}
@@ -18,7 +19,7 @@ use Rattle.opfs_sync_files.proofs.Resting.{rest-next}
 use Rattle.opfs_turns.specs.Agents.{AgentSeen}
 use Rattle.opfs_kv.specs.Keeping.{Keeps, Spells}
 use Rattle.opfs_kv.specs.Opening.{OnlyReads}
-use Rattle.opfs_kv.specs.Seen.{Closes, Flushes, KvSeen, Serves, Stands, map_in, seen}
+use Rattle.opfs_kv.specs.Seen.{Closes, DoubtsSpell, Flushes, KvSeen, Serves, Stands, map_in, seen}
 use Rattle.opfs_kv.specs.declared.notes.Notes.{Notes}
 use Rattle.opfs_hist.specs.declared.op.Mode.{Mode}
 use Rattle.opfs_hist.specs.declared.op.Mode.TheVariants as mode
@@ -62,8 +63,8 @@ module _ {O : Type 0} (tells : Type 0) (a b : AgentSeen O) (x y : KvSeen) (s : S
 
 -- A file without a tail is closed.
 pub closes-one : {O : Type 0} (tells : Type 0) (b c : AgentSeen O) (y : KvSeen) (stands : Stands tells b y) → y.tail ≡ false → (row : ℕ) → (row ≡ y.handle.row) × HasClosedHandle c row → GoesOn b c 1 → LeavesRest tells b c y.handle.row
-    → stored_of c y.handle ≡ stored_of b y.handle ++ flushed_by y.handle.mode (file_bytes b y.handle) → Closes tells b c y (row) 1 (map_in b y)
-closes-one tells b c y stands none row closed goes others stored = record {
+    → stored_of c y.handle ≡ stored_of b y.handle ++ flushed_by y.handle.mode (file_bytes b y.handle) → (tells → DoubtsStore b.opening b.pass.base c.pass.base (place_of y.handle.file) (TheBytes (file_bytes b y.handle))) → Closes tells b c y (row) 1 (map_in b y)
+closes-one tells b c y stands none row closed goes others stored doubts = record {
   same = closed.0;
   closed = closed.1;
   goes = goes;
@@ -71,6 +72,8 @@ closes-one tells b c y stands none row closed goes others stored = record {
   bytes = file_bytes b y.handle;
   stored = stored ∙ ap (λ (m : Mode). stored_of b y.handle ++ flushed_by m (file_bytes b y.handle)) stands.writes;
   spells = spells-map tells (file_bytes b y.handle) y.live y.tail y.index stands.keeps none;
+  doubts = λ tell. doubts-may b.opening b.pass.base c.pass.base (place_of y.handle.file) (TheBytes (file_bytes b y.handle)) (λ (bytes : Text). Spells bytes (map_in b y))
+      (λ bytes is. subst (λ (t : Text). Spells t (map_in b y)) (sym is) (spells-map tells (file_bytes b y.handle) y.live y.tail y.index stands.keeps none tell)) (doubts tell);
 }
 
 pub closes-later : {O : Type 0} (tells : Type 0) (a b c : AgentSeen O) (x y : KvSeen) (row : ℕ) → Serves tells a b x y 1 (map_in a x) → Closes tells b c y (row) 1 (map_in b y) → Closes tells a c x (row) 2 (map_in a x)
@@ -82,6 +85,7 @@ closes-later tells a b c x y row s t = record {
   bytes = t.bytes;
   stored = ap (λ l. contents_at (place_of l) (changes c.opening c.pass.base)) (sym s.file) ∙ t.stored ∙ ap (λ (ts : List Text). ts ++ t.bytes ∷ []) s.stored;
   spells = λ tell. subst (λ (m : Map). Spells t.bytes m) (s.map tell) (t.spells tell);
+  doubts = λ tell. doubts-next a b c x.handle y.handle (λ (bytes : Text). Spells bytes (map_in a x)) t.goes.newer s.goes.opening_is s.file t.goes.grown (s.doubts tell) (subst (DoubtsSpell b c y) (s.map tell) (t.doubts tell)) s.stored;
 }
 
 -- ---- opened

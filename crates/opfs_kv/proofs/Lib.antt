@@ -4,3 +4,4 @@ pub mod Flushing
 pub mod Scanned
 pub mod Rooms
 pub mod Results
+pub mod Asking

@@ -3,7 +3,8 @@ use Rattle.std.proofs.Common.{◌≡◌, Result, Ok, Err, IfOk, IfErr, OnOk, OnE
 use Rattle.opfs_turns.specs.declared.asking.stop.Stop.{Stop}
 use Rattle.opfs_turns.specs.declared.asking.stop.Stop.TheVariants as stop
 use Rattle.opfs_sync_files.specs.Entries.{GoesOn, IsCaused}
-use Rattle.opfs_sync_files.proofs.Knowing.{caused-later}
+use Rattle.opfs_hist.specs.declared.op.Op.{Op}
+use Rattle.opfs_sync_files.proofs.Knowing.{caused-later, caused-may}
 use Rattle.opfs_turns.specs.Agents.{AgentSeen}
 use Rattle.std.specs.Prelude.{ℕ}
 
@@ -29,10 +30,14 @@ either (Ok x) P Q f h = tt
 either (Err e) P Q f h = f h
 
 -- Want of memory is free.
-pub memory-caused : {O T : Type 0} (a b : AgentSeen O) (r : Result T Stop) → IfErr r (λ why. why ≡ stop.NoMemory) → IfErr r (IsCaused a b)
-memory-caused a b (Ok x) h = tt
-memory-caused a b (Err why) h = subst (IsCaused a b) (sym h) tt
+pub memory-caused : {O T : Type 0} (a b : AgentSeen O) (Asked : Op → Type 0) (r : Result T Stop) → IfErr r (λ why. why ≡ stop.NoMemory) → IfErr r (IsCaused a b Asked)
+memory-caused a b Asked (Ok x) h = tt
+memory-caused a b Asked (Err why) h = subst (IsCaused a b Asked) (sym h) tt
 
-pub later-caused : {O T : Type 0} (a b c : AgentSeen O) (m : ℕ) (r : Result T Stop) → GoesOn a b m → IfErr r (IsCaused b c) → IfErr r (IsCaused a c)
-later-caused a b c m (Ok x) goes h = tt
-later-caused a b c m (Err why) goes h = caused-later a b c m why goes h
+-- A later call's cause is one since the first, by the names of the first.
+pub later-may : {O : Type 0} (a b c : AgentSeen O) (Asked May : Op → Type 0) (m : ℕ) (why : Stop) → ((o : Op) → Asked o → May o) → GoesOn a b m → IsCaused b c Asked why → IsCaused a c May why
+later-may a b c Asked May m why may goes h = caused-may a c Asked May why may (caused-later a b c Asked m why goes h)
+
+pub later-caused : {O T : Type 0} (a b c : AgentSeen O) (Asked May : Op → Type 0) (m : ℕ) (r : Result T Stop) → ((o : Op) → Asked o → May o) → GoesOn a b m → IfErr r (IsCaused b c Asked) → IfErr r (IsCaused a c May)
+later-caused a b c Asked May m (Ok x) may goes h = tt
+later-caused a b c Asked May m (Err why) may goes h = later-may a b c Asked May m why may goes h

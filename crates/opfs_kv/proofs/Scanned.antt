@@ -16,7 +16,9 @@ use Rattle.opfs_sync_files.specs.Still.{NoBytes, IsStill}
 use Rattle.opfs_sync_files.proofs.Knowing.{caused-later, goes-none, goes-then}
 use Rattle.opfs_sync_files.proofs.Resting.{rest-none, rest-next}
 use Rattle.opfs_turns.specs.Agents.{AgentSeen}
+use Rattle.opfs_kv.specs.Asked.{IsOpening, IsPieceRead}
 use Rattle.opfs_kv.specs.Calls.{HasOpenCause}
+use Rattle.opfs_kv.proofs.Results.{later-may}
 use Rattle.opfs_kv.specs.Opening.{HasEnded, HasScanCause, IsScanned, OnlyReads, stop_of}
 use Rattle.opfs_kv.specs.declared.stop.KvStop.{KvStop}
 use Rattle.opfs_kv.specs.declared.stop.KvStop.TheVariants as kv_stop
@@ -82,21 +84,21 @@ pub stopped-ends : (size at : ℕ) (piece : Text) (index : Places) (why : Miss) 
 stopped-ends size at piece index miss.Memory h = refl
 stopped-ends size at piece index (miss.Bad place) h = h
 
-pub ends-cause : {O : Type 0} (tells : Type 0) (a b : AgentSeen O) (whole : Text) (size at : ℕ) (piece : Text) (index : Places) (why : KvStop) → (tells → IsPiece whole size at piece) → HasEnded size at piece index why → HasScanCause tells a b whole at index why
-ends-cause tells a b whole size at piece index (kv_stop.BadFile place) is h = λ tell. h whole (is tell)
-ends-cause tells a b whole size at piece index (kv_stop.Agent why) is h = subst (IsCaused a b) (sym h) tt
-ends-cause tells a b whole size at piece index (kv_stop.Full long need) is h = absurd h
+pub ends-cause : {O : Type 0} (tells : Type 0) (a b : AgentSeen O) (whole : Text) (size at : ℕ) (piece : Text) (index : Places) (why : KvStop) (row : ℕ) → (tells → IsPiece whole size at piece) → HasEnded size at piece index why → HasScanCause tells a b row whole at index why
+ends-cause tells a b whole size at piece index (kv_stop.BadFile place) row is h = λ tell. h whole (is tell)
+ends-cause tells a b whole size at piece index (kv_stop.Agent why) row is h = subst (IsCaused a b (IsPieceRead row)) (sym h) tt
+ends-cause tells a b whole size at piece index (kv_stop.Full long need) row is h = absurd h
 
-pub cause-then : {O : Type 0} (tells : Type 0) (a b c : AgentSeen O) (m : ℕ) (whole : Text) (at : ℕ) (old new : Places) (why : KvStop) → GoesOn a b m → (tells → HasRead whole 0 old at new) → HasScanCause tells b c whole at new why
-    → HasScanCause tells a c whole 0 old why
-cause-then tells a b c m whole at old new (kv_stop.BadFile place) goes read h = λ tell. failed-then whole 0 old at new place (read tell) (h tell)
-cause-then tells a b c m whole at old new (kv_stop.Agent why) goes read h = caused-later a b c m why goes h
-cause-then tells a b c m whole at old new (kv_stop.Full long need) goes read h = h
+pub cause-then : {O : Type 0} (tells : Type 0) (a b c : AgentSeen O) (m : ℕ) (whole : Text) (at : ℕ) (old new : Places) (why : KvStop) (row : ℕ) → GoesOn a b m → (tells → HasRead whole 0 old at new) → HasScanCause tells b c row whole at new why
+    → HasScanCause tells a c row whole 0 old why
+cause-then tells a b c m whole at old new (kv_stop.BadFile place) row goes read h = λ tell. failed-then whole 0 old at new place (read tell) (h tell)
+cause-then tells a b c m whole at old new (kv_stop.Agent why) row goes read h = caused-later a b c (IsPieceRead row) m why goes h
+cause-then tells a b c m whole at old new (kv_stop.Full long need) row goes read h = h
 
-pub open-cause : {O : Type 0} (tells : Type 0) (a b c : AgentSeen O) (m : ℕ) (whole : Text) (why : KvStop) → GoesOn a b m → length whole ≤ 16777216 → HasScanCause tells b c whole 0 [] why → HasOpenCause tells a c whole why
-open-cause tells a b c m whole (kv_stop.BadFile place) goes small h = (small, h)
-open-cause tells a b c m whole (kv_stop.Agent why) goes small h = caused-later a b c m why goes h
-open-cause tells a b c m whole (kv_stop.Full long need) goes small h = absurd h
+pub open-cause : {O : Type 0} (tells : Type 0) (a b c : AgentSeen O) (m : ℕ) (whole : Text) (why : KvStop) (row : ℕ) → GoesOn a b m → length whole ≤ 16777216 → HasScanCause tells b c row whole 0 [] why → HasOpenCause tells a c row whole why
+open-cause tells a b c m whole (kv_stop.BadFile place) row goes small h = (small, h)
+open-cause tells a b c m whole (kv_stop.Agent why) row goes small h = later-may a b c (IsPieceRead row) (IsOpening whole row) m why (λ o is. inr (small, is)) goes h
+open-cause tells a b c m whole (kv_stop.Full long need) row goes small h = absurd h
 
 -- ---- several pieces
 
@@ -127,10 +129,10 @@ far-on size at len (Ok next) within whole far ends = λ less.
 pub reads-most : {O : Type 0} (tells : Type 0) (a b : AgentSeen O) (x y : HandleSeen) (m n : ℕ) → m ≤ n → OnlyReads tells a b x y m → OnlyReads tells a b x y n
 reads-most tells a b x y m n few r = reads-within tells a b x y m n (omega (arith, few, r.goes.entries)) r
 
-pub open-later : {O : Type 0} (tells : Type 0) (a b c : AgentSeen O) (m : ℕ) (whole : Text) (why : KvStop) → GoesOn a b m → HasOpenCause tells b c whole why → HasOpenCause tells a c whole why
-open-later tells a b c m whole (kv_stop.BadFile place) goes h = h
-open-later tells a b c m whole (kv_stop.Agent why) goes h = caused-later a b c m why goes h
-open-later tells a b c m whole (kv_stop.Full long need) goes h = h
+pub open-later : {O : Type 0} (tells : Type 0) (a b c : AgentSeen O) (m : ℕ) (whole : Text) (why : KvStop) (row : ℕ) → GoesOn a b m → HasOpenCause tells b c row whole why → HasOpenCause tells a c row whole why
+open-later tells a b c m whole (kv_stop.BadFile place) row goes h = h
+open-later tells a b c m whole (kv_stop.Agent why) row goes h = caused-later a b c (IsOpening whole row) m why goes h
+open-later tells a b c m whole (kv_stop.Full long need) row goes h = h
 
 -- ---- a piece more
 

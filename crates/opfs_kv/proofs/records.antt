@@ -6,3 +6,4 @@ pub mod Indexed
 pub mod ByKey
 pub mod Growing
 pub mod Writing
+pub mod Listed

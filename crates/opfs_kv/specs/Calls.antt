@@ -4,6 +4,8 @@ use Rattle.opfs_base.specs.Texts.{Text}
 use Rattle.opfs_turns.specs.declared.asking.stop.Stop.{Stop}
 use Rattle.opfs_kv.specs.Records.Scans.{HasFailed}
 use Rattle.opfs_kv.specs.declared.records.place.Place.{Place}
+use Rattle.opfs_hist.specs.declared.op.Op.{Op}
+use Rattle.opfs_kv.specs.Asked.{IsOpening}
 use Rattle.opfs_sync_files.specs.Entries.{IsCaused}
 use Rattle.opfs_sync_files.specs.Files.{ReadsOnce}
 use Rattle.opfs_turns.specs.Agents.{AgentSeen}
@@ -14,23 +16,23 @@ use Rattle.opfs_kv.specs.declared.stop.KvStop.TheVariants as kv_stop
 abbrev pub limit : ℕ
 limit = 16777216
 
--- Why a call gave nothing: there is no room for so many bytes behind the live ones, or a call of the agent gave nothing.
-abbrev pub HasCause : {O : Type 0} → AgentSeen O → AgentSeen O → ℕ → ℕ → KvStop → Type 0
-HasCause before after live need (kv_stop.Full length more) = (length ≡ live) × (more ≡ need) × (16777216 < live + need)
-HasCause before after live need (kv_stop.Agent why) = IsCaused before after why
-HasCause before after live need (kv_stop.BadFile place) = ⊥
+-- Why a call gave nothing: there is no room for so many bytes behind the live ones, or one of these calls of the agent gave nothing.
+abbrev pub HasCause : {O : Type 0} → AgentSeen O → AgentSeen O → (Op → Type 0) → ℕ → ℕ → KvStop → Type 0
+HasCause before after Asked live need (kv_stop.Full length more) = (length ≡ live) × (more ≡ need) × (16777216 < live + need)
+HasCause before after Asked live need (kv_stop.Agent why) = IsCaused before after Asked why
+HasCause before after Asked live need (kv_stop.BadFile place) = ⊥
 
 -- The same of a call that needs no room.
-abbrev pub HasPlainCause : {O : Type 0} → AgentSeen O → AgentSeen O → KvStop → Type 0
-HasPlainCause before after (kv_stop.Agent why) = IsCaused before after why
-HasPlainCause before after why = ⊥
+abbrev pub HasPlainCause : {O : Type 0} → AgentSeen O → AgentSeen O → (Op → Type 0) → KvStop → Type 0
+HasPlainCause before after Asked (kv_stop.Agent why) = IsCaused before after Asked why
+HasPlainCause before after Asked why = ⊥
 
--- Why a file was not opened: it is too long, or from its start on records were read up to the first place where none is
--- spelled, or a call of the agent gave nothing.
-abbrev pub HasOpenCause : {O : Type 0} → Type 0 → AgentSeen O → AgentSeen O → Text → KvStop → Type 0
-HasOpenCause tells before after bytes (kv_stop.Full long need) = (long ≡ length bytes) × (need ≡ 0) × (16777216 < length bytes)
-HasOpenCause tells before after bytes (kv_stop.BadFile place) = (length bytes ≤ 16777216) × (tells → HasFailed bytes 0 [] place)
-HasOpenCause tells before after bytes (kv_stop.Agent why) = IsCaused before after why
+-- Why a file was not opened: it is too long, which is judged first; or from its start on records were read up to the first place
+-- where none is spelled; or a call of the agent gave nothing. Of a file that is too long nothing is read.
+abbrev pub HasOpenCause : {O : Type 0} → Type 0 → AgentSeen O → AgentSeen O → ℕ → Text → KvStop → Type 0
+HasOpenCause tells before after row bytes (kv_stop.Full long need) = (long ≡ length bytes) × (need ≡ 0) × (16777216 < length bytes)
+HasOpenCause tells before after row bytes (kv_stop.BadFile place) = (length bytes ≤ 16777216) × (tells → HasFailed bytes 0 [] place)
+HasOpenCause tells before after row bytes (kv_stop.Agent why) = IsCaused before after (IsOpening bytes row) why
 
 -- What a read of a value gives.
 abbrev pub value_read : Result Text Stop → Result (Option Text) KvStop

@@ -7,6 +7,7 @@ use Rattle.opfs_kv.specs.Records.Indexes.{IsFitting, Places}
 use Rattle.opfs_kv.specs.Records.Scans.{HasFailed, HasRead, IsPiece}
 use Rattle.opfs_kv.specs.declared.records.miss.Miss.{Miss}
 use Rattle.opfs_kv.specs.declared.records.miss.Miss.TheVariants as miss
+use Rattle.opfs_kv.specs.Asked.{IsPieceRead}
 use Rattle.opfs_sync_files.specs.Entries.{GoesOn, IsCaused}
 use Rattle.opfs_sync_files.specs.Files.{file_bytes, stored_of}
 use Rattle.opfs_sync_files.specs.Resting.{LeavesRest}
@@ -34,10 +35,10 @@ pub record IsScanned (tells : Type 0) (bytes : Text) (at : ℕ) (before : Places
   pub read : tells → HasRead bytes at before next index
 
 -- Why it was not.
-abbrev pub HasScanCause : {O : Type 0} → Type 0 → AgentSeen O → AgentSeen O → Text → ℕ → Places → KvStop → Type 0
-HasScanCause tells before after bytes at index (kv_stop.BadFile place) = tells → HasFailed bytes at index place
-HasScanCause tells before after bytes at index (kv_stop.Agent why) = IsCaused before after why
-HasScanCause tells before after bytes at index (kv_stop.Full long need) = ⊥
+abbrev pub HasScanCause : {O : Type 0} → Type 0 → AgentSeen O → AgentSeen O → ℕ → Text → ℕ → Places → KvStop → Type 0
+HasScanCause tells before after row bytes at index (kv_stop.BadFile place) = tells → HasFailed bytes at index place
+HasScanCause tells before after row bytes at index (kv_stop.Agent why) = IsCaused before after (IsPieceRead row) why
+HasScanCause tells before after row bytes at index (kv_stop.Full long need) = ⊥
 
 abbrev pub stop_of : Miss → KvStop
 stop_of miss.Memory = kv_stop.Agent stop.NoMemory

@@ -1,10 +1,10 @@
 -- What is seen of a key-value file, and how it stands over its agent. This project's own.
-use Rattle.std.specs.Prelude.{◌≡◌, ℕ, ◌≤◌, ◌++◌, Bool, List, [], ◌∷◌}
+use Rattle.std.specs.Prelude.{◌≡◌, ℕ, ◌-◌, ◌≤◌, ◌++◌, Bool, List, [], ◌∷◌, sum_by}
 use Rattle.opfs_base.specs.Places.{place_of}
 use Rattle.opfs_base.specs.Texts.{Text}
 use Rattle.opfs_turns.specs.Asking.Rows.{HandleSeen, HasClosedHandle, HasHandle}
 use Rattle.opfs_hist.specs.declared.op.Mode.TheVariants as mode
-use Rattle.opfs_kv.specs.Records.Indexes.{Places, read_out}
+use Rattle.opfs_kv.specs.Records.Indexes.{Places, cost_of, read_out}
 use Rattle.opfs_kv.specs.Records.Maps.{Map}
 use Rattle.opfs_sync_files.specs.Doubts.{DoubtsStore}
 use Rattle.opfs_sync_files.specs.Entries.{GoesOn}
@@ -34,6 +34,10 @@ pub record Stands {O : Type 0} (tells : Type 0) (a : AgentSeen O) (kv : KvSeen) 
 -- Its map: what the index reads out of the file.
 abbrev pub map_in : {O : Type 0} → AgentSeen O → KvSeen → Map
 map_in a kv = read_out (file_bytes a kv.handle) kv.index
+
+-- How many of its live bytes no key needs: those that are not of the last record of a key that is there.
+abbrev pub dead_in : KvSeen → ℕ
+dead_in kv = kv.live - sum_by cost_of kv.index
 
 -- The contents of its file that were stored for good, as far as its agent has seen.
 abbrev pub stored_in : {O : Type 0} → AgentSeen O → KvSeen → List Text
@@ -81,3 +85,4 @@ pub record Closes {O : Type 0} (tells : Type 0) (before after : AgentSeen O) (ol
   pub bytes : Text
   pub stored : stored_of after old.handle ≡ stored_of before old.handle ++ bytes ∷ []
   pub spells : tells → Spells bytes m
+  pub doubts : tells → DoubtsSpell before after old (map_in before old)

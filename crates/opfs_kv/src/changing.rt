@@ -6,6 +6,7 @@ ghost use Rattle.opfs_kv.specs.Records.Maps.{found, with_key, without_key};
 ghost use Rattle.opfs_kv.specs.Records.Records.{IsKey, IsValue, spelled_by};
 ghost use Rattle.opfs_sync_files.specs.Entries.{IsCaused};
 ghost use Rattle.opfs_turns.specs.Calls.{HasRoom};
+ghost use Rattle.opfs_kv.specs.Asked.{IsAppend, IsCutOr};
 ghost use Rattle.opfs_kv.specs.Calls.{HasCause};
 ghost use Rattle.opfs_kv.specs.Seen.{HasPlaces, Serves, Stands, map_in, seen};
 ghost use Rattle.opfs_kv.specs.declared.stop.KvStop.TheVariants as kv_stop;
@@ -100,7 +101,7 @@ fn write_put<S: Store, R: Wait>(
     requires bytes { bytes.now ≡ spelled_by key.now (Some value.now) }
     ensures put { OnOk result (Serves S.tells agent.old agent.new (seen handle.old notes.old) (seen handle.new notes.new) 1 (with_key (map_in agent.old (seen handle.old notes.old)) key.now value.now)) }
     ensures left { OnErr result (Serves S.tells agent.old agent.new (seen handle.old notes.old) (seen handle.new notes.new) 1 (map_in agent.old (seen handle.old notes.old))) }
-    ensures cause { IfErr result (IsCaused agent.old agent.new) }
+    ensures cause { IfErr result (IsCaused agent.old agent.new (IsAppend (seen handle.old notes.old) (spelled_by key.now (Some value.now)))) }
 {
     let at = notes.live + 6 + key.len() as u32;
     let len = value.len() as u32;
@@ -130,7 +131,7 @@ fn write_gone<S: Store, R: Wait>(
     requires bytes { bytes.now ≡ spelled_by key.now None }
     ensures gone { OnOk result (Serves S.tells agent.old agent.new (seen handle.old notes.old) (seen handle.new notes.new) 1 (without_key (map_in agent.old (seen handle.old notes.old)) key.now)) }
     ensures left { OnErr result (Serves S.tells agent.old agent.new (seen handle.old notes.old) (seen handle.new notes.new) 1 (map_in agent.old (seen handle.old notes.old))) }
-    ensures cause { IfErr result (IsCaused agent.old agent.new) }
+    ensures cause { IfErr result (IsCaused agent.old agent.new (IsAppend (seen handle.old notes.old) (spelled_by key.now None))) }
 {
     match write(rt, court, agent, handle, bytes, notes.live as u64) {
         Ok(()) => {
@@ -162,7 +163,7 @@ fn cut_put<S: Store, R: Wait>(
     requires bytes { bytes.now ≡ spelled_by key.now (Some value.now) }
     ensures put { OnOk result (Serves S.tells agent.old agent.new (seen handle.old notes.old) (seen handle.new notes.new) 2 (with_key (map_in agent.old (seen handle.old notes.old)) key.now value.now)) }
     ensures left { OnErr result (Serves S.tells agent.old agent.new (seen handle.old notes.old) (seen handle.new notes.new) 2 (map_in agent.old (seen handle.old notes.old))) }
-    ensures cause { IfErr result (IsCaused agent.old agent.new) }
+    ensures cause { IfErr result (IsCaused agent.old agent.new (IsCutOr (seen handle.old notes.old) (IsAppend (seen handle.old notes.old) (spelled_by key.now (Some value.now))))) }
 {
     match cut(rt, court, agent, handle, notes) {
         Ok(()) => write_put(rt, court, agent, handle, notes, key, value, bytes),
@@ -188,7 +189,7 @@ fn put_in<S: Store, R: Wait>(
     requires fits { notes.old.live + (6 + length key.now + length value.now) ≤ 16777216 }
     ensures put { OnOk result (Serves S.tells agent.old agent.new (seen handle.old notes.old) (seen handle.new notes.new) 2 (with_key (map_in agent.old (seen handle.old notes.old)) key.now value.now)) }
     ensures left { OnErr result (Serves S.tells agent.old agent.new (seen handle.old notes.old) (seen handle.new notes.new) 2 (map_in agent.old (seen handle.old notes.old))) }
-    ensures cause { IfErr result (IsCaused agent.old agent.new) }
+    ensures cause { IfErr result (IsCaused agent.old agent.new (IsCutOr (seen handle.old notes.old) (IsAppend (seen handle.old notes.old) (spelled_by key.now (Some value.now))))) }
 {
     match put_record(agent.alloc(), key, value) {
         Ok(record) => cut_put(rt, court, agent, handle, notes, key, value, &record),
@@ -214,7 +215,7 @@ fn cut_gone<S: Store, R: Wait>(
     requires bytes { bytes.now ≡ spelled_by key.now None }
     ensures gone { OnOk result (Serves S.tells agent.old agent.new (seen handle.old notes.old) (seen handle.new notes.new) 2 (without_key (map_in agent.old (seen handle.old notes.old)) key.now)) }
     ensures left { OnErr result (Serves S.tells agent.old agent.new (seen handle.old notes.old) (seen handle.new notes.new) 2 (map_in agent.old (seen handle.old notes.old))) }
-    ensures cause { IfErr result (IsCaused agent.old agent.new) }
+    ensures cause { IfErr result (IsCaused agent.old agent.new (IsCutOr (seen handle.old notes.old) (IsAppend (seen handle.old notes.old) (spelled_by key.now None)))) }
 {
     match cut(rt, court, agent, handle, notes) {
         Ok(()) => write_gone(rt, court, agent, handle, notes, key, bytes),
@@ -238,7 +239,7 @@ fn take_in<S: Store, R: Wait>(
     requires fits { notes.old.live + (2 + length key.now) ≤ 16777216 }
     ensures gone { OnOk result (Serves S.tells agent.old agent.new (seen handle.old notes.old) (seen handle.new notes.new) 2 (without_key (map_in agent.old (seen handle.old notes.old)) key.now)) }
     ensures left { OnErr result (Serves S.tells agent.old agent.new (seen handle.old notes.old) (seen handle.new notes.new) 2 (map_in agent.old (seen handle.old notes.old))) }
-    ensures cause { IfErr result (IsCaused agent.old agent.new) }
+    ensures cause { IfErr result (IsCaused agent.old agent.new (IsCutOr (seen handle.old notes.old) (IsAppend (seen handle.old notes.old) (spelled_by key.now None)))) }
 {
     match gone_record(agent.alloc(), key) {
         Ok(record) => cut_gone(rt, court, agent, handle, notes, key, &record),
@@ -264,7 +265,7 @@ pub fn put<S: Store, R: Wait>(
     ensures put { OnOk result (Serves S.tells agent.old agent.new (seen handle.old notes.old) (seen handle.new notes.new) 2 (with_key (map_in agent.old (seen handle.old notes.old)) key.now value.now)) }
     ensures left { OnErr result (Serves S.tells agent.old agent.new (seen handle.old notes.old) (seen handle.new notes.new) 2 (map_in agent.old (seen handle.old notes.old))) }
     ensures full { 16777216 < notes.old.live + (6 + length key.now + length value.now) → result ≡ Err (kv_stop.Full notes.old.live (6 + length key.now + length value.now)) }
-    ensures cause { IfErr result (HasCause agent.old agent.new notes.old.live (6 + length key.now + length value.now)) }
+    ensures cause { IfErr result (HasCause agent.old agent.new (IsCutOr (seen handle.old notes.old) (IsAppend (seen handle.old notes.old) (spelled_by key.now (Some value.now)))) notes.old.live (6 + length key.now + length value.now)) }
 {
     let need = 6 + key.len() as u64 + value.len() as u64;
     if notes.live as u64 + need > 16_777_216 {
@@ -293,7 +294,7 @@ fn take_out<S: Store, R: Wait>(
     ensures gone { OnOk result (Serves S.tells agent.old agent.new (seen handle.old notes.old) (seen handle.new notes.new) 2 (without_key (map_in agent.old (seen handle.old notes.old)) key.now)) }
     ensures left { OnErr result (Serves S.tells agent.old agent.new (seen handle.old notes.old) (seen handle.new notes.new) 2 (map_in agent.old (seen handle.old notes.old))) }
     ensures full { 16777216 < notes.old.live + (2 + length key.now) → result ≡ Err (kv_stop.Full notes.old.live (2 + length key.now)) }
-    ensures cause { IfErr result (HasCause agent.old agent.new notes.old.live (2 + length key.now)) }
+    ensures cause { IfErr result (HasCause agent.old agent.new (IsCutOr (seen handle.old notes.old) (IsAppend (seen handle.old notes.old) (spelled_by key.now None))) notes.old.live (2 + length key.now)) }
 {
     let need = 2 + key.len() as u64;
     if notes.live as u64 + need > 16_777_216 {
@@ -323,7 +324,7 @@ pub fn delete<S: Store, R: Wait>(
     ensures left { OnErr result (Serves S.tells agent.old agent.new (seen handle.old notes.old) (seen handle.new notes.new) 2 (map_in agent.old (seen handle.old notes.old))) }
     ensures none { found notes.old.index key.now ≡ None → (result ≡ Ok false) × (agent.new ≡ agent.old) }
     ensures full { found notes.old.index key.now ≢ None → 16777216 < notes.old.live + (2 + length key.now) → result ≡ Err (kv_stop.Full notes.old.live (2 + length key.now)) }
-    ensures cause { IfErr result (HasCause agent.old agent.new notes.old.live (2 + length key.now)) }
+    ensures cause { IfErr result (HasCause agent.old agent.new (IsCutOr (seen handle.old notes.old) (IsAppend (seen handle.old notes.old) (spelled_by key.now None))) notes.old.live (2 + length key.now)) }
 {
     match notes.index.find(key) {
         Some(_) => take_out(rt, court, agent, handle, notes, key),

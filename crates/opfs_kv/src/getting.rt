@@ -4,6 +4,7 @@ ghost use Rattle.std.specs.Prelude.{◌≡◌, IfErr, IfOk, Some};
 ghost use Rattle.opfs_kv.specs.Records.Maps.{found};
 ghost use Rattle.opfs_splice.specs.Splicing.{window};
 ghost use Rattle.opfs_sync_files.specs.Files.{file_bytes};
+ghost use Rattle.opfs_kv.specs.Asked.{IsGet};
 ghost use Rattle.opfs_kv.specs.Calls.{HasPlainCause, IsGotten, IsRead};
 ghost use Rattle.opfs_kv.specs.Seen.{HasPlaces, Serves, Stands, map_in, seen};
 
@@ -33,7 +34,7 @@ fn value_at<S: Store, R: Wait>(
     ensures serves { Serves S.tells agent.old agent.new (seen handle.old notes.now) (seen handle.new notes.now) 1 (map_in agent.old (seen handle.old notes.now)) }
     ensures value { IfOk result (λ value. S.tells → value ≡ Some (window (file_bytes agent.old handle.old) place.at place.len)) }
     ensures read { IsRead S.tells agent.old agent.new handle.old.row place result }
-    ensures cause { IfErr result (HasPlainCause agent.old agent.new) }
+    ensures cause { IfErr result (HasPlainCause agent.old agent.new (IsGet handle.old.row (Some place))) }
 {
     match read(rt, court, agent, handle, place.len as u64, place.at as u64) {
         Ok(bytes) => Ok(Some(bytes)),
@@ -56,7 +57,7 @@ pub fn get<S: Store, R: Wait>(
     ensures serves { Serves S.tells agent.old agent.new (seen handle.old notes.now) (seen handle.new notes.now) 1 (map_in agent.old (seen handle.old notes.now)) }
     ensures value { IfOk result (λ value. S.tells → value ≡ found (map_in agent.old (seen handle.old notes.now)) key.now) }
     ensures once { IsGotten S.tells agent.old agent.new handle.old.row (found notes.now.index key.now) result }
-    ensures cause { IfErr result (HasPlainCause agent.old agent.new) }
+    ensures cause { IfErr result (HasPlainCause agent.old agent.new (IsGet handle.old.row (found notes.now.index key.now))) }
 {
     match notes.index.find(key) {
         Some(place) => value_at(rt, court, agent, handle, notes, place),

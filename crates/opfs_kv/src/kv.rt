@@ -1,30 +1,33 @@
 //! A key-value file.
 
-ghost use Rattle.std.specs.Prelude.{◌≡◌, ◌≢◌, ◌+◌, ◌<◌, false, length, map, IfErr, IfOk, OnErr, OnOk, Ok, Err, None, is_some};
+ghost use Rattle.std.specs.Prelude.{◌≡◌, ◌≢◌, ◌+◌, ◌*◌, ◌<◌, ◌≤◌, true, false, length, map, nat_lt, IfErr, IfOk, OnErr, OnOk, Ok, Err, None, Some, is_some};
+ghost use Rattle.std.specs.Map.{keys_of};
 ghost use Rattle.opfs_turns.specs.Asking.Rows.{HasHandle};
 ghost use Rattle.opfs_hist.specs.declared.op.Mode.TheVariants as mode;
-ghost use Rattle.opfs_kv.specs.Records.Maps.{found, with_key, without_key};
-ghost use Rattle.opfs_kv.specs.Records.Records.{IsKey, IsValue, log_of, put_of};
+ghost use Rattle.opfs_kv.specs.Records.Maps.{found, keys_between, keys_from, keys_with, with_key, without_key};
+ghost use Rattle.opfs_kv.specs.Records.Records.{IsKey, IsValue, log_of, put_of, spelled_by};
 ghost use Rattle.opfs_sync_files.specs.Entries.{IsCaused};
 ghost use Rattle.opfs_sync_files.specs.Files.{file_bytes};
 ghost use Rattle.opfs_sync_files.specs.Resting.{LeavesRest};
 ghost use Rattle.opfs_turns.specs.Calls.{HasRoom};
+ghost use Rattle.opfs_kv.specs.Asked.{IsAppend, IsClose, IsCutOr, IsFlush, IsGet, IsRepack};
 ghost use Rattle.opfs_kv.specs.Calls.{HasCause, HasOpenCause, HasPlainCause, IsGotten};
 ghost use Rattle.opfs_kv.specs.Keeping.{Spells};
 ghost use Rattle.opfs_kv.specs.Opening.{OnlyReads};
-ghost use Rattle.opfs_kv.specs.Seen.{Closes, Flushes, HasPlaces, Serves, Stands, map_in, seen};
+ghost use Rattle.opfs_kv.specs.Seen.{Closes, Flushes, HasPlaces, Serves, Stands, dead_in, map_in, seen};
 ghost use Rattle.opfs_kv.specs.declared.stop.KvStop.TheVariants as kv_stop;
 
 use crate::notes::Notes;
 use crate::opening::read_notes;
 use crate::stop::KvStop;
-use crate::{changing, compacting, getting, storing};
+use crate::{changing, compacting, getting, listing, storing};
 use opfs_agent::Agent;
 use opfs_agent::handle_calls::{ClosedSync, SyncHandle};
 use opfs_base::Bytes;
 use opfs_hall::Hall;
 use opfs_store::Store;
 use opfs_turns::Stop;
+use std::alloc::AllocError;
 use std::marker::Model;
 use std::sync::Wait;
 
@@ -59,8 +62,10 @@ impl Kv {
         ensures reads { IfOk result (λ kv. OnlyReads S.tells agent.old agent.new sync kv.handle 261) }
         ensures others { LeavesRest S.tells agent.old agent.new sync.row }
         ensures map { IfOk result (λ kv. S.tells → Spells (file_bytes agent.old sync) (map_in agent.new kv)) }
+        ensures short { OnOk result (length (file_bytes agent.old sync) ≤ 16777216) }
+        ensures whole { IfOk result (λ kv. (kv.live ≡ length (file_bytes agent.old sync)) × (kv.tail ≡ false)) }
         ensures back { IfErr result (λ back. OnlyReads S.tells agent.old agent.new sync back.0 261) }
-        ensures cause { IfErr result (λ back. HasOpenCause S.tells agent.old agent.new (file_bytes agent.old sync) back.1) }
+        ensures cause { IfErr result (λ back. HasOpenCause S.tells agent.old agent.new sync.row (file_bytes agent.old sync) back.1) }
     {
         match read_notes(rt, court, agent, &mut sync) {
             Ok(notes) => Ok(Kv {
@@ -86,7 +91,7 @@ impl Kv {
         ensures others { LeavesRest S.tells agent.old agent.new self.old.handle.row }
         ensures value { IfOk result (λ value. S.tells → value ≡ found (map_in agent.old self.old) key.now) }
         ensures once { IsGotten S.tells agent.old agent.new self.old.handle.row (found self.old.index key.now) result }
-        ensures cause { IfErr result (HasPlainCause agent.old agent.new) }
+        ensures cause { IfErr result (HasPlainCause agent.old agent.new (IsGet self.old.handle.row (found self.old.index key.now))) }
     {
         getting::get(rt, court, agent, &mut self.handle, &self.notes, key)
     }
@@ -109,7 +114,7 @@ impl Kv {
         ensures left { OnErr result (Serves S.tells agent.old agent.new self.old self.new 2 (map_in agent.old self.old)) }
         ensures others { LeavesRest S.tells agent.old agent.new self.old.handle.row }
         ensures full { 16777216 < self.old.live + (6 + length key.now + length value.now) → result ≡ Err (kv_stop.Full self.old.live (6 + length key.now + length value.now)) }
-        ensures cause { IfErr result (HasCause agent.old agent.new self.old.live (6 + length key.now + length value.now)) }
+        ensures cause { IfErr result (HasCause agent.old agent.new (IsCutOr self.old (IsAppend self.old (spelled_by key.now (Some value.now)))) self.old.live (6 + length key.now + length value.now)) }
     {
         changing::put(
             rt,
@@ -140,7 +145,7 @@ impl Kv {
         ensures others { LeavesRest S.tells agent.old agent.new self.old.handle.row }
         ensures none { found self.old.index key.now ≡ None → (result ≡ Ok false) × (agent.new ≡ agent.old) }
         ensures full { found self.old.index key.now ≢ None → 16777216 < self.old.live + (2 + length key.now) → result ≡ Err (kv_stop.Full self.old.live (2 + length key.now)) }
-        ensures cause { IfErr result (HasCause agent.old agent.new self.old.live (2 + length key.now)) }
+        ensures cause { IfErr result (HasCause agent.old agent.new (IsCutOr self.old (IsAppend self.old (spelled_by key.now None))) self.old.live (2 + length key.now)) }
     {
         changing::delete(rt, court, agent, &mut self.handle, &mut self.notes, key)
     }
@@ -158,7 +163,7 @@ impl Kv {
         ensures flushed { OnOk result (Flushes S.tells agent.old agent.new self.old self.new 2 (map_in agent.old self.old)) }
         ensures left { OnErr result (Serves S.tells agent.old agent.new self.old self.new 2 (map_in agent.old self.old)) }
         ensures others { LeavesRest S.tells agent.old agent.new self.old.handle.row }
-        ensures cause { IfErr result (HasPlainCause agent.old agent.new) }
+        ensures cause { IfErr result (HasPlainCause agent.old agent.new (IsCutOr self.old (IsFlush self.old))) }
     {
         storing::flush_file(rt, court, agent, &mut self.handle, &mut self.notes)
     }
@@ -176,12 +181,86 @@ impl Kv {
         ensures serves { Serves S.tells agent.old agent.new self.old self.new 4 (map_in agent.old self.old) }
         ensures others { LeavesRest S.tells agent.old agent.new self.old.handle.row }
         ensures packed { OnOk result (S.tells → file_bytes agent.new self.new.handle ≡ log_of (map put_of (map_in agent.old self.old))) }
-        ensures cause { IfErr result (HasPlainCause agent.old agent.new) }
+        ensures cause { IfErr result (HasPlainCause agent.old agent.new (IsCutOr self.old (IsRepack S.tells self.old (map_in agent.old self.old)))) }
     {
-        match compacting::compact(rt, court, agent, &mut self.handle, &mut self.notes) {
-            Ok(()) => Ok(()),
-            Err(stop) => Err(KvStop::Agent(stop)),
-        }
+        compacting::compact_file(rt, court, agent, &mut self.handle, &mut self.notes)
+    }
+
+    /// How many keys there are.
+    pub fn len<S: Store>(&self, agent: &Agent<S>) -> usize
+        ensures { result ≡ length (map_in agent.now self.now) }
+    {
+        let _ = agent;
+        self.notes.index.len()
+    }
+
+    /// Whether a key is there. Asks nothing of the agent.
+    pub fn contains<S: Store>(&self, agent: &Agent<S>, key: &Bytes) -> bool
+        ensures { result ≡ is_some (found (map_in agent.now self.now) key.now) }
+    {
+        listing::contains(agent, &self.handle, &self.notes, key)
+    }
+
+    /// The keys from one on, in order; all of them from no bytes on. Takes memory for these keys alone.
+    pub fn keys_from<S: Store>(
+        &self,
+        agent: &Agent<S>,
+        from: &Bytes,
+    ) -> Result<Vec<Bytes>, AllocError>
+        ensures { IfOk result (λ keys. keys.items ≡ keys_from from.now (keys_of (map_in agent.now self.now))) }
+    {
+        listing::keys_from(agent, &self.handle, &self.notes, from)
+    }
+
+    /// The keys from one on and below another, in order.
+    pub fn keys_between<S: Store>(
+        &self,
+        agent: &Agent<S>,
+        from: &Bytes,
+        to: &Bytes,
+    ) -> Result<Vec<Bytes>, AllocError>
+        ensures { IfOk result (λ keys. keys.items ≡ keys_between from.now to.now (keys_of (map_in agent.now self.now))) }
+    {
+        listing::keys_between(agent, &self.handle, &self.notes, from, to)
+    }
+
+    /// The keys that begin with bytes, in order.
+    pub fn keys_with<S: Store>(
+        &self,
+        agent: &Agent<S>,
+        front: &Bytes,
+    ) -> Result<Vec<Bytes>, AllocError>
+        ensures { IfOk result (λ keys. keys.items ≡ keys_with front.now (keys_of (map_in agent.now self.now))) }
+    {
+        listing::keys_with(agent, &self.handle, &self.notes, front)
+    }
+
+    /// How many of the live bytes are dead: those that a compact gives back.
+    pub fn dead<S: Store>(&self, agent: &Agent<S>) -> u64
+        requires { Stands S.tells agent.now self.now }
+        ensures { result ≡ dead_in self.now }
+    {
+        listing::dead(agent, &self.handle, &self.notes)
+    }
+
+    /// Compacts where more than half of the live bytes are dead, and tells whether it did.
+    pub fn tidy<S: Store, R: Wait>(
+        &mut self,
+        rt: &R,
+        court: &Hall<S>,
+        agent: &mut Agent<S>,
+    ) -> Result<bool, KvStop>
+        requires own { agent.old.pass.hall ≡ court.now }
+        requires few { HasPlaces agent.old }
+        requires stands { Stands S.tells agent.old self.old }
+        ensures serves { Serves S.tells agent.old agent.new self.old self.new 4 (map_in agent.old self.old) }
+        ensures others { LeavesRest S.tells agent.old agent.new self.old.handle.row }
+        ensures wasted { IfOk result (λ did. did ≡ nat_lt self.old.live (2 * dead_in self.old)) }
+        ensures none { IfOk result (λ did. did ≡ false → (agent.new ≡ agent.old) × (self.new ≡ self.old)) }
+        ensures packed { IfOk result (λ did. did ≡ true → S.tells → file_bytes agent.new self.new.handle ≡ log_of (map put_of (map_in agent.old self.old))) }
+        ensures cause { IfErr result (HasPlainCause agent.old agent.new (IsCutOr self.old (IsRepack S.tells self.old (map_in agent.old self.old)))) }
+    {
+        compacting::tidy(rt, court, agent, &mut self.handle, &mut self.notes)
     }
 
     /// Closes the file, which is stored for good. Where that is refused it comes back open.
@@ -197,7 +276,7 @@ impl Kv {
         ensures closed { IfOk result (λ closed. Closes S.tells agent.old agent.new self (closed.row) 2 (map_in agent.old self)) }
         ensures back { IfErr result (λ back. Serves S.tells agent.old agent.new self back.0 2 (map_in agent.old self)) }
         ensures others { LeavesRest S.tells agent.old agent.new self.handle.row }
-        ensures cause { IfErr result (λ back. IsCaused agent.old agent.new back.1) }
+        ensures cause { IfErr result (λ back. IsCaused agent.old agent.new (IsCutOr self (IsClose self)) back.1) }
     {
         let Kv { handle, notes } = self;
         cut_and_end(rt, court, agent, handle, notes)
@@ -226,7 +305,7 @@ fn end<S: Store, R: Wait>(
     requires none { notes.tail ≡ false }
     ensures closed { IfOk result (λ closed. Closes S.tells agent.old agent.new (seen handle notes) (closed.row) 1 (map_in agent.old (seen handle notes))) }
     ensures back { IfErr result (λ back. Serves S.tells agent.old agent.new (seen handle notes) back.0 1 (map_in agent.old (seen handle notes))) }
-    ensures cause { IfErr result (λ back. IsCaused agent.old agent.new back.1) }
+    ensures cause { IfErr result (λ back. IsCaused agent.old agent.new (IsClose (seen handle notes)) back.1) }
 {
     match opfs_sync_files::close(rt, court, agent, handle) {
         Ok(closed) => Ok(closed),
@@ -247,7 +326,7 @@ fn cut_and_end<S: Store, R: Wait>(
     requires stands { Stands S.tells agent.old (seen handle notes) }
     ensures closed { IfOk result (λ closed. Closes S.tells agent.old agent.new (seen handle notes) (closed.row) 2 (map_in agent.old (seen handle notes))) }
     ensures back { IfErr result (λ back. Serves S.tells agent.old agent.new (seen handle notes) back.0 2 (map_in agent.old (seen handle notes))) }
-    ensures cause { IfErr result (λ back. IsCaused agent.old agent.new back.1) }
+    ensures cause { IfErr result (λ back. IsCaused agent.old agent.new (IsCutOr (seen handle notes) (IsClose (seen handle notes))) back.1) }
 {
     match storing::cut(rt, court, agent, &mut handle, &mut notes) {
         Ok(()) => end(rt, court, agent, handle, notes),

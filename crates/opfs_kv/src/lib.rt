@@ -9,6 +9,7 @@ mod commands;
 mod compacting;
 mod getting;
 mod kv;
+mod listing;
 mod notes;
 mod opening;
 mod records;

@@ -77,7 +77,7 @@ fn scan_piece<S: Store, R: Wait>(
     ensures reads { OnlyReads S.tells agent.old agent.new handle.old handle.new 1 }
     ensures scanned { IfOk result (λ next. IsScanned S.tells (file_bytes agent.old handle.old) at index.old next size index.new) }
     ensures far { IfOk result (λ next. next < size → at + 65000 ≤ next) }
-    ensures cause { IfErr result (HasScanCause S.tells agent.old agent.new (file_bytes agent.old handle.old) at index.old) }
+    ensures cause { IfErr result (HasScanCause S.tells agent.old agent.new handle.old.row (file_bytes agent.old handle.old) at index.old) }
 {
     let alloc = agent.alloc();
     match read(rt, court, agent, handle, 65_536, at as u64) {
@@ -104,7 +104,7 @@ fn scan_all<S: Store, R: Wait>(
     requires fresh { index.old ≡ [] }
     ensures reads { OnlyReads S.tells agent.old agent.new handle.old handle.new 260 }
     ensures scanned { OnOk result (IsScanned S.tells (file_bytes agent.old handle.old) 0 [] size size index.new) }
-    ensures cause { IfErr result (HasScanCause S.tells agent.old agent.new (file_bytes agent.old handle.old) 0 []) }
+    ensures cause { IfErr result (HasScanCause S.tells agent.old agent.new handle.old.row (file_bytes agent.old handle.old) 0 []) }
 {
     let mut next = 0;
     while next < size {
@@ -133,7 +133,7 @@ fn notes_in<S: Store, R: Wait>(
     ensures reads { OnlyReads S.tells agent.old agent.new handle.old handle.new 260 }
     ensures keeps { IfOk result (λ notes. Keeps S.tells (file_bytes agent.old handle.old) notes.live notes.tail notes.index) }
     ensures whole { IfOk result (λ notes. notes.tail ≡ false) }
-    ensures cause { IfErr result (HasOpenCause S.tells agent.old agent.new (file_bytes agent.old handle.old)) }
+    ensures cause { IfErr result (HasOpenCause S.tells agent.old agent.new handle.old.row (file_bytes agent.old handle.old)) }
 {
     let mut index = Index::empty(agent.alloc());
     match scan_all(rt, court, agent, handle, &mut index, size) {
@@ -162,7 +162,7 @@ fn notes_of<S: Store, R: Wait>(
     ensures reads { OnlyReads S.tells agent.old agent.new handle.old handle.new 260 }
     ensures keeps { IfOk result (λ notes. Keeps S.tells (file_bytes agent.old handle.old) notes.live notes.tail notes.index) }
     ensures whole { IfOk result (λ notes. notes.tail ≡ false) }
-    ensures cause { IfErr result (HasOpenCause S.tells agent.old agent.new (file_bytes agent.old handle.old)) }
+    ensures cause { IfErr result (HasOpenCause S.tells agent.old agent.new handle.old.row (file_bytes agent.old handle.old)) }
 {
     if size > 16_777_216 {
         return Err(KvStop::Full(size, 0));
@@ -183,7 +183,7 @@ pub fn read_notes<S: Store, R: Wait>(
     ensures reads { OnlyReads S.tells agent.old agent.new handle.old handle.new 261 }
     ensures keeps { IfOk result (λ notes. Keeps S.tells (file_bytes agent.old handle.old) notes.live notes.tail notes.index) }
     ensures whole { IfOk result (λ notes. notes.tail ≡ false) }
-    ensures cause { IfErr result (HasOpenCause S.tells agent.old agent.new (file_bytes agent.old handle.old)) }
+    ensures cause { IfErr result (HasOpenCause S.tells agent.old agent.new handle.old.row (file_bytes agent.old handle.old)) }
 {
     match size(agent, handle) {
         Ok(size) => notes_of(rt, court, agent, handle, size),

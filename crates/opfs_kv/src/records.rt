@@ -2,6 +2,7 @@
 mod head;
 mod index;
 mod laws;
+mod listing;
 mod miss;
 mod packing;
 mod place;
@@ -10,6 +11,7 @@ mod spell;
 
 pub use index::Index;
 pub use laws::{a_file_grows, one_reading, the_index_reads_the_map, the_map_by_key};
+pub use listing::{cost_of, keys_between, keys_from, keys_with};
 pub use miss::Miss;
 pub use packing::{Packed, pack};
 pub use place::Place;

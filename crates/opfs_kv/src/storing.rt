@@ -4,6 +4,7 @@ ghost use Rattle.std.specs.Prelude.{◌≡◌, false, take, IfErr, OnErr, OnOk};
 ghost use Rattle.opfs_sync_files.specs.Entries.{IsCaused};
 ghost use Rattle.opfs_sync_files.specs.Files.{file_bytes};
 ghost use Rattle.opfs_turns.specs.Calls.{HasRoom};
+ghost use Rattle.opfs_kv.specs.Asked.{IsCut, IsCutOr, IsFlush};
 ghost use Rattle.opfs_kv.specs.Calls.{HasPlainCause};
 ghost use Rattle.opfs_kv.specs.Seen.{Flushes, HasPlaces, Serves, Stands, map_in, seen};
 
@@ -32,7 +33,7 @@ pub fn cut<S: Store, R: Wait>(
     ensures none { OnOk result (notes.new.tail ≡ false) }
     ensures front { take notes.old.live (file_bytes agent.new handle.new) ≡ take notes.old.live (file_bytes agent.old handle.old) }
     ensures same { (notes.new.index ≡ notes.old.index) × (notes.new.live ≡ notes.old.live) }
-    ensures cause { IfErr result (IsCaused agent.old agent.new) }
+    ensures cause { IfErr result (IsCaused agent.old agent.new (IsCut (seen handle.old notes.old))) }
 {
     if !notes.tail {
         return Ok(());
@@ -59,7 +60,7 @@ fn store<S: Store, R: Wait>(
     requires stands { Stands S.tells agent.old (seen handle.old notes.old) }
     ensures flushed { OnOk result (Flushes S.tells agent.old agent.new (seen handle.old notes.old) (seen handle.new notes.new) 2 (map_in agent.old (seen handle.old notes.old))) }
     ensures left { OnErr result (Serves S.tells agent.old agent.new (seen handle.old notes.old) (seen handle.new notes.new) 2 (map_in agent.old (seen handle.old notes.old))) }
-    ensures cause { IfErr result (IsCaused agent.old agent.new) }
+    ensures cause { IfErr result (IsCaused agent.old agent.new (IsCutOr (seen handle.old notes.old) (IsFlush (seen handle.old notes.old)))) }
 {
     match cut(rt, court, agent, handle, notes) {
         Ok(()) => {}
@@ -84,7 +85,7 @@ pub fn flush_file<S: Store, R: Wait>(
     requires stands { Stands S.tells agent.old (seen handle.old notes.old) }
     ensures flushed { OnOk result (Flushes S.tells agent.old agent.new (seen handle.old notes.old) (seen handle.new notes.new) 2 (map_in agent.old (seen handle.old notes.old))) }
     ensures left { OnErr result (Serves S.tells agent.old agent.new (seen handle.old notes.old) (seen handle.new notes.new) 2 (map_in agent.old (seen handle.old notes.old))) }
-    ensures cause { IfErr result (HasPlainCause agent.old agent.new) }
+    ensures cause { IfErr result (HasPlainCause agent.old agent.new (IsCutOr (seen handle.old notes.old) (IsFlush (seen handle.old notes.old)))) }
 {
     match store(rt, court, agent, handle, notes) {
         Ok(()) => Ok(()),

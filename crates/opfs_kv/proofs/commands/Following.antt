@@ -5,17 +5,14 @@ use Rattle.opfs_base.specs.Texts.{Text}
 use Rattle.opfs_kv.specs.Records.Maps.{Map}
 use Rattle.opfs_sync_files.specs.Entries.{GoesOn}
 use Rattle.opfs_sync_files.specs.Resting.{LeavesRest}
-use Rattle.opfs_sync_files.proofs.Knowing.{entry-later, goes-most, goes-none, goes-then}
+use Rattle.opfs_sync_files.proofs.Knowing.{goes-most, goes-none, goes-then}
 use Rattle.opfs_sync_files.proofs.Resting.{rest-next, rest-none}
 use Rattle.opfs_turns.specs.Agents.{AgentSeen}
 use Rattle.opfs_kv.specs.Seen.{KvSeen, Stands, map_in, stored_in}
-use Rattle.opfs_kv.specs.Commands.Runs.{AreCaused, AreReplies, AreStoredBy, HasStored, IsCausedReply, IsReply, IsRun, after_op, entries_of, map_after, stores}
+use Rattle.opfs_kv.specs.Commands.Runs.{AreReplies, AreRun, AreStoredBy, HasStored, IsReply, IsRun, after_op, entries_of, map_after, stores}
 use Rattle.opfs_kv.specs.declared.commands.commands.KvOp.{KvOp}
 use Rattle.opfs_kv.specs.declared.commands.commands.KvOp.TheVariants as op
 use Rattle.opfs_kv.specs.declared.commands.commands.KvReply.{KvReply}
-use Rattle.opfs_kv.specs.declared.commands.commands.KvReply.TheVariants as kv_reply
-use Rattle.opfs_turns.specs.declared.asking.stop.Stop.TheVariants as stop
-use Rattle.opfs_kv.specs.declared.stop.KvStop.TheVariants as kv_stop
 use Rattle.opfs_base.specs.Places.{place_of}
 use Rattle.opfs_kv.specs.Keeping.{Spells}
 use Rattle.opfs_kv.specs.Seen.{DoubtsSpell}
@@ -25,7 +22,7 @@ use Rattle.opfs_sync_files.specs.Doubts.{DoubtsStore}
 use Rattle.opfs_sync_files.specs.Files.{contents_at}
 use Rattle.opfs_kv.proofs.commands.Doubted.{RunDoubts, doubted-more, doubted-none}
 use Rattle.opfs_kv.proofs.commands.Stopping.{all-flushed}
-use Rattle.opfs_kv.proofs.commands.Lists.{AreAsMany, causes-more, many-more, map-more, replies-more, stored-more}
+use Rattle.opfs_kv.proofs.commands.Lists.{AreAsMany, many-more, map-more, replies-more, runs-more, stored-more}
 
 pub sum-more : (ops : List KvOp) (o : KvOp) → sum_by entries_of (ops ++ o ∷ []) ≡ sum_by entries_of ops + entries_of o
 sum-more [] o = omega (arith, sum_by-cons entries_of o [])
@@ -42,16 +39,6 @@ pub sum-few : (ops : List KvOp) → sum_by entries_of ops ≤ 4 * length ops
 sum-few [] = omega arith
 sum-few (p ∷ ops) = omega (arith, sum_by-cons entries_of p ops, few-one p, sum-few ops)
 
--- A later command's cause is one since the first.
-caused-on : {O : Type 0} (a b c : AgentSeen O) (n : ℕ) (o : KvOp) (r : KvReply) → GoesOn a b n → IsCausedReply b c o r → IsCausedReply a c o r
-caused-on a b c n o (kv_reply.No (kv_stop.Agent (stop.No x))) goes h = entry-later a b c n _ goes h
-caused-on a b c n o (kv_reply.No (kv_stop.Agent stop.NoMemory)) goes h = tt
-caused-on a b c n o (kv_reply.No (kv_stop.Full live need)) goes h = h
-caused-on a b c n o (kv_reply.No (kv_stop.BadFile place)) goes h = h
-caused-on a b c n o kv_reply.Done goes h = tt
-caused-on a b c n o (kv_reply.Value value) goes h = tt
-caused-on a b c n o (kv_reply.Was was) goes h = tt
-
 pub record IsRunning {O : Type 0} (tells : Type 0) (before after : AgentSeen O) (old new : KvSeen) (ops : List KvOp) (replies : List KvReply) : Type 0 where
   pub stands : Stands tells after new
   pub row : new.handle.row ≡ old.handle.row
@@ -62,7 +49,7 @@ pub record IsRunning {O : Type 0} (tells : Type 0) (before after : AgentSeen O) 
   pub told : tells → AreReplies (map_in before old) ops replies
   pub map : tells → map_in after new ≡ map_after (map_in before old) ops replies
   pub stored : HasStored tells before after old new ops replies
-  pub caused : AreCaused before after ops replies
+  pub runs : AreRun tells before old ops replies after new
   pub doubts : tells → RunDoubts (map_in before old) ops replies before.opening before.pass.base after.pass.base (place_of old.handle.file)
 
 pub run-none : {O : Type 0} (tells : Type 0) (a : AgentSeen O) (x : KvSeen) → Stands tells a x → IsRunning tells a a x x [] []
@@ -76,7 +63,7 @@ run-none tells a x stands = record {
   told = λ tell. tt;
   map = λ tell. refl;
   stored = record { texts = []; stored = sym (append-nil (stored_in a x)); are = λ tell. refl };
-  caused = tt;
+  runs = (refl, refl);
   doubts = λ tell. doubted-none (map_in a x) a.opening a.pass.base (place_of x.handle.file);
 }
 
@@ -97,7 +84,7 @@ run-more tells a b c x y z ops rs o r h one = record {
     are = λ tell. stored-more (map_in a x) ops rs o r h.stored.texts one.texts h.many (h.stored.are tell)
         (subst (λ (m : Map). AreStoredBy (stores o r) (after_op m o r) one.texts (λ rest. rest ≡ [])) (h.map tell) (one.are tell));
   };
-  caused = causes-more a b c (entries_of o) ops rs o r h.many one.goes h.caused (caused-on a b c (sum_by entries_of ops) o r h.goes one.cause);
+  runs = runs-more tells a b c x y z ops rs o r h.runs one;
   doubts = λ tell.
       doubted-more (map_in a x) ops rs o r h.many a.opening a.pass.base b.pass.base c.pass.base one.goes.newer (place_of x.handle.file) h.stored.texts one.goes.grown (h.doubts tell)
       (subst (λ l. DoubtsStore a.opening b.pass.base c.pass.base (place_of l) (λ (bytes : Text). Spells bytes (map_after (map_in a x) ops rs))) h.file

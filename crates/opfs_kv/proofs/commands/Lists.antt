@@ -2,15 +2,11 @@
 use Rattle.std.proofs.Common.{◌≡◌, ℕ, Bool, true, false, List, [], ◌∷◌, ◌++◌, refl, sym, subst}
 use Rattle.opfs_base.specs.Texts.{Text}
 use Rattle.opfs_kv.specs.Records.Maps.{Map}
-use Rattle.opfs_sync_files.specs.Entries.{GoesOn}
-use Rattle.opfs_sync_files.proofs.Knowing.{entry-earlier}
 use Rattle.opfs_turns.specs.Agents.{AgentSeen}
-use Rattle.opfs_kv.specs.declared.stop.KvStop.TheVariants as kv_stop
-use Rattle.opfs_turns.specs.declared.asking.stop.Stop.TheVariants as stop
-use Rattle.opfs_kv.specs.Commands.Runs.{AreCaused, AreReplies, AreStored, AreStoredBy, IsCausedReply, IsReply, after_op, map_after, stores}
+use Rattle.opfs_kv.specs.Seen.{KvSeen}
+use Rattle.opfs_kv.specs.Commands.Runs.{AreReplies, AreRun, AreStored, AreStoredBy, IsReply, IsRun, after_op, map_after, stores}
 use Rattle.opfs_kv.specs.declared.commands.commands.KvOp.{KvOp}
 use Rattle.opfs_kv.specs.declared.commands.commands.KvReply.{KvReply}
-use Rattle.opfs_kv.specs.declared.commands.commands.KvReply.TheVariants as kv_reply
 
 -- As many replies as commands.
 abbrev pub AreAsMany : List KvOp → List KvReply → Type 0
@@ -53,20 +49,21 @@ stored-more m (p ∷ ops) (x ∷ rs) o r texts more many h one =
     by-more (stores p x) (after_op m p x) texts more (AreStored (after_op m p x) ops rs) (AreStored (after_op m p x) (ops ++ o ∷ []) (rs ++ r ∷ []))
     (λ rest g. stored-more (after_op m p x) ops rs o r rest more many g one) h
 
--- ---- why they were refused
+-- ---- one after another
 
-pub cause-kept : {O : Type 0} (a b c : AgentSeen O) (n : ℕ) (o : KvOp) (r : KvReply) → GoesOn b c n → IsCausedReply a b o r → IsCausedReply a c o r
-cause-kept a b c n o (kv_reply.No (kv_stop.Agent (stop.No x))) goes h = entry-earlier a b c n _ h goes
-cause-kept a b c n o (kv_reply.No (kv_stop.Agent stop.NoMemory)) goes h = tt
-cause-kept a b c n o (kv_reply.No (kv_stop.Full live need)) goes h = h
-cause-kept a b c n o (kv_reply.No (kv_stop.BadFile place)) goes h = h
-cause-kept a b c n o kv_reply.Done goes h = tt
-cause-kept a b c n o (kv_reply.Value value) goes h = tt
-cause-kept a b c n o (kv_reply.Was was) goes h = tt
-
-pub causes-more : {O : Type 0} (a b c : AgentSeen O) (n : ℕ) (ops : List KvOp) (rs : List KvReply) (o : KvOp) (r : KvReply) → AreAsMany ops rs → GoesOn b c n → AreCaused a b ops rs → IsCausedReply a c o r
-    → AreCaused a c (ops ++ o ∷ []) (rs ++ r ∷ [])
-causes-more a b c n [] [] o r many goes h one = (one, tt)
-causes-more a b c n [] (x ∷ rs) o r many goes h one = absurd many
-causes-more a b c n (p ∷ ops) [] o r many goes h one = absurd many
-causes-more a b c n (p ∷ ops) (x ∷ rs) o r many goes h one = (cause-kept a b c n p x goes h.0, causes-more a b c n ops rs o r many goes h.1 one)
+pub runs-more : {O : Type 0} (tells : Type 0) (a b c : AgentSeen O) (x y z : KvSeen) (ops : List KvOp) (rs : List KvReply) (o : KvOp) (r : KvReply) → AreRun tells a x ops rs b y → IsRun tells b c y z o r
+    → AreRun tells a x (ops ++ o ∷ []) (rs ++ r ∷ []) c z
+runs-more {O} tells a b c x y z [] [] o r h one = record {
+  between = c;
+  kv = z;
+  first = subst (λ (p : AgentSeen O). IsRun tells p c x z o r) h.0 (subst (λ (k : KvSeen). IsRun tells b c k z o r) h.1 one);
+  rest = (refl, refl);
+}
+runs-more tells a b c x y z [] (q ∷ rs) o r h one = absurd h
+runs-more tells a b c x y z (p ∷ ops) [] o r h one = absurd h
+runs-more tells a b c x y z (p ∷ ops) (q ∷ rs) o r h one = record {
+  between = h.between;
+  kv = h.kv;
+  first = h.first;
+  rest = runs-more tells h.between b c h.kv y z ops rs o r h.rest one;
+}

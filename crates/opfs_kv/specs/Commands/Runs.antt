@@ -1,13 +1,13 @@
 -- A list of commands on a key-value file, and what a map answers to them. This project's own.
-use Rattle.std.specs.Prelude.{◌≡◌, ℕ, ◌+◌, ◌<◌, ◌≤◌, Bool, true, false, List, [], ◌∷◌, ◌++◌, length, is_some}
+use Rattle.std.specs.Prelude.{◌≡◌, ◌≢◌, ℕ, ◌+◌, ◌<◌, ◌≤◌, Bool, true, false, List, [], ◌∷◌, ◌++◌, length, Some, None, is_some}
 use Rattle.opfs_base.specs.Texts.{Text}
-use Rattle.opfs_turns.specs.declared.asking.stop.Stop.TheVariants as stop
-use Rattle.opfs_hist.specs.declared.reply.Reply.TheVariants as reply
+use Rattle.opfs_hist.specs.declared.op.Op.{Op}
 use Rattle.opfs_kv.specs.Records.Maps.{Map, found, with_key, without_key}
-use Rattle.opfs_kv.specs.Records.Records.{IsKey, IsValue}
-use Rattle.opfs_sync_files.specs.Entries.{GoesOn, HasEntry}
+use Rattle.opfs_kv.specs.Records.Records.{IsKey, IsValue, spelled_by}
+use Rattle.opfs_sync_files.specs.Entries.{GoesOn, IsCaused}
 use Rattle.opfs_sync_files.specs.Resting.{LeavesRest}
 use Rattle.opfs_turns.specs.Agents.{AgentSeen}
+use Rattle.opfs_kv.specs.Asked.{IsAppend, IsCutOr, IsFlush, IsGet, IsRepack}
 use Rattle.opfs_kv.specs.Keeping.{Spells}
 use Rattle.opfs_kv.specs.Seen.{DoubtsSpell, KvSeen, Stands, map_in, stored_in}
 use Rattle.opfs_kv.specs.declared.commands.commands.KvOp.{KvOp}
@@ -75,17 +75,26 @@ need_of (op.Put key value) = 6 + length key + length value
 need_of (op.Delete key) = 2 + length key
 need_of called = 0
 
--- Why a command was refused: its record has no room, or a call of the agent has its entry. Want of memory is free.
-abbrev pub IsCausedReply : {O : Type 0} → AgentSeen O → AgentSeen O → KvOp → KvReply → Type 0
-IsCausedReply before after called (kv_reply.No (kv_stop.Agent (stop.No r))) = HasEntry before after (reply.No r)
-IsCausedReply before after called (kv_reply.No (kv_stop.Agent stop.NoMemory)) = Unit {0}
-IsCausedReply before after called (kv_reply.No (kv_stop.Full live need)) = (need ≡ need_of called) × (16777216 < live + need)
-IsCausedReply before after called (kv_reply.No (kv_stop.BadFile place)) = ⊥
-IsCausedReply before after called answered = Unit {0}
+-- A command's record has no room behind the live bytes: that of a put, or of a delete of a key that is there.
+abbrev pub LacksRoom : KvSeen → KvOp → Type 0
+LacksRoom kv (op.Put key value) = 16777216 < kv.live + (6 + length key + length value)
+LacksRoom kv (op.Delete key) = (found kv.index key ≢ None) × (16777216 < kv.live + (2 + length key))
+LacksRoom kv called = ⊥
 
-abbrev pub AreCaused : {O : Type 0} → AgentSeen O → AgentSeen O → List KvOp → List KvReply → Type 0
-AreCaused before after (o ∷ ops) (r ∷ replies) = IsCausedReply before after o r × AreCaused before after ops replies
-AreCaused before after ops replies = Unit {0}
+-- The calls of the agent that a command makes.
+abbrev pub IsAsked : {O : Type 0} → Type 0 → AgentSeen O → KvSeen → KvOp → Op → Type 0
+IsAsked tells before kv (op.Get key) = IsGet kv.handle.row (found kv.index key)
+IsAsked tells before kv (op.Put key value) = IsCutOr kv (IsAppend kv (spelled_by key (Some value)))
+IsAsked tells before kv (op.Delete key) = IsCutOr kv (IsAppend kv (spelled_by key None))
+IsAsked tells before kv op.Flush = IsCutOr kv (IsFlush kv)
+IsAsked tells before kv op.Compact = IsCutOr kv (IsRepack tells kv (map_in before kv))
+
+-- Why a command was refused: its record has no room, or a call that it made was refused and has its entry. Want of memory is free.
+abbrev pub IsCausedReply : {O : Type 0} → Type 0 → AgentSeen O → AgentSeen O → KvSeen → KvOp → KvReply → Type 0
+IsCausedReply tells before after kv called (kv_reply.No (kv_stop.Agent why)) = IsCaused before after (IsAsked tells before kv called) why
+IsCausedReply tells before after kv called (kv_reply.No (kv_stop.Full live need)) = (live ≡ kv.live) × (need ≡ need_of called) × LacksRoom kv called
+IsCausedReply tells before after kv called (kv_reply.No (kv_stop.BadFile place)) = ⊥
+IsCausedReply tells before after kv called answered = Unit {0}
 
 -- The entries that a command adds at most: a get one.
 abbrev pub entries_of : KvOp → ℕ
@@ -99,7 +108,8 @@ pub record HasStored {O : Type 0} (tells : Type 0) (before after : AgentSeen O) 
   pub stored : stored_in after new ≡ stored_in before old ++ texts
   pub are : tells → AreStored (map_in before old) ops replies texts
 
--- One command with its reply. The agent's other own rows are as they were.
+-- One command with its reply, by what was before and after it. It is Full just where its record has no room. The agent's other own
+-- rows are as they were.
 pub record IsRun {O : Type 0} (tells : Type 0) (before after : AgentSeen O) (old new : KvSeen) (called : KvOp) (answered : KvReply) : Type 0 where
   pub stands : Stands tells after new
   pub row : new.handle.row ≡ old.handle.row
@@ -111,8 +121,22 @@ pub record IsRun {O : Type 0} (tells : Type 0) (before after : AgentSeen O) (old
   pub texts : List Text
   pub stored : stored_in after new ≡ stored_in before old ++ texts
   pub are : tells → AreStoredBy (stores called answered) (after_op (map_in before old) called answered) texts (λ rest. rest ≡ [])
-  pub cause : IsCausedReply before after called answered
+  pub full : LacksRoom old called → answered ≡ kv_reply.No (kv_stop.Full old.live (need_of called))
+  pub cause : IsCausedReply tells before after old called answered
   pub doubts : tells → DoubtsSpell before after old (map_in before old)
+
+-- A command with its reply, and what is said of all that comes behind it: its moment, and the file as it stands there.
+pub record RunsFirst {O : Type 0} (tells : Type 0) (before : AgentSeen O) (old : KvSeen) (called : KvOp) (answered : KvReply) (Rest : AgentSeen O → KvSeen → Type 0) : Type 0 where
+  pub between : AgentSeen O
+  pub kv : KvSeen
+  pub first : IsRun tells before between old kv called answered
+  pub rest : Rest between kv
+
+-- Commands with their replies, one after another: each goes on from what the one before it left.
+abbrev pub AreRun : {O : Type 0} → Type 0 → AgentSeen O → KvSeen → List KvOp → List KvReply → AgentSeen O → KvSeen → Type 0
+AreRun tells before old [] [] after new = (after ≡ before) × (new ≡ old)
+AreRun tells before old (o ∷ ops) (r ∷ replies) after new = RunsFirst tells before old o r (λ between kv. AreRun tells between kv ops replies after new)
+AreRun tells before old ops replies after new = ⊥
 
 -- An agent has places for the entries of a list of commands.
 pub record HasRunRoom {O : Type 0} (a : AgentSeen O) : Type 0 where

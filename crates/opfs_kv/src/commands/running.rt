@@ -4,7 +4,7 @@ ghost use Rattle.std.specs.Prelude.{◌≡◌, ◌≤◌, All, IfOk, OnErr, OnOk
 ghost use Rattle.opfs_sync_files.specs.Entries.{GoesOn};
 ghost use Rattle.opfs_sync_files.specs.Resting.{LeavesRest};
 ghost use Rattle.opfs_kv.specs.Seen.{Stands, map_in};
-ghost use Rattle.opfs_kv.specs.Commands.Runs.{AreCaused, AreReplies, HasRunRoom, HasStored, IsOp, entries_of, map_after};
+ghost use Rattle.opfs_kv.specs.Commands.Runs.{AreReplies, AreRun, HasRunRoom, HasStored, IsOp, entries_of, map_after};
 ghost use Rattle.opfs_kv.specs.Commands.Stops.{LeavesFronts};
 
 use crate::Kv;
@@ -36,7 +36,7 @@ pub fn kv_run<S: Store, R: Wait>(
     ensures contents { IfOk result (λ replies. HasStored S.tells agent.old agent.new kv.old kv.new ops.now replies.list.items) }
     ensures stops { IfOk result (λ replies. S.tells → LeavesFronts agent.old agent.new kv.old ops.now replies.list.items) }
     ensures same { OnOk result ((kv.new.handle.row ≡ kv.old.handle.row) × (kv.new.handle.file ≡ kv.old.handle.file)) }
-    ensures caused { IfOk result (λ replies. AreCaused agent.old agent.new ops.now replies.list.items) }
+    ensures runs { IfOk result (λ replies. AreRun S.tells agent.old kv.old ops.now replies.list.items agent.new kv.new) }
     ensures others { LeavesRest S.tells agent.old agent.new kv.old.handle.row }
     ensures entries { OnOk result (GoesOn agent.old agent.new (sum_by entries_of ops.now)) }
     ensures err { OnErr result ((agent.new ≡ agent.old) × (kv.new ≡ kv.old)) }

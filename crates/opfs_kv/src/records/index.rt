@@ -1,6 +1,6 @@
 //! Where each key's value is.
 
-ghost use Rattle.std.specs.Prelude.{◌≡◌, [], OnOk, OnErr, is_some};
+ghost use Rattle.std.specs.Prelude.{◌≡◌, [], length, OnOk, OnErr, is_some};
 ghost use Rattle.std.specs.List.Sorted.{IsStrictlySortedBy};
 ghost use Rattle.std.specs.Map.{keys_of};
 ghost use Rattle.opfs_kv.specs.Records.Maps.{key_cmp, found, with_key, without_key};
@@ -36,6 +36,13 @@ impl Index {
         Index {
             map: BTreeMap::new(alloc),
         }
+    }
+
+    /// How many keys are there.
+    pub fn len(&self) -> usize
+        ensures { result ≡ length self.now }
+    {
+        self.map.len()
     }
 
     /// Where a key's value is.

@@ -1,8 +1,13 @@
-use Rattle.std.proofs.Common.{◌+◌, sym, ap, subst, ◌∙◌, arith}
+use Rattle.std.proofs.Common.{◌+◌, Some, sym, ap, subst, ◌∙◌, arith}
 use Rattle.opfs_base.specs.Texts.{Text}
 use Rattle.opfs_kv.specs.Records.Maps.{with_key}
 use Rattle.opfs_splice.specs.Splicing.{splice}
 use Rattle.opfs_sync_files.specs.Files.{file_bytes}
+use Rattle.opfs_kv.specs.Asked.{IsAppend}
+use Rattle.opfs_kv.specs.Records.Records.{spelled_by}
+use Rattle.opfs_hist.specs.declared.op.Op.TheVariants as op
+use Rattle.opfs_sync_files.specs.Entries.{TheCall}
+use Rattle.opfs_sync_files.proofs.Knowing.{caused-may}
 use Rattle.opfs_kv.specs.Seen.{Serves, map_in, seen}
 use Rattle.opfs_kv.specs.declared.notes.Notes.{Notes}
 use Rattle.opfs_kv.proofs.Results.{memory-caused, on-err, on-ok}
@@ -33,4 +38,9 @@ returns-in-Ok-clause-left g c =
     (tail-serves g.S.Store.tells c.args.agent.now c.write.new.agent (seen c.args.handle.now c.args.notes.now) c.requires.stands c.write.new.handle c.in-Ok.ensures.still c.in-Ok.ensures.stored c.requires.none c.args.bytes.now c.in-Ok.ensures.wrote)) c.note_put.ensures.err
 
 pub returns-in-Ok-clause-cause : goal.returns-in-Ok-clause-cause
-returns-in-Ok-clause-cause g c = memory-caused c.args.agent.now c.write.new.agent c.note_put.result c.note_put.ensures.why
+returns-in-Ok-clause-cause g c = memory-caused c.args.agent.now c.write.new.agent (IsAppend (seen c.args.handle.now c.args.notes.now) (spelled_by c.args.key.now (Some c.args.value.now))) c.note_put.result c.note_put.ensures.why
+
+pub returns-in-Err-clause-cause : goal.returns-in-Err-clause-cause
+returns-in-Err-clause-cause g c =
+    caused-may c.args.agent.now c.write.new.agent (TheCall (op.SyncWrite c.args.handle.now.row c.args.bytes.now (Some c.args.notes.now.live))) (IsAppend (seen c.args.handle.now c.args.notes.now) (spelled_by c.args.key.now (Some c.args.value.now))) c.in-Err.stop
+    (λ o is. is ∙ ap (λ (t : Text). op.SyncWrite c.args.handle.now.row t (Some c.args.notes.now.live)) c.requires.bytes) c.in-Err.ensures.cause

@@ -1,4 +1,7 @@
-use Rattle.std.proofs.Common.{◌≡◌, map, ap, ◌∙◌, arith}
+use Rattle.std.proofs.Common.{◌≡◌, inl, inr, map, ap, ◌∙◌, arith}
+use Rattle.opfs_kv.specs.Asked.{IsCut, IsCutOr, IsRepack}
+use Rattle.opfs_kv.proofs.Asking.{repack-later}
+use Rattle.opfs_sync_files.proofs.Knowing.{caused-may}
 use Rattle.opfs_kv.specs.Records.Maps.{Map}
 use Rattle.opfs_kv.specs.Records.Records.{log_of, put_of}
 use Rattle.opfs_sync_files.specs.Files.{file_bytes}
@@ -34,7 +37,13 @@ returns-in-Ok-clause-packed g c =
     on-ok c.pack_in.result _ (g.S.Store.tells → file_bytes c.pack_in.new.agent c.pack_in.new.handle ≡ log_of (map put_of (map_in c.args.agent.now (seen c.args.handle.now c.args.notes.now)))) (λ f tell. f tell ∙ ap (λ (m : Map). log_of (map put_of m)) (c.in-Ok.ensures.serves.map tell)) c.pack_in.ensures.packed
 
 pub returns-in-Ok-clause-cause : goal.returns-in-Ok-clause-cause
-returns-in-Ok-clause-cause g c = later-caused c.args.agent.now c.cut.new.agent c.pack_in.new.agent 1 c.pack_in.result c.in-Ok.ensures.serves.goes c.pack_in.ensures.cause
+returns-in-Ok-clause-cause g c =
+    later-caused c.args.agent.now c.cut.new.agent c.pack_in.new.agent (IsRepack g.S.Store.tells (seen c.cut.new.handle c.cut.new.notes) (map_in c.cut.new.agent (seen c.cut.new.handle c.cut.new.notes))) (IsCutOr (seen c.args.handle.now c.args.notes.now) (IsRepack g.S.Store.tells (seen c.args.handle.now c.args.notes.now) (map_in c.args.agent.now (seen c.args.handle.now c.args.notes.now)))) 1 c.pack_in.result
+    (λ o h. inr (repack-later (seen c.args.handle.now c.args.notes.now) (seen c.cut.new.handle c.cut.new.notes) c.in-Ok.ensures.serves.row g.S.Store.tells (map_in c.args.agent.now (seen c.args.handle.now c.args.notes.now)) (map_in c.cut.new.agent (seen c.cut.new.handle c.cut.new.notes)) c.in-Ok.ensures.serves.map c.in-Ok.ensures.same.1 o h)) c.in-Ok.ensures.serves.goes c.pack_in.ensures.cause
+
+pub returns-in-Err-clause-cause : goal.returns-in-Err-clause-cause
+returns-in-Err-clause-cause g c =
+    caused-may c.args.agent.now c.cut.new.agent (IsCut (seen c.args.handle.now c.args.notes.now)) (IsCutOr (seen c.args.handle.now c.args.notes.now) (IsRepack g.S.Store.tells (seen c.args.handle.now c.args.notes.now) (map_in c.args.agent.now (seen c.args.handle.now c.args.notes.now)))) c.in-Err.stop (λ o h. inl h) c.in-Err.ensures.cause
 
 pub returns-in-Err-clause-serves : goal.returns-in-Err-clause-serves
 returns-in-Err-clause-serves g c = serves-most g.S.Store.tells c.args.agent.now c.cut.new.agent (seen c.args.handle.now c.args.notes.now) (seen c.cut.new.handle c.cut.new.notes) 1 4 (map_in c.args.agent.now (seen c.args.handle.now c.args.notes.now)) (omega arith) c.in-Err.ensures.serves

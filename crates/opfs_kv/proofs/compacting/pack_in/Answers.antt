@@ -1,4 +1,7 @@
-use Rattle.std.proofs.Common.{◌≡◌, map, ◌∙◌, arith}
+use Rattle.std.proofs.Common.{◌≡◌, inr, map, ◌∙◌, arith}
+use Rattle.std.proofs.lemmas.List.{length-take}
+use Rattle.opfs_kv.specs.Asked.{IsCut, IsRepack}
+use Rattle.opfs_kv.proofs.Asking.{end-asked}
 use Rattle.opfs_kv.specs.Records.Maps.{Map}
 use Rattle.opfs_kv.specs.Records.Records.{log_of, put_of}
 use Rattle.opfs_sync_files.specs.Files.{file_bytes}
@@ -25,7 +28,10 @@ returns-in-Ok-clause-packed g c =
     on-ok c.cut.result _ (g.S.Store.tells → file_bytes c.cut.new.agent c.cut.new.handle ≡ log_of (map put_of (map_in c.args.agent.now (seen c.args.handle.now c.args.notes.now)))) (λ none tell. all-cut g.S.Store.tells c.cut.new.agent (seen c.cut.new.handle c.cut.new.notes) c.cut.ensures.serves.stands none _ c.cut.ensures.same.1 ∙ c.cut.ensures.front ∙ c.in-Ok.ensures.front tell) c.cut.ensures.none
 
 pub returns-in-Ok-clause-cause : goal.returns-in-Ok-clause-cause
-returns-in-Ok-clause-cause g c = later-caused c.args.agent.now c.rewrite.new.agent c.cut.new.agent 2 c.cut.result c.in-Ok.ensures.serves.goes c.cut.ensures.cause
+returns-in-Ok-clause-cause g c =
+    later-caused c.args.agent.now c.rewrite.new.agent c.cut.new.agent (IsCut (seen c.rewrite.new.handle c.rewrite.new.notes)) (IsRepack g.S.Store.tells (seen c.args.handle.now c.args.notes.now) (map_in c.args.agent.now (seen c.args.handle.now c.args.notes.now))) 2 c.cut.result
+    (λ o h. inr (inr (end-asked g.S.Store.tells (seen c.args.handle.now c.args.notes.now) (seen c.rewrite.new.handle c.rewrite.new.notes) (map_in c.args.agent.now (seen c.args.handle.now c.args.notes.now)) (file_bytes c.rewrite.new.agent c.rewrite.new.handle) c.in-Ok.ensures.serves.row
+    (length-take c.rewrite.new.notes.live (file_bytes c.rewrite.new.agent c.rewrite.new.handle) ∙ omega (arith, c.in-Ok.ensures.serves.stands.keeps.inside)) c.in-Ok.ensures.front o h))) c.in-Ok.ensures.serves.goes c.cut.ensures.cause
 
 pub returns-in-Err-clause-serves : goal.returns-in-Err-clause-serves
 returns-in-Err-clause-serves g c = serves-most g.S.Store.tells c.args.agent.now c.rewrite.new.agent (seen c.args.handle.now c.args.notes.now) (seen c.rewrite.new.handle c.rewrite.new.notes) 2 3 (map_in c.args.agent.now (seen c.args.handle.now c.args.notes.now)) (omega arith) c.in-Err.ensures.serves

@@ -1,5 +1,6 @@
 use Rattle.std.proofs.Common.{◌∙◌, arith}
 use Rattle.opfs_sync_files.specs.Files.{file_bytes}
+use Rattle.opfs_kv.specs.Asked.{IsReadAll}
 use Rattle.opfs_kv.specs.Packing.{IsAnew, IsAnewFor}
 use Rattle.opfs_kv.specs.Seen.{seen}
 use Rattle.opfs_kv.specs.declared.compacting.Anew.{Anew}
@@ -28,7 +29,7 @@ returns-in-Ok-clause-anew g c =
     (λ x h. record { read = c.as_slice.result.now; told = λ tell. c.as_slice.ensures ∙ c.in-Ok.ensures.read tell ∙ read-whole g.S.Store.tells c.args.agent.now (seen c.args.handle.now c.args.notes.now) c.requires.stands c.requires.none; anew = h }) c.anew_of.ensures.anew
 
 pub returns-in-Ok-clause-cause : goal.returns-in-Ok-clause-cause
-returns-in-Ok-clause-cause g c = memory-caused c.args.agent.now c.read.new.agent c.anew_of.result c.anew_of.ensures.why
+returns-in-Ok-clause-cause g c = memory-caused c.args.agent.now c.read.new.agent (IsReadAll (seen c.args.handle.now c.args.notes.now)) c.anew_of.result c.anew_of.ensures.why
 
 pub returns-in-Err-clause-serves : goal.returns-in-Err-clause-serves
 returns-in-Err-clause-serves g c = still-serves g.S.Store.tells c.args.agent.now c.read.new.agent (seen c.args.handle.now c.args.notes.now) c.requires.stands c.read.new.handle c.in-Err.ensures.still c.in-Err.ensures.stored c.in-Err.ensures.same

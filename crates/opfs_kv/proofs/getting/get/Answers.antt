@@ -1,10 +1,11 @@
-use Rattle.std.proofs.Common.{◌≡◌, Option, Some, None, Ok, refl, sym, subst}
+use Rattle.std.proofs.Common.{◌≡◌, Option, Some, None, Ok, IfErr, refl, sym, subst}
 use Rattle.opfs_base.specs.Texts.{Text}
 use Rattle.opfs_kv.specs.Records.Maps.{found}
 use Rattle.opfs_kv.specs.declared.records.place.Place.{Place}
 use Rattle.opfs_splice.specs.Splicing.{window}
 use Rattle.opfs_sync_files.specs.Files.{file_bytes}
-use Rattle.opfs_kv.specs.Calls.{IsGotten}
+use Rattle.opfs_kv.specs.Calls.{HasPlainCause, IsGotten}
+use Rattle.opfs_kv.specs.Asked.{IsGet}
 use Rattle.opfs_kv.specs.Seen.{map_in, seen}
 use Rattle.opfs_kv.proofs.Kept.{found-here, found-none}
 use Rattle.opfs_kv.proofs.Results.{if-ok}
@@ -27,3 +28,6 @@ returns-in-None-clause-value g c = λ tell. sym (found-none (file_bytes c.args.a
 
 pub returns-in-None-clause-once : goal.returns-in-None-clause-once
 returns-in-None-clause-once g c = subst (λ (o : Option Place). IsGotten g.S.Store.tells c.args.agent.now c.args.agent.now c.args.handle.now.row o (Ok None)) c.in-None.ensures (refl, refl)
+
+pub returns-in-Some-clause-cause : goal.returns-in-Some-clause-cause
+returns-in-Some-clause-cause g c = subst (λ (o : Option Place). IfErr c.value_at.result (HasPlainCause c.args.agent.now c.value_at.new.agent (IsGet c.args.handle.now.row o))) c.in-Some.ensures c.value_at.ensures.cause

@@ -3,10 +3,12 @@ use Rattle.opfs_turns.specs.declared.asking.stop.Stop.{Stop}
 use Rattle.opfs_agent.specs.declared.handle_calls.handle.ClosedSync.{ClosedSync}
 use Rattle.opfs_kv.specs.Records.Maps.{Map}
 use Rattle.opfs_sync_files.specs.Entries.{IsCaused}
-use Rattle.opfs_sync_files.proofs.Knowing.{caused-later}
+use Rattle.opfs_kv.specs.Asked.{IsClose, IsCut, IsCutOr}
+use Rattle.opfs_kv.proofs.Asking.{close-later, cut-first}
+use Rattle.opfs_sync_files.proofs.Knowing.{caused-may}
 use Rattle.opfs_kv.specs.Seen.{Closes, KvSeen, Serves, map_in, seen}
 use Rattle.opfs_kv.proofs.Flushing.{closes-later}
-use Rattle.opfs_kv.proofs.Results.{if-err, if-ok}
+use Rattle.opfs_kv.proofs.Results.{if-err, if-ok, later-may}
 use Rattle.opfs_kv.proofs.Rooms.{places-room, room-after}
 use Rattle.opfs_kv.proofs.Serving.{serves-most, serves-then}
 use Rattle.opfs_kv.proofs.kv.cut_and_end.Goals as goal
@@ -36,7 +38,12 @@ returns-in-Ok-clause-back g c =
 
 pub returns-in-Ok-clause-cause : goal.returns-in-Ok-clause-cause
 returns-in-Ok-clause-cause g c =
-    if-err c.end.result (λ (e : KvSeen × Stop). IsCaused c.cut.new.agent c.end.new.agent e.1) (λ (e : KvSeen × Stop). IsCaused c.args.agent.now c.end.new.agent e.1) (λ e h. caused-later c.args.agent.now c.cut.new.agent c.end.new.agent 1 e.1 c.in-Ok.ensures.serves.goes h) c.end.ensures.cause
+    if-err c.end.result (λ (e : KvSeen × Stop). IsCaused c.cut.new.agent c.end.new.agent (IsClose (seen c.cut.new.handle c.cut.new.notes)) e.1) (λ (e : KvSeen × Stop). IsCaused c.args.agent.now c.end.new.agent (IsCutOr (seen c.args.handle c.args.notes) (IsClose (seen c.args.handle c.args.notes))) e.1)
+    (λ e h. later-may c.args.agent.now c.cut.new.agent c.end.new.agent (IsClose (seen c.cut.new.handle c.cut.new.notes)) (IsCutOr (seen c.args.handle c.args.notes) (IsClose (seen c.args.handle c.args.notes))) 1 e.1 (close-later (seen c.args.handle c.args.notes) (seen c.cut.new.handle c.cut.new.notes) c.in-Ok.ensures.serves.row) c.in-Ok.ensures.serves.goes h) c.end.ensures.cause
+
+pub returns-in-Err-clause-cause : goal.returns-in-Err-clause-cause
+returns-in-Err-clause-cause g c =
+    caused-may c.args.agent.now c.cut.new.agent (IsCut (seen c.args.handle c.args.notes)) (IsCutOr (seen c.args.handle c.args.notes) (IsClose (seen c.args.handle c.args.notes))) c.in-Err.stop (cut-first (seen c.args.handle c.args.notes) (IsClose (seen c.args.handle c.args.notes))) c.in-Err.ensures.cause
 
 pub returns-in-Err-clause-back : goal.returns-in-Err-clause-back
 returns-in-Err-clause-back g c = serves-most g.S.Store.tells c.args.agent.now c.cut.new.agent (seen c.args.handle c.args.notes) (seen c.cut.new.handle c.cut.new.notes) 1 2 (map_in c.args.agent.now (seen c.args.handle c.args.notes)) (omega arith) c.in-Err.ensures.serves

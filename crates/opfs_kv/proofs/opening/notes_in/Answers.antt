@@ -9,4 +9,4 @@ pub returns-in-Ok-clause-keeps : goal.returns-in-Ok-clause-keeps
 returns-in-Ok-clause-keeps g c = opened-keeps g.S.Store.tells (file_bytes c.args.agent.now c.args.handle.now) c.args.size c.scan_all.new.index c.requires.size c.requires.small c.in-Ok.ensures.scanned.fitting c.in-Ok.ensures.scanned.read
 
 pub returns-in-Err-clause-cause : goal.returns-in-Err-clause-cause
-returns-in-Err-clause-cause g c = open-cause g.S.Store.tells c.args.agent.now c.args.agent.now c.scan_all.new.agent 0 (file_bytes c.args.agent.now c.args.handle.now) c.in-Err.stop (goes-none c.args.agent.now) (omega (arith, c.requires.size, c.requires.small)) c.in-Err.ensures.cause
+returns-in-Err-clause-cause g c = open-cause g.S.Store.tells c.args.agent.now c.args.agent.now c.scan_all.new.agent 0 (file_bytes c.args.agent.now c.args.handle.now) c.in-Err.stop c.args.handle.now.row (goes-none c.args.agent.now) (omega (arith, c.requires.size, c.requires.small)) c.in-Err.ensures.cause

@@ -1,4 +1,4 @@
-use Rattle.std.proofs.Common.{[], length, ap, subst, ◌∙◌, arith}
+use Rattle.std.proofs.Common.{ℕ, [], length, ap, subst, ◌∙◌, arith}
 use Rattle.opfs_base.specs.Texts.{Text}
 use Rattle.opfs_sync_files.specs.Files.{file_bytes}
 use Rattle.opfs_kv.specs.Opening.{HasScanCause}
@@ -24,7 +24,7 @@ pub returns-in-Err-clause-reads : goal.returns-in-Err-clause-reads
 returns-in-Err-clause-reads g c = reads-within g.S.Store.tells c.args.agent.now c.scan_piece.new.agent c.args.handle.now c.scan_piece.new.handle 261 260 (omega (arith, c.loop-next.invariant.ahead c.loop-next-test.true, c.in-Err.ensures.reads.goes.entries, c.requires.small, c.loop-next-test.true)) (reads-then g.S.Store.tells c.args.agent.now c.loop-next.agent c.scan_piece.new.agent c.args.handle.now c.loop-next.handle c.scan_piece.new.handle 260 1 c.loop-next.invariant.reads c.in-Err.ensures.reads)
 
 pub returns-in-Err-clause-cause : goal.returns-in-Err-clause-cause
-returns-in-Err-clause-cause g c = cause-then g.S.Store.tells c.args.agent.now c.loop-next.agent c.scan_piece.new.agent 260 (file_bytes c.args.agent.now c.args.handle.now) c.loop-next.next [] c.loop-next.index c.in-Err.stop c.loop-next.invariant.reads.goes c.loop-next.invariant.scanned.read (subst (λ (t : Text). HasScanCause g.S.Store.tells c.loop-next.agent c.scan_piece.new.agent t c.loop-next.next c.loop-next.index c.in-Err.stop) c.loop-next.invariant.reads.bytes c.in-Err.ensures.cause)
+returns-in-Err-clause-cause g c = cause-then g.S.Store.tells c.args.agent.now c.loop-next.agent c.scan_piece.new.agent 260 (file_bytes c.args.agent.now c.args.handle.now) c.loop-next.next [] c.loop-next.index c.in-Err.stop c.args.handle.now.row c.loop-next.invariant.reads.goes c.loop-next.invariant.scanned.read (subst (λ (row : ℕ). HasScanCause g.S.Store.tells c.loop-next.agent c.scan_piece.new.agent row (file_bytes c.args.agent.now c.args.handle.now) c.loop-next.next c.loop-next.index c.in-Err.stop) c.loop-next.invariant.reads.row (subst (λ (t : Text). HasScanCause g.S.Store.tells c.loop-next.agent c.scan_piece.new.agent c.loop-next.handle.row t c.loop-next.next c.loop-next.index c.in-Err.stop) c.loop-next.invariant.reads.bytes c.in-Err.ensures.cause))
 
 pub loop-next-preserved : goal.loop-next-preserved
 loop-next-preserved g c = let m = scan-more g.S.Store.tells c.args.agent.now c.loop-next.agent c.scan_piece.new.agent c.args.handle.now c.loop-next.handle c.scan_piece.new.handle c.args.size c.loop-next.next c.in-Ok.behind c.loop-next.index c.scan_piece.new.index c.requires.small c.loop-next.invariant.reads c.loop-next.invariant.count (c.loop-next.invariant.ahead c.loop-next-test.true) c.loop-next.invariant.scanned c.in-Ok.ensures.reads c.in-Ok.ensures.scanned c.in-Ok.ensures.far in record { reads = m.reads; count = m.count; ahead = m.ahead; scanned = m.scanned }

@@ -1,5 +1,9 @@
-use Rattle.std.proofs.Common.{ap, arith, take}
+use Rattle.std.proofs.Common.{ap, arith, rules, take}
 use Rattle.opfs_base.specs.Texts.{Text}
+use Rattle.opfs_kv.specs.Asked.{IsCut}
+use Rattle.opfs_hist.specs.declared.op.Op.TheVariants as op
+use Rattle.opfs_sync_files.specs.Entries.{TheCall}
+use Rattle.opfs_sync_files.proofs.Knowing.{caused-may}
 use Rattle.opfs_kv.specs.Seen.{seen}
 use Rattle.opfs_kv.proofs.Serving.{cut-front, cut-serves, still-serves}
 use Rattle.opfs_kv.proofs.storing.cut.Goals as goal
@@ -18,3 +22,8 @@ returns-in-Err-clause-serves g c = still-serves g.S.Store.tells c.args.agent.now
 
 pub returns-in-Err-clause-front : goal.returns-in-Err-clause-front
 returns-in-Err-clause-front g c = ap (λ (t : Text). take c.args.notes.now.live t) c.in-Err.ensures.same
+
+pub returns-in-Err-clause-cause : goal.returns-in-Err-clause-cause
+returns-in-Err-clause-cause g c =
+    caused-may c.args.agent.now c.truncate.new.agent (TheCall (op.SyncTruncate c.args.handle.now.row c.args.notes.now.live)) (IsCut (seen c.args.handle.now c.args.notes.now)) c.in-Err.stop
+    (λ o is. (search rules, is)) c.in-Err.ensures.cause

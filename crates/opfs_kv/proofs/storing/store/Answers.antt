@@ -3,7 +3,10 @@ use Rattle.opfs_kv.specs.Seen.{seen}
 use Rattle.opfs_kv.proofs.Flushing.{flush-left, flushes-then}
 use Rattle.opfs_kv.proofs.Rooms.{places-room, room-after}
 use Rattle.opfs_kv.proofs.Serving.{serves-most}
-use Rattle.opfs_sync_files.proofs.Knowing.{caused-later}
+use Rattle.opfs_kv.specs.Asked.{IsCut, IsCutOr, IsFlush}
+use Rattle.opfs_kv.proofs.Asking.{cut-first, flush-later}
+use Rattle.opfs_kv.proofs.Results.{later-may}
+use Rattle.opfs_sync_files.proofs.Knowing.{caused-may}
 use Rattle.opfs_kv.proofs.storing.store.Goals as goal
 
 pub cut-requires-clause-room : goal.cut-requires-clause-room
@@ -28,4 +31,10 @@ pub returns-in-Err-flush-clause-left : goal.returns-in-Err-flush-clause-left
 returns-in-Err-flush-clause-left g c = flush-left g.S.Store.tells c.args.agent.now c.cut.new.agent (seen c.args.handle.now c.args.notes.now) (seen c.cut.new.handle c.cut.new.notes) c.in-Ok.ensures.serves c.in-Ok.ensures.none c.flush.new.agent c.flush.new.handle c.in-Err-flush.ensures.still c.in-Err-flush.ensures.same c.in-Err-flush.ensures.unstored
 
 pub returns-in-Err-flush-clause-cause : goal.returns-in-Err-flush-clause-cause
-returns-in-Err-flush-clause-cause g c = caused-later c.args.agent.now c.cut.new.agent c.flush.new.agent 1 c.in-Err-flush.unstored c.in-Ok.ensures.serves.goes c.in-Err-flush.ensures.cause
+returns-in-Err-flush-clause-cause g c =
+    later-may c.args.agent.now c.cut.new.agent c.flush.new.agent (IsFlush (seen c.cut.new.handle c.cut.new.notes)) (IsCutOr (seen c.args.handle.now c.args.notes.now) (IsFlush (seen c.args.handle.now c.args.notes.now))) 1 c.in-Err-flush.unstored
+    (flush-later (seen c.args.handle.now c.args.notes.now) (seen c.cut.new.handle c.cut.new.notes) c.in-Ok.ensures.serves.row) c.in-Ok.ensures.serves.goes c.in-Err-flush.ensures.cause
+
+pub returns-in-Err-clause-cause : goal.returns-in-Err-clause-cause
+returns-in-Err-clause-cause g c =
+    caused-may c.args.agent.now c.cut.new.agent (IsCut (seen c.args.handle.now c.args.notes.now)) (IsCutOr (seen c.args.handle.now c.args.notes.now) (IsFlush (seen c.args.handle.now c.args.notes.now))) c.in-Err.stop (cut-first (seen c.args.handle.now c.args.notes.now) (IsFlush (seen c.args.handle.now c.args.notes.now))) c.in-Err.ensures.cause

@@ -1,3 +1,4 @@
+use Rattle.std.proofs.Common.{arith, sym}
 use Rattle.opfs_kv.proofs.Flushing.{opened-spells, opened-stands}
 use Rattle.opfs_kv.proofs.kv.Kv.open.Goals as goal
 
@@ -12,3 +13,9 @@ returns-in-Ok-clause-others g c = c.in-Ok.ensures.reads.others
 
 pub returns-in-Err-clause-others : goal.returns-in-Err-clause-others
 returns-in-Err-clause-others g c = c.in-Err.ensures.reads.others
+
+pub returns-in-Ok-clause-short : goal.returns-in-Ok-clause-short
+returns-in-Ok-clause-short g c = omega (arith, c.in-Ok.ensures.keeps.whole c.in-Ok.ensures.whole, c.in-Ok.ensures.keeps.small)
+
+pub returns-in-Ok-clause-whole : goal.returns-in-Ok-clause-whole
+returns-in-Ok-clause-whole g c = (sym (c.in-Ok.ensures.keeps.whole c.in-Ok.ensures.whole), c.in-Ok.ensures.whole)

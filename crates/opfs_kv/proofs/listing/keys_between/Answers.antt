@@ -1,0 +1,9 @@
+use Rattle.std.proofs.Common.{List, sym, ap, ◌∙◌}
+use Rattle.opfs_base.specs.Texts.{Text}
+use Rattle.opfs_sync_files.specs.Files.{file_bytes}
+use Rattle.opfs_kv.specs.Records.Maps.{keys_between}
+use Rattle.opfs_kv.proofs.records.Listed.{read-keys}
+use Rattle.opfs_kv.proofs.listing.keys_between.Goals as goal
+
+pub returns : goal.returns
+returns g c = c.in_ok-keys.ensures ∙ ap (λ (keys : List Text). keys_between c.args.from.now c.args.to.now keys) (sym (read-keys (file_bytes c.args.agent.now c.args.handle.now) c.args.notes.now.index))
