@@ -164,7 +164,7 @@ pub fn advance(
     ensures { OnOk result (state.new ≡ with_changed state.old number row (λ r. advanced_row r (children_of state.old (place_of dir.now)))) }
 {
     let place = place_of(alloc, dir)?;
-    let name = copy_name(alloc, next_given(state, number, row, &place))?;
+    let name = copy_name(alloc, next_given(alloc, state, number, row, &place)?)?;
     let agent = &mut state.agents.items[number as usize - 1];
     give_row(&mut agent.own.items[row as usize - 1], name)
 }

@@ -7,9 +7,9 @@ ghost use Rattle.opfs_plain.specs.Changing.{IsAt};
 ghost use Rattle.opfs_machine.specs.declared.state.FileRow.{FileRow};
 ghost use Rattle.opfs_base.specs.Texts.{Text};
 
-use opfs_base::{Key, Path, compare_places, is_within};
+use opfs_base::{Key, Path, is_within};
 use opfs_machine::Place;
-use opfs_rulings::PlacedRow;
+use opfs_rulings::{PlacedRow, is_place};
 
 /// The index of the row at a place.
 pub fn index_of(rows: &[PlacedRow], key: &Key, path: &Path) -> Option<usize>
@@ -17,7 +17,7 @@ pub fn index_of(rows: &[PlacedRow], key: &Key, path: &Path) -> Option<usize>
     ensures missing { IfNone result ((change : FileRow Text → FileRow Text) → rows.now ≡ change_at (key.now, path.now) change rows.now) }
 {
     for (at, entry) in rows.iter().enumerate() {
-        if compare_places(key, path, &entry.0).is_eq() {
+        if is_place(key, path, &entry.0) {
             return Some(at);
         }
     }

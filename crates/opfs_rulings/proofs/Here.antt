@@ -1,10 +1,13 @@
 -- A row in the middle of a list of rows.
-use Rattle.std.proofs.Common.{◌≡◌, ℕ, suc, ◌<◌, true, List, ◌∷◌, ◌++◌, length, get_or, take, drop, slice_set, refl, sym, ◌∙◌, ap, Some}
+use Rattle.std.proofs.Common.{◌≡◌, ℕ, suc, ◌<◌, ◌&&◌, Bool, true, false, List, ◌∷◌, ◌++◌, ◌-◌, length, get_or, take, drop, slice_set, refl, sym, ◌∙◌, ap, Some, arith}
 use Rattle.std.proofs.Math.Seq.{drop-cons}
-use Rattle.std.proofs.lemmas.List.{set_split, take-append-drop}
+use Rattle.std.proofs.lemmas.List.{length-drop, set_split, take_all, take-append-drop}
 use Rattle.std.proofs.lemmas.Option.{slice_get_read}
 use Rattle.std.specs.FinMap.Entries.{put, by_order}
-use Rattle.std.specs.Ordering.{is_eq}
+use Rattle.std.specs.Ordering.{is_eq, nat_cmp, ordering_then}
+use Rattle.std.specs.Cmp.Lexicographic.{slice_cmp, lists_ties, texts_ties}
+use Rattle.opfs_base.specs.Places.{place_cmp}
+use Rattle.opfs_base.specs.Texts.{Text, same_text, same_texts}
 use Rattle.std.specs.declared.cmp.Ordering.{Ordering}
 use Rattle.std.specs.declared.cmp.Ordering.TheVariants.{Less, Equal, Greater}
 use Rattle.opfs_machine.specs.Ordered.{insert_by}
@@ -17,8 +20,20 @@ equal_from Greater h = cc
 unwrap_same : {X : Type 0} {a b : X} → Some a ≡ Some b → a ≡ b
 unwrap_same h = cc
 
+and_false : (t : Bool) → (t && false) ≡ false
+and_false true = refl
+and_false false = refl
+
+and_true : (t : Bool) → (t && true) ≡ t
+and_true true = refl
+and_true false = refl
+
 pub drop_here : {X : Type 0} (xs : List X) (i : ℕ) (e : X) → i < length xs → e ≡ get_or xs i e → drop i xs ≡ e ∷ drop (suc i) xs
 drop_here xs i e h is = drop-cons xs i e h ∙ ap (λ x. x ∷ drop (suc i) xs) (sym is)
+
+-- What a slice from an index on has.
+pub rest-is : {X : Type 0} (xs : List X) (n : ℕ) → take (length xs - n) (drop n xs) ≡ drop n xs
+rest-is xs n = let left = length-drop n xs in take_all (length xs - n) (drop n xs) (omega (arith, left))
 
 -- What is read twice at an index is the same.
 pub one_here : {X : Type 0} (xs : List X) (i : ℕ) (e d : X) → i < length xs → e ≡ get_or xs i e → d ≡ get_or xs i d → e ≡ d
@@ -52,3 +67,15 @@ module _ {A : Type 0} (R : A → A → Ordering) where
       sym (take-append-drop i ys)
       ∙ ap (λ es. take i ys ++ es) (drop_here ys i y h is ∙ sym (insert_equal x y (drop (suc i) ys) (equal_from _ same)) ∙ ap (insert_by R x) (sym (drop_here ys i y h is)))
       ∙ sym below
+
+tied_both : (a b : Ordering) → (is_eq b && is_eq a) ≡ is_eq (ordering_then a b)
+tied_both Less b = and_false (is_eq b)
+tied_both Equal b = and_true (is_eq b)
+tied_both Greater b = and_false (is_eq b)
+
+-- Two places tie where their paths and their units are the same.
+pub place_ties : (k l : Text) (p q : List Text) → (same_texts p q && same_text k l) ≡ is_eq (place_cmp (k, p) (l, q))
+place_ties k l p q =
+    ap (λ t. t && same_text k l) (lists_ties (slice_cmp nat_cmp) texts_ties p q)
+    ∙ ap (λ t. is_eq (slice_cmp (slice_cmp nat_cmp) p q) && t) (texts_ties k l)
+    ∙ tied_both (slice_cmp nat_cmp k l) (slice_cmp (slice_cmp nat_cmp) p q)

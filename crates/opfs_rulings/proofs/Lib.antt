@@ -1,3 +1,4 @@
+pub mod Adding
 pub mod AgentSums
 pub mod Cleared
 pub mod Fronts

@@ -14,6 +14,7 @@ pub mod replies;
 mod room;
 pub mod rows;
 pub mod rulings;
+mod sets;
 pub mod standing;
 pub mod sums;
 
@@ -23,7 +24,7 @@ pub use handle_rulings::open_handle;
 pub use judging::judge;
 pub use ordered::{insert, put};
 pub use replies::{answer, next_given, sizes_of};
-pub use rows::{PlacedRow, place_of, row_at};
+pub use rows::{PlacedRow, is_place, place_of, row_at};
 pub use rulings::{file_at, first_reserve, taken};
 pub use standing::may_enter;
 pub use sums::reserve_at;

@@ -1,8 +1,11 @@
 //! What each call answers where it is not refused.
 #![tactic(auto, unfolding(opfs_machine::specs::Machine::machine))]
 
-ghost use Rattle.std.specs.Prelude.{◌≡◌, ◌*◌, ◌<◌, length, is_some, IfOk, IfSome};
+ghost use Rattle.std.specs.Prelude.{◌≡◌, ◌*◌, ◌<◌, ◌≤◌, length, drop, find, not, true, Some, IfOk, IfSome, IsTrue};
 ghost use Rattle.std.specs.List.{filter_map, list_any};
+ghost use Rattle.std.specs.BTreeSet.{contains};
+ghost use Rattle.std.specs.Cmp.Lexicographic.{slice_cmp};
+ghost use Rattle.std.specs.Ordering.{nat_cmp};
 ghost use Rattle.std.specs.Option.{option_copied};
 ghost use Rattle.opfs_base.specs.Places.{place_of, child_name, resolved};
 ghost use Rattle.opfs_base.specs.Texts.{same_text};
@@ -20,6 +23,7 @@ use crate::bucket_rulings::is_persistent;
 use crate::handle_rulings::open_handle;
 use crate::rows::{PlacedRow, place_of, row_at};
 use crate::rulings::file_at;
+use crate::sets::names_of;
 use crate::sums::usage;
 use opfs_base::{
     Bytes, Key, Kind, Locator, Name, Path, Text, child_name, resolve, same, times, unit_of,
@@ -28,6 +32,7 @@ use opfs_hist::{Op, Reply};
 use opfs_machine::{Own, Place, Row, Sizes, State};
 use opfs_splice::window;
 use std::alloc::{AllocError, Global};
+use std::collections::BTreeSet;
 
 /// The present bytes of the file at a place; none where there is none.
 pub fn bytes_at<'a>(state: &'a State<Bytes, Own>, place: &Place) -> &'a [u8]
@@ -60,45 +65,108 @@ pub fn sizes_of(state: &State<Bytes, Own>, number: u32, row: u32) -> Sizes
     }
 }
 
-/// Where a name is among some, looked for first where it is likely to be.
-fn place_given(given: &[Name], likely: usize, name: &Name) -> Option<usize>
-    ensures given { is_some result ≡ list_any (same_text name.now) given.now }
-    ensures within { IfSome result (λ at. at < length given.now) }
+/// Where a name is among some, looked for beside a place and at their ends alone.
+fn place_near(given: &[Name], place: usize, name: &Name) -> Option<usize>
+    ensures { IfSome result (λ at. list_any (same_text name.now) given.now ≡ true) }
 {
-    if likely < given.len() && *name == given[likely] {
-        return Some(likely);
+    let (behind, before, last) = (
+        place.saturating_add(1),
+        place.saturating_sub(1),
+        given.len().saturating_sub(1),
+    );
+    if is_at(given, behind, name) {
+        return Some(behind);
     }
-    first_given(given, name)
-}
-
-/// Where a name stands first among some.
-fn first_given(given: &[Name], name: &Name) -> Option<usize>
-    ensures given { is_some result ≡ list_any (same_text name.now) given.now }
-    ensures within { IfSome result (λ at. at < length given.now) }
-{
-    for (at, other) in given.iter().enumerate() {
-        if *name == *other {
-            return Some(at);
-        }
+    if is_at(given, before, name) {
+        return Some(before);
+    }
+    if is_at(given, last, name) {
+        return Some(last);
     }
     None
 }
 
-/// The least child of a directory that was not given. Names are mostly given in their order, so each is looked for
-/// behind the one that was found before it.
-pub fn next_name<'a>(rows: &'a [PlacedRow], dir: &Place, given: &[Name]) -> Option<&'a Name>
-    ensures { option_copied result ≡ next_of given.now (filter_map (λ e. child_name dir.now e.0) rows.now) }
+/// Whether a name stands at a place among some.
+fn is_at(given: &[Name], place: usize, name: &Name) -> bool
+    ensures { IsTrue result → list_any (same_text name.now) given.now ≡ true }
 {
-    let mut likely = 0;
+    place < given.len() && *name == given[place]
+}
+
+/// Whether a name is among some.
+fn is_given(given: &[Name], name: &Name) -> bool
+    ensures { result ≡ list_any (same_text name.now) given.now }
+{
+    given.iter().any(|other| *name == *other)
+}
+
+/// How many rows at the front are no children, or children that were given. Names are mostly given in their order or in the
+/// opposite one, so each is looked for beside the one that was found before it, and the first that is not there ends the front.
+fn passed(rows: &[PlacedRow], dir: &Place, given: &[Name]) -> usize
+    ensures within { result ≤ length rows.now }
+    ensures same { next_of given.now (filter_map (λ e. child_name dir.now e.0) rows.now) ≡ next_of given.now (filter_map (λ e. child_name dir.now e.0) (drop result rows.now)) }
+{
+    let mut place = 0;
+    for (at, entry) in rows.iter().enumerate() {
+        if let Some(name) = child_name(&dir.0, &dir.1, &entry.0) {
+            match place_near(given, place, name) {
+                Some(found) => place = found,
+                None => return at,
+            }
+        }
+    }
+    rows.len()
+}
+
+/// The first child whose name a set has not.
+fn first_outside<'a>(
+    rows: &'a [PlacedRow],
+    dir: &Place,
+    names: &BTreeSet<Name>,
+) -> Option<&'a Name>
+    ensures { option_copied result ≡ find (λ name. not (contains (slice_cmp nat_cmp) names.now name)) (filter_map (λ e. child_name dir.now e.0) rows.now) }
+{
     for entry in rows {
         if let Some(name) = child_name(&dir.0, &dir.1, &entry.0) {
-            match place_given(given, likely, name) {
-                Some(at) => likely = at + 1,
-                None => return Some(name),
+            if !names.contains(name) {
+                return Some(name);
             }
         }
     }
     None
+}
+
+/// The least child of a directory that was not given.
+pub fn next_name<'a>(
+    alloc: Global,
+    rows: &'a [PlacedRow],
+    dir: &Place,
+    given: &[Name],
+) -> Result<Option<&'a Name>, AllocError>
+    ensures { IfOk result (λ name. option_copied name ≡ next_of given.now (filter_map (λ e. child_name dir.now e.0) rows.now)) }
+{
+    let rest = &rows[passed(rows, dir, given)..];
+    if let Some(name) = first_name(rest, dir, given) {
+        return Ok(Some(name));
+    }
+    let names = names_of(alloc, given)?;
+    Ok(first_outside(rest, dir, &names))
+}
+
+/// The child that stands first among rows, where it was not given.
+fn first_name<'a>(rows: &'a [PlacedRow], dir: &Place, given: &[Name]) -> Option<&'a Name>
+    ensures { IfSome result (λ name. Some name.now ≡ next_of given.now (filter_map (λ e. child_name dir.now e.0) rows.now)) }
+{
+    let [entry, ..] = rows else {
+        return None;
+    };
+    let Some(name) = child_name(&dir.0, &dir.1, &entry.0) else {
+        return None;
+    };
+    if is_given(given, name) {
+        return None;
+    }
+    Some(name)
 }
 
 /// getFile.
@@ -200,16 +268,18 @@ fn reply_of(
 
 /// The name that an iterator over a directory gives next.
 pub fn next_given<'a>(
+    alloc: Global,
     state: &'a State<Bytes, Own>,
     number: u32,
     row: u32,
     place: &Place,
-) -> Option<&'a Name>
+) -> Result<Option<&'a Name>, AllocError>
     requires { IsAgent state.now number }
-    ensures { option_copied result ≡ next_of (given_in (own_of (agent_of state.now number) row)) (children_of state.now place.now) }
+    ensures { IfOk result (λ name. option_copied name ≡ next_of (given_in (own_of (agent_of state.now number) row)) (children_of state.now place.now)) }
 {
     let given = given_names(state, number, row);
-    next_name(state.rows.items.as_slice(), place, given)
+    let name = next_name(alloc, state.rows.items.as_slice(), place, given)?;
+    Ok(name)
 }
 
 /// next of an iterator over a directory.
@@ -225,7 +295,8 @@ fn child_reply(
         (next_of (given_in (own_of (agent_of state.now number) row)) (children_of state.now (place_of dir.now)))) }
 {
     let place = place_of(alloc, dir)?;
-    reply_of(alloc, state, dir, next_given(state, number, row, &place))
+    let name = next_given(alloc, state, number, row, &place)?;
+    reply_of(alloc, state, dir, name)
 }
 
 /// The key of an agent's origin; no text for an opaque one.

@@ -3,21 +3,29 @@
 ghost use Rattle.std.specs.Prelude.{◌≡◌, IfOk};
 ghost use Rattle.std.specs.Option.{option_copied};
 ghost use Rattle.std.specs.FinMap.Entries.{find};
+ghost use Rattle.std.specs.Ordering.{is_eq};
 ghost use Rattle.opfs_base.specs.Places.{place_cmp, place_of};
 
-use opfs_base::{Bytes, Key, Locator, Path, compare_places, copy_place};
+use opfs_base::{Bytes, Key, Locator, Path, copy_place};
 use opfs_machine::{Place, Row};
 use std::alloc::{AllocError, Global};
 
 /// A row and where it stands.
 pub type PlacedRow = (Place, Row<Bytes>);
 
+/// Whether a place is this one. Many rows are of one unit, so their paths are asked first.
+pub fn is_place(key: &Key, path: &Path, place: &Place) -> bool
+    ensures { result ≡ is_eq (place_cmp (key.now, path.now) place.now) }
+{
+    *path == place.1 && *key == place.0
+}
+
 /// The row at a place.
 pub fn row_at<'a>(rows: &'a [PlacedRow], key: &Key, path: &Path) -> Option<&'a Row<Bytes>>
     ensures { option_copied result ≡ find place_cmp (key.now, path.now) rows.now }
 {
     for entry in rows {
-        if compare_places(key, path, &entry.0).is_eq() {
+        if is_place(key, path, &entry.0) {
             return Some(&entry.1);
         }
     }
