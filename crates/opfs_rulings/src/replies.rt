@@ -119,11 +119,7 @@ fn passed(rows: &[PlacedRow], dir: &Place, given: &[Name]) -> usize
 }
 
 /// The first child whose name a set has not.
-fn first_outside<'a>(
-    rows: &'a [PlacedRow],
-    dir: &Place,
-    names: &BTreeSet<Name>,
-) -> Option<&'a Name>
+fn first_outside<'a>(rows: &'a [PlacedRow], dir: &Place, names: &BTreeSet<Name>) -> Option<&'a Name>
     ensures { option_copied result ≡ find (λ name. not (contains (slice_cmp nat_cmp) names.now name)) (filter_map (λ e. child_name dir.now e.0) rows.now) }
 {
     for entry in rows {
