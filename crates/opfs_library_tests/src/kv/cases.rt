@@ -2,7 +2,7 @@
 
 use crate::kv::example::image;
 use crate::kv::steps::{Step, is_value, ops_of};
-use crate::kv::visits::{Ending, Visit, bytes_in, run_visit, use_example, with_bytes};
+use crate::kv::visits::{Ending, Visit, bytes_in, list_keys, run_visit, use_example, with_bytes};
 use opfs_base::{Bytes, Data};
 use opfs_kv::{KvReply, KvStop};
 use opfs_memory::RamDisk;
@@ -144,5 +144,35 @@ fn files_that_are_no_records_are_refused(rt: HostRuntime) -> Result<(), Fail> {
     for (bytes, wanted) in rows {
         assert_eq!(rt; refused(&rt, bytes)?, wanted);
     }
+    Ok(())
+}
+
+// Whether just this key is listed.
+fn is_alone(keys: &[Bytes], key: &Bytes) -> bool {
+    match keys {
+        [only] => only.as_slice() == key.as_slice(),
+        _ => false,
+    }
+}
+
+// The keys "a" and "b" are put, and those from "b" on are listed.
+fn lists<R: AllocGlobal + Wait>(rt: &R) -> Result<bool, AllocError> {
+    let alloc = rt.alloc();
+    let disk = image(alloc)?;
+    let key = Bytes::copy_of(alloc, b"a")?;
+    let other = Bytes::copy_of(alloc, b"b")?;
+    let value = Bytes::copy_of(alloc, b"1")?;
+    let Ok(Visit { found, .. }) = list_keys(rt, disk, &key, &other, &value) else {
+        return Err(AllocError);
+    };
+    match found {
+        Ok((did, keys, count)) => Ok(!did && count == 2 && is_alone(keys.as_slice(), &other)),
+        Err(_) => Err(AllocError),
+    }
+}
+
+#[test]
+fn keys_are_listed_from_one_on(rt: HostRuntime) -> Result<(), Fail> {
+    assert!(rt; lists(&rt)?);
     Ok(())
 }

@@ -94,6 +94,39 @@ pub fn take_out<S: Store, R: Wait>(
     Ok(was)
 }
 
+/// Gives a key a value, and compacts where more than half of the file's bytes are dead: it tells whether they were.
+pub fn put_tidily<S: Store, R: Wait>(
+    rt: &R,
+    court: &Hall<S>,
+    agent: &mut Agent<S>,
+    kv: &mut Kv,
+    key: &Bytes,
+    value: &Bytes,
+) -> Result<bool, KvStop>
+    requires holds { HoldsKv S.tells court.now 3000 agent.old kv.old }
+    requires key { IsKey key.now }
+    requires value { IsValue value.now }
+    ensures { HoldsKv S.tells court.now 1000000 agent.new kv.new }
+{
+    agent.know_kept();
+    kv.put(rt, court, agent, key, value)?;
+    agent.know_kept();
+    let did = kv.tidy(rt, court, agent)?;
+    Ok(did)
+}
+
+/// The keys from one on, in order, and how many keys there are.
+pub fn keys_on<S: Store>(
+    agent: &Agent<S>,
+    kv: &Kv,
+    from: &Bytes,
+) -> Result<(Vec<Bytes>, usize), KvStop> {
+    match kv.keys_from(agent, from) {
+        Ok(keys) => Ok((keys, kv.len(agent))),
+        Err(_) => Err(KvStop::Agent(Stop::NoMemory)),
+    }
+}
+
 /// Gives the file up: what was not flushed is gone.
 pub fn give_up<S: Store, R: Wait>(rt: &R, court: &Hall<S>, agent: &mut Agent<S>, kv: Kv)
     requires { HoldsKv S.tells court.now 1500000 agent.old kv }

@@ -8,7 +8,7 @@ ghost use Rattle.opfs_library_tests.specs.Kv.Ready.{Holds, HoldsKv, IsBegun, IsR
 ghost use Rattle.opfs_kv.specs.Records.Records.{IsKey, IsValue};
 
 use crate::kv::example::{Session, begin, desk_over, discard, end, open_file, origin};
-use crate::kv::kvs::{close_kv, give_up, open_kv, put_and_get, take_out};
+use crate::kv::kvs::{close_kv, give_up, keys_on, open_kv, put_and_get, put_tidily, take_out};
 use opfs_agent::Agent;
 use opfs_agent::handle_calls::SyncHandle;
 use opfs_base::{Bytes, Data};
@@ -313,5 +313,51 @@ pub fn use_example<D: Disk, R: AllocGlobal + Wait>(
         mut agent,
     } = enter(rt, disk)?;
     let found = use_file(rt, &court, &mut agent, key, value);
+    Ok(leave(rt, court, owner, agent, found))
+}
+
+// Gives two keys a value, compacts where more than half is dead, and lists the keys from one on; then closes the file.
+fn use_keys<S: Store, R: Wait>(
+    rt: &R,
+    court: &Hall<S>,
+    agent: &mut Agent<S>,
+    key: &Bytes,
+    other: &Bytes,
+    value: &Bytes,
+) -> Result<(bool, Vec<Bytes>, usize), KvStop>
+    requires ready { IsReady S.tells court.now 0 0 agent.old }
+    requires key { IsKey key.now }
+    requires other { IsKey other.now }
+    requires value { IsValue value.now }
+    ensures { IsReady S.tells court.now 2000000 0 agent.new }
+{
+    let mut kv = open_kv(rt, court, agent, "store")?;
+    let put = put_and_get(rt, court, agent, &mut kv, key, value);
+    let did = put_tidily(rt, court, agent, &mut kv, other, value);
+    let listed = keys_on(agent, &kv, other);
+    let _closed = close_kv(rt, court, agent, kv);
+    put?;
+    let (keys, count) = listed?;
+    Ok((did?, keys, count))
+}
+
+/// Whether a second put compacts the file, what keys there are then from the second on, and how many in all.
+pub fn list_keys<D: Disk, R: AllocGlobal + Wait>(
+    rt: &R,
+    disk: D,
+    key: &Bytes,
+    other: &Bytes,
+    value: &Bytes,
+) -> Result<Visit<D, Result<(bool, Vec<Bytes>, usize), KvStop>>, D>
+    requires key { IsKey key.now }
+    requires other { IsKey other.now }
+    requires value { IsValue value.now }
+{
+    let Session {
+        court,
+        owner,
+        mut agent,
+    } = enter(rt, disk)?;
+    let found = use_keys(rt, &court, &mut agent, key, other, value);
     Ok(leave(rt, court, owner, agent, found))
 }
