@@ -1,10 +1,9 @@
 -- Calls of an agent by the names of what came before.
-use Rattle.std.proofs.Common.{◌≡◌, ℕ, length, map, take, Some, None, Option, ap, sym, subst, ◌∙◌, inl, inr, arith}
-use Rattle.std.proofs.lemmas.List.{length-take}
+use Rattle.std.proofs.Common.{◌≡◌, ℕ, length, map, take, Some, ap, sym, ◌∙◌, inl, inr}
 use Rattle.opfs_base.specs.Texts.{Text}
 use Rattle.opfs_hist.specs.declared.op.Op.{Op}
 use Rattle.opfs_hist.specs.declared.op.Op.TheVariants as op
-use Rattle.opfs_kv.specs.Asked.{IsAppend, IsClose, IsCut, IsCutOr, IsEndCut, IsFlush, IsReadAll, IsRepack, IsRewrite}
+use Rattle.opfs_kv.specs.Asked.{IsAppend, IsClose, IsCut, IsCutOr, IsEndCut, IsFlush, IsRepack, IsRewrite}
 use Rattle.opfs_kv.specs.Packing.{IsAnewFor}
 use Rattle.opfs_kv.specs.Records.Indexes.{Places, read_out}
 use Rattle.opfs_kv.specs.Records.Maps.{Map}

@@ -1,5 +1,5 @@
 -- A list of commands with one command more.
-use Rattle.std.proofs.Common.{◌≡◌, ℕ, Bool, true, false, List, [], ◌∷◌, ◌++◌, refl, sym, subst}
+use Rattle.std.proofs.Common.{◌≡◌, Bool, true, false, List, [], ◌∷◌, ◌++◌, refl, sym, subst}
 use Rattle.opfs_base.specs.Texts.{Text}
 use Rattle.opfs_kv.specs.Records.Maps.{Map}
 use Rattle.opfs_turns.specs.Agents.{AgentSeen}

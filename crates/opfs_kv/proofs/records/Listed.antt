@@ -1,12 +1,11 @@
 -- The keys of an index, one after another.
-use Rattle.std.proofs.Common.{◌≡◌, ◌+◌, ℕ, Bool, true, false, cond, if◌then◌else◌, not, ◌&&◌, List, [], ◌∷◌, ◌++◌, append_assoc, append-nil, length, map, filter, sum_by, refl, ap, ◌∙◌, arith}
-use Rattle.std.proofs.lemmas.List.Sums.{sum_by-cons}
+use Rattle.std.proofs.Common.{◌≡◌, Bool, true, false, cond, if◌then◌else◌, ◌&&◌, List, [], ◌∷◌, ◌++◌, append_assoc, append-nil, length, filter, refl, ap, ◌∙◌, arith}
 use Rattle.std.specs.BTreeMap.Range.{entries_between}
 use Rattle.std.specs.declared.ops.Bound.TheVariants.{Included, Unbounded}
 use Rattle.std.specs.Map.{keys_of}
 use Rattle.std.specs.Ordering.{is_le}
 use Rattle.opfs_base.specs.Texts.{Text}
-use Rattle.opfs_kv.specs.Records.Indexes.{Places, cost_of, read_out}
+use Rattle.opfs_kv.specs.Records.Indexes.{Places, read_out}
 use Rattle.opfs_kv.specs.Records.Maps.{key_cmp, keys_from}
 use Rattle.opfs_kv.specs.declared.records.place.Place.{Place}
 
