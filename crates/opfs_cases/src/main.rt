@@ -13,7 +13,7 @@
 //!
 //!   case NAME              a case begins, with a host that has no image
 //!   text NAME              names the text below
-//!   image PATH             keeps the text below as an image for the next host
+//!   image PATH             keeps the text below as an image for the next host, or for those of the next `each`
 //!   host FAILS             a host of the kept images: `own K` and `disk K` name calls that fail, `stop K` the last that does not
 //!   room N, source K       of the next command: how many bytes it may write, and a read that fails
 //!   do WORDS               a command, which reads the text below
@@ -26,7 +26,7 @@
 //!   same NAME, bytes AT    that image is the one of a name; has the bytes below at a place
 //!   first NAME WORDS       how many calls of the disk a command makes over an image; `+K` is K behind those, and `end` is the
 //!                          last call that was made
-//!   calls N                how many calls the disk has had that was given back last
+//!   calls N                how many calls the disk has had that came back last
 //!   states TOOL NAME..     the texts that an image may have by a tool, or by `same` the images; each has a mark, from `0` on
 //!   crash AT NAME.. MARKS  the marks of what a crash leaves after so many calls, where the bytes since the last sync are
 //!                          those of these images; `other` are bytes that stood nowhere

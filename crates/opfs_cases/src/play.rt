@@ -266,6 +266,7 @@ impl Play {
             command: String::from_str(alloc, command)?,
             input,
             image: self.names.of(image).to_vec(alloc)?,
+            others: std::mem::replace(&mut self.images, Vec::new(alloc)),
             once: how == "once",
         };
         let mut ends = std::mem::replace(&mut self.ends, Vec::new(alloc));

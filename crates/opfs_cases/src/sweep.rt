@@ -3,17 +3,19 @@
 use crate::ends::{End, are_among};
 use crate::marks::States;
 use opfs_memory::{MemHost, MemSource};
-use opfs_test_hosts::{calls, content, host_of, ran_within};
+use opfs_test_hosts::{calls, content, host_among, ran_within};
 use std::alloc::{AllocError, Global};
 use std::sync::Wait;
 use std::thread::Threads;
 
-/// A command, what it reads, and the image on which it begins; whether a call fails once, or all from there on.
+/// A command, what it reads, and the image on which it begins, with others by their paths; whether a call fails once, or all
+/// from there on.
 #[derive(Drop)]
 pub struct Sweep {
     pub command: String,
     pub input: Vec<u8>,
     pub image: Vec<u8>,
+    pub others: Vec<(Vec<u8>, Vec<u8>)>,
     pub once: bool,
 }
 
@@ -26,10 +28,11 @@ const ROOM: u64 = 65_536;
 impl Sweep {
     // A host whose disk fails at this call.
     fn host(&self, alloc: Global, number: u64) -> Result<MemHost, AllocError> {
+        let (image, others) = (&self.image, &self.others);
         if self.once {
-            host_of(alloc, &self.image, &[number], None)
+            host_among(alloc, image, others, &[number], None)
         } else {
-            host_of(alloc, &self.image, &[], Some(number.saturating_sub(1)))
+            host_among(alloc, image, others, &[], Some(number.saturating_sub(1)))
         }
     }
 

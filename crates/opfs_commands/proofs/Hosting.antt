@@ -43,7 +43,7 @@ refused_back tells Back Stays P mid new r first to refused kept = IfOk-weaker r 
 ]) kept
 
 -- the paths of a host, where a disk was fetched and given back
-module _ {H D : Type 0} (w : HostWords H D) (old mid new : H) (path : Text) where
+module _ {H D M : Type 0} (w : HostWords H D M) (old mid new : H) (path : Text) where
   pub others_stay : OthersAsBefore (of_host w old mid) path → OthersAsBefore (of_host w mid new) path → OthersAsBefore (of_host w old new) path
   others_stay first second p other = record {
     image = (second p other).image ∙ (first p other).image;

@@ -1,6 +1,7 @@
 pub mod Dumping
 pub mod Hosting
 pub mod Loading
+pub mod Making
 pub mod Numbers
 pub mod RunDisks
 pub mod RunHosts

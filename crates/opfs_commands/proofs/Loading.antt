@@ -61,7 +61,7 @@ rose_on old mid new top (inl le) most is (inr full) = inr full
 rose_on old mid new top (inr full) most is (inl less) = absurd (omega (arith, full, most, less))
 rose_on old mid new top (inr full) most is (inr end) = inr end
 
-module _ {H D : Type 0} (w : HostWords H D) (old mid new : H) (first : FaultsLater (of_host w old mid)) (counted : w.faults new ≤ 2 ^ 64 - 1) where
+module _ {H D M : Type 0} (w : HostWords H D M) (old mid new : H) (first : FaultsLater (of_host w old mid)) (counted : w.faults new ≤ 2 ^ 64 - 1) where
   pub failed_on : HostFailed (of_host w mid new) → HostFailed (of_host w old new)
   failed_on (inl own) = inl (rose_later (w.own_faults old) (w.own_faults mid) (w.own_faults new) first.own own)
   failed_on (inr all) = inr (rose_on (w.faults old) (w.faults mid) (w.faults new) (2 ^ 64 - 1) first.all counted refl all)
@@ -73,7 +73,7 @@ module _ {H D : Type 0} (w : HostWords H D) (old mid new : H) (first : FaultsLat
   ]
 
 -- a path that was left alone twice, and one that was read and then left alone
-module _ {H D : Type 0} (w : HostWords H D) (old mid new : H) where
+module _ {H D M : Type 0} (w : HostWords H D M) (old mid new : H) where
   pub before_on : (path : Text) → AsBefore (of_host w old mid) path → AsBefore (of_host w mid new) path → AsBefore (of_host w old new) path
   before_on path a b = record { image = b.image ∙ a.image; trail = λ c. (λ x. (a.trail c).0 ((b.trail c).0 x), λ x. (b.trail c).1 ((a.trail c).1 x)) }
 
@@ -106,13 +106,6 @@ host_answered tells Done Refused Cause r cause is = IfOk-weaker r _ _ (λ a e. s
 pub both_ok : {A E : Type 0} (P Q : A → Type 0) (r : Result A E) → IfOk r P → IfOk r Q → IfOk r (λ a. P a × Q a)
 both_ok P Q (Ok a) p q = (p, q)
 both_ok P Q (Err e) p q = tt
-
--- where the host failed, and so it was answered, some call failed
-pub host_none : (h : HostTurn) (r : Result ToolAnswer AllocError) → Rose h.own h.own_after → IfOk r (λ a. (a.end ≡ tool_end.Host) × (a.text ≡ status_text end.Host)) → NoneFailed h r → ⊥
-host_none h r rose is none = elim none [
-  | inl quiet ↦ quiet rose
-  | inr found ↦ found.2 (subst (λ x. IfOk x (λ a. (a.end ≡ tool_end.Host) × (a.text ≡ status_text end.Host))) found.1 is).0
-]
 
 -- the counts of two calls
 pub later_twice : (n m old mid new : ℕ) → RoseBy n old mid → RoseBy m mid new → new ≤ 2 ^ 64 - 1 → (old ≤ new) ⊎ (new ≡ 2 ^ 64 - 1)
@@ -157,8 +150,3 @@ pub failed_told : (tells : Type 0) (Done Refused : Text → Type 0) (Cause Fault
     → IfErr r (λ x. Fault × IfOk x (λ a. (a.end ≡ tool_end.Host) × (a.text ≡ status_text end.Host))) → IfErr r (λ x. IfOk x (λ a. IsAnswer tells Done Refused Cause a.end a.text))
 failed_told tells Done Refused Cause Fault (Ok d) to is = tt
 failed_told tells Done Refused Cause Fault (Err x) to is = host_answered tells Done Refused Cause x (to is.0) is.1
-
-pub failed_none : (tells P : Type 0) (h : HostTurn) (Fault : Type 0) (r : Result Dumped (Result ToolAnswer AllocError)) → (Fault → Rose h.own h.own_after)
-    → IfErr r (λ x. Fault × IfOk x (λ a. (a.end ≡ tool_end.Host) × (a.text ≡ status_text end.Host))) → IfErr r (λ x. tells → NoneFailed h x → P)
-failed_none tells P h Fault (Ok d) to is = tt
-failed_none tells P h Fault (Err x) to is = λ told none. absurd (host_none h x (to is.0) is.1 none)

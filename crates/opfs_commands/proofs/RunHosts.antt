@@ -75,7 +75,7 @@ told-less tells dtells to whole o script h is = record {
 }
 
 -- A disk that was fetched and given back, with what the host's calls say.
-pub record IsFetched {H D : Type 0} (h : HostWords H D) (w : DiskWords D) (path : Text) (old mid : H) (disk : D) : Type 0 where
+pub record IsFetched {H D M : Type 0} (h : HostWords H D M) (w : DiskWords D) (path : Text) (old mid : H) (disk : D) : Type 0 where
   pub to_disk : h.tells → w.tells
   pub crashes : h.tells → w.crashes
   pub counted : (x : H) → h.faults x ≤ 2 ^ 64 - 1
@@ -90,7 +90,7 @@ pub record IsFetched {H D : Type 0} (h : HostWords H D) (w : DiskWords D) (path 
   pub own : h.own_faults old ≤ h.own_faults mid
   pub later : (h.faults old ≤ h.faults mid) ⊎ (h.faults mid ≡ 2 ^ 64 - 1)
 
-module _ {H D : Type 0} (h : HostWords H D) (w : DiskWords D) (path : Text) (script : List Asked) (old mid new : H) (first now : D) (fetched : IsFetched h w path old mid first)
+module _ {H D M : Type 0} (h : HostWords H D M) (w : DiskWords D) (path : Text) (script : List Asked) (old mid new : H) (first now : D) (fetched : IsFetched h w path old mid first)
     (later : RoseBy (w.faults now + (h.own_faults new - h.own_faults mid)) (h.faults mid) (h.faults new)) where
   abbrev turn : HostTurn
   turn = of_host h old new

@@ -1,8 +1,10 @@
 -- What a command on an image tells, and what it leaves of its path, by what was asked. This project's own.
-use Rattle.std.specs.Prelude.{◌≡◌, ◌≢◌, ◌⊎◌, ◌≤◌, ◌-◌, ◌^◌, Option, Result, Ok}
+use Rattle.std.specs.Prelude.{◌≡◌, ◌≢◌, ◌⊎◌, ◌≤◌, ◌-◌, ◌^◌, Option, Result, Ok, Err}
 use Rattle.std.specs.declared.alloc.AllocError.{AllocError}
 use Rattle.opfs_base.specs.Texts.{Text}
-use Rattle.opfs_outside.specs.Turns.{HostTurn, HostServed, ImageStays, OthersAsBefore}
+use Rattle.opfs_outside.specs.Turns.{HostTurn, HostServed, ImageStays, IsOldOrNew, OthersAsBefore}
+use Rattle.opfs_dump.specs.Loading.Laid.{StandsAs}
+use Rattle.opfs_machine.specs.Openings.{empty_map}
 use Rattle.opfs_commands.specs.Telling.{IsTold, IsDumped, IsRefusedLine, IsFormatted, IsMigrated, IsNotMigrated, IsOfImage}
 use Rattle.opfs_commands.specs.declared.answers.ReadTool.TheVariants as tool
 use Rattle.opfs_commands.specs.declared.answers.ToolAnswer.{ToolAnswer}
@@ -42,6 +44,22 @@ IsMigration Check = ⊥
 IsMigration Migrate = Unit {0}
 IsMigration Dump = ⊥
 
+-- The command makes its image anew.
+abbrev pub IsMaking : Action → Type 0
+IsMaking (Format g) = Unit {0}
+IsMaking List = ⊥
+IsMaking Check = ⊥
+IsMaking Migrate = ⊥
+IsMaking Dump = ⊥
+
+-- And this is such an image: of the sizes that were asked for, standing for nothing.
+abbrev pub MadeKind : Action → Text → Type 0
+MadeKind (Format g) c = StandsAs g empty_map c
+MadeKind List c = ⊥
+MadeKind Check c = ⊥
+MadeKind Migrate c = ⊥
+MadeKind Dump c = ⊥
+
 -- The command puts its text out itself.
 abbrev pub IsDumping : Action → Type 0
 IsDumping (Format g) = ⊥
@@ -63,3 +81,19 @@ pub record FaultsLater (h : HostTurn) : Type 0 where
 -- No call of the host failed: its own count did not rise, or the command was answered, and not with a fault.
 abbrev pub NoneFailed : HostTurn → Result ToolAnswer AllocError → Type 0
 NoneFailed h result = HostServed h ⊎ ((answer : ToolAnswer) × (result ≡ Ok answer) × (answer.end ≢ tool_end.Host))
+
+-- The answer says that all was done; or it does not.
+pub record IsDoneBy (result : Result ToolAnswer AllocError) : Type 0 where
+  pub answer : ToolAnswer
+  pub is : result ≡ Ok answer
+  pub done : answer.end ≡ tool_end.Done
+
+abbrev pub IsUnmade : Result ToolAnswer AllocError → Type 0
+IsUnmade (Ok answer) = answer.end ≢ tool_end.Done
+IsUnmade (Err e) = Unit {0}
+
+-- What making an image anew leaves of its path, however it ends: what stood there, or a new image of this kind, whole, and so
+-- wherever it is stopped. Where none was made, and no call of the host itself failed, what stood there is there still.
+pub record LeavesMade (h : HostTurn) (path : Text) (New : Text → Type 0) (Unmade : Type 0) : Type 0 where
+  pub whole : IsOldOrNew h path New
+  pub stays : Unmade → HostServed h → ImageStays h path

@@ -124,6 +124,12 @@ pub record IsLoaded (from after : Option Text) (text : Text) : Type 0 where
   pub read : IsDumpAt dump from
   pub laid : IsOfImage (IsLaid dump) after text
 
+-- The image stands for what is read as a dump at a path.
+pub record StandsForText (from : Option Text) (c : Text) : Type 0 where
+  pub dump : Dump
+  pub read : IsDumpAt dump from
+  pub stands : StandsAs dump.geometry dump.map c
+
 -- The text is the line that says why what stood there is no dump.
 pub record IsNoDump (source text : Text) : Type 0 where
   pub why : DumpRefusal

@@ -88,7 +88,7 @@ pub fn dump_at<H: Host, K: Sink>(
     ensures others { H.tells → NoneFailed (of_host H.Host host.old host.new) result → OthersAsBefore (of_host H.Host host.old host.new) path.now }
     ensures reads { H.tells → NoneFailed (of_host H.Host host.old host.new) result → ImageStays (of_host H.Host host.old host.new) path.now }
 {
-    let disk = match host.fetch(path, None) {
+    let disk = match host.fetch(path) {
         Ok(disk) => disk,
         Err(HostStop::Failed) => return host_answer(alloc),
         Err(HostStop::NoMemory) => return Err(AllocError),

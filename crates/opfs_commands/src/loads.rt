@@ -1,20 +1,21 @@
 //! An image that is made anew from a text.
 ghost use Rattle.std.specs.Prelude.{◌≡◌, ◌≢◌, ◌≤◌, Ok, IfOk, IfErr, IsOk, IsErrOf, length};
 ghost use Rattle.opfs_base.specs.Texts.{Text};
+ghost use Rattle.opfs_dump.specs.Loading.Laid.{StandsAs};
 ghost use Rattle.opfs_dump.specs.Text.Reading.{reads_dump};
 ghost use Rattle.opfs_dump.specs.Text.Texts.{loaded_line, refused_line};
 ghost use Rattle.opfs_dump.specs.Text.Whole.{dump_of};
 ghost use Rattle.opfs_image.specs.Superblock.{image_size};
 ghost use Rattle.opfs_journal.specs.Walking.{OnlyRead};
 ghost use Rattle.opfs_outside.specs.Faults.{Rose, RoseBy};
-ghost use Rattle.opfs_outside.specs.Turns.{of_host, AsBefore, GivenBack, HostFailed, ImageStays, OthersAsBefore};
+ghost use Rattle.opfs_outside.specs.Turns.{of_host, AsBefore, GivenBack, HostFailed, ImageStays, IsReturned, OthersAsBefore};
 ghost use Rattle.opfs_print.specs.Status.{status_text};
 ghost use Rattle.opfs_print.specs.declared.end.End.TheVariants as end;
-ghost use Rattle.opfs_commands.specs.Kinds.{FaultsLater, LeavesText, NoneFailed};
-ghost use Rattle.opfs_commands.specs.Telling.{IsAnswer, IsDumpAt, IsLaid, IsLoaded, IsNoDump, IsOfImage};
+ghost use Rattle.opfs_commands.specs.Kinds.{FaultsLater, IsUnmade, LeavesMade, LeavesText, NoneFailed};
+ghost use Rattle.opfs_commands.specs.Telling.{IsAnswer, IsDumpAt, IsLaid, StandsForText, IsLoaded, IsNoDump, IsOfImage};
 
 use crate::answers::{ToolAnswer, ToolEnd, host_answer};
-use crate::hosts::give_back;
+use crate::hosts::{end_making, give_back};
 use crate::makers::done;
 use opfs_base::Bytes;
 use opfs_dump::{DumpRefusal, Dumped, LayStop, lay, loaded_line, read_dump, refused_line};
@@ -98,6 +99,7 @@ fn give_text_back<H: Host>(
 ) -> Result<Dumped, Result<ToolAnswer, AllocError>>
     ensures same { IfOk result (λ d. d ≡ dumped) }
     ensures back { IsOk result → H.tells → GivenBack (of_host H.Host host.old host.new) path.now (H.D.content disk) (H.D.moment disk) (H.D.since disk) }
+    ensures returned { H.tells → IsReturned (of_host H.Host host.old host.new) path.now (H.D.content disk) (H.D.since disk 0) }
     ensures failed { IfErr result (λ r. Rose (H.own_faults host.old) (H.own_faults host.new) × IfOk r (λ a. (a.end ≡ ToolEnd.Host) × (a.text ≡ status_text end.Host))) }
     ensures own_later { H.own_faults host.old ≤ H.own_faults host.new }
     ensures later { RoseBy (H.D.faults disk) (H.faults host.old) (H.faults host.new) }
@@ -116,11 +118,10 @@ fn text_at<H: Host>(
 ) -> Result<Dumped, Result<ToolAnswer, AllocError>>
     ensures read { IfOk result (λ dumped. H.tells → IsDumpAt (dump_of dumped) (H.image host.old path.now)) }
     ensures not { IfErr result (λ r. IfOk r (λ answer. IsAnswer H.tells (λ text. ⊥) (IsOfImage IsNoDump (H.image host.old path.now)) (HostFailed (of_host H.Host host.old host.new)) answer.end answer.text)) }
-    ensures stays { IsOk result → H.tells → LeavesText (of_host H.Host host.old host.new) path.now }
-    ensures stays_not { IfErr result (λ r. H.tells → NoneFailed (of_host H.Host host.old host.new) r → LeavesText (of_host H.Host host.old host.new) path.now) }
+    ensures stays { H.tells → LeavesText (of_host H.Host host.old host.new) path.now }
     ensures later { FaultsLater (of_host H.Host host.old host.new) }
 {
-    let disk = match host.fetch(path, None) {
+    let disk = match host.fetch(path) {
         Ok(disk) => disk,
         Err(HostStop::Failed) => return Err(host_answer(alloc)),
         Err(HostStop::NoMemory) => return Err(Err(AllocError)),
@@ -161,7 +162,8 @@ fn lay_disk<D: Disk>(alloc: Global, disk: D, dumped: &Dumped) -> (D, Result<Tool
     (disk, lay_answer(alloc, laid, dumped.rows.len()))
 }
 
-// Makes the image at a path of a host anew, so that it stands for a dump.
+// Makes the image at a path of a host anew, so that it stands for a dump. It is made beside what stands there, and takes its
+// place at the end.
 fn lay_at<H: Host>(
     alloc: Global,
     host: &mut H,
@@ -169,18 +171,20 @@ fn lay_at<H: Host>(
     dumped: &Dumped,
 ) -> Result<ToolAnswer, AllocError>
     ensures answer { IfOk result (λ answer. IsAnswer H.tells (IsOfImage (IsLaid (dump_of dumped.now)) (H.image host.new path.now)) (λ text. ⊥) (HostFailed (of_host H.Host host.old host.new)) answer.end answer.text) }
-    ensures others { H.tells → NoneFailed (of_host H.Host host.old host.new) result → OthersAsBefore (of_host H.Host host.old host.new) path.now }
+    ensures others { H.tells → OthersAsBefore (of_host H.Host host.old host.new) path.now }
+    ensures made { H.tells → LeavesMade (of_host H.Host host.old host.new) path.now (StandsAs (dump_of dumped.now).geometry (dump_of dumped.now).map) (IsUnmade result) }
 {
-    let disk = match host.fetch(path, Some(dumped.geometry.image_size())) {
+    let disk = match host.make(path, dumped.geometry.image_size()) {
         Ok(disk) => disk,
         Err(HostStop::Failed) => return host_answer(alloc),
         Err(HostStop::NoMemory) => return Err(AllocError),
     };
     let (disk, answer) = lay_disk(alloc, disk, dumped);
-    give_back(alloc, host, path, disk, answer)
+    end_making(alloc, host, path, disk, answer)
 }
 
-/// Makes the image at a path of a host anew from the text at another. A text that is no dump leaves each image as it was.
+/// Makes the image at a path of a host anew from the text at another. A text that is no dump leaves each image as it was; and
+/// where no image is made from one that is, the old one stays.
 pub fn load_at<H: Host>(
     alloc: Global,
     host: &mut H,
@@ -191,6 +195,7 @@ pub fn load_at<H: Host>(
     ensures others { H.tells → NoneFailed (of_host H.Host host.old host.new) result → (path : Text) → path ≢ image.now → path ≢ text.now → AsBefore (of_host H.Host host.old host.new) path }
     ensures reads { H.tells → NoneFailed (of_host H.Host host.old host.new) result → text.now ≢ image.now → ImageStays (of_host H.Host host.old host.new) text.now }
     ensures refused { IfOk result (λ answer. answer.end ≡ ToolEnd.Image → H.tells → (path : Text) → ImageStays (of_host H.Host host.old host.new) path) }
+    ensures made { H.tells → LeavesMade (of_host H.Host host.old host.new) image.now (StandsForText (H.image host.old text.now)) (IsUnmade result) }
 {
     match text_at(alloc, host, text) {
         Ok(dumped) => lay_at(alloc, host, image, &dumped),

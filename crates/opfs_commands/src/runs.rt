@@ -170,7 +170,7 @@ pub fn run_at<R: AllocGlobal + Threads + Wait + Sync, H: Host, G: Gate>(
     ensures others { H.tells → NoneFailed (of_host H.Host host.old host.new) result → OthersAsBefore (of_host H.Host host.old host.new) path.now }
 {
     let alloc = rt.alloc();
-    let disk = match host.fetch(path, None) {
+    let disk = match host.fetch(path) {
         Ok(disk) => disk,
         Err(HostStop::Failed) => return host_answer(alloc),
         Err(HostStop::NoMemory) => return Err(AllocError),

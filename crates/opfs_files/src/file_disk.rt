@@ -4,7 +4,7 @@ ghost use Rattle.opfs_files.specs.Shown.{disk_size, disk_faults};
 
 use opfs_outside::{Disk, Failed};
 use std::fs::OpenFile;
-use std::io;
+use std::io::{self, ErrorKind};
 use std::os::unix::fs::FileExt;
 
 /// How many zeros are written at once.
@@ -21,10 +21,12 @@ fn fill<F: FileExt>(file: &F, size: u64) -> io::Result<()> {
 }
 
 /// An open file of the length that it had when it became a disk. It counts each error; a read that ends early, since
-/// the file was cut, is one. Where a sync fails the system may let go of what was written: each later sync fails too.
+/// the file was cut, is one. Where a sync fails the system may let go of what was written: each later sync fails too. It may
+/// hold another file, in whose place it is to stand, so that nobody else takes that.
 #[derive(Drop)]
 pub struct FileDisk<F> {
     file: F,
+    over: Option<F>,
     size: u64,
     faults: u64,
     sync_failed: bool,
@@ -50,10 +52,37 @@ impl<F: FileExt + OpenFile> FileDisk<F> {
         file.sync_all()?;
         Ok(FileDisk {
             file,
+            over: None,
             size,
             faults: 0,
             sync_failed: false,
         })
+    }
+
+    /// A file that is empty as a disk of so many zeros, with the file in whose place it is to stand.
+    pub fn over(file: F, over: Option<F>, size: u64) -> io::Result<FileDisk<F>>
+    where
+        F: Drop,
+        ensures fresh { IfOk result (λ disk. disk_faults disk ≡ 0) }
+        ensures size { IfOk result (λ disk. disk_size disk ≡ size) }
+    {
+        file.set_len(size)?;
+        fill(&file, size)?;
+        Ok(FileDisk {
+            file,
+            over,
+            size,
+            faults: 0,
+            sync_failed: false,
+        })
+    }
+
+    /// Syncs all of it that a crash is to leave. It fails where a sync has failed before.
+    pub fn settle(&self) -> io::Result<()> {
+        if self.sync_failed {
+            return Err(io::Error::from(ErrorKind::Other));
+        }
+        self.file.sync_all()
     }
 
     /// How many calls failed. At 2^64 - 1 it stands still.

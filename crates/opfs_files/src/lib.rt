@@ -6,6 +6,7 @@
 
 mod dir_host;
 mod file_disk;
+mod paths;
 mod streams;
 
 pub use dir_host::DirHost;

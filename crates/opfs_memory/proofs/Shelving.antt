@@ -5,8 +5,8 @@ use Rattle.std.specs.List.{position, position_or_len, slice_get}
 use Rattle.std.specs.Cmp.Lexicographic.{pointwise, bytes_decides}
 use Rattle.std.proofs.lemmas.List.{length-append}
 use Rattle.std.proofs.lemmas.Bool.{ltb-true, lt-ltb, both_ways, cases_lt}
-use Rattle.opfs_memory.specs.Drives.{Drive, LeftSince}
-use Rattle.opfs_memory.specs.Shelves.{Spot, Shelf, is_at, spot_at, given_at, newest, LeftBy, Trail, can_take}
+use Rattle.opfs_memory.specs.declared.place.Given.{Given}
+use Rattle.opfs_memory.specs.Shelves.{Spot, Shelf, is_at, spot_at, given_at, newest, given_in, image_in, LeftByAny, LeftOf, Trail}
 
 pub at_own : (path : List ℕ) (s : Spot) → s.path ≡ path → is_at path s ≡ true
 at_own path s e = (bytes_decides s.path path).1 e
@@ -112,27 +112,42 @@ not_at false h = refl
 
 -- the trail follows the disks that were given back
 pub trail_same : (h n : Shelf) (q : List ℕ) → given_at n q ≡ given_at h q → (c : List ℕ) → Trail n q c ↔ Trail h q c
-trail_same h n q e c = (subst (λ ds. LeftBy ds c) e, subst (λ ds. LeftBy ds c) (sym e))
+trail_same h n q e c = (subst (λ ds. LeftByAny ds c) e, subst (λ ds. LeftByAny ds c) (sym e))
 
-pub left_push : (ds : List Drive) (d : Drive) (c : List ℕ) → LeftBy (ds ++ d ∷ []) c → LeftBy ds c ⊎ LeftSince d 0 c
+pub left_push : (ds : List Given) (d : Given) (c : List ℕ) → LeftByAny (ds ++ d ∷ []) c → LeftByAny ds c ⊎ LeftOf d 0 c
 left_push [] d c (inl h) = inr h
 left_push [] d c (inr h) = elim h [ ]
 left_push (x ∷ ds) d c (inl h) = inl (inl h)
 left_push (x ∷ ds) d c (inr h) = elim (left_push ds d c h) [ inl was ↦ inl (inr was) | inr is ↦ inr is ]
 
-pub push_left : (ds : List Drive) (d : Drive) (c : List ℕ) → LeftBy ds c ⊎ LeftSince d 0 c → LeftBy (ds ++ d ∷ []) c
+pub push_left : (ds : List Given) (d : Given) (c : List ℕ) → LeftByAny ds c ⊎ LeftOf d 0 c → LeftByAny (ds ++ d ∷ []) c
 push_left [] d c (inl h) = absurd h
 push_left [] d c (inr h) = inl h
 push_left (x ∷ ds) d c (inl (inl h)) = inl h
 push_left (x ∷ ds) d c (inl (inr h)) = inr (push_left ds d c (inl h))
 push_left (x ∷ ds) d c (inr h) = inr (push_left ds d c (inr h))
 
-pub newest-push : (ds : List Drive) (d : Drive) → newest (ds ++ d ∷ []) ≡ Some d
+pub newest-push : (ds : List Given) (d : Given) → newest (ds ++ d ∷ []) ≡ Some d
 newest-push ds d = ap (λ n. slice_get (ds ++ d ∷ []) n) (omega (arith, length-append ds (d ∷ []))) ∙ got ds d
   where
-    got : (ds : List Drive) (d : Drive) → slice_get (ds ++ d ∷ []) (length ds) ≡ Some d
+    got : (ds : List Given) (d : Given) → slice_get (ds ++ d ∷ []) (length ds) ≡ Some d
     got [] d = refl
     got (x ∷ ds) d = got ds d
+
+-- a spot more that has what a missing one has
+module _ {X : Type 0} (f : Spot → X) (none : X) (q : List ℕ) where
+  alone : (b : Bool) (s : Spot) → f s ≡ none → unwrap_or (option_map f (cond b (Some s) None)) none ≡ none
+  alone true s e = e
+  alone false s e = refl
+
+  behind : (b : Bool) (x : Spot) (r s : Option Spot) → unwrap_or (option_map f r) none ≡ unwrap_or (option_map f s) none
+      → unwrap_or (option_map f (cond b (Some x) r)) none ≡ unwrap_or (option_map f (cond b (Some x) s)) none
+  behind true x r s e = refl
+  behind false x r s e = e
+
+  pub push_none : (xs : List Spot) (s : Spot) → f s ≡ none → unwrap_or (option_map f (spot_at q (xs ++ s ∷ []))) none ≡ unwrap_or (option_map f (spot_at q xs)) none
+  push_none [] s e = alone (is_at q s) s e
+  push_none (x ∷ xs) s e = behind (is_at q x) x (spot_at q (xs ++ s ∷ [])) (spot_at q xs) (push_none xs s e)
 
 -- one change at the first spot of the path
 module _ (path : List ℕ) (h m n : Shelf) (same : m.places ≡ h.places) (at : ℕ) (is : position (is_at path) m.places ≡ Some at) (f : Spot → Spot) (keeps : (s : Spot) → (f s).path ≡ s.path)
@@ -173,14 +188,14 @@ module _ (path : List ℕ) (h m n : Shelf) (same : m.places ≡ h.places) (is : 
       ∙ push_look g q m.places s (not_at (is_at q s) (λ e. ne (sym (own_at q s e) ∙ own)))
       ∙ ap (λ xs. option_map g (spot_at q xs)) same
 
--- whether a disk of the path is out, as the first spot says
-pub out_at : (path : List ℕ) (xs : List Spot) (at : ℕ) (b : Bool) → position (is_at path) xs ≡ Some at → can_take (slice_get xs at) ≡ b → can_take (spot_at path xs) ≡ b
-out_at path xs at b is e =
+-- a test of a path, as the first spot says
+pub as_first : (test : Option Spot → Bool) (path : List ℕ) (xs : List Spot) (at : ℕ) (b : Bool) → position (is_at path) xs ≡ Some at → test (slice_get xs at) ≡ b → test (spot_at path xs) ≡ b
+as_first test path xs at b is e =
     let here = found path xs at is in
-    ap can_take (here.first ∙ sym here.get) ∙ e
+    ap test (here.first ∙ sym here.get) ∙ e
 
-pub none_out : (path : List ℕ) (xs : List Spot) → position (is_at path) xs ≡ None → can_take (spot_at path xs) ≡ false
-none_out path xs e = ap can_take (missing path xs e)
+pub as_missing : (test : Option Spot → Bool) (path : List ℕ) (xs : List Spot) → position (is_at path) xs ≡ None → test (spot_at path xs) ≡ test None
+as_missing test path xs e = ap test (missing path xs e)
 
 pub fails_as : (a b named out : Bool) → a ≡ named → b ≡ out → (named || not out) ≡ (a || not b)
 fails_as a b named out e f = λ i. sym e i || not (sym f i)

@@ -2,7 +2,7 @@
 use Rattle.std.specs.Prelude.{◌+◌, ◌≤◌, length, option_map}
 use Rattle.std.specs.Vec.{vec_capacity}
 use Rattle.opfs_memory.specs.Shelves.{Spot, newest, image_of}
-use Rattle.opfs_memory.specs.declared.mem_host.Place.TheInside.{Inside}
+use Rattle.opfs_memory.specs.declared.place.Place.TheInside.{Inside}
 
 abbrev pub spot_of : Inside → Spot
 spot_of p = record {

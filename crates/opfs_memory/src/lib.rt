@@ -6,6 +6,7 @@
 mod bytes;
 mod mem_disk;
 mod mem_host;
+mod place;
 mod ram_disk;
 mod sink;
 mod source;

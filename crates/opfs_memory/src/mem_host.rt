@@ -1,96 +1,18 @@
 //! A host in memory.
 
-ghost use Rattle.std.specs.Prelude.{◌≡◌, ◌+◌, ◌-◌, ◌^◌, ◌<◌, ℕ, [], ◌∷◌, ◌++◌, Option, Some, None, true, false, MatchOption, length, map, min, replicate, slice_set, option_map, option_copied, if◌then◌else◌, IfOk, IfSome, OnOk, OnErr};
+ghost use Rattle.std.specs.Prelude.{◌≡◌, ◌+◌, ◌-◌, ◌^◌, ◌<◌, ℕ, List, [], ◌∷◌, ◌++◌, ◌↔◌, Some, true, false, MatchOption, length, map, min, replicate, slice_set, option_map, option_copied, if◌then◌else◌, IfOk, IfSome, OnOk, OnErr};
 ghost use Rattle.std.specs.List.{position, slice_get};
 ghost use Rattle.opfs_memory.specs.Counts.{counted, is_named};
-ghost use Rattle.opfs_memory.specs.Shelves.{newest, is_at, spot_at, given_at, fetched_disk, asked, spot_lent, spot_made, spot_given, spot_put, can_take};
+ghost use Rattle.opfs_memory.specs.Shelves.{newest_disk, is_at, spot_at, image_at, given_at, Trail, fetched_disk, spot_lent, spot_made, spot_given, spot_thrown, can_take, has_image};
 
 use crate::MemDisk;
+use crate::place::Place;
 use opfs_outside::{Failed, Host, HostStop};
 use std::alloc::{AllocError, Global};
 use std::marker::Model;
 
-// A path and its image, which is that of the last disk where there are no bytes; the disks that were given back
-// there, the last of them last; and how many of those that were fetched are still out.
-#[derive(Drop)]
-struct Place {
-    path: Vec<u8>,
-    image: Option<Vec<u8>>,
-    given: Vec<MemDisk>,
-    out: usize,
-}
-
-impl Model for Place {
-    ghost use Rattle.opfs_memory.specs.Shelves.{Spot};
-
-    ghost Value = { Spot };
-
-    ghost use Rattle.opfs_memory.specs.Places.{spot_of, HasRoom};
-
-    ghost view = { spot_of };
-
-    ghost invariant = { HasRoom };
-}
-
-impl Place {
-    fn make(alloc: Global, path: Vec<u8>, image: Vec<u8>) -> Place
-        ensures { result ≡ record { path = path.items; image = image.items; given = []; out = 0 } }
-    {
-        Place {
-            path,
-            image: Some(image),
-            given: Vec::new(alloc),
-            out: 0,
-        }
-    }
-
-    fn is_at(&self, path: &[u8]) -> bool
-        ensures { result ≡ is_at path.now self.now }
-    {
-        self.path.as_slice() == path
-    }
-
-    fn last(&self) -> Option<&MemDisk>
-        ensures { option_copied result ≡ newest self.now.given }
-    {
-        self.given.last()
-    }
-
-    fn image(&self) -> &[u8]
-        ensures { result.now ≡ self.now.image }
-    {
-        match (&self.image, self.given.last()) {
-            (Some(bytes), _) => bytes.as_slice(),
-            (None, Some(disk)) => disk.content(),
-            (None, None) => &[],
-        }
-    }
-
-    // Keeps room for one more disk, and puts these bytes there.
-    fn lend(&mut self, bytes: Option<Vec<u8>>) -> Result<(), AllocError>
-        ensures lent { OnOk result (self.new ≡ spot_put (option_map (λ v. v.items) bytes) self.old) }
-        ensures same { OnErr result (self.new ≡ self.old) }
-    {
-        self.given.reserve(self.out + 1)?;
-        self.out += 1;
-        if bytes.is_some() {
-            self.image = bytes;
-        }
-        Ok(())
-    }
-
-    fn keep(&mut self, disk: MemDisk)
-        requires { 0 < self.old.out }
-        ensures { self.new ≡ spot_given disk self.old }
-    {
-        self.given.push(disk).unwrap();
-        self.out -= 1;
-        self.image = None;
-    }
-}
-
 /// Images by path in memory. Its calls are numbered from 1; a call fails exactly where its number is named, where a
-/// path to fetch without `make` is not there, or where a disk is given back and none that was fetched there is out.
+/// path to fetch has no image, or where a disk comes back and none that was fetched or made there is out.
 #[derive(Drop)]
 pub struct MemHost {
     alloc: Global,
@@ -124,7 +46,7 @@ impl Model for MemHost {
 }
 
 impl MemHost {
-    /// A host of these images by path; of two with one path the first counts. The disks that it fetches have these
+    /// A host of these images by path; of two with one path the first counts. The disks that it fetches and makes have these
     /// failing calls, this stop and this room.
     pub fn make(
         alloc: Global,
@@ -136,7 +58,7 @@ impl MemHost {
         bytes: u64,
     ) -> Result<MemHost, AllocError>
         ensures { IfOk result (λ host. host ≡ record {
-          places = map (λ image. record { path = image.0.items; image = image.1.items; given = []; out = 0 }) images.items;
+          places = map (λ image. record { path = image.0.items; image = Some image.1.items; given = []; out = 0 }) images.items;
           fails = fails.items;
           disk_fails = disk_fails.items;
           stop = stop;
@@ -149,7 +71,7 @@ impl MemHost {
     {
         let mut places = Vec::with_capacity(alloc, images.len())?;
         for (path, image) in images {
-            places.push(Place::make(alloc, path, image))?;
+            places.push(Place::make(alloc, path, Some(image)))?;
         }
         Ok(MemHost {
             alloc,
@@ -165,9 +87,9 @@ impl MemHost {
         })
     }
 
-    /// The disk that was last given back at this path; none exactly where none was.
+    /// The disk that came back last for this path; none exactly where none did.
     pub fn given(&self, path: &str) -> Option<&MemDisk>
-        ensures { option_copied result ≡ newest (given_at self.now path.now) }
+        ensures { option_copied result ≡ newest_disk (given_at self.now path.now) }
     {
         match self.find(path) {
             Some(at) => self.last_at(at),
@@ -175,12 +97,30 @@ impl MemHost {
         }
     }
 
+    /// The image at this path; none exactly where there is none.
+    pub fn image(&self, path: &str) -> Option<&[u8]>
+        ensures { option_copied result ≡ image_at self.now path.now }
+    {
+        match self.find(path) {
+            Some(at) => self.seen_at(at),
+            None => None,
+        }
+    }
+
     fn last_at(&self, at: usize) -> Option<&MemDisk>
         requires { at < length self.now.places }
-        ensures { IfSome (slice_get self.now.places at) (λ spot. option_copied result ≡ newest spot.given) }
+        ensures { IfSome (slice_get self.now.places at) (λ spot. option_copied result ≡ newest_disk spot.given) }
     {
         let place = &self.places[at];
         place.last()
+    }
+
+    fn seen_at(&self, at: usize) -> Option<&[u8]>
+        requires { at < length self.now.places }
+        ensures { IfSome (slice_get self.now.places at) (λ spot. option_copied result ≡ spot.image) }
+    {
+        let place = &self.places[at];
+        place.image()
     }
 
     fn find(&self, path: &str) -> Option<usize>
@@ -190,13 +130,24 @@ impl MemHost {
         self.places.iter().position(|place| place.is_at(path))
     }
 
-    // The place of this path where one that was fetched there is still out.
+    // The place of this path where one that was fetched or made there is still out.
     fn find_out(&self, path: &str) -> Option<usize>
         ensures { MatchOption result (can_take (spot_at path.now self.now.places) ≡ false) (λ at.
             (position (is_at path.now) self.now.places ≡ Some at) × (can_take (slice_get self.now.places at) ≡ true)) }
     {
         match self.find(path) {
             Some(at) => if self.is_out(at) { Some(at) } else { None },
+            None => None,
+        }
+    }
+
+    // The place of this path where it has an image.
+    fn find_image(&self, path: &str) -> Option<usize>
+        ensures { MatchOption result (has_image (spot_at path.now self.now.places) ≡ false) (λ at.
+            (position (is_at path.now) self.now.places ≡ Some at) × (has_image (slice_get self.now.places at) ≡ true)) }
+    {
+        match self.find(path) {
+            Some(at) => if self.has_image(at) { Some(at) } else { None },
             None => None,
         }
     }
@@ -216,70 +167,57 @@ impl MemHost {
         Ok(disk)
     }
 
-    // A disk of the image at this place, or of so many zeros.
-    fn fetch_at(&mut self, at: usize, make: Option<u64>) -> Result<MemDisk, AllocError>
+    // A disk of the image at this place.
+    fn fetch_at(&mut self, at: usize) -> Result<MemDisk, AllocError>
         requires { at < length self.old.places }
         ensures fresh { IfOk result (λ disk. (disk.log ≡ []) × (disk.faults ≡ 0)) }
         ensures fetched { IfOk result (λ disk. disk ≡ fetched_disk self.old disk.first) }
-        ensures made { IfOk result (λ disk. (n : ℕ) → make ≡ Some n → length disk.first ≡ n) }
-        ensures disk { IfOk result (λ disk. IfSome (slice_get self.old.places at) (λ spot. disk.first ≡ asked make spot.image)) }
-        ensures after { OnOk result (IfSome (slice_get self.old.places at) (λ spot. self.new.places ≡ slice_set self.old.places at (spot_lent make spot))) }
+        ensures disk { IfOk result (λ disk. IfSome (slice_get self.old.places at) (λ spot. IfSome spot.image (λ image. disk.first ≡ image))) }
+        ensures after { OnOk result (IfSome (slice_get self.old.places at) (λ spot. self.new.places ≡ slice_set self.old.places at (spot_lent spot))) }
         ensures counts { (self.new.all ≡ self.old.all) × (self.new.own ≡ self.old.own) }
         ensures same { OnErr result (self.new ≡ self.old) }
     {
-        match make {
-            Some(len) => self.fetch_zeros(at, len),
-            None => self.fetch_image(at),
+        let content = self.copy_at(at)?;
+        let disk = self.disk_of(content)?;
+        self.lend(at)?;
+        Ok(disk)
+    }
+
+    // A disk of so many zeros, for this place.
+    fn make_at(&mut self, at: usize, size: u64) -> Result<MemDisk, AllocError>
+        requires { at < length self.old.places }
+        ensures disk { IfOk result (λ disk. disk ≡ fetched_disk self.old (replicate size 0)) }
+        ensures after { OnOk result (IfSome (slice_get self.old.places at) (λ spot. self.new.places ≡ slice_set self.old.places at (spot_lent spot))) }
+        ensures counts { (self.new.all ≡ self.old.all) × (self.new.own ≡ self.old.own) }
+        ensures same { OnErr result (self.new ≡ self.old) }
+    {
+        let content = vec![in self.alloc; 0; size as usize]?;
+        let disk = self.disk_of(content)?;
+        self.lend(at)?;
+        Ok(disk)
+    }
+
+    // A copy of the image at this place; nothing where there is none.
+    fn copy_at(&self, at: usize) -> Result<Vec<u8>, AllocError>
+        requires { at < length self.now.places }
+        ensures { IfOk result (λ copy. IfSome (slice_get self.now.places at) (λ spot. IfSome spot.image (λ image. copy.items ≡ image))) }
+    {
+        match self.seen_at(at) {
+            Some(bytes) => {
+                let copy = bytes.to_vec(self.alloc)?;
+                Ok(copy)
+            }
+            None => Ok(Vec::new(self.alloc)),
         }
     }
 
-    fn fetch_image(&mut self, at: usize) -> Result<MemDisk, AllocError>
+    fn lend(&mut self, at: usize) -> Result<(), AllocError>
         requires { at < length self.old.places }
-        ensures fresh { IfOk result (λ disk. (disk.log ≡ []) × (disk.faults ≡ 0)) }
-        ensures fetched { IfOk result (λ disk. disk ≡ fetched_disk self.old disk.first) }
-        ensures disk { IfOk result (λ disk. IfSome (slice_get self.old.places at) (λ spot. disk.first ≡ spot.image)) }
-        ensures after { OnOk result (IfSome (slice_get self.old.places at) (λ spot. self.new.places ≡ slice_set self.old.places at (spot_lent None spot))) }
-        ensures counts { (self.new.all ≡ self.old.all) × (self.new.own ≡ self.old.own) }
-        ensures same { OnErr result (self.new ≡ self.old) }
-    {
-        let content = self.image_at(at)?;
-        let disk = self.disk_of(content)?;
-        self.lend(at, None)?;
-        Ok(disk)
-    }
-
-    fn fetch_zeros(&mut self, at: usize, len: u64) -> Result<MemDisk, AllocError>
-        requires { at < length self.old.places }
-        ensures fresh { IfOk result (λ disk. (disk.log ≡ []) × (disk.faults ≡ 0)) }
-        ensures fetched { IfOk result (λ disk. disk ≡ fetched_disk self.old disk.first) }
-        ensures disk { IfOk result (λ disk. disk.first ≡ replicate len 0) }
-        ensures after { OnOk result (IfSome (slice_get self.old.places at) (λ spot. self.new.places ≡ slice_set self.old.places at (spot_lent (Some len) spot))) }
-        ensures counts { (self.new.all ≡ self.old.all) × (self.new.own ≡ self.old.own) }
-        ensures same { OnErr result (self.new ≡ self.old) }
-    {
-        let content = vec![in self.alloc; 0; len as usize]?;
-        let zeros = vec![in self.alloc; 0; len as usize]?;
-        let disk = self.disk_of(content)?;
-        self.lend(at, Some(zeros))?;
-        Ok(disk)
-    }
-
-    fn image_at(&self, at: usize) -> Result<Vec<u8>, AllocError>
-        requires { at < length self.now.places }
-        ensures { IfOk result (λ image. IfSome (slice_get self.now.places at) (λ spot. image.items ≡ spot.image)) }
-    {
-        let place = &self.places[at];
-        let image = place.image().to_vec(self.alloc)?;
-        Ok(image)
-    }
-
-    fn lend(&mut self, at: usize, bytes: Option<Vec<u8>>) -> Result<(), AllocError>
-        requires { at < length self.old.places }
-        ensures lent { OnOk result (IfSome (slice_get self.old.places at) (λ spot. self.new ≡ record self.old { places = slice_set self.old.places at (spot_put (option_map (λ v. v.items) bytes) spot) })) }
+        ensures lent { OnOk result (IfSome (slice_get self.old.places at) (λ spot. self.new ≡ record self.old { places = slice_set self.old.places at (spot_lent spot) })) }
         ensures same { OnErr result (self.new ≡ self.old) }
     {
         let place = &mut self.places[at];
-        place.lend(bytes)?;
+        place.lend()?;
         Ok(())
     }
 
@@ -288,31 +226,62 @@ impl MemHost {
         ensures { result ≡ can_take (slice_get self.now.places at) }
     {
         let place = &self.places[at];
-        place.out > 0
+        place.is_out()
     }
 
-    fn keep(&mut self, at: usize, disk: MemDisk)
+    fn has_image(&self, at: usize) -> bool
+        requires { at < length self.now.places }
+        ensures { result ≡ has_image (slice_get self.now.places at) }
+    {
+        let place = &self.places[at];
+        place.image().is_some()
+    }
+
+    fn keep(&mut self, at: usize, disk: MemDisk, placed: bool)
         requires out { can_take (slice_get self.old.places at) ≡ true }
         requires within { at < length self.old.places }
-        ensures after { IfSome (slice_get self.old.places at) (λ spot. self.new.places ≡ slice_set self.old.places at (spot_given disk spot)) }
+        ensures after { IfSome (slice_get self.old.places at) (λ spot. self.new.places ≡ slice_set self.old.places at (spot_given (record { disk = disk; placed = placed }) spot)) }
         ensures counts { (self.new.all ≡ self.old.all) × (self.new.own ≡ self.old.own) }
     {
         let place = &mut self.places[at];
-        place.keep(disk);
+        place.keep(disk, placed);
     }
 
-    // A disk of so many zeros at a path that was not there.
-    fn fetch_new(&mut self, path: &str, len: u64) -> Result<MemDisk, AllocError>
-        ensures disk { IfOk result (λ disk. disk ≡ fetched_disk self.old (replicate len 0)) }
-        ensures after { OnOk result (self.new ≡ record self.old { places = self.old.places ++ spot_made path.now len ∷ [] }) }
+    fn throw_away(&mut self, at: usize)
+        requires out { can_take (slice_get self.old.places at) ≡ true }
+        requires within { at < length self.old.places }
+        ensures after { IfSome (slice_get self.old.places at) (λ spot. self.new.places ≡ slice_set self.old.places at (spot_thrown spot)) }
+        ensures counts { (self.new.all ≡ self.old.all) × (self.new.own ≡ self.old.own) }
+    {
+        let place = &mut self.places[at];
+        place.throw_away();
+    }
+
+    // A disk of so many zeros for a path that was not there, where there is no image still.
+    fn make_new(&mut self, path: &str, size: u64) -> Result<MemDisk, AllocError>
+        ensures disk { IfOk result (λ disk. disk ≡ fetched_disk self.old (replicate size 0)) }
+        ensures after { OnOk result (self.new ≡ record self.old { places = self.old.places ++ spot_made path.now ∷ [] }) }
         ensures same { OnErr result (self.new ≡ self.old) }
     {
-        let disk = self.disk_of(vec![in self.alloc; 0; len as usize]?)?;
+        let disk = self.disk_of(vec![in self.alloc; 0; size as usize]?)?;
         let path = path.as_bytes().to_vec(self.alloc)?;
-        let mut place = Place::make(self.alloc, path, vec![in self.alloc; 0; len as usize]?);
-        place.lend(None)?;
+        let mut place = Place::make(self.alloc, path, None);
+        place.lend()?;
         self.places.push(place)?;
         Ok(disk)
+    }
+
+    // A disk of so many zeros for a path.
+    fn make_beside(&mut self, path: &str, size: u64) -> Result<MemDisk, AllocError>
+        ensures disk { IfOk result (λ disk. disk ≡ fetched_disk self.old (replicate size 0)) }
+        ensures images { (p : List ℕ) → image_at self.new p ≡ image_at self.old p }
+        ensures trails { (p c : List ℕ) → Trail self.new p c ↔ Trail self.old p c }
+        ensures counts { (self.new.all ≡ self.old.all) × (self.new.own ≡ self.old.own) }
+    {
+        match self.find(path) {
+            Some(at) => self.make_at(at, size),
+            None => self.make_new(path, size),
+        }
     }
 
     fn take_faults(&mut self, faults: u64)
@@ -341,7 +310,10 @@ impl MemHost {
 impl Host for MemHost {
     type D = MemDisk;
 
+    type Made = MemDisk;
+
     ghost use Rattle.std.specs.Prelude.{◌≡◌, ◌≢◌, ◌↔◌, ◌⊎◌, ◌+◌, ◌-◌, ◌^◌, ◌≤◌, ℕ, List, Some, None, length, min, replicate, is_err, IsErrOf, IsTrue, IfOk, OnOk, OnErr};
+    ghost use Rattle.opfs_memory.specs.Counts.{counted, is_named};
     ghost use Rattle.opfs_memory.specs.Drives.{LeftSince, content_of, moment_of};
     ghost use Rattle.opfs_memory.specs.Shelves.{image_at, moments_at, Trail, LeftAt, fetched_disk, fetch_fails, return_fails};
     ghost use Rattle.opfs_outside.specs.Faults.{Rose, RoseBy};
@@ -360,21 +332,15 @@ impl Host for MemHost {
 
     ghost own_faults = { λ host. min host.own (2 ^ 64 - 1) };
 
-    fn fetch(&mut self, path: &str, make: Option<u64>) -> Result<MemDisk, HostStop>
-        ensures fails { IsErrOf result HostStop.Failed ↔ IsTrue (fetch_fails self.old path.now make) }
+    fn fetch(&mut self, path: &str) -> Result<MemDisk, HostStop>
+        ensures fails { IsErrOf result HostStop.Failed ↔ IsTrue (fetch_fails self.old path.now) }
         ensures fetched { IfOk result (λ disk. disk ≡ fetched_disk self.old disk.first) }
         ensures fresh { IfOk result (λ disk. min disk.faults (2 ^ 64 - 1) ≡ 0) }
         ensures first { IfOk result (λ disk. moment_of disk ≡ 0) }
         ensures one_image { IfOk result (λ disk. (c : List ℕ) → LeftSince disk 0 c → c ≡ content_of disk) }
-        ensures made { IfOk result (λ disk. (n : ℕ) → make ≡ Some n → length disk.first ≡ n) }
         ensures content { IfOk result (λ disk. image_at self.new path.now ≡ Some (content_of disk)) }
-        ensures zeros { OnOk result ((n : ℕ) → make ≡ Some n → image_at self.new path.now ≡ Some (replicate n 0)) }
-        ensures images_stay { make ≡ None → (p : List ℕ) → image_at self.new p ≡ image_at self.old p }
-        ensures trails_stay { make ≡ None → (p c : List ℕ) → Trail self.new p c ↔ Trail self.old p c }
-        ensures no_memory_images { IsErrOf result HostStop.NoMemory → (p : List ℕ) → image_at self.new p ≡ image_at self.old p }
-        ensures no_memory_trails { IsErrOf result HostStop.NoMemory → (p c : List ℕ) → Trail self.new p c ↔ Trail self.old p c }
-        ensures other_images { OnOk result ((p : List ℕ) → p ≢ path.now → image_at self.new p ≡ image_at self.old p) }
-        ensures other_trails { OnOk result ((p c : List ℕ) → p ≢ path.now → Trail self.new p c ↔ Trail self.old p c) }
+        ensures images_stay { (p : List ℕ) → image_at self.new p ≡ image_at self.old p }
+        ensures trails_stay { (p c : List ℕ) → Trail self.new p c ↔ Trail self.old p c }
         ensures own_later { min self.old.own (2 ^ 64 - 1) ≤ min self.new.own (2 ^ 64 - 1) }
         ensures later { RoseBy (min self.new.own (2 ^ 64 - 1) - min self.old.own (2 ^ 64 - 1)) (min self.old.all (2 ^ 64 - 1)) (min self.new.all (2 ^ 64 - 1)) }
         ensures cause { IsErrOf result HostStop.Failed → Rose (min self.old.own (2 ^ 64 - 1)) (min self.new.own (2 ^ 64 - 1)) }
@@ -383,26 +349,26 @@ impl Host for MemHost {
             self.fail();
             return Err(HostStop::Failed);
         }
-        match self.find(path) {
-            Some(at) => self.fetch_at(at, make).map_err(|_| HostStop::NoMemory),
-            None => match make {
-                Some(len) => self.fetch_new(path, len).map_err(|_| HostStop::NoMemory),
-                None => {
-                    self.fail();
-                    Err(HostStop::Failed)
-                }
-            },
+        let Some(at) = self.find_image(path) else {
+            self.fail();
+            return Err(HostStop::Failed);
+        };
+        match self.fetch_at(at) {
+            Ok(disk) => Ok(disk),
+            Err(_) => Err(HostStop::NoMemory),
         }
     }
 
     fn give_back(&mut self, path: &str, disk: MemDisk) -> Result<(), Failed>
         ensures fails { is_err result ≡ return_fails self.old path.now }
         ensures content { OnOk result (image_at self.new path.now ≡ Some (content_of disk)) }
+        ensures old_or_new { (image_at self.new path.now ≡ image_at self.old path.now) ⊎ (image_at self.new path.now ≡ Some (content_of disk)) }
         ensures trail { OnOk result ((c : List ℕ) → Trail self.new path.now c ↔ (Trail self.old path.now c ⊎ LeftSince disk 0 c)) }
+        ensures left { (c : List ℕ) → Trail self.new path.now c → Trail self.old path.now c ⊎ LeftSince disk 0 c }
         ensures moment { OnOk result (moments_at self.new path.now ≡ moment_of disk) }
         ensures since { OnOk result ((t : ℕ) (c : List ℕ) → LeftAt self.new path.now t c ↔ LeftSince disk t c) }
-        ensures other_images { OnOk result ((p : List ℕ) → p ≢ path.now → image_at self.new p ≡ image_at self.old p) }
-        ensures other_trails { OnOk result ((p c : List ℕ) → p ≢ path.now → Trail self.new p c ↔ Trail self.old p c) }
+        ensures other_images { (p : List ℕ) → p ≢ path.now → image_at self.new p ≡ image_at self.old p }
+        ensures other_trails { (p c : List ℕ) → p ≢ path.now → Trail self.new p c ↔ Trail self.old p c }
         ensures own_later { min self.old.own (2 ^ 64 - 1) ≤ min self.new.own (2 ^ 64 - 1) }
         ensures later { RoseBy (min disk.faults (2 ^ 64 - 1) + (min self.new.own (2 ^ 64 - 1) - min self.old.own (2 ^ 64 - 1))) (min self.old.all (2 ^ 64 - 1)) (min self.new.all (2 ^ 64 - 1)) }
         ensures cause { OnErr result (Rose (min self.old.own (2 ^ 64 - 1)) (min self.new.own (2 ^ 64 - 1))) }
@@ -415,13 +381,83 @@ impl Host for MemHost {
         }
         match self.find_out(path) {
             Some(at) => {
-                self.keep(at, disk);
+                self.keep(at, disk, false);
                 Ok(())
             }
             None => {
                 self.fail();
                 Err(Failed)
             }
+        }
+    }
+
+    fn make(&mut self, path: &str, size: u64) -> Result<MemDisk, HostStop>
+        ensures fails { IsErrOf result HostStop.Failed ↔ IsTrue (is_named self.old.fails (counted self.old.calls)) }
+        ensures made { IfOk result (λ disk. disk ≡ fetched_disk self.old (replicate size 0)) }
+        ensures fresh { IfOk result (λ disk. min disk.faults (2 ^ 64 - 1) ≡ 0) }
+        ensures size { IfOk result (λ disk. length disk.first ≡ size) }
+        ensures zeros { IfOk result (λ disk. content_of disk ≡ replicate size 0) }
+        ensures images_stay { (p : List ℕ) → image_at self.new p ≡ image_at self.old p }
+        ensures trails_stay { (p c : List ℕ) → Trail self.new p c ↔ Trail self.old p c }
+        ensures own_later { min self.old.own (2 ^ 64 - 1) ≤ min self.new.own (2 ^ 64 - 1) }
+        ensures later { RoseBy (min self.new.own (2 ^ 64 - 1) - min self.old.own (2 ^ 64 - 1)) (min self.old.all (2 ^ 64 - 1)) (min self.new.all (2 ^ 64 - 1)) }
+        ensures cause { IsErrOf result HostStop.Failed → Rose (min self.old.own (2 ^ 64 - 1)) (min self.new.own (2 ^ 64 - 1)) }
+    {
+        if self.is_named() {
+            self.fail();
+            return Err(HostStop::Failed);
+        }
+        match self.make_beside(path, size) {
+            Ok(disk) => Ok(disk),
+            Err(_) => Err(HostStop::NoMemory),
+        }
+    }
+
+    fn replace(&mut self, path: &str, disk: MemDisk) -> Result<(), Failed>
+        ensures fails { is_err result ≡ return_fails self.old path.now }
+        ensures content { OnOk result (image_at self.new path.now ≡ Some (content_of disk)) }
+        ensures old_or_new { (image_at self.new path.now ≡ image_at self.old path.now) ⊎ (image_at self.new path.now ≡ Some (content_of disk)) }
+        ensures trail { (c : List ℕ) → Trail self.new path.now c → Trail self.old path.now c ⊎ (image_at self.old path.now ≡ Some c) ⊎ (c ≡ content_of disk) }
+        ensures since { OnOk result ((t : ℕ) (c : List ℕ) → LeftAt self.new path.now t c → c ≡ content_of disk) }
+        ensures other_images { (p : List ℕ) → p ≢ path.now → image_at self.new p ≡ image_at self.old p }
+        ensures other_trails { (p c : List ℕ) → p ≢ path.now → Trail self.new p c ↔ Trail self.old p c }
+        ensures own_later { min self.old.own (2 ^ 64 - 1) ≤ min self.new.own (2 ^ 64 - 1) }
+        ensures later { RoseBy (min disk.faults (2 ^ 64 - 1) + (min self.new.own (2 ^ 64 - 1) - min self.old.own (2 ^ 64 - 1))) (min self.old.all (2 ^ 64 - 1)) (min self.new.all (2 ^ 64 - 1)) }
+        ensures cause { OnErr result (Rose (min self.old.own (2 ^ 64 - 1)) (min self.new.own (2 ^ 64 - 1))) }
+    {
+        let named = self.is_named();
+        self.take_faults(disk.faults());
+        if named {
+            self.fail();
+            return Err(Failed);
+        }
+        match self.find_out(path) {
+            Some(at) => {
+                self.keep(at, disk, true);
+                Ok(())
+            }
+            None => {
+                self.fail();
+                Err(Failed)
+            }
+        }
+    }
+
+    fn discard(&mut self, path: &str, disk: MemDisk)
+        ensures images_stay { (p : List ℕ) → image_at self.new p ≡ image_at self.old p }
+        ensures trails_stay { (p c : List ℕ) → Trail self.new p c ↔ Trail self.old p c }
+        ensures own_later { min self.old.own (2 ^ 64 - 1) ≤ min self.new.own (2 ^ 64 - 1) }
+        ensures later { RoseBy (min disk.faults (2 ^ 64 - 1) + (min self.new.own (2 ^ 64 - 1) - min self.old.own (2 ^ 64 - 1))) (min self.old.all (2 ^ 64 - 1)) (min self.new.all (2 ^ 64 - 1)) }
+    {
+        let named = self.is_named();
+        self.take_faults(disk.faults());
+        if named {
+            self.fail();
+            return;
+        }
+        match self.find_out(path) {
+            Some(at) => self.throw_away(at),
+            None => self.fail(),
         }
     }
 
@@ -434,4 +470,6 @@ impl Host for MemHost {
     ghost disk_tells = { λ told. told };
 
     ghost disk_crashes = { λ told. told };
+
+    ghost made_tells = { λ told. told };
 }

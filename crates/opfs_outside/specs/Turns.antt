@@ -9,7 +9,7 @@ use Rattle.opfs_outside.specs.declared.stream.Source.{Ghosts as SourceWords}
 use Rattle.opfs_outside.specs.Faults.{Rose}
 
 -- A host, before and after a call: its images by path, what a stop may have left there, its own faults, and all faults; and
--- after it, of the disk that was last given back at each path, its moments and what a stop may have left from each of them on.
+-- after it, of the disk that came back last for each path, its moments and what a stop may have left from each of them on.
 pub record HostTurn : Type 1 where
   pub tells : Type 0
   pub image : List ℕ → Option (List ℕ)
@@ -23,7 +23,7 @@ pub record HostTurn : Type 1 where
   pub faults : ℕ
   pub faults_after : ℕ
 
-abbrev pub of_host : {H D : Type 0} → HostWords H D → H → H → HostTurn
+abbrev pub of_host : {H D M : Type 0} → HostWords H D M → H → H → HostTurn
 of_host h old new = record {
   tells = h.tells;
   image = h.image old;
@@ -60,6 +60,19 @@ pub record GivenBack (h : HostTurn) (path content : List ℕ) (last : ℕ) (left
   pub moment : h.moment_after path ≡ last
   pub since : (t : ℕ) (c : List ℕ) → h.since_after path t c ↔ left t c
   pub others : OthersAsBefore h path
+
+-- A disk came back, or did not: the image at its path is the old one or its content, a stop may have left nothing there but what
+-- it may have left of that disk and before, and every other path is as before.
+pub record IsReturned (h : HostTurn) (path content : List ℕ) (left : List ℕ → Type 0) : Type 0 where
+  pub image : (h.image_after path ≡ h.image path) ⊎ (h.image_after path ≡ Some content)
+  pub trail : (c : List ℕ) → h.trail_after path c → h.trail path c ⊎ left c
+  pub others : OthersAsBefore h path
+
+-- A disk that was made may have taken the place of what stood at a path, whole and at once: the image there is the old one, or a
+-- new one of this kind, and a stop may have left nothing there but these two and what it may have left before.
+pub record IsOldOrNew (h : HostTurn) (path : List ℕ) (New : List ℕ → Type 0) : Type 0 where
+  pub image : (h.image_after path ≡ h.image path) ⊎ ((c : List ℕ) × (h.image_after path ≡ Some c) × New c)
+  pub trail : (c : List ℕ) → h.trail_after path c → h.trail path c ⊎ (h.image path ≡ Some c) ⊎ New c
 
 -- A count of a host rose: that of its own faults, or that of all, which has those of its disks.
 abbrev pub HostFailed : HostTurn → Type 0

@@ -127,7 +127,7 @@ fn an_image_serves_one_run_at_a_time(rt: HostRuntime) -> Result<(), Fail> {
     };
     let text = ran_anew(&rt, &mut first, SHARED, &open)?;
     assert!(rt; text.as_str().starts_with("0\n"), "{text}");
-    let out = first.fetch(SHARED, None)?;
+    let out = first.fetch(SHARED)?;
     assert_eq!(rt; first_other(&rt, &mut second, &SHARED_IS_OUT)?.as_str(), "");
     first.give_back(SHARED, out)?;
     assert_eq!(rt;

@@ -10,14 +10,18 @@ const CALLS: u64 = 65_536;
 
 const WRITTEN: u64 = 16_777_216;
 
-/// A host with this image at the path `I`, whose disks fail these calls, and all behind the stop.
-pub fn host_of(
+/// A host with this image at the path `I`, and others by their paths, whose disks fail these calls, and all behind the stop.
+pub fn host_among(
     alloc: Global,
     image: &[u8],
+    others: &[(Vec<u8>, Vec<u8>)],
     fails: &[u64],
     stop: Option<u64>,
 ) -> Result<MemHost, AllocError> {
-    let images = Vec::from_array(alloc, [(bytes_of(alloc, "I")?, image.to_vec(alloc)?)])?;
+    let mut images = Vec::from_array(alloc, [(bytes_of(alloc, "I")?, image.to_vec(alloc)?)])?;
+    for (path, other) in others {
+        images.push((path.to_vec(alloc)?, other.to_vec(alloc)?))?;
+    }
     let own = Vec::new(alloc);
     let fails = fails.to_vec(alloc)?;
     MemHost::make(alloc, images, own, fails, stop, CALLS, WRITTEN)
@@ -25,7 +29,7 @@ pub fn host_of(
 
 /// A host with this image at the path `I`.
 pub fn host_with(alloc: Global, image: &[u8]) -> Result<MemHost, AllocError> {
-    host_of(alloc, image, &[], None)
+    host_among(alloc, image, &[], &[], None)
 }
 
 /// A host without images.
@@ -36,15 +40,15 @@ pub fn host(alloc: Global) -> Result<MemHost, AllocError> {
     MemHost::make(alloc, images, own, fails, None, CALLS, WRITTEN)
 }
 
-/// The content of the disk that was given back last at the path `I`; nothing where none was.
+/// The image at the path `I`; nothing where there is none.
 pub fn content(host: &MemHost) -> &[u8] {
-    match host.given("I") {
-        Some(disk) => disk.content(),
+    match host.image("I") {
+        Some(image) => image,
         None => &[],
     }
 }
 
-/// How many calls that disk has kept.
+/// How many calls the disk has kept that came back last for that path.
 pub fn calls(host: &MemHost) -> u64 {
     match host.given("I") {
         Some(disk) => disk.calls(),

@@ -17,5 +17,5 @@ pub use asking::{
 };
 pub use asks::{Ask, first_other};
 pub use drawing::{Deck, Draws, FEW_NAMES, push_agent, script_of};
-pub use images::{calls, checked, content, host, host_of, host_with, image_after, new_image};
+pub use images::{calls, checked, content, host, host_among, host_with, image_after, new_image};
 pub use judging::{judged, lines_with};

@@ -116,7 +116,7 @@ module _ (s : SourceTurn) (h : HostTurn) (path bytes : Text) (read : ReadWhole s
   source_left (inr ran) = inr (bytes, read, ran)
 
 -- a host that was not asked
-pub not_run : {H D : Type 0} (w : HostWords H D) (host : H) (path : Text) → IsNotRun (of_host w host host) path
+pub not_run : {H D M : Type 0} (w : HostWords H D M) (host : H) (path : Text) → IsNotRun (of_host w host host) path
 not_run w host path = λ t served. record { image = refl; trail = λ c x. inl x }
 
 -- ---- as the words ask

@@ -1,5 +1,5 @@
 -- What is said of a command before its text is put out. This project's own.
-use Rattle.std.specs.Prelude.{◌≡◌, ◌≢◌, ◌⊎◌, ◌++◌, [], List, Result, Ok, IfOk}
+use Rattle.std.specs.Prelude.{◌≡◌, ◌≢◌, ◌⊎◌, ◌++◌, [], List, Result, Ok, Err, IfOk}
 use Rattle.std.specs.declared.alloc.AllocError.{AllocError}
 use Rattle.opfs_base.specs.Texts.{Text}
 use Rattle.opfs_outside.specs.Turns.{HostTurn, HostFailed, HostServed, SinkFailed, SinkTurn, SourceFailed, SourceTurn, Took}
@@ -10,7 +10,7 @@ use Rattle.opfs_commands.specs.declared.words.Action.{Action}
 use Rattle.opfs_print.specs.declared.end.End.TheVariants as end
 use Rattle.opfs_print.specs.Status.{status_text}
 use Rattle.opfs_script.specs.Scripts.{Asked}
-use Rattle.opfs_top.specs.Doing.{IsFrontOf, IsRefused, IsTooLong, OfSource, TaskDone, TaskRefused}
+use Rattle.opfs_top.specs.Doing.{IsFrontOf, IsRefused, IsTooLong, IsUnmade, OfSource, TaskDone, TaskRefused}
 use Rattle.opfs_top.specs.Headline.{IsHeadline, IsRefusedRun, IsRunStopped, OfScript}
 use Rattle.opfs_top.specs.declared.answer.Answer.{Answer}
 use Rattle.opfs_top.specs.declared.answer.Task.{Task}
@@ -76,3 +76,8 @@ SourceRan s h path ended text = ⊥
 -- No call of the host failed: its own count did not rise, or the command was answered without a fault.
 abbrev pub NoneFailedBy : HostTurn → Result Answer AllocError → Type 0
 NoneFailedBy h result = HostServed h ⊎ ((answer : Answer) × (result ≡ Ok answer) × (answer.status ≢ status.Host))
+
+-- The answer says that no image was made, or there is none.
+abbrev pub IsUnmadeBy : Result Answer AllocError → Type 0
+IsUnmadeBy (Ok answer) = IsUnmade answer.status
+IsUnmadeBy (Err e) = Unit {0}

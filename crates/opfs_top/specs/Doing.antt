@@ -4,9 +4,9 @@
 use Rattle.std.specs.Prelude.{◌≡◌, ◌≢◌, ◌⊎◌, ◌++◌, ℕ, ◌+◌, ◌==◌, true, false, List, [], ◌∷◌, codes, drop, length, Option, Some, None, Ok, Err}
 use Rattle.opfs_base.specs.Texts.{Text}
 use Rattle.opfs_commands.specs.Commands.{Command, trial, running, judgement, generating, on_image, loading, Asks, AsksNothing}
-use Rattle.opfs_commands.specs.Kinds.{DoneKind, RefusedKind, IsDumping, IsReading, IsMigration}
+use Rattle.opfs_commands.specs.Kinds.{DoneKind, RefusedKind, MadeKind, IsDumping, IsMaking, IsReading, IsMigration, LeavesMade}
 use Rattle.opfs_commands.specs.Ran.{IsNotRun}
-use Rattle.opfs_commands.specs.Telling.{IsLoaded, IsNoDump, IsOfImage}
+use Rattle.opfs_commands.specs.Telling.{IsLoaded, IsNoDump, IsOfImage, StandsForText}
 use Rattle.opfs_gen.specs.Summing.{gen_text}
 use Rattle.opfs_hist.specs.declared.entry.Entry.{Entry}
 use Rattle.opfs_judge.specs.declared.verdict.Verdict.{Verdict}
@@ -311,6 +311,35 @@ Migrates path judgement = ⊥
 Migrates path (generating g) = ⊥
 Migrates path (on_image image action) = (path ≡ image) × IsMigration action
 Migrates path (loading image from) = ⊥
+
+-- It makes that image anew.
+abbrev pub Makes : Text → Command → Type 0
+Makes path trial = ⊥
+Makes path (running image) = ⊥
+Makes path judgement = ⊥
+Makes path (generating g) = ⊥
+Makes path (on_image image action) = (path ≡ image) × IsMaking action
+Makes path (loading image from) = path ≡ image
+
+-- And this is such an image: one that holds nothing, or one that stands for the text that was read.
+abbrev pub MadeOf : Command → HostTurn → Text → Type 0
+MadeOf trial h c = ⊥
+MadeOf (running image) h c = ⊥
+MadeOf judgement h c = ⊥
+MadeOf (generating g) h c = ⊥
+MadeOf (on_image image action) h c = MadeKind action c
+MadeOf (loading image from) h c = StandsForText (h.image from) c
+
+-- The status says that no image was made.
+abbrev pub IsUnmade : Status → Type 0
+IsUnmade status.Done = ⊥
+IsUnmade status.Sink = ⊥
+IsUnmade ended = Unit {0}
+
+-- What a command that makes an image anew leaves of its path, however it ends: what stood there, or the new image whole, and so
+-- wherever it is stopped; and what stood there, where none was made and no call of the host itself failed.
+abbrev pub LeavesNew : List Text → HostTurn → Text → Type 0 → Type 0
+LeavesNew words h path Unmade = LeavesMade h path (λ c. Asks words (λ command. MadeOf command h c)) Unmade
 
 -- What a run leaves of its path, however it ends: its image still, where its agents did not run, unless a call of the host itself
 -- failed; else what one history of the script's agents leaves there.

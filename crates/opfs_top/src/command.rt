@@ -7,7 +7,7 @@ ghost use Rattle.opfs_commands.specs.Telling.{IsStoodFor};
 ghost use Rattle.opfs_machine.specs.Openings.{Map};
 ghost use Rattle.opfs_migrate.specs.Migrating.{StandsEither};
 ghost use Rattle.opfs_outside.specs.Turns.{of_host, of_sink, of_source, AsBefore, ImageStays, Puts, PutsFront, SinkFailed};
-ghost use Rattle.opfs_top.specs.Doing.{DidWithImage, IsDone, IsUsage, IsBadScript, IsBadImage, IsEarly, IsFault, IsHostFault, IsNoTool, IsSourceFault, IsSomeEnd, IsSomeToolEnd, IsTool, LeavesRun, Migrates, Names, NoneFailed, OfSource, RefusedWithImage, TakesImage, Tells, TookDumped};
+ghost use Rattle.opfs_top.specs.Doing.{DidWithImage, IsDone, IsUsage, IsBadScript, IsBadImage, IsEarly, IsFault, IsHostFault, IsNoTool, IsSourceFault, IsSomeEnd, IsSomeToolEnd, IsTool, IsUnmade, LeavesNew, LeavesRun, Makes, Migrates, Names, NoneFailed, OfSource, RefusedWithImage, TakesImage, Tells, TookDumped};
 ghost use Rattle.opfs_top.specs.Headline.{IsHeadline, OfScript};
 
 use crate::answer::Answer;
@@ -41,6 +41,7 @@ pub fn opfs_tool<H: Host, K: Sink>(
     ensures reads { H.tells → NoneFailed (of_host H.Host host.old host.new) result → (path : Text) → Asks words.now (Tells path) → ImageStays (of_host H.Host host.old host.new) path }
     ensures refused { result ≡ Status.Image → H.tells → (path : Text) → Asks words.now (Names path) → ImageStays (of_host H.Host host.old host.new) path }
     ensures trail { H.tells → NoneFailed (of_host H.Host host.old host.new) result → (path : Text) → Asks words.now (Migrates path) → (m : Map) → IsStoodFor m (H.image host.old path) → (c : Text) → H.trail host.new path c → H.trail host.old path c ⊎ StandsEither m c }
+    ensures made { H.tells → (path : Text) → Asks words.now (Makes path) → LeavesNew words.now (of_host H.Host host.old host.new) path (IsUnmade result) }
     ensures none { (Asks words.now IsTool → ⊥) → host.new ≡ host.old }
 {
     let Ok(Answer { status, text }) = answer_tool(alloc, words, host, sink) else {
@@ -68,6 +69,9 @@ pub fn opfs_tool<H: Host, K: Sink>(
 /// refused, or is only listed, checked, dumped or loaded from, has its image still; a text that is refused leaves the image
 /// that was to be made from it as it was; and a stop within a migration leaves the old image or the new one. A command that
 /// names no image, or that ends before it asks the host, leaves the host as it is.
+///
+/// `format` and `load` make the new image beside what stands at its path. However they end, and wherever they are stopped, the
+/// old image stands there, or the new one whole; and the old one, where none was made and no call of the host itself failed.
 pub fn opfs<R: AllocGlobal + Threads + Wait + Sync, H: Host, S: Source, K: Sink, G: Gate>(
     rt: &R,
     words: &Words,
@@ -90,6 +94,7 @@ pub fn opfs<R: AllocGlobal + Threads + Wait + Sync, H: Host, S: Source, K: Sink,
     ensures reads { H.tells → NoneFailed (of_host H.Host host.old host.new) result → (path : Text) → Asks words.now (Tells path) → ImageStays (of_host H.Host host.old host.new) path }
     ensures refused { result ≡ Status.Image → H.tells → (path : Text) → Asks words.now (Names path) → ImageStays (of_host H.Host host.old host.new) path }
     ensures trail { H.tells → NoneFailed (of_host H.Host host.old host.new) result → (path : Text) → Asks words.now (Migrates path) → (m : Map) → IsStoodFor m (H.image host.old path) → (c : Text) → H.trail host.new path c → H.trail host.old path c ⊎ StandsEither m c }
+    ensures made { H.tells → (path : Text) → Asks words.now (Makes path) → LeavesNew words.now (of_host H.Host host.old host.new) path (IsUnmade result) }
     ensures left { (path : Text) → words.now ≡ spelled (running path) → LeavesRun (of_source S.Source source.old source.new) (of_host H.Host host.old host.new) path }
     ensures early { IsEarly result → host.new ≡ host.old }
     ensures none { (Asks words.now TakesImage → ⊥) → host.new ≡ host.old }

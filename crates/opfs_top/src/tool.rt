@@ -3,13 +3,13 @@
 ghost use Rattle.std.specs.Prelude.{◌≡◌, ◌≢◌, ◌⊎◌, ◌≤◌, IfOk};
 ghost use Rattle.opfs_base.specs.Texts.{Text};
 ghost use Rattle.opfs_commands.specs.Commands.{running, spelled, AsksNothing, Asks, InRange};
-ghost use Rattle.opfs_commands.specs.Kinds.{DoneKind, IsDumping, IsReading, IsMigration};
-ghost use Rattle.opfs_commands.specs.Telling.{IsStoodFor};
+ghost use Rattle.opfs_commands.specs.Kinds.{DoneKind, MadeKind, IsDumping, IsMaking, IsReading, IsMigration, LeavesMade};
+ghost use Rattle.opfs_commands.specs.Telling.{IsStoodFor, StandsForText};
 ghost use Rattle.opfs_machine.specs.Openings.{Map};
 ghost use Rattle.opfs_migrate.specs.Migrating.{StandsEither};
 ghost use Rattle.opfs_outside.specs.Turns.{of_host, of_sink, of_source, AsBefore, ImageStays, OthersAsBefore};
-ghost use Rattle.opfs_top.specs.Answers.{ImageEnded, IsTold, LoadEnded, NoneFailedBy};
-ghost use Rattle.opfs_top.specs.Doing.{Dumped, Ended, IsEarly, IsTool, LeavesRun, Migrates, Names, TakesImage, Tells, ToolEnded};
+ghost use Rattle.opfs_top.specs.Answers.{ImageEnded, IsTold, IsUnmadeBy, LoadEnded, NoneFailedBy};
+ghost use Rattle.opfs_top.specs.Doing.{Dumped, Ended, IsEarly, IsTool, LeavesNew, LeavesRun, Makes, Migrates, Names, TakesImage, Tells, ToolEnded};
 
 use crate::answer::{Answer, Task, answer_large_run, answer_nothing, answer_script};
 use crate::run::run_script_at;
@@ -35,6 +35,7 @@ fn answer_image<H: Host, K: Sink>(
     ensures reads { IsReading action → H.tells → NoneFailedBy (of_host H.Host host.old host.new) result → ImageStays (of_host H.Host host.old host.new) path.now }
     ensures refused { IfOk result (λ answer. answer.status ≡ Status.Image → H.tells → ImageStays (of_host H.Host host.old host.new) path.now) }
     ensures trail { IsMigration action → H.tells → NoneFailedBy (of_host H.Host host.old host.new) result → (m : Map) → IsStoodFor m (H.image host.old path.now) → (c : Text) → H.trail host.new path.now c → H.trail host.old path.now c ⊎ StandsEither m c }
+    ensures made { IsMaking action → H.tells → LeavesMade (of_host H.Host host.old host.new) path.now (MadeKind action) (IsUnmadeBy result) }
     ensures later { K.faults sink.old ≤ K.faults sink.new }
 {
     let answer = run_command(alloc, host, path, action, sink)?;
@@ -55,6 +56,7 @@ fn answer_load<H: Host>(
     ensures others { H.tells → NoneFailedBy (of_host H.Host host.old host.new) result → (path : Text) → path ≢ image.now → path ≢ text.now → AsBefore (of_host H.Host host.old host.new) path }
     ensures reads { H.tells → NoneFailedBy (of_host H.Host host.old host.new) result → text.now ≢ image.now → ImageStays (of_host H.Host host.old host.new) text.now }
     ensures refused { IfOk result (λ answer. answer.status ≡ Status.Image → H.tells → (path : Text) → ImageStays (of_host H.Host host.old host.new) path) }
+    ensures made { H.tells → LeavesMade (of_host H.Host host.old host.new) image.now (StandsForText (H.image host.old text.now)) (IsUnmadeBy result) }
 {
     let answer = load_at(alloc, host, image, text)?;
     Ok(Answer {
@@ -75,6 +77,7 @@ pub fn answer_tool<H: Host, K: Sink>(
     ensures reads { H.tells → NoneFailedBy (of_host H.Host host.old host.new) result → (path : Text) → Asks words.now (Tells path) → ImageStays (of_host H.Host host.old host.new) path }
     ensures refused { IfOk result (λ answer. answer.status ≡ Status.Image → H.tells → (path : Text) → Asks words.now (Names path) → ImageStays (of_host H.Host host.old host.new) path) }
     ensures trail { H.tells → NoneFailedBy (of_host H.Host host.old host.new) result → (path : Text) → Asks words.now (Migrates path) → (m : Map) → IsStoodFor m (H.image host.old path) → (c : Text) → H.trail host.new path c → H.trail host.old path c ⊎ StandsEither m c }
+    ensures made { H.tells → (path : Text) → Asks words.now (Makes path) → LeavesNew words.now (of_host H.Host host.old host.new) path (IsUnmadeBy result) }
     ensures none { (Asks words.now IsTool → ⊥) → host.new ≡ host.old }
     ensures later { K.faults sink.old ≤ K.faults sink.new }
 {
@@ -103,6 +106,7 @@ pub fn answer_to<R: AllocGlobal + Threads + Wait + Sync, H: Host, S: Source, K: 
     ensures reads { H.tells → NoneFailedBy (of_host H.Host host.old host.new) result → (path : Text) → Asks words.now (Tells path) → ImageStays (of_host H.Host host.old host.new) path }
     ensures refused { IfOk result (λ answer. answer.status ≡ Status.Image → H.tells → (path : Text) → Asks words.now (Names path) → ImageStays (of_host H.Host host.old host.new) path) }
     ensures trail { H.tells → NoneFailedBy (of_host H.Host host.old host.new) result → (path : Text) → Asks words.now (Migrates path) → (m : Map) → IsStoodFor m (H.image host.old path) → (c : Text) → H.trail host.new path c → H.trail host.old path c ⊎ StandsEither m c }
+    ensures made { H.tells → (path : Text) → Asks words.now (Makes path) → LeavesNew words.now (of_host H.Host host.old host.new) path (IsUnmadeBy result) }
     ensures left { (path : Text) → words.now ≡ spelled (running path) → LeavesRun (of_source S.Source source.old source.new) (of_host H.Host host.old host.new) path }
     ensures early { IfOk result (λ answer. IsEarly answer.status → host.new ≡ host.old) }
     ensures none { (Asks words.now TakesImage → ⊥) → host.new ≡ host.old }

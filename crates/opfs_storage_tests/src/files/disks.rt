@@ -13,7 +13,9 @@ fn a_disk_reads_what_was_written_and_counts_where_the_file_was_cut(
     rt: HostRuntime,
 ) -> Result<(), Fail> {
     let mut host = DirHost::make(&rt);
-    let mut disk = host.fetch(IMAGE, Some(8192))?;
+    let disk = host.make(IMAGE, 8192)?;
+    host.replace(IMAGE, disk)?;
+    let mut disk = host.fetch(IMAGE)?;
     assert_eq!(rt; disk.len(), 8192);
     disk.write(4095, b"edge")?;
     disk.sync()?;

@@ -1,20 +1,26 @@
-use Rattle.std.proofs.Common.{inl}
-use Rattle.opfs_outside.specs.Turns.{of_host}
-use Rattle.opfs_commands.proofs.Hosting.{rose_later, host_rose, later_by, given_back, was_given, others_stay}
+use Rattle.std.proofs.Common.{inl, sym, subst}
+use Rattle.opfs_dump.specs.Loading.Laid.{StandsAs}
+use Rattle.opfs_machine.specs.Openings.{empty_map}
+use Rattle.opfs_commands.proofs.Hosting.{rose_later, host_rose, later_by, others_stay}
+use Rattle.opfs_commands.proofs.Making.{done_text, formatted_stands, made_answer, made_ended}
 use Rattle.opfs_commands.proofs.hosts.format_at.Goals as goal
 
 pub returns-clause-answer : goal.returns-clause-answer
 returns-clause-answer g c =
-    let laws = g.met.H.D.Disk g.world.𝓛 g.world.𝓜 g.world.𝓡 ((λ s x. x), (λ x. x), (λ x. x), λ x. x) in
-    given_back g.H.Host.tells g.H.D.Disk.tells g.met.H.Host.disk_tells _ _ _ _ _ _ _
-    (λ told there t is. record { image = _; there = there.image; kind = is })
-    (λ told t is. is)
-    (λ rose. host_rose _ _ _ _ _ _ c.in-Ok.ensures.fresh (later_by _ _ _ c.fetch.ensures.later) c.give_back.ensures.later (g.met.H.Host.counted _) (g.met.H.Host.counted _) (laws.counted _) rose)
-    c.give_back.result c.format_disk-disk.result.1 _ (λ rose. inl (rose_later _ _ _ c.fetch.ensures.own_later rose)) c.format_disk-disk.ensures.answer c.give_back.ensures.kept
+    let laws = g.met.H.Made.Disk in
+    made_answer g.H.Host.tells g.H.Made.Disk.tells g.met.H.Host.made_tells _ _ _ _ _
+    (λ told there t is. record { image = _; there = there; kind = is })
+    (λ rose. host_rose _ _ _ _ _ _ c.in-Ok.ensures.fresh (later_by _ _ _ c.make.ensures.later) c.end_making.ensures.later (g.met.H.Host.counted _) (g.met.H.Host.counted _) (laws.counted _) rose)
+    c.end_making.result c.format_disk-disk.result.1 _ (λ rose. inl (rose_later _ _ _ c.make.ensures.own_later rose)) c.format_disk-disk.ensures.answer c.end_making.ensures.kept
 
 pub returns-clause-others : goal.returns-clause-others
-returns-clause-others g c = λ told none.
-    let back = was_given (of_host g.H.Host c.args.host.now c.give_back.new.host) g.H.Host.tells _ (g.H.Host.own_faults c.fetch.new.self)
-    c.give_back.result c.format_disk-disk.result.1 told c.fetch.ensures.own_later c.give_back.ensures.back c.give_back.ensures.kept none in
-    others_stay g.H.Host c.args.host.now c.fetch.new.self c.give_back.new.host c.args.path.now
-    (λ p other. record { image = c.in-Ok.ensures.other_images told p other; trail = λ d. c.in-Ok.ensures.other_trails told p d other }) back.others
+returns-clause-others g c = λ told.
+    others_stay g.H.Host c.args.host.now c.make.new.self c.end_making.new.host c.args.path.now
+    (λ p other. record { image = c.make.ensures.images_stay told p; trail = λ d. c.make.ensures.trails_stay told p d }) (c.end_making.ensures.others told)
+
+pub returns-clause-made : goal.returns-clause-made
+returns-clause-made g c = λ told.
+    made_ended g.H.Host c.args.host.now c.make.new.self c.end_making.new.host c.args.path.now (StandsAs c.args.geometry empty_map) _ _ c.make.ensures.own_later
+    (λ d is. subst (StandsAs c.args.geometry empty_map) (sym is.1) (formatted_stands c.args.geometry _ (done_text _ _ _ c.format_disk-disk.result.1 is.0 c.format_disk-disk.ensures.answer (g.met.H.Host.made_tells told))))
+    (record { image = c.make.ensures.images_stay told c.args.path.now; trail = λ d. c.make.ensures.trails_stay told c.args.path.now d })
+    (c.end_making.ensures.whole told) (λ quiet unmade. c.end_making.ensures.unmade told quiet unmade)

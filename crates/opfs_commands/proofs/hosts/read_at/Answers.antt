@@ -7,7 +7,7 @@ use Rattle.opfs_commands.proofs.hosts.read_at.Goals as goal
 pub returns-clause-answer : goal.returns-clause-answer
 returns-clause-answer g c =
     let laws = g.met.H.D.Disk g.world.𝓛 g.world.𝓜 g.world.𝓡 ((λ s x. x), (λ x. x), (λ x. x), λ x. x) in
-    let there : g.H.Host.tells → g.H.Host.image c.args.host.now c.args.path.now ≡ Some (g.H.D.Disk.content c.in-Ok.disk) = λ told. sym (c.fetch.ensures.images_stay told refl c.args.path.now) ∙ c.in-Ok.ensures.content told in
+    let there : g.H.Host.tells → g.H.Host.image c.args.host.now c.args.path.now ≡ Some (g.H.D.Disk.content c.in-Ok.disk) = λ told. sym (c.fetch.ensures.images_stay told c.args.path.now) ∙ c.in-Ok.ensures.content told in
     given_back g.H.Host.tells g.H.D.Disk.tells g.met.H.Host.disk_tells _ _ _ _ _ _ _
     (λ told _ t is. record { image = _; there = there told; kind = is })
     (λ told t is. record { image = _; there = there told; kind = is })
@@ -19,7 +19,7 @@ returns-clause-others g c = λ told none.
     let back = was_given (of_host g.H.Host c.args.host.now c.give_back.new.host) g.H.Host.tells _ (g.H.Host.own_faults c.fetch.new.self)
     c.give_back.result c.read_disk-disk.result.1 told c.fetch.ensures.own_later c.give_back.ensures.back c.give_back.ensures.kept none in
     others_stay g.H.Host c.args.host.now c.fetch.new.self c.give_back.new.host c.args.path.now
-    (λ p other. record { image = c.fetch.ensures.images_stay told refl p; trail = c.fetch.ensures.trails_stay told refl p }) back.others
+    (λ p other. record { image = c.fetch.ensures.images_stay told p; trail = c.fetch.ensures.trails_stay told p }) back.others
 
 pub returns-clause-reads : goal.returns-clause-reads
 returns-clause-reads g c = λ told none.
@@ -28,5 +28,5 @@ returns-clause-reads g c = λ told none.
     c.give_back.result c.read_disk-disk.result.1 told c.fetch.ensures.own_later c.give_back.ensures.back c.give_back.ensures.kept none in
     let read = c.read_disk-disk.ensures.only.told dtold in
     only_read g.H.Host c.args.host.now c.fetch.new.self c.give_back.new.host c.args.path.now (g.H.D.Disk.content c.in-Ok.disk) (g.H.D.Disk.content c.read_disk-disk.result.0) (g.H.D.Disk.moment c.read_disk-disk.result.0) (g.H.D.Disk.since c.read_disk-disk.result.0)
-    (c.fetch.ensures.images_stay told refl) (c.fetch.ensures.trails_stay told refl) (c.in-Ok.ensures.content told) read.same
+    (c.fetch.ensures.images_stay told) (c.fetch.ensures.trails_stay told) (c.in-Ok.ensures.content told) read.same
     (one_since (g.H.D.Disk.content c.in-Ok.disk) (g.H.D.Disk.moment c.in-Ok.disk) (g.H.D.Disk.since c.in-Ok.disk) (g.H.D.Disk.since c.read_disk-disk.result.0) c.in-Ok.ensures.first (c.in-Ok.ensures.one_image dtold) read.moments) back

@@ -16,8 +16,8 @@ returns-clause-ran g c =
       first = c.in-Ok.ensures.first;
       one = c.in-Ok.ensures.one_image;
       there = c.in-Ok.ensures.content;
-      images = λ t. c.fetch.ensures.images_stay t refl;
-      trails = λ t. c.fetch.ensures.trails_stay t refl;
+      images = λ t. c.fetch.ensures.images_stay t;
+      trails = λ t. c.fetch.ensures.trails_stay t;
       own = c.fetch.ensures.own_later;
       later = later_by _ _ _ c.fetch.ensures.later;
     } in
@@ -37,8 +37,8 @@ returns-clause-others g c =
       first = c.in-Ok.ensures.first;
       one = c.in-Ok.ensures.one_image;
       there = c.in-Ok.ensures.content;
-      images = λ t. c.fetch.ensures.images_stay t refl;
-      trails = λ t. c.fetch.ensures.trails_stay t refl;
+      images = λ t. c.fetch.ensures.images_stay t;
+      trails = λ t. c.fetch.ensures.trails_stay t;
       own = c.fetch.ensures.own_later;
       later = later_by _ _ _ c.fetch.ensures.later;
     } in

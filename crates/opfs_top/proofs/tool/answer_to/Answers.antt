@@ -1,6 +1,6 @@
 use Rattle.std.proofs.Common.{◌⊎◌, inl, sym, subst}
 use Rattle.std.proofs.lemmas.Result.{IfOk-weaker}
-use Rattle.opfs_commands.specs.Commands.{meant, on_image, IsAsked}
+use Rattle.opfs_commands.specs.Commands.{meant, on_image, running, IsAsked}
 use Rattle.opfs_commands.specs.Telling.{IsStoodFor}
 use Rattle.opfs_migrate.specs.Migrating.{StandsEither}
 use Rattle.opfs_outside.specs.Turns.{of_host, of_sink, of_source, ImageStays}
@@ -8,6 +8,7 @@ use Rattle.opfs_top.specs.Doing.{Ended}
 use Rattle.opfs_top.proofs.Hosts.{image_ends, image_migrated, image_named, image_told, judgement_ends, large_run_told, load_ends, load_no_migration, load_told, not_image, not_named, not_text, nothing_ends, takes_image, takes_load, trial_ends}
 use Rattle.opfs_top.proofs.Running.{image_never_early, left_of_image, left_of_load, left_of_run, load_late, not_run, not_run_path, refused_stays, run_ends, run_named, run_no_migration, run_tells_none, takes_run}
 use Rattle.opfs_top.proofs.Telling.{told_nothing, told_wider, usage_ended}
+use Rattle.opfs_top.proofs.Made.{image_makes, load_makes, none_makes}
 use Rattle.opfs_top.proofs.tool.answer_to.Goals as goal
 
 pub returns-in-Some-OnImage-clause-told : goal.returns-in-Some-OnImage-clause-told
@@ -133,3 +134,14 @@ pub returns-in-None-clause-told : goal.returns-in-None-clause-told
 returns-in-None-clause-told g c =
     told_nothing g.K.Sink c.args.sink.now _ (Ended c.args.words.now (of_source g.S.Source c.args.source.now c.args.source.now) (of_host g.H.Host c.args.host.now c.args.host.now)) (λ t x. x) c.answer_nothing.result
     (usage_ended (Ended c.args.words.now (of_source g.S.Source c.args.source.now c.args.source.now) (of_host g.H.Host c.args.host.now c.args.host.now)) _ c.answer_nothing.result (λ e t is line. nothing_ends c.args.words.now (of_source g.S.Source c.args.source.now c.args.source.now) (of_host g.H.Host c.args.host.now c.args.host.now) c.in-None.ensures.none e t is line) c.answer_nothing.ensures.status c.answer_nothing.ensures.text)
+
+pub returns-in-Some-OnImage-clause-made : goal.returns-in-Some-OnImage-clause-made
+returns-in-Some-OnImage-clause-made g c = λ told path is.
+    image_makes c.args.words.now (of_host g.H.Host c.args.host.now c.answer_image.new.host) c.in-Some-OnImage.path.now c.in-Some-OnImage.action (subst (λ r. IsAsked c.args.words.now (meant r)) c.in-Some-OnImage.field-0-is c.in-Some-OnImage.ensures.some) path _ is (λ making. c.answer_image.ensures.made making told)
+
+pub returns-in-Some-Load-clause-made : goal.returns-in-Some-Load-clause-made
+returns-in-Some-Load-clause-made g c = λ told path is.
+    load_makes c.args.words.now (of_host g.H.Host c.args.host.now c.answer_load.new.host) c.in-Some-Load.image.now c.in-Some-Load.text.now (subst (λ r. IsAsked c.args.words.now (meant r)) c.in-Some-Load.field-0-is c.in-Some-Load.ensures.some) path _ is (c.answer_load.ensures.made told)
+
+pub returns-in-Some-Run-clause-made : goal.returns-in-Some-Run-clause-made
+returns-in-Some-Run-clause-made g c = λ told path is. absurd (none_makes c.args.words.now (running c.in-Some-Run.path.now) path (subst (λ r. IsAsked c.args.words.now (meant r)) c.in-Some-Run.field-0-is c.in-Some-Run.ensures.some) (λ never. never) is)

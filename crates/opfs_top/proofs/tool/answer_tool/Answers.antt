@@ -7,6 +7,7 @@ use Rattle.opfs_outside.specs.Turns.{of_host, of_sink, ImageStays}
 use Rattle.opfs_top.specs.Doing.{ToolEnded}
 use Rattle.opfs_top.proofs.Hosts.{image_migrated, image_named, image_told, load_no_migration, load_told, load_tool_ends, no_tool_ends, no_tool_of, no_tool_of_nothing, not_image, not_named, not_text, tool_ends, tool_image, tool_load}
 use Rattle.opfs_top.proofs.Telling.{told_nothing, told_wider, usage_ended}
+use Rattle.opfs_top.proofs.Made.{image_makes, load_makes}
 use Rattle.opfs_top.proofs.tool.answer_tool.Goals as goal
 
 pub returns-in-Some-OnImage-clause-told : goal.returns-in-Some-OnImage-clause-told
@@ -87,3 +88,11 @@ pub returns-in-None-clause-told : goal.returns-in-None-clause-told
 returns-in-None-clause-told g c =
     told_nothing g.K.Sink c.args.sink.now _ (ToolEnded c.args.words.now (of_host g.H.Host c.args.host.now c.args.host.now)) (λ t x. x) c.answer_nothing-in-None.result
     (usage_ended (ToolEnded c.args.words.now (of_host g.H.Host c.args.host.now c.args.host.now)) _ c.answer_nothing-in-None.result (λ e t is line. no_tool_ends c.args.words.now (of_host g.H.Host c.args.host.now c.args.host.now) (no_tool_of_nothing c.args.words.now c.in-None.ensures.none) e t is line) c.answer_nothing-in-None.ensures.status c.answer_nothing-in-None.ensures.text)
+
+pub returns-in-Some-OnImage-clause-made : goal.returns-in-Some-OnImage-clause-made
+returns-in-Some-OnImage-clause-made g c = λ told path is.
+    image_makes c.args.words.now (of_host g.H.Host c.args.host.now c.answer_image.new.host) c.in-Some-OnImage.path.now c.in-Some-OnImage.action (subst (λ r. IsAsked c.args.words.now (meant r)) c.in-Some-OnImage.field-0-is c.in-Some-OnImage.ensures.some) path _ is (λ making. c.answer_image.ensures.made making told)
+
+pub returns-in-Some-Load-clause-made : goal.returns-in-Some-Load-clause-made
+returns-in-Some-Load-clause-made g c = λ told path is.
+    load_makes c.args.words.now (of_host g.H.Host c.args.host.now c.answer_load.new.host) c.in-Some-Load.image.now c.in-Some-Load.text.now (subst (λ r. IsAsked c.args.words.now (meant r)) c.in-Some-Load.field-0-is c.in-Some-Load.ensures.some) path _ is (c.answer_load.ensures.made told)

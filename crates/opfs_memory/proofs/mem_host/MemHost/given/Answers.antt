@@ -1,16 +1,16 @@
-use Rattle.std.proofs.Common.{◌≡◌, Option, [], sym, ◌∙◌, ap, subst}
-use Rattle.std.specs.Prelude.{IfSome, option_map, option_copied, unwrap_or}
-use Rattle.opfs_memory.specs.Shelves.{newest, Spot}
+use Rattle.std.proofs.Common.{◌≡◌, Option, sym, ◌∙◌, ap, subst}
+use Rattle.std.specs.Prelude.{IfSome, option_copied}
+use Rattle.opfs_memory.specs.Shelves.{given_in, newest_disk, Spot}
 use Rattle.opfs_memory.proofs.Shelving.{Found, found, missing}
 use Rattle.opfs_memory.proofs.mem_host.MemHost.given.Goals as goal
 
 pub returns-in-Some : goal.returns-in-Some
 returns-in-Some c =
     let here : Found c.args.path.now c.args.self.now.places c.in-Some.at = found c.args.path.now c.args.self.now.places c.in-Some.at (sym c.in-Some.ensures) in
-    subst (λ o. IfSome o (λ spot. option_copied c.last_at.result ≡ newest spot.given)) here.get c.last_at.ensures
-    ∙ sym (ap (λ (o : Option Spot). newest (unwrap_or (option_map (λ spot. spot.given) o) [])) here.first)
+    subst (λ o. IfSome o (λ spot. option_copied c.last_at.result ≡ newest_disk spot.given)) here.get c.last_at.ensures
+    ∙ sym (ap (λ (o : Option Spot). newest_disk (given_in o)) here.first)
 
 pub returns-in-None : goal.returns-in-None
 returns-in-None c =
     let none = missing c.args.path.now c.args.self.now.places (sym c.in-None.ensures) in
-    sym (ap (λ (o : Option Spot). newest (unwrap_or (option_map (λ spot. spot.given) o) [])) none)
+    sym (ap (λ (o : Option Spot). newest_disk (given_in o)) none)

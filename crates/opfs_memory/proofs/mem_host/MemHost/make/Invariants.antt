@@ -1,5 +1,5 @@
-use Rattle.std.proofs.Common.{◌≡◌, [], map}
+use Rattle.std.proofs.Common.{◌≡◌, Some, [], map}
 use Rattle.opfs_memory.proofs.mem_host.MemHost.make.Given as goal
 
 abbrev pub invariant-loop-path : goal.invariant-loop-path
-invariant-loop-path l = l.places.items ≡ map (λ image. record { path = image.0.items; image = image.1.items; given = []; out = 0 }) l.yielded
+invariant-loop-path l = l.places.items ≡ map (λ image. record { path = image.0.items; image = Some image.1.items; given = []; out = 0 }) l.yielded

@@ -1,146 +1,49 @@
-use Rattle.std.proofs.Common.{◌≡◌, ◌≢◌, ◌↔◌, ℕ, List, Some, replicate, sym, ◌∙◌, ap}
-use Rattle.opfs_memory.specs.Drives.{Drive, LeftSince, content_of}
-use Rattle.opfs_memory.specs.Shelves.{Shelf, image_at, Trail}
-use Rattle.opfs_memory.proofs.DriveCalls.{fresh_image, through_map_err}
-use Rattle.opfs_memory.proofs.HostCalls.{lent_content, lent_zeros, lent_images, lent_trails, lent_other_images, lent_other_trails, made_content, made_zeros, made_other_images, made_other_trails, ok_from, either_from, same_images, same_trails}
+use Rattle.std.proofs.Common.{◌≡◌, true, false, refl, sym, ◌∙◌, ap}
+use Rattle.opfs_memory.specs.Shelves.{Shelf, spot_at, has_image, spot_lent, fetch_fails}
+use Rattle.opfs_memory.proofs.DriveCalls.{fresh_image}
+use Rattle.opfs_memory.proofs.Shelving.{as_first, fails_as}
+use Rattle.opfs_memory.proofs.HostCalls.{images_at, trails_at, lent_content, never_fails, ok_is_none, memory_is_none}
 use Rattle.opfs_memory.proofs.mem_host.MemHostHost.fetch.Goals as goal
 
-pub returns-in-Some-clause-one_image : goal.returns-in-Some-clause-one_image
-returns-in-Some-clause-one_image c =
+pub returns-in-Ok-clause-fails : goal.returns-in-Ok-clause-fails
+returns-in-Ok-clause-fails c =
     let h = c.args.self.now in
     let m = c.is_named.new.self in
-    let n = c.fetch_at.new.self in
-    let path = c.args.path.now in
     let same : m.places ≡ h.places = ap (λ (x : Shelf). x.places) c.is_named.ensures.counted in
-    let P : Drive → Type 0 = λ disk. (i : List ℕ) → LeftSince disk 0 i → i ≡ content_of disk in
-    through_map_err c.fetch_at.result c.map_err.result P _ c.map_err.ensures.cases c.map_err.ensures.variant
-    (ok_from c.fetch_at.result _ _ P _ c.fetch_at.ensures.fresh c.fetch_at.ensures.disk c.fetch_at.ensures.after
-    (λ disk fresh first change. fresh_image disk fresh.0))
+    let there : has_image (spot_at c.args.path.now h.places) ≡ true = ap (λ xs. has_image (spot_at c.args.path.now xs)) (sym same) ∙ as_first has_image c.args.path.now m.places c.in-Some.at true c.in-Some.ensures.0 c.in-Some.ensures.1 in
+    never_fails _ (fetch_fails h c.args.path.now) (λ e. ok_is_none _ _ e) (fails_as _ _ false true (sym c.is_named.ensures.named ∙ c.if-is_named.false) there)
 
-pub returns-in-Some-clause-content : goal.returns-in-Some-clause-content
-returns-in-Some-clause-content c =
+pub returns-in-Err-clause-fails : goal.returns-in-Err-clause-fails
+returns-in-Err-clause-fails c =
     let h = c.args.self.now in
     let m = c.is_named.new.self in
-    let n = c.fetch_at.new.self in
-    let path = c.args.path.now in
     let same : m.places ≡ h.places = ap (λ (x : Shelf). x.places) c.is_named.ensures.counted in
-    let P : Drive → Type 0 = λ disk. image_at n path ≡ Some (content_of disk) in
-    through_map_err c.fetch_at.result c.map_err.result P _ c.map_err.ensures.cases c.map_err.ensures.variant
-    (ok_from c.fetch_at.result _ _ P _ c.fetch_at.ensures.fresh c.fetch_at.ensures.disk c.fetch_at.ensures.after
-    (λ disk fresh first change. lent_content path h m n same c.in-Some.at (sym c.in-Some.ensures) c.args.make change disk fresh.0 first))
+    let there : has_image (spot_at c.args.path.now h.places) ≡ true = ap (λ xs. has_image (spot_at c.args.path.now xs)) (sym same) ∙ as_first has_image c.args.path.now m.places c.in-Some.at true c.in-Some.ensures.0 c.in-Some.ensures.1 in
+    never_fails _ (fetch_fails h c.args.path.now) (λ e. memory_is_none e) (fails_as _ _ false true (sym c.is_named.ensures.named ∙ c.if-is_named.false) there)
 
-pub returns-in-Some-clause-zeros : goal.returns-in-Some-clause-zeros
-returns-in-Some-clause-zeros c =
-    let h = c.args.self.now in
-    let m = c.is_named.new.self in
-    let n = c.fetch_at.new.self in
-    let path = c.args.path.now in
-    let same : m.places ≡ h.places = ap (λ (x : Shelf). x.places) c.is_named.ensures.counted in
-    let P : Drive → Type 0 = λ disk. (k : ℕ) → c.args.make ≡ Some k → image_at n path ≡ Some (replicate k 0) in
-    through_map_err c.fetch_at.result c.map_err.result P _ c.map_err.ensures.cases c.map_err.ensures.variant
-    (ok_from c.fetch_at.result _ _ P _ c.fetch_at.ensures.fresh c.fetch_at.ensures.disk c.fetch_at.ensures.after
-    (λ disk fresh first change. lent_zeros path h m n same c.in-Some.at (sym c.in-Some.ensures) c.args.make change))
+pub returns-in-Ok-clause-one_image : goal.returns-in-Ok-clause-one_image
+returns-in-Ok-clause-one_image c = fresh_image c.in-Ok.disk c.in-Ok.ensures.fresh.0
 
-pub returns-in-Some-clause-other_images : goal.returns-in-Some-clause-other_images
-returns-in-Some-clause-other_images c =
-    let h = c.args.self.now in
-    let m = c.is_named.new.self in
-    let n = c.fetch_at.new.self in
-    let path = c.args.path.now in
-    let same : m.places ≡ h.places = ap (λ (x : Shelf). x.places) c.is_named.ensures.counted in
-    let P : Drive → Type 0 = λ disk. (p : List ℕ) → p ≢ path → image_at n p ≡ image_at h p in
-    through_map_err c.fetch_at.result c.map_err.result P _ c.map_err.ensures.cases c.map_err.ensures.variant
-    (ok_from c.fetch_at.result _ _ P _ c.fetch_at.ensures.fresh c.fetch_at.ensures.disk c.fetch_at.ensures.after
-    (λ disk fresh first change. lent_other_images path h m n same c.in-Some.at (sym c.in-Some.ensures) c.args.make change))
-
-pub returns-in-Some-clause-other_trails : goal.returns-in-Some-clause-other_trails
-returns-in-Some-clause-other_trails c =
-    let h = c.args.self.now in
-    let m = c.is_named.new.self in
-    let n = c.fetch_at.new.self in
-    let path = c.args.path.now in
-    let same : m.places ≡ h.places = ap (λ (x : Shelf). x.places) c.is_named.ensures.counted in
-    let P : Drive → Type 0 = λ disk. (p k : List ℕ) → p ≢ path → Trail n p k ↔ Trail h p k in
-    through_map_err c.fetch_at.result c.map_err.result P _ c.map_err.ensures.cases c.map_err.ensures.variant
-    (ok_from c.fetch_at.result _ _ P _ c.fetch_at.ensures.fresh c.fetch_at.ensures.disk c.fetch_at.ensures.after
-    (λ disk fresh first change. lent_other_trails path h m n same c.in-Some.at (sym c.in-Some.ensures) c.args.make change))
-
-pub returns-in-Some-clause-images_stay : goal.returns-in-Some-clause-images_stay
-returns-in-Some-clause-images_stay c = λ none p.
+pub returns-in-Ok-clause-content : goal.returns-in-Ok-clause-content
+returns-in-Ok-clause-content c =
     let h = c.args.self.now in
     let m = c.is_named.new.self in
     let n = c.fetch_at.new.self in
     let same : m.places ≡ h.places = ap (λ (x : Shelf). x.places) c.is_named.ensures.counted in
-    either_from c.fetch_at.result _ _ (image_at n p ≡ image_at h p) c.fetch_at.ensures.after c.fetch_at.ensures.same
-    (λ change. lent_images c.args.path.now h m n same c.in-Some.at (sym c.in-Some.ensures) c.args.make change none p)
-    (λ e. same_images h m n same e p)
+    lent_content c.args.path.now h m n same c.in-Some.at c.in-Some.ensures.0 c.in-Ok.ensures.after c.in-Ok.disk c.in-Ok.ensures.fresh.0 c.in-Some.ensures.1 c.in-Ok.ensures.disk
 
-pub returns-in-Some-clause-trails_stay : goal.returns-in-Some-clause-trails_stay
-returns-in-Some-clause-trails_stay c = λ none p k.
+pub returns-in-Ok-clause-images_stay : goal.returns-in-Ok-clause-images_stay
+returns-in-Ok-clause-images_stay c = λ p.
     let h = c.args.self.now in
     let m = c.is_named.new.self in
     let n = c.fetch_at.new.self in
     let same : m.places ≡ h.places = ap (λ (x : Shelf). x.places) c.is_named.ensures.counted in
-    either_from c.fetch_at.result _ _ (Trail n p k ↔ Trail h p k) c.fetch_at.ensures.after c.fetch_at.ensures.same
-    (λ change. lent_trails c.args.path.now h m n same c.in-Some.at (sym c.in-Some.ensures) c.args.make change none p k)
-    (λ e. same_trails h m n same e p k)
+    images_at c.args.path.now h m n same c.in-Some.at c.in-Some.ensures.0 spot_lent (λ s. refl) (λ s. refl) (λ s. refl) c.in-Ok.ensures.after p
 
-pub returns-in-Some-make-clause-one_image : goal.returns-in-Some-make-clause-one_image
-returns-in-Some-make-clause-one_image c =
+pub returns-in-Ok-clause-trails_stay : goal.returns-in-Ok-clause-trails_stay
+returns-in-Ok-clause-trails_stay c = λ p k.
     let h = c.args.self.now in
     let m = c.is_named.new.self in
-    let n = c.fetch_new.new.self in
-    let path = c.args.path.now in
+    let n = c.fetch_at.new.self in
     let same : m.places ≡ h.places = ap (λ (x : Shelf). x.places) c.is_named.ensures.counted in
-    let P : Drive → Type 0 = λ disk. (i : List ℕ) → LeftSince disk 0 i → i ≡ content_of disk in
-    through_map_err c.fetch_new.result c.map_err-in-Some-make.result P _ c.map_err-in-Some-make.ensures.cases c.map_err-in-Some-make.ensures.variant
-    (ok_from c.fetch_new.result _ _ P _ c.fetch_new.ensures.disk c.fetch_new.ensures.disk c.fetch_new.ensures.after
-    (λ disk is _ after. fresh_image disk (ap (λ (d : Drive). d.log) is)))
-
-pub returns-in-Some-make-clause-content : goal.returns-in-Some-make-clause-content
-returns-in-Some-make-clause-content c =
-    let h = c.args.self.now in
-    let m = c.is_named.new.self in
-    let n = c.fetch_new.new.self in
-    let path = c.args.path.now in
-    let same : m.places ≡ h.places = ap (λ (x : Shelf). x.places) c.is_named.ensures.counted in
-    let P : Drive → Type 0 = λ disk. image_at n path ≡ Some (content_of disk) in
-    through_map_err c.fetch_new.result c.map_err-in-Some-make.result P _ c.map_err-in-Some-make.ensures.cases c.map_err-in-Some-make.ensures.variant
-    (ok_from c.fetch_new.result _ _ P _ c.fetch_new.ensures.disk c.fetch_new.ensures.disk c.fetch_new.ensures.after
-    (λ disk is _ after. made_content path h m n same (sym c.in-None.ensures) c.in-Some-make.len (ap (λ (x : Shelf). x.places) after) disk (ap (λ (d : Drive). d.log) is) (ap (λ (d : Drive). d.first) is)))
-
-pub returns-in-Some-make-clause-zeros : goal.returns-in-Some-make-clause-zeros
-returns-in-Some-make-clause-zeros c =
-    let h = c.args.self.now in
-    let m = c.is_named.new.self in
-    let n = c.fetch_new.new.self in
-    let path = c.args.path.now in
-    let same : m.places ≡ h.places = ap (λ (x : Shelf). x.places) c.is_named.ensures.counted in
-    let P : Drive → Type 0 = λ disk. (k : ℕ) → c.args.make ≡ Some k → image_at n path ≡ Some (replicate k 0) in
-    through_map_err c.fetch_new.result c.map_err-in-Some-make.result P _ c.map_err-in-Some-make.ensures.cases c.map_err-in-Some-make.ensures.variant
-    (ok_from c.fetch_new.result _ _ P _ c.fetch_new.ensures.disk c.fetch_new.ensures.disk c.fetch_new.ensures.after
-    (λ disk is _ after. λ k e. made_zeros path h m n same (sym c.in-None.ensures) c.in-Some-make.len (ap (λ (x : Shelf). x.places) after) k (sym c.in-Some-make.is ∙ e)))
-
-pub returns-in-Some-make-clause-other_images : goal.returns-in-Some-make-clause-other_images
-returns-in-Some-make-clause-other_images c =
-    let h = c.args.self.now in
-    let m = c.is_named.new.self in
-    let n = c.fetch_new.new.self in
-    let path = c.args.path.now in
-    let same : m.places ≡ h.places = ap (λ (x : Shelf). x.places) c.is_named.ensures.counted in
-    let P : Drive → Type 0 = λ disk. (p : List ℕ) → p ≢ path → image_at n p ≡ image_at h p in
-    through_map_err c.fetch_new.result c.map_err-in-Some-make.result P _ c.map_err-in-Some-make.ensures.cases c.map_err-in-Some-make.ensures.variant
-    (ok_from c.fetch_new.result _ _ P _ c.fetch_new.ensures.disk c.fetch_new.ensures.disk c.fetch_new.ensures.after
-    (λ disk is _ after. made_other_images path h m n same (sym c.in-None.ensures) c.in-Some-make.len (ap (λ (x : Shelf). x.places) after)))
-
-pub returns-in-Some-make-clause-other_trails : goal.returns-in-Some-make-clause-other_trails
-returns-in-Some-make-clause-other_trails c =
-    let h = c.args.self.now in
-    let m = c.is_named.new.self in
-    let n = c.fetch_new.new.self in
-    let path = c.args.path.now in
-    let same : m.places ≡ h.places = ap (λ (x : Shelf). x.places) c.is_named.ensures.counted in
-    let P : Drive → Type 0 = λ disk. (p k : List ℕ) → p ≢ path → Trail n p k ↔ Trail h p k in
-    through_map_err c.fetch_new.result c.map_err-in-Some-make.result P _ c.map_err-in-Some-make.ensures.cases c.map_err-in-Some-make.ensures.variant
-    (ok_from c.fetch_new.result _ _ P _ c.fetch_new.ensures.disk c.fetch_new.ensures.disk c.fetch_new.ensures.after
-    (λ disk is _ after. made_other_trails path h m n same (sym c.in-None.ensures) c.in-Some-make.len (ap (λ (x : Shelf). x.places) after)))
+    trails_at c.args.path.now h m n same c.in-Some.at c.in-Some.ensures.0 spot_lent (λ s. refl) (λ s. refl) (λ s. refl) c.in-Ok.ensures.after p k
