@@ -1,7 +1,7 @@
 -- The blocks of a row whose content was stored.
 use Rattle.std.proofs.Common.{◌≡◌, ℕ, zero, suc, ◌≤◌, ◌||◌, not, ◌&&◌, nat_eq, Bool, true, false, List, [], ◌∷◌, length, slice_index_or, unwrap_or, Option, Some, None, refl, sym, ap, subst, ◌∙◌, inl, inr, arith}
 use Rattle.std.specs.List.{IsDistinct, range_with_len}
-use Rattle.std.proofs.lemmas.Bool.{eq-eqb, eqb-true}
+use Rattle.std.proofs.lemmas.Bool.{cases_eq, eq-eqb, eqb-true}
 use Rattle.std.proofs.lemmas.Cmp.{nat_eq_equiv}
 use Rattle.std.proofs.lemmas.List.{length-append}
 use Rattle.std.proofs.lemmas.List.FromFn.{length-range_with_len}
@@ -12,20 +12,25 @@ use Rattle.opfs_base.specs.declared.extents.Extent.{Extent}
 use Rattle.opfs_blocks.specs.Sets.{blocks_of, marked}
 use Rattle.opfs_data.specs.declared.page.Page.{Page}
 use Rattle.opfs_data.specs.Pages.{blank}
-use Rattle.opfs_data.specs.Rows.{Rows, no_row, pages_at, row_of}
+use Rattle.opfs_data.specs.Rows.{Rows, IsOther, no_row, pages_at, row_of}
 use Rattle.opfs_pages.specs.HistoryLaws.Laws.{BlocksGoOn}
-use Rattle.opfs_pages.specs.HistoryLaws.Spaced.{AreSpaced}
-use Rattle.opfs_pages.proofs.history_laws.Holding.{spaced-blocks}
+use Rattle.opfs_pages.specs.HistoryLaws.Open.{file_in, open_at}
+use Rattle.opfs_pages.specs.HistoryLaws.Spaced.{AreHolders, AreSpaced}
+use Rattle.opfs_pages.proofs.history_laws.Holding.{holders_of, spaced-blocks}
 use Rattle.opfs_desk_steps.proofs.book_steps.Evictions.{spaced-recorded, stored-named}
-use Rattle.opfs_records.specs.Replay.Built.{block_count, has_block, is_once}
+use Rattle.opfs_records.specs.Replay.Built.{block_count, has_block, is_once, named}
 use Rattle.opfs_records.proofs.replay.Counts.{distinct_once}
 use Rattle.opfs_pages.specs.RowCalls.Plans.{shelf}
 use Rattle.opfs_records.specs.Checkpoint.Written.{stored_rows}
-use Rattle.opfs_space.specs.Holders.{HasPage}
+use Rattle.opfs_space.proofs.FileBlocks.{named_has}
+use Rattle.opfs_space.proofs.Giving.{blocks_given, left_size}
+use Rattle.opfs_space.specs.Files.{file_has}
+use Rattle.opfs_space.specs.Holders.{AreBlocks, AreUnheld, HasPage, Holders}
 use Rattle.opfs_space.specs.Room.{Machine}
 use Rattle.opfs_space.specs.Spaces.{SpaceSeen, page_blocks, with_block}
 use Rattle.opfs_tree.specs.Rows.{Rows as Tree}
-use Rattle.opfs_desk_contents.specs.Blocks.{ContentsKeepBlocks, IsContentIn}
+use Rattle.opfs_desk_contents.specs.Blocks.{AreGone, ContentsKeepBlocks, IsContentIn}
+use Rattle.opfs_desk_contents.specs.Commits.Steps.{space_left}
 
 -- ---- each page's block is one of the content's
 
@@ -126,5 +131,68 @@ module _ (blocks : BlocksGoOn) (m t : Machine) (recorded u v : Tree) (p q : Rows
       })
       refl (spaced-recorded blocks m recorded u p space is.spaced)
 
+  -- ---- blocks that nothing has any more
+
+  module _ (gone : List Extent) (freed : AreGone m u agent row place true gone) where
+    abbrev before : Holders
+    before = holders_of m (shelf recorded u p)
+
+    are : AreBlocks before space.used space.own
+    are = spaced-blocks m (shelf recorded u p) space is.spaced
+
+    again : (b : ℕ) (f : Option Place) → has_block (blocks_of gone) b ≡ true → file_has v f b ≡ true → has_block (blocks_of runs) b ≡ true
+    again b f old now = elim (is.changed.came f b now) [
+      | inl here ↦ here.1
+      | inr was ↦
+          let same : f ≡ Some place = are.once f (Some place) b was (freed.of_file b old) in
+          is.changed.only b (subst (λ (g : Option Place). file_has v g b ≡ true) same now)
+    ]
+
+    recorded-again : (b : ℕ) → has_block (blocks_of gone) b ≡ true → has_block (named (stored_rows v)) b ≡ true → has_block (blocks_of runs) b ≡ true
+    recorded-again b old now =
+        let file = named_has v b is.order_now (ap (λ (xs : List ℕ). has_block xs b) (sym (stored-named v)) ∙ now) in
+        again b file.0 old file.1
+
+    own-page : (i b : ℕ) → HasPage q agent row i b → has_block (blocks_of runs) b ≡ true
+    own-page i b has = elim is.left [
+      | inl none ↦ absurd (none-there q agent row i b none has)
+      | inr stays ↦ of-content i b (same-page p q agent row i b stays.same has)
+    ]
+
+    others-page : (k n i b : ℕ) → IsOther agent row k n → has_block (blocks_of gone) b ≡ true → HasPage q k n i b → ⊥
+    others-page k n i b apart old has =
+        let page = same-page p q k n i b (is.stay k n apart) has in
+        let file = freed.of_file b old in
+        let here = are.of_file k n i b page (are.inside b (are.held (Some place) b file)) in
+        freed.nobody refl k n (are.once (file_in (open_at m k n)) (Some place) b here file) apart
+
+    page-again : (k n i b : ℕ) → has_block (blocks_of gone) b ≡ true → HasPage q k n i b → has_block (blocks_of runs) b ≡ true
+    page-again k n i b old has = elim (cases_eq k agent) [
+      | inr apart ↦ absurd (others-page k n i b (λ same. apart same.0) old has)
+      | inl mine ↦ elim (cases_eq n row) [
+        | inr other ↦ absurd (others-page k n i b (λ same. other same.1) old has)
+        | inl here ↦ own-page i b (subst (λ (j : ℕ). HasPage q agent j i b) here (subst (λ (l : ℕ). HasPage q l n i b) mine has))
+      ]
+    ]
+
+    free-blocks : (h : Holders) → AreHolders t (shelf (stored_rows v) v q) h → AreUnheld h (blocks_of gone) (blocks_of runs)
+    free-blocks h holds = record {
+      recorded = λ b old now. recorded-again b old (sym (holds.recorded b) ∙ now);
+      paged = λ k n i b old has. page-again k n i b old (subst (λ (r : Rows). HasPage r k n i b) holds.swap has);
+    }
+
+    given-back : AreSpaced t (shelf (stored_rows v) v q) (space_left true gone runs space)
+    given-back =
+        let size = left_size space.used (blocks_of gone) (blocks_of runs) in
+        record {
+          size = size ∙ contained.size;
+          own_size = contained.own_size ∙ sym size;
+          blocks = λ h holds. blocks_given h space.used (marked false (blocks_of runs) space.own) (blocks_of gone) (blocks_of runs) (contained.blocks h holds) (free-blocks h holds);
+        }
+
+  by-alone : (alone : Bool) (gone : List Extent) → AreGone m u agent row place alone gone → AreSpaced t (shelf (stored_rows v) v q) (space_left alone gone runs space)
+  by-alone true gone freed = given-back gone freed
+  by-alone false gone freed = contained
+
 pub contents-keep : BlocksGoOn → ContentsKeepBlocks
-contents-keep blocks m t recorded u v p q space agent row pages place runs is = contained blocks m t recorded u v p q space agent row pages place runs is
+contents-keep blocks m t recorded u v p q space agent row pages place runs is alone gone freed = by-alone blocks m t recorded u v p q space agent row pages place runs is alone gone freed

@@ -3,6 +3,7 @@ pub mod StoredRows
 pub mod Alone
 pub mod Changes
 pub mod Entered
+pub mod Gone
 pub mod Asked
 pub mod Begun
 pub mod Planned

@@ -9,7 +9,7 @@ use Rattle.opfs_blocks.specs.Sets.{blocks_of}
 use Rattle.opfs_books.specs.Stored.Spelled.{bytes_stored, spelled_by, CanHold}
 use Rattle.opfs_books.specs.Laws.Books.{Fixed, AreBooks}
 use Rattle.opfs_books.specs.Laws.Laws.{LeavesPages, failed}
-use Rattle.opfs_state_rows.specs.Changes.Changed.{tree_by}
+use Rattle.opfs_state_rows.specs.Changes.Changed.{freed_in, tree_by}
 use Rattle.opfs_codec.specs.Spelling.{AreExtents}
 use Rattle.opfs_codec.specs.declared.change.Change.{Change as Spelled}
 use Rattle.opfs_codec.specs.declared.change.Change.TheVariants.{Content}
@@ -61,12 +61,13 @@ pub record MayStoreContent {D : Type 0} (w : DiskWords D) (l : Ledger D) (e : En
   pub runs_are : AreExtents runs
   pub holds : CanHold answer.fixed.geometry.blocks (content_now l e place row size runs) (book_in l).rows
 
--- It was committed, and the call entered: the records build the rows as they are stored.
+-- It was committed, and the call entered, and what it let go is told: the records build the rows as they are stored.
 pub record HasStored {D : Type 0} (w : DiskWords D) (f : Fixed D) (base : State Text Own) (gone : List Text) (old new : Ledger D) (p : OpenPages) (e : Entry) (z : Sizes) (extents : Option (List Extent)) (own : Spelled) : Type 0 where
   pub entries : new.books.history ≡ old.books.history ++ e ∷ []
   pub machine : machine_in new ≡ counted (effect in_lengths (machine_in old) z e.agent e.op) e.agent
   pub tree : tree_in new ≡ tree_by (machine_in old) (tree_in old) e.agent e.op z extents
   pub idle : new.books.state.store.prepared.place ≡ None
+  pub freed : new.freed.items ≡ freed_in (machine_in old) (tree_in old) e.agent e.op extents
   pub books : AreBooks w f (book_in new).rows (book_in new) new.journal
   pub tied : AreTied w f new p
   pub leaves : LeavesPages w old.journal new.journal

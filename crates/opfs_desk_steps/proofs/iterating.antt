@@ -1,5 +1,6 @@
 pub mod Asking
 pub mod Fewer
+pub mod Children
 pub mod Gifts
 pub mod Known
 pub mod Names

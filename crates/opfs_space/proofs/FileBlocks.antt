@@ -195,7 +195,7 @@ which_file q place = by_test (is_eq (place_cmp q place)) refl where
 
 pub content_changed : (rows : Rows) (place : Place) (f : FileRow) (len stamp : ℕ) (extents : List Extent) → file_at place rows ≡ Some f
     → IsChangedAt place (blocks_of extents) rows (change_at place (stored len stamp extents) rows)
-content_changed rows place f len stamp extents there = record { came = came; here = here; stays = stays } where
+content_changed rows place f len stamp extents there = record { came = came; here = here; only = only; stays = stays } where
   new : Rows
   new = change_at place (stored len stamp extents) rows
 
@@ -204,6 +204,9 @@ content_changed rows place f len stamp extents there = record { came = came; her
 
   here : (b : ℕ) → has_block (blocks_of extents) b ≡ true → file_has new (Some place) b ≡ true
   here b is = ap (λ (xs : List ℕ). has_block xs b) now ∙ is
+
+  only : (b : ℕ) → file_has new (Some place) b ≡ true → has_block (blocks_of extents) b ≡ true
+  only b is = sym (ap (λ (xs : List ℕ). has_block xs b) now) ∙ is
 
   other : (q : Place) (b : ℕ) → is_eq (place_cmp q place) ≡ false → file_has new (Some q) b ≡ file_has rows (Some q) b
   other q b apart = ap (λ (o : Option Row). has_block (blocks_of (extents_in o)) b) (row_other place (stored len stamp extents) q rows apart)

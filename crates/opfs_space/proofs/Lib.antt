@@ -2,6 +2,7 @@ pub mod Counting
 pub mod Keeping
 pub mod Storing
 pub mod Taking
+pub mod Giving
 pub mod Placing
 pub mod Paged
 pub mod Rest

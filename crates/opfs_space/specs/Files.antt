@@ -21,8 +21,9 @@ blocks_at (Some place) rows = blocks_of (extents_in (row_at place rows))
 abbrev pub file_has : Rows → Option Place → ℕ → Bool
 file_has rows place b = has_block (blocks_at place rows) b
 
--- The files of two trees differ at one place alone, where the new one's blocks are these.
+-- The files of two trees differ at one place alone, where the new one's blocks are these, and no others.
 pub record IsChangedAt (place : Place) (blocks : List ℕ) (old new : Rows) : Type 0 where
   pub came : (f : Option Place) (b : ℕ) → file_has new f b ≡ true → ((f ≡ Some place) × (has_block blocks b ≡ true)) ⊎ (file_has old f b ≡ true)
   pub here : (b : ℕ) → has_block blocks b ≡ true → file_has new (Some place) b ≡ true
+  pub only : (b : ℕ) → file_has new (Some place) b ≡ true → has_block blocks b ≡ true
   pub stays : (f : Option Place) (b : ℕ) → file_has old f b ≡ true → (f ≡ Some place) ⊎ (file_has new f b ≡ true)

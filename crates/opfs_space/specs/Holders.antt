@@ -122,6 +122,11 @@ pub record HasLess (old new : Holders) : Type 0 where
   pub has : (f : Option Place) (b : ℕ) → new.has f b ≡ true → (old.has f b ≡ true) × (new.rows b ≡ true)
   pub stays : (k n i b : ℕ) → HasPage new.swap k n i b → old.has (old.file k n) b ≡ true → new.has (new.file k n) b ≡ true
 
+-- No record and no page has a block of one list that is not in another.
+pub record AreUnheld (h : Holders) (gone kept : List ℕ) : Type 0 where
+  pub recorded : (b : ℕ) → has_block gone b ≡ true → h.ground b ≡ true → has_block kept b ≡ true
+  pub paged : (k n i b : ℕ) → has_block gone b ≡ true → HasPage h.swap k n i b → has_block kept b ≡ true
+
 -- At the beginning no row is open, and the records are those of the present rows. Their blocks are used, and no two files
 -- have one.
 pub record IsFirst (h : Holders) (used : Used) : Type 0 where

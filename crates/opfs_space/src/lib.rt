@@ -17,7 +17,7 @@ pub use putting::{own_blocks_may_be_written, planned_pages_may_be_written};
 pub use room::{a_look_knows_own_blocks, a_sweep_leaves_blocks_enough};
 pub use space::Space;
 pub use staying::{
-    fewer_files_keep_blocks_right, fewer_pages_keep_blocks_right, first_blocks_are_right,
-    opened_rows_keep_blocks_right, stored_contents_keep_blocks_right, sweeps_keep_blocks_right,
-    taken_blocks_are_right, written_pages_keep_blocks_right,
+    blocks_given_back_are_right, fewer_files_keep_blocks_right, fewer_pages_keep_blocks_right,
+    first_blocks_are_right, opened_rows_keep_blocks_right, stored_contents_keep_blocks_right,
+    sweeps_keep_blocks_right, taken_blocks_are_right, written_pages_keep_blocks_right,
 };

@@ -93,6 +93,16 @@ impl Space {
         self.own.give_back(extents);
     }
 
+    /// Frees the blocks of extents but for those of others, which are used. Takes no memory.
+    pub fn give_back(&mut self, gone: &[Extent], kept: &[Extent])
+        requires gone { AreBelow (length self.old.used) (blocks_of gone.now) }
+        requires kept { AreBelow (length self.old.used) (blocks_of kept.now) }
+        ensures { self.new ≡ record self.old { used = marked true (blocks_of kept.now) (marked false (blocks_of gone.now) self.old.used) } }
+    {
+        self.used.give_back(gone);
+        self.used.mark(kept);
+    }
+
     /// Begins a sweep: nothing is seen yet. Takes no memory.
     pub fn begin(&mut self)
         ensures { self.new ≡ record self.old { own = replicate (length self.old.used) false; seen = replicate (length self.old.used) false } }

@@ -6,7 +6,7 @@ ghost use Rattle.opfs_blocks.specs.Sets.{Used, free_blocks, marked, blocks_of};
 ghost use Rattle.opfs_data.specs.Pages.{resized, with_writes, pages_in, AreOnce};
 ghost use Rattle.opfs_data.specs.Rows.{pages_at};
 ghost use Rattle.opfs_data.specs.Writes.{PageWrite};
-ghost use Rattle.opfs_space.specs.Holders.{Holders, AreBlocks, HasPage, HasFiles, HasFewer, KeepsRow, KeepsOthers, HasLess, AreMine, IsMine, IsOpened, IsStored, IsFirst, AreSwept};
+ghost use Rattle.opfs_space.specs.Holders.{Holders, AreBlocks, HasPage, HasFiles, HasFewer, KeepsRow, KeepsOthers, HasLess, AreMine, AreUnheld, IsMine, IsOpened, IsStored, IsFirst, AreSwept};
 ghost use Rattle.opfs_records.specs.Replay.Built.{has_block};
 ghost use Rattle.opfs_space.specs.Spaces.{is_own};
 
@@ -40,6 +40,11 @@ pub fn opened_rows_keep_blocks_right()
 /// The law of a content that a close or a flush stores: its blocks are no page's alone any more.
 pub fn stored_contents_keep_blocks_right()
     ensures { (old new : Holders) (used own : Used) (agent row : ℕ) (blocks : List ℕ) → AreBlocks old used own → IsStored old new agent row blocks → AreBlocks new used (marked false blocks own) }
+{}
+
+/// The law of blocks given back: those of one list but for those of another, where no record and no page has them.
+pub fn blocks_given_back_are_right()
+    ensures { (h : Holders) (used own : Used) (gone kept : List ℕ) → AreBlocks h used own → AreUnheld h gone kept → AreBlocks h (marked true kept (marked false gone used)) own }
 {}
 
 /// The law of a unit evicted, of something removed, and of what is kept back made durable.

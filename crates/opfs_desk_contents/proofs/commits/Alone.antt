@@ -1,5 +1,5 @@
 -- Who else is open on a file: beside a stream only streams are, and beside an access handle that may write nobody is.
-use Rattle.std.proofs.Common.{◌≡◌, ◌≢◌, ℕ, ◌+◌, ◌≤◌, zero, suc, Bool, true, cond, ◌&&◌, List, [], ◌∷◌, flat_map, sum_by, Option, Some, None, refl, sym, ap, subst, ◌∙◌, inl, inr, arith}
+use Rattle.std.proofs.Common.{◌≡◌, ◌≢◌, ℕ, ◌+◌, ◌<◌, ◌≤◌, zero, suc, Bool, true, cond, ◌&&◌, List, [], ◌∷◌, flat_map, sum_by, Option, Some, None, refl, sym, ap, subst, ◌∙◌, inl, inr, arith}
 use Rattle.std.proofs.lemmas.Bool.{cases_eq, false≢true}
 use Rattle.std.proofs.lemmas.List.Sums.{sum_by-append, sum_by-cons}
 use Rattle.opfs_base.specs.Places.{Place}
@@ -154,6 +154,38 @@ module _ (m : Machine) (kept : Kept m) (place : Place) where
       let here = counts-one place want.Exclusive (hold_in (outline.Handle h)) held in
       let too = counts-one place want.Exclusive (hold_in other.row) (other.holds ∙ ap (λ (w : Want). Some (place, w)) same) in
       omega (arith, both, here, too))
+
+-- ---- one holder alone
+
+most-one : (lock : Lock) (count : Want → ℕ) → IsLockOf lock count → lock.1 < 2 → count want.Exclusive + count want.Shared + count want.ReadOnly ≤ 1
+most-one (value.Free, n) count is few = omega (arith, is.1.exclusive, is.1.shared, is.1.read_only)
+most-one (value.Exclusive, n) count is few = omega (arith, is.1.exclusive, is.1.shared, is.1.read_only)
+most-one (value.Shared, n) count is few = omega (arith, few, is.1.exclusive, is.1.shared, is.1.read_only)
+most-one (value.ReadOnly, n) count is few = omega (arith, few, is.1.exclusive, is.1.shared, is.1.read_only)
+
+one-want : (count : Want → ℕ) (v w : Want) → count want.Exclusive + count want.Shared + count want.ReadOnly ≤ 1 → 1 ≤ count v → 1 ≤ count w → (v ≡ w → 2 ≤ count w) → ⊥
+one-want count want.Exclusive want.Exclusive few one also two = omega (arith, few, two refl)
+one-want count want.Shared want.Shared few one also two = omega (arith, few, two refl)
+one-want count want.ReadOnly want.ReadOnly few one also two = omega (arith, few, two refl)
+one-want count want.Exclusive want.Shared few one also two = omega (arith, few, one, also)
+one-want count want.Exclusive want.ReadOnly few one also two = omega (arith, few, one, also)
+one-want count want.Shared want.Exclusive few one also two = omega (arith, few, one, also)
+one-want count want.Shared want.ReadOnly few one also two = omega (arith, few, one, also)
+one-want count want.ReadOnly want.Exclusive few one also two = omega (arith, few, one, also)
+one-want count want.ReadOnly want.Shared few one also two = omega (arith, few, one, also)
+
+-- Where a lock has fewer than two holders, one row alone is open on the file.
+pub alone-on : (m : Machine) → Kept m → (place : Place) → (lock_in (file_at m place)).1 < 2 → (k n j i : ℕ) → file_in (open_at m k n) ≡ Some place → file_in (open_at m j i) ≡ Some place → IsOther k n j i → ⊥
+alone-on m kept place few k n j i mine other apart =
+    let a = open-on m k n place mine in
+    let b = open-on m j i place other in
+    one-want (holders_in m place) a.how b.how (most-one (lock_in (file_at m place)) (holders_in m place) (kept.locks place) few)
+    (one-holds m k n place a.how a.row a.there a.holds) (one-holds m j i place b.how b.row b.there b.holds)
+    (λ same.
+    let both = two-hold (λ r. counts place b.how (hold_in r)) m k n j i a.row b.row a.there b.there apart in
+    let here = counts-one place b.how (hold_in a.row) (a.holds ∙ ap (λ (w : Want). Some (place, w)) same) in
+    let too = counts-one place b.how (hold_in b.row) b.holds in
+    omega (arith, both, here, too))
 
 -- ---- by the call
 

@@ -4,7 +4,8 @@ use Rattle.std.specs.Ordering.{is_eq}
 use Rattle.opfs_base.specs.Places.{Place, place_cmp}
 use Rattle.opfs_base.specs.declared.extents.Extent.{Extent}
 use Rattle.opfs_blocks.specs.Sets.{blocks_of}
-use Rattle.opfs_state_rows.specs.Changes.Changed.{changed_by, closed_by, ended_by, flushed_by, flushed_in, tree_by}
+use Rattle.opfs_state_rows.specs.Changes.Changed.{changed_by, closed_by, ended_by, flushed_by, flushed_in, freed_in, handle_frees, replaced_at, stream_frees, tree_by}
+use Rattle.opfs_state_rows.specs.Changes.Changed.{extents_in as row_extents}
 use Rattle.opfs_pages.specs.HistoryLaws.Laws.{TreesKeepBlocks}
 use Rattle.opfs_hist.specs.declared.op.Mode.{Mode}
 use Rattle.opfs_hist.specs.declared.op.Mode.TheVariants as mode
@@ -23,7 +24,7 @@ use Rattle.opfs_records.specs.Replay.Built.{has_block}
 use Rattle.opfs_space.specs.Files.{extents_in, file_has, IsChangedAt}
 use Rattle.opfs_space.specs.Room.{Machine}
 use Rattle.opfs_space.proofs.FileBlocks.{content_changed}
-use Rattle.opfs_tree.specs.Rows.{Rows as Tree, change_at, changed_row, file_at as file_in_tree, row_at, stored, unlocked}
+use Rattle.opfs_tree.specs.Rows.{Rows as Tree, change_at, changed_row, file_at as file_in_tree, file_of, row_at, stored, unlocked}
 use Rattle.opfs_tree.specs.declared.row.FileRow.{FileRow}
 use Rattle.opfs_tree.specs.declared.row.Row.{Row}
 use Rattle.opfs_tree.specs.declared.row.Row.TheVariants as row
@@ -62,6 +63,7 @@ has-alike : (place : Place) (blocks : List ℕ) (t u v : Tree) → ((g : Option 
 has-alike place blocks t u v same is = record {
   came = λ g b has. is.came g b (sym (same g b) ∙ has);
   here = λ b has. same (Some place) b ∙ is.here b has;
+  only = λ b has. is.only b (sym (same (Some place) b) ∙ has);
   stays = λ g b has. elim (is.stays g b has) [ inl here ↦ inl here | inr there ↦ inr (same g b ∙ there) ];
 }
 
@@ -110,6 +112,35 @@ module _ (keep : TreesKeepBlocks) (t : Tree) (place : Place) (runs : List Extent
   tree-changed m k (op.SyncFlush n) z reserve is = flushed-at m k n reserve is
   tree-changed m k (op.SyncClose n) z reserve is = ended-at m k n reserve is
   tree-changed m k o z reserve is = absurd is
+
+  -- ---- what it lets go
+
+  stream-lets : (m : Machine) (k n : ℕ) (reserve : ℕ) → IsStreamOf m k n place reserve → stream_frees t (Some runs) (open_stream in_lengths m k n) ≡ file.extents
+  stream-lets m k n reserve is = ap (stream_frees t (Some runs)) is.there ∙ ap (λ (p : Place). replaced_at t p (Some runs)) is.file ∙ ap row_extents there
+
+  handle-lets : (m : Machine) (k n : ℕ) (reserve : ℕ) → IsWriterOf m k n place reserve → handle_frees t (Some runs) (open_handle in_lengths m k n) ≡ file.extents
+  handle-lets m k n reserve is =
+      ap (handle_frees t (Some runs)) is.there ∙ ap (λ (b : Bool). if b then replaced_at t is.row.file (Some runs) else []) is.writes
+      ∙ ap (λ (p : Place). replaced_at t p (Some runs)) is.file ∙ ap row_extents there
+
+  pub lets-go : (m : Machine) (k : ℕ) (o : Op) (reserve : ℕ) → StoresFile m k o place reserve → freed_in m t k o (Some runs) ≡ file.extents
+  unfolding freed_in
+  lets-go m k (op.Close n) reserve is = stream-lets m k n reserve is
+  lets-go m k (op.SyncFlush n) reserve is = handle-lets m k n reserve is
+  lets-go m k (op.SyncClose n) reserve is = handle-lets m k n reserve is
+  lets-go m k o reserve is = absurd is
+
+file-extents : (o : Option Row) (file : FileRow) → file_of o ≡ Some file → extents_in o ≡ file.extents
+file-extents None file is = cc
+file-extents (Some row.Dir) file is = cc
+file-extents (Some (row.File f)) file is = ap (λ (x : FileRow). x.extents) (one is)
+  where
+    one : ◌≡◌ {A = Option FileRow} (Some f) (Some file) → f ≡ file
+    one e = cc
+
+-- What a file has are the blocks of its extents.
+pub of-file : (t : Tree) (place : Place) (file : FileRow) (b : ℕ) → file_in_tree place t ≡ Some file → has_block (blocks_of file.extents) b ≡ true → file_has t (Some place) b ≡ true
+of-file t place file b there has = ap (λ (xs : List Extent). has_block (blocks_of xs) b) (file-extents (row_at place t) file there) ∙ has
 
 -- ---- limits stay
 

@@ -1,6 +1,6 @@
 -- A row's content was stored with its call, and its row is left: all is kept.
-use Rattle.std.proofs.Common.{◌≡◌, ◌≢◌, ◌⊎◌, ℕ, ◌+◌, ◌*◌, ◌<◌, ◌||◌, nat_eq, zero, suc, slice_index, slice_index_or, Bool, true, false, is_some, List, [], ◌∷◌, ◌++◌, length, unwrap_or, option_map, Option, Some, None, refl, sym, ap, subst, ◌∙◌, inl, inr, append-nil, arith}
-use Rattle.std.proofs.lemmas.Bool.{cases_Bool, eq-eqb, false≢true}
+use Rattle.std.proofs.Common.{◌≡◌, ◌≢◌, ◌⊎◌, ℕ, ◌+◌, ◌*◌, ◌<◌, zero, suc, slice_index, slice_index_or, Bool, true, false, is_some, List, [], ◌∷◌, ◌++◌, length, unwrap_or, option_map, Option, Some, None, refl, sym, ap, subst, ◌∙◌, inl, inr, append-nil, arith}
+use Rattle.std.proofs.lemmas.Bool.{cases_Bool, false≢true}
 use Rattle.std.specs.Prelude.{IsTrue}
 use Rattle.opfs_store.specs.Acts.Acting.{row_left, told_entry, unread_gift, StandsForLeft}
 use Rattle.opfs_store.specs.declared.acts.acted.Gift.TheVariants as gift
@@ -50,7 +50,7 @@ use Rattle.opfs_machine.specs.Replies.{bytes_at, row_named, sizes_in, sizes_of}
 use Rattle.opfs_machine.specs.Steps.{after_reply}
 use Rattle.opfs_outside.specs.declared.disk.Disk.{Ghosts as DiskWords}
 use Rattle.opfs_pages.specs.Copies.{IsBegun}
-use Rattle.opfs_records.specs.Replay.Built.{Built, has_block}
+use Rattle.opfs_records.specs.Replay.Built.{Built}
 use Rattle.opfs_pages.specs.RowCalls.Plans.{shelf}
 use Rattle.opfs_records.specs.Checkpoint.Written.{stored_rows}
 use Rattle.opfs_space.specs.Files.{IsChangedAt}
@@ -58,9 +58,10 @@ use Rattle.opfs_space.specs.Room.{Machine}
 use Rattle.opfs_space.specs.Spaces.{SpaceSeen}
 use Rattle.opfs_state.specs.Applied.{StateSeen}
 use Rattle.opfs_laws.specs.Steady.Steady.{open_bytes, row_bytes}
-use Rattle.opfs_tree.specs.Rows.{Rows as Tree}
+use Rattle.opfs_tree.specs.Rows.{Rows as Tree, file_at as file_in_tree}
+use Rattle.opfs_tree.specs.declared.row.FileRow.{FileRow}
 use Rattle.opfs_work.specs.Works.{contents, WorkingCopy}
-use Rattle.opfs_desk_contents.specs.Blocks.{ContentsKeepBlocks, IsContentIn, StaysWithFile}
+use Rattle.opfs_desk_contents.specs.Blocks.{AreGone, ContentsKeepBlocks, IsContentIn, StaysWithFile}
 use Rattle.opfs_desk_contents.specs.Rows.{StoresFile}
 use Rattle.opfs_desk_contents.specs.Storing.{AreRunsOf, HasStoredPages}
 use Rattle.opfs_desk_contents.specs.Words.{ends_row, is_storing, size_stored, stamp_stored}
@@ -84,7 +85,8 @@ use Rattle.opfs_desk_steps.proofs.book_steps.Loop.{Falls}
 use Rattle.opfs_state_rows.specs.Standing.Seen.{lines_of}
 use Rattle.opfs_desk_contents.specs.Commits.Steps.{IsFlushed, LeavesRow}
 use Rattle.opfs_desk_contents.proofs.commits.Alone.{streams-beside}
-use Rattle.opfs_desk_contents.proofs.commits.Changes.{limits-stay, tree-changed}
+use Rattle.opfs_desk_contents.proofs.commits.Changes.{lets-go, limits-stay, tree-changed}
+use Rattle.opfs_desk_contents.proofs.commits.Gone.{all-below, are-gone}
 use Rattle.opfs_desk_contents.proofs.commits.StoredRows.{IsClosedRow, IsFlushedRow, StoresRow, row-closed, row-flushed}
 use Rattle.opfs_desk_contents.proofs.commits.Words.{in-hand, leaves-named, leaves-none, makes-none, no-gift, not-near}
 
@@ -94,14 +96,6 @@ some-file (Some r) place is = refl
 
 no-owner : (n : ℕ) → suc n ≡ 0 → ⊥
 no-owner n is = omega (arith, is)
-
-all-below : (bs : List ℕ) (size : ℕ) → ((b : ℕ) → has_block bs b ≡ true → b < size) → AreBelow size bs
-all-below [] size each = tt
-all-below (x ∷ xs) size each = (each x (ap (λ t. t || has_block xs x) (eq-eqb x x refl)), all-below xs size (λ b is. each b (later (nat_eq b x) (has_block xs b) is)))
-  where
-    later : (a t : Bool) → t ≡ true → (a || t) ≡ true
-    later true t is = refl
-    later false t is = is
 
 -- The blocks of a row's pages are blocks of the space.
 pub runs-below : {D : Type 0} (w : DiskWords D) (f : Fixed D) (recorded : Built) (base : State Text Own) (l : Ledger D) (p : OpenPages) (agent row pages : ℕ) (runs : List Extent) → AreHeldAt w f recorded base [] l p → AreRunsOf p.swap agent row pages runs → AreBelow (length p.space.used) (blocks_of runs)
@@ -127,7 +121,8 @@ pub record StoresCall {D : Type 0} (w : DiskWords D) (f : Fixed D) (mid : Ledger
 
 module _ {D : Type 0} (w : DiskWords D) (f : Fixed D) (mid : Ledger D) (p : OpenPages) (c : ReadyCall) (work : WorkingCopy) (place : Place) (text : Text) (reserve : ℕ) (call : StoresCall w f mid c work place text reserve)
     (pages : ℕ) (many : pages ≡ blocks work.length) (new : DeskParts D) (runs : List Extent) (done : HasStoredPages w f (record { ledger = mid; pages = p }) new (told_entry (call_in c) reply.Done) c.sizes c.agent (row_named c.op) pages place runs text)
-    (q : OpenPages) (made : WorkingCopy) (left : LeavesRow new.pages q c.agent (row_named c.op) runs (ends_row c.op) work made) where
+    (q : OpenPages) (made : WorkingCopy) (alone : Bool) (gone : List Extent) (left : LeavesRow new.pages q c.agent (row_named c.op) alone gone runs (ends_row c.op) work made)
+    (freed : gone ≡ new.ledger.freed.items) (lone : alone ≡ true → (x : FileRow) → file_in_tree place (tree_in mid) ≡ Some x → x.lock.1 < 2) (lines : (machine_in mid).rows ≡ lines_of (tree_in mid)) where
   abbrev base : State Text Own
   base = state_after f.opening mid.books.history
 
@@ -241,10 +236,18 @@ module _ {D : Type 0} (w : DiskWords D) (f : Fixed D) (mid : Ledger D) (p : Open
       streams = λ k i is apart. streams-beside (machine_in back) kept-back c.agent c.op place reserve file-back k i is apart;
     }
 
+    gone-is : gone ≡ done.file.extents
+    gone-is = freed ∙ done.stored.freed ∙ lets-go trees (tree_in back) place runs done.file done.there (machine_in back) c.agent c.op reserve file-back
+
+    freed-blocks : AreGone (machine_in back) (tree_in back) c.agent n place alone gone
+    freed-blocks =
+        are-gone (machine_in back) (tree_in back) c.agent n place done.file alone gone kept-back (subst (λ (s : StateSeen). s.store.machine.rows ≡ lines_of s.store.tree) (sym done.state) lines) done.there gone-is opened-back
+        (subst (λ (s : StateSeen). alone ≡ true → (x : FileRow) → file_in_tree place s.store.tree ≡ Some x → x.lock.1 < 2) (sym done.state) lone)
+
     spaced-now : AreSpaced (in_lengths_of after) (shelf (stored_rows (tree_in new.ledger)) (tree_in new.ledger) q.swap) q.space
     spaced-now =
         subst (λ (x : SpaceSeen). AreSpaced (in_lengths_of after) (shelf (stored_rows (tree_in new.ledger)) (tree_in new.ledger) q.swap) x) (sym left.space)
-        (contents (machine_in back) (in_lengths_of after) done.cleared.recorded.rows (tree_in back) (tree_in new.ledger) new.pages.swap q.swap new.pages.space c.agent n pages place runs in-content)
+        (contents (machine_in back) (in_lengths_of after) done.cleared.recorded.rows (tree_in back) (tree_in new.ledger) new.pages.swap q.swap new.pages.space c.agent n pages place runs in-content alone gone freed-blocks)
 
     -- ---- pages
 
@@ -362,8 +365,8 @@ module _ {D : Type 0} (w : DiskWords D) (f : Fixed D) (mid : Ledger D) (p : Open
   grown : back.books.history ≡ mid.books.history ++ []
   grown = done.entries ∙ sym (append-nil mid.books.history)
 
-  pub way : BooksKeepTheState w → CallsAreSpelled → CallsMayFail w.tells → Falls w → (machine_in mid).rows ≡ lines_of (tree_in mid) → IsWayEnded w f mid new.ledger
-  way states spells fails falls lines =
+  pub way : BooksKeepTheState w → CallsAreSpelled → CallsMayFail w.tells → Falls w → IsWayEnded w f mid new.ledger
+  way states spells fails falls =
       way-ended w f states spells fails falls mid back new.ledger new.pages [] e c.sizes change grown done.cleared answered-back refl
       (record { lines = subst (λ (s : StateSeen). s.store.machine.rows ≡ lines_of s.store.tree) (sym done.state) lines; order = done.order })
       (spelled-runs (machine_in back) (tree_in back) c.agent c.op c.sizes place reserve done.file None file-back done.there) (no-eviction c.op call.storing) done.stored.entries shown-is
@@ -382,10 +385,10 @@ module _ {D : Type 0} (w : DiskWords D) (f : Fixed D) (mid : Ledger D) (p : Open
   -- ---- all of it
 
   pub has-acted : ContentsKeepBlocks → TreesKeepBlocks → CallsLeaveOtherRows → CallsChangeTheirRow → RowsInHandAreLaid w → ACallMovesItsAgent → BooksKeepTheState w → CallsAreSpelled → CallsMayFail w.tells → Falls w → CallsAreActed w
-      → (machine_in mid).rows ≡ lines_of (tree_in mid) → (recorded : Built) (l : Ledger D) (first : OpenPages) (calls : List Entry) → AreHeldWhole w f recorded l first → ArePendingFor w.tells (state_after f.opening l.books.history) c.agent calls → HasTaken l mid calls
+      → (recorded : Built) (l : Ledger D) (first : OpenPages) (calls : List Entry) → AreHeldWhole w f recorded l first → ArePendingFor w.tells (state_after f.opening l.books.history) c.agent calls → HasTaken l mid calls
       → (rows : ℕ) → rows ≡ length (agent_of base c.agent).own
       → HasActed w f (record { ledger = l; pages = first }) (record { ledger = new.ledger; pages = q }) calls (call_in c) work made (record { reply = reply.Done; gift = gift.Nothing; rows = rows })
-  has-acted contents trees leave changes laying moves states spells fails falls acts lines recorded l first calls held pending taken rows count = record {
+  has-acted contents trees leave changes laying moves states spells fails falls acts recorded l first calls held pending taken rows count = record {
     held = record { recorded = (book_in new.ledger).rows; are = held-now contents trees leave changes laying; idle = done.stored.idle };
     acted = acts.acted f l mid back new.ledger calls [] c reply.Done taken (record { cleared = grown; added = done.stored.entries }) call.answered.next;
     left = record {
@@ -398,5 +401,5 @@ module _ {D : Type 0} (w : DiskWords D) (f : Fixed D) (mid : Ledger D) (p : Open
         record { alike = ap unread_gift (sym nothing); told = λ t. sym nothing };
     rows = count ∙ rows-now moves;
     fault = λ never. absurd (false≢true never);
-    way = acts.before f recorded l mid new.ledger first c.agent calls _ held pending taken (way states spells fails falls lines);
+    way = acts.before f recorded l mid new.ledger first c.agent calls _ held pending taken (way states spells fails falls);
   }

@@ -40,8 +40,8 @@ module _ {D : Type 0} (w : DiskWords D) (f : Fixed D) (start new : DeskParts D) 
       (subst (λ (x : Sizes). Fails text d x i) sizes
       (subst (λ (x : Entry). Fails text x z i) entries is))
 
-pub leaves-same : (p q : OpenPages) (agent i j : ℕ) (xs ys : List Extent) (a b : Bool) (work made : WorkingCopy) → i ≡ j → xs ≡ ys → a ≡ b → LeavesRow p q agent i xs a work made → LeavesRow p q agent j ys b work made
-leaves-same p q agent i j xs ys a b work made rows runs ends is =
-    subst (λ (x : Bool). LeavesRow p q agent j ys x work made) ends
-    (subst (λ (x : List Extent). LeavesRow p q agent j x a work made) runs
-    (subst (λ (x : ℕ). LeavesRow p q agent x xs a work made) rows is))
+pub leaves-same : (p q : OpenPages) (agent i j : ℕ) (alone : Bool) (gone xs ys : List Extent) (a b : Bool) (work made : WorkingCopy) → i ≡ j → xs ≡ ys → a ≡ b → LeavesRow p q agent i alone gone xs a work made → LeavesRow p q agent j alone gone ys b work made
+leaves-same p q agent i j alone gone xs ys a b work made rows runs ends is =
+    subst (λ (x : Bool). LeavesRow p q agent j alone gone ys x work made) ends
+    (subst (λ (x : List Extent). LeavesRow p q agent j alone gone x a work made) runs
+    (subst (λ (x : ℕ). LeavesRow p q agent x alone gone xs a work made) rows is))

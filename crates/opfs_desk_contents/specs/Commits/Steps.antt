@@ -1,10 +1,10 @@
 -- A call that stores a row's content from its pages, step by step. This project's own.
-use Rattle.std.specs.Prelude.{◌≡◌, ℕ, ◌≤◌, Bool, true, false, List, [], ◌++◌, Some, None}
+use Rattle.std.specs.Prelude.{◌≡◌, ℕ, ◌≤◌, cond, Bool, true, false, List, [], ◌++◌, Some, None}
 use Rattle.std.specs.Vec.{vec_capacity}
 use Rattle.opfs_base.specs.Blocks.{blocks}
 use Rattle.opfs_base.specs.Texts.{Text}
 use Rattle.opfs_base.specs.declared.extents.Extent.{Extent}
-use Rattle.opfs_blocks.specs.Sets.{blocks_of, marked}
+use Rattle.opfs_blocks.specs.Sets.{Used, blocks_of, marked}
 use Rattle.opfs_books.specs.Laws.Books.{Fixed}
 use Rattle.opfs_store.specs.Copies.Copies.{IsPaged}
 use Rattle.opfs_data.specs.Rows.{row_of, kept_count, OthersStay}
@@ -18,6 +18,7 @@ use Rattle.opfs_pages.specs.Writing.Puts.{IsReady as IsPutReady}
 use Rattle.opfs_records.specs.Replay.Built.{Built}
 use Rattle.opfs_pages.specs.RowCalls.Plans.{shelf, AreGotten}
 use Rattle.opfs_pages.specs.RowCalls.Rows.{IsPutOf}
+use Rattle.opfs_space.specs.Spaces.{SpaceSeen}
 use Rattle.opfs_state.specs.Reading.{row_file}
 use Rattle.opfs_laws.specs.Steady.Steady.{row_bytes}
 use Rattle.opfs_work.specs.Works.{WorkingCopy}
@@ -58,11 +59,20 @@ pub record IsFlushed (work left : WorkingCopy) : Type 0 where
   pub reserve : left.reserve ≡ 0
   pub paged : IsPaged left
 
--- A row whose content was stored in these runs: their blocks are no page's alone any more. It goes with its pages, or its working
+-- The used blocks once a file whose blocks were these has those of other runs: where no other row is open on it, the old ones are
+-- free but for those that it has again.
+abbrev pub used_left : Bool → List Extent → List Extent → Used → Used
+used_left alone gone runs used = cond alone (marked true (blocks_of runs) (marked false (blocks_of gone) used)) used
+
+-- The space after that: the new ones are no page's alone any more.
+abbrev pub space_left : Bool → List Extent → List Extent → SpaceSeen → SpaceSeen
+space_left alone gone runs space = record space { used = used_left alone gone runs space.used; own = marked false (blocks_of runs) space.own }
+
+-- A row whose content was stored in these runs, in place of those of its file that are gone. It goes with its pages, or its working
 -- copy is flushed.
-pub record LeavesRow (p q : OpenPages) (agent row : ℕ) (runs : List Extent) (ends : Bool) (work left : WorkingCopy) : Type 0 where
+pub record LeavesRow (p q : OpenPages) (agent row : ℕ) (alone : Bool) (former runs : List Extent) (ends : Bool) (work left : WorkingCopy) : Type 0 where
   pub base : q.base ≡ p.base
-  pub space : q.space ≡ record p.space { own = marked false (blocks_of runs) p.space.own }
+  pub space : q.space ≡ space_left alone former runs p.space
   pub others : OthersStay agent row p.swap q.swap
   pub kept : kept_count q.swap ≤ kept_count p.swap
   pub gone : ends ≡ true → row_of agent row q.swap ≡ None

@@ -27,7 +27,7 @@ ghost use Rattle.opfs_laws.specs.Lengths.Bridge.{LengthsDecideEachRuling, Length
 ghost use Rattle.opfs_machine.specs.Replies.{row_named};
 ghost use Rattle.opfs_records.specs.Replay.Built.{Built};
 
-use crate::commits::leaving::leave_row;
+use crate::commits::leaving::{Leaving, is_alone, leave_row};
 use crate::{Plan, is_last, plan_content, row_of, store_pages, stored_contents_keep_blocks_right};
 use opfs_books::{
     calls_are_spelled, calls_may_fail, reads_leave_the_books, state_laws,
@@ -137,10 +137,18 @@ fn enter_pages<D: Disk>(
     take_in(&mut parts.ledger, agent, pending);
     let rows = parts.ledger.books.state.rows(agent) as u32;
     parts.ledger.books.state.know_rows_match_tree();
+    let alone = is_alone(&parts.ledger.books.state, &plan.place);
+    let leaving = Leaving {
+        agent,
+        row,
+        ends,
+        alone,
+    };
     let CallParts { last, sizes, .. } = call_parts(call, Reply::Done);
     match store_pages(parts, last, sizes, plan, agent, row, work) {
         Ok(runs) => {
-            leave_row(&mut parts.pages, runs.as_slice(), agent, row, ends, work);
+            let gone = parts.ledger.freed.as_slice();
+            leave_row(&mut parts.pages, gone, runs.as_slice(), leaving, work);
             Acted {
                 reply: Reply::Done,
                 gift: Gift::Nothing,

@@ -1,10 +1,11 @@
 -- A call that makes no row leaves a directory no name more.
-use Rattle.std.proofs.Common.{◌≡◌, ℕ, Bool, true, false, not, cond, List, [], ◌∷◌, Option, Some, None, filter, fold}
-use Rattle.std.proofs.lemmas.Bool.{true≢false}
+use Rattle.std.proofs.Common.{◌≡◌, ℕ, Bool, true, false, not, cond, List, [], ◌∷◌, Option, Some, None, is_some, filter, fold, refl}
+use Rattle.std.proofs.lemmas.Bool.{false≢true, true≢false}
 use Rattle.std.specs.List.{AllByRecursion, cons_option, filter_map}
 use Rattle.std.specs.Ordering.{is_eq}
 use Rattle.opfs_base.specs.Places.{Place, child, child_name, is_within, place_cmp, place_of}
 use Rattle.opfs_base.specs.Texts.{Text}
+use Rattle.opfs_base.specs.declared.locator.Kind.TheVariants as kind
 use Rattle.opfs_hist.specs.declared.op.Mode.{Mode}
 use Rattle.opfs_hist.specs.declared.op.Mode.TheVariants as mode
 use Rattle.opfs_hist.specs.declared.op.Op.{Op}
@@ -15,16 +16,24 @@ use Rattle.opfs_machine.specs.declared.own.HandleOutline.{HandleOutline}
 use Rattle.opfs_machine.specs.declared.own.Own.{Own}
 use Rattle.opfs_machine.specs.declared.own.StreamOutline.{StreamOutline}
 use Rattle.opfs_machine.specs.declared.state.FileRow.{FileRow}
+use Rattle.opfs_machine.specs.declared.state.Row.{Row}
+use Rattle.opfs_machine.specs.declared.state.Row.TheVariants as row
 use Rattle.opfs_machine.specs.declared.state.Sizes.{Sizes}
 use Rattle.opfs_machine.specs.declared.state.State.{State}
 use Rattle.opfs_machine.specs.Agents.{agent_of, own_of, open_handle, open_stream, with_own}
 use Rattle.opfs_machine.specs.Contents.{in_bytes}
-use Rattle.opfs_machine.specs.Effects.{aborts_stream, changes_file, closes_handle, closes_stream, content_of, discards, effect, flushed, flushes, moment_of, opens_stream, persists, refused, replaced, takes_snapshot, undone, unlocked, with_changed, with_lock, with_written}
+use Rattle.opfs_machine.specs.Effects.{aborts_stream, changes_file, closes_handle, closes_stream, content_of, discards, effect, flushed, flushes, made, moment_of, new_row, opens_stream, persists, refused, replaced, takes_snapshot, undone, unlocked, with_changed, with_lock, with_written}
 use Rattle.opfs_machine.specs.Replies.{sizes_of}
-use Rattle.opfs_machine.specs.Rows.{Rows, change_at, changed_row, file_at, with_file}
+use Rattle.opfs_machine.specs.Rows.{Rows, change_at, changed_row, file_at, row_at, with_file, with_row}
 use Rattle.opfs_machine.specs.Rulings.{first_reserve, want_of}
 use Rattle.opfs_machine.specs.Steps.{after_reply, evicted, is_refusal}
 use Rattle.opfs_desk_steps.specs.Iterating.Reached.{may_make}
+
+-- The child that a call asks for, and does not make, is there.
+abbrev pub HasChild : State Text Own → Op → Type 0
+HasChild s (op.GetDirectoryHandle dir name create) = create ≡ false → is_some (row_at s (child (place_of dir) name)) ≡ true
+HasChild s (op.GetFileHandle dir name create) = create ≡ false → is_some (row_at s (child (place_of dir) name)) ≡ true
+HasChild s o = Unit {0}
 
 module _ (dir : Place) (P : Text → Type 0) where
   abbrev AllIn : Rows Text → Type 0
@@ -117,29 +126,36 @@ module _ (dir : Place) (P : Text → Type 0) where
 
   -- ---- a call
 
-  effect-keeps : (s : State Text Own) (z : Sizes) (k : ℕ) (o : Op) → may_make o ≡ false → Keeps s → Keeps (effect in_bytes s z k o)
+  found-keeps : (s : State Text Own) (p : Place) (r : Row Text) → is_some (row_at s p) ≡ true → Keeps s → Keeps (made s p r)
+  found-keeps s p r there all =
+      elim (row_at s p) as (λ o. is_some o ≡ true → Keeps (elim o as (λ x. State Text Own) [ Some old ↦ s | None ↦ with_row s p r ])) [
+        | Some old ↦ λ is. all
+        | None ↦ λ is. absurd (false≢true is)
+      ] there
+
+  effect-keeps : (s : State Text Own) (z : Sizes) (k : ℕ) (o : Op) → may_make o ≡ false → HasChild s o → Keeps s → Keeps (effect in_bytes s z k o)
   unfolding effect
-  effect-keeps s z k (op.GetDirectory bucket) makes all = absurd (true≢false makes)
-  effect-keeps s z k (op.GetDirectoryHandle dir_at name create) makes all = absurd (true≢false makes)
-  effect-keeps s z k (op.GetFileHandle dir_at name create) makes all = absurd (true≢false makes)
-  effect-keeps s z k (op.RemoveEntry dir_at name recursive) makes all = all-without (child (place_of dir_at) name) s.rows all
-  effect-keeps s z k (op.Next n dir_at) makes all = changed-keeps s k n _ all
-  effect-keeps s z k (op.GetFile at) makes all = snapshot-keeps s k (file_at s (place_of at)) all
-  effect-keeps s z k (op.CreateWritable at keep) makes all = stream-keeps s k (place_of at) (first_reserve in_bytes s at keep) keep (file_at s (place_of at)) all
-  effect-keeps s z k (op.Write n bytes position) makes all = changed-keeps s k n _ all
-  effect-keeps s z k (op.Seek n position) makes all = changed-keeps s k n _ all
-  effect-keeps s z k (op.Truncate n size) makes all = changed-keeps s k n _ all
-  effect-keeps s z k (op.Close n) makes all = closes-keeps s z k n (open_stream in_bytes s k n) all
-  effect-keeps s z k (op.Abort n) makes all = aborts-keeps s k n (open_stream in_bytes s k n) all
-  effect-keeps s z k (op.CreateSyncAccessHandle at m) makes all = all-changed (place_of at) (with_lock (want_of m)) s.rows all
-  effect-keeps s z k (op.SyncRead n len at) makes all = changed-keeps s k n _ all
-  effect-keeps s z k (op.SyncWrite n bytes at) makes all = file-keeps s k n _ _ _ (open_handle in_bytes s k n) all
-  effect-keeps s z k (op.SyncTruncate n size) makes all = file-keeps s k n _ _ _ (open_handle in_bytes s k n) all
-  effect-keeps s z k (op.SyncFlush n) makes all = flushes-keeps s z k n (open_handle in_bytes s k n) all
-  effect-keeps s z k (op.SyncClose n) makes all = closed-keeps s k n (open_handle in_bytes s k n) all
-  effect-keeps s z k (op.Persist bucket) makes all = persists-keeps s bucket (agent_of s k).grant (agent_of s k).key all
-  effect-keeps s z k (op.Discard n) makes all = discards-keeps s k n (open_handle in_bytes s k n) all
-  effect-keeps s z k o makes all = all
+  effect-keeps s z k (op.GetDirectory bucket) makes there all = absurd (true≢false makes)
+  effect-keeps s z k (op.GetDirectoryHandle dir_at name create) makes there all = found-keeps s (child (place_of dir_at) name) row.Directory (there makes) all
+  effect-keeps s z k (op.GetFileHandle dir_at name create) makes there all = found-keeps s (child (place_of dir_at) name) (new_row in_bytes kind.File (moment_of s k)) (there makes) all
+  effect-keeps s z k (op.RemoveEntry dir_at name recursive) makes there all = all-without (child (place_of dir_at) name) s.rows all
+  effect-keeps s z k (op.Next n dir_at) makes there all = changed-keeps s k n _ all
+  effect-keeps s z k (op.GetFile at) makes there all = snapshot-keeps s k (file_at s (place_of at)) all
+  effect-keeps s z k (op.CreateWritable at keep) makes there all = stream-keeps s k (place_of at) (first_reserve in_bytes s at keep) keep (file_at s (place_of at)) all
+  effect-keeps s z k (op.Write n bytes position) makes there all = changed-keeps s k n _ all
+  effect-keeps s z k (op.Seek n position) makes there all = changed-keeps s k n _ all
+  effect-keeps s z k (op.Truncate n size) makes there all = changed-keeps s k n _ all
+  effect-keeps s z k (op.Close n) makes there all = closes-keeps s z k n (open_stream in_bytes s k n) all
+  effect-keeps s z k (op.Abort n) makes there all = aborts-keeps s k n (open_stream in_bytes s k n) all
+  effect-keeps s z k (op.CreateSyncAccessHandle at m) makes there all = all-changed (place_of at) (with_lock (want_of m)) s.rows all
+  effect-keeps s z k (op.SyncRead n len at) makes there all = changed-keeps s k n _ all
+  effect-keeps s z k (op.SyncWrite n bytes at) makes there all = file-keeps s k n _ _ _ (open_handle in_bytes s k n) all
+  effect-keeps s z k (op.SyncTruncate n size) makes there all = file-keeps s k n _ _ _ (open_handle in_bytes s k n) all
+  effect-keeps s z k (op.SyncFlush n) makes there all = flushes-keeps s z k n (open_handle in_bytes s k n) all
+  effect-keeps s z k (op.SyncClose n) makes there all = closed-keeps s k n (open_handle in_bytes s k n) all
+  effect-keeps s z k (op.Persist bucket) makes there all = persists-keeps s bucket (agent_of s k).grant (agent_of s k).key all
+  effect-keeps s z k (op.Discard n) makes there all = discards-keeps s k n (open_handle in_bytes s k n) all
+  effect-keeps s z k o makes there all = all
 
   refused-keeps : (s : State Text Own) (k : ℕ) (o : Op) → Keeps s → Keeps (refused s k o)
   refused-keeps s k (op.Await tag) all = all
@@ -150,11 +166,11 @@ module _ (dir : Place) (P : Text → Type 0) where
   gone-keeps (unit ∷ gone) s all = gone-keeps gone (evicted s unit) (all-without (unit, []) s.rows all)
 
   -- After a call that makes no row, and its evictions, a directory's names still have what all had.
-  pub after-keeps : (s : State Text Own) (gone : List Text) (k : ℕ) (o : Op) (told : Reply) → may_make o ≡ false → Keeps s → Keeps (after_reply (fold evicted s gone) k o told)
-  after-keeps s gone k o told makes all =
+  pub after-keeps : (s : State Text Own) (gone : List Text) (k : ℕ) (o : Op) (told : Reply) → may_make o ≡ false → (is_refusal told ≡ false → HasChild (fold evicted s gone) o) → Keeps s → Keeps (after_reply (fold evicted s gone) k o told)
+  after-keeps s gone k o told makes there all =
       let t = fold evicted s gone in
       let here = gone-keeps gone s all in
-      elim (is_refusal told) as (λ b. Keeps (elim b as (λ x. State Text Own) [ true ↦ refused t k o | false ↦ effect in_bytes t (sizes_of t k o) k o ])) [
-        | true ↦ refused-keeps t k o here
-        | false ↦ effect-keeps t (sizes_of t k o) k o makes here
-      ]
+      elim (is_refusal told) as (λ b. (b ≡ false → HasChild t o) → Keeps (elim b as (λ x. State Text Own) [ true ↦ refused t k o | false ↦ effect in_bytes t (sizes_of t k o) k o ])) [
+        | true ↦ λ has. refused-keeps t k o here
+        | false ↦ λ has. effect-keeps t (sizes_of t k o) k o makes (has refl) here
+      ] there

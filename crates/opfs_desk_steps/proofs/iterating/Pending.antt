@@ -12,6 +12,7 @@ use Rattle.opfs_hist.specs.declared.reply.Reply.{Reply}
 use Rattle.opfs_laws.specs.Histories.Opened.{added}
 use Rattle.opfs_laws.specs.Histories.Unread.{ArePendingFor}
 use Rattle.opfs_laws.proofs.Going.{call-after, not_evict}
+use Rattle.opfs_laws.proofs.histories.Reading.{refuses-same}
 use Rattle.opfs_machine.specs.declared.own.Own.{Own}
 use Rattle.opfs_machine.specs.declared.own.Own.TheVariants as own
 use Rattle.opfs_machine.specs.declared.state.State.{State}
@@ -20,11 +21,13 @@ use Rattle.opfs_machine.specs.Histories.{after_entry, after_op, evicted_by, stat
 use Rattle.opfs_machine.specs.Openings.{Opening, begun}
 use Rattle.opfs_machine.specs.OwnRows.{is_local}
 use Rattle.opfs_machine.specs.Runs.{Call, eviction}
-use Rattle.opfs_machine.specs.Steps.{after_reply, evicted}
+use Rattle.opfs_machine.specs.Steps.{after_reply, evicted, is_refusal}
 use Rattle.opfs_work.specs.Works.{WorkingCopy}
 use Rattle.opfs_desk_steps.specs.Iterating.GoingOn.{IsWithout}
 use Rattle.opfs_desk_steps.specs.Iterating.Known.{AreReached, Lasts}
 use Rattle.opfs_desk_steps.specs.Iterating.Reached.{HasReached, asked_row, may_make}
+use Rattle.opfs_desk_steps.proofs.iterating.Children.{child-there}
+use Rattle.opfs_desk_steps.proofs.iterating.Fewer.{HasChild}
 use Rattle.opfs_desk_steps.proofs.iterating.Staying.{reached-stays}
 
 -- A local call makes no row, asks no iterator, and is no eviction.
@@ -32,6 +35,7 @@ record IsBeside (o : Op) : Type 0 where
   makes : may_make o ≡ false
   asks : asked_row o ≡ 0
   clears : evicted_by o ≡ None
+  there : (t : State Text Own) → HasChild t o
 
 local-beside : (s : State Text Own) (k : ℕ) (o : Op) → is_local s k o ≡ true → IsBeside o
 unfolding is_local
@@ -40,7 +44,7 @@ local-beside s k (op.GetDirectoryHandle dir name create) h = absurd (false≢tru
 local-beside s k (op.GetFileHandle dir name create) h = absurd (false≢true h)
 local-beside s k (op.Next n dir) h = absurd (false≢true h)
 local-beside s k (op.Evict unit) h = absurd (false≢true h)
-local-beside s k o h = record { makes = refl; asks = refl; clears = refl }
+local-beside s k o h = record { makes = refl; asks = refl; clears = refl; there = λ t. tt }
 
 row-there : (s : State Text Own) (k n : ℕ) (last : Text) → HasReached s k n last → n ≢ 0
 row-there s k n last has same = none (sym (ap (λ (j : ℕ). own_of (agent_of s k) j) same) ∙ has.there)
@@ -54,7 +58,7 @@ pending-stays tells s j (e ∷ calls) k n last pending has =
     let first = pending.0 in
     let beside = local-beside s e.agent e.op first.local in
     let here : HasReached (after_reply s e.agent e.op e.reply) k n last =
-    reached-stays s [] e first.live first.fitting k n last beside.makes (λ mine same. row-there s k n last has (sym same ∙ beside.asks)) has in
+    reached-stays s [] e first.live first.fitting k n last beside.makes (λ accepted. beside.there s) (λ mine same. row-there s k n last has (sym same ∙ beside.asks)) has in
     pending-stays tells (after_entry s e) j calls k n last pending.1 (subst (λ (o : Option Text). HasReached (after_op s e o) k n last) (sym beside.clears) here)
 
 -- The state before a call, its agent's pending calls done.
@@ -79,6 +83,10 @@ acted-stays tells o h calls new c work past answered lasts may acted makes witho
     let s = state_after o (h ++ calls) in
     let e = told_entry c answered in
     let before = pending-known tells o h calls c.agent k n last may.pending (known k n last is) in
-    let after = reached-stays s acted.gone e may.live may.fitting k n last makes (λ mine same. without k n last is (sym mine, sym same)) before in
+    let real = acted.call.real in
+    let op_is : real.op ≡ c.op = ap (λ (x : Entry). x.op) (sym acted.call.alike) in
+    let reply_is : is_refusal real.reply ≡ is_refusal answered = sym (refuses-same real.reply) ∙ ap (λ (x : Entry). is_refusal x.reply) (sym acted.call.alike) ∙ refuses-same answered in
+    let there : is_refusal answered ≡ false → HasChild (fold evicted s acted.gone) c.op = λ accepted. subst (HasChild (fold evicted s acted.gone)) op_is (child-there s acted.gone real acted.call.call (reply_is ∙ accepted)) in
+    let after = reached-stays s acted.gone e may.live may.fitting k n last makes there (λ mine same. without k n last is (sym mine, sym same)) before in
     subst (λ (xs : List Entry). HasReached (state_after o xs) k n last) (sym acted.grown)
     (subst (λ (t : State Text Own). HasReached t k n last) (sym (acted-state o h calls acted.gone e (not_evict s c.agent c.op may.fitting))) after)

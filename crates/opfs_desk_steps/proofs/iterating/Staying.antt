@@ -15,14 +15,14 @@ use Rattle.opfs_machine.specs.declared.own.IteratorRow.{IteratorRow}
 use Rattle.opfs_machine.specs.declared.state.State.{State}
 use Rattle.opfs_machine.specs.Agents.{agent_of, own_of}
 use Rattle.opfs_machine.specs.Histories.{is_handle, is_open_handle, is_stream, may_enter}
-use Rattle.opfs_machine.specs.Steps.{after_reply, changed_by, evicted}
+use Rattle.opfs_machine.specs.Steps.{after_reply, changed_by, evicted, is_refusal}
 use Rattle.opfs_laws.specs.Leaving.{row_used}
 use Rattle.opfs_laws.proofs.Acting.{acts-other, changed-acts}
 use Rattle.opfs_laws.proofs.Allowed.{agent-stays}
 use Rattle.opfs_laws.proofs.Moved.{call-moves}
 use Rattle.opfs_laws.proofs.Numbers.{number-of}
 use Rattle.opfs_desk_steps.specs.Iterating.Reached.{HasReached, asked_row, may_make}
-use Rattle.opfs_desk_steps.proofs.iterating.Fewer.{after-keeps}
+use Rattle.opfs_desk_steps.proofs.iterating.Fewer.{HasChild, after-keeps}
 
 -- A call that needs another kind of row uses another row.
 module _ (s : State Text Own) (k n : ℕ) (i : IteratorRow) (there : own_of (agent_of s k) n ≡ Some (own.Iterator i)) where
@@ -80,11 +80,11 @@ module _ (s : State Text Own) (gone : List Text) (e : Entry) (live : IsTrue (age
         | false ↦ λ is. ap (λ a. own_of a n) (other-agent k (λ same. eqb-false e.agent k is (sym same))) ∙ there
       ] refl
 
-  pub reached-stays : (k n : ℕ) (last : Text) → may_make e.op ≡ false → (e.agent ≡ k → asked_row e.op ≢ n) → HasReached s k n last → HasReached after k n last
-  reached-stays k n last makes beside has = record {
+  pub reached-stays : (k n : ℕ) (last : Text) → may_make e.op ≡ false → (is_refusal e.reply ≡ false → HasChild t e.op) → (e.agent ≡ k → asked_row e.op ≢ n) → HasReached s k n last → HasReached after k n last
+  reached-stays k n last makes there beside has = record {
     dir = has.dir;
     given = has.given;
     there = row-stays k n (record { dir = has.dir; given = has.given }) has.there beside;
     up_to =
-        after-keeps (place_of has.dir) (λ name. list_any (same_text name) has.given ≡ not (is_lt (slice_cmp nat_cmp last name))) s gone e.agent e.op e.reply makes has.up_to;
+        after-keeps (place_of has.dir) (λ name. list_any (same_text name) has.given ≡ not (is_lt (slice_cmp nat_cmp last name))) s gone e.agent e.op e.reply makes there has.up_to;
   }

@@ -19,7 +19,7 @@ use Rattle.opfs_machine.specs.Steps.{is_refusal}
 use Rattle.opfs_outside.specs.Faults.{Rose}
 use Rattle.opfs_outside.specs.declared.disk.Disk.{Ghosts as DiskWords}
 use Rattle.opfs_records.specs.Replay.Built.{Built}
-use Rattle.opfs_state_rows.specs.Changes.Changed.{tree_by}
+use Rattle.opfs_state_rows.specs.Changes.Changed.{freed_in, tree_by}
 use Rattle.opfs_desk_steps.specs.Parts.Answered.{IsAnswered, MayAnswer}
 use Rattle.opfs_desk_steps.specs.Parts.Held.{AreHeldAt, AreHeldWhole}
 use Rattle.opfs_desk_steps.specs.Parts.Seen.{machine_in, tree_in, book_in}
@@ -46,7 +46,7 @@ pub record IsCommittedOver {D : Type 0} (w : DiskWords D) (f : Fixed D) (recorde
   pub stores : MayStore f (book_in l) own
   pub bytes : BytesStand w f base gone l.journal e own
 
--- It was committed and entered: nothing is kept back, and no gate is in doubt. The pages are the caller's.
+-- It was committed and entered, and what it let go is told: nothing is kept back, and no gate is in doubt. The pages are the caller's.
 pub record HasCommitted {D : Type 0} (w : DiskWords D) (old new : Ledger D) (e : Entry) (z : Sizes) (extents : Option (List Extent)) (own : Spelled) : Type 0 where
   pub entries : new.books.history ≡ old.books.history ++ e ∷ []
   pub machine : machine_in new ≡ counted (effect in_lengths (machine_in old) z e.agent e.op) e.agent
@@ -54,6 +54,7 @@ pub record HasCommitted {D : Type 0} (w : DiskWords D) (old new : Ledger D) (e :
   pub idle : new.books.state.store.prepared.place ≡ None
   pub none : new.books.commits.count ≡ 0
   pub sure : new.journal.in_doubt ≡ false
+  pub freed : new.freed.items ≡ freed_in (machine_in old) (tree_in old) e.agent e.op extents
   pub books : (f : Fixed D) (recorded : Built) (base : State Text Own) (gone : List Text) (p : OpenPages) → IsCommittedOver w f recorded base gone old p e z own → AreBooks w f (book_in new).rows (book_in new) new.journal
 
 -- The disk failed: the call is entered so, and the parts are kept.

@@ -30,8 +30,8 @@ asked_row o = 0
 -- Whether a call may make a row.
 abbrev pub may_make : Op → Bool
 may_make (op.GetDirectory bucket) = true
-may_make (op.GetDirectoryHandle dir name create) = true
-may_make (op.GetFileHandle dir name create) = true
+may_make (op.GetDirectoryHandle dir name create) = create
+may_make (op.GetFileHandle dir name create) = create
 may_make o = false
 
 -- The name, if one is known, up to which a next's iterator has given all that its directory has now.

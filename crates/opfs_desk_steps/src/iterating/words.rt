@@ -20,7 +20,9 @@ pub fn may_make(op: &Op) -> bool
     ensures { result ≡ may_make op.now }
 {
     match op {
-        Op::GetDirectory { .. } | Op::GetDirectoryHandle { .. } | Op::GetFileHandle { .. } => true,
+        Op::GetDirectory { .. } => true,
+        Op::GetDirectoryHandle { create, .. } => *create,
+        Op::GetFileHandle { create, .. } => *create,
         _ => false,
     }
 }

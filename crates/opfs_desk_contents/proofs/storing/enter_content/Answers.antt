@@ -56,6 +56,7 @@ returns-in-Ok-clause-stored g c f recorded base gone p row are answered there ho
       machine = done.machine;
       tree = done.tree;
       idle = done.idle;
+      freed = done.freed;
       books = done.books f recorded base gone p over;
       tied = c.in-Ok.ensures.tied f p are.tied;
       leaves = leaves;

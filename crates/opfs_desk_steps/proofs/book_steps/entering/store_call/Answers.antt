@@ -1,4 +1,4 @@
-use Rattle.std.proofs.Common.{rules, ◌++◌, length, refl, ap, arith}
+use Rattle.std.proofs.Common.{rules, ◌++◌, ◌∙◌, length, refl, ap, arith}
 use Rattle.opfs_books.specs.Laws.Laws.{failed}
 use Rattle.opfs_state_rows.specs.Changes.Changed.{freed_in}
 use Rattle.opfs_desk_steps.specs.Parts.Seen.{machine_in, tree_in, book_in}
@@ -41,6 +41,7 @@ returns-in-Ok-clause-committed g c =
       idle = done.idle;
       none = done.none;
       sure = done.sure;
+      freed = done.freed ∙ ap (λ xs. xs ++ freed_in (machine_in c.args.ledger.now) (tree_in c.args.ledger.now) c.args.entering.last.entry.agent c.args.entering.last.entry.op c.args.entering.extents) c.clear.ensures.items;
       books = λ f recorded base gone p over. done.books f recorded base gone over.are.books over.answered.next over.answered.sizes over.stores over.bytes;
     }
 
