@@ -1,6 +1,6 @@
 //! Transcripts and status lines.
 //!
-//! It stands on `opfs_hist`; on it stand `opfs_script_run` and `opfs_tools`.
+//! It stands on `opfs_hist`; on it stand `opfs_script_run`, `opfs_telling` and `opfs_tools`.
 #![tactic(auto)]
 
 pub mod end;

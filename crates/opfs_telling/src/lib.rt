@@ -1,4 +1,6 @@
 //! A store whose history is told to a sink while it grows, so that what was told is let go.
+//!
+//! It stands on `opfs_print` and `opfs_store`.
 #![tactic(auto)]
 
 mod output;
