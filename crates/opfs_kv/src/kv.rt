@@ -181,6 +181,7 @@ impl Kv {
         ensures serves { Serves S.tells agent.old agent.new self.old self.new 4 (map_in agent.old self.old) }
         ensures others { LeavesRest S.tells agent.old agent.new self.old.handle.row }
         ensures packed { OnOk result (S.tells → file_bytes agent.new self.new.handle ≡ log_of (map put_of (map_in agent.old self.old))) }
+        ensures whole { OnOk result (self.new.tail ≡ false) }
         ensures cause { IfErr result (HasPlainCause agent.old agent.new (IsCutOr self.old (IsRepack S.tells self.old (map_in agent.old self.old)))) }
     {
         compacting::compact_file(rt, court, agent, &mut self.handle, &mut self.notes)
