@@ -100,6 +100,7 @@ fn write_put<S: Store, R: Wait>(
     requires fits { notes.old.live + (6 + length key.now + length value.now) ≤ 16777216 }
     requires bytes { bytes.now ≡ spelled_by key.now (Some value.now) }
     ensures put { OnOk result (Serves S.tells agent.old agent.new (seen handle.old notes.old) (seen handle.new notes.new) 1 (with_key (map_in agent.old (seen handle.old notes.old)) key.now value.now)) }
+    ensures live { OnOk result (notes.new.live ≡ notes.old.live + (6 + length key.now + length value.now)) }
     ensures left { OnErr result (Serves S.tells agent.old agent.new (seen handle.old notes.old) (seen handle.new notes.new) 1 (map_in agent.old (seen handle.old notes.old))) }
     ensures cause { IfErr result (IsCaused agent.old agent.new (IsAppend (seen handle.old notes.old) (spelled_by key.now (Some value.now)))) }
 {
@@ -130,6 +131,7 @@ fn write_gone<S: Store, R: Wait>(
     requires fits { notes.old.live + (2 + length key.now) ≤ 16777216 }
     requires bytes { bytes.now ≡ spelled_by key.now None }
     ensures gone { OnOk result (Serves S.tells agent.old agent.new (seen handle.old notes.old) (seen handle.new notes.new) 1 (without_key (map_in agent.old (seen handle.old notes.old)) key.now)) }
+    ensures live { OnOk result (notes.new.live ≡ notes.old.live + (2 + length key.now)) }
     ensures left { OnErr result (Serves S.tells agent.old agent.new (seen handle.old notes.old) (seen handle.new notes.new) 1 (map_in agent.old (seen handle.old notes.old))) }
     ensures cause { IfErr result (IsCaused agent.old agent.new (IsAppend (seen handle.old notes.old) (spelled_by key.now None))) }
 {
@@ -162,6 +164,7 @@ fn cut_put<S: Store, R: Wait>(
     requires fits { notes.old.live + (6 + length key.now + length value.now) ≤ 16777216 }
     requires bytes { bytes.now ≡ spelled_by key.now (Some value.now) }
     ensures put { OnOk result (Serves S.tells agent.old agent.new (seen handle.old notes.old) (seen handle.new notes.new) 2 (with_key (map_in agent.old (seen handle.old notes.old)) key.now value.now)) }
+    ensures live { OnOk result (notes.new.live ≡ notes.old.live + (6 + length key.now + length value.now)) }
     ensures left { OnErr result (Serves S.tells agent.old agent.new (seen handle.old notes.old) (seen handle.new notes.new) 2 (map_in agent.old (seen handle.old notes.old))) }
     ensures cause { IfErr result (IsCaused agent.old agent.new (IsCutOr (seen handle.old notes.old) (IsAppend (seen handle.old notes.old) (spelled_by key.now (Some value.now))))) }
 {
@@ -188,6 +191,7 @@ fn put_in<S: Store, R: Wait>(
     requires value { IsValue value.now }
     requires fits { notes.old.live + (6 + length key.now + length value.now) ≤ 16777216 }
     ensures put { OnOk result (Serves S.tells agent.old agent.new (seen handle.old notes.old) (seen handle.new notes.new) 2 (with_key (map_in agent.old (seen handle.old notes.old)) key.now value.now)) }
+    ensures live { OnOk result (notes.new.live ≡ notes.old.live + (6 + length key.now + length value.now)) }
     ensures left { OnErr result (Serves S.tells agent.old agent.new (seen handle.old notes.old) (seen handle.new notes.new) 2 (map_in agent.old (seen handle.old notes.old))) }
     ensures cause { IfErr result (IsCaused agent.old agent.new (IsCutOr (seen handle.old notes.old) (IsAppend (seen handle.old notes.old) (spelled_by key.now (Some value.now))))) }
 {
@@ -214,6 +218,7 @@ fn cut_gone<S: Store, R: Wait>(
     requires fits { notes.old.live + (2 + length key.now) ≤ 16777216 }
     requires bytes { bytes.now ≡ spelled_by key.now None }
     ensures gone { OnOk result (Serves S.tells agent.old agent.new (seen handle.old notes.old) (seen handle.new notes.new) 2 (without_key (map_in agent.old (seen handle.old notes.old)) key.now)) }
+    ensures live { OnOk result (notes.new.live ≡ notes.old.live + (2 + length key.now)) }
     ensures left { OnErr result (Serves S.tells agent.old agent.new (seen handle.old notes.old) (seen handle.new notes.new) 2 (map_in agent.old (seen handle.old notes.old))) }
     ensures cause { IfErr result (IsCaused agent.old agent.new (IsCutOr (seen handle.old notes.old) (IsAppend (seen handle.old notes.old) (spelled_by key.now None)))) }
 {
@@ -238,6 +243,7 @@ fn take_in<S: Store, R: Wait>(
     requires key { IsKey key.now }
     requires fits { notes.old.live + (2 + length key.now) ≤ 16777216 }
     ensures gone { OnOk result (Serves S.tells agent.old agent.new (seen handle.old notes.old) (seen handle.new notes.new) 2 (without_key (map_in agent.old (seen handle.old notes.old)) key.now)) }
+    ensures live { OnOk result (notes.new.live ≡ notes.old.live + (2 + length key.now)) }
     ensures left { OnErr result (Serves S.tells agent.old agent.new (seen handle.old notes.old) (seen handle.new notes.new) 2 (map_in agent.old (seen handle.old notes.old))) }
     ensures cause { IfErr result (IsCaused agent.old agent.new (IsCutOr (seen handle.old notes.old) (IsAppend (seen handle.old notes.old) (spelled_by key.now None)))) }
 {
@@ -263,6 +269,7 @@ pub fn put<S: Store, R: Wait>(
     requires key { IsKey key.now }
     requires value { IsValue value.now }
     ensures put { OnOk result (Serves S.tells agent.old agent.new (seen handle.old notes.old) (seen handle.new notes.new) 2 (with_key (map_in agent.old (seen handle.old notes.old)) key.now value.now)) }
+    ensures live { OnOk result (notes.new.live ≡ notes.old.live + (6 + length key.now + length value.now)) }
     ensures left { OnErr result (Serves S.tells agent.old agent.new (seen handle.old notes.old) (seen handle.new notes.new) 2 (map_in agent.old (seen handle.old notes.old))) }
     ensures full { 16777216 < notes.old.live + (6 + length key.now + length value.now) → result ≡ Err (kv_stop.Full notes.old.live (6 + length key.now + length value.now)) }
     ensures cause { IfErr result (HasCause agent.old agent.new (IsCutOr (seen handle.old notes.old) (IsAppend (seen handle.old notes.old) (spelled_by key.now (Some value.now)))) notes.old.live (6 + length key.now + length value.now)) }
@@ -292,6 +299,7 @@ fn take_out<S: Store, R: Wait>(
     requires key { IsKey key.now }
     ensures was { IfOk result (λ was. was ≡ true) }
     ensures gone { OnOk result (Serves S.tells agent.old agent.new (seen handle.old notes.old) (seen handle.new notes.new) 2 (without_key (map_in agent.old (seen handle.old notes.old)) key.now)) }
+    ensures live { OnOk result (notes.new.live ≡ notes.old.live + (2 + length key.now)) }
     ensures left { OnErr result (Serves S.tells agent.old agent.new (seen handle.old notes.old) (seen handle.new notes.new) 2 (map_in agent.old (seen handle.old notes.old))) }
     ensures full { 16777216 < notes.old.live + (2 + length key.now) → result ≡ Err (kv_stop.Full notes.old.live (2 + length key.now)) }
     ensures cause { IfErr result (HasCause agent.old agent.new (IsCutOr (seen handle.old notes.old) (IsAppend (seen handle.old notes.old) (spelled_by key.now None))) notes.old.live (2 + length key.now)) }
@@ -321,6 +329,7 @@ pub fn delete<S: Store, R: Wait>(
     requires key { IsKey key.now }
     ensures was { IfOk result (λ was. was ≡ is_some (found (map_in agent.old (seen handle.old notes.old)) key.now)) }
     ensures gone { OnOk result (Serves S.tells agent.old agent.new (seen handle.old notes.old) (seen handle.new notes.new) 2 (without_key (map_in agent.old (seen handle.old notes.old)) key.now)) }
+    ensures live { OnOk result (found notes.old.index key.now ≢ None → notes.new.live ≡ notes.old.live + (2 + length key.now)) }
     ensures left { OnErr result (Serves S.tells agent.old agent.new (seen handle.old notes.old) (seen handle.new notes.new) 2 (map_in agent.old (seen handle.old notes.old))) }
     ensures none { found notes.old.index key.now ≡ None → (result ≡ Ok false) × (agent.new ≡ agent.old) }
     ensures full { found notes.old.index key.now ≢ None → 16777216 < notes.old.live + (2 + length key.now) → result ≡ Err (kv_stop.Full notes.old.live (2 + length key.now)) }

@@ -153,6 +153,7 @@ fn pack_in<S: Store, R: Wait>(
     requires none { notes.old.tail ≡ false }
     ensures serves { Serves S.tells agent.old agent.new (seen handle.old notes.old) (seen handle.new notes.new) 3 (map_in agent.old (seen handle.old notes.old)) }
     ensures packed { OnOk result (S.tells → file_bytes agent.new handle.new ≡ log_of (map put_of (map_in agent.old (seen handle.old notes.old)))) }
+    ensures whole { OnOk result (notes.new.tail ≡ false) }
     ensures cause { IfErr result (IsCaused agent.old agent.new (IsRepack S.tells (seen handle.old notes.old) (map_in agent.old (seen handle.old notes.old)))) }
 {
     match rewrite(rt, court, agent, handle, notes) {
@@ -174,6 +175,7 @@ fn compact<S: Store, R: Wait>(
     requires stands { Stands S.tells agent.old (seen handle.old notes.old) }
     ensures serves { Serves S.tells agent.old agent.new (seen handle.old notes.old) (seen handle.new notes.new) 4 (map_in agent.old (seen handle.old notes.old)) }
     ensures packed { OnOk result (S.tells → file_bytes agent.new handle.new ≡ log_of (map put_of (map_in agent.old (seen handle.old notes.old)))) }
+    ensures whole { OnOk result (notes.new.tail ≡ false) }
     ensures cause { IfErr result (IsCaused agent.old agent.new (IsCutOr (seen handle.old notes.old) (IsRepack S.tells (seen handle.old notes.old) (map_in agent.old (seen handle.old notes.old))))) }
 {
     match cut(rt, court, agent, handle, notes) {
@@ -195,6 +197,7 @@ pub fn compact_file<S: Store, R: Wait>(
     requires stands { Stands S.tells agent.old (seen handle.old notes.old) }
     ensures serves { Serves S.tells agent.old agent.new (seen handle.old notes.old) (seen handle.new notes.new) 4 (map_in agent.old (seen handle.old notes.old)) }
     ensures packed { OnOk result (S.tells → file_bytes agent.new handle.new ≡ log_of (map put_of (map_in agent.old (seen handle.old notes.old)))) }
+    ensures whole { OnOk result (notes.new.tail ≡ false) }
     ensures cause { IfErr result (HasPlainCause agent.old agent.new (IsCutOr (seen handle.old notes.old) (IsRepack S.tells (seen handle.old notes.old) (map_in agent.old (seen handle.old notes.old))))) }
 {
     match compact(rt, court, agent, handle, notes) {

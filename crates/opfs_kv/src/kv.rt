@@ -111,6 +111,7 @@ impl Kv {
         requires key { IsKey key.now }
         requires value { IsValue value.now }
         ensures put { OnOk result (Serves S.tells agent.old agent.new self.old self.new 2 (with_key (map_in agent.old self.old) key.now value.now)) }
+        ensures live { OnOk result (self.new.live ≡ self.old.live + (6 + length key.now + length value.now)) }
         ensures left { OnErr result (Serves S.tells agent.old agent.new self.old self.new 2 (map_in agent.old self.old)) }
         ensures others { LeavesRest S.tells agent.old agent.new self.old.handle.row }
         ensures full { 16777216 < self.old.live + (6 + length key.now + length value.now) → result ≡ Err (kv_stop.Full self.old.live (6 + length key.now + length value.now)) }
@@ -141,6 +142,7 @@ impl Kv {
         requires key { IsKey key.now }
         ensures was { IfOk result (λ was. was ≡ is_some (found (map_in agent.old self.old) key.now)) }
         ensures gone { OnOk result (Serves S.tells agent.old agent.new self.old self.new 2 (without_key (map_in agent.old self.old) key.now)) }
+        ensures live { OnOk result (found self.old.index key.now ≢ None → self.new.live ≡ self.old.live + (2 + length key.now)) }
         ensures left { OnErr result (Serves S.tells agent.old agent.new self.old self.new 2 (map_in agent.old self.old)) }
         ensures others { LeavesRest S.tells agent.old agent.new self.old.handle.row }
         ensures none { found self.old.index key.now ≡ None → (result ≡ Ok false) × (agent.new ≡ agent.old) }
@@ -181,6 +183,7 @@ impl Kv {
         ensures serves { Serves S.tells agent.old agent.new self.old self.new 4 (map_in agent.old self.old) }
         ensures others { LeavesRest S.tells agent.old agent.new self.old.handle.row }
         ensures packed { OnOk result (S.tells → file_bytes agent.new self.new.handle ≡ log_of (map put_of (map_in agent.old self.old))) }
+        ensures whole { OnOk result (self.new.tail ≡ false) }
         ensures cause { IfErr result (HasPlainCause agent.old agent.new (IsCutOr self.old (IsRepack S.tells self.old (map_in agent.old self.old)))) }
     {
         compacting::compact_file(rt, court, agent, &mut self.handle, &mut self.notes)

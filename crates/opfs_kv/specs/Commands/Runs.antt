@@ -81,6 +81,12 @@ LacksRoom kv (op.Put key value) = 16777216 < kv.live + (6 + length key + length 
 LacksRoom kv (op.Delete key) = (found kv.index key ≢ None) × (16777216 < kv.live + (2 + length key))
 LacksRoom kv called = ⊥
 
+-- A put that is done, and a delete of a key that is there, make the live bytes longer by their record.
+abbrev pub GrowsLive : KvSeen → KvSeen → KvOp → KvReply → Type 0
+GrowsLive old new (op.Put key value) kv_reply.Done = new.live ≡ old.live + (6 + length key + length value)
+GrowsLive old new (op.Delete key) (kv_reply.Was was) = found old.index key ≢ None → new.live ≡ old.live + (2 + length key)
+GrowsLive old new called answered = Unit {0}
+
 -- The calls of the agent that a command makes.
 abbrev pub IsAsked : {O : Type 0} → Type 0 → AgentSeen O → KvSeen → KvOp → Op → Type 0
 IsAsked tells before kv (op.Get key) = IsGet kv.handle.row (found kv.index key)
@@ -121,6 +127,7 @@ pub record IsRun {O : Type 0} (tells : Type 0) (before after : AgentSeen O) (old
   pub texts : List Text
   pub stored : stored_in after new ≡ stored_in before old ++ texts
   pub are : tells → AreStoredBy (stores called answered) (after_op (map_in before old) called answered) texts (λ rest. rest ≡ [])
+  pub live : GrowsLive old new called answered
   pub full : LacksRoom old called → answered ≡ kv_reply.No (kv_stop.Full old.live (need_of called))
   pub cause : IsCausedReply tells before after old called answered
   pub doubts : tells → DoubtsSpell before after old (map_in before old)
