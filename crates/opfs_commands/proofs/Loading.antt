@@ -1,6 +1,6 @@
 -- A text that is read, and an image that is made from it.
 use Rattle.std.proofs.Common.{◌≡◌, ◌⊎◌, ℕ, ◌-◌, ◌^◌, ◌<◌, ◌≤◌, Bool, true, false, List, length, inl, inr, refl, sym, ap, subst, ◌∙◌, arith}
-use Rattle.std.specs.Prelude.{nat_lt, Option, Some, Result, Ok, Err, IfOk, IfErr, if◌then◌else◌}
+use Rattle.std.specs.Prelude.{nat_lt, Option, Some, Result, Ok, Err, IfOk, IfErr, IsErrOf, IsOk, OnOk, if◌then◌else◌}
 use Rattle.std.proofs.lemmas.Bool.{false≢true}
 use Rattle.std.proofs.lemmas.List.{take_all}
 use Rattle.std.proofs.lemmas.Result.{IfOk-weaker}
@@ -11,6 +11,8 @@ use Rattle.opfs_dump.specs.Text.Reading.{Dump, Read, if_json, most_bytes, reads_
 use Rattle.opfs_dump.specs.Text.Texts.{refused_line}
 use Rattle.opfs_dump.specs.Text.Whole.{dump_of}
 use Rattle.opfs_dump.specs.declared.text.dumped.Dumped.{Dumped}
+use Rattle.opfs_dump.specs.declared.loading.stop.LayStop.{LayStop}
+use Rattle.opfs_dump.specs.declared.loading.stop.LayStop.TheVariants as lay_stop
 use Rattle.opfs_dump.specs.declared.text.refusal.DumpRefusal.TheVariants as refusal
 use Rattle.opfs_outside.specs.Bytes.{window}
 use Rattle.opfs_outside.specs.Windows.{window_is}
@@ -150,3 +152,13 @@ pub failed_told : (tells : Type 0) (Done Refused : Text → Type 0) (Cause Fault
     → IfErr r (λ x. Fault × IfOk x (λ a. (a.end ≡ tool_end.Host) × (a.text ≡ status_text end.Host))) → IfErr r (λ x. IfOk x (λ a. IsAnswer tells Done Refused Cause a.end a.text))
 failed_told tells Done Refused Cause Fault (Ok d) to is = tt
 failed_told tells Done Refused Cause Fault (Err x) to is = host_answered tells Done Refused Cause x (to is.0) is.1
+
+-- how an image was made, over the disk
+pub laid_told : (dtells : Type 0) (Done : Text → Type 0) (Cause : Type 0) (line : Text) (laid : Result (Unit {0}) LayStop) (r : Result ToolAnswer AllocError) → OnOk laid (dtells → Done line) → (IsErrOf laid lay_stop.DiskFault → Cause)
+    → (IsOk laid → IfOk r (λ a. (a.end ≡ tool_end.Done) × (a.text ≡ line))) → (IsErrOf laid lay_stop.DiskFault → IfOk r (λ a. (a.end ≡ tool_end.Host) × (a.text ≡ status_text end.Host))) → (IsErrOf laid lay_stop.NoMemory → IfOk r (λ a. ⊥))
+    → IfOk r (λ a. IsAnswer dtells Done (λ t. ⊥) Cause a.end a.text)
+laid_told dtells Done Cause line (Ok u) r stands cause done fault memory =
+    IfOk-weaker r _ _ (λ a e. subst (λ x. IsAnswer dtells Done (λ t. ⊥) Cause x a.text) (sym e.0) (λ told. subst Done (sym e.1) (stands told))) (done refl)
+laid_told dtells Done Cause line (Err lay_stop.DiskFault) r stands cause done fault memory =
+    IfOk-weaker r _ _ (λ a e. subst (λ x. IsAnswer dtells Done (λ t. ⊥) Cause x a.text) (sym e.0) (cause refl, e.1)) (fault refl)
+laid_told dtells Done Cause line (Err lay_stop.NoMemory) r stands cause done fault memory = IfOk-weaker r _ _ (λ a never. absurd never) (memory refl)

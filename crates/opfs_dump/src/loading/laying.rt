@@ -1,6 +1,6 @@
 //! An image that stands for what was read.
 
-ghost use Rattle.std.specs.Prelude.{◌≡◌, ◌+◌, ◌*◌, ◌^◌, ◌<◌, ◌≤◌, ◌∷◌, [], true, false, length, map, Some, Ok, IfOk, OnOk, OnErr, IsErrOf};
+ghost use Rattle.std.specs.Prelude.{◌≡◌, ◌⊎◌, ◌+◌, ◌*◌, ◌^◌, ◌<◌, ◌≤◌, ◌∷◌, [], true, false, length, map, Some, Ok, IfOk, OnOk, OnErr, IsErrOf};
 ghost use Rattle.opfs_base.specs.Blocks.{blocks};
 ghost use Rattle.opfs_codec.specs.declared.change.Format.TheVariants.{New};
 ghost use Rattle.opfs_dump.specs.Text.Limits.{blocks_needed, charge_of_map, stored_blocks};
@@ -99,8 +99,9 @@ fn store_rows<D: Disk>(
 }
 
 // Puts one record in the place of all.
-fn put_record<D: Disk>(journal: &mut Journal<D>, body: &[u8]) -> Result<(), LayStop>
+fn put_record<D: Disk>(journal: &mut Journal<D>, body: &[u8]) -> Result<(), DiskFault>
     requires settled { journal.old.in_doubt ≡ false }
+    requires spare { length body.now ≤ journal.old.spare }
     requires fits { length body.now + 7 ≤ journal.old.areas.bytes }
     ensures areas { journal.new.areas ≡ journal.old.areas }
     ensures length { D.size journal.new.disk ≡ D.size journal.old.disk }
@@ -108,15 +109,12 @@ fn put_record<D: Disk>(journal: &mut Journal<D>, body: &[u8]) -> Result<(), LayS
     ensures sure { OnOk result (journal.new.in_doubt ≡ false) }
     ensures outside { D.tells → Same (Outside journal.old.areas) (D.content journal.new.disk) (D.content journal.old.disk) }
     ensures later { D.faults journal.old.disk ≤ D.faults journal.new.disk }
-    ensures cause { IsErrOf result LayStop.DiskFault → Rose (D.faults journal.old.disk) (D.faults journal.new.disk) }
+    ensures cause { OnErr result (Rose (D.faults journal.old.disk) (D.faults journal.new.disk)) }
 {
-    if journal.reserve(body.len() as u64).is_err() {
-        return Err(LayStop::NoMemory);
-    }
     match journal.checkpoint(body) {
         Ok(()) => Ok(()),
         Err(JournalRefusal::NoRoom) => unreachable!(),
-        Err(JournalRefusal::DiskFault) => Err(LayStop::DiskFault),
+        Err(JournalRefusal::DiskFault) => Err(DiskFault),
     }
 }
 
@@ -126,12 +124,13 @@ fn write_all<D: Disk>(
     base: u64,
     rows: &[DumpedRow],
     body: &[u8],
-) -> Result<(), LayStop>
+) -> Result<(), DiskFault>
     requires settled { journal.old.in_doubt ≡ false }
     requires small { blocks_needed (map row_of rows.now) < 2 ^ 32 }
     requires lies { base + 4096 * blocks_needed (map row_of rows.now) ≤ D.size journal.old.disk }
     requires behind { journal.old.areas.first + 2 * journal.old.areas.bytes ≤ base }
     requires base { base < 2 ^ 63 }
+    requires spare { length body.now ≤ journal.old.spare }
     requires fits { length body.now + 7 ≤ journal.old.areas.bytes }
     ensures areas { journal.new.areas ≡ journal.old.areas }
     ensures length { D.size journal.new.disk ≡ D.size journal.old.disk }
@@ -139,11 +138,11 @@ fn write_all<D: Disk>(
     ensures kept { OnOk result (D.tells → kept journal.new ≡ one_record journal.old.format body.now) }
     ensures sure { OnOk result (journal.new.in_doubt ≡ false) }
     ensures later { D.faults journal.old.disk ≤ D.faults journal.new.disk }
-    ensures cause { IsErrOf result LayStop.DiskFault → Rose (D.faults journal.old.disk) (D.faults journal.new.disk) }
+    ensures cause { OnErr result (Rose (D.faults journal.old.disk) (D.faults journal.new.disk)) }
 {
     match store_rows(journal, base, rows) {
         Ok(()) => put_record(journal, body),
-        Err(_) => Err(LayStop::DiskFault),
+        Err(fault) => Err(fault),
     }
 }
 
@@ -156,14 +155,20 @@ fn lay_over<D: Disk>(journal: Journal<D>, dumped: &Dumped, body: &[u8]) -> (D, R
     requires fits { charge_of_map (dump_of dumped.now).map + 7 ≤ area_bytes dumped.now.geometry }
     requires short { length body.now ≤ charge_of_map (dump_of dumped.now).map }
     ensures stands { OnOk result.1 (D.tells → StandsAs dumped.now.geometry (dump_of dumped.now).map (D.content result.0)) }
+    ensures memory { IsErrOf result.1 LayStop.NoMemory → D.tells → read_as New New (D.content result.0) ≡ Ok (record { geometry = dumped.now.geometry; built = nothing_built }) }
     ensures size { D.size result.0 ≡ D.size journal.disk }
     ensures later { D.faults journal.disk ≤ D.faults result.0 }
     ensures cause { IsErrOf result.1 LayStop.DiskFault → Rose (D.faults journal.disk) (D.faults result.0) }
 {
     let mut journal = journal;
+    let Ok(()) = journal.reserve(body.len() as u64) else {
+        return (journal.give_back(), Err(LayStop::NoMemory));
+    };
     let base = dumped.geometry.data_base();
-    let written = write_all(&mut journal, base, &dumped.rows, body);
-    (journal.give_back(), written)
+    match write_all(&mut journal, base, &dumped.rows, body) {
+        Ok(()) => (journal.give_back(), Ok(())),
+        Err(_) => (journal.give_back(), Err(LayStop::DiskFault)),
+    }
 }
 
 // The same over an image that was made and holds nothing.
@@ -176,6 +181,7 @@ fn lay_on<D: Disk>(alloc: Global, dumped: &Dumped, body: &[u8], disk: D) -> (D, 
     requires fits { charge_of_map (dump_of dumped.now).map + 7 ≤ area_bytes dumped.now.geometry }
     requires short { length body.now ≤ charge_of_map (dump_of dumped.now).map }
     ensures stands { OnOk result.1 (D.tells → StandsAs dumped.now.geometry (dump_of dumped.now).map (D.content result.0)) }
+    ensures memory { IsErrOf result.1 LayStop.NoMemory → D.tells → read_as New New (D.content result.0) ≡ Ok (record { geometry = dumped.now.geometry; built = nothing_built }) }
     ensures size { D.size result.0 ≡ D.size disk }
     ensures later { D.faults disk ≤ D.faults result.0 }
     ensures cause { IsErrOf result.1 LayStop.DiskFault → Rose (D.faults disk) (D.faults result.0) }
@@ -188,11 +194,13 @@ fn lay_on<D: Disk>(alloc: Global, dumped: &Dumped, body: &[u8], disk: D) -> (D, 
 }
 
 /// Makes a disk an image that stands for what was read: formats it, writes the files' bytes into blocks one behind another, and
-/// puts one record in the place of all. A stop within it may leave no image. All memory but the journal's is taken before the
-/// disk is written.
+/// puts one record in the place of all. For want of memory the disk is as it was, or an image of these sizes that holds nothing:
+/// all is taken before the disk is written, but for the journal's, which is taken before files are. After a fault of the disk,
+/// or a stop, there may be no image.
 pub fn lay<D: Disk>(alloc: Global, dumped: &Dumped, disk: D) -> (D, Result<(), LayStop>)
     requires { image_size dumped.now.geometry ≤ D.size disk }
     ensures stands { OnOk result.1 (D.tells → StandsAs dumped.now.geometry (dump_of dumped.now).map (D.content result.0)) }
+    ensures memory { IsErrOf result.1 LayStop.NoMemory → (result.0 ≡ disk) ⊎ (D.tells → read_as New New (D.content result.0) ≡ Ok (record { geometry = dumped.now.geometry; built = nothing_built })) }
     ensures size { D.size result.0 ≡ D.size disk }
     ensures later { D.faults disk ≤ D.faults result.0 }
     ensures cause { IsErrOf result.1 LayStop.DiskFault → Rose (D.faults disk) (D.faults result.0) }
