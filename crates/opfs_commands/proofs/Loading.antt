@@ -2,13 +2,15 @@
 use Rattle.std.proofs.Common.{◌≡◌, ◌⊎◌, ℕ, ◌-◌, ◌^◌, ◌<◌, ◌≤◌, Bool, true, false, List, length, inl, inr, refl, sym, ap, subst, ◌∙◌, arith}
 use Rattle.std.specs.Prelude.{nat_lt, Option, Some, Result, Ok, Err, IfOk, IfErr, IsErrOf, IsOk, OnOk, if◌then◌else◌}
 use Rattle.std.proofs.lemmas.Bool.{false≢true}
-use Rattle.std.proofs.lemmas.List.{take_all}
+use Rattle.std.proofs.lemmas.List.{length-map, take_all}
 use Rattle.std.proofs.lemmas.Result.{IfOk-weaker}
 use Rattle.std.specs.Cmp.Lexicographic.{same_text as equal_texts, nat_list_eq_equiv}
 use Rattle.std.specs.declared.alloc.AllocError.{AllocError}
 use Rattle.opfs_base.specs.Texts.{Text, same_text}
 use Rattle.opfs_dump.specs.Text.Reading.{Dump, Read, if_json, most_bytes, reads_dump}
-use Rattle.opfs_dump.specs.Text.Texts.{refused_line}
+use Rattle.opfs_dump.specs.Loading.Laid.{StandsAs}
+use Rattle.opfs_dump.specs.Text.Seen.{row_of}
+use Rattle.opfs_dump.specs.Text.Texts.{loaded_line, refused_line}
 use Rattle.opfs_dump.specs.Text.Whole.{dump_of}
 use Rattle.opfs_dump.specs.declared.text.dumped.Dumped.{Dumped}
 use Rattle.opfs_dump.specs.declared.loading.stop.LayStop.{LayStop}
@@ -24,7 +26,7 @@ use Rattle.opfs_print.specs.declared.end.End.TheVariants as end
 use Rattle.opfs_script.specs.Reading.{json_of}
 use Rattle.opfs_commands.proofs.Hosting.{rose_later}
 use Rattle.opfs_commands.specs.Kinds.{FaultsLater, LeavesText, NoneFailed}
-use Rattle.opfs_commands.specs.Telling.{IsAnswer, IsDumpAt, IsNoDump}
+use Rattle.opfs_commands.specs.Telling.{IsAnswer, IsDumpAt, IsLaid, IsNoDump}
 use Rattle.opfs_commands.specs.declared.answers.ToolAnswer.{ToolAnswer}
 use Rattle.opfs_commands.specs.declared.answers.ToolEnd.{ToolEnd}
 use Rattle.opfs_commands.specs.declared.answers.ToolEnd.TheVariants as tool_end
@@ -162,3 +164,8 @@ laid_told dtells Done Cause line (Ok u) r stands cause done fault memory =
 laid_told dtells Done Cause line (Err lay_stop.DiskFault) r stands cause done fault memory =
     IfOk-weaker r _ _ (λ a e. subst (λ x. IsAnswer dtells Done (λ t. ⊥) Cause x a.text) (sym e.0) (cause refl, e.1)) (fault refl)
 laid_told dtells Done Cause line (Err lay_stop.NoMemory) r stands cause done fault memory = IfOk-weaker r _ _ (λ a never. absurd never) (memory refl)
+
+-- the line of an image that was made has the number of its rows
+pub laid_as : (laid : Result (Unit {0}) LayStop) (tells : Type 0) (d : Dumped) (c : Text) (n : ℕ) → n ≡ length d.rows.items → OnOk laid (tells → StandsAs d.geometry (dump_of d).map c) → OnOk laid (tells → IsLaid (dump_of d) c (loaded_line n))
+laid_as (Ok u) tells d c n count stands = λ t. record { stands = stands t; printed = ap loaded_line (count ∙ sym (length-map d.rows.items row_of)) }
+laid_as (Err e) tells d c n count stands = tt
