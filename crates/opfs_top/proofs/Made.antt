@@ -40,6 +40,10 @@ unmade_error r e is = subst (λ x. ToolUnmade x) (sym is) tt
 pub unmade_status : (r : Result Answer AllocError) (a : Answer) → r ≡ Ok a → IsUnmade a.status → IsUnmadeBy r
 unmade_status r a is u = subst (λ x. IsUnmadeBy x) (sym is) u
 
+pub unmade_none : (r : Result Answer AllocError) → ((a : Answer) → r ≡ Ok a → ⊥) → IsUnmadeBy r
+unmade_none (Ok a) not = absurd (not a refl)
+unmade_none (Err e) not = tt
+
 -- a command on the image at a path, and an image made from a text
 pub image_makes : (words : List Text) (h : HostTurn) (image : Text) (action : Action) → IsAsked words (on_image image action) → (path : Text) (U : Type 0) → Asks words (Makes path)
     → (IsMaking action → LeavesMade h image (MadeKind action) U) → LeavesNew words h path U

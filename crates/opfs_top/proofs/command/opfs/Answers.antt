@@ -3,7 +3,7 @@ use Rattle.opfs_top.proofs.Hosts.{by_memory, by_sink, by_status}
 use Rattle.opfs_top.proofs.Running.{headline_put}
 use Rattle.opfs_top.proofs.Telling.{cause_as, cut_as, front_as, never_as, puts_as, sink_after}
 use Rattle.opfs_top.specs.declared.status.Status.TheVariants as status
-use Rattle.opfs_top.proofs.Made.{leaves_wider, unmade_status}
+use Rattle.opfs_top.proofs.Made.{leaves_wider, unmade_none, unmade_status}
 use Rattle.opfs_top.proofs.command.opfs.Goals as goal
 
 pub returns-in_default-clause-memory : goal.returns-in_default-clause-memory
@@ -75,7 +75,7 @@ pub returns-clause-trail : goal.returns-clause-trail
 returns-clause-trail g c = λ told none. c.answer_to.ensures.trail told (by_sink (of_host g.H.Host c.args.host.now c.answer_to.new.host) c.answer_to.result none)
 
 pub returns-in_default-clause-made : goal.returns-in_default-clause-made
-returns-in_default-clause-made g c = λ told path is. leaves_wider (of_host g.H.Host c.args.host.now c.answer_to.new.host) path _ _ _ _ (λ d made. made) (λ u. c.todo) (c.answer_to.ensures.made told path is)
+returns-in_default-clause-made g c = λ told path is. leaves_wider (of_host g.H.Host c.args.host.now c.answer_to.new.host) path _ _ _ _ (λ d made. made) (λ u. unmade_none c.answer_to.result c.in_default.not-Ok) (c.answer_to.ensures.made told path is)
 
 pub returns-in-Ok-put_all-clause-made : goal.returns-in-Ok-put_all-clause-made
 returns-in-Ok-put_all-clause-made g c = λ told path is. leaves_wider (of_host g.H.Host c.args.host.now c.answer_to.new.host) path _ _ _ _ (λ d made. made) (λ u. unmade_status c.answer_to.result c.in-Ok.field-0 c.in-Ok.is u) (c.answer_to.ensures.made told path is)
