@@ -8,3 +8,6 @@ returns-in_err-answer-in-Ok-clause-others g c = λ told none. c.run_agents.ensur
 
 pub returns-in_ok-answer-in-Ok-clause-left : goal.returns-in_ok-answer-in-Ok-clause-left
 returns-in_ok-answer-in-Ok-clause-left g c = bytes_left (of_host g.H.Host c.args.host.now c.run_agents.new.host) c.args.path.now _ c.args.bytes.now c.in-Ok.ensures.script c.run_agents.ensures.left
+
+pub returns-in_err-answer-in-Ok-clause-left : goal.returns-in_err-answer-in-Ok-clause-left
+returns-in_err-answer-in-Ok-clause-left g c = bytes_left (of_host g.H.Host c.args.host.now c.run_agents.new.host) c.args.path.now _ c.args.bytes.now c.in-Ok.ensures.script c.run_agents.ensures.left

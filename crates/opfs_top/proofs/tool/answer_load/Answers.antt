@@ -1,7 +1,8 @@
-use Rattle.std.proofs.Common.{refl, subst, sym}
+use Rattle.std.proofs.Common.{Ok, refl, subst, sym}
 use Rattle.opfs_outside.specs.Turns.{of_host}
 use Rattle.opfs_top.specs.Answers.{LoadEnded}
 use Rattle.opfs_top.proofs.Hosts.{by_error, by_run, load_ended}
+use Rattle.opfs_top.specs.declared.answer.Answer.{Answer}
 use Rattle.opfs_top.proofs.Made.{leaves_wider, unmade_error, unmade_run}
 use Rattle.opfs_top.proofs.tool.answer_load.Goals as goal
 
@@ -27,4 +28,6 @@ pub returns-in_err-answer-clause-made : goal.returns-in_err-answer-clause-made
 returns-in_err-answer-clause-made g c = λ told. leaves_wider (of_host g.H.Host c.args.host.now c.load_at.new.host) c.args.image.now _ _ _ _ (λ d made. made) (λ u. unmade_error c.load_at.result _ c.in_err-answer.was) (c.load_at.ensures.made told)
 
 pub returns-clause-made : goal.returns-clause-made
-returns-clause-made g c = λ told. leaves_wider (of_host g.H.Host c.args.host.now c.load_at.new.host) c.args.image.now _ _ _ _ (λ d made. made) (λ u. unmade_run c.load_at.result c.in_ok-answer.answer _ _ c.in_ok-answer.was refl c.status_of.ensures u) (c.load_at.ensures.made told)
+returns-clause-made g c = λ told.
+    let b : Answer = record { status = c.status_of.result; text = c.in_ok-answer.answer.text } in
+    leaves_wider (of_host g.H.Host c.args.host.now c.load_at.new.host) c.args.image.now _ _ _ _ (λ d made. made) (λ u. unmade_run c.load_at.result c.in_ok-answer.answer (Ok b) b c.in_ok-answer.was refl c.status_of.ensures u) (c.load_at.ensures.made told)
