@@ -45,9 +45,13 @@ IsEndCut tells row m called = (len : ℕ) × (tells → len ≡ length (log_of (
 abbrev pub IsRepack : Type 0 → KvSeen → Map → Op → Type 0
 IsRepack tells kv m called = IsReadAll kv called ⊎ (IsRewrite tells kv.handle.row m called ⊎ IsEndCut tells kv.handle.row m called)
 
+-- So many bytes are read at once.
+abbrev pub piece_bytes : ℕ
+piece_bytes = 65536
+
 -- A file's length is asked for; a piece of it is read, where it is not too long.
 abbrev pub IsPieceRead : ℕ → Op → Type 0
-IsPieceRead row called = (at : ℕ) × (called ≡ op.SyncRead row 65536 (Some at))
+IsPieceRead row called = (at : ℕ) × (called ≡ op.SyncRead row piece_bytes (Some at))
 
 abbrev pub IsOpening : Text → ℕ → Op → Type 0
 IsOpening bytes row called = (called ≡ op.SyncGetSize row) ⊎ ((length bytes ≤ 16777216) × IsPieceRead row called)

@@ -3,7 +3,7 @@ use Rattle.opfs_sync_files.specs.Files.{file_bytes}
 use Rattle.opfs_hist.specs.declared.op.Op.TheVariants as op
 use Rattle.opfs_sync_files.specs.Entries.{TheCall}
 use Rattle.opfs_sync_files.proofs.Knowing.{caused-may}
-use Rattle.opfs_kv.specs.Asked.{IsPieceRead}
+use Rattle.opfs_kv.specs.Asked.{IsPieceRead, piece_bytes}
 use Rattle.opfs_kv.specs.Opening.{HasEnded, HasScanCause}
 use Rattle.opfs_kv.proofs.Results.{if-err}
 use Rattle.opfs_kv.proofs.Scanned.{ends-cause, far-on, piece-is, reads-one, scans-on, window-long}
@@ -29,4 +29,4 @@ returns-in-Err-clause-reads g c = reads-one g.S.Store.tells c.args.agent.now c.r
 
 pub returns-in-Err-clause-cause : goal.returns-in-Err-clause-cause
 returns-in-Err-clause-cause g c =
-    caused-may c.args.agent.now c.read.new.agent (TheCall (op.SyncRead c.args.handle.now.row 65536 (Some c.args.at))) (IsPieceRead c.args.handle.now.row) c.in-Err.stop (λ o is. (c.args.at, is)) c.in-Err.ensures.cause
+    caused-may c.args.agent.now c.read.new.agent (TheCall (op.SyncRead c.args.handle.now.row piece_bytes (Some c.args.at))) (IsPieceRead c.args.handle.now.row) c.in-Err.stop (λ o is. (c.args.at, is)) c.in-Err.ensures.cause
