@@ -1,8 +1,8 @@
 -- What holds of windows of bytes.
-use Rattle.std.specs.Prelude.{◌≡◌, ℕ, zero, suc, ◌+◌, ◌<◌, ◌≤◌, List, [], ◌∷◌, ◌++◌, length, take, drop, slice_index, refl}
+use Rattle.std.specs.Prelude.{◌≡◌, ℕ, zero, suc, ◌+◌, ◌<◌, ◌≤◌, List, ◌∷◌, ◌++◌, length, take, drop, slice_index, refl}
 use Rattle.std.proofs.Common.{ap, arith, add-zero}
 use Rattle.std.proofs.lemmas.List.{drop_more}
-use Rattle.opfs_outside.specs.Bytes.{Same, window, Beside}
+use Rattle.opfs_outside.specs.Bytes.{window}
 
 pub length-window : (c : List ℕ) (at n : ℕ) → length (window c at n) ≡ n
 length-window c at zero = refl

@@ -7,9 +7,11 @@
 mod disk;
 mod gate;
 mod host;
+mod output;
 mod stream;
 
 pub use disk::Disk;
 pub use gate::Gate;
 pub use host::{Host, HostStop};
+pub use output::put_all;
 pub use stream::{Failed, Sink, Source};

@@ -1,10 +1,12 @@
 //! The lines of a transcript.
 
-ghost use Rattle.std.specs.Prelude.{◌≡◌, ◌++◌, IfOk, OnOk, OnErr, string_bytes};
+ghost use Rattle.std.specs.Prelude.{◌≡◌, ◌<◌, ◌++◌, IfOk, OnOk, OnErr, IsTrue, length, string_bytes};
+ghost use Rattle.hex.specs.Hex.{encode_lower};
+ghost use Rattle.opfs_hist.specs.declared.entry.Entry.{Entry};
 ghost use Rattle.opfs_print.specs.Lines.{word_text, op_text, call_text, line_of, text_of};
 
 use crate::reply::reply_text;
-use opfs_hist::{Entries, Entry, Op, Word};
+use opfs_hist::{Entries, Entry, Op, Reply, Word};
 use std::alloc::{AllocError, Global};
 
 /// Appends an entry's line, or nothing where the agent begins to wait.
@@ -12,8 +14,66 @@ pub fn line(alloc: Global, entry: &Entry, into: &mut Vec<u8>) -> Result<(), Allo
     ensures ok { OnOk result (into.new.items ≡ into.old.items ++ line_of entry.now) }
     ensures err { OnErr result (into.new.items ≡ into.old.items) }
 {
+    if let Reply::Read(bytes) = &entry.reply {
+        if is_told(&entry.op) && !bytes.is_empty() {
+            return read_line(alloc, entry, bytes.as_slice(), into);
+        }
+    }
     let text = line_text(alloc, entry)?;
     into.extend_from_slice(text.as_bytes())
+}
+
+// Whether a call's line is that of an agent, its word and its reply.
+fn is_told(op: &Op) -> bool
+    ensures { IsTrue result → (entry : Entry) → entry.op ≡ op.now → line_of entry ≡ call_text entry }
+{
+    !matches!(op, Op::Wait { .. } | Op::Evict { .. })
+}
+
+// Appends the line of a call that read these bytes: its digits go straight into the lines.
+fn read_line(
+    alloc: Global,
+    entry: &Entry,
+    bytes: &[u8],
+    into: &mut Vec<u8>,
+) -> Result<(), AllocError>
+    requires some { 0 < length bytes.now }
+    requires reply { entry.now.reply ≡ Reply.Read bytes.now }
+    ensures ok { OnOk result (into.new.items ≡ into.old.items ++ call_text entry.now) }
+    ensures err { OnErr result (into.new.items ≡ into.old.items) }
+{
+    let word = op_text(&entry.op);
+    let head = format!(in alloc;
+        "{}.{} {} ok {} ",
+        entry.agent,
+        entry.number,
+        word,
+        bytes.len()
+    )?;
+    let before = into.len();
+    into.extend_from_slice(head.as_bytes())?;
+    if put_digits(bytes, into).is_err() || into.push(b'\n').is_err() {
+        into.truncate(before);
+        return Err(AllocError);
+    }
+    Ok(())
+}
+
+// Appends bytes as digits.
+fn put_digits(bytes: &[u8], into: &mut Vec<u8>) -> Result<(), AllocError>
+    ensures ok { OnOk result (into.new.items ≡ into.old.items ++ encode_lower bytes.now) }
+    ensures err { OnErr result (into.new.items ≡ into.old.items) }
+{
+    let before = into.len();
+    let Some(count) = bytes.len().checked_mul(2) else {
+        return Err(AllocError);
+    };
+    let Some(after) = before.checked_add(count) else {
+        return Err(AllocError);
+    };
+    into.resize(after, 0)?;
+    let _written = hex::encode_to_slice(bytes, &mut into[before..]);
+    Ok(())
 }
 
 /// Appends the lines of entries.

@@ -3,12 +3,10 @@
 //! It stands on `opfs_print` and `opfs_store`.
 #![tactic(auto)]
 
-mod output;
 mod standing;
 mod teller;
 mod telling;
 
-pub use output::put_all;
 pub use standing::Began;
 pub use teller::{Parts, Teller};
 pub use telling::{Progress, State, put_out, tell};

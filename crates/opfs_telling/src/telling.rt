@@ -4,9 +4,8 @@ ghost use Rattle.std.specs.Prelude.{◌≡◌, ◌++◌, ◌+◌, ◌^◌, ◌<�
 ghost use Rattle.opfs_hist.specs.declared.entry.Entry.{Entry as AnEntry};
 ghost use Rattle.opfs_telling.specs.Telling.{IsTold};
 
-use crate::output::put_all;
 use opfs_hist::Given;
-use opfs_outside::Sink;
+use opfs_outside::{Sink, put_all};
 use opfs_print::transcript;
 use std::alloc::Global;
 
@@ -19,7 +18,7 @@ pub enum State {
     On,
     /// No more, since the sink failed.
     Failed,
-    /// No more, since there was no memory.
+    /// No more, since there was no memory, or entries were given out to another.
     Short,
 }
 

@@ -1,6 +1,5 @@
 pub mod Hosts
 pub mod Made
 pub mod Parting
-pub mod Putting
 pub mod Running
 pub mod Telling

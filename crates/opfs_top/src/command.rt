@@ -11,11 +11,10 @@ ghost use Rattle.opfs_top.specs.Doing.{DidWithImage, IsDone, IsUsage, IsBadScrip
 ghost use Rattle.opfs_top.specs.Headline.{IsHeadline, OfScript};
 
 use crate::answer::Answer;
-use crate::output::put_all;
 use crate::status::Status;
 use crate::tool::{answer_to, answer_tool};
 use opfs_base::Words;
-use opfs_outside::{Failed, Gate, Host, Sink, Source};
+use opfs_outside::{Failed, Gate, Host, Sink, Source, put_all};
 use std::alloc::Global;
 use std::sync::Wait;
 use std::thread::Threads;

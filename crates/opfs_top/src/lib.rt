@@ -7,7 +7,6 @@ mod answer;
 pub mod command;
 mod gate;
 mod input;
-mod output;
 mod parts;
 mod run;
 pub mod status;

@@ -1,6 +1,6 @@
 use Rattle.std.proofs.Common.{refl, arith}
-use Rattle.opfs_top.proofs.Putting.{more_put}
-use Rattle.opfs_top.proofs.output.put_all.Goals as goal
+use Rattle.opfs_outside.proofs.Putting.{more_put}
+use Rattle.opfs_outside.proofs.output.put_all.Goals as goal
 
 pub loop-rest-preserved : goal.loop-rest-preserved
 loop-rest-preserved g c = record {

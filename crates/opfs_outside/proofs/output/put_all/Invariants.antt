@@ -1,6 +1,6 @@
 use Rattle.std.proofs.Common.{◌≤◌, length}
 use Rattle.opfs_outside.specs.Turns.{of_sink, TookFront}
-use Rattle.opfs_telling.proofs.output.put_all.Given as goal
+use Rattle.opfs_outside.proofs.output.put_all.Given as goal
 
 abbrev pub invariant-loop-rest : goal.invariant-loop-rest
 invariant-loop-rest g l = record {

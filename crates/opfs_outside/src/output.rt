@@ -1,9 +1,9 @@
-//! Putting a text out.
+//! Putting bytes out, all of them.
 
 ghost use Rattle.std.specs.Prelude.{◌≡◌, ◌≤◌, OnOk, OnErr, List, ℕ};
 ghost use Rattle.opfs_outside.specs.Turns.{of_sink, SinkFailed, Took, TookFront};
 
-use opfs_outside::{Failed, Sink};
+use crate::stream::{Failed, Sink};
 
 /// Puts all bytes out, or a front of them where the sink fails.
 pub fn put_all<K: Sink>(sink: &mut K, bytes: &[u8]) -> Result<(), Failed>
