@@ -1,7 +1,7 @@
 -- What was put out of a text, call after call.
-use Rattle.std.proofs.Common.{◌≡◌, ℕ, ◌≤◌, ◌-◌, List, [], ◌++◌, take, drop, length, refl, sym, ap, ◌∙◌, subst, append_assoc, length-drop, inl, inr, arith}
+use Rattle.std.proofs.Common.{◌≡◌, ℕ, ◌≤◌, List, [], ◌++◌, refl, sym, ap, ◌∙◌, subst, append_assoc, inl, inr, arith}
 use Rattle.std.specs.Prelude.{Option, Some, None, IfSome, IsSome, Result, Ok, Err, IsErrOf}
-use Rattle.std.proofs.lemmas.List.{append-nil, take-append-drop, take_all}
+use Rattle.std.proofs.lemmas.List.{append-nil}
 use Rattle.serde_json.specs.Written.{compact_text}
 use Rattle.opfs_base.specs.Places.{Place}
 use Rattle.opfs_base.specs.Texts.{Text}
@@ -20,25 +20,7 @@ use Rattle.opfs_dump.specs.declared.dumping.stop.DumpStop.TheVariants as stop
 pub rose_since : (a b c : ℕ) → a ≤ b → Rose b c → Rose a c
 rose_since a b c le rose = elim rose [ inl less ↦ inl (omega arith) | inr end ↦ inr end ]
 
-rest_whole : (rest : Text) (count m : ℕ) → m ≡ length rest → take (m - count) (drop count rest) ≡ drop count rest
-rest_whole rest count m is = take_all (m - count) (drop count rest) (rw (length-drop count rest) (omega (arith, is)))
-
 module _ {K : Type 0} (w : SinkWords K) where
-  pub more_put : (old mid new : K) (text rest : Text) (count m : ℕ) → m ≡ length rest
-      → TookFront (of_sink w old mid) text rest → (w.tells → w.written new ≡ w.written mid ++ take count rest)
-      → TookFront (of_sink w old new) text (take (m - count) (drop count rest))
-  more_put old mid new text rest count m is so_far taken = rw (rest_whole rest count m is) (record {
-    front = so_far.front ++ take count rest;
-    whole =
-        so_far.whole
-        ∙ ap (λ t. so_far.front ++ t) (sym (take-append-drop count rest))
-        ∙ sym (append_assoc so_far.front (take count rest) (drop count rest));
-    took = λ t.
-        taken t
-        ∙ ap (λ x. x ++ take count rest) (so_far.took t)
-        ∙ append_assoc (w.written old) so_far.front (take count rest);
-  })
-
   pub begin_put : (s : K) (text : Text) → TookFront (of_sink w s s) text text
   begin_put s text = record { front = []; whole = refl; took = λ t. sym (append-nil (w.written s)) }
 
