@@ -99,7 +99,7 @@ impl<W> StdoutSink<W> {
     }
 }
 
-impl<W: Write + Send> Sink for StdoutSink<W> {
+impl<W: Write> Sink for StdoutSink<W> {
     ghost use Rattle.std.specs.Prelude.{[]};
     ghost use Rattle.opfs_files.specs.Counts.{capped};
 

@@ -35,7 +35,7 @@ pub trait Source {
 }
 
 /// Bytes that go out. Where the sink tells, `written` is all that it took.
-pub trait Sink: Send {
+pub trait Sink {
     /// Whether it tells what it took. It is no function of the value.
     ghost tells: { Type 0 };
 
