@@ -120,33 +120,7 @@ fn make_step<S: Store, R: Wait>(
     true
 }
 
-// The same with the gate round it.
-fn pass_step<S: Store, R: Wait, G: Gate>(
-    rt: &R,
-    court: &Hall<S>,
-    agent: &mut Agent<S>,
-    agent_rows: &mut Vec<AgentRow>,
-    hand: &mut Hand,
-    step: &Step,
-    gate: &G,
-    number: u32,
-) -> bool
-    requires own { agent.old.pass.hall ≡ court.now }
-    requires room { HasRoom agent.old }
-    requires table { HasTable S.tells agent.old agent_rows.old.items }
-    requires agrees { Agrees hand.old (kinds_of agent_rows.old.items) }
-    requires key { hand.old.key ≡ agent.old.key }
-    requires bounds { keeps_bounds step.now ≡ true }
-    ensures { IsStepped S.tells agent.old agent.new agent_rows.old.items agent_rows.new.items hand.old hand.new step.now result }
-{
-    let agent_number = agent.number();
-    gate.before(agent_number, number);
-    let done = make_step(rt, court, agent, agent_rows, hand, step);
-    gate.after(agent_number, number);
-    done
-}
-
-/// Makes the steps of a script, and tells whether all were made. Only want of memory leaves the others.
+/// Makes the steps of a script, each with the gate round it, and tells whether all were made. Only want of memory leaves the others.
 pub fn run_steps<S: Store, R: Wait, G: Gate>(
     rt: &R,
     court: &Hall<S>,
@@ -169,10 +143,14 @@ pub fn run_steps<S: Store, R: Wait, G: Gate>(
         return false;
     };
     let mut hand = Hand::make(alloc, key);
+    let agent_number = agent.number();
     let mut number = 0;
     for step in steps {
         number += 1;
-        if !pass_step(rt, court, agent, agent_rows, &mut hand, step, gate, number) {
+        gate.before(agent_number, number);
+        let done = make_step(rt, court, agent, agent_rows, &mut hand, step);
+        gate.after(agent_number, number);
+        if !done {
             return false;
         }
     }

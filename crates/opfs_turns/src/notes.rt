@@ -1,7 +1,9 @@
 //! What an agent notes of itself between its turns.
 
 use opfs_base::{Key, Text};
+use opfs_hall::Pass;
 use opfs_hist::Pending;
+use opfs_store::Store;
 
 /// What an agent knows of itself beside its pass.
 #[derive(Drop)]
@@ -17,4 +19,11 @@ pub struct Notes {
     pub rows: u32,
     /// The tag that it waits for.
     pub waiting: Option<Text>,
+}
+
+/// An agent between its calls: its pass, and what it notes of itself.
+#[derive(Drop)]
+pub(crate) struct Caller<S: Store> {
+    pub pass: Pass<S>,
+    pub notes: Notes,
 }

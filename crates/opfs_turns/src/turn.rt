@@ -8,9 +8,9 @@ ghost use Rattle.opfs_store.specs.Acts.Acting.{IsLeft, IsSameCopy, always_acts};
 ghost use Rattle.opfs_turns.specs.Agents.{IsAgent, seen};
 ghost use Rattle.opfs_turns.specs.Calls.{HasRoom, MayAsk, call_of, before_call, IsEntered, HasLooked};
 
-use crate::notes::Notes;
+use crate::notes::Caller;
 use opfs_base::Name;
-use opfs_hall::{Hall, Pass};
+use opfs_hall::Hall;
 use opfs_hist::{Op, Room};
 use opfs_store::{Acted, Store};
 use opfs_work::Work;
@@ -36,43 +36,48 @@ fn ring_if<S: Store>(court: &Hall<S>, wakes: bool) {
 pub(crate) fn in_turn<S: Store, R: Wait>(
     rt: &R,
     court: &Hall<S>,
-    pass: &mut Pass<S>,
-    notes: &mut Notes,
+    caller: &mut Caller<S>,
     room: Room,
     op: Op,
     work: &mut Work,
     past: &[Name],
 ) -> Result<Acted, AllocError>
-    requires own { pass.old.hall ≡ court.now }
-    requires agent { IsAgent S.tells (seen S.opened pass.old notes.old) }
-    requires room { HasRoom (seen S.opened pass.old notes.old) }
-    requires may { MayAsk S.tells (seen S.opened pass.old notes.old) op work.old past.now }
-    ensures agent { IfOk result (λ acted. is_end op ≡ false → IsAgent S.tells (seen S.opened pass.new notes.new)) }
-    ensures agent_err { OnErr result (IsAgent S.tells (seen S.opened pass.new notes.new)) }
-    ensures legal { IsTold S.tells (S.opened pass.old.hall.opening) pass.new.base }
-    ensures idle { pass.new ≡ record pass.old { base = pass.new.base } }
-    ensures entered { IfOk result (λ acted. IsEntered S.tells (seen S.opened pass.old notes.old) (seen S.opened pass.new notes.new) op acted.reply acted.gift) }
-    ensures left { IfOk result (λ acted. IsLeft S.tells (S.opened pass.old.hall.opening) pass.new.base (call_of (seen S.opened pass.old notes.old) op) acted.reply work.old work.new) }
-    ensures looked { OnErr result (HasLooked (seen S.opened pass.old notes.old) (seen S.opened pass.new notes.new)) }
+    requires own { caller.old.pass.hall ≡ court.now }
+    requires agent { IsAgent S.tells (seen S.opened caller.old.pass caller.old.notes) }
+    requires room { HasRoom (seen S.opened caller.old.pass caller.old.notes) }
+    requires may { MayAsk S.tells (seen S.opened caller.old.pass caller.old.notes) op work.old past.now }
+    ensures agent { IfOk result (λ acted. is_end op ≡ false → IsAgent S.tells (seen S.opened caller.new.pass caller.new.notes)) }
+    ensures agent_err { OnErr result (IsAgent S.tells (seen S.opened caller.new.pass caller.new.notes)) }
+    ensures legal { IsTold S.tells (S.opened caller.old.pass.hall.opening) caller.new.pass.base }
+    ensures idle { caller.new.pass ≡ record caller.old.pass { base = caller.new.pass.base } }
+    ensures entered { IfOk result (λ acted. IsEntered S.tells (seen S.opened caller.old.pass caller.old.notes) (seen S.opened caller.new.pass caller.new.notes) op acted.reply acted.gift) }
+    ensures left { IfOk result (λ acted. IsLeft S.tells (S.opened caller.old.pass.hall.opening) caller.new.pass.base (call_of (seen S.opened caller.old.pass caller.old.notes) op) acted.reply work.old work.new) }
+    ensures looked { OnErr result (HasLooked (seen S.opened caller.old.pass caller.old.notes) (seen S.opened caller.new.pass caller.new.notes)) }
     ensures same { OnErr result (IsSameCopy work.old work.new) }
     ensures ends { always_acts op ≡ true → IsTrue (is_ok result) }
 {
-    let agent = pass.agent();
-    let number = notes.number;
+    let agent = caller.pass.agent();
+    let number = caller.notes.number;
     let wakes = wakes(&op);
-    let mut turn = court.enter(rt, pass);
+    let mut turn = court.enter(rt, &mut caller.pass);
     turn.value.know_legal();
-    let acted = turn
-        .value
-        .act(agent, number, &mut notes.pending, room, op, work, past);
+    let acted = turn.value.act(
+        agent,
+        number,
+        &mut caller.notes.pending,
+        room,
+        op,
+        work,
+        past,
+    );
     turn.value.know_legal();
-    court.leave(pass, turn);
+    court.leave(&mut caller.pass, turn);
     ring_if(court, wakes);
     match acted {
         Ok(acted) => {
-            notes.number += 1;
-            notes.entries += 1;
-            notes.rows = acted.rows;
+            caller.notes.number += 1;
+            caller.notes.entries += 1;
+            caller.notes.rows = acted.rows;
             Ok(acted)
         }
         Err(error) => Err(error),

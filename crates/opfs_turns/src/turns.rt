@@ -10,7 +10,7 @@ ghost use Rattle.opfs_turns.specs.Agents.{state_of, IsAgent};
 ghost use Rattle.opfs_turns.specs.Waiting.{HasWaited, HasAwaited, await_reply};
 ghost use Rattle.opfs_turns.specs.Calls.{HasRoom, MayAsk, call_of, IsEntered, HasLooked, IsLocal, IsKept, new_agent, MayBegin, HasEnded};
 
-use crate::notes::Notes;
+use crate::notes::{Caller, Notes};
 use crate::turn::in_turn;
 use crate::waiting::await_turns;
 use opfs_base::{Key, Name, Text};
@@ -26,8 +26,7 @@ use std::sync::Wait;
 /// entries that it knows: those that it has seen, and its own local calls that are not entered yet. A store whose agent is
 /// dropped before it has ended can't be taken out of its hall.
 pub struct Turns<S: Store> {
-    pass: Pass<S>,
-    notes: Notes,
+    caller: Caller<S>,
     // The place of its end's entry.
     room: Room,
     alloc: Global,
@@ -38,16 +37,15 @@ impl<S: Store> Model for Turns<S> {
 
     ghost Value = { AgentSeen S.Opening };
 
-    ghost view = { λ a. seen S.opened a.pass a.notes };
+    ghost view = { λ a. seen S.opened a.caller.pass a.caller.notes };
 
-    ghost invariant = { λ a. IsAgent S.tells (seen S.opened a.pass a.notes) };
+    ghost invariant = { λ a. IsAgent S.tells (seen S.opened a.caller.pass a.caller.notes) };
 }
 
 impl<S: Store> Drop for Turns<S> {
     fn drop(self) {
         let Self {
-            pass: _,
-            notes: _,
+            caller: _,
             room: _,
             alloc: _,
         } = self;
@@ -81,8 +79,7 @@ impl<S: Store> Turns<S> {
             waiting: None,
         };
         Turns {
-            pass,
-            notes,
+            caller: Caller { pass, notes },
             room,
             alloc,
         }
@@ -92,28 +89,28 @@ impl<S: Store> Turns<S> {
     pub fn know_kept(&self)
         ensures { IsAgent S.tells self.now }
     {
-        let _ = &self.notes;
+        let _ = &self.caller;
     }
 
     /// The number of the agent.
     pub fn agent(&self) -> u32
         ensures { result ≡ self.now.pass.agent }
     {
-        self.pass.agent()
+        self.caller.pass.agent()
     }
 
     /// How many streams, access handles, snapshots and iterators the agent has made.
     pub fn rows(&self) -> u32
         ensures { result ≡ self.now.rows }
     {
-        self.notes.rows
+        self.caller.notes.rows
     }
 
     /// The key of the agent.
     pub fn key(&self) -> Option<&Key>
         ensures { option_copied result ≡ self.now.key }
     {
-        self.notes.key.as_ref()
+        self.caller.notes.key.as_ref()
     }
 
     /// Makes a shared call: takes the turn, has the call entered, and hands the turn on. Where there is no memory nothing is
@@ -137,16 +134,7 @@ impl<S: Store> Turns<S> {
         ensures same { OnErr result (IsSameCopy work.old work.new) }
         ensures ends { always_acts op ≡ true → IsTrue (is_ok result) }
     {
-        in_turn(
-            rt,
-            court,
-            &mut self.pass,
-            &mut self.notes,
-            room,
-            op,
-            work,
-            past,
-        )
+        in_turn(rt, court, &mut self.caller, room, op, work, past)
     }
 
     /// Makes an await: true where the tag was posted, false where nobody is left who could post it. It takes one turn after
@@ -163,7 +151,7 @@ impl<S: Store> Turns<S> {
         ensures awaited { IfOk result (λ posted. HasAwaited S.tells self.old self.new tag.now (await_reply posted)) }
         ensures waited { OnErr result (HasWaited S.tells self.old self.new tag.now) }
     {
-        await_turns(rt, self.alloc, court, &mut self.pass, &mut self.notes, tag)
+        await_turns(rt, self.alloc, court, &mut self.caller, tag)
     }
 
     /// Keeps a local call with its answer until the next turn. Takes no memory.
@@ -174,16 +162,16 @@ impl<S: Store> Turns<S> {
         ensures { IsKept self.old self.new op reply made }
     {
         let entry = Entry {
-            agent: self.pass.agent(),
-            number: self.notes.number,
+            agent: self.caller.pass.agent(),
+            number: self.caller.notes.number,
             op,
             reply,
             turn: false,
         };
-        self.notes.pending.add(room, entry);
-        self.notes.number += 1;
-        self.notes.entries += 1;
-        self.notes.rows += made;
+        self.caller.notes.pending.add(room, entry);
+        self.caller.notes.number += 1;
+        self.caller.notes.entries += 1;
+        self.caller.notes.rows += made;
     }
 
     /// Ends an agent that has nothing open, and gives its pass. Takes no memory.
@@ -194,24 +182,15 @@ impl<S: Store> Turns<S> {
         ensures { HasEnded S.tells self result }
     {
         let Turns {
-            mut pass,
-            mut notes,
+            mut caller,
             room,
             alloc,
         } = self;
         let mut work = Work::fresh(alloc);
-        let Ok(_) = in_turn(
-            rt,
-            court,
-            &mut pass,
-            &mut notes,
-            room,
-            Op::End,
-            &mut work,
-            &[],
-        ) else {
+        let Ok(_) = in_turn(rt, court, &mut caller, room, Op::End, &mut work, &[]) else {
             unreachable!();
         };
+        let Caller { pass, notes: _ } = caller;
         pass
     }
 }

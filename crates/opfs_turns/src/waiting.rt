@@ -7,9 +7,9 @@ ghost use Rattle.opfs_turns.specs.Agents.{IsAgent, seen};
 ghost use Rattle.opfs_turns.specs.Calls.{HasRoom, HasLooked};
 ghost use Rattle.opfs_turns.specs.Waiting.{HasWaitRoom, HasWaited, HasAwaited, IsAwaitTurn, await_reply, planned};
 
-use crate::notes::Notes;
+use crate::notes::Caller;
 use opfs_base::Text;
-use opfs_hall::{Hall, Pass};
+use opfs_hall::Hall;
 use opfs_hist::{Op, Room};
 use opfs_store::{AwaitState, Store};
 use opfs_work::Work;
@@ -78,42 +78,49 @@ pub(crate) fn await_turn<S: Store, R: Wait>(
     rt: &R,
     alloc: Global,
     court: &Hall<S>,
-    pass: &mut Pass<S>,
-    notes: &mut Notes,
+    caller: &mut Caller<S>,
     tag: &Text,
 ) -> Result<AwaitTurn, AllocError>
-    requires own { pass.old.hall ≡ court.now }
-    requires agent { IsAgent S.tells (seen S.opened pass.old notes.old) }
-    requires room { HasWaitRoom (seen S.opened pass.old notes.old) }
-    ensures agent { IsAgent S.tells (seen S.opened pass.new notes.new) }
-    ensures idle { pass.new ≡ record pass.old { base = pass.new.base } }
-    ensures turned { IsAwaitTurn S.tells (seen S.opened pass.old notes.old) (seen S.opened pass.new notes.new) tag.now result }
+    requires own { caller.old.pass.hall ≡ court.now }
+    requires agent { IsAgent S.tells (seen S.opened caller.old.pass caller.old.notes) }
+    requires room { HasWaitRoom (seen S.opened caller.old.pass caller.old.notes) }
+    ensures agent { IsAgent S.tells (seen S.opened caller.new.pass caller.new.notes) }
+    ensures idle { caller.new.pass ≡ record caller.old.pass { base = caller.new.pass.base } }
+    ensures turned { IsAwaitTurn S.tells (seen S.opened caller.old.pass caller.old.notes) (seen S.opened caller.new.pass caller.new.notes) tag.now result }
 {
     let Asked {
         room,
         tag: asked,
         noted,
     } = keep_ready(alloc, tag)?;
-    let agent = pass.agent();
-    let number = notes.number;
-    let begun = waits_for(&notes.waiting, tag);
+    let agent = caller.pass.agent();
+    let number = caller.notes.number;
+    let begun = waits_for(&caller.notes.waiting, tag);
     let mut work = Work::fresh(alloc);
-    let mut turn = court.enter(rt, pass);
+    let mut turn = court.enter(rt, &mut caller.pass);
     turn.value.know_legal();
     let heard = court.heard();
     let stands = turn.value.await_state(agent, tag.as_str());
     match plan_for(stands, begun) {
         Plan::Answer(posted) => {
             let op = Op::Await { tag: asked };
-            let acted = turn.value.act(agent, number, &mut notes.pending, room, op, &mut work, &[]);
+            let acted = turn.value.act(
+                agent,
+                number,
+                &mut caller.notes.pending,
+                room,
+                op,
+                &mut work,
+                &[],
+            );
             turn.value.know_legal();
-            court.leave(pass, turn);
+            court.leave(&mut caller.pass, turn);
             match acted {
                 Ok(acted) => {
-                    notes.number += 1;
-                    notes.entries += 1;
-                    notes.rows = acted.rows;
-                    notes.waiting = None;
+                    caller.notes.number += 1;
+                    caller.notes.entries += 1;
+                    caller.notes.rows = acted.rows;
+                    caller.notes.waiting = None;
                     Ok(AwaitTurn::Answered(posted))
                 }
                 Err(error) => Err(error),
@@ -121,22 +128,30 @@ pub(crate) fn await_turn<S: Store, R: Wait>(
         }
         Plan::Begin => {
             let op = Op::Wait { tag: asked };
-            let acted = turn.value.act(agent, number, &mut notes.pending, room, op, &mut work, &[]);
+            let acted = turn.value.act(
+                agent,
+                number,
+                &mut caller.notes.pending,
+                room,
+                op,
+                &mut work,
+                &[],
+            );
             turn.value.know_legal();
-            court.leave(pass, turn);
+            court.leave(&mut caller.pass, turn);
             court.ring();
             match acted {
                 Ok(acted) => {
-                    notes.entries += 1;
-                    notes.rows = acted.rows;
-                    notes.waiting = Some(noted);
+                    caller.notes.entries += 1;
+                    caller.notes.rows = acted.rows;
+                    caller.notes.waiting = Some(noted);
                     Ok(AwaitTurn::Waits(heard))
                 }
                 Err(error) => Err(error),
             }
         }
         Plan::Look => {
-            court.leave(pass, turn);
+            court.leave(&mut caller.pass, turn);
             Ok(AwaitTurn::Waits(heard))
         }
     }
@@ -147,20 +162,19 @@ pub(crate) fn await_turns<S: Store, R: Wait>(
     rt: &R,
     alloc: Global,
     court: &Hall<S>,
-    pass: &mut Pass<S>,
-    notes: &mut Notes,
+    caller: &mut Caller<S>,
     tag: &Text,
 ) -> Result<bool, AllocError>
-    requires own { pass.old.hall ≡ court.now }
-    requires agent { IsAgent S.tells (seen S.opened pass.old notes.old) }
-    requires room { HasRoom (seen S.opened pass.old notes.old) }
-    ensures agent { IsAgent S.tells (seen S.opened pass.new notes.new) }
-    ensures idle { pass.new ≡ record pass.old { base = pass.new.base } }
-    ensures awaited { IfOk result (λ posted. HasAwaited S.tells (seen S.opened pass.old notes.old) (seen S.opened pass.new notes.new) tag.now (await_reply posted)) }
-    ensures waited { OnErr result (HasWaited S.tells (seen S.opened pass.old notes.old) (seen S.opened pass.new notes.new) tag.now) }
+    requires own { caller.old.pass.hall ≡ court.now }
+    requires agent { IsAgent S.tells (seen S.opened caller.old.pass caller.old.notes) }
+    requires room { HasRoom (seen S.opened caller.old.pass caller.old.notes) }
+    ensures agent { IsAgent S.tells (seen S.opened caller.new.pass caller.new.notes) }
+    ensures idle { caller.new.pass ≡ record caller.old.pass { base = caller.new.pass.base } }
+    ensures awaited { IfOk result (λ posted. HasAwaited S.tells (seen S.opened caller.old.pass caller.old.notes) (seen S.opened caller.new.pass caller.new.notes) tag.now (await_reply posted)) }
+    ensures waited { OnErr result (HasWaited S.tells (seen S.opened caller.old.pass caller.old.notes) (seen S.opened caller.new.pass caller.new.notes) tag.now) }
 {
     for _ in rt.forever() {
-        match await_turn(rt, alloc, court, pass, notes, tag) {
+        match await_turn(rt, alloc, court, caller, tag) {
             Ok(AwaitTurn::Answered(posted)) => return Ok(posted),
             Ok(AwaitTurn::Waits(heard)) => court.sleep(rt, heard),
             Err(error) => return Err(error),

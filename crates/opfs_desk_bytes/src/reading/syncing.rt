@@ -12,9 +12,7 @@ ghost use Rattle.opfs_desk_steps.specs.Parts.Held.{AreHeldWhole};
 ghost use Rattle.opfs_desk_steps.specs.Parts.Seen.{call_in};
 ghost use Rattle.opfs_desk_bytes.specs.Reading.Reading.{IsReadFor};
 ghost use Rattle.opfs_desk_bytes.specs.Reading.Words.{reads_row, read_start, read_len};
-ghost use Rattle.opfs_desk_steps.specs.RowLaws.Copied.{CopiesAreStored};
 ghost use Rattle.opfs_desk_steps.specs.RowLaws.InHand.{RowsInHandAreLaid};
-ghost use Rattle.opfs_desk_steps.specs.RowLaws.Inside.{PartsLieInside};
 ghost use Rattle.opfs_desk_steps.specs.Acting.{CallsAreActed};
 ghost use Rattle.opfs_desk_steps.specs.Answering.{ReadyCallsAreAnswered};
 ghost use Rattle.opfs_desk_steps.specs.Ready.{AskedCallsAreReady};
@@ -22,7 +20,7 @@ ghost use Rattle.opfs_laws.specs.GoingOn.{LegalHistoriesGoOn};
 ghost use Rattle.opfs_machine.specs.Replies.{row_named};
 ghost use Rattle.opfs_records.specs.Replay.Built.{Built};
 
-use crate::reading::bytes::{RowRead, leave_cursor, read_open_row};
+use crate::reading::bytes::{RowRead, RowSource, leave_cursor, read_open_row};
 use crate::reading::failing::fail_reading;
 use opfs_books::{reads_leave_the_books, the_books_show_their_images, the_state_is_kept};
 use opfs_data::DataRefusal;
@@ -161,14 +159,17 @@ pub fn act_sync_read<D: Disk>(
     copies_are_stored::<D>();
     parts_lie_inside::<D>();
     let span = span_of(&call.op, &call.sizes);
+    let source = RowSource {
+        agent: call.agent,
+        row: span.row,
+        work,
+        swap: &parts.pages.swap,
+        base: parts.pages.base,
+    };
     match read_open_row(
         parts.ledger.alloc,
-        work,
-        &parts.pages.swap,
+        &source,
         &mut parts.ledger.journal,
-        parts.pages.base,
-        call.agent,
-        span.row,
         span.start,
         span.len,
     ) {

@@ -19,6 +19,23 @@ use opfs_outside::{Disk, Sink};
 use opfs_tree::{FileRow, Row, Tree, Walk};
 use std::alloc::Global;
 
+// A row that is put out, with the walk that stands at it. Block 0 begins at byte `base` of the disk.
+#[derive(Clone, Copy)]
+struct PlacedRow<'a, 'b> {
+    walk: &'a Walk<'b>,
+    row: &'a Row,
+    base: u64,
+}
+
+// A file that is put out, with its place.
+#[derive(Clone, Copy)]
+struct PlacedFile<'a> {
+    key: &'a Key,
+    path: &'a Path,
+    file: &'a FileRow,
+    base: u64,
+}
+
 // Puts out a comma, where rows stand before.
 fn put_comma<K: Sink>(sink: &mut K, later: bool) -> Result<(), DumpStop>
     ensures { Puts K.Sink sink.old sink.new (comma_if later) result }
@@ -66,26 +83,25 @@ fn put_content<D: Disk, K: Sink>(
 fn put_file<D: Disk, K: Sink>(
     alloc: Global,
     journal: &mut Journal<D>,
-    base: u64,
-    key: &Key,
-    path: &Path,
-    file: &FileRow,
+    placed: &PlacedFile<'_>,
     piece: &mut [u8],
     digits: &mut [u8],
     sink: &mut K,
 ) -> Result<(), DumpStop>
     requires some { 0 < length piece.old }
     requires digits { length digits.old ≡ 2 * length piece.old }
-    requires fits { file.now.length ≤ room_of file.now.extents }
-    requires lies { AllLie base (D.size journal.old.disk) file.now.extents }
-    requires behind { journal.old.areas.first + 2 * journal.old.areas.bytes ≤ base }
-    requires small { base < 2 ^ 63 }
-    ensures { Dumps D.Disk K.Sink journal.old journal.new sink.old sink.new (λ c. compact_text (document_value (key.now, path.now) (bytes_of c base file.now.extents file.now.length) file.now.stamp)) result }
+    requires fits { placed.now.file.now.length ≤ room_of placed.now.file.now.extents }
+    requires lies { AllLie placed.now.base (D.size journal.old.disk) placed.now.file.now.extents }
+    requires behind { journal.old.areas.first + 2 * journal.old.areas.bytes ≤ placed.now.base }
+    requires small { placed.now.base < 2 ^ 63 }
+    ensures { Dumps D.Disk K.Sink journal.old journal.new sink.old sink.new (λ c. compact_text (document_value (placed.now.key.now, placed.now.path.now) (bytes_of c placed.now.base placed.now.file.now.extents placed.now.file.now.length) placed.now.file.now.stamp)) result }
 {
-    let behind = match behind_digits(alloc, key, path, file.stamp) {
+    let file = placed.file;
+    let behind = match behind_digits(alloc, placed.key, placed.path, file.stamp) {
         Ok(behind) => behind,
         Err(_) => return Err(DumpStop::NoMemory),
     };
+    let base = placed.base;
     match put_text(sink, b"{\"hex\":\"") {
         Ok(()) => put_content(journal, base, file, behind.as_bytes(), piece, digits, sink),
         Err(stop) => Err(stop),
@@ -96,25 +112,31 @@ fn put_file<D: Disk, K: Sink>(
 fn put_row<D: Disk, K: Sink>(
     alloc: Global,
     journal: &mut Journal<D>,
-    base: u64,
-    walk: &Walk,
-    row: &Row,
+    placed: &PlacedRow<'_, '_>,
     piece: &mut [u8],
     digits: &mut [u8],
     sink: &mut K,
 ) -> Result<(), DumpStop>
     requires some { 0 < length piece.old }
     requires digits { length digits.old ≡ 2 * length piece.old }
-    requires stands { IsSome walk.now }
-    requires lies { Lies base (D.size journal.old.disk) row.now }
-    requires behind { journal.old.areas.first + 2 * journal.old.areas.bytes ≤ base }
-    requires small { base < 2 ^ 63 }
-    ensures { IfSome walk.now (λ place. Dumps D.Disk K.Sink journal.old journal.new sink.old sink.new (λ c. compact_text (row_value (place, filled_row base c row.now))) result) }
+    requires stands { IsSome placed.now.walk.now }
+    requires lies { Lies placed.now.base (D.size journal.old.disk) placed.now.row.now }
+    requires behind { journal.old.areas.first + 2 * journal.old.areas.bytes ≤ placed.now.base }
+    requires small { placed.now.base < 2 ^ 63 }
+    ensures { IfSome placed.now.walk.now (λ place. Dumps D.Disk K.Sink journal.old journal.new sink.old sink.new (λ c. compact_text (row_value (place, filled_row placed.now.base c placed.now.row.now))) result) }
 {
-    let (key, path) = (walk.key(), walk.path());
-    match row {
+    let (key, path) = (placed.walk.key(), placed.walk.path());
+    match placed.row {
         Row::Dir => put_folder(alloc, sink, key, path),
-        Row::File(file) => put_file(alloc, journal, base, key, path, file, piece, digits, sink),
+        Row::File(file) => {
+            let placed_file = PlacedFile {
+                key,
+                path,
+                file,
+                base: placed.base,
+            };
+            put_file(alloc, journal, &placed_file, piece, digits, sink)
+        }
     }
 }
 
@@ -122,24 +144,22 @@ fn put_row<D: Disk, K: Sink>(
 fn put_next<D: Disk, K: Sink>(
     alloc: Global,
     journal: &mut Journal<D>,
-    base: u64,
     later: bool,
-    walk: &Walk,
-    row: &Row,
+    placed: &PlacedRow<'_, '_>,
     piece: &mut [u8],
     digits: &mut [u8],
     sink: &mut K,
 ) -> Result<(), DumpStop>
     requires some { 0 < length piece.old }
     requires digits { length digits.old ≡ 2 * length piece.old }
-    requires stands { IsSome walk.now }
-    requires lies { Lies base (D.size journal.old.disk) row.now }
-    requires behind { journal.old.areas.first + 2 * journal.old.areas.bytes ≤ base }
-    requires small { base < 2 ^ 63 }
-    ensures { IfSome walk.now (λ place. Dumps D.Disk K.Sink journal.old journal.new sink.old sink.new (λ c. row_text later (place, filled_row base c row.now)) result) }
+    requires stands { IsSome placed.now.walk.now }
+    requires lies { Lies placed.now.base (D.size journal.old.disk) placed.now.row.now }
+    requires behind { journal.old.areas.first + 2 * journal.old.areas.bytes ≤ placed.now.base }
+    requires small { placed.now.base < 2 ^ 63 }
+    ensures { IfSome placed.now.walk.now (λ place. Dumps D.Disk K.Sink journal.old journal.new sink.old sink.new (λ c. row_text later (place, filled_row placed.now.base c placed.now.row.now)) result) }
 {
     match put_comma(sink, later) {
-        Ok(()) => put_row(alloc, journal, base, walk, row, piece, digits, sink),
+        Ok(()) => put_row(alloc, journal, placed, piece, digits, sink),
         Err(stop) => Err(stop),
     }
 }
@@ -164,7 +184,12 @@ pub(crate) fn put_rows<D: Disk, K: Sink>(
     let mut walk = Walk::make();
     let mut later = false;
     while let Some(row) = tree.step(&mut walk) {
-        match put_next(alloc, journal, base, later, &walk, row, piece, digits, sink) {
+        let placed = PlacedRow {
+            walk: &walk,
+            row,
+            base,
+        };
+        match put_next(alloc, journal, later, &placed, piece, digits, sink) {
             Ok(()) => later = true,
             Err(stop) => return Err(stop),
         }

@@ -18,16 +18,16 @@ use Rattle.opfs_turns.proofs.waiting.await_turn.Goals as goal
 pub await_state-stands-requires : goal.await_state-stands-requires
 await_state-stands-requires g c =
     subst (λ (k : ℕ). IsThere (state_after (g.S.Store.opened (g.S.Chronicle.opening c.enter-turn.result.value)) (g.S.Chronicle.entries c.enter-turn.result.value)) k) (sym c.agent-agent.ensures)
-    (agent-there g.S.Store.tells g.S.Store.opened c.args.pass.now c.args.notes.now g.S.Chronicle.owner g.met.S.Store.owned c.requires.agent
+    (agent-there g.S.Store.tells g.S.Store.opened c.args.caller.now.pass c.args.caller.now.notes g.S.Chronicle.owner g.met.S.Store.owned c.requires.agent
     (g.S.Store.opened (g.S.Chronicle.opening c.enter-turn.result.value)) (ap g.S.Store.opened (c.enter-turn.ensures.opening ∙ ap (λ h. h.opening) (sym c.requires.own)))
     (g.S.Chronicle.entries c.enter-turn.result.value) c.enter-turn.ensures.grows c.know_legal.ensures)
 
 pub act-acted-requires : goal.act-acted-requires
 act-acted-requires g c = record {
   may =
-      subst (λ (k : ℕ). MayAct g.S.Store.tells (g.S.Store.opened (g.S.Chronicle.opening c.enter-turn.result.value)) (g.S.Chronicle.entries c.enter-turn.result.value) c.args.notes.now.pending (record { agent = k; number = c.args.notes.now.number; op = op.Await c.in_ok-room.field-0.tag }) c.fresh-work.result []) (sym c.agent-agent.ensures)
-      (subst (λ (t : Text). MayAct g.S.Store.tells (g.S.Store.opened (g.S.Chronicle.opening c.enter-turn.result.value)) (g.S.Chronicle.entries c.enter-turn.result.value) c.args.notes.now.pending (record { agent = c.args.pass.now.agent; number = c.args.notes.now.number; op = op.Await t }) c.fresh-work.result []) (sym c.in_ok-room.ensures.0)
-      (await-acts g.S.Store.tells g.S.Store.opened c.args.pass.now c.args.notes.now g.S.Chronicle.owner g.met.S.Store.owned c.requires.agent
+      subst (λ (k : ℕ). MayAct g.S.Store.tells (g.S.Store.opened (g.S.Chronicle.opening c.enter-turn.result.value)) (g.S.Chronicle.entries c.enter-turn.result.value) c.args.caller.now.notes.pending (record { agent = k; number = c.args.caller.now.notes.number; op = op.Await c.in_ok-room.field-0.tag }) c.fresh-work.result []) (sym c.agent-agent.ensures)
+      (subst (λ (t : Text). MayAct g.S.Store.tells (g.S.Store.opened (g.S.Chronicle.opening c.enter-turn.result.value)) (g.S.Chronicle.entries c.enter-turn.result.value) c.args.caller.now.notes.pending (record { agent = c.args.caller.now.pass.agent; number = c.args.caller.now.notes.number; op = op.Await t }) c.fresh-work.result []) (sym c.in_ok-room.ensures.0)
+      (await-acts g.S.Store.tells g.S.Store.opened c.args.caller.now.pass c.args.caller.now.notes g.S.Chronicle.owner g.met.S.Store.owned c.requires.agent
       (g.S.Store.opened (g.S.Chronicle.opening c.enter-turn.result.value)) (ap g.S.Store.opened (c.enter-turn.ensures.opening ∙ ap (λ h. h.opening) (sym c.requires.own)))
       (g.S.Chronicle.entries c.enter-turn.result.value) c.enter-turn.ensures.grows c.know_legal.ensures
       c.args.tag.now c.await_state-stands.result (c.await_state-stands.ensures ∙ (λ i. awaited (state_after (g.S.Store.opened (g.S.Chronicle.opening c.enter-turn.result.value)) (g.S.Chronicle.entries c.enter-turn.result.value)) (c.agent-agent.ensures i) (c.as_str.ensures i))) c.waits_for-begun.result c.waits_for-begun.ensures
@@ -37,32 +37,32 @@ act-acted-requires g c = record {
 pub leave-requires-clause-adds : goal.leave-requires-clause-adds
 leave-requires-clause-adds g c =
     subst (λ p. Adds g.S.Chronicle.owner p.agent p.base (g.S.Chronicle.entries c.act-acted.new.self)) (sym c.enter-turn.ensures.pass)
-    (adds g.S.Chronicle.owner g.met.S.Store.owned c.args.pass.now.agent g.S.Store.tells (g.S.Store.opened (g.S.Chronicle.opening c.enter-turn.result.value))
-    (in_hand (g.S.Chronicle.entries c.enter-turn.result.value) (g.S.Store.faults c.enter-turn.result.value) c.args.notes.now.pending c.fresh-work.result) (in_hand (g.S.Chronicle.entries c.act-acted.new.self) (g.S.Store.faults c.act-acted.new.self) c.act-acted.new.pending c.act-acted.new.work)
-    (record { agent = c.agent-agent.result; number = c.args.notes.now.number; op = op.Await c.in_ok-room.field-0.tag }) c.agent-agent.ensures c.act-acted.result
-    (await-acts g.S.Store.tells g.S.Store.opened c.args.pass.now c.args.notes.now g.S.Chronicle.owner g.met.S.Store.owned c.requires.agent
+    (adds g.S.Chronicle.owner g.met.S.Store.owned c.args.caller.now.pass.agent g.S.Store.tells (g.S.Store.opened (g.S.Chronicle.opening c.enter-turn.result.value))
+    (in_hand (g.S.Chronicle.entries c.enter-turn.result.value) (g.S.Store.faults c.enter-turn.result.value) c.args.caller.now.notes.pending c.fresh-work.result) (in_hand (g.S.Chronicle.entries c.act-acted.new.self) (g.S.Store.faults c.act-acted.new.self) c.act-acted.new.pending c.act-acted.new.work)
+    (record { agent = c.agent-agent.result; number = c.args.caller.now.notes.number; op = op.Await c.in_ok-room.field-0.tag }) c.agent-agent.ensures c.act-acted.result
+    (await-acts g.S.Store.tells g.S.Store.opened c.args.caller.now.pass c.args.caller.now.notes g.S.Chronicle.owner g.met.S.Store.owned c.requires.agent
     (g.S.Store.opened (g.S.Chronicle.opening c.enter-turn.result.value)) (ap g.S.Store.opened (c.enter-turn.ensures.opening ∙ ap (λ h. h.opening) (sym c.requires.own)))
     (g.S.Chronicle.entries c.enter-turn.result.value) c.enter-turn.ensures.grows c.know_legal.ensures
     c.args.tag.now c.await_state-stands.result (c.await_state-stands.ensures ∙ (λ i. awaited (state_after (g.S.Store.opened (g.S.Chronicle.opening c.enter-turn.result.value)) (g.S.Chronicle.entries c.enter-turn.result.value)) (c.agent-agent.ensures i) (c.as_str.ensures i))) c.waits_for-begun.result c.waits_for-begun.ensures
     c.in-Answer.posted c.fresh-work.result c.fresh-work.ensures c.requires.room (sym c.plan_for.ensures ∙ c.in-Answer.is)).pending
     c.act-acted.ensures.served c.act-acted.ensures.unserved)
 
-pub overflow_add-notes : goal.overflow_add-notes
-overflow_add-notes g c = omega (arith, number-small-waiting g.S.Store.tells (seen g.S.Store.opened c.args.pass.now c.args.notes.now) c.requires.agent c.requires.room)
+pub overflow_add-caller : goal.overflow_add-caller
+overflow_add-caller g c = omega (arith, number-small-waiting g.S.Store.tells (seen g.S.Store.opened c.args.caller.now.pass c.args.caller.now.notes) c.requires.agent c.requires.room)
 
 pub returns-in-Ok-clause-agent : goal.returns-in-Ok-clause-agent
 returns-in-Ok-clause-agent g c =
-    ask-agent g.S.Store.tells g.S.Store.opened c.args.pass.now c.args.notes.now g.S.Chronicle.owner g.met.S.Store.owned c.requires.agent
+    ask-agent g.S.Store.tells g.S.Store.opened c.args.caller.now.pass c.args.caller.now.notes g.S.Chronicle.owner g.met.S.Store.owned c.requires.agent
     (g.S.Store.opened (g.S.Chronicle.opening c.enter-turn.result.value)) (ap g.S.Store.opened (c.enter-turn.ensures.opening ∙ ap (λ h. h.opening) (sym c.requires.own)))
     (g.S.Chronicle.entries c.enter-turn.result.value) c.enter-turn.ensures.grows c.know_legal.ensures
     (op.Await c.args.tag.now) c.in-Ok.acted.reply (g.S.Chronicle.entries c.act-acted.new.self)
-    (subst (λ (t : Text). IsActed g.S.Store.tells (g.S.Store.opened (g.S.Chronicle.opening c.enter-turn.result.value)) (g.S.Chronicle.entries c.enter-turn.result.value) c.args.notes.now.pending (record { agent = c.args.pass.now.agent; number = c.args.notes.now.number; op = op.Await t }) c.in-Ok.acted.reply (g.S.Chronicle.entries c.act-acted.new.self)) c.in_ok-room.ensures.0
-    (subst (λ (k : ℕ). IsActed g.S.Store.tells (g.S.Store.opened (g.S.Chronicle.opening c.enter-turn.result.value)) (g.S.Chronicle.entries c.enter-turn.result.value) c.args.notes.now.pending (record { agent = k; number = c.args.notes.now.number; op = op.Await c.in_ok-room.field-0.tag }) c.in-Ok.acted.reply (g.S.Chronicle.entries c.act-acted.new.self)) c.agent-agent.ensures c.in-Ok.ensures.served.acted))
+    (subst (λ (t : Text). IsActed g.S.Store.tells (g.S.Store.opened (g.S.Chronicle.opening c.enter-turn.result.value)) (g.S.Chronicle.entries c.enter-turn.result.value) c.args.caller.now.notes.pending (record { agent = c.args.caller.now.pass.agent; number = c.args.caller.now.notes.number; op = op.Await t }) c.in-Ok.acted.reply (g.S.Chronicle.entries c.act-acted.new.self)) c.in_ok-room.ensures.0
+    (subst (λ (k : ℕ). IsActed g.S.Store.tells (g.S.Store.opened (g.S.Chronicle.opening c.enter-turn.result.value)) (g.S.Chronicle.entries c.enter-turn.result.value) c.args.caller.now.notes.pending (record { agent = k; number = c.args.caller.now.notes.number; op = op.Await c.in_ok-room.field-0.tag }) c.in-Ok.acted.reply (g.S.Chronicle.entries c.act-acted.new.self)) c.agent-agent.ensures c.in-Ok.ensures.served.acted))
     (subst (λ o. IsTold g.S.Store.tells (g.S.Store.opened o) (g.S.Chronicle.entries c.act-acted.new.self)) c.act-acted.ensures.opening c.know_legal-in-Answer.ensures)
     c.leave.new.pass (c.leave.ensures ∙ ap (λ p. at_rest p (g.S.Chronicle.entries c.act-acted.new.self)) c.enter-turn.ensures.pass)
     c.act-acted.new.pending c.in-Ok.ensures.served.taken c.in-Ok.acted.rows
-    (await_reply c.in-Answer.posted) None (c.args.notes.now.number + 1)
-    (await-asks g.S.Store.tells g.S.Store.opened c.args.pass.now c.args.notes.now g.S.Chronicle.owner g.met.S.Store.owned c.requires.agent
+    (await_reply c.in-Answer.posted) None (c.args.caller.now.notes.number + 1)
+    (await-asks g.S.Store.tells g.S.Store.opened c.args.caller.now.pass c.args.caller.now.notes g.S.Chronicle.owner g.met.S.Store.owned c.requires.agent
     (g.S.Store.opened (g.S.Chronicle.opening c.enter-turn.result.value)) (ap g.S.Store.opened (c.enter-turn.ensures.opening ∙ ap (λ h. h.opening) (sym c.requires.own)))
     (g.S.Chronicle.entries c.enter-turn.result.value) c.enter-turn.ensures.grows c.know_legal.ensures
     c.args.tag.now c.await_state-stands.result (c.await_state-stands.ensures ∙ (λ i. awaited (state_after (g.S.Store.opened (g.S.Chronicle.opening c.enter-turn.result.value)) (g.S.Chronicle.entries c.enter-turn.result.value)) (c.agent-agent.ensures i) (c.as_str.ensures i))) c.waits_for-begun.result c.waits_for-begun.ensures
@@ -73,33 +73,33 @@ returns-in-Ok-clause-agent g c =
 pub returns-in-Ok-clause-turned : goal.returns-in-Ok-clause-turned
 returns-in-Ok-clause-turned g c = record {
   turned =
-      ask-turned g.S.Store.tells g.S.Store.opened c.args.pass.now c.args.notes.now g.S.Chronicle.owner g.met.S.Store.owned c.requires.agent
+      ask-turned g.S.Store.tells g.S.Store.opened c.args.caller.now.pass c.args.caller.now.notes g.S.Chronicle.owner g.met.S.Store.owned c.requires.agent
       (g.S.Store.opened (g.S.Chronicle.opening c.enter-turn.result.value)) (ap g.S.Store.opened (c.enter-turn.ensures.opening ∙ ap (λ h. h.opening) (sym c.requires.own)))
       (g.S.Chronicle.entries c.enter-turn.result.value) c.enter-turn.ensures.grows c.know_legal.ensures
       (op.Await c.args.tag.now) c.in-Ok.acted.reply (g.S.Chronicle.entries c.act-acted.new.self)
-      (subst (λ (t : Text). IsActed g.S.Store.tells (g.S.Store.opened (g.S.Chronicle.opening c.enter-turn.result.value)) (g.S.Chronicle.entries c.enter-turn.result.value) c.args.notes.now.pending (record { agent = c.args.pass.now.agent; number = c.args.notes.now.number; op = op.Await t }) c.in-Ok.acted.reply (g.S.Chronicle.entries c.act-acted.new.self)) c.in_ok-room.ensures.0
-      (subst (λ (k : ℕ). IsActed g.S.Store.tells (g.S.Store.opened (g.S.Chronicle.opening c.enter-turn.result.value)) (g.S.Chronicle.entries c.enter-turn.result.value) c.args.notes.now.pending (record { agent = k; number = c.args.notes.now.number; op = op.Await c.in_ok-room.field-0.tag }) c.in-Ok.acted.reply (g.S.Chronicle.entries c.act-acted.new.self)) c.agent-agent.ensures c.in-Ok.ensures.served.acted))
+      (subst (λ (t : Text). IsActed g.S.Store.tells (g.S.Store.opened (g.S.Chronicle.opening c.enter-turn.result.value)) (g.S.Chronicle.entries c.enter-turn.result.value) c.args.caller.now.notes.pending (record { agent = c.args.caller.now.pass.agent; number = c.args.caller.now.notes.number; op = op.Await t }) c.in-Ok.acted.reply (g.S.Chronicle.entries c.act-acted.new.self)) c.in_ok-room.ensures.0
+      (subst (λ (k : ℕ). IsActed g.S.Store.tells (g.S.Store.opened (g.S.Chronicle.opening c.enter-turn.result.value)) (g.S.Chronicle.entries c.enter-turn.result.value) c.args.caller.now.notes.pending (record { agent = k; number = c.args.caller.now.notes.number; op = op.Await c.in_ok-room.field-0.tag }) c.in-Ok.acted.reply (g.S.Chronicle.entries c.act-acted.new.self)) c.agent-agent.ensures c.in-Ok.ensures.served.acted))
       (subst (λ o. IsTold g.S.Store.tells (g.S.Store.opened o) (g.S.Chronicle.entries c.act-acted.new.self)) c.act-acted.ensures.opening c.know_legal-in-Answer.ensures)
       c.leave.new.pass (c.leave.ensures ∙ ap (λ p. at_rest p (g.S.Chronicle.entries c.act-acted.new.self)) c.enter-turn.ensures.pass)
       c.act-acted.new.pending c.in-Ok.ensures.served.taken c.in-Ok.acted.rows
-      (await_reply c.in-Answer.posted) None (c.args.notes.now.number + 1)
-      (await-asks g.S.Store.tells g.S.Store.opened c.args.pass.now c.args.notes.now g.S.Chronicle.owner g.met.S.Store.owned c.requires.agent
+      (await_reply c.in-Answer.posted) None (c.args.caller.now.notes.number + 1)
+      (await-asks g.S.Store.tells g.S.Store.opened c.args.caller.now.pass c.args.caller.now.notes g.S.Chronicle.owner g.met.S.Store.owned c.requires.agent
       (g.S.Store.opened (g.S.Chronicle.opening c.enter-turn.result.value)) (ap g.S.Store.opened (c.enter-turn.ensures.opening ∙ ap (λ h. h.opening) (sym c.requires.own)))
       (g.S.Chronicle.entries c.enter-turn.result.value) c.enter-turn.ensures.grows c.know_legal.ensures
       c.args.tag.now c.await_state-stands.result (c.await_state-stands.ensures ∙ (λ i. awaited (state_after (g.S.Store.opened (g.S.Chronicle.opening c.enter-turn.result.value)) (g.S.Chronicle.entries c.enter-turn.result.value)) (c.agent-agent.ensures i) (c.as_str.ensures i))) c.waits_for-begun.result c.waits_for-begun.ensures
       c.in-Answer.posted (sym c.plan_for.ensures ∙ c.in-Answer.is));
   rest =
-      ask-rest g.S.Store.tells g.S.Store.opened c.args.pass.now c.args.notes.now g.S.Chronicle.owner g.met.S.Store.owned c.requires.agent
+      ask-rest g.S.Store.tells g.S.Store.opened c.args.caller.now.pass c.args.caller.now.notes g.S.Chronicle.owner g.met.S.Store.owned c.requires.agent
       (g.S.Store.opened (g.S.Chronicle.opening c.enter-turn.result.value)) (ap g.S.Store.opened (c.enter-turn.ensures.opening ∙ ap (λ h. h.opening) (sym c.requires.own)))
       (g.S.Chronicle.entries c.enter-turn.result.value) c.enter-turn.ensures.grows c.know_legal.ensures
       (op.Await c.args.tag.now) c.in-Ok.acted.reply (g.S.Chronicle.entries c.act-acted.new.self)
-      (subst (λ (t : Text). IsActed g.S.Store.tells (g.S.Store.opened (g.S.Chronicle.opening c.enter-turn.result.value)) (g.S.Chronicle.entries c.enter-turn.result.value) c.args.notes.now.pending (record { agent = c.args.pass.now.agent; number = c.args.notes.now.number; op = op.Await t }) c.in-Ok.acted.reply (g.S.Chronicle.entries c.act-acted.new.self)) c.in_ok-room.ensures.0
-      (subst (λ (k : ℕ). IsActed g.S.Store.tells (g.S.Store.opened (g.S.Chronicle.opening c.enter-turn.result.value)) (g.S.Chronicle.entries c.enter-turn.result.value) c.args.notes.now.pending (record { agent = k; number = c.args.notes.now.number; op = op.Await c.in_ok-room.field-0.tag }) c.in-Ok.acted.reply (g.S.Chronicle.entries c.act-acted.new.self)) c.agent-agent.ensures c.in-Ok.ensures.served.acted))
+      (subst (λ (t : Text). IsActed g.S.Store.tells (g.S.Store.opened (g.S.Chronicle.opening c.enter-turn.result.value)) (g.S.Chronicle.entries c.enter-turn.result.value) c.args.caller.now.notes.pending (record { agent = c.args.caller.now.pass.agent; number = c.args.caller.now.notes.number; op = op.Await t }) c.in-Ok.acted.reply (g.S.Chronicle.entries c.act-acted.new.self)) c.in_ok-room.ensures.0
+      (subst (λ (k : ℕ). IsActed g.S.Store.tells (g.S.Store.opened (g.S.Chronicle.opening c.enter-turn.result.value)) (g.S.Chronicle.entries c.enter-turn.result.value) c.args.caller.now.notes.pending (record { agent = k; number = c.args.caller.now.notes.number; op = op.Await c.in_ok-room.field-0.tag }) c.in-Ok.acted.reply (g.S.Chronicle.entries c.act-acted.new.self)) c.agent-agent.ensures c.in-Ok.ensures.served.acted))
       (subst (λ o. IsTold g.S.Store.tells (g.S.Store.opened o) (g.S.Chronicle.entries c.act-acted.new.self)) c.act-acted.ensures.opening c.know_legal-in-Answer.ensures)
       c.leave.new.pass (c.leave.ensures ∙ ap (λ p. at_rest p (g.S.Chronicle.entries c.act-acted.new.self)) c.enter-turn.ensures.pass)
       c.act-acted.new.pending c.in-Ok.ensures.served.taken c.in-Ok.acted.rows
-      (await_reply c.in-Answer.posted) None (c.args.notes.now.number + 1)
-      (await-asks g.S.Store.tells g.S.Store.opened c.args.pass.now c.args.notes.now g.S.Chronicle.owner g.met.S.Store.owned c.requires.agent
+      (await_reply c.in-Answer.posted) None (c.args.caller.now.notes.number + 1)
+      (await-asks g.S.Store.tells g.S.Store.opened c.args.caller.now.pass c.args.caller.now.notes g.S.Chronicle.owner g.met.S.Store.owned c.requires.agent
       (g.S.Store.opened (g.S.Chronicle.opening c.enter-turn.result.value)) (ap g.S.Store.opened (c.enter-turn.ensures.opening ∙ ap (λ h. h.opening) (sym c.requires.own)))
       (g.S.Chronicle.entries c.enter-turn.result.value) c.enter-turn.ensures.grows c.know_legal.ensures
       c.args.tag.now c.await_state-stands.result (c.await_state-stands.ensures ∙ (λ i. awaited (state_after (g.S.Store.opened (g.S.Chronicle.opening c.enter-turn.result.value)) (g.S.Chronicle.entries c.enter-turn.result.value)) (c.agent-agent.ensures i) (c.as_str.ensures i))) c.waits_for-begun.result c.waits_for-begun.ensures
@@ -108,7 +108,7 @@ returns-in-Ok-clause-turned g c = record {
 }
 
 pub returns-in-Answer-clause-agent : goal.returns-in-Answer-clause-agent
-returns-in-Answer-clause-agent g c = unacted-agent g.S.Store.tells g.S.Store.opened c.args.pass.now c.args.notes.now g.S.Chronicle.owner g.met.S.Store.owned c.requires.agent
+returns-in-Answer-clause-agent g c = unacted-agent g.S.Store.tells g.S.Store.opened c.args.caller.now.pass c.args.caller.now.notes g.S.Chronicle.owner g.met.S.Store.owned c.requires.agent
     (g.S.Store.opened (g.S.Chronicle.opening c.enter-turn.result.value)) (ap g.S.Store.opened (c.enter-turn.ensures.opening ∙ ap (λ h. h.opening) (sym c.requires.own)))
     (g.S.Chronicle.entries c.enter-turn.result.value) c.enter-turn.ensures.grows c.know_legal.ensures
     (g.S.Chronicle.entries c.act-acted.new.self) c.in-Err.ensures.unserved.entries
@@ -116,7 +116,7 @@ returns-in-Answer-clause-agent g c = unacted-agent g.S.Store.tells g.S.Store.ope
     c.act-acted.new.pending c.in-Err.ensures.unserved.pending
 
 pub returns-in-Answer-clause-turned : goal.returns-in-Answer-clause-turned
-returns-in-Answer-clause-turned g c = unacted-looked g.S.Store.tells g.S.Store.opened c.args.pass.now c.args.notes.now g.S.Chronicle.owner g.met.S.Store.owned c.requires.agent
+returns-in-Answer-clause-turned g c = unacted-looked g.S.Store.tells g.S.Store.opened c.args.caller.now.pass c.args.caller.now.notes g.S.Chronicle.owner g.met.S.Store.owned c.requires.agent
     (g.S.Store.opened (g.S.Chronicle.opening c.enter-turn.result.value)) (ap g.S.Store.opened (c.enter-turn.ensures.opening ∙ ap (λ h. h.opening) (sym c.requires.own)))
     (g.S.Chronicle.entries c.enter-turn.result.value) c.enter-turn.ensures.grows c.know_legal.ensures
     (g.S.Chronicle.entries c.act-acted.new.self) c.in-Err.ensures.unserved.entries
@@ -126,9 +126,9 @@ returns-in-Answer-clause-turned g c = unacted-looked g.S.Store.tells g.S.Store.o
 pub act-acted-requires-in-Begin : goal.act-acted-requires-in-Begin
 act-acted-requires-in-Begin g c = record {
   may =
-      subst (λ (k : ℕ). MayAct g.S.Store.tells (g.S.Store.opened (g.S.Chronicle.opening c.enter-turn.result.value)) (g.S.Chronicle.entries c.enter-turn.result.value) c.args.notes.now.pending (record { agent = k; number = c.args.notes.now.number; op = op.Wait c.in_ok-room.field-0.tag }) c.fresh-work.result []) (sym c.agent-agent.ensures)
-      (subst (λ (t : Text). MayAct g.S.Store.tells (g.S.Store.opened (g.S.Chronicle.opening c.enter-turn.result.value)) (g.S.Chronicle.entries c.enter-turn.result.value) c.args.notes.now.pending (record { agent = c.args.pass.now.agent; number = c.args.notes.now.number; op = op.Wait t }) c.fresh-work.result []) (sym c.in_ok-room.ensures.0)
-      (wait-acts g.S.Store.tells g.S.Store.opened c.args.pass.now c.args.notes.now g.S.Chronicle.owner g.met.S.Store.owned c.requires.agent
+      subst (λ (k : ℕ). MayAct g.S.Store.tells (g.S.Store.opened (g.S.Chronicle.opening c.enter-turn.result.value)) (g.S.Chronicle.entries c.enter-turn.result.value) c.args.caller.now.notes.pending (record { agent = k; number = c.args.caller.now.notes.number; op = op.Wait c.in_ok-room.field-0.tag }) c.fresh-work.result []) (sym c.agent-agent.ensures)
+      (subst (λ (t : Text). MayAct g.S.Store.tells (g.S.Store.opened (g.S.Chronicle.opening c.enter-turn.result.value)) (g.S.Chronicle.entries c.enter-turn.result.value) c.args.caller.now.notes.pending (record { agent = c.args.caller.now.pass.agent; number = c.args.caller.now.notes.number; op = op.Wait t }) c.fresh-work.result []) (sym c.in_ok-room.ensures.0)
+      (wait-acts g.S.Store.tells g.S.Store.opened c.args.caller.now.pass c.args.caller.now.notes g.S.Chronicle.owner g.met.S.Store.owned c.requires.agent
       (g.S.Store.opened (g.S.Chronicle.opening c.enter-turn.result.value)) (ap g.S.Store.opened (c.enter-turn.ensures.opening ∙ ap (λ h. h.opening) (sym c.requires.own)))
       (g.S.Chronicle.entries c.enter-turn.result.value) c.enter-turn.ensures.grows c.know_legal.ensures
       c.args.tag.now c.await_state-stands.result (c.await_state-stands.ensures ∙ (λ i. awaited (state_after (g.S.Store.opened (g.S.Chronicle.opening c.enter-turn.result.value)) (g.S.Chronicle.entries c.enter-turn.result.value)) (c.agent-agent.ensures i) (c.as_str.ensures i))) c.waits_for-begun.result c.waits_for-begun.ensures
@@ -138,10 +138,10 @@ act-acted-requires-in-Begin g c = record {
 pub leave-requires-in-Begin-clause-adds : goal.leave-requires-in-Begin-clause-adds
 leave-requires-in-Begin-clause-adds g c =
     subst (λ p. Adds g.S.Chronicle.owner p.agent p.base (g.S.Chronicle.entries c.act-acted-in-Begin.new.self)) (sym c.enter-turn.ensures.pass)
-    (adds g.S.Chronicle.owner g.met.S.Store.owned c.args.pass.now.agent g.S.Store.tells (g.S.Store.opened (g.S.Chronicle.opening c.enter-turn.result.value))
-    (in_hand (g.S.Chronicle.entries c.enter-turn.result.value) (g.S.Store.faults c.enter-turn.result.value) c.args.notes.now.pending c.fresh-work.result) (in_hand (g.S.Chronicle.entries c.act-acted-in-Begin.new.self) (g.S.Store.faults c.act-acted-in-Begin.new.self) c.act-acted-in-Begin.new.pending c.act-acted-in-Begin.new.work)
-    (record { agent = c.agent-agent.result; number = c.args.notes.now.number; op = op.Wait c.in_ok-room.field-0.tag }) c.agent-agent.ensures c.act-acted-in-Begin.result
-    (wait-acts g.S.Store.tells g.S.Store.opened c.args.pass.now c.args.notes.now g.S.Chronicle.owner g.met.S.Store.owned c.requires.agent
+    (adds g.S.Chronicle.owner g.met.S.Store.owned c.args.caller.now.pass.agent g.S.Store.tells (g.S.Store.opened (g.S.Chronicle.opening c.enter-turn.result.value))
+    (in_hand (g.S.Chronicle.entries c.enter-turn.result.value) (g.S.Store.faults c.enter-turn.result.value) c.args.caller.now.notes.pending c.fresh-work.result) (in_hand (g.S.Chronicle.entries c.act-acted-in-Begin.new.self) (g.S.Store.faults c.act-acted-in-Begin.new.self) c.act-acted-in-Begin.new.pending c.act-acted-in-Begin.new.work)
+    (record { agent = c.agent-agent.result; number = c.args.caller.now.notes.number; op = op.Wait c.in_ok-room.field-0.tag }) c.agent-agent.ensures c.act-acted-in-Begin.result
+    (wait-acts g.S.Store.tells g.S.Store.opened c.args.caller.now.pass c.args.caller.now.notes g.S.Chronicle.owner g.met.S.Store.owned c.requires.agent
     (g.S.Store.opened (g.S.Chronicle.opening c.enter-turn.result.value)) (ap g.S.Store.opened (c.enter-turn.ensures.opening ∙ ap (λ h. h.opening) (sym c.requires.own)))
     (g.S.Chronicle.entries c.enter-turn.result.value) c.enter-turn.ensures.grows c.know_legal.ensures
     c.args.tag.now c.await_state-stands.result (c.await_state-stands.ensures ∙ (λ i. awaited (state_after (g.S.Store.opened (g.S.Chronicle.opening c.enter-turn.result.value)) (g.S.Chronicle.entries c.enter-turn.result.value)) (c.agent-agent.ensures i) (c.as_str.ensures i))) c.waits_for-begun.result c.waits_for-begun.ensures
@@ -150,18 +150,18 @@ leave-requires-in-Begin-clause-adds g c =
 
 pub returns-in-Ok-acted-clause-agent : goal.returns-in-Ok-acted-clause-agent
 returns-in-Ok-acted-clause-agent g c =
-    subst (λ (n : Text). IsAgent g.S.Store.tells (seen g.S.Store.opened c.leave-in-Begin.new.pass (record c.args.notes.now { pending = c.act-acted-in-Begin.new.pending; entries = c.args.notes.now.entries + 1; rows = c.in-Ok-acted.acted.rows; waiting = Some n }))) (sym c.in_ok-room.ensures.1)
-    (ask-agent g.S.Store.tells g.S.Store.opened c.args.pass.now c.args.notes.now g.S.Chronicle.owner g.met.S.Store.owned c.requires.agent
+    subst (λ (n : Text). IsAgent g.S.Store.tells (seen g.S.Store.opened c.leave-in-Begin.new.pass (record c.args.caller.now.notes { pending = c.act-acted-in-Begin.new.pending; entries = c.args.caller.now.notes.entries + 1; rows = c.in-Ok-acted.acted.rows; waiting = Some n }))) (sym c.in_ok-room.ensures.1)
+    (ask-agent g.S.Store.tells g.S.Store.opened c.args.caller.now.pass c.args.caller.now.notes g.S.Chronicle.owner g.met.S.Store.owned c.requires.agent
     (g.S.Store.opened (g.S.Chronicle.opening c.enter-turn.result.value)) (ap g.S.Store.opened (c.enter-turn.ensures.opening ∙ ap (λ h. h.opening) (sym c.requires.own)))
     (g.S.Chronicle.entries c.enter-turn.result.value) c.enter-turn.ensures.grows c.know_legal.ensures
     (op.Wait c.args.tag.now) c.in-Ok-acted.acted.reply (g.S.Chronicle.entries c.act-acted-in-Begin.new.self)
-    (subst (λ (t : Text). IsActed g.S.Store.tells (g.S.Store.opened (g.S.Chronicle.opening c.enter-turn.result.value)) (g.S.Chronicle.entries c.enter-turn.result.value) c.args.notes.now.pending (record { agent = c.args.pass.now.agent; number = c.args.notes.now.number; op = op.Wait t }) c.in-Ok-acted.acted.reply (g.S.Chronicle.entries c.act-acted-in-Begin.new.self)) c.in_ok-room.ensures.0
-    (subst (λ (k : ℕ). IsActed g.S.Store.tells (g.S.Store.opened (g.S.Chronicle.opening c.enter-turn.result.value)) (g.S.Chronicle.entries c.enter-turn.result.value) c.args.notes.now.pending (record { agent = k; number = c.args.notes.now.number; op = op.Wait c.in_ok-room.field-0.tag }) c.in-Ok-acted.acted.reply (g.S.Chronicle.entries c.act-acted-in-Begin.new.self)) c.agent-agent.ensures c.in-Ok-acted.ensures.served.acted))
+    (subst (λ (t : Text). IsActed g.S.Store.tells (g.S.Store.opened (g.S.Chronicle.opening c.enter-turn.result.value)) (g.S.Chronicle.entries c.enter-turn.result.value) c.args.caller.now.notes.pending (record { agent = c.args.caller.now.pass.agent; number = c.args.caller.now.notes.number; op = op.Wait t }) c.in-Ok-acted.acted.reply (g.S.Chronicle.entries c.act-acted-in-Begin.new.self)) c.in_ok-room.ensures.0
+    (subst (λ (k : ℕ). IsActed g.S.Store.tells (g.S.Store.opened (g.S.Chronicle.opening c.enter-turn.result.value)) (g.S.Chronicle.entries c.enter-turn.result.value) c.args.caller.now.notes.pending (record { agent = k; number = c.args.caller.now.notes.number; op = op.Wait c.in_ok-room.field-0.tag }) c.in-Ok-acted.acted.reply (g.S.Chronicle.entries c.act-acted-in-Begin.new.self)) c.agent-agent.ensures c.in-Ok-acted.ensures.served.acted))
     (subst (λ o. IsTold g.S.Store.tells (g.S.Store.opened o) (g.S.Chronicle.entries c.act-acted-in-Begin.new.self)) c.act-acted-in-Begin.ensures.opening c.know_legal-in-Begin.ensures)
     c.leave-in-Begin.new.pass (c.leave-in-Begin.ensures ∙ ap (λ p. at_rest p (g.S.Chronicle.entries c.act-acted-in-Begin.new.self)) c.enter-turn.ensures.pass)
     c.act-acted-in-Begin.new.pending c.in-Ok-acted.ensures.served.taken c.in-Ok-acted.acted.rows
-    reply.Done (Some c.args.tag.now) c.args.notes.now.number
-    (wait-asks g.S.Store.tells g.S.Store.opened c.args.pass.now c.args.notes.now g.S.Chronicle.owner g.met.S.Store.owned c.requires.agent
+    reply.Done (Some c.args.tag.now) c.args.caller.now.notes.number
+    (wait-asks g.S.Store.tells g.S.Store.opened c.args.caller.now.pass c.args.caller.now.notes g.S.Chronicle.owner g.met.S.Store.owned c.requires.agent
     (g.S.Store.opened (g.S.Chronicle.opening c.enter-turn.result.value)) (ap g.S.Store.opened (c.enter-turn.ensures.opening ∙ ap (λ h. h.opening) (sym c.requires.own)))
     (g.S.Chronicle.entries c.enter-turn.result.value) c.enter-turn.ensures.grows c.know_legal.ensures
     c.args.tag.now c.await_state-stands.result (c.await_state-stands.ensures ∙ (λ i. awaited (state_after (g.S.Store.opened (g.S.Chronicle.opening c.enter-turn.result.value)) (g.S.Chronicle.entries c.enter-turn.result.value)) (c.agent-agent.ensures i) (c.as_str.ensures i))) c.waits_for-begun.result c.waits_for-begun.ensures)
@@ -170,41 +170,41 @@ returns-in-Ok-acted-clause-agent g c =
 
 pub returns-in-Ok-acted-clause-turned : goal.returns-in-Ok-acted-clause-turned
 returns-in-Ok-acted-clause-turned g c =
-    inr (subst (λ (n : Text). IsWaiting g.S.Store.tells (seen g.S.Store.opened c.args.pass.now c.args.notes.now) (seen g.S.Store.opened c.leave-in-Begin.new.pass (record c.args.notes.now { pending = c.act-acted-in-Begin.new.pending; entries = c.args.notes.now.entries + 1; rows = c.in-Ok-acted.acted.rows; waiting = Some n })) c.args.tag.now) (sym c.in_ok-room.ensures.1)
+    inr (subst (λ (n : Text). IsWaiting g.S.Store.tells (seen g.S.Store.opened c.args.caller.now.pass c.args.caller.now.notes) (seen g.S.Store.opened c.leave-in-Begin.new.pass (record c.args.caller.now.notes { pending = c.act-acted-in-Begin.new.pending; entries = c.args.caller.now.notes.entries + 1; rows = c.in-Ok-acted.acted.rows; waiting = Some n })) c.args.tag.now) (sym c.in_ok-room.ensures.1)
     (record {
       turned =
-          ask-turned g.S.Store.tells g.S.Store.opened c.args.pass.now c.args.notes.now g.S.Chronicle.owner g.met.S.Store.owned c.requires.agent
+          ask-turned g.S.Store.tells g.S.Store.opened c.args.caller.now.pass c.args.caller.now.notes g.S.Chronicle.owner g.met.S.Store.owned c.requires.agent
           (g.S.Store.opened (g.S.Chronicle.opening c.enter-turn.result.value)) (ap g.S.Store.opened (c.enter-turn.ensures.opening ∙ ap (λ h. h.opening) (sym c.requires.own)))
           (g.S.Chronicle.entries c.enter-turn.result.value) c.enter-turn.ensures.grows c.know_legal.ensures
           (op.Wait c.args.tag.now) c.in-Ok-acted.acted.reply (g.S.Chronicle.entries c.act-acted-in-Begin.new.self)
-          (subst (λ (t : Text). IsActed g.S.Store.tells (g.S.Store.opened (g.S.Chronicle.opening c.enter-turn.result.value)) (g.S.Chronicle.entries c.enter-turn.result.value) c.args.notes.now.pending (record { agent = c.args.pass.now.agent; number = c.args.notes.now.number; op = op.Wait t }) c.in-Ok-acted.acted.reply (g.S.Chronicle.entries c.act-acted-in-Begin.new.self)) c.in_ok-room.ensures.0
-          (subst (λ (k : ℕ). IsActed g.S.Store.tells (g.S.Store.opened (g.S.Chronicle.opening c.enter-turn.result.value)) (g.S.Chronicle.entries c.enter-turn.result.value) c.args.notes.now.pending (record { agent = k; number = c.args.notes.now.number; op = op.Wait c.in_ok-room.field-0.tag }) c.in-Ok-acted.acted.reply (g.S.Chronicle.entries c.act-acted-in-Begin.new.self)) c.agent-agent.ensures c.in-Ok-acted.ensures.served.acted))
+          (subst (λ (t : Text). IsActed g.S.Store.tells (g.S.Store.opened (g.S.Chronicle.opening c.enter-turn.result.value)) (g.S.Chronicle.entries c.enter-turn.result.value) c.args.caller.now.notes.pending (record { agent = c.args.caller.now.pass.agent; number = c.args.caller.now.notes.number; op = op.Wait t }) c.in-Ok-acted.acted.reply (g.S.Chronicle.entries c.act-acted-in-Begin.new.self)) c.in_ok-room.ensures.0
+          (subst (λ (k : ℕ). IsActed g.S.Store.tells (g.S.Store.opened (g.S.Chronicle.opening c.enter-turn.result.value)) (g.S.Chronicle.entries c.enter-turn.result.value) c.args.caller.now.notes.pending (record { agent = k; number = c.args.caller.now.notes.number; op = op.Wait c.in_ok-room.field-0.tag }) c.in-Ok-acted.acted.reply (g.S.Chronicle.entries c.act-acted-in-Begin.new.self)) c.agent-agent.ensures c.in-Ok-acted.ensures.served.acted))
           (subst (λ o. IsTold g.S.Store.tells (g.S.Store.opened o) (g.S.Chronicle.entries c.act-acted-in-Begin.new.self)) c.act-acted-in-Begin.ensures.opening c.know_legal-in-Begin.ensures)
           c.leave-in-Begin.new.pass (c.leave-in-Begin.ensures ∙ ap (λ p. at_rest p (g.S.Chronicle.entries c.act-acted-in-Begin.new.self)) c.enter-turn.ensures.pass)
           c.act-acted-in-Begin.new.pending c.in-Ok-acted.ensures.served.taken c.in-Ok-acted.acted.rows
-          reply.Done (Some c.args.tag.now) c.args.notes.now.number
-          (wait-asks g.S.Store.tells g.S.Store.opened c.args.pass.now c.args.notes.now g.S.Chronicle.owner g.met.S.Store.owned c.requires.agent
+          reply.Done (Some c.args.tag.now) c.args.caller.now.notes.number
+          (wait-asks g.S.Store.tells g.S.Store.opened c.args.caller.now.pass c.args.caller.now.notes g.S.Chronicle.owner g.met.S.Store.owned c.requires.agent
           (g.S.Store.opened (g.S.Chronicle.opening c.enter-turn.result.value)) (ap g.S.Store.opened (c.enter-turn.ensures.opening ∙ ap (λ h. h.opening) (sym c.requires.own)))
           (g.S.Chronicle.entries c.enter-turn.result.value) c.enter-turn.ensures.grows c.know_legal.ensures
           c.args.tag.now c.await_state-stands.result (c.await_state-stands.ensures ∙ (λ i. awaited (state_after (g.S.Store.opened (g.S.Chronicle.opening c.enter-turn.result.value)) (g.S.Chronicle.entries c.enter-turn.result.value)) (c.agent-agent.ensures i) (c.as_str.ensures i))) c.waits_for-begun.result c.waits_for-begun.ensures);
       first =
-          wait-first g.S.Store.tells g.S.Store.opened c.args.pass.now c.args.notes.now g.S.Chronicle.owner g.met.S.Store.owned c.requires.agent
+          wait-first g.S.Store.tells g.S.Store.opened c.args.caller.now.pass c.args.caller.now.notes g.S.Chronicle.owner g.met.S.Store.owned c.requires.agent
           (g.S.Store.opened (g.S.Chronicle.opening c.enter-turn.result.value)) (ap g.S.Store.opened (c.enter-turn.ensures.opening ∙ ap (λ h. h.opening) (sym c.requires.own)))
           (g.S.Chronicle.entries c.enter-turn.result.value) c.enter-turn.ensures.grows c.know_legal.ensures
           c.args.tag.now c.await_state-stands.result (c.await_state-stands.ensures ∙ (λ i. awaited (state_after (g.S.Store.opened (g.S.Chronicle.opening c.enter-turn.result.value)) (g.S.Chronicle.entries c.enter-turn.result.value)) (c.agent-agent.ensures i) (c.as_str.ensures i))) c.waits_for-begun.result c.waits_for-begun.ensures
           (sym c.plan_for.ensures ∙ c.in-Begin.is);
       rest =
-          ask-rest g.S.Store.tells g.S.Store.opened c.args.pass.now c.args.notes.now g.S.Chronicle.owner g.met.S.Store.owned c.requires.agent
+          ask-rest g.S.Store.tells g.S.Store.opened c.args.caller.now.pass c.args.caller.now.notes g.S.Chronicle.owner g.met.S.Store.owned c.requires.agent
           (g.S.Store.opened (g.S.Chronicle.opening c.enter-turn.result.value)) (ap g.S.Store.opened (c.enter-turn.ensures.opening ∙ ap (λ h. h.opening) (sym c.requires.own)))
           (g.S.Chronicle.entries c.enter-turn.result.value) c.enter-turn.ensures.grows c.know_legal.ensures
           (op.Wait c.args.tag.now) c.in-Ok-acted.acted.reply (g.S.Chronicle.entries c.act-acted-in-Begin.new.self)
-          (subst (λ (t : Text). IsActed g.S.Store.tells (g.S.Store.opened (g.S.Chronicle.opening c.enter-turn.result.value)) (g.S.Chronicle.entries c.enter-turn.result.value) c.args.notes.now.pending (record { agent = c.args.pass.now.agent; number = c.args.notes.now.number; op = op.Wait t }) c.in-Ok-acted.acted.reply (g.S.Chronicle.entries c.act-acted-in-Begin.new.self)) c.in_ok-room.ensures.0
-          (subst (λ (k : ℕ). IsActed g.S.Store.tells (g.S.Store.opened (g.S.Chronicle.opening c.enter-turn.result.value)) (g.S.Chronicle.entries c.enter-turn.result.value) c.args.notes.now.pending (record { agent = k; number = c.args.notes.now.number; op = op.Wait c.in_ok-room.field-0.tag }) c.in-Ok-acted.acted.reply (g.S.Chronicle.entries c.act-acted-in-Begin.new.self)) c.agent-agent.ensures c.in-Ok-acted.ensures.served.acted))
+          (subst (λ (t : Text). IsActed g.S.Store.tells (g.S.Store.opened (g.S.Chronicle.opening c.enter-turn.result.value)) (g.S.Chronicle.entries c.enter-turn.result.value) c.args.caller.now.notes.pending (record { agent = c.args.caller.now.pass.agent; number = c.args.caller.now.notes.number; op = op.Wait t }) c.in-Ok-acted.acted.reply (g.S.Chronicle.entries c.act-acted-in-Begin.new.self)) c.in_ok-room.ensures.0
+          (subst (λ (k : ℕ). IsActed g.S.Store.tells (g.S.Store.opened (g.S.Chronicle.opening c.enter-turn.result.value)) (g.S.Chronicle.entries c.enter-turn.result.value) c.args.caller.now.notes.pending (record { agent = k; number = c.args.caller.now.notes.number; op = op.Wait c.in_ok-room.field-0.tag }) c.in-Ok-acted.acted.reply (g.S.Chronicle.entries c.act-acted-in-Begin.new.self)) c.agent-agent.ensures c.in-Ok-acted.ensures.served.acted))
           (subst (λ o. IsTold g.S.Store.tells (g.S.Store.opened o) (g.S.Chronicle.entries c.act-acted-in-Begin.new.self)) c.act-acted-in-Begin.ensures.opening c.know_legal-in-Begin.ensures)
           c.leave-in-Begin.new.pass (c.leave-in-Begin.ensures ∙ ap (λ p. at_rest p (g.S.Chronicle.entries c.act-acted-in-Begin.new.self)) c.enter-turn.ensures.pass)
           c.act-acted-in-Begin.new.pending c.in-Ok-acted.ensures.served.taken c.in-Ok-acted.acted.rows
-          reply.Done (Some c.args.tag.now) c.args.notes.now.number
-          (wait-asks g.S.Store.tells g.S.Store.opened c.args.pass.now c.args.notes.now g.S.Chronicle.owner g.met.S.Store.owned c.requires.agent
+          reply.Done (Some c.args.tag.now) c.args.caller.now.notes.number
+          (wait-asks g.S.Store.tells g.S.Store.opened c.args.caller.now.pass c.args.caller.now.notes g.S.Chronicle.owner g.met.S.Store.owned c.requires.agent
           (g.S.Store.opened (g.S.Chronicle.opening c.enter-turn.result.value)) (ap g.S.Store.opened (c.enter-turn.ensures.opening ∙ ap (λ h. h.opening) (sym c.requires.own)))
           (g.S.Chronicle.entries c.enter-turn.result.value) c.enter-turn.ensures.grows c.know_legal.ensures
           c.args.tag.now c.await_state-stands.result (c.await_state-stands.ensures ∙ (λ i. awaited (state_after (g.S.Store.opened (g.S.Chronicle.opening c.enter-turn.result.value)) (g.S.Chronicle.entries c.enter-turn.result.value)) (c.agent-agent.ensures i) (c.as_str.ensures i))) c.waits_for-begun.result c.waits_for-begun.ensures)
@@ -212,7 +212,7 @@ returns-in-Ok-acted-clause-turned g c =
     }))
 
 pub returns-in-Begin-clause-agent : goal.returns-in-Begin-clause-agent
-returns-in-Begin-clause-agent g c = unacted-agent g.S.Store.tells g.S.Store.opened c.args.pass.now c.args.notes.now g.S.Chronicle.owner g.met.S.Store.owned c.requires.agent
+returns-in-Begin-clause-agent g c = unacted-agent g.S.Store.tells g.S.Store.opened c.args.caller.now.pass c.args.caller.now.notes g.S.Chronicle.owner g.met.S.Store.owned c.requires.agent
     (g.S.Store.opened (g.S.Chronicle.opening c.enter-turn.result.value)) (ap g.S.Store.opened (c.enter-turn.ensures.opening ∙ ap (λ h. h.opening) (sym c.requires.own)))
     (g.S.Chronicle.entries c.enter-turn.result.value) c.enter-turn.ensures.grows c.know_legal.ensures
     (g.S.Chronicle.entries c.act-acted-in-Begin.new.self) c.in-Err-acted.ensures.unserved.entries
@@ -220,7 +220,7 @@ returns-in-Begin-clause-agent g c = unacted-agent g.S.Store.tells g.S.Store.open
     c.act-acted-in-Begin.new.pending c.in-Err-acted.ensures.unserved.pending
 
 pub returns-in-Begin-clause-turned : goal.returns-in-Begin-clause-turned
-returns-in-Begin-clause-turned g c = unacted-looked g.S.Store.tells g.S.Store.opened c.args.pass.now c.args.notes.now g.S.Chronicle.owner g.met.S.Store.owned c.requires.agent
+returns-in-Begin-clause-turned g c = unacted-looked g.S.Store.tells g.S.Store.opened c.args.caller.now.pass c.args.caller.now.notes g.S.Chronicle.owner g.met.S.Store.owned c.requires.agent
     (g.S.Store.opened (g.S.Chronicle.opening c.enter-turn.result.value)) (ap g.S.Store.opened (c.enter-turn.ensures.opening ∙ ap (λ h. h.opening) (sym c.requires.own)))
     (g.S.Chronicle.entries c.enter-turn.result.value) c.enter-turn.ensures.grows c.know_legal.ensures
     (g.S.Chronicle.entries c.act-acted-in-Begin.new.self) c.in-Err-acted.ensures.unserved.entries
@@ -228,23 +228,23 @@ returns-in-Begin-clause-turned g c = unacted-looked g.S.Store.tells g.S.Store.op
     c.act-acted-in-Begin.new.pending c.in-Err-acted.ensures.unserved.pending
 
 pub returns-clause-agent : goal.returns-clause-agent
-returns-clause-agent g c = unacted-agent g.S.Store.tells g.S.Store.opened c.args.pass.now c.args.notes.now g.S.Chronicle.owner g.met.S.Store.owned c.requires.agent
+returns-clause-agent g c = unacted-agent g.S.Store.tells g.S.Store.opened c.args.caller.now.pass c.args.caller.now.notes g.S.Chronicle.owner g.met.S.Store.owned c.requires.agent
     (g.S.Store.opened (g.S.Chronicle.opening c.enter-turn.result.value)) (ap g.S.Store.opened (c.enter-turn.ensures.opening ∙ ap (λ h. h.opening) (sym c.requires.own)))
     (g.S.Chronicle.entries c.enter-turn.result.value) c.enter-turn.ensures.grows c.know_legal.ensures
     (g.S.Chronicle.entries c.enter-turn.result.value) refl
     c.leave-in-Look.new.pass (c.leave-in-Look.ensures ∙ ap (λ p. at_rest p (g.S.Chronicle.entries c.enter-turn.result.value)) c.enter-turn.ensures.pass)
-    c.args.notes.now.pending refl
+    c.args.caller.now.notes.pending refl
 
 pub returns-clause-turned : goal.returns-clause-turned
 returns-clause-turned g c =
     inl (
-      unacted-looked g.S.Store.tells g.S.Store.opened c.args.pass.now c.args.notes.now g.S.Chronicle.owner g.met.S.Store.owned c.requires.agent
+      unacted-looked g.S.Store.tells g.S.Store.opened c.args.caller.now.pass c.args.caller.now.notes g.S.Chronicle.owner g.met.S.Store.owned c.requires.agent
           (g.S.Store.opened (g.S.Chronicle.opening c.enter-turn.result.value)) (ap g.S.Store.opened (c.enter-turn.ensures.opening ∙ ap (λ h. h.opening) (sym c.requires.own)))
           (g.S.Chronicle.entries c.enter-turn.result.value) c.enter-turn.ensures.grows c.know_legal.ensures
           (g.S.Chronicle.entries c.enter-turn.result.value) refl
           c.leave-in-Look.new.pass (c.leave-in-Look.ensures ∙ ap (λ p. at_rest p (g.S.Chronicle.entries c.enter-turn.result.value)) c.enter-turn.ensures.pass)
-          c.args.notes.now.pending refl,
-      look-waits g.S.Store.tells g.S.Store.opened c.args.pass.now c.args.notes.now g.S.Chronicle.owner g.met.S.Store.owned c.requires.agent
+          c.args.caller.now.notes.pending refl,
+      look-waits g.S.Store.tells g.S.Store.opened c.args.caller.now.pass c.args.caller.now.notes g.S.Chronicle.owner g.met.S.Store.owned c.requires.agent
           (g.S.Store.opened (g.S.Chronicle.opening c.enter-turn.result.value)) (ap g.S.Store.opened (c.enter-turn.ensures.opening ∙ ap (λ h. h.opening) (sym c.requires.own)))
           (g.S.Chronicle.entries c.enter-turn.result.value) c.enter-turn.ensures.grows c.know_legal.ensures
           c.args.tag.now c.await_state-stands.result (c.await_state-stands.ensures ∙ (λ i. awaited (state_after (g.S.Store.opened (g.S.Chronicle.opening c.enter-turn.result.value)) (g.S.Chronicle.entries c.enter-turn.result.value)) (c.agent-agent.ensures i) (c.as_str.ensures i))) c.waits_for-begun.result c.waits_for-begun.ensures

@@ -1,9 +1,9 @@
 use Rattle.std.proofs.Common.{ℕ, ◌/◌, List, ◌∙◌, sym, arith}
-use Rattle.opfs_data.specs.Rows.{pages_at}
 use Rattle.opfs_pages.specs.Copies.{IsBegun, IsPageOf}
 use Rattle.opfs_pages.proofs.PageBytes.{copied_length}
 use Rattle.opfs_pages.proofs.row_calls.Buffers.{held-far}
 use Rattle.opfs_pages.proofs.row_calls.Ways.{cut-tail}
+use Rattle.opfs_desk_bytes.specs.Reading.Sources.{pages_of}
 use Rattle.opfs_desk_bytes.proofs.reading.bytes.fill_cursor.Goals as goal
 
 as-begun : (bytes : List ℕ) (i : ℕ) (page : List ℕ) → IsPageOf bytes i page → IsBegun bytes i page
@@ -11,10 +11,10 @@ as-begun bytes i page is = record { size = is.size; at = λ k below inside. is.a
 
 pub returns-clause-read : goal.returns-clause-read
 returns-clause-read g c = λ told bytes copy held.
-    c.cut_page.ensures.filled bytes (copied_length bytes c.args.work.now copy ∙ sym c.size.ensures)
-    (as-begun bytes (c.args.cursor / 4096) c.fill_page.new.into
+    c.cut_page.ensures.filled bytes (copied_length bytes c.args.source.now.work.now copy ∙ sym c.size.ensures)
+    (as-begun bytes (c.args.cursor / 4096) c.fill_page.new.buffer
     (c.in_ok-fill_page.ensures.read told bytes copy
-    (held-far bytes c.args.work.now (g.D.Disk.content c.args.journal.now.disk) c.args.base (pages_at c.args.agent c.args.row c.args.swap.now) (c.args.cursor / 4096) held)))
+    (held-far bytes c.args.source.now.work.now (g.D.Disk.content c.args.journal.now.disk) c.args.source.now.base (pages_of c.args.source.now) (c.args.cursor / 4096) held)))
 
 pub returns-clause-tail : goal.returns-clause-tail
-returns-clause-tail g c = λ i past here. cut-tail c.fill_page.new.into c.cut_page.new.into (c.args.cursor / 4096) c.size.result i c.fill_page.ensures.whole c.cut_page.ensures.cut (omega (arith, past, c.size.ensures)) here
+returns-clause-tail g c = λ i past here. cut-tail c.fill_page.new.buffer c.cut_page.new.into (c.args.cursor / 4096) c.size.result i c.fill_page.ensures.buffer c.cut_page.ensures.cut (omega (arith, past, c.size.ensures)) here

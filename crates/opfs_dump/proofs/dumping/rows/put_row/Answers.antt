@@ -11,5 +11,5 @@ use Rattle.opfs_dump.proofs.dumping.rows.put_row.Goals as goal
 pub returns-in-Dir : goal.returns-in-Dir
 returns-in-Dir g c =
     let laws = g.met.D.Disk in
-    subst (λ (r : Row). IfSome c.args.walk.now (λ place. Dumps g.D.Disk g.K.Sink c.args.journal.now c.args.journal.now c.args.sink.now c.put_folder.new.sink (λ (x : List ℕ). compact_text (row_value (place, filled_row c.args.base x r))) c.put_folder.result)) (sym c.in-Dir.is)
-    (folder_placed g.D.Disk g.K.Sink laws.falls c.args.journal.now c.args.sink.now c.put_folder.new.sink c.args.walk.now c.key-key.result.now c.path-path.result.now c.put_folder.result c.key-key.ensures c.path-path.ensures c.put_folder.ensures)
+    subst (λ (r : Row). IfSome c.args.placed.now.walk.now (λ place. Dumps g.D.Disk g.K.Sink c.args.journal.now c.args.journal.now c.args.sink.now c.put_folder.new.sink (λ (x : List ℕ). compact_text (row_value (place, filled_row c.args.placed.now.base x r))) c.put_folder.result)) (sym c.in-Dir.is)
+    (folder_placed g.D.Disk g.K.Sink laws.falls c.args.journal.now c.args.sink.now c.put_folder.new.sink c.args.placed.now.walk.now c.key-key.result.now c.path-path.result.now c.put_folder.result c.key-key.ensures c.path-path.ensures c.put_folder.ensures)
