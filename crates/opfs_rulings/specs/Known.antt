@@ -1,5 +1,5 @@
 -- What the plain machine's parts say of lists of rows and of agents.
-use Rattle.std.specs.Prelude.{ℕ, ◌<◌, ◌≤◌, Bool, true, not, List, [], ◌∷◌, length, Option, None, Some, Ok, Err}
+use Rattle.std.specs.Prelude.{ℕ, ◌<◌, ◌≤◌, ◌||◌, Bool, true, false, not, is_none, filter, sum_by, List, [], ◌∷◌, length, Option, None, Some, Ok, Err}
 use Rattle.std.specs.Ordering.{is_gt}
 use Rattle.std.specs.declared.cmp.Ordering.{Ordering}
 use Rattle.std.specs.List.{list_any}
@@ -11,7 +11,11 @@ use Rattle.opfs_locks.specs.Taking.{Lock}
 use Rattle.opfs_machine.specs.declared.state.Need.{Need}
 use Rattle.opfs_machine.specs.Ruled.{Ruled}
 use Rattle.opfs_machine.specs.Rulings.{locked_by}
-use Rattle.opfs_machine.specs.Sums.{no_need}
+use Rattle.opfs_machine.specs.Sums.{no_need, durable_blocks}
+use Rattle.opfs_machine.specs.Contents.{in_bytes}
+use Rattle.opfs_machine.specs.Rows.{taken_lock}
+use Rattle.opfs_machine.specs.declared.state.Row.{Row}
+use Rattle.opfs_base.specs.Places.{Place}
 
 -- There is an agent of this number.
 pub record IsAgent (s : State Text Own) (k : ℕ) : Type 0 where
@@ -41,3 +45,15 @@ keys_from R k (e ∷ es) = not (is_gt (R k e.0))
 -- Whether a unit is not among some.
 unfoldable pub is_left : List Text → Text → Bool
 is_left gone unit = not (list_any (λ u. same_text u unit) gone)
+
+-- The blocks that clearing a unit frees, once some units are cleared.
+abbrev pub freed : List Text → Text → List (Place × Row Text) → ℕ
+freed gone unit rows =
+    elim (list_any (λ u. same_text u unit) gone) [
+      | true ↦ 0
+      | false ↦ sum_by (λ e. durable_blocks in_bytes e.1) (filter (λ e. same_text unit e.0.0) rows)
+    ]
+
+-- Whether a row is not a unit's file with a taken lock.
+abbrev pub is_untaken : Text → Place × Row Text → Bool
+is_untaken unit e = not (same_text unit e.0.0) || is_none (taken_lock e.1)

@@ -1,6 +1,10 @@
 //! Whether there is room for a need, and which units are cleared for it.
 
-ghost use Rattle.std.specs.Prelude.{◌≡◌, ◌&&◌, if◌then◌else◌, IfOk, OnOk, fold, map, is_none};
+ghost use Rattle.std.specs.Prelude.{◌≡◌, ◌+◌, ◌&&◌, ◌||◌, if◌then◌else◌, nat_le, not, IfOk, OnOk, map, is_none};
+ghost use Rattle.std.specs.BTreeSet.{contains};
+ghost use Rattle.std.specs.Cmp.Lexicographic.{slice_cmp};
+ghost use Rattle.std.specs.Ordering.{nat_cmp};
+ghost use Rattle.opfs_base.specs.Texts.{Text};
 ghost use Rattle.std.specs.Option.{option_copied};
 ghost use Rattle.opfs_base.specs.Units.{origin_of};
 ghost use Rattle.opfs_machine.specs.Ordered.{insert_by};
@@ -13,52 +17,63 @@ ghost use Rattle.opfs_machine.specs.Steps.{room_for};
 ghost use Rattle.opfs_machine.specs.Rows.{taken_lock};
 ghost use Rattle.opfs_base.specs.Measures.{is_root};
 ghost use Rattle.opfs_machine.specs.Sums.{pool, charge, fits_quota, fits_area, fits_pool};
-ghost use Rattle.opfs_machine.specs.Victims.{cleared, is_callers, none_taken, is_candidate, candidates, shortest_front, victims};
+ghost use Rattle.opfs_machine.specs.Victims.{is_callers, none_taken, is_candidate, candidates, shortest_front, victims};
+ghost use Rattle.opfs_rulings.specs.Known.{is_untaken};
+ghost use Rattle.opfs_rulings.specs.Sets.{IsTakenSet};
 
 use crate::bucket_rulings::is_persistent;
-use crate::ordered::insert;
 use crate::rows::PlacedRow;
-use crate::sums::{is_of, mode_charges, reserves, row_charges, row_pool, usage};
+use crate::sums::{freed, is_of, mode_charges, reserves, row_charges, row_pool, usage};
 use opfs_base::{Bytes, Key, origin_of, plus, times};
 use opfs_hist::Refusal;
 use opfs_locks::LockValue;
 use opfs_machine::{Many, Need, Own, Place, Row, Ruled, State};
 use std::alloc::{AllocError, Global};
+use std::collections::BTreeSet;
 
-/// The pool once some units are cleared.
-#[tactic(auto, using(crate::proofs::Cleared::pool_fold))]
-fn pool_without(state: &State<Bytes, Own>, gone: &[Key]) -> Result<u64, AllocError>
-    ensures { IfOk result (λ total. total ≡ pool in_bytes (fold cleared state.now gone.now)) }
+/// The pool.
+fn pool(state: &State<Bytes, Own>) -> Result<u64, AllocError>
+    ensures { IfOk result (λ total. total ≡ pool in_bytes state.now) }
 {
-    let files = row_pool(state.rows.items.as_slice(), gone)?;
+    let files = row_pool(state.rows.items.as_slice())?;
     let rows = reserves(state.agents.items.as_slice())?;
     let total = plus(files, rows)?;
     Ok(total)
 }
 
 /// The charge.
-fn charge(alloc: Global, state: &State<Bytes, Own>) -> Result<u64, AllocError>
+fn charge(state: &State<Bytes, Own>) -> Result<u64, AllocError>
     ensures { IfOk result (λ total. total ≡ charge in_bytes state.now) }
 {
     let rows = row_charges(state.rows.items.as_slice())?;
     let modes = mode_charges(state.persistent.items.as_slice())?;
-    let none: Vec<Key> = Vec::new(alloc);
-    let blocks = times(8, pool_without(state, none.as_slice())?)?;
+    let blocks = times(8, pool(state)?)?;
     let metadata = plus(rows, modes)?;
     let total = plus(metadata, blocks)?;
     Ok(total)
 }
 
-/// Whether the pool has room for a need once some units are cleared.
-#[tactic(auto, using(crate::proofs::Cleared::limits_fold))]
-fn fits_without(state: &State<Bytes, Own>, gone: &[Key], need: u64) -> Result<bool, AllocError>
-    ensures { IfOk result (λ fits. fits ≡ fits_pool in_bytes (fold cleared state.now gone.now) need) }
+/// Whether a need has room beside what the pool holds.
+fn fits_beside(state: &State<Bytes, Own>, held: u64, need: u64) -> Result<bool, AllocError>
+    ensures { IfOk result (λ fits. fits ≡ (nat_le need 0 || nat_le (held + need) state.now.limits.blocks)) }
 {
     if need == 0 {
         return Ok(true);
     }
-    let after = plus(pool_without(state, gone)?, need)?;
+    let after = plus(held, need)?;
     let fits = after <= state.limits.blocks;
+    Ok(fits)
+}
+
+/// Whether the pool has room for a need.
+fn fits_pool(state: &State<Bytes, Own>, need: u64) -> Result<bool, AllocError>
+    ensures { IfOk result (λ fits. fits ≡ fits_pool in_bytes state.now need) }
+{
+    if need == 0 {
+        return Ok(true);
+    }
+    let held = pool(state)?;
+    let fits = fits_beside(state, held, need)?;
     Ok(fits)
 }
 
@@ -74,17 +89,6 @@ fn last_use(state: &State<Bytes, Own>, origin: &[u8]) -> u64
     0
 }
 
-/// Whether no file of a unit has a taken lock.
-fn none_taken(state: &State<Bytes, Own>, unit: &Key) -> bool
-    ensures { result ≡ none_taken state.now unit.now }
-{
-    state
-        .rows
-        .items
-        .iter()
-        .all(|entry| *unit != entry.0.0 || is_untaken(&entry.1))
-}
-
 /// Whether a row has no taken lock.
 fn is_untaken(row: &Row<Bytes>) -> bool
     ensures { result ≡ is_none (taken_lock row.now) }
@@ -95,11 +99,46 @@ fn is_untaken(row: &Row<Bytes>) -> bool
     }
 }
 
+/// Adds a row's unit to those with a taken lock, where its lock is taken.
+fn add_taken(alloc: Global, taken: &mut BTreeSet<Key>, entry: &PlacedRow) -> Result<(), AllocError>
+    ensures { OnOk result ((unit : Text) → not (contains (slice_cmp nat_cmp) taken.new unit) ≡ (not (contains (slice_cmp nat_cmp) taken.old unit) && is_untaken unit entry.now)) }
+{
+    if !is_untaken(&entry.1) {
+        taken.insert(entry.0.0.copy(alloc)?)?;
+    }
+    Ok(())
+}
+
+/// The units that have a file with a taken lock.
+fn taken_units(alloc: Global, rows: &[PlacedRow]) -> Result<BTreeSet<Key>, AllocError>
+    ensures { IfOk result (λ taken. IsTakenSet rows.now taken) }
+{
+    let mut taken = BTreeSet::new(alloc);
+    for entry in rows {
+        add_taken(alloc, &mut taken, entry)?;
+    }
+    Ok(taken)
+}
+
+/// Whether no file of a unit has a taken lock.
+fn none_taken(state: &State<Bytes, Own>, taken: &BTreeSet<Key>, unit: &Key) -> bool
+    requires { IsTakenSet state.now.rows taken.now }
+    ensures { result ≡ none_taken state.now unit.now }
+{
+    !taken.contains(unit)
+}
+
 /// Whether a unit with a root may be cleared for a call.
-fn is_candidate(state: &State<Bytes, Own>, caller: Option<&Key>, unit: &Key) -> bool
+fn is_candidate(
+    state: &State<Bytes, Own>,
+    taken: &BTreeSet<Key>,
+    caller: Option<&Key>,
+    unit: &Key,
+) -> bool
+    requires { IsTakenSet state.now.rows taken.now }
     ensures { result ≡ is_candidate state.now (option_copied caller.entry) unit.now }
 {
-    !is_persistent(state, unit) && !is_callers(caller, unit) && none_taken(state, unit)
+    !is_persistent(state, unit) && !is_callers(caller, unit) && none_taken(state, taken, unit)
 }
 
 /// Whether a unit is of the caller's origin.
@@ -120,27 +159,44 @@ fn is_root(place: &Place) -> bool
 }
 
 /// Whether a row is the root of a unit that may be cleared.
-fn is_root_candidate(state: &State<Bytes, Own>, caller: Option<&Key>, entry: &PlacedRow) -> bool
+fn is_root_candidate(
+    state: &State<Bytes, Own>,
+    taken: &BTreeSet<Key>,
+    caller: Option<&Key>,
+    entry: &PlacedRow,
+) -> bool
+    requires { IsTakenSet state.now.rows taken.now }
     ensures { result ≡ (is_root entry.now.0 && is_candidate state.now (option_copied caller.entry) entry.now.0.0) }
 {
-    is_root(&entry.0) && is_candidate(state, caller, &entry.0.0)
+    is_root(&entry.0) && is_candidate(state, taken, caller, &entry.0.0)
+}
+
+/// Adds a unit with its last use in its place.
+#[tactic(auto, using(crate::proofs::Taking::inserted))]
+fn add_sorted(sorted: &mut BTreeSet<(u64, Key)>, unit: (u64, Key)) -> Result<(), AllocError>
+    ensures { OnOk result (sorted.new.keys ≡ insert_by use_cmp unit sorted.old.keys) }
+{
+    sorted.insert(unit)?;
+    Ok(())
 }
 
 /// Adds a candidate in its place, where a row is the root of one.
 fn add_candidate(
     alloc: Global,
     state: &State<Bytes, Own>,
+    taken: &BTreeSet<Key>,
     caller: Option<&Key>,
-    sorted: &mut Vec<(u64, Key)>,
+    sorted: &mut BTreeSet<(u64, Key)>,
     entry: &PlacedRow,
 ) -> Result<(), AllocError>
-    ensures { OnOk result (sorted.new.items ≡ (if is_root entry.now.0 && is_candidate state.now (option_copied caller.entry) entry.now.0.0
-        then insert_by use_cmp (last_use state.now (origin_of entry.now.0.0), entry.now.0.0) sorted.old.items else sorted.old.items)) }
+    requires { IsTakenSet state.now.rows taken.now }
+    ensures { OnOk result (sorted.new.keys ≡ (if is_root entry.now.0 && is_candidate state.now (option_copied caller.entry) entry.now.0.0
+        then insert_by use_cmp (last_use state.now (origin_of entry.now.0.0), entry.now.0.0) sorted.old.keys else sorted.old.keys)) }
 {
-    if is_root_candidate(state, caller, entry) {
+    if is_root_candidate(state, taken, caller, entry) {
         let unit = &entry.0.0;
         let used = last_use(state, origin_of(unit.as_bytes()));
-        insert(sorted, (used, unit.copy(alloc)?))?;
+        add_sorted(sorted, (used, unit.copy(alloc)?))?;
     }
     Ok(())
 }
@@ -149,13 +205,15 @@ fn add_candidate(
 fn candidates(
     alloc: Global,
     state: &State<Bytes, Own>,
+    taken: &BTreeSet<Key>,
     caller: Option<&Key>,
-) -> Result<Vec<(u64, Key)>, AllocError>
-    ensures { IfOk result (λ sorted. map (λ e. e.1) sorted.items ≡ candidates state.now (option_copied caller.entry)) }
+) -> Result<BTreeSet<(u64, Key)>, AllocError>
+    requires { IsTakenSet state.now.rows taken.now }
+    ensures { IfOk result (λ sorted. map (λ e. e.1) sorted.keys ≡ candidates state.now (option_copied caller.entry)) }
 {
-    let mut sorted = Vec::new(alloc);
+    let mut sorted = BTreeSet::new(alloc);
     for entry in state.rows.items.as_slice() {
-        add_candidate(alloc, state, caller, &mut sorted, entry)?;
+        add_candidate(alloc, state, taken, caller, &mut sorted, entry)?;
     }
     Ok(sorted)
 }
@@ -165,18 +223,21 @@ fn shortest_front(
     alloc: Global,
     state: &State<Bytes, Own>,
     need: u64,
-    units: &[(u64, Key)],
+    units: BTreeSet<(u64, Key)>,
 ) -> Result<Option<Many<Key>>, AllocError>
-    ensures { IfOk result (λ front. front ≡ shortest_front in_bytes state.now need (map (λ e. e.1) units.now)) }
+    ensures { IfOk result (λ front. front ≡ shortest_front in_bytes state.now need (map (λ e. e.1) units.keys)) }
 {
+    let mut left = units;
     let mut gone: Vec<Key> = Vec::new(alloc);
-    for unit in units {
-        if fits_without(state, gone.as_slice(), need)? {
+    let mut held = pool(state)?;
+    while let Some((_, unit)) = left.pop_first() {
+        if fits_beside(state, held, need)? {
             return Ok(Some(Many { items: gone }));
         }
-        gone.push(unit.1.copy(alloc)?)?;
+        held = held.saturating_sub(freed(state, gone.as_slice(), &unit)?);
+        gone.push(unit)?;
     }
-    if fits_without(state, gone.as_slice(), need)? {
+    if fits_beside(state, held, need)? {
         return Ok(Some(Many { items: gone }));
     }
     Ok(None)
@@ -195,13 +256,13 @@ fn fits_quota(state: &State<Bytes, Own>, origin: &[u8], need: u64) -> Result<boo
 }
 
 /// Whether a growth of the charge is within the area.
-fn fits_area(alloc: Global, state: &State<Bytes, Own>, growth: u64) -> Result<bool, AllocError>
+fn fits_area(state: &State<Bytes, Own>, growth: u64) -> Result<bool, AllocError>
     ensures { IfOk result (λ fits. fits ≡ fits_area in_bytes state.now growth) }
 {
     if growth == 0 {
         return Ok(true);
     }
-    let after = plus(plus(charge(alloc, state)?, growth)?, 7)?;
+    let after = plus(plus(charge(state)?, growth)?, 7)?;
     let fits = after <= state.limits.area;
     Ok(fits)
 }
@@ -226,12 +287,14 @@ fn victims(
 ) -> Result<Option<Many<Key>>, AllocError>
     ensures { IfOk result (λ units. units ≡ victims in_bytes state.now (option_copied caller.entry) need) }
 {
-    let none: Vec<Key> = Vec::new(alloc);
-    if fits_without(state, none.as_slice(), need)? {
-        return Ok(Some(Many { items: none }));
+    if fits_pool(state, need)? {
+        return Ok(Some(Many {
+            items: Vec::new(alloc),
+        }));
     }
-    let sorted = candidates(alloc, state, caller)?;
-    shortest_front(alloc, state, need, sorted.as_slice())
+    let taken = taken_units(alloc, state.rows.items.as_slice())?;
+    let sorted = candidates(alloc, state, &taken, caller)?;
+    shortest_front(alloc, state, need, sorted)
 }
 
 /// The units that are cleared for a need, judged in this order: the quota, the area, the pool.
@@ -249,8 +312,8 @@ pub fn room_for(
         let used = usage(state, origin)?;
         return Ok(Err(Refusal::QuotaExceededError(used, need.quota, state.limits.quota)));
     }
-    if !fits_area(alloc, state, need.charge)? {
-        let charge = charge(alloc, state)?;
+    if !fits_area(state, need.charge)? {
+        let charge = charge(state)?;
         return Ok(Err(Refusal::MetaFull(charge, need.charge, state.limits.area)));
     }
     pool_room(alloc, state, caller, need.pool)
@@ -268,8 +331,7 @@ fn pool_room(
     match victims(alloc, state, caller, need)? {
         Some(units) => Ok(Ok(units)),
         None => {
-            let none: Vec<Key> = Vec::new(alloc);
-            let pool = pool_without(state, none.as_slice())?;
+            let pool = pool(state)?;
             Ok(Err(Refusal::DataFull(pool, need, state.limits.blocks)))
         }
     }

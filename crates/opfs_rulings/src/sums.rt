@@ -4,7 +4,7 @@ ghost use Rattle.std.specs.Prelude.{◌≡◌, IfOk, MatchOption, filter, flat_m
 ghost use Rattle.std.specs.List.{list_any};
 ghost use Rattle.opfs_base.specs.Texts.{Text, same_text};
 ghost use Rattle.opfs_base.specs.Units.{origin_of};
-ghost use Rattle.opfs_rulings.specs.Known.{IsAgent, is_left};
+ghost use Rattle.opfs_rulings.specs.Known.{IsAgent, freed};
 ghost use Rattle.opfs_machine.specs.Agents.{agent_of, own_of};
 ghost use Rattle.opfs_machine.specs.Contents.{in_bytes, outline_of};
 ghost use Rattle.opfs_machine.specs.Sums.{usage, pool, charge, present_blocks, durable_blocks, row_reserve, reserve_of, row_charge};
@@ -109,24 +109,38 @@ fn is_among(units: &[Key], unit: &Key) -> bool
     units.iter().any(|other| *other == *unit)
 }
 
-/// Whether a unit is not among some.
-#[tactic(auto, unfolding(crate::specs::Known::is_left))]
-fn stays(gone: &[Key], unit: &Key) -> bool
-    ensures { result ≡ is_left gone.now unit.now }
-{
-    !is_among(gone, unit)
-}
-
-/// The blocks of the durable bytes of all files but those of some units.
-pub fn row_pool(rows: &[PlacedRow], gone: &[Key]) -> Result<u64, AllocError>
-    ensures { IfOk result (λ total. total ≡ sum_by (λ e. durable_blocks in_bytes e.1) (filter (λ e. is_left gone.now e.0.0) rows.now)) }
+/// The blocks of the durable bytes of all files.
+pub fn row_pool(rows: &[PlacedRow]) -> Result<u64, AllocError>
+    ensures { IfOk result (λ total. total ≡ sum_by (λ e. durable_blocks in_bytes e.1) rows.now) }
 {
     let mut total = 0;
     for entry in rows {
-        if stays(gone, &entry.0.0) {
+        total = plus(total, durable_blocks(&entry.1))?;
+    }
+    Ok(total)
+}
+
+/// The blocks of the durable bytes of a unit's files.
+fn unit_pool(rows: &[PlacedRow], unit: &Key) -> Result<u64, AllocError>
+    ensures { IfOk result (λ total. total ≡ sum_by (λ e. durable_blocks in_bytes e.1) (filter (λ e. same_text unit.now e.0.0) rows.now)) }
+{
+    let mut total = 0;
+    for entry in rows {
+        if *unit == entry.0.0 {
             total = plus(total, durable_blocks(&entry.1))?;
         }
     }
+    Ok(total)
+}
+
+/// The blocks that clearing a unit frees, once some units are cleared.
+pub fn freed(state: &State<Bytes, Own>, gone: &[Key], unit: &Key) -> Result<u64, AllocError>
+    ensures { IfOk result (λ total. total ≡ freed gone.now unit.now state.now.rows) }
+{
+    if is_among(gone, unit) {
+        return Ok(0);
+    }
+    let total = unit_pool(state.rows.items.as_slice(), unit)?;
     Ok(total)
 }
 

@@ -9,5 +9,5 @@ use Rattle.opfs_rulings.proofs.room.candidates.Given as goal
 
 abbrev pub invariant-loop-entry : goal.invariant-loop-entry
 invariant-loop-entry l =
-    fold (λ sorted unit. insert_by use_cmp (last_use l.state (origin_of unit), unit) sorted) l.sorted.items (filter (is_candidate l.state (option_copied l.caller)) (filter_map root_unit (drop l.entry-index l.entry-items)))
+    fold (λ sorted unit. insert_by use_cmp (last_use l.state (origin_of unit), unit) sorted) l.sorted.keys (filter (is_candidate l.state (option_copied l.caller)) (filter_map root_unit (drop l.entry-index l.entry-items)))
     ≡ fold (λ sorted unit. insert_by use_cmp (last_use l.state (origin_of unit), unit) sorted) [] (filter (is_candidate l.state (option_copied l.caller)) (filter_map root_unit l.state.rows))
