@@ -1,18 +1,28 @@
 -- Calls of an agent by the names of what came before.
-use Rattle.std.proofs.Common.{◌≡◌, ℕ, length, map, take, Some, ap, sym, ◌∙◌, inl, inr}
+use Rattle.std.proofs.Common.{◌≡◌, ℕ, true, false, length, map, take, Some, ap, sym, ◌∙◌, inl, inr}
 use Rattle.opfs_base.specs.Texts.{Text}
 use Rattle.opfs_hist.specs.declared.op.Op.{Op}
 use Rattle.opfs_hist.specs.declared.op.Op.TheVariants as op
-use Rattle.opfs_kv.specs.Asked.{IsAppend, IsClose, IsCut, IsCutOr, IsEndCut, IsFlush, IsRepack, IsRewrite}
+use Rattle.opfs_kv.specs.Asked.{IsAppend, IsClose, IsCut, IsCutOr, IsEndCut, IsFlush, IsRepack, IsRewrite, IsTidyFlush}
 use Rattle.opfs_kv.specs.Packing.{IsAnewFor}
 use Rattle.opfs_kv.specs.Records.Indexes.{Places, read_out}
 use Rattle.opfs_kv.specs.Records.Maps.{Map}
 use Rattle.opfs_kv.specs.Records.Records.{log_of, put_of}
-use Rattle.opfs_kv.specs.Seen.{KvSeen}
+use Rattle.opfs_kv.specs.Seen.{IsTidiedNow, KvSeen}
 
 -- A cut comes first, and another call later, with the same row and as many live bytes.
 pub cut-first : (x : KvSeen) (Other : Op → Type 0) (o : Op) → IsCut x o → IsCutOr x Other o
 cut-first x Other o h = inl h
+
+-- A flush alone, and what is written anew before it.
+module _ (x : KvSeen) (tells : Type 0) (m : Map) where
+  pub flush-alone : (o : Op) → IsCutOr x (IsFlush x) o → IsCutOr x (IsTidyFlush tells x m) o
+  flush-alone o (inl cut) = inl cut
+  flush-alone o (inr is) = inr (inl is)
+
+  pub repack-before : IsTidiedNow x → (o : Op) → IsCutOr x (IsRepack tells x m) o → IsCutOr x (IsTidyFlush tells x m) o
+  repack-before now o (inl cut) = inl cut
+  repack-before now o (inr is) = inr (inr (now, is))
 
 module _ (x y : KvSeen) (row : y.handle.row ≡ x.handle.row) where
   pub append-later : (bytes : Text) → y.live ≡ x.live → (o : Op) → IsAppend y bytes o → IsCutOr x (IsAppend x bytes) o
@@ -20,6 +30,14 @@ module _ (x y : KvSeen) (row : y.handle.row ≡ x.handle.row) where
 
   pub flush-later : (o : Op) → IsFlush y o → IsCutOr x (IsFlush x) o
   flush-later o is = inr (is ∙ ap op.SyncFlush row)
+
+  -- A flush behind what left no tail.
+  pub flush-behind : (tells : Type 0) (m : Map) → y.tail ≡ false → (o : Op) → IsCutOr y (IsFlush y) o → IsCutOr x (IsTidyFlush tells x m) o
+  flush-behind tells m none o (inl cut) = absurd (not-both (sym cut.0 ∙ none))
+    where
+      not-both : true ≡ false → ⊥
+      not-both e = cc
+  flush-behind tells m none o (inr is) = inr (inl (is ∙ ap op.SyncFlush row))
 
   pub close-later : (o : Op) → IsClose y o → IsCutOr x (IsClose x) o
   close-later o is = inr (is ∙ ap op.SyncClose row)

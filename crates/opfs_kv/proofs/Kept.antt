@@ -1,18 +1,20 @@
 -- What calls do to a key-value file, by its bytes and its index.
-use Rattle.std.proofs.Common.{◌≡◌, ℕ, ◌+◌, ◌≤◌, Bool, true, false, cond, [], ◌∷◌, ◌++◌, length, take, drop, map, option_map, Option, Some, None, refl, sym, ap, subst, ◌∙◌, arith}
+use Rattle.std.proofs.Common.{◌≡◌, ℕ, ◌+◌, ◌≤◌, Bool, true, false, cond, List, [], ◌∷◌, ◌++◌, length, take, drop, map, option_map, Option, Some, None, refl, sym, ap, subst, ◌∙◌, arith}
 use Rattle.std.specs.Prelude.{is_some, IfSome}
 use Rattle.std.specs.Map.{keys_of}
+use Rattle.std.specs.List.{AllByRecursion}
 use Rattle.std.specs.List.Sorted.{IsStrictlySortedBy}
 use Rattle.std.proofs.lemmas.List.{length-append, length-drop, length-take, take-append-le, take_all, drop_all, append-nil}
 use Rattle.opfs_base.specs.Texts.{Text}
 use Rattle.opfs_kv.specs.Records.Heads.{size_by}
 use Rattle.opfs_kv.specs.Records.Indexes.{IsFitting, IsIndexed, Places, indexed, placed_by, read_out}
 use Rattle.opfs_kv.specs.Records.Maps.{Map, found, is_key, key_cmp, without_key}
-use Rattle.opfs_kv.specs.Records.Records.{IsRecord, IsValue, Record, after_by, log_of, put_of, spelled_by}
+use Rattle.opfs_kv.specs.Records.Records.{IsRecord, IsValue, Record, after_all, after_by, log_of, put_of, spelled_by}
 use Rattle.opfs_kv.specs.Records.Scans.{HasRead}
 use Rattle.opfs_kv.specs.declared.records.place.Place.{Place}
 use Rattle.opfs_kv.proofs.records.Fitted.{fitting-out, fitting-with}
 use Rattle.opfs_kv.proofs.records.Growing.{more-indexed, more-map, packed-indexed, packed-map, reads-all, reads-same, resize-cut, splice-end, splice-start}
+use Rattle.opfs_kv.proofs.records.Many.{fitting-many, many-indexed, many-map}
 use Rattle.opfs_kv.proofs.records.Spelled.{length-by}
 use Rattle.opfs_splice.specs.Splicing.{resize, splice, window}
 use Rattle.opfs_kv.specs.Keeping.{Keeps, Spells}
@@ -153,6 +155,39 @@ module _ (tells : Type 0) (bytes : Text) (live : ℕ) (tail : Bool) (index : Pla
     more-reads tell =
         (λ i. read_out (more-is i) (placed_by (sym (k.whole none) i) index key value))
         ∙ more-map bytes index r (all-indexed none tell) good
+
+  -- ---- several records more
+
+  module _ (none : tail ≡ false) (records : List Record) (good : AllByRecursion IsRecord records) (new : Text) (is : new ≡ splice bytes live (log_of records)) (room : live + length (log_of records) ≤ 16777216) where
+    many-is : new ≡ bytes ++ log_of records
+    many-is = is ∙ splice-end bytes (log_of records) live (k.whole none)
+
+    many-long : length new ≡ live + length (log_of records)
+    many-long =
+        let joined = length-append bytes (log_of records) in
+        ap length many-is ∙ joined ∙ ap (λ (n : ℕ). n + length (log_of records)) (k.whole none)
+
+    many-all : take (live + length (log_of records)) new ≡ bytes ++ log_of records
+    many-all = take_all (live + length (log_of records)) new (omega (arith, many-long)) ∙ many-is
+
+    pub many-keeps : Keeps tells new (live + length (log_of records)) false (indexed live records index)
+    many-keeps = record {
+      inside = omega (arith, many-long);
+      small = room;
+      whole = λ h. many-long;
+      fitting = fitting-many live index records k.fitting good;
+      indexed = λ tell.
+          subst (λ (b : Text). IsIndexed b (indexed live records index)) (sym many-all)
+          (subst (λ (n : ℕ). IsIndexed (bytes ++ log_of records) (indexed n records index)) (k.whole none) (many-indexed bytes index records (all-indexed none tell) good));
+    }
+
+    pub many-reads : tells → read_out new (indexed live records index) ≡ after_all (read_out bytes index) records
+    many-reads tell =
+        (λ i. read_out (many-is i) (indexed (sym (k.whole none) i) records index))
+        ∙ many-map bytes index records (all-indexed none tell) good
+
+    pub many-front : take (live + length (log_of records)) new ≡ take live bytes ++ log_of records
+    many-front = many-all ∙ ap (λ (t : Text). t ++ log_of records) (sym (all-live none))
 
   -- ---- written by key
 

@@ -1,14 +1,14 @@
 -- Places for an agent's entries, call after call.
-use Rattle.std.proofs.Common.{◌≡◌, ℕ, ◌+◌, ◌≤◌, length, Some, None, ap, ◌∙◌, arith}
+use Rattle.std.proofs.Common.{◌≡◌, List, ℕ, ◌+◌, ◌≤◌, length, Some, None, ap, ◌∙◌, arith}
 use Rattle.opfs_base.specs.Texts.{Text}
-use Rattle.opfs_kv.specs.Records.Records.{IsKey, IsValue, spelled_by}
+use Rattle.opfs_kv.specs.Records.Records.{IsKey, IsValue, Record, log_of, spelled_by}
 use Rattle.opfs_kv.proofs.records.Spelled.{length-by}
 use Rattle.opfs_sync_files.specs.Entries.{GoesOn}
 use Rattle.opfs_turns.specs.Agents.{AgentSeen}
 use Rattle.opfs_turns.specs.Calls.{HasRoom}
 use Rattle.opfs_sync_files.specs.Files.{file_bytes}
 use Rattle.opfs_kv.specs.Records.Indexes.{Places}
-use Rattle.opfs_kv.specs.Packing.{IsAnewFor}
+use Rattle.opfs_kv.specs.Packing.{IsAnewFor, IsReadied}
 use Rattle.opfs_kv.specs.Seen.{HasPlaces, KvSeen, Stands}
 
 pub places-room : {O : Type 0} (a : AgentSeen O) → HasPlaces a → HasRoom a
@@ -32,3 +32,6 @@ anew-small tells a kv stands packed len made x = omega (arith, x.anew.long, x.an
 
 pub room-more : {O : Type 0} (a b : AgentSeen O) (m : ℕ) → HasRoom a → a.entries + m ≤ 60000000 → GoesOn a b m → HasRoom b
 room-more a b m room more goes = record { rows = omega (arith, room.rows, goes.rows); entries = omega (arith, more, goes.entries) }
+
+pub readied-small : (live : ℕ) (index : Places) (records : List Record) (bytes : Text) (made : Places) (end : ℕ) → IsReadied live index records bytes made end → live + length (log_of records) ≤ 16777216 → length bytes ≤ 16777216
+readied-small live index records bytes made end r fits = let long = ap length r.bytes_are in omega (arith, long, fits)

@@ -5,5 +5,7 @@ pub mod Fitted
 pub mod Indexed
 pub mod ByKey
 pub mod Growing
+pub mod Many
 pub mod Writing
+pub mod Batched
 pub mod Listed

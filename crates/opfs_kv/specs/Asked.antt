@@ -5,7 +5,7 @@ use Rattle.opfs_hist.specs.declared.op.Op.{Op}
 use Rattle.opfs_hist.specs.declared.op.Op.TheVariants as op
 use Rattle.opfs_kv.specs.Records.Maps.{Map}
 use Rattle.opfs_kv.specs.Records.Records.{log_of, put_of}
-use Rattle.opfs_kv.specs.Seen.{KvSeen}
+use Rattle.opfs_kv.specs.Seen.{IsTidiedNow, KvSeen}
 use Rattle.opfs_kv.specs.declared.records.place.Place.{Place}
 
 -- A pending tail is cut to the live bytes.
@@ -44,6 +44,10 @@ IsEndCut tells row m called = (len : ℕ) × (tells → len ≡ length (log_of (
 
 abbrev pub IsRepack : Type 0 → KvSeen → Map → Op → Type 0
 IsRepack tells kv m called = IsReadAll kv called ⊎ (IsRewrite tells kv.handle.row m called ⊎ IsEndCut tells kv.handle.row m called)
+
+-- The file is flushed; where it compacts by itself, that comes first.
+abbrev pub IsTidyFlush : Type 0 → KvSeen → Map → Op → Type 0
+IsTidyFlush tells kv m called = IsFlush kv called ⊎ (IsTidiedNow kv × IsRepack tells kv m called)
 
 -- So many bytes are read at once.
 abbrev pub piece_bytes : ℕ

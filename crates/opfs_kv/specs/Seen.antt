@@ -1,5 +1,5 @@
 -- What is seen of a key-value file, and how it stands over its agent. This project's own.
-use Rattle.std.specs.Prelude.{◌≡◌, ℕ, ◌-◌, ◌≤◌, ◌++◌, Bool, List, [], ◌∷◌, sum_by}
+use Rattle.std.specs.Prelude.{◌≡◌, ℕ, ◌-◌, ◌*◌, ◌<◌, ◌≤◌, ◌++◌, Bool, List, [], ◌∷◌, sum_by, take}
 use Rattle.opfs_base.specs.Places.{place_of}
 use Rattle.opfs_base.specs.Texts.{Text}
 use Rattle.opfs_turns.specs.Asking.Rows.{HandleSeen, HasClosedHandle, HasHandle}
@@ -13,17 +13,21 @@ use Rattle.opfs_sync_files.specs.Resting.{LeavesRest}
 use Rattle.opfs_turns.specs.Agents.{AgentSeen}
 use Rattle.opfs_kv.specs.Keeping.{Keeps, Spells}
 use Rattle.opfs_kv.specs.declared.notes.Notes.{Notes}
+use Rattle.opfs_kv.specs.declared.tidying.Tidying.{Tidying}
+use Rattle.opfs_kv.specs.declared.tidying.Tidying.TheVariants as tidying
 
--- Its access handle, how many of the file's bytes are live, whether others stand behind them still, and where each value is.
+-- Its access handle, how many of the file's bytes are live, whether others stand behind them still, where each value is, and when it
+-- compacts by itself.
 pub record KvSeen : Type 0 where
   pub handle : HandleSeen
   pub live : ℕ
   pub tail : Bool
   pub index : Places
+  pub tidying : Tidying
 
 -- A key-value file by its parts.
 abbrev pub seen : HandleSeen → Notes → KvSeen
-seen handle notes = record { handle = handle; live = notes.live; tail = notes.tail; index = notes.index }
+seen handle notes = record { handle = handle; live = notes.live; tail = notes.tail; index = notes.index; tidying = notes.tidying }
 
 -- The handle is open and may write, and the file's bytes are kept in mind.
 pub record Stands {O : Type 0} (tells : Type 0) (a : AgentSeen O) (kv : KvSeen) : Type 0 where
@@ -35,9 +39,17 @@ pub record Stands {O : Type 0} (tells : Type 0) (a : AgentSeen O) (kv : KvSeen) 
 abbrev pub map_in : {O : Type 0} → AgentSeen O → KvSeen → Map
 map_in a kv = read_out (file_bytes a kv.handle) kv.index
 
+-- Its live bytes.
+abbrev pub live_bytes : {O : Type 0} → AgentSeen O → KvSeen → Text
+live_bytes a kv = take kv.live (file_bytes a kv.handle)
+
 -- How many of its live bytes no key needs: those that are not of the last record of a key that is there.
 abbrev pub dead_in : KvSeen → ℕ
 dead_in kv = kv.live - sum_by cost_of kv.index
+
+-- It compacts at a flush: it was opened so, and more than half of its live bytes are dead.
+abbrev pub IsTidiedNow : KvSeen → Type 0
+IsTidiedNow kv = (kv.tidying ≡ tidying.AtFlush) × (kv.live < 2 * dead_in kv)
 
 -- The contents of its file that were stored for good, as far as its agent has seen.
 abbrev pub stored_in : {O : Type 0} → AgentSeen O → KvSeen → List Text
@@ -58,6 +70,7 @@ pub record Serves {O : Type 0} (tells : Type 0) (before after : AgentSeen O) (ol
   pub stands : Stands tells after new
   pub row : new.handle.row ≡ old.handle.row
   pub file : new.handle.file ≡ old.handle.file
+  pub setting : new.tidying ≡ old.tidying
   pub goes : GoesOn before after count
   pub others : LeavesRest tells before after old.handle.row
   pub map : tells → map_in after new ≡ m
@@ -69,6 +82,7 @@ pub record Flushes {O : Type 0} (tells : Type 0) (before after : AgentSeen O) (o
   pub stands : Stands tells after new
   pub row : new.handle.row ≡ old.handle.row
   pub file : new.handle.file ≡ old.handle.file
+  pub setting : new.tidying ≡ old.tidying
   pub goes : GoesOn before after count
   pub others : LeavesRest tells before after old.handle.row
   pub map : tells → map_in after new ≡ m

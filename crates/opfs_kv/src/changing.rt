@@ -64,8 +64,8 @@ fn note_put(
     place: Place,
     live: u32,
 ) -> Result<(), Stop>
-    ensures ok { OnOk result (notes.new ≡ record { index = with_key notes.old.index key.now place; live = live; tail = notes.old.tail }) }
-    ensures err { OnErr result (notes.new ≡ record { index = notes.old.index; live = notes.old.live; tail = true }) }
+    ensures ok { OnOk result (notes.new ≡ record { index = with_key notes.old.index key.now place; live = live; tail = notes.old.tail; tidying = notes.old.tidying }) }
+    ensures err { OnErr result (notes.new ≡ record { index = notes.old.index; live = notes.old.live; tail = true; tidying = notes.old.tidying }) }
     ensures why { IfErr result (λ why. why ≡ stop.NoMemory) }
 {
     match note(alloc, &mut notes.index, key, place) {

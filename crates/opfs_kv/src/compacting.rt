@@ -1,6 +1,6 @@
 //! How a file is written anew, by key.
 
-ghost use Rattle.std.specs.Prelude.{◌≡◌, ◌+◌, ◌*◌, ◌≤◌, true, false, map, nat_lt, sum_by, take, IfErr, IfOk, OnOk};
+ghost use Rattle.std.specs.Prelude.{◌≡◌, ◌↔◌, ◌+◌, ◌*◌, ◌<◌, ◌≤◌, true, false, map, nat_lt, sum_by, take, IfErr, IfOk, IsTrue, OnOk};
 ghost use Rattle.std.specs.List.{AllByRecursion};
 ghost use Rattle.opfs_turns.specs.declared.asking.stop.Stop.TheVariants as stop;
 ghost use Rattle.opfs_sync_files.specs.Entries.{IsCaused};
@@ -206,10 +206,11 @@ pub fn compact_file<S: Store, R: Wait>(
     }
 }
 
-// Whether more than half of the live bytes are dead.
-fn is_wasted<S: Store>(agent: &Agent<S>, handle: &SyncHandle, notes: &Notes) -> bool
+/// Whether more than half of the live bytes are dead.
+pub fn is_wasted<S: Store>(agent: &Agent<S>, handle: &SyncHandle, notes: &Notes) -> bool
     requires { Stands S.tells agent.now (seen handle.now notes.now) }
-    ensures { result ≡ nat_lt notes.now.live (2 * dead_in (seen handle.now notes.now)) }
+    ensures wasted { result ≡ nat_lt notes.now.live (2 * dead_in (seen handle.now notes.now)) }
+    ensures test { IsTrue result ↔ notes.now.live < 2 * dead_in (seen handle.now notes.now) }
 {
     (notes.live as u64) < 2 * dead(agent, handle, notes)
 }

@@ -1,26 +1,29 @@
 //! A key-value file.
 
-ghost use Rattle.std.specs.Prelude.{◌≡◌, ◌≢◌, ◌+◌, ◌*◌, ◌<◌, ◌≤◌, true, false, length, map, nat_lt, IfErr, IfOk, OnErr, OnOk, Ok, Err, None, Some, is_some};
+ghost use Rattle.std.specs.Prelude.{◌≡◌, ◌≢◌, ◌+◌, ◌++◌, ◌*◌, ◌<◌, ◌≤◌, [], true, false, length, map, nat_lt, IfErr, IfOk, OnErr, OnOk, Ok, Err, None, Some, is_some};
 ghost use Rattle.std.specs.Map.{keys_of};
 ghost use Rattle.opfs_turns.specs.Asking.Rows.{HasHandle};
 ghost use Rattle.opfs_hist.specs.declared.op.Mode.TheVariants as mode;
 ghost use Rattle.opfs_kv.specs.Records.Maps.{found, keys_between, keys_from, keys_with, with_key, without_key};
-ghost use Rattle.opfs_kv.specs.Records.Records.{IsKey, IsValue, log_of, put_of, spelled_by};
-ghost use Rattle.opfs_sync_files.specs.Entries.{IsCaused};
+ghost use Rattle.opfs_kv.specs.Records.Records.{IsKey, IsValue, after_all, log_of, put_of, spelled_by};
+ghost use Rattle.opfs_sync_files.specs.Entries.{GoesOn, IsCaused};
 ghost use Rattle.opfs_sync_files.specs.Files.{file_bytes};
 ghost use Rattle.opfs_sync_files.specs.Resting.{LeavesRest};
 ghost use Rattle.opfs_turns.specs.Calls.{HasRoom};
-ghost use Rattle.opfs_kv.specs.Asked.{IsAppend, IsClose, IsCutOr, IsFlush, IsGet, IsRepack};
+ghost use Rattle.opfs_kv.specs.Asked.{IsAppend, IsClose, IsCutOr, IsFlush, IsGet, IsRepack, IsTidyFlush};
 ghost use Rattle.opfs_kv.specs.Calls.{HasCause, HasOpenCause, HasPlainCause, IsGotten};
 ghost use Rattle.opfs_kv.specs.Keeping.{Spells};
 ghost use Rattle.opfs_kv.specs.Opening.{OnlyReads};
-ghost use Rattle.opfs_kv.specs.Seen.{Closes, Flushes, HasPlaces, Serves, Stands, dead_in, map_in, seen};
+ghost use Rattle.opfs_kv.specs.Seen.{Closes, Flushes, HasPlaces, IsTidiedNow, Serves, Stands, dead_in, live_bytes, map_in, seen};
 ghost use Rattle.opfs_kv.specs.declared.stop.KvStop.TheVariants as kv_stop;
+ghost use Rattle.opfs_kv.specs.declared.tidying.Tidying.TheVariants as when;
 
 use crate::notes::Notes;
 use crate::opening::read_notes;
+use crate::records::Batch;
 use crate::stop::KvStop;
-use crate::{changing, compacting, getting, listing, storing};
+use crate::tidying::Tidying;
+use crate::{applying, changing, compacting, getting, listing, storing, tidy_flush};
 use opfs_agent::Agent;
 use opfs_agent::handle_calls::{ClosedSync, SyncHandle};
 use opfs_base::Bytes;
@@ -47,12 +50,13 @@ impl Model for Kv {
 
 impl Kv {
     /// Opens a file of records through an access handle that may write. It reads the file in pieces, and keeps the places of
-    /// the values alone. Where it does not open, the handle comes back.
+    /// the values alone. Where it does not open, the handle comes back. It never
+    /// compacts by itself.
     pub fn open<S: Store, R: Wait>(
         rt: &R,
         court: &Hall<S>,
         agent: &mut Agent<S>,
-        mut sync: SyncHandle,
+        sync: SyncHandle,
     ) -> Result<Kv, (SyncHandle, KvStop)>
         requires own { agent.old.pass.hall ≡ court.now }
         requires few { HasPlaces agent.old }
@@ -64,10 +68,36 @@ impl Kv {
         ensures map { IfOk result (λ kv. S.tells → Spells (file_bytes agent.old sync) (map_in agent.new kv)) }
         ensures short { OnOk result (length (file_bytes agent.old sync) ≤ 16777216) }
         ensures whole { IfOk result (λ kv. (kv.live ≡ length (file_bytes agent.old sync)) × (kv.tail ≡ false)) }
+        ensures setting { IfOk result (λ kv. kv.tidying ≡ when.Never) }
         ensures back { IfErr result (λ back. OnlyReads S.tells agent.old agent.new sync back.0 261) }
         ensures cause { IfErr result (λ back. HasOpenCause S.tells agent.old agent.new sync.row (file_bytes agent.old sync) back.1) }
     {
-        match read_notes(rt, court, agent, &mut sync) {
+        Kv::open_with(rt, court, agent, sync, Tidying::Never)
+    }
+
+    /// The same, with when it compacts by itself.
+    pub fn open_with<S: Store, R: Wait>(
+        rt: &R,
+        court: &Hall<S>,
+        agent: &mut Agent<S>,
+        mut sync: SyncHandle,
+        tidying: Tidying,
+    ) -> Result<Kv, (SyncHandle, KvStop)>
+        requires own { agent.old.pass.hall ≡ court.now }
+        requires few { HasPlaces agent.old }
+        requires handle { HasHandle S.tells agent.old sync }
+        requires writes { sync.mode ≡ mode.ReadWrite }
+        ensures stands { IfOk result (λ kv. Stands S.tells agent.new kv) }
+        ensures reads { IfOk result (λ kv. OnlyReads S.tells agent.old agent.new sync kv.handle 261) }
+        ensures others { LeavesRest S.tells agent.old agent.new sync.row }
+        ensures map { IfOk result (λ kv. S.tells → Spells (file_bytes agent.old sync) (map_in agent.new kv)) }
+        ensures short { OnOk result (length (file_bytes agent.old sync) ≤ 16777216) }
+        ensures whole { IfOk result (λ kv. (kv.live ≡ length (file_bytes agent.old sync)) × (kv.tail ≡ false)) }
+        ensures setting { IfOk result (λ kv. kv.tidying ≡ tidying) }
+        ensures back { IfErr result (λ back. OnlyReads S.tells agent.old agent.new sync back.0 261) }
+        ensures cause { IfErr result (λ back. HasOpenCause S.tells agent.old agent.new sync.row (file_bytes agent.old sync) back.1) }
+    {
+        match read_notes(rt, court, agent, &mut sync, tidying) {
             Ok(notes) => Ok(Kv {
                 handle: sync,
                 notes,
@@ -152,8 +182,54 @@ impl Kv {
         changing::delete(rt, court, agent, &mut self.handle, &mut self.notes, key)
     }
 
-    /// Stores the file for good: its content is then records that stand for the map.
+    /// Makes several changes as one, in their order: all of them, or none. Their records are written in one write, and are stored as a
+    /// whole by the next flush.
+    pub fn apply<S: Store, R: Wait>(
+        &mut self,
+        rt: &R,
+        court: &Hall<S>,
+        agent: &mut Agent<S>,
+        batch: &Batch,
+    ) -> Result<(), KvStop>
+        requires own { agent.old.pass.hall ≡ court.now }
+        requires few { HasPlaces agent.old }
+        requires stands { Stands S.tells agent.old self.old }
+        ensures applied { OnOk result (Serves S.tells agent.old agent.new self.old self.new 2 (after_all (map_in agent.old self.old) batch.now)) }
+        ensures live { OnOk result (self.new.live ≡ self.old.live + length (log_of batch.now)) }
+        ensures written { OnOk result (live_bytes agent.new self.new ≡ live_bytes agent.old self.old ++ log_of batch.now) }
+        ensures once { self.old.tail ≡ false → GoesOn agent.old agent.new 1 }
+        ensures none { batch.now ≡ [] → (result ≡ Ok tt) × (agent.new ≡ agent.old) }
+        ensures left { OnErr result (Serves S.tells agent.old agent.new self.old self.new 2 (map_in agent.old self.old)) }
+        ensures others { LeavesRest S.tells agent.old agent.new self.old.handle.row }
+        ensures full { 16777216 < self.old.live + length (log_of batch.now) → result ≡ Err (kv_stop.Full self.old.live (length (log_of batch.now))) }
+        ensures cause { IfErr result (HasCause agent.old agent.new (IsCutOr self.old (IsAppend self.old (log_of batch.now))) self.old.live (length (log_of batch.now))) }
+    {
+        applying::apply(rt, court, agent, &mut self.handle, &mut self.notes, batch)
+    }
+
+    /// Stores the file for good: its content is then records that stand for the map. Where the file was opened so, and more than half of
+    /// its live bytes are dead, it compacts before.
     pub fn flush<S: Store, R: Wait>(
+        &mut self,
+        rt: &R,
+        court: &Hall<S>,
+        agent: &mut Agent<S>,
+    ) -> Result<(), KvStop>
+        requires own { agent.old.pass.hall ≡ court.now }
+        requires few { HasPlaces agent.old }
+        requires stands { Stands S.tells agent.old self.old }
+        ensures flushed { OnOk result (Flushes S.tells agent.old agent.new self.old self.new 6 (map_in agent.old self.old)) }
+        ensures packed { OnOk result (IsTidiedNow self.old → S.tells → file_bytes agent.new self.new.handle ≡ log_of (map put_of (map_in agent.old self.old))) }
+        ensures plain { (IsTidiedNow self.old → ⊥) → GoesOn agent.old agent.new 2 }
+        ensures left { OnErr result (Serves S.tells agent.old agent.new self.old self.new 6 (map_in agent.old self.old)) }
+        ensures others { LeavesRest S.tells agent.old agent.new self.old.handle.row }
+        ensures cause { IfErr result (HasPlainCause agent.old agent.new (IsCutOr self.old (IsTidyFlush S.tells self.old (map_in agent.old self.old)))) }
+    {
+        tidy_flush::flush(rt, court, agent, &mut self.handle, &mut self.notes)
+    }
+
+    /// Stores the file for good, and does not compact it.
+    pub(crate) fn store<S: Store, R: Wait>(
         &mut self,
         rt: &R,
         court: &Hall<S>,

@@ -4,6 +4,7 @@
 //! It stands on `opfs_codec` and `opfs_sync_files`.
 #![tactic(auto)]
 
+mod applying;
 mod changing;
 mod commands;
 mod compacting;
@@ -15,11 +16,14 @@ mod opening;
 mod records;
 mod stop;
 mod storing;
+mod tidy_flush;
+mod tidying;
 
 pub use commands::{KvOp, KvReplies, KvReply, kv_run};
 pub use kv::Kv;
 pub use records::{
-    Index, Miss, Packed, Place, a_file_grows, one_reading, pack, scan, spell_gone, spell_put,
-    the_index_reads_the_map, the_map_by_key,
+    Batch, Index, Miss, Packed, Place, a_file_grows, one_reading, pack, scan, spell_gone,
+    spell_put, the_index_reads_the_map, the_map_by_key,
 };
 pub use stop::KvStop;
+pub use tidying::Tidying;

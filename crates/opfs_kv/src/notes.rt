@@ -1,6 +1,7 @@
 //! What is kept in memory of a key-value file.
 
 use crate::records::Index;
+use crate::tidying::Tidying;
 
 /// What is kept in memory of a key-value file beside its handle.
 #[derive(Drop)]
@@ -11,4 +12,6 @@ pub struct Notes {
     pub live: u32,
     /// Whether other bytes stand behind them still.
     pub tail: bool,
+    /// When the file compacts by itself.
+    pub tidying: Tidying,
 }

@@ -15,6 +15,7 @@ ghost use Rattle.opfs_kv.specs.Seen.{HasPlaces};
 use crate::notes::Notes;
 use crate::records::{Index, Miss, scan};
 use crate::stop::KvStop;
+use crate::tidying::Tidying;
 use opfs_agent::Agent;
 use opfs_agent::handle_calls::SyncHandle;
 use opfs_hall::Hall;
@@ -123,6 +124,7 @@ fn notes_in<S: Store, R: Wait>(
     agent: &mut Agent<S>,
     handle: &mut SyncHandle,
     size: u32,
+    tidying: Tidying,
 ) -> Result<Notes, KvStop>
     requires own { agent.old.pass.hall ≡ court.now }
     requires room { HasRoom agent.old }
@@ -133,6 +135,7 @@ fn notes_in<S: Store, R: Wait>(
     ensures reads { OnlyReads S.tells agent.old agent.new handle.old handle.new 260 }
     ensures keeps { IfOk result (λ notes. Keeps S.tells (file_bytes agent.old handle.old) notes.live notes.tail notes.index) }
     ensures whole { IfOk result (λ notes. notes.tail ≡ false) }
+    ensures setting { IfOk result (λ notes. notes.tidying ≡ tidying) }
     ensures cause { IfErr result (HasOpenCause S.tells agent.old agent.new handle.old.row (file_bytes agent.old handle.old)) }
 {
     let mut index = Index::empty(agent.alloc());
@@ -141,6 +144,7 @@ fn notes_in<S: Store, R: Wait>(
             index,
             live: size,
             tail: false,
+            tidying,
         }),
         Err(stop) => Err(stop),
     }
@@ -153,6 +157,7 @@ fn notes_of<S: Store, R: Wait>(
     agent: &mut Agent<S>,
     handle: &mut SyncHandle,
     size: u64,
+    tidying: Tidying,
 ) -> Result<Notes, KvStop>
     requires own { agent.old.pass.hall ≡ court.now }
     requires room { HasRoom agent.old }
@@ -162,12 +167,13 @@ fn notes_of<S: Store, R: Wait>(
     ensures reads { OnlyReads S.tells agent.old agent.new handle.old handle.new 260 }
     ensures keeps { IfOk result (λ notes. Keeps S.tells (file_bytes agent.old handle.old) notes.live notes.tail notes.index) }
     ensures whole { IfOk result (λ notes. notes.tail ≡ false) }
+    ensures setting { IfOk result (λ notes. notes.tidying ≡ tidying) }
     ensures cause { IfErr result (HasOpenCause S.tells agent.old agent.new handle.old.row (file_bytes agent.old handle.old)) }
 {
     if size > 16_777_216 {
         return Err(KvStop::Full(size, 0));
     }
-    notes_in(rt, court, agent, handle, size as u32)
+    notes_in(rt, court, agent, handle, size as u32, tidying)
 }
 
 /// Reads a file, and gives what is kept in memory of it.
@@ -176,6 +182,7 @@ pub fn read_notes<S: Store, R: Wait>(
     court: &Hall<S>,
     agent: &mut Agent<S>,
     handle: &mut SyncHandle,
+    tidying: Tidying,
 ) -> Result<Notes, KvStop>
     requires own { agent.old.pass.hall ≡ court.now }
     requires few { HasPlaces agent.old }
@@ -183,10 +190,11 @@ pub fn read_notes<S: Store, R: Wait>(
     ensures reads { OnlyReads S.tells agent.old agent.new handle.old handle.new 261 }
     ensures keeps { IfOk result (λ notes. Keeps S.tells (file_bytes agent.old handle.old) notes.live notes.tail notes.index) }
     ensures whole { IfOk result (λ notes. notes.tail ≡ false) }
+    ensures setting { IfOk result (λ notes. notes.tidying ≡ tidying) }
     ensures cause { IfErr result (HasOpenCause S.tells agent.old agent.new handle.old.row (file_bytes agent.old handle.old)) }
 {
     match size(agent, handle) {
-        Ok(size) => notes_of(rt, court, agent, handle, size),
+        Ok(size) => notes_of(rt, court, agent, handle, size, tidying),
         Err(stop) => Err(KvStop::Agent(stop)),
     }
 }

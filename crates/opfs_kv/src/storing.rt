@@ -1,12 +1,12 @@
 //! How a pending tail is cut, and the file stored.
 
-ghost use Rattle.std.specs.Prelude.{◌≡◌, false, take, IfErr, OnErr, OnOk};
+ghost use Rattle.std.specs.Prelude.{◌≡◌, ◌+◌, ◌≤◌, false, take, IfErr, OnErr, OnOk};
 ghost use Rattle.opfs_sync_files.specs.Entries.{IsCaused};
 ghost use Rattle.opfs_sync_files.specs.Files.{file_bytes};
 ghost use Rattle.opfs_turns.specs.Calls.{HasRoom};
 ghost use Rattle.opfs_kv.specs.Asked.{IsCut, IsCutOr, IsFlush};
 ghost use Rattle.opfs_kv.specs.Calls.{HasPlainCause};
-ghost use Rattle.opfs_kv.specs.Seen.{Flushes, HasPlaces, Serves, Stands, map_in, seen};
+ghost use Rattle.opfs_kv.specs.Seen.{Flushes, Serves, Stands, map_in, seen};
 
 use crate::notes::Notes;
 use crate::stop::KvStop;
@@ -31,6 +31,7 @@ pub fn cut<S: Store, R: Wait>(
     requires stands { Stands S.tells agent.old (seen handle.old notes.old) }
     ensures serves { Serves S.tells agent.old agent.new (seen handle.old notes.old) (seen handle.new notes.new) 1 (map_in agent.old (seen handle.old notes.old)) }
     ensures none { OnOk result (notes.new.tail ≡ false) }
+    ensures idle { notes.old.tail ≡ false → (agent.new ≡ agent.old) × (handle.new ≡ handle.old) }
     ensures front { take notes.old.live (file_bytes agent.new handle.new) ≡ take notes.old.live (file_bytes agent.old handle.old) }
     ensures same { (notes.new.index ≡ notes.old.index) × (notes.new.live ≡ notes.old.live) }
     ensures cause { IfErr result (IsCaused agent.old agent.new (IsCut (seen handle.old notes.old))) }
@@ -56,9 +57,11 @@ fn store<S: Store, R: Wait>(
     notes: &mut Notes,
 ) -> Result<(), Stop>
     requires own { agent.old.pass.hall ≡ court.now }
-    requires few { HasPlaces agent.old }
+    requires room { HasRoom agent.old }
+    requires more { agent.old.entries + 1 ≤ 60000000 }
     requires stands { Stands S.tells agent.old (seen handle.old notes.old) }
     ensures flushed { OnOk result (Flushes S.tells agent.old agent.new (seen handle.old notes.old) (seen handle.new notes.new) 2 (map_in agent.old (seen handle.old notes.old))) }
+    ensures same { notes.old.tail ≡ false → file_bytes agent.new handle.new ≡ file_bytes agent.old handle.old }
     ensures left { OnErr result (Serves S.tells agent.old agent.new (seen handle.old notes.old) (seen handle.new notes.new) 2 (map_in agent.old (seen handle.old notes.old))) }
     ensures cause { IfErr result (IsCaused agent.old agent.new (IsCutOr (seen handle.old notes.old) (IsFlush (seen handle.old notes.old)))) }
 {
@@ -81,9 +84,11 @@ pub fn flush_file<S: Store, R: Wait>(
     notes: &mut Notes,
 ) -> Result<(), KvStop>
     requires own { agent.old.pass.hall ≡ court.now }
-    requires few { HasPlaces agent.old }
+    requires room { HasRoom agent.old }
+    requires more { agent.old.entries + 1 ≤ 60000000 }
     requires stands { Stands S.tells agent.old (seen handle.old notes.old) }
     ensures flushed { OnOk result (Flushes S.tells agent.old agent.new (seen handle.old notes.old) (seen handle.new notes.new) 2 (map_in agent.old (seen handle.old notes.old))) }
+    ensures same { notes.old.tail ≡ false → file_bytes agent.new handle.new ≡ file_bytes agent.old handle.old }
     ensures left { OnErr result (Serves S.tells agent.old agent.new (seen handle.old notes.old) (seen handle.new notes.new) 2 (map_in agent.old (seen handle.old notes.old))) }
     ensures cause { IfErr result (HasPlainCause agent.old agent.new (IsCutOr (seen handle.old notes.old) (IsFlush (seen handle.old notes.old)))) }
 {

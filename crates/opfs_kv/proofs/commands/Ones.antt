@@ -50,6 +50,7 @@ module _ {O : Type 0} (tells : Type 0) (a b : AgentSeen O) (x y : KvSeen) where
     stands = s.stands;
     row = s.row;
     file = s.file;
+    setting = s.setting;
     goes = subst (GoesOn a b) few s.goes;
     others = s.others;
     told = told;
@@ -94,6 +95,7 @@ module _ {O : Type 0} (tells : Type 0) (a b : AgentSeen O) (x y : KvSeen) where
     stands = s.stands;
     row = s.row;
     file = s.file;
+    setting = s.setting;
     goes = s.goes;
     others = s.others;
     told = λ tell. refl;

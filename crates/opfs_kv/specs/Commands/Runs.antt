@@ -120,6 +120,7 @@ pub record IsRun {O : Type 0} (tells : Type 0) (before after : AgentSeen O) (old
   pub stands : Stands tells after new
   pub row : new.handle.row ≡ old.handle.row
   pub file : new.handle.file ≡ old.handle.file
+  pub setting : new.tidying ≡ old.tidying
   pub goes : GoesOn before after (entries_of called)
   pub others : LeavesRest tells before after old.handle.row
   pub told : tells → IsReply (map_in before old) called answered

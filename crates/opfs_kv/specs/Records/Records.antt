@@ -4,11 +4,11 @@ use Rattle.std.specs.Int.{w32, to_le_bytes}
 use Rattle.std.specs.List.{AllByRecursion, flat_map}
 use Rattle.opfs_base.specs.Texts.{Text}
 use Rattle.opfs_kv.specs.Records.Maps.{Map, with_key, without_key}
+use Rattle.opfs_kv.specs.declared.records.change.Change.{Change}
 
 -- A key with its new value, or a key that is taken out.
-pub record Record : Type 0 where
-  pub key : Text
-  pub value : Option Text
+abbrev pub Record : Type 0
+Record = Change
 
 -- A key has 1 to 255 bytes, and a value at most 65,536.
 abbrev pub IsKey : Text → Type 0
@@ -49,6 +49,10 @@ after m r = after_by m r.key r.value
 -- The map that records stand for, applied in order.
 abbrev pub map_of : List Record → Map
 map_of records = fold after [] records
+
+-- A map after records, applied in order.
+abbrev pub after_all : Map → List Record → Map
+after_all m records = fold after m records
 
 -- The records of a map, by key.
 abbrev pub put_of : Text × Text → Record

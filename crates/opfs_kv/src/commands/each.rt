@@ -82,7 +82,7 @@ fn flush<S: Store, R: Wait>(rt: &R, court: &Hall<S>, agent: &mut Agent<S>, kv: &
     requires stands { Stands S.tells agent.old kv.old }
     ensures { IsRun S.tells agent.old agent.new kv.old kv.new op.Flush result }
 {
-    match kv.flush(rt, court, agent) {
+    match kv.store(rt, court, agent) {
         Ok(()) => KvReply::Done,
         Err(stop) => KvReply::No(stop),
     }

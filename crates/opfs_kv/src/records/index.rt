@@ -1,6 +1,6 @@
 //! Where each key's value is.
 
-ghost use Rattle.std.specs.Prelude.{◌≡◌, [], length, OnOk, OnErr, is_some};
+ghost use Rattle.std.specs.Prelude.{◌≡◌, [], length, IfOk, OnOk, OnErr, is_some};
 ghost use Rattle.std.specs.List.Sorted.{IsStrictlySortedBy};
 ghost use Rattle.std.specs.Map.{keys_of};
 ghost use Rattle.opfs_kv.specs.Records.Maps.{key_cmp, found, with_key, without_key};
@@ -69,6 +69,14 @@ impl Index {
         self.map.remove(key).is_some()
     }
 
+    /// The same in new memory.
+    pub fn copy(&self, alloc: Global) -> Result<Index, AllocError>
+        ensures { IfOk result (λ copy. copy ≡ self.now) }
+    {
+        let map = copy_map(alloc, &self.map)?;
+        Ok(Index { map })
+    }
+
     /// What the type keeps: the keys rise.
     pub fn know_kept(&self)
         ensures { IsStrictlySortedBy key_cmp (keys_of self.now) }
@@ -82,4 +90,18 @@ impl Index {
     {
         &self.map
     }
+}
+
+// A map's entries in new memory.
+fn copy_map(
+    alloc: Global,
+    map: &BTreeMap<Bytes, Place>,
+) -> Result<BTreeMap<Bytes, Place>, AllocError>
+    ensures { IfOk result (λ copy. copy.entries ≡ map.now.entries) }
+{
+    let mut made = BTreeMap::new(alloc);
+    for (key, place) in map.iter() {
+        made.insert(key.copy(alloc)?, *place)?;
+    }
+    Ok(made)
 }

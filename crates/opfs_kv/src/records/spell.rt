@@ -22,10 +22,7 @@ pub fn spell_gone(alloc: Global, key: &[u8]) -> Result<Vec<u8>, AllocError>
     ensures { IfOk result (λ bytes. bytes.items ≡ spelled_by key.now None) }
 {
     let mut bytes = Vec::new(alloc);
-    bytes.reserve(key.len() + 2)?;
-    bytes.push(2)?;
-    bytes.push(key.len() as u8)?;
-    bytes.extend_from_slice(key)?;
+    append_gone(&mut bytes, key)?;
     Ok(bytes)
 }
 
@@ -42,5 +39,17 @@ pub fn append_put(into: &mut Vec<u8>, key: &[u8], value: &[u8]) -> Result<(), Al
     let len = value.len() as u32;
     into.extend_from_slice(&len.to_le_bytes())?;
     into.extend_from_slice(value)?;
+    Ok(())
+}
+
+/// Appends the record of a key that is taken out.
+pub fn append_gone(into: &mut Vec<u8>, key: &[u8]) -> Result<(), AllocError>
+    requires { IsKey key.now }
+    ensures { OnOk result (into.new.items ≡ into.old.items ++ spelled_by key.now None) }
+{
+    into.reserve(key.len() + 2)?;
+    into.push(2)?;
+    into.push(key.len() as u8)?;
+    into.extend_from_slice(key)?;
     Ok(())
 }

@@ -28,7 +28,7 @@ returns-in-Err-clause-left g c = still-serves g.S.Store.tells c.args.agent.now c
 
 pub returns-in-Ok-clause-gone : goal.returns-in-Ok-clause-gone
 returns-in-Ok-clause-gone g c =
-    subst (λ (i : Places). Serves g.S.Store.tells c.args.agent.now c.write.new.agent (seen c.args.handle.now c.args.notes.now) (record { handle = c.write.new.handle; live = c.args.notes.now.live + 2 + c.len.result; tail = c.args.notes.now.tail; index = i }) 1 (without_key (map_in c.args.agent.now (seen c.args.handle.now c.args.notes.now)) c.args.key.now)) (sym c.take_out.ensures.out)
+    subst (λ (i : Places). Serves g.S.Store.tells c.args.agent.now c.write.new.agent (seen c.args.handle.now c.args.notes.now) (record { handle = c.write.new.handle; live = c.args.notes.now.live + 2 + c.len.result; tail = c.args.notes.now.tail; index = i; tidying = c.args.notes.now.tidying }) 1 (without_key (map_in c.args.agent.now (seen c.args.handle.now c.args.notes.now)) c.args.key.now)) (sym c.take_out.ensures.out)
     (gone-serves g.S.Store.tells c.args.agent.now c.write.new.agent (seen c.args.handle.now c.args.notes.now) c.requires.stands c.write.new.handle c.in-Ok.ensures.still c.in-Ok.ensures.stored c.requires.none c.args.key.now c.requires.key c.requires.fits (c.in-Ok.ensures.wrote ∙ ap (λ (t : Text). splice (file_bytes c.args.agent.now c.args.handle.now) c.args.notes.now.live t) c.requires.bytes) (c.args.notes.now.live + 2 + c.len.result) (omega (arith, c.len.ensures)))
 
 pub returns-in-Err-clause-cause : goal.returns-in-Err-clause-cause

@@ -1,6 +1,6 @@
 use Rattle.std.proofs.Common.{arith, sym}
 use Rattle.opfs_kv.proofs.Flushing.{opened-spells, opened-stands}
-use Rattle.opfs_kv.proofs.kv.Kv.open.Goals as goal
+use Rattle.opfs_kv.proofs.kv.Kv.open_with.Goals as goal
 
 pub returns-in-Ok-clause-stands : goal.returns-in-Ok-clause-stands
 returns-in-Ok-clause-stands g c = opened-stands g.S.Store.tells c.args.agent.now c.read_notes.new.agent c.args.sync c.read_notes.new.handle c.in-Ok.notes c.in-Ok.ensures.reads c.requires.writes c.in-Ok.ensures.keeps
