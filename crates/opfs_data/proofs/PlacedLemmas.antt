@@ -1,7 +1,7 @@
 -- Pages that got their blocks, and how many are kept.
-use Rattle.std.proofs.Common.{◌≡◌, ℕ, zero, suc, ◌+◌, ◌-◌, ◌*◌, ◌<◌, ◌≤◌, ◌++◌, cond, Some, None, is_some, List, [], ◌∷◌, length, get_or, set, take, drop, replicate, inl, inr, refl, sym, ap, subst, ◌∙◌, arith, Result, Ok, Err, OnOk, is_err, false}
+use Rattle.std.proofs.Common.{◌≡◌, ℕ, zero, suc, ◌+◌, ◌-◌, ◌*◌, ◌<◌, ◌≤◌, ◌++◌, cond, min, true, Option, Some, None, is_some, List, [], ◌∷◌, length, get_or, set, take, drop, replicate, inl, inr, refl, sym, ap, subst, ◌∙◌, arith, Result, Ok, Err, OnOk, is_err, false}
 use Rattle.std.specs.List.{sum_by, count_by, AllByRecursion}
-use Rattle.std.proofs.lemmas.Bool.{cases_lt, false≢true}
+use Rattle.std.proofs.lemmas.Bool.{cases_eq, cases_lt, false≢true}
 use Rattle.std.proofs.lemmas.List.{length-set, length-append, length-take, length-replicate, get_or-set_same, get_or-set_other, get_or-take, get_or_append_left, get_or-append_right, get_or-replicate, take-append-drop}
 use Rattle.std.proofs.lemmas.List.Sums.{sum_by-append, sum_by-set}
 use Rattle.std.proofs.lemmas.List.Folds.{sum_by-replicate}
@@ -10,7 +10,7 @@ use Rattle.opfs_outside.specs.Bytes.{Same}
 use Rattle.opfs_data.specs.Places.{Aside}
 use Rattle.opfs_data.specs.declared.page.Page.{Page}
 use Rattle.opfs_data.specs.Writes.{PageWrite, Run, run_pages, run_writes, writes_of, source_bytes}
-use Rattle.opfs_data.specs.Pages.{block_bytes, page_of, blank, runs_of, resized, with_writes, pages_from, pages_in, NamesPage, AreOnce, AreOwn}
+use Rattle.opfs_data.specs.Pages.{block_bytes, page_of, blank, runs_of, resized, with_writes, pages_from, pages_in, NamesPage, AreOnce, AreOwn, ArePlaced}
 use Rattle.opfs_data.proofs.PageLemmas.{page_stays}
 use Rattle.opfs_data.proofs.RunLemmas.{all_at}
 use Rattle.opfs_data.proofs.WriteLemmas.{all_append, all_left, all_right}
@@ -157,3 +157,30 @@ kept_open (e ∷ extents) =
     let rest : sum_by one_kept (pages_in extents) ≡ 0 = kept_open extents in
     let both : sum_by one_kept (pages_from e.start e.count ++ pages_in extents) ≡ 0 = omega (arith, rest, kept_from e.start e.count, sum_by-append one_kept (pages_from e.start e.count) (pages_in extents)) in
     both
+
+-- ---- the first pages, which have a block each
+
+-- a page keeps a block where pages are written
+placed_writes : (ws : List PageWrite) (pages : List Page) (i : ℕ) → i < length pages → is_some (get_or pages i blank).block ≡ true → is_some (get_or (with_writes ws pages) i blank).block ≡ true
+placed_writes [] pages i lt has = has
+placed_writes (w ∷ ws) pages i lt has =
+    let now : is_some (get_or (set pages w.page (page_in w)) i blank).block ≡ true = elim (cases_eq w.page i) [
+      | inl is ↦ ap (λ (p : Page). is_some p.block) (subst (λ (k : ℕ). get_or (set pages w.page (page_in w)) k blank ≡ page_in w) is (get_or-set_same pages w.page (page_in w) blank (omega (arith, is, lt))))
+      | inr other ↦ ap (λ (p : Page). is_some p.block) (get_or-set_other pages w.page i (page_in w) blank (λ is. other (sym is))) ∙ has
+    ] in
+    placed_writes ws (set pages w.page (page_in w)) i (omega (arith, lt, length-set pages w.page (page_in w))) now
+
+pub placed_written : (n known : ℕ) (old new : List Page) (ws : List PageWrite) → new ≡ with_writes ws (resized n old) → ArePlaced known old → ArePlaced (min known n) new
+placed_written n known old new ws is placed = (
+  omega (arith, written_size n old new ws is),
+  λ i below.
+      let in_old : i < known = omega (arith, below) in
+      let in_new : i < n = omega (arith, below) in
+      let there : i < length old = omega (arith, in_old, placed.0) in
+      ap (λ (ps : List Page). is_some (get_or ps i blank).block) is
+      ∙ placed_writes ws (resized n old) i (omega (arith, in_new, length-resized n old)) (ap (λ (p : Page). is_some p.block) (resized_at n old i in_new there) ∙ placed.1 i in_old),
+)
+
+-- and where all blocks stay
+pub placed_same : (known : ℕ) (old new : List Page) → length new ≡ length old → ((j : ℕ) → (get_or new j blank).block ≡ (get_or old j blank).block) → ArePlaced known old → ArePlaced known new
+placed_same known old new size same placed = (omega (arith, size, placed.0), λ i below. ap (λ (b : Option ℕ). is_some b) (same i) ∙ placed.1 i below)

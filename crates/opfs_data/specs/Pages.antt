@@ -1,5 +1,5 @@
 -- Pages of working copies in blocks. A page has 4,096 bytes. This project's own.
-use Rattle.std.specs.Prelude.{◌≡◌, ℕ, ◌+◌, ◌-◌, ◌*◌, ◌^◌, ◌<◌, ◌++◌, length, take, slice_set, slice_index_or, ◌≤◌, ◌⊎◌, Option, Some, None, is_some, is_none, ◌&&◌, Bool, List, [], ◌∷◌, map, replicate}
+use Rattle.std.specs.Prelude.{◌≡◌, ℕ, ◌+◌, ◌-◌, ◌*◌, ◌^◌, ◌<◌, ◌++◌, length, take, slice_set, slice_index_or, ◌≤◌, ◌⊎◌, Option, Some, None, is_some, is_none, ◌&&◌, Bool, true, List, [], ◌∷◌, map, replicate}
 use Rattle.std.specs.List.{AllByRecursion, flat_map, range_with_len}
 use Rattle.opfs_base.specs.declared.extents.Extent.{Extent}
 use Rattle.opfs_outside.specs.Bytes.{window}
@@ -56,6 +56,10 @@ blank = record { block = None; kept = None }
 -- the page has a block, and nothing is kept of it: the block has its bytes
 abbrev pub is_plain : Page → Bool
 is_plain page = is_some page.block && is_none page.kept
+
+-- the first pages, so many, have a block each
+abbrev pub ArePlaced : ℕ → List Page → Type 0
+ArePlaced count pages = (count ≤ length pages) × ((i : ℕ) → i < count → is_some (slice_index_or pages i blank).block ≡ true)
 
 -- the pages with these bytes kept, the last one first
 abbrev pub keep_at : List Page → ℕ → List ℕ → List Page

@@ -7,7 +7,7 @@ ghost use Rattle.opfs_data.specs.Calls.{Reads, Writes};
 ghost use Rattle.opfs_data.specs.Places.{AllLie};
 ghost use Rattle.opfs_data.specs.declared.page.Page.{Page};
 ghost use Rattle.opfs_data.specs.Writes.{page_writes, AreWithin};
-ghost use Rattle.opfs_data.specs.Pages.{block_bytes, page_of, blank, is_plain, runs_of, resized, with_writes, pages_in, NamesPage, HasAgain, AreOnce, AreSaved, AreNow, AreOwn, IsApart, LiesIn, IsDataPart};
+ghost use Rattle.opfs_data.specs.Pages.{block_bytes, page_of, blank, is_plain, runs_of, resized, with_writes, pages_in, NamesPage, HasAgain, AreOnce, AreSaved, AreNow, AreOwn, IsApart, LiesIn, IsDataPart, ArePlaced};
 
 use crate::page::{Page, SavedPage};
 use crate::pages::read_page;
@@ -27,19 +27,21 @@ pub struct PagedRow {
     pages: Vec<Page>,
     // how many of them have kept bytes
     kept: u64,
+    // so many of the first ones have a block each
+    placed: u64,
     saved: Option<Vec<SavedPage>>,
 }
 
 impl Model for PagedRow {
     ghost use Rattle.std.specs.Prelude.{◌≡◌, option_map, count_by, is_some};
     ghost use Rattle.std.specs.Vec.{vec_capacity};
-    ghost use Rattle.opfs_data.specs.Pages.{RowSeen};
+    ghost use Rattle.opfs_data.specs.Pages.{RowSeen, ArePlaced};
 
     ghost Value = { RowSeen };
 
     ghost view = { λ row. record { pages = row.pages.items; room = vec_capacity row.pages; saved = option_map (λ saved. saved.items) row.saved } };
 
-    ghost invariant = { λ row. row.kept ≡ count_by (λ page. is_some page.kept) row.pages.items };
+    ghost invariant = { λ row. (row.kept ≡ count_by (λ page. is_some page.kept) row.pages.items) × ArePlaced row.placed row.pages.items };
 }
 
 // How many pages have kept bytes.
@@ -60,6 +62,29 @@ fn count_left(before: u64, pages: &[Page]) -> u64
     count_kept(pages)
 }
 
+// Whether a page is there and has a block.
+fn has_block(pages: &[Page], page: u64) -> bool
+    ensures there { IsTrue result → page < length pages.now }
+    ensures block { IsTrue result → is_some (slice_index_or pages.now page blank).block ≡ true }
+{
+    match pages.get(page as usize) {
+        Some(page) => page.block.is_some(),
+        None => false,
+    }
+}
+
+// How many of the first pages have a block each, where so many are known to.
+fn count_placed(pages: &[Page], known: u64) -> u64
+    requires { ArePlaced known pages.now }
+    ensures { ArePlaced result pages.now }
+{
+    let mut count = known;
+    while has_block(pages, count) {
+        count += 1;
+    }
+    count
+}
+
 impl PagedRow {
     /// Pages that have the blocks of runs in order, and nothing is kept of them.
     pub fn make(alloc: Global, extents: &[Extent]) -> Result<PagedRow, AllocError>
@@ -69,9 +94,11 @@ impl PagedRow {
     {
         let pages = open_pages(alloc, extents)?;
         let kept = count_kept(&pages);
+        let placed = count_placed(&pages, 0);
         Ok(PagedRow {
             pages,
             kept,
+            placed,
             saved: None,
         })
     }
@@ -88,6 +115,23 @@ impl PagedRow {
         ensures { result ≡ count_by (λ page. is_some page.kept) self.now.pages }
     {
         self.kept
+    }
+
+    /// The pages.
+    pub fn pages(&self) -> &[Page]
+        ensures { result.now ≡ self.now.pages }
+    {
+        self.pages.as_slice()
+    }
+
+    /// So many of the first pages have a block each, and nothing is kept of them. It is known, and so costs nothing.
+    pub fn plain_front(&self) -> u64
+        ensures { (i : ℕ) → i < result → is_plain (slice_index_or self.now.pages i blank) ≡ true }
+    {
+        if self.kept > 0 {
+            return 0;
+        }
+        self.placed
     }
 
     /// The block of a page; None where it has none.
@@ -212,6 +256,7 @@ impl PagedRow {
             return Err(DiskFault);
         }
         self.kept = count_left(self.kept, &self.pages);
+        self.placed = count_placed(&self.pages, self.placed.min(pages));
         Ok(())
     }
 }

@@ -10,7 +10,7 @@ ghost use Rattle.opfs_data.specs.Writes.{page_writes, AreWithin};
 ghost use Rattle.opfs_data.specs.Pages.{block_bytes, page_of, blank, is_plain, runs_of, resized, with_writes, pages_in, NamesPage, HasAgain, AreOnce, AreSaved, AreNow, AreOwn, IsApart, LiesIn, IsDataPart};
 ghost use Rattle.opfs_data.specs.Rows.{row_of, row_at, pages_at, page_at, kept_in, kept_count, IsOther, OthersStay, AreFree, AreInOrder, rows_behind};
 
-use crate::{DataRefusal, PageWrites, PagedRow};
+use crate::{DataRefusal, Page, PageWrites, PagedRow};
 use opfs_base::Extent;
 use opfs_journal::{DiskFault, Journal};
 use opfs_outside::Disk;
@@ -60,6 +60,26 @@ impl Swap {
     {
         match self.rows.get(&(agent, row)) {
             Some(found) => found.len(),
+            None => 0,
+        }
+    }
+
+    /// The pages of a row; none where it is not there. Takes no memory.
+    pub fn pages(&self, agent: u32, row: u32) -> &[Page]
+        ensures { result.now ≡ pages_at agent row self.now }
+    {
+        match self.rows.get(&(agent, row)) {
+            Some(found) => found.pages(),
+            None => &[],
+        }
+    }
+
+    /// So many of a row's first pages have a block each, and nothing is kept of them. It is known, and so costs one look-up.
+    pub fn plain_front(&self, agent: u32, row: u32) -> u64
+        ensures { (i : ℕ) → i < result → is_plain (page_at agent row i self.now) ≡ true }
+    {
+        match self.rows.get(&(agent, row)) {
+            Some(found) => found.plain_front(),
             None => 0,
         }
     }

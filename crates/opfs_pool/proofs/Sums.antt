@@ -1,5 +1,5 @@
 -- The blocks of all shares, as shares change.
-use Rattle.std.proofs.Common.{◌≡◌, ℕ, ◌+◌, ◌-◌, ◌≤◌, Bool, true, false, Option, Some, None, is_some, unwrap_or, option_map, refl, sym, ap, arith}
+use Rattle.std.proofs.Common.{◌≡◌, ℕ, ◌+◌, ◌-◌, ◌<◌, ◌≤◌, ◌^◌, Bool, true, false, Option, Some, None, is_some, unwrap_or, option_map, refl, sym, ap, ◌∙◌, arith}
 use Rattle.std.specs.Map.{lookup, keys_of}
 use Rattle.std.specs.BTreeMap.{insert_entry}
 use Rattle.std.specs.List.Sorted.{IsStrictlySortedBy}
@@ -8,17 +8,13 @@ use Rattle.std.proofs.lemmas.Map.Entries.{sum_by-set_value, sum_by-insert_entry}
 use Rattle.opfs_base.specs.Texts.{Text}
 use Rattle.opfs_pool.specs.declared.pool.Share.{Share}
 use Rattle.opfs_pool.specs.Shares.{Shares, text_cmp, is_unit, has_share, first_share, share_at, held, with_share}
-use Rattle.opfs_pool.proofs.Values.{set_value-none}
+use Rattle.opfs_pool.proofs.Values.{set_value-none, set_value-same}
 
 abbrev blocks_of : Share → ℕ
 blocks_of share = share.blocks
 
 pub held_found : (es : Shares) (unit : Text) (v share : Share) → lookup (is_unit unit) es ≡ Some v → held (with_share es unit share) + v.blocks ≡ held es + share.blocks
 held_found es unit v share found = sum_by-set_value blocks_of (is_unit unit) es v share found
-
--- no share has more blocks than all together
-pub within_held : (es : Shares) (unit : Text) (v : Share) → lookup (is_unit unit) es ≡ Some v → v.blocks ≤ held es
-within_held es unit v found = omega (arith, held_found es unit v first_share found)
 
 none_from : {X : Type 0} (o : Option X) → is_some o ≡ false → o ≡ None
 none_from None is_none = refl
@@ -63,25 +59,28 @@ held_touch es unit ordered absent =
     let none : unwrap_or (option_map blocks_of (lookup (is_unit unit) es)) 0 ≡ 0 = ap (λ (o : Option Share). unwrap_or (option_map blocks_of o) 0) (none_from (lookup (is_unit unit) es) absent) in
     omega (arith, sum_by-insert_entry blocks_of nat_list_cmp_total es unit first_share ordered)
 
-found_share : (es : Shares) (unit : Text) (v : Share) → lookup (is_unit unit) es ≡ Some v → (share_at es unit).blocks ≡ v.blocks
-found_share es unit v found = ap (λ (o : Option Share). (unwrap_or o first_share).blocks) found
-
-pub room_put : (es : Shares) (unit : Text) (v : Share) (b size : ℕ) → lookup (is_unit unit) es ≡ Some v → held es + b ≤ size + (share_at es unit).blocks
-    → held es - v.blocks + b ≤ size
-room_put es unit v b size found room = omega (arith, found_share es unit v found, within_held es unit v found)
-
--- the count is the blocks of all shares after one was changed
-pub tied_put : (es es' : Shares) (unit : Text) (v share : Share) (count size : ℕ) → lookup (is_unit unit) es ≡ Some v → held es + share.blocks ≤ size + (share_at es unit).blocks
-    → count ≡ held es → es' ≡ with_share es unit share → (count - v.blocks + share.blocks ≡ held es') × (count - v.blocks + share.blocks ≤ size)
-tied_put es es' unit v share count size found room is new =
-    let held_is : held es' ≡ held (with_share es unit share) = ap held new in
-    (omega (arith, held_found es unit v share found, within_held es unit v found), omega (arith, room_put es unit v share.blocks size found room))
-
-pub empty_share : (es : Shares) (unit : Text) → has_share es unit ≡ false → (share_at es unit).blocks ≡ 0
-empty_share es unit absent = ap blocks_of (absent_share es unit absent)
-
 pub share_at-le : (es : Shares) (unit : Text) → (share_at es unit).blocks ≤ held es
 share_at-le es unit = omega (arith, held_change es unit first_share (λ absent. refl))
 
-pub true_false : true ≡ false → ⊥
-true_false e = cc
+-- ---- as the calls of a pool need them
+
+same_share : (es : Shares) (unit : Text) → with_share es unit (share_at es unit) ≡ es
+same_share es unit =
+    elim (lookup (is_unit unit) es) as (λ (o : Option Share). lookup (is_unit unit) es ≡ o → with_share es unit (unwrap_or o first_share) ≡ es) [
+      | None ↦ λ none. set_value-none (is_unit unit) es first_share none
+      | Some v ↦ λ found. set_value-same (is_unit unit) es v found
+    ] refl
+
+-- a share that is raised, or lowered, by nothing
+pub unchanged_share : (es : Shares) (unit : Text) (blocks : ℕ) → blocks ≡ (share_at es unit).blocks → with_share es unit (record (share_at es unit) { blocks = blocks }) ≡ es
+unchanged_share es unit blocks same = ap (λ (b : ℕ). with_share es unit (record (share_at es unit) { blocks = b })) same ∙ same_share es unit
+
+module _ (es es' : Shares) (unit : Text) (n count size : ℕ) where
+  pub raise_fits : count ≡ held es → count ≤ size → size < 2 ^ 64 → held es + n ≤ size → (share_at es unit).blocks + n < 2 ^ 64
+  raise_fits is within small room = omega (arith, share_at-le es unit)
+
+  pub raised : has_share es unit ≡ true → es' ≡ with_share es unit (record (share_at es unit) { blocks = (share_at es unit).blocks + n }) → held es' ≡ held es + n
+  raised there is = ap held is ∙ held_raise es unit n there
+
+  pub lowered : n ≤ (share_at es unit).blocks → es' ≡ with_share es unit (record (share_at es unit) { blocks = (share_at es unit).blocks - n }) → held es' + n ≡ held es
+  lowered enough is = ap (λ m. m + n) (ap held is) ∙ held_lower es unit n enough

@@ -6,7 +6,7 @@ ghost use Rattle.std.specs.Map.{keys_of};
 ghost use Rattle.opfs_pool.specs.Shares.{text_cmp, has_share, first_share, share_at, held, touched, changed};
 ghost use Rattle.opfs_pool.specs.Victims.{victims, clearable};
 
-use crate::shares::{set_share, share_at};
+use crate::shares::{lower_share, mark_share, raise_share, set_share, share_at};
 use crate::victims::{Keys, candidates, shortest_front};
 use opfs_base::Key;
 use std::alloc::{AllocError, Global};
@@ -101,9 +101,11 @@ impl Pool {
         ensures share { self.new ≡ changed self.old key.now (record (share_at self.old.shares key.now) { blocks = (share_at self.old.shares key.now).blocks + n }) }
         ensures held { held self.new.shares ≡ held self.old.shares + n }
     {
-        let Share { candidate, blocks } = share_at(&self.shares, key);
-        let blocks = blocks + n;
-        self.put(key, Share { candidate, blocks });
+        if n == 0 {
+            return;
+        }
+        raise_share(&mut self.shares, key, n);
+        self.count += n;
     }
 
     /// Keeps so many blocks less for a unit. Takes no memory.
@@ -112,9 +114,11 @@ impl Pool {
         ensures share { self.new ≡ changed self.old key.now (record (share_at self.old.shares key.now) { blocks = (share_at self.old.shares key.now).blocks - n }) }
         ensures held { held self.new.shares + n ≡ held self.old.shares }
     {
-        let Share { candidate, blocks } = share_at(&self.shares, key);
-        let blocks = blocks - n;
-        self.put(key, Share { candidate, blocks });
+        if n == 0 {
+            return;
+        }
+        lower_share(&mut self.shares, key, n);
+        self.count -= n;
     }
 
     /// Keeps no block for a unit, which is no candidate then. Takes no memory.
@@ -122,11 +126,8 @@ impl Pool {
         ensures share { self.new ≡ changed self.old key.now first_share }
         ensures held { held self.new.shares + (share_at self.old.shares key.now).blocks ≡ held self.old.shares }
     {
-        // No more blocks are kept than there are.
-        let _kept = self.count();
-        let candidate = false;
-        let blocks = 0;
-        self.put(key, Share { candidate, blocks });
+        self.count -= share_at(&self.shares, key).blocks;
+        set_share(&mut self.shares, key, FIRST);
     }
 
     /// Sets whether a unit may be cleared. Takes no memory.
@@ -135,8 +136,7 @@ impl Pool {
         ensures share { self.new ≡ changed self.old key.now (record (share_at self.old.shares key.now) { candidate = candidate }) }
         ensures held { held self.new.shares ≡ held self.old.shares }
     {
-        let Share { blocks, .. } = share_at(&self.shares, key);
-        self.put(key, Share { candidate, blocks });
+        mark_share(&mut self.shares, key, candidate);
     }
 
     /// The units that are cleared so that so many blocks more find room: the shortest front of the candidates that are not
@@ -166,19 +166,5 @@ impl Pool {
     {
         let all: (Bound<&Key>, Bound<&Key>) = (Bound::Unbounded, Bound::Unbounded);
         let _shares = self.shares.range(all);
-    }
-
-    // Changes the share of a unit that has one; none is changed to no blocks alone.
-    fn put(&mut self, key: &Key, share: Share)
-        requires absent { has_share self.old.shares key.now ≡ false → share.blocks ≡ 0 }
-        requires room { held self.old.shares + share.blocks ≤ self.old.size + (share_at self.old.shares key.now).blocks }
-        ensures share { self.new ≡ changed self.old key.now share }
-        ensures held { held self.new.shares + (share_at self.old.shares key.now).blocks ≡ held self.old.shares + share.blocks }
-    {
-        let Some(old) = self.shares.get(key) else {
-            return;
-        };
-        self.count = self.count - old.blocks + share.blocks;
-        set_share(&mut self.shares, key, share);
     }
 }

@@ -15,7 +15,7 @@ use Rattle.opfs_base.specs.Units.{origin_of}
 use Rattle.opfs_shed.specs.declared.shed.Bucket.{Bucket}
 use Rattle.opfs_shed.specs.Buckets.{Buckets, text_cmp, is_unit, first_bucket, bucket_at, has_unit, with_bucket, usage_of, part_of, whole_usage}
 use Rattle.opfs_shed.specs.Tied.{Totals, is_origin, total_in, IsTied}
-use Rattle.opfs_shed.proofs.Values.{lookup-set_same, lookup-set_other, is_some-set_value, set_value-none}
+use Rattle.opfs_shed.proofs.Values.{lookup-set_same, lookup-set_other, is_some-set_value, set_value-none, set_value-same}
 
 -- What a unit's bucket adds to the usage of an origin.
 abbrev pub part : Text → Text → Bucket → ℕ
@@ -240,11 +240,6 @@ tied_put totals totals' es es' unit origin v b total is_tied is found sum new_to
     let at : unwrap_or (total_in totals origin) 0 ≡ unwrap_or (total_in totals (origin_of unit)) 0 = ap (λ (o : Text). unwrap_or (total_in totals o) 0) is in
     rw new_totals (rw new_es (rw is (tied_after totals es unit v b total is_tied found (omega (arith, least)))))
 
--- the sums that a greater bucket asks for
-pub room_to_add : (es : Buckets) (unit : Text) (need : ℕ) → usage_of (origin_of unit) es + need < 2 ^ 64
-    → usage_of (origin_of unit) es + ((bucket_at es unit).usage + need) < 2 ^ 64 + (bucket_at es unit).usage
-room_to_add es unit need fits = omega arith
-
 pub room_in_bucket : (es : Buckets) (unit : Text) (need : ℕ) → usage_of (origin_of unit) es + need < 2 ^ 64 → (bucket_at es unit).usage + need < 2 ^ 64
 room_in_bucket es unit need fits = omega (arith, bucket_at-le unit es)
 
@@ -319,3 +314,46 @@ module _ (unit : Text) (es new : Buckets) where
 
   pub usage_same : has_unit es unit ≡ true → new ≡ with_bucket es unit (record (bucket_at es unit) { persistent = true }) → (origin : Text) → usage_of origin new ≡ usage_of origin es
   usage_same has is origin = omega (arith, ap (usage_of origin) is, moved origin unit es (record (bucket_at es unit) { persistent = true }) has)
+
+-- ---- a bucket and its origin's count that both are raised, or lowered, by one number
+
+same_bucket : (es : Buckets) (unit : Text) → with_bucket es unit (bucket_at es unit) ≡ es
+same_bucket es unit =
+    elim (lookup (is_unit unit) es) as (λ (o : Option Bucket). lookup (is_unit unit) es ≡ o → with_bucket es unit (unwrap_or o first_bucket) ≡ es) [
+      | None ↦ λ none. set_value-none (is_unit unit) es first_bucket none
+      | Some v ↦ λ found. set_value-same (is_unit unit) es v found
+    ] refl
+
+-- by nothing
+pub unchanged_bucket : (es : Buckets) (unit : Text) (usage : ℕ) → usage ≡ (bucket_at es unit).usage → with_bucket es unit (record (bucket_at es unit) { usage = usage }) ≡ es
+unchanged_bucket es unit usage same = ap (λ (n : ℕ). with_bucket es unit (record (bucket_at es unit) { usage = n })) same ∙ same_bucket es unit
+
+pub nothing_more : (origin unit : Text) (n : ℕ) → n ≡ 0 → part_of origin unit n ≡ 0
+nothing_more origin unit n zero = ap (part_of origin unit) zero ∙ none_part origin unit
+
+module _ (totals totals' : Totals) (es es' : Buckets) (unit origin : Text) (n : ℕ) (is_tied : IsTied totals es) (is : origin ≡ origin_of unit) where
+  pub total_is : unwrap_or (total_in totals origin) 0 ≡ usage_of (origin_of unit) es
+  total_is = is_tied.sums origin ∙ ap (λ (o : Text). usage_of o es) is
+
+  pub within_totals : n ≤ (bucket_at es unit).usage → n ≤ unwrap_or (total_in totals origin) 0
+  within_totals enough = omega (arith, total_is, bucket_at-le unit es)
+
+  pub tied_raised : has_unit es unit ≡ true → totals' ≡ set_value (is_origin origin) totals (unwrap_or (total_in totals origin) 0 + n)
+      → es' ≡ with_bucket es unit (record (bucket_at es unit) { usage = (bucket_at es unit).usage + n }) → IsTied totals' es'
+  tied_raised there new_totals new_es =
+      elim (lookup (is_unit unit) es) as (λ (o : Option Bucket). lookup (is_unit unit) es ≡ o → is_some o ≡ true
+      → es' ≡ with_bucket es unit (record (unwrap_or o first_bucket) { usage = (unwrap_or o first_bucket).usage + n }) → IsTied totals' es') [
+        | None ↦ λ told some new. absurd cc
+        | Some v ↦ λ told some new.
+            tied_put totals totals' es es' unit origin v (record v { usage = v.usage + n }) (unwrap_or (total_in totals origin) 0 + n) is_tied is told (omega (arith, within_total totals es unit origin v is_tied is told)) new_totals new
+      ] refl there new_es
+
+  pub tied_lowered : 0 < n → n ≤ (bucket_at es unit).usage → totals' ≡ set_value (is_origin origin) totals (unwrap_or (total_in totals origin) 0 - n)
+      → es' ≡ with_bucket es unit (record (bucket_at es unit) { usage = (bucket_at es unit).usage - n }) → IsTied totals' es'
+  tied_lowered some enough new_totals new_es =
+      elim (lookup (is_unit unit) es) as (λ (o : Option Bucket). lookup (is_unit unit) es ≡ o → n ≤ (unwrap_or o first_bucket).usage
+      → es' ≡ with_bucket es unit (record (unwrap_or o first_bucket) { usage = (unwrap_or o first_bucket).usage - n }) → IsTied totals' es') [
+        | None ↦ λ told few new. absurd (omega (arith, some, few))
+        | Some v ↦ λ told few new.
+            tied_put totals totals' es es' unit origin v (record v { usage = v.usage - n }) (unwrap_or (total_in totals origin) 0 - n) is_tied is told (omega (arith, few, within_total totals es unit origin v is_tied is told)) new_totals new
+      ] refl enough new_es

@@ -7,7 +7,10 @@ ghost use Rattle.opfs_base.specs.Texts.{Text};
 ghost use Rattle.opfs_base.specs.Units.{origin_of};
 ghost use Rattle.opfs_shed.specs.Buckets.{text_cmp, bucket_at, has_unit, usage_of, part_of, first_bucket, changed, with_unit, persistent_past};
 
-use crate::totals::{add_total, bucket_at, set_bucket, set_total, total_of};
+use crate::totals::{
+    add_total, bucket_at, lower_bucket, lower_total, raise_bucket, raise_total, set_bucket,
+    set_total, total_of,
+};
 use opfs_base::{Key, origin_of};
 use std::alloc::{AllocError, Global};
 use std::collections::BTreeMap;
@@ -134,9 +137,11 @@ impl Shed {
         ensures bucket { self.new ≡ changed self.old key.now (record (bucket_at self.old.buckets key.now) { usage = (bucket_at self.old.buckets key.now).usage + need }) }
         ensures usage { (origin : Text) → usage_of origin self.new.buckets ≡ usage_of origin self.old.buckets + part_of origin key.now need }
     {
-        let Bucket { persistent, usage } = bucket_at(&self.buckets, key);
-        let usage = usage + need;
-        self.put(key, Bucket { persistent, usage });
+        if need == 0 {
+            return;
+        }
+        raise_total(&mut self.totals, origin_of(key.as_bytes()), need);
+        raise_bucket(&mut self.buckets, key, need);
     }
 
     /// Takes so many blocks off what a unit uses. Takes no memory.
@@ -145,9 +150,11 @@ impl Shed {
         ensures bucket { self.new ≡ changed self.old key.now (record (bucket_at self.old.buckets key.now) { usage = (bucket_at self.old.buckets key.now).usage - n }) }
         ensures usage { (origin : Text) → usage_of origin self.new.buckets + part_of origin key.now n ≡ usage_of origin self.old.buckets }
     {
-        let Bucket { persistent, usage } = bucket_at(&self.buckets, key);
-        let usage = usage - n;
-        self.put(key, Bucket { persistent, usage });
+        if n == 0 {
+            return;
+        }
+        lower_total(&mut self.totals, origin_of(key.as_bytes()), n);
+        lower_bucket(&mut self.buckets, key, n);
     }
 
     /// Makes a unit's bucket as it first is: best-effort, of no blocks. Takes no memory.
