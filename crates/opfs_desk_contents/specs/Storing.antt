@@ -9,6 +9,7 @@ use Rattle.opfs_blocks.specs.Sets.{blocks_of}
 use Rattle.opfs_books.specs.Stored.Spelled.{bytes_stored, spelled_by, CanHold}
 use Rattle.opfs_books.specs.Laws.Books.{Fixed, AreBooks}
 use Rattle.opfs_books.specs.Laws.Laws.{LeavesPages, failed}
+use Rattle.opfs_books.specs.Seen.{BytesStand}
 use Rattle.opfs_state_rows.specs.Changes.Changed.{freed_in, tree_by}
 use Rattle.opfs_codec.specs.Spelling.{AreExtents}
 use Rattle.opfs_codec.specs.declared.change.Change.{Change as Spelled}
@@ -34,11 +35,11 @@ use Rattle.opfs_records.specs.Checkpoint.Written.{IsWritablePlace}
 use Rattle.opfs_space.specs.Holders.{HasPage}
 use Rattle.opfs_tree.specs.Rows.{IsInOrder, file_at as file_in_tree}
 use Rattle.opfs_tree.specs.declared.row.FileRow.{FileRow}
-use Rattle.opfs_desk_entries.specs.KeptBack.Changing.{IsChangeShown}
+use Rattle.opfs_desk_entries.specs.KeptBack.Changing.{HasNotChanged, IsChangeShown}
 use Rattle.opfs_work.specs.Works.{WorkingCopy}
 use Rattle.opfs_desk_steps.specs.Parts.Acted.{AreCleared}
 use Rattle.opfs_desk_steps.specs.Parts.Answered.{IsAnswered, MayAnswer}
-use Rattle.opfs_desk_steps.specs.Parts.Held.{AreHeldWhole, AreTied}
+use Rattle.opfs_desk_steps.specs.Parts.Held.{AreHeldAt, AreHeldWhole, AreTied}
 use Rattle.opfs_desk_steps.specs.Parts.Seen.{machine_in, tree_in, book_in}
 use Rattle.opfs_desk_steps.specs.declared.parts.parts.Ledger.{Ledger}
 use Rattle.opfs_desk_steps.specs.declared.parts.parts.OpenPages.{OpenPages}
@@ -72,6 +73,26 @@ pub record HasStored {D : Type 0} (w : DiskWords D) (f : Fixed D) (base : State 
   pub tied : AreTied w f new p
   pub leaves : LeavesPages w old.journal new.journal
   pub shown : IsChangeShown w f base gone old new e own
+
+-- A call is entered with a content over parts that are kept, after some evictions: its file is there, the content can be held, and its
+-- bytes are on the disk.
+pub record IsEnteredOver {D : Type 0} (w : DiskWords D) (f : Fixed D) (recorded : Built) (base : State Text Own) (gone : List Text) (l : Ledger D) (p : OpenPages) (e : Entry) (z : Sizes) (place : Place) (row : FileRow) (own : Spelled) : Type 0 where
+  pub are : AreHeldAt w f recorded base gone l p
+  pub answered : IsAnswered w base gone l e z
+  pub there : file_in_tree place (tree_in l) ≡ Some row
+  pub holds : CanHold f.geometry.blocks own (book_in l).rows
+  pub stands : BytesStand w f base gone l.journal e own
+
+-- The content is stored and the call entered, over whatever parts this was. The rows of the tree are in order.
+pub record HasEnteredContent {D : Type 0} (w : DiskWords D) (old new : Ledger D) (e : Entry) (z : Sizes) (place : Place) (size : ℕ) (runs : List Extent) (extents : Option (List Extent)) : Type 0 where
+  pub order : IsInOrder (tree_in new)
+  pub over : (f : Fixed D) (recorded : Built) (base : State Text Own) (gone : List Text) (p : OpenPages) (row : FileRow) → IsEnteredOver w f recorded base gone old p e z place row (content_now old e place row size runs)
+      → HasStored w f base gone old new p e z extents (content_now old e place row size runs)
+
+-- The disk failed, and the call is entered so, over whatever parts this was.
+pub record HasFailedContent {D : Type 0} (w : DiskWords D) (old new : Ledger D) (e : Entry) (z : Sizes) (place : Place) (size : ℕ) (runs : List Extent) : Type 0 where
+  pub over : (f : Fixed D) (recorded : Built) (base : State Text Own) (gone : List Text) (p : OpenPages) (row : FileRow) → IsEnteredOver w f recorded base gone old p e z place row (content_now old e place row size runs)
+      → HasNotChanged w f recorded base gone old new p e (content_now old e place row size runs)
 
 -- The runs are those of a row's pages: no block twice, and where all pages have their blocks, with the row's bytes.
 pub record AreRunsOf (swap : Rows) (agent row pages : ℕ) (runs : List Extent) : Type 0 where

@@ -1,26 +1,14 @@
 //! The content of a row, committed, and the call's entry.
 
-ghost use Rattle.std.specs.Prelude.{◌≡◌, ◌<◌, ◌≤◌, ◌^◌, ◌++◌, [], List, true, false, Some, length, OnOk, OnErr};
+ghost use Rattle.std.specs.Prelude.{◌≡◌, ◌<◌, ◌≤◌, ◌^◌, [], true, false, length, OnOk, OnErr};
 ghost use Rattle.std.specs.Vec.{vec_capacity};
-ghost use Rattle.opfs_base.specs.Texts.{Text};
-ghost use Rattle.opfs_books.specs.Stored.Spelled.{CanHold};
-ghost use Rattle.opfs_books.specs.Laws.Books.{Fixed};
-ghost use Rattle.opfs_books.specs.Seen.{BytesStand};
 ghost use Rattle.opfs_codec.specs.Fields.{plain};
 ghost use Rattle.opfs_codec.specs.declared.change.Change.TheVariants.{Content};
-ghost use Rattle.opfs_desk_contents.specs.Storing.{MayStoreContent, HasStored, content_now};
+ghost use Rattle.opfs_desk_contents.specs.Storing.{MayStoreContent, HasEnteredContent, HasFailedContent};
 ghost use Rattle.opfs_desk_contents.specs.Words.{is_storing};
-ghost use Rattle.opfs_desk_entries.specs.KeptBack.Changing.{HasNotChanged};
-ghost use Rattle.opfs_desk_steps.specs.Parts.Answered.{IsAnswered};
-ghost use Rattle.opfs_desk_steps.specs.Parts.Held.{AreHeldAt};
-ghost use Rattle.opfs_desk_steps.specs.Parts.Seen.{tree_in, book_in};
-ghost use Rattle.opfs_desk_steps.specs.declared.parts.parts.OpenPages.{OpenPages};
+ghost use Rattle.opfs_desk_steps.specs.Parts.Seen.{tree_in};
 ghost use Rattle.opfs_hist.specs.declared.reply.Reply.TheVariants as reply;
-ghost use Rattle.opfs_machine.specs.declared.own.Own.{Own};
-ghost use Rattle.opfs_machine.specs.declared.state.State.{State};
-ghost use Rattle.opfs_records.specs.Replay.Built.{Built};
-ghost use Rattle.opfs_tree.specs.Rows.{IsInOrder, file_at as file_in_tree};
-ghost use Rattle.opfs_tree.specs.declared.row.FileRow.{FileRow};
+ghost use Rattle.opfs_tree.specs.Rows.{IsInOrder};
 
 use crate::words::stamp_of;
 use opfs_base::{Extent, Extents};
@@ -68,15 +56,8 @@ pub fn enter_content<D: Disk>(
     requires done { last.entry.reply ≡ reply.Done }
     requires settled { ledger.old.journal.in_doubt ≡ false }
     ensures order { IsInOrder (tree_in ledger.old) }
-    ensures order_now { OnOk result (IsInOrder (tree_in ledger.new)) }
-    ensures stored { OnOk result ((f : Fixed D) (recorded : Built) (base : State Text Own) (gone : List Text) (p : OpenPages) (row : FileRow) → AreHeldAt D.Disk f recorded base gone ledger.old p → IsAnswered D.Disk base gone ledger.old last.entry sizes
-        → file_in_tree place.now (tree_in ledger.old) ≡ Some row → CanHold f.geometry.blocks (content_now ledger.old last.entry place.now row size runs.now) (book_in ledger.old).rows
-        → BytesStand D.Disk f base gone ledger.old.journal last.entry (content_now ledger.old last.entry place.now row size runs.now)
-        → HasStored D.Disk f base gone ledger.old ledger.new p last.entry sizes extents (content_now ledger.old last.entry place.now row size runs.now)) }
-    ensures failed { OnErr result ((f : Fixed D) (recorded : Built) (base : State Text Own) (gone : List Text) (p : OpenPages) (row : FileRow) → AreHeldAt D.Disk f recorded base gone ledger.old p → IsAnswered D.Disk base gone ledger.old last.entry sizes
-        → file_in_tree place.now (tree_in ledger.old) ≡ Some row → CanHold f.geometry.blocks (content_now ledger.old last.entry place.now row size runs.now) (book_in ledger.old).rows
-        → BytesStand D.Disk f base gone ledger.old.journal last.entry (content_now ledger.old last.entry place.now row size runs.now)
-        → HasNotChanged D.Disk f recorded base gone ledger.old ledger.new p last.entry (content_now ledger.old last.entry place.now row size runs.now)) }
+    ensures stored { OnOk result (HasEnteredContent D.Disk ledger.old ledger.new last.entry sizes place.now size runs.now extents) }
+    ensures failed { OnErr result (HasFailedContent D.Disk ledger.old ledger.new last.entry sizes place.now size runs.now) }
 {
     ledger.books.state.know_order();
     let stamp = stamp_of(&ledger.books.state, last.entry.agent, &last.entry.op, place);

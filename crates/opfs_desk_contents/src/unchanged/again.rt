@@ -1,35 +1,26 @@
 //! The flush and the close of an access handle of whose file nothing waits for a flush: the file's own content is stored again.
 
-ghost use Rattle.std.specs.Prelude.{◌≡◌, ◌≤◌, [], List, true, false, Some, None, IfOk, OnOk, OnErr};
+ghost use Rattle.std.specs.Prelude.{◌≡◌, ◌≤◌, [], true, false, None, IfOk, OnOk, OnErr};
 ghost use Rattle.opfs_store.specs.Acts.Acting.{IsSameCopy};
-ghost use Rattle.opfs_base.specs.Texts.{Text};
 ghost use Rattle.opfs_books.specs.Stored.Laws.{CallsAreSpelled, CallsMayFail};
 ghost use Rattle.opfs_books.specs.Laws.Books.{Fixed};
 ghost use Rattle.opfs_books.specs.Laws.Commits.{StateLaws};
-ghost use Rattle.opfs_books.specs.Seen.{BytesStand};
-ghost use Rattle.opfs_books.specs.Stored.Spelled.{CanHold};
 ghost use Rattle.opfs_data.specs.Rows.{row_of, kept_count, OthersStay};
 ghost use Rattle.opfs_desk_contents.specs.Unchanged.More.{HasMoreThanReserve};
-ghost use Rattle.opfs_desk_contents.specs.Storing.{HasStored, MayStoreContent, content_now};
+ghost use Rattle.opfs_desk_contents.specs.Storing.{HasEnteredContent, HasFailedContent, MayStoreContent};
 ghost use Rattle.opfs_desk_contents.specs.Words.{is_storing, stores_row};
-ghost use Rattle.opfs_desk_entries.specs.KeptBack.Changing.{HasNotChanged};
 ghost use Rattle.opfs_pages.specs.HistoryLaws.Handles.{AreHandlesWhole};
 ghost use Rattle.opfs_desk_steps.specs.Parts.Acted.{HasActed, IsUnacted};
 ghost use Rattle.opfs_desk_steps.specs.Parts.Asked.{IsAsked, MayGo};
-ghost use Rattle.opfs_desk_steps.specs.Parts.Answered.{IsAnswered};
-ghost use Rattle.opfs_desk_steps.specs.Parts.Held.{AreHeldAt, AreHeldWhole};
-ghost use Rattle.opfs_desk_steps.specs.Parts.Seen.{machine_in, tree_in, book_in, call_in};
-ghost use Rattle.opfs_desk_steps.specs.declared.parts.parts.OpenPages.{OpenPages};
+ghost use Rattle.opfs_desk_steps.specs.Parts.Held.{AreHeldWhole};
+ghost use Rattle.opfs_desk_steps.specs.Parts.Seen.{machine_in, tree_in, call_in};
 ghost use Rattle.opfs_desk_bytes.specs.Reading.Reading.{HaveWholeHandles};
 ghost use Rattle.opfs_desk_steps.specs.RowLaws.Inside.{PartsLieInside};
 ghost use Rattle.opfs_desk_steps.specs.RowLaws.Stored.{FilesAreStored, HistoriesAreCleared};
 ghost use Rattle.opfs_hist.specs.declared.reply.Reply.TheVariants as reply;
-ghost use Rattle.opfs_machine.specs.declared.own.Own.{Own};
-ghost use Rattle.opfs_machine.specs.declared.state.State.{State};
 ghost use Rattle.opfs_records.specs.Replay.Built.{Built};
 ghost use Rattle.opfs_laws.specs.Reserves.Reserves.{ReservesFitOrNothingIsUnflushed};
-ghost use Rattle.opfs_tree.specs.Rows.{IsInOrder, file_at as file_in_tree};
-ghost use Rattle.opfs_tree.specs.declared.row.FileRow.{FileRow};
+ghost use Rattle.opfs_tree.specs.Rows.{IsInOrder};
 
 use crate::enter_content;
 use crate::unchanged::laws::{calling_laws, saving_laws};
@@ -91,15 +82,8 @@ fn enter_again<D: Disk>(
     requires done { last.entry.reply ≡ reply.Done }
     requires settled { ledger.old.journal.in_doubt ≡ false }
     ensures order { IsInOrder (tree_in ledger.old) }
-    ensures order_now { OnOk result (IsInOrder (tree_in ledger.new)) }
-    ensures stored { OnOk result ((f : Fixed D) (recorded : Built) (base : State Text Own) (gone : List Text) (p : OpenPages) (row : FileRow) → AreHeldAt D.Disk f recorded base gone ledger.old p → IsAnswered D.Disk base gone ledger.old last.entry sizes
-        → file_in_tree again.now.place (tree_in ledger.old) ≡ Some row → CanHold f.geometry.blocks (content_now ledger.old last.entry again.now.place row again.now.size again.now.runs) (book_in ledger.old).rows
-        → BytesStand D.Disk f base gone ledger.old.journal last.entry (content_now ledger.old last.entry again.now.place row again.now.size again.now.runs)
-        → HasStored D.Disk f base gone ledger.old ledger.new p last.entry sizes None (content_now ledger.old last.entry again.now.place row again.now.size again.now.runs)) }
-    ensures failed { OnErr result ((f : Fixed D) (recorded : Built) (base : State Text Own) (gone : List Text) (p : OpenPages) (row : FileRow) → AreHeldAt D.Disk f recorded base gone ledger.old p → IsAnswered D.Disk base gone ledger.old last.entry sizes
-        → file_in_tree again.now.place (tree_in ledger.old) ≡ Some row → CanHold f.geometry.blocks (content_now ledger.old last.entry again.now.place row again.now.size again.now.runs) (book_in ledger.old).rows
-        → BytesStand D.Disk f base gone ledger.old.journal last.entry (content_now ledger.old last.entry again.now.place row again.now.size again.now.runs)
-        → HasNotChanged D.Disk f recorded base gone ledger.old ledger.new p last.entry (content_now ledger.old last.entry again.now.place row again.now.size again.now.runs)) }
+    ensures stored { OnOk result (HasEnteredContent D.Disk ledger.old ledger.new last.entry sizes again.now.place again.now.size again.now.runs None) }
+    ensures failed { OnErr result (HasFailedContent D.Disk ledger.old ledger.new last.entry sizes again.now.place again.now.size again.now.runs) }
 {
     let extents = None;
     match enter_content(

@@ -133,7 +133,7 @@ returns-in-Ok-enter_content-clause-stored g c f recorded bytes are stores =
     let long : size ≡ length bytes = c.size-size.ensures ∙ stores.of_row.size in
     let stands = bytes-stand w laws.states f cleared.recorded back q whole c.args.agent c.args.row place opened order pages runs runs_are content.plain e base stamp size bytes content long many stores.stored in
     let holds = can-be-held w laws.states f cleared.recorded back q whole c.args.agent c.args.row place opened order pages runs runs_are content.plain stamp size many in
-    let stored = c.in-Ok-enter_content.ensures.stored f cleared.recorded base [] q may.row_of cleared.are (answered-on w base l back e c.args.sizes is.state is.entries stores.answered) there holds stands in
+    let stored = c.in-Ok-enter_content.ensures.stored.over f cleared.recorded base [] q may.row_of (record { are = cleared.are; answered = answered-on w base l back e c.args.sizes is.state is.entries stores.answered; there = there; holds = holds; stands = stands }) in
     record {
       back = back;
       cleared = cleared;
@@ -147,7 +147,7 @@ returns-in-Ok-enter_content-clause-stored g c f recorded bytes are stores =
           subst (λ (xs : List Extent). HasStored w f base [] back new q e c.args.sizes (Some xs) (content_now back e place may.row_of (length bytes) runs)) same
           (subst (λ (n : ℕ). HasStored w f base [] back new q e c.args.sizes (Some c.from_vec.result) (content_now back e place may.row_of n runs)) long stored);
       order = order;
-      order_now = c.in-Ok-enter_content.ensures.order_now;
+      order_now = c.in-Ok-enter_content.ensures.stored.order;
     }
 
 pub returns-in-Ok-clause-failed : goal.returns-in-Ok-clause-failed
@@ -180,7 +180,7 @@ returns-in-Ok-clause-failed g c f recorded bytes are stores =
     let stands = bytes-stand w laws.states f cleared.recorded back q whole c.args.agent c.args.row place opened order pages runs runs_are content.plain e base stamp size bytes content long many stores.stored in
     let holds = can-be-held w laws.states f cleared.recorded back q whole c.args.agent c.args.row place opened order pages runs runs_are content.plain stamp size many in
     let answered = answered-on w base l back e c.args.sizes is.state is.entries stores.answered in
-    let not = c.in-Err-enter_content.ensures.failed f cleared.recorded base [] q may.row_of cleared.are answered there holds stands in
+    let not = c.in-Err-enter_content.ensures.failed.over f cleared.recorded base [] q may.row_of (record { are = cleared.are; answered = answered; there = there; holds = holds; stands = stands }) in
     let now = size_stored c.args.sizes e.op may.row_of in
     has-failed w f laws.kept laws.spelled laws.fails laws_of.falls l back new q [] e c.args.sizes (content_now back e place may.row_of now may.row_of.extents) (is.entries ∙ sym (append-nil l.books.history)) cleared answered (ap is_refusal c.requires.done)
     (record { lines = subst (λ (s : StateSeen). s.store.machine.rows ≡ lines_of s.store.tree) (sym is.state) c.know_rows_match_tree.ensures; order = order })

@@ -204,14 +204,14 @@ returns-in-Ok-enter_again-clause-acted g c f recorded are whole asked =
     let stand_now : BytesStand w f base units back.journal c.in-Ok-evict_for.last.entry (content_now back c.in-Ok-evict_for.last.entry again.place row again.size again.runs) =
     subst (λ (e : Entry). BytesStand w f base units back.journal e (content_now back e again.place row again.size again.runs)) (sym clear.entry) bytes_stand in
     let saving : SavingLaws w = record { laid = save.laid; blocks = save.blocks; trees = save.trees; leave = save.leave; changes = save.changes } in
-    let done = c.in-Ok-enter_again.ensures.stored f cleared.recorded base units p row cleared.are may_come is_there hold_now stand_now in
+    let done = c.in-Ok-enter_again.ensures.stored.over f cleared.recorded base units p row (record { are = cleared.are; answered = may_come; there = is_there; holds = hold_now; stands = stand_now }) in
     let stored : HasStored w f base units back new p entry call.sizes None (content_now back entry again.place row again.size again.runs) =
     subst (λ (z : Sizes). HasStored w f base units back new p entry z None (content_now back entry again.place row again.size again.runs)) clear.sizes
     (subst (λ (e : Entry). HasStored w f base units back new p e c.in-Ok-evict_for.sizes None (content_now back e again.place row again.size again.runs)) clear.entry done) in
     let left = c.leave_row.ensures in
     let q : OpenPages = record { swap = c.leave_row.new.swap; space = p.space; base = p.base } in
     again-acted w laws content f recorded l mid p calls call work begins c.requires.word c.requires.more took back way lines again.place again.size again.runs of_row planned.size planned.runs
-    saving new stored c.enter_again.ensures.order c.in-Ok-enter_again.ensures.order_now
+    saving new stored c.enter_again.ensures.order c.in-Ok-enter_again.ensures.stored.order
     know.moves know.acts save.handles whole save.stand (sym c.pages-pages.ensures.pages ∙ c.pages-pages.ensures.blocks) q
     (λ last. ap (λ s. record p { swap = s }) (left.stays (c.is_last-ends.ensures ∙ last)))
     (λ last. subst (λ (n : ℕ). HasDropped p q call.agent n) c.row_of-row.ensures (record { others = left.others; gone = left.gone (c.is_last-ends.ensures ∙ last); base = refl; space = refl; kept = left.kept }))
@@ -263,7 +263,7 @@ returns-in-Ok-evict_for-clause-acted g c f recorded are whole asked =
     subst (λ (e : Entry). CanHold f.geometry.blocks (content_now back e again.place row again.size again.runs) (book_in back).rows) (sym clear.entry) can_hold in
     let stand_now : BytesStand w f base units back.journal c.in-Ok-evict_for.last.entry (content_now back c.in-Ok-evict_for.last.entry again.place row again.size again.runs) =
     subst (λ (e : Entry). BytesStand w f base units back.journal e (content_now back e again.place row again.size again.runs)) (sym clear.entry) bytes_stand in
-    let not_done = c.in-Err-enter_again.ensures.failed f cleared.recorded base units p row cleared.are may_come is_there hold_now stand_now in
+    let not_done = c.in-Err-enter_again.ensures.failed.over f cleared.recorded base units p row (record { are = cleared.are; answered = may_come; there = is_there; holds = hold_now; stands = stand_now }) in
     let not : HasNotChanged w f cleared.recorded base units back new p entry (content_now back entry again.place row again.size again.runs) =
     subst (λ (e : Entry). HasNotChanged w f cleared.recorded base units back new p e (content_now back e again.place row again.size again.runs)) clear.entry not_done in
     let fail = failed-then w laws content f recorded l mid p calls call work begins c.requires.word c.requires.more took back way lines again.place again.size again.runs of_row planned.size planned.runs new c.enter_again.ensures.order not in
