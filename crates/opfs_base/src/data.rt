@@ -2,6 +2,7 @@
 
 ghost use Rattle.std.specs.Prelude.{◌≡◌, ◌==◌, ◌+◌, ◌≤◌, ◌++◌, length, replicate, take, drop, IfOk};
 ghost use Rattle.std.specs.Vec.{vec_capacity};
+ghost use Rattle.std.specs.Arc.{arc_value};
 ghost use Rattle.opfs_base.specs.Data.{told_bytes};
 
 use crate::bytes::Bytes;
@@ -51,6 +52,38 @@ impl SharedBytes {
         let bytes: &Bytes = &*self.held;
         bytes.as_slice()
     }
+
+    /// How many bytes there are.
+    pub fn len(&self) -> usize
+        ensures { result ≡ length self.now }
+    {
+        self.as_slice().len()
+    }
+
+    /// Whether there is no byte.
+    pub fn is_empty(&self) -> bool
+        ensures { result ≡ (length self.now == 0) }
+    {
+        self.len() == 0
+    }
+
+    /// The bytes for this holder alone: those that are held, where nobody else holds them, and a copy of them otherwise.
+    pub fn into_bytes(self, alloc: Global) -> Result<Bytes, AllocError>
+        ensures { IfOk result (λ bytes. bytes ≡ self) }
+    {
+        match Arc::try_unwrap(self.held) {
+            Ok(bytes) => Ok(bytes),
+            Err(shared) => copy_held(alloc, &shared),
+        }
+    }
+}
+
+/// A copy of bytes that others hold too.
+fn copy_held(alloc: Global, held: &Arc<Bytes>) -> Result<Bytes, AllocError>
+    ensures { IfOk result (λ bytes. bytes ≡ arc_value held.now) }
+{
+    let bytes: &Bytes = &**held;
+    bytes.copy(alloc)
 }
 
 /// How bytes are kept.
