@@ -80,6 +80,14 @@ fn note_put(
     }
 }
 
+// A key with its new value, and the record of both.
+#[derive(Clone, Copy)]
+struct KeyPut<'a> {
+    key: &'a Bytes,
+    value: &'a Bytes,
+    record: &'a Data,
+}
+
 // Writes a key's record behind the live bytes, where no others stand, and notes where its value is.
 fn write_put<S: Store, R: Wait>(
     rt: &R,
@@ -87,28 +95,26 @@ fn write_put<S: Store, R: Wait>(
     agent: &mut Agent<S>,
     handle: &mut SyncHandle,
     notes: &mut Notes,
-    key: &Bytes,
-    value: &Bytes,
-    bytes: &Data,
+    put: &KeyPut,
 ) -> Result<(), Stop>
     requires own { agent.old.pass.hall ≡ court.now }
     requires room { HasRoom agent.old }
     requires stands { Stands S.tells agent.old (seen handle.old notes.old) }
     requires none { notes.old.tail ≡ false }
-    requires key { IsKey key.now }
-    requires value { IsValue value.now }
-    requires fits { notes.old.live + (6 + length key.now + length value.now) ≤ 16777216 }
-    requires bytes { bytes.now ≡ spelled_by key.now (Some value.now) }
-    ensures put { OnOk result (Serves S.tells agent.old agent.new (seen handle.old notes.old) (seen handle.new notes.new) 1 (with_key (map_in agent.old (seen handle.old notes.old)) key.now value.now)) }
-    ensures live { OnOk result (notes.new.live ≡ notes.old.live + (6 + length key.now + length value.now)) }
+    requires key { IsKey put.now.key.now }
+    requires value { IsValue put.now.value.now }
+    requires fits { notes.old.live + (6 + length put.now.key.now + length put.now.value.now) ≤ 16777216 }
+    requires record { put.now.record.now ≡ spelled_by put.now.key.now (Some put.now.value.now) }
+    ensures put { OnOk result (Serves S.tells agent.old agent.new (seen handle.old notes.old) (seen handle.new notes.new) 1 (with_key (map_in agent.old (seen handle.old notes.old)) put.now.key.now put.now.value.now)) }
+    ensures live { OnOk result (notes.new.live ≡ notes.old.live + (6 + length put.now.key.now + length put.now.value.now)) }
     ensures left { OnErr result (Serves S.tells agent.old agent.new (seen handle.old notes.old) (seen handle.new notes.new) 1 (map_in agent.old (seen handle.old notes.old))) }
-    ensures cause { IfErr result (IsCaused agent.old agent.new (IsAppend (seen handle.old notes.old) (spelled_by key.now (Some value.now)))) }
+    ensures cause { IfErr result (IsCaused agent.old agent.new (IsAppend (seen handle.old notes.old) (spelled_by put.now.key.now (Some put.now.value.now)))) }
 {
-    let at = notes.live + 6 + key.len() as u32;
-    let len = value.len() as u32;
+    let at = notes.live + 6 + put.key.len() as u32;
+    let len = put.value.len() as u32;
     let alloc = agent.alloc();
-    match write(rt, court, agent, handle, bytes, notes.live as u64) {
-        Ok(()) => note_put(alloc, notes, key, Place { at, len }, at + len),
+    match write(rt, court, agent, handle, put.record, notes.live as u64) {
+        Ok(()) => note_put(alloc, notes, put.key, Place { at, len }, at + len),
         Err(stop) => Err(stop),
     }
 }
@@ -152,24 +158,22 @@ fn cut_put<S: Store, R: Wait>(
     agent: &mut Agent<S>,
     handle: &mut SyncHandle,
     notes: &mut Notes,
-    key: &Bytes,
-    value: &Bytes,
-    bytes: &Data,
+    put: &KeyPut,
 ) -> Result<(), Stop>
     requires own { agent.old.pass.hall ≡ court.now }
     requires few { HasPlaces agent.old }
     requires stands { Stands S.tells agent.old (seen handle.old notes.old) }
-    requires key { IsKey key.now }
-    requires value { IsValue value.now }
-    requires fits { notes.old.live + (6 + length key.now + length value.now) ≤ 16777216 }
-    requires bytes { bytes.now ≡ spelled_by key.now (Some value.now) }
-    ensures put { OnOk result (Serves S.tells agent.old agent.new (seen handle.old notes.old) (seen handle.new notes.new) 2 (with_key (map_in agent.old (seen handle.old notes.old)) key.now value.now)) }
-    ensures live { OnOk result (notes.new.live ≡ notes.old.live + (6 + length key.now + length value.now)) }
+    requires key { IsKey put.now.key.now }
+    requires value { IsValue put.now.value.now }
+    requires fits { notes.old.live + (6 + length put.now.key.now + length put.now.value.now) ≤ 16777216 }
+    requires record { put.now.record.now ≡ spelled_by put.now.key.now (Some put.now.value.now) }
+    ensures put { OnOk result (Serves S.tells agent.old agent.new (seen handle.old notes.old) (seen handle.new notes.new) 2 (with_key (map_in agent.old (seen handle.old notes.old)) put.now.key.now put.now.value.now)) }
+    ensures live { OnOk result (notes.new.live ≡ notes.old.live + (6 + length put.now.key.now + length put.now.value.now)) }
     ensures left { OnErr result (Serves S.tells agent.old agent.new (seen handle.old notes.old) (seen handle.new notes.new) 2 (map_in agent.old (seen handle.old notes.old))) }
-    ensures cause { IfErr result (IsCaused agent.old agent.new (IsCutOr (seen handle.old notes.old) (IsAppend (seen handle.old notes.old) (spelled_by key.now (Some value.now))))) }
+    ensures cause { IfErr result (IsCaused agent.old agent.new (IsCutOr (seen handle.old notes.old) (IsAppend (seen handle.old notes.old) (spelled_by put.now.key.now (Some put.now.value.now))))) }
 {
     match cut(rt, court, agent, handle, notes) {
-        Ok(()) => write_put(rt, court, agent, handle, notes, key, value, bytes),
+        Ok(()) => write_put(rt, court, agent, handle, notes, put),
         Err(stop) => Err(stop),
     }
 }
@@ -196,7 +200,14 @@ fn put_in<S: Store, R: Wait>(
     ensures cause { IfErr result (IsCaused agent.old agent.new (IsCutOr (seen handle.old notes.old) (IsAppend (seen handle.old notes.old) (spelled_by key.now (Some value.now))))) }
 {
     match put_record(agent.alloc(), key, value) {
-        Ok(record) => cut_put(rt, court, agent, handle, notes, key, value, &record),
+        Ok(record) => {
+            let put = KeyPut {
+                key,
+                value,
+                record: &record,
+            };
+            cut_put(rt, court, agent, handle, notes, &put)
+        }
         Err(_) => Err(Stop::NoMemory),
     }
 }

@@ -1,7 +1,7 @@
 //! A key-value file: a map from keys to values in one file, through one access handle of an agent. An index in memory has each
 //! key with the place of its value, and no value.
 //!
-//! It stands on `opfs_codec` and `opfs_sync_files`.
+//! It stands on `opfs_codec` and `opfs_sync_files`; on it stands `opfs_notebook`.
 #![tactic(auto)]
 
 mod applying;

@@ -30,7 +30,7 @@ write_put-requires-clause-fits g c = omega (arith, c.in-Ok.ensures.same.1, c.req
 
 pub returns-in-Ok-clause-put : goal.returns-in-Ok-clause-put
 returns-in-Ok-clause-put g c =
-    on-ok c.write_put.result _ (Serves g.S.Store.tells c.args.agent.now c.write_put.new.agent (seen c.args.handle.now c.args.notes.now) (seen c.write_put.new.handle c.write_put.new.notes) 2 (with_key (map_in c.args.agent.now (seen c.args.handle.now c.args.notes.now)) c.args.key.now c.args.value.now)) (λ s. serves-then g.S.Store.tells c.args.agent.now c.cut.new.agent c.write_put.new.agent (seen c.args.handle.now c.args.notes.now) (seen c.cut.new.handle c.cut.new.notes) (seen c.write_put.new.handle c.write_put.new.notes) 1 1 (λ (m : Map). with_key m c.args.key.now c.args.value.now) c.in-Ok.ensures.serves s) c.write_put.ensures.put
+    on-ok c.write_put.result _ (Serves g.S.Store.tells c.args.agent.now c.write_put.new.agent (seen c.args.handle.now c.args.notes.now) (seen c.write_put.new.handle c.write_put.new.notes) 2 (with_key (map_in c.args.agent.now (seen c.args.handle.now c.args.notes.now)) c.args.put.now.key.now c.args.put.now.value.now)) (λ s. serves-then g.S.Store.tells c.args.agent.now c.cut.new.agent c.write_put.new.agent (seen c.args.handle.now c.args.notes.now) (seen c.cut.new.handle c.cut.new.notes) (seen c.write_put.new.handle c.write_put.new.notes) 1 1 (λ (m : Map). with_key m c.args.put.now.key.now c.args.put.now.value.now) c.in-Ok.ensures.serves s) c.write_put.ensures.put
 
 pub returns-in-Ok-clause-left : goal.returns-in-Ok-clause-left
 returns-in-Ok-clause-left g c =
@@ -38,12 +38,12 @@ returns-in-Ok-clause-left g c =
 
 pub returns-in-Ok-clause-cause : goal.returns-in-Ok-clause-cause
 returns-in-Ok-clause-cause g c =
-    later-caused c.args.agent.now c.cut.new.agent c.write_put.new.agent (IsAppend (seen c.cut.new.handle c.cut.new.notes) (spelled_by c.args.key.now (Some c.args.value.now))) (IsCutOr (seen c.args.handle.now c.args.notes.now) (IsAppend (seen c.args.handle.now c.args.notes.now) (spelled_by c.args.key.now (Some c.args.value.now)))) 1 c.write_put.result
-    (append-later (seen c.args.handle.now c.args.notes.now) (seen c.cut.new.handle c.cut.new.notes) c.in-Ok.ensures.serves.row (spelled_by c.args.key.now (Some c.args.value.now)) c.in-Ok.ensures.same.1) c.in-Ok.ensures.serves.goes c.write_put.ensures.cause
+    later-caused c.args.agent.now c.cut.new.agent c.write_put.new.agent (IsAppend (seen c.cut.new.handle c.cut.new.notes) (spelled_by c.args.put.now.key.now (Some c.args.put.now.value.now))) (IsCutOr (seen c.args.handle.now c.args.notes.now) (IsAppend (seen c.args.handle.now c.args.notes.now) (spelled_by c.args.put.now.key.now (Some c.args.put.now.value.now)))) 1 c.write_put.result
+    (append-later (seen c.args.handle.now c.args.notes.now) (seen c.cut.new.handle c.cut.new.notes) c.in-Ok.ensures.serves.row (spelled_by c.args.put.now.key.now (Some c.args.put.now.value.now)) c.in-Ok.ensures.same.1) c.in-Ok.ensures.serves.goes c.write_put.ensures.cause
 
 pub returns-in-Err-clause-cause : goal.returns-in-Err-clause-cause
 returns-in-Err-clause-cause g c =
-    caused-may c.args.agent.now c.cut.new.agent (IsCut (seen c.args.handle.now c.args.notes.now)) (IsCutOr (seen c.args.handle.now c.args.notes.now) (IsAppend (seen c.args.handle.now c.args.notes.now) (spelled_by c.args.key.now (Some c.args.value.now)))) c.in-Err.stop (cut-first (seen c.args.handle.now c.args.notes.now) (IsAppend (seen c.args.handle.now c.args.notes.now) (spelled_by c.args.key.now (Some c.args.value.now)))) c.in-Err.ensures.cause
+    caused-may c.args.agent.now c.cut.new.agent (IsCut (seen c.args.handle.now c.args.notes.now)) (IsCutOr (seen c.args.handle.now c.args.notes.now) (IsAppend (seen c.args.handle.now c.args.notes.now) (spelled_by c.args.put.now.key.now (Some c.args.put.now.value.now)))) c.in-Err.stop (cut-first (seen c.args.handle.now c.args.notes.now) (IsAppend (seen c.args.handle.now c.args.notes.now) (spelled_by c.args.put.now.key.now (Some c.args.put.now.value.now)))) c.in-Err.ensures.cause
 
 pub returns-in-Err-clause-left : goal.returns-in-Err-clause-left
 returns-in-Err-clause-left g c = serves-most g.S.Store.tells c.args.agent.now c.cut.new.agent (seen c.args.handle.now c.args.notes.now) (seen c.cut.new.handle c.cut.new.notes) 1 2 (map_in c.args.agent.now (seen c.args.handle.now c.args.notes.now)) (omega arith) c.in-Err.ensures.serves

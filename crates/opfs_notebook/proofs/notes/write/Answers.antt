@@ -1,0 +1,18 @@
+use Rattle.std.proofs.Common.{arith}
+use Rattle.opfs_notebook.proofs.Going.{ended-more, ended-notes, places-of}
+use Rattle.opfs_notebook.proofs.notes.write.Goals as goal
+
+pub apply-done-requires-clause-few : goal.apply-done-requires-clause-few
+apply-done-requires-clause-few g c = places-of c.args.agent.now 50000000 (omega arith) c.requires.few
+
+pub apply-done-requires-clause-own : goal.apply-done-requires-clause-own
+apply-done-requires-clause-own g c = c.requires.holds.ready.own
+
+pub apply-done-requires-clause-stands : goal.apply-done-requires-clause-stands
+apply-done-requires-clause-stands g c = c.requires.holds.stands
+
+pub returns-clause-holds : goal.returns-clause-holds
+returns-clause-holds g c = ended-notes g.S.Store.tells c.args.court.now c.args.agent.now c.apply-done.new.agent c.know_kept.ensures c.know_kept-2.ensures c.args.kv.now c.apply-done.new.self 2 _ _ c.apply-done.result c.apply-done.ensures.applied c.apply-done.ensures.left c.requires.holds
+
+pub returns-clause-goes : goal.returns-clause-goes
+returns-clause-goes g c = ended-more g.S.Store.tells c.args.court.now c.args.agent.now c.apply-done.new.agent c.know_kept.ensures c.know_kept-2.ensures c.args.kv.now c.apply-done.new.self 2 _ _ c.apply-done.result c.apply-done.ensures.applied c.apply-done.ensures.left
