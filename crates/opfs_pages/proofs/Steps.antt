@@ -3,8 +3,8 @@ use Rattle.std.proofs.Common.{◌≡◌, ◌⊎◌, ℕ, zero, suc, ◌+◌, ◌
 use Rattle.std.specs.List.{AllByRecursion, IsDistinct}
 use Rattle.std.proofs.lemmas.Bool.{cases_lt, eqb-true}
 use Rattle.opfs_base.specs.Blocks.{blocks}
-use Rattle.opfs_data.specs.Pages.{NamesPage, blank, page_of}
-use Rattle.opfs_data.specs.Rows.{pages_at}
+use Rattle.opfs_data.specs.Pages.{NamesPage, blank, is_plain, page_of}
+use Rattle.opfs_data.specs.Rows.{pages_at, page_at as swap_page}
 use Rattle.opfs_data.specs.Writes.{PageWrite, WriteList, Run, HasBytes, page_writes, page_moves, run_pages, writes_of}
 use Rattle.opfs_space.specs.Holders.{Writes}
 use Rattle.opfs_space.specs.Plans.{own_block, AreAlike}
@@ -12,7 +12,7 @@ use Rattle.opfs_data.specs.declared.page.Page.{Page as Stored}
 use Rattle.opfs_work.specs.declared.pages.Page.{Page}
 use Rattle.opfs_work.specs.declared.pages.Page.TheVariants.{Zero, Near, Clean, Far}
 use Rattle.opfs_work.specs.Pages.{page_at, is_far, is_held}
-use Rattle.opfs_work.specs.Works.{WorkingCopy}
+use Rattle.opfs_work.specs.Works.{WorkingCopy, IsStored}
 use Rattle.opfs_pages.specs.Copies.{IsCopy, AreHeld, IsHeld, IsNamed, IsRight, AreRight, HasMore}
 use Rattle.opfs_pages.specs.Stages.{Stage, Stages, IsPlanned, IsAtRest, IsUnwritten, IsWhole, IsStaged, changed}
 use Rattle.opfs_pages.proofs.Named.{names_left, names_right, names_run}
@@ -290,35 +290,38 @@ all_staged tells s w v runs moves has is = record {
 -- ---- three ranges, and what lies beside them
 
 -- the bounds of a walk
-pub record IsWalk (work : WorkingCopy) (first last from mid next to end : ℕ) : Type 0 where
-  pub from_is : from ≡ min work.changed_from first
-  pub mid_is : mid ≡ max (min work.changed_to first) from
-  pub next_is : next ≡ min (max work.changed_from last) end
-  pub to_is : to ≡ max (min work.changed_to end) next
+pub record IsWalk (begins ends first last from mid next to end : ℕ) : Type 0 where
+  pub from_is : from ≡ min begins first
+  pub mid_is : mid ≡ max (min ends first) from
+  pub next_is : next ≡ min (max begins last) end
+  pub to_is : to ≡ max (min ends end) next
   pub order : first ≤ last
   pub within : last ≤ end
 
--- a page that the call spares, where nothing was changed
-beside : (s : Stage) (i : ℕ) → s.whole ≡ false → length s.work.pages ≡ blocks s.work.length → (s.work.changed_from ≤ i → i < s.work.changed_to → ⊥)
-    → IsUnwritten s.at (length s.given) i × IsWhole s.work.length s.size i × (i < blocks s.work.length) → IsAtRest s i
-beside s i whole pages apart is = record {
-  stored = inl (omega (arith, pages, is.2), λ above below. absurd (apart above below));
-  spared = record { unwritten = is.0; whole = is.1 };
-  block = λ t. absurd (both s.whole t whole);
-} where
-  both : (t : Bool) → t ≡ true → t ≡ false → ⊥
-  both true t f = absurd cc
-  both false t f = absurd cc
+-- what the store has of a page, and of a content the block that it has
+pub record IsCalm (s : Stage) (i : ℕ) : Type 0 where
+  pub stored : IsStored s.work i
+  pub plain : s.whole ≡ true → is_plain (swap_page s.agent s.row i s.swap) ≡ true
 
-pub walked : (tells : Type 0) (s : Stage) (first last from mid next to end : ℕ) (w v u x : WriteList) → s.whole ≡ false → length s.work.pages ≡ blocks s.work.length → IsWalk s.work first last from mid next to end
+-- a page that the call spares, where nothing was changed
+beside : (s : Stage) (i : ℕ) → length s.work.pages ≡ blocks s.work.length → IsCalm s i
+    → IsUnwritten s.at (length s.given) i × IsWhole s.work.length s.size i × (i < blocks s.work.length) → IsAtRest s i
+beside s i pages calm is = record {
+  stored = inl (omega (arith, pages, is.2), calm.stored);
+  spared = record { unwritten = is.0; whole = is.1 };
+  block = calm.plain;
+}
+
+pub walked : (tells : Type 0) (s : Stage) (begins ends first last from mid next to end : ℕ) (w v u x : WriteList) → length s.work.pages ≡ blocks s.work.length → IsWalk begins ends first last from mid next to end
+    → ((i : ℕ) → i < end → (begins ≤ i → i < ends → ⊥) → IsCalm s i)
     → ((i : ℕ) → i < first → IsUnwritten s.at (length s.given) i × IsWhole s.work.length s.size i × (i < blocks s.work.length))
     → ((i : ℕ) → last ≤ i → i < end → IsUnwritten s.at (length s.given) i × IsWhole s.work.length s.size i × (i < blocks s.work.length))
     → Stages tells s from mid w v → Stages tells s first last v u → Stages tells s next to u x → Stages tells s 0 end w x
-walked tells s first last from mid next to end w v u x whole pages is before behind one two three =
-    let gap0 = stages_rest tells s 0 from w (omega arith) (λ i above below. beside s i whole pages (λ lo hi. omega (arith, below, lo, is.from_is)) (before i (omega (arith, below, is.from_is)))) in
-    let gap1 = stages_rest tells s mid first v (omega (arith, is.mid_is, is.from_is)) (λ i above below. beside s i whole pages (λ lo hi. omega (arith, above, below, hi, is.mid_is)) (before i below)) in
-    let gap2 = stages_rest tells s last next u (omega (arith, is.next_is, is.within)) (λ i above below. beside s i whole pages (λ lo hi. omega (arith, above, below, lo, is.next_is)) (behind i above (omega (arith, below, is.next_is)))) in
-    let gap3 = stages_rest tells s to end x (omega (arith, is.to_is, is.next_is)) (λ i above below. beside s i whole pages (λ lo hi. omega (arith, above, below, hi, is.to_is)) (behind i (omega (arith, above, is.to_is, is.next_is, is.within)) below)) in
+walked tells s begins ends first last from mid next to end w v u x pages is calm before behind one two three =
+    let gap0 = stages_rest tells s 0 from w (omega arith) (λ i above below. beside s i pages (calm i (omega (arith, below, is.from_is, is.order, is.within)) (λ lo hi. omega (arith, below, lo, is.from_is))) (before i (omega (arith, below, is.from_is)))) in
+    let gap1 = stages_rest tells s mid first v (omega (arith, is.mid_is, is.from_is)) (λ i above below. beside s i pages (calm i (omega (arith, below, is.order, is.within)) (λ lo hi. omega (arith, above, below, hi, is.mid_is))) (before i below)) in
+    let gap2 = stages_rest tells s last next u (omega (arith, is.next_is, is.within)) (λ i above below. beside s i pages (calm i (omega (arith, below, is.next_is)) (λ lo hi. omega (arith, above, below, lo, is.next_is))) (behind i above (omega (arith, below, is.next_is)))) in
+    let gap3 = stages_rest tells s to end x (omega (arith, is.to_is, is.next_is)) (λ i above below. beside s i pages (calm i below (λ lo hi. omega (arith, above, below, hi, is.to_is))) (behind i (omega (arith, above, is.to_is, is.next_is, is.within)) below)) in
     stages_more tells s 0 from end w w x gap0
     (stages_more tells s from mid end w v x one
     (stages_more tells s mid first end v v x gap1

@@ -17,7 +17,7 @@ mod wide;
 mod writing;
 
 pub use bytes::{cut_page, overlay};
-pub use calls::{stage_changes, stage_content};
+pub use calls::stage_changes;
 pub use history_laws::{
     blocks_go_on, blocks_tell_a_file, calls_change_their_row, calls_leave_other_rows,
     copies_stand_for_their_row, handles_stay_whole, pages_are_left, pages_go_on_telling,

@@ -1,5 +1,6 @@
 pub mod Content
 pub mod Counted
+pub mod Exchanged
 pub mod FileMoves
 pub mod Gone
 pub mod GoneMoves

@@ -18,7 +18,7 @@ ghost use Rattle.opfs_space.specs.Plans.{ArePlanned};
 ghost use Rattle.opfs_data.specs.Writes.{page_writes, page_moves};
 
 use crate::writing::Put;
-use crate::{PagePut, PageSource, Planning, stage_changes, stage_content};
+use crate::{PagePut, PageSource, Planning, stage_changes};
 use opfs_data::{DataRefusal, PageWrites, Swap};
 use opfs_journal::Journal;
 use opfs_outside::Disk;
@@ -28,29 +28,8 @@ use opfs_work::Work;
 use opfs_work::sizes::blocks;
 use std::alloc::Global;
 
-// The pages that a write at a position and then a new size leave changed; or, of a content, those that it wants.
-fn stage<D: Disk>(
-    alloc: Global,
-    source: &PageSource<'_>,
-    put: &PagePut<'_>,
-    journal: &mut Journal<D>,
-) -> Result<PageWrites, DataRefusal>
-    requires size { put.now.size < 2 ^ 63 }
-    requires stays { put.now.at + length put.now.given.now ≤ put.now.size }
-    requires ready { IsReadyFor source.now put.now (D.size journal.old.disk) journal.old.areas }
-    ensures reads { Reads D.Disk journal.old journal.new }
-    ensures staged { IfOk result (IsStaged D.tells (stage_of source.now put.now (D.content journal.old.disk))) }
-    ensures cause { IsErrOf result DataRefusal.DiskFault → Rose (D.faults journal.old.disk) (D.faults journal.new.disk) }
-{
-    if put.whole {
-        let writes = stage_content(alloc, source, put, journal)?;
-        return Ok(writes);
-    }
-    let writes = stage_changes(alloc, source, put, journal)?;
-    Ok(writes)
-}
-
-// The same with all memory, and with blocks where these are free.
+// The pages that a write at a position and then a new size leave changed, or that a content wants, with all memory, and with
+// blocks where these are free.
 fn try_put<D: Disk>(
     alloc: Global,
     work: &Work,
@@ -81,7 +60,7 @@ fn try_put<D: Disk>(
         space,
         base,
     };
-    let writes = stage(alloc, &source, put, journal)?;
+    let writes = stage_changes(alloc, &source, put, journal)?;
     let size = blocks(put.size);
     let mut made = Put::ready(alloc, swap, journal, base, put.agent, put.row, size, writes)?;
     made.take(space);

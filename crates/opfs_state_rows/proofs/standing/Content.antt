@@ -1,5 +1,5 @@
 -- A file gets other bytes, and its lock stays: its unit alone moves, and its mark stays.
-use Rattle.std.proofs.Common.{◌≡◌, ℕ, ◌+◌, ◌-◌, ◌<◌, ◌≤◌, ◌^◌, true, false, cond, not, ◌&&◌, ◌||◌, List, [], ◌∷◌, Option, Some, None, is_some, is_none, option_map, refl, sym, ap, subst, ◌∙◌, arith}
+use Rattle.std.proofs.Common.{◌≡◌, ℕ, ◌≤◌, true, false, cond, not, ◌&&◌, ◌||◌, List, [], ◌∷◌, Option, Some, None, is_some, is_none, option_map, refl, sym, ap, subst, ◌∙◌, arith}
 use Rattle.std.specs.List.{list_all}
 use Rattle.std.specs.Ordering.{eq_by_cmp}
 use Rattle.opfs_base.specs.Blocks.{blocks}
@@ -16,8 +16,7 @@ use Rattle.opfs_machine.specs.Rows.{row_at, file_at, with_file, change_at, chang
 use Rattle.opfs_machine.specs.Sums.{usage, is_persistent}
 use Rattle.opfs_machine.specs.Victims.{none_taken}
 use Rattle.opfs_pool.specs.Shares.{Blocks, share_at}
-use Rattle.opfs_shed.specs.Buckets.{Storage, bucket_at, usage_of, part_of}
-use Rattle.opfs_shed.specs.Buckets as shed_words
+use Rattle.opfs_shed.specs.Buckets.{Storage, bucket_at, usage_of}
 use Rattle.opfs_tree.specs.declared.row.FileRow.{FileRow}
 use Rattle.opfs_tree.specs.declared.row.Row.{Row}
 use Rattle.opfs_tree.specs.Rows as tree
@@ -31,7 +30,6 @@ use Rattle.opfs_state_rows.proofs.standing.FileMoves.{amounts_of, file-moves}
 use Rattle.opfs_state_rows.proofs.standing.Gone.{modes-machine}
 use Rattle.opfs_state_rows.proofs.standing.Lines.{file_line, file-at, lines-changed, there-at}
 use Rattle.opfs_state_rows.proofs.standing.Places.{there-changed}
-use Rattle.opfs_state_rows.proofs.standing.Stores.{shed-freed, shed-added, shed-then, modes-kept}
 use Rattle.opfs_state_rows.proofs.standing.TiedMoved.{tied_moved}
 use Rattle.opfs_state_rows.proofs.standing.Units.{unit_itself}
 
@@ -103,27 +101,3 @@ module _ (rows : tree.Rows) (shed : Storage) (pool : Blocks) (rest : Registered)
         subst (λ (x : Machine). IsTied x shed_after pool_after cost top) (sym content-machine)
         (tied_moved m (with_file m (unit, path) to) shed shed_after pool pool_after cost cost top unit (amounts_of (file_line f)) (amounts_of (to (file_line f))) tied content-known
         (file-moves m (unit, path) to (file_line f) machine-found) buckets shares (mark ∙ (tied.marks unit ∙ sym (clear-same (unit, path) to lock m unit))) refl)
-
-  -- Blocks are freed, and others used.
-  module _ (freed added : Storage) (more : ℕ)
-      (less : freed ≡ shed_words.changed shed unit (record (bucket_at shed.buckets unit) { usage = (bucket_at shed.buckets unit).usage - blocks f.present })) (usages : (origin : Text) → usage_of origin freed.buckets + part_of origin unit (blocks f.present) ≡ usage_of origin shed.buckets) where
-    moved_less : ShedMoves shed freed unit (blocks f.present) 0
-    moved_less = shed-freed shed freed unit (blocks f.present) content-known.bucket content-usage less usages
-
-    pub content-there : shed_words.has_unit freed.buckets unit ≡ true
-    content-there = moved_less.kept unit ∙ content-known.bucket
-
-    own_part : part_of (origin_of unit) unit (blocks f.present) ≡ blocks f.present
-    own_part = ap (λ t. cond t (blocks f.present) 0) (unit_itself (origin_of unit) (origin_of unit) refl)
-
-    pub content-fits : usage in_lengths m (origin_of unit) + more < 2 ^ 64 + blocks f.present → usage_of (origin_of unit) freed.buckets + more < 2 ^ 64
-    content-fits fits = omega (arith, fits, usages (origin_of unit), content-quota, own_part)
-
-    module _ (back : added ≡ shed_words.changed freed unit (record (bucket_at freed.buckets unit) { usage = (bucket_at freed.buckets unit).usage + more })) where
-      pub content-modes : persistent_in added.buckets ≡ persistent_in shed.buckets
-      content-modes =
-          ap (λ (s : Storage). persistent_in s.buckets) back ∙ (modes-kept freed.buckets unit _ content-there refl
-          ∙ (ap (λ (s : Storage). persistent_in s.buckets) less ∙ modes-kept shed.buckets unit _ content-known.bucket refl))
-
-      pub content-shed : ((origin : Text) → usage_of origin added.buckets ≡ usage_of origin freed.buckets + part_of origin unit more) → ShedMoves shed added unit (blocks f.present) more
-      content-shed again = shed-then shed freed added unit (blocks f.present) 0 more moved_less (shed-added freed added unit more content-there back again)

@@ -1,17 +1,51 @@
 //! What files hold.
 
-ghost use Rattle.std.specs.Prelude.{length, ◌≡◌, ◌+◌, ◌^◌, ◌≤◌, Some, ◌<◌, IsSome, IfSome};
+ghost use Rattle.std.specs.Prelude.{length, ◌≡◌, ◌+◌, ◌^◌, ◌≤◌, Some, true, ◌<◌, IsSome, IfSome};
 ghost use Rattle.opfs_base.specs.Blocks.{blocks};
 ghost use Rattle.opfs_base.specs.Units.{origin_of};
 ghost use Rattle.opfs_machine.specs.Contents.{in_lengths};
 ghost use Rattle.opfs_machine.specs.Effects.{replaced, flushed, undone};
 ghost use Rattle.opfs_machine.specs.Rows.{with_file};
 ghost use Rattle.opfs_machine.specs.Sums.{usage, pool};
+ghost use Rattle.std.specs.Map.{keys_of};
+ghost use Rattle.opfs_pool.specs.Shares.{has_share, share_at, held};
+ghost use Rattle.opfs_shed.specs.Buckets.{has_unit, bucket_at, usage_of};
 ghost use Rattle.opfs_state_rows.specs.Standing.Contents.{showing, flushed_row, undone_row};
+ghost use Rattle.opfs_state_rows.specs.Standing.Moves.{PoolMoves, ShedMoves};
+ghost use Rattle.opfs_state_rows.specs.Standing.Seen.{persistent_in};
 ghost use Rattle.opfs_tree.specs.Rows.{file_at, change_at, written, stored};
 
 use crate::standing::standing::Standing;
 use opfs_base::{Extents, Key, Path, blocks};
+use opfs_pool::Pool;
+use opfs_shed::Shed;
+
+// A unit uses so many blocks in place of so many others. Those that are the same change nothing, and cost nothing.
+fn exchange(shed: &mut Shed, unit: &Key, old: u64, new: u64)
+    requires there { has_unit shed.old.buckets unit.now ≡ true }
+    requires within { old ≤ (bucket_at shed.old.buckets unit.now).usage }
+    requires fits { usage_of (origin_of unit.now) shed.old.buckets + new < 2 ^ 64 + old }
+    ensures moves { ShedMoves shed.old shed.new unit.now old new }
+    ensures modes { persistent_in shed.new.buckets ≡ persistent_in shed.old.buckets }
+{
+    let kept = old.min(new);
+    shed.free(unit, old - kept);
+    shed.add(unit, new - kept);
+}
+
+// A unit keeps so many blocks of the pool in place of so many others, likewise.
+fn exchange_kept(pool: &mut Pool, unit: &Key, old: u64, new: u64)
+    requires there { has_share pool.old.shares unit.now ≡ true }
+    requires within { old ≤ (share_at pool.old.shares unit.now).blocks }
+    requires room { held pool.old.shares + new ≤ pool.old.size + old }
+    ensures moves { PoolMoves pool.old pool.new unit.now old new }
+    ensures mark { (share_at pool.new.shares unit.now).candidate ≡ (share_at pool.old.shares unit.now).candidate }
+    ensures units { keys_of pool.new.shares ≡ keys_of pool.old.shares }
+{
+    let kept = old.min(new);
+    pool.lower(unit, old - kept);
+    pool.raise(unit, new - kept);
+}
 
 impl Standing {
     /// Says what a read of the file at a place gives now: so many bytes, with a time stamp. Its unit uses their blocks in
@@ -26,8 +60,7 @@ impl Standing {
         let Some(file) = self.tree.file(unit, path) else {
             unreachable!();
         };
-        self.shed.free(unit, blocks(file.present));
-        self.shed.add(unit, blocks(length));
+        exchange(&mut self.shed, unit, blocks(file.present), blocks(length));
         self.tree.set_present(unit, path, length, stamp);
     }
 
@@ -52,10 +85,8 @@ impl Standing {
         let Some(file) = self.tree.file(unit, path) else {
             unreachable!();
         };
-        self.shed.free(unit, blocks(file.present));
-        self.shed.add(unit, blocks(length));
-        self.pool.lower(unit, blocks(file.length));
-        self.pool.raise(unit, blocks(length));
+        exchange(&mut self.shed, unit, blocks(file.present), blocks(length));
+        exchange_kept(&mut self.pool, unit, blocks(file.length), blocks(length));
         self.tree.set_file(unit, path, length, stamp, extents)
     }
 

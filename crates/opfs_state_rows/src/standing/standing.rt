@@ -40,8 +40,8 @@ pub(crate) fn mark(pool: &mut Pool, tree: &ReadyTree, shed: &Shed, root: &Path, 
     requires { IsTrue (has_share pool.old.shares unit.now) }
     ensures { pool.new ≡ changed pool.old unit.now (record (share_at pool.old.shares unit.now) { candidate = is_some (row_at (unit.now, root.now) tree.now.rows) && not (bucket_at shed.now.buckets unit.now).persistent && none_taken unit.now tree.now.rows }) }
 {
-    let candidate = tree.kind(unit, root).is_some()
+    let candidate = tree.none_taken(unit)
         && !shed.is_persistent(unit)
-        && tree.none_taken(unit);
+        && tree.kind(unit, root).is_some();
     pool.mark(unit, candidate);
 }

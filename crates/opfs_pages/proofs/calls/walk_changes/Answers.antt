@@ -9,21 +9,23 @@ pub returns-clause-staged : goal.returns-clause-staged
 returns-clause-staged g c =
     let laws = g.met.D.Disk in
     let s : Stage = stage_of c.args.source.now c.args.put.now (g.D.Disk.content c.args.journal.now.disk) in
+    let k = c.changed_pages-begins in
     let t = c.touched_pages-first in
     let one = c.in_ok-stage_range.ensures in
     let two = c.in_ok-stage_range-2.ensures in
     let three = c.in_ok-stage_range-3.ensures in
     let both = reads_more g.D.Disk laws.falls c.args.journal.now c.stage_range.new.journal c.stage_range-2.new.journal one.reads two.reads in
-    walked g.D.Disk.tells s t.result.0 t.result.1 c.min-from.result c.max-mid.result c.min-next.result c.max-to.result (blocks c.args.put.now.size) c.args.writes.now c.stage_range.new.writes c.stage_range-2.new.writes c.stage_range-3.new.writes
-    c.requires.change (sym c.pages-pages.ensures.pages ∙ c.pages-pages.ensures.blocks)
+    walked g.D.Disk.tells s k.result.0 k.result.1 t.result.0 t.result.1 c.min-from.result c.max-mid.result c.min-next.result c.max-to.result (blocks c.args.put.now.size) c.args.writes.now c.stage_range.new.writes c.stage_range-2.new.writes c.stage_range-3.new.writes
+    (sym c.pages-pages.ensures.pages ∙ c.pages-pages.ensures.blocks)
     (record {
-      from_is = omega (arith, c.min-from.ensures, c.changed_from.ensures);
-      mid_is = omega (arith, c.max-mid.ensures, c.min.ensures, c.changed_to.ensures);
-      next_is = omega (arith, c.min-next.ensures, c.max.ensures, c.changed_from-2.ensures, c.blocks-end.ensures);
-      to_is = omega (arith, c.max-to.ensures, c.min-2.ensures, c.changed_to-2.ensures, c.blocks-end.ensures);
+      from_is = c.min-from.ensures;
+      mid_is = omega (arith, c.max-mid.ensures, c.min.ensures);
+      next_is = omega (arith, c.min-next.ensures, c.max.ensures, c.blocks-end.ensures);
+      to_is = omega (arith, c.max-to.ensures, c.min-2.ensures, c.blocks-end.ensures);
       order = t.ensures.order;
       within = t.ensures.within;
     })
+    (λ i below apart. let inside : i < c.blocks-end.result = omega (arith, below, c.blocks-end.ensures) in record { stored = k.ensures.stored i inside apart; plain = k.ensures.plain i inside apart })
     (λ i below. subst (λ (n : ℕ). IsUnwritten c.args.put.now.at (length c.args.put.now.given.now) i × IsWhole n c.args.put.now.size i × (i < blocks n)) c.size.ensures (t.ensures.before i below))
     (λ i above below. subst (λ (n : ℕ). IsUnwritten c.args.put.now.at (length c.args.put.now.given.now) i × IsWhole n c.args.put.now.size i × (i < blocks n)) c.size.ensures (t.ensures.behind i above below))
     one.staged

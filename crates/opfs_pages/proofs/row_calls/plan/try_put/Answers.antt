@@ -8,7 +8,7 @@ use Rattle.opfs_pages.proofs.row_calls.plan.try_put.Goals as goal
 pub returns-clause-reads : goal.returns-clause-reads
 returns-clause-reads g c =
     let laws = g.met.D.Disk in
-    reads_more g.D.Disk laws.falls c.args.journal.now c.stage.new.journal c.ready.new.journal c.in_ok-writes.ensures.reads c.in_ok-made.ensures.reads
+    reads_more g.D.Disk laws.falls c.args.journal.now c.stage_changes.new.journal c.ready.new.journal c.in_ok-writes.ensures.reads c.in_ok-made.ensures.reads
 
 pub returns-clause-staged : goal.returns-clause-staged
 returns-clause-staged g c =
