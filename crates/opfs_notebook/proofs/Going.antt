@@ -237,13 +237,13 @@ module _ {O : Type 0} (tells : Type 0) (hall : HallSeen O) (a b : AgentSeen O) (
   -- ---- notebooks
 
   pub opened-notes : (old : HandleSeen) (kv : KvSeen) → OnlyReads tells a b old kv.handle 261 → KvStands tells b kv → Holds tells hall a old → HoldsNotes tells hall b kv
-  opened-notes old kv reads stands h = record { ready = subst (IsReady hall b) (sym reads.row) (ready-on old.row 261 reads.goes reads.others h.ready); stands = stands }
+  opened-notes old kv reads stands h = record { ready = subst (IsReady hall b) (sym reads.row) (ready-on old.row (261) reads.goes reads.others h.ready); stands = stands }
 
   pub unopened-notes : (old new : HandleSeen) → OnlyReads tells a b old new 261 → Holds tells hall a old → Holds tells hall b new
-  unopened-notes old new reads h = record { ready = subst (IsReady hall b) (sym reads.row) (ready-on old.row 261 reads.goes reads.others h.ready); has = reads.has; writes = reads.mode_is ∙ h.writes }
+  unopened-notes old new reads h = record { ready = subst (IsReady hall b) (sym reads.row) (ready-on old.row (261) reads.goes reads.others h.ready); has = reads.has; writes = reads.mode_is ∙ h.writes }
 
   pub read-more : (old new : HandleSeen) → OnlyReads tells a b old new 261 → Goes a b 261
-  read-more old new reads = goes-on old.row 261 261 (omega arith) reads.goes reads.others
+  read-more old new reads = goes-on old.row (261) 261 (omega arith) reads.goes reads.others
 
   module _ (old new : KvSeen) where
     pub served-notes : (n : ℕ) (m : Map) → Serves tells a b old new n m → HoldsNotes tells hall a old → HoldsNotes tells hall b new
