@@ -1,7 +1,9 @@
 //! A notebook: a key-value file of an agent.
 
-ghost use Rattle.std.specs.Prelude.{◌≡◌, true, IfErr, IfOk};
-ghost use Rattle.opfs_kv.specs.Records.Records.{IsKey, IsValue};
+ghost use Rattle.std.specs.Prelude.{◌≡◌, ◌↔◌, ◌++◌, ◌∷◌, [], true, false, IfErr, IfOk, IsTrue, None, OnErr, OnOk, Some};
+ghost use Rattle.opfs_kv.specs.Records.Maps.{found};
+ghost use Rattle.opfs_kv.specs.Records.Records.{IsKey, IsValue, after_all};
+ghost use Rattle.opfs_kv.specs.Seen.{map_in};
 ghost use Rattle.opfs_notebook.specs.Ready.{Goes, HasMade, Holds, HoldsNotes, IsReady};
 
 use crate::files::{discard, new_file, open_file};
@@ -17,20 +19,25 @@ use std::sync::Wait;
 
 // Whether a name is as long as that of a note may be.
 fn is_name(name: &Bytes) -> bool
-    ensures { result ≡ true → IsKey name.now }
+    ensures { IsTrue result ↔ IsKey name.now }
 {
     !name.is_empty() && name.len() <= 255
 }
 
 // Whether a text is.
 fn is_text(text: &Bytes) -> bool
-    ensures { result ≡ true → IsValue text.now }
+    ensures { IsTrue result ↔ IsValue text.now }
 {
     text.len() <= 65_536
 }
 
 /// Adds a note to a batch, and tells whether its name and its text are as long as they may be.
-pub fn add(alloc: Global, batch: &mut Batch, name: &str, text: &str) -> Result<bool, AllocError> {
+pub fn add(alloc: Global, batch: &mut Batch, name: &str, text: &str) -> Result<bool, AllocError>
+    ensures fits { IfOk result (λ done. IsTrue done ↔ (IsKey name.now × IsValue text.now)) }
+    ensures added { IfOk result (λ done. done ≡ true → batch.new ≡ batch.old ++ (record { key = name.now; value = Some text.now }) ∷ []) }
+    ensures left { IfOk result (λ done. done ≡ false → batch.new ≡ batch.old) }
+    ensures err { OnErr result (batch.new ≡ batch.old) }
+{
     let name = Bytes::copy_of(alloc, name.as_bytes())?;
     let text = Bytes::copy_of(alloc, text.as_bytes())?;
     if !is_name(&name) {
@@ -44,7 +51,12 @@ pub fn add(alloc: Global, batch: &mut Batch, name: &str, text: &str) -> Result<b
 }
 
 /// Adds to a batch that a note is taken out, and tells whether its name is as long as it may be.
-pub fn remove(alloc: Global, batch: &mut Batch, name: &str) -> Result<bool, AllocError> {
+pub fn remove(alloc: Global, batch: &mut Batch, name: &str) -> Result<bool, AllocError>
+    ensures fits { IfOk result (λ done. IsTrue done ↔ IsKey name.now) }
+    ensures added { IfOk result (λ done. done ≡ true → batch.new ≡ batch.old ++ (record { key = name.now; value = None }) ∷ []) }
+    ensures left { IfOk result (λ done. done ≡ false → batch.new ≡ batch.old) }
+    ensures err { OnErr result (batch.new ≡ batch.old) }
+{
     let name = Bytes::copy_of(alloc, name.as_bytes())?;
     if !is_name(&name) {
         return Ok(false);
@@ -126,6 +138,8 @@ pub fn write<S: Store, R: Wait>(
     requires few { HasMade agent.old 50000000 }
     ensures holds { HoldsNotes S.tells court.now agent.new kv.new }
     ensures goes { Goes agent.old agent.new 2 }
+    ensures written { OnOk result (S.tells → map_in agent.new kv.new ≡ after_all (map_in agent.old kv.old) batch.now) }
+    ensures left { OnErr result (S.tells → map_in agent.new kv.new ≡ map_in agent.old kv.old) }
 {
     agent.know_kept();
     let done = kv.apply(rt, court, agent, batch);
@@ -163,6 +177,7 @@ pub fn note<S: Store, R: Wait>(
     requires few { HasMade agent.old 50000000 }
     ensures holds { HoldsNotes S.tells court.now agent.new kv.new }
     ensures goes { Goes agent.old agent.new 1 }
+    ensures text { IfOk result (λ text. S.tells → text ≡ found (map_in agent.old kv.old) name.now) }
 {
     agent.know_kept();
     let found = kv.get(rt, court, agent, name);

@@ -1,4 +1,5 @@
 use Rattle.std.proofs.Common.{arith}
+use Rattle.opfs_kv.proofs.Results.{on-err, on-ok}
 use Rattle.opfs_notebook.proofs.Going.{ended-more, ended-notes, places-of}
 use Rattle.opfs_notebook.proofs.notes.write.Goals as goal
 
@@ -16,3 +17,9 @@ returns-clause-holds g c = ended-notes g.S.Store.tells c.args.court.now c.args.a
 
 pub returns-clause-goes : goal.returns-clause-goes
 returns-clause-goes g c = ended-more g.S.Store.tells c.args.court.now c.args.agent.now c.apply-done.new.agent c.know_kept.ensures c.know_kept-2.ensures c.args.kv.now c.apply-done.new.self 2 _ _ c.apply-done.result c.apply-done.ensures.applied c.apply-done.ensures.left
+
+pub returns-clause-written : goal.returns-clause-written
+returns-clause-written g c = on-ok c.apply-done.result _ _ (λ s. s.map) c.apply-done.ensures.applied
+
+pub returns-clause-left : goal.returns-clause-left
+returns-clause-left g c = on-err c.apply-done.result _ _ (λ s. s.map) c.apply-done.ensures.left
