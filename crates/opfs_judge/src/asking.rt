@@ -10,7 +10,7 @@ use crate::agents::caller;
 use crate::front::evictions;
 use crate::player::Player;
 use crate::standing::stands;
-use opfs_base::Bytes;
+use opfs_base::{Bytes, SharedBytes};
 use opfs_hist::Op;
 use opfs_machine::{Own, State};
 use std::alloc::{AllocError, Global};
@@ -29,7 +29,7 @@ pub struct Asking {
 /// The call that a text's front can only be of: that of the agent whose number stands behind the evictions.
 pub fn find_asking(
     alloc: Global,
-    state: &State<Bytes, Own>,
+    state: &State<SharedBytes, Own>,
     players: &[Player<'_>],
     fronts: &[Bytes],
     text: &[u8],

@@ -17,7 +17,7 @@ ghost use Rattle.opfs_judge.specs.Turns.{IsEnteredAs, IsGroup, IsToldCall, IsTol
 
 use crate::asking::{Asking, find_asking};
 use crate::player::Player;
-use opfs_base::Bytes;
+use opfs_base::{Bytes, SharedBytes};
 use opfs_hist::{Entry, Op, Refusal, Reply};
 use opfs_machine::{Own, State};
 use opfs_plain::{enter, fault};
@@ -51,26 +51,33 @@ fn begins_with(alloc: Global, text: &[u8], entry: &Entry) -> Result<bool, AllocE
     Ok(starts(text, told.as_slice()))
 }
 
+/// Who makes a call: the number of its agent, and that of its entry.
+#[derive(Clone, Copy)]
+struct Caller {
+    agent: u32,
+    number: u32,
+}
+
 /// Enters a call as a text tells it, behind so many evictions: where its line says that the disk failed, with that
 /// answer, if it may stand; else with the machine's own, whatever the line says.
 fn enter_told(
     alloc: Global,
-    state: &mut State<Bytes, Own>,
+    state: &mut State<SharedBytes, Own>,
     entries: &mut Vec<Entry>,
-    agent: u32,
-    number: u32,
+    caller: Caller,
     op: Op,
     evictions: usize,
     text: &[u8],
 ) -> Result<bool, AllocError>
-    requires agent { IsAgent state.old agent }
-    requires live { IsTrue (agent_of state.old agent).live }
-    requires fitting { IsTrue (may_enter state.old agent op) }
+    requires agent { IsAgent state.old caller.agent }
+    requires live { IsTrue (agent_of state.old caller.agent).live }
+    requires fitting { IsTrue (may_enter state.old caller.agent op) }
     requires moves { is_wait op ≡ false }
     requires first { entries.old.items ≡ [] }
-    ensures entered { IfOk result (λ stands. stands ≡ true → IsEnteredAs state.old state.new (record { agent = agent; number = number; op = op }) entries.new.items) }
-    ensures told { IfOk result (λ stands. (told : IsToldCall state.old (record { agent = agent; number = number; op = op }) evictions text.now) → (stands ≡ true) × (entries.new.items ≡ map eviction told.gone ++ entry_with (record { agent = agent; number = number; op = op }) told.answered ∷ [])) }
+    ensures entered { IfOk result (λ stands. stands ≡ true → IsEnteredAs state.old state.new (record { agent = caller.agent; number = caller.number; op = op }) entries.new.items) }
+    ensures told { IfOk result (λ stands. (told : IsToldCall state.old (record { agent = caller.agent; number = caller.number; op = op }) evictions text.now) → (stands ≡ true) × (entries.new.items ≡ map eviction told.gone ++ entry_with (record { agent = caller.agent; number = caller.number; op = op }) told.answered ∷ [])) }
 {
+    let Caller { agent, number } = caller;
     let entry = Entry {
         agent,
         number,
@@ -106,7 +113,7 @@ fn move_on(
 /// text begins with.
 fn enter_group(
     alloc: Global,
-    state: &mut State<Bytes, Own>,
+    state: &mut State<SharedBytes, Own>,
     players: &mut Vec<Player<'_>>,
     asking: Asking,
     text: &[u8],
@@ -134,8 +141,10 @@ fn enter_group(
         alloc,
         state,
         &mut entries,
-        index as u32 + 1,
-        number,
+        Caller {
+            agent: index as u32 + 1,
+            number,
+        },
         op,
         evictions,
         &text[front..],
@@ -158,7 +167,7 @@ fn enter_group(
 /// Reads one group of a text, and gives how many bytes it has; None where no group stands there.
 pub fn turn(
     alloc: Global,
-    state: &mut State<Bytes, Own>,
+    state: &mut State<SharedBytes, Own>,
     players: &mut Vec<Player<'_>>,
     fronts: &[Bytes],
     text: &[u8],

@@ -2,7 +2,7 @@
 
 use crate::many::Many;
 use crate::state::Place;
-use opfs_base::{Bytes, Locator, Name};
+use opfs_base::{Locator, Name, SharedBytes};
 use opfs_hist::Mode;
 
 /// An open writable stream (File System: FileSystemWritableFileStream).
@@ -11,7 +11,7 @@ pub struct StreamRow {
     /// Where its file stands.
     pub file: Place,
     /// The bytes that a close stores.
-    pub buffer: Bytes,
+    pub buffer: SharedBytes,
     /// Where the next write begins, in bytes.
     pub offset: u64,
     /// How many blocks are kept for it.
@@ -48,7 +48,7 @@ pub enum Own {
     Handle(HandleRow),
     ClosedHandle,
     /// The bytes that a file had.
-    Snapshot(Bytes),
+    Snapshot(SharedBytes),
     Iterator(IteratorRow),
 }
 

@@ -12,11 +12,12 @@ ghost use Rattle.opfs_hist.specs.declared.op.Op.TheVariants.{Write, Truncate, Sy
 
 use crate::entries::{add_iterator, advance, make_child, open_bucket, remove_child, take_snapshot};
 use crate::handles::{
-    close_handle, create_sync, cut_file, discard_handle, flush_handle, move_handle, write_file,
+    Reached, close_handle, create_sync, cut_file, discard_handle, flush_handle, move_handle,
+    write_file,
 };
 use crate::marks::{end, persist, post, set_moment, set_waiting};
 use crate::streams::{abort_stream, close_stream, open_stream, seek, truncate, write};
-use opfs_base::{Bytes, Data, Kind, Text, blocks, plus};
+use opfs_base::{Bytes, Data, Kind, SharedBytes, Text, blocks, plus};
 use opfs_hist::Op;
 use opfs_machine::{Own, Sizes, State, size_written};
 use opfs_rulings::reserve_at;
@@ -33,7 +34,8 @@ fn cursor_after_read(sizes: Sizes, len: u64, at: Option<u64>) -> Result<u64, All
 
 /// write and truncate of streams.
 fn write_stream(
-    state: &mut State<Bytes, Own>,
+    alloc: Global,
+    state: &mut State<SharedBytes, Own>,
     sizes: Sizes,
     number: u32,
     row: u32,
@@ -47,6 +49,7 @@ fn write_stream(
     let size = size_written(sizes, position, bytes)?;
     let reserve = reserve_at(state, number, row).max(blocks(size));
     write(
+        alloc,
         state,
         number,
         row,
@@ -58,7 +61,8 @@ fn write_stream(
 
 /// truncate of a stream.
 fn truncate_stream(
-    state: &mut State<Bytes, Own>,
+    alloc: Global,
+    state: &mut State<SharedBytes, Own>,
     sizes: Sizes,
     number: u32,
     row: u32,
@@ -69,12 +73,12 @@ fn truncate_stream(
     ensures { OnOk result (state.new ≡ effect in_bytes state.old sizes number (Truncate row size)) }
 {
     let reserve = reserve_at(state, number, row).max(blocks(size));
-    truncate(state, number, row, size, reserve)
+    truncate(alloc, state, number, row, size, reserve)
 }
 
 /// read of an access handle, which moves its cursor.
 fn read_handle(
-    state: &mut State<Bytes, Own>,
+    state: &mut State<SharedBytes, Own>,
     sizes: Sizes,
     number: u32,
     row: u32,
@@ -94,7 +98,7 @@ fn read_handle(
 /// write of an access handle.
 fn write_handle(
     alloc: Global,
-    state: &mut State<Bytes, Own>,
+    state: &mut State<SharedBytes, Own>,
     sizes: Sizes,
     number: u32,
     row: u32,
@@ -108,13 +112,21 @@ fn write_handle(
     let size = size_written(sizes, at, bytes)?;
     let start = at.unwrap_or(sizes.position);
     let cursor = plus(start, bytes.len())?;
-    write_file(alloc, state, number, row, start, bytes, cursor, size)
+    write_file(
+        alloc,
+        state,
+        number,
+        row,
+        start,
+        bytes,
+        Reached { cursor, size },
+    )
 }
 
 /// truncate of an access handle.
 fn truncate_handle(
     alloc: Global,
-    state: &mut State<Bytes, Own>,
+    state: &mut State<SharedBytes, Own>,
     sizes: Sizes,
     number: u32,
     row: u32,
@@ -131,7 +143,7 @@ fn truncate_handle(
 /// wait of an agent for a tag.
 fn wait(
     alloc: Global,
-    state: &mut State<Bytes, Own>,
+    state: &mut State<SharedBytes, Own>,
     sizes: Sizes,
     number: u32,
     tag: &Text,
@@ -148,7 +160,7 @@ fn wait(
 #[tactic(auto, unfolding(opfs_machine::specs::Machine::machine, crate::specs::Changing::IsFittingFor))]
 pub fn apply(
     alloc: Global,
-    state: &mut State<Bytes, Own>,
+    state: &mut State<SharedBytes, Own>,
     sizes: Sizes,
     number: u32,
     op: &Op,
@@ -178,15 +190,15 @@ pub fn apply(
         Op::RemoveEntry { dir, name, .. } => remove_child(alloc, state, dir, name)?,
         Op::Values { dir } => add_iterator(alloc, state, number, dir)?,
         Op::Next { row, dir } => advance(alloc, state, number, *row, dir)?,
-        Op::GetFile { file } => take_snapshot(alloc, state, number, file)?,
+        Op::GetFile { file } => take_snapshot(state, number, file)?,
         Op::CreateWritable { file, keep } => open_stream(alloc, state, number, file, *keep)?,
         Op::Write {
             row,
             bytes,
             position,
-        } => write_stream(state, sizes, number, *row, bytes, *position)?,
+        } => write_stream(alloc, state, sizes, number, *row, bytes, *position)?,
         Op::Seek { row, position } => seek(state, number, *row, *position),
-        Op::Truncate { row, size } => truncate_stream(state, sizes, number, *row, *size)?,
+        Op::Truncate { row, size } => truncate_stream(alloc, state, sizes, number, *row, *size)?,
         Op::Close { row } => close_stream(alloc, state, number, *row)?,
         Op::Abort { row } => abort_stream(alloc, state, number, *row)?,
         Op::CreateSyncAccessHandle { file, mode } => create_sync(

@@ -14,14 +14,19 @@ ghost use Rattle.opfs_plain.specs.Changing.{given_row};
 
 use crate::own_rows::add_own;
 use crate::rows::remove_within;
-use opfs_base::{Bytes, Kind, Locator, Name, Text};
+use crate::splicing::no_bytes;
+use opfs_base::{Kind, Locator, Name, SharedBytes, Text};
 use opfs_locks::LockValue;
 use opfs_machine::{FileRow, IteratorRow, Many, Own, Place, Row, State, child_place, root_of};
 use opfs_rulings::{agent, file_at, next_given, place_of, put, row_at};
 use std::alloc::{AllocError, Global};
 
 /// Makes a row, where none is there.
-fn make(state: &mut State<Bytes, Own>, place: Place, row: Row<Bytes>) -> Result<(), AllocError>
+fn make(
+    state: &mut State<SharedBytes, Own>,
+    place: Place,
+    row: Row<SharedBytes>,
+) -> Result<(), AllocError>
     ensures { OnOk result (state.new ≡ made state.old place row) }
 {
     if row_at(state.rows.items.as_slice(), &place.0, &place.1).is_some() {
@@ -34,7 +39,7 @@ fn make(state: &mut State<Bytes, Own>, place: Place, row: Row<Bytes>) -> Result<
 /// getDirectory makes a missing root.
 pub fn open_bucket(
     alloc: Global,
-    state: &mut State<Bytes, Own>,
+    state: &mut State<SharedBytes, Own>,
     number: u32,
     bucket: &Text,
 ) -> Result<(), AllocError>
@@ -49,25 +54,29 @@ pub fn open_bucket(
 }
 
 /// The row that a call makes.
-fn new_row(alloc: Global, kind: Kind, stamp: u64) -> Row<Bytes>
-    ensures { result ≡ new_row in_bytes kind stamp }
+fn new_row(alloc: Global, kind: Kind, stamp: u64) -> Result<Row<SharedBytes>, AllocError>
+    ensures { IfOk result (λ row. row ≡ new_row in_bytes kind stamp) }
 {
     match kind {
-        Kind::Directory => Row::Directory,
-        Kind::File => Row::File(FileRow {
-            present: Bytes::from_vec(Vec::new(alloc)),
-            stamp,
-            lock: (LockValue::Free, 0),
-            durable: Bytes::from_vec(Vec::new(alloc)),
-            durable_stamp: stamp,
-        }),
+        Kind::Directory => Ok(Row::Directory),
+        Kind::File => {
+            let present = no_bytes(alloc)?;
+            let durable = present.share()?;
+            Ok(Row::File(FileRow {
+                present,
+                stamp,
+                lock: (LockValue::Free, 0),
+                durable,
+                durable_stamp: stamp,
+            }))
+        }
     }
 }
 
 /// getFileHandle and getDirectoryHandle make a missing child.
 pub fn make_child(
     alloc: Global,
-    state: &mut State<Bytes, Own>,
+    state: &mut State<SharedBytes, Own>,
     number: u32,
     kind: Kind,
     dir: &Locator,
@@ -78,14 +87,14 @@ pub fn make_child(
     ensures { OnOk result (state.new ≡ made state.old (child (place_of dir.now) name.now) (new_row in_bytes kind (moment_of state.old number))) }
 {
     let place = child_place(alloc, dir, name)?;
-    let row = new_row(alloc, kind, agent(state, number).moment);
+    let row = new_row(alloc, kind, agent(state, number).moment)?;
     make(state, place, row)
 }
 
 /// removeEntry.
 pub fn remove_child(
     alloc: Global,
-    state: &mut State<Bytes, Own>,
+    state: &mut State<SharedBytes, Own>,
     dir: &Locator,
     name: &Text,
 ) -> Result<(), AllocError>
@@ -99,8 +108,7 @@ pub fn remove_child(
 
 /// getFile.
 pub fn take_snapshot(
-    alloc: Global,
-    state: &mut State<Bytes, Own>,
+    state: &mut State<SharedBytes, Own>,
     number: u32,
     at: &Locator,
 ) -> Result<(), AllocError>
@@ -110,14 +118,14 @@ pub fn take_snapshot(
     let Some(file) = file_at(state, &at.key, &at.path) else {
         return Ok(());
     };
-    let bytes = file.present.copy(alloc)?;
+    let bytes = file.present.share()?;
     add_own(state, number, Own::Snapshot(bytes))
 }
 
 /// values.
 pub fn add_iterator(
     alloc: Global,
-    state: &mut State<Bytes, Own>,
+    state: &mut State<SharedBytes, Own>,
     number: u32,
     dir: &Locator,
 ) -> Result<(), AllocError>
@@ -154,7 +162,7 @@ fn copy_name(alloc: Global, name: Option<&Name>) -> Result<Option<Name>, AllocEr
 /// next of an iterator: it has given one more name, or the end.
 pub fn advance(
     alloc: Global,
-    state: &mut State<Bytes, Own>,
+    state: &mut State<SharedBytes, Own>,
     number: u32,
     row: u32,
     dir: &Locator,

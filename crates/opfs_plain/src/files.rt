@@ -6,11 +6,11 @@ ghost use Rattle.opfs_locks.specs.Taking.{released};
 ghost use Rattle.opfs_machine.specs.Rows.{change_at, changed_row, with_file};
 
 use crate::rows::index_of;
-use opfs_base::Bytes;
+use opfs_base::SharedBytes;
 use opfs_locks::{LockValue, Want};
 use opfs_machine::{Own, Place, Row, State};
 use opfs_rulings::{PlacedRow, taken};
-use std::alloc::{AllocError, Global};
+use std::alloc::AllocError;
 
 /// The lock after one holder released it.
 fn released(lock: (LockValue, u32)) -> (LockValue, u32)
@@ -23,7 +23,7 @@ fn released(lock: (LockValue, u32)) -> (LockValue, u32)
 }
 
 /// Takes a file's lock as asked, where that is given.
-fn lock_row(row: &mut Row<Bytes>, want: Want) -> Result<(), AllocError>
+fn lock_row(row: &mut Row<SharedBytes>, want: Want) -> Result<(), AllocError>
     ensures ok { OnOk result (row.new ≡ changed_row (with_lock want) row.old) }
     ensures err { OnErr result (row.new ≡ row.old) }
 {
@@ -46,7 +46,11 @@ fn lock_at(rows: &mut [PlacedRow], place: &Place, want: Want) -> Result<(), Allo
 }
 
 /// Takes a file's lock as asked, where that is given.
-pub fn lock(state: &mut State<Bytes, Own>, place: &Place, want: Want) -> Result<(), AllocError>
+pub fn lock(
+    state: &mut State<SharedBytes, Own>,
+    place: &Place,
+    want: Want,
+) -> Result<(), AllocError>
     ensures ok { OnOk result (state.new ≡ with_file state.old place.now (with_lock want)) }
     ensures err { OnErr result (state.new ≡ state.old) }
 {
@@ -54,7 +58,7 @@ pub fn lock(state: &mut State<Bytes, Own>, place: &Place, want: Want) -> Result<
 }
 
 /// Releases a file's lock once.
-fn unlock_row(row: &mut Row<Bytes>)
+fn unlock_row(row: &mut Row<SharedBytes>)
     ensures { row.new ≡ changed_row (unlocked) row.old }
 {
     if let Row::File(file) = row {
@@ -71,14 +75,14 @@ fn unlock_at(rows: &mut [PlacedRow], place: &Place)
 }
 
 /// Releases a file's lock once.
-pub fn unlock(state: &mut State<Bytes, Own>, place: &Place)
+pub fn unlock(state: &mut State<SharedBytes, Own>, place: &Place)
     ensures { state.new ≡ with_file state.old place.now (unlocked) }
 {
     unlock_at(state.rows.items.as_mut_slice(), place);
 }
 
 /// Gives a file new bytes for good; they come twice, and take no memory here.
-fn replace_row(row: &mut Row<Bytes>, present: Bytes, durable: Bytes, stamp: u64)
+fn replace_row(row: &mut Row<SharedBytes>, present: SharedBytes, durable: SharedBytes, stamp: u64)
     requires { present ≡ durable }
     ensures { row.new ≡ changed_row (replaced present stamp) row.old }
 {
@@ -90,7 +94,13 @@ fn replace_row(row: &mut Row<Bytes>, present: Bytes, durable: Bytes, stamp: u64)
     }
 }
 
-fn replace_at(rows: &mut [PlacedRow], place: &Place, present: Bytes, durable: Bytes, stamp: u64)
+fn replace_at(
+    rows: &mut [PlacedRow],
+    place: &Place,
+    present: SharedBytes,
+    durable: SharedBytes,
+    stamp: u64,
+)
     requires { present ≡ durable }
     ensures { rows.new ≡ change_at place.now (replaced present stamp) rows.old }
 {
@@ -101,10 +111,10 @@ fn replace_at(rows: &mut [PlacedRow], place: &Place, present: Bytes, durable: By
 
 /// Gives a file new bytes for good; they come twice, and take no memory here.
 pub fn replace(
-    state: &mut State<Bytes, Own>,
+    state: &mut State<SharedBytes, Own>,
     place: &Place,
-    present: Bytes,
-    durable: Bytes,
+    present: SharedBytes,
+    durable: SharedBytes,
     stamp: u64,
 )
     requires { present ≡ durable }
@@ -120,61 +130,61 @@ pub fn replace(
 }
 
 /// Stores a file's present bytes for good.
-fn flush_row(alloc: Global, row: &mut Row<Bytes>) -> Result<(), AllocError>
+fn flush_row(row: &mut Row<SharedBytes>) -> Result<(), AllocError>
     ensures ok { OnOk result (row.new ≡ changed_row (flushed) row.old) }
     ensures err { OnErr result (row.new ≡ row.old) }
 {
     if let Row::File(file) = row {
-        file.durable = file.present.copy(alloc)?;
+        file.durable = file.present.share()?;
         file.durable_stamp = file.stamp;
     }
     Ok(())
 }
 
-fn flush_at(alloc: Global, rows: &mut [PlacedRow], place: &Place) -> Result<(), AllocError>
+fn flush_at(rows: &mut [PlacedRow], place: &Place) -> Result<(), AllocError>
     ensures ok { OnOk result (rows.new ≡ change_at place.now (flushed) rows.old) }
     ensures err { OnErr result (rows.new ≡ rows.old) }
 {
     if let Some(at) = index_of(rows, &place.0, &place.1) {
-        flush_row(alloc, &mut rows[at].1)?;
+        flush_row(&mut rows[at].1)?;
     }
     Ok(())
 }
 
 /// Stores a file's present bytes for good.
-pub fn flush(alloc: Global, state: &mut State<Bytes, Own>, place: &Place) -> Result<(), AllocError>
+pub fn flush(state: &mut State<SharedBytes, Own>, place: &Place) -> Result<(), AllocError>
     ensures ok { OnOk result (state.new ≡ with_file state.old place.now (flushed)) }
     ensures err { OnErr result (state.new ≡ state.old) }
 {
-    flush_at(alloc, state.rows.items.as_mut_slice(), place)
+    flush_at(state.rows.items.as_mut_slice(), place)
 }
 
 /// Gives a file its durable bytes again.
-fn undo_row(alloc: Global, row: &mut Row<Bytes>) -> Result<(), AllocError>
+fn undo_row(row: &mut Row<SharedBytes>) -> Result<(), AllocError>
     ensures ok { OnOk result (row.new ≡ changed_row (undone) row.old) }
     ensures err { OnErr result (row.new ≡ row.old) }
 {
     if let Row::File(file) = row {
-        file.present = file.durable.copy(alloc)?;
+        file.present = file.durable.share()?;
         file.stamp = file.durable_stamp;
     }
     Ok(())
 }
 
-fn undo_at(alloc: Global, rows: &mut [PlacedRow], place: &Place) -> Result<(), AllocError>
+fn undo_at(rows: &mut [PlacedRow], place: &Place) -> Result<(), AllocError>
     ensures ok { OnOk result (rows.new ≡ change_at place.now (undone) rows.old) }
     ensures err { OnErr result (rows.new ≡ rows.old) }
 {
     if let Some(at) = index_of(rows, &place.0, &place.1) {
-        undo_row(alloc, &mut rows[at].1)?;
+        undo_row(&mut rows[at].1)?;
     }
     Ok(())
 }
 
 /// Gives a file its durable bytes again.
-pub fn undo(alloc: Global, state: &mut State<Bytes, Own>, place: &Place) -> Result<(), AllocError>
+pub fn undo(state: &mut State<SharedBytes, Own>, place: &Place) -> Result<(), AllocError>
     ensures ok { OnOk result (state.new ≡ with_file state.old place.now (undone)) }
     ensures err { OnErr result (state.new ≡ state.old) }
 {
-    undo_at(alloc, state.rows.items.as_mut_slice(), place)
+    undo_at(state.rows.items.as_mut_slice(), place)
 }

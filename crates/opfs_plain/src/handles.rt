@@ -14,8 +14,8 @@ ghost use Rattle.opfs_splice.specs.Splicing.{splice, resize};
 use crate::files::{flush, lock, undo, unlock};
 use crate::own_rows::{add_own, set_own};
 use crate::rows::index_of;
-use crate::splicing::{resized, spliced};
-use opfs_base::{Bytes, Data, Locator, blocks, copy_place};
+use crate::splicing::{no_bytes, resized, spliced};
+use opfs_base::{Data, Locator, SharedBytes, blocks, copy_place};
 use opfs_hist::Mode;
 use opfs_machine::{HandleRow, Own, Place, Row, Sizes, State, want_of};
 use opfs_rulings::{PlacedRow, agent, open_handle, place_of};
@@ -25,7 +25,7 @@ use std::mem;
 /// createSyncAccessHandle.
 pub fn create_sync(
     alloc: Global,
-    state: &mut State<Bytes, Own>,
+    state: &mut State<SharedBytes, Own>,
     number: u32,
     at: &Locator,
     mode: Mode,
@@ -59,7 +59,13 @@ fn move_row(row: &mut Own, cursor: u64, reserve: u64)
 
 /// Gives an access handle another cursor and reserve.
 #[tactic(auto, unfolding(opfs_machine::specs::Effects::with_changed))]
-pub fn move_handle(state: &mut State<Bytes, Own>, number: u32, row: u32, cursor: u64, reserve: u64)
+pub fn move_handle(
+    state: &mut State<SharedBytes, Own>,
+    number: u32,
+    row: u32,
+    cursor: u64,
+    reserve: u64,
+)
     requires agent { IsAgent state.old number }
     requires row { IsOwn (agent_of state.old number) row }
     ensures { state.new ≡ with_changed state.old number row (λ r. moved_row r cursor reserve) }
@@ -70,8 +76,8 @@ pub fn move_handle(state: &mut State<Bytes, Own>, number: u32, row: u32, cursor:
 
 /// A file with bytes written at a position.
 fn overwrite_row(
-    row: &mut Row<Bytes>,
-    empty: Bytes,
+    alloc: Global,
+    row: &mut Row<SharedBytes>,
     position: u64,
     bytes: &Data,
     stamp: u64,
@@ -79,17 +85,18 @@ fn overwrite_row(
     ensures { OnOk result (row.new ≡ changed_row (λ f. record f { present = splice f.present position bytes.now; stamp = stamp }) row.old) }
 {
     if let Row::File(file) = row {
+        let empty = no_bytes(alloc)?;
         let old = mem::replace(&mut file.present, empty);
-        file.present = spliced(old, position, bytes)?;
+        file.present = spliced(alloc, old, position, bytes)?;
         file.stamp = stamp;
     }
     Ok(())
 }
 
 fn overwrite_at(
+    alloc: Global,
     rows: &mut [PlacedRow],
     place: &Place,
-    empty: Bytes,
     position: u64,
     bytes: &Data,
     stamp: u64,
@@ -97,43 +104,49 @@ fn overwrite_at(
     ensures { OnOk result (rows.new ≡ change_at place.now (λ f. record f { present = splice f.present position bytes.now; stamp = stamp }) rows.old) }
 {
     if let Some(at) = index_of(rows, &place.0, &place.1) {
-        overwrite_row(&mut rows[at].1, empty, position, bytes, stamp)?;
+        overwrite_row(alloc, &mut rows[at].1, position, bytes, stamp)?;
     }
     Ok(())
 }
 
 /// A file cut or extended to a size.
-fn cut_row(row: &mut Row<Bytes>, empty: Bytes, size: u64, stamp: u64) -> Result<(), AllocError>
+fn cut_row(
+    alloc: Global,
+    row: &mut Row<SharedBytes>,
+    size: u64,
+    stamp: u64,
+) -> Result<(), AllocError>
     ensures { OnOk result (row.new ≡ changed_row (λ f. record f { present = resize f.present size; stamp = stamp }) row.old) }
 {
     if let Row::File(file) = row {
+        let empty = no_bytes(alloc)?;
         let old = mem::replace(&mut file.present, empty);
-        file.present = resized(old, size)?;
+        file.present = resized(alloc, old, size)?;
         file.stamp = stamp;
     }
     Ok(())
 }
 
 fn cut_at(
+    alloc: Global,
     rows: &mut [PlacedRow],
     place: &Place,
-    empty: Bytes,
     size: u64,
     stamp: u64,
 ) -> Result<(), AllocError>
     ensures { OnOk result (rows.new ≡ change_at place.now (λ f. record f { present = resize f.present size; stamp = stamp }) rows.old) }
 {
     if let Some(at) = index_of(rows, &place.0, &place.1) {
-        cut_row(&mut rows[at].1, empty, size, stamp)?;
+        cut_row(alloc, &mut rows[at].1, size, stamp)?;
     }
     Ok(())
 }
 
 /// Writes bytes of the file at a place.
 fn overwrite(
-    state: &mut State<Bytes, Own>,
+    alloc: Global,
+    state: &mut State<SharedBytes, Own>,
     place: &Place,
-    empty: Bytes,
     position: u64,
     bytes: &Data,
     stamp: u64,
@@ -141,9 +154,9 @@ fn overwrite(
     ensures { OnOk result (state.new ≡ with_file state.old place.now (λ f. record f { present = splice f.present position bytes.now; stamp = stamp })) }
 {
     overwrite_at(
+        alloc,
         state.rows.items.as_mut_slice(),
         place,
-        empty,
         position,
         bytes,
         stamp,
@@ -152,48 +165,49 @@ fn overwrite(
 
 /// Cuts or extends the file at a place.
 fn cut(
-    state: &mut State<Bytes, Own>,
+    alloc: Global,
+    state: &mut State<SharedBytes, Own>,
     place: &Place,
-    empty: Bytes,
     size: u64,
     stamp: u64,
 ) -> Result<(), AllocError>
     ensures { OnOk result (state.new ≡ with_file state.old place.now (λ f. record f { present = resize f.present size; stamp = stamp })) }
 {
-    cut_at(state.rows.items.as_mut_slice(), place, empty, size, stamp)
+    cut_at(alloc, state.rows.items.as_mut_slice(), place, size, stamp)
 }
 
-/// write of an access handle, which leaves its file with a size.
+/// Where a write of an access handle leaves it.
+#[derive(Clone, Copy)]
+pub struct Reached {
+    /// Where the next read or write begins, in bytes.
+    pub cursor: u64,
+    /// How many bytes its file has.
+    pub size: u64,
+}
+
+/// write of an access handle.
 #[tactic(auto, unfolding(opfs_machine::specs::Effects::changes_file))]
 pub fn write_file(
     alloc: Global,
-    state: &mut State<Bytes, Own>,
+    state: &mut State<SharedBytes, Own>,
     number: u32,
     row: u32,
     position: u64,
     bytes: &Data,
-    cursor: u64,
-    size: u64,
+    reached: Reached,
 ) -> Result<(), AllocError>
     requires agent { IsAgent state.old number }
     requires row { IsOwn (agent_of state.old number) row }
-    ensures { OnOk result (state.new ≡ changes_file in_bytes state.old number row (λ f. splice f position bytes.now) cursor size (open_handle in_bytes state.old number row)) }
+    ensures { OnOk result (state.new ≡ changes_file in_bytes state.old number row (λ f. splice f position bytes.now) reached.cursor reached.size (open_handle in_bytes state.old number row)) }
 {
     let Some(handle) = open_handle(state, number, row) else {
         return Ok(());
     };
     let place = copy_place(alloc, &handle.file.0, &handle.file.1)?;
-    let reserve = handle.reserve.max(blocks(size));
+    let reserve = handle.reserve.max(blocks(reached.size));
     let stamp = agent(state, number).moment;
-    overwrite(
-        state,
-        &place,
-        Bytes::from_vec(Vec::new(alloc)),
-        position,
-        bytes,
-        stamp,
-    )?;
-    move_handle(state, number, row, cursor, reserve);
+    overwrite(alloc, state, &place, position, bytes, stamp)?;
+    move_handle(state, number, row, reached.cursor, reserve);
     Ok(())
 }
 
@@ -201,7 +215,7 @@ pub fn write_file(
 #[tactic(auto, unfolding(opfs_machine::specs::Effects::changes_file))]
 pub fn cut_file(
     alloc: Global,
-    state: &mut State<Bytes, Own>,
+    state: &mut State<SharedBytes, Own>,
     number: u32,
     row: u32,
     cursor: u64,
@@ -217,15 +231,14 @@ pub fn cut_file(
     let place = copy_place(alloc, &handle.file.0, &handle.file.1)?;
     let reserve = handle.reserve.max(blocks(size));
     let stamp = agent(state, number).moment;
-    cut(state, &place, Bytes::from_vec(Vec::new(alloc)), size, stamp)?;
+    cut(alloc, state, &place, size, stamp)?;
     move_handle(state, number, row, cursor, reserve);
     Ok(())
 }
 
 /// Stores a file's present bytes, where the access handle may write.
 fn flush_written(
-    alloc: Global,
-    state: &mut State<Bytes, Own>,
+    state: &mut State<SharedBytes, Own>,
     mode: Mode,
     place: &Place,
 ) -> Result<(), AllocError>
@@ -233,14 +246,13 @@ fn flush_written(
 {
     match mode {
         Mode::ReadOnly => Ok(()),
-        Mode::ReadWrite => flush(alloc, state, place),
+        Mode::ReadWrite => flush(state, place),
     }
 }
 
 /// Gives a file its durable bytes again, where the access handle may write.
 fn undo_written(
-    alloc: Global,
-    state: &mut State<Bytes, Own>,
+    state: &mut State<SharedBytes, Own>,
     mode: Mode,
     place: &Place,
 ) -> Result<(), AllocError>
@@ -248,14 +260,14 @@ fn undo_written(
 {
     match mode {
         Mode::ReadOnly => Ok(()),
-        Mode::ReadWrite => undo(alloc, state, place),
+        Mode::ReadWrite => undo(state, place),
     }
 }
 
 /// flush of an access handle, whose cursor is told.
 pub fn flush_handle(
     alloc: Global,
-    state: &mut State<Bytes, Own>,
+    state: &mut State<SharedBytes, Own>,
     sizes: Sizes,
     number: u32,
     row: u32,
@@ -269,7 +281,7 @@ pub fn flush_handle(
     };
     let mode = handle.mode;
     let place = copy_place(alloc, &handle.file.0, &handle.file.1)?;
-    flush_written(alloc, state, mode, &place)?;
+    flush_written(state, mode, &place)?;
     move_handle(state, number, row, sizes.position, 0);
     Ok(())
 }
@@ -277,7 +289,7 @@ pub fn flush_handle(
 /// close of an access handle.
 pub fn close_handle(
     alloc: Global,
-    state: &mut State<Bytes, Own>,
+    state: &mut State<SharedBytes, Own>,
     number: u32,
     row: u32,
 ) -> Result<(), AllocError>
@@ -290,7 +302,7 @@ pub fn close_handle(
     };
     let mode = handle.mode;
     let place = copy_place(alloc, &handle.file.0, &handle.file.1)?;
-    flush_written(alloc, state, mode, &place)?;
+    flush_written(state, mode, &place)?;
     unlock(state, &place);
     set_own(state, number, row, Own::ClosedHandle);
     Ok(())
@@ -299,7 +311,7 @@ pub fn close_handle(
 /// What a script's end does to an open access handle.
 pub fn discard_handle(
     alloc: Global,
-    state: &mut State<Bytes, Own>,
+    state: &mut State<SharedBytes, Own>,
     number: u32,
     row: u32,
 ) -> Result<(), AllocError>
@@ -312,7 +324,7 @@ pub fn discard_handle(
     };
     let mode = handle.mode;
     let place = copy_place(alloc, &handle.file.0, &handle.file.1)?;
-    undo_written(alloc, state, mode, &place)?;
+    undo_written(state, mode, &place)?;
     unlock(state, &place);
     set_own(state, number, row, Own::ClosedHandle);
     Ok(())

@@ -16,14 +16,18 @@ ghost use Rattle.opfs_plain.specs.Changing.{IsFitting};
 use crate::effects::apply;
 use crate::marks::set_waiting;
 use crate::rows::remove_within;
-use opfs_base::{Bytes, Key, Path, copy_key, plus};
+use opfs_base::{Key, Path, SharedBytes, copy_key, plus};
 use opfs_hist::{Entry, Op, Refusal, Reply};
 use opfs_machine::{Many, Own, State, row_named};
 use opfs_rulings::{answer, judge, put, sizes_of};
 use std::alloc::{AllocError, Global};
 
 /// The key of an agent's origin; None for an opaque one, and where there is no such agent.
-fn key_of(alloc: Global, state: &State<Bytes, Own>, number: u32) -> Result<Option<Key>, AllocError>
+fn key_of(
+    alloc: Global,
+    state: &State<SharedBytes, Own>,
+    number: u32,
+) -> Result<Option<Key>, AllocError>
     ensures { IfOk result (λ key. key ≡ (agent_of state.now number).key) }
 {
     if number == 0 {
@@ -36,7 +40,7 @@ fn key_of(alloc: Global, state: &State<Bytes, Own>, number: u32) -> Result<Optio
 }
 
 /// Counts an entry of an agent, which is the last use of its origin.
-fn count(alloc: Global, state: &mut State<Bytes, Own>, number: u32) -> Result<(), AllocError>
+fn count(alloc: Global, state: &mut State<SharedBytes, Own>, number: u32) -> Result<(), AllocError>
     ensures { OnOk result (state.new ≡ counted state.old number) }
 {
     let entry = plus(state.entries, 1)?;
@@ -48,7 +52,7 @@ fn count(alloc: Global, state: &mut State<Bytes, Own>, number: u32) -> Result<()
 }
 
 /// What a refused call changes.
-fn refuse(state: &mut State<Bytes, Own>, number: u32, op: &Op)
+fn refuse(state: &mut State<SharedBytes, Own>, number: u32, op: &Op)
     requires { IsAgent state.old number }
     ensures { state.new ≡ refused state.old number op.now }
 {
@@ -58,7 +62,7 @@ fn refuse(state: &mut State<Bytes, Own>, number: u32, op: &Op)
 }
 
 /// Clears a unit.
-fn evict(alloc: Global, state: &mut State<Bytes, Own>, unit: &Key) -> Result<(), AllocError>
+fn evict(alloc: Global, state: &mut State<SharedBytes, Own>, unit: &Key) -> Result<(), AllocError>
     ensures { OnOk result (state.new ≡ evicted state.old unit.now) }
 {
     let entry = plus(state.entries, 1)?;
@@ -71,7 +75,7 @@ fn evict(alloc: Global, state: &mut State<Bytes, Own>, unit: &Key) -> Result<(),
 /// Clears units, each with an entry.
 pub fn evict_all(
     alloc: Global,
-    state: &mut State<Bytes, Own>,
+    state: &mut State<SharedBytes, Own>,
     entries: &mut Vec<Entry>,
     units: Many<Key>,
 ) -> Result<(), AllocError>
@@ -96,7 +100,7 @@ pub fn evict_all(
 /// A refused call.
 pub fn enter_refused(
     alloc: Global,
-    state: &mut State<Bytes, Own>,
+    state: &mut State<SharedBytes, Own>,
     entries: &mut Vec<Entry>,
     agent: u32,
     number: u32,
@@ -122,7 +126,7 @@ pub fn enter_refused(
 /// A call that is not refused, once the evictions before it are done: its effect and its count.
 fn perform(
     alloc: Global,
-    state: &mut State<Bytes, Own>,
+    state: &mut State<SharedBytes, Own>,
     agent: u32,
     op: &Op,
 ) -> Result<(), AllocError>
@@ -139,7 +143,7 @@ fn perform(
 /// The evictions of a call that is not refused, its effect and its count.
 fn evict_and_perform(
     alloc: Global,
-    state: &mut State<Bytes, Own>,
+    state: &mut State<SharedBytes, Own>,
     entries: &mut Vec<Entry>,
     agent: u32,
     op: &Op,
@@ -178,7 +182,7 @@ fn tell(
 /// A call that is not refused, and the evictions before it.
 fn enter_accepted(
     alloc: Global,
-    state: &mut State<Bytes, Own>,
+    state: &mut State<SharedBytes, Own>,
     entries: &mut Vec<Entry>,
     agent: u32,
     number: u32,
@@ -216,7 +220,7 @@ fn enter_accepted(
 #[tactic(auto, unfolding(opfs_machine::specs::Steps::step))]
 pub fn enter(
     alloc: Global,
-    state: &mut State<Bytes, Own>,
+    state: &mut State<SharedBytes, Own>,
     entries: &mut Vec<Entry>,
     agent: u32,
     number: u32,

@@ -5,13 +5,13 @@ ghost use Rattle.opfs_machine.specs.Agents.{agent_of, with_agent, party_of};
 ghost use Rattle.opfs_machine.specs.Effects.{persists, with_waiting};
 ghost use Rattle.opfs_rulings.specs.Known.{IsAgent};
 
-use opfs_base::{Bytes, Text, unit_of};
+use opfs_base::{Bytes, SharedBytes, Text, unit_of};
 use opfs_machine::{Own, Posted, State};
 use opfs_rulings::{agent, insert, party_of};
 use std::alloc::{AllocError, Global};
 
 /// Sets an agent's clock, in milliseconds.
-pub fn set_moment(state: &mut State<Bytes, Own>, number: u32, moment: u64)
+pub fn set_moment(state: &mut State<SharedBytes, Own>, number: u32, moment: u64)
     requires { IsAgent state.old number }
     ensures { state.new ≡ with_agent state.old number (record (agent_of state.old number) { moment = moment }) }
 {
@@ -20,7 +20,7 @@ pub fn set_moment(state: &mut State<Bytes, Own>, number: u32, moment: u64)
 }
 
 /// Marks an agent as waiting for a tag, or for none.
-pub fn set_waiting(state: &mut State<Bytes, Own>, number: u32, tag: Option<Bytes>)
+pub fn set_waiting(state: &mut State<SharedBytes, Own>, number: u32, tag: Option<Bytes>)
     requires { IsAgent state.old number }
     ensures { state.new ≡ with_waiting state.old number tag }
 {
@@ -29,7 +29,7 @@ pub fn set_waiting(state: &mut State<Bytes, Own>, number: u32, tag: Option<Bytes
 }
 
 /// Ends an agent.
-pub fn end(state: &mut State<Bytes, Own>, number: u32)
+pub fn end(state: &mut State<SharedBytes, Own>, number: u32)
     requires { IsAgent state.old number }
     ensures { state.new ≡ with_agent state.old number (record (agent_of state.old number) { live = false; waits = None }) }
 {
@@ -41,7 +41,7 @@ pub fn end(state: &mut State<Bytes, Own>, number: u32)
 /// post.
 pub fn post(
     alloc: Global,
-    state: &mut State<Bytes, Own>,
+    state: &mut State<SharedBytes, Own>,
     number: u32,
     tag: &Text,
 ) -> Result<(), AllocError>
@@ -57,7 +57,7 @@ pub fn post(
 /// persist: with the grant, the unit is persistent.
 pub fn persist(
     alloc: Global,
-    state: &mut State<Bytes, Own>,
+    state: &mut State<SharedBytes, Own>,
     number: u32,
     bucket: &Text,
 ) -> Result<(), AllocError>

@@ -1,25 +1,40 @@
 //! Bytes by position.
 
-ghost use Rattle.std.specs.Prelude.{◌≡◌, ◌+◌, ◌≤◌, ◌<◌, ◌++◌, length, replicate, IfOk};
+ghost use Rattle.std.specs.Prelude.{◌≡◌, ◌+◌, ◌≤◌, ◌<◌, ◌++◌, [], length, replicate, IfOk};
 ghost use Rattle.std.specs.Prelude.{vec_len};
 ghost use Rattle.std.specs.Vec.{vec_capacity};
 ghost use Rattle.opfs_splice.specs.Splicing.{splice, resize};
 
-use opfs_base::{Bytes, Data, Told, plus};
+use opfs_base::{Bytes, Data, SharedBytes, Told, plus};
 use opfs_splice::{patch, resize};
-use std::alloc::AllocError;
+use std::alloc::{AllocError, Global};
 
-/// The bytes with others written at a position. One byte so many times is written as it is told.
-pub fn spliced(old: Bytes, position: u64, new: &Data) -> Result<Bytes, AllocError>
+/// No bytes.
+pub fn no_bytes(alloc: Global) -> Result<SharedBytes, AllocError>
+    ensures { IfOk result (λ bytes. bytes ≡ []) }
+{
+    let none = SharedBytes::make(alloc, Bytes::from_vec(Vec::new(alloc)))?;
+    Ok(none)
+}
+
+/// The bytes with others written at a position. One byte so many times is written as it is told. They are copied where others
+/// hold them too.
+pub fn spliced(
+    alloc: Global,
+    old: SharedBytes,
+    position: u64,
+    new: &Data,
+) -> Result<SharedBytes, AllocError>
     ensures { IfOk result (λ bytes. bytes ≡ splice old position new.now) }
 {
-    let mut buffer = old.into_vec();
+    let mut buffer = old.into_bytes(alloc)?.into_vec();
     let end = plus(position, new.len())? as usize;
     if end > buffer.capacity() {
         buffer.reserve(end - buffer.len())?;
     }
     write_told(&mut buffer, position, new);
-    Ok(Bytes::from_vec(buffer))
+    let bytes = SharedBytes::make(alloc, Bytes::from_vec(buffer))?;
+    Ok(bytes)
 }
 
 /// Writes bytes at a position, as they are told.
@@ -88,15 +103,16 @@ fn fill_behind(old: &mut Vec<u8>, byte: u8, count: usize)
     old.resize(end, byte).unwrap();
 }
 
-/// The bytes cut or extended to a size.
-pub fn resized(old: Bytes, size: u64) -> Result<Bytes, AllocError>
+/// The bytes cut or extended to a size, copied where others hold them too.
+pub fn resized(alloc: Global, old: SharedBytes, size: u64) -> Result<SharedBytes, AllocError>
     ensures { IfOk result (λ bytes. bytes ≡ resize old size) }
 {
-    let mut buffer = old.into_vec();
+    let mut buffer = old.into_bytes(alloc)?.into_vec();
     let wanted = size as usize;
     if wanted > buffer.capacity() {
         buffer.reserve(wanted - buffer.len())?;
     }
     resize(&mut buffer, size);
-    Ok(Bytes::from_vec(buffer))
+    let bytes = SharedBytes::make(alloc, Bytes::from_vec(buffer))?;
+    Ok(bytes)
 }

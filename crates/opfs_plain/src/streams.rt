@@ -1,6 +1,6 @@
 //! What calls change of streams.
 
-ghost use Rattle.std.specs.Prelude.{◌≡◌, ◌+◌, OnOk, length, if◌then◌else◌, IfOk};
+ghost use Rattle.std.specs.Prelude.{◌≡◌, ◌+◌, [], OnOk, length, if◌then◌else◌, IfOk};
 ghost use Rattle.opfs_base.specs.Places.{place_of};
 ghost use Rattle.opfs_machine.specs.Contents.{in_bytes, written_row, truncated_row, sought_row};
 ghost use Rattle.opfs_machine.specs.Effects.{opens_stream, with_changed, closes_stream, aborts_stream};
@@ -12,18 +12,34 @@ ghost use Rattle.opfs_machine.specs.declared.state.Sizes.{Sizes};
 
 use crate::files::{lock, replace, unlock};
 use crate::own_rows::{add_own, set_own};
-use crate::splicing::{resized, spliced};
-use opfs_base::{Bytes, Data, Locator, copy_place, plus};
+use crate::splicing::{no_bytes, resized, spliced};
+use opfs_base::{Data, Locator, SharedBytes, copy_place, plus};
 use opfs_locks::Want;
-use opfs_machine::{Own, State, StreamRow};
+use opfs_machine::{FileRow, Own, State, StreamRow};
 use opfs_rulings::{agent, file_at, first_reserve, own_row, place_of};
 use std::alloc::{AllocError, Global};
 use std::mem;
 
+/// What a new stream has: its file's bytes where they are kept, else none.
+fn first_buffer(
+    alloc: Global,
+    file: &FileRow<SharedBytes>,
+    keep: bool,
+) -> Result<SharedBytes, AllocError>
+    ensures { IfOk result (λ bytes. bytes ≡ (if keep then file.now.present else [])) }
+{
+    if keep {
+        let bytes = file.present.share()?;
+        return Ok(bytes);
+    }
+    let none = no_bytes(alloc)?;
+    Ok(none)
+}
+
 /// createWritable.
 pub fn open_stream(
     alloc: Global,
-    state: &mut State<Bytes, Own>,
+    state: &mut State<SharedBytes, Own>,
     number: u32,
     at: &Locator,
     keep: bool,
@@ -35,11 +51,7 @@ pub fn open_stream(
     let Some(file) = file_at(state, &at.key, &at.path) else {
         return Ok(());
     };
-    let buffer = if keep {
-        file.present.copy(alloc)?
-    } else {
-        Bytes::from_vec(Vec::new(alloc))
-    };
+    let buffer = first_buffer(alloc, file, keep)?;
     let reserve = first_reserve(Some(file), keep);
     let place = place_of(alloc, at)?;
     lock(state, &place, Want::Shared)?;
@@ -56,7 +68,13 @@ pub fn open_stream(
 }
 
 /// A write of a stream.
-fn write_row(row: Own, position: u64, bytes: &Data, reserve: u64) -> Result<Own, AllocError>
+fn write_row(
+    alloc: Global,
+    row: Own,
+    position: u64,
+    bytes: &Data,
+    reserve: u64,
+) -> Result<Own, AllocError>
     ensures { IfOk result (λ after. after ≡ written_row row position bytes.now reserve) }
 {
     let Own::Stream(stream) = row else {
@@ -68,7 +86,7 @@ fn write_row(row: Own, position: u64, bytes: &Data, reserve: u64) -> Result<Own,
         offset: _,
         reserve: _,
     } = stream;
-    let buffer = spliced(buffer, position, bytes)?;
+    let buffer = spliced(alloc, buffer, position, bytes)?;
     let offset = plus(position, bytes.len())?;
     Ok(Own::Stream(StreamRow {
         file,
@@ -81,7 +99,8 @@ fn write_row(row: Own, position: u64, bytes: &Data, reserve: u64) -> Result<Own,
 /// write of a stream, with the reserve that it then has.
 #[tactic(auto, unfolding(opfs_machine::specs::Effects::with_changed))]
 pub fn write(
-    state: &mut State<Bytes, Own>,
+    alloc: Global,
+    state: &mut State<SharedBytes, Own>,
     number: u32,
     row: u32,
     position: u64,
@@ -95,12 +114,12 @@ pub fn write(
     let agent = &mut state.agents.items[number as usize - 1];
     let own = &mut agent.own.items[row as usize - 1];
     let old = mem::replace(own, Own::ClosedStream);
-    *own = write_row(old, position, bytes, reserve)?;
+    *own = write_row(alloc, old, position, bytes, reserve)?;
     Ok(())
 }
 
 /// A truncate of a stream.
-fn truncate_row(row: Own, size: u64, reserve: u64) -> Result<Own, AllocError>
+fn truncate_row(alloc: Global, row: Own, size: u64, reserve: u64) -> Result<Own, AllocError>
     ensures { IfOk result (λ after. after ≡ truncated_row row size reserve) }
 {
     let Own::Stream(stream) = row else {
@@ -112,7 +131,7 @@ fn truncate_row(row: Own, size: u64, reserve: u64) -> Result<Own, AllocError>
         offset,
         reserve: _,
     } = stream;
-    let buffer = resized(buffer, size)?;
+    let buffer = resized(alloc, buffer, size)?;
     Ok(Own::Stream(StreamRow {
         file,
         buffer,
@@ -124,7 +143,8 @@ fn truncate_row(row: Own, size: u64, reserve: u64) -> Result<Own, AllocError>
 /// truncate of a stream, with the reserve that it then has.
 #[tactic(auto, unfolding(opfs_machine::specs::Effects::with_changed))]
 pub fn truncate(
-    state: &mut State<Bytes, Own>,
+    alloc: Global,
+    state: &mut State<SharedBytes, Own>,
     number: u32,
     row: u32,
     size: u64,
@@ -137,7 +157,7 @@ pub fn truncate(
     let agent = &mut state.agents.items[number as usize - 1];
     let own = &mut agent.own.items[row as usize - 1];
     let old = mem::replace(own, Own::ClosedStream);
-    *own = truncate_row(old, size, reserve)?;
+    *own = truncate_row(alloc, old, size, reserve)?;
     Ok(())
 }
 
@@ -152,7 +172,7 @@ fn seek_row(row: &mut Own, offset: u64)
 
 /// seek of a stream.
 #[tactic(auto, unfolding(opfs_machine::specs::Effects::with_changed))]
-pub fn seek(state: &mut State<Bytes, Own>, number: u32, row: u32, offset: u64)
+pub fn seek(state: &mut State<SharedBytes, Own>, number: u32, row: u32, offset: u64)
     requires agent { IsAgent state.old number }
     requires row { IsOwn (agent_of state.old number) row }
     ensures { state.new ≡ with_changed state.old number row (λ r. sought_row r offset) }
@@ -164,7 +184,7 @@ pub fn seek(state: &mut State<Bytes, Own>, number: u32, row: u32, offset: u64)
 /// close of a stream: its file has the buffer, for good.
 pub fn close_stream(
     alloc: Global,
-    state: &mut State<Bytes, Own>,
+    state: &mut State<SharedBytes, Own>,
     number: u32,
     row: u32,
 ) -> Result<(), AllocError>
@@ -175,8 +195,8 @@ pub fn close_stream(
     let Some(Own::Stream(stream)) = own_row(state, number, row) else {
         return Ok(());
     };
-    let present = stream.buffer.copy(alloc)?;
-    let durable = stream.buffer.copy(alloc)?;
+    let present = stream.buffer.share()?;
+    let durable = stream.buffer.share()?;
     let place = copy_place(alloc, &stream.file.0, &stream.file.1)?;
     let stamp = agent(state, number).moment;
     replace(state, &place, present, durable, stamp);
@@ -188,7 +208,7 @@ pub fn close_stream(
 /// abort of a stream.
 pub fn abort_stream(
     alloc: Global,
-    state: &mut State<Bytes, Own>,
+    state: &mut State<SharedBytes, Own>,
     number: u32,
     row: u32,
 ) -> Result<(), AllocError>

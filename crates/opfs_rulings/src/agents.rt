@@ -5,19 +5,19 @@ ghost use Rattle.std.specs.Option.{option_copied};
 ghost use Rattle.opfs_machine.specs.Agents.{agent_of, own_of, party_of};
 ghost use Rattle.opfs_rulings.specs.Known.{IsAgent};
 
-use opfs_base::Bytes;
+use opfs_base::SharedBytes;
 use opfs_machine::{Agent, Own, Party, State};
 use std::alloc::{AllocError, Global};
 
 /// Whether there is an agent of a number.
-pub fn is_agent(state: &State<Bytes, Own>, number: u32) -> bool
+pub fn is_agent(state: &State<SharedBytes, Own>, number: u32) -> bool
     ensures { IsTrue result → IsAgent state.now number }
 {
     number > 0 && number as usize <= state.agents.items.len()
 }
 
 /// The agent of a number.
-pub fn agent(state: &State<Bytes, Own>, number: u32) -> &Agent<Own>
+pub fn agent(state: &State<SharedBytes, Own>, number: u32) -> &Agent<Own>
     requires { IsAgent state.now number }
     ensures { result.now ≡ agent_of state.now number }
 {
@@ -25,7 +25,7 @@ pub fn agent(state: &State<Bytes, Own>, number: u32) -> &Agent<Own>
 }
 
 /// The own row of a number.
-pub fn own_row(state: &State<Bytes, Own>, number: u32, row: u32) -> Option<&Own>
+pub fn own_row(state: &State<SharedBytes, Own>, number: u32, row: u32) -> Option<&Own>
     requires { IsAgent state.now number }
     ensures { option_copied result ≡ own_of (agent_of state.now number) row }
 {
@@ -37,7 +37,11 @@ pub fn own_row(state: &State<Bytes, Own>, number: u32, row: u32) -> Option<&Own>
 }
 
 /// The party of an agent.
-pub fn party_of(alloc: Global, state: &State<Bytes, Own>, number: u32) -> Result<Party, AllocError>
+pub fn party_of(
+    alloc: Global,
+    state: &State<SharedBytes, Own>,
+    number: u32,
+) -> Result<Party, AllocError>
     requires { IsAgent state.now number }
     ensures { IfOk result (λ party. party ≡ party_of state.now number) }
 {

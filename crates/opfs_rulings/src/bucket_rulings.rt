@@ -9,13 +9,13 @@ ghost use Rattle.opfs_rulings.specs.Known.{IsAgent};
 
 use crate::agents::agent;
 use crate::rulings::NO_NEED;
-use opfs_base::{Bytes, Key, Text, is_bucket_name, mode_charge, unit_of};
+use opfs_base::{Key, SharedBytes, Text, is_bucket_name, mode_charge, unit_of};
 use opfs_hist::Refusal;
 use opfs_machine::{Need, Own, Ruled, State};
 use std::alloc::{AllocError, Global};
 
 /// Whether a unit's bucket is persistent.
-pub fn is_persistent(state: &State<Bytes, Own>, unit: &Key) -> bool
+pub fn is_persistent(state: &State<SharedBytes, Own>, unit: &Key) -> bool
     ensures { result ≡ is_persistent state.now unit.now }
 {
     state.persistent.items.iter().any(|other| *unit == *other)
@@ -24,7 +24,7 @@ pub fn is_persistent(state: &State<Bytes, Own>, unit: &Key) -> bool
 /// persist.
 pub fn persist_ruling(
     alloc: Global,
-    state: &State<Bytes, Own>,
+    state: &State<SharedBytes, Own>,
     number: u32,
     bucket: &Text,
 ) -> Ruled<Need>
@@ -51,7 +51,7 @@ pub fn persist_ruling(
 
 /// persisted.
 pub fn persisted_ruling(
-    state: &State<Bytes, Own>,
+    state: &State<SharedBytes, Own>,
     number: u32,
     bucket: &Text,
 ) -> Result<Need, Refusal>
@@ -65,7 +65,7 @@ pub fn persisted_ruling(
 }
 
 /// estimate.
-pub fn estimate_ruling(state: &State<Bytes, Own>, number: u32) -> Result<Need, Refusal>
+pub fn estimate_ruling(state: &State<SharedBytes, Own>, number: u32) -> Result<Need, Refusal>
     requires { IsAgent state.now number }
     ensures { result ≡ estimate_ruling state.now number }
 {

@@ -10,12 +10,12 @@ ghost use Rattle.opfs_machine.specs.Rulings.{create_sync_ruling, grow_handle_rul
 
 use crate::agents::own_row;
 use crate::rulings::{NO_NEED, file_at, is_located, lock_of, taken};
-use opfs_base::{Bytes, Kind, Locator, blocks, times};
+use opfs_base::{Kind, Locator, SharedBytes, blocks, times};
 use opfs_hist::{Mode, Refusal};
 use opfs_machine::{HandleRow, Need, Own, Ruled, Sizes, State, want_of};
 
 /// createSyncAccessHandle.
-pub fn create_sync_ruling(state: &State<Bytes, Own>, at: &Locator, mode: Mode) -> Ruled<Need>
+pub fn create_sync_ruling(state: &State<SharedBytes, Own>, at: &Locator, mode: Mode) -> Ruled<Need>
     ensures { IfOk result (λ ruled. ruled ≡ create_sync_ruling state.now at.now mode) }
 {
     if !is_located(state, Kind::File, at) {
@@ -29,7 +29,7 @@ pub fn create_sync_ruling(state: &State<Bytes, Own>, at: &Locator, mode: Mode) -
 }
 
 /// The open access handle of a number.
-pub fn open_handle(state: &State<Bytes, Own>, number: u32, row: u32) -> Option<&HandleRow>
+pub fn open_handle(state: &State<SharedBytes, Own>, number: u32, row: u32) -> Option<&HandleRow>
     requires { IsAgent state.now number }
     ensures { option_map (λ h. record { file = h.file; mode = h.mode; reserve = h.reserve }) (option_copied result) ≡ open_handle in_bytes state.now number row }
 {
@@ -41,7 +41,7 @@ pub fn open_handle(state: &State<Bytes, Own>, number: u32, row: u32) -> Option<&
 
 /// write and truncate of an access handle, to a length.
 pub fn grow_handle_ruling(
-    state: &State<Bytes, Own>,
+    state: &State<SharedBytes, Own>,
     sizes: Sizes,
     number: u32,
     row: u32,
@@ -67,7 +67,11 @@ pub fn grow_handle_ruling(
 }
 
 /// A call on an open access handle that asks for nothing.
-pub fn handle_ruling(state: &State<Bytes, Own>, number: u32, row: u32) -> Result<Need, Refusal>
+pub fn handle_ruling(
+    state: &State<SharedBytes, Own>,
+    number: u32,
+    row: u32,
+) -> Result<Need, Refusal>
     requires { IsAgent state.now number }
     ensures { result ≡ handle_ruling in_bytes state.now number row }
 {

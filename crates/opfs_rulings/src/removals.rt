@@ -9,14 +9,16 @@ ghost use Rattle.opfs_rulings.specs.Known.{lock_ruling};
 
 use crate::rows::{PlacedRow, row_at};
 use crate::rulings::{NO_NEED, is_located};
-use opfs_base::{Bytes, Key, Kind, Locator, Path, Text, child_name, is_valid_name, is_within};
+use opfs_base::{
+    Key, Kind, Locator, Path, SharedBytes, Text, child_name, is_valid_name, is_within,
+};
 use opfs_hist::Refusal;
 use opfs_locks::LockValue;
 use opfs_machine::{Need, Own, Place, Row, Ruled, State, child_place};
 use std::alloc::{AllocError, Global};
 
 /// Whether a directory has children.
-pub fn has_children(state: &State<Bytes, Own>, dir: &Place) -> bool
+pub fn has_children(state: &State<SharedBytes, Own>, dir: &Place) -> bool
     ensures { result ≡ has_children state.now dir.now }
 {
     state
@@ -27,7 +29,7 @@ pub fn has_children(state: &State<Bytes, Own>, dir: &Place) -> bool
 }
 
 /// Whether what is below a place does not keep it.
-fn may_go(state: &State<Bytes, Own>, place: &Place, recursive: bool) -> bool
+fn may_go(state: &State<SharedBytes, Own>, place: &Place, recursive: bool) -> bool
     ensures { result ≡ (recursive || not (has_children state.now place.now)) }
 {
     recursive || !has_children(state, place)
@@ -60,7 +62,7 @@ fn none_locked(lock: Option<(LockValue, u32)>) -> Result<Need, Refusal>
 /// removeEntry.
 pub fn remove_entry_ruling(
     alloc: Global,
-    state: &State<Bytes, Own>,
+    state: &State<SharedBytes, Own>,
     dir: &Locator,
     name: &Text,
     recursive: bool,

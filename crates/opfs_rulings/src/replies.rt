@@ -26,7 +26,7 @@ use crate::rulings::file_at;
 use crate::sets::names_of;
 use crate::sums::usage;
 use opfs_base::{
-    Bytes, Key, Kind, Locator, Name, Path, Text, child_name, resolve, same, times, unit_of,
+    Key, Kind, Locator, Name, Path, SharedBytes, Text, child_name, resolve, same, times, unit_of,
 };
 use opfs_hist::{Op, Reply};
 use opfs_machine::{Own, Place, Row, Sizes, State};
@@ -35,7 +35,7 @@ use std::alloc::{AllocError, Global};
 use std::collections::BTreeSet;
 
 /// The present bytes of the file at a place; none where there is none.
-pub fn bytes_at<'a>(state: &'a State<Bytes, Own>, place: &Place) -> &'a [u8]
+pub fn bytes_at<'a>(state: &'a State<SharedBytes, Own>, place: &Place) -> &'a [u8]
     ensures { result.now ≡ bytes_at state.now place.now }
 {
     match file_at(state, &place.0, &place.1) {
@@ -45,7 +45,7 @@ pub fn bytes_at<'a>(state: &'a State<Bytes, Own>, place: &Place) -> &'a [u8]
 }
 
 /// The sizes of the stream or access handle of a number.
-pub fn sizes_of(state: &State<Bytes, Own>, number: u32, row: u32) -> Sizes
+pub fn sizes_of(state: &State<SharedBytes, Own>, number: u32, row: u32) -> Sizes
     requires { IsAgent state.now number }
     ensures { result ≡ sizes_in state.now (own_of (agent_of state.now number) row) }
 {
@@ -166,7 +166,7 @@ fn first_name<'a>(rows: &'a [PlacedRow], dir: &Place, given: &[Name]) -> Option<
 }
 
 /// getFile.
-fn file_reply(state: &State<Bytes, Own>, at: &Locator) -> Reply
+fn file_reply(state: &State<SharedBytes, Own>, at: &Locator) -> Reply
     ensures { result ≡ file_reply (file_at state.now (place_of at.now)) }
 {
     match file_at(state, &at.key, &at.path) {
@@ -188,7 +188,7 @@ fn path_reply(alloc: Global, dir: &Locator, entry: &Locator) -> Result<Reply, Al
 /// slice of a snapshot.
 fn slice_reply(
     alloc: Global,
-    state: &State<Bytes, Own>,
+    state: &State<SharedBytes, Own>,
     number: u32,
     row: u32,
     at: u64,
@@ -207,7 +207,7 @@ fn slice_reply(
 /// read of an access handle, from a place on.
 fn read_reply(
     alloc: Global,
-    state: &State<Bytes, Own>,
+    state: &State<SharedBytes, Own>,
     number: u32,
     row: u32,
     start: u64,
@@ -224,7 +224,7 @@ fn read_reply(
 }
 
 /// The kind of what stands at a place.
-fn kind_at(state: &State<Bytes, Own>, key: &Key, path: &Path) -> Kind
+fn kind_at(state: &State<SharedBytes, Own>, key: &Key, path: &Path) -> Kind
     ensures { result ≡ kind_in (row_at state.now (key.now, path.now)) }
 {
     match row_at(state.rows.items.as_slice(), key, path) {
@@ -234,7 +234,7 @@ fn kind_at(state: &State<Bytes, Own>, key: &Key, path: &Path) -> Kind
 }
 
 /// The names that an iterator has given.
-pub fn given_names(state: &State<Bytes, Own>, number: u32, row: u32) -> &[Name]
+pub fn given_names(state: &State<SharedBytes, Own>, number: u32, row: u32) -> &[Name]
     requires { IsAgent state.now number }
     ensures { result.now ≡ given_in (own_of (agent_of state.now number) row) }
 {
@@ -247,7 +247,7 @@ pub fn given_names(state: &State<Bytes, Own>, number: u32, row: u32) -> &[Name]
 /// The child of a directory that is given next, or the end.
 fn reply_of(
     alloc: Global,
-    state: &State<Bytes, Own>,
+    state: &State<SharedBytes, Own>,
     dir: &Locator,
     name: Option<&Name>,
 ) -> Result<Reply, AllocError>
@@ -265,7 +265,7 @@ fn reply_of(
 /// The name that an iterator over a directory gives next.
 pub fn next_given<'a>(
     alloc: Global,
-    state: &'a State<Bytes, Own>,
+    state: &'a State<SharedBytes, Own>,
     number: u32,
     row: u32,
     place: &Place,
@@ -281,7 +281,7 @@ pub fn next_given<'a>(
 /// next of an iterator over a directory.
 fn child_reply(
     alloc: Global,
-    state: &State<Bytes, Own>,
+    state: &State<SharedBytes, Own>,
     number: u32,
     row: u32,
     dir: &Locator,
@@ -296,7 +296,11 @@ fn child_reply(
 }
 
 /// The key of an agent's origin; no text for an opaque one.
-fn origin_key(alloc: Global, state: &State<Bytes, Own>, number: u32) -> Result<Key, AllocError>
+fn origin_key(
+    alloc: Global,
+    state: &State<SharedBytes, Own>,
+    number: u32,
+) -> Result<Key, AllocError>
     requires { IsAgent state.now number }
     ensures { IfOk result (λ key. key ≡ origin_in (agent_of state.now number).key) }
 {
@@ -309,7 +313,7 @@ fn origin_key(alloc: Global, state: &State<Bytes, Own>, number: u32) -> Result<K
 /// Whether an agent's unit of a bucket is persistent.
 fn is_bucket_persistent(
     alloc: Global,
-    state: &State<Bytes, Own>,
+    state: &State<SharedBytes, Own>,
     number: u32,
     bucket: &Text,
 ) -> Result<bool, AllocError>
@@ -323,7 +327,7 @@ fn is_bucket_persistent(
 }
 
 /// estimate.
-fn estimate_reply(state: &State<Bytes, Own>, number: u32) -> Result<Reply, AllocError>
+fn estimate_reply(state: &State<SharedBytes, Own>, number: u32) -> Result<Reply, AllocError>
     requires { IsAgent state.now number }
     ensures { IfOk result (λ reply. reply ≡ Reply.Estimate (4096 * usage in_bytes state.now (origin_in (agent_of state.now number).key)) (4096 * state.now.limits.quota)) }
 {
@@ -339,7 +343,7 @@ fn estimate_reply(state: &State<Bytes, Own>, number: u32) -> Result<Reply, Alloc
 /// What a call answers where it is not refused.
 pub fn answer(
     alloc: Global,
-    state: &State<Bytes, Own>,
+    state: &State<SharedBytes, Own>,
     sizes: Sizes,
     number: u32,
     op: &Op,

@@ -24,7 +24,7 @@ ghost use Rattle.opfs_rulings.specs.Sets.{IsTakenSet};
 use crate::bucket_rulings::is_persistent;
 use crate::rows::PlacedRow;
 use crate::sums::{freed, is_of, mode_charges, reserves, row_charges, row_pool, usage};
-use opfs_base::{Bytes, Key, origin_of, plus, times};
+use opfs_base::{Key, SharedBytes, origin_of, plus, times};
 use opfs_hist::Refusal;
 use opfs_locks::LockValue;
 use opfs_machine::{Many, Need, Own, Place, Row, Ruled, State};
@@ -32,7 +32,7 @@ use std::alloc::{AllocError, Global};
 use std::collections::BTreeSet;
 
 /// The pool.
-fn pool(state: &State<Bytes, Own>) -> Result<u64, AllocError>
+fn pool(state: &State<SharedBytes, Own>) -> Result<u64, AllocError>
     ensures { IfOk result (λ total. total ≡ pool in_bytes state.now) }
 {
     let files = row_pool(state.rows.items.as_slice())?;
@@ -42,7 +42,7 @@ fn pool(state: &State<Bytes, Own>) -> Result<u64, AllocError>
 }
 
 /// The charge.
-fn charge(state: &State<Bytes, Own>) -> Result<u64, AllocError>
+fn charge(state: &State<SharedBytes, Own>) -> Result<u64, AllocError>
     ensures { IfOk result (λ total. total ≡ charge in_bytes state.now) }
 {
     let rows = row_charges(state.rows.items.as_slice())?;
@@ -54,7 +54,7 @@ fn charge(state: &State<Bytes, Own>) -> Result<u64, AllocError>
 }
 
 /// Whether a need has room beside what the pool holds.
-fn fits_beside(state: &State<Bytes, Own>, held: u64, need: u64) -> Result<bool, AllocError>
+fn fits_beside(state: &State<SharedBytes, Own>, held: u64, need: u64) -> Result<bool, AllocError>
     ensures { IfOk result (λ fits. fits ≡ (nat_le need 0 || nat_le (held + need) state.now.limits.blocks)) }
 {
     if need == 0 {
@@ -66,7 +66,7 @@ fn fits_beside(state: &State<Bytes, Own>, held: u64, need: u64) -> Result<bool, 
 }
 
 /// Whether the pool has room for a need.
-fn fits_pool(state: &State<Bytes, Own>, need: u64) -> Result<bool, AllocError>
+fn fits_pool(state: &State<SharedBytes, Own>, need: u64) -> Result<bool, AllocError>
     ensures { IfOk result (λ fits. fits ≡ fits_pool in_bytes state.now need) }
 {
     if need == 0 {
@@ -78,7 +78,7 @@ fn fits_pool(state: &State<Bytes, Own>, need: u64) -> Result<bool, AllocError>
 }
 
 /// When an origin was last used: the number of its last entry, 0 where there is none.
-fn last_use(state: &State<Bytes, Own>, origin: &[u8]) -> u64
+fn last_use(state: &State<SharedBytes, Own>, origin: &[u8]) -> u64
     ensures { result ≡ last_use state.now origin.now }
 {
     for entry in &state.used.items {
@@ -90,7 +90,7 @@ fn last_use(state: &State<Bytes, Own>, origin: &[u8]) -> u64
 }
 
 /// Whether a row has no taken lock.
-fn is_untaken(row: &Row<Bytes>) -> bool
+fn is_untaken(row: &Row<SharedBytes>) -> bool
     ensures { result ≡ is_none (taken_lock row.now) }
 {
     match row {
@@ -121,7 +121,7 @@ fn taken_units(alloc: Global, rows: &[PlacedRow]) -> Result<BTreeSet<Key>, Alloc
 }
 
 /// Whether no file of a unit has a taken lock.
-fn none_taken(state: &State<Bytes, Own>, taken: &BTreeSet<Key>, unit: &Key) -> bool
+fn none_taken(state: &State<SharedBytes, Own>, taken: &BTreeSet<Key>, unit: &Key) -> bool
     requires { IsTakenSet state.now.rows taken.now }
     ensures { result ≡ none_taken state.now unit.now }
 {
@@ -130,7 +130,7 @@ fn none_taken(state: &State<Bytes, Own>, taken: &BTreeSet<Key>, unit: &Key) -> b
 
 /// Whether a unit with a root may be cleared for a call.
 fn is_candidate(
-    state: &State<Bytes, Own>,
+    state: &State<SharedBytes, Own>,
     taken: &BTreeSet<Key>,
     caller: Option<&Key>,
     unit: &Key,
@@ -160,7 +160,7 @@ fn is_root(place: &Place) -> bool
 
 /// Whether a row is the root of a unit that may be cleared.
 fn is_root_candidate(
-    state: &State<Bytes, Own>,
+    state: &State<SharedBytes, Own>,
     taken: &BTreeSet<Key>,
     caller: Option<&Key>,
     entry: &PlacedRow,
@@ -183,7 +183,7 @@ fn add_sorted(sorted: &mut BTreeSet<(u64, Key)>, unit: (u64, Key)) -> Result<(),
 /// Adds a candidate in its place, where a row is the root of one.
 fn add_candidate(
     alloc: Global,
-    state: &State<Bytes, Own>,
+    state: &State<SharedBytes, Own>,
     taken: &BTreeSet<Key>,
     caller: Option<&Key>,
     sorted: &mut BTreeSet<(u64, Key)>,
@@ -204,7 +204,7 @@ fn add_candidate(
 /// The candidates for a call, each with its origin's last use, the one that was used longest ago first.
 fn candidates(
     alloc: Global,
-    state: &State<Bytes, Own>,
+    state: &State<SharedBytes, Own>,
     taken: &BTreeSet<Key>,
     caller: Option<&Key>,
 ) -> Result<BTreeSet<(u64, Key)>, AllocError>
@@ -221,7 +221,7 @@ fn candidates(
 /// The shortest front of the units after whose clearing the need fits.
 fn shortest_front(
     alloc: Global,
-    state: &State<Bytes, Own>,
+    state: &State<SharedBytes, Own>,
     need: u64,
     units: BTreeSet<(u64, Key)>,
 ) -> Result<Option<Many<Key>>, AllocError>
@@ -244,7 +244,7 @@ fn shortest_front(
 }
 
 /// Whether a need is within the quota of its origin.
-fn fits_quota(state: &State<Bytes, Own>, origin: &[u8], need: u64) -> Result<bool, AllocError>
+fn fits_quota(state: &State<SharedBytes, Own>, origin: &[u8], need: u64) -> Result<bool, AllocError>
     ensures { IfOk result (λ fits. fits ≡ fits_quota in_bytes state.now origin.now need) }
 {
     if need == 0 {
@@ -256,7 +256,7 @@ fn fits_quota(state: &State<Bytes, Own>, origin: &[u8], need: u64) -> Result<boo
 }
 
 /// Whether a growth of the charge is within the area.
-fn fits_area(state: &State<Bytes, Own>, growth: u64) -> Result<bool, AllocError>
+fn fits_area(state: &State<SharedBytes, Own>, growth: u64) -> Result<bool, AllocError>
     ensures { IfOk result (λ fits. fits ≡ fits_area in_bytes state.now growth) }
 {
     if growth == 0 {
@@ -281,7 +281,7 @@ fn origin_in(caller: Option<&Key>) -> &[u8]
 #[tactic(auto, using(crate::proofs::Fronts::front_at_once))]
 fn victims(
     alloc: Global,
-    state: &State<Bytes, Own>,
+    state: &State<SharedBytes, Own>,
     caller: Option<&Key>,
     need: u64,
 ) -> Result<Option<Many<Key>>, AllocError>
@@ -301,7 +301,7 @@ fn victims(
 #[tactic(auto, unfolding(opfs_machine::specs::Machine::machine))]
 pub fn room_for(
     alloc: Global,
-    state: &State<Bytes, Own>,
+    state: &State<SharedBytes, Own>,
     caller: Option<&Key>,
     need: Need,
 ) -> Ruled<Many<Key>>
@@ -322,7 +322,7 @@ pub fn room_for(
 /// The units that are cleared for a need of the pool.
 fn pool_room(
     alloc: Global,
-    state: &State<Bytes, Own>,
+    state: &State<SharedBytes, Own>,
     caller: Option<&Key>,
     need: u64,
 ) -> Ruled<Many<Key>>

@@ -6,12 +6,12 @@ ghost use Rattle.std.specs.FinMap.Entries.{find};
 ghost use Rattle.std.specs.Ordering.{is_eq};
 ghost use Rattle.opfs_base.specs.Places.{place_cmp, place_of};
 
-use opfs_base::{Bytes, Key, Locator, Path, copy_place};
+use opfs_base::{Key, Locator, Path, SharedBytes, copy_place};
 use opfs_machine::{Place, Row};
 use std::alloc::{AllocError, Global};
 
 /// A row and where it stands.
-pub type PlacedRow = (Place, Row<Bytes>);
+pub type PlacedRow = (Place, Row<SharedBytes>);
 
 /// Whether a place is this one. Many rows are of one unit, so their paths are asked first.
 pub fn is_place(key: &Key, path: &Path, place: &Place) -> bool
@@ -21,7 +21,7 @@ pub fn is_place(key: &Key, path: &Path, place: &Place) -> bool
 }
 
 /// The row at a place.
-pub fn row_at<'a>(rows: &'a [PlacedRow], key: &Key, path: &Path) -> Option<&'a Row<Bytes>>
+pub fn row_at<'a>(rows: &'a [PlacedRow], key: &Key, path: &Path) -> Option<&'a Row<SharedBytes>>
     ensures { option_copied result ≡ find place_cmp (key.now, path.now) rows.now }
 {
     for entry in rows {

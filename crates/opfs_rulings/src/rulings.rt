@@ -16,8 +16,8 @@ ghost use Rattle.opfs_rulings.specs.Known.{IsAgent};
 use crate::agents::{agent, own_row};
 use crate::rows::row_at;
 use opfs_base::{
-    Bytes, Key, Kind, Locator, Path, Text, blocks, is_bucket_name, is_valid_name, place_charge,
-    times,
+    Key, Kind, Locator, Path, SharedBytes, Text, blocks, is_bucket_name, is_valid_name,
+    place_charge, times,
 };
 use opfs_hist::Refusal;
 use opfs_locks::{LockValue, Want};
@@ -32,7 +32,7 @@ pub const NO_NEED: Need = Need {
 };
 
 /// Whether a locator is located for a call that wants this kind.
-pub fn is_located(state: &State<Bytes, Own>, kind: Kind, at: &Locator) -> bool
+pub fn is_located(state: &State<SharedBytes, Own>, kind: Kind, at: &Locator) -> bool
     ensures { result ≡ is_located state.now kind at.now }
 {
     if at.kind != kind {
@@ -46,7 +46,11 @@ pub fn is_located(state: &State<Bytes, Own>, kind: Kind, at: &Locator) -> bool
 }
 
 /// A call that needs its directory or file to be there.
-pub fn located_ruling(state: &State<Bytes, Own>, kind: Kind, at: &Locator) -> Result<Need, Refusal>
+pub fn located_ruling(
+    state: &State<SharedBytes, Own>,
+    kind: Kind,
+    at: &Locator,
+) -> Result<Need, Refusal>
     ensures { result ≡ located_ruling state.now kind at.now }
 {
     if !is_located(state, kind, at) {
@@ -56,7 +60,7 @@ pub fn located_ruling(state: &State<Bytes, Own>, kind: Kind, at: &Locator) -> Re
 }
 
 /// What making a row asks for, where there is none.
-fn making(state: &State<Bytes, Own>, kind: Kind, place: &Place) -> Result<Need, AllocError>
+fn making(state: &State<SharedBytes, Own>, kind: Kind, place: &Place) -> Result<Need, AllocError>
     ensures { IfOk result (λ need. need ≡ making kind place.now (row_at state.now place.now)) }
 {
     match row_at(state.rows.items.as_slice(), &place.0, &place.1) {
@@ -72,7 +76,7 @@ fn making(state: &State<Bytes, Own>, kind: Kind, place: &Place) -> Result<Need, 
 /// getDirectory.
 pub fn get_directory_ruling(
     alloc: Global,
-    state: &State<Bytes, Own>,
+    state: &State<SharedBytes, Own>,
     number: u32,
     bucket: &Text,
 ) -> Ruled<Need>
@@ -97,7 +101,7 @@ fn fits_limits(name: &Text, path: &Path) -> bool
 }
 
 /// Whether a row is of a kind.
-fn is_of_kind(kind: Kind, row: &Row<Bytes>) -> bool
+fn is_of_kind(kind: Kind, row: &Row<SharedBytes>) -> bool
     ensures { result ≡ is_of_kind kind row.now }
 {
     match row {
@@ -112,7 +116,7 @@ fn child_ruling(
     place: &Place,
     name: &Text,
     create: bool,
-    row: Option<&Row<Bytes>>,
+    row: Option<&Row<SharedBytes>>,
 ) -> Ruled<Need>
     ensures { IfOk result (λ ruled. ruled ≡ child_ruling kind place.now name.now create (option_copied row.entry)) }
 {
@@ -140,7 +144,7 @@ fn child_ruling(
 /// getFileHandle and getDirectoryHandle.
 pub fn get_handle_ruling(
     alloc: Global,
-    state: &State<Bytes, Own>,
+    state: &State<SharedBytes, Own>,
     kind: Kind,
     dir: &Locator,
     name: &Text,
@@ -161,10 +165,10 @@ pub fn get_handle_ruling(
 
 /// The file at a place.
 pub fn file_at<'a>(
-    state: &'a State<Bytes, Own>,
+    state: &'a State<SharedBytes, Own>,
     key: &Key,
     path: &Path,
-) -> Option<&'a FileRow<Bytes>>
+) -> Option<&'a FileRow<SharedBytes>>
     ensures { option_copied result ≡ file_at state.now (key.now, path.now) }
 {
     match row_at(state.rows.items.as_slice(), key, path) {
@@ -174,7 +178,7 @@ pub fn file_at<'a>(
 }
 
 /// The lock of a file, open where there is no such file.
-pub fn lock_of(file: Option<&FileRow<Bytes>>) -> (LockValue, u32)
+pub fn lock_of(file: Option<&FileRow<SharedBytes>>) -> (LockValue, u32)
     ensures { result ≡ lock_in (option_copied file.entry) }
 {
     match file {
@@ -214,7 +218,7 @@ pub fn keeps_blocks(more: u64) -> Result<Need, AllocError>
 }
 
 /// The blocks that a new stream keeps.
-pub fn first_reserve(file: Option<&FileRow<Bytes>>, keep: bool) -> u64
+pub fn first_reserve(file: Option<&FileRow<SharedBytes>>, keep: bool) -> u64
     ensures { result ≡ (if keep then blocks (size_in in_bytes (option_copied file.entry)) else 0) }
 {
     match file {
@@ -224,7 +228,11 @@ pub fn first_reserve(file: Option<&FileRow<Bytes>>, keep: bool) -> u64
 }
 
 /// createWritable.
-pub fn create_writable_ruling(state: &State<Bytes, Own>, at: &Locator, keep: bool) -> Ruled<Need>
+pub fn create_writable_ruling(
+    state: &State<SharedBytes, Own>,
+    at: &Locator,
+    keep: bool,
+) -> Ruled<Need>
     ensures { IfOk result (λ ruled. ruled ≡ create_writable_ruling in_bytes state.now at.now keep) }
 {
     if !is_located(state, Kind::File, at) {
@@ -239,7 +247,7 @@ pub fn create_writable_ruling(state: &State<Bytes, Own>, at: &Locator, keep: boo
 }
 
 /// The reserve of an open stream of the agent.
-fn stream_reserve(state: &State<Bytes, Own>, number: u32, row: u32) -> Option<u64>
+fn stream_reserve(state: &State<SharedBytes, Own>, number: u32, row: u32) -> Option<u64>
     requires { IsAgent state.now number }
     ensures { result ≡ option_map (λ w. w.reserve) (open_stream in_bytes state.now number row) }
 {
@@ -251,7 +259,7 @@ fn stream_reserve(state: &State<Bytes, Own>, number: u32, row: u32) -> Option<u6
 
 /// write and truncate of a stream, to a length.
 pub fn grow_stream_ruling(
-    state: &State<Bytes, Own>,
+    state: &State<SharedBytes, Own>,
     number: u32,
     row: u32,
     size: u64,
@@ -266,7 +274,11 @@ pub fn grow_stream_ruling(
 }
 
 /// A call on an open stream that asks for nothing.
-pub fn stream_ruling(state: &State<Bytes, Own>, number: u32, row: u32) -> Result<Need, Refusal>
+pub fn stream_ruling(
+    state: &State<SharedBytes, Own>,
+    number: u32,
+    row: u32,
+) -> Result<Need, Refusal>
     requires { IsAgent state.now number }
     ensures { result ≡ stream_ruling in_bytes state.now number row }
 {

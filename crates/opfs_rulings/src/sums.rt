@@ -14,7 +14,7 @@ ghost use Rattle.opfs_machine.specs.declared.state.Agent.{Agent};
 
 use crate::agents::own_row;
 use crate::rows::PlacedRow;
-use opfs_base::{Bytes, Key, Kind, blocks, mode_charge, origin_of, place_charge, plus};
+use opfs_base::{Key, Kind, SharedBytes, blocks, mode_charge, origin_of, place_charge, plus};
 use opfs_machine::{Agent, Own, Row, State};
 use std::alloc::AllocError;
 
@@ -26,7 +26,7 @@ pub fn is_of(origin: &[u8], unit: &Key) -> bool
 }
 
 /// The blocks of a row's present bytes.
-fn present_blocks(row: &Row<Bytes>) -> u64
+fn present_blocks(row: &Row<SharedBytes>) -> u64
     ensures { result ≡ present_blocks in_bytes row.now }
 {
     match row {
@@ -36,7 +36,7 @@ fn present_blocks(row: &Row<Bytes>) -> u64
 }
 
 /// The blocks of a row's durable bytes.
-fn durable_blocks(row: &Row<Bytes>) -> u64
+fn durable_blocks(row: &Row<SharedBytes>) -> u64
     ensures { result ≡ durable_blocks in_bytes row.now }
 {
     match row {
@@ -93,7 +93,7 @@ fn stream_usage(agents: &[Agent<Own>], origin: &[u8]) -> Result<u64, AllocError>
 }
 
 /// The blocks that an origin uses.
-pub fn usage(state: &State<Bytes, Own>, origin: &[u8]) -> Result<u64, AllocError>
+pub fn usage(state: &State<SharedBytes, Own>, origin: &[u8]) -> Result<u64, AllocError>
     ensures { IfOk result (λ total. total ≡ usage in_bytes state.now origin.now) }
 {
     let files = row_usage(state.rows.items.as_slice(), origin)?;
@@ -134,7 +134,7 @@ fn unit_pool(rows: &[PlacedRow], unit: &Key) -> Result<u64, AllocError>
 }
 
 /// The blocks that clearing a unit frees, once some units are cleared.
-pub fn freed(state: &State<Bytes, Own>, gone: &[Key], unit: &Key) -> Result<u64, AllocError>
+pub fn freed(state: &State<SharedBytes, Own>, gone: &[Key], unit: &Key) -> Result<u64, AllocError>
     ensures { IfOk result (λ total. total ≡ freed gone.now unit.now state.now.rows) }
 {
     if is_among(gone, unit) {
@@ -211,7 +211,7 @@ pub fn mode_charges(units: &[Key]) -> Result<u64, AllocError>
 }
 
 /// The reserve of the own row of a number; 0 where there is none.
-pub fn reserve_at(state: &State<Bytes, Own>, number: u32, row: u32) -> u64
+pub fn reserve_at(state: &State<SharedBytes, Own>, number: u32, row: u32) -> u64
     requires { IsAgent state.now number }
     ensures { MatchOption (own_of (agent_of state.now number) row) (result ≡ 0) (λ r. result ≡ reserve_of (outline_of r)) }
 {
