@@ -25,6 +25,16 @@ pub struct PageSource<'a> {
     pub base: u64,
 }
 
+/// An open row that is read where the store has each page: whose it is, and the pages of all rows. Block 0 begins at byte `base`
+/// of the disk.
+#[derive(Clone, Copy)]
+pub struct StoredRow<'a> {
+    pub agent: u32,
+    pub row: u32,
+    pub swap: &'a Swap,
+    pub base: u64,
+}
+
 /// What a put is planned over beside the pages of rows: the memory, the rows of the tree with their blocks, and the byte of the disk
 /// where block 0 begins.
 #[derive(Clone, Copy)]

@@ -10,6 +10,7 @@ ghost use Rattle.opfs_pages.specs.Copies.{IsCopy, IsBegun, AreHeld, HasFar};
 
 use crate::bytes::copy_into;
 use crate::reading::read_page;
+use crate::row_put::StoredRow;
 use opfs_base::BLOCK_SIZE;
 use opfs_data::Swap;
 use opfs_journal::{DiskFault, Journal};
@@ -63,22 +64,19 @@ pub fn read_bytes<D: Disk>(
 /// Reads bytes of an open row from a position on where the store has each page, as it has those of an access handle. A buffer
 /// has each page. Takes no memory.
 pub fn read_stored<D: Disk>(
-    swap: &Swap,
+    stored: &StoredRow<'_>,
     journal: &mut Journal<D>,
-    base: u64,
-    agent: u32,
-    row: u32,
     at: u64,
     buffer: &mut [u8],
     into: &mut [u8],
 ) -> Result<(), DiskFault>
     requires buffer { length buffer.old ≡ 4096 }
     requires small { at + length into.old < 2 ^ 63 }
-    requires there { blocks (at + length into.old) ≤ length (pages_at agent row swap.now) }
-    requires lies { (i : ℕ) → LiesIn base (D.size journal.old.disk) (swap_page agent row i swap.now).block }
-    requires part { IsDataPart journal.old.areas base }
+    requires there { blocks (at + length into.old) ≤ length (pages_at stored.now.agent stored.now.row stored.now.swap.now) }
+    requires lies { (i : ℕ) → LiesIn stored.now.base (D.size journal.old.disk) (swap_page stored.now.agent stored.now.row i stored.now.swap.now).block }
+    requires part { IsDataPart journal.old.areas stored.now.base }
     ensures reads { Reads D.Disk journal.old journal.new }
-    ensures read { OnOk result (D.tells → (bytes : List ℕ) → at + length into.old ≤ length bytes → ((i : ℕ) → 4096 * i < length bytes → IsBegun bytes i (page_of (D.content journal.old.disk) base (swap_page agent row i swap.now)))
+    ensures read { OnOk result (D.tells → (bytes : List ℕ) → at + length into.old ≤ length bytes → ((i : ℕ) → 4096 * i < length bytes → IsBegun bytes i (page_of (D.content journal.old.disk) stored.now.base (swap_page stored.now.agent stored.now.row i stored.now.swap.now)))
         → into.new ≡ window bytes at (length into.old)) }
     ensures cause { OnErr result (Rose (D.faults journal.old.disk) (D.faults journal.new.disk)) }
 {
@@ -86,7 +84,8 @@ pub fn read_stored<D: Disk>(
     let mut done = 0;
     while done < len {
         let place = at + done;
-        swap.read(journal, base, agent, row, place / BLOCK_SIZE, buffer)?;
+        let page = place / BLOCK_SIZE;
+        stored.swap.read(journal, stored.base, stored.agent, stored.row, page, buffer)?;
         done += copy_part(buffer, place % BLOCK_SIZE, into, done);
     }
     Ok(())

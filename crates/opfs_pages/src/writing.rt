@@ -3,4 +3,4 @@ mod laws;
 mod put;
 
 pub use laws::planned_pages_get_their_blocks;
-pub use put::Put;
+pub use put::{Put, RowPages};

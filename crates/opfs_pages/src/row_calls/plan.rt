@@ -17,7 +17,7 @@ ghost use Rattle.opfs_pages.specs.RowCalls.Planned.{MayPlan, LeavesPlanned, IsPu
 ghost use Rattle.opfs_space.specs.Plans.{ArePlanned};
 ghost use Rattle.opfs_data.specs.Writes.{page_writes, page_moves};
 
-use crate::writing::Put;
+use crate::writing::{Put, RowPages};
 use crate::{PagePut, PageSource, Planning, stage_changes};
 use opfs_data::{DataRefusal, PageWrites, Swap};
 use opfs_journal::Journal;
@@ -61,8 +61,12 @@ fn try_put<D: Disk>(
         base,
     };
     let writes = stage_changes(alloc, &source, put, journal)?;
-    let size = blocks(put.size);
-    let mut made = Put::ready(alloc, swap, journal, base, put.agent, put.row, size, writes)?;
+    let pages = RowPages {
+        agent: put.agent,
+        row: put.row,
+        pages: blocks(put.size),
+    };
+    let mut made = Put::ready(alloc, swap, journal, base, &pages, writes)?;
     made.take(space);
     Ok(made)
 }

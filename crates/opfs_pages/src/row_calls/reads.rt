@@ -9,7 +9,7 @@ ghost use Rattle.opfs_pages.specs.Copies.{IsCopy, IsBegun, AreHeld, HasFar};
 ghost use Rattle.opfs_splice.specs.Splicing.{window};
 
 use crate::bytes::zeros;
-use crate::{read_bytes, read_stored};
+use crate::{StoredRow, read_bytes, read_stored};
 use opfs_base::{BLOCK_SIZE, Bytes};
 use opfs_data::{DataRefusal, Swap};
 use opfs_journal::Journal;
@@ -77,6 +77,12 @@ pub fn read_handle<D: Disk>(
 {
     let mut buffer = zeros(alloc, BLOCK_SIZE as usize)?;
     let mut bytes = zeros(alloc, size as usize)?;
-    read_stored(swap, journal, base, agent, row, 0, &mut buffer, &mut bytes)?;
+    let stored = StoredRow {
+        agent,
+        row,
+        swap,
+        base,
+    };
+    read_stored(&stored, journal, 0, &mut buffer, &mut bytes)?;
     Ok(Bytes::from_vec(bytes))
 }

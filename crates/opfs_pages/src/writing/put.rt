@@ -34,6 +34,14 @@ pub struct Put {
     pub taken: bool,
 }
 
+/// How many pages a put leaves a row, and whose it is.
+#[derive(Clone, Copy)]
+pub struct RowPages {
+    pub agent: u32,
+    pub row: u32,
+    pub pages: u64,
+}
+
 // The pages with memory for the runs of new blocks.
 fn with_room(alloc: Global, writes: PageWrites, pages: u64) -> Result<Put, AllocError>
     ensures same { IfOk result (λ put. (given : List ℕ) → (page_writes put.writes given ≡ page_writes writes given) × (page_moves put.writes given ≡ page_moves writes given)) }
@@ -68,25 +76,31 @@ impl Put {
         swap: &mut Swap,
         journal: &mut Journal<D>,
         base: u64,
-        agent: u32,
-        row: u32,
-        pages: u64,
+        wanted: &RowPages,
         writes: PageWrites,
     ) -> Result<Put, DataRefusal>
-        requires there { is_some (row_of agent row swap.old) ≡ true }
-        requires lies { AllByRecursion (λ page. LiesIn base (D.size journal.old.disk) page.block) (pages_at agent row swap.old) }
+        requires there { is_some (row_of wanted.now.agent wanted.now.row swap.old) ≡ true }
+        requires lies { AllByRecursion (λ page. LiesIn base (D.size journal.old.disk) page.block) (pages_at wanted.now.agent wanted.now.row swap.old) }
         requires part { IsDataPart journal.old.areas base }
-        ensures pages { HasSamePages agent row swap.old swap.new }
-        ensures ready { IfOk result (λ put. IsReady D.tells (D.content journal.new.disk) base swap.new agent row pages put.writes put.moves (vec_capacity put.extents)) }
+        ensures pages { HasSamePages wanted.now.agent wanted.now.row swap.old swap.new }
+        ensures ready { IfOk result (λ put. IsReady D.tells (D.content journal.new.disk) base swap.new wanted.now.agent wanted.now.row wanted.now.pages put.writes put.moves (vec_capacity put.extents)) }
         ensures same { IfOk result (λ put. (given : List ℕ) → (page_writes put.writes given ≡ page_writes writes given) × (page_moves put.writes given ≡ page_moves writes given)) }
         ensures bytes { IfOk result (λ put. (given : List ℕ) → HasBytes writes given → HasBytes put.writes given) }
         ensures empty { IfOk result (λ put. put.extents.items ≡ []) }
-        ensures count { IfOk result (λ put. put.pages ≡ pages) }
+        ensures count { IfOk result (λ put. put.pages ≡ wanted.now.pages) }
         ensures reads { Reads D.Disk journal.old journal.new }
         ensures cause { IsErrOf result DataRefusal.DiskFault → Rose (D.faults journal.old.disk) (D.faults journal.new.disk) }
     {
-        let put = with_room(alloc, writes, pages)?;
-        swap.prepare(alloc, journal, base, agent, row, pages, &put.writes)?;
+        let put = with_room(alloc, writes, wanted.pages)?;
+        swap.prepare(
+            alloc,
+            journal,
+            base,
+            wanted.agent,
+            wanted.row,
+            wanted.pages,
+            &put.writes,
+        )?;
         Ok(put)
     }
 

@@ -20,7 +20,7 @@ loop-done-preserved g c =
       read = λ told bytes within held.
           let begun : IsBegun bytes (place / 4096) c.read.new.into =
           subst (λ (x : List ℕ). IsBegun bytes (place / 4096) x) (sym (c.in_ok-read.ensures.read told))
-          (subst (λ (x : List ℕ). IsBegun bytes (place / 4096) (page_of x c.args.base (page_at c.args.agent c.args.row (place / 4096) c.args.swap.now))) (sym (was.reads.told told).same) (held (place / 4096) (omega (arith, c.loop-done-test.true, was.size, within)))) in
+          (subst (λ (x : List ℕ). IsBegun bytes (place / 4096) (page_of x c.args.stored.now.base (page_at c.args.stored.now.agent c.args.stored.now.row (place / 4096) c.args.stored.now.swap.now))) (sym (was.reads.told told).same) (held (place / 4096) (omega (arith, c.loop-done-test.true, was.size, within)))) in
           part_read bytes c.read.new.into c.loop-done.into c.copy_part-done.new.into c.args.at c.loop-done.done c.copy_part-done.result place (place % 4096) (place / 4096) refl refl refl part.inside
           (omega (arith, part.within, was.size, within)) begun part.copied part.before (was.read told bytes within held);
     }

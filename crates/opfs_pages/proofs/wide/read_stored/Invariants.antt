@@ -12,7 +12,7 @@ invariant-loop-done g l = record {
   size : length l.into ≡ length l.fn.into;
   buffer : length l.buffer ≡ 4096;
   reads : Reads g.D.Disk l.fn.journal l.journal;
-  read : g.D.Disk.tells → (bytes : List ℕ) → l.at + length l.fn.into ≤ length bytes → ((i : ℕ) → 4096 * i < length bytes → IsBegun bytes i (page_of (g.D.Disk.content l.fn.journal.disk) l.base (page_at l.agent l.row i l.swap))) → IsReadTo bytes l.at l.done l.into;
+  read : g.D.Disk.tells → (bytes : List ℕ) → l.at + length l.fn.into ≤ length bytes → ((i : ℕ) → 4096 * i < length bytes → IsBegun bytes i (page_of (g.D.Disk.content l.fn.journal.disk) l.stored.base (page_at l.stored.agent l.stored.row i l.stored.swap.now))) → IsReadTo bytes l.at l.done l.into;
 }
 
 abbrev pub decreases-loop-done : goal.decreases-loop-done
