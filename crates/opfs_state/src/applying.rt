@@ -23,6 +23,7 @@ use crate::state::{Ready, State};
 use opfs_base::{Extent, Extents, Key};
 use opfs_hist::{Op, PendingSum};
 use opfs_machine::Sizes;
+use opfs_state_rows::changes::Caller;
 use opfs_state_rows::changes::agents::refuse;
 use std::alloc::{AllocError, Global};
 
@@ -52,11 +53,11 @@ impl State {
         ensures capacity { vec_capacity freed.old ≤ vec_capacity freed.new }
     {
         let ready = self.ready.take().unwrap_or(Ready::none());
+        let caller = Caller { agent, sizes };
         perform_any(
             self.alloc,
             &mut self.store,
-            sizes,
-            agent,
+            caller,
             op,
             ready,
             extents,

@@ -14,6 +14,7 @@ use opfs_base::{Extent, Extents};
 use opfs_hist::Op;
 use opfs_machine::{Place, Sizes};
 use opfs_state_rows::Standing;
+use opfs_state_rows::changes::Caller;
 use opfs_state_rows::changes::agents::{await_tag, end, post, set_moment, tell, values, wait};
 use opfs_state_rows::changes::handles::{
     discard, sync_close, sync_flush, sync_truncate, sync_write,
@@ -98,21 +99,20 @@ pub(crate) fn perform(
 pub(crate) fn perform_freeing(
     alloc: Global,
     store: &mut Standing,
-    sizes: Sizes,
-    agent: u32,
+    caller: Caller,
     op: &Op,
     target: Option<Place>,
     extents: Option<Extents>,
     freed: &mut Vec<Extent>,
 )
-    requires may { MayDo store.old.machine sizes agent op.now }
+    requires may { MayDo store.old.machine caller.sizes caller.agent op.now }
     requires place { store.old.prepared.place ≡ None }
-    requires target { target ≡ target_of store.old.machine agent op.now }
+    requires target { target ≡ target_of store.old.machine caller.agent op.now }
     requires frees { lets_go op.now ≡ true }
-    requires fits { length (freed.old.items ++ freed_by store.old agent op.now extents) ≤ vec_capacity freed.old }
-    ensures done { IsDone store.old store.new sizes agent op.now extents }
+    requires fits { length (freed.old.items ++ freed_by store.old caller.agent op.now extents) ≤ vec_capacity freed.old }
+    ensures done { IsDone store.old store.new caller.sizes caller.agent op.now extents }
     ensures place { store.new.prepared.place ≡ None }
-    ensures freed { freed.new.items ≡ freed.old.items ++ freed_by store.old agent op.now extents }
+    ensures freed { freed.new.items ≡ freed.old.items ++ freed_by store.old caller.agent op.now extents }
     ensures capacity { vec_capacity freed.old ≤ vec_capacity freed.new }
 {
     match op {
@@ -120,12 +120,26 @@ pub(crate) fn perform_freeing(
             dir,
             name,
             recursive,
-        } => remove_entry(store, sizes, agent, dir, name, *recursive, target, freed),
-        Op::Close { row } => close(alloc, store, sizes, agent, *row, extents, freed),
-        Op::SyncFlush { row } => sync_flush(
-            alloc, store, sizes, agent, *row, target, extents, freed,
+        } => remove_entry(store, caller, dir, name, *recursive, target, freed),
+        Op::Close { row } => close(
+            alloc,
+            store,
+            caller.sizes,
+            caller.agent,
+            *row,
+            extents,
+            freed,
         ),
-        Op::SyncClose { row } => sync_close(alloc, store, sizes, agent, *row, extents, freed),
+        Op::SyncFlush { row } => sync_flush(alloc, store, caller, *row, target, extents, freed),
+        Op::SyncClose { row } => sync_close(
+            alloc,
+            store,
+            caller.sizes,
+            caller.agent,
+            *row,
+            extents,
+            freed,
+        ),
         _ => unreachable!(),
     }
 }
@@ -134,25 +148,24 @@ pub(crate) fn perform_freeing(
 pub(crate) fn perform_any(
     alloc: Global,
     store: &mut Standing,
-    sizes: Sizes,
-    agent: u32,
+    caller: Caller,
     op: &Op,
     ready: Ready,
     extents: Option<Extents>,
     freed: &mut Vec<Extent>,
 )
-    requires may { MayDo store.old.machine sizes agent op.now }
-    requires ready { IsReady store.old ready.target ready.growth agent op.now }
-    requires fits { length (freed.old.items ++ freed_by store.old agent op.now extents) ≤ vec_capacity freed.old }
-    ensures done { IsDone store.old store.new sizes agent op.now extents }
+    requires may { MayDo store.old.machine caller.sizes caller.agent op.now }
+    requires ready { IsReady store.old ready.target ready.growth caller.agent op.now }
+    requires fits { length (freed.old.items ++ freed_by store.old caller.agent op.now extents) ≤ vec_capacity freed.old }
+    ensures done { IsDone store.old store.new caller.sizes caller.agent op.now extents }
     ensures place { store.new.prepared.place ≡ None }
-    ensures freed { freed.new.items ≡ freed.old.items ++ freed_by store.old agent op.now extents }
+    ensures freed { freed.new.items ≡ freed.old.items ++ freed_by store.old caller.agent op.now extents }
     ensures capacity { vec_capacity freed.old ≤ vec_capacity freed.new }
 {
     let Ready { target, growth } = ready;
     if lets_go(op) {
-        perform_freeing(alloc, store, sizes, agent, op, target, extents, freed);
+        perform_freeing(alloc, store, caller, op, target, extents, freed);
         return;
     }
-    perform(store, sizes, agent, op, target, growth);
+    perform(store, caller.sizes, caller.agent, op, target, growth);
 }

@@ -1,5 +1,5 @@
 -- A write to the row that a look-up found.
-use Rattle.std.proofs.Common.{◌≡◌, true, false, cond, List, [], ◌∷◌, Option, Some, None, refl, sym, ap, ◌∙◌}
+use Rattle.std.proofs.Common.{◌≡◌, Bool, true, false, cond, List, [], ◌∷◌, Option, Some, None, refl, sym, ap, ◌∙◌}
 use Rattle.std.specs.Ordering.{is_eq}
 use Rattle.std.specs.FinMap.Entries.{find}
 use Rattle.std.specs.Map.{lookup, set_value}
@@ -42,3 +42,16 @@ changed_here p change inner rows new r v same is written value =
 -- Where none was found, nothing changes.
 pub missing_here : (p : List Text) (change : FileRow → FileRow) (inner rows new : UnitRows) → inner ≡ rows → None ≡ lookup (is_at (path_cmp p)) inner → new ≡ inner → new ≡ change_in p change rows
 missing_here p change inner rows new same is kept = kept ∙ (change_missing p change inner is ∙ ap (change_in p change) same)
+
+set_found : {K X : Type 0} (t : K → Bool) (es : List (K × X)) (r v : X) → Some r ≡ lookup t es → lookup t (set_value t es v) ≡ Some v
+set_found t [] r v h = cc
+set_found t (e ∷ es) r v h =
+    elim (t e.0) as (λ b. t e.0 ≡ b → Some r ≡ cond b (Some e.1) (lookup t es) → lookup t (cond b ((e.0, v) ∷ es) (e ∷ set_value t es v)) ≡ Some v) [
+      | true ↦ λ at is. ap (λ b. cond b (Some v) (lookup t es)) at
+      | false ↦ λ at is. ap (λ b. cond b (Some e.1) (lookup t (set_value t es v))) at ∙ set_found t es r v is
+    ] refl h
+
+-- What is written to it is found there.
+pub written_here : (p : List Text) (inner new : UnitRows) (r v : Row) → Some r ≡ lookup (is_at (path_cmp p)) inner → new ≡ set_value (is_at (path_cmp p)) inner v → find path_cmp p new ≡ Some v
+written_here p inner new r v is written =
+    sym (find_lookup path_cmp p new) ∙ (ap (lookup (is_at (path_cmp p))) written ∙ set_found (is_at (path_cmp p)) inner r v is)

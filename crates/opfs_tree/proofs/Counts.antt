@@ -95,10 +95,10 @@ module _ (taken : ℕ) (inner : UnitRows) (is : taken ≡ taken_in inner) (p : L
       ap (λ n. n + m) is ∙ (ap (λ n. taken_in inner + n) holding ∙ (ap (λ es. taken_in es + holds r) same ∙ (sym (count_put p r rows free) ∙ ap taken_in (sym written))))
 
   module _ (before : ℕ) (found : before ≡ holds_at p inner) where
-    pub counted_change : (change : FileRow → FileRow) (new : UnitRows) → new ≡ change_in p change inner → taken + holds_at p new ≡ taken_in new + before
-    counted_change change new written =
-        ap (λ es. taken + holds_at p es) written ∙ (ap (λ n. n + holds_at p (change_in p change inner)) is ∙ (sym (count_change p change inner)
-        ∙ (ap (λ es. taken_in es + holds_at p inner) (sym written) ∙ ap (λ n. taken_in new + n) (sym found))))
+    pub counted_change : (change : FileRow → FileRow) (new : UnitRows) (after : ℕ) → after ≡ holds_at p new → new ≡ change_in p change inner → taken + after ≡ taken_in new + before
+    counted_change change new after now written =
+        ap (λ n. taken + n) now ∙ (ap (λ es. taken + holds_at p es) written ∙ (ap (λ n. n + holds_at p (change_in p change inner)) is ∙ (sym (count_change p change inner)
+        ∙ (ap (λ es. taken_in es + holds_at p inner) (sym written) ∙ ap (λ n. taken_in new + n) (sym found)))))
 
     pub counted_among : before ≤ taken
     counted_among = omega (arith, among p inner, is, found)

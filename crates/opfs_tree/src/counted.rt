@@ -6,10 +6,10 @@ ghost use Rattle.std.specs.FinMap.Entries.{find, put};
 ghost use Rattle.opfs_locks.specs.Taking.{taken};
 ghost use Rattle.opfs_locks.specs.Holding.{IsTakenAs};
 ghost use Rattle.opfs_tree.specs.Rows.{file_of, extents_of, stored, written, locked, unlocked, taken_lock};
-ghost use Rattle.opfs_tree.specs.Units.{path_cmp, below, beside, values, change_in, holds_at, taken_in};
+ghost use Rattle.opfs_tree.specs.Units.{path_cmp, below, beside, values, change_in, taken_in};
 
 use crate::row::Row;
-use crate::unit::Unit;
+use crate::unit::{Recount, Taking, Unit};
 use opfs_base::{Extent, Extents, Path};
 use opfs_locks::{Held, Want};
 use std::alloc::{AllocError, Global};
@@ -125,9 +125,8 @@ impl CountedUnit {
         ensures rows { self.new ≡ change_in path.now (locked want) self.old }
         ensures given { IfSome (file_of (find path_cmp path.now self.old)) (λ f. result ≡ option_map (λ _. want) (taken want f.lock)) }
     {
-        let before = self.unit.holds_at(path);
-        let held = self.unit.take(path, want);
-        self.taken = recounted(&self.unit, path, self.taken, before);
+        let Taking { held, count } = self.unit.take(path, want);
+        self.taken = recounted(&self.unit, self.taken, count);
         held
     }
 
@@ -137,19 +136,17 @@ impl CountedUnit {
         requires taken { IfSome (file_of (find path_cmp path.now self.old)) (λ f. IsTakenAs held f.lock) }
         ensures rows { self.new ≡ change_in path.now unlocked self.old }
     {
-        let before = self.unit.holds_at(path);
-        self.unit.release(path, held);
-        self.taken = recounted(&self.unit, path, self.taken, before);
+        let count = self.unit.release(path, held);
+        self.taken = recounted(&self.unit, self.taken, count);
     }
 }
 
-// The number of files with a taken lock, after the file at a path was changed. So many of them were there before.
-fn recounted(unit: &Unit, path: &Path, taken: u64, before: u64) -> u64
-    requires counted { taken + holds_at path.now unit.now ≡ taken_in unit.now + before }
-    requires among { before ≤ taken }
+// The number of files with a taken lock, after the file at a path was changed. So many there were before.
+fn recounted(unit: &Unit, taken: u64, count: Recount) -> u64
+    requires counted { taken + count.after ≡ taken_in unit.now + count.before }
+    requires among { count.before ≤ taken }
     ensures { result ≡ taken_in unit.now }
 {
     let _size = unit.len();
-    let after = unit.holds_at(path);
-    taken - before + after
+    taken - count.before + count.after
 }

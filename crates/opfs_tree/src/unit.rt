@@ -32,6 +32,19 @@ pub(crate) struct Unit {
     paths: BTreeSet<Path>,
 }
 
+/// How many of the files at a path, one or none, had a taken lock before a change there, and how many have one after it.
+#[derive(Clone, Copy)]
+pub(crate) struct Recount {
+    pub before: u64,
+    pub after: u64,
+}
+
+/// The lock that was asked for, unless that failed, and how many files at its path had a taken lock and have one.
+pub(crate) struct Taking {
+    pub held: Option<Held>,
+    pub count: Recount,
+}
+
 impl Model for Unit {
     ghost use Rattle.std.specs.Prelude.{List, ℕ};
     ghost use Rattle.opfs_tree.specs.declared.row.Row.{Row};
@@ -70,16 +83,6 @@ impl Unit {
         ensures taken { taken_in self.now ≤ result }
     {
         self.rows.len()
-    }
-
-    /// How many of the files at a path have a taken lock: one or none.
-    pub(crate) fn holds_at(&self, path: &Path) -> u64
-        ensures { result ≡ holds_at path.now self.now }
-    {
-        match self.row(path) {
-            Some(row) => row.holds(),
-            None => 0,
-        }
     }
 
     /// The row at a path.
@@ -308,24 +311,46 @@ impl Unit {
     }
 
     /// Takes a file's lock, or leaves it as it is where that fails.
-    pub(crate) fn take(&mut self, path: &Path, want: Want) -> Option<Held>
+    pub(crate) fn take(&mut self, path: &Path, want: Want) -> Taking
         requires { IfSome (file_of (find path_cmp path.now self.old)) (λ f. f.lock.1 < 4294967295) }
         ensures rows { self.new ≡ change_in path.now (locked want) self.old }
-        ensures given { IfSome (file_of (find path_cmp path.now self.old)) (λ f. result ≡ option_map (λ _. want) (taken want f.lock)) }
+        ensures given { IfSome (file_of (find path_cmp path.now self.old)) (λ f. result.held ≡ option_map (λ _. want) (taken want f.lock)) }
+        ensures before { result.count.before ≡ holds_at path.now self.old }
+        ensures after { result.count.after ≡ holds_at path.now self.new }
     {
-        self.rows.get_mut(path)?.take(want)
+        let Some(row) = self.rows.get_mut(path) else {
+            return Taking {
+                held: None,
+                count: Recount {
+                    before: 0,
+                    after: 0,
+                },
+            };
+        };
+        let before = row.holds();
+        let held = row.take(want);
+        let after = row.holds();
+        Taking {
+            held,
+            count: Recount { before, after },
+        }
     }
 
     /// Gives a file's lock back.
-    pub(crate) fn release(&mut self, path: &Path, held: Held)
+    pub(crate) fn release(&mut self, path: &Path, held: Held) -> Recount
         requires there { IsSome (file_of (find path_cmp path.now self.old)) }
         requires taken { IfSome (file_of (find path_cmp path.now self.old)) (λ f. IsTakenAs held f.lock) }
         ensures rows { self.new ≡ change_in path.now unlocked self.old }
+        ensures before { result.before ≡ holds_at path.now self.old }
+        ensures after { result.after ≡ holds_at path.now self.new }
     {
-        match self.rows.get_mut(path) {
-            None => unreachable!(),
-            Some(row) => row.release(held),
-        }
+        let Some(row) = self.rows.get_mut(path) else {
+            unreachable!();
+        };
+        let before = row.holds();
+        row.release(held);
+        let after = row.holds();
+        Recount { before, after }
     }
 }
 

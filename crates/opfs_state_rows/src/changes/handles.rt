@@ -20,6 +20,7 @@ ghost use Rattle.opfs_machine.specs.declared.own.HandleOutline.{HandleOutline};
 ghost use Rattle.opfs_state_rows.specs.Standing.Contents.{showing, undone_row};
 ghost use Rattle.opfs_tree.specs.Rows.{file_at, change_at, written};
 
+use crate::changes::caller::Caller;
 use crate::changes::storing::{area_bytes, flush_as};
 use crate::standing::Standing;
 use opfs_base::{Data, Extent, Extents, blocks};
@@ -113,25 +114,24 @@ fn overwrite(store: &mut Standing, agent: u32, row: u32, place: &Place, present:
 pub fn sync_flush(
     alloc: Global,
     store: &mut Standing,
-    sizes: Sizes,
-    agent: u32,
+    caller: Caller,
     row: u32,
     target: Option<Place>,
     extents: Option<Extents>,
     freed: &mut Vec<Extent>,
 )
-    requires may { MayDo store.old.machine sizes agent (op.SyncFlush row) }
-    requires target { target ≡ target_of store.old.machine agent (op.SyncFlush row) }
-    requires fits { length (freed.old.items ++ freed_by store.old agent (op.SyncFlush row) extents) ≤ vec_capacity freed.old }
-    ensures done { IsDone store.old store.new sizes agent (op.SyncFlush row) extents }
+    requires may { MayDo store.old.machine caller.sizes caller.agent (op.SyncFlush row) }
+    requires target { target ≡ target_of store.old.machine caller.agent (op.SyncFlush row) }
+    requires fits { length (freed.old.items ++ freed_by store.old caller.agent (op.SyncFlush row) extents) ≤ vec_capacity freed.old }
+    ensures done { IsDone store.old store.new caller.sizes caller.agent (op.SyncFlush row) extents }
     ensures prepared { store.new.prepared ≡ store.old.prepared }
-    ensures freed { freed.new.items ≡ freed.old.items ++ freed_by store.old agent (op.SyncFlush row) extents }
+    ensures freed { freed.new.items ≡ freed.old.items ++ freed_by store.old caller.agent (op.SyncFlush row) extents }
     ensures capacity { vec_capacity freed.old ≤ vec_capacity freed.new }
 {
     let Some(place) = target else {
         unreachable!();
     };
-    let at = agent as usize - 1;
+    let at = caller.agent as usize - 1;
     let n = row as usize - 1;
     store.know_rows_match_tree();
     let Some(handle) = store.register().handle(at, n) else {

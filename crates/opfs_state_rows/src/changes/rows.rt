@@ -9,6 +9,7 @@ ghost use Rattle.opfs_state_rows.specs.Changes.Changed.{IsDone, freed_by};
 ghost use Rattle.opfs_hist.specs.declared.op.Op.TheVariants as op;
 ghost use Rattle.opfs_state_rows.specs.Standing.Seen.{is_known};
 
+use crate::changes::caller::Caller;
 use crate::changes::storing::area_bytes;
 use crate::standing::Standing;
 use opfs_base::{Extent, Locator, Text};
@@ -48,21 +49,20 @@ pub fn make_row(
 /// removeEntry, of what is at a place.
 pub fn remove_entry(
     store: &mut Standing,
-    sizes: Sizes,
-    agent: u32,
+    caller: Caller,
     dir: &Locator,
     name: &Text,
     recursive: bool,
     target: Option<Place>,
     freed: &mut Vec<Extent>,
 )
-    requires may { MayDo store.old.machine sizes agent (op.RemoveEntry dir.now name.now recursive) }
+    requires may { MayDo store.old.machine caller.sizes caller.agent (op.RemoveEntry dir.now name.now recursive) }
     requires place { store.old.prepared.place ≡ None }
-    requires target { target ≡ target_of store.old.machine agent (op.RemoveEntry dir.now name.now recursive) }
-    requires fits { (extents : Option (List Extent)) → length (freed.old.items ++ freed_by store.old agent (op.RemoveEntry dir.now name.now recursive) extents) ≤ vec_capacity freed.old }
-    ensures done { (extents : Option (List Extent)) → IsDone store.old store.new sizes agent (op.RemoveEntry dir.now name.now recursive) extents }
+    requires target { target ≡ target_of store.old.machine caller.agent (op.RemoveEntry dir.now name.now recursive) }
+    requires fits { (extents : Option (List Extent)) → length (freed.old.items ++ freed_by store.old caller.agent (op.RemoveEntry dir.now name.now recursive) extents) ≤ vec_capacity freed.old }
+    ensures done { (extents : Option (List Extent)) → IsDone store.old store.new caller.sizes caller.agent (op.RemoveEntry dir.now name.now recursive) extents }
     ensures prepared { store.new.prepared ≡ store.old.prepared }
-    ensures freed { (extents : Option (List Extent)) → freed.new.items ≡ freed.old.items ++ freed_by store.old agent (op.RemoveEntry dir.now name.now recursive) extents }
+    ensures freed { (extents : Option (List Extent)) → freed.new.items ≡ freed.old.items ++ freed_by store.old caller.agent (op.RemoveEntry dir.now name.now recursive) extents }
     ensures capacity { vec_capacity freed.old ≤ vec_capacity freed.new }
 {
     let Some(place) = target else {
@@ -70,7 +70,7 @@ pub fn remove_entry(
     };
     store.know_rows_match_tree();
     store.remove(&place.0, &place.1, freed);
-    store.count(agent as usize - 1);
+    store.count(caller.agent as usize - 1);
 }
 
 /// persist.

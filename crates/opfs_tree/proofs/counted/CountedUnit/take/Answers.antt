@@ -2,7 +2,7 @@ use Rattle.opfs_tree.proofs.Counts.{counted_change, counted_among}
 use Rattle.opfs_tree.proofs.counted.CountedUnit.take.Goals as goal
 
 pub recounted-self-inside-requires-clause-counted : goal.recounted-self-inside-requires-clause-counted
-recounted-self-inside-requires-clause-counted c = counted_change _ _ c.self.invariant c.args.path.now _ c.holds_at-before.ensures _ _ c.take-held.ensures.rows
+recounted-self-inside-requires-clause-counted c = counted_change _ _ c.self.invariant c.args.path.now _ c.take-held.ensures.before _ _ _ c.take-held.ensures.after c.take-held.ensures.rows
 
 pub recounted-self-inside-requires-clause-among : goal.recounted-self-inside-requires-clause-among
-recounted-self-inside-requires-clause-among c = counted_among _ _ c.self.invariant c.args.path.now _ c.holds_at-before.ensures
+recounted-self-inside-requires-clause-among c = counted_among _ _ c.self.invariant c.args.path.now _ c.take-held.ensures.before
