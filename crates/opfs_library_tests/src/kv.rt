@@ -1,5 +1,7 @@
 //! Tests of key-value files, over desks on disks in memory.
 #[cfg(test)]
+mod batches;
+#[cfg(test)]
 mod cases;
 #[cfg(test)]
 mod example;

@@ -11,8 +11,10 @@ mod moving;
 mod opening;
 mod pieces;
 mod piping;
+mod ranges;
 mod rounds;
 mod writing;
 
 pub use opening::open_target;
 pub use piping::pipe;
+pub use ranges::Range;

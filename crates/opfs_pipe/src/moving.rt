@@ -6,10 +6,11 @@ ghost use Rattle.opfs_splice.specs.Splicing.{window};
 ghost use Rattle.opfs_pipe.specs.Rounds.{HasMoved};
 ghost use Rattle.opfs_pipe.specs.Streams.{stream_bytes, stream_offset};
 
-use crate::pieces::{Pieces, RING};
+use crate::pieces::{Pieces, RING, Ring};
+use crate::ranges::{Range, Span};
 use crate::rounds::run_rounds;
+use opfs_agent::Agent;
 use opfs_agent::stream_calls::Writable;
-use opfs_agent::{Agent, Snapshot};
 use opfs_hall::Hall;
 use opfs_store::Store;
 use opfs_turns::Stop;
@@ -29,35 +30,25 @@ fn range_length(size: u64, at: u64, len: u64) -> u64
 fn move_over_ring<S: Store + Send, R: Threads + Wait + Sync>(
     rt: &R,
     court: &Hall<S>,
-    from: &Snapshot,
-    at: u64,
-    end: u64,
+    span: &Span<'_>,
     reader: &mut Agent<S>,
     writer: &mut Agent<S>,
     to: &mut Writable,
 ) -> Result<(), Stop>
     requires few { (reader.old.rows ≤ 60000000) × (reader.old.entries ≤ 59000000) }
-    requires snapshot { HasSnapshot S.tells reader.old from.now }
-    requires end { (end ≤ length from.now.bytes) × (end ≤ at + 268435456) × (at ≤ end) }
+    requires snapshot { HasSnapshot S.tells reader.old span.now.from.now }
+    requires end { (span.now.end ≤ length span.now.from.now.bytes) × (span.now.end ≤ span.now.at + 268435456) × (span.now.at ≤ span.now.end) }
     requires own { writer.old.pass.hall ≡ court.now }
     requires few_writes { (writer.old.rows ≤ 60000000) × (writer.old.entries ≤ 59000000) }
     requires stream { HasStream S.tells writer.old to.old }
     requires at_end { stream_offset writer.old to.old ≡ length (stream_bytes writer.old to.old) }
-    ensures { (count : ℕ) → end ≡ at + count → HasMoved S.tells reader.old reader.new writer.old writer.new from.now at to.old to.new (window from.now.bytes at count) result }
+    ensures { (count : ℕ) → span.now.end ≡ span.now.at + count → HasMoved S.tells reader.old reader.new writer.old writer.new span.now.from.now span.now.at to.old to.new (window span.now.from.now.bytes span.now.at count) result }
 {
     match RingBuffer::with_protocol::<Global, Pieces>(reader.alloc(), RING) {
-        Ok((mut source, mut target)) => run_rounds(
-            rt,
-            court,
-            from,
-            at,
-            end,
-            reader,
-            writer,
-            to,
-            &mut source,
-            &mut target,
-        ),
+        Ok((source, target)) => {
+            let mut ring = Ring { source, target };
+            run_rounds(rt, court, span, reader, writer, to, &mut ring)
+        }
         Err(_) => Err(Stop::NoMemory),
     }
 }
@@ -66,25 +57,28 @@ fn move_over_ring<S: Store + Send, R: Threads + Wait + Sync>(
 pub(crate) fn move_range<S: Store + Send, R: Threads + Wait + Sync>(
     rt: &R,
     court: &Hall<S>,
-    from: &Snapshot,
-    at: u64,
-    len: u64,
+    range: &Range<'_>,
     reader: &mut Agent<S>,
     writer: &mut Agent<S>,
     to: &mut Writable,
 ) -> Result<(), Stop>
     requires few { (reader.old.rows ≤ 60000000) × (reader.old.entries ≤ 59000000) }
-    requires snapshot { HasSnapshot S.tells reader.old from.now }
-    requires range { length (window from.now.bytes at len) ≤ 268435456 }
+    requires snapshot { HasSnapshot S.tells reader.old range.now.from.now }
+    requires range { length (window range.now.from.now.bytes range.now.at range.now.len) ≤ 268435456 }
     requires own { writer.old.pass.hall ≡ court.now }
     requires few_writes { (writer.old.rows ≤ 60000000) × (writer.old.entries ≤ 59000000) }
     requires stream { HasStream S.tells writer.old to.old }
     requires at_end { stream_offset writer.old to.old ≡ length (stream_bytes writer.old to.old) }
-    ensures { HasMoved S.tells reader.old reader.new writer.old writer.new from.now at to.old to.new (window from.now.bytes at len) result }
+    ensures { HasMoved S.tells reader.old reader.new writer.old writer.new range.now.from.now range.now.at to.old to.new (window range.now.from.now.bytes range.now.at range.now.len) result }
 {
-    let length = range_length(from.size(), at, len);
+    let length = range_length(range.from.size(), range.at, range.len);
     if length == 0 {
         return Ok(());
     }
-    move_over_ring(rt, court, from, at, at + length, reader, writer, to)
+    let span = Span {
+        from: range.from,
+        at: range.at,
+        end: range.at + length,
+    };
+    move_over_ring(rt, court, &span, reader, writer, to)
 }

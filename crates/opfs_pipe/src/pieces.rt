@@ -25,3 +25,10 @@ pub(crate) type Source = rtrb::Producer<Bytes, Global, Pieces>;
 
 /// The end of the ring from which the writer's side pops.
 pub(crate) type Target = rtrb::Consumer<Bytes, Global, Pieces>;
+
+/// Both ends of a ring.
+#[derive(Drop)]
+pub(crate) struct Ring {
+    pub source: Source,
+    pub target: Target,
+}

@@ -10,8 +10,9 @@ ghost use Rattle.opfs_pipe.specs.Streams.{StoresLast, stream_bytes, stream_offse
 
 use crate::ending::close;
 use crate::moving::move_range;
+use crate::ranges::Range;
+use opfs_agent::Agent;
 use opfs_agent::stream_calls::{ClosedStream, Writable};
-use opfs_agent::{Agent, Snapshot};
 use opfs_hall::Hall;
 use opfs_store::Store;
 use opfs_turns::Stop;
@@ -26,29 +27,27 @@ pub fn pipe<S: Store + Send, R: Threads + Wait + Sync>(
     court: &Hall<S>,
     reader: &mut Agent<S>,
     writer: &mut Agent<S>,
-    from: &Snapshot,
-    at: u64,
-    len: u64,
+    range: &Range<'_>,
     mut to: Writable,
 ) -> Result<ClosedStream, (Writable, Stop)>
     requires few { (reader.old.rows ≤ 60000000) × (reader.old.entries ≤ 59000000) }
     requires few_writes { (writer.old.rows ≤ 60000000) × (writer.old.entries ≤ 59000000) }
     requires own { writer.old.pass.hall ≡ court.now }
-    requires snapshot { HasSnapshot S.tells reader.old from.now }
-    requires range { length (window from.now.bytes at len) ≤ 268435456 }
+    requires snapshot { HasSnapshot S.tells reader.old range.now.from.now }
+    requires range { length (window range.now.from.now.bytes range.now.at range.now.len) ≤ 268435456 }
     requires stream { HasStream S.tells writer.old to }
     requires empty { (stream_bytes writer.old to ≡ []) × (stream_offset writer.old to ≡ 0) }
-    ensures content { IfOk result (λ closed. StoresLast writer.old writer.new to (window from.now.bytes at len)) }
+    ensures content { IfOk result (λ closed. StoresLast writer.old writer.new to (window range.now.from.now.bytes range.now.at range.now.len)) }
     ensures closed { IfOk result (λ closed. (closed.row ≡ to.row) × HasClosedStream writer.new closed.row) }
-    ensures calls { IfOk result (λ closed. HasPiped reader.old reader.new writer.old writer.new from.now at len to.row) }
-    ensures back { IfErr result (λ back. HasGivenBack S.tells reader.old reader.new writer.old writer.new from.now at len to back.0 back.1) }
+    ensures calls { IfOk result (λ closed. HasPiped reader.old reader.new writer.old writer.new range.now.from.now range.now.at range.now.len to.row) }
+    ensures back { IfErr result (λ back. HasGivenBack S.tells reader.old reader.new writer.old writer.new range.now.from.now range.now.at range.now.len to back.0 back.1) }
     ensures reader { GoesOn reader.old reader.new 65536 }
-    ensures snapshot { HasSnapshot S.tells reader.new from.now }
+    ensures snapshot { HasSnapshot S.tells reader.new range.now.from.now }
     ensures reader_rows { LeavesRest S.tells reader.old reader.new 0 }
     ensures writer { GoesOn writer.old writer.new 65537 }
     ensures writer_rows { LeavesRest S.tells writer.old writer.new to.row }
 {
-    match move_range(rt, court, from, at, len, reader, writer, &mut to) {
+    match move_range(rt, court, range, reader, writer, &mut to) {
         Ok(()) => close(rt, court, writer, to),
         Err(stop) => Err((to, stop)),
     }

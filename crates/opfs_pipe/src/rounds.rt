@@ -11,9 +11,10 @@ ghost use Rattle.opfs_pipe.specs.Streams.{stream_bytes, stream_offset};
 
 use crate::draining::{drain, drain_known};
 use crate::filling::fill;
-use crate::pieces::{Source, Target};
+use crate::pieces::Ring;
+use crate::ranges::{Rest, Span};
+use opfs_agent::Agent;
 use opfs_agent::stream_calls::Writable;
-use opfs_agent::{Agent, Snapshot};
 use opfs_hall::Hall;
 use opfs_store::Store;
 use opfs_turns::Stop;
@@ -24,31 +25,35 @@ use std::thread::{Threads, join_mut};
 fn work<S: Store + Send, R: Threads + Wait + Sync>(
     rt: &R,
     court: &Hall<S>,
-    from: &Snapshot,
-    at: u64,
-    next: u64,
-    end: u64,
+    rest: &Rest<'_>,
     reader: &mut Agent<S>,
     writer: &mut Agent<S>,
     to: &mut Writable,
-    source: &mut Source,
-    target: &mut Target,
+    ring: &mut Ring,
 ) -> (Result<(), Stop>, Result<u64, Stop>)
-    requires few { (reader.old.rows ≤ 60000000) × (reader.old.entries ≤ 59000000 + length (sent source.old)) }
-    requires snapshot { HasSnapshot S.tells reader.old from.now }
-    requires end { (end ≤ length from.now.bytes) × (end ≤ at + 268435456) }
-    requires more { next < end }
-    requires free { 0 < known_free source.old }
-    requires cut { IsCut from.now.bytes at next end (sent source.old) }
+    requires few { (reader.old.rows ≤ 60000000) × (reader.old.entries ≤ 59000000 + length (sent ring.old.source)) }
+    requires snapshot { HasSnapshot S.tells reader.old rest.now.from.now }
+    requires end { (rest.now.end ≤ length rest.now.from.now.bytes) × (rest.now.end ≤ rest.now.at + 268435456) }
+    requires more { rest.now.next < rest.now.end }
+    requires free { 0 < known_free ring.old.source }
+    requires cut { IsCut rest.now.from.now.bytes rest.now.at rest.now.next rest.now.end (sent ring.old.source) }
     requires own { writer.old.pass.hall ≡ court.now }
     requires few_writes { (writer.old.rows ≤ 60000000) × (writer.old.entries ≤ 59500000) }
     requires stream { HasStream S.tells writer.old to.old }
     requires at_end { stream_offset writer.old to.old ≡ length (stream_bytes writer.old to.old) }
-    ensures source { SameProducer source.old source.new }
-    ensures target { SameConsumer target.old target.new }
-    ensures filled { HasFilled S.tells reader.old reader.new from.now at next end (sent source.old) (sent source.new) result.1 }
-    ensures drained { HasDrained S.tells writer.old writer.new to.old to.new (received target.old) (received target.new) result.0 }
+    ensures source { SameProducer ring.old.source ring.new.source }
+    ensures target { SameConsumer ring.old.target ring.new.target }
+    ensures filled { HasFilled S.tells reader.old reader.new rest.now.from.now rest.now.at rest.now.next rest.now.end (sent ring.old.source) (sent ring.new.source) result.1 }
+    ensures drained { HasDrained S.tells writer.old writer.new to.old to.new (received ring.old.target) (received ring.new.target) result.0 }
 {
+    let Rest {
+        from,
+        at,
+        next,
+        end,
+    } = *rest;
+    let source = &mut ring.source;
+    let target = &mut ring.target;
     let mut drains = || -> Result<(), Stop>
         requires own { writer.now.pass.hall ≡ court.now }
         requires few { (writer.now.rows ≤ 60000000) × (writer.now.entries ≤ 59500000) }
@@ -74,48 +79,42 @@ fn work<S: Store + Send, R: Threads + Wait + Sync>(
 fn round<S: Store + Send, R: Threads + Wait + Sync>(
     rt: &R,
     court: &Hall<S>,
-    from: &Snapshot,
-    at: u64,
-    next: u64,
-    end: u64,
+    rest: &Rest<'_>,
     reader: &mut Agent<S>,
     writer: &mut Agent<S>,
     to: &mut Writable,
-    source: &mut Source,
-    target: &mut Target,
+    ring: &mut Ring,
 ) -> Result<u64, Stop>
-    requires few { (reader.old.rows ≤ 60000000) × (reader.old.entries ≤ 59000000 + length (sent source.old)) }
-    requires snapshot { HasSnapshot S.tells reader.old from.now }
-    requires end { (end ≤ length from.now.bytes) × (end ≤ at + 268435456) }
-    requires more { next < end }
-    requires free { 0 < known_free source.old }
-    requires cut { IsCut from.now.bytes at next end (sent source.old) }
+    requires few { (reader.old.rows ≤ 60000000) × (reader.old.entries ≤ 59000000 + length (sent ring.old.source)) }
+    requires snapshot { HasSnapshot S.tells reader.old rest.now.from.now }
+    requires end { (rest.now.end ≤ length rest.now.from.now.bytes) × (rest.now.end ≤ rest.now.at + 268435456) }
+    requires more { rest.now.next < rest.now.end }
+    requires free { 0 < known_free ring.old.source }
+    requires cut { IsCut rest.now.from.now.bytes rest.now.at rest.now.next rest.now.end (sent ring.old.source) }
     requires own { writer.old.pass.hall ≡ court.now }
-    requires few_writes { (writer.old.rows ≤ 60000000) × (writer.old.entries ≤ 59000000 + length (sent source.old)) }
+    requires few_writes { (writer.old.rows ≤ 60000000) × (writer.old.entries ≤ 59000000 + length (sent ring.old.source)) }
     requires stream { HasStream S.tells writer.old to.old }
     requires at_end { stream_offset writer.old to.old ≡ length (stream_bytes writer.old to.old) }
-    requires pair { IsPair source.old target.old }
-    requires none { received target.old ≡ sent source.old }
-    requires ring { producer_capacity source.old ≡ 64 }
-    ensures pair { IsPair source.new target.new }
-    ensures ring { producer_capacity source.new ≡ 64 }
-    ensures none { OnOk result (received target.new ≡ sent source.new) }
-    ensures free { OnOk result (0 < known_free source.new) }
-    ensures round { HasRound S.tells reader.old reader.new writer.old writer.new from.now at next end to.old to.new (sent source.old) (sent source.new) result }
+    requires pair { IsPair ring.old.source ring.old.target }
+    requires none { received ring.old.target ≡ sent ring.old.source }
+    requires ring { producer_capacity ring.old.source ≡ 64 }
+    ensures pair { IsPair ring.new.source ring.new.target }
+    ensures ring { producer_capacity ring.new.source ≡ 64 }
+    ensures none { OnOk result (received ring.new.target ≡ sent ring.new.source) }
+    ensures free { OnOk result (0 < known_free ring.new.source) }
+    ensures round { HasRound S.tells reader.old reader.new writer.old writer.new rest.now.from.now rest.now.at rest.now.next rest.now.end to.old to.new (sent ring.old.source) (sent ring.new.source) result }
 {
-    let (drained, filled) = work(
-        rt, court, from, at, next, end, reader, writer, to, source, target,
-    );
-    target.slots_beside(source);
+    let (drained, filled) = work(rt, court, rest, reader, writer, to, ring);
+    ring.target.slots_beside(&mut ring.source);
     match drained {
         Ok(()) => {}
         Err(stop) => return Err(stop),
     }
-    match drain_known(rt, court, writer, to, target) {
+    match drain_known(rt, court, writer, to, &mut ring.target) {
         Ok(()) => {}
         Err(stop) => return Err(stop),
     }
-    source.slots_beside(target);
+    ring.source.slots_beside(&mut ring.target);
     filled
 }
 
@@ -123,32 +122,33 @@ fn round<S: Store + Send, R: Threads + Wait + Sync>(
 pub(crate) fn run_rounds<S: Store + Send, R: Threads + Wait + Sync>(
     rt: &R,
     court: &Hall<S>,
-    from: &Snapshot,
-    at: u64,
-    end: u64,
+    span: &Span<'_>,
     reader: &mut Agent<S>,
     writer: &mut Agent<S>,
     to: &mut Writable,
-    source: &mut Source,
-    target: &mut Target,
+    ring: &mut Ring,
 ) -> Result<(), Stop>
     requires few { (reader.old.rows ≤ 60000000) × (reader.old.entries ≤ 59000000) }
-    requires snapshot { HasSnapshot S.tells reader.old from.now }
-    requires end { (end ≤ length from.now.bytes) × (end ≤ at + 268435456) × (at ≤ end) }
+    requires snapshot { HasSnapshot S.tells reader.old span.now.from.now }
+    requires end { (span.now.end ≤ length span.now.from.now.bytes) × (span.now.end ≤ span.now.at + 268435456) × (span.now.at ≤ span.now.end) }
     requires own { writer.old.pass.hall ≡ court.now }
     requires few_writes { (writer.old.rows ≤ 60000000) × (writer.old.entries ≤ 59000000) }
     requires stream { HasStream S.tells writer.old to.old }
     requires at_end { stream_offset writer.old to.old ≡ length (stream_bytes writer.old to.old) }
-    requires pair { IsPair source.old target.old }
-    requires empty { (sent source.old ≡ []) × (received target.old ≡ []) }
-    requires ring { (producer_capacity source.old ≡ 64) × (known_free source.old ≡ 64) }
-    ensures { (count : ℕ) → end ≡ at + count → HasMoved S.tells reader.old reader.new writer.old writer.new from.now at to.old to.new (window from.now.bytes at count) result }
+    requires pair { IsPair ring.old.source ring.old.target }
+    requires empty { (sent ring.old.source ≡ []) × (received ring.old.target ≡ []) }
+    requires ring { (producer_capacity ring.old.source ≡ 64) × (known_free ring.old.source ≡ 64) }
+    ensures { (count : ℕ) → span.now.end ≡ span.now.at + count → HasMoved S.tells reader.old reader.new writer.old writer.new span.now.from.now span.now.at to.old to.new (window span.now.from.now.bytes span.now.at count) result }
 {
-    let mut next = at;
-    while next < end {
-        match round(
-            rt, court, from, at, next, end, reader, writer, to, source, target,
-        ) {
+    let mut next = span.at;
+    while next < span.end {
+        let rest = Rest {
+            from: span.from,
+            at: span.at,
+            next,
+            end: span.end,
+        };
+        match round(rt, court, &rest, reader, writer, to, ring) {
             Ok(behind) => next = behind,
             Err(stop) => return Err(stop),
         }

@@ -10,8 +10,8 @@ use std::alloc::AllocError;
 use std::sync::Wait;
 use std::test::Fail;
 
-// The disk after steps on the store's file, and what they are answered.
-fn after<R: AllocGlobal + Wait>(
+/// The disk after steps on the store's file, and what they are answered.
+pub fn after<R: AllocGlobal + Wait>(
     rt: &R,
     disk: RamDisk,
     steps: &[Step],
@@ -27,8 +27,8 @@ fn after<R: AllocGlobal + Wait>(
     }
 }
 
-// Whether the store's file has these bytes, and the disk.
-fn has_bytes<R: AllocGlobal + Wait>(
+/// Whether the store's file has these bytes, and the disk.
+pub fn has_bytes<R: AllocGlobal + Wait>(
     rt: &R,
     disk: RamDisk,
     bytes: &[u8],

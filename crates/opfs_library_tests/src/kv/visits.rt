@@ -7,6 +7,7 @@ ghost use Rattle.opfs_kv.specs.Commands.Runs.{IsOp};
 ghost use Rattle.opfs_library_tests.specs.Kv.Ready.{Holds, HoldsKv, IsBegun, IsReady};
 ghost use Rattle.opfs_kv.specs.Records.Records.{IsKey, IsValue};
 
+use crate::kv::batches::use_batch;
 use crate::kv::example::{Session, begin, desk_over, discard, end, open_file, origin};
 use crate::kv::kvs::{close_kv, give_up, keys_on, open_kv, put_and_get, put_tidily, take_out};
 use opfs_agent::Agent;
@@ -14,7 +15,7 @@ use opfs_agent::handle_calls::SyncHandle;
 use opfs_base::{Bytes, Data};
 use opfs_desk::Desk;
 use opfs_hall::{Hall, Pass};
-use opfs_kv::{Kv, KvOp, KvReplies, KvStop, kv_run};
+use opfs_kv::{Batch, Kv, KvOp, KvReplies, KvStop, kv_run};
 use opfs_outside::Disk;
 use opfs_store::Store;
 use opfs_sync_files::{close, read, write};
@@ -359,5 +360,20 @@ pub fn list_keys<D: Disk, R: AllocGlobal + Wait>(
         mut agent,
     } = enter(rt, disk)?;
     let found = use_keys(rt, &court, &mut agent, key, other, value);
+    Ok(leave(rt, court, owner, agent, found))
+}
+
+/// How a batch ends on the store's file, which compacts at the flush behind it and is given up then.
+pub fn run_batch<D: Disk, R: AllocGlobal + Wait>(
+    rt: &R,
+    disk: D,
+    batch: &Batch,
+) -> Result<Visit<D, Result<(), KvStop>>, D> {
+    let Session {
+        court,
+        owner,
+        mut agent,
+    } = enter(rt, disk)?;
+    let found = use_batch(rt, &court, &mut agent, batch);
     Ok(leave(rt, court, owner, agent, found))
 }

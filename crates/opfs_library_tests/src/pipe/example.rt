@@ -10,7 +10,7 @@ use opfs_agent::stream_calls::Writable;
 use opfs_agent::{Agent, Snapshot};
 use opfs_base::{Bytes, Data, Locator, Text};
 use opfs_hall::Hall;
-use opfs_pipe::{open_target, pipe};
+use opfs_pipe::{Range, open_target, pipe};
 use opfs_store::Store;
 use opfs_turns::Stop;
 use std::alloc::Global;
@@ -302,15 +302,13 @@ pub fn deliver<S: Store + Send, R: Threads + Wait + Sync>(
     court: &Hall<S>,
     reader: &mut Agent<S>,
     writer: &mut Agent<S>,
-    from: &Snapshot,
-    at: u64,
-    len: u64,
+    range: &Range<'_>,
     to: Writable,
 ) -> Result<(), (Writable, Stop)>
     requires reader { IsReady court.now reader.old 0 }
     requires few { HasMade reader.old 40000001 }
-    requires snapshot { HasSnapshot S.tells reader.old from.now }
-    requires range { len ≤ 268435456 }
+    requires snapshot { HasSnapshot S.tells reader.old range.now.from.now }
+    requires range { range.now.len ≤ 268435456 }
     requires writer { IsReady court.now writer.old to.row }
     requires few_writes { HasMade writer.old 40000001 }
     requires stream { HasStream S.tells writer.old to }
@@ -324,7 +322,7 @@ pub fn deliver<S: Store + Send, R: Threads + Wait + Sync>(
 {
     reader.know_kept();
     writer.know_kept();
-    let piped = pipe(rt, court, reader, writer, from, at, len, to);
+    let piped = pipe(rt, court, reader, writer, range, to);
     reader.know_kept();
     writer.know_kept();
     match piped {
@@ -333,32 +331,43 @@ pub fn deliver<S: Store + Send, R: Threads + Wait + Sync>(
     }
 }
 
+/// What is sent: a file's bytes from a place on, so many; and the file that they become.
+#[derive(Clone, Copy)]
+pub struct Parcel<'a> {
+    pub source: &'a Locator,
+    pub at: u64,
+    pub len: u64,
+    pub target: &'a Locator,
+}
+
 /// Sends a range of one agent's file into another agent's file. Where that is refused the target is as it was.
 pub fn send<S: Store + Send, R: Threads + Wait + Sync>(
     rt: &R,
     court: &Hall<S>,
     reader: &mut Agent<S>,
     writer: &mut Agent<S>,
-    source: &Locator,
-    at: u64,
-    len: u64,
-    target: &Locator,
+    parcel: &Parcel<'_>,
 ) -> Result<(), Stop>
     requires reader { IsReady court.now reader.old 0 }
     requires few { HasMade reader.old 40000000 }
-    requires source { IsMine reader.old source.now }
-    requires range { len ≤ 268435456 }
+    requires source { IsMine reader.old parcel.now.source.now }
+    requires range { parcel.now.len ≤ 268435456 }
     requires writer { IsReady court.now writer.old 0 }
     requires few_writes { HasMade writer.old 40000000 }
-    requires target { IsMine writer.old target.now }
+    requires target { IsMine writer.old parcel.now.target.now }
     ensures reader { IsReady court.now reader.new 0 }
     ensures reads { Goes reader.old reader.new 65537 }
     ensures writer { IsReady court.now writer.new 0 }
     ensures writes { Goes writer.old writer.new 65539 }
 {
-    let from = snapshot(rt, court, reader, source)?;
-    let to = target_of(rt, court, writer, target)?;
-    match deliver(rt, court, reader, writer, &from, at, len, to) {
+    let from = snapshot(rt, court, reader, parcel.source)?;
+    let to = target_of(rt, court, writer, parcel.target)?;
+    let range = Range {
+        from: &from,
+        at: parcel.at,
+        len: parcel.len,
+    };
+    match deliver(rt, court, reader, writer, &range, to) {
         Ok(()) => Ok(()),
         Err((to, stop)) => {
             give_up(rt, court, writer, to);

@@ -5,13 +5,14 @@ ghost use Rattle.opfs_turns.specs.Asking.Rows.{HasStream};
 ghost use Rattle.opfs_library_tests.specs.Pipe.Ready.{Goes, HasMade, IsMine, IsReady, Stands, IsTask};
 
 use crate::pipe::example::{
-    deliver, give_up, new_file, read_file, save, send, snapshot, target_of, write_file,
+    Parcel, deliver, give_up, new_file, read_file, save, send, snapshot, target_of, write_file,
 };
 use opfs_agent::Agent;
 use opfs_agent::stream_calls::Writable;
 use opfs_base::{Bytes, Data, Locator};
 use opfs_hall::Hall;
 use opfs_hist::Refusal;
+use opfs_pipe::Range;
 use opfs_store::Store;
 use opfs_turns::Stop;
 use std::sync::Wait;
@@ -62,7 +63,13 @@ fn send_range<S: Store + Send, R: Threads + Wait + Sync>(
 {
     let source = new_file(rt, court, reader, "source")?;
     let target = new_file(rt, court, writer, "target")?;
-    send(rt, court, reader, writer, &source, at, len, &target)?;
+    let parcel = Parcel {
+        source: &source,
+        at,
+        len,
+        target: &target,
+    };
+    send(rt, court, reader, writer, &parcel)?;
     read_file(rt, court, writer, &target)
 }
 
@@ -93,26 +100,28 @@ fn move_front<S: Store + Send, R: Threads + Wait + Sync>(
     court: &Hall<S>,
     reader: &mut Agent<S>,
     writer: &mut Agent<S>,
-    source: &Locator,
-    at: u64,
-    len: u64,
-    target: &Locator,
+    parcel: &Parcel<'_>,
 ) -> Result<(), Stop>
     requires reader { IsReady court.now reader.old 0 }
     requires few { HasMade reader.old 40000000 }
-    requires source { IsMine reader.old source.now }
-    requires range { len ≤ 268435456 }
+    requires source { IsMine reader.old parcel.now.source.now }
+    requires range { parcel.now.len ≤ 268435456 }
     requires writer { IsReady court.now writer.old 0 }
     requires few_writes { HasMade writer.old 40000000 }
-    requires target { IsMine writer.old target.now }
+    requires target { IsMine writer.old parcel.now.target.now }
     ensures reader { IsReady court.now reader.new 0 }
     ensures reads { Goes reader.old reader.new 65537 }
     ensures writer { IsReady court.now writer.new 0 }
     ensures writes { Goes writer.old writer.new 65540 }
 {
-    let from = snapshot(rt, court, reader, source)?;
-    let to = target_of(rt, court, writer, target)?;
-    match deliver(rt, court, reader, writer, &from, at, len, to) {
+    let from = snapshot(rt, court, reader, parcel.source)?;
+    let to = target_of(rt, court, writer, parcel.target)?;
+    let range = Range {
+        from: &from,
+        at: parcel.at,
+        len: parcel.len,
+    };
+    match deliver(rt, court, reader, writer, &range, to) {
         Ok(()) => Ok(()),
         Err((to, stop)) => keep_front(rt, court, writer, to, stop),
     }
@@ -135,7 +144,13 @@ fn refuse<S: Store + Send, R: Threads + Wait + Sync>(
 {
     let source = new_file(rt, court, reader, "source")?;
     let target = new_file(rt, court, writer, "target")?;
-    move_front(rt, court, reader, writer, &source, at, len, &target)?;
+    let parcel = Parcel {
+        source: &source,
+        at,
+        len,
+        target: &target,
+    };
+    move_front(rt, court, reader, writer, &parcel)?;
     read_file(rt, court, writer, &target)
 }
 

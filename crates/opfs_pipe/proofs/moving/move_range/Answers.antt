@@ -9,12 +9,12 @@ use Rattle.opfs_pipe.proofs.moving.move_range.Goals as goal
 
 pub returns-then-length-eq0 : goal.returns-then-length-eq0
 returns-then-length-eq0 g c =
-    let none : min c.args.len (length c.args.from.now.bytes - c.args.at) ≡ 0 = search rules in
-    moved-nothing g.S.Store.tells c.args.reader.now c.args.writer.now c.args.from.now c.args.at c.args.to.now (window c.args.from.now.bytes c.args.at c.args.len) c.requires.snapshot c.requires.stream
-    (window-none c.args.from.now.bytes c.args.at c.args.len none)
+    let none : min c.args.range.now.len (length c.args.range.now.from.now.bytes - c.args.range.now.at) ≡ 0 = search rules in
+    moved-nothing g.S.Store.tells c.args.reader.now c.args.writer.now c.args.range.now.from.now c.args.range.now.at c.args.to.now (window c.args.range.now.from.now.bytes c.args.range.now.at c.args.range.now.len) c.requires.snapshot c.requires.stream
+    (window-none c.args.range.now.from.now.bytes c.args.range.now.at c.args.range.now.len none)
 
 pub returns : goal.returns
 returns g c =
-    let count : c.range_length-length.result ≡ min c.args.len (length c.args.from.now.bytes - c.args.at) = search rules in
-    subst (λ (r : Text). HasMoved g.S.Store.tells c.args.reader.now c.move_over_ring.new.reader c.args.writer.now c.move_over_ring.new.writer c.args.from.now c.args.at c.args.to.now c.move_over_ring.new.to r c.move_over_ring.result)
-    (window-short c.args.from.now.bytes c.args.at c.args.len c.range_length-length.result count) (c.move_over_ring.ensures c.range_length-length.result refl)
+    let count : c.range_length-length.result ≡ min c.args.range.now.len (length c.args.range.now.from.now.bytes - c.args.range.now.at) = search rules in
+    subst (λ (r : Text). HasMoved g.S.Store.tells c.args.reader.now c.move_over_ring.new.reader c.args.writer.now c.move_over_ring.new.writer c.args.range.now.from.now c.args.range.now.at c.args.to.now c.move_over_ring.new.to r c.move_over_ring.result)
+    (window-short c.args.range.now.from.now.bytes c.args.range.now.at c.args.range.now.len c.range_length-length.result count) (c.move_over_ring.ensures c.range_length-length.result refl)

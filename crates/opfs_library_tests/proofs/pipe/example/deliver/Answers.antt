@@ -5,7 +5,7 @@ use Rattle.opfs_library_tests.proofs.pipe.Going.{ready-closed, ready-on}
 use Rattle.opfs_library_tests.proofs.pipe.example.deliver.Goals as goal
 
 pub pipe-piped-requires-clause-range : goal.pipe-piped-requires-clause-range
-pipe-piped-requires-clause-range g c = omega (arith, window-length c.args.from.now.bytes c.args.at c.args.len, c.requires.range)
+pipe-piped-requires-clause-range g c = omega (arith, window-length c.args.range.now.from.now.bytes c.args.range.now.at c.args.range.now.len, c.requires.range)
 
 pub returns-in-Ok-clause-reader : goal.returns-in-Ok-clause-reader
 returns-in-Ok-clause-reader g c =
