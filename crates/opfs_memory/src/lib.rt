@@ -1,6 +1,6 @@
 //! The outside in memory: sources, sinks, disks and hosts whose calls fail where they are told to.
 //!
-//! It stands on `opfs_outside`; on it stands `opfs_desk_runs`.
+//! It stands on `opfs_outside`; on it stand `opfs_desk_runs` and `opfs_notebook_run`.
 #![tactic(auto)]
 
 mod bytes;
