@@ -1,5 +1,6 @@
 pub mod Ends
 pub mod Hands
+pub mod Lent
 pub mod Looks
 pub mod Numbers
 pub mod Owned

@@ -13,13 +13,13 @@ use Rattle.opfs_hall.proofs.Sums.{each_set, sum_by-set_at, two_at_most_all, coun
 use Rattle.opfs_hall.proofs.Owned.{owned-prefix}
 use Rattle.opfs_hall.proofs.Views.{IfSome_at, IfSome_none, IfSome_zero, same_value}
 
-module _ {X O E : Type 0} (opening : X → O) (entries : X → List E) (owner : E → ℕ) (most : ℕ) (begun : O) where
-  abbrev Rule : State (Option X) (View O E) → Type 0
-  Rule = Kept opening entries owner most begun
+module _ {X O E : Type 0} (opening : X → O) (entries : X → List E) (owner : E → ℕ) (goes : X → X → Type 0) (most : ℕ) (begun : O) where
+  abbrev Rule : State (Option X) (View O E X) → Type 0
+  Rule = Kept opening entries owner goes most begun
 
   module _ (id : ℕ) (m : Held X O E) (k : ℕ) (o : O) (next : m.0.next ≡ Some k) (number : m.0.number ≡ None) (no_ticket : m.0.ticket ≡ None)
-      (opens : m.0.opening ≡ Some o) (few : k ≤ m.0.agents) (s : State (Option X) (View O E)) (kept : Rule s) (at : get_elem? s.views id ≡ some m.0) where
-    abbrev seated : View O E
+      (opens : m.0.opening ≡ Some o) (few : k ≤ m.0.agents) (s : State (Option X) (View O E X)) (kept : Rule s) (at : get_elem? s.views id ≡ some m.0) where
+    abbrev seated : View O E X
     seated = record m.0 { number = Some k; next = Some (k + 1) }
 
     -- the seat's number is the next one
@@ -29,10 +29,11 @@ module _ {X O E : Type 0} (opening : X → O) (entries : X → List E) (owner : 
     word : get_or s.words 2 0 ≡ k
     word = ap (λ (ws : List ℕ). get_or ws 2 0) kept.words ∙ sym is_next
 
-    mine : Fits owner most begun kept.served kept.drawn (k + 1) kept.log seated
+    mine : Fits owner goes most begun kept.served kept.drawn (k + 1) kept.value kept.log seated
     mine = let before = kept.each id m.0 at in record {
       opened = before.opened;
       begins = before.begins;
+      goes_on = before.goes_on;
       own = λ real. let none_yet = kept.undrawn k (omega (arith, is_next)) real in none_yet ∙ sym (owned-prefix owner k m.0.base kept.log before.begins none_yet);
       ended = before.ended;
       waits = IfSome_none m.0.ticket (λ t. (kept.served ≤ t) × (t < kept.drawn) × IsSome seated.number) no_ticket;
@@ -41,10 +42,11 @@ module _ {X O E : Type 0} (opening : X → O) (entries : X → List E) (owner : 
     }
 
     -- no other seat may draw a number
-    another : (j : ℕ) (v : View O E) → j ≢ id → get_elem? s.views j ≡ some v → Fits owner most begun kept.served kept.drawn (k + 1) kept.log v
+    another : (j : ℕ) (v : View O E X) → j ≢ id → get_elem? s.views j ≡ some v → Fits owner goes most begun kept.served kept.drawn (k + 1) kept.value kept.log v
     another j v other at' = let before = kept.each j v at' in record {
       opened = before.opened;
       begins = before.begins;
+      goes_on = before.goes_on;
       own = before.own;
       ended = before.ended;
       waits = before.waits;
@@ -58,6 +60,7 @@ module _ {X O E : Type 0} (opening : X → O) (entries : X → List E) (owner : 
       served = kept.served;
       drawn = kept.drawn;
       n = k + 1;
+      value = kept.value;
       log = kept.log;
       small = kept.small;
       words = ap (λ (b : Bool). set s.words 2 (either b (k + 1) (get_or s.words 2 0))) (eq-eqb (get_or s.words 2 0) k word) ∙ ap (λ (ws : List ℕ). set ws 2 (k + 1)) kept.words;
@@ -74,7 +77,8 @@ module _ {X O E : Type 0} (opening : X → O) (entries : X → List E) (owner : 
       undrawn = λ j late. kept.undrawn j (omega (arith, is_next));
       home = let same : sum_by is_in s.views ≡ sum_by is_in (set s.views id seated) = omega (arith, sum_by-set_at is_in s.views id m.0 seated at) in
           subst (λ (inside : ℕ). Home opening entries begun kept.log inside s.homes) same kept.home;
-      each = each_set (Fits owner most begun kept.served kept.drawn (k + 1) kept.log) s.views id seated mine another;
+      there = kept.there;
+      each = each_set (Fits owner goes most begun kept.served kept.drawn (k + 1) kept.value kept.log) s.views id seated mine another;
     }
 
   pub numbers_kept : (slots id : ℕ) (m : Held X O E) (k : ℕ) (o : O) → m.0.next ≡ Some k → m.0.number ≡ None → m.0.ticket ≡ None → m.0.opening ≡ Some o → k ≤ m.0.agents

@@ -28,20 +28,21 @@ module _ {A : Type 0} where
   slice_get-last (x ∷ xs) a zero is = absurd (omega arith)
   slice_get-last (x ∷ xs) a (suc n) is = slice_get-last xs a n (omega arith)
 
-module _ {X O E : Type 0} (opening : X → O) (entries : X → List E) (owner : E → ℕ) (most : ℕ) (begun : O) where
-  abbrev Rule : State (Option X) (View O E) → Type 0
-  Rule = Kept opening entries owner most begun
+module _ {X O E : Type 0} (opening : X → O) (entries : X → List E) (owner : E → ℕ) (goes : X → X → Type 0) (most : ℕ) (begun : O) where
+  abbrev Rule : State (Option X) (View O E X) → Type 0
+  Rule = Kept opening entries owner goes most begun
 
   -- a sum after a split
-  split_sum : (f : View O E → ℕ) (s : State (Option X) (View O E)) (id : ℕ) (v : View O E) → get_elem? s.views id ≡ some v
+  split_sum : (f : View O E X → ℕ) (s : State (Option X) (View O E X)) (id : ℕ) (v : View O E X) → get_elem? s.views id ≡ some v
       → sum_by f (set s.views id (split_left v) ++ split_right v ∷ []) + f v ≡ sum_by f s.views + (f (split_left v) + f (split_right v))
   split_sum f s id v at = omega (arith, sum_by-snoc f (set s.views id (split_left v)) (split_right v), sum_by-set_at f s.views id v (split_left v) at)
 
-  pub splits_kept : (id : ℕ) (v : View O E) → Splits Rule id v (split_left v) (split_right v)
+  pub splits_kept : (id : ℕ) (v : View O E X) → Splits Rule id v (split_left v) (split_right v)
   splits_kept id v s kept at = let before = kept.each id v at in record {
     served = kept.served;
     drawn = kept.drawn;
     n = kept.n;
+    value = kept.value;
     log = kept.log;
     small = kept.small;
     words = kept.words;
@@ -55,29 +56,30 @@ module _ {X O E : Type 0} (opening : X → O) (entries : X → List E) (owner : 
     undrawn = kept.undrawn;
     home = let same : sum_by is_in s.views ≡ sum_by is_in (set s.views id (split_left v) ++ split_right v ∷ []) = omega (arith, split_sum is_in s id v at) in
         subst (λ (inside : ℕ). Home opening entries begun kept.log inside s.homes) same kept.home;
+    there = kept.there;
     each = λ j u at'. ⊎_elim
-        (each_set (Fits owner most begun kept.served kept.drawn kept.n kept.log) s.views id (split_left v)
-        record { opened = before.opened; begins = before.begins; own = before.own; ended = before.ended; waits = before.waits; inside = before.inside; next = tt }
+        (each_set (Fits owner goes most begun kept.served kept.drawn kept.n kept.value kept.log) s.views id (split_left v)
+        record { opened = before.opened; begins = before.begins; goes_on = before.goes_on; own = before.own; ended = before.ended; waits = before.waits; inside = before.inside; next = tt }
         (λ i w other. kept.each i w) j u)
-        (λ e. subst (Fits owner most begun kept.served kept.drawn kept.n kept.log) e
-        record { opened = before.opened; begins = before.begins; own = tt; ended = All-nil (λ p. (p.0 ≢ 0) × HasEnded owner kept.log p); waits = tt; inside = λ h. absurd cc; next = before.next })
+        (λ e. subst (Fits owner goes most begun kept.served kept.drawn kept.n kept.value kept.log) e
+        record { opened = before.opened; begins = before.begins; goes_on = before.goes_on; own = tt; ended = All-nil (λ p. (p.0 ≢ 0) × HasEnded owner kept.log p); waits = tt; inside = λ h. absurd cc; next = before.next })
         (at_snoc (set s.views id (split_left v)) (split_right v) u j at');
   }
 
-  module _ (id : ℕ) (v : View O E) (other : ℕ) (u : View O E) (k : ℕ) (number : u.number ≡ Some k) (real : k ≢ 0) (no_ticket : u.ticket ≡ None) (out : u.inside ≡ false)
-      (s : State (Option X) (View O E)) (kept : Rule s) (at : get_elem? s.views id ≡ some v) (apart : ¬ (other ≡ id))
+  module _ (id : ℕ) (v : View O E X) (other : ℕ) (u : View O E X) (k : ℕ) (number : u.number ≡ Some k) (real : k ≢ 0) (no_ticket : u.ticket ≡ None) (out : u.inside ≡ false)
+      (s : State (Option X) (View O E X)) (kept : Rule s) (at : get_elem? s.views id ≡ some v) (apart : ¬ (other ≡ id))
       (at' : get_elem? (set s.views id (joined_view v u)) other ≡ some u) where
-    abbrev after : List (View O E)
+    abbrev after : List (View O E X)
     after = set (set s.views id (joined_view v u)) other spent_view
 
-    was : Fits owner most begun kept.served kept.drawn kept.n kept.log u
+    was : Fits owner goes most begun kept.served kept.drawn kept.n kept.value kept.log u
     was = kept.each other u (sym (set_else s.views id other (joined_view v u) apart) ∙ at')
 
     is_number : unwrap_or u.number 0 ≡ k
     is_number = ap (λ (z : Option ℕ). unwrap_or z 0) number
 
     -- a sum after a join
-    join_sum : (f : View O E → ℕ) → sum_by f after + (f u + f v) ≡ sum_by f s.views + (f spent_view + f (joined_view v u))
+    join_sum : (f : View O E X → ℕ) → sum_by f after + (f u + f v) ≡ sum_by f s.views + (f spent_view + f (joined_view v u))
     join_sum f = omega (arith, sum_by-set_at f s.views id v (joined_view v u) at, sum_by-set_at f (set s.views id (joined_view v u)) other u spent_view at')
 
     -- the taker names what both named
@@ -86,12 +88,13 @@ module _ {X O E : Type 0} (opening : X → O) (entries : X → List E) (owner : 
         let own : test pair ≡ one_at j u.number = ap (λ (z : ℕ). cond {A = ℕ} (nat_eq z j) 1 0) is_number ∙ ap (one_at j) (sym number) in
         omega (arith, own, sum_by-append test v.ended (pair ∷ u.ended), sum_by-cons test pair u.ended)
 
-    mine : Fits owner most begun kept.served kept.drawn kept.n kept.log (joined_view v u)
+    mine : Fits owner goes most begun kept.served kept.drawn kept.n kept.value kept.log (joined_view v u)
     mine = let before = kept.each id v at in let Good : ℕ × List E → Type 0 = λ p. (p.0 ≢ 0) × HasEnded owner kept.log p in
         let pair : Good (unwrap_or u.number 0, u.base) = subst (λ (j : ℕ). Good (j, u.base)) (sym is_number)
         (real, (was.begins, IfSome_at u.number (λ j. SameOwn owner j kept.log u.base) k number was.own real)) in record {
           opened = before.opened;
           begins = before.begins;
+          goes_on = before.goes_on;
           own = before.own;
           ended = All-append Good v.ended ((unwrap_or u.number 0, u.base) ∷ u.ended) before.ended (All-cons Good (unwrap_or u.number 0, u.base) u.ended pair was.ended);
           waits = before.waits;
@@ -104,6 +107,7 @@ module _ {X O E : Type 0} (opening : X → O) (entries : X → List E) (owner : 
       served = kept.served;
       drawn = kept.drawn;
       n = kept.n;
+      value = kept.value;
       log = kept.log;
       small = kept.small;
       words = kept.words;
@@ -117,11 +121,13 @@ module _ {X O E : Type 0} (opening : X → O) (entries : X → List E) (owner : 
       undrawn = kept.undrawn;
       home = let same : sum_by is_in s.views ≡ sum_by is_in after = omega (arith, outside, join_sum is_in) in
           subst (λ (inside : ℕ). Home opening entries begun kept.log inside s.homes) same kept.home;
-      each = let Fit : View O E → Type 0 = Fits owner most begun kept.served kept.drawn kept.n kept.log in
+      there = kept.there;
+      each = let Fit : View O E X → Type 0 = Fits owner goes most begun kept.served kept.drawn kept.n kept.value kept.log in
           each_set Fit (set s.views id (joined_view v u)) other spent_view
           record {
             opened = tt;
             begins = (kept.log, refl);
+            goes_on = tt;
             own = tt;
             ended = All-nil (λ p. (p.0 ≢ 0) × HasEnded owner kept.log p);
             waits = tt;
@@ -131,7 +137,7 @@ module _ {X O E : Type 0} (opening : X → O) (entries : X → List E) (owner : 
           (λ j w not_other. each_set Fit s.views id (joined_view v u) mine (λ i x not_id. kept.each i x) j w);
     }
 
-  pub joins_kept : (id : ℕ) (v : View O E) (other : ℕ) (u : View O E) (k : ℕ) → u.number ≡ Some k → k ≢ 0 → u.ticket ≡ None → u.inside ≡ false
+  pub joins_kept : (id : ℕ) (v : View O E X) (other : ℕ) (u : View O E X) (k : ℕ) → u.number ≡ Some k → k ≢ 0 → u.ticket ≡ None → u.inside ≡ false
       → Joins Rule id v other u (joined_view v u) spent_view
   joins_kept id v other u k number real no_ticket out s kept at apart at' = joins id v other u k number real no_ticket out s kept at apart at'
 

@@ -18,6 +18,11 @@ pub record PassSeen (O E : Type 0) : Type 0 where
   pub ended : List (ℕ × List E)
   pub busy : Bool
 
+-- the owner's pass, and the value that it has seen last
+pub record WatchSeen (O E X : Type 0) : Type 0 where
+  pub pass : PassSeen O E
+  pub last : X
+
 -- how proofs store these, for the models of callers' types that hold them
 abbrev pub hall_code : {O : Type 0} → Coded O → Coded (HallSeen O)
 hall_code {O} opening =

@@ -17,7 +17,7 @@ pub const NUMBER: usize = 2;
 pub const VALUE: usize = 0;
 
 /// What a seat at the table knows. No value of it is made.
-pub struct View<O, E> {
+pub struct View<O, E, V> {
     pub agents: u32,
     /// None once the seat is spent.
     pub opening: Option<O>,
@@ -25,6 +25,8 @@ pub struct View<O, E> {
     pub number: Option<u32>,
     /// The list that the pass has seen.
     pub base: LinkedList<E>,
+    /// The value that the pass has seen last.
+    pub last: Option<V>,
     /// The number and the base of each pass that was joined into this one.
     pub ended: LinkedList<(u32, LinkedList<E>)>,
     /// The ticket that the pass holds, counted without end: the words count modulo 2^64.
@@ -53,17 +55,17 @@ impl<V> Drop for Key<V> {
 /// The turn's rule.
 pub struct InTurn;
 
-impl<V: Chronicle> TableRule<Option<V>, View<V::Opening, V::Entry>, Key<V>> for InTurn {
+impl<V: Chronicle> TableRule<Option<V>, View<V::Opening, V::Entry, V>, Key<V>> for InTurn {
     ghost use Rattle.opfs_hall.specs.Turns.{Kept, first_view};
 
-    ghost holds = { λ key. Kept V.opening V.entries V.owner key.agents (V.opening key.value.value) };
+    ghost holds = { λ key. Kept V.opening V.entries V.owner V.goes_on key.agents (V.opening key.value.value) };
 
     ghost first = { λ key. first_view key.agents (V.opening key.value.value) (V.entries key.value.value) };
 }
 
 pub type Board<V> = Table<
     Option<V>,
-    View<<V as Chronicle>::Opening, <V as Chronicle>::Entry>,
+    View<<V as Chronicle>::Opening, <V as Chronicle>::Entry, V>,
     Key<V>,
     InTurn,
     Global,
@@ -72,9 +74,9 @@ pub type Board<V> = Table<
 /// The part of the table that steps go through.
 pub type Top<V> = Shared<
     Option<V>,
-    View<<V as Chronicle>::Opening, <V as Chronicle>::Entry>,
+    View<<V as Chronicle>::Opening, <V as Chronicle>::Entry, V>,
     Key<V>,
     InTurn,
 >;
 
-pub type Place<V> = Seat<Option<V>, View<<V as Chronicle>::Opening, <V as Chronicle>::Entry>>;
+pub type Place<V> = Seat<Option<V>, View<<V as Chronicle>::Opening, <V as Chronicle>::Entry, V>>;

@@ -14,4 +14,13 @@ pub trait Chronicle {
     ghost entries: { Self → List Self.Entry };
 
     ghost owner: { Self.Entry → ℕ };
+
+    /// How a value goes on to another one, as whoever has the turn may change it.
+    ghost goes_on: { Self → Self → Type 0 };
+
+    /// A value that is not changed goes on.
+    ghost stays: { (v : Self) → goes_on v v };
+
+    /// And one that goes on twice.
+    ghost lasts: { (u v w : Self) → goes_on u v → goes_on v w → goes_on u w };
 }

@@ -1,8 +1,8 @@
 //! The hall, and the turn that a pass takes in it.
-ghost use Rattle.std.specs.Prelude.{◌≡◌, ◌≢◌, ℕ, ◌+◌, ◌≤◌, [], ◌∷◌, false, true, All, IfOk, IfErr, vec_capacity};
+ghost use Rattle.std.specs.Prelude.{◌≡◌, ◌≢◌, ℕ, ◌+◌, ◌≤◌, [], ◌∷◌, false, true, All, Some, None, IfOk, IfErr, vec_capacity};
 ghost use Rattle.opfs_hall.specs.History.{GrowsByOthers, Adds, IsPrefix, HasEnded};
 ghost use Rattle.opfs_hall.specs.Seen.{AreNew, new_pass, in_turn, at_rest, joined, HasAll};
-ghost use Rattle.opfs_hall.specs.Turns.{IsFresh};
+ghost use Rattle.opfs_hall.specs.Turns.{HasGiven, HasTaken, pass_of, IsFresh, IsPlaced, IsPlaceOf, MayGive};
 
 use crate::board::{Board, Key, Place, TICKET, VALUE};
 use crate::chronicle::Chronicle;
@@ -20,12 +20,12 @@ use std::sync::atomic::{AtomicU64, Ordering};
 /// A lock that holds a value, and hands it on in ticket order. Clauses see it as which hall it is (`id`), the opening
 /// of its value, and its number of agents.
 pub struct Hall<V: Chronicle> {
-    board: Board<V>,
+    pub(crate) board: Board<V>,
     // How often each door was opened, modulo 2^64. A pass waits at the door of its ticket, so that the turn, when it
     // is handed on, wakes nobody but the next in line.
-    doors: [AtomicU64; 64],
+    pub(crate) doors: [AtomicU64; 64],
     // How often its bell was rung, modulo 2^64.
-    rung: AtomicU64,
+    pub(crate) rung: AtomicU64,
 }
 
 impl<V: Chronicle> Model for Hall<V> {
@@ -43,12 +43,57 @@ impl<V: Chronicle> Model for Hall<V> {
     ghost invariant = { λ h. IsSized h.board.shared.table_id };
 }
 
-/// A turn that a pass has taken, with the value. `entered` is the pass as it took the turn.
+/// A turn that a pass has taken, with the value. `entered` is the pass as it took the turn, `came` the value as it was then.
 /// It has to be spent, by `leave`: it cannot be dropped or taken apart, so let no `?` come while it is held.
 pub struct Turn<V: Chronicle> {
     pub value: V,
+    came: Told<V>,
     entered: Told<Pass<V>>,
+    seat: Place<V>,
     ghost busy: { entered.value.busy ≡ true },
+    ghost placed: { IsPlaceOf seat entered.value },
+    ghost last: { seat.me.0.last ≡ Some came.value },
+}
+
+impl<V: Chronicle> Turn<V> {
+    // The turn of the owner's seat, which has taken it.
+    pub(crate) fn watched(value: V, seat: Place<V>, hall: Told<Hall<V>>) -> Turn<V>
+        requires placed { IsPlaced seat hall.value 0 }
+        requires inside { seat.me.0.inside ≡ true }
+        requires last { seat.me.0.last ≡ Some value }
+        ensures value { result.value ≡ value }
+        ensures came { result.came.value ≡ value }
+        ensures entered { result.entered.value ≡ pass_of None seat hall.value 0 }
+    {
+        let pass = Pass {
+            seat: None,
+            agent: 0,
+            hall,
+            lent: Told::of(&seat),
+        };
+        Turn {
+            came: Told::of(&value),
+            value,
+            entered: Told::of(&pass),
+            seat,
+        }
+    }
+
+    // The value, and the seat that has the turn.
+    pub(crate) fn apart(self) -> (V, Place<V>)
+        ensures value { result.0 ≡ self.value }
+        ensures seat { IsPlaceOf result.1 self.entered.value }
+        ensures busy { self.entered.value.busy ≡ true }
+        ensures last { result.1.me.0.last ≡ Some self.came.value }
+    {
+        let Turn {
+            value,
+            came: _,
+            entered: _,
+            seat,
+        } = self;
+        (value, seat)
+    }
 }
 
 /// The hall, and its first seat. It gives the value back where memory is short.
@@ -98,10 +143,12 @@ fn number_one<V: Chronicle>(hall: &Hall<V>, seat: Place<V>, next: u32) -> (Pass<
     let mut place = seat;
     number(top, &mut place, next);
     let rest = top.split_seat::<Apart>(&mut place);
+    let lent = Told::of(&place);
     let pass = Pass {
-        place,
+        seat: Some(place),
         agent: next,
         hall: Told::of(hall),
+        lent,
     };
     (pass, rest)
 }
@@ -147,6 +194,33 @@ impl<V: Chronicle> Hall<V> {
         Ok((hall, passes))
     }
 
+    // Waits for the turn of a seat, and takes it.
+    pub(crate) fn take<R: Wait>(&self, rt: &R, seat: &mut Place<V>) -> V
+        requires placed { (k : ℕ) × IsPlaced seat.old self.now k }
+        requires idle { seat.old.me.0.inside ≡ false }
+        ensures { HasTaken V.opening V.entries V.owner V.goes_on self.now seat.old seat.new result }
+    {
+        let top = &self.board.shared;
+        let mine = draw(top, seat);
+        wait(rt, top, seat, mine, self.door(mine));
+        take_out(top, seat)
+    }
+
+    // Hands the turn of a seat on.
+    pub(crate) fn give(&self, seat: &mut Place<V>, value: V)
+        requires { MayGive V.opening V.entries V.owner V.goes_on self.now seat.old value }
+        ensures { HasGiven V.opening V.entries V.owner V.goes_on self.now seat.old seat.new value }
+    {
+        let top = &self.board.shared;
+        let next = hand_on(top, seat, value);
+        // Where nobody has drawn it yet, whoever draws it finds that it is served.
+        if top.peek(TICKET) != next {
+            let door = self.door(next);
+            door.fetch_add(1, Ordering::SeqCst);
+            door.wake_all();
+        }
+    }
+
     /// Waits for the turn of the pass, and takes it.
     pub fn enter<R: Wait>(&self, rt: &R, pass: &mut Pass<V>) -> Turn<V>
         requires own { pass.old.hall ≡ self.now }
@@ -155,14 +229,16 @@ impl<V: Chronicle> Hall<V> {
         ensures grows { GrowsByOthers V.owner pass.old.agent pass.old.base (V.entries result.value) }
         ensures pass { pass.new ≡ in_turn pass.old (V.entries result.value) }
         ensures entered { result.entered.value ≡ pass.new }
+        ensures came { result.came.value ≡ result.value }
     {
-        let top = &self.board.shared;
-        let mine = draw(top, &mut pass.place);
-        wait(rt, top, &mut pass.place, mine, self.door(mine));
-        let value = take_out(top, &mut pass.place);
+        let mut seat = pass.seat.take().unwrap();
+        let value = self.take(rt, &mut seat);
+        pass.lent = Told::of(&seat);
         Turn {
+            came: Told::of(&value),
             value,
             entered: Told::of(pass),
+            seat,
         }
     }
 
@@ -172,17 +248,12 @@ impl<V: Chronicle> Hall<V> {
         requires entered { turn.entered.value ≡ pass.old }
         requires opening { V.opening turn.value ≡ self.now.opening }
         requires adds { Adds V.owner pass.old.agent pass.old.base (V.entries turn.value) }
+        requires goes { V.goes_on turn.came.value turn.value }
         ensures { pass.new ≡ at_rest pass.old (V.entries turn.value) }
     {
-        let Turn { value, entered: _ } = turn;
-        let top = &self.board.shared;
-        let next = hand_on(top, &mut pass.place, value);
-        // Where nobody has drawn it yet, whoever draws it finds that it is served.
-        if top.peek(TICKET) != next {
-            let door = self.door(next);
-            door.fetch_add(1, Ordering::SeqCst);
-            door.wake_all();
-        }
+        let (value, mut seat) = turn.apart();
+        self.give(&mut seat, value);
+        pass.seat = Some(seat);
     }
 
     /// What the bell tells now. One that has the turn reads it there, so that it misses no ring of a later turn.
@@ -209,7 +280,8 @@ impl<V: Chronicle> Hall<V> {
         ensures { into.new ≡ joined into.old from }
     {
         let top = &self.board.shared;
-        top.join_seat::<Together>(&mut into.place, from.into_place());
+        let seat = into.seat.as_mut().unwrap();
+        top.join_seat::<Together>(seat, from.into_place());
     }
 
     /// Ends the hall, with a pass that has collected all others, and gives the value.

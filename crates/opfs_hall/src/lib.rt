@@ -14,8 +14,10 @@ mod pass;
 mod plays;
 mod steps;
 mod told;
+mod watch;
 
 pub use chronicle::Chronicle;
 pub use hall::{Hall, Turn};
 pub use pass::Pass;
 pub use told::Told;
+pub use watch::Watch;

@@ -1,5 +1,5 @@
 //! What an agent enters the hall with.
-ghost use Rattle.std.specs.Prelude.{◌≡◌};
+ghost use Rattle.std.specs.Prelude.{◌≡◌, false};
 ghost use Rattle.opfs_hall.specs.Turns.{IsPlaceOf};
 
 use crate::board::Place;
@@ -12,26 +12,23 @@ use std::marker::Model;
 /// and base of each pass that was joined into it (`ended`), and whether it has the turn (`busy`).
 /// A hall can be closed only with a pass that has collected all others, so a pass that is dropped keeps it open.
 pub struct Pass<V: Chronicle> {
-    pub(crate) place: Place<V>,
+    // Its seat; while it has the turn, the turn has that.
+    pub(crate) seat: Option<Place<V>>,
     pub(crate) agent: u32,
     pub(crate) hall: Told<Hall<V>>,
+    // The seat as it was handed over to the turn.
+    pub(crate) lent: Told<Place<V>>,
 }
 
 impl<V: Chronicle> Model for Pass<V> {
     ghost use Rattle.opfs_hall.specs.Seen.{PassSeen};
-    ghost use Rattle.opfs_hall.specs.Turns.{IsPlaced};
+    ghost use Rattle.opfs_hall.specs.Turns.{IsSeated, pass_of};
 
     ghost Value = { PassSeen V.Opening V.Entry };
 
-    ghost view = { λ p. record {
-      hall = p.hall.value;
-      agent = p.agent;
-      base = p.place.me.0.base;
-      ended = p.place.me.0.ended;
-      busy = p.place.me.0.inside;
-    } };
+    ghost view = { λ p. pass_of p.seat p.lent.value p.hall.value p.agent };
 
-    ghost invariant = { λ p. IsPlaced p.place p.hall.value p.agent };
+    ghost invariant = { λ p. IsSeated p.seat p.lent.value p.hall.value p.agent };
 }
 
 impl<V: Chronicle> Pass<V> {
@@ -43,23 +40,26 @@ impl<V: Chronicle> Pass<V> {
     }
 
     pub(crate) fn into_place(self) -> Place<V>
+        requires idle { self.busy ≡ false }
         ensures { IsPlaceOf result self }
     {
         let Self {
-            place,
+            seat,
             agent: _,
             hall: _,
+            lent: _,
         } = self;
-        place
+        seat.unwrap()
     }
 }
 
 impl<V: Chronicle> Drop for Pass<V> {
     fn drop(self) {
         let Self {
-            place: _,
+            seat: _,
             agent: _,
             hall: _,
+            lent: _,
         } = self;
     }
 }

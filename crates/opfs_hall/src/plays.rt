@@ -8,35 +8,35 @@ use atomic_table::{Join, Play, Split};
 /// A pass draws its ticket.
 pub(crate) struct Ticket;
 
-impl<V: Chronicle> Play<Option<V>, View<V::Opening, V::Entry>> for Ticket {
+impl<V: Chronicle> Play<Option<V>, View<V::Opening, V::Entry, V>> for Ticket {
     ghost then = { ticketed };
 }
 
 /// A pass looks which ticket is served, and takes the turn where it is its own.
 pub(crate) struct Look;
 
-impl<V: Chronicle> Play<Option<V>, View<V::Opening, V::Entry>> for Look {
-    ghost then = { looked V.opening V.entries V.owner };
+impl<V: Chronicle> Play<Option<V>, View<V::Opening, V::Entry, V>> for Look {
+    ghost then = { looked V.opening V.entries V.owner V.goes_on };
 }
 
 /// The pass that has the turn hands it on.
 pub(crate) struct HandOn;
 
-impl<V: Chronicle> Play<Option<V>, View<V::Opening, V::Entry>> for HandOn {
+impl<V: Chronicle> Play<Option<V>, View<V::Opening, V::Entry, V>> for HandOn {
     ghost then = { handed_on V.entries };
 }
 
 /// A seat draws the number of its pass.
 pub(crate) struct Number;
 
-impl<V: Chronicle> Play<Option<V>, View<V::Opening, V::Entry>> for Number {
+impl<V: Chronicle> Play<Option<V>, View<V::Opening, V::Entry, V>> for Number {
     ghost then = { numbered };
 }
 
 /// A new seat comes beside a pass, and the right to draw the next number goes to it.
 pub(crate) struct Apart;
 
-impl<O, E> Split<View<O, E>> for Apart {
+impl<O, E, V> Split<View<O, E, V>> for Apart {
     ghost left = { split_left };
 
     ghost right = { split_right };
@@ -45,7 +45,7 @@ impl<O, E> Split<View<O, E>> for Apart {
 /// A pass collects another one, with all that it has collected.
 pub(crate) struct Together;
 
-impl<O, E> Join<View<O, E>> for Together {
+impl<O, E, V> Join<View<O, E, V>> for Together {
     ghost both = { joined_view };
 
     ghost spent = { spent_view };

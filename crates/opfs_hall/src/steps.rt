@@ -37,7 +37,7 @@ pub(crate) fn wait<V: Chronicle, R: Wait>(
     requires waits { (t : ℕ) × (place.old.me.0.ticket ≡ Some t) × (t % 2 ^ 64 ≡ mine) }
     requires outside { (place.old.me.0.inside ≡ false) × (place.old.me.1 ≡ []) }
     ensures seat { IsSameSeat place.old place.new }
-    ensures entered { Entered V.opening V.entries V.owner place.old.me place.new.me }
+    ensures entered { Entered V.opening V.entries V.owner V.goes_on place.old.me place.new.me }
 {
     let mut spins = SPINS;
     for _ in rt.forever() {
@@ -76,9 +76,10 @@ pub(crate) fn hand_on<V: Chronicle>(top: &Top<V>, place: &mut Place<V>, value: V
     requires opening { place.old.me.0.opening ≡ Some (V.opening value) }
     requires adds { (k : ℕ) × (place.old.me.0.number ≡ Some k)
         × Adds V.owner k place.old.me.0.base (V.entries value) }
+    requires onward { (x : V) × (place.old.me.0.last ≡ Some x) × V.goes_on x value }
     ensures seat { IsSameSeat place.old place.new }
     ensures rests { place.new.me
-        ≡ (record place.old.me.0 { inside = false; ticket = None; base = V.entries value }, []) }
+        ≡ (record place.old.me.0 { inside = false; ticket = None; base = V.entries value; last = Some value }, []) }
 {
     let before = top.exchange(place, VALUE, Some(value));
     let None = before else { unreachable!() };

@@ -30,6 +30,12 @@ impl Chronicle for Marks {
     ghost entries = { λ marks. marks.list.items };
 
     ghost owner = { λ mark. mark.agent };
+
+    ghost goes_on = { λ _ _. Unit {0} };
+
+    ghost stays = { λ _. tt };
+
+    ghost lasts = { λ _ _ _ _ _. tt };
 }
 
 impl Marks {

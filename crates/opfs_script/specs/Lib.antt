@@ -2,6 +2,7 @@ pub mod Answers
 pub mod Faults
 pub mod Heads
 pub mod Limits
+pub mod Lines
 pub mod Members
 pub mod Reading
 pub mod Scripts

@@ -8,6 +8,7 @@ mod draft;
 mod fault;
 mod head;
 mod limits;
+mod lines;
 mod members;
 pub mod reader;
 pub mod refusal;
@@ -20,6 +21,7 @@ mod words;
 
 pub use head::{read_grant, read_origin};
 pub use limits::bytes_asked;
+pub use lines::{Asking, LinePart, named_agent, read_agents, read_asking};
 pub use reader::read_script;
 pub use refusal::ScriptRefusal;
 pub use script::{AgentScript, Script};

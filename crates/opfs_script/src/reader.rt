@@ -25,7 +25,7 @@ pub fn read_script(alloc: Global, bytes: &[u8]) -> Result<Script, ScriptRefusal>
 }
 
 // The JSON value that bytes are.
-fn json_of(alloc: Global, bytes: &[u8]) -> Result<Value, ScriptRefusal>
+pub(crate) fn json_of(alloc: Global, bytes: &[u8]) -> Result<Value, ScriptRefusal>
     ensures value { IfOk result (λ value. json_of bytes.now ≡ Some (view value)) }
     ensures refused { IfErr result (λ why. ((why ≡ ScriptRefusal.NotJson) × (json_of bytes.now ≡ None)) ⊎ (why ≡ ScriptRefusal.NoMemory)) }
 {
@@ -54,7 +54,7 @@ fn script_of(alloc: Global, value: &Value) -> Result<Script, ScriptRefusal>
 }
 
 // The values of the top's one member.
-fn items_of(value: &Value) -> Option<&[Value]>
+pub(crate) fn items_of(value: &Value) -> Option<&[Value]>
     ensures { option_map (λ found. map view found.now) result ≡ agents_of (view value.now) }
 {
     if has_only(value, &["agents"]) {

@@ -6,5 +6,5 @@ pub split_seat-rest-requires : goal.split_seat-rest-requires
 split_seat-rest-requires g c = (
   search rules,
   let words = c.hall.invariant.0 in omega arith,
-  splits_kept g.V.Chronicle.opening g.V.Chronicle.entries g.V.Chronicle.owner _ _ _ _,
+  splits_kept g.V.Chronicle.opening g.V.Chronicle.entries g.V.Chronicle.owner g.V.Chronicle.goes_on _ _ _ _,
 )

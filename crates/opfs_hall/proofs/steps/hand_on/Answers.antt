@@ -11,10 +11,11 @@ fetch_add-served-requires g c =
     let adds = c.requires.adds in (
       c.exchange-before.ensures.0 ∙ c.requires.table.0,
       let words = c.requires.table.1.0 in omega arith,
-      hands_on_kept g.V.Chronicle.opening g.V.Chronicle.entries g.V.Chronicle.owner _ _ _ _ _ c.args.value adds.0
+      hands_on_kept g.V.Chronicle.opening g.V.Chronicle.entries g.V.Chronicle.owner g.V.Chronicle.goes_on g.V.Chronicle.stays g.V.Chronicle.lasts _ _ _ _ _ c.args.value adds.0
           (ap (λ m. m.0.inside) now ∙ c.requires.inside.0)
           (ap (λ m. m.1) now ∙ ap (λ (held : List (ℕ × Option g.row.V.Denot)). (0, value) ∷ rest held) c.requires.inside.1)
           (ap (λ m. m.0.opening) now ∙ c.requires.opening)
           (ap (λ m. m.0.number) now ∙ adds.1)
-          (subst (λ (base : List g.row.V-Entry.Denot). Adds g.V.Chronicle.owner adds.0 base (g.V.Chronicle.entries c.args.value)) (sym (ap (λ m. m.0.base) now)) adds.2),
+          (subst (λ (base : List g.row.V-Entry.Denot). Adds g.V.Chronicle.owner adds.0 base (g.V.Chronicle.entries c.args.value)) (sym (ap (λ m. m.0.base) now)) adds.2)
+          (c.requires.onward.0, ap (λ m. m.0.last) now ∙ c.requires.onward.1, c.requires.onward.2),
     )
