@@ -95,3 +95,9 @@ pub record MayAct (tells : Type 0) (o : Opening) (h calls : List Entry) (c : Cal
   pub numbers : HasSmallNumbers c.op
   pub copy : IsHandedIn tells o (h ++ calls) c.agent (row_named c.op) work
   pub given : past ≡ given_by (state_after o (h ++ calls)) c.agent c.op
+
+-- An agent's pending calls may be taken in after a history without a call.
+pub record MayTakePending (tells : Type 0) (o : Opening) (h calls : List Entry) (k : ℕ) : Type 0 where
+  pub live : IsTrue (agent_of (state_after o (h ++ calls)) k).live
+  pub pending : ArePendingFor tells (state_after o h) k calls
+  pub place : HasPlace o (h ++ calls) k

@@ -9,14 +9,14 @@ use std::alloc::AllocError;
 
 /// A store that many agents share, one call at a time. Its history is legal from its opening.
 pub trait Store: Chronicle<Entry = Entry> {
-    ghost use Rattle.std.specs.Prelude.{◌≡◌, ◌++◌, ◌+◌, ◌^◌, ◌<◌, ◌≤◌, ℕ, drop, length, IfOk, OnErr, is_ok, IsTrue, true};
+    ghost use Rattle.std.specs.Prelude.{◌≡◌, [], ◌++◌, ◌+◌, ◌^◌, ◌<◌, ◌≤◌, ℕ, drop, length, IfOk, OnErr, is_ok, IsTrue, true};
     ghost use Rattle.opfs_hist.specs.Faults.{disk_faults};
     ghost use Rattle.opfs_hist.specs.declared.entry.Entry.{Entry};
     ghost use Rattle.opfs_machine.specs.Histories.{state_after};
     ghost use Rattle.opfs_machine.specs.Openings.{Opening};
     ghost use Rattle.opfs_laws.specs.Histories.Unread.{IsTold};
     ghost use Rattle.opfs_outside.specs.Faults.{RoseBy};
-    ghost use Rattle.opfs_store.specs.Acts.Asking.{MayAct, IsThere};
+    ghost use Rattle.opfs_store.specs.Acts.Asking.{MayAct, MayTakePending, IsThere};
     ghost use Rattle.opfs_store.specs.Acts.Acting.{in_hand, IsServed, IsUnserved, always_acts, awaited};
 
     /// Whether the bytes that it gives are told. It is no function of the value.
@@ -51,6 +51,14 @@ pub trait Store: Chronicle<Entry = Entry> {
         ensures served { IfOk result (λ acted. IsServed tells (opened (Self.opening self.old)) (in_hand (Self.entries self.old) (faults self.old) pending.old work.old) (in_hand (Self.entries self.new) (faults self.new) pending.new work.new) (record { agent = agent; number = number; op = op }) acted) }
         ensures unserved { OnErr result (IsUnserved (in_hand (Self.entries self.old) (faults self.old) pending.old work.old) (in_hand (Self.entries self.new) (faults self.new) pending.new work.new)) }
         ensures ends { always_acts op ≡ true → IsTrue (is_ok result) };
+
+    /// Takes in an agent's pending calls, without a call. Takes no memory, and calls no disk.
+    fn take_in(&mut self, agent: u32, pending: &mut Pending)
+        requires may { MayTakePending tells (opened (Self.opening self.old)) (Self.entries self.old) pending.old agent }
+        ensures opening { Self.opening self.new ≡ Self.opening self.old }
+        ensures faults { faults self.new ≡ faults self.old }
+        ensures entries { Self.entries self.new ≡ Self.entries self.old ++ pending.old }
+        ensures taken { pending.new ≡ [] };
 
     /// How a tag stands for an agent (this project's own). Takes no memory.
     fn await_state(&self, agent: u32, tag: &str) -> AwaitState
