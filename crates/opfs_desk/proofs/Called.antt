@@ -14,13 +14,15 @@ use Rattle.opfs_machine.specs.Runs.{Call}
 use Rattle.opfs_outside.specs.Moments.{Elapses, elapses-trans}
 use Rattle.opfs_outside.specs.declared.disk.Disk.{Ghosts as DiskWords}
 use Rattle.opfs_work.specs.Works.{WorkingCopy}
-use Rattle.std.proofs.Common.{ℕ, ◌≤◌, List, [], sym, subst}
+use Rattle.std.proofs.Common.{ℕ, ◌≤◌, List, [], sym, subst, ◌∙◌, append-nil}
 use Rattle.opfs_desk.specs.Dispatch.Calling.{IsCalled, IsLeftAlone}
 use Rattle.opfs_pages.specs.HistoryLaws.Handles.{AreHandlesWhole}
 use Rattle.opfs_desk_steps.specs.Parts.Acted.{HasActed}
 use Rattle.opfs_desk_steps.specs.declared.parts.parts.DeskParts.{DeskParts}
 use Rattle.opfs_desk_bytes.specs.Reading.Handles.{HandlesGoOn}
+use Rattle.opfs_desk.specs.Keeping.{IsKept}
 use Rattle.opfs_desk.specs.Resting.{IsAtRest}
+use Rattle.opfs_desk.proofs.Keeping.{kept-on}
 use Rattle.opfs_desk.proofs.Moments.{fronts-still, keeps-still}
 use Rattle.opfs_desk.proofs.Passed.{fronts-acted, keeps-acted, once-now}
 
@@ -66,3 +68,10 @@ module _ {D : Type 0} (w : DiskWords D) (falls : Falls w) (shows : BooksShowThei
       read-way : w.tells → (x : List ℕ) → w.since new.ledger.journal.disk (w.moment old.ledger.journal.disk) x → IsShownOnce f.opening (floor (changes f.opening old.ledger.books.history)) old.ledger.books.history x
       read-way t x left =
           once-now w f old.ledger shows rest.held.recorded (state_after f.opening old.ledger.books.history) [] rest.held.are.books t x ((alone.reads.told t).moments x left)
+
+  -- What was kept stays kept.
+  pub stays-alone : IsLeftAlone w f old new → w.tells → (count moment : ℕ) → IsKept w f.opening old.ledger.books.history old.ledger.journal.disk count moment → IsKept w f.opening new.ledger.books.history new.ledger.journal.disk count moment
+  stays-alone alone t count moment =
+      kept-on w f.opening old.ledger.books.history [] new.ledger.books.history (alone.entries ∙ sym (append-nil old.ledger.books.history)) count moment old.ledger.journal.disk new.ledger.journal.disk (alone.reads.told t).time
+      (λ x left. subst (λ (es : List Entry). IsShownOnce f.opening (floor (changes f.opening old.ledger.books.history)) es x) (sym alone.entries)
+      (once-now w f old.ledger shows rest.held.recorded (state_after f.opening old.ledger.books.history) [] rest.held.are.books t x ((alone.reads.told t).moments x left)))

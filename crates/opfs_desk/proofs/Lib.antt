@@ -2,6 +2,7 @@ pub mod Apart
 pub mod Begun
 pub mod Called
 pub mod Iterated
+pub mod Keeping
 pub mod Moments
 pub mod Passed
 pub mod Shown

@@ -31,8 +31,10 @@ use Rattle.opfs_desk_steps.specs.Parts.Seen.{book_in}
 use Rattle.opfs_desk_steps.specs.declared.parts.parts.DeskParts.{DeskParts}
 use Rattle.opfs_desk_steps.specs.declared.parts.parts.Ledger.{Ledger}
 use Rattle.opfs_desk_steps.proofs.book_steps.Taken.{pending-told}
+use Rattle.opfs_desk.specs.Keeping.{IsKept}
 use Rattle.opfs_desk.specs.Moments.{KeepsContents, ShowsFronts}
 use Rattle.opfs_desk.specs.Resting.{IsAtRest}
+use Rattle.opfs_desk.proofs.Keeping.{kept-on}
 use Rattle.opfs_desk.proofs.Moments.{IsLastContent, fronts-on, keeps-on, kept-now, last-content}
 use Rattle.opfs_desk.proofs.Storing.{added-changes, own-few}
 use Rattle.opfs_desk.proofs.Sure.{none-doubted, recent-if, recent-last, stored-no-fault}
@@ -108,6 +110,10 @@ module _ {D : Type 0} (w : DiskWords D) (f : Fixed D) (old new : DeskParts D) (c
 
   pub fronts-acted : w.tells → ShowsFronts w o now f.begun new.ledger.journal.disk
   fronts-acted t = fronts-on w o h (added calls gone entry) now grown old.ledger.journal.disk new.ledger.journal.disk (has.way.time t) (way-once t) f.begun (rest.time t).later (rest.fronts t)
+
+  -- What was kept stays kept.
+  pub stays-acted : w.tells → (count moment : ℕ) → IsKept w o h old.ledger.journal.disk count moment → IsKept w o now new.ledger.journal.disk count moment
+  stays-acted t count moment = kept-on w o h (added calls gone entry) now grown count moment old.ledger.journal.disk new.ledger.journal.disk (has.way.time t) (way-once t)
 
   -- A content that was told since is the call's own.
   own-content : (n : ℕ) → length (changes o h) ≤ n → IsContentAt (changes o now) n → IsLastContent (changes o now) own n

@@ -30,7 +30,9 @@ use Rattle.opfs_desk_steps.specs.declared.parts.parts.Ledger.{Ledger}
 use Rattle.opfs_desk.specs.Seen.{DeskSeen, entries_of, disk_of, HasAcknowledged, ShowsNow}
 use Rattle.opfs_desk.proofs.Called.{Falls, time-on}
 use Rattle.opfs_desk.specs.Ending.{StandsWhole, ShowsEnding, EndsFronts, EndsKept, EndsTime, EndsWhole, KeepsSizes, LeavesFront}
+use Rattle.opfs_desk.specs.Keeping.{KeepsAll}
 use Rattle.opfs_desk.specs.Resting.{IsAtRest}
+use Rattle.opfs_desk.proofs.Keeping.{kept-now-on}
 use Rattle.opfs_desk.proofs.Moments.{fronts-still, keeps-still, once-front}
 use Rattle.opfs_desk.proofs.Passed.{doubt-by, once-doubt, once-now}
 use Rattle.opfs_desk.proofs.Sure.{recent-if}
@@ -43,6 +45,11 @@ module _ {D : Type 0} (w : DiskWords D) (d : DeskSeen D) (recorded : Built) (are
   pub acknowledged : BooksShowTheirImages w → w.tells → (front rest : List Entry) → entries_of d ≡ front ++ rest → HasAcknowledged w d front
   acknowledged law t front rest is c left =
       once-front d.fixed.opening (entries_of d) front rest c is (once-now w d.fixed d.parts.ledger law recorded (state_after d.fixed.opening (entries_of d)) [] are.books t c left)
+
+  -- And is kept from now on.
+  pub keeps-all : BooksShowTheirImages w → KeepsAll w d
+  keeps-all law t =
+      kept-now-on w d.fixed.opening (entries_of d) (disk_of d) (once-now w d.fixed d.parts.ledger law recorded (state_after d.fixed.opening (entries_of d)) [] are.books t)
 
   pub is-legal : IsTold w.tells d.fixed.opening (entries_of d)
   is-legal = told-whole w.tells d.fixed.opening (entries_of d) (state_after d.fixed.opening (entries_of d)) are.books.told

@@ -1,5 +1,6 @@
 pub mod Dispatch
 pub mod Apart
+pub mod Keeping
 pub mod Moments
 pub mod Resting
 pub mod Seen

@@ -3,6 +3,7 @@
 ghost use Rattle.std.specs.Prelude.{◌≡◌, ◌≤◌, true, IfOk, OnErr, IsTrue, is_ok};
 ghost use Rattle.opfs_store.specs.Acts.Acting.{always_acts};
 ghost use Rattle.opfs_store.specs.Acts.Asking.{MayAct};
+ghost use Rattle.opfs_desk.specs.Keeping.{StaysKept};
 ghost use Rattle.opfs_desk.specs.Passing.{HasNotServed, HasServed};
 ghost use Rattle.opfs_desk.specs.Seen.{disk_of, entries_of};
 
@@ -37,6 +38,7 @@ impl<D: Disk> Desk<D> {
         ensures fixed { self.new.fixed ≡ self.old.fixed }
         ensures later { D.faults (disk_of self.old) ≤ D.faults (disk_of self.new) }
         ensures served { IfOk result (λ acted. HasServed D.Disk self.old self.new pending.old pending.new work.old work.new (record { agent = agent; number = number; op = op }) acted) }
+        ensures stays { StaysKept D.Disk self.old self.new }
         ensures unserved { OnErr result (HasNotServed D.Disk self.old self.new pending.old pending.new work.old work.new) }
         ensures ends { always_acts op ≡ true → IsTrue (is_ok result) }
     {

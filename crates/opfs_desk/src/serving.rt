@@ -1,6 +1,7 @@
 //! The desk serves agents.
 
 ghost use Rattle.std.specs.Prelude.{refl};
+ghost use Rattle.opfs_desk.specs.Keeping.{KeepsAll};
 ghost use Rattle.opfs_desk.specs.Seen.{disk_of};
 
 use crate::desk::Desk;
@@ -19,6 +20,8 @@ impl<D: Disk> Store for Desk<D> {
     ghost faults = { λ d. D.faults (disk_of d) };
 
     ghost faults_before = { λ o. D.faults o.fixed.begun };
+
+    ghost keeps = { λ d. KeepsAll D.Disk d };
 
     fn act(
         &mut self,
@@ -47,6 +50,10 @@ impl<D: Disk> Store for Desk<D> {
 
     fn know_counts(&self) {
         Desk::counts(self)
+    }
+
+    fn know_kept(&self) {
+        Desk::know_kept(self)
     }
 
     ghost owned = { λ e. refl };

@@ -1,6 +1,7 @@
 //! What the desk keeps.
 
 ghost use Rattle.std.specs.Prelude.{◌≡◌, ◌++◌, ◌<◌, ◌^◌, List, length};
+ghost use Rattle.opfs_desk.specs.Keeping.{KeepsAll};
 ghost use Rattle.opfs_desk.specs.Moments.{KeepsContents, ShowsFronts};
 ghost use Rattle.opfs_desk.specs.Seen.{entries_of, disk_of, CountsFaults, HasAcknowledged, ShowsNow};
 ghost use Rattle.opfs_hist.specs.declared.entry.Entry.{Entry};
@@ -42,6 +43,14 @@ impl<D: Disk> Desk<D> {
     /// content.
     pub fn know_acknowledged(&self)
         ensures { D.tells → (front rest : List Entry) → entries_of self.now ≡ front ++ rest → HasAcknowledged D.Disk self.now front }
+    {
+        the_books_show_their_images::<D>();
+        let _ = &self.parts;
+    }
+
+    /// All that was entered is kept from this moment on.
+    pub fn know_kept(&self)
+        ensures { KeepsAll D.Disk self.now }
     {
         the_books_show_their_images::<D>();
         let _ = &self.parts;

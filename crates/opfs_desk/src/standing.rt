@@ -20,6 +20,7 @@ impl<D: Disk> Model for Opened<D> {
 }
 
 impl<D: Disk> Chronicle for Desk<D> {
+    ghost use Rattle.opfs_desk.specs.Keeping.{StaysKept};
     ghost use Rattle.opfs_desk.specs.Seen.{entries_of};
 
     type Opening = Opened<D>;
@@ -31,4 +32,10 @@ impl<D: Disk> Chronicle for Desk<D> {
     ghost entries = { λ d. entries_of d };
 
     ghost owner = { λ e. e.agent };
+
+    ghost goes_on = { λ a b. StaysKept D.Disk a b };
+
+    ghost stays = { λ d t count moment was. was };
+
+    ghost lasts = { λ a b c first second t count moment was. second t count moment (first t count moment was) };
 }

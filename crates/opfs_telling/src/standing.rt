@@ -31,4 +31,10 @@ impl<S: Store, K: Sink> Chronicle for Teller<S, K> {
     ghost entries = { λ t. S.entries t.store };
 
     ghost owner = { S.owner };
+
+    ghost goes_on = { λ t u. S.goes_on t.store u.store };
+
+    ghost stays = { λ t. S.stays t.store };
+
+    ghost lasts = { λ t u v first second. S.lasts t.store u.store v.store first second };
 }

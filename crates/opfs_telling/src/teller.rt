@@ -88,6 +88,8 @@ impl<S: Store, K: Sink> Store for Teller<S, K> {
 
     ghost faults_before = { λ o. S.faults_before o.of };
 
+    ghost keeps = { λ t. S.keeps t.store };
+
     fn act(
         &mut self,
         agent: u32,
@@ -118,6 +120,10 @@ impl<S: Store, K: Sink> Store for Teller<S, K> {
 
     fn know_counts(&self) {
         self.store.know_counts();
+    }
+
+    fn know_kept(&self) {
+        self.store.know_kept();
     }
 
     ghost owned = { S.owned };

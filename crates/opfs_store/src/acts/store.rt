@@ -31,6 +31,10 @@ pub trait Store: Chronicle<Entry = Entry> {
     /// How often its disk had failed when it was opened.
     ghost faults_before: { Self.Opening → ℕ };
 
+    /// What the store's type keeps at each moment, besides its history: for a desk, that each image which a stop may leave from now on has
+    /// what was stored.
+    ghost keeps: { Self → Type 0 };
+
     /// Makes one shared call: takes in the agent's pending calls, clears units where the call needs room, and enters the
     /// call with its reply. A disk fault is answered only where the count of the disk's faults rose in this call; it never falls.
     /// Where there is no memory nothing is entered, and the working copy has another room at most; abort, discard and end
@@ -48,6 +52,7 @@ pub trait Store: Chronicle<Entry = Entry> {
         requires may { MayAct tells (opened (Self.opening self.old)) (Self.entries self.old) pending.old (record { agent = agent; number = number; op = op }) work.old past.now }
         ensures opening { Self.opening self.new ≡ Self.opening self.old }
         ensures risen { faults self.old ≤ faults self.new }
+        ensures goes { Self.goes_on self.old self.new }
         ensures served { IfOk result (λ acted. IsServed tells (opened (Self.opening self.old)) (in_hand (Self.entries self.old) (faults self.old) pending.old work.old) (in_hand (Self.entries self.new) (faults self.new) pending.new work.new) (record { agent = agent; number = number; op = op }) acted) }
         ensures unserved { OnErr result (IsUnserved (in_hand (Self.entries self.old) (faults self.old) pending.old work.old) (in_hand (Self.entries self.new) (faults self.new) pending.new work.new)) }
         ensures ends { always_acts op ≡ true → IsTrue (is_ok result) };
@@ -57,6 +62,7 @@ pub trait Store: Chronicle<Entry = Entry> {
         requires may { MayTakePending tells (opened (Self.opening self.old)) (Self.entries self.old) pending.old agent }
         ensures opening { Self.opening self.new ≡ Self.opening self.old }
         ensures faults { faults self.new ≡ faults self.old }
+        ensures goes { Self.goes_on self.old self.new }
         ensures entries { Self.entries self.new ≡ Self.entries self.old ++ pending.old }
         ensures taken { pending.new ≡ [] };
 
@@ -81,6 +87,10 @@ pub trait Store: Chronicle<Entry = Entry> {
     /// store was opened.
     fn know_counts(&self)
         ensures { RoseBy (disk_faults (Self.entries self.now)) (faults_before (Self.opening self.now)) (faults self.now) };
+
+    /// What its type keeps at this moment.
+    fn know_kept(&self)
+        ensures { keeps self.now };
 
     /// An entry is its agent's.
     ghost owned: { (e : Entry) → Self.owner e ≡ e.agent };

@@ -3,9 +3,9 @@ use Rattle.std.specs.Option.{option_copied}
 use Rattle.opfs_data.proofs.SwapLemmas.{on_err}
 use Rattle.opfs_machine.specs.Runs.{Call}
 use Rattle.opfs_books.specs.Openings.Openings.{fixed_by}
-use Rattle.opfs_desk.proofs.Called.{is-called, is-told, rests-acted, rests-alone}
+use Rattle.opfs_desk.proofs.Called.{is-called, is-told, rests-acted, rests-alone, stays-alone}
 use Rattle.opfs_desk.proofs.Iterated.{reached-on, still-reached, up-to}
-use Rattle.opfs_desk.proofs.Passed.{settled-acted}
+use Rattle.opfs_desk.proofs.Passed.{settled-acted, stays-acted}
 use Rattle.opfs_desk.proofs.desk.Desk.act.Goals as goal
 
 pub act_call-requires-clause-may : goal.act_call-requires-clause-may
@@ -98,3 +98,21 @@ returns-in_err-acted-clause-unserved g c =
     let alone = c.in_err-acted.ensures.alone f (is-called g.D.Disk f old c.args.pending.now call c.args.work.now c.args.past.now c.self.invariant.rest may) in
     let same = c.in_err-acted.ensures.unacted in
     on_err c.from_residual.result _ (rw (← c.self.view_is) (record { unserved = record { entries = alone.entries; pending = same.0; work = same.1 }; reads = alone.reads }))
+
+pub returns-clause-stays : goal.returns-clause-stays
+returns-clause-stays g c =
+    let f = fixed_by g.D.Disk c.self.inside.from.value c.self.inside.agents.value.items in
+    let call : Call = record { agent = c.args.agent; number = c.args.number; op = c.args.op } in
+    let old = c.self.inside.parts in
+    let may = rw (← c.self.view_is) at c.requires.may in
+    let has = c.in_ok-acted.ensures.acted f (is-called g.D.Disk f old c.args.pending.now call c.args.work.now c.args.past.now c.self.invariant.rest may) in
+    rw (← c.self.view_is) (stays-acted g.D.Disk f old c.act_call.new.parts c.args.pending.now call c.args.work.now c.act_call.new.work c.in_ok-acted.acted c.self.invariant.rest may.pending has)
+
+pub returns-in_err-acted-clause-stays : goal.returns-in_err-acted-clause-stays
+returns-in_err-acted-clause-stays g c =
+    let f = fixed_by g.D.Disk c.self.inside.from.value c.self.inside.agents.value.items in
+    let call : Call = record { agent = c.args.agent; number = c.args.number; op = c.args.op } in
+    let old = c.self.inside.parts in
+    let may = rw (← c.self.view_is) at c.requires.may in
+    let alone = c.in_err-acted.ensures.alone f (is-called g.D.Disk f old c.args.pending.now call c.args.work.now c.args.past.now c.self.invariant.rest may) in
+    rw (← c.self.view_is) (stays-alone g.D.Disk (λ t. g.met.D.Disk.falls t) c.the_books_show_their_images.ensures f old c.act_call.new.parts c.args.pending.now call c.args.work.now c.args.past.now c.self.invariant.rest may alone)
