@@ -146,7 +146,11 @@ fn numbered_by_two(number: Option<u32>, rest: &[u8]) -> Option<LinePart<'_>>
 {
     match rest {
         [c, rest @ ..] => {
-            if *c == BLANK { behind(number, rest) } else { None }
+            if *c == BLANK {
+                behind(number, rest)
+            } else {
+                None
+            }
         }
         [] => None,
     }
@@ -191,7 +195,7 @@ pub fn read_asking(
     ensures asked { Answers result (asked_by agent number text.now) }
     ensures bounded { IfOk result IsBounded }
 {
-    if text == b"end" {
+    if text == b"end".as_slice() {
         return Ok(Asking::End);
     }
     let value = json_of(alloc, text)?;
