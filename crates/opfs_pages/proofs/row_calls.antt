@@ -5,6 +5,7 @@ pub mod Ways
 pub mod Blocks
 pub mod Windows
 pub mod Written
+pub mod Covered
 pub mod Placing
 pub mod Stores
 pub mod Moves

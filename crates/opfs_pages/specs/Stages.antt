@@ -22,6 +22,10 @@ use Rattle.opfs_pages.specs.declared.row_put.PageSource.{PageSource}
 abbrev pub changed : List ℕ → ℕ → List ℕ → ℕ → List ℕ
 changed old at given size = resize (splice old at given) size
 
+-- a put writes each byte that its row then has in the page
+abbrev pub IsCovered : PagePut → ℕ → Type 0
+IsCovered put i = (place : ℕ) → 4096 * i ≤ place → place < 4096 * i + 4096 → place < put.size → (put.at ≤ place) × (place < put.at + length put.given.now)
+
 -- What pages are staged of: the blocks that one page alone has, the pages of all rows, the row, its working copy, the bytes of
 -- the disk and where block 0 begins, and the call: bytes at a position, a size, and whether each page has to have a block.
 pub record Stage : Type 0 where

@@ -30,6 +30,6 @@ pub use row_calls::{
     Planned, after_flush, after_size, after_write, bring_near, collect_blocks, find_blocks,
     open_row, page_after, plan_call, plan_put, read_handle, read_row,
 };
-pub use row_put::{PagePut, PageSource, Planning, StoredRow};
+pub use row_put::{PagePut, PageSource, Planning, RowSource, StoredRow};
 pub use wide::{read_bytes, read_stored};
 pub use writing::{Put, RowPages, planned_pages_get_their_blocks};

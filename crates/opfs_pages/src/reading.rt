@@ -8,73 +8,65 @@ ghost use Rattle.opfs_work.specs.Pages.{page_at, is_far};
 ghost use Rattle.opfs_pages.specs.Copies.{IsPageOf, IsCopy, IsHeld};
 
 use crate::bytes::cut_page;
-use opfs_data::Swap;
+use crate::row_put::RowSource;
 use opfs_journal::{DiskFault, Journal};
 use opfs_outside::Disk;
-use opfs_work::Work;
 
-/// Reads a page of an open row, filled up with 0: from its working copy, or from the store. Block 0 begins at byte `base` of
-/// the disk. Takes no memory.
+/// Reads a page of an open row, filled up with 0: from its working copy, or from the store. Takes no memory.
 pub fn read_page<D: Disk>(
-    work: &Work,
-    swap: &Swap,
+    source: &RowSource<'_>,
     journal: &mut Journal<D>,
-    base: u64,
-    agent: u32,
-    row: u32,
     page: u64,
     into: &mut [u8],
 ) -> Result<(), DiskFault>
-    requires there { page < length work.now.pages }
+    requires there { page < length source.now.work.now.pages }
     requires whole { length into.old ≡ 4096 }
-    requires held { is_far (page_at work.now.pages page) ≡ true → page < length (pages_at agent row swap.now) }
-    requires lies { is_far (page_at work.now.pages page) ≡ true → LiesIn base (D.size journal.old.disk) (swap_page agent row page swap.now).block }
-    requires part { IsDataPart journal.old.areas base }
+    requires held { is_far (page_at source.now.work.now.pages page) ≡ true → page < length (pages_at source.now.agent source.now.row source.now.swap.now) }
+    requires lies { is_far (page_at source.now.work.now.pages page) ≡ true → LiesIn source.now.base (D.size journal.old.disk) (swap_page source.now.agent source.now.row page source.now.swap.now).block }
+    requires part { IsDataPart journal.old.areas source.now.base }
     ensures reads { Reads D.Disk journal.old journal.new }
-    ensures read { OnOk result (D.tells → (bytes : List ℕ) → IsCopy bytes work.now
-        → IsHeld bytes work.now page (page_of (D.content journal.old.disk) base (swap_page agent row page swap.now)) → IsPageOf bytes page into.new) }
+    ensures read { OnOk result (D.tells → (bytes : List ℕ) → IsCopy bytes source.now.work.now
+        → IsHeld bytes source.now.work.now page (page_of (D.content journal.old.disk) source.now.base (swap_page source.now.agent source.now.row page source.now.swap.now)) → IsPageOf bytes page into.new) }
     ensures whole { length into.new ≡ 4096 }
     ensures cause { OnErr result (Rose (D.faults journal.old.disk) (D.faults journal.new.disk)) }
 {
-    let _pages = work.pages();
-    if let Some(near) = work.near_page(page) {
+    let _pages = source.work.pages();
+    if let Some(near) = source.work.near_page(page) {
         into.copy_from_slice(near);
         return Ok(());
     }
-    if work.is_zero(page) {
+    if source.work.is_zero(page) {
         into.fill(0);
         return Ok(());
     }
-    swap.read(journal, base, agent, row, page, into)?;
-    cut_page(into, page, work.size());
+    source
+        .swap
+        .read(journal, source.base, source.agent, source.row, page, into)?;
+    cut_page(into, page, source.work.size());
     Ok(())
 }
 
 /// The same for any page, and zeros past the row's last one.
 pub fn fill_page<D: Disk>(
-    work: &Work,
-    swap: &Swap,
+    source: &RowSource<'_>,
     journal: &mut Journal<D>,
-    base: u64,
-    agent: u32,
-    row: u32,
     page: u64,
     buffer: &mut [u8],
 ) -> Result<(), DiskFault>
     requires buffer { length buffer.old ≡ 4096 }
-    requires held { is_far (page_at work.now.pages page) ≡ true → page < length (pages_at agent row swap.now) }
-    requires lies { is_far (page_at work.now.pages page) ≡ true → LiesIn base (D.size journal.old.disk) (swap_page agent row page swap.now).block }
-    requires part { IsDataPart journal.old.areas base }
+    requires held { is_far (page_at source.now.work.now.pages page) ≡ true → page < length (pages_at source.now.agent source.now.row source.now.swap.now) }
+    requires lies { is_far (page_at source.now.work.now.pages page) ≡ true → LiesIn source.now.base (D.size journal.old.disk) (swap_page source.now.agent source.now.row page source.now.swap.now).block }
+    requires part { IsDataPart journal.old.areas source.now.base }
     ensures reads { Reads D.Disk journal.old journal.new }
-    ensures read { OnOk result (D.tells → (bytes : List ℕ) → IsCopy bytes work.now
-        → IsHeld bytes work.now page (page_of (D.content journal.old.disk) base (swap_page agent row page swap.now)) → IsPageOf bytes page buffer.new) }
+    ensures read { OnOk result (D.tells → (bytes : List ℕ) → IsCopy bytes source.now.work.now
+        → IsHeld bytes source.now.work.now page (page_of (D.content journal.old.disk) source.now.base (swap_page source.now.agent source.now.row page source.now.swap.now)) → IsPageOf bytes page buffer.new) }
     ensures buffer { length buffer.new ≡ 4096 }
     ensures cause { OnErr result (Rose (D.faults journal.old.disk) (D.faults journal.new.disk)) }
 {
-    if page >= work.pages() {
+    if page >= source.work.pages() {
         buffer.fill(0);
         return Ok(());
     }
-    read_page(work, swap, journal, base, agent, row, page, buffer)?;
+    read_page(source, journal, page, buffer)?;
     Ok(())
 }

@@ -25,6 +25,16 @@ pub struct PageSource<'a> {
     pub base: u64,
 }
 
+/// An open row that is read: whose it is, its working copy, and the pages of all rows. Block 0 begins at byte `base` of the disk.
+#[derive(Clone, Copy)]
+pub struct RowSource<'a> {
+    pub agent: u32,
+    pub row: u32,
+    pub work: &'a Work,
+    pub swap: &'a Swap,
+    pub base: u64,
+}
+
 /// An open row that is read where the store has each page: whose it is, and the pages of all rows. Block 0 begins at byte `base`
 /// of the disk.
 #[derive(Clone, Copy)]

@@ -9,9 +9,8 @@ ghost use Rattle.opfs_work.specs.Pages.{page_at, is_far};
 ghost use Rattle.opfs_pages.specs.Copies.{IsPageOf, IsCopy, IsHeld, IsNamed, IsRight, HasMore, HasSame};
 ghost use Rattle.opfs_pages.specs.Stages.{changed};
 
-use crate::bytes::{cut_page, overlay};
-use crate::reading::fill_page;
-use crate::row_put::{PagePut, PageSource};
+use crate::row_calls::page_after;
+use crate::row_put::{PagePut, PageSource, RowSource};
 use opfs_base::BLOCK_SIZE;
 use opfs_data::{DataRefusal, PageWrites};
 use opfs_journal::Journal;
@@ -47,18 +46,14 @@ pub(crate) fn stage_page<D: Disk>(
     ensures buffer { length buffer.new ≡ 4096 }
     ensures cause { IsErrOf result DataRefusal.DiskFault → Rose (D.faults journal.old.disk) (D.faults journal.new.disk) }
 {
-    fill_page(
-        source.work,
-        source.swap,
-        journal,
-        source.base,
-        put.agent,
-        put.row,
-        page,
-        buffer,
-    )?;
-    overlay(buffer, page, put.at, put.given);
-    cut_page(buffer, page, put.size);
+    let row = RowSource {
+        agent: put.agent,
+        row: put.row,
+        work: source.work,
+        swap: source.swap,
+        base: source.base,
+    };
+    page_after(&row, put, page, journal, buffer)?;
     add_page(writes, page, block, buffer)?;
     Ok(())
 }

@@ -1,61 +1,49 @@
 // Bytes of an open row, wherever its pages are.
-ghost use Rattle.std.specs.Prelude.{◌≡◌, ℕ, ◌+◌, ◌-◌, ◌*◌, ◌^◌, ◌<◌, ◌≤◌, List, length, slice_index, OnOk, OnErr};
+ghost use Rattle.std.specs.Prelude.{◌≡◌, ℕ, ◌+◌, ◌-◌, ◌*◌, ◌/◌, ◌^◌, ◌<◌, ◌≤◌, List, length, slice_index, OnOk, OnErr};
 ghost use Rattle.opfs_base.specs.Blocks.{blocks};
 ghost use Rattle.opfs_outside.specs.Faults.{Rose};
 ghost use Rattle.opfs_splice.specs.Splicing.{window};
 ghost use Rattle.opfs_data.specs.Calls.{Reads};
 ghost use Rattle.opfs_data.specs.Pages.{page_of, LiesIn, IsDataPart};
 ghost use Rattle.opfs_data.specs.Rows.{pages_at, page_at as swap_page};
-ghost use Rattle.opfs_pages.specs.Copies.{IsCopy, IsBegun, AreHeld, HasFar};
+ghost use Rattle.opfs_pages.specs.Copies.{IsCopy, IsPageOf, IsBegun, AreHeld, HasFar};
 
 use crate::bytes::copy_into;
 use crate::reading::read_page;
-use crate::row_put::StoredRow;
+use crate::row_put::{RowSource, StoredRow};
 use opfs_base::BLOCK_SIZE;
-use opfs_data::Swap;
 use opfs_journal::{DiskFault, Journal};
 use opfs_outside::Disk;
-use opfs_work::Work;
 
-/// Reads bytes of an open row from a position on: from its working copy, or from the store. A buffer has each page. Takes no
-/// memory.
+/// Reads bytes of an open row from a position on: from its working copy, or from the store. A buffer has each page,
+/// and at last that of the last byte. Takes no memory.
 pub fn read_bytes<D: Disk>(
-    work: &Work,
-    swap: &Swap,
+    source: &RowSource<'_>,
     journal: &mut Journal<D>,
-    base: u64,
-    agent: u32,
-    row: u32,
     at: u64,
     buffer: &mut [u8],
     into: &mut [u8],
 ) -> Result<(), DiskFault>
     requires buffer { length buffer.old ≡ 4096 }
-    requires within { at + length into.old ≤ work.now.length }
-    requires far { HasFar work.now base (D.size journal.old.disk) (pages_at agent row swap.now) }
-    requires part { IsDataPart journal.old.areas base }
+    requires within { at + length into.old ≤ source.now.work.now.length }
+    requires far { HasFar source.now.work.now source.now.base (D.size journal.old.disk) (pages_at source.now.agent source.now.row source.now.swap.now) }
+    requires part { IsDataPart journal.old.areas source.now.base }
     ensures reads { Reads D.Disk journal.old journal.new }
-    ensures read { OnOk result (D.tells → (bytes : List ℕ) → IsCopy bytes work.now → AreHeld bytes work.now (D.content journal.old.disk) base (pages_at agent row swap.now)
+    ensures read { OnOk result (D.tells → (bytes : List ℕ) → IsCopy bytes source.now.work.now → AreHeld bytes source.now.work.now (D.content journal.old.disk) source.now.base (pages_at source.now.agent source.now.row source.now.swap.now)
         → into.new ≡ window bytes at (length into.old)) }
+    ensures buffer { length buffer.new ≡ 4096 }
+    ensures last { OnOk result (D.tells → (bytes : List ℕ) → IsCopy bytes source.now.work.now → AreHeld bytes source.now.work.now (D.content journal.old.disk) source.now.base (pages_at source.now.agent source.now.row source.now.swap.now)
+        → 0 < length into.old → IsPageOf bytes ((at + length into.old - 1) / 4096) buffer.new) }
     ensures cause { OnErr result (Rose (D.faults journal.old.disk) (D.faults journal.new.disk)) }
 {
-    let _pages = work.pages();
-    let size = work.size();
+    let _pages = source.work.pages();
+    let size = source.work.size();
     let len = into.len() as u64;
     let mut done = 0;
     while done < len {
         let place = at + done;
         prove!(place < size);
-        read_page(
-            work,
-            swap,
-            journal,
-            base,
-            agent,
-            row,
-            place / BLOCK_SIZE,
-            buffer,
-        )?;
+        read_page(source, journal, place / BLOCK_SIZE, buffer)?;
         done += copy_part(buffer, place % BLOCK_SIZE, into, done);
     }
     Ok(())

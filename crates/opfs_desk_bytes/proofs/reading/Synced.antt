@@ -1,5 +1,5 @@
 -- A read of an access handle, put together from its steps.
-use Rattle.std.proofs.Common.{◌≡◌, ◌≢◌, ℕ, ◌-◌, ◌*◌, ◌<◌, ◌/◌, min, zero, suc, is_some, true, List, [], ◌∷◌, ◌++◌, fold, length, map, replicate, drop, slice_index, option_map, Option, Some, refl, sym, ap, ◌∙◌, subst, append-nil, inl, arith}
+use Rattle.std.proofs.Common.{◌≡◌, ◌≢◌, ℕ, ◌-◌, ◌*◌, ◌<◌, min, zero, suc, is_some, true, List, [], ◌∷◌, ◌++◌, fold, length, map, replicate, drop, slice_index, option_map, Option, Some, refl, sym, ap, ◌∙◌, subst, append-nil, inl, arith}
 use Rattle.std.proofs.lemmas.Bool.{false≢true, lt-ltb}
 use Rattle.std.proofs.lemmas.List.{length-take, length-drop}
 use Rattle.std.specs.Prelude.{IsTrue}
@@ -120,11 +120,11 @@ module _ {D : Type 0} (w : DiskWords D) (copies : CopiesAreStored w) (f : Fixed 
       ∙ size-in (state_after f.opening (l.books.history ++ calls)) copied-row.row copied-row.copy.bytes copied-row.copy.open_row ∙ sym copied-row.copy.size
 
   pub is-read : (before : List ℕ) (n start len : ℕ) → (w.tells → w.content l.journal.disk ≡ before) → n ≡ row_named c.op → start ≡ read_start c.sizes c.op → len ≡ read_len c.op
-      → (bytes copied : Text) (cursor : ℕ) (page : List ℕ) → length bytes ≡ min len (work.length - start)
+      → (bytes copied : Text) (cursor beside : ℕ) (page : List ℕ) → length bytes ≡ min len (work.length - start)
       → (w.tells → (b : List ℕ) → IsCopy b work → AreHeld b work before p.base (pages_at c.agent n p.swap) → bytes ≡ window b start len) → copied ≡ bytes → cursor ≡ end_of_read work.length start len
-      → (w.tells → (b : List ℕ) → IsCopy b work → AreHeld b work before p.base (pages_at c.agent n p.swap) → IsPageOf b (cursor / 4096) page)
-      → (row : Text) → row_bytes (state_after f.opening (l.books.history ++ calls)) c.agent (row_named c.op) ≡ Some row → IsReadOf w.tells row c.sizes c.op bytes copied cursor page
-  is-read before n start len content number starts lens bytes copied cursor page size read same behind page_is row is =
+      → (w.tells → (b : List ℕ) → IsCopy b work → AreHeld b work before p.base (pages_at c.agent n p.swap) → IsPageOf b beside page)
+      → (row : Text) → row_bytes (state_after f.opening (l.books.history ++ calls)) c.agent (row_named c.op) ≡ Some row → IsReadOf w.tells row c.sizes c.op bytes copied cursor beside page
+  is-read before n start len content number starts lens bytes copied cursor beside page size read same behind page_is row is =
       let kept : w.tells → AreHeld row work before p.base (pages_at c.agent n p.swap) = λ t.
       subst (λ (x : List ℕ). AreHeld row work x p.base (pages_at c.agent n p.swap)) (content t)
       (subst (λ (m : ℕ). AreHeld row work (w.content l.journal.disk) p.base (pages_at c.agent m p.swap)) (sym number) (stored.held t row is)) in
@@ -201,7 +201,7 @@ module _ {D : Type 0} (w : DiskWords D) (asks : AskedCallsAreReady w) (answers :
   sizes-are : c.sizes ≡ record { size = length held-bytes; position = x.cursor }
   sizes-are = ready.sizes ∙ ap (λ (t : State Text Own). sizes_of t c.agent c.op) (sym same) ∙ ap (sizes_in s) at-s
 
-  module _ (bytes copied : Text) (cursor : ℕ) (page : List ℕ) (read : IsReadOf w.tells held-bytes c.sizes c.op bytes copied cursor page) where
+  module _ (bytes copied : Text) (cursor beside : ℕ) (page : List ℕ) (read : IsReadOf w.tells held-bytes c.sizes c.op bytes copied cursor beside page) where
     abbrev pub entry : Entry
     entry = told_entry (call_in c) (reply.Read copied)
 
@@ -355,7 +355,7 @@ module _ {D : Type 0} (w : DiskWords D) (asks : AskedCallsAreReady w) (answers :
           -- ---- all of it
 
           module _ (stand : HandlesStand w.tells) (acts : CallsAreActed w) (made : WorkingCopy) (rest : made ≡ record work { pages = made.pages; position = cursor }) (paged : IsPaged made)
-              (copy : w.tells → (row_bytes : Text) → IsCopy row_bytes work → IsPageOf row_bytes (cursor / 4096) page → IsCopy row_bytes made) where
+              (copy : w.tells → (row_bytes : Text) → IsCopy row_bytes work → IsPageOf row_bytes beside page → IsCopy row_bytes made) where
             before-is : stood.copy.bytes ≡ held-bytes
             before-is = some-text stood.copy.bytes held-bytes (sym stood.copy.open_row ∙ ap (open_bytes (state_after f.opening (l.books.history ++ calls))) (sym stood.there) ∙ bytes-before)
               where

@@ -72,14 +72,14 @@ use Rattle.opfs_desk_bytes.specs.Writing.Plans.{HasClearedWay, HasTakenIn, IsPla
 use Rattle.opfs_desk_bytes.specs.Writing.Leaving.{IsCut, IsWritten}
 use Rattle.opfs_desk_bytes.specs.Writing.Putting.{AreGottenIn, IsToPut, IsUsed}
 use Rattle.opfs_desk_bytes.specs.Writing.Steps.{HasEntered, HasNotEntered, IsPlannedOf, MayEnter}
-use Rattle.opfs_desk_bytes.specs.Writing.Words.{bytes_put, change_put, counts_bytes, position_put, reply_put, text_put}
+use Rattle.opfs_desk_bytes.specs.Writing.Words.{beside_put, bytes_put, change_put, counts_bytes, position_put, reply_put, text_put}
 use Rattle.opfs_desk_bytes.specs.declared.writing.target.Target.{Target}
 use Rattle.opfs_desk_bytes.proofs.writing.Begun.{answered, at-s, done, files, live-s, machine-back, may-s, opened-s, read-alike, ready, some, stood, to-put}
 use Rattle.opfs_desk_bytes.proofs.writing.Found.{behind-areas}
 use Rattle.opfs_desk_bytes.proofs.writing.Put.{held-now, next, put-of-alike, state-is, text-length}
 use Rattle.opfs_desk_bytes.proofs.writing.Rows.{IsNext, one-text, rows-put}
 use Rattle.opfs_desk_bytes.proofs.writing.Used.{used-both}
-use Rattle.opfs_desk_bytes.proofs.writing.Words.{cut-at, done-put, leaves-named, no-gift, on-disk, row-some, written-at}
+use Rattle.opfs_desk_bytes.proofs.writing.Words.{beside-position, cut-at, done-put, leaves-named, no-gift, on-disk, row-some, written-at}
 
 -- ---- replies
 
@@ -185,6 +185,7 @@ module _ {D : Type 0} (w : DiskWords D) (f : Fixed D) (l : Ledger D) (calls : Li
         at_is = target.at ∙ is.0;
         none = count ∙ is.1;
         position_is = target.position ∙ is.2 ∙ (λ i. min (position-is i) (sym target.size i));
+        beside_is = target.beside ∙ is.3 ∙ (λ i. min (position-is i) (sym target.size i));
       }
 
 -- ---- the call, step by step
@@ -316,8 +317,8 @@ module _ {D : Type 0} (w : DiskWords D) (asks : AskedCallsAreReady w) (answers :
     -- ---- the working copy
 
     module _ (made : WorkingCopy) (size : made.length ≡ t.size) (position : made.position ≡ t.position) (reserve : made.reserve ≡ reserve_for work.reserve t.size) (paged : IsPaged made)
-        (near : is_far (page_at made.pages (made.position / 4096)) ≡ false) (given : List ℕ) (given_is : given ≡ bytes_put c.op)
-        (copy : (bytes : List ℕ) → IsCopy bytes work → IsPageOf (changed bytes t.at given t.size) (t.position / 4096) page → IsCopy (changed bytes t.at given t.size) made) where
+        (near : is_far (page_at made.pages (t.beside / 4096)) ≡ false) (given : List ℕ) (given_is : given ≡ bytes_put c.op)
+        (copy : (bytes : List ℕ) → IsCopy bytes work → IsPageOf (changed bytes t.at given t.size) (t.beside / 4096) page → IsCopy (changed bytes t.at given t.size) made) where
       text-same : changed first t.at given t.size ≡ text
       text-same = λ i. changed first (plan.target.at i) (given_is i) (plan.target.size i)
 
@@ -325,8 +326,8 @@ module _ {D : Type 0} (w : DiskWords D) (asks : AskedCallsAreReady w) (answers :
       copied tt =
           subst (λ (xs : List ℕ). IsCopy xs made) text-same
           (copy first (record { same = stands-first.copy.same tt })
-          (subst (λ (n : ℕ). IsPageOf (changed first t.at given t.size) (n / 4096) page) (sym plan.target.position)
-          (subst (λ (xs : List ℕ). IsPageOf xs (position_put c.sizes c.op / 4096) page) (sym text-same) (planned.page_is tt))))
+          (subst (λ (n : ℕ). IsPageOf (changed first t.at given t.size) (n / 4096) page) (sym plan.target.beside)
+          (subst (λ (xs : List ℕ). IsPageOf xs (beside_put c.sizes c.op / 4096) page) (sym text-same) (planned.page_is tt))))
 
       state-then : state_after f.opening (bt.ledger.books.history ++ e ∷ []) ≡ after
       state-then = ap (state_after f.opening) (sym entered.told.entries) ∙ state-now
@@ -363,7 +364,8 @@ module _ {D : Type 0} (w : DiskWords D) (asks : AskedCallsAreReady w) (answers :
             left = record {
               refused = λ refusal. absurd (false≢true (sym (done-put c.op puts) ∙ refusal));
               stands = λ plain_done. left-row (row_left (length (agent_of (state_after f.opening new.ledger.books.history) c.agent).own) c.op) (leaves-named _ c.op puts);
-              near = λ plain_done brings within. near;
+              near = λ plain_done brings within.
+                  subst (λ (n : ℕ). is_far (page_at made.pages (n / 4096)) ≡ false) (plan.target.beside ∙ beside-position c.sizes c.op puts brings ∙ sym (position ∙ plan.target.position)) near;
             };
             gift =
                 let nothing = no-gift (state_after f.opening (l.books.history ++ calls)) c.op puts in

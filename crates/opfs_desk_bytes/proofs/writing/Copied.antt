@@ -13,18 +13,17 @@ none-there : (xs : List ℕ) → length xs ≡ 0 → xs ≡ []
 none-there [] is = refl
 none-there (x ∷ xs) is = absurd (omega (arith, is))
 
-pub written-copy : (bytes given page : List ℕ) (old new : WorkingCopy) (t : Target) (len : ℕ) → IsWritten old t len → length given ≡ len → IsCopy bytes old → IsPageOf (changed bytes t.at given t.size) (t.position / 4096) page
-    → ((was more : List ℕ) → length more ≡ len → IsCopy was old → IsPageOf (changed was t.at more (max old.length (t.at + len))) ((t.at + len) / 4096) page → IsCopy (splice was t.at more) new)
+pub written-copy : (bytes given page : List ℕ) (old new : WorkingCopy) (t : Target) (len : ℕ) → IsWritten old t len → length given ≡ len → IsCopy bytes old → IsPageOf (changed bytes t.at given t.size) (t.beside / 4096) page
+    → ((was more : List ℕ) → length more ≡ len → IsCopy was old → IsPageOf (changed was t.at more (max old.length (t.at + len))) (t.beside / 4096) page → IsCopy (splice was t.at more) new)
     → IsCopy (changed bytes t.at given t.size) new
 written-copy bytes given page old new t len is count copy whole left =
     let size : t.size ≡ max (length bytes) (t.at + length given) = is.size_is ∙ (λ i. max (sym (copied_length bytes old copy) i) (t.at + sym count i)) in
     let all : changed bytes t.at given t.size ≡ splice bytes t.at given = ap (λ (n : ℕ). changed bytes t.at given n) size ∙ written_is bytes given t.at in
     subst (λ (xs : List ℕ). IsCopy xs new) (sym all)
     (left bytes given count copy
-    (subst (λ (n : ℕ). IsPageOf (changed bytes t.at given n) ((t.at + len) / 4096) page) is.size_is
-    (subst (λ (n : ℕ). IsPageOf (changed bytes t.at given t.size) (n / 4096) page) is.position_is whole)))
+    (subst (λ (n : ℕ). IsPageOf (changed bytes t.at given n) (t.beside / 4096) page) is.size_is whole))
 
-pub cut-copy : (bytes given page : List ℕ) (old new : WorkingCopy) (t : Target) (len : ℕ) → IsCut old t len → length given ≡ len → IsCopy bytes old → IsPageOf (changed bytes t.at given t.size) (t.position / 4096) page
+pub cut-copy : (bytes given page : List ℕ) (old new : WorkingCopy) (t : Target) (len : ℕ) → IsCut old t len → length given ≡ len → IsCopy bytes old → IsPageOf (changed bytes t.at given t.size) (t.beside / 4096) page
     → ((was : List ℕ) → IsCopy was old → IsPageOf (changed was 0 [] t.size) (min old.position t.size / 4096) page → IsCopy (resize was t.size) new)
     → IsCopy (changed bytes t.at given t.size) new
 cut-copy bytes given page old new t len is count copy whole left =
@@ -33,4 +32,4 @@ cut-copy bytes given page old new t len is count copy whole left =
     subst (λ (xs : List ℕ). IsCopy xs new) (sym (same ∙ resized_is bytes t.size))
     (left bytes copy
     (subst (λ (xs : List ℕ). IsPageOf xs (min old.position t.size / 4096) page) same
-    (subst (λ (n : ℕ). IsPageOf (changed bytes t.at given t.size) (n / 4096) page) is.position_is whole)))
+    (subst (λ (n : ℕ). IsPageOf (changed bytes t.at given t.size) (n / 4096) page) is.beside_is whole)))

@@ -53,7 +53,7 @@ use Rattle.opfs_desk_steps.specs.RowLaws.Puts.{puts_row, size_put}
 use Rattle.opfs_desk_steps.proofs.book_steps.LaidStays.{LaidBeside}
 use Rattle.opfs_desk_bytes.specs.Writing.Plans.{IsPlan, IsTargetOf}
 use Rattle.opfs_desk_bytes.specs.Writing.Steps.{IsPlannedOf}
-use Rattle.opfs_desk_bytes.specs.Writing.Words.{bytes_put, place_put, position_put, text_put}
+use Rattle.opfs_desk_bytes.specs.Writing.Words.{beside_put, bytes_put, place_put, text_put}
 use Rattle.opfs_desk_bytes.specs.declared.writing.target.Target.{Target}
 use Rattle.opfs_desk_bytes.proofs.writing.Found.{gotten-same}
 use Rattle.opfs_desk_bytes.proofs.writing.Words.{row-some}
@@ -176,7 +176,7 @@ module _ {D : Type 0} (w : DiskWords D) (copies : CopiesAreStored w) (f : Fixed 
     (t : Target) (target : IsTargetOf c.sizes c.op t) (given : List ℕ) (bytes : given ≡ bytes_put c.op)
     (room : IsSameCopy work new) (same : HasSamePages c.agent t.row p.swap q.swap) (base_is : q.base ≡ p.base) (read : w.tells → w.content l.journal.disk ≡ content)
     (paged : length new.pages ≡ blocks new.length) (writes : WriteList) (page : List ℕ) (staged : IsStagedFor w.tells new content p.base p.swap c.agent t.row t.at given t.size false writes)
-    (page_is : w.tells → (b : List ℕ) → IsCopy b work → AreHeld b work content p.base (pages_at c.agent t.row p.swap) → IsPageOf (changed b t.at given t.size) (t.position / 4096) page) where
+    (page_is : w.tells → (b : List ℕ) → IsCopy b work → AreHeld b work content p.base (pages_at c.agent t.row p.swap) → IsPageOf (changed b t.at given t.size) (t.beside / 4096) page) where
   abbrev row : ℕ
   row = row_named c.op
 
@@ -217,8 +217,8 @@ module _ {D : Type 0} (w : DiskWords D) (copies : CopiesAreStored w) (f : Fixed 
         after_is = refl;
       };
       page_is = λ told.
-          subst (λ (xs : List ℕ). IsPageOf xs (position_put c.sizes c.op / 4096) page) text-same
-          (subst (λ (n : ℕ). IsPageOf (changed before t.at given t.size) (n / 4096) page) target.position
+          subst (λ (xs : List ℕ). IsPageOf xs (beside_put c.sizes c.op / 4096) page) text-same
+          (subst (λ (n : ℕ). IsPageOf (changed before t.at given t.size) (n / 4096) page) target.beside
           (page_is told before (copy-back before work new room (its-stored.copy told before is))
           (held-back before work new content p.base (pages_at c.agent t.row p.swap) room
           (subst (λ (n : ℕ). AreHeld before new content p.base (pages_at c.agent n p.swap)) (sym target.row) (held-then told)))));
@@ -250,7 +250,7 @@ module _ {D : Type 0} (w : DiskWords D) (beside : LaidBeside w.tells) (keep : Re
       (ready : IsReady w.tells (w.content j.disk) q.base q.swap c.agent n (blocks t.size) put.writes put.moves (vec_capacity put.extents))
       (gotten : (m : Machine) (other : Tree) → AreSpaced m (shelf other tree p.swap) p.space → p.base + 4096 * length p.space.used ≤ w.size l.journal.disk → length p.space.used ≤ 2 ^ 32
       → AreGotten put.taken m (shelf other tree q.swap) q.space p.base (w.size l.journal.disk) c.agent n (blocks t.size) put.writes given put.extents.items)
-      (whole : length page ≡ 4096) (tail : (i : ℕ) → t.size ≤ i → i / 4096 ≡ t.position / 4096 → slice_index page (i % 4096) ≡ 0) (room : blocks t.size ≤ new.room) where
+      (whole : length page ≡ 4096) (tail : (i : ℕ) → t.size ≤ i → i / 4096 ≡ t.beside / 4096 → slice_index page (i % 4096) ≡ 0) (room : blocks t.size ≤ new.room) where
     gotten-then : AreGotten put.taken (machine_in l) (shelf [] (tree_in l) q.swap) q.space q.base (w.size j.disk) c.agent (row_named c.op) put.pages put.writes (bytes_put c.op) put.extents.items
     gotten-then =
         let in-l = inside f recorded l p held in
@@ -276,6 +276,6 @@ module _ {D : Type 0} (w : DiskWords D) (beside : LaidBeside w.tells) (keep : Re
         gotten = gotten-then;
       };
       whole = whole;
-      tail = λ i from at. tail i (subst (λ (b : ℕ). b ≤ i) (sym target.size) from) (at ∙ ap (λ (b : ℕ). b / 4096) (sym target.position));
+      tail = λ i from at. tail i (subst (λ (b : ℕ). b ≤ i) (sym target.size) from) (at ∙ ap (λ (b : ℕ). b / 4096) (sym target.beside));
       room = subst (λ (b : ℕ). blocks b ≤ new.room) target.size room;
     }

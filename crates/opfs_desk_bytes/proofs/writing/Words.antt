@@ -2,7 +2,7 @@
 use Rattle.std.proofs.Common.{◌≡◌, ◌≢◌, ℕ, ◌+◌, ◌^◌, ◌<◌, ◌≤◌, min, max, zero, suc, true, false, [], List, length, None, Ok, refl, ap, ◌∙◌, arith}
 use Rattle.std.proofs.lemmas.Bool.{false≢true}
 use Rattle.std.specs.Prelude.{IsTrue}
-use Rattle.opfs_store.specs.Acts.Acting.{gift_of, row_left}
+use Rattle.opfs_store.specs.Acts.Acting.{brings_position, gift_of, row_left}
 use Rattle.opfs_store.specs.declared.acts.acted.Gift.TheVariants as gift
 use Rattle.opfs_base.specs.Texts.{Text}
 use Rattle.opfs_books.specs.Stored.Spelled.{spelled_by}
@@ -11,7 +11,7 @@ use Rattle.opfs_state_rows.specs.Changes.Asking.{made_at}
 use Rattle.opfs_state_rows.specs.Changes.Changed.{freed_in}
 use Rattle.opfs_pages.specs.HistoryLaws.Hands.{row_in_hand}
 use Rattle.opfs_desk_steps.specs.RowLaws.Puts.{puts_row, size_put}
-use Rattle.opfs_desk_bytes.specs.Writing.Words.{bytes_put, place_put, position_put, reply_put, writes_bytes}
+use Rattle.opfs_desk_bytes.specs.Writing.Words.{beside_put, bytes_put, place_put, position_put, reply_put, writes_bytes}
 use Rattle.opfs_hist.specs.Sums.{asks_for_row}
 use Rattle.opfs_hist.specs.declared.op.Op.{Op}
 use Rattle.opfs_hist.specs.declared.op.Op.TheVariants as op
@@ -49,6 +49,20 @@ position-within z (op.Truncate n size) h = omega arith
 position-within z (op.SyncWrite n bytes at) h = omega arith
 position-within z (op.SyncTruncate n size) h = omega arith
 position-within z o h = cc
+
+pub beside-within : (z : Sizes) (o : Op) → puts_row o ≡ true → beside_put z o ≤ size_put z o
+beside-within z (op.Write n bytes position) h = omega arith
+beside-within z (op.Truncate n size) h = omega arith
+beside-within z (op.SyncWrite n bytes at) h = omega arith
+beside-within z (op.SyncTruncate n size) h = omega arith
+beside-within z o h = cc
+
+pub beside-position : (z : Sizes) (o : Op) → puts_row o ≡ true → brings_position o ≡ true → beside_put z o ≡ position_put z o
+beside-position z (op.Write n bytes position) h brings = refl
+beside-position z (op.Truncate n size) h brings = refl
+beside-position z (op.SyncWrite n bytes at) h brings = absurd (false≢true brings)
+beside-position z (op.SyncTruncate n size) h brings = absurd (false≢true brings)
+beside-position z o h brings = cc
 
 pub plain : (o : Op) → puts_row o ≡ true → evicted_by o ≡ None
 plain (op.Write n bytes position) h = refl
@@ -155,9 +169,9 @@ written-at z (op.Write n bytes position) h = (refl, refl)
 written-at z (op.SyncWrite n bytes at) h = (refl, refl)
 written-at z o h = cc
 
-pub cut-at : (z : Sizes) (o : Op) → puts_row o ≡ true → writes_bytes o ≡ false → (place_put z o ≡ 0) × (length (bytes_put o) ≡ 0) × (position_put z o ≡ min z.position (size_put z o))
-cut-at z (op.Truncate n size) h w = (refl, refl, refl)
-cut-at z (op.SyncTruncate n size) h w = (refl, refl, refl)
+pub cut-at : (z : Sizes) (o : Op) → puts_row o ≡ true → writes_bytes o ≡ false → (place_put z o ≡ 0) × (length (bytes_put o) ≡ 0) × (position_put z o ≡ min z.position (size_put z o)) × (beside_put z o ≡ min z.position (size_put z o))
+cut-at z (op.Truncate n size) h w = (refl, refl, refl, refl)
+cut-at z (op.SyncTruncate n size) h w = (refl, refl, refl, refl)
 cut-at z o h w = cc
 
 pub frees-none : (m : Machine) (t : Tree) (k : ℕ) (o : Op) → puts_row o ≡ true → freed_in m t k o None ≡ []

@@ -1,5 +1,5 @@
 -- A call that reads bytes, step by step: syncRead and getFile. This project's own.
-use Rattle.std.specs.Prelude.{◌≡◌, ℕ, ◌-◌, ◌/◌, min, List, [], ◌++◌, length, Some, IsTrue}
+use Rattle.std.specs.Prelude.{◌≡◌, ℕ, ◌-◌, min, List, [], ◌++◌, length, Some, IsTrue}
 use Rattle.opfs_base.specs.Places.{Place}
 use Rattle.opfs_base.specs.Texts.{Text}
 use Rattle.opfs_books.specs.Laws.Books.{Fixed}
@@ -45,20 +45,20 @@ pub record BeginsRead {D : Type 0} (w : DiskWords D) (f : Fixed D) (recorded : B
   pub held : AreHeldWhole w f recorded l p
   pub asked : IsAsked w.tells f.opening l.books.history calls l.books.state c work []
 
--- What was read of a row with these bytes: as many as there are, twice; the cursor behind them; and its page. Where the disk
--- tells they are the row's.
-pub record IsReadOf (tells : Type 0) (row_bytes : Text) (z : Sizes) (o : Op) (bytes copy : Text) (cursor : ℕ) (page : List ℕ) : Type 0 where
+-- What was read of a row with these bytes: as many as there are, twice; the cursor behind them; and a page of it beside them. Where
+-- the disk tells they are the row's.
+pub record IsReadOf (tells : Type 0) (row_bytes : Text) (z : Sizes) (o : Op) (bytes copy : Text) (cursor beside : ℕ) (page : List ℕ) : Type 0 where
   pub size : length bytes ≡ min (read_len o) (z.size - read_start z o)
   pub told : tells → bytes ≡ window row_bytes (read_start z o) (read_len o)
   pub same : copy ≡ bytes
   pub cursor_is : cursor ≡ cursor_read z o
-  pub page_is : tells → IsPageOf row_bytes (cursor / 4096) page
+  pub page_is : tells → IsPageOf row_bytes beside page
 
 -- The same of the row that a call names, once its agent's pending calls are taken in.
-abbrev pub IsReadFor : {D : Type 0} → DiskWords D → DeskParts D → List Entry → ReadyCall → WorkingCopy → Text → Text → ℕ → List ℕ → Type 0
-IsReadFor {D} w p calls c work bytes copy cursor page =
+abbrev pub IsReadFor : {D : Type 0} → DiskWords D → DeskParts D → List Entry → ReadyCall → WorkingCopy → Text → Text → ℕ → ℕ → List ℕ → Type 0
+IsReadFor {D} w p calls c work bytes copy cursor beside page =
     (f : Fixed D) (recorded : Built) → AreHeldWhole w f recorded p.ledger p.pages → IsAsked w.tells f.opening p.ledger.books.history calls p.ledger.books.state c work []
-    → (row : Text) → row_bytes (state_after f.opening (p.ledger.books.history ++ calls)) c.agent (row_named c.op) ≡ Some row → IsReadOf w.tells row c.sizes c.op bytes copy cursor page
+    → (row : Text) → row_bytes (state_after f.opening (p.ledger.books.history ++ calls)) c.agent (row_named c.op) ≡ Some row → IsReadOf w.tells row c.sizes c.op bytes copy cursor beside page
 
 -- What was read of a file: as many bytes as there are, its size and its time stamp. Where the disk tells, and each page of each
 -- access handle is one that the store tells, they are the file's.

@@ -13,3 +13,4 @@ pub record IsCut (work : WorkingCopy) (target : Target) (len : ℕ) : Type 0 whe
   pub at_is : target.at ≡ 0
   pub none : len ≡ 0
   pub position_is : target.position ≡ min work.position target.size
+  pub beside_is : target.beside ≡ min work.position target.size

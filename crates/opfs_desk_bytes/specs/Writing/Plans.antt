@@ -25,7 +25,7 @@ use Rattle.opfs_desk_steps.specs.declared.parts.parts.DeskParts.{DeskParts}
 use Rattle.opfs_desk_steps.specs.Acting.{HasTaken}
 use Rattle.opfs_desk_steps.specs.BookSteps.Clearing.{cleared_from}
 use Rattle.opfs_desk_bytes.specs.Writing.Steps.{IsPlanned}
-use Rattle.opfs_desk_bytes.specs.Writing.Words.{bytes_put, counts_bytes, place_put, position_put, writes_bytes}
+use Rattle.opfs_desk_bytes.specs.Writing.Words.{beside_put, bytes_put, counts_bytes, place_put, position_put, writes_bytes}
 use Rattle.opfs_desk_bytes.specs.declared.writing.target.Target.{Target}
 
 -- A target is that of a call.
@@ -34,6 +34,7 @@ pub record IsTargetOf (z : Sizes) (o : Op) (t : Target) : Type 0 where
   pub at : t.at ≡ place_put z o
   pub size : t.size ≡ size_put z o
   pub position : t.position ≡ position_put z o
+  pub beside : t.beside ≡ beside_put z o
   pub writes : t.writes ≡ writes_bytes o
   pub counts : t.counts ≡ counts_bytes o
 
@@ -44,7 +45,7 @@ pub record IsPlan {D : Type 0} (w : DiskWords D) (p : DeskParts D) (c : ReadyCal
   pub pages : put.pages ≡ blocks (size_put c.sizes c.op)
   pub planned : IsPlanned w p c.agent (row_named c.op) put (bytes_put c.op)
   pub whole : length page ≡ 4096
-  pub tail : (i : ℕ) → size_put c.sizes c.op ≤ i → i / 4096 ≡ position_put c.sizes c.op / 4096 → slice_index page (i % 4096) ≡ 0
+  pub tail : (i : ℕ) → size_put c.sizes c.op ≤ i → i / 4096 ≡ beside_put c.sizes c.op / 4096 → slice_index page (i % 4096) ≡ 0
   pub room : blocks (size_put c.sizes c.op) ≤ work.room
 
 -- Its agent's pending calls were taken in.

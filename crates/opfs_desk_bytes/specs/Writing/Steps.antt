@@ -36,7 +36,7 @@ use Rattle.opfs_desk_steps.specs.declared.parts.parts.Ledger.{Ledger}
 use Rattle.opfs_desk_steps.specs.declared.parts.parts.OpenPages.{OpenPages}
 use Rattle.opfs_desk_steps.specs.declared.parts.parts.DeskParts.{DeskParts}
 use Rattle.opfs_desk_bytes.specs.Writing.Putting.{IsToPut, IsUsed, AreGottenIn, HasPutPages}
-use Rattle.opfs_desk_bytes.specs.Writing.Words.{change_put, position_put, text_put}
+use Rattle.opfs_desk_bytes.specs.Writing.Words.{beside_put, change_put, text_put}
 
 -- Pages of a row are planned: they stand ready, and have their blocks or wait for them.
 pub record IsPlanned {D : Type 0} (w : DiskWords D) (p : DeskParts D) (agent row : ℕ) (put : Put) (given : List ℕ) : Type 0 where
@@ -44,10 +44,10 @@ pub record IsPlanned {D : Type 0} (w : DiskWords D) (p : DeskParts D) (agent row
   pub bytes : HasBytes put.writes given
   pub gotten : AreGotten put.taken (machine_in p.ledger) (shelf [] (tree_in p.ledger) p.pages.swap) p.pages.space p.pages.base (w.size p.ledger.journal.disk) agent row put.pages put.writes given put.extents.items
 
--- They are those that a call leaves of a row with these bytes; so is the page of its position.
+-- They are those that a call leaves of a row with these bytes; so is the page that it leaves in memory.
 pub record IsPlannedOf (tells : Type 0) (work : WorkingCopy) (c : List ℕ) (p : OpenPages) (agent row : ℕ) (z : Sizes) (o : Op) (writes : WriteList) (page : List ℕ) (before : Text) : Type 0 where
   pub put_of : IsPutOf tells work c p.base p.swap agent row (change_put z o) writes before (text_put z o before)
-  pub page_is : tells → IsPageOf (text_put z o before) (position_put z o / 4096) page
+  pub page_is : tells → IsPageOf (text_put z o before) (beside_put z o / 4096) page
 
 -- The row that the call names, once its agent's pending calls are taken in.
 abbrev pub IsPlannedFor : {D : Type 0} → DiskWords D → DeskParts D → List Entry → ReadyCall → WorkingCopy → Put → List ℕ → Type 0

@@ -1,5 +1,5 @@
 -- A call that writes bytes into an open row, or gives it a size: where the bytes go, and what it leaves. This project's own.
-use Rattle.std.specs.Prelude.{ℕ, ◌+◌, min, Bool, true, false, [], length}
+use Rattle.std.specs.Prelude.{ℕ, ◌+◌, ◌-◌, min, Bool, true, false, [], length}
 use Rattle.opfs_base.specs.Texts.{Text}
 use Rattle.opfs_desk_steps.specs.RowLaws.Puts.{size_put}
 use Rattle.opfs_hist.specs.declared.op.Op.{Op}
@@ -40,6 +40,14 @@ position_put z (op.Truncate n size) = min z.position size
 position_put z (op.SyncWrite n bytes at) = start_of z at + length bytes
 position_put z (op.SyncTruncate n size) = min z.position size
 position_put z o = 0
+
+-- The place whose page is in memory then: that of the offset or cursor; where an access handle wrote bytes, that of their last one.
+abbrev pub beside_put : Sizes → Op → ℕ
+beside_put z (op.Write n bytes position) = start_of z position + length bytes
+beside_put z (op.Truncate n size) = min z.position size
+beside_put z (op.SyncWrite n bytes at) = start_of z at + (length bytes - 1)
+beside_put z (op.SyncTruncate n size) = min z.position size
+beside_put z o = 0
 
 abbrev pub reply_put : Op → Reply
 reply_put (op.SyncWrite n bytes at) = reply.Length (length bytes)

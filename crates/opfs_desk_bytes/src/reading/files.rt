@@ -16,7 +16,7 @@ use opfs_hist::Mode;
 use opfs_journal::Journal;
 use opfs_locks::LockValue;
 use opfs_outside::Disk;
-use opfs_pages::read_handle;
+use opfs_pages::{StoredRow, read_handle};
 use opfs_state::State;
 use opfs_tree::FileRow;
 use std::alloc::Global;
@@ -84,7 +84,15 @@ pub(crate) fn read_file<D: Disk>(
     ensures cause { IsErrOf result DataRefusal.DiskFault → Rose (D.faults journal.old.disk) (D.faults journal.new.disk) }
 {
     match writer_of(state, swap, file, found) {
-        Some((agent, row)) => read_handle(alloc, swap, journal, base, agent, row, found.present),
+        Some((agent, row)) => {
+            let stored = StoredRow {
+                agent,
+                row,
+                swap,
+                base,
+            };
+            read_handle(alloc, &stored, journal, found.present)
+        }
         None => load(
             alloc,
             journal,

@@ -20,7 +20,7 @@ ghost use Rattle.opfs_laws.specs.GoingOn.{LegalHistoriesGoOn};
 ghost use Rattle.opfs_machine.specs.Replies.{row_named};
 ghost use Rattle.opfs_records.specs.Replay.Built.{Built};
 
-use crate::reading::bytes::{RowRead, RowSource, leave_cursor, read_open_row};
+use crate::reading::bytes::{RowRead, leave_cursor, read_open_row};
 use crate::reading::failing::fail_reading;
 use opfs_books::{reads_leave_the_books, the_books_show_their_images, the_state_is_kept};
 use opfs_data::DataRefusal;
@@ -33,7 +33,7 @@ use opfs_laws::going_on::legal_histories_go_on;
 use opfs_machine::Sizes;
 use opfs_outside::Disk;
 use opfs_pages::{
-    blocks_go_on, calls_leave_other_rows, copies_stand_for_their_row, handles_stay_whole,
+    RowSource, blocks_go_on, calls_leave_other_rows, copies_stand_for_their_row, handles_stay_whole,
 };
 use opfs_store::{Acted, Gift};
 use opfs_work::Work;
@@ -102,8 +102,8 @@ fn enter_sync_read<D: Disk>(
     requires go { MayGo D.Disk parts.old call pending.old work.old [] }
     requires word { reads_row call.op ≡ true }
     requires whole { length read.page.items ≡ 4096 }
-    requires tail { (i : ℕ) → work.old.length ≤ i → i / 4096 ≡ read.cursor / 4096 → slice_index read.page.items (i % 4096) ≡ 0 }
-    requires read { IsReadFor D.Disk parts.old pending.old call work.old read.bytes read.copy read.cursor read.page.items }
+    requires tail { (i : ℕ) → work.old.length ≤ i → i / 4096 ≡ read.beside → slice_index read.page.items (i % 4096) ≡ 0 }
+    requires read { IsReadFor D.Disk parts.old pending.old call work.old read.bytes read.copy read.cursor read.beside read.page.items }
     ensures taken { pending.new ≡ [] }
     ensures acted { (f : Fixed D) (recorded : Built) → AreHeldWhole D.Disk f recorded parts.old.ledger parts.old.pages → AreHandlesWhole f.opening parts.old.ledger.books.history
         → IsAsked D.tells f.opening parts.old.ledger.books.history pending.old parts.old.ledger.books.state call work.old []
@@ -118,12 +118,13 @@ fn enter_sync_read<D: Disk>(
         bytes,
         copy,
         cursor,
+        beside,
         page,
     } = read;
     match clear_call(&mut parts.ledger, call, Reply::Read(copy)) {
         Ok((last, sizes)) => {
             tell_last(&mut parts.ledger, last, sizes);
-            leave_cursor(work, cursor, page.as_slice());
+            leave_cursor(work, cursor, beside, page.as_slice());
             Acted {
                 reply: Reply::Read(bytes),
                 gift: Gift::Nothing,
@@ -138,8 +139,8 @@ fn enter_sync_read<D: Disk>(
     }
 }
 
-/// Acts a syncRead: bytes whose pages are elsewhere are read from the store, and the page of the cursor comes into memory. Where
-/// the disk fails the call is entered so; where there is no memory nothing is entered.
+/// Acts a syncRead: bytes whose pages are elsewhere are read from the store, and their last page comes into memory, or that of the
+/// cursor. Where the disk fails the call is entered so; where there is no memory nothing is entered.
 pub fn act_sync_read<D: Disk>(
     parts: &mut DeskParts<D>,
     call: ReadyCall,

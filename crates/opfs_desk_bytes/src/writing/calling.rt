@@ -78,7 +78,7 @@ fn put_bytes<D: Disk>(
     match plan_call(
         &planning,
         &wanted,
-        target.position,
+        target.beside,
         work,
         &mut parts.pages.swap,
         &mut parts.pages.space,

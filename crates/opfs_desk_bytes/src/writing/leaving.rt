@@ -14,7 +14,7 @@ use opfs_pages::{after_size, after_write};
 use opfs_work::Work;
 
 /// Leaves what is right after so many bytes were written, or a size was given: the row's bytes, its position and reserve, and the page
-/// of the position in memory. Takes no memory.
+/// of a place beside them in memory. Takes no memory.
 pub(crate) fn leave_put(work: &mut Work, target: Target, len: u64, page: &[u8])
     requires written { target.writes ≡ true → IsWritten work.old target len }
     requires cut { target.writes ≡ false → IsCut work.old target len }
@@ -22,17 +22,17 @@ pub(crate) fn leave_put(work: &mut Work, target: Target, len: u64, page: &[u8])
     requires size { target.size < 2 ^ 63 }
     requires room { blocks target.size ≤ work.old.room }
     requires whole { length page.now ≡ 4096 }
-    requires tail { (i : ℕ) → target.size ≤ i → i / 4096 ≡ target.position / 4096 → slice_index page.now (i % 4096) ≡ 0 }
-    ensures copy { (bytes given : List ℕ) → length given ≡ len → IsCopy bytes work.old → IsPageOf (changed bytes target.at given target.size) (target.position / 4096) page.now
+    requires tail { (i : ℕ) → target.size ≤ i → i / 4096 ≡ target.beside / 4096 → slice_index page.now (i % 4096) ≡ 0 }
+    ensures copy { (bytes given : List ℕ) → length given ≡ len → IsCopy bytes work.old → IsPageOf (changed bytes target.at given target.size) (target.beside / 4096) page.now
         → IsCopy (changed bytes target.at given target.size) work.new }
     ensures size { work.new.length ≡ target.size }
     ensures position { work.new.position ≡ target.position }
     ensures reserve { work.new.reserve ≡ reserve_for work.old.reserve target.size }
-    ensures near { is_far (page_at work.new.pages (work.new.position / 4096)) ≡ false }
+    ensures near { is_far (page_at work.new.pages (target.beside / 4096)) ≡ false }
     ensures paged { IsPaged work.new }
 {
     if target.writes {
-        after_write(work, target.at, len, page);
+        after_write(work, target.at, len, target.beside, page);
         let _pages = work.pages();
         return;
     }

@@ -1,7 +1,7 @@
 //! What a call puts into a row.
 
-ghost use Rattle.std.specs.Prelude.{◌≡◌, ◌+◌, ◌^◌, ◌<◌, min, true, false, length, replicate, IfOk};
-ghost use Rattle.opfs_desk_bytes.specs.Writing.Words.{bytes_put, place_put, position_put, writes_bytes, counts_bytes};
+ghost use Rattle.std.specs.Prelude.{◌≡◌, ◌+◌, ◌-◌, ◌^◌, ◌<◌, min, true, false, if◌then◌else◌, length, replicate, IfOk};
+ghost use Rattle.opfs_desk_bytes.specs.Writing.Words.{bytes_put, place_put, position_put, beside_put, writes_bytes, counts_bytes};
 ghost use Rattle.opfs_desk_steps.specs.RowLaws.Puts.{puts_row, size_put};
 ghost use Rattle.opfs_machine.specs.Replies.{row_named};
 ghost use Rattle.opfs_machine.specs.Rulings.{start_of, size_written};
@@ -11,16 +11,28 @@ use opfs_hist::Op;
 use opfs_machine::Sizes;
 use std::alloc::{AllocError, Global};
 
-/// The row that a call puts bytes into, where they begin, the size and the position that it leaves; whether it writes bytes, and
-/// whether it answers how many.
+/// The row that a call puts bytes into, where they begin, the size and the position that it leaves, and the place whose page it
+/// leaves in memory; whether it writes bytes, and whether it answers how many.
 #[derive(Clone, Copy)]
 pub(crate) struct Target {
     pub row: u32,
     pub at: u64,
     pub size: u64,
     pub position: u64,
+    pub beside: u64,
     pub writes: bool,
     pub counts: bool,
+}
+
+// The place whose page a write of so many bytes at a position leaves in memory: a stream's offset; of an access handle the last byte.
+fn place_beside(at: u64, len: u64, counts: bool) -> u64
+    requires { at + len < 2 ^ 63 }
+    ensures { result ≡ (if counts then at + (len - 1) else at + len) }
+{
+    if counts {
+        return at + len.saturating_sub(1);
+    }
+    at + len
 }
 
 // That of a write at a position, or where the last call ended.
@@ -30,16 +42,19 @@ fn write_to(row: u32, bytes: &Data, position: Option<u64>, sizes: &Sizes, counts
     ensures at { result.at ≡ start_of sizes.now position }
     ensures size { result.size ≡ size_written sizes.now position bytes.now }
     ensures position { result.position ≡ start_of sizes.now position + length bytes.now }
+    ensures beside { result.beside ≡ (if counts then start_of sizes.now position + (length bytes.now - 1) else start_of sizes.now position + length bytes.now) }
     ensures writes { result.writes ≡ true }
     ensures counts { result.counts ≡ counts }
 {
     let at = position.unwrap_or(sizes.position);
     let end = at + bytes.len();
+    let beside = place_beside(at, bytes.len(), counts);
     Target {
         row,
         at,
         size: sizes.size.max(end),
         position: end,
+        beside,
         writes: true,
         counts,
     }
@@ -47,13 +62,14 @@ fn write_to(row: u32, bytes: &Data, position: Option<u64>, sizes: &Sizes, counts
 
 // That of a cut or an extension.
 fn cut_to(row: u32, size: u64, sizes: &Sizes) -> Target
-    ensures { result ≡ record { row = row; at = 0; size = size; position = min sizes.now.position size; writes = false; counts = false } }
+    ensures { result ≡ record { row = row; at = 0; size = size; position = min sizes.now.position size; beside = min sizes.now.position size; writes = false; counts = false } }
 {
     Target {
         row,
         at: 0,
         size,
         position: sizes.position.min(size),
+        beside: sizes.position.min(size),
         writes: false,
         counts: false,
     }
@@ -67,6 +83,7 @@ pub(crate) fn target_of(op: &Op, sizes: &Sizes) -> Target
     ensures at { result.at ≡ place_put sizes.now op.now }
     ensures size { result.size ≡ size_put sizes.now op.now }
     ensures position { result.position ≡ position_put sizes.now op.now }
+    ensures beside { result.beside ≡ beside_put sizes.now op.now }
     ensures writes { result.writes ≡ writes_bytes op.now }
     ensures counts { result.counts ≡ counts_bytes op.now }
 {

@@ -24,22 +24,22 @@ fn move_to(work: &mut Work, position: u64)
 }
 
 /// Leaves what is right after a write of so many bytes at a position: the row's bytes, the position behind them, as many blocks
-/// reserved as the bytes take, and the page of the position in memory. Takes no memory.
-pub fn after_write(work: &mut Work, at: u64, len: u64, page: &[u8])
+/// reserved as the bytes take, and the page of a place beside them in memory. Takes no memory.
+pub fn after_write(work: &mut Work, at: u64, len: u64, beside: u64, page: &[u8])
     requires end { at + len < 2 ^ 63 }
     requires room { blocks (max work.old.length (at + len)) ≤ work.old.room }
     requires whole { length page.now ≡ 4096 }
-    requires tail { (i : ℕ) → max work.old.length (at + len) ≤ i → i / 4096 ≡ (at + len) / 4096 → slice_index page.now (i % 4096) ≡ 0 }
-    ensures copy { (old given : List ℕ) → length given ≡ len → IsCopy old work.old → IsPageOf (changed old at given (max work.old.length (at + len))) ((at + len) / 4096) page.now → IsCopy (splice old at given) work.new }
+    requires tail { (i : ℕ) → max work.old.length (at + len) ≤ i → i / 4096 ≡ beside / 4096 → slice_index page.now (i % 4096) ≡ 0 }
+    ensures copy { (old given : List ℕ) → length given ≡ len → IsCopy old work.old → IsPageOf (changed old at given (max work.old.length (at + len))) (beside / 4096) page.now → IsCopy (splice old at given) work.new }
     ensures stored { (k : ℕ) → IsStored work.new k }
-    ensures near { is_far (page_at work.new.pages (work.new.position / 4096)) ≡ false }
+    ensures near { is_far (page_at work.new.pages (beside / 4096)) ≡ false }
     ensures size { work.new.length ≡ max work.old.length (at + len) }
     ensures position { work.new.position ≡ at + len }
     ensures reserve { work.new.reserve ≡ reserve_for work.old.reserve (max work.old.length (at + len)) }
 {
     leave_write(work, at, len);
     move_to(work, at + len);
-    bring_near(work, (at + len) / BLOCK_SIZE, page);
+    bring_near(work, beside / BLOCK_SIZE, page);
 }
 
 /// Leaves what is right after a cut or an extension to a size: the row's bytes, the position within them, as many blocks reserved

@@ -11,7 +11,7 @@ use crate::bytes::zeros;
 use crate::row_calls::leave::page_after;
 use crate::row_calls::plan::plan_put;
 use crate::writing::Put;
-use crate::{PagePut, Planning};
+use crate::{PagePut, Planning, RowSource};
 use opfs_base::BLOCK_SIZE;
 use opfs_data::{DataRefusal, Swap};
 use opfs_journal::Journal;
@@ -39,15 +39,14 @@ fn page_left<D: Disk>(
 {
     let mut page = zeros(planning.alloc, BLOCK_SIZE as usize)?;
     let number = position / BLOCK_SIZE;
-    page_after(
-        wanted,
-        number,
-        planning.base,
+    let source = RowSource {
+        agent: wanted.agent,
+        row: wanted.row,
         work,
         swap,
-        journal,
-        &mut page,
-    )?;
+        base: planning.base,
+    };
+    page_after(&source, wanted, number, journal, &mut page)?;
     Ok(page)
 }
 
@@ -58,7 +57,7 @@ pub struct Planned {
     pub page: Vec<u8>,
 }
 
-/// Plans a write at a position and then a new size, and reads the page of the position that the call leaves. It has all memory
+/// Plans a write at a position and then a new size, and makes the page of a place as the call leaves it. It has all memory
 /// and all reads, of the working copy too, and the blocks where enough are free. Nothing is written.
 pub fn plan_call<D: Disk>(
     planning: &Planning<'_>,

@@ -1,57 +1,77 @@
 // The working copy that is left when the store has a row's pages, with the page of its position in memory.
-ghost use Rattle.std.specs.Prelude.{◌≡◌, ℕ, ◌⊎◌, ◌+◌, ◌*◌, ◌/◌, ◌%◌, ◌^◌, ◌<◌, ◌≤◌, max, true, false, List, length, slice_index, OnOk, OnErr};
+ghost use Rattle.std.specs.Prelude.{◌≡◌, ℕ, ◌⊎◌, ◌+◌, ◌*◌, ◌/◌, ◌%◌, ◌^◌, ◌<◌, ◌≤◌, max, true, false, List, length, slice_index, IsTrue, OnOk, OnErr};
 ghost use Rattle.opfs_base.specs.Blocks.{blocks};
 ghost use Rattle.opfs_data.specs.Calls.{Reads};
 ghost use Rattle.opfs_data.specs.Pages.{page_of, LiesIn, IsDataPart};
 ghost use Rattle.opfs_data.specs.Rows.{pages_at, page_at as swap_page};
 ghost use Rattle.opfs_outside.specs.Faults.{Rose};
 ghost use Rattle.opfs_pages.specs.Copies.{IsCopy, IsPageOf, IsHeld};
-ghost use Rattle.opfs_pages.specs.Stages.{changed};
+ghost use Rattle.opfs_pages.specs.Stages.{changed, IsCovered};
 ghost use Rattle.opfs_splice.specs.Splicing.{resize};
 ghost use Rattle.opfs_work.specs.Pages.{page_at, is_far, near_count};
 ghost use Rattle.opfs_work.specs.Works.{IsStored};
 
-use crate::{PagePut, cut_page, fill_page, overlay};
-use opfs_data::Swap;
+use crate::{PagePut, RowSource, cut_page, fill_page, overlay};
+use opfs_base::BLOCK_SIZE;
 use opfs_journal::{DiskFault, Journal};
 use opfs_outside::Disk;
 use opfs_work::Work;
 
-/// Reads a page of a row as a write at a position and then a new size leave it, filled up with 0. Takes no memory.
+// Whether a put writes each byte that its row then has in a page.
+fn is_covered(wanted: &PagePut<'_>, page: u64) -> bool
+    requires page { page < 2 ^ 51 }
+    requires end { wanted.now.at + length wanted.now.given.now < 2 ^ 63 }
+    ensures { IsTrue result → IsCovered wanted.now page }
+{
+    let start = page * BLOCK_SIZE;
+    let end = (start + BLOCK_SIZE).min(wanted.size);
+    if end <= start {
+        return true;
+    }
+    wanted.at <= start && end <= wanted.at + wanted.given.len() as u64
+}
+
+// Makes a page of a row that of the row after a put.
+fn change(buffer: &mut [u8], page: u64, wanted: &PagePut<'_>)
+    requires whole { length buffer.old ≡ 4096 }
+    requires page { page < 2 ^ 51 }
+    requires end { wanted.now.at + length wanted.now.given.now < 2 ^ 63 }
+    ensures after { (old : List ℕ) → IsPageOf old page buffer.old → IsPageOf (changed old wanted.now.at wanted.now.given.now wanted.now.size) page buffer.new }
+    ensures tail { (i : ℕ) → wanted.now.size ≤ i → i / 4096 ≡ page → slice_index buffer.new (i % 4096) ≡ 0 }
+    ensures whole { length buffer.new ≡ 4096 }
+{
+    overlay(buffer, page, wanted.at, wanted.given);
+    cut(buffer, page, wanted.size);
+}
+
+/// Reads a page of a row as a write at a position and then a new size leave it, filled up with 0. It is not read where the write
+/// gives all bytes that the row then has in it. Takes no memory.
 pub fn page_after<D: Disk>(
+    source: &RowSource<'_>,
     wanted: &PagePut<'_>,
     page: u64,
-    base: u64,
-    work: &Work,
-    swap: &Swap,
     journal: &mut Journal<D>,
     buffer: &mut [u8],
 ) -> Result<(), DiskFault>
     requires buffer { length buffer.old ≡ 4096 }
     requires page { page < 2 ^ 51 }
     requires end { wanted.now.at + length wanted.now.given.now < 2 ^ 63 }
-    requires held { is_far (page_at work.now.pages page) ≡ true → page < length (pages_at wanted.now.agent wanted.now.row swap.now) }
-    requires lies { is_far (page_at work.now.pages page) ≡ true → LiesIn base (D.size journal.old.disk) (swap_page wanted.now.agent wanted.now.row page swap.now).block }
-    requires part { IsDataPart journal.old.areas base }
+    requires held { is_far (page_at source.now.work.now.pages page) ≡ true → page < length (pages_at source.now.agent source.now.row source.now.swap.now) }
+    requires lies { is_far (page_at source.now.work.now.pages page) ≡ true → LiesIn source.now.base (D.size journal.old.disk) (swap_page source.now.agent source.now.row page source.now.swap.now).block }
+    requires part { IsDataPart journal.old.areas source.now.base }
     ensures reads { Reads D.Disk journal.old journal.new }
-    ensures read { OnOk result (D.tells → (bytes : List ℕ) → IsCopy bytes work.now
-        → IsHeld bytes work.now page (page_of (D.content journal.old.disk) base (swap_page wanted.now.agent wanted.now.row page swap.now)) → IsPageOf (changed bytes wanted.now.at wanted.now.given.now wanted.now.size) page buffer.new) }
+    ensures read { OnOk result (D.tells → (bytes : List ℕ) → IsCopy bytes source.now.work.now
+        → IsHeld bytes source.now.work.now page (page_of (D.content journal.old.disk) source.now.base (swap_page source.now.agent source.now.row page source.now.swap.now)) → IsPageOf (changed bytes wanted.now.at wanted.now.given.now wanted.now.size) page buffer.new) }
     ensures tail { OnOk result ((i : ℕ) → wanted.now.size ≤ i → i / 4096 ≡ page → slice_index buffer.new (i % 4096) ≡ 0) }
     ensures buffer { length buffer.new ≡ 4096 }
     ensures cause { OnErr result (Rose (D.faults journal.old.disk) (D.faults journal.new.disk)) }
 {
-    fill_page(
-        work,
-        swap,
-        journal,
-        base,
-        wanted.agent,
-        wanted.row,
-        page,
-        buffer,
-    )?;
-    overlay(buffer, page, wanted.at, wanted.given);
-    cut(buffer, page, wanted.size);
+    if is_covered(wanted, page) {
+        change(buffer, page, wanted);
+        return Ok(());
+    }
+    fill_page(source, journal, page, buffer)?;
+    change(buffer, page, wanted);
     Ok(())
 }
 

@@ -1,7 +1,7 @@
-use Rattle.std.proofs.Common.{◌≡◌, ◌≤◌, ◌-◌, ℕ, List, length}
+use Rattle.std.proofs.Common.{◌≡◌, ◌<◌, ◌≤◌, ◌+◌, ◌-◌, ◌/◌, ℕ, List, length}
 use Rattle.opfs_data.specs.Calls.{Reads}
 use Rattle.opfs_data.specs.Rows.{pages_at}
-use Rattle.opfs_pages.specs.Copies.{IsCopy, AreHeld}
+use Rattle.opfs_pages.specs.Copies.{IsCopy, IsPageOf, AreHeld}
 use Rattle.opfs_pages.proofs.Parts.{IsReadTo}
 use Rattle.opfs_pages.proofs.wide.read_bytes.Given as goal
 
@@ -11,7 +11,9 @@ invariant-loop-done g l = record {
   size : length l.into ≡ length l.fn.into;
   buffer : length l.buffer ≡ 4096;
   reads : Reads g.D.Disk l.fn.journal l.journal;
-  read : g.D.Disk.tells → (bytes : List ℕ) → IsCopy bytes l.work → AreHeld bytes l.work (g.D.Disk.content l.fn.journal.disk) l.base (pages_at l.agent l.row l.swap) → IsReadTo bytes l.at l.done l.into;
+  read : g.D.Disk.tells → (bytes : List ℕ) → IsCopy bytes l.source.work.now → AreHeld bytes l.source.work.now (g.D.Disk.content l.fn.journal.disk) l.source.base (pages_at l.source.agent l.source.row l.source.swap.now) → IsReadTo bytes l.at l.done l.into;
+  last : g.D.Disk.tells → (bytes : List ℕ) → IsCopy bytes l.source.work.now → AreHeld bytes l.source.work.now (g.D.Disk.content l.fn.journal.disk) l.source.base (pages_at l.source.agent l.source.row l.source.swap.now)
+      → 0 < l.done → IsPageOf bytes ((l.at + l.done - 1) / 4096) l.buffer;
 }
 
 abbrev pub decreases-loop-done : goal.decreases-loop-done

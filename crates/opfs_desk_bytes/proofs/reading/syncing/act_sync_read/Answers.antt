@@ -40,7 +40,7 @@ enter_sync_read-requires-clause-read g c f recorded held asked =
     let read = is.read in
     is-read g.D.Disk c.copies_are_stored.ensures.copies f recorded now c.args.parts.now.pages c.args.pending.now c.args.call c.args.work.now held asked c.requires.word
     (g.D.Disk.content l.journal.disk) c.span_of-span.result.row c.span_of-span.result.start c.span_of-span.result.len (λ t. (is.reads.told t).same) c.span_of-span.ensures.row c.span_of-span.ensures.start c.span_of-span.ensures.len
-    c.in-Ok.read.bytes c.in-Ok.read.copy c.in-Ok.read.cursor c.in-Ok.read.page.items read.size read.told read.same read.cursor_is read.page_is
+    c.in-Ok.read.bytes c.in-Ok.read.copy c.in-Ok.read.cursor c.in-Ok.read.beside c.in-Ok.read.page.items read.size read.told read.same read.cursor_is read.page_is
 
 pub fail_reading-requires : goal.fail_reading-requires
 fail_reading-requires g c = record {

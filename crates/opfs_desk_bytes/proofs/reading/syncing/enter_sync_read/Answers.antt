@@ -1,4 +1,4 @@
-use Rattle.std.proofs.Common.{rules, ◌≡◌, ℕ, ◌/◌, [], List, length, None, refl, sym, ap, subst, ◌∙◌, arith}
+use Rattle.std.proofs.Common.{rules, ◌≡◌, ℕ, [], List, length, None, refl, sym, ap, subst, ◌∙◌, arith}
 use Rattle.opfs_store.specs.Acts.Acting.{told_entry}
 use Rattle.opfs_books.specs.Stored.Spelled.{spelled_by}
 use Rattle.opfs_hist.specs.declared.entry.Entry.{Entry}
@@ -90,7 +90,7 @@ tell_last-requires-clause-may g c =
           subst (λ (z : Sizes). IsAnswered g.D.Disk base (units_in call.clearing.items) back c.in-Ok.last.entry z) (sym c.in-Ok.ensures.sizes)
           (subst (λ (e : Entry). IsAnswered g.D.Disk base (units_in call.clearing.items) back e call.sizes) (sym c.in-Ok.ensures.entry)
           (answered g.D.Disk laws.asks laws.answers laws.goes_on may.fixed may.recorded l mid back p c.args.pending.now call c.args.work.now begins c.requires.word took
-          c.args.read.bytes c.args.read.copy c.args.read.cursor c.args.read.page.items read way));
+          c.args.read.bytes c.args.read.copy c.args.read.cursor c.args.read.beside c.args.read.page.items read way));
     }
 
 pub returns-in-Ok-clause-acted : goal.returns-in-Ok-clause-acted
@@ -114,7 +114,7 @@ returns-in-Ok-clause-acted g c f recorded held whole asked =
     let before = bytes-before w laws.asks laws.answers laws.goes_on f recorded l mid back p c.args.pending.now call c.args.work.now begins c.requires.word took in
     let read = c.requires.read f recorded held asked _ before in
     let its = answered w laws.asks laws.answers laws.goes_on f recorded l mid back p c.args.pending.now call c.args.work.now begins c.requires.word took
-    c.args.read.bytes c.args.read.copy c.args.read.cursor c.args.read.page.items read way in
+    c.args.read.bytes c.args.read.copy c.args.read.cursor c.args.read.beside c.args.read.page.items read way in
     let may_come : IsAnswered w base (units_in call.clearing.items) back c.in-Ok.last.entry c.in-Ok.sizes =
     subst (λ (z : Sizes). IsAnswered w base (units_in call.clearing.items) back c.in-Ok.last.entry z) (sym c.in-Ok.ensures.sizes)
     (subst (λ (e : Entry). IsAnswered w base (units_in call.clearing.items) back e call.sizes) (sym c.in-Ok.ensures.entry) its) in
@@ -125,8 +125,8 @@ returns-in-Ok-clause-acted g c f recorded held whole asked =
     let now : DeskParts g.row.D.Denot = record { ledger = new; pages = p } in
     let page_same : c.as_slice.result.now ≡ c.args.read.page.items = search rules in
     has-acted w laws.asks laws.answers laws.goes_on f recorded l mid back p c.args.pending.now call c.args.work.now begins c.requires.word took
-    c.args.read.bytes c.args.read.copy c.args.read.cursor c.args.read.page.items read way laws.handles whole laws.laid laws.spaces laws.others new told
-    c.copies_stand_for_their_row.ensures.handle laws.acts c.leave_cursor.new.work c.leave_cursor.ensures.rest c.leave_cursor.ensures.paged (λ t row copied is_page. c.leave_cursor.ensures.copy row copied (subst (λ (xs : List ℕ). IsPageOf row (c.args.read.cursor / 4096) xs) (sym page_same) is_page))
+    c.args.read.bytes c.args.read.copy c.args.read.cursor c.args.read.beside c.args.read.page.items read way laws.handles whole laws.laid laws.spaces laws.others new told
+    c.copies_stand_for_their_row.ensures.handle laws.acts c.leave_cursor.new.work c.leave_cursor.ensures.rest c.leave_cursor.ensures.paged (λ t row copied is_page. c.leave_cursor.ensures.copy row copied (subst (λ (xs : List ℕ). IsPageOf row c.args.read.beside xs) (sym page_same) is_page))
     c.args.parts.now now _ refl refl refl (omega (arith, c.rows-rows.ensures.count, c.rows-rows.ensures.few))
 
 pub returns-in-Err-clause-acted : goal.returns-in-Err-clause-acted

@@ -181,7 +181,7 @@ returns-in-Ok-enter_put-clause-acted g c f recorded held asked =
     (has-acted w laws.asks laws.answers f recorded l mid p calls call work begins c.requires.word took plan.small back way laws.inside laws.room laws.others c.args.target c.args.planned.put c.args.planned.page.items plan
     planned new entered laws.changes c.leave_put.new.work left.size left.position left.reserve left.paged left.near c.args.given.now c.requires.given
     (λ bytes copied is_page. left.copy bytes c.args.given.now refl copied
-    (subst (λ (xs : List ℕ). IsPageOf (changed bytes c.args.target.at c.args.given.now c.args.target.size) (c.args.target.position / 4096) xs) (sym page_same) is_page))
+    (subst (λ (xs : List ℕ). IsPageOf (changed bytes c.args.target.at c.args.given.now c.args.target.size) (c.args.target.beside / 4096) xs) (sym page_same) is_page))
     met.falls laws.spaces laws.trees laws.laid laws.spelled laws.acts c.rows-rows.result (omega (arith, c.rows-rows.ensures.count, c.rows-rows.ensures.few)))
 
 pub returns-clause-acted : goal.returns-clause-acted

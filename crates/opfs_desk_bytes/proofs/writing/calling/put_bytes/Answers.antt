@@ -73,7 +73,7 @@ enter_call-requires-clause-plan g c =
     let t = c.target_of-target in
     is-plan w c.what_is_laid_goes_on.ensures.beside c.reads_leave_the_books.ensures laws.counted may.fixed may.recorded l p c.plan_call.new.journal q call
     may.are is.left.reads t.result.row there is.left.pages refl c.tree.result.now.rows tree_is is.left.spaced
-    c.parts_lie_inside.ensures t.result (record { row = t.ensures.row; at = t.ensures.at; size = t.ensures.size; position = t.ensures.position; writes = t.ensures.writes; counts = t.ensures.counts }) t.ensures.row
+    c.parts_lie_inside.ensures t.result (record { row = t.ensures.row; at = t.ensures.at; size = t.ensures.size; position = t.ensures.position; beside = t.ensures.beside; writes = t.ensures.writes; counts = t.ensures.counts }) t.ensures.row
     c.args.given.now c.requires.given c.plan_call.new.work c.in-Ok.planned.put c.in-Ok.planned.page.items c.requires.small is.planned.put.count is.planned.put.staged.staged.bytes is.planned.put.ready is.planned.put.gotten is.planned.page.whole is.planned.page.tail is.planned.room
 
 pub enter_call-requires-clause-planned : goal.enter_call-requires-clause-planned
@@ -94,7 +94,7 @@ enter_call-requires-clause-planned g c f recorded held asked before row_is =
     let first : length c.args.work.now.pages ≡ blocks c.args.work.now.length = search rules in
     let paged = paged-room c.args.work.now c.plan_call.new.work is.same first in
     planned-of w c.copies_are_stored.ensures.copies f recorded now p q c.args.pending.now call c.args.work.now c.plan_call.new.work (w.content l.journal.disk) held asked c.requires.word
-    t.result (record { row = t.ensures.row; at = t.ensures.at; size = t.ensures.size; position = t.ensures.position; writes = t.ensures.writes; counts = t.ensures.counts })
+    t.result (record { row = t.ensures.row; at = t.ensures.at; size = t.ensures.size; position = t.ensures.position; beside = t.ensures.beside; writes = t.ensures.writes; counts = t.ensures.counts })
     c.args.given.now c.requires.given is.same is.left.pages refl (λ told. (is.left.reads.told told).same) paged c.in-Ok.planned.put.writes c.in-Ok.planned.page.items is.planned.put.staged is.planned.page.page before row_is
 
 pub fail_reading-requires : goal.fail_reading-requires
