@@ -9,3 +9,4 @@ pub mod Shown
 pub mod Storing
 pub mod Sure
 pub mod Tags
+pub mod Taken

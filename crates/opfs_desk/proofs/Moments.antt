@@ -129,6 +129,21 @@ module _ {D : Type 0} (w : DiskWords D) (o : Opening) (h whole : List Entry) (sa
       keeps-on w o h [] whole same-grown old new time way-whole keeps
       (λ crashes n le content. absurd (let lt = content.0 in let size = ap (λ (es : List Entry). length (changes o es)) same in omega (arith, lt, size, le)))
 
+-- What stores nothing was entered, and the disk was not called.
+module _ {D : Type 0} (w : DiskWords D) (o : Opening) (h more : List Entry) (now : D) where
+  pub fronts-more : (begun : D) → ShowsFronts w o h begun now → ShowsFronts w o (h ++ more) begun now
+  fronts-more begun fronts c left = once-more o 0 h more c (fronts c left)
+
+  pub keeps-more : changes o (h ++ more) ≡ changes o h → KeepsContents w o h now → KeepsContents w o (h ++ more) now
+  keeps-more same keeps crashes n content =
+      let was = keeps crashes n (subst (λ (xs : List Change). IsContentAt xs n) same content) in
+      record {
+        moment = was.moment;
+        passed = was.passed;
+        image = (was.image.0, was.image.1, subst (λ (xs : List Change). Stands was.image.0 (durable o (take (n + 1) xs))) (sym same) was.image.2);
+        since = λ c left. once-more o (n + 1) h more c (was.since c left);
+      }
+
 -- A content that is the last change, in the disk as it reads and in each image of now.
 pub kept-now : {D : Type 0} (w : DiskWords D) (o : Opening) (h : List Entry) (n : ℕ) (now : D) → IsContentAt (changes o h) n → n + 1 ≡ length (changes o h) → w.since now (w.moment now) (w.content now) → Stands (w.content now) (durable o (changes o h))
     → ((c : List ℕ) → w.since now (w.moment now) c → IsShownOnce o (floor (changes o h)) h c) → IsKeptSince (w.moment now) (w.since now) o h n

@@ -3,4 +3,5 @@ mod acting;
 mod calling;
 mod kinds;
 
+pub(crate) use calling::cancel;
 pub use calling::{AskedCall, act_call};

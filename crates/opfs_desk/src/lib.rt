@@ -13,6 +13,7 @@ mod making;
 mod serving;
 mod showing;
 mod standing;
+mod taking;
 mod waiting;
 
 pub use desk::Desk;

@@ -36,6 +36,10 @@ impl<D: Disk> Store for Desk<D> {
         Desk::act(self, agent, number, pending, room, op, work, past)
     }
 
+    fn take_in(&mut self, agent: u32, pending: &mut Pending) {
+        Desk::take_in(self, agent, pending)
+    }
+
     fn await_state(&self, agent: u32, tag: &str) -> AwaitState {
         Desk::await_state(self, agent, tag)
     }

@@ -106,6 +106,12 @@ impl<S: Store, K: Sink> Store for Teller<S, K> {
         acted
     }
 
+    fn take_in(&mut self, agent: u32, pending: &mut Pending) {
+        self.store.take_in(agent, pending);
+        let taken = self.store.give_out();
+        tell(self.alloc, &mut self.sink, &mut self.progress, taken);
+    }
+
     fn await_state(&self, agent: u32, tag: &str) -> AwaitState {
         self.store.await_state(agent, tag)
     }

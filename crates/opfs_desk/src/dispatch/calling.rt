@@ -17,8 +17,8 @@ use opfs_store::Acted;
 use opfs_work::Work;
 use std::alloc::AllocError;
 
-// Nothing stands ready any more.
-fn cancel<D: Disk>(ledger: &mut Ledger<D>)
+/// Nothing stands ready any more.
+pub(crate) fn cancel<D: Disk>(ledger: &mut Ledger<D>)
     ensures { HasNoneReady ledger.old ledger.new }
 {
     ledger.books.state.cancel();
