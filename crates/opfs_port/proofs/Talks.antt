@@ -3,7 +3,7 @@ use Rattle.std.proofs.Common.{◌≡◌, ◌++◌, ◌∷◌, ◌⊎◌, List, [
 use Rattle.std.specs.Prelude.{map}
 use Rattle.std.proofs.lemmas.List.{append-nil}
 use Rattle.opfs_port.specs.Said.{Said, heard, told, CameIn, WentOut}
-use Rattle.opfs_port.specs.Sessions.{Exchange, spoken, lines_of, IsSession, over, then_more, Conversed, BrokeOff}
+use Rattle.opfs_port.specs.Sessions.{Exchange, spoken, lines_of, IsSession, over, then_more, Conversed, IsLeft, unheard, untold, unanswered, BrokeOff}
 
 spoken_both : {T : Type 0} (a b : List (Exchange T)) → spoken (a ++ b) ≡ spoken a ++ spoken b
 spoken_both [] b = refl
@@ -38,44 +38,51 @@ module _ {S T : Type 0} (Step : S → List ℕ → List ℕ → T → S → Type
     came = f.came ∙ ap (λ x. lines_of f.talk ++ x) s.came ∙ sym (append_assoc (lines_of f.talk) (lines_of s.talk) rn) ∙ ap (λ x. x ++ rn) (sym (lines_both f.talk s.talk));
   }
 
+module _ {S T : Type 0} (Step : S → List ℕ → List ℕ → T → S → Type 0) (Stop : S → S → Type 0) where
   -- nothing more was heard
-  pub none_left : (a b : S) (so sn : List (Said T)) (ro rn : List (List ℕ)) → Conversed Step a b so sn ro rn → BrokeOff Step a so sn ro rn
+  pub none_left : (a b : S) (so sn : List (Said T)) (ro rn : List (List ℕ)) → Conversed Step a b so sn ro rn → BrokeOff Step Stop a b so sn ro rn
   none_left a b so sn ro rn f = record {
     talk = f.talk;
     until = b;
     session = f.session;
     left = [];
-    few = omega arith;
+    stands = unheard refl;
     said = f.said ∙ sym (append-nil (so ++ spoken f.talk));
     came = f.came ∙ ap (λ x. x ++ rn) (sym (append-nil (lines_of f.talk)));
   }
 
   -- a line was heard, and no answer was told
-  pub one_left : (a : S) (so sm sn : List (Said T)) (ro rm rn : List (List ℕ)) (line : List ℕ) → CameIn line so sm ro rm → sn ≡ sm → rn ≡ rm → BrokeOff Step a so sn ro rn
-  one_left a so sm sn ro rm rn line came same rest = record {
+  pub one_left : (a b : S) (so sm sn : List (Said T)) (ro rm rn : List (List ℕ)) (line : List ℕ) → IsLeft Step Stop a b (line ∷ []) → CameIn line so sm ro rm → sn ≡ sm → rn ≡ rm
+      → BrokeOff Step Stop a b so sn ro rn
+  one_left a b so sm sn ro rm rn line stands came same rest = record {
     talk = [];
     until = a;
     session = over a;
     left = line ∷ [];
-    few = omega arith;
+    stands = stands;
     said = same ∙ came.said ∙ ap (λ x. x ++ heard line ∷ []) (sym (append-nil so));
     came = came.rest ∙ ap (λ x. line ∷ x) (sym rest);
   }
 
+  -- the session could not answer it
+  pub stop_left : (a b : S) (so sm : List (Said T)) (ro rm : List (List ℕ)) (line : List ℕ) → Stop a b → CameIn line so sm ro rm → BrokeOff Step Stop a b so sm ro rm
+  stop_left a b so sm ro rm line stopped came = one_left a b so sm sm ro rm rm line (unanswered line stopped) came refl refl
+
   -- the answer may have been told
   pub maybe_left : (a b : S) (so sm sn : List (Said T)) (ro rm rn : List (List ℕ)) (line out : List ℕ) (at : T) → Step a line out at b
-      → CameIn line so sm ro rm → (sn ≡ sm) ⊎ WentOut out at sm sn → rn ≡ rm → BrokeOff Step a so sn ro rn
-  maybe_left a b so sm sn ro rm rn line out at step came (inl same) rest = one_left a so sm sn ro rm rn line came same rest
-  maybe_left a b so sm sn ro rm rn line out at step came (inr went) rest = none_left a b so sn ro rn (one_said a b so sm sn ro rm rn line out at step came went rest)
+      → CameIn line so sm ro rm → (sn ≡ sm) ⊎ WentOut out at sm sn → rn ≡ rm → BrokeOff Step Stop a b so sn ro rn
+  maybe_left a b so sm sn ro rm rn line out at step came (inl same) rest = one_left a b so sm sn ro rm rn line (untold line out at step) came same rest
+  maybe_left a b so sm sn ro rm rn line out at step came (inr went) rest = none_left a b so sn ro rn (one_said Step a b so sm sn ro rm rn line out at step came went rest)
 
   -- behind exchanges it broke off
-  pub later_broke : (a b : S) (so sm sn : List (Said T)) (ro rm rn : List (List ℕ)) → Conversed Step a b so sm ro rm → BrokeOff Step b sm sn rm rn → BrokeOff Step a so sn ro rn
-  later_broke a b so sm sn ro rm rn f s = record {
+  pub later_broke : (a b c : S) (so sm sn : List (Said T)) (ro rm rn : List (List ℕ)) → Conversed Step a b so sm ro rm → BrokeOff Step Stop b c sm sn rm rn
+      → BrokeOff Step Stop a c so sn ro rn
+  later_broke a b c so sm sn ro rm rn f s = record {
     talk = f.talk ++ s.talk;
     until = s.until;
-    session = both a b s.until f.talk s.talk f.session s.session;
+    session = both Step a b s.until f.talk s.talk f.session s.session;
     left = s.left;
-    few = s.few;
+    stands = s.stands;
     said = s.said ∙ ap (λ x. x ++ spoken s.talk ++ map heard s.left) f.said
         ∙ ap (λ x. x ++ map heard s.left) (append_assoc so (spoken f.talk) (spoken s.talk) ∙ ap (λ x. so ++ x) (sym (spoken_both f.talk s.talk)));
     came = f.came ∙ ap (λ x. lines_of f.talk ++ x) s.came

@@ -13,15 +13,20 @@ pub trait Session<T> {
     /// What a line, its answer, and what stands when the answer is told are from one state to the next.
     ghost step: { Self → List ℕ → List ℕ → T → Self → Type 0 };
 
+    /// What is left of a state where there was no memory for an answer.
+    ghost stop: { Self → Self → Type 0 };
+
     /// Answers a line, and remembers what stands then.
     fn answer(&mut self, line: &[u8], out: &mut Vec<u8>) -> Result<Told<T>, AllocError>
         requires { out.old.items ≡ [] }
-        ensures { IfOk result (λ at. step self.old line.now out.new.items at.value self.new) };
+        ensures stopped { OnErr result (stop self.old self.new) }
+        ensures answered { IfOk result (λ at. step self.old line.now out.new.items at.value self.new) };
 
     /// Answers a line of more than `most` bytes, of which nothing is known, and remembers what stands then.
     fn answer_long(&mut self, most: usize, out: &mut Vec<u8>) -> Result<Told<T>, AllocError>
         requires { out.old.items ≡ [] }
-        ensures { IfOk result (λ at. (line : List ℕ) → most < length line → step self.old line out.new.items at.value self.new) };
+        ensures stopped { OnErr result (stop self.old self.new) }
+        ensures answered { IfOk result (λ at. (line : List ℕ) → most < length line → step self.old line out.new.items at.value self.new) };
 }
 
 /// Hears a line of `most` bytes at most and tells its answer. False is the end.
@@ -33,7 +38,7 @@ fn turn<T, P: Port<T>, S: Session<T>>(
 ) -> Result<bool, PortFault>
     ensures talk { IfOk result (λ more. P.tells → Conversed S.step session.old session.new (P.said port.old) (P.said port.new) (P.rest port.old) (P.rest port.new)) }
     ensures end { IfOk result (λ more. more ≡ false → P.tells → P.rest port.new ≡ []) }
-    ensures broke { OnErr result (P.tells → BrokeOff S.step session.old (P.said port.old) (P.said port.new) (P.rest port.old) (P.rest port.new)) }
+    ensures broke { OnErr result (P.tells → BrokeOff S.step S.stop session.old session.new (P.said port.old) (P.said port.new) (P.rest port.old) (P.rest port.new)) }
     ensures later { P.faults port.old ≤ P.faults port.new }
     ensures cause { IsErrOf result PortFault.Stream → Rose (P.faults port.old) (P.faults port.new) }
 {
@@ -63,7 +68,7 @@ pub fn converse<T, P: Port<T>, S: Session<T>>(
 ) -> Result<bool, PortFault>
     ensures talk { IfOk result (λ whole. P.tells → Conversed S.step session.old session.new (P.said port.old) (P.said port.new) (P.rest port.old) (P.rest port.new)) }
     ensures end { IfOk result (λ whole. whole ≡ true → P.tells → P.rest port.new ≡ []) }
-    ensures broke { OnErr result (P.tells → BrokeOff S.step session.old (P.said port.old) (P.said port.new) (P.rest port.old) (P.rest port.new)) }
+    ensures broke { OnErr result (P.tells → BrokeOff S.step S.stop session.old session.new (P.said port.old) (P.said port.new) (P.rest port.old) (P.rest port.new)) }
     ensures later { P.faults port.old ≤ P.faults port.new }
     ensures cause { IsErrOf result PortFault.Stream → Rose (P.faults port.old) (P.faults port.new) }
 {

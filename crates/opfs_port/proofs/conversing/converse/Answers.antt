@@ -15,4 +15,4 @@ pub returns-then-not-branch-clause-talk : goal.returns-then-not-branch-clause-ta
 returns-then-not-branch-clause-talk g c = λ t. more_said _ _ _ _ _ _ _ _ _ _ (c.loop.invariant.talk t) (c.in_ok-turn.ensures.talk t)
 
 pub returns-in_err-turn-clause-broke : goal.returns-in_err-turn-clause-broke
-returns-in_err-turn-clause-broke g c = on_err _ g.P.Port.tells _ (λ t. later_broke _ _ _ _ _ _ _ _ _ (c.loop.invariant.talk t) (c.in_err-turn.ensures.broke t))
+returns-in_err-turn-clause-broke g c = on_err _ g.P.Port.tells _ (λ t. later_broke _ _ _ _ _ _ _ _ _ _ _ (c.loop.invariant.talk t) (c.in_err-turn.ensures.broke t))
