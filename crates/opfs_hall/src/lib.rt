@@ -4,7 +4,7 @@
 //! the history that stands at that moment, adds entries and hands the turn on. However threads are scheduled there is
 //! one history: what a pass has seen stays a prefix of it, and between two turns of a pass it grows by others alone.
 //!
-//! It stands on no other crate of this repository; on it stands `opfs_store`.
+//! It stands on no other crate of this repository; on it stand `opfs_port` and `opfs_store`.
 #![tactic(auto)]
 
 mod board;

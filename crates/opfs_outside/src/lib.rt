@@ -1,7 +1,7 @@
 //! The traits of the outside: sources, sinks, disks, hosts and gates, and what each promises.
 //!
-//! It stands on no other crate of this repository; on it stand `opfs_memory`, `opfs_files`, `opfs_store` and
-//! `opfs_journal`.
+//! It stands on no other crate of this repository; on it stand `opfs_memory`, `opfs_files`, `opfs_port`, `opfs_store`
+//! and `opfs_journal`.
 #![tactic(auto)]
 
 mod disk;

@@ -1,0 +1,5 @@
+pub mod Counts
+pub mod Lines
+pub mod Said
+pub mod Sessions
+pub mod Shown
