@@ -1,6 +1,6 @@
 //! An agent, and how it makes its calls.
 
-ghost use Rattle.std.specs.Prelude.{◌≡◌, ◌≤◌, false, true, [], IfOk, IfErr, OnOk, OnErr, IsTrue};
+ghost use Rattle.std.specs.Prelude.{◌≡◌, ◌≤◌, ◌+◌, ◌<◌, ◌^◌, false, true, [], drop, length, IfOk, IfErr, OnOk, OnErr, IsTrue};
 ghost use Rattle.std.specs.Option.{option_copied};
 ghost use Rattle.opfs_hist.specs.declared.op.Op.TheVariants as op;
 ghost use Rattle.opfs_hist.specs.declared.reply.Reply.TheVariants as reply;
@@ -12,13 +12,15 @@ ghost use Rattle.opfs_turns.specs.Agents.{state_of, known, IsAgent};
 ghost use Rattle.opfs_turns.specs.Calls.{HasRoom, MayAsk, new_agent, MayBegin, HasEnded, IsEntered, IsKept, IsLocal};
 ghost use Rattle.opfs_turns.specs.Asking.Answers.{Shared, MayAskPlainly, IsAnsweredBy, IsFlag, IsLength, IsRead};
 ghost use Rattle.opfs_turns.specs.Asking.Locals.{Local, Stopped, IsWhy};
+ghost use Rattle.opfs_turns.specs.Telling.{HasTold};
 
 use opfs_base::{Bytes, Key};
 use opfs_hall::{Hall, Pass};
 use opfs_hist::{Op, Refusal, Reply, Room};
 use opfs_store::{Acted, Store};
 use opfs_turns::{
-    Stop, Turns, ask, ask_bytes, ask_done, ask_flag, ask_length, ask_row, keep_call, keep_refusal,
+    Stop, Telling, Turns, ask, ask_bytes, ask_done, ask_flag, ask_length, ask_row, keep_call,
+    keep_refusal,
 };
 use opfs_work::Work;
 use std::alloc::Global;
@@ -77,6 +79,21 @@ impl<S: Store> Agent<S> {
         turns.end(rt, court)
     }
 
+    /// Takes the turn without a call: enters the local calls that it kept, gives out the entries of the store that were not given
+    /// out before, with what the store then is, and hands the turn on. Takes no memory.
+    pub fn tell<R: Wait>(&mut self, rt: &R, court: &Hall<S>) -> Telling<S>
+        requires own { self.old.pass.hall ≡ court.now }
+        requires room { HasRoom self.old }
+        ensures told { HasTold S.tells self.old self.new }
+        ensures entries { result.given.entries ≡ drop result.given.place self.new.pass.base }
+        ensures place { result.given.place + length result.given.entries ≡ length self.new.pass.base }
+        ensures fits { result.given.place + length result.given.entries < 2 ^ 63 }
+        ensures at { S.entries result.at.value ≡ self.new.pass.base }
+        ensures opening { S.opening result.at.value ≡ court.now.opening }
+    {
+        self.turns.tell(rt, court)
+    }
+
     /// Its number.
     pub fn number(&self) -> u32
         ensures { result ≡ self.now.pass.agent }
@@ -94,6 +111,13 @@ impl<S: Store> Agent<S> {
         ensures { result ≡ self.now.rows }
     {
         self.turns.rows()
+    }
+
+    /// How many entries it has, waits among them.
+    pub fn entries(&self) -> u32
+        ensures { result ≡ self.now.entries }
+    {
+        self.turns.entries()
     }
 
     /// The key of its origin; None where that is opaque.

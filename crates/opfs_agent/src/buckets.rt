@@ -5,6 +5,7 @@ ghost use Rattle.opfs_hist.specs.declared.op.Op.TheVariants as op;
 ghost use Rattle.opfs_hist.specs.declared.reply.Reply.TheVariants as reply;
 ghost use Rattle.opfs_turns.specs.Calls.{HasRoom};
 ghost use Rattle.opfs_turns.specs.Asking.Answers.{Shared};
+ghost use Rattle.opfs_turns.specs.Waiting.{HasWaitRoom, IsAwaitTurn};
 ghost use Rattle.opfs_agent.specs.Awaiting.{Awaits};
 ghost use Rattle.opfs_agent.specs.Entries.{root_of};
 
@@ -13,7 +14,7 @@ use opfs_base::{Kind, Locator, Path, Text, unit_of};
 use opfs_hall::Hall;
 use opfs_hist::{Op, Refusal};
 use opfs_store::Store;
-use opfs_turns::{Stop, ask_estimate};
+use opfs_turns::{AwaitTurn, Stop, ask_estimate};
 use std::alloc::AllocError;
 use std::sync::Wait;
 
@@ -128,5 +129,20 @@ impl<S: Store> Agent<S> {
             Ok(false) => Err(Stop::No(Refusal::Stuck)),
             Err(_) => Err(Stop::NoMemory),
         }
+    }
+
+    /// Makes one turn of an await, and does not sleep (this project's own): it is answered, begins to wait, or goes on waiting.
+    /// The next await of the tag goes on with that. Where there is no memory nothing is entered.
+    pub fn await_once<R: Wait>(
+        &mut self,
+        rt: &R,
+        court: &Hall<S>,
+        tag: &Text,
+    ) -> Result<AwaitTurn, AllocError>
+        requires own { self.old.pass.hall ≡ court.now }
+        requires room { HasWaitRoom self.old }
+        ensures { IsAwaitTurn S.tells self.old self.new tag.now result }
+    {
+        self.turns.await_once(rt, court, tag)
     }
 }

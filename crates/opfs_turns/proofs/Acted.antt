@@ -21,7 +21,7 @@ use Rattle.opfs_laws.specs.Histories.Unread.{IsTold, ArePendingFor}
 use Rattle.opfs_store.specs.declared.acts.acted.Gift.{Gift}
 use Rattle.opfs_store.specs.declared.acts.acted.Acted.{Acted}
 use Rattle.opfs_store.specs.Acts.Acting.{told_entry, IsCallFor, IsActed, IsGift, InHand, IsServed, IsUnserved}
-use Rattle.opfs_store.specs.Acts.Asking.{MayAct, IsThere}
+use Rattle.opfs_store.specs.Acts.Asking.{MayAct, MayTakePending, IsThere}
 use Rattle.opfs_work.specs.Works.{WorkingCopy}
 use Rattle.opfs_turns.specs.declared.notes.Notes.{Notes}
 use Rattle.opfs_turns.specs.Agents.{AgentSeen, IsAgent, seen}
@@ -32,6 +32,7 @@ use Rattle.opfs_store.specs.Acts.Acting.{awaited}
 use Rattle.opfs_hist.specs.declared.op.Op.TheVariants as op
 use Rattle.opfs_hist.specs.declared.reply.Reply.TheVariants as reply
 use Rattle.opfs_turns.specs.Agents.{is_wait}
+use Rattle.opfs_turns.specs.Telling.{HasTold}
 use Rattle.opfs_turns.specs.Waiting.{HasWaitRoom, IsTurned, await_reply, planned}
 use Rattle.opfs_turns.specs.declared.waiting.Plan.{Plan}
 use Rattle.opfs_turns.specs.declared.waiting.Plan.TheVariants as plan
@@ -39,7 +40,7 @@ use Rattle.opfs_turns.proofs.Awaiting.{IsAsk, answered-facts, begun-facts, looks
 use Rattle.opfs_turns.proofs.Beside.{pending-awaited, pending-agents}
 use Rattle.opfs_turns.proofs.Counts.{one_if}
 use Rattle.opfs_turns.proofs.Standing.{act-pending, after-more}
-use Rattle.opfs_turns.proofs.Turning.{act-may, looked-agent, looked, entered-agent, entered, await-may, wait-may, waits-there, fresh_work, asked_at, asked-agent, asked, asked-reply, asked-rows, asked-waits}
+use Rattle.opfs_turns.proofs.Turning.{act-may, take-may, taken-agent, taken, looked-agent, looked, entered-agent, entered, await-may, wait-may, waits-there, fresh_work, asked_at, asked-agent, asked, asked-reply, asked-rows, asked-waits}
 
 module _ {O : Type 0} (tells : Type 0) (opened : O → Opening) (pass : PassSeen O Entry) (notes : Notes) (owner : Entry → ℕ) (owned : (e : Entry) → owner e ≡ e.agent) where
   abbrev agent : AgentSeen O
@@ -77,6 +78,30 @@ module _ {O : Type 0} (tells : Type 0) (opened : O → Opening) (pass : PassSeen
 
       pub unacted-looked : HasLooked agent (seen opened after (record notes { pending = pending }))
       unacted-looked = subst (HasLooked agent) same (looked tells agent kept more apart told-here)
+
+    -- Its own calls may be taken in without a call.
+    pub takes-in : HasRoom agent → MayTakePending tells o list notes.pending pass.agent
+    takes-in room =
+        subst (λ p. MayTakePending tells p list notes.pending pass.agent) (sym begun)
+        (subst (λ l. MayTakePending tells (opened pass.hall.opening) l notes.pending pass.agent) (sym grows.1)
+        (take-may tells agent kept more apart told-here room))
+
+    -- They were taken in.
+    module _ (new : List Entry) (new_is : new ≡ list ++ notes.pending) (told_new : IsTold tells o new) (after : PassSeen O Entry) (after_is : after ≡ record pass { base = new; busy = false }) (pending : List Entry) (none : pending ≡ []) where
+      all-is : new ≡ (pass.base ++ more) ++ notes.pending
+      all-is = new_is ∙ ap (λ l. l ++ notes.pending) grows.1
+
+      all-same : record agent { pass = record pass { base = (pass.base ++ more) ++ notes.pending }; pending = [] } ≡ seen opened after (record notes { pending = pending })
+      all-same = λ i. seen opened (((λ j. record pass { base = sym all-is j }) ∙ sym (rested new after after_is)) i) (record notes { pending = sym none i })
+
+      pub told-agent : IsAgent tells (seen opened after (record notes { pending = pending }))
+      told-agent =
+          subst (IsAgent tells) all-same
+          (taken-agent tells agent kept more apart told-here
+          (subst (λ p. IsTold tells p ((pass.base ++ more) ++ notes.pending)) begun (subst (IsTold tells o) all-is told_new)))
+
+      pub told-all : HasTold tells agent (seen opened after (record notes { pending = pending }))
+      told-all = subst (HasTold tells agent) all-same (taken tells agent kept more apart told-here)
 
     abbrev there : State Text Own
     there = state_after (opened pass.hall.opening) (before_call agent more)
@@ -220,6 +245,14 @@ module _ (owner : Entry → ℕ) (owned : (e : Entry) → owner e ≡ e.agent) (
       (All-weaker (λ x. x.agent ≡ k) Mine (λ x is. inl (owned x ∙ is)) pending mine)
       (All-append Mine (map eviction gone) (e ∷ []) (All-weaker (λ x. x.agent ≡ 0) Mine (λ x is. inr (owned x ∙ is)) (map eviction gone) (nobody-s gone))
       (All-cons Mine e [] (inl (owned e ∙ here)) (All-nil Mine)))
+
+  -- What a turn without a call leaves: the pending calls.
+  pub adds-pending : (tells : Type 0) (o : Opening) (before pending after : List Entry) → after ≡ before ++ pending → ArePendingFor tells (state_after o before) k pending → Adds owner k before after
+  adds-pending tells o before pending after grown local = (
+    pending,
+    grown,
+    All-weaker (λ x. x.agent ≡ k) Mine (λ x is. inl (owned x ∙ is)) pending (pending-own tells (state_after o before) k pending local),
+  )
 
   -- What a turn leaves: the call's entries or nothing.
   pub adds : {E : Type 0} (tells : Type 0) (o : Opening) (before after : InHand) (c : Call) → c.agent ≡ k → (r : Result Acted E)

@@ -26,10 +26,11 @@ use Rattle.opfs_laws.proofs.histories.Adding.{added-state}
 use Rattle.opfs_laws.proofs.histories.Reading.{unread-state}
 use Rattle.opfs_store.specs.declared.acts.acted.Gift.{Gift}
 use Rattle.opfs_store.specs.Acts.Acting.{told_entry, IsCallFor, IsGift}
-use Rattle.opfs_store.specs.Acts.Asking.{MayAct, HasPlace, given_by, is_open_own}
+use Rattle.opfs_store.specs.Acts.Asking.{MayAct, MayTakePending, HasPlace, given_by, is_open_own}
 use Rattle.opfs_work.specs.Works.{WorkingCopy}
-use Rattle.opfs_turns.specs.Agents.{AgentSeen, IsAgent, state_of, entries_of, is_wait}
+use Rattle.opfs_turns.specs.Agents.{AgentSeen, IsAgent, known, state_of, entries_of, next_number, is_wait}
 use Rattle.opfs_turns.specs.Calls.{HasRoom, MayAsk, call_of, before_call, IsEntered, HasLooked}
+use Rattle.opfs_turns.specs.Telling.{HasTold}
 use Rattle.opfs_turns.specs.Waiting.{HasWaitRoom, IsTurned}
 use Rattle.opfs_turns.proofs.Awaiting.{IsAsk, bare-is, real-answer, await-small, wait-small}
 use Rattle.opfs_turns.proofs.Counts.{count-append, count-one, count-none, one_if}
@@ -239,6 +240,43 @@ module _ {O : Type 0} (tells : Type 0) (a : AgentSeen O) (kept : IsAgent tells a
 
   pub looked : HasLooked a looked_at
   looked = record { others = more; apart = apart; grown = refl; own = own-same; rest = refl }
+
+  -- Its own calls are taken in without a call.
+  pub take-may : HasRoom a → MayTakePending tells a.opening (a.pass.base ++ more) a.pending a.pass.agent
+  take-may room = record {
+    live = live-there;
+    pending = act-pending tells a.opening a.pass.base more a.pass.agent told apart a.pending kept.local;
+    place = record {
+      rows = omega (arith, room.rows, kept.made, ap (λ x. length x.own) agent-same);
+      entries = omega (arith, room.entries, entries-there);
+    };
+  }
+
+  abbrev taken_at : AgentSeen O
+  taken_at = record a { pass = record a.pass { base = (a.pass.base ++ more) ++ a.pending }; pending = [] }
+
+  pub taken-agent : IsTold tells a.opening ((a.pass.base ++ more) ++ a.pending) → IsAgent tells taken_at
+  taken-agent legal =
+      let whole : known taken_at ≡ before_call a more = append-nil (before_call a more) in
+      let same : state_of taken_at ≡ s = ap (state_after a.opening) whole in
+      record {
+        idle = kept.idle;
+        real = kept.real;
+        legal = legal;
+        local = tt;
+        live = ap (λ t. (agent_of t a.pass.agent).live) same ∙ live-there;
+        own_key = ap (λ t. (agent_of t a.pass.agent).key) same ∙ ap (λ x. x.key) agent-same ∙ kept.own_key;
+        numbered =
+            kept.numbered
+            ∙ sym (ap (λ n. 1 + n) (between (is_numbered a.pass.agent) a.pass.base more a.pending (numbered-none a.pass.agent more apart)))
+            ∙ sym (ap (next_number a.pass.agent) whole);
+        counted = sym entries-there ∙ sym (ap (entries_of a.pass.agent) whole);
+        made = kept.made ∙ sym (ap (λ x. length x.own) agent-same) ∙ sym (ap (λ t. length (agent_of t a.pass.agent).own) same);
+        waits = ap (λ t. (agent_of t a.pass.agent).waits) same ∙ ap (λ x. x.waits) agent-same ∙ kept.waits;
+      }
+
+  pub taken : HasTold tells a taken_at
+  taken = record { others = more; apart = apart; legal = told; grown = refl; own = own-same; rest = refl }
 
   -- A call was entered.
   module _ (called : Op) (answered : Reply) (gone : List Text) (call : IsCallFor tells s gone (told_entry (call_of a called) answered)) where

@@ -7,6 +7,7 @@ pub mod asking;
 mod faulting;
 mod notes;
 pub mod other_rows;
+mod telling;
 mod turn;
 mod turns;
 mod waiting;
@@ -17,4 +18,6 @@ pub use asking::{
 };
 pub use faulting::a_told_fault_has_its_rise;
 pub use notes::Notes;
+pub use telling::Telling;
 pub use turns::Turns;
+pub use waiting::AwaitTurn;

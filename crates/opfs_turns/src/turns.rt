@@ -1,18 +1,20 @@
 //! An agent's turns, and what it keeps between them.
 
-ghost use Rattle.std.specs.Prelude.{◌≡◌, ◌≤◌, false, true, IfOk, IfErr, OnErr, is_ok, IsTrue};
+ghost use Rattle.std.specs.Prelude.{◌≡◌, ◌≤◌, ◌+◌, ◌<◌, ◌^◌, false, true, drop, length, IfOk, IfErr, OnErr, is_ok, IsTrue};
 ghost use Rattle.std.specs.Option.{option_copied};
 ghost use Rattle.opfs_hist.specs.declared.op.Op.TheVariants as op;
 ghost use Rattle.opfs_machine.specs.Histories.{may_enter};
 ghost use Rattle.opfs_laws.specs.Leaving.{is_end};
 ghost use Rattle.opfs_store.specs.Acts.Acting.{IsLeft, IsSameCopy, always_acts};
 ghost use Rattle.opfs_turns.specs.Agents.{state_of, IsAgent};
-ghost use Rattle.opfs_turns.specs.Waiting.{HasWaited, HasAwaited, await_reply};
+ghost use Rattle.opfs_turns.specs.Waiting.{HasWaitRoom, HasWaited, HasAwaited, IsAwaitTurn, await_reply};
 ghost use Rattle.opfs_turns.specs.Calls.{HasRoom, MayAsk, call_of, IsEntered, HasLooked, IsLocal, IsKept, new_agent, MayBegin, HasEnded};
+ghost use Rattle.opfs_turns.specs.Telling.{HasTold};
 
 use crate::notes::{Caller, Notes};
+use crate::telling::{Telling, tell_turn};
 use crate::turn::in_turn;
-use crate::waiting::await_turns;
+use crate::waiting::{AwaitTurn, await_turn, await_turns};
 use opfs_base::{Key, Name, Text};
 use opfs_hall::{Hall, Pass};
 use opfs_hist::{Entry, Op, Pending, Reply, Room};
@@ -106,6 +108,13 @@ impl<S: Store> Turns<S> {
         self.caller.notes.rows
     }
 
+    /// How many entries the agent has, waits among them.
+    pub fn entries(&self) -> u32
+        ensures { result ≡ self.now.entries }
+    {
+        self.caller.notes.entries
+    }
+
     /// The key of the agent.
     pub fn key(&self) -> Option<&Key>
         ensures { option_copied result ≡ self.now.key }
@@ -152,6 +161,36 @@ impl<S: Store> Turns<S> {
         ensures waited { OnErr result (HasWaited S.tells self.old self.new tag.now) }
     {
         await_turns(rt, self.alloc, court, &mut self.caller, tag)
+    }
+
+    /// Makes one turn of an await, without sleep: it is answered, begins to wait, or goes on waiting. Its next await of the tag
+    /// goes on with that. Where there is no memory nothing is entered.
+    pub fn await_once<R: Wait>(
+        &mut self,
+        rt: &R,
+        court: &Hall<S>,
+        tag: &Text,
+    ) -> Result<AwaitTurn, AllocError>
+        requires own { self.old.pass.hall ≡ court.now }
+        requires room { HasWaitRoom self.old }
+        ensures { IsAwaitTurn S.tells self.old self.new tag.now result }
+    {
+        await_turn(rt, self.alloc, court, &mut self.caller, tag)
+    }
+
+    /// Takes the turn without a call: enters the local calls that it kept, gives out the entries of the store that were not given
+    /// out before, with what the store then is, and hands the turn on. Takes no memory.
+    pub fn tell<R: Wait>(&mut self, rt: &R, court: &Hall<S>) -> Telling<S>
+        requires own { self.old.pass.hall ≡ court.now }
+        requires room { HasRoom self.old }
+        ensures told { HasTold S.tells self.old self.new }
+        ensures entries { result.given.entries ≡ drop result.given.place self.new.pass.base }
+        ensures place { result.given.place + length result.given.entries ≡ length self.new.pass.base }
+        ensures fits { result.given.place + length result.given.entries < 2 ^ 63 }
+        ensures at { S.entries result.at.value ≡ self.new.pass.base }
+        ensures opening { S.opening result.at.value ≡ court.now.opening }
+    {
+        tell_turn(rt, court, &mut self.caller)
     }
 
     /// Keeps a local call with its answer until the next turn. Takes no memory.

@@ -18,10 +18,10 @@ use std::sync::Wait;
 
 /// How an await stands after a turn.
 #[derive(Clone, Copy, PartialEq, Eq)]
-pub(crate) enum AwaitTurn {
-    /// It was answered: whether the tag was posted.
+pub enum AwaitTurn {
+    /// It was answered: true where the tag was posted, false where nobody is left who could post it.
     Answered(bool),
-    /// It waits. The bell told this in its turn.
+    /// It is not answered yet, and the agent waits for the tag. The hall's bell told this in its turn.
     Waits(u32),
 }
 

@@ -1,4 +1,5 @@
-use Rattle.std.proofs.Common.{ℕ, ◌+◌, [], length, None, Some, refl, sym, ap, ◌∙◌, subst, inl, inr, arith}
+use Rattle.std.proofs.Common.{◌≡◌, ◌⊎◌, ℕ, ◌+◌, [], append-nil, length, None, Some, refl, sym, ap, ◌∙◌, subst, inl, inr, arith}
+use Rattle.std.proofs.lemmas.List.Elements.{All-nil}
 use Rattle.opfs_base.specs.Texts.{Text}
 use Rattle.opfs_hall.specs.History.{Adds}
 use Rattle.opfs_hall.specs.Seen.{at_rest}
@@ -226,6 +227,13 @@ returns-in-Begin-clause-turned g c = unacted-looked g.S.Store.tells g.S.Store.op
     (g.S.Chronicle.entries c.act-acted-in-Begin.new.self) c.in-Err-acted.ensures.unserved.entries
     c.leave-in-Begin.new.pass (c.leave-in-Begin.ensures ∙ ap (λ p. at_rest p (g.S.Chronicle.entries c.act-acted-in-Begin.new.self)) c.enter-turn.ensures.pass)
     c.act-acted-in-Begin.new.pending c.in-Err-acted.ensures.unserved.pending
+
+pub leave-requires-in-Look-clause-adds : goal.leave-requires-in-Look-clause-adds
+leave-requires-in-Look-clause-adds g c = (
+  [],
+  ap (λ p. p.base) (sym c.enter-turn.ensures.pass) ∙ sym (append-nil c.enter-turn.new.pass.base),
+  All-nil (λ e. (g.S.Chronicle.owner e ≡ c.enter-turn.new.pass.agent) ⊎ (g.S.Chronicle.owner e ≡ 0)),
+)
 
 pub returns-clause-agent : goal.returns-clause-agent
 returns-clause-agent g c = unacted-agent g.S.Store.tells g.S.Store.opened c.args.caller.now.pass c.args.caller.now.notes g.S.Chronicle.owner g.met.S.Store.owned c.requires.agent
