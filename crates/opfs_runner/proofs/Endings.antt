@@ -162,18 +162,18 @@ pub record Ending {O : Type 0} (tells : Type 0) (start : AgentSeen O) (agent_row
   pub ends : EndsFrom tells a done left
   pub kept : IsAgent tells a
   pub same : a.pass ≡ record start.pass { base = a.pass.base }
-  pub few : a.entries ≤ 50000 + done
-  pub rows : a.rows ≤ 20000
+  pub few : a.entries + length left ≤ 60000000
+  pub rows : a.rows ≤ 60000000
   pub closes : (asked : Asked) (whole : Bool) → Closes asked whole (own_entries start) start.number (open_rows 1 (kinds_of agent_rows)) → Closes asked whole (own_entries a) a.number (open_rows (done + 1) (kinds_of left))
 
-pub ending-begins : {O : Type 0} (tells : Type 0) (a : AgentSeen O) (agent_rows : List AgentRow) → IsAgent tells a → HasTable tells a agent_rows → a.entries ≤ 50000 → length agent_rows ≤ 20000 → Ending tells a agent_rows a agent_rows
-ending-begins tells a agent_rows kept table entries rows = record {
+pub ending-begins : {O : Type 0} (tells : Type 0) (a : AgentSeen O) (agent_rows : List AgentRow) → IsAgent tells a → HasTable tells a agent_rows → a.entries + length agent_rows ≤ 60000000 → Ending tells a agent_rows a agent_rows
+ending-begins tells a agent_rows kept table few = record {
   done = 0;
   ends = ends-begin tells a agent_rows table;
   kept = kept;
   same = refl;
-  few = omega (arith, entries);
-  rows = omega (arith, rows, table.count);
+  few = few;
+  rows = omega (arith, few, table.count);
   closes = λ asked whole closes. subst (λ n. Closes asked whole (own_entries a) a.number (open_rows n (kinds_of agent_rows))) (omega arith) closes;
 }
 

@@ -1,6 +1,6 @@
 //! How an agent's rows end with its script.
 
-ghost use Rattle.std.specs.Prelude.{◌≡◌, ◌≤◌, ℕ, [], Bool, length, IsTrue};
+ghost use Rattle.std.specs.Prelude.{◌≡◌, ◌+◌, ◌≤◌, ℕ, [], Bool, length, IsTrue};
 ghost use Rattle.opfs_hist.specs.declared.op.Op.TheVariants as op;
 ghost use Rattle.opfs_machine.specs.Histories.{may_enter};
 ghost use Rattle.opfs_turns.specs.Agents.{state_of};
@@ -54,7 +54,7 @@ pub fn end_rows<S: Store, R: Wait>(
 )
     requires own { agent.old.pass.hall ≡ court.now }
     requires table { HasTable S.tells agent.old agent_rows.items }
-    requires few { (agent.old.entries ≤ 50000) × (length agent_rows.items ≤ 20000) }
+    requires few { agent.old.entries + length agent_rows.items ≤ 60000000 }
     ensures none { IsTrue (may_enter (state_of agent.new) agent.new.pass.agent op.End) }
     ensures room { HasRoom agent.new }
     ensures same { agent.new.pass ≡ record agent.old.pass { base = agent.new.pass.base } }

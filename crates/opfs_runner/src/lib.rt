@@ -17,5 +17,7 @@ mod threads;
 pub use agent_rows::{AgentRow, forget, perform};
 pub use closing::close_hall;
 pub use ended::{Ended, run_agent};
+pub use ends::end_rows;
 pub use run::{Ran, run_scripts};
+pub use steps::make_step;
 pub use threads::run_all;

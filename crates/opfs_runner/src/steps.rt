@@ -94,8 +94,9 @@ fn run_step<S: Store, R: Wait>(
     done
 }
 
-// The same, and lets go of the snapshot that the step's variable named before and does not name now.
-fn make_step<S: Store, R: Wait>(
+/// Makes a step, and tells whether it was made and the hand has taken note. Then it lets go of the snapshot that the step's
+/// variable named before and does not name now.
+pub fn make_step<S: Store, R: Wait>(
     rt: &R,
     court: &Hall<S>,
     agent: &mut Agent<S>,

@@ -9,7 +9,7 @@ loop-agent_row-init g c =
     let T = g.S.Store.tells in
     let a = c.args.agent.now in
     let agent_rows = c.args.agent_rows.items in
-    subst (Ending T a agent_rows a) (sym (ap reverse c.reverse.ensures.items ∙ reverse-reverse agent_rows)) (ending-begins T a agent_rows c.know_kept.ensures c.requires.table c.requires.few.0 c.requires.few.1)
+    subst (Ending T a agent_rows a) (sym (ap reverse c.reverse.ensures.items ∙ reverse-reverse agent_rows)) (ending-begins T a agent_rows c.know_kept.ensures c.requires.table c.requires.few)
 
 pub end_agent_row-requires-clause-agent_row : goal.end_agent_row-requires-clause-agent_row
 end_agent_row-requires-clause-agent_row g c =
