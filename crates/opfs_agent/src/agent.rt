@@ -1,6 +1,6 @@
 //! An agent, and how it makes its calls.
 
-ghost use Rattle.std.specs.Prelude.{◌≡◌, ◌≤◌, ◌+◌, ◌<◌, ◌^◌, false, true, [], drop, length, IfOk, IfErr, OnOk, OnErr, IsTrue};
+ghost use Rattle.std.specs.Prelude.{◌≡◌, ◌≤◌, false, true, [], IfOk, IfErr, OnOk, OnErr, IsTrue};
 ghost use Rattle.std.specs.Option.{option_copied};
 ghost use Rattle.opfs_hist.specs.declared.op.Op.TheVariants as op;
 ghost use Rattle.opfs_hist.specs.declared.reply.Reply.TheVariants as reply;
@@ -12,15 +12,14 @@ ghost use Rattle.opfs_turns.specs.Agents.{state_of, known, IsAgent};
 ghost use Rattle.opfs_turns.specs.Calls.{HasRoom, MayAsk, new_agent, MayBegin, HasEnded, IsEntered, IsKept, IsLocal};
 ghost use Rattle.opfs_turns.specs.Asking.Answers.{Shared, MayAskPlainly, IsAnsweredBy, IsFlag, IsLength, IsRead};
 ghost use Rattle.opfs_turns.specs.Asking.Locals.{Local, Stopped, IsWhy};
-ghost use Rattle.opfs_turns.specs.Telling.{HasTold};
+ghost use Rattle.opfs_turns.specs.Entering.{HasEnteredPending};
 
 use opfs_base::{Bytes, Key};
-use opfs_hall::{Hall, Pass};
+use opfs_hall::{Hall, Pass, Watch};
 use opfs_hist::{Op, Refusal, Reply, Room};
 use opfs_store::{Acted, Store};
 use opfs_turns::{
-    Stop, Telling, Turns, ask, ask_bytes, ask_done, ask_flag, ask_length, ask_row, keep_call,
-    keep_refusal,
+    Stop, Turns, ask, ask_bytes, ask_done, ask_flag, ask_length, ask_row, keep_call, keep_refusal,
 };
 use opfs_work::Work;
 use std::alloc::Global;
@@ -79,19 +78,24 @@ impl<S: Store> Agent<S> {
         turns.end(rt, court)
     }
 
-    /// Takes the turn without a call: enters the local calls that it kept, gives out the entries of the store that were not given
-    /// out before, with what the store then is, and hands the turn on. Takes no memory.
-    pub fn tell<R: Wait>(&mut self, rt: &R, court: &Hall<S>) -> Telling<S>
+    /// Takes the turn without a call: enters the local calls that it kept, and hands the turn on. Takes no memory.
+    pub fn enter_pending<R: Wait>(&mut self, rt: &R, court: &Hall<S>)
         requires own { self.old.pass.hall ≡ court.now }
         requires room { HasRoom self.old }
-        ensures told { HasTold S.tells self.old self.new }
-        ensures entries { result.given.entries ≡ drop result.given.place self.new.pass.base }
-        ensures place { result.given.place + length result.given.entries ≡ length self.new.pass.base }
-        ensures fits { result.given.place + length result.given.entries < 2 ^ 63 }
-        ensures at { S.entries result.at.value ≡ self.new.pass.base }
-        ensures opening { S.opening result.at.value ≡ court.now.opening }
+        ensures { HasEnteredPending S.tells self.old self.new }
     {
-        self.turns.tell(rt, court)
+        self.turns.enter_pending(rt, court);
+    }
+
+    /// Lets a watch of the store's hall know what the agent has seen.
+    pub fn show(&mut self, court: &Hall<S>, watch: &mut Watch<S>)
+        requires own { self.old.pass.hall ≡ court.now }
+        requires watch { watch.old.pass.hall ≡ court.now }
+        ensures same { self.new ≡ self.old }
+        ensures base { watch.new.pass ≡ record watch.old.pass { base = self.old.pass.base } }
+        ensures last { watch.new.last ≡ watch.old.last }
+    {
+        self.turns.show(court, watch);
     }
 
     /// Its number.

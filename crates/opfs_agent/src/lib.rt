@@ -15,6 +15,6 @@ pub mod stream_calls;
 pub use agent::Agent;
 pub use handle_calls::{ClosedSync, SyncHandle};
 pub use iteration::Iter;
-pub use opfs_turns::{AwaitTurn, Stop, Telling, a_told_fault_has_its_rise};
+pub use opfs_turns::{AwaitTurn, Stop, a_told_fault_has_its_rise};
 pub use snapshots::Snapshot;
 pub use stream_calls::{ClosedStream, Writable};

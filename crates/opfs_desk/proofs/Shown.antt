@@ -1,5 +1,5 @@
 -- What a desk shows, and what its end leaves.
-use Rattle.std.proofs.Common.{◌≡◌, ℕ, List, [], ◌++◌, Some, Ok, None, refl, if◌then◌else◌, sym, ap, subst, ◌∙◌}
+use Rattle.std.proofs.Common.{◌≡◌, ℕ, List, [], ◌++◌, Some, Ok, None, refl, if◌then◌else◌, sym, ap, subst, ◌∙◌, append-nil}
 use Rattle.opfs_books.specs.Laws.Books.{account_of}
 use Rattle.opfs_books.specs.Laws.Commits.{CommitLaws}
 use Rattle.opfs_books.specs.Laws.Fronts.{IsShownOnce}
@@ -30,9 +30,9 @@ use Rattle.opfs_desk_steps.specs.declared.parts.parts.Ledger.{Ledger}
 use Rattle.opfs_desk.specs.Seen.{DeskSeen, entries_of, disk_of, HasAcknowledged, ShowsNow}
 use Rattle.opfs_desk.proofs.Called.{Falls, time-on}
 use Rattle.opfs_desk.specs.Ending.{StandsWhole, ShowsEnding, EndsFronts, EndsKept, EndsTime, EndsWhole, KeepsSizes, LeavesFront}
-use Rattle.opfs_desk.specs.Keeping.{KeepsAll}
+use Rattle.opfs_desk.specs.Keeping.{EndsKeeping, KeepsAll}
 use Rattle.opfs_desk.specs.Resting.{IsAtRest}
-use Rattle.opfs_desk.proofs.Keeping.{kept-now-on}
+use Rattle.opfs_desk.proofs.Keeping.{kept-now-on, kept-on}
 use Rattle.opfs_desk.proofs.Moments.{fronts-still, keeps-still, once-front}
 use Rattle.opfs_desk.proofs.Passed.{doubt-by, once-doubt, once-now}
 use Rattle.opfs_desk.proofs.Sure.{recent-if}
@@ -82,6 +82,11 @@ module _ {D : Type 0} (w : DiskWords D) (d : DeskSeen D) (recorded : Built) (are
 
     pub ends-kept : (w.tells → Elapses w.moment w.since (disk_of d) new.journal.disk) → IsAtRest w d.fixed d.parts → EndsKept w d disk
     ends-kept time rest t = keeps-still w d.fixed.opening (entries_of d) (entries_of d) refl (disk_of d) disk (ends-elapsed time t) (ends-way t) (rest.keeps t)
+
+    -- What was kept stays kept.
+    pub ends-keeping : (w.tells → Elapses w.moment w.since (disk_of d) new.journal.disk) → EndsKeeping w d disk
+    ends-keeping time t count moment =
+        kept-on w d.fixed.opening (entries_of d) [] (entries_of d) (sym (append-nil (entries_of d))) count moment (disk_of d) disk (ends-elapsed time t) (ends-way t)
 
     -- Each image of the end.
     pub ends-whole : new.books.history ≡ entries_of d → BookStands w d.fixed (book_in new) new.journal → EndsWhole w d disk

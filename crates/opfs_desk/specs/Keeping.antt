@@ -24,3 +24,7 @@ StaysKept w a b = w.tells → (count moment : ℕ) → Keeps w a count moment �
 -- All that was entered is kept from this moment on.
 abbrev pub KeepsAll : {D : Type 0} → DiskWords D → DeskSeen D → Type 0
 KeepsAll w d = w.tells → Keeps w d (length (entries_of d)) (w.moment (disk_of d))
+
+-- What a desk keeps the disk keeps that its end gives.
+abbrev pub EndsKeeping : {D : Type 0} → DiskWords D → DeskSeen D → D → Type 0
+EndsKeeping w d disk = w.tells → (count moment : ℕ) → Keeps w d count moment → IsKept w d.fixed.opening (entries_of d) disk count moment

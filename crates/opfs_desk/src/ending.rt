@@ -4,6 +4,7 @@ ghost use Rattle.std.specs.Prelude.{◌≡◌, ◌≤◌, [], OnOk, OnErr};
 ghost use Rattle.opfs_desk.specs.Apart.{IsToldApart};
 ghost use Rattle.opfs_desk.specs.Seen.{entries_of, disk_of};
 ghost use Rattle.opfs_desk.specs.Ending.{EndsFronts, EndsKept, EndsTime, EndsWhole, KeepsSizes, LeavesFront, ShowsEnding, StandsWhole};
+ghost use Rattle.opfs_desk.specs.Keeping.{EndsKeeping};
 ghost use Rattle.opfs_hist.specs.Faults.{disk_faults};
 ghost use Rattle.opfs_outside.specs.Faults.{Rose, RoseBy};
 
@@ -27,6 +28,7 @@ impl<D: Disk> Desk<D> {
         ensures shown { ShowsEnding D.Disk self result.0 }
         ensures fronts { EndsFronts D.Disk self result.0 }
         ensures keeps { EndsKept D.Disk self result.0 }
+        ensures stays { EndsKeeping D.Disk self result.0 }
         ensures left { D.tells → LeavesFront D.Disk self.fixed.opening result.1 result.0 }
         ensures sizes { KeepsSizes D.Disk self result.0 }
         ensures time { EndsTime D.Disk self result.0 }

@@ -34,7 +34,7 @@ module _ {D : Type 0} (w : DiskWords D) (falls : w.tells → (d : D) (t u : ℕ)
         keeps = left.keeps;
       }
 
-  run-before : (g : Geometry) (o : Opening) (script : List Asked) (run : Completion D) → IsRunOver w g o script begun run → IsRunOver w g o script old run
+  pub run-before : (g : Geometry) (o : Opening) (script : List Asked) (run : Completion D) → IsRunOver w g o script begun run → IsRunOver w g o script old run
   run-before g o script run is = record {
     history = is.history;
     stands = is.stands;

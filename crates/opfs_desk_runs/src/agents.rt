@@ -37,7 +37,7 @@ fn who_of(alloc: Global, script: &AgentScript) -> Result<Who, AllocError>
 }
 
 /// What the desk knows of the agents of scripts, in their order.
-pub(crate) fn agents_of(alloc: Global, scripts: &[AgentScript]) -> Result<Vec<Who>, AllocError>
+pub fn agents_of(alloc: Global, scripts: &[AgentScript]) -> Result<Vec<Who>, AllocError>
     ensures agents { IfOk result (λ agents. map caller_by agents.items ≡ map who_of scripts.now) }
     ensures keys { OnOk result (All (λ s. IsOwnKey s.key) scripts.now) }
 {

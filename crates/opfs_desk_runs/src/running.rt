@@ -4,6 +4,7 @@ ghost use Rattle.std.specs.Prelude.{◌≡◌, ◌≢◌, ◌+◌, ◌≤◌, []
 ghost use Rattle.opfs_codec.specs.declared.change.Format.TheVariants.{New};
 ghost use Rattle.opfs_desk.specs.Apart.{IsToldApart};
 ghost use Rattle.opfs_desk.specs.Ending.{EndsFronts, EndsKept, EndsTime, KeepsSizes, LeavesFront, StandsWhole};
+ghost use Rattle.opfs_desk.specs.Keeping.{EndsKeeping};
 ghost use Rattle.opfs_desk.specs.Seen.{entries_of};
 ghost use Rattle.opfs_desk_runs.specs.Runs.{IsRunOn, IsRunOver, opening_over};
 ghost use Rattle.opfs_hist.specs.Faults.{disk_faults};
@@ -33,8 +34,8 @@ pub struct Completion<D> {
     pub done: Result<(), DiskFault>,
 }
 
-// Ends a run, of which it is known whether it was whole.
-fn end_run<D: Disk>(desk: Desk<D>, whole: bool) -> Completion<D>
+/// Ends a run, of which it is known whether it was whole.
+pub fn end_run<D: Disk>(desk: Desk<D>, whole: bool) -> Completion<D>
     ensures whole { result.whole ≡ whole }
     ensures history { result.history ≡ entries_of desk }
     ensures apart { IsToldApart D.tells desk.fixed.opening result.history }
@@ -42,6 +43,7 @@ fn end_run<D: Disk>(desk: Desk<D>, whole: bool) -> Completion<D>
     ensures left { D.tells → LeavesFront D.Disk desk.fixed.opening result.history result.disk }
     ensures fronts { EndsFronts D.Disk desk result.disk }
     ensures keeps { EndsKept D.Disk desk result.disk }
+    ensures stays { EndsKeeping D.Disk desk result.disk }
     ensures sizes { KeepsSizes D.Disk desk result.disk }
     ensures time { EndsTime D.Disk desk result.disk }
     ensures faults { RoseBy (disk_faults (entries_of desk)) (D.faults desk.fixed.begun) (D.faults result.disk) }

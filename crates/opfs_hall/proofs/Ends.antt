@@ -28,6 +28,7 @@ module _ {X O E : Type 0} (opening : X → O) (entries : X → List E) (owner : 
     n = 0;
     value = x;
     log = entries x;
+    logged = refl;
     small = small;
     words = refl;
     few = omega arith;

@@ -5,7 +5,7 @@ use mathlib.Core.Option.{some, none}
 use lib.ListN.{get_elem?}
 use Rattle.atomic_table.specs.Table.{State, step, gives, put_back, rest, stepped, Allows}
 use Rattle.opfs_hall.specs.declared.board.View.{View}
-use Rattle.opfs_hall.specs.History.{Adds}
+use Rattle.opfs_hall.specs.History.{Adds, IsPrefix}
 use Rattle.opfs_hall.specs.Turns.{one_if_some, has_ticket, has_number, has_next, is_in, ticket_is, names, SameOwn, Fits, Home, Kept, Held, handed_on}
 use Rattle.opfs_hall.proofs.Sums.{each_set, sum_by-set_at}
 use Rattle.opfs_hall.proofs.Owned.{prefix_refl, prefix_trans, owned-adds, ended_stays, not_named}
@@ -16,12 +16,12 @@ abbrev value_or : {X : Type 0} → X → List (ℕ × Option X) → X
 value_or d [] = d
 value_or d (x ∷ xs) = unwrap_or x.1 d
 
-module _ {X O E : Type 0} (opening : X → O) (entries : X → List E) (owner : E → ℕ) (goes : X → X → Type 0) (stays : (x : X) → goes x x) (lasts : (x y z : X) → goes x y → goes y z → goes x z) (most : ℕ) (begun : O) where
+module _ {X O E : Type 0} (opening : X → O) (entries : X → List E) (owner : E → ℕ) (goes : X → X → Type 0) (stays : (x : X) → goes x x) (lasts : (x y z : X) → goes x y → goes y z → goes x z) (steps : X → X → Type 0) (onto : (x y : X) → steps x y → IsPrefix (entries x) (entries y) → goes x y) (most : ℕ) (begun : O) where
   abbrev Rule : State (Option X) (View O E X) → Type 0
   Rule = Kept opening entries owner goes most begun
 
   module _ (id : ℕ) (m : Held X O E) (y : X) (k : ℕ) (inside : m.0.inside ≡ true) (holds : m.1 ≡ (0, Some y) ∷ []) (opens : m.0.opening ≡ Some (opening y))
-      (number : m.0.number ≡ Some k) (adds : Adds owner k m.0.base (entries y)) (onward : (x : X) × (m.0.last ≡ Some x) × goes x y) (s : State (Option X) (View O E X)) (kept : Rule s)
+      (number : m.0.number ≡ Some k) (adds : Adds owner k m.0.base (entries y)) (onward : (x : X) × (m.0.last ≡ Some x) × steps x y) (s : State (Option X) (View O E X)) (kept : Rule s)
       (at : get_elem? s.views id ≡ some m.0) where
     abbrev rests : View O E X
     rests = record m.0 { inside = false; ticket = None; base = entries y; last = Some y }
@@ -32,7 +32,8 @@ module _ {X O E : Type 0} (opening : X → O) (entries : X → List E) (owner : 
 
     -- the value goes on from what it was then
     onwards : goes kept.value y
-    onwards = subst (λ (x : X). goes x y) (ap (λ (z : Option X). unwrap_or z kept.value) (sym onward.1 ∙ ((kept.each id m.0 at).inside inside).2)) onward.2
+    onwards = onto kept.value y (subst (λ (x : X). steps x y) (ap (λ (z : Option X). unwrap_or z kept.value) (sym onward.1 ∙ ((kept.each id m.0 at).inside inside).2)) onward.2)
+        (subst (λ (list : List E). IsPrefix list (entries y)) (sym kept.logged) (grows.0, grows.1))
 
     served : m.0.ticket ≡ Some kept.served
     served = ((kept.each id m.0 at).inside inside).0
@@ -75,6 +76,7 @@ module _ {X O E : Type 0} (opening : X → O) (entries : X → List E) (owner : 
       n = kept.n;
       value = y;
       log = entries y;
+      logged = refl;
       small = kept.small;
       words = ap (λ (ws : List ℕ). set ws 0 ((get_or ws 0 0 + 1) % 2 ^ 64)) kept.words
           ∙ (λ i. (modulo kept.served ∙ next) i ∷ kept.drawn % 2 ^ 64 ∷ kept.n ∷ []);
@@ -99,7 +101,7 @@ module _ {X O E : Type 0} (opening : X → O) (entries : X → List E) (owner : 
       next = omega arith
 
   pub hands_on_kept : (slots id : ℕ) (m : Held X O E) (y : X) (k : ℕ) → m.0.inside ≡ true → m.1 ≡ (0, Some y) ∷ [] → m.0.opening ≡ Some (opening y)
-      → m.0.number ≡ Some k → Adds owner k m.0.base (entries y) → (x : X) × (m.0.last ≡ Some x) × goes x y
+      → m.0.number ≡ Some k → Adds owner k m.0.base (entries y) → (x : X) × (m.0.last ≡ Some x) × steps x y
       → Allows Rule slots id m 0 (λ n. (n + 1) % 2 ^ 64) (handed_on entries (step slots 0 1 0 none) m)
   hands_on_kept slots id m y k inside holds opens number adds onward s kept deep at small = (
     rests id m y k inside holds opens number adds onward s kept at,

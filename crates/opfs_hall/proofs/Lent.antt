@@ -6,7 +6,6 @@ use Rattle.opfs_hall.specs.declared.board.View.{View}
 use Rattle.opfs_hall.specs.History.{GrowsByOthers}
 use Rattle.opfs_hall.specs.Seen.{HallSeen, PassSeen, WatchSeen}
 use Rattle.opfs_hall.specs.Turns.{seat_of, pass_of, watch_of, IsPlaced, IsPlaceOf, IsSeated, IsWatch}
-use Rattle.opfs_hall.proofs.Views.{IfSome_at}
 
 module _ {X O E : Type 0} where
   pub placed-as : (seat : Seat (Option X) (View O E X)) (hall hall' : HallSeen O) (k k' : ℕ) → hall ≡ hall' → k ≡ k' → IsPlaced seat hall k → IsPlaced seat hall' k'

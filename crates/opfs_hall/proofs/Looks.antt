@@ -49,6 +49,7 @@ module _ {X O E : Type 0} (opening : X → O) (entries : X → List E) (owner : 
         n = kept.n;
         value = kept.value;
         log = kept.log;
+        logged = kept.logged;
         small = kept.small;
         words = ap (λ (ws : List ℕ). set ws 0 (get_or ws 0 0)) kept.words;
         few = kept.few;

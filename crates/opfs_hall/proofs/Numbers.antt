@@ -62,6 +62,7 @@ module _ {X O E : Type 0} (opening : X → O) (entries : X → List E) (owner : 
       n = k + 1;
       value = kept.value;
       log = kept.log;
+      logged = kept.logged;
       small = kept.small;
       words = ap (λ (b : Bool). set s.words 2 (either b (k + 1) (get_or s.words 2 0))) (eq-eqb (get_or s.words 2 0) k word) ∙ ap (λ (ws : List ℕ). set ws 2 (k + 1)) kept.words;
       few = let most_is = (IfSome_at m.0.opening (λ x. (x ≡ begun) × (m.0.agents ≡ most)) o opens (kept.each id m.0 at).opened).1 in omega arith;

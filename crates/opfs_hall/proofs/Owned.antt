@@ -6,7 +6,7 @@ use Rattle.std.proofs.lemmas.List.Elements.{filter-append, All-nil, All-cons, Al
 use Rattle.std.proofs.lemmas.List.Sums.{sum_by-cons}
 use mathlib.Core.Logic.{dite}
 use native.Mathlib.Decide.{ℕ_discrete}
-use Rattle.opfs_hall.specs.History.{IsPrefix, owned, GrowsByOthers, Adds, HasEnded}
+use Rattle.opfs_hall.specs.History.{IsPrefix, owned, GrowsByOthers, Adds, HasEnded, Onward}
 use Rattle.opfs_hall.specs.Turns.{SameOwn}
 use Rattle.opfs_hall.proofs.Sums.{counts_same, counts_other}
 
@@ -16,6 +16,14 @@ module _ {E : Type 0} where
 
   pub prefix_trans : (base log list : List E) → IsPrefix base log → IsPrefix log list → IsPrefix base list
   prefix_trans base log list p q = (p.0 ++ q.0, q.1 ∙ (ap (λ l. l ++ q.0) p.1 ∙ append_assoc base p.0 q.0))
+
+-- going on, with all that there was
+module _ {X E : Type 0} (entries : X → List E) (goes : X → X → Type 0) where
+  pub onward_stays : ((x : X) → goes x x) → (x : X) → Onward entries goes x x
+  onward_stays stays x = (stays x, prefix_refl (entries x))
+
+  pub onward_lasts : ((x y z : X) → goes x y → goes y z → goes x z) → (x y z : X) → Onward entries goes x y → Onward entries goes y z → Onward entries goes x z
+  onward_lasts lasts x y z first second = (lasts x y z first.0 second.0, prefix_trans (entries x) (entries y) (entries z) first.1 second.1)
 
 module _ {E : Type 0} (owner : E → ℕ) where
   pub owned-append : (k : ℕ) (xs ys : List E) → owned owner k (xs ++ ys) ≡ owned owner k xs ++ owned owner k ys

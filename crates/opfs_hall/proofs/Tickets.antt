@@ -26,6 +26,7 @@ module _ {X O E : Type 0} (opening : X → O) (entries : X → List E) (owner : 
           n = kept.n;
           value = kept.value;
           log = kept.log;
+          logged = kept.logged;
           small = kept.small;
           words = ap (λ (ws : List ℕ). set ws 1 ((get_or ws 1 0 + 1) % 2 ^ 64)) kept.words ∙ (λ i. kept.served % 2 ^ 64 ∷ modulo kept.drawn i ∷ kept.n ∷ []);
           few = kept.few;

@@ -22,3 +22,7 @@ module _ {E : Type 0} where
     -- what a pass that ended had seen is a prefix of the list, and the list has no other entries of its agent
     abbrev pub HasEnded : List E → ℕ × List E → Type 0
     HasEnded list p = IsPrefix p.1 list × (owned p.0 list ≡ owned p.0 p.1)
+
+-- a value goes on to another one, which has all that it had
+abbrev pub Onward : {X E : Type 0} → (X → List E) → (X → X → Type 0) → X → X → Type 0
+Onward entries goes x y = goes x y × IsPrefix (entries x) (entries y)

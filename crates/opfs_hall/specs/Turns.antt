@@ -56,6 +56,14 @@ module _ {X O E : Type 0} where
   abbrev pub split_right : View O E X → View O E X
   split_right v = record v { number = None; ended = []; ticket = None; inside = false }
 
+  -- what a seat beside that of a pass knows, which is no pass
+  abbrev pub shadow : View O E X → View O E X
+  shadow v = record v { number = None; ended = []; ticket = None; inside = false; next = None }
+
+  -- a pass has seen what such a seat knows
+  abbrev pub learned : View O E X → View O E X → View O E X
+  learned v u = record v { base = u.base }
+
   abbrev pub joined_view : View O E X → View O E X → View O E X
   joined_view v u = record v { ended = v.ended ++ ((unwrap_or u.number 0, u.base) ∷ u.ended) }
 
@@ -94,6 +102,7 @@ module _ {X O E : Type 0} (opening : X → O) (entries : X → List E) where
       pub n : ℕ
       pub value : X
       pub log : List E
+      pub logged : entries value ≡ log
       pub small : most ≤ 64
       pub words : s.words ≡ served % 2 ^ 64 ∷ drawn % 2 ^ 64 ∷ n ∷ []
       pub few : n ≤ most + 1

@@ -56,9 +56,10 @@ impl<V> Drop for Key<V> {
 pub struct InTurn;
 
 impl<V: Chronicle> TableRule<Option<V>, View<V::Opening, V::Entry, V>, Key<V>> for InTurn {
+    ghost use Rattle.opfs_hall.specs.History.{Onward};
     ghost use Rattle.opfs_hall.specs.Turns.{Kept, first_view};
 
-    ghost holds = { λ key. Kept V.opening V.entries V.owner V.goes_on key.agents (V.opening key.value.value) };
+    ghost holds = { λ key. Kept V.opening V.entries V.owner (Onward V.entries V.goes_on) key.agents (V.opening key.value.value) };
 
     ghost first = { λ key. first_view key.agents (V.opening key.value.value) (V.entries key.value.value) };
 }

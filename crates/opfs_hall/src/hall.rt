@@ -1,6 +1,6 @@
 //! The hall, and the turn that a pass takes in it.
 ghost use Rattle.std.specs.Prelude.{◌≡◌, ◌≢◌, ℕ, ◌+◌, ◌≤◌, [], ◌∷◌, false, true, All, Some, None, IfOk, IfErr, vec_capacity};
-ghost use Rattle.opfs_hall.specs.History.{GrowsByOthers, Adds, IsPrefix, HasEnded};
+ghost use Rattle.opfs_hall.specs.History.{GrowsByOthers, Adds, IsPrefix, HasEnded, Onward};
 ghost use Rattle.opfs_hall.specs.Seen.{AreNew, new_pass, in_turn, at_rest, joined, HasAll};
 ghost use Rattle.opfs_hall.specs.Turns.{HasGiven, HasTaken, pass_of, IsFresh, IsPlaced, IsPlaceOf, MayGive};
 
@@ -198,7 +198,7 @@ impl<V: Chronicle> Hall<V> {
     pub(crate) fn take<R: Wait>(&self, rt: &R, seat: &mut Place<V>) -> V
         requires placed { (k : ℕ) × IsPlaced seat.old self.now k }
         requires idle { seat.old.me.0.inside ≡ false }
-        ensures { HasTaken V.opening V.entries V.owner V.goes_on self.now seat.old seat.new result }
+        ensures { HasTaken V.opening V.entries V.owner (Onward V.entries V.goes_on) self.now seat.old seat.new result }
     {
         let top = &self.board.shared;
         let mine = draw(top, seat);
@@ -209,7 +209,7 @@ impl<V: Chronicle> Hall<V> {
     // Hands the turn of a seat on.
     pub(crate) fn give(&self, seat: &mut Place<V>, value: V)
         requires { MayGive V.opening V.entries V.owner V.goes_on self.now seat.old value }
-        ensures { HasGiven V.opening V.entries V.owner V.goes_on self.now seat.old seat.new value }
+        ensures { HasGiven V.opening V.entries V.owner (Onward V.entries V.goes_on) self.now seat.old seat.new value }
     {
         let top = &self.board.shared;
         let next = hand_on(top, seat, value);

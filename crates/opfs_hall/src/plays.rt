@@ -1,5 +1,6 @@
 //! What each kind of step on the table tells, and how seats are split and joined.
-ghost use Rattle.opfs_hall.specs.Turns.{ticketed, looked, handed_on, numbered, split_left, split_right, joined_view, spent_view};
+ghost use Rattle.opfs_hall.specs.History.{Onward};
+ghost use Rattle.opfs_hall.specs.Turns.{ticketed, looked, handed_on, numbered, split_left, split_right, shadow, learned, joined_view, spent_view};
 
 use crate::board::View;
 use crate::chronicle::Chronicle;
@@ -16,7 +17,7 @@ impl<V: Chronicle> Play<Option<V>, View<V::Opening, V::Entry, V>> for Ticket {
 pub(crate) struct Look;
 
 impl<V: Chronicle> Play<Option<V>, View<V::Opening, V::Entry, V>> for Look {
-    ghost then = { looked V.opening V.entries V.owner V.goes_on };
+    ghost then = { looked V.opening V.entries V.owner (Onward V.entries V.goes_on) };
 }
 
 /// The pass that has the turn hands it on.
@@ -47,6 +48,24 @@ pub(crate) struct Together;
 
 impl<O, E, V> Join<View<O, E, V>> for Together {
     ghost both = { joined_view };
+
+    ghost spent = { spent_view };
+}
+
+/// A seat that is no pass comes beside one, and knows what that has seen.
+pub(crate) struct Shadow;
+
+impl<O, E, V> Split<View<O, E, V>> for Shadow {
+    ghost left = { λ v. v };
+
+    ghost right = { shadow };
+}
+
+/// A pass takes note of what a seat that is no pass knows.
+pub(crate) struct Learn;
+
+impl<O, E, V> Join<View<O, E, V>> for Learn {
+    ghost both = { learned };
 
     ghost spent = { spent_view };
 }

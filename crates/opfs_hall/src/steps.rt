@@ -1,6 +1,6 @@
 //! The steps of a pass, on its seat.
 ghost use Rattle.std.specs.Prelude.{◌≡◌, ℕ, ◌+◌, ◌%◌, ◌^◌, ◌≤◌, [], ◌∷◌, true, false, Option, Some, None};
-ghost use Rattle.opfs_hall.specs.History.{Adds};
+ghost use Rattle.opfs_hall.specs.History.{Adds, Onward};
 ghost use Rattle.opfs_hall.specs.Turns.{IsSized, IsSameSeat, IsIdle, Entered};
 
 use crate::board::{NUMBER, Place, SERVING, TICKET, Top, VALUE};
@@ -37,7 +37,7 @@ pub(crate) fn wait<V: Chronicle, R: Wait>(
     requires waits { (t : ℕ) × (place.old.me.0.ticket ≡ Some t) × (t % 2 ^ 64 ≡ mine) }
     requires outside { (place.old.me.0.inside ≡ false) × (place.old.me.1 ≡ []) }
     ensures seat { IsSameSeat place.old place.new }
-    ensures entered { Entered V.opening V.entries V.owner V.goes_on place.old.me place.new.me }
+    ensures entered { Entered V.opening V.entries V.owner (Onward V.entries V.goes_on) place.old.me place.new.me }
 {
     let mut spins = SPINS;
     for _ in rt.forever() {

@@ -7,7 +7,7 @@ use crate::board::{Place, VALUE};
 use crate::chronicle::Chronicle;
 use crate::hall::{Hall, Turn};
 use crate::pass::Pass;
-use crate::plays::Together;
+use crate::plays::{Learn, Shadow, Together};
 use crate::told::Told;
 use std::marker::Model;
 use std::sync::Wait;
@@ -57,6 +57,7 @@ impl<V: Chronicle> Watch<V> {
         requires own { self.pass.hall ≡ hall.now }
         ensures opening { V.opening result.value ≡ hall.now.opening }
         ensures goes { V.goes_on self.last result.value }
+        ensures kept { IsPrefix (V.entries self.last) (V.entries result.value) }
         ensures grows { GrowsByOthers V.owner 0 self.pass.base (V.entries result.value) }
         ensures entered { result.entered.value ≡ in_turn self.pass (V.entries result.value) }
         ensures came { result.came.value ≡ result.value }
@@ -90,6 +91,20 @@ impl<V: Chronicle> Watch<V> {
         }
     }
 
+    /// Takes note of what a pass has seen: at its next turn it sees that, too.
+    pub fn learn(&mut self, hall: &Hall<V>, pass: &mut Pass<V>)
+        requires own { (self.old.pass.hall ≡ hall.now) × (pass.old.hall ≡ hall.now) }
+        requires idle { pass.old.busy ≡ false }
+        ensures same { pass.new ≡ pass.old }
+        ensures pass { self.new.pass ≡ record self.old.pass { base = pass.old.base } }
+        ensures last { self.new.last ≡ self.old.last }
+    {
+        let top = &hall.board.shared;
+        let seat = pass.seat.as_mut().unwrap();
+        let shadow = top.split_seat::<Shadow>(seat);
+        top.join_seat::<Learn>(&mut self.seat, shadow);
+    }
+
     /// Collects a pass that has ended, with all that it has collected.
     pub fn join(&mut self, hall: &Hall<V>, from: Pass<V>)
         requires own { (self.old.pass.hall ≡ hall.now) × (from.hall ≡ hall.now) }
@@ -110,6 +125,7 @@ impl<V: Chronicle> Watch<V> {
         ensures base { IsPrefix self.pass.base (V.entries result) }
         ensures ended { All (HasEnded V.owner (V.entries result)) self.pass.ended }
         ensures goes { V.goes_on self.last result }
+        ensures kept { IsPrefix (V.entries self.last) (V.entries result) }
     {
         let Watch {
             seat,

@@ -1,7 +1,7 @@
 //! Lines that are heard and lines that are told, in one order: a port over streams of the system, a port in memory, and a session
 //! of which each answer is told before the next line is heard.
 //!
-//! It stands on `opfs_outside` and `opfs_hall`.
+//! It stands on `opfs_outside` and `opfs_hall`; on it stands `opfs_serving`.
 #![tactic(auto)]
 
 mod conversing;

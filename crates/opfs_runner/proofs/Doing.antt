@@ -27,7 +27,7 @@ use Rattle.opfs_runner.specs.Stepping.{own_entries, IsWaitedFor, GoesOn, IsDone,
 use Rattle.opfs_runner.proofs.Counting.{entered-own, made-own, looked-own, turned-own, begun-wait}
 
 module _ {O : Type 0} (tells : Type 0) (a b : AgentSeen O) (kept : IsAgent tells a) (o : Op) where
-  looked-goes : (c : AgentSeen O) → HasLooked a c → GoesOn a c
+  pub looked-goes : (c : AgentSeen O) → HasLooked a c → GoesOn a c
   looked-goes c h = record {
     same = ap (λ (x : AgentSeen O). x.pass) h.rest;
     key = ap (λ (x : AgentSeen O). x.key) h.rest;
@@ -36,7 +36,7 @@ module _ {O : Type 0} (tells : Type 0) (a b : AgentSeen O) (kept : IsAgent tells
 
   -- ---- awaits
 
-  waited-goes : (c : AgentSeen O) (tag : Text) → HasWaited tells a c tag → (c.pass ≡ record a.pass { base = c.pass.base }) × (c.key ≡ a.key) × (c.number ≡ a.number) × (c.entries ≤ a.entries + 1)
+  pub waited-goes : (c : AgentSeen O) (tag : Text) → HasWaited tells a c tag → (c.pass ≡ record a.pass { base = c.pass.base }) × (c.key ≡ a.key) × (c.number ≡ a.number) × (c.entries ≤ a.entries + 1)
   waited-goes c tag (inl h) = (
     ap (λ (x : AgentSeen O). x.pass) h.rest,
     ap (λ (x : AgentSeen O). x.key) h.rest,
@@ -53,11 +53,11 @@ module _ {O : Type 0} (tells : Type 0) (a b : AgentSeen O) (kept : IsAgent tells
         omega (arith, one, two, three)),
   )
 
-  waited-for : (c : AgentSeen O) (tag : Text) → o ≡ op.Await tag → HasWaited tells a c tag → IsWaitedFor a.number o (own_entries a) (own_entries c)
+  pub waited-for : (c : AgentSeen O) (tag : Text) → o ≡ op.Await tag → HasWaited tells a c tag → IsWaitedFor a.number o (own_entries a) (own_entries c)
   waited-for c tag is (inl h) = inl (looked-own a c h)
   waited-for c tag is (inr h) = inr (begun-wait tells a c kept o tag is h)
 
-  awaited-done : (answered : Reply) (tag : Text) → o ≡ op.Await tag → HasAwaited tells a b tag answered → IsDone a b o answered
+  pub awaited-done : (answered : Reply) (tag : Text) → o ≡ op.Await tag → HasAwaited tells a b tag answered → IsDone a b o answered
   awaited-done answered tag is h =
       let mid = waited-goes h.mid tag h.waited in
       let rest = h.awaited.rest in

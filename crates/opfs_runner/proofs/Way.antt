@@ -60,7 +60,7 @@ after-key h v (op.GetDirectory bucket) r = root-key h v bucket h.key
 after-key h v (op.Next n dir) r = child-key h v dir r
 after-key h v o r = refl
 
-kept-key : (h : Hand) (s : Step) (o : Op) (r : Reply) → (hand_then h s o r).key ≡ h.key
+pub kept-key : (h : Hand) (s : Step) (o : Op) (r : Reply) → (hand_then h s o r).key ≡ h.key
 kept-key h s o (reply.No refusal) = refl
 kept-key h s o r = after-key h (bind_name s) o r
 
@@ -90,13 +90,13 @@ rows-stepped h kinds s r =
     let same = rows-without (kinds_after kinds (op_of h s) r) (row_left (snapshot_bound h s) (snapshot_bound (hand_then h s (op_of h s) r) s)) in
     omega (arith, after, same)
 
-agent_rows-stepped : (old new : List AgentRow) (h : Hand) (s : Step) (r : Reply) (done : ℕ) → kinds_of new ≡ kinds_stepped h (kinds_of old) s r → length old ≤ done → length new ≤ done + 1
+pub agent_rows-stepped : (old new : List AgentRow) (h : Hand) (s : Step) (r : Reply) (done : ℕ) → kinds_of new ≡ kinds_stepped h (kinds_of old) s r → length old ≤ done → length new ≤ done + 1
 agent_rows-stepped old new h s r done kinds few =
     let after = rows-stepped h (kinds_of old) s r in
     let long = ap length kinds in
     omega (arith, after, long, few, length-map old kind_of, length-map new kind_of)
 
-agent_rows-more : (old new : List AgentRow) (o : Op) (r : Reply) (done : ℕ) → kinds_of new ≡ kinds_after (kinds_of old) o r → length old ≤ done → length new ≤ done + 1
+pub agent_rows-more : (old new : List AgentRow) (o : Op) (r : Reply) (done : ℕ) → kinds_of new ≡ kinds_after (kinds_of old) o r → length old ≤ done → length new ≤ done + 1
 agent_rows-more old new o r done kinds few =
     let after = rows-after (kinds_of old) o r in
     let long = ap length kinds in
@@ -105,13 +105,13 @@ agent_rows-more old new o r done kinds few =
 -- ---- cuts
 
 -- What is told before the entry of a step.
-waited-cuts : (asked : Asked) (so_far before : List Entry) (h : Hand) (n done : ℕ) (s : Step) (left : List Step) → Cuts asked so_far h n false done (s ∷ left) → IsWaitedFor n (op_of h s) so_far before
+pub waited-cuts : (asked : Asked) (so_far before : List Entry) (h : Hand) (n done : ℕ) (s : Step) (left : List Step) → Cuts asked so_far h n false done (s ∷ left) → IsWaitedFor n (op_of h s) so_far before
     → (waited : Bool) × Cuts asked before h n waited done (s ∷ left)
 waited-cuts asked so_far before h n done s left cuts (inl same) = (false, subst (λ es. Cuts asked es h n false done (s ∷ left)) (sym same) cuts)
 waited-cuts asked so_far before h n done s left cuts (inr w) =
     (true, cuts_wait asked so_far before h n done s left w.wait cuts (waits h n w.tag w.wait w.number w.wait_is s w.await_is) w.grown)
 
-done-cuts : {O : Type 0} (asked : Asked) (a b : AgentSeen O) (h then_h : Hand) (done : ℕ) (s : Step) (left : List Step) (r : Reply) → Cuts asked (own_entries a) h a.number false done (s ∷ left)
+pub done-cuts : {O : Type 0} (asked : Asked) (a b : AgentSeen O) (h then_h : Hand) (done : ℕ) (s : Step) (left : List Step) (r : Reply) → Cuts asked (own_entries a) h a.number false done (s ∷ left)
     → IsDone a b (op_of h s) r → then_h ≡ hand_then h s (op_of h s) r → Cuts asked (own_entries b) then_h b.number false (done + 1) left
 done-cuts asked a b h then_h done s left r cuts d noted =
     let before = waited-cuts asked (own_entries a) d.before h a.number done s left cuts d.waited in
@@ -120,7 +120,7 @@ done-cuts asked a b h then_h done s left r cuts d noted =
     (noted ∙ (λ i. hand_then h s (sym d.asked i) (sym d.told i))))
 
 -- The end here, where not all steps were made.
-cut-closes : (asked : Asked) (so_far : List Entry) (h : Hand) (n : ℕ) (waited : Bool) (done : ℕ) (left : List Step) (rows : List Open) → Cuts asked so_far h n waited done left → rows ≡ h.opened
+pub cut-closes : (asked : Asked) (so_far : List Entry) (h : Hand) (n : ℕ) (waited : Bool) (done : ℕ) (left : List Step) (rows : List Open) → Cuts asked so_far h n waited done left → rows ≡ h.opened
     → Closes asked false so_far n rows
 cut-closes asked so_far h n waited done left rows cuts same rest end = record {
   cut = cuts_end asked so_far rest h n waited done left cuts (subst (λ os. IsEnd n os rest) same end);

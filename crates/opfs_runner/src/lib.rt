@@ -1,6 +1,6 @@
 //! What runs the scripts of agents, each agent on a thread of its own, over any store that serves shared calls.
 //!
-//! It stands on `opfs_script_run` and `opfs_agent`; on it stands `opfs_desk_runs`.
+//! It stands on `opfs_script_run` and `opfs_agent`; on it stand `opfs_serving` and `opfs_desk_runs`.
 #![tactic(auto)]
 
 pub mod agent_rows;
@@ -18,6 +18,6 @@ pub use agent_rows::{AgentRow, forget, perform};
 pub use closing::close_hall;
 pub use ended::{Ended, run_agent};
 pub use ends::end_rows;
-pub use run::{Ran, run_scripts};
+pub use run::{Ran, Started, begin_agents, run_scripts};
 pub use steps::make_step;
 pub use threads::run_all;

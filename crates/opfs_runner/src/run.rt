@@ -2,4 +2,4 @@
 mod agents;
 mod running;
 
-pub use running::{Ran, run_scripts};
+pub use running::{Ran, Started, begin_agents, run_scripts};

@@ -32,7 +32,7 @@ use Rattle.opfs_store.specs.Acts.Acting.{awaited}
 use Rattle.opfs_hist.specs.declared.op.Op.TheVariants as op
 use Rattle.opfs_hist.specs.declared.reply.Reply.TheVariants as reply
 use Rattle.opfs_turns.specs.Agents.{is_wait}
-use Rattle.opfs_turns.specs.Telling.{HasTold}
+use Rattle.opfs_turns.specs.Entering.{HasEnteredPending}
 use Rattle.opfs_turns.specs.Waiting.{HasWaitRoom, IsTurned, await_reply, planned}
 use Rattle.opfs_turns.specs.declared.waiting.Plan.{Plan}
 use Rattle.opfs_turns.specs.declared.waiting.Plan.TheVariants as plan
@@ -100,8 +100,8 @@ module _ {O : Type 0} (tells : Type 0) (opened : O → Opening) (pass : PassSeen
           (taken-agent tells agent kept more apart told-here
           (subst (λ p. IsTold tells p ((pass.base ++ more) ++ notes.pending)) begun (subst (IsTold tells o) all-is told_new)))
 
-      pub told-all : HasTold tells agent (seen opened after (record notes { pending = pending }))
-      told-all = subst (HasTold tells agent) all-same (taken tells agent kept more apart told-here)
+      pub told-all : HasEnteredPending tells agent (seen opened after (record notes { pending = pending }))
+      told-all = subst (HasEnteredPending tells agent) all-same (taken tells agent kept more apart told-here)
 
     abbrev there : State Text Own
     there = state_after (opened pass.hall.opening) (before_call agent more)

@@ -30,7 +30,7 @@ use Rattle.opfs_store.specs.Acts.Asking.{MayAct, MayTakePending, HasPlace, given
 use Rattle.opfs_work.specs.Works.{WorkingCopy}
 use Rattle.opfs_turns.specs.Agents.{AgentSeen, IsAgent, known, state_of, entries_of, next_number, is_wait}
 use Rattle.opfs_turns.specs.Calls.{HasRoom, MayAsk, call_of, before_call, IsEntered, HasLooked}
-use Rattle.opfs_turns.specs.Telling.{HasTold}
+use Rattle.opfs_turns.specs.Entering.{HasEnteredPending}
 use Rattle.opfs_turns.specs.Waiting.{HasWaitRoom, IsTurned}
 use Rattle.opfs_turns.proofs.Awaiting.{IsAsk, bare-is, real-answer, await-small, wait-small}
 use Rattle.opfs_turns.proofs.Counts.{count-append, count-one, count-none, one_if}
@@ -275,7 +275,7 @@ module _ {O : Type 0} (tells : Type 0) (a : AgentSeen O) (kept : IsAgent tells a
         waits = ap (λ t. (agent_of t a.pass.agent).waits) same ∙ ap (λ x. x.waits) agent-same ∙ kept.waits;
       }
 
-  pub taken : HasTold tells a taken_at
+  pub taken : HasEnteredPending tells a taken_at
   taken = record { others = more; apart = apart; legal = told; grown = refl; own = own-same; rest = refl }
 
   -- A call was entered.

@@ -1,7 +1,7 @@
 pub mod Agents
 pub mod Calls
 pub mod Waiting
-pub mod Telling
+pub mod Entering
 pub mod Asking
 pub mod OtherRows
 pub mod Faulting

@@ -4,10 +4,10 @@
 #![tactic(auto)]
 
 pub mod asking;
+mod entering;
 mod faulting;
 mod notes;
 pub mod other_rows;
-mod telling;
 mod turn;
 mod turns;
 mod waiting;
@@ -18,6 +18,5 @@ pub use asking::{
 };
 pub use faulting::a_told_fault_has_its_rise;
 pub use notes::Notes;
-pub use telling::Telling;
 pub use turns::Turns;
 pub use waiting::AwaitTurn;

@@ -1,6 +1,6 @@
 //! An agent's turns, and what it keeps between them.
 
-ghost use Rattle.std.specs.Prelude.{◌≡◌, ◌≤◌, ◌+◌, ◌<◌, ◌^◌, false, true, drop, length, IfOk, IfErr, OnErr, is_ok, IsTrue};
+ghost use Rattle.std.specs.Prelude.{◌≡◌, ◌≤◌, false, true, IfOk, IfErr, OnErr, is_ok, IsTrue};
 ghost use Rattle.std.specs.Option.{option_copied};
 ghost use Rattle.opfs_hist.specs.declared.op.Op.TheVariants as op;
 ghost use Rattle.opfs_machine.specs.Histories.{may_enter};
@@ -9,14 +9,14 @@ ghost use Rattle.opfs_store.specs.Acts.Acting.{IsLeft, IsSameCopy, always_acts};
 ghost use Rattle.opfs_turns.specs.Agents.{state_of, IsAgent};
 ghost use Rattle.opfs_turns.specs.Waiting.{HasWaitRoom, HasWaited, HasAwaited, IsAwaitTurn, await_reply};
 ghost use Rattle.opfs_turns.specs.Calls.{HasRoom, MayAsk, call_of, IsEntered, HasLooked, IsLocal, IsKept, new_agent, MayBegin, HasEnded};
-ghost use Rattle.opfs_turns.specs.Telling.{HasTold};
+ghost use Rattle.opfs_turns.specs.Entering.{HasEnteredPending};
 
+use crate::entering::enter_pending;
 use crate::notes::{Caller, Notes};
-use crate::telling::{Telling, tell_turn};
 use crate::turn::in_turn;
 use crate::waiting::{AwaitTurn, await_turn, await_turns};
 use opfs_base::{Key, Name, Text};
-use opfs_hall::{Hall, Pass};
+use opfs_hall::{Hall, Pass, Watch};
 use opfs_hist::{Entry, Op, Pending, Reply, Room};
 use opfs_store::{Acted, Store};
 use opfs_work::Work;
@@ -178,19 +178,24 @@ impl<S: Store> Turns<S> {
         await_turn(rt, self.alloc, court, &mut self.caller, tag)
     }
 
-    /// Takes the turn without a call: enters the local calls that it kept, gives out the entries of the store that were not given
-    /// out before, with what the store then is, and hands the turn on. Takes no memory.
-    pub fn tell<R: Wait>(&mut self, rt: &R, court: &Hall<S>) -> Telling<S>
+    /// Takes the turn without a call: enters the local calls that it kept, and hands the turn on. Takes no memory.
+    pub fn enter_pending<R: Wait>(&mut self, rt: &R, court: &Hall<S>)
         requires own { self.old.pass.hall ≡ court.now }
         requires room { HasRoom self.old }
-        ensures told { HasTold S.tells self.old self.new }
-        ensures entries { result.given.entries ≡ drop result.given.place self.new.pass.base }
-        ensures place { result.given.place + length result.given.entries ≡ length self.new.pass.base }
-        ensures fits { result.given.place + length result.given.entries < 2 ^ 63 }
-        ensures at { S.entries result.at.value ≡ self.new.pass.base }
-        ensures opening { S.opening result.at.value ≡ court.now.opening }
+        ensures { HasEnteredPending S.tells self.old self.new }
     {
-        tell_turn(rt, court, &mut self.caller)
+        enter_pending(rt, court, &mut self.caller);
+    }
+
+    /// Lets a watch of the store's hall know what the agent has seen.
+    pub fn show(&mut self, court: &Hall<S>, watch: &mut Watch<S>)
+        requires own { self.old.pass.hall ≡ court.now }
+        requires watch { watch.old.pass.hall ≡ court.now }
+        ensures same { self.new ≡ self.old }
+        ensures base { watch.new.pass ≡ record watch.old.pass { base = self.old.pass.base } }
+        ensures last { watch.new.last ≡ watch.old.last }
+    {
+        watch.learn(court, &mut self.caller.pass);
     }
 
     /// Keeps a local call with its answer until the next turn. Takes no memory.

@@ -1,6 +1,7 @@
 use Rattle.std.proofs.Common.{List, ◌∷◌, ℕ, Option, Some, sym, ap, ◌∙◌, subst, arith}
 use Rattle.atomic_table.specs.Table.{rest}
-use Rattle.opfs_hall.specs.History.{Adds}
+use Rattle.opfs_hall.specs.History.{Adds, Onward}
+use Rattle.opfs_hall.proofs.Owned.{onward_lasts, onward_stays}
 use Rattle.opfs_hall.proofs.Hands.{hands_on_kept}
 use Rattle.opfs_hall.proofs.steps.hand_on.Goals as goal
 
@@ -11,7 +12,7 @@ fetch_add-served-requires g c =
     let adds = c.requires.adds in (
       c.exchange-before.ensures.0 ∙ c.requires.table.0,
       let words = c.requires.table.1.0 in omega arith,
-      hands_on_kept g.V.Chronicle.opening g.V.Chronicle.entries g.V.Chronicle.owner g.V.Chronicle.goes_on g.V.Chronicle.stays g.V.Chronicle.lasts _ _ _ _ _ c.args.value adds.0
+      hands_on_kept g.V.Chronicle.opening g.V.Chronicle.entries g.V.Chronicle.owner (Onward g.V.Chronicle.entries g.V.Chronicle.goes_on) (onward_stays g.V.Chronicle.entries g.V.Chronicle.goes_on g.V.Chronicle.stays) (onward_lasts g.V.Chronicle.entries g.V.Chronicle.goes_on g.V.Chronicle.lasts) g.V.Chronicle.goes_on (λ x y on has. (on, has)) _ _ _ _ _ c.args.value adds.0
           (ap (λ m. m.0.inside) now ∙ c.requires.inside.0)
           (ap (λ m. m.1) now ∙ ap (λ (held : List (ℕ × Option g.row.V.Denot)). (0, value) ∷ rest held) c.requires.inside.1)
           (ap (λ m. m.0.opening) now ∙ c.requires.opening)

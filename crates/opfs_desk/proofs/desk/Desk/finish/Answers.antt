@@ -4,7 +4,7 @@ use Rattle.opfs_books.specs.Openings.Openings.{fixed_by}
 use Rattle.opfs_desk_steps.specs.declared.parts.parts.Ledger.{Ledger}
 use Rattle.opfs_desk.specs.Seen.{DeskSeen, entries_of}
 use Rattle.opfs_desk.proofs.Apart.{told-apart}
-use Rattle.opfs_desk.proofs.Shown.{is-legal, stands-whole, shows-ending, ends-time, ends-fronts, ends-kept, ends-whole, keeps-sizes, leaves-front, counts-all}
+use Rattle.opfs_desk.proofs.Shown.{is-legal, stands-whole, shows-ending, ends-time, ends-fronts, ends-keeping, ends-kept, ends-whole, keeps-sizes, leaves-front, counts-all}
 use Rattle.opfs_desk.proofs.desk.Desk.finish.Goals as goal
 use Rattle.opfs_desk.proofs.desk.Desk.finish.Goals.{in-Ok, in-Err}
 
@@ -59,6 +59,16 @@ returns-clause-keeps g c =
     let are = c.self.invariant.rest.held.are in
     let done = c.finish.ensures.books d.fixed recorded (state_after d.fixed.opening (entries_of d)) [] are.books in
     rw (← c.self.view_is) (ends-kept g.D.Disk d recorded are new c.give_back.result c.give_back.ensures.disk done c.finish.ensures.leaves.time c.self.invariant.rest)
+
+pub returns-clause-stays : goal.returns-clause-stays
+returns-clause-stays g c =
+    let d : DeskSeen g.row.D.Denot = record { fixed = fixed_by g.D.Disk c.self.inside.from.value c.self.inside.agents.value.items; parts = c.self.inside.parts } in
+    let l = c.self.inside.parts.ledger in
+    let new : Ledger g.row.D.Denot = record { journal = c.finish.new.journal; books = c.finish.new.self; freed = l.freed; alloc = l.alloc } in
+    let recorded = c.self.invariant.rest.held.recorded in
+    let are = c.self.invariant.rest.held.are in
+    let done = c.finish.ensures.books d.fixed recorded (state_after d.fixed.opening (entries_of d)) [] are.books in
+    rw (← c.self.view_is) (ends-keeping g.D.Disk d recorded are new c.give_back.result c.give_back.ensures.disk done c.finish.ensures.leaves.time)
 
 pub returns-clause-whole : goal.returns-clause-whole
 returns-clause-whole g c =

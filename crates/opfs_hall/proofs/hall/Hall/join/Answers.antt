@@ -1,5 +1,6 @@
 use Rattle.std.proofs.Common.{sym, ap, ◌∙◌, arith}
 use Rattle.std.specs.Option.{option_copied_mut}
+use Rattle.opfs_hall.specs.History.{Onward}
 use Rattle.opfs_hall.proofs.Lent.{at-rest}
 use Rattle.opfs_hall.proofs.Seats.{joins_kept}
 use Rattle.opfs_hall.proofs.hall.Hall.join.Goals as goal
@@ -14,5 +15,5 @@ join_seat-requires g c =
       from.placed.table ∙ ap (λ h. h.id) (c.requires.own.1 ∙ sym c.self.view_is),
       idle.1,
       let words = c.self.invariant.0 in omega arith,
-      joins_kept g.V.Chronicle.opening g.V.Chronicle.entries g.V.Chronicle.owner g.V.Chronicle.goes_on _ _ _ _ _ _ _ from.placed.number c.requires.agent idle.0 (from.inside ∙ c.requires.idle.1),
+      joins_kept g.V.Chronicle.opening g.V.Chronicle.entries g.V.Chronicle.owner (Onward g.V.Chronicle.entries g.V.Chronicle.goes_on) _ _ _ _ _ _ _ from.placed.number c.requires.agent idle.0 (from.inside ∙ c.requires.idle.1),
     )

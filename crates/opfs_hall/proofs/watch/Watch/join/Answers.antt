@@ -1,4 +1,5 @@
 use Rattle.std.proofs.Common.{sym, ap, ◌∙◌, arith}
+use Rattle.opfs_hall.specs.History.{Onward}
 use Rattle.opfs_hall.proofs.Seats.{joins_kept}
 use Rattle.opfs_hall.proofs.watch.Watch.join.Goals as goal
 
@@ -10,5 +11,5 @@ join_seat-requires g c =
       from.placed.table ∙ ap (λ h. h.id) (c.requires.own.1 ∙ sym c.hall.view_is),
       idle.1,
       let words = c.hall.invariant.0 in omega arith,
-      joins_kept g.V.Chronicle.opening g.V.Chronicle.entries g.V.Chronicle.owner g.V.Chronicle.goes_on _ _ _ _ _ _ _ from.placed.number c.requires.agent idle.0 (from.inside ∙ c.requires.idle),
+      joins_kept g.V.Chronicle.opening g.V.Chronicle.entries g.V.Chronicle.owner (Onward g.V.Chronicle.entries g.V.Chronicle.goes_on) _ _ _ _ _ _ _ from.placed.number c.requires.agent idle.0 (from.inside ∙ c.requires.idle),
     )

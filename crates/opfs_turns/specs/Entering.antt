@@ -9,7 +9,7 @@ use Rattle.opfs_turns.specs.Calls.{before_call}
 
 -- The agent has seen what others entered since its last turn, and its own calls are entered behind that. All that is its own was
 -- as it knew, and nothing else has changed.
-pub record HasTold {O : Type 0} (tells : Type 0) (before after : AgentSeen O) : Type 0 where
+pub record HasEnteredPending {O : Type 0} (tells : Type 0) (before after : AgentSeen O) : Type 0 where
   pub others : List Entry
   pub apart : All (λ e. e.agent ≢ before.pass.agent) others
   pub legal : IsTold tells before.opening (before.pass.base ++ others)

@@ -1,0 +1,8 @@
+//! A conversation over an image which was recovered: what was said, the history, and what each image has since an answer went out.
+//!
+//! It stands on `opfs_desk_runs` and `opfs_serving`.
+#![tactic(auto)]
+
+mod disk;
+
+pub use disk::{ServedRun, serve_disk, serve_image};

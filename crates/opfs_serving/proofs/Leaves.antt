@@ -1,0 +1,116 @@
+-- The agent of a seat ends in a conversation.
+use Rattle.std.proofs.Common.{◌≡◌, ◌≢◌, ◌⊎◌, ℕ, suc, Bool, true, false, Some, None, Option, List, [], ◌∷◌, ◌++◌, refl, sym, ap, ◌∙◌, subst, inl, inr, slice_set, slice_index_or, length, ◌<◌, ◌+◌, arith}
+use Rattle.std.specs.Prelude.{All, slice_get}
+use Rattle.std.proofs.lemmas.Bool.{cases_eq}
+use Rattle.std.proofs.lemmas.Option.{slice_get-get_or}
+use Rattle.opfs_hall.proofs.Owned.{prefix_refl}
+use Rattle.opfs_hall.specs.Seen.{HallSeen, PassSeen, WatchSeen}
+use Rattle.opfs_hist.specs.declared.entry.Entry.{Entry}
+use Rattle.opfs_runner.specs.Runs.{HasEntries}
+use Rattle.opfs_script.specs.Scripts.{Asked}
+use Rattle.opfs_script_run.specs.Runs.Running.{entries_of}
+use Rattle.opfs_serving.specs.Endings.{HasLeft}
+use Rattle.opfs_serving.specs.Seats.{AreSeated, EndsAt, IsMidway, SeatSeen}
+use Rattle.opfs_serving.specs.Served.{IsServing, Words}
+use Rattle.opfs_serving.specs.Talks.{IsTalk}
+use Rattle.opfs_serving.specs.Turns.{HasToldMore, HasTurned}
+use Rattle.opfs_serving.specs.declared.progress.Progress.{Progress}
+use Rattle.opfs_serving.specs.declared.progress.State.TheVariants as state
+use Rattle.opfs_turns.specs.Agents.{AgentSeen}
+use Rattle.opfs_serving.proofs.Midway.{midway-whole}
+use Rattle.opfs_serving.proofs.Polls.{serving-tells, serving-waits, set-same}
+use Rattle.opfs_serving.proofs.Seating.{place, seated-ended, seated-script}
+use Rattle.opfs_serving.proofs.Talking.{talk-stands}
+
+some-same : {X : Type 0} {x y : X} → Some x ≡ Some y → x ≡ y
+some-same e = cc
+
+module _ {T O P : Type 0} (w : Words T O P) (lasts : (u v x : T) → w.goes u v → w.goes v x → w.goes u x) (stays : (v : T) → w.goes v v) (of : HallSeen O) (agents : List Asked) (begun now : P)
+    (watch after : WatchSeen O Entry T) (seats : List (SeatSeen O)) (p q : Progress) (v : IsServing w of agents begun now watch seats p)
+    (i : ℕ) (x x' : SeatSeen O) (seat-is : slice_get seats i ≡ Some x) (left : x'.agent ≡ None)
+    (as_well : q.state ≡ p.state) (count : q.count ≡ p.count) (whole : q.whole ≡ true → (p.whole ≡ true) × (p.state ≡ state.On) × (x.awaits ≡ None)) where
+  -- Its entries are those of its script, or of a front of it where it is not whole.
+  has-entries : (a : AgentSeen O) → x.agent ≡ Some a → (s : Asked) → slice_get v.scripts i ≡ Some s → HasLeft w.reads of x a watch after → (base : List Entry)
+      → ((k : ℕ) (asked : Asked) (b : Bool) → EndsAt w.reads of k asked b x a → HasEntries asked b (entries_of k base)) → (b : Bool) → q.whole ≡ b → HasEntries s b (entries_of (suc i) base)
+  has-entries a here s script l base entries false is = entries (suc i) s false (v.seated.ends i x a s seat-is here script)
+  has-entries a here s script l base entries true is =
+      let m = whole is in
+      entries (suc i) s true (midway-whole w.reads of (suc i) s a x.rows x.hand (subst (IsMidway w.reads of (suc i) s a x.rows x.hand) m.2 (v.seated.midway m.1 i x a s seat-is here script)))
+
+  emptied-by : ((a : AgentSeen O) → x.agent ≡ Some a → x'.rows ≡ []) → (a : AgentSeen O) → x.agent ≡ Some a → (k : ℕ) (y : SeatSeen O) → y.agent ≡ None
+      → ((k ≡ i) × (y ≡ x')) ⊎ ((k ≢ i) × (slice_get seats k ≡ Some y)) → y.rows ≡ []
+  emptied-by rows a here k y none (inl same) = ap (λ (z : SeatSeen O). z.rows) same.1 ∙ rows a here
+  emptied-by rows a here k y none (inr other) = v.emptied k y other.1 none
+
+  leaves : ((a : AgentSeen O) → x.agent ≡ Some a → x'.rows ≡ []) → (a : AgentSeen O) → x.agent ≡ Some a → HasLeft w.reads of x a watch after → IsServing w of agents begun now after (slice_set seats i x') q
+  leaves rows a here l =
+      let s = seated-script w.reads of (p.state ≡ state.On) p.whole v.scripts seats watch.pass.ended v.seated i x seat-is in
+      let e = v.seated.ends i x a s.0 seat-is here s.1 in
+      record {
+        scripts = v.scripts;
+        told = v.told;
+        talk = subst (λ last. IsTalk w.entries w.keeps w.goes w.tells w.said agents begun now last (q.state ≡ state.On) v.scripts v.told) (sym l.last)
+            (talk-stands w.entries w.keeps w.goes w.tells w.said agents begun lasts now now watch.last watch.last (p.state ≡ state.On) (q.state ≡ state.On) v.scripts v.told v.talk (λ b. refl) (stays watch.last)
+            (prefix_refl (w.entries watch.last)) (λ on. sym as_well ∙ on));
+        seated = subst (AreSeated w.reads of (q.state ≡ state.On) q.whole v.scripts (slice_set seats i x'))
+            (sym (ap (λ (r : PassSeen O Entry). r.ended) l.pass ∙ ap (λ k. watch.pass.ended ++ (k, l.base) ∷ []) e.agent))
+            (seated-ended w.reads of (p.state ≡ state.On) p.whole v.scripts seats watch.pass.ended v.seated i x a s.0 seat-is here s.1 (q.state ≡ state.On) q.whole (λ on. sym as_well ∙ on) (λ is. (whole is).0) x' l.base left
+            (has-entries a here s.0 s.1 l l.base l.entries q.whole refl));
+        emptied = λ k y seat none. emptied-by rows a here k y none (place seats i x x' seat-is k y seat);
+        counted = λ on. count ∙ v.counted (sym as_well ∙ on);
+        hall = ap (λ (r : PassSeen O Entry). r.hall) l.pass ∙ v.hall;
+        owner = ap (λ (r : PassSeen O Entry). r.agent) l.pass ∙ v.owner;
+        all = v.all;
+        few = v.few;
+        opened = ap w.opening l.last ∙ v.opened;
+      }
+
+  -- No agent is there, and nothing is left.
+  stays-gone : (after ≡ watch) × (x' ≡ x) → IsServing w of agents begun now after (slice_set seats i x') q
+  stays-gone same =
+      subst (λ (y : WatchSeen O Entry T × List (SeatSeen O)). IsServing w of agents begun now y.0 y.1 q) (sym (λ i'. (same.0 i', (ap (slice_set seats i) same.1 ∙ set-same seats i x seat-is) i')))
+      (serving-waits w lasts stays of agents begun now watch seats p v now q (λ b. refl) (λ on. sym as_well ∙ on) (λ on. count) (λ is. (whole is).0))
+
+  pub serving-left : ((a : AgentSeen O) → x.agent ≡ Some a → x'.rows ≡ []) → (x.agent ≡ None → (after ≡ watch) × (x' ≡ x)) → ((a : AgentSeen O) → x.agent ≡ Some a → HasLeft w.reads of x a watch after)
+      → IsServing w of agents begun now after (slice_set seats i x') q
+  serving-left rows none has = by x.agent refl
+    where
+      by : (o : Option (AgentSeen O)) → x.agent ≡ o → IsServing w of agents begun now after (slice_set seats i x') q
+      by (Some a) here = leaves rows a here (has a here)
+      by None gone = stays-gone (none gone)
+
+-- Then what was entered is told. Of the seat it was asked whether its agent awaits.
+module _ {T O P : Type 0} (w : Words T O P) (lasts : (u v x : T) → w.goes u v → w.goes v x → w.goes u x) (stays : (v : T) → w.goes v v) (of : HallSeen O) (agents : List Asked) (begun now : P)
+    (watch : WatchSeen O Entry T) (seats : List (SeatSeen O)) (p : Progress) (v : IsServing w of agents begun now watch seats p) (i : ℕ) (x : SeatSeen O) (seat-is : slice_get seats i ≡ Some x) where
+  pub serving-left_told : (y x' : SeatSeen O) → slice_get seats i ≡ Some y → x'.agent ≡ None → (b : Bool) → (b ≡ true → (p.whole ≡ true) × (p.state ≡ state.On) × (y.awaits ≡ None)) → (after : WatchSeen O Entry T)
+      → ((a : AgentSeen O) → x.agent ≡ Some a → x'.rows ≡ []) → (x.agent ≡ None → (after ≡ watch) × (x' ≡ x)) → ((a : AgentSeen O) → x.agent ≡ Some a → HasLeft w.reads of x a watch after)
+      → (later : P) (last : WatchSeen O Entry T) (q : Progress) → HasTurned w.opening w.entries w.keeps w.goes of after last → HasToldMore w.entries w.tells w.said last.last now later (record p { whole = b }) q
+      → IsServing w of agents begun later last (slice_set seats i x') q
+  serving-left_told y x' same left b whole after rows none has later last q turned told =
+      let same : y ≡ x = some-same (sym same ∙ seat-is) in
+      serving-tells w lasts stays of agents begun now after (slice_set seats i x') (record p { whole = b })
+      (serving-left w lasts stays of agents begun now watch after seats p (record p { whole = b }) v i x x' seat-is left refl refl
+      (λ is. let m = whole is in (m.0, m.1, ap (λ (z : SeatSeen O). z.awaits) (sym same) ∙ m.2)) rows none has)
+      later last q turned told
+
+  -- The owner's pass stays of its hall, and the owner's.
+  pub left-hall : (x' : SeatSeen O) (after : WatchSeen O Entry T) → (x.agent ≡ None → (after ≡ watch) × (x' ≡ x)) → ((a : AgentSeen O) → x.agent ≡ Some a → HasLeft w.reads of x a watch after)
+      → (after.pass.hall ≡ of) × (after.pass.agent ≡ 0)
+  left-hall x' after none has = by x.agent refl
+    where
+      by : (o : Option (AgentSeen O)) → x.agent ≡ o → (after.pass.hall ≡ of) × (after.pass.agent ≡ 0)
+      by (Some a) here = let l = has a here in (ap (λ (r : PassSeen O Entry). r.hall) l.pass ∙ v.hall, ap (λ (r : PassSeen O Entry). r.agent) l.pass ∙ v.owner)
+      by None gone = let same = (none gone).0 in (ap (λ (r : WatchSeen O Entry T). r.pass.hall) same ∙ v.hall, ap (λ (r : WatchSeen O Entry T). r.pass.agent) same ∙ v.owner)
+
+-- ---- all agents end, in order
+
+pub gone-more : {O : Type 0} (seats next : List (SeatSeen O)) (k : ℕ) → ((i : ℕ) (x : SeatSeen O) → i < k → slice_get seats i ≡ Some x → x.agent ≡ None) → ((x : SeatSeen O) → slice_get next k ≡ Some x → x.agent ≡ None)
+    → ((i : ℕ) → i ≢ k → slice_get next i ≡ slice_get seats i) → (i : ℕ) (x : SeatSeen O) → i < k + 1 → slice_get next i ≡ Some x → x.agent ≡ None
+gone-more {O} seats next k gone ended others i x less is = by (cases_eq i k)
+  where
+    by : (i ≡ k) ⊎ (i ≢ k) → x.agent ≡ None
+    by (inl same) = ended x (ap (slice_get next) (sym same) ∙ is)
+    by (inr other) = gone i x (omega (arith, less, other)) (sym (others i other) ∙ is)
+
+pub all-gone : {O : Type 0} (seats : List (SeatSeen O)) (k : ℕ) → length seats ≡ k → ((i : ℕ) (x : SeatSeen O) → i < k → slice_get seats i ≡ Some x → x.agent ≡ None) → All (λ x. x.agent ≡ None) seats
+all-gone seats k long gone i d within = gone i (slice_index_or seats i d) (omega (arith, within, long)) (slice_get-get_or seats i d within)

@@ -1,0 +1,17 @@
+pub mod Awaiting
+pub mod Cleared
+pub mod Ends
+pub mod Greeting
+pub mod Leaves
+pub mod Midway
+pub mod Named
+pub mod Overlong
+pub mod Parts
+pub mod Pending
+pub mod Placing
+pub mod Polls
+pub mod Replies
+pub mod Seating
+pub mod Starting
+pub mod Steps
+pub mod Talking

@@ -1,0 +1,23 @@
+use Rattle.std.proofs.Common.{refl}
+use Rattle.opfs_serving.specs.Lines.{long}
+use Rattle.opfs_serving.specs.Served.{words}
+use Rattle.opfs_serving.proofs.Overlong.{overlong}
+use Rattle.opfs_serving.proofs.Polls.{serving-stops, serving-waits}
+use Rattle.opfs_serving.proofs.conversing.hear_line.Goals as goal
+
+pub returns-in-Ok-TooLong-clause-on_with : goal.returns-in-Ok-TooLong-clause-on_with
+returns-in-Ok-TooLong-clause-on_with g c =
+    let line = overlong 33555456 g.P.Port.tells (g.P.Port.said c.args.port.now) (g.P.Port.said c.hear.new.self) (g.P.Port.rest c.args.port.now) (g.P.Port.rest c.hear.new.self) (c.in-Ok-TooLong.ensures.long c.in-Ok-TooLong.field-0-is) in
+    c.refuse.ensures line.0 c.args.port.now (long line.1) line.2
+
+pub returns-in-Ok-End-clause-on_with : goal.returns-in-Ok-End-clause-on_with
+returns-in-Ok-End-clause-on_with g c = λ agents begun v.
+    let w = words g.S.Chronicle.opening g.S.Chronicle.entries g.S.Store.keeps g.S.Chronicle.goes_on g.S.Store.tells g.P.Port.tells g.P.Port.said in
+    serving-waits w g.S.Chronicle.lasts g.S.Chronicle.stays c.args.hall.now agents begun c.args.port.now c.args.watch c.args.table.now.seats.items c.args.table.now.progress v
+    c.hear.new.self c.args.table.now.progress (λ b. (c.in-Ok-End.ensures.end c.in-Ok-End.field-0-is b).0) (λ on. on) (λ on. refl) (λ is. is)
+
+pub returns-clause-on_with : goal.returns-clause-on_with
+returns-clause-on_with g c = λ agents begun v.
+    let w = words g.S.Chronicle.opening g.S.Chronicle.entries g.S.Store.keeps g.S.Chronicle.goes_on g.S.Store.tells g.P.Port.tells g.P.Port.said in
+    serving-stops w g.S.Chronicle.lasts g.S.Chronicle.stays c.args.hall.now agents begun c.args.port.now c.args.watch c.args.table.now.seats.items c.args.table.now.progress v
+    c.hear.new.self _ (λ b. (c.in-Err.ensures.stays b).0) c.state_of-table.ensures refl

@@ -1,0 +1,12 @@
+use Rattle.std.proofs.Common.{◌∙◌}
+use Rattle.opfs_serving.specs.Served.{words}
+use Rattle.opfs_serving.proofs.Polls.{going-more}
+use Rattle.opfs_serving.proofs.conversing.poll_all.Goals as goal
+
+pub loop-place-preserved : goal.loop-place-preserved
+loop-place-preserved g c = (
+  going-more (words g.S.Chronicle.opening g.S.Chronicle.entries g.S.Store.keeps g.S.Chronicle.goes_on g.S.Store.tells g.P.Port.tells g.P.Port.said) c.args.hall.now c.args.port.now c.loop-place.port c.poll_on-watch.new.port
+      c.args.watch c.loop-place.watch c.poll_on-watch.result c.args.table.now.seats.items c.loop-place.table.seats.items c.poll_on-watch.new.table.seats.items
+      c.args.table.now.progress c.loop-place.table.progress c.poll_on-watch.new.table.progress c.loop-place.invariant.0 c.poll_on-watch.ensures.on_with,
+  c.poll_on-watch.ensures.count ∙ c.loop-place.invariant.1,
+)

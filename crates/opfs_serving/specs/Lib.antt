@@ -1,0 +1,9 @@
+pub mod Endings
+pub mod Exchanges
+pub mod Lines
+pub mod Requests
+pub mod Seats
+pub mod Served
+pub mod Stepping
+pub mod Talks
+pub mod Turns

@@ -1,0 +1,78 @@
+-- How a conversation stands, and what it leaves. This project's own.
+use Rattle.std.specs.Prelude.{◌≡◌, ℕ, ◌≤◌, Bool, true, List, ◌∷◌, ◌++◌, [], length, All, Some, None, slice_get}
+use Rattle.opfs_base.specs.Texts.{Text}
+use Rattle.opfs_hall.specs.Seen.{HallSeen, WatchSeen}
+use Rattle.opfs_hist.specs.declared.entry.Entry.{Entry}
+use Rattle.opfs_port.specs.Said.{Said, heard}
+use Rattle.opfs_script.specs.Limits.{is_origin_key}
+use Rattle.opfs_script.specs.Scripts.{Asked}
+use Rattle.opfs_script_run.specs.declared.runs.hand.Hand.{Hand}
+use Rattle.opfs_turns.specs.Agents.{AgentSeen, IsAgent}
+use Rattle.opfs_script_run.specs.Stage.Runs.{EachCut, EachRuns}
+use Rattle.opfs_serving.specs.Seats.{AreSeated, SeatSeen}
+use Rattle.opfs_serving.specs.Talks.{IsTalk}
+use Rattle.opfs_serving.specs.declared.progress.Progress.{Progress}
+use Rattle.opfs_serving.specs.declared.progress.State.{State}
+use Rattle.opfs_serving.specs.declared.progress.State.TheVariants as state
+
+-- What a store and a port mean, of which a conversation is said.
+pub record Words (T O P : Type 0) : Type 1 where
+  pub opening : T → O
+  pub entries : T → List Entry
+  pub keeps : T → Type 0
+  pub goes : T → T → Type 0
+  pub reads : Type 0
+  pub tells : Type 0
+  pub said : P → List (Said T)
+
+abbrev pub words : {T O P : Type 0} → (T → O) → (T → List Entry) → (T → Type 0) → (T → T → Type 0) → Type 0 → Type 0 → (P → List (Said T)) → Words T O P
+words opening entries keeps goes reads tells said = record { opening = opening; entries = entries; keeps = keeps; goes = goes; reads = reads; tells = tells; said = said }
+
+-- How a conversation stands, between two lines: what was said, the owner's pass, the seats of its agents, and how far it is told.
+pub record IsServing {T O P : Type 0} (w : Words T O P) (of : HallSeen O) (agents : List Asked) (begun now : P) (watch : WatchSeen O Entry T) (seats : List (SeatSeen O)) (progress : Progress) : Type 0 where
+  pub scripts : List Asked
+  pub told : List Entry
+  pub talk : IsTalk w.entries w.keeps w.goes w.tells w.said agents begun now watch.last (progress.state ≡ state.On) scripts told
+  pub seated : AreSeated w.reads of (progress.state ≡ state.On) progress.whole scripts seats watch.pass.ended
+  pub emptied : (i : ℕ) (x : SeatSeen O) → slice_get seats i ≡ Some x → x.agent ≡ None → x.rows ≡ []
+  pub counted : progress.state ≡ state.On → progress.count ≡ length told
+  pub hall : watch.pass.hall ≡ of
+  pub owner : watch.pass.agent ≡ 0
+  pub all : of.agents ≡ length scripts
+  pub few : length scripts ≤ 64
+  pub opened : w.opening watch.last ≡ of.opening
+
+-- It stands on from one moment to another, whatever it began with.
+abbrev pub ServesOn : {T O P : Type 0} → Words T O P → HallSeen O → P → P → WatchSeen O Entry T → WatchSeen O Entry T → List (SeatSeen O) → List (SeatSeen O) → Progress → Progress → Type 0
+ServesOn {T} {O} {P} w of before now watch later seats then_seats p q =
+    (agents : List Asked) (begun : P) → IsServing w of agents begun before watch seats p → IsServing w of agents begun now later then_seats q
+
+-- It stands somehow.
+pub record Serves {T O P : Type 0} (w : Words T O P) (of : HallSeen O) (now : P) (watch : WatchSeen O Entry T) (seats : List (SeatSeen O)) (p : Progress) : Type 0 where
+  pub agents : List Asked
+  pub begun : P
+  pub is : IsServing w of agents begun now watch seats p
+
+-- A line was heard since a moment, and no more.
+abbrev pub HasHeard : {T O P : Type 0} → Words T O P → Text → P → P → Type 0
+HasHeard w line before now = w.tells → w.said now ≡ w.said before ++ heard line ∷ []
+
+-- A conversation leaves a store: what was said; and in the store's history the entries of each agent are those of the script that it was asked for,
+-- or of a front of it where memory was short, or it awaited at the end. Where all went out, all entries were told.
+pub record IsServed {T O P : Type 0} (w : Words T O P) (agents : List Asked) (begun now : P) (store : T) (whole : Bool) (told_all : State) : Type 0 where
+  pub scripts : List Asked
+  pub told : List Entry
+  pub talk : IsTalk w.entries w.keeps w.goes w.tells w.said agents begun now store (told_all ≡ state.On) scripts told
+  pub cut : EachCut scripts (w.entries store)
+  pub runs : whole ≡ true → EachRuns scripts (w.entries store)
+  pub all : told_all ≡ state.On → told ≡ w.entries store
+
+-- Agents that were asked for nothing yet.
+abbrev pub HasNoScripts : List Asked → Type 0
+HasNoScripts agents = All (λ (a : Asked). (a.steps ≡ []) × (is_origin_key a.key ≡ true)) agents
+
+-- The seats of agents, each with a hand of its own, without rows.
+pub record AreSeatsOf {O : Type 0} (tells : Type 0) (agents : List (AgentSeen O)) (hands : List Hand) (seats : List (SeatSeen O)) : Type 0 where
+  pub count : length seats ≡ length agents
+  pub each : (i : ℕ) (a : AgentSeen O) (h : Hand) → slice_get agents i ≡ Some a → slice_get hands i ≡ Some h → slice_get seats i ≡ Some (record { agent = Some a; rows = []; hand = h; awaits = None })
+  pub kept : (i : ℕ) (a : AgentSeen O) → slice_get agents i ≡ Some a → IsAgent tells a
