@@ -1,7 +1,7 @@
 //! The outside as the system has it: a file as a disk, the files of the system, by path, as a host of disks, and the standard
 //! streams as a source and a sink.
 //!
-//! It stands on `opfs_outside`; on it stands `opfs`.
+//! It stands on `opfs_outside`; on it stand `opfs` and `opfs_serve`.
 #![tactic(auto)]
 
 mod dir_host;

@@ -1,3 +1,4 @@
+pub mod Alone
 pub mod Held
 pub mod Kept
 pub mod Talked

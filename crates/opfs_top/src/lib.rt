@@ -1,6 +1,6 @@
 //! The program's one call: the words of a command, its input and its output.
 //!
-//! It stands on `opfs_commands`; on it stands `opfs`.
+//! It stands on `opfs_commands`; on it stand `opfs` and `opfs_serve_top`.
 #![tactic(auto)]
 
 mod answer;

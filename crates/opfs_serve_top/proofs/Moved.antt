@@ -1,0 +1,36 @@
+-- A conversation whose disk went back to its host.
+use Rattle.std.proofs.Common.{◌≡◌, ℕ, ◌≤◌, List, [], ◌∷◌, ◌++◌, sym, subst}
+use Rattle.opfs_base.specs.Texts.{Text}
+use Rattle.opfs_desk.specs.Seen.{DeskSeen}
+use Rattle.opfs_hist.specs.declared.entry.Entry.{Entry}
+use Rattle.opfs_machine.specs.Openings.{Opening}
+use Rattle.opfs_outside.specs.declared.disk.Disk.{Ghosts as DiskWords}
+use Rattle.opfs_port.specs.Said.{Said}
+use Rattle.opfs_script.specs.Scripts.{Asked}
+use Rattle.opfs_serve_runs.specs.Conversations.{AreExchangesOn, HasKept, IsConversation}
+use Rattle.opfs_serving.specs.Exchanges.{Exchange, entries_told, with_call}
+use Rattle.opfs_serving.specs.declared.progress.State.{State}
+
+module _ {D : Type 0} (w : DiskWords D) (o : Opening) (history : List Entry) (Known Known' : Type 0) (last last' : ℕ) (left left' : ℕ → Text → Type 0)
+    (known : Known' → Known) (moment : Known' → last' ≡ last) (since : Known' → (t : ℕ) (c : Text) → left' t c → left t c) where
+  kept-on : (count at : ℕ) → Known' → HasKept o history last left count at → HasKept o history last' left' count at
+  kept-on count at k is = record { within = is.within; passed = subst (λ (m : ℕ). at ≤ m) (sym (moment k)) is.passed; since = λ c l. is.since c (since k at c l) }
+
+  exchanges-on : (scripts : List Asked) (told : List Entry) (xs : List (Exchange (DeskSeen D))) → AreExchangesOn w o history Known last left scripts told xs → AreExchangesOn w o history Known' last' left' scripts told xs
+  exchanges-on scripts told [] is = tt
+  exchanges-on scripts told (x ∷ xs) is = (
+    record { asked = is.0.asked; front = is.0.front; begins = is.0.begins; answered = is.0.answered; kept = λ k. kept-on _ _ k (is.0.kept (known k)) },
+    exchanges-on (with_call scripts x.call) (told ++ entries_told x.answer) xs is.1,
+  )
+
+  pub talked-on : {P : Type 0} (tells : Type 0) (said : P → List (Said (DeskSeen D))) (agents : List Asked) (begun now : P) (ended : State) (scripts : List Asked)
+      → IsConversation w o history Known last left tells said agents begun now ended scripts → IsConversation w o history Known' last' left' tells said agents begun now ended scripts
+  talked-on tells said agents begun now ended scripts is = record {
+    talk = is.talk;
+    unsaid = is.unsaid;
+    few = is.few;
+    said_is = is.said_is;
+    right = exchanges-on agents [] is.talk is.right;
+    scripts_are = is.scripts_are;
+    all = is.all;
+  }
