@@ -10,9 +10,9 @@ use crate::agents::caller;
 use crate::front::evictions;
 use crate::player::Player;
 use crate::standing::stands;
-use opfs_base::{Bytes, SharedBytes};
+use opfs_base::Bytes;
 use opfs_hist::Op;
-use opfs_machine::{Own, State};
+use opfs_rulings::Board;
 use std::alloc::{AllocError, Global};
 
 /// A call that a transcript's front is of: how many evictions stand before it, with how many bytes, the place of its
@@ -29,7 +29,7 @@ pub struct Asking {
 /// The call that a text's front can only be of: that of the agent whose number stands behind the evictions.
 pub fn find_asking(
     alloc: Global,
-    state: &State<SharedBytes, Own>,
+    state: &Board,
     players: &[Player<'_>],
     fronts: &[Bytes],
     text: &[u8],

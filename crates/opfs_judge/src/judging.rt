@@ -15,16 +15,16 @@ use crate::settling::is_unsettled;
 use crate::trial::opening::begin;
 use crate::turn::turn;
 use crate::verdict::Verdict;
-use opfs_base::{Bytes, SharedBytes};
-use opfs_machine::{Own, State};
+use opfs_base::Bytes;
 use opfs_plain::Plain;
+use opfs_rulings::Board;
 use opfs_script::Script;
 use std::alloc::{AllocError, Global};
 
 /// Reads a text group after group, and tells whether it has an end at which all agents have ended.
 fn read_groups(
     alloc: Global,
-    state: &mut State<SharedBytes, Own>,
+    state: &mut Board,
     players: &mut Vec<Player<'_>>,
     fronts: &[Bytes],
     text: &[u8],
@@ -44,10 +44,7 @@ fn read_groups(
 }
 
 /// The machine over an empty store, with the agents of a script.
-pub(crate) fn state_of(
-    alloc: Global,
-    script: &Script,
-) -> Result<State<SharedBytes, Own>, AllocError>
+pub(crate) fn state_of(alloc: Global, script: &Script) -> Result<Board, AllocError>
     ensures state { IfOk result (λ state. state ≡ begun (trial_opening script.now)) }
     ensures keys { OnOk result (All (λ a. IsTrue (is_origin_key a.key)) script.now) }
 {
@@ -59,7 +56,7 @@ pub(crate) fn state_of(
 /// Whether a transcript is the text of entries in which nobody begins to wait, from a state and these agents on.
 pub(crate) fn is_told_by(
     alloc: Global,
-    state: &mut State<SharedBytes, Own>,
+    state: &mut Board,
     players: &mut Vec<Player<'_>>,
     transcript: &[u8],
 ) -> Result<bool, AllocError>

@@ -13,15 +13,12 @@ use crate::judging::{is_told_by, state_of, verdict_of};
 use crate::settling::packed_is_unsettled;
 use crate::verdict::Verdict;
 use opfs_base::SharedBytes;
-use opfs_machine::{Own, State};
+use opfs_rulings::Board;
 use opfs_script_kept::PackedScript;
 use std::alloc::{AllocError, Global};
 
 /// The machine over an empty store, with the agents of a script. No step is read for it.
-fn packed_state_of(
-    alloc: Global,
-    script: &PackedScript,
-) -> Result<State<SharedBytes, Own>, AllocError>
+fn packed_state_of(alloc: Global, script: &PackedScript) -> Result<Board, AllocError>
     ensures state { IfOk result (λ state. state ≡ begun (trial_opening script.now)) }
     ensures keys { OnOk result (All (λ a. IsTrue (is_origin_key a.key)) script.now) }
 {

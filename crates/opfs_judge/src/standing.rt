@@ -9,10 +9,10 @@ ghost use Rattle.opfs_machine.specs.Agents.{agent_of, is_no_help, is_posted, is_
 ghost use Rattle.opfs_machine.specs.Histories.{may_enter};
 ghost use Rattle.opfs_rulings.specs.Known.{IsAgent};
 
-use opfs_base::{Key, SharedBytes};
+use opfs_base::Key;
 use opfs_hist::Op;
-use opfs_machine::{Agent, Own, Party, State};
-use opfs_rulings::{agent, may_enter};
+use opfs_machine::{Agent, Own, Party};
+use opfs_rulings::{Board, agent, may_enter};
 
 /// Whether a party is that of an agent.
 fn is_party(key: Option<&Key>, number: usize, party: &Party) -> bool
@@ -37,16 +37,16 @@ fn share_tags(key: Option<&Key>, number: usize, other_key: Option<&Key>, other: 
 }
 
 /// Whether a tag was posted among those that an agent shares.
-fn is_posted(state: &State<SharedBytes, Own>, key: Option<&Key>, number: usize, tag: &[u8]) -> bool
+fn is_posted(state: &Board, key: Option<&Key>, number: usize, tag: &[u8]) -> bool
     ensures { result ≡ is_posted state.now (party_with (option_copied key.entry) number) tag.now }
 {
-    state.posted.items.iter().any(|posted| is_party(key, number, &posted.party)
+    state.held().posted.items.iter().any(|posted| is_party(key, number, &posted.party)
         && tag == posted.tag.as_slice())
 }
 
 /// Whether another agent can't post a tag of the caller's: it is the caller, has ended, is of another party, or is stuck.
 fn is_no_help(
-    state: &State<SharedBytes, Own>,
+    state: &Board,
     key: Option<&Key>,
     number: usize,
     other_number: usize,
@@ -67,10 +67,10 @@ fn is_no_help(
 }
 
 /// Whether every other live agent of the caller's party is stuck.
-fn others_stuck(state: &State<SharedBytes, Own>, key: Option<&Key>, number: usize) -> bool
+fn others_stuck(state: &Board, key: Option<&Key>, number: usize) -> bool
     ensures { result ≡ list_all (is_no_help state.now number (party_with (option_copied key.entry) number)) (enumerate_from 1 state.now.agents) }
 {
-    let agents = state.agents.items.as_slice();
+    let agents = state.held().agents.items.as_slice();
     for index in 0..agents.len() {
         if !is_no_help(state, key, number, index + 1, &agents[index]) {
             return false;
@@ -80,12 +80,12 @@ fn others_stuck(state: &State<SharedBytes, Own>, key: Option<&Key>, number: usiz
 }
 
 /// Whether there is an agent of a number, it is live, and may make a call, which is no wait.
-pub fn stands(state: &State<SharedBytes, Own>, number: u32, op: &Op) -> bool
+pub fn stands(state: &Board, number: u32, op: &Op) -> bool
     requires moves { is_wait op.now ≡ false }
     ensures exact { result ≡ ((agent_of state.now number).live && may_enter state.now number op.now) }
     ensures agent { IsTrue result → IsAgent state.now number }
 {
-    if number == 0 || number as usize > state.agents.items.len() {
+    if number == 0 || number as usize > state.held().agents.items.len() {
         return false;
     }
     let caller = agent(state, number);

@@ -17,11 +17,11 @@ ghost use Rattle.opfs_judge.specs.Turns.{IsEnteredAs, IsGroup, IsToldCall, IsTol
 
 use crate::asking::{Asking, find_asking};
 use crate::player::Player;
-use opfs_base::{Bytes, SharedBytes};
+use opfs_base::Bytes;
 use opfs_hist::{Entry, Op, Refusal, Reply};
-use opfs_machine::{Own, State};
 use opfs_plain::{enter, fault};
 use opfs_print::line;
+use opfs_rulings::Board;
 use std::alloc::{AllocError, Global};
 
 /// The lines of entries.
@@ -62,7 +62,7 @@ struct Caller {
 /// answer, if it may stand; else with the machine's own, whatever the line says.
 fn enter_told(
     alloc: Global,
-    state: &mut State<SharedBytes, Own>,
+    state: &mut Board,
     entries: &mut Vec<Entry>,
     caller: Caller,
     op: Op,
@@ -113,7 +113,7 @@ fn move_on(
 /// text begins with.
 fn enter_group(
     alloc: Global,
-    state: &mut State<SharedBytes, Own>,
+    state: &mut Board,
     players: &mut Vec<Player<'_>>,
     asking: Asking,
     text: &[u8],
@@ -167,7 +167,7 @@ fn enter_group(
 /// Reads one group of a text, and gives how many bytes it has; None where no group stands there.
 pub fn turn(
     alloc: Global,
-    state: &mut State<SharedBytes, Own>,
+    state: &mut Board,
     players: &mut Vec<Player<'_>>,
     fronts: &[Bytes],
     text: &[u8],

@@ -1,7 +1,7 @@
 //! Laws over every legal history. They speak of the definitions of `opfs_machine` alone; each is the contract of a
 //! function that does nothing.
 //!
-//! It stands on `opfs_machine`; on it stand `opfs_transcripts`, `opfs_plain`, `opfs_store` and `opfs_state_rows`.
+//! It stands on `opfs_machine`; on it stand `opfs_transcripts`, `opfs_rulings`, `opfs_store` and `opfs_state_rows`.
 #![tactic(auto)]
 
 pub mod charges;

@@ -1,8 +1,8 @@
 //! The machine that the store is: what it holds, and what each call does. It is definitions (`specs/`); the types
 //! here are the shapes that they speak of, and the functions read what a call says by its own words.
 //!
-//! It stands on `opfs_splice` and `opfs_hist`; on it stand `opfs_laws`, `opfs_script_run`, `opfs_rulings`,
-//! `opfs_register` and `opfs_records`.
+//! It stands on `opfs_splice` and `opfs_hist`; on it stand `opfs_laws`, `opfs_script_run`, `opfs_register` and
+//! `opfs_records`.
 #![tactic(auto)]
 
 pub mod many;

@@ -1,5 +1,5 @@
-pub mod AtPlace
 pub mod Faulted
 pub mod Fills
 pub mod Fitting
 pub mod Kept
+pub mod Swapped

@@ -1,27 +1,16 @@
 -- What the plain machine's parts say of what they change.
-use Rattle.std.specs.Prelude.{◌≡◌, ℕ, ◌<◌, length, Option, IsTrue, slice_set}
-use Rattle.std.proofs.Common.{get_or}
+use Rattle.std.specs.Prelude.{ℕ, Option, IsTrue}
 use Rattle.opfs_base.specs.Names.{is_valid_name}
-use Rattle.opfs_base.specs.Places.{Place}
 use Rattle.opfs_base.specs.Texts.{Text}
 use Rattle.opfs_hist.specs.declared.op.Op.{Op}
 use Rattle.opfs_hist.specs.declared.op.Op.TheVariants.{GetDirectoryHandle, GetFileHandle, RemoveEntry, Next, Write, Seek, Truncate, Close, Abort, SyncRead, SyncWrite, SyncTruncate, SyncFlush, SyncClose, Discard}
 use Rattle.opfs_machine.specs.declared.own.Own.{Own}
 use Rattle.opfs_machine.specs.declared.own.Own.TheVariants as own
 use Rattle.opfs_machine.specs.declared.state.Agent.{Agent}
-use Rattle.opfs_machine.specs.declared.state.FileRow.{FileRow}
-use Rattle.opfs_machine.specs.declared.state.Row.{Row}
 use Rattle.opfs_machine.specs.declared.state.State.{State}
 use Rattle.opfs_machine.specs.Agents.{agent_of}
 use Rattle.opfs_machine.specs.Contents.{and_given}
-use Rattle.opfs_machine.specs.Rows.{Rows, change_at, changed_row}
 use Rattle.opfs_rulings.specs.Known.{IsOwn}
-
--- The first row at a place has this index.
-pub record IsAt (place : Place) (rows : Rows Text) (at : ℕ) : Type 0 where
-  pub inside : at < length rows
-  pub changed : (change : FileRow Text → FileRow Text) (e : Place × Row Text) → e ≡ get_or rows at e
-      → slice_set rows at (e.0, changed_row change e.1) ≡ change_at place change rows
 
 -- An iterator that has given one more name, or none.
 abbrev pub given_row : Own → Option Text → Own

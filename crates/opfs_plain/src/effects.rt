@@ -15,12 +15,12 @@ use crate::handles::{
     Reached, close_handle, create_sync, cut_file, discard_handle, flush_handle, move_handle,
     write_file,
 };
-use crate::marks::{end, persist, post, set_moment, set_waiting};
+use crate::marks::{persist, post};
 use crate::streams::{abort_stream, close_stream, open_stream, seek, truncate, write};
-use opfs_base::{Bytes, Data, Kind, SharedBytes, Text, blocks, plus};
+use opfs_base::{Bytes, Data, Kind, Text, blocks, plus};
 use opfs_hist::Op;
-use opfs_machine::{Own, Sizes, State, size_written};
-use opfs_rulings::reserve_at;
+use opfs_machine::{Sizes, size_written};
+use opfs_rulings::{Board, reserve_at};
 use std::alloc::{AllocError, Global};
 
 /// Where a read of an access handle leaves the cursor.
@@ -35,7 +35,7 @@ fn cursor_after_read(sizes: Sizes, len: u64, at: Option<u64>) -> Result<u64, All
 /// write and truncate of streams.
 fn write_stream(
     alloc: Global,
-    state: &mut State<SharedBytes, Own>,
+    state: &mut Board,
     sizes: Sizes,
     number: u32,
     row: u32,
@@ -62,7 +62,7 @@ fn write_stream(
 /// truncate of a stream.
 fn truncate_stream(
     alloc: Global,
-    state: &mut State<SharedBytes, Own>,
+    state: &mut Board,
     sizes: Sizes,
     number: u32,
     row: u32,
@@ -78,7 +78,7 @@ fn truncate_stream(
 
 /// read of an access handle, which moves its cursor.
 fn read_handle(
-    state: &mut State<SharedBytes, Own>,
+    state: &mut Board,
     sizes: Sizes,
     number: u32,
     row: u32,
@@ -98,7 +98,7 @@ fn read_handle(
 /// write of an access handle.
 fn write_handle(
     alloc: Global,
-    state: &mut State<SharedBytes, Own>,
+    state: &mut Board,
     sizes: Sizes,
     number: u32,
     row: u32,
@@ -126,7 +126,7 @@ fn write_handle(
 /// truncate of an access handle.
 fn truncate_handle(
     alloc: Global,
-    state: &mut State<SharedBytes, Own>,
+    state: &mut Board,
     sizes: Sizes,
     number: u32,
     row: u32,
@@ -143,7 +143,7 @@ fn truncate_handle(
 /// wait of an agent for a tag.
 fn wait(
     alloc: Global,
-    state: &mut State<SharedBytes, Own>,
+    state: &mut Board,
     sizes: Sizes,
     number: u32,
     tag: &Text,
@@ -152,7 +152,7 @@ fn wait(
     ensures { OnOk result (state.new ≡ effect in_bytes state.old sizes number (Wait tag.now)) }
 {
     let tag = Bytes::copy_of(alloc, tag.as_bytes())?;
-    set_waiting(state, number, Some(tag));
+    state.set_waiting(number, Some(tag));
     Ok(())
 }
 
@@ -160,7 +160,7 @@ fn wait(
 #[tactic(auto, unfolding(opfs_machine::specs::Machine::machine, crate::specs::Changing::IsFittingFor))]
 pub fn apply(
     alloc: Global,
-    state: &mut State<SharedBytes, Own>,
+    state: &mut Board,
     sizes: Sizes,
     number: u32,
     op: &Op,
@@ -215,11 +215,11 @@ pub fn apply(
         Op::SyncClose { row } => close_handle(alloc, state, number, *row)?,
         Op::Discard { row } => discard_handle(alloc, state, number, *row)?,
         Op::Persist { bucket } => persist(alloc, state, number, bucket)?,
-        Op::Moment { ms } => set_moment(state, number, *ms),
+        Op::Moment { ms } => state.set_moment(number, *ms),
         Op::Post { tag } => post(alloc, state, number, tag)?,
-        Op::Await { .. } => set_waiting(state, number, None),
+        Op::Await { .. } => state.set_waiting(number, None),
         Op::Wait { tag } => wait(alloc, state, sizes, number, tag)?,
-        Op::End => end(state, number),
+        Op::End => state.end(number),
         _ => {}
     }
     Ok(())

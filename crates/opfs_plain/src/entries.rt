@@ -12,34 +12,17 @@ ghost use Rattle.opfs_machine.specs.Rows.{row_at, without, file_at, children_of}
 ghost use Rattle.opfs_rulings.specs.Known.{IsAgent, IsOwn};
 ghost use Rattle.opfs_plain.specs.Changing.{given_row};
 
-use crate::own_rows::add_own;
-use crate::rows::remove_within;
 use crate::splicing::no_bytes;
 use opfs_base::{Kind, Locator, Name, SharedBytes, Text};
 use opfs_locks::LockValue;
-use opfs_machine::{FileRow, IteratorRow, Many, Own, Place, Row, State, child_place, root_of};
-use opfs_rulings::{agent, file_at, next_given, place_of, put, row_at};
+use opfs_machine::{FileRow, IteratorRow, Many, Own, Row, child_place, root_of};
+use opfs_rulings::{Board, agent, file_at, next_given, place_of};
 use std::alloc::{AllocError, Global};
-
-/// Makes a row, where none is there.
-fn make(
-    state: &mut State<SharedBytes, Own>,
-    place: Place,
-    row: Row<SharedBytes>,
-) -> Result<(), AllocError>
-    ensures { OnOk result (state.new ≡ made state.old place row) }
-{
-    if row_at(state.rows.items.as_slice(), &place.0, &place.1).is_some() {
-        return Ok(());
-    }
-    put(&mut state.rows.items, place, row)?;
-    Ok(())
-}
 
 /// getDirectory makes a missing root.
 pub fn open_bucket(
     alloc: Global,
-    state: &mut State<SharedBytes, Own>,
+    state: &mut Board,
     number: u32,
     bucket: &Text,
 ) -> Result<(), AllocError>
@@ -50,7 +33,7 @@ pub fn open_bucket(
         return Ok(());
     };
     let root = root_of(alloc, origin, bucket)?;
-    make(state, root, Row::Directory)
+    state.make_row(root, Row::Directory)
 }
 
 /// The row that a call makes.
@@ -76,7 +59,7 @@ fn new_row(alloc: Global, kind: Kind, stamp: u64) -> Result<Row<SharedBytes>, Al
 /// getFileHandle and getDirectoryHandle make a missing child.
 pub fn make_child(
     alloc: Global,
-    state: &mut State<SharedBytes, Own>,
+    state: &mut Board,
     number: u32,
     kind: Kind,
     dir: &Locator,
@@ -88,13 +71,13 @@ pub fn make_child(
 {
     let place = child_place(alloc, dir, name)?;
     let row = new_row(alloc, kind, agent(state, number).moment)?;
-    make(state, place, row)
+    state.make_row(place, row)
 }
 
 /// removeEntry.
 pub fn remove_child(
     alloc: Global,
-    state: &mut State<SharedBytes, Own>,
+    state: &mut Board,
     dir: &Locator,
     name: &Text,
 ) -> Result<(), AllocError>
@@ -102,16 +85,12 @@ pub fn remove_child(
     ensures { OnOk result (state.new ≡ without state.old (child (place_of dir.now) name.now)) }
 {
     let place = child_place(alloc, dir, name)?;
-    remove_within(&mut state.rows.items, &place);
+    state.remove_within(&place);
     Ok(())
 }
 
 /// getFile.
-pub fn take_snapshot(
-    state: &mut State<SharedBytes, Own>,
-    number: u32,
-    at: &Locator,
-) -> Result<(), AllocError>
+pub fn take_snapshot(state: &mut Board, number: u32, at: &Locator) -> Result<(), AllocError>
     requires { IsAgent state.old number }
     ensures { OnOk result (state.new ≡ takes_snapshot in_bytes state.old number (file_at state.old (place_of at.now))) }
 {
@@ -119,13 +98,13 @@ pub fn take_snapshot(
         return Ok(());
     };
     let bytes = file.present.share()?;
-    add_own(state, number, Own::Snapshot(bytes))
+    state.add_own(number, Own::Snapshot(bytes))
 }
 
 /// values.
 pub fn add_iterator(
     alloc: Global,
-    state: &mut State<SharedBytes, Own>,
+    state: &mut Board,
     number: u32,
     dir: &Locator,
 ) -> Result<(), AllocError>
@@ -136,7 +115,7 @@ pub fn add_iterator(
     let given = Many {
         items: Vec::new(alloc),
     };
-    add_own(state, number, Own::Iterator(IteratorRow { dir, given }))
+    state.add_own(number, Own::Iterator(IteratorRow { dir, given }))
 }
 
 /// An iterator that gives one more name, or the end.
@@ -162,7 +141,7 @@ fn copy_name(alloc: Global, name: Option<&Name>) -> Result<Option<Name>, AllocEr
 /// next of an iterator: it has given one more name, or the end.
 pub fn advance(
     alloc: Global,
-    state: &mut State<SharedBytes, Own>,
+    state: &mut Board,
     number: u32,
     row: u32,
     dir: &Locator,
@@ -173,6 +152,8 @@ pub fn advance(
 {
     let place = place_of(alloc, dir)?;
     let name = copy_name(alloc, next_given(alloc, state, number, row, &place)?)?;
-    let agent = &mut state.agents.items[number as usize - 1];
-    give_row(&mut agent.own.items[row as usize - 1], name)
+    let mut own = state.swap_own(number, row, Own::ClosedStream);
+    give_row(&mut own, name)?;
+    state.swap_own(number, row, own);
+    Ok(())
 }

@@ -10,10 +10,10 @@ ghost use Rattle.opfs_rulings.specs.Known.{IsAgent};
 ghost use Rattle.opfs_plain.specs.Faults.{MayFault, IsFaulted, faulted_entry};
 
 use crate::machine::{enter_refused, evict_all};
-use opfs_base::{Key, SharedBytes};
+use opfs_base::Key;
 use opfs_hist::{Entry, Op, Refusal};
-use opfs_machine::{Many, Own, State};
-use opfs_rulings::{is_disk_op, judge};
+use opfs_machine::Many;
+use opfs_rulings::{Board, is_disk_op, judge};
 use std::alloc::{AllocError, Global};
 
 /// So many of the first units; None where there are fewer.
@@ -33,7 +33,7 @@ fn first_units(units: Many<Key>, count: usize) -> Option<Many<Key>>
 /// The first so many of the units that are cleared for a call; None where no disk fault may stand after so many.
 fn faulting_front(
     alloc: Global,
-    state: &State<SharedBytes, Own>,
+    state: &Board,
     agent: u32,
     op: &Op,
     evictions: usize,
@@ -58,7 +58,7 @@ fn faulting_front(
 #[tactic(auto, unfolding(opfs_machine::specs::Steps::outcome_of))]
 fn enter_fault(
     alloc: Global,
-    state: &mut State<SharedBytes, Own>,
+    state: &mut Board,
     entries: &mut Vec<Entry>,
     agent: u32,
     number: u32,
@@ -83,7 +83,7 @@ fn enter_fault(
 /// call is not refused, and it may need the disk. Tells whether it may; where it may not, nothing is changed.
 pub fn fault(
     alloc: Global,
-    state: &mut State<SharedBytes, Own>,
+    state: &mut Board,
     entries: &mut Vec<Entry>,
     agent: u32,
     number: u32,

@@ -5,11 +5,10 @@ ghost use Rattle.opfs_machine.specs.Effects.{with_lock, unlocked, replaced, flus
 ghost use Rattle.opfs_locks.specs.Taking.{released};
 ghost use Rattle.opfs_machine.specs.Rows.{change_at, changed_row, with_file};
 
-use crate::rows::index_of;
 use opfs_base::SharedBytes;
 use opfs_locks::{LockValue, Want};
-use opfs_machine::{Own, Place, Row, State};
-use opfs_rulings::{PlacedRow, taken};
+use opfs_machine::{Place, Row};
+use opfs_rulings::{Board, taken};
 use std::alloc::AllocError;
 
 /// The lock after one holder released it.
@@ -35,26 +34,18 @@ fn lock_row(row: &mut Row<SharedBytes>, want: Want) -> Result<(), AllocError>
     Ok(())
 }
 
-fn lock_at(rows: &mut [PlacedRow], place: &Place, want: Want) -> Result<(), AllocError>
-    ensures ok { OnOk result (rows.new ≡ change_at place.now (with_lock want) rows.old) }
-    ensures err { OnErr result (rows.new ≡ rows.old) }
-{
-    if let Some(at) = index_of(rows, &place.0, &place.1) {
-        lock_row(&mut rows[at].1, want)?;
-    }
-    Ok(())
-}
-
 /// Takes a file's lock as asked, where that is given.
-pub fn lock(
-    state: &mut State<SharedBytes, Own>,
-    place: &Place,
-    want: Want,
-) -> Result<(), AllocError>
-    ensures ok { OnOk result (state.new ≡ with_file state.old place.now (with_lock want)) }
-    ensures err { OnErr result (state.new ≡ state.old) }
+pub fn lock(state: &mut Board, place: &Place, want: Want) -> Result<(), AllocError>
+    ensures { OnOk result (state.new ≡ with_file state.old place.now (with_lock want)) }
 {
-    lock_at(state.rows.items.as_mut_slice(), place, want)
+    let Some(at) = state.spot(place) else {
+        return Ok(());
+    };
+    let mut row = state.swap_row(at, place, Row::Directory);
+    let done = lock_row(&mut row, want);
+    state.swap_row(at, place, row);
+    done?;
+    Ok(())
 }
 
 /// Releases a file's lock once.
@@ -66,19 +57,15 @@ fn unlock_row(row: &mut Row<SharedBytes>)
     }
 }
 
-fn unlock_at(rows: &mut [PlacedRow], place: &Place)
-    ensures { rows.new ≡ change_at place.now (unlocked) rows.old }
-{
-    if let Some(at) = index_of(rows, &place.0, &place.1) {
-        unlock_row(&mut rows[at].1);
-    }
-}
-
 /// Releases a file's lock once.
-pub fn unlock(state: &mut State<SharedBytes, Own>, place: &Place)
+pub fn unlock(state: &mut Board, place: &Place)
     ensures { state.new ≡ with_file state.old place.now (unlocked) }
 {
-    unlock_at(state.rows.items.as_mut_slice(), place);
+    if let Some(at) = state.spot(place) {
+        let mut row = state.swap_row(at, place, Row::Directory);
+        unlock_row(&mut row);
+        state.swap_row(at, place, row);
+    }
 }
 
 /// Gives a file new bytes for good; they come twice, and take no memory here.
@@ -94,24 +81,9 @@ fn replace_row(row: &mut Row<SharedBytes>, present: SharedBytes, durable: Shared
     }
 }
 
-fn replace_at(
-    rows: &mut [PlacedRow],
-    place: &Place,
-    present: SharedBytes,
-    durable: SharedBytes,
-    stamp: u64,
-)
-    requires { present ≡ durable }
-    ensures { rows.new ≡ change_at place.now (replaced present stamp) rows.old }
-{
-    if let Some(at) = index_of(rows, &place.0, &place.1) {
-        replace_row(&mut rows[at].1, present, durable, stamp);
-    }
-}
-
 /// Gives a file new bytes for good; they come twice, and take no memory here.
 pub fn replace(
-    state: &mut State<SharedBytes, Own>,
+    state: &mut Board,
     place: &Place,
     present: SharedBytes,
     durable: SharedBytes,
@@ -120,13 +92,11 @@ pub fn replace(
     requires { present ≡ durable }
     ensures { state.new ≡ with_file state.old place.now (replaced present stamp) }
 {
-    replace_at(
-        state.rows.items.as_mut_slice(),
-        place,
-        present,
-        durable,
-        stamp,
-    );
+    if let Some(at) = state.spot(place) {
+        let mut row = state.swap_row(at, place, Row::Directory);
+        replace_row(&mut row, present, durable, stamp);
+        state.swap_row(at, place, row);
+    }
 }
 
 /// Stores a file's present bytes for good.
@@ -141,22 +111,18 @@ fn flush_row(row: &mut Row<SharedBytes>) -> Result<(), AllocError>
     Ok(())
 }
 
-fn flush_at(rows: &mut [PlacedRow], place: &Place) -> Result<(), AllocError>
-    ensures ok { OnOk result (rows.new ≡ change_at place.now (flushed) rows.old) }
-    ensures err { OnErr result (rows.new ≡ rows.old) }
-{
-    if let Some(at) = index_of(rows, &place.0, &place.1) {
-        flush_row(&mut rows[at].1)?;
-    }
-    Ok(())
-}
-
 /// Stores a file's present bytes for good.
-pub fn flush(state: &mut State<SharedBytes, Own>, place: &Place) -> Result<(), AllocError>
-    ensures ok { OnOk result (state.new ≡ with_file state.old place.now (flushed)) }
-    ensures err { OnErr result (state.new ≡ state.old) }
+pub fn flush(state: &mut Board, place: &Place) -> Result<(), AllocError>
+    ensures { OnOk result (state.new ≡ with_file state.old place.now (flushed)) }
 {
-    flush_at(state.rows.items.as_mut_slice(), place)
+    let Some(at) = state.spot(place) else {
+        return Ok(());
+    };
+    let mut row = state.swap_row(at, place, Row::Directory);
+    let done = flush_row(&mut row);
+    state.swap_row(at, place, row);
+    done?;
+    Ok(())
 }
 
 /// Gives a file its durable bytes again.
@@ -171,20 +137,16 @@ fn undo_row(row: &mut Row<SharedBytes>) -> Result<(), AllocError>
     Ok(())
 }
 
-fn undo_at(rows: &mut [PlacedRow], place: &Place) -> Result<(), AllocError>
-    ensures ok { OnOk result (rows.new ≡ change_at place.now (undone) rows.old) }
-    ensures err { OnErr result (rows.new ≡ rows.old) }
-{
-    if let Some(at) = index_of(rows, &place.0, &place.1) {
-        undo_row(&mut rows[at].1)?;
-    }
-    Ok(())
-}
-
 /// Gives a file its durable bytes again.
-pub fn undo(state: &mut State<SharedBytes, Own>, place: &Place) -> Result<(), AllocError>
-    ensures ok { OnOk result (state.new ≡ with_file state.old place.now (undone)) }
-    ensures err { OnErr result (state.new ≡ state.old) }
+pub fn undo(state: &mut Board, place: &Place) -> Result<(), AllocError>
+    ensures { OnOk result (state.new ≡ with_file state.old place.now (undone)) }
 {
-    undo_at(state.rows.items.as_mut_slice(), place)
+    let Some(at) = state.spot(place) else {
+        return Ok(());
+    };
+    let mut row = state.swap_row(at, place, Row::Directory);
+    let done = undo_row(&mut row);
+    state.swap_row(at, place, row);
+    done?;
+    Ok(())
 }

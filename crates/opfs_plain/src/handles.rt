@@ -12,20 +12,18 @@ ghost use Rattle.opfs_rulings.specs.Known.{IsAgent, IsOwn};
 ghost use Rattle.opfs_splice.specs.Splicing.{splice, resize};
 
 use crate::files::{flush, lock, undo, unlock};
-use crate::own_rows::{add_own, set_own};
-use crate::rows::index_of;
 use crate::splicing::{no_bytes, resized, spliced};
 use opfs_base::{Data, Locator, SharedBytes, blocks, copy_place};
 use opfs_hist::Mode;
-use opfs_machine::{HandleRow, Own, Place, Row, Sizes, State, want_of};
-use opfs_rulings::{PlacedRow, agent, open_handle, place_of};
+use opfs_machine::{HandleRow, Own, Place, Row, Sizes, want_of};
+use opfs_rulings::{Board, agent, open_handle, place_of};
 use std::alloc::{AllocError, Global};
 use std::mem;
 
 /// createSyncAccessHandle.
 pub fn create_sync(
     alloc: Global,
-    state: &mut State<SharedBytes, Own>,
+    state: &mut Board,
     number: u32,
     at: &Locator,
     mode: Mode,
@@ -35,8 +33,7 @@ pub fn create_sync(
 {
     let place = place_of(alloc, at)?;
     lock(state, &place, want_of(mode))?;
-    add_own(
-        state,
+    state.add_own(
         number,
         Own::Handle(HandleRow {
             file: place,
@@ -59,19 +56,14 @@ fn move_row(row: &mut Own, cursor: u64, reserve: u64)
 
 /// Gives an access handle another cursor and reserve.
 #[tactic(auto, unfolding(opfs_machine::specs::Effects::with_changed))]
-pub fn move_handle(
-    state: &mut State<SharedBytes, Own>,
-    number: u32,
-    row: u32,
-    cursor: u64,
-    reserve: u64,
-)
+pub fn move_handle(state: &mut Board, number: u32, row: u32, cursor: u64, reserve: u64)
     requires agent { IsAgent state.old number }
     requires row { IsOwn (agent_of state.old number) row }
     ensures { state.new ≡ with_changed state.old number row (λ r. moved_row r cursor reserve) }
 {
-    let agent = &mut state.agents.items[number as usize - 1];
-    move_row(&mut agent.own.items[row as usize - 1], cursor, reserve);
+    let mut own = state.swap_own(number, row, Own::ClosedHandle);
+    move_row(&mut own, cursor, reserve);
+    state.swap_own(number, row, own);
 }
 
 /// A file with bytes written at a position.
@@ -89,22 +81,6 @@ fn overwrite_row(
         let old = mem::replace(&mut file.present, empty);
         file.present = spliced(alloc, old, position, bytes)?;
         file.stamp = stamp;
-    }
-    Ok(())
-}
-
-fn overwrite_at(
-    alloc: Global,
-    rows: &mut [PlacedRow],
-    place: &Place,
-    position: u64,
-    bytes: &Data,
-    stamp: u64,
-) -> Result<(), AllocError>
-    ensures { OnOk result (rows.new ≡ change_at place.now (λ f. record f { present = splice f.present position bytes.now; stamp = stamp }) rows.old) }
-{
-    if let Some(at) = index_of(rows, &place.0, &place.1) {
-        overwrite_row(alloc, &mut rows[at].1, position, bytes, stamp)?;
     }
     Ok(())
 }
@@ -127,25 +103,10 @@ fn cut_row(
     Ok(())
 }
 
-fn cut_at(
-    alloc: Global,
-    rows: &mut [PlacedRow],
-    place: &Place,
-    size: u64,
-    stamp: u64,
-) -> Result<(), AllocError>
-    ensures { OnOk result (rows.new ≡ change_at place.now (λ f. record f { present = resize f.present size; stamp = stamp }) rows.old) }
-{
-    if let Some(at) = index_of(rows, &place.0, &place.1) {
-        cut_row(alloc, &mut rows[at].1, size, stamp)?;
-    }
-    Ok(())
-}
-
 /// Writes bytes of the file at a place.
 fn overwrite(
     alloc: Global,
-    state: &mut State<SharedBytes, Own>,
+    state: &mut Board,
     place: &Place,
     position: u64,
     bytes: &Data,
@@ -153,27 +114,34 @@ fn overwrite(
 ) -> Result<(), AllocError>
     ensures { OnOk result (state.new ≡ with_file state.old place.now (λ f. record f { present = splice f.present position bytes.now; stamp = stamp })) }
 {
-    overwrite_at(
-        alloc,
-        state.rows.items.as_mut_slice(),
-        place,
-        position,
-        bytes,
-        stamp,
-    )
+    let Some(at) = state.spot(place) else {
+        return Ok(());
+    };
+    let mut row = state.swap_row(at, place, Row::Directory);
+    let done = overwrite_row(alloc, &mut row, position, bytes, stamp);
+    state.swap_row(at, place, row);
+    done?;
+    Ok(())
 }
 
 /// Cuts or extends the file at a place.
 fn cut(
     alloc: Global,
-    state: &mut State<SharedBytes, Own>,
+    state: &mut Board,
     place: &Place,
     size: u64,
     stamp: u64,
 ) -> Result<(), AllocError>
     ensures { OnOk result (state.new ≡ with_file state.old place.now (λ f. record f { present = resize f.present size; stamp = stamp })) }
 {
-    cut_at(alloc, state.rows.items.as_mut_slice(), place, size, stamp)
+    let Some(at) = state.spot(place) else {
+        return Ok(());
+    };
+    let mut row = state.swap_row(at, place, Row::Directory);
+    let done = cut_row(alloc, &mut row, size, stamp);
+    state.swap_row(at, place, row);
+    done?;
+    Ok(())
 }
 
 /// Where a write of an access handle leaves it.
@@ -189,7 +157,7 @@ pub struct Reached {
 #[tactic(auto, unfolding(opfs_machine::specs::Effects::changes_file))]
 pub fn write_file(
     alloc: Global,
-    state: &mut State<SharedBytes, Own>,
+    state: &mut Board,
     number: u32,
     row: u32,
     position: u64,
@@ -215,7 +183,7 @@ pub fn write_file(
 #[tactic(auto, unfolding(opfs_machine::specs::Effects::changes_file))]
 pub fn cut_file(
     alloc: Global,
-    state: &mut State<SharedBytes, Own>,
+    state: &mut Board,
     number: u32,
     row: u32,
     cursor: u64,
@@ -237,11 +205,7 @@ pub fn cut_file(
 }
 
 /// Stores a file's present bytes, where the access handle may write.
-fn flush_written(
-    state: &mut State<SharedBytes, Own>,
-    mode: Mode,
-    place: &Place,
-) -> Result<(), AllocError>
+fn flush_written(state: &mut Board, mode: Mode, place: &Place) -> Result<(), AllocError>
     ensures { OnOk result (state.new ≡ with_written state.old mode place.now flushed) }
 {
     match mode {
@@ -251,11 +215,7 @@ fn flush_written(
 }
 
 /// Gives a file its durable bytes again, where the access handle may write.
-fn undo_written(
-    state: &mut State<SharedBytes, Own>,
-    mode: Mode,
-    place: &Place,
-) -> Result<(), AllocError>
+fn undo_written(state: &mut Board, mode: Mode, place: &Place) -> Result<(), AllocError>
     ensures { OnOk result (state.new ≡ with_written state.old mode place.now undone) }
 {
     match mode {
@@ -267,7 +227,7 @@ fn undo_written(
 /// flush of an access handle, whose cursor is told.
 pub fn flush_handle(
     alloc: Global,
-    state: &mut State<SharedBytes, Own>,
+    state: &mut Board,
     sizes: Sizes,
     number: u32,
     row: u32,
@@ -289,7 +249,7 @@ pub fn flush_handle(
 /// close of an access handle.
 pub fn close_handle(
     alloc: Global,
-    state: &mut State<SharedBytes, Own>,
+    state: &mut Board,
     number: u32,
     row: u32,
 ) -> Result<(), AllocError>
@@ -304,14 +264,14 @@ pub fn close_handle(
     let place = copy_place(alloc, &handle.file.0, &handle.file.1)?;
     flush_written(state, mode, &place)?;
     unlock(state, &place);
-    set_own(state, number, row, Own::ClosedHandle);
+    state.swap_own(number, row, Own::ClosedHandle);
     Ok(())
 }
 
 /// What a script's end does to an open access handle.
 pub fn discard_handle(
     alloc: Global,
-    state: &mut State<SharedBytes, Own>,
+    state: &mut Board,
     number: u32,
     row: u32,
 ) -> Result<(), AllocError>
@@ -326,6 +286,6 @@ pub fn discard_handle(
     let place = copy_place(alloc, &handle.file.0, &handle.file.1)?;
     undo_written(state, mode, &place)?;
     unlock(state, &place);
-    set_own(state, number, row, Own::ClosedHandle);
+    state.swap_own(number, row, Own::ClosedHandle);
     Ok(())
 }

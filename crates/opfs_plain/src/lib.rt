@@ -1,7 +1,7 @@
 //! The plain machine: a list of rows that calls change, and the history of these calls. It is the reference that faster
 //! stores are compared with.
 //!
-//! It stands on `opfs_laws` and `opfs_rulings`; on it stands `opfs_judge`.
+//! It stands on `opfs_rulings`; on it stands `opfs_judge`.
 #![tactic(auto)]
 
 mod effects;
@@ -11,9 +11,7 @@ mod files;
 mod handles;
 pub mod machine;
 mod marks;
-mod own_rows;
 pub mod plain;
-mod rows;
 mod splicing;
 mod streams;
 

@@ -14,68 +14,36 @@ ghost use Rattle.opfs_rulings.specs.Known.{IsAgent};
 ghost use Rattle.opfs_plain.specs.Changing.{IsFitting};
 
 use crate::effects::apply;
-use crate::marks::set_waiting;
-use crate::rows::remove_within;
-use opfs_base::{Key, Path, SharedBytes, copy_key, plus};
+use opfs_base::{Key, Path};
 use opfs_hist::{Entry, Op, Refusal, Reply};
-use opfs_machine::{Many, Own, State, row_named};
-use opfs_rulings::{answer, judge, put, sizes_of};
+use opfs_machine::{Many, row_named};
+use opfs_rulings::{Board, answer, judge, sizes_of};
 use std::alloc::{AllocError, Global};
 
-/// The key of an agent's origin; None for an opaque one, and where there is no such agent.
-fn key_of(
-    alloc: Global,
-    state: &State<SharedBytes, Own>,
-    number: u32,
-) -> Result<Option<Key>, AllocError>
-    ensures { IfOk result (λ key. key ≡ (agent_of state.now number).key) }
-{
-    if number == 0 {
-        return Ok(None);
-    }
-    match state.agents.items.get(number as usize - 1) {
-        None => Ok(None),
-        Some(agent) => copy_key(alloc, agent.key.as_ref()),
-    }
-}
-
-/// Counts an entry of an agent, which is the last use of its origin.
-fn count(alloc: Global, state: &mut State<SharedBytes, Own>, number: u32) -> Result<(), AllocError>
-    ensures { OnOk result (state.new ≡ counted state.old number) }
-{
-    let entry = plus(state.entries, 1)?;
-    if let Some(origin) = key_of(alloc, state, number)? {
-        put(&mut state.used.items, origin, entry)?;
-    }
-    state.entries = entry;
-    Ok(())
-}
-
 /// What a refused call changes.
-fn refuse(state: &mut State<SharedBytes, Own>, number: u32, op: &Op)
+fn refuse(state: &mut Board, number: u32, op: &Op)
     requires { IsAgent state.old number }
     ensures { state.new ≡ refused state.old number op.now }
 {
     if let Op::Await { .. } = op {
-        set_waiting(state, number, None);
+        state.set_waiting(number, None);
     }
 }
 
 /// Clears a unit.
-fn evict(alloc: Global, state: &mut State<SharedBytes, Own>, unit: &Key) -> Result<(), AllocError>
+fn evict(alloc: Global, state: &mut Board, unit: &Key) -> Result<(), AllocError>
     ensures { OnOk result (state.new ≡ evicted state.old unit.now) }
 {
-    let entry = plus(state.entries, 1)?;
     let root = (unit.copy(alloc)?, Path::root(alloc));
-    remove_within(&mut state.rows.items, &root);
-    state.entries = entry;
+    state.remove_within(&root);
+    state.count_one()?;
     Ok(())
 }
 
 /// Clears units, each with an entry.
 pub fn evict_all(
     alloc: Global,
-    state: &mut State<SharedBytes, Own>,
+    state: &mut Board,
     entries: &mut Vec<Entry>,
     units: Many<Key>,
 ) -> Result<(), AllocError>
@@ -100,7 +68,7 @@ pub fn evict_all(
 /// A refused call.
 pub fn enter_refused(
     alloc: Global,
-    state: &mut State<SharedBytes, Own>,
+    state: &mut Board,
     entries: &mut Vec<Entry>,
     agent: u32,
     number: u32,
@@ -112,7 +80,7 @@ pub fn enter_refused(
     ensures told { OnOk result (entries.new.items ≡ entries.old.items ++ group_of state.old (record { agent = agent; number = number; op = op }) (outcome_of state.old agent op (Err refusal))) }
 {
     refuse(state, agent, &op);
-    count(alloc, state, agent)?;
+    state.count(alloc, agent)?;
     entries.push(Entry {
         agent,
         number,
@@ -124,26 +92,21 @@ pub fn enter_refused(
 }
 
 /// A call that is not refused, once the evictions before it are done: its effect and its count.
-fn perform(
-    alloc: Global,
-    state: &mut State<SharedBytes, Own>,
-    agent: u32,
-    op: &Op,
-) -> Result<(), AllocError>
+fn perform(alloc: Global, state: &mut Board, agent: u32, op: &Op) -> Result<(), AllocError>
     requires agent { IsAgent state.old agent }
     requires fitting { IsFitting state.old agent op.now }
     ensures { OnOk result (state.new ≡ counted (effect in_bytes state.old (sizes_of state.old agent op.now) agent op.now) agent) }
 {
     let sizes = sizes_of(state, agent, row_named(op));
     apply(alloc, state, sizes, agent, op)?;
-    count(alloc, state, agent)?;
+    state.count(alloc, agent)?;
     Ok(())
 }
 
 /// The evictions of a call that is not refused, its effect and its count.
 fn evict_and_perform(
     alloc: Global,
-    state: &mut State<SharedBytes, Own>,
+    state: &mut Board,
     entries: &mut Vec<Entry>,
     agent: u32,
     op: &Op,
@@ -182,7 +145,7 @@ fn tell(
 /// A call that is not refused, and the evictions before it.
 fn enter_accepted(
     alloc: Global,
-    state: &mut State<SharedBytes, Own>,
+    state: &mut Board,
     entries: &mut Vec<Entry>,
     agent: u32,
     number: u32,
@@ -220,7 +183,7 @@ fn enter_accepted(
 #[tactic(auto, unfolding(opfs_machine::specs::Steps::step))]
 pub fn enter(
     alloc: Global,
-    state: &mut State<SharedBytes, Own>,
+    state: &mut Board,
     entries: &mut Vec<Entry>,
     agent: u32,
     number: u32,

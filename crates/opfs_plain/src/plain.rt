@@ -10,14 +10,13 @@ ghost use Rattle.opfs_plain.specs.Keeping.{IsKept, IsEntered};
 ghost use Rattle.opfs_rulings.specs.Known.{IsAgent};
 
 use crate::machine::enter;
-use opfs_base::SharedBytes;
 use opfs_hist::{Entry, Op};
 use opfs_machine::{Many, Own, State};
-use opfs_rulings::{agent, is_agent, may_enter};
+use opfs_rulings::{Board, agent, is_agent, may_enter};
 use std::alloc::{AllocError, Global};
 
 /// Whether an agent is live, and may make a call.
-fn stands(state: &State<SharedBytes, Own>, number: u32, op: &Op) -> bool
+fn stands(state: &Board, number: u32, op: &Op) -> bool
     requires { IsAgent state.now number }
     ensures live { IsTrue result → IsTrue (agent_of state.now number).live }
     ensures fitting { IsTrue result → IsTrue (may_enter state.now number op.now) }
@@ -28,7 +27,7 @@ fn stands(state: &State<SharedBytes, Own>, number: u32, op: &Op) -> bool
 /// The plain machine: what it holds, and all entries so far.
 #[derive(Drop)]
 pub struct Plain {
-    pub state: State<SharedBytes, Own>,
+    pub state: Board,
     pub entries: Many<Entry>,
 }
 

@@ -11,14 +11,12 @@ ghost use Rattle.opfs_machine.specs.Agents.{agent_of, open_stream};
 ghost use Rattle.opfs_machine.specs.declared.state.Sizes.{Sizes};
 
 use crate::files::{lock, replace, unlock};
-use crate::own_rows::{add_own, set_own};
 use crate::splicing::{no_bytes, resized, spliced};
 use opfs_base::{Data, Locator, SharedBytes, copy_place, plus};
 use opfs_locks::Want;
-use opfs_machine::{FileRow, Own, State, StreamRow};
-use opfs_rulings::{agent, file_at, first_reserve, own_row, place_of};
+use opfs_machine::{FileRow, Own, StreamRow};
+use opfs_rulings::{Board, agent, file_at, first_reserve, own_row, place_of};
 use std::alloc::{AllocError, Global};
-use std::mem;
 
 /// What a new stream has: its file's bytes where they are kept, else none.
 fn first_buffer(
@@ -39,7 +37,7 @@ fn first_buffer(
 /// createWritable.
 pub fn open_stream(
     alloc: Global,
-    state: &mut State<SharedBytes, Own>,
+    state: &mut Board,
     number: u32,
     at: &Locator,
     keep: bool,
@@ -55,8 +53,7 @@ pub fn open_stream(
     let reserve = first_reserve(Some(file), keep);
     let place = place_of(alloc, at)?;
     lock(state, &place, Want::Shared)?;
-    add_own(
-        state,
+    state.add_own(
         number,
         Own::Stream(StreamRow {
             file: place,
@@ -100,7 +97,7 @@ fn write_row(
 #[tactic(auto, unfolding(opfs_machine::specs::Effects::with_changed))]
 pub fn write(
     alloc: Global,
-    state: &mut State<SharedBytes, Own>,
+    state: &mut Board,
     number: u32,
     row: u32,
     position: u64,
@@ -111,10 +108,9 @@ pub fn write(
     requires row { IsOwn (agent_of state.old number) row }
     ensures { OnOk result (state.new ≡ with_changed state.old number row (λ r. written_row r position bytes.now reserve)) }
 {
-    let agent = &mut state.agents.items[number as usize - 1];
-    let own = &mut agent.own.items[row as usize - 1];
-    let old = mem::replace(own, Own::ClosedStream);
-    *own = write_row(alloc, old, position, bytes, reserve)?;
+    let old = state.swap_own(number, row, Own::ClosedStream);
+    let own = write_row(alloc, old, position, bytes, reserve)?;
+    state.swap_own(number, row, own);
     Ok(())
 }
 
@@ -144,7 +140,7 @@ fn truncate_row(alloc: Global, row: Own, size: u64, reserve: u64) -> Result<Own,
 #[tactic(auto, unfolding(opfs_machine::specs::Effects::with_changed))]
 pub fn truncate(
     alloc: Global,
-    state: &mut State<SharedBytes, Own>,
+    state: &mut Board,
     number: u32,
     row: u32,
     size: u64,
@@ -154,10 +150,9 @@ pub fn truncate(
     requires row { IsOwn (agent_of state.old number) row }
     ensures { OnOk result (state.new ≡ with_changed state.old number row (λ r. truncated_row r size reserve)) }
 {
-    let agent = &mut state.agents.items[number as usize - 1];
-    let own = &mut agent.own.items[row as usize - 1];
-    let old = mem::replace(own, Own::ClosedStream);
-    *own = truncate_row(alloc, old, size, reserve)?;
+    let old = state.swap_own(number, row, Own::ClosedStream);
+    let own = truncate_row(alloc, old, size, reserve)?;
+    state.swap_own(number, row, own);
     Ok(())
 }
 
@@ -172,19 +167,20 @@ fn seek_row(row: &mut Own, offset: u64)
 
 /// seek of a stream.
 #[tactic(auto, unfolding(opfs_machine::specs::Effects::with_changed))]
-pub fn seek(state: &mut State<SharedBytes, Own>, number: u32, row: u32, offset: u64)
+pub fn seek(state: &mut Board, number: u32, row: u32, offset: u64)
     requires agent { IsAgent state.old number }
     requires row { IsOwn (agent_of state.old number) row }
     ensures { state.new ≡ with_changed state.old number row (λ r. sought_row r offset) }
 {
-    let agent = &mut state.agents.items[number as usize - 1];
-    seek_row(&mut agent.own.items[row as usize - 1], offset);
+    let mut own = state.swap_own(number, row, Own::ClosedStream);
+    seek_row(&mut own, offset);
+    state.swap_own(number, row, own);
 }
 
 /// close of a stream: its file has the buffer, for good.
 pub fn close_stream(
     alloc: Global,
-    state: &mut State<SharedBytes, Own>,
+    state: &mut Board,
     number: u32,
     row: u32,
 ) -> Result<(), AllocError>
@@ -201,14 +197,14 @@ pub fn close_stream(
     let stamp = agent(state, number).moment;
     replace(state, &place, present, durable, stamp);
     unlock(state, &place);
-    set_own(state, number, row, Own::ClosedStream);
+    state.swap_own(number, row, Own::ClosedStream);
     Ok(())
 }
 
 /// abort of a stream.
 pub fn abort_stream(
     alloc: Global,
-    state: &mut State<SharedBytes, Own>,
+    state: &mut Board,
     number: u32,
     row: u32,
 ) -> Result<(), AllocError>
@@ -221,6 +217,6 @@ pub fn abort_stream(
     };
     let place = copy_place(alloc, &stream.file.0, &stream.file.1)?;
     unlock(state, &place);
-    set_own(state, number, row, Own::ClosedStream);
+    state.swap_own(number, row, Own::ClosedStream);
     Ok(())
 }

@@ -1,8 +1,11 @@
 pub mod Adding
-pub mod AgentSums
 pub mod Cleared
 pub mod Clearing
 pub mod Fronts
 pub mod Here
+pub mod Rising
 pub mod Roots
 pub mod Taking
+pub mod Totals
+pub mod Uses
+pub mod Weighing

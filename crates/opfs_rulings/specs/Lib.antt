@@ -1,2 +1,4 @@
 pub mod Known
 pub mod Sets
+pub mod Spots
+pub mod Tallies

@@ -8,26 +8,27 @@ ghost use Rattle.opfs_machine.specs.Sums.{is_persistent};
 ghost use Rattle.opfs_rulings.specs.Known.{IsAgent};
 
 use crate::agents::agent;
+use crate::board::Board;
 use crate::rulings::NO_NEED;
-use opfs_base::{Key, SharedBytes, Text, is_bucket_name, mode_charge, unit_of};
+use opfs_base::{Key, Text, is_bucket_name, mode_charge, unit_of};
 use opfs_hist::Refusal;
-use opfs_machine::{Need, Own, Ruled, State};
-use std::alloc::{AllocError, Global};
+use opfs_machine::{Need, Ruled};
+use std::alloc::Global;
 
 /// Whether a unit's bucket is persistent.
-pub fn is_persistent(state: &State<SharedBytes, Own>, unit: &Key) -> bool
+pub fn is_persistent(state: &Board, unit: &Key) -> bool
     ensures { result ≡ is_persistent state.now unit.now }
 {
-    state.persistent.items.iter().any(|other| *unit == *other)
+    state
+        .held()
+        .persistent
+        .items
+        .iter()
+        .any(|other| *unit == *other)
 }
 
 /// persist.
-pub fn persist_ruling(
-    alloc: Global,
-    state: &State<SharedBytes, Own>,
-    number: u32,
-    bucket: &Text,
-) -> Ruled<Need>
+pub fn persist_ruling(alloc: Global, state: &Board, number: u32, bucket: &Text) -> Ruled<Need>
     requires { IsAgent state.now number }
     ensures { IfOk result (λ ruled. ruled ≡ persist_ruling state.now number bucket.now) }
 {
@@ -50,11 +51,7 @@ pub fn persist_ruling(
 }
 
 /// persisted.
-pub fn persisted_ruling(
-    state: &State<SharedBytes, Own>,
-    number: u32,
-    bucket: &Text,
-) -> Result<Need, Refusal>
+pub fn persisted_ruling(state: &Board, number: u32, bucket: &Text) -> Result<Need, Refusal>
     requires { IsAgent state.now number }
     ensures { result ≡ persisted_ruling state.now number bucket.now }
 {
@@ -65,7 +62,7 @@ pub fn persisted_ruling(
 }
 
 /// estimate.
-pub fn estimate_ruling(state: &State<SharedBytes, Own>, number: u32) -> Result<Need, Refusal>
+pub fn estimate_ruling(state: &Board, number: u32) -> Result<Need, Refusal>
     requires { IsAgent state.now number }
     ensures { result ≡ estimate_ruling state.now number }
 {

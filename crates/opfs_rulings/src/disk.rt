@@ -5,13 +5,13 @@ ghost use Rattle.std.specs.Prelude.{◌≡◌};
 ghost use Rattle.opfs_machine.specs.Histories.{is_writer, is_disk_op};
 ghost use Rattle.opfs_rulings.specs.Known.{IsAgent};
 
+use crate::board::Board;
 use crate::handle_rulings::open_handle;
 use opfs_base::SharedBytes;
 use opfs_hist::{Mode, Op};
-use opfs_machine::{Own, State};
 
 /// Whether an access handle is open and may write.
-fn is_writer(state: &State<SharedBytes, Own>, number: u32, row: u32) -> bool
+fn is_writer(state: &Board, number: u32, row: u32) -> bool
     requires { IsAgent state.now number }
     ensures { result ≡ is_writer state.now number row }
 {
@@ -22,7 +22,7 @@ fn is_writer(state: &State<SharedBytes, Own>, number: u32, row: u32) -> bool
 }
 
 /// Whether a call that is not refused may need the disk.
-pub fn is_disk_op(state: &State<SharedBytes, Own>, number: u32, op: &Op) -> bool
+pub fn is_disk_op(state: &Board, number: u32, op: &Op) -> bool
     requires { IsAgent state.now number }
     ensures { result ≡ is_disk_op state.now number op.now }
 {

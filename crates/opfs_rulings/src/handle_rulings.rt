@@ -9,13 +9,14 @@ ghost use Rattle.opfs_machine.specs.Contents.{in_bytes};
 ghost use Rattle.opfs_machine.specs.Rulings.{create_sync_ruling, grow_handle_ruling, handle_ruling};
 
 use crate::agents::own_row;
+use crate::board::Board;
 use crate::rulings::{NO_NEED, file_at, is_located, lock_of, taken};
-use opfs_base::{Kind, Locator, SharedBytes, blocks, times};
+use opfs_base::{Kind, Locator, blocks, times};
 use opfs_hist::{Mode, Refusal};
-use opfs_machine::{HandleRow, Need, Own, Ruled, Sizes, State, want_of};
+use opfs_machine::{HandleRow, Need, Own, Ruled, Sizes, want_of};
 
 /// createSyncAccessHandle.
-pub fn create_sync_ruling(state: &State<SharedBytes, Own>, at: &Locator, mode: Mode) -> Ruled<Need>
+pub fn create_sync_ruling(state: &Board, at: &Locator, mode: Mode) -> Ruled<Need>
     ensures { IfOk result (λ ruled. ruled ≡ create_sync_ruling state.now at.now mode) }
 {
     if !is_located(state, Kind::File, at) {
@@ -29,7 +30,7 @@ pub fn create_sync_ruling(state: &State<SharedBytes, Own>, at: &Locator, mode: M
 }
 
 /// The open access handle of a number.
-pub fn open_handle(state: &State<SharedBytes, Own>, number: u32, row: u32) -> Option<&HandleRow>
+pub fn open_handle(state: &Board, number: u32, row: u32) -> Option<&HandleRow>
     requires { IsAgent state.now number }
     ensures { option_map (λ h. record { file = h.file; mode = h.mode; reserve = h.reserve }) (option_copied result) ≡ open_handle in_bytes state.now number row }
 {
@@ -41,7 +42,7 @@ pub fn open_handle(state: &State<SharedBytes, Own>, number: u32, row: u32) -> Op
 
 /// write and truncate of an access handle, to a length.
 pub fn grow_handle_ruling(
-    state: &State<SharedBytes, Own>,
+    state: &Board,
     sizes: Sizes,
     number: u32,
     row: u32,
@@ -67,11 +68,7 @@ pub fn grow_handle_ruling(
 }
 
 /// A call on an open access handle that asks for nothing.
-pub fn handle_ruling(
-    state: &State<SharedBytes, Own>,
-    number: u32,
-    row: u32,
-) -> Result<Need, Refusal>
+pub fn handle_ruling(state: &Board, number: u32, row: u32) -> Result<Need, Refusal>
     requires { IsAgent state.now number }
     ensures { result ≡ handle_ruling in_bytes state.now number row }
 {

@@ -9,6 +9,7 @@ ghost use Rattle.opfs_machine.specs.Steps.{judged};
 ghost use Rattle.opfs_rulings.specs.Known.{IsAgent};
 
 use crate::agents::{agent, party_of};
+use crate::board::Board;
 use crate::bucket_rulings::{estimate_ruling, persist_ruling, persisted_ruling};
 use crate::handle_rulings::{create_sync_ruling, grow_handle_ruling, handle_ruling};
 use crate::removals::remove_entry_ruling;
@@ -18,16 +19,16 @@ use crate::rulings::{
     NO_NEED, create_writable_ruling, get_directory_ruling, get_handle_ruling, grow_stream_ruling,
     located_ruling, stream_ruling,
 };
-use opfs_base::{Key, Kind, SharedBytes, Text};
+use opfs_base::{Key, Kind, Text};
 use opfs_hist::{Op, Refusal};
-use opfs_machine::{Many, Need, Own, Party, Ruled, Sizes, State, row_named, size_written};
+use opfs_machine::{Many, Need, Party, Ruled, Sizes, row_named, size_written};
 use std::alloc::Global;
 
 /// Whether a tag was posted among a party's.
-fn is_posted(state: &State<SharedBytes, Own>, party: &Party, tag: &Text) -> bool
+fn is_posted(state: &Board, party: &Party, tag: &Text) -> bool
     ensures { result ≡ is_posted state.now party.now tag.now }
 {
-    state.posted.items.iter().any(|posted| is_same_party(party, &posted.party)
+    state.held().posted.items.iter().any(|posted| is_same_party(party, &posted.party)
         && tag.as_bytes() == posted.tag.as_slice())
 }
 
@@ -43,12 +44,7 @@ fn is_same_party(a: &Party, b: &Party) -> bool
 }
 
 /// await answers Stuck where its tag is not posted.
-fn await_ruling(
-    alloc: Global,
-    state: &State<SharedBytes, Own>,
-    number: u32,
-    tag: &Text,
-) -> Ruled<Need>
+fn await_ruling(alloc: Global, state: &Board, number: u32, tag: &Text) -> Ruled<Need>
     requires { IsAgent state.now number }
     ensures { IfOk result (λ ruled. ruled ≡ await_ruling state.now number tag.now) }
 {
@@ -60,13 +56,7 @@ fn await_ruling(
 }
 
 /// What a call of an agent refuses, or asks for.
-pub fn ruling(
-    alloc: Global,
-    state: &State<SharedBytes, Own>,
-    sizes: Sizes,
-    number: u32,
-    op: &Op,
-) -> Ruled<Need>
+pub fn ruling(alloc: Global, state: &Board, sizes: Sizes, number: u32, op: &Op) -> Ruled<Need>
     requires { IsAgent state.now number }
     ensures { IfOk result (λ ruled. ruled ≡ ruling in_bytes state.now sizes number op.now) }
 {
@@ -128,12 +118,7 @@ pub fn ruling(
 
 /// The refusal of a call, or the units that are cleared for it.
 #[tactic(auto, unfolding(opfs_machine::specs::Ruled::binding, opfs_machine::specs::Steps::judged))]
-pub fn judge(
-    alloc: Global,
-    state: &State<SharedBytes, Own>,
-    number: u32,
-    op: &Op,
-) -> Ruled<Many<Key>>
+pub fn judge(alloc: Global, state: &Board, number: u32, op: &Op) -> Ruled<Many<Key>>
     requires { IsAgent state.now number }
     ensures { IfOk result (λ ruled. ruled ≡ judged state.now number op.now) }
 {

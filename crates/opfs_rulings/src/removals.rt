@@ -7,21 +7,23 @@ ghost use Rattle.opfs_machine.specs.Rows.{has_children, first_locked};
 ghost use Rattle.opfs_machine.specs.Rulings.{remove_entry_ruling};
 ghost use Rattle.opfs_rulings.specs.Known.{lock_ruling};
 
-use crate::rows::{PlacedRow, row_at};
+use crate::board::Board;
+use crate::rows::PlacedRow;
 use crate::rulings::{NO_NEED, is_located};
 use opfs_base::{
     Key, Kind, Locator, Path, SharedBytes, Text, child_name, is_valid_name, is_within,
 };
 use opfs_hist::Refusal;
 use opfs_locks::LockValue;
-use opfs_machine::{Need, Own, Place, Row, Ruled, State, child_place};
-use std::alloc::{AllocError, Global};
+use opfs_machine::{Need, Place, Row, Ruled, child_place};
+use std::alloc::Global;
 
 /// Whether a directory has children.
-pub fn has_children(state: &State<SharedBytes, Own>, dir: &Place) -> bool
+pub fn has_children(state: &Board, dir: &Place) -> bool
     ensures { result ≡ has_children state.now dir.now }
 {
     state
+        .held()
         .rows
         .items
         .iter()
@@ -29,7 +31,7 @@ pub fn has_children(state: &State<SharedBytes, Own>, dir: &Place) -> bool
 }
 
 /// Whether what is below a place does not keep it.
-fn may_go(state: &State<SharedBytes, Own>, place: &Place, recursive: bool) -> bool
+fn may_go(state: &Board, place: &Place, recursive: bool) -> bool
     ensures { result ≡ (recursive || not (has_children state.now place.now)) }
 {
     recursive || !has_children(state, place)
@@ -62,7 +64,7 @@ fn none_locked(lock: Option<(LockValue, u32)>) -> Result<Need, Refusal>
 /// removeEntry.
 pub fn remove_entry_ruling(
     alloc: Global,
-    state: &State<SharedBytes, Own>,
+    state: &Board,
     dir: &Locator,
     name: &Text,
     recursive: bool,
@@ -76,12 +78,12 @@ pub fn remove_entry_ruling(
         return Ok(Err(Refusal::NotFoundError));
     }
     let place = child_place(alloc, dir, name)?;
-    let rows = state.rows.items.as_slice();
-    if row_at(rows, &place.0, &place.1).is_none() {
+    if state.row_at(&place.0, &place.1).is_none() {
         return Ok(Err(Refusal::NotFoundError));
     }
     if !may_go(state, &place, recursive) {
         return Ok(Err(Refusal::InvalidModificationError));
     }
-    Ok(none_locked(first_locked(rows, &place)))
+    let lock = first_locked(state.held().rows.items.as_slice(), &place);
+    Ok(none_locked(lock))
 }

@@ -19,23 +19,23 @@ ghost use Rattle.opfs_rulings.specs.Known.{IsAgent};
 ghost use Rattle.opfs_splice.specs.Splicing.{window};
 
 use crate::agents::{agent, own_row};
+use crate::board::Board;
 use crate::bucket_rulings::is_persistent;
 use crate::handle_rulings::open_handle;
-use crate::rows::{PlacedRow, place_of, row_at};
+use crate::rows::{PlacedRow, place_of};
 use crate::rulings::file_at;
 use crate::sets::names_of;
-use crate::sums::usage;
 use opfs_base::{
     Key, Kind, Locator, Name, Path, SharedBytes, Text, child_name, resolve, same, times, unit_of,
 };
 use opfs_hist::{Op, Reply};
-use opfs_machine::{Own, Place, Row, Sizes, State};
+use opfs_machine::{Own, Place, Row, Sizes};
 use opfs_splice::window;
 use std::alloc::{AllocError, Global};
 use std::collections::BTreeSet;
 
 /// The present bytes of the file at a place; none where there is none.
-pub fn bytes_at<'a>(state: &'a State<SharedBytes, Own>, place: &Place) -> &'a [u8]
+pub fn bytes_at<'a>(state: &'a Board, place: &Place) -> &'a [u8]
     ensures { result.now ≡ bytes_at state.now place.now }
 {
     match file_at(state, &place.0, &place.1) {
@@ -45,7 +45,7 @@ pub fn bytes_at<'a>(state: &'a State<SharedBytes, Own>, place: &Place) -> &'a [u
 }
 
 /// The sizes of the stream or access handle of a number.
-pub fn sizes_of(state: &State<SharedBytes, Own>, number: u32, row: u32) -> Sizes
+pub fn sizes_of(state: &Board, number: u32, row: u32) -> Sizes
     requires { IsAgent state.now number }
     ensures { result ≡ sizes_in state.now (own_of (agent_of state.now number) row) }
 {
@@ -166,7 +166,7 @@ fn first_name<'a>(rows: &'a [PlacedRow], dir: &Place, given: &[Name]) -> Option<
 }
 
 /// getFile.
-fn file_reply(state: &State<SharedBytes, Own>, at: &Locator) -> Reply
+fn file_reply(state: &Board, at: &Locator) -> Reply
     ensures { result ≡ file_reply (file_at state.now (place_of at.now)) }
 {
     match file_at(state, &at.key, &at.path) {
@@ -188,7 +188,7 @@ fn path_reply(alloc: Global, dir: &Locator, entry: &Locator) -> Result<Reply, Al
 /// slice of a snapshot.
 fn slice_reply(
     alloc: Global,
-    state: &State<SharedBytes, Own>,
+    state: &Board,
     number: u32,
     row: u32,
     at: u64,
@@ -207,7 +207,7 @@ fn slice_reply(
 /// read of an access handle, from a place on.
 fn read_reply(
     alloc: Global,
-    state: &State<SharedBytes, Own>,
+    state: &Board,
     number: u32,
     row: u32,
     start: u64,
@@ -224,17 +224,17 @@ fn read_reply(
 }
 
 /// The kind of what stands at a place.
-fn kind_at(state: &State<SharedBytes, Own>, key: &Key, path: &Path) -> Kind
+fn kind_at(state: &Board, key: &Key, path: &Path) -> Kind
     ensures { result ≡ kind_in (row_at state.now (key.now, path.now)) }
 {
-    match row_at(state.rows.items.as_slice(), key, path) {
+    match state.row_at(key, path) {
         Some(Row::Directory) => Kind::Directory,
         _ => Kind::File,
     }
 }
 
 /// The names that an iterator has given.
-pub fn given_names(state: &State<SharedBytes, Own>, number: u32, row: u32) -> &[Name]
+pub fn given_names(state: &Board, number: u32, row: u32) -> &[Name]
     requires { IsAgent state.now number }
     ensures { result.now ≡ given_in (own_of (agent_of state.now number) row) }
 {
@@ -247,7 +247,7 @@ pub fn given_names(state: &State<SharedBytes, Own>, number: u32, row: u32) -> &[
 /// The child of a directory that is given next, or the end.
 fn reply_of(
     alloc: Global,
-    state: &State<SharedBytes, Own>,
+    state: &Board,
     dir: &Locator,
     name: Option<&Name>,
 ) -> Result<Reply, AllocError>
@@ -265,7 +265,7 @@ fn reply_of(
 /// The name that an iterator over a directory gives next.
 pub fn next_given<'a>(
     alloc: Global,
-    state: &'a State<SharedBytes, Own>,
+    state: &'a Board,
     number: u32,
     row: u32,
     place: &Place,
@@ -274,14 +274,14 @@ pub fn next_given<'a>(
     ensures { IfOk result (λ name. option_copied name ≡ next_of (given_in (own_of (agent_of state.now number) row)) (children_of state.now place.now)) }
 {
     let given = given_names(state, number, row);
-    let name = next_name(alloc, state.rows.items.as_slice(), place, given)?;
+    let name = next_name(alloc, state.held().rows.items.as_slice(), place, given)?;
     Ok(name)
 }
 
 /// next of an iterator over a directory.
 fn child_reply(
     alloc: Global,
-    state: &State<SharedBytes, Own>,
+    state: &Board,
     number: u32,
     row: u32,
     dir: &Locator,
@@ -296,11 +296,7 @@ fn child_reply(
 }
 
 /// The key of an agent's origin; no text for an opaque one.
-fn origin_key(
-    alloc: Global,
-    state: &State<SharedBytes, Own>,
-    number: u32,
-) -> Result<Key, AllocError>
+fn origin_key(alloc: Global, state: &Board, number: u32) -> Result<Key, AllocError>
     requires { IsAgent state.now number }
     ensures { IfOk result (λ key. key ≡ origin_in (agent_of state.now number).key) }
 {
@@ -313,7 +309,7 @@ fn origin_key(
 /// Whether an agent's unit of a bucket is persistent.
 fn is_bucket_persistent(
     alloc: Global,
-    state: &State<SharedBytes, Own>,
+    state: &Board,
     number: u32,
     bucket: &Text,
 ) -> Result<bool, AllocError>
@@ -327,7 +323,7 @@ fn is_bucket_persistent(
 }
 
 /// estimate.
-fn estimate_reply(state: &State<SharedBytes, Own>, number: u32) -> Result<Reply, AllocError>
+fn estimate_reply(state: &Board, number: u32) -> Result<Reply, AllocError>
     requires { IsAgent state.now number }
     ensures { IfOk result (λ reply. reply ≡ Reply.Estimate (4096 * usage in_bytes state.now (origin_in (agent_of state.now number).key)) (4096 * state.now.limits.quota)) }
 {
@@ -335,15 +331,15 @@ fn estimate_reply(state: &State<SharedBytes, Own>, number: u32) -> Result<Reply,
         Some(origin) => origin.as_bytes(),
         None => &[],
     };
-    let used = times(4096, usage(state, origin)?)?;
-    let quota = times(4096, state.limits.quota)?;
+    let used = times(4096, state.usage(origin)?)?;
+    let quota = times(4096, state.held().limits.quota)?;
     Ok(Reply::Estimate(used, quota))
 }
 
 /// What a call answers where it is not refused.
 pub fn answer(
     alloc: Global,
-    state: &State<SharedBytes, Own>,
+    state: &Board,
     sizes: Sizes,
     number: u32,
     op: &Op,

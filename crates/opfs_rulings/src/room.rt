@@ -21,67 +21,46 @@ ghost use Rattle.opfs_machine.specs.Victims.{is_callers, none_taken, is_candidat
 ghost use Rattle.opfs_rulings.specs.Known.{is_untaken};
 ghost use Rattle.opfs_rulings.specs.Sets.{IsTakenSet};
 
+use crate::board::Board;
 use crate::bucket_rulings::is_persistent;
 use crate::rows::PlacedRow;
-use crate::sums::{freed, is_of, mode_charges, reserves, row_charges, row_pool, usage};
-use opfs_base::{Key, SharedBytes, origin_of, plus, times};
+use crate::sums::{freed, is_of};
+use opfs_base::{Key, SharedBytes, origin_of, plus};
 use opfs_hist::Refusal;
 use opfs_locks::LockValue;
-use opfs_machine::{Many, Need, Own, Place, Row, Ruled, State};
+use opfs_machine::{Many, Need, Place, Row, Ruled};
 use std::alloc::{AllocError, Global};
 use std::collections::BTreeSet;
 
-/// The pool.
-fn pool(state: &State<SharedBytes, Own>) -> Result<u64, AllocError>
-    ensures { IfOk result (λ total. total ≡ pool in_bytes state.now) }
-{
-    let files = row_pool(state.rows.items.as_slice())?;
-    let rows = reserves(state.agents.items.as_slice())?;
-    let total = plus(files, rows)?;
-    Ok(total)
-}
-
-/// The charge.
-fn charge(state: &State<SharedBytes, Own>) -> Result<u64, AllocError>
-    ensures { IfOk result (λ total. total ≡ charge in_bytes state.now) }
-{
-    let rows = row_charges(state.rows.items.as_slice())?;
-    let modes = mode_charges(state.persistent.items.as_slice())?;
-    let blocks = times(8, pool(state)?)?;
-    let metadata = plus(rows, modes)?;
-    let total = plus(metadata, blocks)?;
-    Ok(total)
-}
-
 /// Whether a need has room beside what the pool holds.
-fn fits_beside(state: &State<SharedBytes, Own>, held: u64, need: u64) -> Result<bool, AllocError>
+fn fits_beside(state: &Board, held: u64, need: u64) -> Result<bool, AllocError>
     ensures { IfOk result (λ fits. fits ≡ (nat_le need 0 || nat_le (held + need) state.now.limits.blocks)) }
 {
     if need == 0 {
         return Ok(true);
     }
     let after = plus(held, need)?;
-    let fits = after <= state.limits.blocks;
+    let fits = after <= state.held().limits.blocks;
     Ok(fits)
 }
 
 /// Whether the pool has room for a need.
-fn fits_pool(state: &State<SharedBytes, Own>, need: u64) -> Result<bool, AllocError>
+fn fits_pool(state: &Board, need: u64) -> Result<bool, AllocError>
     ensures { IfOk result (λ fits. fits ≡ fits_pool in_bytes state.now need) }
 {
     if need == 0 {
         return Ok(true);
     }
-    let held = pool(state)?;
+    let held = state.pool()?;
     let fits = fits_beside(state, held, need)?;
     Ok(fits)
 }
 
 /// When an origin was last used: the number of its last entry, 0 where there is none.
-fn last_use(state: &State<SharedBytes, Own>, origin: &[u8]) -> u64
+fn last_use(state: &Board, origin: &[u8]) -> u64
     ensures { result ≡ last_use state.now origin.now }
 {
-    for entry in &state.used.items {
+    for entry in &state.held().used.items {
         if origin.cmp(entry.0.as_bytes()).is_eq() {
             return entry.1;
         }
@@ -121,7 +100,7 @@ fn taken_units(alloc: Global, rows: &[PlacedRow]) -> Result<BTreeSet<Key>, Alloc
 }
 
 /// Whether no file of a unit has a taken lock.
-fn none_taken(state: &State<SharedBytes, Own>, taken: &BTreeSet<Key>, unit: &Key) -> bool
+fn none_taken(state: &Board, taken: &BTreeSet<Key>, unit: &Key) -> bool
     requires { IsTakenSet state.now.rows taken.now }
     ensures { result ≡ none_taken state.now unit.now }
 {
@@ -129,12 +108,7 @@ fn none_taken(state: &State<SharedBytes, Own>, taken: &BTreeSet<Key>, unit: &Key
 }
 
 /// Whether a unit with a root may be cleared for a call.
-fn is_candidate(
-    state: &State<SharedBytes, Own>,
-    taken: &BTreeSet<Key>,
-    caller: Option<&Key>,
-    unit: &Key,
-) -> bool
+fn is_candidate(state: &Board, taken: &BTreeSet<Key>, caller: Option<&Key>, unit: &Key) -> bool
     requires { IsTakenSet state.now.rows taken.now }
     ensures { result ≡ is_candidate state.now (option_copied caller.entry) unit.now }
 {
@@ -160,7 +134,7 @@ fn is_root(place: &Place) -> bool
 
 /// Whether a row is the root of a unit that may be cleared.
 fn is_root_candidate(
-    state: &State<SharedBytes, Own>,
+    state: &Board,
     taken: &BTreeSet<Key>,
     caller: Option<&Key>,
     entry: &PlacedRow,
@@ -183,7 +157,7 @@ fn add_sorted(sorted: &mut BTreeSet<(u64, Key)>, unit: (u64, Key)) -> Result<(),
 /// Adds a candidate in its place, where a row is the root of one.
 fn add_candidate(
     alloc: Global,
-    state: &State<SharedBytes, Own>,
+    state: &Board,
     taken: &BTreeSet<Key>,
     caller: Option<&Key>,
     sorted: &mut BTreeSet<(u64, Key)>,
@@ -204,7 +178,7 @@ fn add_candidate(
 /// The candidates for a call, each with its origin's last use, the one that was used longest ago first.
 fn candidates(
     alloc: Global,
-    state: &State<SharedBytes, Own>,
+    state: &Board,
     taken: &BTreeSet<Key>,
     caller: Option<&Key>,
 ) -> Result<BTreeSet<(u64, Key)>, AllocError>
@@ -212,7 +186,7 @@ fn candidates(
     ensures { IfOk result (λ sorted. map (λ e. e.1) sorted.keys ≡ candidates state.now (option_copied caller.entry)) }
 {
     let mut sorted = BTreeSet::new(alloc);
-    for entry in state.rows.items.as_slice() {
+    for entry in state.held().rows.items.as_slice() {
         add_candidate(alloc, state, taken, caller, &mut sorted, entry)?;
     }
     Ok(sorted)
@@ -221,7 +195,7 @@ fn candidates(
 /// The shortest front of the units after whose clearing the need fits.
 fn shortest_front(
     alloc: Global,
-    state: &State<SharedBytes, Own>,
+    state: &Board,
     need: u64,
     units: BTreeSet<(u64, Key)>,
 ) -> Result<Option<Many<Key>>, AllocError>
@@ -229,7 +203,7 @@ fn shortest_front(
 {
     let mut left = units;
     let mut gone: Vec<Key> = Vec::new(alloc);
-    let mut held = pool(state)?;
+    let mut held = state.pool()?;
     while let Some((_, unit)) = left.pop_first() {
         if fits_beside(state, held, need)? {
             return Ok(Some(Many { items: gone }));
@@ -244,26 +218,26 @@ fn shortest_front(
 }
 
 /// Whether a need is within the quota of its origin.
-fn fits_quota(state: &State<SharedBytes, Own>, origin: &[u8], need: u64) -> Result<bool, AllocError>
+fn fits_quota(state: &Board, origin: &[u8], need: u64) -> Result<bool, AllocError>
     ensures { IfOk result (λ fits. fits ≡ fits_quota in_bytes state.now origin.now need) }
 {
     if need == 0 {
         return Ok(true);
     }
-    let after = plus(usage(state, origin)?, need)?;
-    let fits = after <= state.limits.quota;
+    let after = plus(state.usage(origin)?, need)?;
+    let fits = after <= state.held().limits.quota;
     Ok(fits)
 }
 
 /// Whether a growth of the charge is within the area.
-fn fits_area(state: &State<SharedBytes, Own>, growth: u64) -> Result<bool, AllocError>
+fn fits_area(state: &Board, growth: u64) -> Result<bool, AllocError>
     ensures { IfOk result (λ fits. fits ≡ fits_area in_bytes state.now growth) }
 {
     if growth == 0 {
         return Ok(true);
     }
-    let after = plus(plus(charge(state)?, growth)?, 7)?;
-    let fits = after <= state.limits.area;
+    let after = plus(plus(state.charge()?, growth)?, 7)?;
+    let fits = after <= state.held().limits.area;
     Ok(fits)
 }
 
@@ -281,7 +255,7 @@ fn origin_in(caller: Option<&Key>) -> &[u8]
 #[tactic(auto, using(crate::proofs::Fronts::front_at_once))]
 fn victims(
     alloc: Global,
-    state: &State<SharedBytes, Own>,
+    state: &Board,
     caller: Option<&Key>,
     need: u64,
 ) -> Result<Option<Many<Key>>, AllocError>
@@ -292,47 +266,37 @@ fn victims(
             items: Vec::new(alloc),
         }));
     }
-    let taken = taken_units(alloc, state.rows.items.as_slice())?;
+    let taken = taken_units(alloc, state.held().rows.items.as_slice())?;
     let sorted = candidates(alloc, state, &taken, caller)?;
     shortest_front(alloc, state, need, sorted)
 }
 
 /// The units that are cleared for a need, judged in this order: the quota, the area, the pool.
 #[tactic(auto, unfolding(opfs_machine::specs::Machine::machine))]
-pub fn room_for(
-    alloc: Global,
-    state: &State<SharedBytes, Own>,
-    caller: Option<&Key>,
-    need: Need,
-) -> Ruled<Many<Key>>
+pub fn room_for(alloc: Global, state: &Board, caller: Option<&Key>, need: Need) -> Ruled<Many<Key>>
     ensures { IfOk result (λ ruled. ruled ≡ room_for in_bytes state.now (option_copied caller.entry) need) }
 {
     let origin = origin_in(caller);
     if !fits_quota(state, origin, need.quota)? {
-        let used = usage(state, origin)?;
-        return Ok(Err(Refusal::QuotaExceededError(used, need.quota, state.limits.quota)));
+        let used = state.usage(origin)?;
+        return Ok(Err(Refusal::QuotaExceededError(used, need.quota, state.held().limits.quota)));
     }
     if !fits_area(state, need.charge)? {
-        let charge = charge(state)?;
-        return Ok(Err(Refusal::MetaFull(charge, need.charge, state.limits.area)));
+        let charge = state.charge()?;
+        return Ok(Err(Refusal::MetaFull(charge, need.charge, state.held().limits.area)));
     }
     pool_room(alloc, state, caller, need.pool)
 }
 
 /// The units that are cleared for a need of the pool.
-fn pool_room(
-    alloc: Global,
-    state: &State<SharedBytes, Own>,
-    caller: Option<&Key>,
-    need: u64,
-) -> Ruled<Many<Key>>
+fn pool_room(alloc: Global, state: &Board, caller: Option<&Key>, need: u64) -> Ruled<Many<Key>>
     ensures { IfOk result (λ ruled. ruled ≡ some_or (victims in_bytes state.now (option_copied caller.entry) need) (Refusal.DataFull (pool in_bytes state.now) need state.now.limits.blocks)) }
 {
     match victims(alloc, state, caller, need)? {
         Some(units) => Ok(Ok(units)),
         None => {
-            let pool = pool(state)?;
-            Ok(Err(Refusal::DataFull(pool, need, state.limits.blocks)))
+            let pool = state.pool()?;
+            Ok(Err(Refusal::DataFull(pool, need, state.held().limits.blocks)))
         }
     }
 }

@@ -14,14 +14,14 @@ ghost use Rattle.opfs_machine.specs.Sums.{keeps_blocks};
 ghost use Rattle.opfs_rulings.specs.Known.{IsAgent};
 
 use crate::agents::{agent, own_row};
-use crate::rows::row_at;
+use crate::board::Board;
 use opfs_base::{
     Key, Kind, Locator, Path, SharedBytes, Text, blocks, is_bucket_name, is_valid_name,
     place_charge, times,
 };
 use opfs_hist::Refusal;
 use opfs_locks::{LockValue, Want};
-use opfs_machine::{FileRow, Need, Own, Place, Row, Ruled, State, child_place, root_of};
+use opfs_machine::{FileRow, Need, Own, Place, Row, Ruled, child_place, root_of};
 use std::alloc::{AllocError, Global};
 
 /// What asks for nothing.
@@ -32,13 +32,13 @@ pub const NO_NEED: Need = Need {
 };
 
 /// Whether a locator is located for a call that wants this kind.
-pub fn is_located(state: &State<SharedBytes, Own>, kind: Kind, at: &Locator) -> bool
+pub fn is_located(state: &Board, kind: Kind, at: &Locator) -> bool
     ensures { result ≡ is_located state.now kind at.now }
 {
     if at.kind != kind {
         return false;
     }
-    match row_at(state.rows.items.as_slice(), &at.key, &at.path) {
+    match state.row_at(&at.key, &at.path) {
         None => false,
         Some(Row::Directory) => kind == Kind::Directory,
         Some(Row::File(_)) => kind == Kind::File,
@@ -46,11 +46,7 @@ pub fn is_located(state: &State<SharedBytes, Own>, kind: Kind, at: &Locator) -> 
 }
 
 /// A call that needs its directory or file to be there.
-pub fn located_ruling(
-    state: &State<SharedBytes, Own>,
-    kind: Kind,
-    at: &Locator,
-) -> Result<Need, Refusal>
+pub fn located_ruling(state: &Board, kind: Kind, at: &Locator) -> Result<Need, Refusal>
     ensures { result ≡ located_ruling state.now kind at.now }
 {
     if !is_located(state, kind, at) {
@@ -60,10 +56,10 @@ pub fn located_ruling(
 }
 
 /// What making a row asks for, where there is none.
-fn making(state: &State<SharedBytes, Own>, kind: Kind, place: &Place) -> Result<Need, AllocError>
+fn making(state: &Board, kind: Kind, place: &Place) -> Result<Need, AllocError>
     ensures { IfOk result (λ need. need ≡ making kind place.now (row_at state.now place.now)) }
 {
-    match row_at(state.rows.items.as_slice(), &place.0, &place.1) {
+    match state.row_at(&place.0, &place.1) {
         Some(_) => Ok(NO_NEED),
         None => Ok(Need {
             quota: 0,
@@ -74,12 +70,7 @@ fn making(state: &State<SharedBytes, Own>, kind: Kind, place: &Place) -> Result<
 }
 
 /// getDirectory.
-pub fn get_directory_ruling(
-    alloc: Global,
-    state: &State<SharedBytes, Own>,
-    number: u32,
-    bucket: &Text,
-) -> Ruled<Need>
+pub fn get_directory_ruling(alloc: Global, state: &Board, number: u32, bucket: &Text) -> Ruled<Need>
     requires { IsAgent state.now number }
     ensures { IfOk result (λ ruled. ruled ≡ get_directory_ruling state.now number bucket.now) }
 {
@@ -144,7 +135,7 @@ fn child_ruling(
 /// getFileHandle and getDirectoryHandle.
 pub fn get_handle_ruling(
     alloc: Global,
-    state: &State<SharedBytes, Own>,
+    state: &Board,
     kind: Kind,
     dir: &Locator,
     name: &Text,
@@ -159,19 +150,15 @@ pub fn get_handle_ruling(
         return Ok(Err(Refusal::NotFoundError));
     }
     let place = child_place(alloc, dir, name)?;
-    let row = row_at(state.rows.items.as_slice(), &place.0, &place.1);
+    let row = state.row_at(&place.0, &place.1);
     child_ruling(kind, &place, name, create, row)
 }
 
 /// The file at a place.
-pub fn file_at<'a>(
-    state: &'a State<SharedBytes, Own>,
-    key: &Key,
-    path: &Path,
-) -> Option<&'a FileRow<SharedBytes>>
+pub fn file_at<'a>(state: &'a Board, key: &Key, path: &Path) -> Option<&'a FileRow<SharedBytes>>
     ensures { option_copied result ≡ file_at state.now (key.now, path.now) }
 {
-    match row_at(state.rows.items.as_slice(), key, path) {
+    match state.row_at(key, path) {
         Some(Row::File(file)) => Some(file),
         _ => None,
     }
@@ -228,11 +215,7 @@ pub fn first_reserve(file: Option<&FileRow<SharedBytes>>, keep: bool) -> u64
 }
 
 /// createWritable.
-pub fn create_writable_ruling(
-    state: &State<SharedBytes, Own>,
-    at: &Locator,
-    keep: bool,
-) -> Ruled<Need>
+pub fn create_writable_ruling(state: &Board, at: &Locator, keep: bool) -> Ruled<Need>
     ensures { IfOk result (λ ruled. ruled ≡ create_writable_ruling in_bytes state.now at.now keep) }
 {
     if !is_located(state, Kind::File, at) {
@@ -247,7 +230,7 @@ pub fn create_writable_ruling(
 }
 
 /// The reserve of an open stream of the agent.
-fn stream_reserve(state: &State<SharedBytes, Own>, number: u32, row: u32) -> Option<u64>
+fn stream_reserve(state: &Board, number: u32, row: u32) -> Option<u64>
     requires { IsAgent state.now number }
     ensures { result ≡ option_map (λ w. w.reserve) (open_stream in_bytes state.now number row) }
 {
@@ -258,12 +241,7 @@ fn stream_reserve(state: &State<SharedBytes, Own>, number: u32, row: u32) -> Opt
 }
 
 /// write and truncate of a stream, to a length.
-pub fn grow_stream_ruling(
-    state: &State<SharedBytes, Own>,
-    number: u32,
-    row: u32,
-    size: u64,
-) -> Ruled<Need>
+pub fn grow_stream_ruling(state: &Board, number: u32, row: u32, size: u64) -> Ruled<Need>
     requires { IsAgent state.now number }
     ensures { IfOk result (λ ruled. ruled ≡ grow_stream_ruling in_bytes state.now number row size) }
 {
@@ -274,11 +252,7 @@ pub fn grow_stream_ruling(
 }
 
 /// A call on an open stream that asks for nothing.
-pub fn stream_ruling(
-    state: &State<SharedBytes, Own>,
-    number: u32,
-    row: u32,
-) -> Result<Need, Refusal>
+pub fn stream_ruling(state: &Board, number: u32, row: u32) -> Result<Need, Refusal>
     requires { IsAgent state.now number }
     ensures { result ≡ stream_ruling in_bytes state.now number row }
 {

@@ -10,13 +10,14 @@ ghost use Rattle.opfs_machine.specs.Histories.{is_own, is_stream, is_handle, is_
 ghost use Rattle.opfs_rulings.specs.Known.{IsAgent};
 
 use crate::agents::{agent, own_row};
+use crate::board::Board;
 use crate::sums::is_of;
-use opfs_base::{Locator, SharedBytes, same};
+use opfs_base::{Locator, same};
 use opfs_hist::Op;
-use opfs_machine::{Own, State};
+use opfs_machine::Own;
 
 /// Whether a locator is of the agent's origin.
-fn is_own(state: &State<SharedBytes, Own>, number: u32, at: &Locator) -> bool
+fn is_own(state: &Board, number: u32, at: &Locator) -> bool
     requires { IsAgent state.now number }
     ensures { result ≡ is_own state.now number at.now }
 {
@@ -27,7 +28,7 @@ fn is_own(state: &State<SharedBytes, Own>, number: u32, at: &Locator) -> bool
 }
 
 /// Whether an own row is a stream, open or closed.
-fn is_stream(state: &State<SharedBytes, Own>, number: u32, row: u32) -> bool
+fn is_stream(state: &Board, number: u32, row: u32) -> bool
     requires { IsAgent state.now number }
     ensures { result ≡ is_stream (own_of (agent_of state.now number) row) }
 {
@@ -38,7 +39,7 @@ fn is_stream(state: &State<SharedBytes, Own>, number: u32, row: u32) -> bool
 }
 
 /// Whether an own row is an access handle, open or closed.
-fn is_handle(state: &State<SharedBytes, Own>, number: u32, row: u32) -> bool
+fn is_handle(state: &Board, number: u32, row: u32) -> bool
     requires { IsAgent state.now number }
     ensures { result ≡ is_handle (own_of (agent_of state.now number) row) }
 {
@@ -49,7 +50,7 @@ fn is_handle(state: &State<SharedBytes, Own>, number: u32, row: u32) -> bool
 }
 
 /// Whether an own row is an open access handle.
-fn is_open_handle(state: &State<SharedBytes, Own>, number: u32, row: u32) -> bool
+fn is_open_handle(state: &Board, number: u32, row: u32) -> bool
     requires { IsAgent state.now number }
     ensures { result ≡ is_open_handle (own_of (agent_of state.now number) row) }
 {
@@ -57,7 +58,7 @@ fn is_open_handle(state: &State<SharedBytes, Own>, number: u32, row: u32) -> boo
 }
 
 /// Whether an own row is a snapshot.
-fn is_snapshot(state: &State<SharedBytes, Own>, number: u32, row: u32) -> bool
+fn is_snapshot(state: &Board, number: u32, row: u32) -> bool
     requires { IsAgent state.now number }
     ensures { result ≡ is_snapshot (own_of (agent_of state.now number) row) }
 {
@@ -65,7 +66,7 @@ fn is_snapshot(state: &State<SharedBytes, Own>, number: u32, row: u32) -> bool
 }
 
 /// Whether an own row is an iterator over a directory.
-fn is_iterator_of(state: &State<SharedBytes, Own>, number: u32, row: u32, dir: &Locator) -> bool
+fn is_iterator_of(state: &Board, number: u32, row: u32, dir: &Locator) -> bool
     requires { IsAgent state.now number }
     ensures { result ≡ is_iterator_of dir.now (own_of (agent_of state.now number) row) }
 {
@@ -76,7 +77,7 @@ fn is_iterator_of(state: &State<SharedBytes, Own>, number: u32, row: u32, dir: &
 }
 
 /// Whether an agent has an open stream or access handle.
-fn has_open_row(state: &State<SharedBytes, Own>, number: u32) -> bool
+fn has_open_row(state: &Board, number: u32) -> bool
     requires { IsAgent state.now number }
     ensures { result ≡ has_open_row in_bytes state.now number }
 {
@@ -95,7 +96,7 @@ fn is_open(row: &Own) -> bool
 }
 
 /// Whether a call may have an entry. Of calls that ask which agents are stuck this does not tell.
-pub fn may_enter(state: &State<SharedBytes, Own>, number: u32, op: &Op) -> bool
+pub fn may_enter(state: &Board, number: u32, op: &Op) -> bool
     requires { IsAgent state.now number }
     ensures may { IsTrue result → IsTrue (may_enter state.now number op.now) }
     ensures exact { asks_stuck op.now ≡ false → result ≡ may_enter state.now number op.now }

@@ -8,6 +8,7 @@ ghost use Rattle.opfs_script_run.specs.Stage.Openings.{who_of, trial_opening};
 use opfs_base::copy_key;
 use opfs_machine::{Agent, Limits, Many, Own, State};
 use opfs_plain::Plain;
+use opfs_rulings::Board;
 use opfs_script::{AgentScript, Script};
 use std::alloc::{AllocError, Global};
 
@@ -53,8 +54,9 @@ pub fn begin(alloc: Global, script: &Script) -> Result<Plain, AllocError>
     ensures keys { OnOk result (All (λ a. IsTrue (is_origin_key a.key)) script.now) }
 {
     let agents = agents_of(alloc, script.agents())?;
-    Ok(Plain {
-        state: State {
+    let state = Board::make(
+        alloc,
+        State {
             rows: none(alloc),
             persistent: none(alloc),
             posted: none(alloc),
@@ -67,6 +69,9 @@ pub fn begin(alloc: Global, script: &Script) -> Result<Plain, AllocError>
                 quota: 8_192,
             },
         },
+    )?;
+    Ok(Plain {
+        state,
         entries: none(alloc),
     })
 }

@@ -3,7 +3,7 @@ use Rattle.opfs_plain.proofs.machine.enter_refused.Goals as goal
 
 pub returns-clause-state : goal.returns-clause-state
 returns-clause-state c =
-    refused-after c.args.state.now c.refuse.new.state c.count.new.state c.args.agent c.args.op c.args.refusal c.refuse.ensures c.in_ok-count.ensures
+    refused-after c.args.state.now c.refuse.new.state c.count.new.self c.args.agent c.args.op c.args.refusal c.refuse.ensures c.in_ok-count.ensures
 
 pub returns-clause-told : goal.returns-clause-told
 returns-clause-told c =

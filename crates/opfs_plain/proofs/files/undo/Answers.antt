@@ -1,0 +1,15 @@
+use Rattle.opfs_machine.specs.Effects.{undone}
+use Rattle.opfs_machine.specs.declared.state.Row.TheVariants.{Directory}
+use Rattle.opfs_plain.proofs.Swapped.{still_there, file_changed, nothing_changed}
+use Rattle.opfs_plain.proofs.files.undo.Goals as goal
+
+pub returns-in_default : goal.returns-in_default
+returns-in_default c = nothing_changed c.args.state.now c.args.place.now (undone) (c.in_default.ensures.missing _)
+
+pub swap_row-requires : goal.swap_row-requires
+swap_row-requires c = still_there c.args.place.now _ c.args.state.now c.swap_row-row.new.self c.swap_row-row.result Directory c.in-Some.ensures.there c.swap_row-row.ensures.old c.swap_row-row.ensures.state
+
+pub returns : goal.returns
+returns c =
+    file_changed c.args.place.now _ c.args.state.now c.swap_row-row.new.self c.swap_row-row.result Directory c.in-Some.ensures.there c.swap_row-row.ensures.old c.swap_row-row.ensures.state
+    (undone) c.undo_row-done.new.row c.swap_row.new.self c.in_ok-done.ensures.ok c.swap_row.ensures.state
