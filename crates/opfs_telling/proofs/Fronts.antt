@@ -1,14 +1,14 @@
 -- The lines of a history that grows.
-use Rattle.std.proofs.Common.{◌≡◌, ℕ, ◌+◌, ◌≤◌, List, [], ◌++◌, length, drop, inl, inr, refl, sym, ap, subst, ◌∙◌, append_assoc, append-nil, arith, Vec, Global}
+use Rattle.std.proofs.Common.{◌≡◌, ℕ, ◌+◌, ◌≤◌, List, [], ◌∷◌, ◌++◌, length, drop, inl, inr, refl, sym, ap, subst, ◌∙◌, append_assoc, append-nil, arith, Vec, Global}
 use Rattle.std.proofs.lemmas.Grind.{flat_map-append}
-use Rattle.std.proofs.lemmas.List.{drop_all, drop-append-le}
+use Rattle.std.proofs.lemmas.List.{drop_all, drop-append-le, length-append}
 use Rattle.opfs_base.specs.Texts.{Text}
 use Rattle.opfs_hist.specs.declared.entry.Entry.{Entry}
 use Rattle.opfs_outside.specs.Faults.{Rose}
 use Rattle.opfs_outside.specs.Turns.{of_sink, SinkFailed, Took, TookFront}
 use Rattle.opfs_outside.specs.declared.stream.Sink.{Ghosts as SinkWords}
 use Rattle.opfs_print.specs.Lines.{line_of, text_of}
-use Rattle.opfs_telling.specs.Telling.{HasToldAll, HasToldFront, IsTold, IsToldBy}
+use Rattle.opfs_telling.specs.Telling.{HasPut, HasToldAll, HasToldFront, IsTold, IsToldBy}
 use Rattle.opfs_telling.specs.declared.telling.Progress.{Progress}
 use Rattle.opfs_telling.specs.declared.telling.State.{State}
 use Rattle.opfs_telling.specs.declared.telling.State.TheVariants as state
@@ -18,7 +18,7 @@ both-texts : (before more : List Entry) → text_of (before ++ more) ≡ text_of
 both-texts before more = flat_map-append line_of before more
 
 -- What stands behind so many entries as were told.
-rest-is : (before more rest : List Entry) (place : ℕ) → rest ≡ drop place (before ++ more) → place ≡ length before → rest ≡ more
+pub rest-is : (before more rest : List Entry) (place : ℕ) → rest ≡ drop place (before ++ more) → place ≡ length before → rest ≡ more
 rest-is before more rest place given at = given ∙ ap (λ n. drop n (before ++ more)) at ∙ drop-append-le (length before) before more (omega (arith)) ∙ ap (λ x. x ++ more) (drop_all (length before) before (omega (arith)))
 
 rose-since : (a b c : ℕ) → a ≤ b → Rose b c → Rose a c
@@ -70,15 +70,17 @@ module _ {K : Type 0} (w : SinkWords K) (begun : K) where
   off-stays now count waiting before more state.Short off told = front-stays now before more told
 
   -- The lines that came wait behind those that waited.
-  more-wait : (now : K) (count place : ℕ) (waiting new : Text) (before more rest : List Entry) → HasToldAll w begun now count waiting before → rest ≡ drop place (before ++ more)
-      → place + length rest ≡ length (before ++ more) → place ≡ count → new ≡ waiting ++ text_of rest → HasToldAll w begun now (place + length rest) new (before ++ more)
-  more-wait now count place waiting new before more rest told given whole at grown = record {
-    whole = whole;
-    front = told.front;
-    took = told.took;
-    split = both-texts before more ∙ ap (λ x. x ++ text_of more) told.split ∙ append_assoc told.front waiting (text_of more)
-        ∙ ap (λ x. told.front ++ x) (ap (λ x. waiting ++ text_of x) (sym (rest-is before more rest place given (at ∙ told.whole))) ∙ sym grown);
-  }
+  more-wait : (now : K) (count counted : ℕ) (waiting new : Text) (before more : List Entry) → HasToldAll w begun now count waiting before
+      → counted ≡ count + length more → new ≡ waiting ++ text_of more → HasToldAll w begun now counted new (before ++ more)
+  more-wait now count counted waiting new before more told counts grown =
+      let both = length-append before more in
+      let was = told.whole in
+      record {
+        whole = omega (arith, counts, both, was);
+        front = told.front;
+        took = told.took;
+        split = both-texts before more ∙ ap (λ x. x ++ text_of more) told.split ∙ append_assoc told.front waiting (text_of more) ∙ ap (λ x. told.front ++ x) (sym grown);
+      }
 
   -- Those that waited were put out.
   all-put : (old new : K) (count : ℕ) (waiting left : Text) (h : List Entry) → HasToldAll w begun old count waiting h → Took (of_sink w old new) waiting → left ≡ [] → HasToldAll w begun new count left h
@@ -100,6 +102,14 @@ module _ {K : Type 0} (w : SinkWords K) (begun : K) where
     },
   )
 
+  -- The history is over, and none of its lines waits.
+  ended-by : (now : K) (count : ℕ) (waiting : Text) (h : List Entry) (s : State) → (s ≡ state.On → waiting ≡ []) → IsToldBy w begun now count waiting h s → HasPut (of_sink w begun now) h s
+  ended-by now count waiting h state.On none told =
+      let all : told.front ≡ text_of h = sym (append-nil told.front) ∙ ap (λ x. told.front ++ x) (sym (none refl)) ∙ sym told.split in
+      λ t. told.took t ∙ ap (λ x. w.written begun ++ x) all
+  ended-by now count waiting h state.Failed none told = told
+  ended-by now count waiting h state.Short none told = told
+
   -- ---- as a whole
 
   pub told-none : (progress : Progress) (h : List Entry) → h ≡ [] → progress.count ≡ 0 → progress.lines.items ≡ [] → progress.state ≡ state.On → IsTold w begun begun progress h
@@ -115,15 +125,20 @@ module _ {K : Type 0} (w : SinkWords K) (begun : K) where
       → IsTold w begun now (record { count = count; lines = lines; state = state.Short }) (before ++ more)
   told-short now progress count lines before more told = record { later = told.later; by = front-of now progress.count progress.lines.items before more progress.state told.by }
 
-  pub told-more : (now : K) (progress new : Progress) (place : ℕ) (before more rest : List Entry) → progress.state ≡ state.On → new.state ≡ state.On → IsTold w begun now progress before → rest ≡ drop place (before ++ more)
-      → place + length rest ≡ length (before ++ more) → place ≡ progress.count → new.count ≡ place + length rest → new.lines.items ≡ progress.lines.items ++ text_of rest → IsTold w begun now new (before ++ more)
-  told-more now progress new place before more rest on still told given whole at count grown =
+  pub told-more : (now : K) (progress new : Progress) (before more : List Entry) → progress.state ≡ state.On → new.state ≡ state.On → IsTold w begun now progress before
+      → new.count ≡ progress.count + length more → new.lines.items ≡ progress.lines.items ++ text_of more → IsTold w begun now new (before ++ more)
+  told-more now progress new before more on still told counts grown =
       let all : HasToldAll w begun now progress.count progress.lines.items before = subst (IsToldBy w begun now progress.count progress.lines.items before) on told.by in
       record {
         later = told.later;
-        by = subst (IsToldBy w begun now new.count new.lines.items (before ++ more)) (sym still)
-            (subst (λ n. HasToldAll w begun now n new.lines.items (before ++ more)) (sym count) (more-wait now progress.count place progress.lines.items new.lines.items before more rest all given whole at grown));
+        by = subst (IsToldBy w begun now new.count new.lines.items (before ++ more)) (sym still) (more-wait now progress.count new.count progress.lines.items new.lines.items before more all counts grown);
       }
+
+  -- How many were told, where all were.
+  pub told-count : (now : K) (progress : Progress) (before : List Entry) → progress.state ≡ state.On → IsTold w begun now progress before → progress.count ≡ length before
+  told-count now progress before on told =
+      let all : HasToldAll w begun now progress.count progress.lines.items before = subst (IsToldBy w begun now progress.count progress.lines.items before) on told.by in
+      all.whole
 
   pub told-put : (old new : K) (progress after : Progress) (h : List Entry) → progress.state ≡ state.On → after.state ≡ state.On → after.count ≡ progress.count → IsTold w begun old progress h → w.faults old ≤ w.faults new
       → Took (of_sink w old new) progress.lines.items → after.lines.items ≡ [] → IsTold w begun new after h
@@ -143,3 +158,34 @@ module _ {K : Type 0} (w : SinkWords K) (begun : K) where
         later = omega (arith, told.later, later);
         by = subst (IsToldBy w begun new after.count after.lines.items h) (sym failed) (part-put old new progress.count progress.lines.items h all part, rose-since (w.faults begun) (w.faults old) (w.faults new) told.later rose);
       }
+
+  pub told-ended : (now : K) (progress : Progress) (h : List Entry) → (progress.state ≡ state.On → progress.lines.items ≡ []) → IsTold w begun now progress h → HasPut (of_sink w begun now) h progress.state
+  told-ended now progress h none told = ended-by now progress.count progress.lines.items h progress.state none told.by
+
+-- Entries that are told one by one: those that were, and those that are left.
+pub record HasSaid {K : Type 0} (w : SinkWords K) (old now : K) (first progress : Progress) (all left : List Entry) : Type 0 where
+  pub said : List Entry
+  pub split : all ≡ said ++ left
+  pub told : (begun : K) (h : List Entry) → IsTold w begun old first h → IsTold w begun now progress (h ++ said)
+  pub few : progress.count + length left ≤ first.count + length all
+
+module _ {K : Type 0} (w : SinkWords K) (old : K) (first : Progress) (all : List Entry) where
+  pub none-said : HasSaid w old old first first all all
+  none-said = record { said = []; split = refl; told = λ begun h is. subst (λ x. IsTold w begun old first x) (sym (append-nil h)) is; few = omega arith }
+
+  pub one-said : (mid now : K) (progress after : Progress) (left rest : List Entry) (e : Entry) → HasSaid w old mid first progress all left → left ≡ e ∷ rest
+      → ((begun : K) (h : List Entry) → IsTold w begun mid progress h → IsTold w begun now after (h ++ e ∷ [])) → after.count ≤ progress.count + 1 → HasSaid w old now first after all rest
+  one-said mid now progress after left rest e was at told count =
+      let size : length left ≡ length rest + 1 = ap length at ∙ omega arith in
+      let few = was.few in
+      record {
+        said = was.said ++ e ∷ [];
+        split = was.split ∙ ap (λ x. was.said ++ x) at ∙ sym (append_assoc was.said (e ∷ []) rest);
+        told = λ begun h is. subst (λ x. IsTold w begun now after x) (append_assoc h was.said (e ∷ [])) (told begun (h ++ was.said) (was.told begun h is));
+        few = omega (arith, few, count, size);
+      }
+
+  pub all-said : (now : K) (progress : Progress) (left : List Entry) → HasSaid w old now first progress all left → left ≡ [] → (begun : K) (h : List Entry) → IsTold w begun old first h → IsTold w begun now progress (h ++ all)
+  all-said now progress left was none begun h is =
+      let same : was.said ≡ all = sym (append-nil was.said) ∙ ap (λ x. was.said ++ x) (sym none) ∙ sym was.split in
+      subst (λ x. IsTold w begun now progress (h ++ x)) same (was.told begun h is)

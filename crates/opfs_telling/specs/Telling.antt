@@ -2,7 +2,7 @@
 use Rattle.std.specs.Prelude.{◌≡◌, ℕ, ◌≤◌, List, ◌++◌, length}
 use Rattle.opfs_base.specs.Texts.{Text}
 use Rattle.opfs_hist.specs.declared.entry.Entry.{Entry}
-use Rattle.opfs_outside.specs.Turns.{of_sink, SinkFailed, Took, TookFront}
+use Rattle.opfs_outside.specs.Turns.{of_sink, SinkFailed, SinkTurn, Took, TookFront}
 use Rattle.opfs_outside.specs.declared.stream.Sink.{Ghosts as SinkWords}
 use Rattle.opfs_print.specs.Lines.{text_of}
 use Rattle.opfs_telling.specs.declared.telling.Progress.{Progress}
@@ -17,8 +17,11 @@ pub record HasToldAll {K : Type 0} (w : SinkWords K) (begun now : K) (count : �
   pub split : text_of h ≡ front ++ waiting
 
 -- A front of the lines was put out.
+abbrev pub HasPutFront : SinkTurn → List Entry → Type 0
+HasPutFront k h = (rest : Text) × TookFront k (text_of h) rest
+
 abbrev pub HasToldFront : {K : Type 0} → SinkWords K → K → K → List Entry → Type 0
-HasToldFront w begun now h = (rest : Text) × TookFront (of_sink w begun now) (text_of h) rest
+HasToldFront w begun now h = HasPutFront (of_sink w begun now) h
 
 -- All; or no more than a front, since the sink failed, or there was no memory.
 abbrev pub IsToldBy : {K : Type 0} → SinkWords K → K → K → ℕ → Text → List Entry → State → Type 0
@@ -30,3 +33,9 @@ IsToldBy w begun now count waiting h state.Short = HasToldFront w begun now h
 pub record IsTold {K : Type 0} (w : SinkWords K) (begun now : K) (progress : Progress) (h : List Entry) : Type 0 where
   pub later : w.faults begun ≤ w.faults now
   pub by : IsToldBy w begun now progress.count progress.lines.items h progress.state
+
+-- What a sink took of a history that is over: all its lines; or no more than a front of them, since the sink failed, or there was no memory.
+abbrev pub HasPut : SinkTurn → List Entry → State → Type 0
+HasPut k h state.On = Took k (text_of h)
+HasPut k h state.Failed = HasPutFront k h × SinkFailed k
+HasPut k h state.Short = HasPutFront k h

@@ -8,5 +8,5 @@ mod teller;
 mod telling;
 
 pub use standing::Began;
-pub use teller::{Parts, Teller};
-pub use telling::{Progress, State, put_out, tell};
+pub use teller::{Ended, Parts, Teller};
+pub use telling::{Progress, State, end_telling, put_out, tell};

@@ -1,9 +1,10 @@
 //! A store that tells its history to a sink.
 
-ghost use Rattle.std.specs.Prelude.{◌≡◌, []};
-ghost use Rattle.opfs_telling.specs.Telling.{IsTold};
+ghost use Rattle.std.specs.Prelude.{◌≡◌, ◌≤◌, []};
+ghost use Rattle.opfs_outside.specs.Turns.{of_sink};
+ghost use Rattle.opfs_telling.specs.Telling.{HasPut, IsTold};
 
-use crate::telling::{Progress, tell};
+use crate::telling::{FULL, Progress, State, end_telling, tell, waiting_behind};
 use opfs_base::Name;
 use opfs_hall::Told;
 use opfs_hist::{Given, Op, Pending, Room};
@@ -40,6 +41,13 @@ pub struct Parts<S, K> {
     pub progress: Progress,
 }
 
+/// What a store leaves whose history was told to its end: the store, the sink, and how it was told.
+pub struct Ended<S, K> {
+    pub store: S,
+    pub sink: K,
+    pub state: State,
+}
+
 impl<S: Store, K: Sink> Teller<S, K> {
     /// A store without entries, which tells its history to a sink from now on. Takes no memory.
     pub fn make(alloc: Global, store: S, sink: K) -> Teller<S, K>
@@ -56,6 +64,14 @@ impl<S: Store, K: Sink> Teller<S, K> {
             begun,
             alloc,
         }
+    }
+
+    /// What its type keeps at each moment: what the sink took is of the lines of the history up to now, in their order; and what the store keeps.
+    pub fn know_told(&self)
+        ensures told { IsTold K.Sink self.now.begun self.now.sink self.now.progress (S.entries self.now.store) }
+        ensures keeps { S.keeps self.now.store }
+    {
+        self.store.know_kept();
     }
 
     /// Takes it apart.
@@ -76,6 +92,21 @@ impl<S: Store, K: Sink> Teller<S, K> {
             sink,
             progress,
         }
+    }
+
+    /// Puts out the lines that wait, and takes it apart.
+    pub fn end(self) -> Ended<S, K>
+        ensures store { result.store ≡ self.store }
+        ensures put { HasPut (of_sink K.Sink self.begun result.sink) (S.entries self.store) result.state }
+        ensures later { K.faults self.begun ≤ K.faults result.sink }
+    {
+        let Parts {
+            store,
+            mut sink,
+            progress,
+        } = self.into_parts();
+        let state = end_telling(&mut sink, progress);
+        Ended { store, sink, state }
     }
 }
 
@@ -100,16 +131,17 @@ impl<S: Store, K: Sink> Store for Teller<S, K> {
         work: &mut Work,
         past: &[Name],
     ) -> Result<Acted, AllocError> {
+        let most = waiting_behind(&op);
         let acted = self.store.act(agent, number, pending, room, op, work, past);
         let given = self.store.give_out();
-        tell(self.alloc, &mut self.sink, &mut self.progress, given);
+        tell(self.alloc, &mut self.sink, &mut self.progress, given, most);
         acted
     }
 
     fn take_in(&mut self, agent: u32, pending: &mut Pending) {
         self.store.take_in(agent, pending);
         let taken = self.store.give_out();
-        tell(self.alloc, &mut self.sink, &mut self.progress, taken);
+        tell(self.alloc, &mut self.sink, &mut self.progress, taken, FULL);
     }
 
     fn await_state(&self, agent: u32, tag: &str) -> AwaitState {
