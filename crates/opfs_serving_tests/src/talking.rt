@@ -7,6 +7,7 @@ use opfs_desk::Desk;
 use opfs_desk_runs::Completion;
 use opfs_image::{Geometry, format};
 use opfs_memory::RamDisk;
+use opfs_outside::Disk;
 use opfs_port::{MemoryPort, Spoken};
 use opfs_script::Script;
 use opfs_serve_runs::{ServedRun, first_agents, serve_disk};
@@ -38,6 +39,15 @@ fn image(alloc: Global, sizes: Geometry) -> Result<RamDisk, AllocError>
     }
 }
 
+/// The lines of a text.
+pub fn lines_of(alloc: Global, text: &str) -> Result<Vec<Vec<u8>>, AllocError> {
+    let mut lines = Vec::new(alloc);
+    for line in text.lines() {
+        lines.push(line.as_bytes().to_vec(alloc)?)?;
+    }
+    Ok(lines)
+}
+
 // The lines of a conversation that are heard.
 fn heard_lines(alloc: Global, text: &str) -> Result<Vec<Vec<u8>>, AllocError> {
     let mut lines = Vec::new(alloc);
@@ -62,17 +72,17 @@ fn text_of(alloc: Global, spoken: &[Spoken<Desk<RamDisk>>]) -> Result<Vec<u8>, A
     Ok(text)
 }
 
-// Leaves nothing of a run.
-fn forget(run: Completion<RamDisk>) {
+/// The disk of a run.
+pub fn disk_of<D: Disk>(run: Completion<D>) -> D {
     let Completion {
         disk,
         history,
         whole: _,
         done,
     } = run;
-    drop(disk);
     drop(history);
     drop(done);
+    disk
 }
 
 /// What is heard and told where the agents of a first line are asked for these lines over an image that holds nothing, and whether all went
@@ -92,7 +102,7 @@ pub fn held<R: AllocGlobal + Wait>(
     let Ok(ServedRun { run, state }) = serve_disk(rt, disk, script.agents(), &mut port) else {
         return Err(AllocError);
     };
-    forget(run);
+    drop(disk_of(run));
     let text = text_of(alloc, port.spoken())?;
     Ok((text, state))
 }
