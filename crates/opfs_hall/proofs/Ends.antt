@@ -1,7 +1,6 @@
 -- The rule at the start, and what it says at the end.
 use Rattle.std.proofs.Common.{◌≡◌, ◌≢◌, ℕ, ◌<◌, ◌≤◌, false, zero, suc, List, [], ◌∷◌, map, sym, refl, ap, ◌∙◌, subst, arith}
 use Rattle.std.specs.Prelude.{All, Contains, Option, Some, IfSome, IsSome, unwrap_or}
-use Rattle.std.proofs.lemmas.List.Elements.{All-nil}
 use mathlib.Core.Option.{some, some-injective, some-ne-none}
 use mathlib.Core.Option as maybe
 use mathlib.Core.Logic.{dite}
@@ -16,6 +15,7 @@ use Rattle.opfs_hall.specs.Turns.{one_at, names, first_view, Fits, Home, Kept, I
 use Rattle.opfs_hall.specs.Seen.{PassSeen, HasAll}
 use Rattle.opfs_hall.proofs.Sums.{two_at_most_all}
 use Rattle.opfs_hall.proofs.Owned.{named, prefix_refl}
+use Rattle.opfs_hall.proofs.Keeping.{fits_bare}
 use Rattle.opfs_hall.proofs.Views.{home_or, IsSome_value, IfSome_at, IfSome_with, one_at-same, nobody_in, number_drawn}
 
 module _ {X O E : Type 0} (opening : X → O) (entries : X → List E) (owner : E → ℕ) (goes : X → X → Type 0) (most : ℕ) where
@@ -45,7 +45,7 @@ module _ {X O E : Type 0} (opening : X → O) (entries : X → List E) (owner : 
   } where
     only : (j : ℕ) (v : View O E X) → get_elem? (first_view most (opening x) (entries x) ∷ []) j ≡ some v → Fits owner goes most (opening x) 0 0 0 x (entries x) v
     only zero v at = subst (Fits owner goes most (opening x) 0 0 0 x (entries x)) (some-injective (first_view most (opening x) (entries x)) v at)
-        record { opened = (refl, refl); begins = prefix_refl (entries x); goes_on = tt; own = tt; ended = All-nil (λ p. (p.0 ≢ 0) × HasEnded owner (entries x) p); waits = tt; inside = λ h. absurd cc; next = refl }
+        (fits_bare (first_view most (opening x) (entries x)) (refl, refl) (prefix_refl (entries x)) tt refl)
     only (suc j) v at = absurd (some-ne-none v (sym at))
 
   module _ (begun : O) (s : State (Option X) (View O E X)) (kept : Kept opening entries owner goes most begun s) (id : ℕ) (v : View O E X)

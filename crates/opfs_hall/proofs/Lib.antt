@@ -1,5 +1,6 @@
 pub mod Ends
 pub mod Hands
+pub mod Keeping
 pub mod Lent
 pub mod Looks
 pub mod Numbers

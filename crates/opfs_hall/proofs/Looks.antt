@@ -10,9 +10,10 @@ use Rattle.atomic_table.specs.Table.{State, step, keeps, takes, stepped, Allows}
 use Rattle.atomic_table.proofs.Lists.{set_again}
 use Rattle.opfs_hall.specs.declared.board.View.{View}
 use Rattle.opfs_hall.specs.History.{IsPrefix, GrowsByOthers}
-use Rattle.opfs_hall.specs.Turns.{has_ticket, has_number, has_next, is_in, ticket_is, names, SameOwn, Fits, Home, Kept, Held, Entered, looked}
+use Rattle.opfs_hall.specs.Turns.{is_in, SameOwn, Home, Kept, Held, Entered, looked}
 use Rattle.opfs_hall.proofs.Sums.{each_set, sum_by-set_at}
 use Rattle.opfs_hall.proofs.Owned.{prefix_refl, grows_by_others}
+use Rattle.opfs_hall.proofs.Keeping.{Fit, kept_with}
 use Rattle.opfs_hall.proofs.Views.{first_home, IfSome_with, same_value, is_in-of, other_ticket, served_is, nobody_in}
 
 module _ {X O E : Type 0} (opening : X → O) (entries : X → List E) (owner : E → ℕ) (goes : X → X → Type 0) (still : (x : X) → goes x x) (most : ℕ) (begun : O) where
@@ -21,11 +22,13 @@ module _ {X O E : Type 0} (opening : X → O) (entries : X → List E) (owner : 
 
   module _ (id : ℕ) (m : Held X O E) (t : ℕ) (has : m.0.ticket ≡ Some t) (out : m.0.inside ≡ false) (empty : m.1 ≡ [])
       (s : State (Option X) (View O E X)) (kept : Rule s) (at : get_elem? s.views id ≡ some m.0) where
+    same_words : set s.words 0 (get_or s.words 0 0) ≡ s.words
+    same_words = ap (λ (ws : List ℕ). set ws 0 (get_or ws 0 0)) kept.words ∙ sym kept.words
+
     -- another ticket is served: nothing changes
     stays : Rule (stepped s 0 (get_or s.words 0 0) id m.1 m.0 keeps)
-    stays = let words : set s.words 0 (get_or s.words 0 0) ≡ s.words = ap (λ (ws : List ℕ). set ws 0 (get_or ws 0 0)) kept.words ∙ sym kept.words in
-        let views : set s.views id m.0 ≡ s.views = set_again s.views id m.0 at in
-        subst Rule (λ i. record { words = sym words i; homes = s.homes; views = sym views i }) kept
+    stays = let views : set s.views id m.0 ≡ s.views = set_again s.views id m.0 at in
+        subst Rule (λ i. record { words = sym same_words i; homes = s.homes; views = sym views i }) kept
 
     module _ (served : kept.served ≡ t) where
       -- the pass has the ticket that is served, so no one is in
@@ -43,40 +46,28 @@ module _ {X O E : Type 0} (opening : X → O) (entries : X → List E) (owner : 
       within = record m.0 { inside = true; base = entries at_home.0; last = Some at_home.0 }
 
       enters : Rule (stepped s 0 (get_or s.words 0 0) id m.1 within (takes 0 (Some at_home.0)))
-      enters = let mine = kept.each id m.0 at in let log_is : entries at_home.0 ≡ kept.log = at_home.3 in record {
-        served = kept.served;
-        drawn = kept.drawn;
-        n = kept.n;
-        value = kept.value;
-        log = kept.log;
-        logged = kept.logged;
-        small = kept.small;
-        words = ap (λ (ws : List ℕ). set ws 0 (get_or ws 0 0)) kept.words;
-        few = kept.few;
-        line = omega (arith, kept.line, sum_by-set_at has_ticket s.views id m.0 within at);
-        seated = omega (arith, kept.seated, sum_by-set_at has_number s.views id m.0 within at);
-        single = omega (arith, kept.single, sum_by-set_at has_next s.views id m.0 within at);
-        one_each = λ k. omega (arith, kept.one_each k, sum_by-set_at (ticket_is k) s.views id m.0 within at);
-        once = λ k. omega (arith, kept.once k, sum_by-set_at (names k) s.views id m.0 within at);
-        below = λ k late. omega (arith, kept.below k late, sum_by-set_at (names k) s.views id m.0 within at);
-        undrawn = kept.undrawn;
-        home = let one : sum_by is_in (set s.views id within) ≡ 1 = omega (arith, none_in, is_in-of m.0 false out, sum_by-set_at is_in s.views id m.0 within at) in
-            subst (λ (inside : ℕ). Home opening entries begun kept.log inside (set s.homes 0 none)) (sym one) (ap (λ (hs : List (maybe.Option (Option X))). set hs 0 none) at_home.1);
-        there = λ x at'. absurd (some-ne-none (Some x) (ap first_home (sym at' ∙ ap (λ (hs : List (maybe.Option (Option X))). set hs 0 none) at_home.1)));
-        each = each_set (Fits owner goes most begun kept.served kept.drawn kept.n kept.value kept.log) s.views id within
-            record {
-              opened = mine.opened;
-              begins = subst (λ (base : List E). IsPrefix base kept.log) (sym log_is) (prefix_refl kept.log);
-              goes_on = subst (λ (z : X). goes at_home.0 z) is_there (still at_home.0);
-              own = subst (λ (base : List E). IfSome m.0.number (λ k. SameOwn owner k kept.log base)) (sym log_is)
-                  (IfSome_with m.0.number (λ k. SameOwn owner k kept.log m.0.base) (λ k. SameOwn owner k kept.log kept.log) (λ k is same real. refl) mine.own);
-              ended = mine.ended;
-              waits = mine.waits;
-              inside = λ h. (has ∙ ap (λ (z : ℕ). Some z) (sym served), log_is, ap (λ (z : X). Some z) is_there);
-              next = mine.next;
-            }
-            (λ j v other at'. kept.each j v at');
-      }
+      enters = let mine = kept.each id m.0 at in let log_is : entries at_home.0 ≡ kept.log = at_home.3 in
+          let away : set s.homes 0 none ≡ none ∷ [] = ap (λ (hs : List (maybe.Option (Option X))). set hs 0 none) at_home.1 in
+          let one : sum_by is_in (set s.views id within) ≡ 1 = omega (arith, none_in, is_in-of m.0 false out, sum_by-set_at is_in s.views id m.0 within at) in
+          kept_with kept (stepped s 0 (get_or s.words 0 0) id m.1 within (takes 0 (Some at_home.0))) (λ f. f within) (λ f. f m.0)
+          (λ f. sum_by-set_at f s.views id m.0 within at)
+          record { line = refl; seated = omega arith; single = omega arith; one_each = λ k. omega arith; once = λ k. omega arith }
+          same_words
+          (subst (λ (inside : ℕ). Home opening entries begun kept.log inside (set s.homes 0 none)) (sym one) away)
+          (λ x at'. absurd (some-ne-none (Some x) (ap first_home (sym at' ∙ away))))
+          (each_set (Fit kept) s.views id within
+          record {
+            opened = mine.opened;
+            begins = subst (λ (base : List E). IsPrefix base kept.log) (sym log_is) (prefix_refl kept.log);
+            goes_on = subst (λ (z : X). goes at_home.0 z) is_there (still at_home.0);
+            own = subst (λ (base : List E). IfSome m.0.number (λ k. SameOwn owner k kept.log base)) (sym log_is)
+                (IfSome_with m.0.number (λ k. SameOwn owner k kept.log m.0.base) (λ k. SameOwn owner k kept.log kept.log) (λ k is same real. refl) mine.own);
+            ended = mine.ended;
+            waits = mine.waits;
+            inside = λ h. (has ∙ ap (λ (z : ℕ). Some z) (sym served), log_is, ap (λ (z : X). Some z) is_there);
+            next = mine.next;
+          }
+          (λ j v other. kept.each j v))
 
       entered : Entered opening entries owner goes m (within, (0, Some at_home.0) ∷ m.1)
       entered = let mine = kept.each id m.0 at in let log_is : entries at_home.0 ≡ kept.log = at_home.3 in (

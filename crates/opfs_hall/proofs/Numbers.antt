@@ -1,6 +1,6 @@
 -- A seat draws the number of its pass.
-use Rattle.std.proofs.Common.{◌≡◌, ◌≢◌, ℕ, ◌+◌, ◌<◌, ◌≤◌, Bool, List, set, sym, refl, ap, ◌∙◌, subst, arith, get_or, eq-eqb}
-use Rattle.std.specs.Prelude.{Option, Some, None, IsSome, sum_by, nat_eq}
+use Rattle.std.proofs.Common.{◌≡◌, ◌≢◌, ℕ, ◌+◌, ◌<◌, ◌≤◌, Bool, List, set, sym, refl, ap, ◌∙◌, arith, get_or, eq-eqb}
+use Rattle.std.specs.Prelude.{Option, Some, None, IsSome, nat_eq}
 use mathlib.Core.Option.{some, none}
 use mathlib.Core.Logic.{dite}
 use native.Mathlib.Decide.{ℕ_discrete}
@@ -8,9 +8,10 @@ use prog.Atomic.{either}
 use lib.ListN.{get_elem?}
 use Rattle.atomic_table.specs.Table.{State, step, keeps, stepped, Allows}
 use Rattle.opfs_hall.specs.declared.board.View.{View}
-use Rattle.opfs_hall.specs.Turns.{one_at, one_if_some, has_ticket, has_number, has_next, is_in, ticket_is, names, Fits, Home, Kept, Held, numbered}
+use Rattle.opfs_hall.specs.Turns.{one_at, one_if_some, has_ticket, has_number, has_next, is_in, ticket_is, names, Fits, Kept, Held, numbered}
 use Rattle.opfs_hall.proofs.Sums.{each_set, sum_by-set_at, two_at_most_all, counts_same, counts_other}
 use Rattle.opfs_hall.proofs.Owned.{owned-prefix}
+use Rattle.opfs_hall.proofs.Keeping.{fits_with, same_home}
 use Rattle.opfs_hall.proofs.Views.{IfSome_at, IfSome_none, IfSome_zero, same_value}
 
 module _ {X O E : Type 0} (opening : X → O) (entries : X → List E) (owner : E → ℕ) (goes : X → X → Type 0) (most : ℕ) (begun : O) where
@@ -43,17 +44,9 @@ module _ {X O E : Type 0} (opening : X → O) (entries : X → List E) (owner : 
 
     -- no other seat may draw a number
     another : (j : ℕ) (v : View O E X) → j ≢ id → get_elem? s.views j ≡ some v → Fits owner goes most begun kept.served kept.drawn (k + 1) kept.value kept.log v
-    another j v other at' = let before = kept.each j v at' in record {
-      opened = before.opened;
-      begins = before.begins;
-      goes_on = before.goes_on;
-      own = before.own;
-      ended = before.ended;
-      waits = before.waits;
-      inside = before.inside;
-      next = let had : has_next m.0 ≡ 1 = ap one_if_some next in
-          IfSome_zero v.next (λ n. n ≡ k + 1) (omega (arith, had, kept.single, two_at_most_all has_next s.views id j m.0 v other at at'));
-    }
+    another j v other at' = let before = kept.each j v at' in let had : has_next m.0 ≡ 1 = ap one_if_some next in
+        fits_with v v.ticket v.next before before.waits (λ h. (before.inside h).0)
+        (IfSome_zero v.next (λ n. n ≡ k + 1) (omega (arith, had, kept.single, two_at_most_all has_next s.views id j m.0 v other at at')))
 
     draws : Rule (stepped s 2 (either (nat_eq (get_or s.words 2 0) k) (k + 1) (get_or s.words 2 0)) id m.1 seated keeps)
     draws = let unnumbered : has_number m.0 ≡ 0 = ap one_if_some number in let had : has_next m.0 ≡ 1 = ap one_if_some next in record {
@@ -76,8 +69,7 @@ module _ {X O E : Type 0} (opening : X → O) (entries : X → List E) (owner : 
       below = λ j late. let unnamed : one_at j m.0.number ≡ 0 = ap (one_at j) number in
           omega (arith, counts_other k j (λ same. absurd (omega arith)), kept.below j (omega (arith, is_next)), sum_by-set_at (names j) s.views id m.0 seated at);
       undrawn = λ j late. kept.undrawn j (omega (arith, is_next));
-      home = let same : sum_by is_in s.views ≡ sum_by is_in (set s.views id seated) = omega (arith, sum_by-set_at is_in s.views id m.0 seated at) in
-          subst (λ (inside : ℕ). Home opening entries begun kept.log inside s.homes) same kept.home;
+      home = same_home kept (set s.views id seated) (omega (arith, sum_by-set_at is_in s.views id m.0 seated at));
       there = kept.there;
       each = each_set (Fits owner goes most begun kept.served kept.drawn (k + 1) kept.value kept.log) s.views id seated mine another;
     }

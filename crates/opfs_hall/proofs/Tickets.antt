@@ -1,13 +1,14 @@
 -- A pass draws its ticket.
-use Rattle.std.proofs.Common.{◌≡◌, ℕ, ◌+◌, ◌%◌, ◌^◌, ◌<◌, ◌≤◌, List, [], ◌∷◌, set, sym, refl, ap, ◌∙◌, subst, arith, get_or}
-use Rattle.std.specs.Prelude.{Some, None, IsSome, sum_by}
+use Rattle.std.proofs.Common.{◌≡◌, ℕ, ◌+◌, ◌%◌, ◌^◌, ◌<◌, ◌≤◌, List, [], ◌∷◌, set, sym, refl, ap, ◌∙◌, arith, get_or}
+use Rattle.std.specs.Prelude.{Some, None, IsSome}
 use mathlib.Core.Option.{none}
 use mathlib.Core.Logic.{dite}
 use native.Mathlib.Decide.{ℕ_discrete}
 use Rattle.atomic_table.specs.Table.{step, keeps, Allows}
 use Rattle.opfs_hall.specs.declared.board.View.{View}
-use Rattle.opfs_hall.specs.Turns.{one_at, one_if_some, has_ticket, has_number, has_next, is_in, ticket_is, names, Fits, Home, Kept, Held, ticketed}
+use Rattle.opfs_hall.specs.Turns.{one_at, one_if_some, has_ticket, has_number, has_next, is_in, ticket_is, names, Fits, Kept, Held, ticketed}
 use Rattle.opfs_hall.proofs.Sums.{each_set, sum_by-set_at}
+use Rattle.opfs_hall.proofs.Keeping.{fits_with, same_home}
 use Rattle.opfs_hall.proofs.Views.{IfSome_with, modulo, one_at-other, one_at_most, not_drawn}
 
 module _ {X O E : Type 0} (opening : X → O) (entries : X → List E) (owner : E → ℕ) (goes : X → X → Type 0) (most : ℕ) (begun : O) where
@@ -40,31 +41,14 @@ module _ {X O E : Type 0} (opening : X → O) (entries : X → List E) (owner : 
           once = λ k. omega (arith, kept.once k, sum_by-set_at (names k) s.views id m.0 w at);
           below = λ k late. omega (arith, kept.below k late, sum_by-set_at (names k) s.views id m.0 w at);
           undrawn = kept.undrawn;
-          home = let same : sum_by is_in s.views ≡ sum_by is_in (set s.views id w) = omega (arith, sum_by-set_at is_in s.views id m.0 w at) in
-              subst (λ (inside : ℕ). Home opening entries begun kept.log inside s.homes) same kept.home;
+          home = same_home kept (set s.views id w) (omega (arith, sum_by-set_at is_in s.views id m.0 w at));
           there = kept.there;
           each = each_set (Fits owner goes most begun kept.served (kept.drawn + 1) kept.n kept.value kept.log) s.views id w
-              record {
-                opened = mine.opened;
-                begins = mine.begins;
-                goes_on = mine.goes_on;
-                own = mine.own;
-                ended = mine.ended;
-                waits = (omega (arith, kept.line), omega arith, numbered);
-                inside = λ h. let has = (mine.inside h).0 in absurd cc;
-                next = mine.next;
-              }
-              (λ j v other at'. let one = kept.each j v at' in record {
-                opened = one.opened;
-                begins = one.begins;
-                goes_on = one.goes_on;
-                own = one.own;
-                ended = one.ended;
-                waits = IfSome_with v.ticket (λ t. (kept.served ≤ t) × (t < kept.drawn) × IsSome v.number) (λ t. (kept.served ≤ t) × (t < kept.drawn + 1) × IsSome v.number)
-                    (λ t is h. (h.0, omega (arith, h.1), h.2)) one.waits;
-                inside = one.inside;
-                next = one.next;
-              });
+              (fits_with m.0 (Some kept.drawn) m.0.next mine (omega (arith, kept.line), omega arith, numbered) (λ h. let has = (mine.inside h).0 in absurd cc) mine.next)
+              (λ j v other at'. let one = kept.each j v at' in fits_with v v.ticket v.next one
+              (IfSome_with v.ticket (λ t. (kept.served ≤ t) × (t < kept.drawn) × IsSome v.number) (λ t. (kept.served ≤ t) × (t < kept.drawn + 1) × IsSome v.number)
+              (λ t is h. (h.0, omega (arith, h.1), h.2)) one.waits)
+              (λ h. (one.inside h).0) one.next);
         },
         (kept.drawn, refl, sym (ap (λ (ws : List ℕ). get_or ws 1 0) kept.words)),
       )
