@@ -11,6 +11,17 @@ module _ {X O E : Type 0} where
   pub placed-as : (seat : Seat (Option X) (View O E X)) (hall hall' : HallSeen O) (k k' : ℕ) → hall ≡ hall' → k ≡ k' → IsPlaced seat hall k → IsPlaced seat hall' k'
   placed-as seat hall hall' k k' same number is = subst (λ (j : ℕ). IsPlaced seat hall' j) number (subst (λ (h : HallSeen O). IsPlaced seat h k) same is)
 
+  -- the seat of a pass that goes on from another value is still its seat
+  pub placed-behind : (seat new : Seat (Option X) (View O E X)) (hall : HallSeen O) (k : ℕ) (last : Option X) → new.table_id ≡ seat.table_id → new.me ≡ (record seat.me.0 { last = last }, seat.me.1) → IsPlaced seat hall k → IsPlaced new hall k
+  placed-behind seat new hall k last table me is = record {
+    table = table ∙ is.table;
+    opening = ap (λ m. m.0.opening) me ∙ is.opening;
+    agents = ap (λ m. m.0.agents) me ∙ is.agents;
+    number = ap (λ m. m.0.number) me ∙ is.number;
+    idle = λ out. let idle = is.idle (sym (ap (λ m. m.0.inside) me) ∙ out) in (ap (λ m. m.0.ticket) me ∙ idle.0, ap (λ m. m.1) me ∙ idle.1);
+    busy = λ in'. ap (λ m. m.1) me ∙ is.busy (sym (ap (λ m. m.0.inside) me) ∙ in');
+  }
+
   -- the seat of a pass at rest
   pub at-rest : (own : Option (Seat (Option X) (View O E X))) (lent seat : Seat (Option X) (View O E X)) (hall : HallSeen O) (agent : ℕ) → own ≡ Some seat → IsSeated own lent hall agent → IsPlaced seat hall agent
   at-rest own lent seat hall agent is seated = subst (λ (s : Seat (Option X) (View O E X)). IsPlaced s hall agent) (ap (λ (o : Option (Seat (Option X) (View O E X))). seat_of o lent) is) seated.placed

@@ -10,7 +10,7 @@ use Rattle.atomic_table.specs.Table.{State, Splits, Joins}
 use Rattle.opfs_hall.specs.declared.board.View.{View}
 use Rattle.opfs_hall.specs.History.{HasEnded}
 use Rattle.opfs_hall.specs.Seen.{HallSeen, PassSeen, new_pass, AreNew}
-use Rattle.opfs_hall.specs.Turns.{one_at, one_if_some, has_ticket, is_in, names, split_left, split_right, shadow, learned, joined_view, spent_view, SameOwn, Kept}
+use Rattle.opfs_hall.specs.Turns.{one_at, one_if_some, has_ticket, is_in, names, split_left, split_right, shadow, learned, followed, joined_view, spent_view, SameOwn, Kept}
 use Rattle.opfs_hall.proofs.Keeping.{fits_with, fits_bare, kept_split, kept_join}
 use Rattle.opfs_hall.proofs.Views.{IfSome_at, is_in-of}
 
@@ -54,6 +54,22 @@ module _ {X O E : Type 0} (opening : X → O) (entries : X → List E) (owner : 
         begins = theirs.begins;
         goes_on = mine.goes_on;
         own = subst (λ (n : Option ℕ). IfSome n (λ k. SameOwn owner k kept.log x.base)) (sym owned_by) (λ real. absurd (real refl));
+        ended = mine.ended;
+        waits = mine.waits;
+        inside = λ h. absurd (false≢true (sym out ∙ h));
+        next = mine.next;
+      }))
+
+  pub follows_kept : (id : ℕ) (v : View O E X) (other : ℕ) (u x : View O E X) → u ≡ shadow x → v.inside ≡ false → Joins Rule id v other u (followed v u) spent_view
+  follows_kept id v other u x is out = subst (λ (z : View O E X). Joins Rule id v other z (followed v z) spent_view) (sym is)
+      (λ s kept at apart at'. kept_join kept id v other (shadow x) (followed v (shadow x)) at apart at'
+      record { line = omega arith; seated = omega arith; single = omega arith; one_each = λ t. omega arith; once = λ k. omega arith }
+      (omega arith)
+      (λ mine theirs. record {
+        opened = mine.opened;
+        begins = mine.begins;
+        goes_on = theirs.goes_on;
+        own = mine.own;
         ended = mine.ended;
         waits = mine.waits;
         inside = λ h. absurd (false≢true (sym out ∙ h));

@@ -64,6 +64,10 @@ module _ {X O E : Type 0} where
   abbrev pub learned : View O E X → View O E X → View O E X
   learned v u = record v { base = u.base }
 
+  -- a pass goes on from the value that such a seat has seen
+  abbrev pub followed : View O E X → View O E X → View O E X
+  followed v u = record v { last = u.last }
+
   abbrev pub joined_view : View O E X → View O E X → View O E X
   joined_view v u = record v { ended = v.ended ++ ((unwrap_or u.number 0, u.base) ∷ u.ended) }
 

@@ -7,9 +7,10 @@ ghost use Rattle.opfs_hall.specs.Turns.{HasGiven, HasTaken, pass_of, IsFresh, Is
 use crate::board::{Board, Key, Place, TICKET, VALUE};
 use crate::chronicle::Chronicle;
 use crate::pass::Pass;
-use crate::plays::{Apart, Together};
+use crate::plays::{Apart, Follow, Shadow, Together};
 use crate::steps::{draw, hand_on, number, take_out, wait};
 use crate::told::Told;
+use crate::watch::Watch;
 use atomic_table::{Refused, Table};
 use std::alloc::Global;
 use std::array;
@@ -232,6 +233,33 @@ impl<V: Chronicle> Hall<V> {
         ensures came { result.came.value ≡ result.value }
     {
         let mut seat = pass.seat.take().unwrap();
+        let value = self.take(rt, &mut seat);
+        pass.lent = Told::of(&seat);
+        Turn {
+            came: Told::of(&value),
+            value,
+            entered: Told::of(pass),
+            seat,
+        }
+    }
+
+    /// The same behind a watch: the value has gone on from the one that the watch has seen last.
+    pub fn enter_behind<R: Wait>(&self, rt: &R, pass: &mut Pass<V>, watch: &mut Watch<V>) -> Turn<V>
+        requires own { (pass.old.hall ≡ self.now) × (watch.old.pass.hall ≡ self.now) }
+        requires idle { pass.old.busy ≡ false }
+        ensures opening { V.opening result.value ≡ self.now.opening }
+        ensures grows { GrowsByOthers V.owner pass.old.agent pass.old.base (V.entries result.value) }
+        ensures goes { V.goes_on watch.old.last result.value }
+        ensures kept { IsPrefix (V.entries watch.old.last) (V.entries result.value) }
+        ensures pass { pass.new ≡ in_turn pass.old (V.entries result.value) }
+        ensures entered { result.entered.value ≡ pass.new }
+        ensures came { result.came.value ≡ result.value }
+        ensures same { watch.new ≡ watch.old }
+    {
+        let top = &self.board.shared;
+        let mut seat = pass.seat.take().unwrap();
+        let shadow = top.split_seat::<Shadow>(&mut watch.seat);
+        top.join_seat::<Follow>(&mut seat, shadow);
         let value = self.take(rt, &mut seat);
         pass.lent = Told::of(&seat);
         Turn {

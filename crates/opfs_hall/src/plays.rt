@@ -1,6 +1,6 @@
 //! What each kind of step on the table tells, and how seats are split and joined.
 ghost use Rattle.opfs_hall.specs.History.{Onward};
-ghost use Rattle.opfs_hall.specs.Turns.{ticketed, looked, handed_on, numbered, split_left, split_right, shadow, learned, joined_view, spent_view};
+ghost use Rattle.opfs_hall.specs.Turns.{ticketed, looked, handed_on, numbered, split_left, split_right, shadow, learned, followed, joined_view, spent_view};
 
 use crate::board::View;
 use crate::chronicle::Chronicle;
@@ -66,6 +66,15 @@ pub(crate) struct Learn;
 
 impl<O, E, V> Join<View<O, E, V>> for Learn {
     ghost both = { learned };
+
+    ghost spent = { spent_view };
+}
+
+/// A pass goes on from the value that a seat which is no pass has seen.
+pub(crate) struct Follow;
+
+impl<O, E, V> Join<View<O, E, V>> for Follow {
+    ghost both = { followed };
 
     ghost spent = { spent_view };
 }

@@ -15,7 +15,7 @@ use std::sync::Wait;
 /// The owner's pass, which is that of no agent, and the value as it stood when it had the turn last. What holds of it then and stays as a
 /// value goes on holds of each value that it sees later, and of the one that the hall gives in the end.
 pub struct Watch<V: Chronicle> {
-    seat: Place<V>,
+    pub(crate) seat: Place<V>,
     hall: Told<Hall<V>>,
     last: Told<V>,
 }
