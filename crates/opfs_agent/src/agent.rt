@@ -2,6 +2,7 @@
 
 ghost use Rattle.std.specs.Prelude.{◌≡◌, ◌≤◌, false, true, [], IfOk, IfErr, OnOk, OnErr, IsTrue};
 ghost use Rattle.std.specs.Option.{option_copied};
+ghost use Rattle.opfs_hall.specs.History.{IsPrefix};
 ghost use Rattle.opfs_hist.specs.declared.op.Op.TheVariants as op;
 ghost use Rattle.opfs_hist.specs.declared.reply.Reply.TheVariants as reply;
 ghost use Rattle.opfs_machine.specs.Histories.{may_enter};
@@ -9,7 +10,7 @@ ghost use Rattle.opfs_machine.specs.Steps.{is_refusal};
 ghost use Rattle.opfs_laws.specs.Leaving.{is_end};
 ghost use Rattle.opfs_store.specs.Acts.Acting.{IsSameCopy, StandsForLeft, row_left, always_acts};
 ghost use Rattle.opfs_turns.specs.Agents.{state_of, known, IsAgent};
-ghost use Rattle.opfs_turns.specs.Calls.{HasRoom, MayAsk, new_agent, MayBegin, HasEnded, IsEntered, IsKept, IsLocal};
+ghost use Rattle.opfs_turns.specs.Calls.{HasRoom, MayAsk, new_agent, MayBegin, HasEnded, HasLooked, IsEntered, IsKept, IsLocal};
 ghost use Rattle.opfs_turns.specs.Asking.Answers.{Shared, MayAskPlainly, IsAnsweredBy, IsFlag, IsLength, IsRead};
 ghost use Rattle.opfs_turns.specs.Asking.Locals.{Local, Stopped, IsWhy};
 ghost use Rattle.opfs_turns.specs.Entering.{HasEnteredPending};
@@ -87,6 +88,17 @@ impl<S: Store> Agent<S> {
         self.turns.enter_pending(rt, court);
     }
 
+    /// Takes the turn behind a watch without a call, and hands it on: the agent has then seen all that the watch has. Takes no memory.
+    pub fn look_behind<R: Wait>(&mut self, rt: &R, court: &Hall<S>, watch: &mut Watch<S>)
+        requires own { self.old.pass.hall ≡ court.now }
+        requires watch { watch.old.pass.hall ≡ court.now }
+        ensures looked { HasLooked self.old self.new }
+        ensures behind { IsPrefix (S.entries watch.old.last) self.new.pass.base }
+        ensures same { watch.new ≡ watch.old }
+    {
+        self.turns.look_behind(rt, court, watch);
+    }
+
     /// Lets a watch of the store's hall know what the agent has seen.
     pub fn show(&mut self, court: &Hall<S>, watch: &mut Watch<S>)
         requires own { self.old.pass.hall ≡ court.now }
@@ -122,6 +134,13 @@ impl<S: Store> Agent<S> {
         ensures { result ≡ self.now.entries }
     {
         self.turns.entries()
+    }
+
+    /// The number of its next call; waits have none of their own.
+    pub fn next_number(&self) -> u32
+        ensures { result ≡ self.now.number }
+    {
+        self.turns.next_number()
     }
 
     /// The key of its origin; None where that is opaque.

@@ -2,6 +2,7 @@
 
 ghost use Rattle.std.specs.Prelude.{◌≡◌, ◌≤◌, false, true, IfOk, IfErr, OnErr, is_ok, IsTrue};
 ghost use Rattle.std.specs.Option.{option_copied};
+ghost use Rattle.opfs_hall.specs.History.{IsPrefix};
 ghost use Rattle.opfs_hist.specs.declared.op.Op.TheVariants as op;
 ghost use Rattle.opfs_machine.specs.Histories.{may_enter};
 ghost use Rattle.opfs_laws.specs.Leaving.{is_end};
@@ -11,7 +12,7 @@ ghost use Rattle.opfs_turns.specs.Waiting.{HasWaitRoom, HasWaited, HasAwaited, I
 ghost use Rattle.opfs_turns.specs.Calls.{HasRoom, MayAsk, call_of, IsEntered, HasLooked, IsLocal, IsKept, new_agent, MayBegin, HasEnded};
 ghost use Rattle.opfs_turns.specs.Entering.{HasEnteredPending};
 
-use crate::entering::enter_pending;
+use crate::entering::{enter_pending, look_behind};
 use crate::notes::{Caller, Notes};
 use crate::turn::in_turn;
 use crate::waiting::{AwaitTurn, await_turn, await_turns};
@@ -115,6 +116,13 @@ impl<S: Store> Turns<S> {
         self.caller.notes.entries
     }
 
+    /// The number of its next call; waits have none of their own.
+    pub fn next_number(&self) -> u32
+        ensures { result ≡ self.now.number }
+    {
+        self.caller.notes.number
+    }
+
     /// The key of the agent.
     pub fn key(&self) -> Option<&Key>
         ensures { option_copied result ≡ self.now.key }
@@ -185,6 +193,17 @@ impl<S: Store> Turns<S> {
         ensures { HasEnteredPending S.tells self.old self.new }
     {
         enter_pending(rt, court, &mut self.caller);
+    }
+
+    /// Takes the turn behind a watch without a call, and hands it on: the agent has then seen all that the watch has. Takes no memory.
+    pub fn look_behind<R: Wait>(&mut self, rt: &R, court: &Hall<S>, watch: &mut Watch<S>)
+        requires own { self.old.pass.hall ≡ court.now }
+        requires watch { watch.old.pass.hall ≡ court.now }
+        ensures looked { HasLooked self.old self.new }
+        ensures behind { IsPrefix (S.entries watch.old.last) self.new.pass.base }
+        ensures same { watch.new ≡ watch.old }
+    {
+        look_behind(rt, court, &mut self.caller, watch);
     }
 
     /// Lets a watch of the store's hall know what the agent has seen.
