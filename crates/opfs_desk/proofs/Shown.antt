@@ -11,7 +11,6 @@ use Rattle.opfs_commit.specs.Shown.{ShowsSince, IsShown}
 use Rattle.opfs_commit.proofs.Holding.{floor_most}
 use Rattle.opfs_hist.specs.declared.entry.Entry.{Entry}
 use Rattle.opfs_hist.specs.Faults.{disk_faults}
-use Rattle.opfs_laws.specs.Histories.Doubts.{doubted}
 use Rattle.opfs_laws.specs.Histories.Unread.{IsTold}
 use Rattle.opfs_image.specs.Filling.{Stands}
 use Rattle.opfs_image.specs.Superblock.{geometry_of}
@@ -19,7 +18,6 @@ use Rattle.opfs_journal.specs.Format.{records_of}
 use Rattle.opfs_journal.specs.Seen.{kept}
 use Rattle.opfs_machine.specs.Changes.{Change, floor, changes, durable}
 use Rattle.opfs_machine.specs.Histories.{state_after}
-use Rattle.opfs_machine.specs.Openings.{Opening}
 use Rattle.opfs_outside.specs.Faults.{RoseBy}
 use Rattle.opfs_outside.specs.Moments.{Elapses}
 use Rattle.opfs_outside.specs.declared.disk.Disk.{Ghosts as DiskWords}
