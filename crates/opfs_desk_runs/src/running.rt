@@ -60,7 +60,7 @@ pub fn end_run<D: Disk>(desk: Desk<D>, whole: bool) -> Completion<D>
 }
 
 // The disk of an image.
-fn disk_of<D: Disk>(from: Recovered<D>) -> D
+pub(crate) fn disk_of<D: Disk>(from: Recovered<D>) -> D
     ensures { result ≡ from.journal.disk }
 {
     let Recovered { journal, .. } = from;

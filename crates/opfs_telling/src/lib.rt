@@ -1,6 +1,6 @@
 //! A store whose history is told to a sink while it grows, so that what was told is let go.
 //!
-//! It stands on `opfs_print` and `opfs_store`.
+//! It stands on `opfs_print` and `opfs_store`; on it stands `opfs_desk_runs`.
 #![tactic(auto)]
 
 mod standing;

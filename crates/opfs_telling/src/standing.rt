@@ -1,6 +1,6 @@
 //! A store that tells its history stands for that history, as the store does that it has.
 
-ghost use base.Fml.{ftrue};
+ghost use base.Fml.{GName, ftrue};
 
 use crate::teller::Teller;
 use opfs_hall::Chronicle;
@@ -9,11 +9,12 @@ use opfs_outside::Sink;
 use opfs_store::Store;
 use std::marker::{Model, PhantomData};
 
-/// With what it began: the store's opening, and how the sink was. No value of it is made.
+/// With what it began: the store's opening, which sink was lent, and how it was. No value of it is made.
 pub struct Began<O, K> {
     opening: PhantomData<O>,
     sink: PhantomData<K>,
     pub ghost of: { O },
+    pub ghost name: { GName },
     pub ghost begun: { K },
 }
 
@@ -21,12 +22,12 @@ impl<O, K> Model for Began<O, K> {
     ghost also_owns = { λ _. ftrue };
 }
 
-impl<S: Store, K: Sink> Chronicle for Teller<S, K> {
+impl<'a, S: Store, K: Sink> Chronicle for Teller<'a, S, K> {
     type Opening = Began<S::Opening, K>;
 
     type Entry = Entry;
 
-    ghost opening = { λ t. record { opening = record {}; sink = record {}; of = S.opening t.store; begun = t.begun } };
+    ghost opening = { λ t. record { opening = record {}; sink = record {}; of = S.opening t.store; name = t.name; begun = t.begun } };
 
     ghost entries = { λ t. S.entries t.store };
 

@@ -14,49 +14,50 @@ use opfs_work::Work;
 use std::alloc::{AllocError, Global};
 use std::marker::Model;
 
-/// A store, and the sink to which the lines of its history go. It remembers how the sink was at the beginning.
-pub struct Teller<S: Store, K: Sink> {
+/// A store, and the sink, which is lent to it, to which the lines of its history go. It remembers how the sink was at the beginning.
+pub struct Teller<'a, S: Store, K: Sink> {
     store: S,
-    sink: K,
+    sink: &'a mut K,
     progress: Progress,
     begun: Told<K>,
     alloc: Global,
 }
 
-impl<S: Store, K: Sink> Model for Teller<S, K> {
+impl<'a, S: Store, K: Sink> Model for Teller<'a, S, K> {
     ghost use Rattle.opfs_telling.specs.Seen.{TellerSeen};
     ghost use Rattle.opfs_telling.specs.Telling.{IsTold};
 
     ghost Value = { TellerSeen S K };
 
-    ghost view = { λ t. record { store = t.store; begun = t.begun.value; sink = t.sink; progress = t.progress } };
+    ghost view = { λ t. record { store = t.store; name = t.sink.ghost_name; begun = t.begun.value; sink = t.sink.now; progress = t.progress } };
 
-    ghost invariant = { λ t. IsTold K.Sink t.begun.value t.sink t.progress (S.entries t.store) };
+    ghost invariant = { λ t. IsTold K.Sink t.begun.value t.sink.now t.progress (S.entries t.store) };
 }
 
 /// What a store that told its history leaves: the store, the sink, and how far it was told.
-pub struct Parts<S, K> {
+pub struct Parts<'a, S, K> {
     pub store: S,
-    pub sink: K,
+    pub sink: &'a mut K,
     pub progress: Progress,
 }
 
 /// What a store leaves whose history was told to its end: the store, the sink, and how it was told.
-pub struct Ended<S, K> {
+pub struct Ended<'a, S, K> {
     pub store: S,
-    pub sink: K,
+    pub sink: &'a mut K,
     pub state: State,
 }
 
-impl<S: Store, K: Sink> Teller<S, K> {
+impl<'a, S: Store, K: Sink> Teller<'a, S, K> {
     /// A store without entries, which tells its history to a sink from now on. Takes no memory.
-    pub fn make(alloc: Global, store: S, sink: K) -> Teller<S, K>
+    pub fn make(alloc: Global, store: S, sink: &'a mut K) -> Teller<'a, S, K>
         requires empty { S.entries store ≡ [] }
         ensures store { result.store ≡ store }
-        ensures begun { result.begun ≡ sink }
-        ensures sink { result.sink ≡ sink }
+        ensures same { result.name ≡ sink.entry.ghost_name }
+        ensures begun { result.begun ≡ sink.old }
+        ensures sink { result.sink ≡ sink.old }
     {
-        let begun = Told::of(&sink);
+        let begun = Told::of(&*sink);
         Teller {
             store,
             sink,
@@ -75,10 +76,11 @@ impl<S: Store, K: Sink> Teller<S, K> {
     }
 
     /// Takes it apart.
-    pub fn into_parts(self) -> Parts<S, K>
-        ensures store { result.store ≡ self.store }
-        ensures sink { result.sink ≡ self.sink }
-        ensures told { IsTold K.Sink self.begun result.sink result.progress (S.entries result.store) }
+    pub fn into_parts(self) -> Parts<'a, S, K>
+        ensures store { result.store ≡ self.entry.store }
+        ensures same { result.sink.ghost_name ≡ self.entry.name }
+        ensures sink { result.sink.now ≡ self.entry.sink }
+        ensures told { IsTold K.Sink self.entry.begun result.sink.now result.progress (S.entries result.store) }
     {
         let Teller {
             store,
@@ -95,22 +97,23 @@ impl<S: Store, K: Sink> Teller<S, K> {
     }
 
     /// Puts out the lines that wait, and takes it apart.
-    pub fn end(self) -> Ended<S, K>
-        ensures store { result.store ≡ self.store }
-        ensures put { HasPut (of_sink K.Sink self.begun result.sink) (S.entries self.store) result.state }
-        ensures later { K.faults self.begun ≤ K.faults result.sink }
+    pub fn end(self) -> Ended<'a, S, K>
+        ensures store { result.store ≡ self.entry.store }
+        ensures same { result.sink.ghost_name ≡ self.entry.name }
+        ensures put { HasPut (of_sink K.Sink self.entry.begun result.sink.now) (S.entries self.entry.store) result.state }
+        ensures later { K.faults self.entry.begun ≤ K.faults result.sink.now }
     {
         let Parts {
             store,
-            mut sink,
+            sink,
             progress,
         } = self.into_parts();
-        let state = end_telling(&mut sink, progress);
+        let state = end_telling(sink, progress);
         Ended { store, sink, state }
     }
 }
 
-impl<S: Store, K: Sink> Store for Teller<S, K> {
+impl<'a, S: Store, K: Sink> Store for Teller<'a, S, K> {
     ghost tells = { S.tells };
 
     ghost opened = { λ o. S.opened o.of };
@@ -134,14 +137,14 @@ impl<S: Store, K: Sink> Store for Teller<S, K> {
         let most = waiting_behind(&op);
         let acted = self.store.act(agent, number, pending, room, op, work, past);
         let given = self.store.give_out();
-        tell(self.alloc, &mut self.sink, &mut self.progress, given, most);
+        tell(self.alloc, self.sink, &mut self.progress, given, most);
         acted
     }
 
     fn take_in(&mut self, agent: u32, pending: &mut Pending) {
         self.store.take_in(agent, pending);
         let taken = self.store.give_out();
-        tell(self.alloc, &mut self.sink, &mut self.progress, taken, FULL);
+        tell(self.alloc, self.sink, &mut self.progress, taken, FULL);
     }
 
     fn await_state(&self, agent: u32, tag: &str) -> AwaitState {

@@ -1,4 +1,4 @@
-use Rattle.std.proofs.Common.{rules, ◌≡◌, ◌++◌, sym, ap, ◌∙◌, subst}
+use Rattle.std.proofs.Common.{rules, ◌≡◌, ◌++◌, ◌∙◌, subst}
 use Rattle.opfs_telling.proofs.Fronts.{rest-is, told-count, told-off, told-short}
 use Rattle.opfs_telling.specs.Telling.{IsTold}
 use Rattle.opfs_telling.specs.declared.telling.State.TheVariants as state

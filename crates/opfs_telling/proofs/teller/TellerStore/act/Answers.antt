@@ -1,4 +1,4 @@
-use Rattle.std.proofs.Common.{◌≡◌, ◌++◌, length, drop, sym, ap, subst, ◌∙◌}
+use Rattle.std.proofs.Common.{length, drop, sym, ap, subst, ◌∙◌}
 use Rattle.opfs_telling.specs.Telling.{IsTold}
 use Rattle.opfs_telling.proofs.Growing.{grown}
 use Rattle.opfs_telling.proofs.teller.TellerStore.act.Goals as goal
