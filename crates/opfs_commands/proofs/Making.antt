@@ -1,6 +1,6 @@
 -- An image that is made beside a path, and takes its place or is thrown away.
-use Rattle.std.proofs.Common.{◌≡◌, ◌⊎◌, ◌↔◌, ◌≤◌, ℕ, inl, inr, refl, sym, ◌∙◌, subst}
-use Rattle.std.specs.Prelude.{Option, Some, Result, Ok, Err, IfOk}
+use Rattle.std.proofs.Common.{◌≡◌, ◌⊎◌, ◌↔◌, ◌≤◌, inl, inr, refl, sym, ◌∙◌, subst}
+use Rattle.std.specs.Prelude.{Option, Some, Result, Ok, IfOk}
 use Rattle.std.proofs.lemmas.Result.{IfOk-weaker}
 use Rattle.std.specs.declared.alloc.AllocError.{AllocError}
 use Rattle.opfs_base.specs.Texts.{Text}
@@ -8,8 +8,7 @@ use Rattle.opfs_dump.specs.Loading.Laid.{StandsAs}
 use Rattle.opfs_image.specs.declared.geometry.Geometry.{Geometry}
 use Rattle.opfs_machine.specs.Openings.{empty_map}
 use Rattle.opfs_records.specs.Replay.Built.{nothing_built}
-use Rattle.opfs_outside.specs.Faults.{Rose}
-use Rattle.opfs_outside.specs.Turns.{AsBefore, HostServed, HostTurn, ImageStays, IsOldOrNew, IsReturned, OthersAsBefore, of_host}
+use Rattle.opfs_outside.specs.Turns.{AsBefore, HostServed, HostTurn, ImageStays, IsOldOrNew, IsReturned, of_host}
 use Rattle.opfs_outside.specs.declared.host.Host.{Ghosts as HostWords}
 use Rattle.opfs_print.specs.Status.{status_text}
 use Rattle.opfs_print.specs.declared.end.End.TheVariants as end

@@ -1,37 +1,54 @@
 -- How a run over a disk ended.
-use Rattle.std.proofs.Common.{◌≡◌, ◌≢◌, inl, inr, refl, sym, subst}
+use Rattle.std.proofs.Common.{◌≡◌, ◌≢◌, [], inl, inr, refl, sym, subst, append-nil}
 use Rattle.std.specs.Prelude.{List, Result, Ok, Err, IfOk}
 use Rattle.std.specs.declared.alloc.AllocError.{AllocError}
 use Rattle.opfs_codec.specs.declared.change.Format.TheVariants.{New}
 use Rattle.opfs_desk_runs.specs.Runs.{IsRunOn}
 use Rattle.opfs_desk_runs.specs.declared.running.Completion.{Completion}
+use Rattle.opfs_hist.specs.declared.entry.Entry.{Entry}
 use Rattle.opfs_image.specs.Reading.{read_as}
 use Rattle.opfs_image.specs.declared.refusal.ImageRefusal.{ImageRefusal}
 use Rattle.opfs_image.specs.declared.refusal.ImageRefusal.TheVariants as image
 use Rattle.opfs_journal.specs.Walking.{OnlyRead}
 use Rattle.opfs_outside.specs.Faults.{Rose}
+use Rattle.opfs_outside.specs.Turns.{SinkTurn, TookNothing}
 use Rattle.opfs_outside.specs.declared.disk.Disk.{Ghosts as DiskWords}
+use Rattle.opfs_print.specs.Lines.{text_of}
 use Rattle.opfs_script.specs.Scripts.{Asked}
+use Rattle.opfs_telling.specs.Telling.{HasPut, HasPutFront}
+use Rattle.opfs_telling.specs.declared.telling.State.{State}
+use Rattle.opfs_telling.specs.declared.telling.State.TheVariants as state
 use Rattle.opfs_commands.specs.Ran.{IsEndOf, IsNoRun, IsRefusalAnswer, IsRefusedEnd, RanOn}
 use Rattle.opfs_commands.specs.declared.answers.ToolAnswer.{ToolAnswer}
 use Rattle.opfs_commands.specs.declared.answers.ToolEnd.{ToolEnd}
 use Rattle.opfs_commands.specs.declared.runs.RunEnd.{RunEnd}
 use Rattle.opfs_commands.specs.declared.runs.RunEnd.TheVariants as run_end
 
-module _ {D : Type 0} (w : DiskWords D) (script : List Asked) (old : D) where
-  -- the agents ran
-  ended-by : (run : Completion D) (new : D) → run.disk ≡ new → IsRunOn w script old run → (e : RunEnd) → IsEndOf run.whole run.done run.history e → RanOn w script old new (Ok e)
-  ended-by run new same on (run_end.Done text) is = record { run = run; same = same; on = on; whole = is.0; ended = is.1; printed = is.2 }
-  ended-by run new same on (run_end.Failed text) is = record { run = run; same = same; on = on; whole = is.0; ended = is.1; printed = is.2 }
-  ended-by run new same on (run_end.Before a) is = absurd is
+-- However a history was told, a front of its lines was put out.
+front-put : (k : SinkTurn) (h : List Entry) (told : State) → HasPut k h told → HasPutFront k h
+front-put k h state.On put = ([], record { front = text_of h; whole = sym (append-nil (text_of h)); took = put })
+front-put k h state.Failed put = put.0
+front-put k h state.Short put = put
 
-  pub ran-on : (run : Completion D) (new : D) (r : Result RunEnd AllocError) → new ≡ run.disk → IsRunOn w script old run → IfOk r (λ e. IsEndOf run.whole run.done run.history e) → RanOn w script old new r
-  ran-on run new (Ok e) same on is = ended-by run new (sym same) on e is
-  ran-on run new (Err x) same on is = inr (record { run = run; same = sym same; on = on })
+module _ {D : Type 0} (w : DiskWords D) (k : SinkTurn) (script : List Asked) (old : D) where
+  -- the agents ran
+  module _ (run : Completion D) (told : State) (new : D) (same : run.disk ≡ new) (on : IsRunOn w script old run) (put : HasPut k run.history told) where
+    put-as : (s : State) → told ≡ s → HasPut k run.history s
+    put-as s is = subst (λ (x : State). HasPut k run.history x) is put
+
+    ended-by : (e : RunEnd) → IsEndOf run.whole told run.done (Ok e) → RanOn w k script old new (Ok e)
+    ended-by run_end.Done is = record { run = run; same = same; on = on; whole = is.0; ended = is.2; put = put-as state.On is.1 }
+    ended-by run_end.Failed is = record { run = run; same = same; on = on; whole = is.0; ended = is.2; put = put-as state.On is.1 }
+    ended-by run_end.Cut is = record { run = run; same = same; on = on; whole = is.0; ended = tt; put = put-as state.Failed is.1 }
+    ended-by (run_end.Before a) is = absurd is
+
+    pub ran-on : (r : Result RunEnd AllocError) → IsEndOf run.whole told run.done r → RanOn w k script old new r
+    ran-on (Ok e) is = ended-by e is
+    ran-on (Err x) is = inr (record { run = run; same = same; on = on; put = front-put k run.history told put })
 
   -- they did not
-  module _ (new : D) (only : OnlyRead w old new) (refusal : ImageRefusal) (refused : refusal ≢ image.DiskFault → refusal ≢ image.NoMemory → w.tells → read_as New New (w.content old) ≡ Err refusal)
-      (cause : refusal ≡ image.DiskFault → Rose (w.faults old) (w.faults new)) where
+  module _ (new : D) (only : OnlyRead w old new) (nothing : TookNothing k) (refusal : ImageRefusal)
+      (refused : refusal ≢ image.DiskFault → refusal ≢ image.NoMemory → w.tells → read_as New New (w.content old) ≡ Err refusal) (cause : refusal ≡ image.DiskFault → Rose (w.faults old) (w.faults new)) where
     image-by : (a : ToolAnswer) → refusal ≢ image.DiskFault → IsRefusalAnswer refusal a → IsNoRun w old new a.end a.text
     image-by a other is =
         let told = is.refused other in
@@ -54,11 +71,12 @@ module _ {D : Type 0} (w : DiskWords D) (script : List Asked) (old : D) where
     fault-or image.DiskFault P yes_ no_ = yes_ refl
     fault-or image.NoMemory P yes_ no_ = no_ (λ e. cc e)
 
-    before-by : (e : RunEnd) → IsRefusedEnd refusal e → RanOn w script old new (Ok e)
-    before-by (run_end.Done text) is = absurd is
-    before-by (run_end.Failed text) is = absurd is
-    before-by (run_end.Before a) is = record { only = only; answer = fault-or refusal (IsNoRun w old new a.end a.text) (λ same. host-by a same is) (λ other. image-by a other is) }
+    before-by : (e : RunEnd) → IsRefusedEnd refusal e → RanOn w k script old new (Ok e)
+    before-by run_end.Done is = absurd is
+    before-by run_end.Failed is = absurd is
+    before-by run_end.Cut is = absurd is
+    before-by (run_end.Before a) is = (record { only = only; answer = fault-or refusal (IsNoRun w old new a.end a.text) (λ same. host-by a same is) (λ other. image-by a other is) }, nothing)
 
-    pub not-ran : (r : Result RunEnd AllocError) → IfOk r (λ e. IsRefusedEnd refusal e) → RanOn w script old new r
+    pub not-ran : (r : Result RunEnd AllocError) → IfOk r (λ e. IsRefusedEnd refusal e) → RanOn w k script old new r
     not-ran (Ok e) is = before-by e is
-    not-ran (Err x) is = inl only
+    not-ran (Err x) is = inl (only, nothing)

@@ -1,6 +1,6 @@
 -- A run over a disk that was fetched and given back.
-use Rattle.std.proofs.Common.{◌≡◌, ◌≢◌, ◌⊎◌, ◌↔◌, ℕ, ◌+◌, ◌-◌, ◌^◌, ◌<◌, ◌≤◌, Bool, true, false, List, [], ◌++◌, inl, inr, refl, sym, ap, ◌∙◌, subst, arith}
-use Rattle.std.specs.Prelude.{Some, Result, Ok, Err, IsOk, IsErr, OnOk, OnErr}
+use Rattle.std.proofs.Common.{◌≡◌, ◌⊎◌, ◌↔◌, ℕ, ◌+◌, ◌-◌, ◌^◌, ◌<◌, ◌≤◌, Bool, true, false, List, [], ◌++◌, inl, inr, refl, sym, ap, ◌∙◌, subst, append_assoc, append-nil, arith}
+use Rattle.std.specs.Prelude.{Some, Result, Ok, Err, IfOk, IsOk, IsErr, OnOk, OnErr}
 use Rattle.std.specs.declared.alloc.AllocError.{AllocError}
 use Rattle.opfs_base.specs.Texts.{Text}
 use Rattle.opfs_books.specs.Laws.Fronts.{IsShownOnce}
@@ -13,15 +13,16 @@ use Rattle.opfs_journal.specs.Walking.{OnlyRead}
 use Rattle.opfs_machine.specs.Changes.{changes, durable}
 use Rattle.opfs_machine.specs.Openings.{Opening}
 use Rattle.opfs_outside.specs.Faults.{Rose, RoseBy}
-use Rattle.opfs_outside.specs.Turns.{of_host, GivenBack, HostFailed, HostServed, HostTurn, ImageStays, OthersAsBefore}
+use Rattle.opfs_outside.specs.Turns.{of_host, of_sink, GivenBack, HostFailed, HostServed, HostTurn, ImageStays, OthersAsBefore, SinkFailed, SinkTurn, Took, TookFront, TookNothing}
 use Rattle.opfs_outside.specs.declared.disk.Disk.{Ghosts as DiskWords}
 use Rattle.opfs_outside.specs.declared.host.Host.{Ghosts as HostWords}
+use Rattle.opfs_outside.specs.declared.stream.Sink.{Ghosts as SinkWords}
 use Rattle.opfs_print.specs.Lines.{text_of}
 use Rattle.opfs_print.specs.Status.{status_text}
 use Rattle.opfs_print.specs.declared.end.End.TheVariants as end
 use Rattle.opfs_script.specs.Scripts.{Asked}
-use Rattle.opfs_commands.specs.Kinds.{NoneFailed}
-use Rattle.opfs_commands.specs.Ran.{HasImage, IsAnswerOf, IsFaultBehind, IsFaultOf, IsGivenOr, IsNoRun, IsNotRun, IsRunAt, IsRunDone, IsRunFailed, IsRunShort, LeavesFronts, RanAt, RanOn, RanTo}
+use Rattle.opfs_commands.specs.Ran.{HasImage, IsAnswerOf, IsFaultLine, IsFaultOf, IsGivenOr, IsNoRun, IsNotRun, IsRunAt, IsRunDone, IsRunFailed, IsRunShort, IsRunText, LeavesFronts, RanAt, RanBehind, RanOn, RanTo}
+use Rattle.opfs_commands.specs.Telling.{IsBegun}
 use Rattle.opfs_commands.specs.declared.answers.ToolAnswer.{ToolAnswer}
 use Rattle.opfs_commands.specs.declared.answers.ToolEnd.{ToolEnd}
 use Rattle.opfs_commands.specs.declared.answers.ToolEnd.TheVariants as tool_end
@@ -59,6 +60,10 @@ err-of : {A E P : Type 0} (r : Result A E) → IsErr r → OnErr r P → P
 err-of (Ok a) err is = let never : false ≡ true = err in absurd (cc never)
 err-of (Err e) err is = is
 
+ok-or-err : {A E : Type 0} (r : Result A E) → IsOk r ⊎ IsErr r
+ok-or-err (Ok a) = inl refl
+ok-or-err (Err e) = inr refl
+
 unless-err : {A E P Q : Type 0} (r : Result A E) → OnOk r P → OnErr r Q → (Q → ⊥) → P
 unless-err (Ok a) ok err never = ok
 unless-err (Err e) ok err never = absurd (never err)
@@ -73,6 +78,27 @@ told-less tells dtells to whole o script h is = record {
   legal = λ t. is.legal (to t);
   alone = λ t. is.alone (to t);
 }
+
+-- The agents did not run, since no disk was fetched.
+module _ {H D M K : Type 0} (h : HostWords H D M) (s : SinkWords K) (sink : K) (path : Text) (script : List Asked) (old new : H) (images : h.tells → (p : Text) → h.image new p ≡ h.image old p)
+    (trails : h.tells → (p c : Text) → h.trail new p c ↔ h.trail old p c) where
+  not-fetched : IsNotRun (of_host h old new) path
+  not-fetched t quiet = record { image = images t path; trail = λ c left. inl ((trails t path c).0 left) }
+
+  none-put : IsBegun (of_sink s sink sink) (IsRunText (of_host h old new) path script) []
+  none-put = record { took = λ t. sym (append-nil (s.written sink)); begun = inl refl }
+
+  pub fetch-short : (x : AllocError) → RanAt (of_host h old new) (of_sink s sink sink) path script (Err x)
+  fetch-short x = record { front = []; begun = none-put; ended = tt; short = inl not-fetched }
+
+  pub fetch-failed : (r : Result ToolAnswer AllocError) → Rose (h.own_faults old) (h.own_faults new) → IfOk r (λ a. a.end ≡ tool_end.Host) → IfOk r (λ a. a.text ≡ status_text end.Host) → RanAt (of_host h old new) (of_sink s sink sink) path script r
+  fetch-failed (Ok a) rose host line = record {
+    front = [];
+    begun = none-put;
+    ended = subst (λ (e : ToolEnd). RanBehind (of_host h old new) (of_sink s sink sink) path script [] e a.text) (sym host) (inl (record { not = not-fetched; failed = inl rose; line = line }));
+    short = tt;
+  }
+  fetch-failed (Err x) rose host line = fetch-short x
 
 -- A disk that was fetched and given back, with what the host's calls say.
 pub record IsFetched {H D M : Type 0} (h : HostWords H D M) (w : DiskWords D) (path : Text) (old mid : H) (disk : D) : Type 0 where
@@ -90,7 +116,7 @@ pub record IsFetched {H D M : Type 0} (h : HostWords H D M) (w : DiskWords D) (p
   pub own : h.own_faults old ≤ h.own_faults mid
   pub later : (h.faults old ≤ h.faults mid) ⊎ (h.faults mid ≡ 2 ^ 64 - 1)
 
-module _ {H D M : Type 0} (h : HostWords H D M) (w : DiskWords D) (path : Text) (script : List Asked) (old mid new : H) (first now : D) (fetched : IsFetched h w path old mid first)
+module _ {H D M : Type 0} (h : HostWords H D M) (w : DiskWords D) (k : SinkTurn) (path : Text) (script : List Asked) (old mid new : H) (first now : D) (fetched : IsFetched h w path old mid first)
     (later : RoseBy (w.faults now + (h.own_faults new - h.own_faults mid)) (h.faults mid) (h.faults new)) where
   abbrev turn : HostTurn
   turn = of_host h old new
@@ -192,25 +218,29 @@ module _ {H D M : Type 0} (h : HostWords H D M) (w : DiskWords D) (path : Text) 
       }
 
     -- where the end went well, and the disk was given back
-    run-done : (text answered : Text) → Given → run.whole ≡ true → IsOk run.done → text ≡ text_of run.history → answered ≡ text → IsRunDone turn path script answered
+    run-done : (text : Text) → Given → run.whole ≡ true → IsOk run.done → text ≡ text_of run.history → IsRunDone turn path script text
     unfolding run-at
-    run-done text answered given whole ok printed is = record {
+    run-done text given whole ok printed = record {
       history = run.history;
       at = run-at (Unit {0}) (λ t x. given t) true whole;
-      printed = is ∙ printed;
+      printed = printed;
       stands = λ t. stands-by (Unit {0}) (λ t2 y. given t2) t tt (ok-of run.done ok on.over.stands (fetched.to_disk t));
     }
 
     -- where it did not
-    run-failed : (text answered : Text) → (h.tells → HostServed (of_host h mid new) → GivenBack (of_host h mid new) path (w.content now) (w.moment now) (w.since now)) → run.whole ≡ true → text ≡ text_of run.history → answered ≡ text ++ status_text end.Host
-        → HostFailed turn → RoseBy (disk_faults run.history + 1) turn.faults turn.faults_after ⊎ (turn.own_after ≡ 2 ^ 64 - 1) → IsRunFailed turn path script answered
-    run-failed text answered back whole printed is failed counted = record {
+    run-failed : (text : Text) → (h.tells → HostServed (of_host h mid new) → GivenBack (of_host h mid new) path (w.content now) (w.moment now) (w.since now)) → run.whole ≡ true → text ≡ text_of run.history ++ status_text end.Host
+        → HostFailed turn → RoseBy (disk_faults run.history + 1) turn.faults turn.faults_after ⊎ (turn.own_after ≡ 2 ^ 64 - 1) → IsRunFailed turn path script text
+    run-failed text back whole printed failed counted = record {
       history = run.history;
       at = run-at (HostServed turn) (λ t quiet. back t (served quiet)) true whole;
-      printed = is ∙ ap (λ (x : Text). x ++ status_text end.Host) printed;
+      printed = printed;
       failed = failed;
       counted = counted;
     }
+
+    -- whether it was whole or not
+    run-text : (text : Text) → (h.tells → HostServed (of_host h mid new) → GivenBack (of_host h mid new) path (w.content now) (w.moment now) (w.since now)) → text ≡ text_of run.history → IsRunText turn path script text
+    run-text text back lines = record { whole = run.whole; history = run.history; at = run-at (HostServed turn) (λ t quiet. back t (served quiet)) run.whole refl; lines = lines }
 
     run-short : (h.tells → HostServed (of_host h mid new) → GivenBack (of_host h mid new) path (w.content now) (w.moment now) (w.since now)) → IsRunShort turn path script
     run-short back = inr (run.whole, run.history, run-at (HostServed turn) (λ t quiet. back t (served quiet)) run.whole refl)
@@ -237,17 +267,69 @@ module _ {H D M : Type 0} (h : HostWords H D M) (w : DiskWords D) (path : Text) 
     abbrev Fault : Type 0
     Fault = Rose (h.own_faults mid) (h.own_faults new)
 
+    abbrev Begun : Text → Type 0
+    Begun front = IsBegun k (IsRunText turn path script) front
+
     -- no memory was found
-    short : (e : Result RunEnd AllocError) → RanOn w script first now e → IsRunShort turn path script
-    short (Ok (run_end.Done text)) is = run-short is.run is.same is.on back
-    short (Ok (run_end.Failed text)) is = run-short is.run is.same is.on back
-    short (Ok (run_end.Before a)) is = inl (not-run is.only back)
-    short (Err e) is = elim is [ inl only ↦ inl (not-run only back) | inr ran ↦ run-short ran.run ran.same ran.on back ]
+    short : (e : Result RunEnd AllocError) → RanOn w k script first now e → IsRunShort turn path script
+    short (Ok run_end.Done) is = run-short is.run is.same is.on back
+    short (Ok run_end.Failed) is = run-short is.run is.same is.on back
+    short (Ok run_end.Cut) is = run-short is.run is.same is.on back
+    short (Ok (run_end.Before a)) is = inl (not-run is.0.only back)
+    short (Err e) is = elim is [ inl only ↦ inl (not-run only.0 back) | inr ran ↦ run-short ran.run ran.same ran.on back ]
 
-    failed-answer : (front : Text) (a : ToolAnswer) → IsFaultBehind front a → IsRunFailed turn path script a.text → RanTo turn path script a.end a.text
-    failed-answer front a is failed = subst (λ (e : ToolEnd). RanTo turn path script e a.text) (sym is.host) (inr failed)
+    -- ---- what was put out
 
-    no-run : (given : Given) (only : OnlyRead w first now) (e : ToolEnd) (text : Text) → IsNoRun w first now e text → RanTo turn path script e text
+    none-begun : TookNothing k → Begun []
+    none-begun nothing = record { took = λ t. nothing t ∙ sym (append-nil k.written); begun = inl refl }
+
+    module _ (run : Completion D) (same : run.disk ≡ now) (on : IsRunOn w script first run) where
+      all-begun : Took k (text_of run.history) → Begun (text_of run.history)
+      all-begun took = record { took = took; begun = inr ([], run-text run same on (text_of run.history ++ []) back (append-nil (text_of run.history))) }
+
+      front-begun : (rest : Text) (put : TookFront k (text_of run.history) rest) → Begun put.front
+      front-begun rest put = record { took = put.took; begun = inr (rest, run-text run same on (put.front ++ rest) back (sym put.whole)) }
+
+    begun : (e : Result RunEnd AllocError) → RanOn w k script first now e → (front : Text) × Begun front
+    begun (Ok run_end.Done) is = (text_of is.run.history, all-begun is.run is.same is.on is.put)
+    begun (Ok run_end.Failed) is = (text_of is.run.history, all-begun is.run is.same is.on is.put)
+    begun (Ok run_end.Cut) is = (is.put.0.1.front, front-begun is.run is.same is.on is.put.0.0 is.put.0.1)
+    begun (Ok (run_end.Before a)) is = ([], none-begun is.1)
+    begun (Err e) is = elim is [ inl only ↦ ([], none-begun only.1) | inr ran ↦ (ran.put.1.front, front-begun ran.run ran.same ran.on ran.put.0 ran.put.1) ]
+
+    -- ---- what is put out behind it
+
+    -- the line of a fault behind the transcript
+    module _ (run : Completion D) (same : run.disk ≡ now) (on : IsRunOn w script first run) (whole : run.whole ≡ true) where
+      abbrev Fails : Type 0
+      Fails = HostFailed turn × (RoseBy (disk_faults run.history + 1) turn.faults turn.faults_after ⊎ (turn.own_after ≡ 2 ^ 64 - 1))
+
+      done-behind : (a : ToolAnswer) → Given → IsOk run.done → (a.end ≡ tool_end.Done) × (a.text ≡ []) → RanBehind turn k path script (text_of run.history) a.end a.text
+      done-behind a given ok is =
+          let printed : text_of run.history ++ a.text ≡ text_of run.history = ap (λ (x : Text). text_of run.history ++ x) is.1 ∙ append-nil (text_of run.history) in
+          subst (λ (e : ToolEnd). RanBehind turn k path script (text_of run.history) e a.text) (sym is.0) (run-done run same on (text_of run.history ++ a.text) given whole ok printed)
+
+      failed-behind : (a : ToolAnswer) → Fails → IsFaultLine a → RanBehind turn k path script (text_of run.history) a.end a.text
+      failed-behind a fails is =
+          subst (λ (e : ToolEnd). RanBehind turn k path script (text_of run.history) e a.text) (sym is.0)
+          (inr (run-failed run same on (text_of run.history ++ a.text) back whole (ap (λ (x : Text). text_of run.history ++ x) is.1) fails.0 fails.1))
+
+      -- what the sink would have taken, had it not failed
+      module _ (rest : Text) (put : TookFront k (text_of run.history) rest) where
+        cut-failed : Fails → (ended : ToolEnd) × (left : Text) × RanTo turn path script ended (put.front ++ left)
+        cut-failed fails =
+            let printed : put.front ++ (rest ++ status_text end.Host) ≡ text_of run.history ++ status_text end.Host =
+            sym (append_assoc put.front rest (status_text end.Host)) ∙ ap (λ (x : Text). x ++ status_text end.Host) (sym put.whole) in
+            (tool_end.Host, rest ++ status_text end.Host, inr (run-failed run same on (put.front ++ (rest ++ status_text end.Host)) back whole printed fails.0 fails.1))
+
+        cut-given : Given → IsOk run.done ⊎ IsErr run.done → (ended : ToolEnd) × (left : Text) × RanTo turn path script ended (put.front ++ left)
+        cut-given given (inl ok) = (tool_end.Done, rest, run-done run same on (put.front ++ rest) given whole ok (sym put.whole))
+        cut-given given (inr err) = cut-failed (end-fault run same on err)
+
+        cut-behind : (a : ToolAnswer) → SinkFailed k → (a.end ≡ tool_end.Sink) × (a.text ≡ []) → ((ended : ToolEnd) × (left : Text) × RanTo turn path script ended (put.front ++ left)) → RanBehind turn k path script put.front a.end a.text
+        cut-behind a failed is would = subst (λ (e : ToolEnd). RanBehind turn k path script put.front e a.text) (sym is.0) (failed, is.1, would)
+
+    no-run : (given : Given) (only : OnlyRead w first now) (e : ToolEnd) (text : Text) → IsNoRun w first now e text → RanBehind turn k path script [] e text
     no-run given only tool_end.Done text is = absurd is
     no-run given only tool_end.Image text is = record {
       refused = λ t. record { image = w.content first; there = sym (fetched.images t path) ∙ fetched.there t; kind = is (fetched.to_disk t) };
@@ -256,41 +338,46 @@ module _ {H D M : Type 0} (h : HostWords H D M) (w : DiskWords D) (path : Text) 
     no-run given only tool_end.Host text is = inl (record { not = not-run only back; failed = inr (disk-rose is.0); line = is.1 })
     no-run given only tool_end.Sink text is = absurd is
 
-    answered : (e : RunEnd) (a : ToolAnswer) → RanOn w script first now (Ok e) → (Given × IsAnswerOf e a) ⊎ (Fault × IsFaultOf e a) → RanTo turn path script a.end a.text
-    answered (run_end.Done text) a is (inl how) =
-        subst (λ (e : ToolEnd). RanTo turn path script e a.text) (sym how.1.0) (run-done is.run is.same is.on text a.text how.0 is.whole is.ended is.printed how.1.1)
-    answered (run_end.Done text) a is (inr how) =
-        let fault = back-fault is.run is.same is.on how.0 in
-        failed-answer text a how.1 (run-failed is.run is.same is.on text a.text back is.whole is.printed how.1.line fault.0 fault.1)
-    answered (run_end.Failed text) a is (inl how) =
-        let fault = end-fault is.run is.same is.on is.ended in
-        failed-answer text a how.1 (run-failed is.run is.same is.on text a.text back is.whole is.printed how.1.line fault.0 fault.1)
-    answered (run_end.Failed text) a is (inr how) =
-        let fault = end-fault is.run is.same is.on is.ended in
-        failed-answer text a how.1 (run-failed is.run is.same is.on text a.text back is.whole is.printed how.1.line fault.0 fault.1)
-    answered (run_end.Before b) a is (inl how) =
-        subst (λ (x : ToolAnswer). RanTo turn path script x.end x.text) (sym how.1) (no-run how.0 is.only b.end b.text is.answer)
-    answered (run_end.Before b) a is (inr how) =
-        subst (λ (e : ToolEnd). RanTo turn path script e a.text) (sym how.1.0) (inl (record { not = not-run is.only back; failed = inl (own-rose how.0); line = how.1.1 }))
+    answered : (e : RunEnd) (a : ToolAnswer) (is : RanOn w k script first now (Ok e)) → (Given × IsAnswerOf e a) ⊎ (Fault × IsFaultOf e a) → (front : Text) × Begun front × RanBehind turn k path script front a.end a.text
+    answered run_end.Done a is how = (
+      text_of is.run.history,
+      all-begun is.run is.same is.on is.put,
+      elim how [
+        | inl given ↦ done-behind is.run is.same is.on is.whole a given.0 is.ended given.1
+        | inr fault ↦ failed-behind is.run is.same is.on is.whole a (back-fault is.run is.same is.on fault.0) fault.1
+      ],
+    )
+    answered run_end.Failed a is how = (
+      text_of is.run.history,
+      all-begun is.run is.same is.on is.put,
+      failed-behind is.run is.same is.on is.whole a (end-fault is.run is.same is.on is.ended) (elim how [ inl given ↦ given.1 | inr fault ↦ fault.1 ]),
+    )
+    answered run_end.Cut a is how = (
+      is.put.0.1.front,
+      front-begun is.run is.same is.on is.put.0.0 is.put.0.1,
+      elim how [
+        | inl given ↦ cut-behind is.run is.same is.on is.whole is.put.0.0 is.put.0.1 a is.put.1 given.1 (cut-given is.run is.same is.on is.whole is.put.0.0 is.put.0.1 given.0 (ok-or-err is.run.done))
+        | inr fault ↦ cut-behind is.run is.same is.on is.whole is.put.0.0 is.put.0.1 a is.put.1 fault.1 (cut-failed is.run is.same is.on is.whole is.put.0.0 is.put.0.1 (back-fault is.run is.same is.on fault.0))
+      ],
+    )
+    answered (run_end.Before b) a is how = (
+      [],
+      none-begun is.1,
+      elim how [
+        | inl given ↦ subst (λ (x : ToolAnswer). RanBehind turn k path script [] x.end x.text) (sym given.1) (no-run given.0 is.0.only b.end b.text is.0.answer)
+        | inr fault ↦ subst (λ (e : ToolEnd). RanBehind turn k path script [] e a.text) (sym fault.1.0) (inl (record { not = not-run is.0.only back; failed = inl (own-rose fault.0); line = fault.1.1 }))
+      ],
+    )
 
-    pub ran-at : (e : Result RunEnd AllocError) (r : Result ToolAnswer AllocError) → RanOn w script first now e → IsGivenOr Given Fault e r → RanAt turn path script r
-    ran-at (Ok e) (Ok a) is how = answered e a is how
+    pub ran-at : (e : Result RunEnd AllocError) (r : Result ToolAnswer AllocError) → RanOn w k script first now e → IsGivenOr Given Fault e r → RanAt turn k path script r
+    ran-at (Ok e) (Ok a) is how =
+        let told = answered e a is how in
+        record { front = told.0; begun = told.1; ended = told.2; short = tt }
     ran-at (Err e) (Ok a) is how = absurd how
-    ran-at e (Err x) is how = short e is
+    ran-at e (Err x) is how =
+        let told = begun e is in
+        record { front = told.0; begun = told.1; ended = tt; short = short e is }
 
-    fault-host : (e : RunEnd) (a : ToolAnswer) → IsFaultOf e a → a.end ≡ tool_end.Host
-    fault-host (run_end.Done text) a is = is.host
-    fault-host (run_end.Failed text) a is = is.host
-    fault-host (run_end.Before b) a is = is.0
-
-    given-by : (e : Result RunEnd AllocError) (a : ToolAnswer) → a.end ≢ tool_end.Host → IsGivenOr Given Fault e (Ok a) → Given
-    given-by (Ok e) a other how = elim how [ inl is ↦ is.0 | inr fault ↦ absurd (other (fault-host e a fault.1)) ]
-    given-by (Err e) a other how = absurd how
-
-    pub others-at : (e : Result RunEnd AllocError) (r : Result ToolAnswer AllocError) → IsGivenOr Given Fault e r → h.tells → NoneFailed turn r → OthersAsBefore turn path
-    others-at e r how t none =
-        let given : GivenBack (of_host h mid new) path (w.content now) (w.moment now) (w.since now) = elim none [
-          | inl quiet ↦ back t (served quiet)
-          | inr is ↦ given-by e is.0 is.2 (subst (λ (x : Result ToolAnswer AllocError). IsGivenOr Given Fault e x) is.1 how) t
-        ] in
-        others_stay h old mid new path (λ p other. record { image = fetched.images t p; trail = fetched.trails t p }) given.others
+  -- the other paths
+  pub others-at : h.tells → OthersAsBefore (of_host h mid new) path → OthersAsBefore turn path
+  others-at t others = others_stay h old mid new path (λ p other. record { image = fetched.images t p; trail = fetched.trails t p }) others

@@ -1,5 +1,5 @@
 -- A run of a script's agents over the image at a path of a host, and how it ended. This project's own.
-use Rattle.std.specs.Prelude.{◌≡◌, ◌≢◌, ◌⊎◌, ℕ, ◌+◌, ◌-◌, ◌^◌, Bool, true, List, ◌++◌, Option, Some, Result, Ok, Err, IsOk, IsErr}
+use Rattle.std.specs.Prelude.{◌≡◌, ◌≢◌, ◌⊎◌, ℕ, ◌+◌, ◌-◌, ◌^◌, Bool, true, List, [], ◌++◌, Option, Some, Result, Ok, Err, IsOk, IsErr, IfOk, OnErr}
 use Rattle.std.specs.declared.alloc.AllocError.{AllocError}
 use Rattle.opfs_base.specs.Texts.{Text}
 use Rattle.opfs_books.specs.Laws.Fronts.{IsShownOnce}
@@ -16,13 +16,16 @@ use Rattle.opfs_journal.specs.declared.refusal.DiskFault.{DiskFault}
 use Rattle.opfs_machine.specs.Changes.{changes, durable}
 use Rattle.opfs_machine.specs.Openings.{Map, Opening}
 use Rattle.opfs_outside.specs.Faults.{Rose, RoseBy}
-use Rattle.opfs_outside.specs.Turns.{HostFailed, HostServed, HostTurn, ImageStays}
+use Rattle.opfs_outside.specs.Turns.{HostFailed, HostServed, HostTurn, ImageStays, SinkFailed, SinkTurn, TookNothing}
 use Rattle.opfs_outside.specs.declared.disk.Disk.{Ghosts as DiskWords}
 use Rattle.opfs_print.specs.Lines.{text_of}
 use Rattle.opfs_print.specs.Status.{status_text}
 use Rattle.opfs_print.specs.declared.end.End.TheVariants as end
 use Rattle.opfs_script.specs.Scripts.{Asked}
-use Rattle.opfs_commands.specs.Telling.{IsLineOf, IsOfImage, IsRefusedLine}
+use Rattle.opfs_telling.specs.Telling.{HasPut, HasPutFront}
+use Rattle.opfs_telling.specs.declared.telling.State.{State}
+use Rattle.opfs_telling.specs.declared.telling.State.TheVariants as state
+use Rattle.opfs_commands.specs.Telling.{IsBegun, IsLineOf, IsOfImage, IsRefusedLine}
 use Rattle.opfs_commands.specs.declared.answers.ToolAnswer.{ToolAnswer}
 use Rattle.opfs_commands.specs.declared.answers.ToolEnd.{ToolEnd}
 use Rattle.opfs_commands.specs.declared.answers.ToolEnd.TheVariants as tool_end
@@ -31,20 +34,21 @@ use Rattle.opfs_commands.specs.declared.runs.RunEnd.TheVariants as run_end
 
 -- ---- on a disk
 
--- The agents ran over a disk that was so, which is now so; the end went like this, and the text is the transcript.
-pub record HasRunOn {D : Type 0} (w : DiskWords D) (script : List Asked) (old new : D) (End : Result (Unit {0}) DiskFault → Type 0) (text : Text) : Type 0 where
+-- The agents ran over a disk that was so, which is now so; the end went like this, and of the transcript the sink took so much.
+pub record HasRunOn {D : Type 0} (w : DiskWords D) (k : SinkTurn) (script : List Asked) (old new : D) (End : Result (Unit {0}) DiskFault → Type 0) (told : State) : Type 0 where
   pub run : Completion D
   pub same : run.disk ≡ new
   pub on : IsRunOn w script old run
   pub whole : run.whole ≡ true
   pub ended : End run.done
-  pub printed : text ≡ text_of run.history
+  pub put : HasPut k run.history told
 
--- The agents ran, but there was no memory for all that they asked, or for the transcript.
-pub record HasRunShort {D : Type 0} (w : DiskWords D) (script : List Asked) (old new : D) : Type 0 where
+-- The agents ran, but there was no memory for all that they asked, or for the lines of that; a front of the transcript was put out.
+pub record HasRunShort {D : Type 0} (w : DiskWords D) (k : SinkTurn) (script : List Asked) (old new : D) : Type 0 where
   pub run : Completion D
   pub same : run.disk ≡ new
   pub on : IsRunOn w script old run
+  pub put : HasPutFront k run.history
 
 -- What is put out where they did not run: why the image is refused, or that the disk failed.
 abbrev pub IsNoRun : {D : Type 0} → DiskWords D → D → D → ToolEnd → Text → Type 0
@@ -56,17 +60,20 @@ pub record HasNotRun {D : Type 0} (w : DiskWords D) (old new : D) (a : ToolAnswe
   pub only : OnlyRead w old new
   pub answer : IsNoRun w old new a.end a.text
 
-abbrev pub RanOn : {D : Type 0} → DiskWords D → List Asked → D → D → Result RunEnd AllocError → Type 0
-RanOn w script old new (Ok (run_end.Done text)) = HasRunOn w script old new (λ done. IsOk done) text
-RanOn w script old new (Ok (run_end.Failed text)) = HasRunOn w script old new (λ done. IsErr done) text
-RanOn w script old new (Ok (run_end.Before a)) = HasNotRun w old new a
-RanOn w script old new (Err e) = OnlyRead w old new ⊎ HasRunShort w script old new
+abbrev pub RanOn : {D : Type 0} → DiskWords D → SinkTurn → List Asked → D → D → Result RunEnd AllocError → Type 0
+RanOn w k script old new (Ok run_end.Done) = HasRunOn w k script old new (λ done. IsOk done) state.On
+RanOn w k script old new (Ok run_end.Failed) = HasRunOn w k script old new (λ done. IsErr done) state.On
+RanOn w k script old new (Ok run_end.Cut) = HasRunOn w k script old new (λ done. Unit {0}) state.Failed
+RanOn w k script old new (Ok (run_end.Before a)) = HasNotRun w old new a × TookNothing k
+RanOn w k script old new (Err e) = (OnlyRead w old new × TookNothing k) ⊎ HasRunShort w k script old new
 
--- How the end of a run is put into words.
-abbrev pub IsEndOf : Bool → Result (Unit {0}) DiskFault → List Entry → RunEnd → Type 0
-IsEndOf whole done history (run_end.Done text) = (whole ≡ true) × IsOk done × (text ≡ text_of history)
-IsEndOf whole done history (run_end.Failed text) = (whole ≡ true) × IsErr done × (text ≡ text_of history)
-IsEndOf whole done history (run_end.Before a) = ⊥
+-- How a run ended, by whether it was whole, how it was told, and how its end went.
+abbrev pub IsEndOf : Bool → State → Result (Unit {0}) DiskFault → Result RunEnd AllocError → Type 0
+IsEndOf whole told done (Ok run_end.Done) = (whole ≡ true) × (told ≡ state.On) × IsOk done
+IsEndOf whole told done (Ok run_end.Failed) = (whole ≡ true) × (told ≡ state.On) × IsErr done
+IsEndOf whole told done (Ok run_end.Cut) = (whole ≡ true) × (told ≡ state.Failed)
+IsEndOf whole told done (Ok (run_end.Before a)) = ⊥
+IsEndOf whole told done (Err e) = Unit {0}
 
 -- The answer where an image is refused, or the disk failed; there is none for want of memory.
 pub record IsRefusalAnswer (refusal : ImageRefusal) (a : ToolAnswer) : Type 0 where
@@ -78,22 +85,27 @@ abbrev pub IsRefusedEnd : ImageRefusal → RunEnd → Type 0
 IsRefusedEnd refusal (run_end.Before a) = IsRefusalAnswer refusal a
 IsRefusedEnd refusal e = ⊥
 
--- The line of a host's fault stands behind a front.
-pub record IsFaultBehind (front : Text) (a : ToolAnswer) : Type 0 where
-  pub host : a.end ≡ tool_end.Host
-  pub line : a.text ≡ front ++ status_text end.Host
+-- The line of a fault.
+abbrev pub IsFaultLine : ToolAnswer → Type 0
+IsFaultLine a = (a.end ≡ tool_end.Host) × (a.text ≡ status_text end.Host)
 
--- The answer where the disk was given back.
+-- The sink failed, and nothing more is put out.
+abbrev pub IsCutOff : ToolAnswer → Type 0
+IsCutOff a = (a.end ≡ tool_end.Sink) × (a.text ≡ [])
+
+-- The answer where the disk was given back: what is put out behind the transcript, if there is one.
 abbrev pub IsAnswerOf : RunEnd → ToolAnswer → Type 0
-IsAnswerOf (run_end.Done text) a = (a.end ≡ tool_end.Done) × (a.text ≡ text)
-IsAnswerOf (run_end.Failed text) a = IsFaultBehind text a
+IsAnswerOf run_end.Done a = (a.end ≡ tool_end.Done) × (a.text ≡ [])
+IsAnswerOf run_end.Failed a = IsFaultLine a
+IsAnswerOf run_end.Cut a = IsCutOff a
 IsAnswerOf (run_end.Before b) a = a ≡ b
 
 -- The answer where it was not.
 abbrev pub IsFaultOf : RunEnd → ToolAnswer → Type 0
-IsFaultOf (run_end.Done text) a = IsFaultBehind text a
-IsFaultOf (run_end.Failed text) a = IsFaultBehind text a
-IsFaultOf (run_end.Before b) a = (a.end ≡ tool_end.Host) × (a.text ≡ status_text end.Host)
+IsFaultOf run_end.Done a = IsFaultLine a
+IsFaultOf run_end.Failed a = IsFaultLine a
+IsFaultOf run_end.Cut a = IsCutOff a
+IsFaultOf (run_end.Before b) a = IsFaultLine a
 
 -- The disk was given back, and the answer is that of the end; or it was not, and the answer is that of a fault. Nothing is answered for
 -- want of memory.
@@ -169,17 +181,34 @@ pub record IsRunRefused (h : HostTurn) (path : Text) (text : Text) : Type 0 wher
   pub refused : h.tells → IsOfImage IsRefusedLine (h.image path) text
   pub stays : h.tells → ImageStays h path
 
--- How a run over the image at a path ended, by its answer.
+-- How a run over the image at a path ended, by all that was put out.
 abbrev pub RanTo : HostTurn → Text → List Asked → ToolEnd → Text → Type 0
 RanTo h path script tool_end.Done text = IsRunDone h path script text
 RanTo h path script tool_end.Image text = IsRunRefused h path text
 RanTo h path script tool_end.Host text = IsRunFault h path text ⊎ IsRunFailed h path script text
 RanTo h path script tool_end.Sink text = ⊥
 
--- There was no memory: the agents did not run, or not to the end of their scripts, or their transcript has no room.
+-- The transcript of a run over the image at a path, which was whole or not.
+pub record IsRunText (h : HostTurn) (path : Text) (script : List Asked) (text : Text) : Type 0 where
+  pub whole : Bool
+  pub history : List Entry
+  pub at : IsRunAt h path (HostServed h) whole script history
+  pub lines : text ≡ text_of history
+
+-- There was no memory: the agents did not run, or not to the end of their scripts, or their lines have no room.
 abbrev pub IsRunShort : HostTurn → Text → List Asked → Type 0
 IsRunShort h path script = IsNotRun h path ⊎ ((whole : Bool) × (history : List Entry) × IsRunAt h path (HostServed h) whole script history)
 
-abbrev pub RanAt : HostTurn → Text → List Asked → Result ToolAnswer AllocError → Type 0
-RanAt h path script (Ok a) = RanTo h path script a.end a.text
-RanAt h path script (Err e) = IsRunShort h path script
+-- The answer tells how it ended behind what was put out; where the sink failed, a front of what is put out at some end was.
+abbrev pub RanBehind : HostTurn → SinkTurn → Text → List Asked → Text → ToolEnd → Text → Type 0
+RanBehind h k path script front tool_end.Done text = RanTo h path script tool_end.Done (front ++ text)
+RanBehind h k path script front tool_end.Image text = RanTo h path script tool_end.Image (front ++ text)
+RanBehind h k path script front tool_end.Host text = RanTo h path script tool_end.Host (front ++ text)
+RanBehind h k path script front tool_end.Sink text = SinkFailed k × (text ≡ []) × ((ended : ToolEnd) × (rest : Text) × RanTo h path script ended (front ++ rest))
+
+-- A run over the image at a path: what it has put out, nothing or a front of its transcript; and how it ended behind that.
+pub record RanAt (h : HostTurn) (k : SinkTurn) (path : Text) (script : List Asked) (r : Result ToolAnswer AllocError) : Type 0 where
+  pub front : Text
+  pub begun : IsBegun k (IsRunText h path script) front
+  pub ended : IfOk r (λ a. RanBehind h k path script front a.end a.text)
+  pub short : OnErr r (IsRunShort h path script)

@@ -39,6 +39,17 @@ pub struct ToolAnswer {
     pub text: Bytes,
 }
 
+/// An answer with nothing left to put out.
+pub fn bare_answer(alloc: Global, end: ToolEnd) -> ToolAnswer
+    ensures end { result.end ≡ end }
+    ensures text { result.text ≡ [] }
+{
+    ToolAnswer {
+        end,
+        text: Bytes::from_vec(Vec::new(alloc)),
+    }
+}
+
 /// An answer with a status line.
 pub fn line_answer(alloc: Global, end: ToolEnd, line: End) -> Result<ToolAnswer, AllocError>
     ensures end { IfOk result (λ answer. answer.end ≡ end) }

@@ -10,24 +10,12 @@ ghost use Rattle.opfs_print.specs.declared.end.End.TheVariants as end;
 ghost use Rattle.opfs_commands.specs.Kinds.{NoneFailed};
 ghost use Rattle.opfs_commands.specs.Telling.{IsDumped, IsImageLine, IsOfImage, IsPut, IsRefusedLine};
 
-use crate::answers::{ToolAnswer, ToolEnd, host_answer, refused_answer};
+use crate::answers::{ToolAnswer, ToolEnd, bare_answer, host_answer, refused_answer};
 use crate::hosts::give_back;
-use opfs_base::Bytes;
 use opfs_dump::{DumpStop, dump};
 use opfs_image::{Recovered, recover};
 use opfs_outside::{Disk, Host, HostStop, Sink};
 use std::alloc::{AllocError, Global};
-
-// An answer with nothing left to put out.
-fn bare(alloc: Global, end: ToolEnd) -> ToolAnswer
-    ensures end { result.end ≡ end }
-    ensures text { result.text ≡ [] }
-{
-    ToolAnswer {
-        end,
-        text: Bytes::from_vec(Vec::new(alloc)),
-    }
-}
 
 // The answer where a dump ended so.
 fn dump_answer(alloc: Global, dumped: Result<(), DumpStop>) -> Result<ToolAnswer, AllocError>
@@ -37,9 +25,9 @@ fn dump_answer(alloc: Global, dumped: Result<(), DumpStop>) -> Result<ToolAnswer
     ensures memory { IsErrOf dumped DumpStop.NoMemory → IfOk result (λ answer. ⊥) }
 {
     match dumped {
-        Ok(()) => Ok(bare(alloc, ToolEnd::Done)),
+        Ok(()) => Ok(bare_answer(alloc, ToolEnd::Done)),
         Err(DumpStop::DiskFault) => host_answer(alloc),
-        Err(DumpStop::SinkFault) => Ok(bare(alloc, ToolEnd::Sink)),
+        Err(DumpStop::SinkFault) => Ok(bare_answer(alloc, ToolEnd::Sink)),
         Err(DumpStop::NoMemory) => Err(AllocError),
     }
 }

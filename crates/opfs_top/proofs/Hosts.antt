@@ -44,7 +44,7 @@ module _ (k : SinkTurn) (h : HostTurn) (path : Text) (action : Action) where
   behind_by front begun tool_end.Done text is = is
   behind_by front begun tool_end.Image text is = subst (λ f. Refuses (f ++ text)) (sym is.0) is.1
   behind_by front begun tool_end.Host text is = (is.0, (front, begun, ap (λ (t : Text). front ++ t) is.1))
-  behind_by front begun tool_end.Sink text is = is
+  behind_by front begun tool_end.Sink text is = (is.0, is.1, (status.Done, is.2.0, is.2.1))
 
   pub image_answered : (r : Result ToolAnswer AllocError) (a : ToolAnswer) (b : Answer) (result : Result Answer AllocError) → IsPut k Begins Whole Refuses (HostFailed h) r → r ≡ Ok a → result ≡ Ok b → b.status ≡ status_of a.end → b.text ≡ a.text
       → IsTold k Begins (ImageEnded h path action) result

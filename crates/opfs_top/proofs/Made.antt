@@ -1,5 +1,5 @@
 -- An image that is made anew, told from above.
-use Rattle.std.proofs.Common.{◌≡◌, ◌⊎◌, inl, inr, refl, sym, subst}
+use Rattle.std.proofs.Common.{◌≡◌, inl, inr, refl, sym, subst}
 use Rattle.std.specs.Prelude.{List, Result, Ok, Err}
 use Rattle.std.specs.declared.alloc.AllocError.{AllocError}
 use Rattle.opfs_base.specs.Texts.{Text}
@@ -16,7 +16,6 @@ use Rattle.opfs_top.specs.Answers.{IsUnmadeBy}
 use Rattle.opfs_top.specs.Doing.{IsUnmade, LeavesNew, Makes}
 use Rattle.opfs_top.specs.Statuses.{status_of}
 use Rattle.opfs_top.specs.declared.answer.Answer.{Answer}
-use Rattle.opfs_top.specs.declared.status.Status.{Status}
 
 -- the same by other words
 pub leaves_wider : (h : HostTurn) (path : Text) (New New' : Text → Type 0) (U U' : Type 0) → ((c : Text) → New c → New' c) → (U' → U) → LeavesMade h path New U → LeavesMade h path New' U'

@@ -1,10 +1,10 @@
 -- A run over the image at a path: what it puts out, and what it leaves.
-use Rattle.std.proofs.Common.{◌≡◌, ◌≢◌, List, true, inl, inr, refl, subst}
-use Rattle.std.specs.Prelude.{Result, Ok, Err, IfOk}
+use Rattle.std.proofs.Common.{◌≡◌, ◌≢◌, ◌++◌, List, true, false, inl, inr, refl, sym, subst}
+use Rattle.std.specs.Prelude.{◌⊎◌, Some, None, Result, Ok, Err, IfOk, IsErr}
 use Rattle.std.specs.declared.alloc.AllocError.{AllocError}
 use Rattle.opfs_base.specs.Texts.{Text}
 use Rattle.opfs_commands.specs.Commands.{Command, trial, running, judgement, generating, on_image, loading, spelled, Asks, IsAsked}
-use Rattle.opfs_commands.specs.Ran.{IsNotRun, IsRunAt, IsRunDone, IsRunShort, RanAt, RanTo}
+use Rattle.opfs_commands.specs.Ran.{IsNotRun, IsRunAt, IsRunDone, IsRunShort, IsRunText, RanAt, RanBehind, RanTo}
 use Rattle.opfs_commands.specs.declared.answers.ToolAnswer.{ToolAnswer}
 use Rattle.opfs_commands.specs.declared.answers.ToolEnd.{ToolEnd}
 use Rattle.opfs_commands.specs.declared.answers.ToolEnd.TheVariants as tool_end
@@ -15,13 +15,34 @@ use Rattle.opfs_outside.specs.declared.host.Host.{Ghosts as HostWords}
 use Rattle.opfs_outside.specs.Turns.{of_host, HostServed, HostTurn, ImageStays, Puts, ReadWhole, SinkTurn, SourceTurn}
 use Rattle.opfs_script.specs.Reading.{reads}
 use Rattle.opfs_script.specs.Scripts.{Asked}
+use Rattle.opfs_print.specs.declared.end.BadScript.{BadScript}
+use Rattle.opfs_script.specs.declared.refusal.ScriptRefusal.{ScriptRefusal}
+use Rattle.opfs_script.specs.declared.refusal.ScriptRefusal.TheVariants as refused
 use Rattle.opfs_top.specs.Answers.{Behind, BytesRan, ImageEnded, IsTold, LoadEnded, RunEnded, SourceRan}
-use Rattle.opfs_top.specs.Doing.{most_bytes, Did, Ended, IsDone, IsEarly, LeavesRun, Migrates, Names, OfSource, TakesImage, Tells}
+use Rattle.opfs_top.specs.Doing.{most_bytes, told_as, Did, Ended, IsDone, IsEarly, IsRefusal, LeavesRun, Migrates, Names, OfSource, Printed, TakesImage, Tells}
 use Rattle.opfs_top.specs.Headline.{IsHeadline, LeavesOf, OfScript}
 use Rattle.opfs_top.specs.Statuses.{status_of}
 use Rattle.opfs_top.specs.declared.answer.Answer.{Answer}
 use Rattle.opfs_top.specs.declared.status.Status.{Status}
 use Rattle.opfs_top.specs.declared.status.Status.TheVariants as status
+use Rattle.opfs_top.proofs.Telling.{told_wider}
+
+-- ---- statuses for which the host was asked, whatever was put out before
+
+module _ (k : SinkTurn) (Begun : Text → Type 0) (End : Status → Text → Type 0) (late : (e : Status) (t : Text) → End e t → IsEarly e → ⊥) where
+  behind_late : (front : Text) (e : Status) (text : Text) → Behind k front End e text → IsEarly e → ⊥
+  behind_late front status.Done text is early = early
+  behind_late front status.Usage text is early = late status.Usage (front ++ text) is early
+  behind_late front status.Script text is early = late status.Script (front ++ text) is early
+  behind_late front status.Image text is early = early
+  behind_late front status.Host text is early = early
+  behind_late front status.Source text is early = late status.Source (front ++ text) is early
+  behind_late front status.Sink text is early = early
+  behind_late front status.Memory text is early = early
+
+  never_early : (r : Result Answer AllocError) → IsTold k Begun End r → (P : Type 0) → IfOk r (λ answer. IsEarly answer.status → P)
+  never_early (Ok a) told P = λ early. absurd (behind_late told.front a.status a.text told.ended early)
+  never_early (Err e) told P = tt
 
 -- ---- the agents ran, or not
 
@@ -46,8 +67,28 @@ module _ (h : HostTurn) (path : Text) (script : List Asked) where
   ended_by tool_end.Host text is = is
   ended_by tool_end.Sink text is = absurd is
 
-  pub run_ended : (r : Result ToolAnswer AllocError) (a : ToolAnswer) → r ≡ Ok a → RanAt h path script r → RunEnded h path script (status_of a.end) a.text
-  run_ended r a is ran = ended_by a.end a.text (subst (λ x. RanAt h path script x) is ran)
+  behind_by : (k : SinkTurn) (front : Text) (e : ToolEnd) (text : Text) → RanBehind h k path script front e text → Behind k front (RunEnded h path script) (status_of e) text
+  behind_by k front tool_end.Done text is = ended_by tool_end.Done (front ++ text) is
+  behind_by k front tool_end.Image text is = ended_by tool_end.Image (front ++ text) is
+  behind_by k front tool_end.Host text is = ended_by tool_end.Host (front ++ text) is
+  behind_by k front tool_end.Sink text is = (is.0, is.1, (status_of is.2.0, is.2.1, ended_by is.2.0 (front ++ is.2.1) is.2.2))
+
+  pub run_answered : (k : SinkTurn) (r : Result ToolAnswer AllocError) (a : ToolAnswer) (b : Answer) (result : Result Answer AllocError) → RanAt h k path script r → r ≡ Ok a → result ≡ Ok b → b.status ≡ status_of a.end → b.text ≡ a.text
+      → IsTold k (IsRunText h path script) (RunEnded h path script) result
+  run_answered k r a b result ran is made ends same =
+      let e : RanBehind h k path script ran.front a.end a.text = subst (λ x. IfOk x (λ y. RanBehind h k path script ran.front y.end y.text)) is ran.ended in
+      let by : Behind k ran.front (RunEnded h path script) (status_of a.end) a.text = behind_by k ran.front a.end a.text e in
+      record {
+        front = ran.front;
+        took = ran.begun.took;
+        begun = ran.begun.begun;
+        ended = subst (λ x. IfOk x (λ y. Behind k ran.front (RunEnded h path script) y.status y.text)) (sym made)
+            (subst (λ x. Behind k ran.front (RunEnded h path script) x b.text) (sym ends) (subst (λ t. Behind k ran.front (RunEnded h path script) (status_of a.end) t) (sym same) by));
+      }
+
+  pub run_short : (k : SinkTurn) (r : Result ToolAnswer AllocError) (result : Result Answer AllocError) → RanAt h k path script r → IsErr result → IsTold k (IsRunText h path script) (RunEnded h path script) result
+  run_short k r (Ok b) ran short = absurd (let never : false ≡ true = short in cc never)
+  run_short k r (Err e) ran short = record { front = ran.front; took = ran.begun.took; begun = ran.begun.begun; ended = tt }
 
   -- what is said of a disk that was given back is said where the host served
   where_served : (history : List Entry) → IsRunAt h path (Unit {0}) true script history → IsRunAt h path (HostServed h) true script history
@@ -62,54 +103,78 @@ module _ (h : HostTurn) (path : Text) (script : List Asked) where
     faults = at.faults;
   }
 
-  left_by : (e : ToolEnd) (text : Text) → RanTo h path script e text → IsRunShort h path script
-  left_by tool_end.Done text is = inr (true, is.history, where_served is.history is.at)
-  left_by tool_end.Image text is = inl (λ t served. is.stays t)
-  left_by tool_end.Host text (inl fault) = inl fault.not
-  left_by tool_end.Host text (inr failed) = inr (true, failed.history, failed.at)
-  left_by tool_end.Sink text is = absurd is
+  left_to : (e : ToolEnd) (text : Text) → RanTo h path script e text → IsRunShort h path script
+  left_to tool_end.Done text is = inr (true, is.history, where_served is.history is.at)
+  left_to tool_end.Image text is = inl (λ t served. is.stays t)
+  left_to tool_end.Host text (inl fault) = inl fault.not
+  left_to tool_end.Host text (inr failed) = inr (true, failed.history, failed.at)
+  left_to tool_end.Sink text is = absurd is
 
-  pub run_left : (r : Result ToolAnswer AllocError) → RanAt h path script r → IsRunShort h path script
-  run_left (Ok a) ran = left_by a.end a.text ran
-  run_left (Err e) ran = ran
+  left_by : (k : SinkTurn) (front : Text) (e : ToolEnd) (text : Text) → RanBehind h k path script front e text → IsRunShort h path script
+  left_by k front tool_end.Done text is = left_to tool_end.Done (front ++ text) is
+  left_by k front tool_end.Image text is = left_to tool_end.Image (front ++ text) is
+  left_by k front tool_end.Host text is = left_to tool_end.Host (front ++ text) is
+  left_by k front tool_end.Sink text is = left_to is.2.0 (front ++ is.2.1) is.2.2
 
-  pub run_late : (ended : Status) (text : Text) → RunEnded h path script ended text → IsEarly ended → ⊥
-  run_late status.Done text is early = early
-  run_late status.Usage text is early = is
-  run_late status.Script text is early = is
-  run_late status.Image text is early = early
-  run_late status.Host text is early = early
-  run_late status.Source text is early = is
-  run_late status.Sink text is early = early
-  run_late status.Memory text is early = early
+  pub run_left : (k : SinkTurn) (r : Result ToolAnswer AllocError) → RanAt h k path script r → IsRunShort h path script
+  run_left k (Ok a) ran = left_by k ran.front a.end a.text ran.ended
+  run_left k (Err e) ran = ran.short
+
+  late_by : (ended : Status) (text : Text) → RunEnded h path script ended text → IsEarly ended → ⊥
+  late_by status.Done text is early = early
+  late_by status.Usage text is early = is
+  late_by status.Script text is early = is
+  late_by status.Image text is early = early
+  late_by status.Host text is early = early
+  late_by status.Source text is early = is
+  late_by status.Sink text is early = early
+  late_by status.Memory text is early = early
+
+  -- a run that has asked the host
+  pub run_late : (k : SinkTurn) (r : Result Answer AllocError) → IsTold k (IsRunText h path script) (RunEnded h path script) r → (P : Type 0) → IfOk r (λ answer. IsEarly answer.status → P)
+  run_late k r told P = never_early k (IsRunText h path script) (RunEnded h path script) late_by r told P
 
   -- the script is what bytes are
   module _ (bytes : Text) (read : reads bytes ≡ Ok script) where
-    pub bytes_ran : (ended : Status) (text : Text) → RunEnded h path script ended text → BytesRan h path bytes ended text
-    bytes_ran status.Done text is = record { script = script; read = read; kind = is }
-    bytes_ran status.Usage text is = absurd is
-    bytes_ran status.Script text is = absurd is
-    bytes_ran status.Image text is = record { script = script; read = read; kind = is }
-    bytes_ran status.Host text is = record { script = script; read = read; kind = is }
-    bytes_ran status.Source text is = absurd is
-    bytes_ran status.Sink text is = absurd is
-    bytes_ran status.Memory text is = absurd is
+    bytes_by : (ended : Status) (text : Text) → RunEnded h path script ended text → BytesRan h path bytes ended text
+    bytes_by status.Done text is = record { script = script; read = read; kind = is }
+    bytes_by status.Usage text is = absurd is
+    bytes_by status.Script text is = absurd is
+    bytes_by status.Image text is = record { script = script; read = read; kind = is }
+    bytes_by status.Host text is = record { script = script; read = read; kind = is }
+    bytes_by status.Source text is = absurd is
+    bytes_by status.Sink text is = absurd is
+    bytes_by status.Memory text is = absurd is
+
+    pub bytes_told : (k : SinkTurn) (r : Result Answer AllocError) → IsTold k (IsRunText h path script) (RunEnded h path script) r → IsTold k (OfScript (IsRunText h path) bytes) (BytesRan h path bytes) r
+    bytes_told k r told = told_wider k (IsRunText h path script) (OfScript (IsRunText h path) bytes) (RunEnded h path script) (BytesRan h path bytes) (λ text is. record { script = script; read = read; kind = is }) bytes_by r told
 
     pub bytes_left : IsRunShort h path script → LeavesOf h path bytes
     bytes_left (inl not) = inl not
     bytes_left (inr ran) = inr (record { script = script; read = read; whole = ran.0; history = ran.1; at = ran.2 })
 
+-- bytes that are refused as a script
+why_by : (bytes : Text) (why : ScriptRefusal) (told : BadScript) → told_as why ≡ Some told → (reads bytes ≡ Err why) ⊎ (why ≡ refused.NoMemory) → reads bytes ≡ Err why
+why_by bytes why told same (inl is) = is
+why_by bytes why told same (inr short) = let never : None ≡ Some told = subst (λ w. told_as w ≡ Some told) short same in absurd (cc never)
+
+pub bytes_refused : (h : HostTurn) (path bytes : Text) (why : ScriptRefusal) → (reads bytes ≡ Err why) ⊎ (why ≡ refused.NoMemory) → (a : Answer) → a.status ≡ status.Script → IsRefusal why a.text → BytesRan h path bytes a.status a.text
+bytes_refused h path bytes why cause a is line = subst (λ e. BytesRan h path bytes e a.text) (sym is) (record { why = why; refused = why_by bytes why line.told line.same cause; line = line })
+
 -- bytes are what a source gives
 module _ (s : SourceTurn) (h : HostTurn) (path bytes : Text) (read : ReadWhole s most_bytes bytes) where
-  pub source_ran : (ended : Status) (text : Text) → BytesRan h path bytes ended text → SourceRan s h path ended text
-  source_ran status.Done text is = record { bytes = bytes; whole = read; kind = is }
-  source_ran status.Usage text is = absurd is
-  source_ran status.Script text is = inl (record { bytes = bytes; whole = read; kind = is })
-  source_ran status.Image text is = record { bytes = bytes; whole = read; kind = is }
-  source_ran status.Host text is = record { bytes = bytes; whole = read; kind = is }
-  source_ran status.Source text is = absurd is
-  source_ran status.Sink text is = absurd is
-  source_ran status.Memory text is = absurd is
+  source_by : (ended : Status) (text : Text) → BytesRan h path bytes ended text → SourceRan s h path ended text
+  source_by status.Done text is = record { bytes = bytes; whole = read; kind = is }
+  source_by status.Usage text is = absurd is
+  source_by status.Script text is = inl (record { bytes = bytes; whole = read; kind = is })
+  source_by status.Image text is = record { bytes = bytes; whole = read; kind = is }
+  source_by status.Host text is = record { bytes = bytes; whole = read; kind = is }
+  source_by status.Source text is = absurd is
+  source_by status.Sink text is = absurd is
+  source_by status.Memory text is = absurd is
+
+  pub source_told : (k : SinkTurn) (r : Result Answer AllocError) → IsTold k (OfScript (IsRunText h path) bytes) (BytesRan h path bytes) r → IsTold k (OfSource s (OfScript (IsRunText h path))) (SourceRan s h path) r
+  source_told k r told = told_wider k (OfScript (IsRunText h path) bytes) (OfSource s (OfScript (IsRunText h path))) (BytesRan h path bytes) (SourceRan s h path) (λ text is. record { bytes = bytes; whole = read; kind = is }) source_by r told
 
   pub source_left : LeavesOf h path bytes → LeavesRun s h path
   source_left (inl not) = inl not
@@ -121,7 +186,7 @@ not_run w host path = λ t served. record { image = refl; trail = λ c x. inl x 
 
 -- ---- as the words ask
 
-pub run_ends : (words : List Text) (s : SourceTurn) (h : HostTurn) (path : Text) → IsAsked words (running path)
+run_ends : (words : List Text) (s : SourceTurn) (h : HostTurn) (path : Text) → IsAsked words (running path)
     → (ended : Status) (text : Text) → SourceRan s h path ended text → Ended words s h ended text
 run_ends words s h path asked status.Done text is = record { command = running path; asked = asked; holds = is }
 run_ends words s h path asked status.Usage text is = absurd is
@@ -132,8 +197,17 @@ run_ends words s h path asked status.Source text is = record { asked = record { 
 run_ends words s h path asked status.Sink text is = absurd is
 run_ends words s h path asked status.Memory text is = absurd is
 
-pub refused_stays : (s : SourceTurn) (h : HostTurn) (path : Text) (ended : Status) (text : Text) → SourceRan s h path ended text → ended ≡ status.Image → h.tells → ImageStays h path
-refused_stays s h path ended text is same told = let refused : SourceRan s h path status.Image text = subst (λ e. SourceRan s h path e text) same is in refused.kind.kind.stays told
+pub run_told : (words : List Text) (s : SourceTurn) (h : HostTurn) (k : SinkTurn) (path : Text) → IsAsked words (running path)
+    → (r : Result Answer AllocError) → IsTold k (OfSource s (OfScript (IsRunText h path))) (SourceRan s h path) r → IsTold k (λ text. Asks words (λ command. Printed command s h text)) (Ended words s h) r
+run_told words s h k path asked r told = told_wider k (OfSource s (OfScript (IsRunText h path))) (λ text. Asks words (λ command. Printed command s h text)) (SourceRan s h path) (Ended words s h)
+    (λ text is. record { command = running path; asked = asked; holds = is }) (λ e text is. run_ends words s h path asked e text is) r told
+
+pub refused_stays : (s : SourceTurn) (h : HostTurn) (k : SinkTurn) (path : Text) (r : Result Answer AllocError) → IsTold k (OfSource s (OfScript (IsRunText h path))) (SourceRan s h path) r
+    → IfOk r (λ answer. answer.status ≡ status.Image → h.tells → ImageStays h path)
+refused_stays s h k path (Ok a) told = λ same t.
+    let refused : SourceRan s h path status.Image (told.front ++ a.text) = subst (λ e. Behind k told.front (SourceRan s h path) e a.text) same told.ended in
+    refused.kind.kind.stays t
+refused_stays s h k path (Err e) told = tt
 
 -- what is left where the words ask for a run, and nothing where they ask for another command
 abbrev Leaves : SourceTurn → HostTurn → Command → Type 0
@@ -176,19 +250,18 @@ module _ (words : List Text) (image : Text) (asked : IsAsked words (running imag
 
 -- ---- statuses for which the host was asked
 
-image_late : (k : SinkTurn) (h : HostTurn) (path : Text) (action : Action) (front : Text) (ended : Status) (text : Text) → Behind k front (ImageEnded h path action) ended text → IsEarly ended → ⊥
-image_late k h path action front status.Done text is early = early
-image_late k h path action front status.Usage text is early = is
-image_late k h path action front status.Script text is early = is
-image_late k h path action front status.Image text is early = early
-image_late k h path action front status.Host text is early = early
-image_late k h path action front status.Source text is early = is
-image_late k h path action front status.Sink text is early = early
-image_late k h path action front status.Memory text is early = early
+image_late : (h : HostTurn) (path : Text) (action : Action) (ended : Status) (text : Text) → ImageEnded h path action ended text → IsEarly ended → ⊥
+image_late h path action status.Done text is early = early
+image_late h path action status.Usage text is early = is
+image_late h path action status.Script text is early = is
+image_late h path action status.Image text is early = early
+image_late h path action status.Host text is early = early
+image_late h path action status.Source text is early = is
+image_late h path action status.Sink text is early = early
+image_late h path action status.Memory text is early = early
 
 pub image_never_early : (k : SinkTurn) (h : HostTurn) (path : Text) (action : Action) (Begun : Text → Type 0) (r : Result Answer AllocError) → IsTold k Begun (ImageEnded h path action) r → (P : Type 0) → IfOk r (λ answer. IsEarly answer.status → P)
-image_never_early k h path action Begun (Ok a) told P = λ early. absurd (image_late k h path action told.front a.status a.text told.ended early)
-image_never_early k h path action Begun (Err e) told P = tt
+image_never_early k h path action Begun r told P = never_early k Begun (ImageEnded h path action) (image_late h path action) r told P
 
 pub load_late : (h : HostTurn) (image from : Text) (ended : Status) (text : Text) → LoadEnded h image from ended text → IsEarly ended → ⊥
 load_late h image from status.Done text is early = early

@@ -1,6 +1,6 @@
 -- What was put out at each end.
 use Rattle.std.proofs.Common.{◌≡◌, ◌-◌, ◌^◌, ◌≤◌, [], ◌∷◌, ◌++◌, inl, inr, refl, sym, ap, subst, ◌∙◌, append_assoc, arith}
-use Rattle.std.specs.Prelude.{Result, Ok, Err, IfOk}
+use Rattle.std.specs.Prelude.{Result, Ok, Err, IfOk, IsErr, true, false}
 use Rattle.std.proofs.lemmas.List.{append-nil}
 use Rattle.std.proofs.lemmas.Result.{IfOk-weaker}
 use Rattle.std.specs.declared.alloc.AllocError.{AllocError}
@@ -21,7 +21,7 @@ module _ (k : SinkTurn) (Begun Begun' : Text → Type 0) (End End' : Status → 
   wider_behind front status.Image text is = ends status.Image (front ++ text) is
   wider_behind front status.Host text is = ends status.Host (front ++ text) is
   wider_behind front status.Source text is = ends status.Source (front ++ text) is
-  wider_behind front status.Sink text is = (is.0, is.1, (is.2.0, ends status.Done (front ++ is.2.0) is.2.1))
+  wider_behind front status.Sink text is = (is.0, is.1, (is.2.0, is.2.1, ends is.2.0 (front ++ is.2.1) is.2.2))
   wider_behind front status.Memory text is = ends status.Memory (front ++ text) is
 
   pub told_wider : (r : Result Answer AllocError) → IsTold k Begun End r → IsTold k Begun' End' r
@@ -31,6 +31,15 @@ module _ (k : SinkTurn) (Begun Begun' : Text → Type 0) (End End' : Status → 
     begun = elim is.begun [ inl none ↦ inl none | inr more ↦ inr (more.0, begun (is.front ++ more.0) more.1) ];
     ended = IfOk-weaker r _ _ (λ a e. wider_behind is.front a.status a.text e) is.ended;
   }
+
+-- an answer that is passed on, or that there is none
+module _ (k : SinkTurn) (Begun : Text → Type 0) (End : Status → Text → Type 0) (r : Result Answer AllocError) (told : IsTold k Begun End r) where
+  pub told_on : (a : Answer) → r ≡ Ok a → IsTold k Begun End (Ok a)
+  told_on a is = subst (λ x. IsTold k Begun End x) is told
+
+  pub told_short : (result : Result Answer AllocError) → IsErr result → IsTold k Begun End result
+  told_short (Ok a) err = absurd (let never : false ≡ true = err in cc never)
+  told_short (Err e) err = record { front = told.front; took = told.took; begun = told.begun; ended = tt }
 
 -- a command that put nothing out itself
 module _ {K : Type 0} (w : SinkWords K) (s : K) (Begun : Text → Type 0) (End : Status → Text → Type 0) (never : (t : Text) → End status.Sink t → ⊥) where
@@ -46,6 +55,11 @@ module _ {K : Type 0} (w : SinkWords K) (s : K) (Begun : Text → Type 0) (End :
 
   pub told_nothing : (r : Result Answer AllocError) → IfOk r (λ a. End a.status a.text) → IsTold (of_sink w s s) Begun End r
   told_nothing r is = record { front = []; took = λ t. sym (append-nil (w.written s)); begun = inl refl; ended = IfOk-weaker r _ _ (λ a e. behind_nothing a.status a.text e) is }
+
+-- and that has no answer
+pub told_none : {K : Type 0} (w : SinkWords K) (s : K) (Begun : Text → Type 0) (End : Status → Text → Type 0) (r : Result Answer AllocError) → IsErr r → IsTold (of_sink w s s) Begun End r
+told_none w s Begun End (Ok a) err = absurd (let never : false ≡ true = err in cc never)
+told_none w s Begun End (Err e) err = record { front = []; took = λ t. sym (append-nil (w.written s)); begun = inl refl; ended = tt }
 
 -- words that ask for nothing
 pub usage_ended : (End : Status → Text → Type 0) (line : Text) (r : Result Answer AllocError) → ((e : Status) (t : Text) → e ≡ status.Usage → t ≡ line → End e t) → IfOk r (λ a. a.status ≡ status.Usage) → IfOk r (λ a. a.text ≡ line)
@@ -91,8 +105,8 @@ module _ {K : Type 0} (w : SinkWords K) (old mid new : K) (End : Status → Text
         let none : put ≡ [] = same ∙ s.1 in
         record {
           text = front ++ put;
-          rest = s.2.0;
-          kind = some status.Done ((front ++ put) ++ s.2.0) (subst (λ t. End status.Done ((front ++ t) ++ s.2.0)) (sym none) (subst (λ t. End status.Done (t ++ s.2.0)) (sym (append-nil front)) s.2.1));
+          rest = s.2.1;
+          kind = some s.2.0 ((front ++ put) ++ s.2.1) (subst (λ t. End s.2.0 ((front ++ t) ++ s.2.1)) (sym none) (subst (λ t. End s.2.0 (t ++ s.2.1)) (sym (append-nil front)) s.2.2));
           took = took_more put more;
         }
 

@@ -25,7 +25,7 @@ Outcome t bytes ended text = ⊥
 
 -- What is to be put out at each end behind a front that was put out. Where the sink has failed, nothing more is.
 abbrev pub Behind : SinkTurn → Text → (Status → Text → Type 0) → Status → Text → Type 0
-Behind k front End status.Sink text = SinkFailed k × (text ≡ []) × ((rest : Text) × End status.Done (front ++ rest))
+Behind k front End status.Sink text = SinkFailed k × (text ≡ []) × ((ended : Status) × (rest : Text) × End ended (front ++ rest))
 Behind k front End ended text = End ended (front ++ text)
 
 -- How a command ended: what it has put out, and what it is to put out behind it.

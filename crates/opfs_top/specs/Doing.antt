@@ -5,7 +5,7 @@ use Rattle.std.specs.Prelude.{◌≡◌, ◌≢◌, ◌⊎◌, ◌++◌, ℕ, �
 use Rattle.opfs_base.specs.Texts.{Text}
 use Rattle.opfs_commands.specs.Commands.{Command, trial, running, judgement, generating, on_image, loading, Asks, AsksNothing}
 use Rattle.opfs_commands.specs.Kinds.{DoneKind, RefusedKind, MadeKind, IsDumping, IsMaking, IsReading, IsMigration, LeavesMade}
-use Rattle.opfs_commands.specs.Ran.{IsNotRun}
+use Rattle.opfs_commands.specs.Ran.{IsNotRun, IsRunText}
 use Rattle.opfs_commands.specs.Telling.{IsLoaded, IsNoDump, IsOfImage, StandsForText}
 use Rattle.opfs_gen.specs.Summing.{gen_text}
 use Rattle.opfs_hist.specs.declared.entry.Entry.{Entry}
@@ -147,6 +147,15 @@ Dumped (generating g) h text = ⊥
 Dumped (on_image path action) h text = IsDumping action × (h.tells → DoneKind action (h.image path) (h.image_after path) text)
 Dumped (loading image from) h text = ⊥
 
+-- The text of a command that puts it out itself: that of a dump, or the transcript of a run, which was whole or not.
+abbrev pub Printed : Command → SourceTurn → HostTurn → Text → Type 0
+Printed trial s h text = Dumped trial h text
+Printed (running path) s h text = OfSource s (OfScript (IsRunText h path)) text
+Printed judgement s h text = Dumped judgement h text
+Printed (generating g) s h text = Dumped (generating g) h text
+Printed (on_image path action) s h text = Dumped (on_image path action) h text
+Printed (loading image from) s h text = Dumped (loading image from) h text
+
 -- The command takes a script, which is refused.
 abbrev pub RefusedScript : Command → SourceTurn → Text → Type 0
 RefusedScript trial s text = OfSource s IsRefused text ⊎ IsTooLong s text
@@ -282,6 +291,12 @@ pub record TookDumped (k : SinkTurn) (words : List Text) (h : HostTurn) : Type 0
   pub front : Text
   pub took : Took k front
   pub begun : IsFrontOf (λ t. Asks words (λ command. Dumped command h t)) front
+
+-- Nothing was put out, or a front of the text of a dump or of a run.
+pub record TookPrinted (k : SinkTurn) (words : List Text) (s : SourceTurn) (h : HostTurn) : Type 0 where
+  pub front : Text
+  pub took : Took k front
+  pub begun : IsFrontOf (λ t. Asks words (λ command. Printed command s h t)) front
 
 -- ---- what is left of the host
 

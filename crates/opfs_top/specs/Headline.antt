@@ -1,5 +1,5 @@
 -- What a run over the image at a path of a host prints and leaves. This project's own.
-use Rattle.std.specs.Prelude.{◌≡◌, ◌⊎◌, ◌≤◌, Bool, true, List, All, length, Ok}
+use Rattle.std.specs.Prelude.{◌≡◌, ◌⊎◌, ◌≤◌, Bool, List, All, length, Ok}
 use Rattle.opfs_base.specs.Texts.{Text}
 use Rattle.opfs_commands.specs.Ran.{run_opening, HasImage, IsNotRun, IsRunAt, IsRunFailed, IsRunFault, IsRunRefused, LeavesFronts}
 use Rattle.opfs_desk_runs.specs.Runs.{IsToldApart}

@@ -7,7 +7,7 @@ ghost use Rattle.opfs_commands.specs.Telling.{IsStoodFor};
 ghost use Rattle.opfs_machine.specs.Openings.{Map};
 ghost use Rattle.opfs_migrate.specs.Migrating.{StandsEither};
 ghost use Rattle.opfs_outside.specs.Turns.{of_host, of_sink, of_source, AsBefore, ImageStays, Puts, PutsFront, SinkFailed};
-ghost use Rattle.opfs_top.specs.Doing.{DidWithImage, IsDone, IsUsage, IsBadScript, IsBadImage, IsEarly, IsFault, IsHostFault, IsNoTool, IsSourceFault, IsSomeEnd, IsSomeToolEnd, IsTool, IsUnmade, LeavesNew, LeavesRun, Makes, Migrates, Names, NoneFailed, OfSource, RefusedWithImage, TakesImage, Tells, TookDumped};
+ghost use Rattle.opfs_top.specs.Doing.{DidWithImage, IsDone, IsUsage, IsBadScript, IsBadImage, IsEarly, IsFault, IsHostFault, IsNoTool, IsSourceFault, IsSomeEnd, IsSomeToolEnd, IsTool, IsUnmade, LeavesNew, LeavesRun, Makes, Migrates, Names, NoneFailed, OfSource, RefusedWithImage, TakesImage, Tells, TookDumped, TookPrinted};
 ghost use Rattle.opfs_top.specs.Headline.{IsHeadline, OfScript};
 
 use crate::answer::Answer;
@@ -57,9 +57,9 @@ pub fn opfs_tool<H: Host, K: Sink>(
 /// `judge` reads a script and, behind a byte 0, a transcript, and tells whether that is one of a legal history of the script.
 /// `gen` makes a script from a number, runs it over an empty store, and tells the digest of each agent's transcript. `format`,
 /// `list`, `check`, `migrate` and `dump` work on the image at a path of the host; `load` makes one anew from the text at another
-/// path. Each status says what was put out, and why. A dump is put out piece by piece: where it ends early, a front of it was
-/// put out, and the line of a fault stands behind that. Where a run failed only in its end, that line stands behind the
-/// transcript.
+/// path. Each status says what was put out, and why. A dump is put out piece by piece, and a run's transcript while its agents
+/// run: where they end early, a front was put out, and the line of a fault stands behind that of a dump. Where a run failed only in
+/// its end, that line stands behind the transcript.
 ///
 /// The headline says what a run over an image prints and leaves, however its threads are scheduled; and however a run ends, it
 /// leaves its image as it was, or what one history of the script's agents leaves there.
@@ -71,7 +71,7 @@ pub fn opfs_tool<H: Host, K: Sink>(
 ///
 /// `format` and `load` make the new image beside what stands at its path. However they end, and wherever they are stopped, the
 /// old image stands there, or the new one whole; and the old one, where none was made and no call of the host itself failed.
-pub fn opfs<R: AllocGlobal + Threads + Wait + Sync, H: Host, S: Source, K: Sink, G: Gate>(
+pub fn opfs<R: AllocGlobal + Threads + Wait + Sync, H: Host, S: Source, K: Sink + Send, G: Gate>(
     rt: &R,
     words: &Words,
     host: &mut H,
@@ -88,7 +88,7 @@ pub fn opfs<R: AllocGlobal + Threads + Wait + Sync, H: Host, S: Source, K: Sink,
     ensures source { result ≡ Status.Source → Puts (of_sink K.Sink sink.old sink.new) (IsSourceFault words.now (of_source S.Source source.old source.new)) }
     ensures sink { result ≡ Status.Sink → PutsFront (of_sink K.Sink sink.old sink.new) (IsSomeEnd words.now (of_source S.Source source.old source.new) (of_host H.Host host.old host.new)) }
     ensures sink_cause { result ≡ Status.Sink → SinkFailed (of_sink K.Sink sink.old sink.new) }
-    ensures memory { result ≡ Status.Memory → TookDumped (of_sink K.Sink sink.old sink.new) words.now (of_host H.Host host.old host.new) }
+    ensures memory { result ≡ Status.Memory → TookPrinted (of_sink K.Sink sink.old sink.new) words.now (of_source S.Source source.old source.new) (of_host H.Host host.old host.new) }
     ensures others { H.tells → NoneFailed (of_host H.Host host.old host.new) result → (path : Text) → (Asks words.now (Names path) → ⊥) → AsBefore (of_host H.Host host.old host.new) path }
     ensures reads { H.tells → NoneFailed (of_host H.Host host.old host.new) result → (path : Text) → Asks words.now (Tells path) → ImageStays (of_host H.Host host.old host.new) path }
     ensures refused { result ≡ Status.Image → H.tells → (path : Text) → Asks words.now (Names path) → ImageStays (of_host H.Host host.old host.new) path }

@@ -9,7 +9,7 @@ ghost use Rattle.opfs_machine.specs.Openings.{Map};
 ghost use Rattle.opfs_migrate.specs.Migrating.{StandsEither};
 ghost use Rattle.opfs_outside.specs.Turns.{of_host, of_sink, of_source, AsBefore, ImageStays, OthersAsBefore};
 ghost use Rattle.opfs_top.specs.Answers.{ImageEnded, IsTold, IsUnmadeBy, LoadEnded, NoneFailedBy};
-ghost use Rattle.opfs_top.specs.Doing.{Dumped, Ended, IsEarly, IsTool, LeavesNew, LeavesRun, Makes, Migrates, Names, TakesImage, Tells, ToolEnded};
+ghost use Rattle.opfs_top.specs.Doing.{Dumped, Ended, IsEarly, IsTool, LeavesNew, LeavesRun, Makes, Migrates, Names, Printed, TakesImage, Tells, ToolEnded};
 
 use crate::answer::{Answer, Task, answer_large_run, answer_nothing, answer_script};
 use crate::run::run_script_at;
@@ -93,7 +93,13 @@ pub fn answer_tool<H: Host, K: Sink>(
 }
 
 /// How the command ends that words ask for, and what it is to put out behind what it has put out.
-pub fn answer_to<R: AllocGlobal + Threads + Wait + Sync, H: Host, S: Source, K: Sink, G: Gate>(
+pub fn answer_to<
+    R: AllocGlobal + Threads + Wait + Sync,
+    H: Host,
+    S: Source,
+    K: Sink + Send,
+    G: Gate,
+>(
     rt: &R,
     words: &Words,
     host: &mut H,
@@ -101,7 +107,7 @@ pub fn answer_to<R: AllocGlobal + Threads + Wait + Sync, H: Host, S: Source, K: 
     sink: &mut K,
     gate: &G,
 ) -> Result<Answer, AllocError>
-    ensures told { IsTold (of_sink K.Sink sink.old sink.new) (λ text. Asks words.now (λ command. Dumped command (of_host H.Host host.old host.new) text)) (Ended words.now (of_source S.Source source.old source.new) (of_host H.Host host.old host.new)) result }
+    ensures told { IsTold (of_sink K.Sink sink.old sink.new) (λ text. Asks words.now (λ command. Printed command (of_source S.Source source.old source.new) (of_host H.Host host.old host.new) text)) (Ended words.now (of_source S.Source source.old source.new) (of_host H.Host host.old host.new)) result }
     ensures others { H.tells → NoneFailedBy (of_host H.Host host.old host.new) result → (path : Text) → (Asks words.now (Names path) → ⊥) → AsBefore (of_host H.Host host.old host.new) path }
     ensures reads { H.tells → NoneFailedBy (of_host H.Host host.old host.new) result → (path : Text) → Asks words.now (Tells path) → ImageStays (of_host H.Host host.old host.new) path }
     ensures refused { IfOk result (λ answer. answer.status ≡ Status.Image → H.tells → (path : Text) → Asks words.now (Names path) → ImageStays (of_host H.Host host.old host.new) path) }
@@ -116,7 +122,7 @@ pub fn answer_to<R: AllocGlobal + Threads + Wait + Sync, H: Host, S: Source, K: 
     match read_command(words) {
         Some(Command::OnImage(path, action)) => answer_image(alloc, host, path, action, sink),
         Some(Command::Load(image, text)) => answer_load(alloc, host, image, text),
-        Some(Command::Run(path)) => run_script_at(rt, host, path, source, gate),
+        Some(Command::Run(path)) => run_script_at(rt, host, path, source, gate, sink),
         Some(Command::Try) => answer_script(rt, Task::Try, source, gate),
         Some(Command::Judge) => answer_script(rt, Task::Judge, source, gate),
         Some(Command::Generate(numbers)) => answer_large_run(rt, numbers, gate),

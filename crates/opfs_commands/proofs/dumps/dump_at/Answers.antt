@@ -1,4 +1,4 @@
-use Rattle.std.proofs.Common.{◌≡◌, inl, refl, sym, ◌∙◌}
+use Rattle.std.proofs.Common.{◌≡◌, inl, sym, ◌∙◌}
 use Rattle.std.specs.Prelude.{Some, Err}
 use Rattle.opfs_outside.specs.Turns.{of_host, of_sink}
 use Rattle.opfs_commands.proofs.Dumping.{put_back, put_fault, put_none}

@@ -1,4 +1,4 @@
-use Rattle.std.proofs.Common.{◌≡◌, inl, inr, refl, sym, ◌∙◌}
+use Rattle.std.proofs.Common.{◌≡◌, inl, inr, sym, ◌∙◌}
 use Rattle.std.specs.Prelude.{Some}
 use Rattle.opfs_outside.specs.Turns.{of_host}
 use Rattle.opfs_commands.proofs.Hosting.{stood_for, since_fetched, one_since, rose_later, host_rose, later_by, given_back, was_given, refused_back, others_stay, only_read}

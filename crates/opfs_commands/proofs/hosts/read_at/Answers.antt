@@ -1,4 +1,4 @@
-use Rattle.std.proofs.Common.{◌≡◌, inl, refl, sym, ◌∙◌}
+use Rattle.std.proofs.Common.{◌≡◌, inl, sym, ◌∙◌}
 use Rattle.std.specs.Prelude.{Some}
 use Rattle.opfs_outside.specs.Turns.{of_host}
 use Rattle.opfs_commands.proofs.Hosting.{rose_later, host_rose, later_by, given_back, was_given, others_stay, only_read, one_since}

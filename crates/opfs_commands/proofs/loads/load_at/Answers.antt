@@ -1,4 +1,3 @@
-use Rattle.std.proofs.Common.{refl}
 use Rattle.opfs_outside.specs.Turns.{of_host}
 use Rattle.opfs_commands.proofs.Loading.{all_stay, before_on, failed_on, never_refused, refused_stays, stays_on, wider_answer}
 use Rattle.opfs_commands.proofs.Making.{leaves_stays, made_after, stands_for}

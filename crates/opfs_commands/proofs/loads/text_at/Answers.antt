@@ -1,4 +1,4 @@
-use Rattle.std.proofs.Common.{◌≡◌, inl, refl, sym, ◌∙◌, arith}
+use Rattle.std.proofs.Common.{◌≡◌, inl, sym, ◌∙◌, arith}
 use Rattle.std.specs.Prelude.{Some}
 use Rattle.opfs_outside.specs.Turns.{of_host, HostFailed}
 use Rattle.opfs_commands.proofs.Hosting.{rose_later, host_rose, later_by, given_back, one_since}

@@ -1,7 +1,18 @@
-use Rattle.std.proofs.Common.{refl}
+use Rattle.std.proofs.Common.{◌∙◌}
+use Rattle.std.specs.Prelude.{Err}
+use Rattle.opfs_outside.specs.Turns.{of_sink}
 use Rattle.opfs_commands.proofs.Hosting.{later_by}
-use Rattle.opfs_commands.proofs.RunHosts.{IsFetched, others-at, ran-at}
+use Rattle.opfs_commands.proofs.RunHosts.{IsFetched, fetch-failed, fetch-short, others-at, ran-at}
 use Rattle.opfs_commands.proofs.runs.run_at.Goals as goal
+
+pub returns-in-Err-Failed-clause-ran : goal.returns-in-Err-Failed-clause-ran
+returns-in-Err-Failed-clause-ran g c =
+    fetch-failed g.H.Host g.K.Sink c.args.sink.now c.args.path.now c.args.script.now c.args.host.now c.fetch.new.self (λ t. c.fetch.ensures.images_stay t) (λ t. c.fetch.ensures.trails_stay t) c.host_answer.result
+    (c.fetch.ensures.cause (c.in-Err-Failed.is ∙ (λ i. Err (c.in-Err-Failed.field-0-is i)))) c.host_answer.ensures.end c.host_answer.ensures.text
+
+pub returns-in-Err-NoMemory-clause-ran : goal.returns-in-Err-NoMemory-clause-ran
+returns-in-Err-NoMemory-clause-ran g c =
+    fetch-short g.H.Host g.K.Sink c.args.sink.now c.args.path.now c.args.script.now c.args.host.now c.fetch.new.self (λ t. c.fetch.ensures.images_stay t) (λ t. c.fetch.ensures.trails_stay t) _
 
 pub returns-clause-ran : goal.returns-clause-ran
 returns-clause-ran g c =
@@ -21,8 +32,8 @@ returns-clause-ran g c =
       own = c.fetch.ensures.own_later;
       later = later_by _ _ _ c.fetch.ensures.later;
     } in
-    ran-at g.H.Host g.H.D.Disk c.args.path.now c.args.script.now c.args.host.now c.fetch.new.self c.end_at.new.host c.in-Ok.disk c.run_on-disk.result.0 fetched c.end_at.ensures.later c.end_at.ensures.back
-    c.run_on-disk.result.1 c.end_at.result c.run_on-disk.ensures c.end_at.ensures.kept
+    ran-at g.H.Host g.H.D.Disk (of_sink g.K.Sink c.args.sink.now c.run_on-disk.new.sink) c.args.path.now c.args.script.now c.args.host.now c.fetch.new.self c.end_at.new.host c.in-Ok.disk c.run_on-disk.result.0 fetched c.end_at.ensures.later
+    c.end_at.ensures.back c.run_on-disk.result.1 c.end_at.result c.run_on-disk.ensures.ran c.end_at.ensures.kept
 
 pub returns-clause-others : goal.returns-clause-others
 returns-clause-others g c =
@@ -42,5 +53,6 @@ returns-clause-others g c =
       own = c.fetch.ensures.own_later;
       later = later_by _ _ _ c.fetch.ensures.later;
     } in
-    others-at g.H.Host g.H.D.Disk c.args.path.now c.args.script.now c.args.host.now c.fetch.new.self c.end_at.new.host c.in-Ok.disk c.run_on-disk.result.0 fetched c.end_at.ensures.later c.end_at.ensures.back
-    c.run_on-disk.result.1 c.end_at.result c.end_at.ensures.kept
+    λ t none.
+    others-at g.H.Host g.H.D.Disk (of_sink g.K.Sink c.args.sink.now c.run_on-disk.new.sink) c.args.path.now c.args.script.now c.args.host.now c.fetch.new.self c.end_at.new.host c.in-Ok.disk c.run_on-disk.result.0 fetched c.end_at.ensures.later t
+    (c.end_at.ensures.others t)

@@ -45,7 +45,7 @@ pub returns-in-Ok-put_all-clause-sink : goal.returns-in-Ok-put_all-clause-sink
 returns-in-Ok-put_all-clause-sink g c = λ is. front_as g.K.Sink c.args.sink.now c.answer_to.new.sink c.put_all.new.sink _ _ c.answer_to.result c.answer_to.ensures.told c.in-Ok.field-0 c.in-Ok.is _ c.as_slice.ensures _ (λ e t x. record { status = e; ended = x }) c.in-Ok-put_all.ensures.ok is
 
 pub returns-in-Ok-put_all-clause-sink_cause : goal.returns-in-Ok-put_all-clause-sink_cause
-returns-in-Ok-put_all-clause-sink_cause g c = λ is. cause_as g.K.Sink c.args.sink.now c.answer_to.new.sink c.put_all.new.sink _ _ c.answer_to.result c.answer_to.ensures.told c.in-Ok.field-0 c.in-Ok.is _ c.as_slice.ensures c.put_all.ensures.later (g.met.K.Sink.counted _) is
+returns-in-Ok-put_all-clause-sink_cause g c = λ is. cause_as g.K.Sink c.args.sink.now c.answer_to.new.sink c.put_all.new.sink _ _ c.answer_to.result c.answer_to.ensures.told c.in-Ok.field-0 c.in-Ok.is _ c.as_slice.ensures c.put_all.ensures.later ((g.met.K.Sink g.world.𝓛 g.world.𝓜 g.world.𝓡 ((λ s x. x), (λ x. x), (λ x. x), λ x. x)).counted _) is
 
 pub returns-in-Ok-put_all-clause-memory : goal.returns-in-Ok-put_all-clause-memory
 returns-in-Ok-put_all-clause-memory g c = λ is. absurd (never_as g.K.Sink c.args.sink.now c.answer_to.new.sink c.put_all.new.sink _ _ c.answer_to.result c.answer_to.ensures.told c.in-Ok.field-0 c.in-Ok.is _ c.as_slice.ensures status.Memory (λ x. cc x) is)

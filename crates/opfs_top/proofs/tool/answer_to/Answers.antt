@@ -6,7 +6,7 @@ use Rattle.opfs_migrate.specs.Migrating.{StandsEither}
 use Rattle.opfs_outside.specs.Turns.{of_host, of_sink, of_source, ImageStays}
 use Rattle.opfs_top.specs.Doing.{Ended}
 use Rattle.opfs_top.proofs.Hosts.{image_ends, image_migrated, image_named, image_told, judgement_ends, large_run_told, load_ends, load_no_migration, load_told, not_image, not_named, not_text, nothing_ends, takes_image, takes_load, trial_ends}
-use Rattle.opfs_top.proofs.Running.{image_never_early, left_of_image, left_of_load, left_of_run, load_late, not_run, not_run_path, refused_stays, run_ends, run_named, run_no_migration, run_tells_none, takes_run}
+use Rattle.opfs_top.proofs.Running.{image_never_early, left_of_image, left_of_load, left_of_run, load_late, not_run, not_run_path, refused_stays, run_named, run_no_migration, run_tells_none, run_told, takes_run}
 use Rattle.opfs_top.proofs.Telling.{told_nothing, told_wider, usage_ended}
 use Rattle.opfs_top.proofs.Made.{image_makes, load_makes, none_makes}
 use Rattle.opfs_top.proofs.tool.answer_to.Goals as goal
@@ -78,9 +78,7 @@ pub returns-in-Some-Load-clause-early : goal.returns-in-Some-Load-clause-early
 returns-in-Some-Load-clause-early g c = IfOk-weaker c.answer_load.result _ _ (λ a is early. absurd (load_late (of_host g.H.Host c.args.host.now c.answer_load.new.host) c.in-Some-Load.image.now c.in-Some-Load.text.now a.status a.text is early)) c.answer_load.ensures.ended
 
 pub returns-in-Some-Run-clause-told : goal.returns-in-Some-Run-clause-told
-returns-in-Some-Run-clause-told g c =
-    told_nothing g.K.Sink c.args.sink.now _ (Ended c.args.words.now (of_source g.S.Source c.args.source.now c.run_script_at.new.source) (of_host g.H.Host c.args.host.now c.run_script_at.new.host)) (λ t x. x) c.run_script_at.result
-    (IfOk-weaker c.run_script_at.result _ _ (λ a is. run_ends c.args.words.now (of_source g.S.Source c.args.source.now c.run_script_at.new.source) (of_host g.H.Host c.args.host.now c.run_script_at.new.host) c.in-Some-Run.path.now (subst (λ r. IsAsked c.args.words.now (meant r)) c.in-Some-Run.field-0-is c.in-Some-Run.ensures.some) a.status a.text is) c.run_script_at.ensures.ended)
+returns-in-Some-Run-clause-told g c = run_told c.args.words.now (of_source g.S.Source c.args.source.now c.run_script_at.new.source) (of_host g.H.Host c.args.host.now c.run_script_at.new.host) (of_sink g.K.Sink c.args.sink.now c.run_script_at.new.sink) c.in-Some-Run.path.now (subst (λ r. IsAsked c.args.words.now (meant r)) c.in-Some-Run.field-0-is c.in-Some-Run.ensures.some) c.run_script_at.result c.run_script_at.ensures.told
 
 pub returns-in-Some-Run-clause-others : goal.returns-in-Some-Run-clause-others
 returns-in-Some-Run-clause-others g c = λ told none path other. c.run_script_at.ensures.others told none path (not_run_path c.args.words.now c.in-Some-Run.path.now (subst (λ r. IsAsked c.args.words.now (meant r)) c.in-Some-Run.field-0-is c.in-Some-Run.ensures.some) path other)
@@ -91,8 +89,8 @@ returns-in-Some-Run-clause-reads g c = λ told none path is. absurd (run_tells_n
 pub returns-in-Some-Run-clause-refused : goal.returns-in-Some-Run-clause-refused
 returns-in-Some-Run-clause-refused g c =
     IfOk-weaker c.run_script_at.result _ _
-    (λ a is same told path names. subst (λ p. ImageStays (of_host g.H.Host c.args.host.now c.run_script_at.new.host) p) (sym (run_named c.args.words.now c.in-Some-Run.path.now (subst (λ r. IsAsked c.args.words.now (meant r)) c.in-Some-Run.field-0-is c.in-Some-Run.ensures.some) path names)) (refused_stays (of_source g.S.Source c.args.source.now c.run_script_at.new.source) (of_host g.H.Host c.args.host.now c.run_script_at.new.host) c.in-Some-Run.path.now a.status a.text is same told))
-    c.run_script_at.ensures.ended
+    (λ a is same told path names. subst (λ p. ImageStays (of_host g.H.Host c.args.host.now c.run_script_at.new.host) p) (sym (run_named c.args.words.now c.in-Some-Run.path.now (subst (λ r. IsAsked c.args.words.now (meant r)) c.in-Some-Run.field-0-is c.in-Some-Run.ensures.some) path names)) (is same told))
+    (refused_stays (of_source g.S.Source c.args.source.now c.run_script_at.new.source) (of_host g.H.Host c.args.host.now c.run_script_at.new.host) (of_sink g.K.Sink c.args.sink.now c.run_script_at.new.sink) c.in-Some-Run.path.now c.run_script_at.result c.run_script_at.ensures.told)
 
 pub returns-in-Some-Run-clause-trail : goal.returns-in-Some-Run-clause-trail
 returns-in-Some-Run-clause-trail g c = λ told none path is. absurd (run_no_migration c.args.words.now c.in-Some-Run.path.now (subst (λ r. IsAsked c.args.words.now (meant r)) c.in-Some-Run.field-0-is c.in-Some-Run.ensures.some) path is)
