@@ -1,5 +1,5 @@
 -- A conversation that was held over an image, and its run, which has ended.
-use Rattle.std.proofs.Common.{◌≡◌, ◌≤◌, ℕ, ◌+◌, Bool, true, List, ◌++◌, map, refl, sym, ap, ◌∙◌, subst}
+use Rattle.std.proofs.Common.{◌≡◌, ◌≤◌, ℕ, ◌+◌, ◌<◌, Bool, true, List, ◌++◌, length, map, refl, sym, ap, ◌∙◌, subst}
 use Rattle.std.specs.Prelude.{OnOk, OnErr}
 use Rattle.opfs_books.specs.Openings.Openings.{caller_by, fixed_by}
 use Rattle.opfs_desk.specs.Apart.{IsToldApart}
@@ -40,15 +40,15 @@ module _ {D P : Type 0} (w : DiskWords D) (tells : Type 0) (said : P → List (S
     opens = ap (λ f. f.opening) fixed ∙ same-opening w from callers scripts who
 
     -- over an image that was recovered
-    pub served-over : EachCut scripts (entries_of store) → (whole ≡ true → EachRuns scripts (entries_of store)) → (ended ≡ state.On → told ≡ entries_of store)
+    pub served-over : (ended ≡ state.On → 0 < length talk.talk) → EachCut scripts (entries_of store) → (whole ≡ true → EachRuns scripts (entries_of store)) → (ended ≡ state.On → told ≡ entries_of store)
         → run.whole ≡ whole → run.history ≡ entries_of store → IsToldApart w.tells store.fixed.opening run.history → OnOk run.done (StandsWhole w store run.disk)
         → (w.tells → LeavesFront w store.fixed.opening run.history run.disk) → EndsFronts w store run.disk → EndsKept w store run.disk → EndsKeeping w store run.disk → KeepsSizes w store run.disk → EndsTime w store run.disk
         → RoseBy (disk_faults (entries_of store)) (w.faults store.fixed.begun) (w.faults run.disk) → OnErr run.done (RoseBy (disk_faults (entries_of store) + 1) (w.faults store.fixed.begun) (w.faults run.disk))
         → IsServedOver w tells said agents begun now from run ended
-    served-over cut runs all whole_is history apart stands left fronts keeps stays sizes time faults failed = record {
+    served-over greeted cut runs all whole_is history apart stands left fronts keeps stays sizes time faults failed = record {
       scripts = scripts;
       over = run-over w reads store scripts run history from callers who fixed cut (λ is. runs (sym whole_is ∙ is)) apart stands left fronts keeps sizes time faults failed;
-      talked = conversation w store run.disk stays (opening_over w from scripts) run.history opens history tells said agents begun now ended scripts told talk all;
+      talked = conversation w store run.disk stays (opening_over w from scripts) run.history opens history tells said agents begun now ended scripts told talk greeted all;
     }
 
   -- over the one that a disk held, from which it was recovered

@@ -1,7 +1,7 @@
 -- What was said in a conversation with a desk, whose run has ended.
-use Rattle.std.proofs.Common.{◌≡◌, ◌⊎◌, ℕ, zero, suc, ◌-◌, List, [], ◌∷◌, ◌++◌, map, Option, Some, None, refl, sym, ap, ◌∙◌, subst, inl, inr}
+use Rattle.std.proofs.Common.{◌≡◌, ◌⊎◌, ℕ, zero, suc, ◌-◌, ◌<◌, List, [], ◌∷◌, ◌++◌, length, map, Option, Some, None, refl, sym, ap, ◌∙◌, subst, inl, inr}
 use Rattle.std.specs.Prelude.{All}
-use Rattle.std.proofs.lemmas.List.Elements.{All-head, All-tail}
+use Rattle.std.proofs.lemmas.List.Elements.{All-cons, All-head, All-nil, All-tail}
 use Rattle.opfs_desk.specs.Keeping.{EndsKeeping, KeepsAll, StaysKept}
 use Rattle.opfs_desk.specs.Seen.{DeskSeen, entries_of}
 use Rattle.opfs_hall.specs.History.{IsPrefix}
@@ -34,38 +34,46 @@ pub after-who : {T : Type 0} (xs : List (Exchange T)) (scripts : List Asked) →
 after-who [] scripts = refl
 after-who (x ∷ xs) scripts = after-who xs (with_call scripts x.call) ∙ call-who x.call scripts
 
+front-all : {X : Type 0} (P : X → Type 0) (xs ys : List X) → All P (xs ++ ys) → All P xs
+front-all P [] ys all = All-nil P
+front-all P (x ∷ xs) ys all = All-cons P x xs (All-head P x (xs ++ ys) all) (front-all P xs ys (All-tail P x (xs ++ ys) all))
+
 -- ---- the exchanges, as the run's end has them
 
 module _ {D : Type 0} (w : DiskWords D) (store : DeskSeen D) (disk : D) (ends : EndsKeeping w store disk) (o : Opening) (history : List Entry) (opens : store.fixed.opening ≡ o) (same : history ≡ entries_of store) where
-  exchanges-on : (scripts : List Asked) (told : List Entry) (xs : List (Exchange (DeskSeen D))) → AreExchanges entries_of (KeepsAll w) scripts told xs → All (λ x. IsPrefix (entries_of x.at) (entries_of store)) xs
-      → All (λ x. StaysKept w x.at store) xs → AreExchangesOn w o history w.tells (w.moment disk) (w.since disk) scripts told xs
-  exchanges-on scripts told [] are begins goes = tt
-  exchanges-on scripts told (x ∷ xs) are begins goes = (
+  exchanges-on : (count : ℕ) (scripts : List Asked) (told : List Entry) (xs : List (Exchange (DeskSeen D))) → AreExchanges entries_of (KeepsAll w) count scripts told xs → All (λ x. IsPrefix (entries_of x.at) (entries_of store)) xs
+      → All (λ x. StaysKept w x.at store) xs → AreExchangesOn w o history w.tells (w.moment disk) (w.since disk) count scripts told xs
+  exchanges-on count scripts told [] are begins goes = tt
+  exchanges-on count scripts told (x ∷ xs) are begins goes = (
     record {
       asked = are.0.asked;
+      first = are.0.first;
       front = are.0.front;
       begins = subst (λ (es : List Entry). IsPrefix (entries_of x.at) es) (sym same) (All-head (λ (y : Exchange (DeskSeen D)). IsPrefix (entries_of y.at) (entries_of store)) x xs begins);
       answered = are.0.answered;
       kept = has-kept w store disk ends o history opens same x.at are.0.kept (All-head (λ (y : Exchange (DeskSeen D)). StaysKept w y.at store) x xs goes);
     },
-    exchanges-on (with_call scripts x.call) (told ++ entries_told x.answer) xs are.1 (All-tail (λ (y : Exchange (DeskSeen D)). IsPrefix (entries_of y.at) (entries_of store)) x xs begins)
+    exchanges-on (suc count) (with_call scripts x.call) (told ++ entries_told x.answer) xs are.1 (All-tail (λ (y : Exchange (DeskSeen D)). IsPrefix (entries_of y.at) (entries_of store)) x xs begins)
         (All-tail (λ (y : Exchange (DeskSeen D)). StaysKept w y.at store) x xs goes),
   )
 
   pub conversation : {P : Type 0} (tells : Type 0) (said : P → List (Said (DeskSeen D))) (agents : List Asked) (begun now : P) (ended : State) (scripts : List Asked) (told : List Entry)
-      → IsTalk entries_of (KeepsAll w) (StaysKept w) tells said agents begun now store (ended ≡ state.On) scripts told → (ended ≡ state.On → told ≡ entries_of store)
+      → (t : IsTalk entries_of (KeepsAll w) (StaysKept w) tells said agents begun now store (ended ≡ state.On) scripts told) → (ended ≡ state.On → 0 < length t.talk) → (ended ≡ state.On → told ≡ entries_of store)
       → IsConversation w o history w.tells (w.moment disk) (w.since disk) tells said agents begun now ended scripts
-  conversation {P} tells said agents begun now ended scripts told t all = record {
+  conversation {P} tells said agents begun now ended scripts told t greeted all = record {
     talk = t.talk;
     unsaid = t.left;
     few = t.few;
     said_is = λ b. by (t.said_is b);
-    right = exchanges-on agents [] t.talk t.right t.begins t.goes_on;
+    right = exchanges-on 0 agents [] t.talk t.right (front-all (λ (y : Exchange (DeskSeen D)). IsPrefix (entries_of y.at) (entries_of store)) t.talk t.left t.begins)
+        (front-all (λ (y : Exchange (DeskSeen D)). StaysKept w y.at store) t.talk t.left t.goes_on);
+    greeted = greeted;
     scripts_are = t.scripts_are;
     all = λ well. (t.whole well, sym t.told_is ∙ all well ∙ sym same);
   }
     where
-      by : (said now ≡ said begun ++ (spoken t.talk ++ unanswered t.left)) ⊎ ((said now ≡ said begun ++ (spoken t.talk ++ spoken t.left)) × AreExchanges entries_of (KeepsAll w) agents [] (t.talk ++ t.left))
-          → (said now ≡ said begun ++ (spoken t.talk ++ unanswered t.left)) ⊎ (said now ≡ said begun ++ (spoken t.talk ++ spoken t.left))
+      by : (said now ≡ said begun ++ (spoken t.talk ++ unanswered t.left)) ⊎ ((said now ≡ said begun ++ (spoken t.talk ++ spoken t.left)) × AreExchanges entries_of (KeepsAll w) 0 agents [] (t.talk ++ t.left))
+          → (said now ≡ said begun ++ (spoken t.talk ++ unanswered t.left))
+          ⊎ ((said now ≡ said begun ++ (spoken t.talk ++ spoken t.left)) × AreExchangesOn w o history w.tells (w.moment disk) (w.since disk) 0 agents [] (t.talk ++ t.left))
       by (inl is) = inl is
-      by (inr is) = inr is.0
+      by (inr is) = inr (is.0, exchanges-on 0 agents [] (t.talk ++ t.left) is.1 t.begins t.goes_on)

@@ -1,5 +1,5 @@
 -- A conversation over an image: what was said, the history, and what each image has since an answer went out. This project's own.
-use Rattle.std.specs.Prelude.{◌≡◌, ◌⊎◌, ℕ, ◌≤◌, List, [], ◌∷◌, ◌++◌, length, take}
+use Rattle.std.specs.Prelude.{◌≡◌, ◌⊎◌, ℕ, suc, ◌<◌, ◌≤◌, List, [], ◌∷◌, ◌++◌, length, take}
 use Rattle.opfs_base.specs.Texts.{Text}
 use Rattle.opfs_books.specs.Laws.Fronts.{IsShownOnce}
 use Rattle.opfs_desk.specs.Seen.{DeskSeen, disk_of, entries_of}
@@ -13,7 +13,7 @@ use Rattle.opfs_machine.specs.Openings.{Opening}
 use Rattle.opfs_outside.specs.declared.disk.Disk.{Ghosts as DiskWords}
 use Rattle.opfs_port.specs.Said.{Said}
 use Rattle.opfs_script.specs.Scripts.{Asked}
-use Rattle.opfs_serving.specs.Exchanges.{Exchange, all_told, entries_told, scripts_after, spoken, unanswered, with_call}
+use Rattle.opfs_serving.specs.Exchanges.{Exchange, all_told, entries_told, ready, scripts_after, spoken, unanswered, with_call}
 use Rattle.opfs_serving.specs.Lines.{IsAsked}
 use Rattle.opfs_serving.specs.Talks.{HasAnswer}
 use Rattle.opfs_serving.specs.declared.progress.State.{State}
@@ -31,10 +31,12 @@ abbrev pub moment_of : {D : Type 0} → DiskWords D → DeskSeen D → ℕ
 moment_of w d = w.moment (disk_of d)
 
 module _ {D : Type 0} (w : DiskWords D) (o : Opening) (history : List Entry) (Known : Type 0) (last : ℕ) (left : ℕ → Text → Type 0) where
-  -- One exchange, where agents were asked for these scripts before, and these entries were told.
-  pub record IsExchangeOn (scripts : List Asked) (told : List Entry) (x : Exchange (DeskSeen D)) : Type 0 where
-    -- what the line asks, and what kind its answer is of
-    pub asked : IsAsked scripts x.line x.call x.answer
+  -- One exchange, where so many were before, agents were asked for these scripts, and these entries were told.
+  pub record IsExchangeOn (count : ℕ) (scripts : List Asked) (told : List Entry) (x : Exchange (DeskSeen D)) : Type 0 where
+    -- what the line asks, and its answer
+    pub asked : IsAsked count scripts told x.line x.call x.answer
+    -- the first tells how many agents there are
+    pub first : count ≡ 0 → x.answer ≡ ready (length scripts)
     -- all that is told was entered when it went out, and what was entered then begins the history
     pub front : IsPrefix (told ++ entries_told x.answer) (entries_of x.at)
     pub begins : IsPrefix (entries_of x.at) history
@@ -44,17 +46,19 @@ module _ {D : Type 0} (w : DiskWords D) (o : Opening) (history : List Entry) (Kn
     pub kept : Known → HasKept o history last left (length (entries_of x.at)) (moment_of w x.at)
 
   -- One exchange after another.
-  abbrev pub AreExchangesOn : List Asked → List Entry → List (Exchange (DeskSeen D)) → Type 0
-  AreExchangesOn scripts told [] = Unit {0}
-  AreExchangesOn scripts told (x ∷ xs) = IsExchangeOn scripts told x × AreExchangesOn (with_call scripts x.call) (told ++ entries_told x.answer) xs
+  abbrev pub AreExchangesOn : ℕ → List Asked → List Entry → List (Exchange (DeskSeen D)) → Type 0
+  AreExchangesOn count scripts told [] = Unit {0}
+  AreExchangesOn count scripts told (x ∷ xs) = IsExchangeOn count scripts told x × AreExchangesOn (suc count) (with_call scripts x.call) (told ++ entries_told x.answer) xs
 
-  -- What was said at a port since it was so: exchanges, and one at most whose answer may not have gone out. Where all went out, all entries were told.
+  -- What was said at a port since it was so: exchanges, and one at most whose answer may not have gone out; if it did, it is right too. Where all went out,
+  -- the first answer did, and all entries were told.
   pub record IsConversation {P : Type 0} (tells : Type 0) (said : P → List (Said (DeskSeen D))) (agents : List Asked) (begun now : P) (ended : State) (scripts : List Asked) : Type 0 where
     pub talk : List (Exchange (DeskSeen D))
     pub unsaid : List (Exchange (DeskSeen D))
     pub few : length unsaid ≤ 1
-    pub said_is : tells → (said now ≡ said begun ++ (spoken talk ++ unanswered unsaid)) ⊎ (said now ≡ said begun ++ (spoken talk ++ spoken unsaid))
-    pub right : AreExchangesOn agents [] talk
+    pub said_is : tells → (said now ≡ said begun ++ (spoken talk ++ unanswered unsaid)) ⊎ ((said now ≡ said begun ++ (spoken talk ++ spoken unsaid)) × AreExchangesOn 0 agents [] (talk ++ unsaid))
+    pub right : AreExchangesOn 0 agents [] talk
+    pub greeted : ended ≡ state.On → 0 < length talk
     pub scripts_are : scripts ≡ scripts_after agents (talk ++ unsaid)
     pub all : ended ≡ state.On → (unsaid ≡ []) × (all_told talk ≡ history)
 

@@ -1,6 +1,6 @@
 //! A conversation over an image.
 
-ghost use Rattle.std.specs.Prelude.{◌≡◌, ◌≢◌, ◌≤◌, length, Err, IfOk, IfErr};
+ghost use Rattle.std.specs.Prelude.{◌≡◌, ◌≢◌, ◌≤◌, [], length, Err, IfOk, IfErr};
 ghost use Rattle.opfs_codec.specs.declared.change.Format.TheVariants.{New};
 ghost use Rattle.opfs_image.specs.Reading.{read_as};
 ghost use Rattle.opfs_journal.specs.Walking.{OnlyRead};
@@ -42,6 +42,7 @@ pub fn serve_image<D: Disk, P: Port<Desk<D>>, R: AllocGlobal + Wait>(
     requires few { length agents.now ≤ 64 }
     requires alone { HasNoScripts agents.now }
     ensures served { IfOk result (λ served. IsServedOver D.Disk P.tells P.said agents.now port.old port.new from served.run served.state) }
+    ensures all { IfOk result (λ served. served.state ≡ State.On → P.tells → P.rest port.new ≡ []) }
     ensures err { IfErr result (λ disk. disk ≡ from.journal.disk) }
     ensures none { IfErr result (λ disk. port.new ≡ port.old) }
 {
@@ -76,6 +77,7 @@ pub fn serve_disk<D: Disk, P: Port<Desk<D>>, R: AllocGlobal + Wait>(
     requires few { length agents.now ≤ 64 }
     requires alone { HasNoScripts agents.now }
     ensures served { IfOk result (λ served. IsServedOn D.Disk P.tells P.said agents.now port.old port.new disk served.run served.state) }
+    ensures all { IfOk result (λ served. served.state ≡ State.On → P.tells → P.rest port.new ≡ []) }
     ensures only { IfErr result (λ err. OnlyRead D.Disk disk err.0) }
     ensures refused { IfErr result (λ err. err.1 ≢ ImageRefusal.DiskFault → err.1 ≢ ImageRefusal.NoMemory → D.tells → read_as New New (D.content disk) ≡ Err err.1) }
     ensures cause { IfErr result (λ err. err.1 ≡ ImageRefusal.DiskFault → Rose (D.faults disk) (D.faults err.0)) }

@@ -1,23 +1,29 @@
 -- How a conversation over a disk ended.
-use Rattle.std.proofs.Common.{◌≡◌, ◌≢◌, sym, ap, ◌∙◌, subst}
-use Rattle.std.specs.Prelude.{List, Result, Ok, Err}
+use Rattle.std.proofs.Common.{◌≡◌, ◌≢◌, refl, sym, ap, ◌∙◌, subst, inl, inr}
+use Rattle.std.specs.Prelude.{List, Result, Ok, Err, IfOk}
 use Rattle.std.specs.declared.alloc.AllocError.{AllocError}
+use Rattle.opfs_base.specs.Texts.{Text}
 use Rattle.opfs_codec.specs.declared.change.Format.TheVariants.{New}
 use Rattle.opfs_desk.specs.Seen.{DeskSeen}
 use Rattle.opfs_image.specs.Reading.{read_as}
 use Rattle.opfs_image.specs.declared.refusal.ImageRefusal.{ImageRefusal}
 use Rattle.opfs_image.specs.declared.refusal.ImageRefusal.TheVariants as image
 use Rattle.opfs_journal.specs.Walking.{OnlyRead}
+use Rattle.opfs_journal.specs.declared.refusal.DiskFault.{DiskFault}
 use Rattle.opfs_outside.specs.Faults.{Rose}
 use Rattle.opfs_outside.specs.declared.disk.Disk.{Ghosts as DiskWords}
 use Rattle.opfs_port.specs.Said.{Said}
 use Rattle.opfs_script.specs.Scripts.{Asked}
 use Rattle.opfs_desk_runs.specs.declared.running.Completion.{Completion}
 use Rattle.opfs_serve_runs.specs.Conversations.{IsServedOn}
-use Rattle.opfs_serve_top.specs.Ends.{EndedOn, IsHeldEnd, IsRefusedEnd}
+use Rattle.opfs_serve_top.specs.Ends.{AllWentOut, EndedOn, IsGivenOr, IsHeldEnd, IsRefusedEnd, broken_end}
+use Rattle.opfs_serve_top.specs.Headline.{IsReplyTo, status_of}
 use Rattle.opfs_serve_top.specs.declared.host.Ending.{Ending}
 use Rattle.opfs_serve_top.specs.declared.host.Ending.TheVariants as ending
 use Rattle.opfs_serving.specs.declared.progress.State.{State}
+use Rattle.opfs_serving.specs.declared.progress.State.TheVariants as state
+use Rattle.opfs_top.specs.declared.status.Status.{Status}
+use Rattle.opfs_top.specs.declared.status.Status.TheVariants as status
 
 module _ {D P : Type 0} (w : DiskWords D) (tells : Type 0) (said : P → List (Said (DeskSeen D))) (agents : List Asked) (begun now : P) (old new : D) where
   pub held-on : (run : Completion D) (state : State) (e : Ending) → new ≡ run.disk → IsServedOn w tells said agents begun now old run state → IsHeldEnd run.done state e → EndedOn w tells said agents begun now old new (Ok e)
@@ -34,3 +40,46 @@ module _ {D P : Type 0} (w : DiskWords D) (tells : Type 0) (said : P → List (S
   not-held-on refusal (Ok (ending.Refused why)) only unsaid refused cause is = record { only = only; unsaid = unsaid; why = λ t. refused is.1 is.2 t ∙ ap (λ (x : ImageRefusal). Err x) is.0 }
   not-held-on refusal (Ok ending.Failed) only unsaid refused cause is = record { only = only; unsaid = unsaid; why = cause is }
   not-held-on refusal (Err e) only unsaid refused cause is = record { only = only; unsaid = unsaid; why = tt }
+
+-- ---- where all answers went out
+
+pub held-went : (done : Result (Unit {0}) DiskFault) (s : State) (e : Ending) → IsHeldEnd done s e → AllWentOut e → s ≡ state.On
+held-went done s (ending.Held ended) is went = sym is.1 ∙ went
+held-went done s (ending.Broken ended) is went = sym is.1 ∙ went
+held-went done s (ending.Refused why) is went = absurd is
+held-went done s ending.Failed is went = absurd is
+
+pub refused-went : (refusal : ImageRefusal) (r : Result Ending AllocError) (Q : Type 0) → IsRefusedEnd refusal r → IfOk r (λ e. AllWentOut e → Q)
+refused-went refusal (Ok (ending.Held ended)) Q is = absurd is
+refused-went refusal (Ok (ending.Broken ended)) Q is = absurd is
+refused-went refusal (Ok (ending.Refused why)) Q is = λ went. absurd went
+refused-went refusal (Ok ending.Failed) Q is = λ went. absurd went
+refused-went refusal (Err e) Q is = tt
+
+broken-went : (r : Result Ending AllocError) (Q : Type 0) → IfOk r (λ e. AllWentOut e → Q) → AllWentOut (broken_end r) → Q
+broken-went (Ok (ending.Held ended)) Q all went = all went
+broken-went (Ok (ending.Broken ended)) Q all went = all went
+broken-went (Ok (ending.Refused why)) Q all went = absurd went
+broken-went (Ok ending.Failed) Q all went = absurd went
+broken-went (Err e) Q all went = absurd went
+
+pub given-went : (Back Fault : Type 0) (r s : Result Ending AllocError) (Q : Type 0) → IsGivenOr Back Fault r s → IfOk r (λ e. AllWentOut e → Q) → IfOk s (λ e. AllWentOut e → Q)
+given-went Back Fault r s Q (inl given) all = subst (λ (x : Result Ending AllocError). IfOk x (λ e. AllWentOut e → Q)) (sym given.0) all
+given-went Back Fault r s Q (inr fault) all = subst (λ (x : Result Ending AllocError). IfOk x (λ e. AllWentOut e → Q)) (sym fault.1) (broken-went r Q all)
+
+status-on : (s : State) → status_of s ≡ status.Done → s ≡ state.On
+status-on state.On is = refl
+status-on state.Failed is = absurd cc
+status-on state.Short is = absurd cc
+
+other-done : (s : Status) → s ≡ status.Host → s ≡ status.Done → ⊥
+other-done s is done = cc
+
+image-done : (s : Status) → s ≡ status.Image → s ≡ status.Done → ⊥
+image-done s is done = cc
+
+pub done-went : (e : Ending) (by : Status) (line : Text) → IsReplyTo e by line → by ≡ status.Done → AllWentOut e
+done-went (ending.Held ended) by line is done = status-on ended (sym is.0 ∙ done)
+done-went (ending.Broken ended) by line is done = absurd (other-done by is.0 done)
+done-went (ending.Refused why) by line is done = absurd (image-done by is.0 done)
+done-went ending.Failed by line is done = absurd (other-done by is.0 done)

@@ -17,6 +17,7 @@ use Rattle.opfs_serve_runs.specs.Conversations.{IsServedOn}
 use Rattle.opfs_serve_top.specs.declared.host.Ending.{Ending}
 use Rattle.opfs_serve_top.specs.declared.host.Ending.TheVariants as ending
 use Rattle.opfs_serving.specs.declared.progress.State.{State}
+use Rattle.opfs_serving.specs.declared.progress.State.TheVariants as state
 
 -- It was held, and its end went like this.
 pub record HasHeld {D P : Type 0} (w : DiskWords D) (tells : Type 0) (said : P → List (Said (DeskSeen D))) (agents : List Asked) (begun now : P) (old new : D) (ended : State) (End : Result (Unit {0}) DiskFault → Type 0) : Type 0 where
@@ -37,6 +38,13 @@ EndedOn w tells said agents begun now old new (Ok (ending.Broken ended)) = HasHe
 EndedOn w tells said agents begun now old new (Ok (ending.Refused why)) = HasNotHeld w begun now old new (w.tells → read_as New New (w.content old) ≡ Err why)
 EndedOn w tells said agents begun now old new (Ok ending.Failed) = HasNotHeld w begun now old new (Rose (w.faults old) (w.faults new))
 EndedOn w tells said agents begun now old new (Err e) = HasNotHeld w begun now old new (Unit {0})
+
+-- All answers went out.
+abbrev pub AllWentOut : Ending → Type 0
+AllWentOut (ending.Held ended) = ended ≡ state.On
+AllWentOut (ending.Broken ended) = ended ≡ state.On
+AllWentOut (ending.Refused why) = ⊥
+AllWentOut ending.Failed = ⊥
 
 -- How one ended that was held.
 abbrev pub IsHeldEnd : Result (Unit {0}) DiskFault → State → Ending → Type 0

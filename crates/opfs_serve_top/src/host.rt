@@ -1,10 +1,10 @@
 //! A conversation over the image at a path of a host.
 
-ghost use Rattle.std.specs.Prelude.{◌≡◌, ◌⊎◌, ◌+◌, ◌-◌, ◌≤◌, length, true, false, Ok, IfOk, OnErr};
+ghost use Rattle.std.specs.Prelude.{◌≡◌, ◌+◌, ◌-◌, ◌≤◌, [], length, true, false, Ok, IfOk, OnErr};
 ghost use Rattle.opfs_outside.specs.Faults.{Rose, RoseBy};
 ghost use Rattle.opfs_outside.specs.Turns.{of_host, GivenBack, HostServed, OthersAsBefore};
 ghost use Rattle.opfs_serve_top.specs.Endings.{IsEnding, IsUnserved, NoneFailed};
-ghost use Rattle.opfs_serve_top.specs.Ends.{broken_end, EndedOn, IsGivenOr, IsHeldEnd, IsRefusedEnd};
+ghost use Rattle.opfs_serve_top.specs.Ends.{AllWentOut, broken_end, EndedOn, IsGivenOr, IsHeldEnd, IsRefusedEnd};
 ghost use Rattle.opfs_serving.specs.Served.{HasNoScripts};
 
 use opfs_desk::Desk;
@@ -80,7 +80,8 @@ fn serve_on<D: Disk, P: Port<Desk<D>>, R: AllocGlobal + Wait>(
 ) -> (D, Result<Ending, AllocError>)
     requires few { length agents.now ≤ 64 }
     requires alone { HasNoScripts agents.now }
-    ensures { EndedOn D.Disk P.tells P.said agents.now port.old port.new disk result.0 result.1 }
+    ensures ended { EndedOn D.Disk P.tells P.said agents.now port.old port.new disk result.0 result.1 }
+    ensures all { IfOk result.1 (λ ending. AllWentOut ending → P.tells → P.rest port.new ≡ []) }
 {
     match serve_disk(rt, disk, agents, port) {
         Ok(served) => {
@@ -134,6 +135,7 @@ pub fn serve_at<H: Host, P: Port<Desk<H::D>>, R: AllocGlobal + Wait>(
     requires alone { HasNoScripts agents.now }
     ensures ended { IfOk result (λ ending. IsEnding H.D.Disk (of_host H.Host host.old host.new) path.now P.tells P.said agents.now port.old port.new ending) }
     ensures unserved { OnErr result (IsUnserved (of_host H.Host host.old host.new) path.now port.old port.new) }
+    ensures all { IfOk result (λ ending. AllWentOut ending → P.tells → P.rest port.new ≡ []) }
     ensures others { H.tells → NoneFailed (of_host H.Host host.old host.new) result → OthersAsBefore (of_host H.Host host.old host.new) path.now }
 {
     let disk = match host.fetch(path) {

@@ -189,6 +189,7 @@ fn serve_agents<H: Host, P: Port<Desk<H::D>>, R: AllocGlobal + Wait>(
     requires fault { fault ≡ status_text end.Host }
     ensures ended { IfOk result (λ reply. EndsFor H.D.Disk (of_host H.Host host.old host.new) path.now P.tells P.said agents.now port.old port.new reply.status reply.line) }
     ensures unserved { OnErr result (IsUnserved (of_host H.Host host.old host.new) path.now port.old port.new) }
+    ensures all { IfOk result (λ reply. reply.status ≡ Status.Done → P.tells → P.rest port.new ≡ []) }
 {
     let ending = serve_at(rt, host, path, agents, port)?;
     let reply = reply_to(rt.alloc(), ending, fault)?;
@@ -204,6 +205,7 @@ fn serve_path<H: Host, P: Port<Desk<H::D>>, R: AllocGlobal + Wait>(
 ) -> Result<Reply, AllocError>
     ensures ended { IfOk result (λ reply. EndsAt H.D.Disk (of_host H.Host host.old host.new) P.tells P.said P.rest P.faults port.old port.new path.now reply.status reply.line) }
     ensures unanswered { OnErr result (IsUnanswered (of_host H.Host host.old host.new) P.tells P.said P.rest port.old port.new path.now) }
+    ensures all { IfOk result (λ reply. reply.status ≡ Status.Done → P.tells → P.rest port.new ≡ []) }
     ensures early { IfOk result (λ reply. IsEarly reply.status → host.new ≡ host.old) }
 {
     let alloc = rt.alloc();
@@ -236,6 +238,7 @@ pub fn opfs_serve<H: Host, P: Port<Desk<H::D>>, R: AllocGlobal + Wait>(
 ) -> Result<Reply, AllocError>
     ensures ended { IfOk result (λ reply. EndsBy H.D.Disk (of_host H.Host host.old host.new) P.tells P.said P.rest P.faults port.old port.new words.now reply.status reply.line) }
     ensures unanswered { OnErr result ((path : List ℕ) → Asks words.now path → IsUnanswered (of_host H.Host host.old host.new) P.tells P.said P.rest port.old port.new path) }
+    ensures all { IfOk result (λ reply. reply.status ≡ Status.Done → P.tells → P.rest port.new ≡ []) }
     ensures early { IfOk result (λ reply. IsEarly reply.status → host.new ≡ host.old) }
 {
     let Some(path) = path_of(words) else {

@@ -74,6 +74,7 @@ module _ {O : Type 0} (tells : Type 0) (of : HallSeen O) (k : ℕ) (asked : Aske
         agrees = m.agrees;
         table = table-same tells a b m.kept then rows m.table (leaves-looked tells a b m.kept then 0 looked) (ap (λ (x : AgentSeen O). x.rows) looked.rest);
         few = let few = m.few in let count = ap (λ (x : AgentSeen O). x.entries) looked.rest in omega (arith, few, count);
+        fewer = let fewer = m.fewer in let own = ap length (looked-own a b looked) in omega (arith, fewer, own);
         pending = ap (λ (x : AgentSeen O). x.pending) looked.rest ∙ m.pending;
         kept = then;
         hall = ap (λ (x : PassSeen O Entry). x.hall) pass ∙ m.hall;
@@ -109,6 +110,7 @@ module _ {O : Type 0} (tells : Type 0) (of : HallSeen O) (k : ℕ) (asked : Aske
         agrees = m.agrees;
         table = table-same tells a b m.kept then rows m.table (leaves-awaited tells a b m.kept then tag r awaited) (ap (λ (x : AgentSeen O). x.rows) w.rest);
         few = let few = m.few in let least = slack-least tag m.waited in let count_b = ap (λ (x : AgentSeen O). x.entries) w.rest in omega (arith, few, least, count_b);
+        fewer = let fewer = m.fewer in let own = ap length grown ∙ length-append (own_entries a) (told_entry (call_of a (op.Await tag)) r ∷ []) in omega (arith, fewer, own);
         pending = ap (λ (x : AgentSeen O). x.pending) w.rest;
         kept = then;
         hall = ap (λ (x : PassSeen O Entry). x.hall) pass ∙ m.hall;
@@ -146,6 +148,7 @@ module _ {O : Type 0} (tells : Type 0) (of : HallSeen O) (k : ℕ) (asked : Aske
         agrees = m.agrees;
         table = table-same tells a b m.kept then rows m.table (leaves-begun tells a b m.kept tag begun then) (ap (λ (x : AgentSeen O). x.rows) w.rest);
         few = let few : a.entries + length rows ≤ 59900000 = subst (λ x. a.entries + length rows ≤ 59900000 + slack (Some tag) x) unwaited m.few in let count = ap (λ (x : AgentSeen O). x.entries) w.rest in omega (arith, few, count);
+        fewer = let fewer = m.fewer in let own = ap length grown ∙ length-append (own_entries a) (told_entry (call_of a (op.Wait tag)) reply.Done ∷ []) in omega (arith, fewer, own);
         pending = ap (λ (x : AgentSeen O). x.pending) w.rest;
         kept = then;
         hall = ap (λ (x : PassSeen O Entry). x.hall) pass ∙ m.hall;

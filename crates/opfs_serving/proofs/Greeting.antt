@@ -1,5 +1,5 @@
 -- How a conversation stands on, from its first answer to what it leaves.
-use Rattle.std.proofs.Common.{◌≡◌, ◌⊎◌, ℕ, Some, None, List, [], ◌∷◌, ◌++◌, zero, suc, ◌<◌, append-nil, length, get_or, drop, codes, decimal, refl, sym, ap, ◌∙◌, subst, inl, inr, arith}
+use Rattle.std.proofs.Common.{◌≡◌, ◌⊎◌, ℕ, Some, None, List, [], ◌∷◌, ◌++◌, zero, suc, ◌<◌, append-nil, length, length-append, get_or, drop, codes, decimal, refl, sym, ap, ◌∙◌, subst, inl, inr, arith}
 use Rattle.std.specs.Prelude.{All, slice_get}
 use Rattle.opfs_base.specs.Texts.{Text}
 use Rattle.opfs_hall.proofs.Owned.{prefix_trans}
@@ -11,7 +11,7 @@ use Rattle.opfs_script.specs.Scripts.{Asked}
 use Rattle.opfs_serving.specs.Exchanges.{Exchange, entered, ready, told_by}
 use Rattle.opfs_serving.specs.Lines.{begins, unasked}
 use Rattle.opfs_serving.specs.Seats.{AreSeated, SeatSeen}
-use Rattle.opfs_serving.specs.Served.{IsServed, IsServing, Words}
+use Rattle.opfs_serving.specs.Served.{AreTold, IsServed, IsServing, IsSilent, IsStanding, Words}
 use Rattle.opfs_serving.specs.Talks.{IsExchange, IsTalk}
 use Rattle.opfs_serving.specs.Turns.{GoesOut, HasSaid, HasToldMore, HasTurned}
 use Rattle.opfs_serving.specs.declared.progress.Progress.{Progress}
@@ -32,89 +32,104 @@ failed-not-on e = cc
 short-not-on : state.Short ≡ state.On → ⊥
 short-not-on e = cc
 
-module _ {T O P : Type 0} (w : Words T O P) (lasts : (u v x : T) → w.goes u v → w.goes v x → w.goes u x) (stays : (v : T) → w.goes v v) (of : HallSeen O) (agents : List Asked) (begun now : P) where
-  module _ (watch : WatchSeen O Entry T) (seats : List (SeatSeen O)) (p : Progress) (s : IsServing w of agents begun now watch seats p) where
-    -- ---- it stands on
+module _ {T O P : Type 0} (w : Words T O P) (lasts : (u v x : T) → w.goes u v → w.goes v x → w.goes u x) (stays : (v : T) → w.goes v v) (of : HallSeen O) (agents : List Asked) (now : P)
+    (watch : WatchSeen O Entry T) (seats : List (SeatSeen O)) (p : Progress) (u : IsSilent w of agents now watch seats p) where
+  abbrev v : IsStanding w of agents now now watch seats p
+  v = u.stands
 
-    -- Less is well.
-    pub serving-less : (q : Progress) → q ≡ record p { state = state.Short } → IsServing w of agents begun now watch seats q
-    serving-less q is = subst (IsServing w of agents begun now watch seats) (sym is) record {
-      scripts = s.scripts;
-      told = s.told;
-      talk = talk-stands w.entries w.keeps w.goes w.tells w.said agents begun lasts now now watch.last watch.last (p.state ≡ state.On) (state.Short ≡ state.On) s.scripts s.told
-          s.talk (λ t. refl) (stays watch.last) ([], sym (append-nil (w.entries watch.last))) (λ well. absurd (short-not-on well));
-      seated = seated-weaker w.reads of (p.state ≡ state.On) (state.Short ≡ state.On) p.whole p.whole s.scripts seats watch.pass.ended (λ well. absurd (short-not-on well)) (λ e. e) s.seated;
-      emptied = s.emptied;
+  -- There was no memory for the first answer.
+  pub serving-less : (q : Progress) → q ≡ record p { state = state.Short } → IsServing w of agents now now watch seats q
+  serving-less q is = subst (IsServing w of agents now now watch seats) (sym is) record {
+    stands = record {
+      scripts = v.scripts;
+      told = v.told;
+      talk = (talk-stands w.entries w.keeps w.goes w.tells w.said agents now lasts now now watch.last watch.last (p.state ≡ state.On) (state.Short ≡ state.On) v.scripts v.told
+          v.talk (λ t. refl) (stays watch.last) ([], sym (append-nil (w.entries watch.last))) (λ well. absurd (short-not-on well))).0;
+      seated = seated-weaker w.reads of (p.state ≡ state.On) (state.Short ≡ state.On) p.whole p.whole v.scripts seats watch.pass.ended (λ well. absurd (short-not-on well)) (λ e. e) v.seated;
+      emptied = v.emptied;
       counted = λ well. absurd (short-not-on well);
-      hall = s.hall;
-      owner = s.owner;
-      all = s.all;
-      few = s.few;
-      opened = s.opened;
+      hall = v.hall;
+      owner = v.owner;
+      all = v.all;
+      few = v.few;
+      opened = v.opened;
+    };
+    greeted = λ well. absurd (short-not-on well);
+    all_told = λ well. absurd (short-not-on well);
+  }
+
+  -- ---- how many agents there are
+
+  module _ (on : p.state ≡ state.On) (then : P) (later : WatchSeen O Entry T) (q : Progress) (text : Text) (n : ℕ) (count : n ≡ length seats) (text-is : text ≡ codes "ready " ++ decimal n)
+      (turned : HasTurned w.opening w.entries w.keeps w.goes of watch later) (said : HasSaid w.tells w.said text later.last now then p q) where
+    -- It stands on, with what was said in a turn.
+    serving-turned : (told : List Entry) (t : IsTalk w.entries w.keeps w.goes w.tells w.said agents now then later.last (q.state ≡ state.On) v.scripts told)
+        → (q.state ≡ state.On → (q.count ≡ length told) × (0 < length t.talk) × (told ≡ v.told)) → IsServing w of agents now then later seats q
+    serving-turned told talk well = record {
+      stands = record {
+        scripts = v.scripts;
+        told = told;
+        talk = talk;
+        seated = subst (λ (ended : List (ℕ × List Entry)). AreSeated w.reads of (q.state ≡ state.On) q.whole v.scripts seats ended)
+            (sym (ap (λ (x : PassSeen O Entry). x.ended) turned.pass))
+            (seated-weaker w.reads of (p.state ≡ state.On) (q.state ≡ state.On) p.whole q.whole v.scripts seats watch.pass.ended (λ is. on) (λ e. sym said.whole ∙ e) v.seated);
+        emptied = v.emptied;
+        counted = λ is. (well is).0;
+        hall = ap (λ (x : PassSeen O Entry). x.hall) turned.pass ∙ v.hall;
+        owner = ap (λ (x : PassSeen O Entry). x.agent) turned.pass ∙ v.owner;
+        all = v.all;
+        few = v.few;
+        opened = turned.opened;
+      };
+      greeted = λ is. (well is).1;
+      all_told = λ is. subst (AreTold seats) (sym (well is).2) u.all_told;
     }
 
-    -- More was said in a turn, and the seats are as they were.
-    pub serving-turned : (later : WatchSeen O Entry T) (then : P) (q : Progress) (told : List Entry) → HasTurned w.opening w.entries w.keeps w.goes of watch later
-        → (q.state ≡ state.On → p.state ≡ state.On) → q.whole ≡ p.whole → (q.state ≡ state.On → q.count ≡ length told)
-        → IsTalk w.entries w.keeps w.goes w.tells w.said agents begun then later.last (q.state ≡ state.On) s.scripts told
-        → IsServing w of agents begun then later seats q
-    serving-turned later then q told turned as_well whole counted talk = record {
-      scripts = s.scripts;
-      told = told;
-      talk = talk;
-      seated = subst (λ (ended : List (ℕ × List Entry)). AreSeated w.reads of (q.state ≡ state.On) q.whole s.scripts seats ended)
-          (sym (ap (λ (x : PassSeen O Entry). x.ended) turned.pass))
-          (seated-weaker w.reads of (p.state ≡ state.On) (q.state ≡ state.On) p.whole q.whole s.scripts seats watch.pass.ended as_well (λ e. sym whole ∙ e) s.seated);
-      emptied = s.emptied;
-      counted = counted;
-      hall = ap (λ (x : PassSeen O Entry). x.hall) turned.pass ∙ s.hall;
-      owner = ap (λ (x : PassSeen O Entry). x.agent) turned.pass ∙ s.owner;
-      all = s.all;
-      few = s.few;
-      opened = turned.opened;
+    abbrev greeted : Exchange T
+    greeted = record { line = None; call = None; answer = ready (length v.scripts); at = later.last }
+
+    text-told : text ≡ codes "ready " ++ decimal (length v.scripts)
+    text-told = text-is ∙ ap (λ k. codes "ready " ++ decimal k) (count ∙ v.seated.count)
+
+    went : WentOut text later.last (w.said now) (w.said then) → w.said then ≡ w.said now ++ told_by (ready (length v.scripts)) later.last
+    went out = out ∙ ap (λ t. w.said now ++ told_line t later.last ∷ []) text-told
+
+    one : IsExchange w.entries w.keeps (length v.talk.talk) v.scripts v.told greeted
+    one = record {
+      asked = begins (ap length u.none);
+      first = λ none. refl;
+      front = front-none v.told (w.entries later.last) (prefix_trans v.told (w.entries watch.last) (w.entries later.last) v.talk.front turned.front);
+      kept = turned.kept;
+      answered = tt;
     }
 
-    -- ---- how many agents there are
+    off : (q.state ≡ state.On → ⊥) → IsServing w of agents now then later seats q
+    off ill = serving-turned v.told
+        (talk-perhaps w.entries w.keeps w.goes w.tells w.said agents now lasts stays now watch.last (p.state ≡ state.On) v.scripts v.told v.talk on then greeted (q.state ≡ state.On)
+        (λ t. perhaps (said.off t)) one turned.goes_on turned.front ill)
+        (λ well. absurd (ill well))
+      where
+        perhaps : (w.said then ≡ w.said now) ⊎ WentOut text later.last (w.said now) (w.said then)
+            → (w.said then ≡ w.said now ++ []) ⊎ (w.said then ≡ w.said now ++ told_by (ready (length v.scripts)) later.last)
+        perhaps (inl same) = inl (same ∙ sym (append-nil (w.said now)))
+        perhaps (inr out) = inr (went out)
 
-    module _ (on : p.state ≡ state.On) (then : P) (later : WatchSeen O Entry T) (q : Progress) (text : Text) (n : ℕ) (count : n ≡ length seats) (text-is : text ≡ codes "ready " ++ decimal n)
-        (turned : HasTurned w.opening w.entries w.keeps w.goes of watch later) (said : HasSaid w.tells w.said text later.last now then p q) where
-      abbrev greeted : Exchange T
-      greeted = record { line = None; call = None; answer = ready (length s.scripts); at = later.last }
+    by : (st : State) → q.state ≡ st → IsServing w of agents now then later seats q
+    by state.On is =
+        let talk = talk-more w.entries w.keeps w.goes w.tells w.said agents now lasts stays now watch.last (p.state ≡ state.On) v.scripts v.told v.talk on then greeted (q.state ≡ state.On)
+        (λ t. went (said.on is t)) one turned.goes_on turned.front in
+        let long = ap length talk.1 ∙ length-append v.talk.talk (greeted ∷ []) in
+        serving-turned (v.told ++ []) talk.0 (λ well. (said.count ∙ v.counted on ∙ ap length (sym (append-nil v.told)), omega (arith, long), append-nil v.told))
+    by state.Failed is = off (λ well. failed-not-on (sym is ∙ well))
+    by state.Short is = off (λ well. short-not-on (sym is ∙ well))
 
-      text-told : text ≡ codes "ready " ++ decimal (length s.scripts)
-      text-told = text-is ∙ ap (λ k. codes "ready " ++ decimal k) (count ∙ s.seated.count)
+    pub serving-greeted : IsServing w of agents now then later seats q
+    serving-greeted = by q.state refl
 
-      went : WentOut text later.last (w.said now) (w.said then) → w.said then ≡ w.said now ++ told_by (ready (length s.scripts)) later.last
-      went out = out ∙ ap (λ t. w.said now ++ told_line t later.last ∷ []) text-told
-
-      one : IsExchange w.entries w.keeps s.scripts s.told greeted
-      one = record {
-        asked = begins;
-        front = front-none s.told (w.entries later.last) (prefix_trans s.told (w.entries watch.last) (w.entries later.last) s.talk.front turned.front);
-        kept = turned.kept;
-        answered = tt;
-      }
-
-      off : (q.state ≡ state.On → ⊥) → IsServing w of agents begun then later seats q
-      off ill = serving-turned later then q s.told turned (λ well. on) said.whole (λ well. absurd (ill well))
-          (talk-perhaps w.entries w.keeps w.goes w.tells w.said agents begun lasts now watch.last (p.state ≡ state.On) s.scripts s.told s.talk on then greeted later.last (q.state ≡ state.On)
-          (λ t. perhaps (said.off t)) one turned.goes_on turned.front ill)
-        where
-          perhaps : (w.said then ≡ w.said now) ⊎ WentOut text later.last (w.said now) (w.said then)
-              → (w.said then ≡ w.said now ++ []) ⊎ (w.said then ≡ w.said now ++ told_by (ready (length s.scripts)) later.last)
-          perhaps (inl same) = inl (same ∙ sym (append-nil (w.said now)))
-          perhaps (inr out) = inr (went out)
-
-      by : (st : State) → q.state ≡ st → IsServing w of agents begun then later seats q
-      by state.On is = serving-turned later then q (s.told ++ []) turned (λ well. on) said.whole
-          (λ well. said.count ∙ s.counted on ∙ ap length (sym (append-nil s.told)))
-          (talk-more w.entries w.keeps w.goes w.tells w.said agents begun lasts now watch.last (p.state ≡ state.On) s.scripts s.told s.talk on stays then greeted (q.state ≡ state.On)
-          (λ t. went (said.on is t)) one turned.goes_on turned.front)
-      by state.Failed is = off (λ well. failed-not-on (sym is ∙ well))
-      by state.Short is = off (λ well. short-not-on (sym is ∙ well))
-
-      pub serving-greeted : IsServing w of agents begun then later seats q
-      serving-greeted = by q.state refl
+module _ {T O P : Type 0} (w : Words T O P) (lasts : (u v x : T) → w.goes u v → w.goes v x → w.goes u x) (stays : (v : T) → w.goes v v) (of : HallSeen O) (agents : List Asked) (begun now : P) where
+  module _ (watch : WatchSeen O Entry T) (seats : List (SeatSeen O)) (p : Progress) (u : IsServing w of agents begun now watch seats p) where
+    abbrev s : IsStanding w of agents begun now watch seats p
+    s = u.stands
 
     -- ---- its end
 
@@ -131,7 +146,7 @@ module _ {T O P : Type 0} (w : Words T O P) (lasts : (u v x : T) → w.goes u v 
       module _ (store : T) (goes : w.goes watch.last store) (front : IsPrefix (w.entries watch.last) (w.entries store)) (kept : w.keeps store)
           (ended : All (HasEnded (λ (e : Entry). e.agent) (w.entries store)) watch.pass.ended) (then : P) (q : Progress) (more : HasToldMore w.entries w.tells w.said store now then p q) where
         abbrev Served : List Entry → Type 0
-        Served told = IsTalk w.entries w.keeps w.goes w.tells w.said agents begun then store (q.state ≡ state.On) s.scripts told × (q.state ≡ state.On → told ≡ w.entries store)
+        Served told = (t : IsTalk w.entries w.keeps w.goes w.tells w.said agents begun then store (q.state ≡ state.On) s.scripts told) × (q.state ≡ state.On → (0 < length t.talk) × (told ≡ w.entries store))
 
         told-front : IsPrefix s.told (w.entries store)
         told-front = prefix_trans s.told (w.entries watch.last) (w.entries store) s.talk.front front
@@ -146,20 +161,21 @@ module _ {T O P : Type 0} (w : Words T O P) (lasts : (u v x : T) → w.goes u v 
           abbrev last : Exchange T
           last = record { line = None; call = None; answer = entered rest; at = store }
 
-          entered-last : IsExchange w.entries w.keeps s.scripts s.told last
+          entered-last : IsExchange w.entries w.keeps (length s.talk.talk) s.scripts s.told last
           entered-last = record {
             asked = unasked rest;
+            first = λ none. let some = u.greeted on in absurd (omega (arith, none, some));
             front = front-told s.told (w.entries store) p.count told-front (sym (s.counted on));
             kept = kept;
             answered = tt;
           }
 
           ends-on : q.state ≡ state.On → Served (s.told ++ rest)
-          ends-on is = (
-            talk-more w.entries w.keeps w.goes w.tells w.said agents begun lasts now watch.last (p.state ≡ state.On) s.scripts s.told s.talk on stays then last (q.state ≡ state.On)
-                (λ t. subst (GoesOut w.tells w.said (told_by (entered rest) store) now then) is (more.told on) t) entered-last goes front,
-            λ well. sym whole-is,
-          )
+          ends-on is =
+              let talk = talk-more w.entries w.keeps w.goes w.tells w.said agents begun lasts stays now watch.last (p.state ≡ state.On) s.scripts s.told s.talk on then last (q.state ≡ state.On)
+              (λ t. subst (GoesOut w.tells w.said (told_by (entered rest) store) now then) is (more.told on) t) entered-last goes front in
+              let long = ap length talk.1 ∙ length-append s.talk.talk (last ∷ []) in
+              (talk.0, λ well. (omega (arith, long), sym whole-is))
 
           may-have : (w.said then ≡ w.said now) ⊎ (w.said then ≡ w.said now ++ told_by (entered rest) store)
               → (w.said then ≡ w.said now ++ []) ⊎ (w.said then ≡ w.said now ++ told_by (entered rest) store)
@@ -168,7 +184,7 @@ module _ {T O P : Type 0} (w : Words T O P) (lasts : (u v x : T) → w.goes u v 
 
           ends-off : (q.state ≡ state.On → ⊥) → (w.tells → (w.said then ≡ w.said now) ⊎ (w.said then ≡ w.said now ++ told_by (entered rest) store)) → Served s.told
           ends-off ill out = (
-            talk-perhaps w.entries w.keeps w.goes w.tells w.said agents begun lasts now watch.last (p.state ≡ state.On) s.scripts s.told s.talk on then last store (q.state ≡ state.On)
+            talk-perhaps w.entries w.keeps w.goes w.tells w.said agents begun lasts stays now watch.last (p.state ≡ state.On) s.scripts s.told s.talk on then last (q.state ≡ state.On)
                 (λ t. may-have (out t)) entered-last goes front ill,
             λ well. absurd (ill well),
           )
@@ -183,8 +199,8 @@ module _ {T O P : Type 0} (w : Words T O P) (lasts : (u v x : T) → w.goes u v 
         ends-still ill =
             let off = more.off ill in
             let still : (q.state ≡ state.On → ⊥) = λ well. ill (sym (ap (λ (x : Progress). x.state) off.1) ∙ well) in (
-              talk-stands w.entries w.keeps w.goes w.tells w.said agents begun lasts now then watch.last store (p.state ≡ state.On) (q.state ≡ state.On) s.scripts s.told
-                  s.talk (λ t. ap w.said off.0) goes front (λ well. absurd (still well)),
+              (talk-stands w.entries w.keeps w.goes w.tells w.said agents begun lasts now then watch.last store (p.state ≡ state.On) (q.state ≡ state.On) s.scripts s.told
+                  s.talk (λ t. ap w.said off.0) goes front (λ well. absurd (still well))).0,
               λ well. absurd (still well),
             )
 
@@ -200,9 +216,10 @@ module _ {T O P : Type 0} (w : Words T O P) (lasts : (u v x : T) → w.goes u v 
               scripts = s.scripts;
               told = e.0;
               talk = e.1.0;
+              greeted = λ well. (e.1.1 well).0;
               cut = seated-cut w.reads of (p.state ≡ state.On) p.whole s.scripts seats watch.pass.ended s.seated gone-there (w.entries store) ended;
               runs = λ whole. seated-run w.reads of (p.state ≡ state.On) p.whole s.scripts seats watch.pass.ended s.seated gone-there (w.entries store) ended (sym more.whole ∙ whole);
-              all = e.1.1;
+              all = λ well. (e.1.1 well).1;
             }
 
       -- The store that the hall gave is the one that told what was left.

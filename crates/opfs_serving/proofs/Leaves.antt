@@ -4,29 +4,35 @@ use Rattle.std.specs.Prelude.{All, slice_get}
 use Rattle.std.proofs.lemmas.Bool.{cases_eq}
 use Rattle.std.proofs.lemmas.Option.{slice_get-get_or}
 use Rattle.opfs_hall.proofs.Owned.{prefix_refl}
+use Rattle.opfs_hall.specs.History.{IsPrefix}
 use Rattle.opfs_hall.specs.Seen.{HallSeen, PassSeen, WatchSeen}
 use Rattle.opfs_hist.specs.declared.entry.Entry.{Entry}
 use Rattle.opfs_runner.specs.Runs.{HasEntries}
 use Rattle.opfs_script.specs.Scripts.{Asked}
 use Rattle.opfs_script_run.specs.Runs.Running.{entries_of}
 use Rattle.opfs_serving.specs.Endings.{HasLeft}
+use Rattle.opfs_serving.specs.Exchanges.{Exchange}
+use Rattle.opfs_serving.specs.Lines.{has_end}
 use Rattle.opfs_serving.specs.Seats.{AreSeated, EndsAt, IsMidway, SeatSeen}
-use Rattle.opfs_serving.specs.Served.{IsServing, Words}
-use Rattle.opfs_serving.specs.Talks.{IsTalk}
+use Rattle.opfs_serving.specs.Served.{IsServing, IsStanding, Words}
 use Rattle.opfs_serving.specs.Turns.{HasToldMore, HasTurned}
 use Rattle.opfs_serving.specs.declared.progress.Progress.{Progress}
 use Rattle.opfs_serving.specs.declared.progress.State.TheVariants as state
 use Rattle.opfs_turns.specs.Agents.{AgentSeen}
 use Rattle.opfs_serving.proofs.Midway.{midway-whole}
-use Rattle.opfs_serving.proofs.Polls.{serving-tells, serving-waits, set-same}
+use Rattle.opfs_serving.proofs.Polls.{gone-none, set-same, stands-midway, stands-still, stands-told}
 use Rattle.opfs_serving.proofs.Seating.{place, seated-ended, seated-script}
+use Rattle.opfs_serving.proofs.Showing.{over-more, told-set}
 use Rattle.opfs_serving.proofs.Talking.{talk-stands}
 
 some-same : {X : Type 0} {x y : X} → Some x ≡ Some y → x ≡ y
 some-same e = cc
 
+none-some : {X : Type 0} (o : Option X) (x : X) → o ≡ None → o ≡ Some x → ⊥
+none-some o x none some = cc
+
 module _ {T O P : Type 0} (w : Words T O P) (lasts : (u v x : T) → w.goes u v → w.goes v x → w.goes u x) (stays : (v : T) → w.goes v v) (of : HallSeen O) (agents : List Asked) (begun now : P)
-    (watch after : WatchSeen O Entry T) (seats : List (SeatSeen O)) (p q : Progress) (v : IsServing w of agents begun now watch seats p)
+    (watch after : WatchSeen O Entry T) (seats : List (SeatSeen O)) (p q : Progress) (v : IsStanding w of agents begun now watch seats p)
     (i : ℕ) (x x' : SeatSeen O) (seat-is : slice_get seats i ≡ Some x) (left : x'.agent ≡ None)
     (as_well : q.state ≡ p.state) (count : q.count ≡ p.count) (whole : q.whole ≡ true → (p.whole ≡ true) × (p.state ≡ state.On) × (x.awaits ≡ None)) where
   -- Its entries are those of its script, or of a front of it where it is not whole.
@@ -42,42 +48,57 @@ module _ {T O P : Type 0} (w : Words T O P) (lasts : (u v x : T) → w.goes u v 
   emptied-by rows a here k y none (inl same) = ap (λ (z : SeatSeen O). z.rows) same.1 ∙ rows a here
   emptied-by rows a here k y none (inr other) = v.emptied k y other.1 none
 
-  leaves : ((a : AgentSeen O) → x.agent ≡ Some a → x'.rows ≡ []) → (a : AgentSeen O) → x.agent ≡ Some a → HasLeft w.reads of x a watch after → IsServing w of agents begun now after (slice_set seats i x') q
+  -- It stands, and what was told is the same.
+  abbrev pub Stood : Type 0
+  Stood = (s : IsStanding w of agents begun now after (slice_set seats i x') q) × (s.told ≡ v.told) × (s.talk.talk ≡ v.talk.talk)
+
+  leaves : ((a : AgentSeen O) → x.agent ≡ Some a → x'.rows ≡ []) → (a : AgentSeen O) → x.agent ≡ Some a → HasLeft w.reads of x a watch after → Stood
   leaves rows a here l =
       let s = seated-script w.reads of (p.state ≡ state.On) p.whole v.scripts seats watch.pass.ended v.seated i x seat-is in
       let e = v.seated.ends i x a s.0 seat-is here s.1 in
-      record {
-        scripts = v.scripts;
-        told = v.told;
-        talk = subst (λ last. IsTalk w.entries w.keeps w.goes w.tells w.said agents begun now last (q.state ≡ state.On) v.scripts v.told) (sym l.last)
-            (talk-stands w.entries w.keeps w.goes w.tells w.said agents begun lasts now now watch.last watch.last (p.state ≡ state.On) (q.state ≡ state.On) v.scripts v.told v.talk (λ b. refl) (stays watch.last)
-            (prefix_refl (w.entries watch.last)) (λ on. sym as_well ∙ on));
-        seated = subst (AreSeated w.reads of (q.state ≡ state.On) q.whole v.scripts (slice_set seats i x'))
-            (sym (ap (λ (r : PassSeen O Entry). r.ended) l.pass ∙ ap (λ k. watch.pass.ended ++ (k, l.base) ∷ []) e.agent))
-            (seated-ended w.reads of (p.state ≡ state.On) p.whole v.scripts seats watch.pass.ended v.seated i x a s.0 seat-is here s.1 (q.state ≡ state.On) q.whole (λ on. sym as_well ∙ on) (λ is. (whole is).0) x' l.base left
-            (has-entries a here s.0 s.1 l l.base l.entries q.whole refl));
-        emptied = λ k y seat none. emptied-by rows a here k y none (place seats i x x' seat-is k y seat);
-        counted = λ on. count ∙ v.counted (sym as_well ∙ on);
-        hall = ap (λ (r : PassSeen O Entry). r.hall) l.pass ∙ v.hall;
-        owner = ap (λ (r : PassSeen O Entry). r.agent) l.pass ∙ v.owner;
-        all = v.all;
-        few = v.few;
-        opened = ap w.opening l.last ∙ v.opened;
-      }
+      let on : q.state ≡ state.On → p.state ≡ state.On = λ well. sym as_well ∙ well in
+      let goes : w.goes watch.last after.last = subst (w.goes watch.last) (sym l.last) (stays watch.last) in
+      let front : IsPrefix (w.entries watch.last) (w.entries after.last) = subst (λ t. IsPrefix (w.entries watch.last) (w.entries t)) (sym l.last) (prefix_refl (w.entries watch.last)) in
+      let talk = talk-stands w.entries w.keeps w.goes w.tells w.said agents begun lasts now now watch.last after.last (p.state ≡ state.On) (q.state ≡ state.On) v.scripts v.told v.talk (λ b. refl) goes front on in (
+        record {
+          scripts = v.scripts;
+          told = v.told;
+          talk = talk.0;
+          seated = subst (AreSeated w.reads of (q.state ≡ state.On) q.whole v.scripts (slice_set seats i x'))
+              (sym (ap (λ (r : PassSeen O Entry). r.ended) l.pass ∙ ap (λ k. watch.pass.ended ++ (k, l.base) ∷ []) e.agent))
+              (seated-ended w.reads of (p.state ≡ state.On) p.whole v.scripts seats watch.pass.ended v.seated i x a s.0 seat-is here s.1 (q.state ≡ state.On) q.whole on (λ is. (whole is).0) x' l.base left
+              (has-entries a here s.0 s.1 l l.base l.entries q.whole refl));
+          emptied = λ k y seat none. emptied-by rows a here k y none (place seats i x x' seat-is k y seat);
+          counted = λ well. count ∙ v.counted (on well);
+          hall = ap (λ (r : PassSeen O Entry). r.hall) l.pass ∙ v.hall;
+          owner = ap (λ (r : PassSeen O Entry). r.agent) l.pass ∙ v.owner;
+          all = v.all;
+          few = v.few;
+          opened = ap w.opening l.last ∙ v.opened;
+        },
+        refl,
+        talk.1,
+      )
 
   -- No agent is there, and nothing is left.
-  stays-gone : (after ≡ watch) × (x' ≡ x) → IsServing w of agents begun now after (slice_set seats i x') q
+  stays-gone : (after ≡ watch) × (x' ≡ x) → Stood
   stays-gone same =
-      subst (λ (y : WatchSeen O Entry T × List (SeatSeen O)). IsServing w of agents begun now y.0 y.1 q) (sym (λ i'. (same.0 i', (ap (slice_set seats i) same.1 ∙ set-same seats i x seat-is) i')))
-      (serving-waits w lasts stays of agents begun now watch seats p v now q (λ b. refl) (λ on. sym as_well ∙ on) (λ on. count) (λ is. (whole is).0))
+      subst (λ (y : WatchSeen O Entry T × List (SeatSeen O)). (s : IsStanding w of agents begun now y.0 y.1 q) × (s.told ≡ v.told) × (s.talk.talk ≡ v.talk.talk))
+      (sym (λ i'. (same.0 i', (ap (slice_set seats i) same.1 ∙ set-same seats i x seat-is) i')))
+      (stands-still w lasts stays of agents begun now watch seats p v now watch q (λ b. refl) (gone-none w of stays watch v.opened) (λ on. sym as_well ∙ on) (λ on. count) (λ is. (whole is).0))
 
-  pub serving-left : ((a : AgentSeen O) → x.agent ≡ Some a → x'.rows ≡ []) → (x.agent ≡ None → (after ≡ watch) × (x' ≡ x)) → ((a : AgentSeen O) → x.agent ≡ Some a → HasLeft w.reads of x a watch after)
-      → IsServing w of agents begun now after (slice_set seats i x') q
-  serving-left rows none has = by x.agent refl
+  pub stands-left : ((a : AgentSeen O) → x.agent ≡ Some a → x'.rows ≡ []) → (x.agent ≡ None → (after ≡ watch) × (x' ≡ x)) → ((a : AgentSeen O) → x.agent ≡ Some a → HasLeft w.reads of x a watch after) → Stood
+  stands-left rows none has = by x.agent refl
     where
-      by : (o : Option (AgentSeen O)) → x.agent ≡ o → IsServing w of agents begun now after (slice_set seats i x') q
+      by : (o : Option (AgentSeen O)) → x.agent ≡ o → Stood
       by (Some a) here = leaves rows a here (has a here)
       by None gone = stays-gone (none gone)
+
+-- Its end is among what is told behind that.
+pub left-over : {T O : Type 0} (tells : Type 0) (of : HallSeen O) (i : ℕ) (x : SeatSeen O) (a : AgentSeen O) (before after : WatchSeen O Entry T) (list : List Entry) → HasLeft tells of x a before after
+    → a.pass.agent ≡ suc i → IsPrefix after.pass.base list → has_end (suc i) list ≡ true
+left-over {T} {O} tells of i x a before after list l agent front =
+    over-more (suc i) l.base list (subst (λ es. IsPrefix es list) (ap (λ (r : PassSeen O Entry). r.base) l.pass) front) (subst (λ k. has_end k l.base ≡ true) agent l.over)
 
 -- Then what was entered is told. Of the seat it was asked whether its agent awaits.
 module _ {T O P : Type 0} (w : Words T O P) (lasts : (u v x : T) → w.goes u v → w.goes v x → w.goes u x) (stays : (v : T) → w.goes v v) (of : HallSeen O) (agents : List Asked) (begun now : P)
@@ -88,10 +109,24 @@ module _ {T O P : Type 0} (w : Words T O P) (lasts : (u v x : T) → w.goes u v 
       → IsServing w of agents begun later last (slice_set seats i x') q
   serving-left_told y x' same left b whole after rows none has later last q turned told =
       let same : y ≡ x = some-same (sym same ∙ seat-is) in
-      serving-tells w lasts stays of agents begun now after (slice_set seats i x') (record p { whole = b })
-      (serving-left w lasts stays of agents begun now watch after seats p (record p { whole = b }) v i x x' seat-is left refl refl
-      (λ is. let m = whole is in (m.0, m.1, ap (λ (z : SeatSeen O). z.awaits) (sym same) ∙ m.2)) rows none has)
-      later last q turned told
+      let mid = stands-left w lasts stays of agents begun now watch after seats p (record p { whole = b }) v.stands i x x' seat-is left refl refl
+      (λ is. let m = whole is in (m.0, m.1, ap (λ (z : SeatSeen O). z.awaits) (sym same) ∙ m.2)) rows none has in
+      let then = stands-told w lasts stays of agents begun now after (slice_set seats i x') (record p { whole = b }) mid.0 later last q
+      (λ on. subst (λ (l : List (Exchange T)). 0 < length l) (sym mid.2) (v.greeted on)) turned told in
+      let front : q.state ≡ state.On → IsPrefix v.stands.told then.0.told = λ on. subst (λ l. IsPrefix l then.0.told) mid.1 (then.1 on).2 in
+      record {
+        stands = then.0;
+        greeted = λ on. (then.1 on).1;
+        all_told = λ on. told-set v.stands.told then.0.told (front on) seats (v.all_told (then.1 on).0) i x x' seat-is
+            (λ gone. over-by (then.1 on).0 then.0.told (front on) (subst (λ l. IsPrefix after.pass.base l) (sym (then.1 on).3) turned.noted) x.agent refl)
+            (λ a here free. absurd (none-some x'.agent a left here));
+      }
+    where
+      over-by : p.state ≡ state.On → (list : List Entry) → IsPrefix v.stands.told list → IsPrefix after.pass.base list → (o : Option (AgentSeen O)) → x.agent ≡ o → has_end (suc i) list ≡ true
+      over-by on list front noted (Some a) here =
+          let m = stands-midway w lasts stays of agents begun now watch seats p v.stands i x seat-is on a here in
+          left-over w.reads of i x a watch after list (has a here) m.2.agent noted
+      over-by on list front noted None gone = over-more (suc i) v.stands.told list front ((v.all_told on).over i x seat-is gone)
 
   -- The owner's pass stays of its hall, and the owner's.
   pub left-hall : (x' : SeatSeen O) (after : WatchSeen O Entry T) → (x.agent ≡ None → (after ≡ watch) × (x' ≡ x)) → ((a : AgentSeen O) → x.agent ≡ Some a → HasLeft w.reads of x a watch after)
@@ -99,8 +134,8 @@ module _ {T O P : Type 0} (w : Words T O P) (lasts : (u v x : T) → w.goes u v 
   left-hall x' after none has = by x.agent refl
     where
       by : (o : Option (AgentSeen O)) → x.agent ≡ o → (after.pass.hall ≡ of) × (after.pass.agent ≡ 0)
-      by (Some a) here = let l = has a here in (ap (λ (r : PassSeen O Entry). r.hall) l.pass ∙ v.hall, ap (λ (r : PassSeen O Entry). r.agent) l.pass ∙ v.owner)
-      by None gone = let same = (none gone).0 in (ap (λ (r : WatchSeen O Entry T). r.pass.hall) same ∙ v.hall, ap (λ (r : WatchSeen O Entry T). r.pass.agent) same ∙ v.owner)
+      by (Some a) here = let l = has a here in (ap (λ (r : PassSeen O Entry). r.hall) l.pass ∙ v.stands.hall, ap (λ (r : PassSeen O Entry). r.agent) l.pass ∙ v.stands.owner)
+      by None gone = let same = (none gone).0 in (ap (λ (r : WatchSeen O Entry T). r.pass.hall) same ∙ v.stands.hall, ap (λ (r : WatchSeen O Entry T). r.pass.agent) same ∙ v.stands.owner)
 
 -- ---- all agents end, in order
 

@@ -12,6 +12,7 @@ pub mod Placing
 pub mod Polls
 pub mod Replies
 pub mod Seating
+pub mod Showing
 pub mod Starting
 pub mod Steps
 pub mod Talking

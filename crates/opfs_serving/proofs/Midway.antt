@@ -9,7 +9,9 @@ use Rattle.opfs_runner.specs.AgentRows.Tables.{kind_of, kinds_of}
 use Rattle.opfs_runner.specs.Ending.{Closes}
 use Rattle.opfs_runner.specs.RunLaws.Agreeing.{Agrees}
 use Rattle.opfs_runner.specs.RunLaws.Kinds.{open_rows}
-use Rattle.opfs_runner.specs.Stepping.{IsNoted, IsPassed, IsStepped, own_entries}
+use Rattle.opfs_hist.specs.declared.op.Op.{Op}
+use Rattle.opfs_hist.specs.declared.reply.Reply.{Reply}
+use Rattle.opfs_runner.specs.Stepping.{IsDone, IsNoted, IsPassed, IsStepped, IsWaitedFor, own_entries}
 use Rattle.opfs_runner.specs.declared.agent_rows.agent_row.AgentRow.{AgentRow}
 use Rattle.opfs_runner.proofs.Way.{agent_rows-more, agent_rows-stepped, cut-closes, done-cuts, kept-key, waited-cuts}
 use Rattle.opfs_runner.proofs.run_laws.Stepped.{goes, opened-then}
@@ -26,6 +28,17 @@ use Rattle.opfs_turns.specs.Calls.{HasRoom}
 use Rattle.opfs_turns.specs.Entering.{HasEnteredPending}
 use Rattle.opfs_serving.specs.Seats.{IsMidway, MayEnd, open_step, slack, with_steps}
 use Rattle.opfs_serving.proofs.Pending.{pending-own, pending-table}
+
+-- A call that is done has its own entry.
+pub done-longer : {O : Type 0} (a b : AgentSeen O) (o : Op) (answered : Reply) → IsDone a b o answered → length (own_entries a) + 1 ≤ length (own_entries b)
+done-longer a b o answered d =
+    let long = ap length d.grown ∙ length-append d.before (d.entry ∷ []) in
+    let front = before-longer d.before d.waited in
+    omega (arith, long, front)
+  where
+    before-longer : (before : List Entry) → IsWaitedFor a.number o (own_entries a) before → length (own_entries a) ≤ length before
+    before-longer before (inl same) = let long = ap length same in omega (arith, long)
+    before-longer before (inr w) = let long = ap length w.grown ∙ length-append (own_entries a) (w.wait ∷ []) in omega (arith, long)
 
 -- ---- a step more
 
@@ -85,6 +98,9 @@ module _ {O : Type 0} (tells : Type 0) (of : HallSeen O) (k : ℕ) (asked : Aske
           agrees = subst (λ x. Agrees x (kinds_of new)) (sym p.noted) (then-agrees p);
           table = pending-table tells b c kept e new then p.table;
           few = let count_c = ap (λ (x : AgentSeen O). x.entries) e.rest in let few = p.done.goes.few in let rows = rows-more p in omega (arith, count_c, few, rows, room);
+          fewer =
+              let own = ap length (pending-own tells b c kept e) in let longer_by = done-longer a b (op_of h s) p.answered p.done in let rows = rows-more p in let fewer = m.fewer in
+              omega (arith, own, longer_by, rows, fewer);
           pending = ap (λ (x : AgentSeen O). x.pending) e.rest;
           kept = then;
           hall = ap (λ (x : PassSeen O Entry). x.hall) pass ∙ m.hall;
@@ -203,6 +219,7 @@ module _ {O : Type 0} (tells : Type 0) (of : HallSeen O) (k : ℕ) (asked : Aske
     agrees = m.agrees;
     table = m.table;
     few = omega (arith, room);
+    fewer = m.fewer;
     pending = m.pending;
     kept = m.kept;
     hall = m.hall;

@@ -1,15 +1,16 @@
 -- The agent that a line names, whether it is free, and why what the line asks is refused.
-use Rattle.std.proofs.Common.{◌≡◌, ◌⊎◌, ℕ, suc, ◌-◌, ◌<◌, ◌≤◌, ◌&&◌, nat_le, Bool, true, false, Option, Some, None, Err, refl, sym, ap, ◌∙◌, subst, inl, inr, arith}
+use Rattle.std.proofs.Common.{◌≡◌, ◌⊎◌, ℕ, suc, ◌-◌, ◌<◌, ◌≤◌, ◌&&◌, nat_le, Bool, true, false, Option, Some, None, Err, List, refl, sym, ap, ◌∙◌, subst, inl, inr, arith}
 use Rattle.std.specs.Prelude.{is_some}
 use Rattle.std.proofs.lemmas.Bool.{and_parts, leb-true, true≢false}
 use Rattle.opfs_base.specs.Texts.{Text}
+use Rattle.opfs_hist.specs.declared.entry.Entry.{Entry}
 use Rattle.opfs_script.specs.Lines.{asked_by, if_among, numbered}
 use Rattle.opfs_script.specs.Members.{◌>>=◌}
 use Rattle.opfs_script.specs.declared.refusal.ScriptRefusal.{ScriptRefusal}
 use Rattle.opfs_script.specs.declared.refusal.ScriptRefusal.TheVariants as script
-use Rattle.opfs_serving.specs.Lines.{IsRefusal, Names, told_as, unread, waiting, ended, too_many}
-use Rattle.opfs_serving.specs.Requests.{CouldAsk, IsBusyFor, IsTrouble}
-use Rattle.opfs_serving.specs.declared.refusal.LineRefusal.{LineRefusal}
+use Rattle.opfs_serving.specs.Lines.{Names, told_as}
+use Rattle.opfs_serving.specs.Requests.{AsksNothing, IsFree, IsHeldBack, IsOf, IsTrouble, ended, too_many, unread}
+use Rattle.opfs_serving.specs.Seats.{SeatSeen}
 use Rattle.opfs_serving.specs.declared.refusal.LineRefusal.TheVariants as line
 use Rattle.opfs_serving.specs.declared.requests.Trouble.{Trouble}
 use Rattle.opfs_serving.specs.declared.requests.Trouble.TheVariants as trouble
@@ -17,6 +18,10 @@ use Rattle.opfs_serving.specs.declared.requests.Trouble.TheVariants as trouble
 pub none-there : {X : Type 0} (o : Option X) → is_some o ≡ false → o ≡ None
 none-there None is = refl
 none-there (Some x) is = absurd (true≢false is)
+
+pub some-there : {X : Type 0} (o : Option X) → is_some o ≡ true → (x : X) × (o ≡ Some x)
+some-there None is = absurd (true≢false (sym is))
+some-there (Some x) is = (x, refl)
 
 -- ---- the agent that is named is one of them
 
@@ -41,19 +46,23 @@ named-place agents text k rest names =
 
 -- ---- why not
 
-pub busy-refused : (agents : ℕ) (text : Text) (k : ℕ) (rest : Text) → Names agents text k rest → (why : LineRefusal) → IsBusyFor why → IsRefusal agents text why
-busy-refused agents text k rest names line.NotJson busy = absurd busy
-busy-refused agents text k rest names (line.BadShape agent step) busy = absurd busy
-busy-refused agents text k rest names (line.UnknownStep agent step) busy = absurd busy
-busy-refused agents text k rest names line.TooMany busy = too_many k rest names
-busy-refused agents text k rest names line.NoAgent busy = absurd busy
-busy-refused agents text k rest names line.Waiting busy = waiting k rest names
-busy-refused agents text k rest names line.Ended busy = ended k rest names
+module _ {O : Type 0} (seen : List Entry) (text : Text) (seats : List (SeatSeen O)) (place : ℕ) (x : SeatSeen O) (rest : Text) (of_line : IsOf text seats place x rest) where
+  pub held-nothing : (why : Trouble) → IsHeldBack place x (Some why) → AsksNothing seen text seats why
+  held-nothing (trouble.Refused line.NotJson) held = absurd held
+  held-nothing (trouble.Refused (line.BadShape agent step)) held = absurd held
+  held-nothing (trouble.Refused (line.UnknownStep agent step)) held = absurd held
+  held-nothing (trouble.Refused line.TooMany) held = too_many place x rest of_line held
+  held-nothing (trouble.Refused line.NoAgent) held = absurd held
+  held-nothing (trouble.Refused line.Waiting) held = absurd held
+  held-nothing (trouble.Refused line.Ended) held = ended place x rest of_line held
+  held-nothing (trouble.Waits at) held = (x, rest, subst (λ n. IsOf text seats n x rest) (sym held.0) of_line, held.1)
+  held-nothing trouble.NoMemory held = absurd held
 
-pub could-ask : (agents : ℕ) (text : Text) (k n : ℕ) (rest : Text) → Names agents text k rest → (why : ScriptRefusal) → (asked_by k n rest ≡ Err why) ⊎ (why ≡ script.NoMemory) → (t : Trouble) → IsTrouble why t → CouldAsk agents text t
-could-ask agents text k n rest names why is trouble.NoMemory told = tt
-could-ask agents text k n rest names why (inl is) (trouble.Refused r) told = unread k n rest why r names is told
-could-ask agents text k n rest names why (inr is) (trouble.Refused r) told = absurd (none-told (sym (ap told_as is) ∙ told))
-  where
-    none-told : None ≡ Some r → ⊥
-    none-told e = cc
+  pub unread-nothing : (free : IsFree x) (why : ScriptRefusal) → (asked_by (suc place) free.agent.number rest ≡ Err why) ⊎ (why ≡ script.NoMemory) → (t : Trouble) → IsTrouble why t → AsksNothing seen text seats t
+  unread-nothing free why is trouble.NoMemory told = tt
+  unread-nothing free why is (trouble.Waits at) told = absurd told
+  unread-nothing free why (inl is) (trouble.Refused r) told = unread place x rest free why r of_line is told
+  unread-nothing free why (inr is) (trouble.Refused r) told = absurd (none-told (sym (ap told_as is) ∙ told))
+    where
+      none-told : None ≡ Some r → ⊥
+      none-told e = cc

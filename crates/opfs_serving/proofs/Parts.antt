@@ -9,7 +9,7 @@ use Rattle.opfs_turns.specs.Agents.{AgentSeen}
 use Rattle.opfs_serving.specs.Seats.{EndsAt, IsAt, IsMidway, SeatSeen, with_steps}
 use Rattle.opfs_serving.proofs.Midway.{midway-awaits, midway-missed}
 
-some-same : {X : Type 0} {x y : X} → Some x ≡ Some y → x ≡ y
+pub some-same : {X : Type 0} {x y : X} → Some x ≡ Some y → x ≡ y
 some-same e = cc
 
 module _ {O : Type 0} (tells : Type 0) (of : HallSeen O) where

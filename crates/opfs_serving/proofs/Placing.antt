@@ -35,13 +35,6 @@ last-or xs x i y is = by (cases_lt i (length xs))
 is-last : {X : Type 0} (xs : List X) (x : X) (i : ℕ) (y : X) → slice_get (xs ++ x ∷ []) i ≡ Some y → i ≡ length xs → x ≡ y
 is-last xs x i y is place = some-same (sym (get-last xs x) ∙ ap (slice_get (xs ++ x ∷ [])) (sym place) ∙ is)
 
-pub seats-none : {O : Type 0} (tells : Type 0) (agents : List (AgentSeen O)) (hands : List Hand) (seats : List (SeatSeen O)) → length agents ≡ length hands → length hands ≡ 0 → seats ≡ [] → AreSeatsOf tells agents hands seats
-seats-none {O} tells agents hands seats count none empty = record {
-  count = let long = ap length empty in omega (arith, count, none, long);
-  each = λ i a h at_a at_h. let within = slice_get_within hands i h at_h in absurd (omega (arith, within, none));
-  kept = λ i a at. let within = slice_get_within agents i a at in absurd (omega (arith, within, count, none));
-}
-
 module _ {O : Type 0} (tells : Type 0) (agents rest : List (AgentSeen O)) (a : AgentSeen O) (hands front : List Hand) (h : Hand) (split : agents ≡ rest ++ a ∷ []) (parted : hands ≡ front ++ h ∷ [])
     (count : length agents ≡ length hands) where
   long : length agents ≡ length rest + 1

@@ -180,13 +180,6 @@ module _ {O : Type 0} (tells : Type 0) (of : HallSeen O) where
           seated-put sound whole (add_step i step scripts) (with_steps s (s.steps ++ step ∷ [])) x' b (λ well. well) (λ e. e)
           (length-add_step i step scripts) (get-add_step i step scripts s script-is) (λ k other. get-add_step_other i step scripts k other) there ends (λ well. at)
 
-      -- It was asked for a step, and memory was wanting.
-      pub seated-missed : (sound' : Type 0) → (sound' → ⊥) → (step : Step) (x' : SeatSeen O) (b : AgentSeen O) → x'.agent ≡ Some b
-          → EndsAt tells of (suc i) (with_steps s (s.steps ++ step ∷ [])) false x' b → AreSeated tells of sound' false (add_step i step scripts) (slice_set seats i x') ended
-      seated-missed sound' ill step x' b there ends =
-          seated-put sound' false (add_step i step scripts) (with_steps s (s.steps ++ step ∷ [])) x' b (λ well. absurd (ill well)) (λ e. absurd cc)
-          (length-add_step i step scripts) (get-add_step i step scripts s script-is) (λ k other. get-add_step_other i step scripts k other) there ends (λ well. absurd (ill well))
-
       -- It goes on with the steps that it was asked for.
       pub seated-polled : (x' : SeatSeen O) (b : AgentSeen O) → x'.agent ≡ Some b → IsAt tells of (suc i) s x' b → EndsAt tells of (suc i) s false x' b
           → AreSeated tells of sound whole scripts (slice_set seats i x') ended

@@ -1,10 +1,10 @@
 -- How a conversation begins.
-use Rattle.std.proofs.Common.{◌≡◌, ℕ, zero, suc, ◌<◌, ◌≤◌, true, false, Some, None, List, [], ◌∷◌, ◌++◌, length, map, refl, sym, ap, ◌∙◌, subst, arith}
+use Rattle.std.proofs.Common.{◌≡◌, ℕ, zero, suc, ◌<◌, ◌≤◌, true, false, Option, Some, None, List, [], ◌∷◌, ◌++◌, length, map, refl, sym, ap, ◌∙◌, subst, arith}
 use Rattle.std.specs.Prelude.{All, slice_get}
 use Rattle.std.proofs.lemmas.Bool.{false≢true}
-use Rattle.std.proofs.lemmas.List.{length-map}
 use Rattle.std.proofs.lemmas.List.Elements.{All-get_or}
 use Rattle.std.proofs.lemmas.Option.{get_or_from_slice_get, slice_get_within}
+use Rattle.opfs_hall.specs.History.{IsPrefix}
 use Rattle.opfs_hall.specs.Seen.{HallSeen, PassSeen, WatchSeen, at_rest, new_pass}
 use Rattle.opfs_hist.specs.declared.entry.Entry.{Entry}
 use Rattle.opfs_runner.proofs.Way.{no-table}
@@ -20,7 +20,7 @@ use Rattle.opfs_script_run.specs.Runs.Running.{empty_hand, entries_of}
 use Rattle.opfs_script_run.specs.declared.runs.hand.Hand.{Hand}
 use Rattle.opfs_turns.specs.Agents.{AgentSeen, IsAgent}
 use Rattle.opfs_serving.specs.Seats.{AreSeated, EndsAt, IsAt, IsMidway, SeatSeen, with_steps}
-use Rattle.opfs_serving.specs.Served.{AreSeatsOf, HasNoScripts, IsServing, Words}
+use Rattle.opfs_serving.specs.Served.{AreSeatsOf, AreTold, HasNoScripts, IsSilent, Words}
 use Rattle.opfs_serving.specs.declared.progress.Progress.{Progress}
 use Rattle.opfs_serving.specs.declared.progress.State.TheVariants as state
 use Rattle.opfs_serving.proofs.Midway.{midway-ends}
@@ -30,6 +30,9 @@ use Rattle.opfs_serving.proofs.Talking.{talk-begins}
 
 some-same : {X : Type 0} {x y : X} → Some x ≡ Some y → x ≡ y
 some-same e = cc
+
+some-none : {X : Type 0} (o : Option X) (x : X) → o ≡ Some x → o ≡ None → ⊥
+some-none o x some none = cc
 
 get-within : {X : Type 0} (xs : List X) (i : ℕ) → i < length xs → (x : X) × (slice_get xs i ≡ Some x)
 get-within [] i less = absurd (omega (arith, less))
@@ -63,6 +66,7 @@ midway-begins tells of k s a r agent kept none key = record {
   agrees = begins s.key;
   table = no-table tells a [] r.rows refl;
   few = let entries = r.entries in omega (arith, entries);
+  fewer = omega arith;
   pending = r.pending;
   kept = kept;
   hall = r.hall;
@@ -102,28 +106,45 @@ module _ {T O P : Type 0} (w : Words T O P) (of : HallSeen O) (scripts : List As
   seats-count : length seats ≡ length scripts
   seats-count = placed.count ∙ count
 
-  pub serving-begins : (port : P) (watch : WatchSeen O Entry T) (owner : PassSeen O Entry) (p : Progress) → length scripts ≤ 64 → of.agents ≡ length scripts → owner ≡ new_pass of 0 []
-      → watch.pass ≡ at_rest owner (w.entries watch.last) → w.opening watch.last ≡ of.opening → p.count ≡ 0 → IsServing w of scripts port port watch seats p
-  serving-begins port watch owner p few all fresh rests opened none = record {
-    scripts = scripts;
-    told = [];
-    talk = talk-begins w.entries w.keeps w.goes w.tells w.said scripts port port watch.last (p.state ≡ state.On) refl;
-    seated = subst (λ (ended : List (ℕ × List Entry)). AreSeated w.reads of (p.state ≡ state.On) p.whole scripts seats ended) (sym (ap (λ (x : PassSeen O Entry). x.ended) pass-is))
-        (seated-begins w.reads of (p.state ≡ state.On) p.whole scripts seats seats-count (begun-at (p.state ≡ state.On)));
-    emptied = λ i x seat gone.
-        let within = slice_get_within seats i x seat in
-        let script = get-within scripts i (omega (arith, within, seats-count)) in
-        ap (λ (y : SeatSeen O). y.rows) (seat-at i x script.0 seat script.1).2;
-    counted = λ on. none;
-    hall = ap (λ (x : PassSeen O Entry). x.hall) pass-is;
-    owner = ap (λ (x : PassSeen O Entry). x.agent) pass-is;
-    all = all;
-    few = few;
-    opened = opened;
+  script-at : (i : ℕ) (x : SeatSeen O) → slice_get seats i ≡ Some x → (s : Asked) × (slice_get scripts i ≡ Some s)
+  script-at i x seat = let within = slice_get_within seats i x seat in get-within scripts i (omega (arith, within, seats-count))
+
+  -- Nothing was entered yet, and nobody has ended.
+  all-told : AreTold seats []
+  all-told = record {
+    over = λ i x seat gone.
+        let script = script-at i x seat in let found = seat-at i x script.0 seat script.1 in
+        absurd (some-none x.agent found.0 (ap (λ (y : SeatSeen O). y.agent) found.2) gone);
+    shown = λ i x a seat here free.
+        let script = script-at i x seat in let found = seat-at i x script.0 seat script.1 in
+        let known = ready.each i found.0 script.0 found.1 script.1 in
+        let same : found.0 ≡ a = some-same (sym (ap (λ (y : SeatSeen O). y.agent) found.2) ∙ here) in
+        let own : own_entries a ≡ [] = ap (λ (b : AgentSeen O). own_entries b) (sym same) ∙ (λ j. entries_of found.0.pass.agent (known.1.fresh j ++ known.1.pending j)) in
+        subst (λ l. IsPrefix l []) (sym own) ([], refl);
   }
+
+  pub serving-begins : (port : P) (watch : WatchSeen O Entry T) (owner : PassSeen O Entry) (p : Progress) → length scripts ≤ 64 → of.agents ≡ length scripts → owner ≡ new_pass of 0 []
+      → watch.pass ≡ at_rest owner (w.entries watch.last) → w.opening watch.last ≡ of.opening → p.count ≡ 0 → IsSilent w of scripts port watch seats p
+  serving-begins port watch owner p few all fresh rests opened none =
+      let talk = talk-begins w.entries w.keeps w.goes w.tells w.said scripts port port watch.last (p.state ≡ state.On) refl in
+      record {
+        stands = record {
+          scripts = scripts;
+          told = [];
+          talk = talk.0;
+          seated = subst (λ (ended : List (ℕ × List Entry)). AreSeated w.reads of (p.state ≡ state.On) p.whole scripts seats ended) (sym (ap (λ (x : PassSeen O Entry). x.ended) pass-is))
+              (seated-begins w.reads of (p.state ≡ state.On) p.whole scripts seats seats-count (begun-at (p.state ≡ state.On)));
+          emptied = λ i x seat gone. let script = script-at i x seat in ap (λ (y : SeatSeen O). y.rows) (seat-at i x script.0 seat script.1).2;
+          counted = λ on. none;
+          hall = ap (λ (x : PassSeen O Entry). x.hall) pass-is;
+          owner = ap (λ (x : PassSeen O Entry). x.agent) pass-is;
+          all = all;
+          few = few;
+          opened = opened;
+        };
+        none = talk.1;
+        all_told = all-told;
+      }
     where
       pass-is : watch.pass ≡ at_rest (new_pass of 0 []) (w.entries watch.last)
       pass-is = rests ∙ ap (λ (o : PassSeen O Entry). at_rest o (w.entries watch.last)) fresh
-
-  pub seats-hands : length agents ≡ length hands
-  seats-hands = count ∙ sym (ap length hands-are ∙ length-map scripts (λ (s : Asked). empty_hand s.key))

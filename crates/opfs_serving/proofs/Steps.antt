@@ -1,5 +1,5 @@
 -- How a conversation stands once a step was made, or was not.
-use Rattle.std.proofs.Common.{◌≡◌, ◌⊎◌, ℕ, suc, ◌-◌, ◌+◌, ◌<◌, ◌≤◌, ◌==◌, ◌&&◌, not, Bool, true, false, Some, None, Option, List, [], ◌∷◌, ◌++◌, length, length-append, drop, refl, sym, ap, ◌∙◌, subst, inl, inr, arith, append_assoc, append-nil, slice_index_or, slice_set}
+use Rattle.std.proofs.Common.{◌≡◌, ◌⊎◌, ℕ, suc, ◌-◌, ◌+◌, ◌<◌, ◌≤◌, ◌==◌, ◌&&◌, not, Bool, true, false, Some, None, Option, Ok, List, [], ◌∷◌, ◌++◌, length, length-append, drop, refl, sym, ap, ◌∙◌, subst, inl, inr, arith, append_assoc, append-nil, slice_index_or, slice_set}
 use Rattle.std.specs.Prelude.{◌≢◌, count_by, slice_get}
 use Rattle.std.proofs.lemmas.List.Sums.{sum_by-append}
 use mathlib.Core.Bool.{cond}
@@ -10,16 +10,20 @@ use Rattle.opfs_hall.specs.History.{IsPrefix}
 use Rattle.opfs_hall.specs.Seen.{HallSeen, PassSeen, WatchSeen}
 use Rattle.opfs_hist.specs.declared.entry.Entry.{Entry}
 use Rattle.opfs_port.specs.Said.{Said, heard}
+use Rattle.opfs_runner.specs.Stepping.{own_entries}
+use Rattle.opfs_script.specs.Lines.{asked_by}
+use Rattle.opfs_script.specs.Reading.{Read}
 use Rattle.opfs_script.specs.Scripts.{Asked}
 use Rattle.opfs_script.specs.declared.lines.Asking.{Asking}
 use Rattle.opfs_script.specs.declared.lines.Asking.TheVariants as asking
 use Rattle.opfs_script.specs.declared.step.Step.{Step}
 use Rattle.opfs_script.specs.declared.step.Step.TheVariants as step
+use Rattle.opfs_script_run.specs.Runs.Running.{entries_of}
 use Rattle.opfs_serving.specs.Exchanges.{Answer, Call, Exchange, add_step, entered, entries_told, told_by, with_call}
-use Rattle.opfs_serving.specs.Lines.{IsAsked, Names, calls}
-use Rattle.opfs_serving.specs.Requests.{IsFree, IsRequest}
+use Rattle.opfs_serving.specs.Lines.{AsksNext, IsAsked, IsAskedFor, Names, calls}
+use Rattle.opfs_serving.specs.Requests.{IsFree, IsOf, IsRequest}
 use Rattle.opfs_serving.specs.Seats.{AreSeated, IsAt, IsLeftOpen, SeatSeen, open_step, with_steps}
-use Rattle.opfs_serving.specs.Served.{HasHeard, IsServing, Words}
+use Rattle.opfs_serving.specs.Served.{AreTold, HasHeard, IsServing, IsStanding, Words}
 use Rattle.opfs_serving.specs.Stepping.{HasMade, HasMissed, noted}
 use Rattle.opfs_serving.specs.Talks.{HasAnswer, IsExchange, IsTalk}
 use Rattle.opfs_serving.specs.Turns.{GoesOut, HasToldMore, HasTurned}
@@ -28,6 +32,7 @@ use Rattle.opfs_serving.specs.declared.progress.State.{State}
 use Rattle.opfs_serving.specs.declared.progress.State.TheVariants as state
 use Rattle.opfs_serving.proofs.Midway.{midway-ends}
 use Rattle.opfs_serving.proofs.Seating.{get-add_step, get-add_step_other, length-add_step, place, seated-asked, seated-put, seated-script, seated-weaker}
+use Rattle.opfs_serving.proofs.Showing.{shown-base, told-set}
 use Rattle.opfs_serving.proofs.Talking.{front-drop, talk-lost, talk-more, talk-perhaps, with_call-at}
 use Rattle.opfs_turns.specs.Agents.{AgentSeen, is_wait, next_number}
 
@@ -55,20 +60,24 @@ number-grows k base list front =
     let more = count-grows (λ (e : Entry). (e.agent == k) && not (is_wait e.op)) base front.0 in
     subst (λ l. next_number k base ≤ next_number k l) (sym front.1) (omega (arith, more))
 
+-- The number of an agent that is midway is the next behind what it has seen.
+pub number-is : {O : Type 0} (tells : Type 0) (of : HallSeen O) (k : ℕ) (asked : Asked) (x : SeatSeen O) (b : AgentSeen O) → IsAt tells of k asked x b → b.number ≡ next_number k b.pass.base
+number-is tells of k asked x b at = at.kept.numbered ∙ (λ i. next_number (at.agent i) (b.pass.base ++ at.pending i)) ∙ ap (next_number k) (append-nil b.pass.base)
+
 -- What an agent that has made its steps, or awaits the last, has entered answers them.
 module _ {O : Type 0} (tells : Type 0) (of : HallSeen O) (k : ℕ) (asked : Asked) (s : Step) (x : SeatSeen O) (b : AgentSeen O) (base list : List Entry)
     (at : IsAt tells of k asked x b) (seen : b.pass.base ≡ base) (front : IsPrefix base list) where
-  number-is : b.number ≡ next_number k base
-  number-is = at.kept.numbered ∙ (λ i. next_number (at.agent i) (seen i ++ at.pending i)) ∙ ap (next_number k) (append-nil base)
+  number-of : b.number ≡ next_number k base
+  number-of = number-is tells of k asked x b at ∙ ap (next_number k) seen
 
   pub answered-by : (awaits : Option Text) → asked.steps ≡ at.done ++ open_step awaits → IsLeftOpen s awaits
       → (length asked.steps < next_number k list) ⊎ ((tag : Text) × (s ≡ step.Await tag) × (length asked.steps ≤ next_number k list))
   answered-by None steps open_is =
-      let number = number-is in let next = at.number in let grows = number-grows k base list front in
+      let number = number-of in let next = at.number in let grows = number-grows k base list front in
       let long : length asked.steps ≡ length at.done = ap length (steps ∙ append-nil at.done) in
       inl (omega (arith, number, next, grows, long))
   answered-by (Some tag) steps open_is =
-      let number = number-is in let next = at.number in let grows = number-grows k base list front in
+      let number = number-of in let next = at.number in let grows = number-grows k base list front in
       let long : length asked.steps ≡ length at.done + 1 = ap length steps ∙ length-append at.done (step.Await tag ∷ []) in
       inr (tag, open_is, omega (arith, number, next, grows, long))
 
@@ -114,35 +123,67 @@ shown-pass {T} {O} tells of k asked mid before shown own shows found = (
 
 pub at-seat : {O : Type 0} (line : Text) (seats : List (SeatSeen O)) (i : ℕ) (asks : Asking) (x : SeatSeen O) → IsRequest line seats i asks → x ≡ slice_index_or seats i x → (slice_get seats i ≡ Some x) × IsFree x
 at-seat line seats i asks x r is =
-    let same : r.seat ≡ x = sym (is ∙ get_or_from_slice_get seats i r.seat x r.there) in
-    (r.there ∙ ap Some same, subst IsFree same r.free)
+    let same : r.seat ≡ x = sym (is ∙ get_or_from_slice_get seats i r.seat x r.at.there) in
+    (r.at.there ∙ ap Some same, subst IsFree same r.free)
 
 -- It is midway, where all is well.
 pub midway-at : {T O P : Type 0} (w : Words T O P) (of : HallSeen O) (agents : List Asked) (begun before : P) (watch : WatchSeen O Entry T) (seats : List (SeatSeen O)) (p : Progress)
     → IsServing w of agents begun before watch seats p → p.state ≡ state.On → (i : ℕ) (x : SeatSeen O) (a : AgentSeen O) → slice_get seats i ≡ Some x → x.agent ≡ Some a
     → (k : ℕ) × (asked : Asked) × IsAt w.reads of k asked x a
 midway-at w of agents begun before watch seats p v on i x a there here =
-    let script = seated-script w.reads of (p.state ≡ state.On) p.whole v.scripts seats watch.pass.ended v.seated i x there in
-    (suc i, script.0, v.seated.midway on i x a script.0 there here script.1)
+    let script = seated-script w.reads of (p.state ≡ state.On) p.whole v.stands.scripts seats watch.pass.ended v.stands.seated i x there in
+    (suc i, script.0, v.stands.seated.midway on i x a script.0 there here script.1)
+
+-- What a line asks of an agent, it asks as the next step of what that was asked for.
+pub asks-next : {T O P : Type 0} (w : Words T O P) (of : HallSeen O) (agents : List Asked) (begun before : P) (watch : WatchSeen O Entry T) (seats : List (SeatSeen O)) (p : Progress)
+    (v : IsStanding w of agents begun before watch seats p) → p.state ≡ state.On → (line : Text) (i : ℕ) (x : SeatSeen O) (rest : Text) (free : IsFree x) → IsOf line seats i x rest → (found : Read Asking)
+    → asked_by (suc i) free.agent.number rest ≡ found
+    → (asked : Asked) × Names (length v.scripts) line (suc i) rest × IsAskedFor v.scripts (suc i) asked × AsksNext (suc i) asked rest found
+asks-next w of agents begun before watch seats p v on line i x rest free of_line found asks =
+    let script = seated-script w.reads of (p.state ≡ state.On) p.whole v.scripts seats watch.pass.ended v.seated i x of_line.there in
+    let at = v.seated.midway on i x free.agent script.0 of_line.there free.there script.1 in
+    let first : suc i - 1 ≡ i = omega arith in
+    let steps : length script.0.steps ≡ length at.done = ap length (at.steps ∙ ap (λ o. at.done ++ open_step o) free.free ∙ append-nil at.done) in
+    let number : free.agent.number ≡ length script.0.steps + 1 = at.number ∙ ap (λ n. n + 1) (sym steps) in (
+      script.0,
+      subst (λ n. Names n line (suc i) rest) v.seated.count of_line.names,
+      ap (slice_get v.scripts) first ∙ script.1,
+      subst (λ n. asked_by (suc i) n rest ≡ found) number asks,
+    )
 
 -- ---- a conversation, once an answer was made
 
 module _ {T O P : Type 0} (w : Words T O P) (lasts : (a b c : T) → w.goes a b → w.goes b c → w.goes a c) (stays : (a : T) → w.goes a a) (of : HallSeen O) (agents : List Asked) (begun before port : P)
-    (watch : WatchSeen O Entry T) (seats : List (SeatSeen O)) (p : Progress) (v : IsServing w of agents begun before watch seats p) (on : p.state ≡ state.On) (line : Text) (came : HasHeard w line before port) where
+    (watch : WatchSeen O Entry T) (seats : List (SeatSeen O)) (p : Progress) (u : IsServing w of agents begun before watch seats p) (on : p.state ≡ state.On) (line : Text) (came : HasHeard w line before port) where
+  -- as it stands before
+  abbrev v : IsStanding w of agents begun before watch seats p
+  v = u.stands
+
+  -- so many answers went out
+  abbrev pub many : ℕ
+  many = length v.talk.talk
+
   abbrev exchange : Option Call → Answer → T → Exchange T
   exchange call answer at = record { line = Some line; call = call; answer = answer; at = at }
+
+  -- It is not the first.
+  pub not-first : {X : Type 0} → many ≡ 0 → X
+  not-first none = let some = u.greeted on in absurd (omega (arith, none, some))
 
   then-told : (now : P) (more : List (Said T)) → w.tells → w.said now ≡ w.said port ++ more → w.said now ≡ w.said before ++ (heard line ∷ more)
   then-told now more t is = is ∙ ap (λ l. l ++ more) (came t) ∙ append_assoc (w.said before) (heard line ∷ []) more
 
-  perhaps : (now : P) (call : Option Call) (answer : Answer) (at : T) (q : Progress) → IsExchange w.entries w.keeps v.scripts v.told (exchange call answer at)
+  -- What was told then, and that something was said.
+  abbrev pub Talked : P → Option Call → Answer → T → Progress → Type 0
+  Talked now call answer at q = (told : List Entry) × (t : IsTalk w.entries w.keeps w.goes w.tells w.said agents begun now at (q.state ≡ state.On) (with_call v.scripts call) told)
+      × (q.state ≡ state.On → (0 < length t.talk) × (told ≡ v.told ++ entries_told answer))
+
+  perhaps : (now : P) (call : Option Call) (answer : Answer) (at : T) (q : Progress) → IsExchange w.entries w.keeps many v.scripts v.told (exchange call answer at)
       → w.goes watch.last at → IsPrefix (w.entries watch.last) (w.entries at) → (q.state ≡ state.On → ⊥)
-      → (w.tells → (w.said now ≡ w.said port) ⊎ (w.said now ≡ w.said port ++ told_by answer at))
-      → (told : List Entry) × IsTalk w.entries w.keeps w.goes w.tells w.said agents begun now at (q.state ≡ state.On) (with_call v.scripts call) told
-      × (q.state ≡ state.On → told ≡ v.told ++ entries_told answer)
+      → (w.tells → (w.said now ≡ w.said port) ⊎ (w.said now ≡ w.said port ++ told_by answer at)) → Talked now call answer at q
   perhaps now call answer at q one goes front ill out = (
     v.told,
-    talk-perhaps w.entries w.keeps w.goes w.tells w.said agents begun lasts before watch.last (p.state ≡ state.On) v.scripts v.told v.talk on now (exchange call answer at) at (q.state ≡ state.On)
+    talk-perhaps w.entries w.keeps w.goes w.tells w.said agents begun lasts stays before watch.last (p.state ≡ state.On) v.scripts v.told v.talk on now (exchange call answer at) (q.state ≡ state.On)
         (λ t. by t (out t)) one goes front ill,
     λ well. absurd (ill well),
   )
@@ -153,16 +194,13 @@ module _ {T O P : Type 0} (w : Words T O P) (lasts : (a b c : T) → w.goes a b 
       by t (inr is) = inr (then-told now (told_by answer at) t is)
 
   -- The answer went out, where all is well; else it may have.
-  pub talk-by : (now : P) (call : Option Call) (answer : Answer) (at : T) (q : Progress) → IsExchange w.entries w.keeps v.scripts v.told (exchange call answer at)
-      → w.goes watch.last at → IsPrefix (w.entries watch.last) (w.entries at) → (s : State) → q.state ≡ s → GoesOut w.tells w.said (told_by answer at) port now s
-      → (told : List Entry) × IsTalk w.entries w.keeps w.goes w.tells w.said agents begun now at (q.state ≡ state.On) (with_call v.scripts call) told
-      × (q.state ≡ state.On → told ≡ v.told ++ entries_told answer)
-  talk-by now call answer at q one goes front state.On is out = (
-    v.told ++ entries_told answer,
-    talk-more w.entries w.keeps w.goes w.tells w.said agents begun lasts before watch.last (p.state ≡ state.On) v.scripts v.told v.talk on stays now (exchange call answer at) (q.state ≡ state.On)
-        (λ t. then-told now (told_by answer at) t (out t)) one goes front,
-    λ well. refl,
-  )
+  pub talk-by : (now : P) (call : Option Call) (answer : Answer) (at : T) (q : Progress) → IsExchange w.entries w.keeps many v.scripts v.told (exchange call answer at)
+      → w.goes watch.last at → IsPrefix (w.entries watch.last) (w.entries at) → (s : State) → q.state ≡ s → GoesOut w.tells w.said (told_by answer at) port now s → Talked now call answer at q
+  talk-by now call answer at q one goes front state.On is out =
+      let talk = talk-more w.entries w.keeps w.goes w.tells w.said agents begun lasts stays before watch.last (p.state ≡ state.On) v.scripts v.told v.talk on now (exchange call answer at) (q.state ≡ state.On)
+      (λ t. then-told now (told_by answer at) t (out t)) one goes front in
+      let long = ap length talk.1 ∙ length-append v.talk.talk (exchange call answer at ∷ []) in
+      (v.told ++ entries_told answer, talk.0, λ well. (omega (arith, long), refl))
   talk-by now call answer at q one goes front state.Failed is out = perhaps now call answer at q one goes front (failed-on q.state is) out
   talk-by now call answer at q one goes front state.Short is out = perhaps now call answer at q one goes front (short-on q.state is) out
 
@@ -170,48 +208,58 @@ module _ {T O P : Type 0} (w : Words T O P) (lasts : (a b c : T) → w.goes a b 
   pub talk-silent : (call : Option Call) (q : Progress) → q.state ≡ state.Short
       → IsTalk w.entries w.keeps w.goes w.tells w.said agents begun port watch.last (q.state ≡ state.On) (with_call v.scripts call) v.told
   talk-silent call q is =
-      talk-lost w.entries w.keeps w.goes w.tells w.said agents begun lasts before watch.last (p.state ≡ state.On) v.scripts v.told v.talk on port (exchange call (entered []) watch.last) watch.last (q.state ≡ state.On)
+      talk-lost w.entries w.keeps w.goes w.tells w.said agents begun lasts stays before watch.last (p.state ≡ state.On) v.scripts v.told v.talk on port (exchange call (entered []) watch.last) (q.state ≡ state.On)
       came (stays watch.last) (prefix_refl (w.entries watch.last)) (short-on q.state is)
 
   -- All entries were told that there are.
   pub all-told : (list : List Entry) → IsPrefix (w.entries watch.last) list → v.told ++ drop p.count list ≡ list
   all-told list front = sym (front-drop v.told list p.count (prefix_trans v.told (w.entries watch.last) list v.talk.front front) (sym (v.counted on)))
 
-  pub talk-entered : (now : P) (call : Option Call) (at : T) (q : Progress) → ((es : List Entry) → IsAsked v.scripts (Some line) call (entered es)) → w.keeps at
+  -- What was told then, all that there is.
+  abbrev pub Entered : P → Option Call → T → Progress → Type 0
+  Entered now call at q = (told : List Entry) × (t : IsTalk w.entries w.keeps w.goes w.tells w.said agents begun now at (q.state ≡ state.On) (with_call v.scripts call) told)
+      × (q.state ≡ state.On → (q.count ≡ length told) × (0 < length t.talk) × IsPrefix v.told told × (told ≡ w.entries at))
+
+  pub talk-entered : (now : P) (call : Option Call) (at : T) (q : Progress) → ((es : List Entry) → v.told ++ es ≡ w.entries at → IsAsked many v.scripts v.told (Some line) call (entered es)) → w.keeps at
       → HasAnswer (with_call v.scripts call) call (w.entries at) → w.goes watch.last at → IsPrefix (w.entries watch.last) (w.entries at) → HasToldMore w.entries w.tells w.said at port now p q
-      → (told : List Entry) × IsTalk w.entries w.keeps w.goes w.tells w.said agents begun now at (q.state ≡ state.On) (with_call v.scripts call) told × (q.state ≡ state.On → q.count ≡ length told)
+      → Entered now call at q
   talk-entered now call at q asks kept answered goes front more =
       let list = w.entries at in
       let whole : v.told ++ drop p.count list ≡ list = all-told list front in
       let found = talk-by now call (entered (drop p.count list)) at q
       (record {
-        asked = asks (drop p.count list);
+        asked = asks (drop p.count list) whole;
+        first = λ none. not-first none;
         front = subst (λ l. IsPrefix l list) (sym whole) (prefix_refl list);
         kept = kept;
         answered = subst (HasAnswer (with_call v.scripts call) call) (sym whole) answered;
       })
       goes front q.state refl (more.told on) in
-      (found.0, found.1, λ well. more.count on well ∙ ap length (sym (found.2 well ∙ whole)))
+      (found.0, found.1, λ well. (more.count on well ∙ ap length (sym ((found.2 well).1 ∙ whole)), (found.2 well).0, (drop p.count list, (found.2 well).1), (found.2 well).1 ∙ whole))
 
   -- What holds of the seats, the pass and the talk, as one.
   pub serves : (now : P) (after : WatchSeen O Entry T) (q : Progress) (then : List (SeatSeen O)) (call : Option Call) (told : List Entry)
-      → IsTalk w.entries w.keeps w.goes w.tells w.said agents begun now after.last (q.state ≡ state.On) (with_call v.scripts call) told
+      → (t : IsTalk w.entries w.keeps w.goes w.tells w.said agents begun now after.last (q.state ≡ state.On) (with_call v.scripts call) told)
       → AreSeated w.reads of (q.state ≡ state.On) q.whole (with_call v.scripts call) then after.pass.ended
-      → ((i : ℕ) (x : SeatSeen O) → slice_get then i ≡ Some x → x.agent ≡ None → x.rows ≡ []) → (q.state ≡ state.On → q.count ≡ length told)
+      → ((i : ℕ) (x : SeatSeen O) → slice_get then i ≡ Some x → x.agent ≡ None → x.rows ≡ []) → (q.state ≡ state.On → (q.count ≡ length told) × (0 < length t.talk) × AreTold then told)
       → after.pass.hall ≡ of → after.pass.agent ≡ 0 → w.opening after.last ≡ of.opening
       → IsServing w of agents begun now after then q
-  serves now after q then call told talk seated emptied counted hall owner opened = record {
-    scripts = with_call v.scripts call;
-    told = told;
-    talk = talk;
-    seated = seated;
-    emptied = emptied;
-    counted = counted;
-    hall = hall;
-    owner = owner;
-    all = v.all ∙ sym (length-with_call v.scripts call);
-    few = subst (λ n. n ≤ 64) (sym (length-with_call v.scripts call)) v.few;
-    opened = opened;
+  serves now after q then call told talk seated emptied well hall owner opened = record {
+    stands = record {
+      scripts = with_call v.scripts call;
+      told = told;
+      talk = talk;
+      seated = seated;
+      emptied = emptied;
+      counted = λ is. (well is).0;
+      hall = hall;
+      owner = owner;
+      all = v.all ∙ sym (length-with_call v.scripts call);
+      few = subst (λ n. n ≤ 64) (sym (length-with_call v.scripts call)) v.few;
+      opened = opened;
+    };
+    greeted = λ is. (well is).1;
+    all_told = λ is. (well is).2;
   }
 
   -- The seats without an agent have no rows, where another seat is at a place.
@@ -224,9 +272,12 @@ module _ {T O P : Type 0} (w : Words T O P) (lasts : (a b c : T) → w.goes a b 
 
   -- ---- a step of the agent at a place
 
-  module _ (i : ℕ) (s : Step) (r : IsRequest line seats i (asking.Step s)) (x x' : SeatSeen O) (there : slice_get seats i ≡ Some x) (free : IsFree x) where
+  module _ (i : ℕ) (s : Step) (r : IsRequest line seats i (asking.Step s)) (x x' : SeatSeen O) (there : slice_get seats i ≡ Some x) where
     abbrev call : Call
     call = record { agent = suc i; step = s }
+
+    free : IsFree x
+    free = subst IsFree (some-same (sym r.at.there ∙ there)) r.free
 
     script : (t : Asked) × (slice_get v.scripts i ≡ Some t)
     script = seated-script w.reads of (p.state ≡ state.On) p.whole v.scripts seats watch.pass.ended v.seated i x there
@@ -237,8 +288,10 @@ module _ {T O P : Type 0} (w : Words T O P) (lasts : (a b c : T) → w.goes a b 
     at : IsAt w.reads of (suc i) script.0 x free.agent
     at = v.seated.midway on i x free.agent script.0 there free.there script.1
 
-    asks : (es : List Entry) → IsAsked v.scripts (Some line) (Some call) (entered es)
-    asks es = calls line (suc i) r.n r.rest s es (subst (λ n. Names n line (suc i) r.rest) v.seated.count r.names) r.asks
+    asks : (es : List Entry) → IsAsked many v.scripts v.told (Some line) (Some call) (entered es)
+    asks es =
+        let n = asks-next w of agents begun before watch seats p v on line i r.seat r.rest r.free r.at (Ok (asking.Step s)) r.asks in
+        calls line (suc i) n.0 r.rest s es n.1 n.2 n.3
 
     scripts-are : with_call v.scripts (Some call) ≡ add_step i s v.scripts
     scripts-are = with_call-at v.scripts (suc i) i s refl
@@ -254,7 +307,7 @@ module _ {T O P : Type 0} (w : Words T O P) (lasts : (a b c : T) → w.goes a b 
     pub step-made : (now : P) (after : WatchSeen O Entry T) (q : Progress) → HasMade w of s x x' watch after port now p q → IsServing w of agents begun now after (slice_set seats i x') q
     step-made now after q m =
         let found = m.at (suc i) script.0 free.agent free.there at in
-        let talk = talk-entered now (Some call) after.last q asks m.turned.kept (answered found.0 m.base (w.entries after.last) found.2 found.3 m.turned.noted m.awaits) m.turned.goes_on m.turned.front m.told in
+        let talk = talk-entered now (Some call) after.last q (λ es is. asks es) m.turned.kept (answered found.0 m.base (w.entries after.last) found.2 found.3 m.turned.noted m.awaits) m.turned.goes_on m.turned.front m.told in
         let seated = seated-asked w.reads of (p.state ≡ state.On) p.whole v.scripts seats watch.pass.ended v.seated i x free.agent script.0 there free.there script.1 s x' found.0 found.1 found.2
         (midway-ends w.reads of (suc i) more-steps found.0 x'.rows x'.hand x'.awaits found.2) in
         serves now after q (slice_set seats i x') (Some call) talk.0 talk.1
@@ -263,7 +316,13 @@ module _ {T O P : Type 0} (w : Words T O P) (lasts : (a b c : T) → w.goes a b 
         (λ j. (sym m.told.whole j, sym (ap (λ (y : PassSeen O Entry). y.ended) m.turned.pass) j))
         (seated-weaker w.reads of (p.state ≡ state.On) (q.state ≡ state.On) p.whole p.whole (add_step i s v.scripts) (slice_set seats i x') watch.pass.ended (λ well. on) (λ e. e) seated)))
         (emptied-set i x x' there (λ none. absurd (some-none x'.agent found.0 none found.1)))
-        talk.2
+        (λ well. let told = talk.2 well in (
+          told.0,
+          told.1,
+          told-set v.told talk.0 told.2 seats (u.all_told on) i x x' there (λ none. absurd (some-none x'.agent found.0 none found.1))
+              (λ a here open_is. subst (λ (b : AgentSeen O). IsPrefix (own_entries b) (entries_of (suc i) talk.0)) (some-same (sym found.1 ∙ here))
+              (shown-base (suc i) found.0 m.base talk.0 found.2.pending found.2.agent found.3 (subst (IsPrefix m.base) (sym told.3) m.turned.noted))),
+        ))
         (ap (λ (y : PassSeen O Entry). y.hall) m.turned.pass ∙ v.hall)
         (ap (λ (y : PassSeen O Entry). y.agent) m.turned.pass ∙ v.owner)
         m.turned.opened

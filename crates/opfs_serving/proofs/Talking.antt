@@ -1,5 +1,5 @@
 -- What a conversation has come to, line by line.
-use Rattle.std.proofs.Common.{◌≡◌, ◌⊎◌, ℕ, suc, ◌-◌, Some, List, [], ◌∷◌, ◌++◌, length, drop, refl, sym, ap, ◌∙◌, subst, inl, inr, arith, append_assoc, append-nil}
+use Rattle.std.proofs.Common.{◌≡◌, ◌⊎◌, ℕ, suc, ◌+◌, ◌-◌, Some, List, [], ◌∷◌, ◌++◌, length, drop, refl, sym, ap, ◌∙◌, subst, inl, inr, arith, append_assoc, append-nil}
 use Rattle.std.proofs.lemmas.List.{drop_at}
 use Rattle.std.specs.Prelude.{All}
 use Rattle.std.proofs.lemmas.List.Elements.{All-push, All-weaker}
@@ -38,13 +38,16 @@ pub all_told-push : {T : Type 0} (xs : List (Exchange T)) (x : Exchange T) → a
 all_told-push xs x = all_told-append xs (x ∷ []) ∙ ap (λ l. all_told xs ++ l) (append-nil (entries_told x.answer))
 
 module _ {T : Type 0} (entries : T → List Entry) (keeps : T → Type 0) where
-  pub exchanges-push : (scripts : List Asked) (told : List Entry) (xs : List (Exchange T)) (x : Exchange T) → AreExchanges entries keeps scripts told xs
-      → IsExchange entries keeps (scripts_after scripts xs) (told ++ all_told xs) x → AreExchanges entries keeps scripts told (xs ++ x ∷ [])
-  exchanges-push scripts told [] x all one = (subst (λ es. IsExchange entries keeps scripts es x) (append-nil told) one, tt)
-  exchanges-push scripts told (y ∷ ys) x all one = (
+  -- The one behind them has the number of all before it.
+  pub exchanges-push : (count n : ℕ) (scripts : List Asked) (told : List Entry) (xs : List (Exchange T)) (x : Exchange T) → AreExchanges entries keeps count scripts told xs → n ≡ count + length xs
+      → IsExchange entries keeps n (scripts_after scripts xs) (told ++ all_told xs) x → AreExchanges entries keeps count scripts told (xs ++ x ∷ [])
+  exchanges-push count n scripts told [] x all is one =
+      let same : n ≡ count = omega (arith, is) in
+      (subst (λ (y : ℕ × List Entry). IsExchange entries keeps y.0 scripts y.1 x) (λ i. (same i, append-nil told i)) one, tt)
+  exchanges-push count n scripts told (y ∷ ys) x all is one = (
     all.0,
-    exchanges-push (with_call scripts y.call) (told ++ entries_told y.answer) ys x all.1
-        (subst (λ es. IsExchange entries keeps (scripts_after (with_call scripts y.call) ys) es x) (sym (append_assoc told (entries_told y.answer) (all_told ys))) one),
+    exchanges-push (suc count) n (with_call scripts y.call) (told ++ entries_told y.answer) ys x all.1 (omega (arith, is))
+        (subst (λ es. IsExchange entries keeps n (scripts_after (with_call scripts y.call) ys) es x) (sym (append_assoc told (entries_told y.answer) (all_told ys))) one),
   )
 
 -- ---- a conversation
@@ -56,61 +59,73 @@ module _ {T P : Type 0} (entries : T → List Entry) (keeps : T → Type 0) (goe
       All-weaker (λ (x : Exchange T). IsPrefix (entries x.at) (entries last)) (λ (x : Exchange T). IsPrefix (entries x.at) (entries later)) (λ x h. prefix_trans (entries x.at) (entries last) (entries later) h front) talk all
 
   -- Nothing was said yet.
-  pub talk-begins : (now : P) (last : T) (sound : Type 0) → said now ≡ said begun → IsTalk entries keeps goes tells said agents begun now last sound agents []
-  talk-begins now last sound same = record {
-    talk = [];
-    left = [];
-    few = omega arith;
-    whole = λ s. refl;
-    said_is = λ t. inl (same ∙ sym (append-nil (said begun)));
-    right = tt;
-    scripts_are = refl;
-    told_is = refl;
-    front = (entries last, refl);
-    begins = λ i d within. absurd (omega (arith, within));
-    goes_on = λ i d within. absurd (omega (arith, within));
-  }
+  pub talk-begins : (now : P) (last : T) (sound : Type 0) → said now ≡ said begun → (t : IsTalk entries keeps goes tells said agents begun now last sound agents []) × (t.talk ≡ [])
+  talk-begins now last sound same = (
+    record {
+      talk = [];
+      left = [];
+      few = omega arith;
+      whole = λ s. refl;
+      said_is = λ t. inl (same ∙ sym (append-nil (said begun)));
+      right = tt;
+      scripts_are = refl;
+      told_is = refl;
+      front = (entries last, refl);
+      begins = λ i d within. absurd (omega (arith, within));
+      goes_on = λ i d within. absurd (omega (arith, within));
+    },
+    refl,
+  )
 
   module _ (lasts : (u v w : T) → goes u v → goes v w → goes u w) where
-    -- Nothing more was said, and the store went on.
-    pub talk-stands : (before now : P) (last later : T) (sound sound' : Type 0) (scripts : List Asked) (told : List Entry)
-        → IsTalk entries keeps goes tells said agents begun before last sound scripts told → (tells → said now ≡ said before)
-        → goes last later → IsPrefix (entries last) (entries later) → (sound' → sound)
-        → IsTalk entries keeps goes tells said agents begun now later sound' scripts told
-    talk-stands before now last later sound sound' scripts told t same on front as_well = record {
-      talk = t.talk;
-      left = t.left;
-      few = t.few;
-      whole = λ s. t.whole (as_well s);
-      said_is = λ b. by b (t.said_is b);
-      right = t.right;
-      scripts_are = t.scripts_are;
-      told_is = t.told_is;
-      front = prefix_trans told (entries last) (entries later) t.front front;
-      begins = begun-by last later t.talk front t.begins;
-      goes_on = All-weaker (λ x. goes x.at last) (λ x. goes x.at later) (λ x h. lasts x.at last later h on) t.talk t.goes_on;
-    }
-      where
-        by : tells → (said before ≡ said begun ++ (spoken t.talk ++ unanswered t.left)) ⊎ ((said before ≡ said begun ++ (spoken t.talk ++ spoken t.left)) × AreExchanges entries keeps agents [] (t.talk ++ t.left))
-            → (said now ≡ said begun ++ (spoken t.talk ++ unanswered t.left)) ⊎ ((said now ≡ said begun ++ (spoken t.talk ++ spoken t.left)) × AreExchanges entries keeps agents [] (t.talk ++ t.left))
-        by b (inl is) = inl (same b ∙ is)
-        by b (inr is) = inr (same b ∙ is.0, is.1)
+    -- The store has gone on since each answer, as it goes on now.
+    gone-by : (last later : T) (talk : List (Exchange T)) → goes last later → All (λ x. goes x.at last) talk → All (λ x. goes x.at later) talk
+    gone-by last later talk on all = All-weaker (λ (x : Exchange T). goes x.at last) (λ (x : Exchange T). goes x.at later) (λ x h. lasts x.at last later h on) talk all
 
-    module _ (before : P) (last : T) (sound : Type 0) (scripts : List Asked) (told : List Entry) (t : IsTalk entries keeps goes tells said agents begun before last sound scripts told) (well : sound) where
+    -- Nothing more was said, and the store went on.
+    module _ (before now : P) (last later : T) (sound sound' : Type 0) (scripts : List Asked) (told : List Entry) (t : IsTalk entries keeps goes tells said agents begun before last sound scripts told)
+        (same : tells → said now ≡ said before) (on : goes last later) (front : IsPrefix (entries last) (entries later)) (as_well : sound' → sound) where
+      said-by : tells → (said before ≡ said begun ++ (spoken t.talk ++ unanswered t.left)) ⊎ ((said before ≡ said begun ++ (spoken t.talk ++ spoken t.left)) × AreExchanges entries keeps 0 agents [] (t.talk ++ t.left))
+          → (said now ≡ said begun ++ (spoken t.talk ++ unanswered t.left)) ⊎ ((said now ≡ said begun ++ (spoken t.talk ++ spoken t.left)) × AreExchanges entries keeps 0 agents [] (t.talk ++ t.left))
+      said-by b (inl is) = inl (same b ∙ is)
+      said-by b (inr is) = inr (same b ∙ is.0, is.1)
+
+      pub talk-stands : (u : IsTalk entries keeps goes tells said agents begun now later sound' scripts told) × (u.talk ≡ t.talk)
+      talk-stands = (
+        record {
+          talk = t.talk;
+          left = t.left;
+          few = t.few;
+          whole = λ s. t.whole (as_well s);
+          said_is = λ b. said-by b (t.said_is b);
+          right = t.right;
+          scripts_are = t.scripts_are;
+          told_is = t.told_is;
+          front = prefix_trans told (entries last) (entries later) t.front front;
+          begins = begun-by last later (t.talk ++ t.left) front t.begins;
+          goes_on = gone-by last later (t.talk ++ t.left) on t.goes_on;
+        },
+        refl,
+      )
+
+    module _ (stays : (v : T) → goes v v) (before : P) (last : T) (sound : Type 0) (scripts : List Asked) (told : List Entry) (t : IsTalk entries keeps goes tells said agents begun before last sound scripts told) (well : sound) where
       -- where all went out, nothing is left
+      all-out : t.talk ++ t.left ≡ t.talk
+      all-out = ap (λ l. t.talk ++ l) (t.whole well) ∙ append-nil t.talk
+
       said-before : tells → said before ≡ said begun ++ spoken t.talk
       said-before b = by (t.said_is b)
         where
           none : t.left ≡ []
           none = t.whole well
 
-          by : (said before ≡ said begun ++ (spoken t.talk ++ unanswered t.left)) ⊎ ((said before ≡ said begun ++ (spoken t.talk ++ spoken t.left)) × AreExchanges entries keeps agents [] (t.talk ++ t.left))
+          by : (said before ≡ said begun ++ (spoken t.talk ++ unanswered t.left)) ⊎ ((said before ≡ said begun ++ (spoken t.talk ++ spoken t.left)) × AreExchanges entries keeps 0 agents [] (t.talk ++ t.left))
               → said before ≡ said begun ++ spoken t.talk
           by (inl is) = is ∙ ap (λ l. said begun ++ (spoken t.talk ++ unanswered l)) none ∙ ap (λ l. said begun ++ l) (append-nil (spoken t.talk))
           by (inr is) = is.0 ∙ ap (λ l. said begun ++ (spoken t.talk ++ spoken l)) none ∙ ap (λ l. said begun ++ l) (append-nil (spoken t.talk))
 
       scripts-are : scripts ≡ scripts_after agents t.talk
-      scripts-are = t.scripts_are ∙ ap (λ l. scripts_after agents (t.talk ++ l)) (t.whole well) ∙ ap (scripts_after agents) (append-nil t.talk)
+      scripts-are = t.scripts_are ∙ ap (scripts_after agents) all-out
 
       then-scripts : (x : Exchange T) → with_call scripts x.call ≡ scripts_after agents (t.talk ++ x ∷ [])
       then-scripts x = ap (λ s. with_call s x.call) scripts-are ∙ sym (scripts_after-append agents t.talk (x ∷ []))
@@ -118,36 +133,46 @@ module _ {T P : Type 0} (entries : T → List Entry) (keeps : T → Type 0) (goe
       then-said : (now : P) (more : List (Said T)) → tells → said now ≡ said before ++ more → said now ≡ said begun ++ (spoken t.talk ++ more)
       then-said now more b is = is ∙ ap (λ l. l ++ more) (said-before b) ∙ append_assoc (said begun) (spoken t.talk) more
 
-      then-right : (x : Exchange T) → IsExchange entries keeps scripts told x → AreExchanges entries keeps agents [] (t.talk ++ x ∷ [])
-      then-right x one = exchanges-push entries keeps agents [] t.talk x t.right
-          (subst (λ s. IsExchange entries keeps s (all_told t.talk) x) scripts-are (subst (λ es. IsExchange entries keeps scripts es x) t.told_is one))
+      then-right : (x : Exchange T) → IsExchange entries keeps (length t.talk) scripts told x → AreExchanges entries keeps 0 agents [] (t.talk ++ x ∷ [])
+      then-right x one = exchanges-push entries keeps 0 (length t.talk) agents [] t.talk x t.right (omega arith)
+          (subst (λ s. IsExchange entries keeps (length t.talk) s (all_told t.talk) x) scripts-are (subst (λ es. IsExchange entries keeps (length t.talk) scripts es x) t.told_is one))
+
+      then-begins : (x : Exchange T) → IsPrefix (entries last) (entries x.at) → All (λ y. IsPrefix (entries y.at) (entries x.at)) (t.talk ++ x ∷ [])
+      then-begins x front = All-push (λ y. IsPrefix (entries y.at) (entries x.at)) t.talk x
+          (begun-by last x.at t.talk front (subst (All (λ (y : Exchange T). IsPrefix (entries y.at) (entries last))) all-out t.begins)) (prefix_refl (entries x.at))
+
+      then-goes : (x : Exchange T) → goes last x.at → All (λ y. goes y.at x.at) (t.talk ++ x ∷ [])
+      then-goes x on = All-push (λ y. goes y.at x.at) t.talk x (gone-by last x.at t.talk on (subst (All (λ (y : Exchange T). goes y.at last)) all-out t.goes_on)) (stays x.at)
 
       -- A line was answered.
-      pub talk-more : ((v : T) → goes v v) → (now : P) (x : Exchange T) (sound' : Type 0) → (tells → said now ≡ said before ++ (heard_by x.line ++ told_by x.answer x.at))
-          → IsExchange entries keeps scripts told x → goes last x.at → IsPrefix (entries last) (entries x.at)
-          → IsTalk entries keeps goes tells said agents begun now x.at sound' (with_call scripts x.call) (told ++ entries_told x.answer)
-      talk-more stays now x sound' more one on front = record {
-        talk = t.talk ++ x ∷ [];
-        left = [];
-        few = omega arith;
-        whole = λ s. refl;
-        said_is = λ b. inl (then-said now (heard_by x.line ++ told_by x.answer x.at) b (more b) ∙ ap (λ l. said begun ++ l) (ends ∙ sym (append-nil (spoken (t.talk ++ x ∷ [])))));
-        right = then-right x one;
-        scripts_are = then-scripts x ∙ ap (scripts_after agents) (sym (append-nil (t.talk ++ x ∷ [])));
-        told_is = ap (λ es. es ++ entries_told x.answer) t.told_is ∙ sym (all_told-push t.talk x);
-        front = one.front;
-        begins = All-push (λ y. IsPrefix (entries y.at) (entries x.at)) t.talk x (begun-by last x.at t.talk front t.begins) (prefix_refl (entries x.at));
-        goes_on = All-push (λ y. goes y.at x.at) t.talk x (All-weaker (λ y. goes y.at last) (λ y. goes y.at x.at) (λ y h. lasts y.at last x.at h on) t.talk t.goes_on) (stays x.at);
-      }
+      pub talk-more : (now : P) (x : Exchange T) (sound' : Type 0) → (tells → said now ≡ said before ++ (heard_by x.line ++ told_by x.answer x.at))
+          → IsExchange entries keeps (length t.talk) scripts told x → goes last x.at → IsPrefix (entries last) (entries x.at)
+          → (u : IsTalk entries keeps goes tells said agents begun now x.at sound' (with_call scripts x.call) (told ++ entries_told x.answer)) × (u.talk ≡ t.talk ++ x ∷ [])
+      talk-more now x sound' more one on front = (
+        record {
+          talk = t.talk ++ x ∷ [];
+          left = [];
+          few = omega arith;
+          whole = λ s. refl;
+          said_is = λ b. inl (then-said now (heard_by x.line ++ told_by x.answer x.at) b (more b) ∙ ap (λ l. said begun ++ l) (ends ∙ sym (append-nil (spoken (t.talk ++ x ∷ [])))));
+          right = then-right x one;
+          scripts_are = then-scripts x ∙ ap (scripts_after agents) (sym (append-nil (t.talk ++ x ∷ [])));
+          told_is = ap (λ es. es ++ entries_told x.answer) t.told_is ∙ sym (all_told-push t.talk x);
+          front = one.front;
+          begins = subst (All (λ (y : Exchange T). IsPrefix (entries y.at) (entries x.at))) (sym (append-nil (t.talk ++ x ∷ []))) (then-begins x front);
+          goes_on = subst (All (λ (y : Exchange T). goes y.at x.at)) (sym (append-nil (t.talk ++ x ∷ []))) (then-goes x on);
+        },
+        refl,
+      )
         where
           ends : spoken t.talk ++ (heard_by x.line ++ told_by x.answer x.at) ≡ spoken (t.talk ++ x ∷ [])
           ends = ap (λ l. spoken t.talk ++ l) (sym (spoken-one x)) ∙ sym (spoken-append t.talk (x ∷ []))
 
       -- A line was heard, and no answer of it went out.
-      pub talk-lost : (now : P) (x : Exchange T) (later : T) (sound' : Type 0) → (tells → said now ≡ said before ++ heard_by x.line)
-          → goes last later → IsPrefix (entries last) (entries later) → (sound' → ⊥)
-          → IsTalk entries keeps goes tells said agents begun now later sound' (with_call scripts x.call) told
-      talk-lost now x later sound' more on front ill = record {
+      pub talk-lost : (now : P) (x : Exchange T) (sound' : Type 0) → (tells → said now ≡ said before ++ heard_by x.line)
+          → goes last x.at → IsPrefix (entries last) (entries x.at) → (sound' → ⊥)
+          → IsTalk entries keeps goes tells said agents begun now x.at sound' (with_call scripts x.call) told
+      talk-lost now x sound' more on front ill = record {
         talk = t.talk;
         left = x ∷ [];
         few = omega arith;
@@ -156,17 +181,17 @@ module _ {T P : Type 0} (entries : T → List Entry) (keeps : T → Type 0) (goe
         right = t.right;
         scripts_are = then-scripts x;
         told_is = t.told_is;
-        front = prefix_trans told (entries last) (entries later) t.front front;
-        begins = begun-by last later t.talk front t.begins;
-        goes_on = All-weaker (λ y. goes y.at last) (λ y. goes y.at later) (λ y h. lasts y.at last later h on) t.talk t.goes_on;
+        front = prefix_trans told (entries last) (entries x.at) t.front front;
+        begins = then-begins x front;
+        goes_on = then-goes x on;
       }
 
       -- A line was heard, and its answer may have gone out.
-      pub talk-perhaps : (now : P) (x : Exchange T) (later : T) (sound' : Type 0)
+      pub talk-perhaps : (now : P) (x : Exchange T) (sound' : Type 0)
           → (tells → (said now ≡ said before ++ heard_by x.line) ⊎ (said now ≡ said before ++ (heard_by x.line ++ told_by x.answer x.at)))
-          → IsExchange entries keeps scripts told x → goes last later → IsPrefix (entries last) (entries later) → (sound' → ⊥)
-          → IsTalk entries keeps goes tells said agents begun now later sound' (with_call scripts x.call) told
-      talk-perhaps now x later sound' more one on front ill = record {
+          → IsExchange entries keeps (length t.talk) scripts told x → goes last x.at → IsPrefix (entries last) (entries x.at) → (sound' → ⊥)
+          → IsTalk entries keeps goes tells said agents begun now x.at sound' (with_call scripts x.call) told
+      talk-perhaps now x sound' more one on front ill = record {
         talk = t.talk;
         left = x ∷ [];
         few = omega arith;
@@ -175,13 +200,13 @@ module _ {T P : Type 0} (entries : T → List Entry) (keeps : T → Type 0) (goe
         right = t.right;
         scripts_are = then-scripts x;
         told_is = t.told_is;
-        front = prefix_trans told (entries last) (entries later) t.front front;
-        begins = begun-by last later t.talk front t.begins;
-        goes_on = All-weaker (λ y. goes y.at last) (λ y. goes y.at later) (λ y h. lasts y.at last later h on) t.talk t.goes_on;
+        front = prefix_trans told (entries last) (entries x.at) t.front front;
+        begins = then-begins x front;
+        goes_on = then-goes x on;
       }
         where
           by : tells → (said now ≡ said before ++ heard_by x.line) ⊎ (said now ≡ said before ++ (heard_by x.line ++ told_by x.answer x.at))
-              → (said now ≡ said begun ++ (spoken t.talk ++ unanswered (x ∷ []))) ⊎ ((said now ≡ said begun ++ (spoken t.talk ++ spoken (x ∷ []))) × AreExchanges entries keeps agents [] (t.talk ++ x ∷ []))
+              → (said now ≡ said begun ++ (spoken t.talk ++ unanswered (x ∷ []))) ⊎ ((said now ≡ said begun ++ (spoken t.talk ++ spoken (x ∷ []))) × AreExchanges entries keeps 0 agents [] (t.talk ++ x ∷ []))
           by b (inl is) = inl (then-said now (heard_by x.line) b is ∙ ap (λ l. said begun ++ (spoken t.talk ++ l)) (sym (append-nil (heard_by x.line))))
           by b (inr is) = inr (
             then-said now (heard_by x.line ++ told_by x.answer x.at) b is ∙ ap (λ l. said begun ++ (spoken t.talk ++ l)) (sym (spoken-one x)),
@@ -201,11 +226,3 @@ module _ {E : Type 0} where
   -- and with nothing it stays one
   pub front-none : (told list : List E) → IsPrefix told list → IsPrefix (told ++ []) list
   front-none told list front = subst (λ l. IsPrefix l list) (sym (append-nil told)) front
-
-  -- a front that is as long is the whole
-  pub front-whole : (told list : List E) → IsPrefix told list → length list ≡ length told → told ≡ list
-  front-whole told list front long = sym (front-drop told list (length list) front (sym long) ∙ ap (λ l. told ++ l) (drop_all list) ∙ append-nil told)
-    where
-      drop_all : (l : List E) → drop (length l) l ≡ []
-      drop_all [] = refl
-      drop_all (x ∷ l) = drop_all l

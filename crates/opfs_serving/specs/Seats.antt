@@ -63,6 +63,7 @@ pub record IsMidway {O : Type 0} (tells : Type 0) (of : HallSeen O) (k : ℕ) (a
   pub agrees : Agrees hand (kinds_of rows)
   pub table : HasTable tells a rows
   pub few : a.entries + length rows ≤ 59900000 + slack awaits waited
+  pub fewer : length rows ≤ length (own_entries a)
   pub pending : a.pending ≡ []
   pub kept : IsAgent tells a
   pub hall : a.pass.hall ≡ of

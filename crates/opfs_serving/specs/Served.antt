@@ -1,14 +1,18 @@
 -- How a conversation stands, and what it leaves. This project's own.
-use Rattle.std.specs.Prelude.{◌≡◌, ℕ, ◌≤◌, Bool, true, List, ◌∷◌, ◌++◌, [], length, All, Some, None, slice_get}
+use Rattle.std.specs.Prelude.{◌≡◌, ℕ, suc, ◌<◌, ◌≤◌, Bool, true, List, ◌∷◌, ◌++◌, [], length, All, Some, None, slice_get}
 use Rattle.opfs_base.specs.Texts.{Text}
+use Rattle.opfs_hall.specs.History.{IsPrefix}
 use Rattle.opfs_hall.specs.Seen.{HallSeen, WatchSeen}
 use Rattle.opfs_hist.specs.declared.entry.Entry.{Entry}
 use Rattle.opfs_port.specs.Said.{Said, heard}
+use Rattle.opfs_runner.specs.Stepping.{own_entries}
 use Rattle.opfs_script.specs.Limits.{is_origin_key}
 use Rattle.opfs_script.specs.Scripts.{Asked}
+use Rattle.opfs_script_run.specs.Runs.Running.{entries_of}
 use Rattle.opfs_script_run.specs.declared.runs.hand.Hand.{Hand}
 use Rattle.opfs_turns.specs.Agents.{AgentSeen, IsAgent}
 use Rattle.opfs_script_run.specs.Stage.Runs.{EachCut, EachRuns}
+use Rattle.opfs_serving.specs.Lines.{has_end}
 use Rattle.opfs_serving.specs.Seats.{AreSeated, SeatSeen}
 use Rattle.opfs_serving.specs.Talks.{IsTalk}
 use Rattle.opfs_serving.specs.declared.progress.Progress.{Progress}
@@ -28,8 +32,13 @@ pub record Words (T O P : Type 0) : Type 1 where
 abbrev pub words : {T O P : Type 0} → (T → O) → (T → List Entry) → (T → Type 0) → (T → T → Type 0) → Type 0 → Type 0 → (P → List (Said T)) → Words T O P
 words opening entries keeps goes reads tells said = record { opening = opening; entries = entries; keeps = keeps; goes = goes; reads = reads; tells = tells; said = said }
 
--- How a conversation stands, between two lines: what was said, the owner's pass, the seats of its agents, and how far it is told.
-pub record IsServing {T O P : Type 0} (w : Words T O P) (of : HallSeen O) (agents : List Asked) (begun now : P) (watch : WatchSeen O Entry T) (seats : List (SeatSeen O)) (progress : Progress) : Type 0 where
+-- Where no answer is lost: of an agent that has ended the end was told, and of one that awaits nothing all entries were.
+pub record AreTold {O : Type 0} (seats : List (SeatSeen O)) (told : List Entry) : Type 0 where
+  pub over : (i : ℕ) (x : SeatSeen O) → slice_get seats i ≡ Some x → x.agent ≡ None → has_end (suc i) told ≡ true
+  pub shown : (i : ℕ) (x : SeatSeen O) (a : AgentSeen O) → slice_get seats i ≡ Some x → x.agent ≡ Some a → x.awaits ≡ None → IsPrefix (own_entries a) (entries_of (suc i) told)
+
+-- How a conversation stands at any moment: what was said, the owner's pass, the seats of its agents, and how far it is told.
+pub record IsStanding {T O P : Type 0} (w : Words T O P) (of : HallSeen O) (agents : List Asked) (begun now : P) (watch : WatchSeen O Entry T) (seats : List (SeatSeen O)) (progress : Progress) : Type 0 where
   pub scripts : List Asked
   pub told : List Entry
   pub talk : IsTalk w.entries w.keeps w.goes w.tells w.said agents begun now watch.last (progress.state ≡ state.On) scripts told
@@ -41,6 +50,18 @@ pub record IsServing {T O P : Type 0} (w : Words T O P) (of : HallSeen O) (agent
   pub all : of.agents ≡ length scripts
   pub few : length scripts ≤ 64
   pub opened : w.opening watch.last ≡ of.opening
+
+-- How it stands before its first answer.
+pub record IsSilent {T O P : Type 0} (w : Words T O P) (of : HallSeen O) (agents : List Asked) (now : P) (watch : WatchSeen O Entry T) (seats : List (SeatSeen O)) (progress : Progress) : Type 0 where
+  pub stands : IsStanding w of agents now now watch seats progress
+  pub none : stands.talk.talk ≡ []
+  pub all_told : AreTold seats stands.told
+
+-- How it stands between two lines: where all is well, the first answer went out, and all was told that is to be told by then.
+pub record IsServing {T O P : Type 0} (w : Words T O P) (of : HallSeen O) (agents : List Asked) (begun now : P) (watch : WatchSeen O Entry T) (seats : List (SeatSeen O)) (progress : Progress) : Type 0 where
+  pub stands : IsStanding w of agents begun now watch seats progress
+  pub greeted : progress.state ≡ state.On → 0 < length stands.talk.talk
+  pub all_told : progress.state ≡ state.On → AreTold seats stands.told
 
 -- It stands on from one moment to another, whatever it began with.
 abbrev pub ServesOn : {T O P : Type 0} → Words T O P → HallSeen O → P → P → WatchSeen O Entry T → WatchSeen O Entry T → List (SeatSeen O) → List (SeatSeen O) → Progress → Progress → Type 0
@@ -58,11 +79,12 @@ abbrev pub HasHeard : {T O P : Type 0} → Words T O P → Text → P → P → 
 HasHeard w line before now = w.tells → w.said now ≡ w.said before ++ heard line ∷ []
 
 -- A conversation leaves a store: what was said; and in the store's history the entries of each agent are those of the script that it was asked for,
--- or of a front of it where memory was short, or it awaited at the end. Where all went out, all entries were told.
+-- or of a front of it where memory was short, or it awaited at the end. Where all went out, the first answer did, and all entries were told.
 pub record IsServed {T O P : Type 0} (w : Words T O P) (agents : List Asked) (begun now : P) (store : T) (whole : Bool) (told_all : State) : Type 0 where
   pub scripts : List Asked
   pub told : List Entry
   pub talk : IsTalk w.entries w.keeps w.goes w.tells w.said agents begun now store (told_all ≡ state.On) scripts told
+  pub greeted : told_all ≡ state.On → 0 < length talk.talk
   pub cut : EachCut scripts (w.entries store)
   pub runs : whole ≡ true → EachRuns scripts (w.entries store)
   pub all : told_all ≡ state.On → told ≡ w.entries store

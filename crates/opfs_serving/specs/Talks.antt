@@ -1,5 +1,5 @@
 -- What a conversation has come to. This project's own.
-use Rattle.std.specs.Prelude.{◌≡◌, ◌⊎◌, ◌-◌, ◌<◌, ◌≤◌, List, [], ◌∷◌, ◌++◌, length, All, Option, Some, None, slice_get}
+use Rattle.std.specs.Prelude.{◌≡◌, ◌⊎◌, ℕ, suc, ◌-◌, ◌<◌, ◌≤◌, List, [], ◌∷◌, ◌++◌, length, All, Option, Some, None, slice_get}
 use Rattle.opfs_base.specs.Texts.{Text}
 use Rattle.opfs_hall.specs.History.{IsPrefix}
 use Rattle.opfs_hist.specs.declared.entry.Entry.{Entry}
@@ -7,7 +7,7 @@ use Rattle.opfs_port.specs.Said.{Said}
 use Rattle.opfs_script.specs.Scripts.{Asked}
 use Rattle.opfs_script.specs.declared.step.Step.TheVariants as step
 use Rattle.opfs_turns.specs.Agents.{next_number}
-use Rattle.opfs_serving.specs.Exchanges.{Call, Exchange, all_told, entries_told, scripts_after, spoken, unanswered, with_call}
+use Rattle.opfs_serving.specs.Exchanges.{Call, Exchange, all_told, entries_told, ready, scripts_after, spoken, unanswered, with_call}
 use Rattle.opfs_serving.specs.Lines.{IsAsked}
 
 -- Of the agent that was asked, the entries that are told by now have all that it was asked for, but for the last where it awaits.
@@ -18,10 +18,12 @@ HasAnswer scripts (Some c) told =
     → (length a.steps < next_number c.agent told) ⊎ ((tag : Text) × (c.step ≡ step.Await tag) × (length a.steps ≤ next_number c.agent told))
 
 module _ {T : Type 0} (entries : T → List Entry) (keeps : T → Type 0) where
-  -- One exchange, where agents were asked for these scripts before, and these entries were told.
-  pub record IsExchange (scripts : List Asked) (told : List Entry) (x : Exchange T) : Type 0 where
-    -- what the line asks, and what kind its answer is of
-    pub asked : IsAsked scripts x.line x.call x.answer
+  -- One exchange, where so many were before, agents were asked for these scripts, and these entries were told.
+  pub record IsExchange (count : ℕ) (scripts : List Asked) (told : List Entry) (x : Exchange T) : Type 0 where
+    -- what the line asks, and its answer
+    pub asked : IsAsked count scripts told x.line x.call x.answer
+    -- the first tells how many agents there are
+    pub first : count ≡ 0 → x.answer ≡ ready (length scripts)
     -- all that is told was entered when it went out
     pub front : IsPrefix (told ++ entries_told x.answer) (entries x.at)
     -- what the store keeps at that moment
@@ -30,9 +32,9 @@ module _ {T : Type 0} (entries : T → List Entry) (keeps : T → Type 0) where
     pub answered : HasAnswer (with_call scripts x.call) x.call (told ++ entries_told x.answer)
 
   -- One exchange after another.
-  abbrev pub AreExchanges : List Asked → List Entry → List (Exchange T) → Type 0
-  AreExchanges scripts told [] = Unit {0}
-  AreExchanges scripts told (x ∷ xs) = IsExchange scripts told x × AreExchanges (with_call scripts x.call) (told ++ entries_told x.answer) xs
+  abbrev pub AreExchanges : ℕ → List Asked → List Entry → List (Exchange T) → Type 0
+  AreExchanges count scripts told [] = Unit {0}
+  AreExchanges count scripts told (x ∷ xs) = IsExchange count scripts told x × AreExchanges (suc count) (with_call scripts x.call) (told ++ entries_told x.answer) xs
 
 -- A conversation so far: what was said since its beginning; the scripts that were asked for, the entries that were told, which the store has, and how
 -- the store has gone on since each answer, with all that it had then. Where all is well each answer went out; else there may be one that did not, or was
@@ -44,10 +46,10 @@ pub record IsTalk {T P : Type 0} (entries : T → List Entry) (keeps : T → Typ
   pub few : length left ≤ 1
   pub whole : sound → left ≡ []
   pub said_is : tells → (said now ≡ said begun ++ (spoken talk ++ unanswered left))
-      ⊎ ((said now ≡ said begun ++ (spoken talk ++ spoken left)) × AreExchanges entries keeps agents [] (talk ++ left))
-  pub right : AreExchanges entries keeps agents [] talk
+      ⊎ ((said now ≡ said begun ++ (spoken talk ++ spoken left)) × AreExchanges entries keeps 0 agents [] (talk ++ left))
+  pub right : AreExchanges entries keeps 0 agents [] talk
   pub scripts_are : scripts ≡ scripts_after agents (talk ++ left)
   pub told_is : told ≡ all_told talk
   pub front : IsPrefix told (entries last)
-  pub begins : All (λ x. IsPrefix (entries x.at) (entries last)) talk
-  pub goes_on : All (λ x. goes x.at last) talk
+  pub begins : All (λ x. IsPrefix (entries x.at) (entries last)) (talk ++ left)
+  pub goes_on : All (λ x. goes x.at last) (talk ++ left)

@@ -1,16 +1,17 @@
 //! The answer to a line.
 
-ghost use Rattle.std.specs.Prelude.{◌≡◌, ℕ, true, false, length, Some};
+ghost use Rattle.std.specs.Prelude.{◌≡◌, ℕ, true, false, Some};
 ghost use Rattle.opfs_base.specs.Texts.{Text};
+ghost use Rattle.opfs_hall.specs.History.{IsPrefix};
 ghost use Rattle.opfs_script.specs.Limits.{keeps_bounds};
 ghost use Rattle.opfs_script.specs.Scripts.{Asked};
 ghost use Rattle.opfs_script.specs.declared.lines.Asking.TheVariants as asking;
-ghost use Rattle.opfs_serving.specs.Lines.{IsRefusal};
-ghost use Rattle.opfs_serving.specs.Requests.{IsFree, IsRequest};
-ghost use Rattle.opfs_serving.specs.Seats.{IsAt};
+ghost use Rattle.opfs_serving.specs.Requests.{IsAwaiting, IsFree, IsOf, IsRefusedAt, IsRequest};
+ghost use Rattle.opfs_serving.specs.Seats.{IsAt, SeatSeen};
 ghost use Rattle.opfs_serving.specs.Served.{HasHeard, Serves, ServesOn, words};
 ghost use Rattle.opfs_serving.specs.Stepping.{HasMade, HasMissed};
-ghost use Rattle.opfs_turns.specs.Agents.{AgentSeen};
+ghost use Rattle.opfs_turns.specs.Agents.{AgentSeen, IsAgent};
+ghost use Rattle.opfs_turns.specs.Calls.{HasLooked};
 
 use crate::asking::ask;
 use crate::ending::end_seat;
@@ -27,8 +28,8 @@ use opfs_script::{Asking, Step};
 use opfs_store::Store;
 use std::sync::Wait;
 
-// Lets the owner's pass take note of what a seat's agent has seen.
-fn show<S: Store>(hall: &Hall<S>, seat: &mut Seat<S>, watch: &mut Watch<S>)
+/// Lets the owner's pass take note of what a seat's agent has seen.
+pub fn show<S: Store>(hall: &Hall<S>, seat: &mut Seat<S>, watch: &mut Watch<S>)
     requires own { watch.old.pass.hall ≡ hall.now }
     requires there { (a : AgentSeen S.Opening) × (seat.old.agent ≡ Some a) × (a.pass.hall ≡ hall.now) }
     ensures same { seat.new ≡ seat.old }
@@ -125,7 +126,7 @@ pub fn refuse<S: Store, P: Port<S>, R: AllocGlobal + Wait>(
 ) -> Watch<S>
     requires serves { (before : P) × Serves (words S.opening S.entries S.keeps S.goes_on S.tells P.tells P.said) hall.now before watch table.old.seats.items table.old.progress }
     requires on { table.old.progress.state ≡ State.On }
-    ensures { (line : Text) (before : P) → IsRefusal (length table.old.seats.items) line why → HasHeard (words S.opening S.entries S.keeps S.goes_on S.tells P.tells P.said) line before port.old
+    ensures { (line : Text) (before : P) → IsRefusedAt (S.entries watch.last) line table.old.seats.items why → HasHeard (words S.opening S.entries S.keeps S.goes_on S.tells P.tells P.said) line before port.old
         → ServesOn (words S.opening S.entries S.keeps S.goes_on S.tells P.tells P.said) hall.now before port.new watch result table.old.seats.items table.new.seats.items table.old.progress table.new.progress }
 {
     let Ok(text) = refusal_line(rt.alloc(), why) else {
@@ -133,6 +134,41 @@ pub fn refuse<S: Store, P: Port<S>, R: AllocGlobal + Wait>(
         return watch;
     };
     say_turn(rt, hall, watch, port, text.as_slice(), &mut table.progress)
+}
+
+// Lets the agent of a seat see all that the owner's pass has seen.
+fn look<S: Store, R: Wait>(rt: &R, hall: &Hall<S>, seat: &mut Seat<S>, watch: &mut Watch<S>)
+    requires own { watch.old.pass.hall ≡ hall.now }
+    requires there { (a : AgentSeen S.Opening) × (seat.old.agent ≡ Some a) × (a.pass.hall ≡ hall.now) }
+    ensures looked { (a : AgentSeen S.Opening) → seat.old.agent ≡ Some a
+        → (b : AgentSeen S.Opening) × (seat.new ≡ record seat.old { agent = Some b }) × HasLooked a b × IsAgent S.tells b × IsPrefix (S.entries watch.old.last) b.pass.base }
+    ensures same { watch.new ≡ watch.old }
+{
+    let Some(agent) = seat.agent.as_mut() else {
+        unreachable!();
+    };
+    agent.look_behind(rt, hall, watch);
+    agent.know_kept();
+}
+
+// Refuses a line whose agent, at this place, awaits.
+fn refuse_waiting<S: Store, P: Port<S>, R: AllocGlobal + Wait>(
+    rt: &R,
+    hall: &Hall<S>,
+    mut watch: Watch<S>,
+    table: &mut Table<S>,
+    place: usize,
+    port: &mut P,
+) -> Watch<S>
+    requires awaits { (line : Text) × (x : SeatSeen S.Opening) × (rest : Text) × IsOf line table.old.seats.items place x rest × IsAwaiting x }
+    requires serves { (before : P) × Serves (words S.opening S.entries S.keeps S.goes_on S.tells P.tells P.said) hall.now before watch table.old.seats.items table.old.progress }
+    requires on { table.old.progress.state ≡ State.On }
+    ensures { (line : Text) (before : P) (x : SeatSeen S.Opening) (rest : Text) → IsOf line table.old.seats.items place x rest → IsAwaiting x
+        → HasHeard (words S.opening S.entries S.keeps S.goes_on S.tells P.tells P.said) line before port.old
+        → ServesOn (words S.opening S.entries S.keeps S.goes_on S.tells P.tells P.said) hall.now before port.new watch result table.old.seats.items table.new.seats.items table.old.progress table.new.progress }
+{
+    look(rt, hall, &mut table.seats[place], &mut watch);
+    refuse(rt, hall, watch, table, LineRefusal::Waiting, port)
 }
 
 // Does what a line asks, and answers it.
@@ -178,6 +214,7 @@ pub fn answer_line<S: Store, P: Port<S>, R: AllocGlobal + Wait>(
     match request_of(rt.alloc(), line, table.seats.as_slice()) {
         Ok(request) => answer_request(rt, hall, watch, table, request, port),
         Err(Trouble::Refused(why)) => refuse(rt, hall, watch, table, why, port),
+        Err(Trouble::Waits(place)) => refuse_waiting(rt, hall, watch, table, place, port),
         Err(Trouble::NoMemory) => {
             table.progress.state = State::Short;
             watch

@@ -58,7 +58,6 @@ fn make<S: Store, R: Wait>(rt: &R, hall: &Hall<S>, seat: &mut Seat<S>, step: &St
     let Some(agent) = seat.agent.as_mut() else {
         unreachable!();
     };
-    seat.steps = seat.steps.saturating_add(1);
     make_call(rt, hall, agent, &mut seat.rows, &mut seat.hand, step)
 }
 
@@ -71,7 +70,6 @@ fn begin_await<S: Store>(alloc: Global, seat: &mut Seat<S>, tag: &Text) -> bool
         return false;
     };
     seat.awaits = Some(tag);
-    seat.steps = seat.steps.saturating_add(1);
     true
 }
 

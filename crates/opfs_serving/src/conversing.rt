@@ -1,10 +1,9 @@
 //! A conversation, line by line.
 
-ghost use Rattle.std.specs.Prelude.{◌≡◌, ◌≢◌, ◌<◌, ℕ, false, [], length, slice_get, Some, None};
-ghost use Rattle.opfs_serving.specs.Seats.{SeatSeen};
+ghost use Rattle.std.specs.Prelude.{◌≡◌, ◌≢◌, ◌<◌, ℕ, false, [], length, slice_get};
 ghost use Rattle.opfs_serving.specs.Served.{Serves, ServesOn, words};
 
-use crate::answering::{answer_line, refuse};
+use crate::answering::{answer_line, refuse, show};
 use crate::polling::poll;
 use crate::progress::State;
 use crate::refusal::LineRefusal;
@@ -34,10 +33,15 @@ fn poll_at<S: Store, P: Port<S>, R: AllocGlobal + Wait>(
     ensures count { length table.new.seats.items ≡ length table.old.seats.items }
     ensures whole { table.new.progress.whole ≡ table.old.progress.whole }
     ensures others { (i : ℕ) → i ≢ place → slice_get table.new.seats.items i ≡ slice_get table.old.seats.items i }
-    ensures gone { (x : SeatSeen S.Opening) → slice_get table.old.seats.items place ≡ Some x → x.agent ≡ None → slice_get table.new.seats.items place ≡ Some x }
+    ensures rest { P.tells → P.rest port.new ≡ P.rest port.old }
+    ensures still { table.new.progress.state ≡ State.On → table.old.progress.state ≡ State.On }
 {
     match poll(rt, hall, &mut table.seats[place]) {
-        Ok(true) => tell_turn(rt, hall, watch, port, &mut table.progress),
+        Ok(true) => {
+            let mut watch = watch;
+            show(hall, &mut table.seats[place], &mut watch);
+            tell_turn(rt, hall, watch, port, &mut table.progress)
+        }
         Ok(false) => watch,
         Err(_) => {
             table.progress.state = State::Short;
@@ -61,6 +65,8 @@ pub fn poll_on<S: Store, P: Port<S>, R: AllocGlobal + Wait>(
     ensures count { length table.new.seats.items ≡ length table.old.seats.items }
     ensures whole { table.new.progress.whole ≡ table.old.progress.whole }
     ensures others { (i : ℕ) → i ≢ place → slice_get table.new.seats.items i ≡ slice_get table.old.seats.items i }
+    ensures rest { P.tells → P.rest port.new ≡ P.rest port.old }
+    ensures still { table.new.progress.state ≡ State.On → table.old.progress.state ≡ State.On }
 {
     if table.progress.state != State::On {
         return watch;
@@ -77,7 +83,9 @@ fn poll_all<S: Store, P: Port<S>, R: AllocGlobal + Wait>(
     port: &mut P,
 ) -> Watch<S>
     requires serves { Serves (words S.opening S.entries S.keeps S.goes_on S.tells P.tells P.said) hall.now port.old watch table.old.seats.items table.old.progress }
-    ensures { ServesOn (words S.opening S.entries S.keeps S.goes_on S.tells P.tells P.said) hall.now port.old port.new watch result table.old.seats.items table.new.seats.items table.old.progress table.new.progress }
+    ensures on_with { ServesOn (words S.opening S.entries S.keeps S.goes_on S.tells P.tells P.said) hall.now port.old port.new watch result table.old.seats.items table.new.seats.items table.old.progress table.new.progress }
+    ensures rest { P.tells → P.rest port.new ≡ P.rest port.old }
+    ensures still { table.new.progress.state ≡ State.On → table.old.progress.state ≡ State.On }
 {
     let count = table.seats.len();
     for place in 0..count {
@@ -136,9 +144,10 @@ pub fn converse<S: Store, P: Port<S>, R: AllocGlobal + Wait>(
     port: &mut P,
 ) -> Watch<S>
     requires serves { Serves (words S.opening S.entries S.keeps S.goes_on S.tells P.tells P.said) hall.now port.old watch table.old.seats.items table.old.progress }
-    ensures { ServesOn (words S.opening S.entries S.keeps S.goes_on S.tells P.tells P.said) hall.now port.old port.new watch result table.old.seats.items table.new.seats.items table.old.progress table.new.progress }
+    ensures on_with { ServesOn (words S.opening S.entries S.keeps S.goes_on S.tells P.tells P.said) hall.now port.old port.new watch result table.old.seats.items table.new.seats.items table.old.progress table.new.progress }
+    ensures all { table.new.progress.state ≡ State.On → P.tells → P.rest port.new ≡ [] }
 {
-    for _ in 0..u64::MAX {
+    for _ in rt.forever() {
         if table.progress.state != State::On {
             return watch;
         }
@@ -148,5 +157,5 @@ pub fn converse<S: Store, P: Port<S>, R: AllocGlobal + Wait>(
             return watch;
         }
     }
-    watch
+    unreachable!()
 }

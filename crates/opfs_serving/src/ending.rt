@@ -1,9 +1,10 @@
 //! How agents end.
 
-ghost use Rattle.std.specs.Prelude.{◌≡◌, ◌≢◌, ℕ, Bool, false, [], None, Some};
+ghost use Rattle.std.specs.Prelude.{◌≡◌, ◌≢◌, ℕ, Bool, true, false, [], None, Some};
 ghost use Rattle.opfs_runner.specs.Runs.{HasRun};
 ghost use Rattle.opfs_script.specs.Scripts.{Asked};
 ghost use Rattle.opfs_serving.specs.Endings.{HasLeft};
+ghost use Rattle.opfs_serving.specs.Lines.{has_end};
 ghost use Rattle.opfs_serving.specs.Seats.{EndsAt, MayEnd};
 ghost use Rattle.opfs_turns.specs.Agents.{AgentSeen};
 
@@ -24,6 +25,7 @@ fn end_agent<S: Store, R: Wait>(
 ) -> Pass<S>
     requires may { (k : ℕ) × (asked : Asked) × (whole : Bool) × MayEnd S.tells hall.now k asked whole agent rows.items }
     ensures ran { (k : ℕ) (asked : Asked) (whole : Bool) → MayEnd S.tells hall.now k asked whole agent rows.items → HasRun hall.now asked k result whole }
+    ensures over { has_end result.agent result.base ≡ true }
     ensures agent { result.agent ≡ agent.pass.agent }
     ensures own { result.hall ≡ hall.now }
     ensures idle { result.busy ≡ false }

@@ -59,6 +59,8 @@ pub fn poll<S: Store, R: Wait>(
     ensures goes { (k : ℕ) (asked : Asked) (a : AgentSeen S.Opening) → seat.old.agent ≡ Some a → IsAt S.tells hall.now k asked seat.old a
         → (b : AgentSeen S.Opening) × (seat.new.agent ≡ Some b) × IsAt S.tells hall.now k asked seat.new b }
     ensures gone { seat.old.agent ≡ None → seat.new ≡ seat.old }
+    ensures there { IfOk result (λ done. done ≡ true → (a : AgentSeen S.Opening) × (seat.old.agent ≡ Some a)) }
+    ensures free { IfOk result (λ done. done ≡ false → seat.new.awaits ≡ None → seat.new ≡ seat.old) }
 {
     let Some(agent) = seat.agent.as_mut() else {
         return Ok(false);

@@ -1,7 +1,8 @@
 //! What a line asks.
 
-ghost use Rattle.std.specs.Prelude.{◌≡◌, ◌+◌, ◌≤◌, length, IfOk, IfErr};
-ghost use Rattle.opfs_serving.specs.Requests.{CouldAsk, IsRequest, IsTrouble, MayBeAsked};
+ghost use Rattle.std.specs.Prelude.{◌≡◌, ◌+◌, ◌≤◌, length, IfOk, IfErr, List};
+ghost use Rattle.opfs_hist.specs.declared.entry.Entry.{Entry};
+ghost use Rattle.opfs_serving.specs.Requests.{AsksNothing, IsFree, IsHeldBack, IsRequest, IsTrouble};
 
 use crate::refusal::LineRefusal;
 use crate::seat::Seat;
@@ -23,6 +24,8 @@ pub struct Request {
 #[derive(Clone, Copy, PartialEq, Eq)]
 pub enum Trouble {
     Refused(LineRefusal),
+    /// The agent at this place awaits.
+    Waits(usize),
     NoMemory,
 }
 
@@ -44,20 +47,31 @@ fn told_as(why: ScriptRefusal) -> Trouble
     }
 }
 
-// Why an agent can't be asked for anything now, if it can't.
-fn busy<S: Store>(seat: &Seat<S>) -> Option<LineRefusal>
-    ensures { MayBeAsked seat.now result }
+// What keeps the agent of the seat at a place from being asked, if anything does.
+fn held_back<S: Store>(seat: &Seat<S>, place: usize) -> Option<Trouble>
+    ensures { IsHeldBack place seat.now result }
 {
     let Some(agent) = seat.agent.as_ref() else {
-        return Some(LineRefusal::Ended);
+        return Some(Trouble::Refused(LineRefusal::Ended));
     };
     if seat.awaits.is_some() {
-        return Some(LineRefusal::Waiting);
+        return Some(Trouble::Waits(place));
     }
     if agent.entries() as usize + seat.rows.len() > MOST {
-        return Some(LineRefusal::TooMany);
+        return Some(Trouble::Refused(LineRefusal::TooMany));
     }
     None
+}
+
+// The number of the next call of an agent that is there.
+fn next_number<S: Store>(seat: &Seat<S>) -> u64
+    requires free { IsFree seat.now }
+    ensures { (free : IsFree seat.now) → result ≡ free.agent.number }
+{
+    match seat.agent.as_ref() {
+        Some(agent) => u64::from(agent.next_number()),
+        None => unreachable!(),
+    }
 }
 
 /// What a line asks of agents.
@@ -68,18 +82,17 @@ pub fn request_of<S: Store>(
 ) -> Result<Request, Trouble>
     requires few { length seats.now ≤ 64 }
     ensures asked { IfOk result (λ request. IsRequest line.now seats.now request.place request.asking) }
-    ensures refused { IfErr result (λ why. CouldAsk (length seats.now) line.now why) }
+    ensures nothing { IfErr result (λ why. (seen : List Entry) → AsksNothing seen line.now seats.now why) }
 {
     let Some(part) = named_agent(line, seats.len() as u32) else {
         return Err(Trouble::Refused(LineRefusal::NoAgent));
     };
     let place = (part.agent - 1) as usize;
     let seat = &seats[place];
-    if let Some(why) = busy(seat) {
-        return Err(Trouble::Refused(why));
+    if let Some(why) = held_back(seat, place) {
+        return Err(why);
     }
-    let number = seat.steps.saturating_add(1);
-    match read_asking(alloc, u64::from(part.agent), number, part.text) {
+    match read_asking(alloc, u64::from(part.agent), next_number(seat), part.text) {
         Ok(asking) => Ok(Request { place, asking }),
         Err(why) => Err(told_as(why)),
     }

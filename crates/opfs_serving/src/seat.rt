@@ -7,14 +7,12 @@ use opfs_script_run::Hand;
 use opfs_store::Store;
 use std::marker::Model;
 
-/// An agent of a conversation, none once it has ended; its rows; what its variables name; the tag that it awaits; and how many steps it was
-/// asked for.
+/// An agent of a conversation, none once it has ended; its rows; what its variables name; and the tag that it awaits.
 pub struct Seat<S: Store> {
     pub agent: Option<Agent<S>>,
     pub rows: Vec<AgentRow>,
     pub hand: Hand,
     pub awaits: Option<Text>,
-    pub steps: u64,
 }
 
 impl<S: Store> Model for Seat<S> {

@@ -5,7 +5,7 @@ ghost use Rattle.opfs_runner.specs.Run.Begun.{AreAgentsOf};
 ghost use Rattle.opfs_script.specs.Scripts.{Asked};
 ghost use Rattle.opfs_script_run.specs.Runs.Running.{empty_hand};
 ghost use Rattle.opfs_serving.specs.Seats.{SeatSeen};
-ghost use Rattle.opfs_serving.specs.Served.{AreSeatsOf, HasNoScripts, IsServed, IsServing, Serves, words};
+ghost use Rattle.opfs_serving.specs.Served.{AreSeatsOf, HasNoScripts, IsServed, IsServing, IsSilent, Serves, words};
 
 use crate::conversing::{converse, poll_on};
 use crate::ending::end_seat;
@@ -68,6 +68,8 @@ fn end_one<S: Store, P: Port<S>, R: AllocGlobal + Wait>(
     ensures count { length table.new.seats.items ≡ length table.old.seats.items }
     ensures ended { (x : SeatSeen S.Opening) → slice_get table.new.seats.items place ≡ Some x → x.agent ≡ None }
     ensures others { (i : ℕ) → i ≢ place → slice_get table.new.seats.items i ≡ slice_get table.old.seats.items i }
+    ensures rest { P.tells → P.rest port.new ≡ P.rest port.old }
+    ensures still { table.new.progress.state ≡ State.On → table.old.progress.state ≡ State.On }
 {
     let watch = poll_on(rt, hall, watch, table, place, port);
     table.progress.whole = stays_whole(table.progress, &table.seats[place]);
@@ -89,6 +91,8 @@ fn end_free<S: Store, P: Port<S>, R: AllocGlobal + Wait>(
     ensures on_with { (agents : List Asked) (begun : P) → IsServing (words S.opening S.entries S.keeps S.goes_on S.tells P.tells P.said) hall.now agents begun port.old watch table.old.seats.items table.old.progress
         → IsServing (words S.opening S.entries S.keeps S.goes_on S.tells P.tells P.said) hall.now agents begun port.new result table.new.seats.items table.new.progress }
     ensures count { length table.new.seats.items ≡ length table.old.seats.items }
+    ensures rest { P.tells → P.rest port.new ≡ P.rest port.old }
+    ensures still { table.new.progress.state ≡ State.On → table.old.progress.state ≡ State.On }
 {
     if table.seats[place].awaits.is_some() {
         return watch;
@@ -105,8 +109,10 @@ fn end_idle<S: Store, P: Port<S>, R: AllocGlobal + Wait>(
     port: &mut P,
 ) -> Watch<S>
     requires serves { Serves (words S.opening S.entries S.keeps S.goes_on S.tells P.tells P.said) hall.now port.old watch table.old.seats.items table.old.progress }
-    ensures { (agents : List Asked) (begun : P) → IsServing (words S.opening S.entries S.keeps S.goes_on S.tells P.tells P.said) hall.now agents begun port.old watch table.old.seats.items table.old.progress
+    ensures on_with { (agents : List Asked) (begun : P) → IsServing (words S.opening S.entries S.keeps S.goes_on S.tells P.tells P.said) hall.now agents begun port.old watch table.old.seats.items table.old.progress
         → IsServing (words S.opening S.entries S.keeps S.goes_on S.tells P.tells P.said) hall.now agents begun port.new result table.new.seats.items table.new.progress }
+    ensures rest { P.tells → P.rest port.new ≡ P.rest port.old }
+    ensures still { table.new.progress.state ≡ State.On → table.old.progress.state ≡ State.On }
 {
     let count = table.seats.len();
     for place in 0..count {
@@ -127,6 +133,8 @@ fn end_all<S: Store, P: Port<S>, R: AllocGlobal + Wait>(
     ensures on_with { (agents : List Asked) (begun : P) → IsServing (words S.opening S.entries S.keeps S.goes_on S.tells P.tells P.said) hall.now agents begun port.old watch table.old.seats.items table.old.progress
         → IsServing (words S.opening S.entries S.keeps S.goes_on S.tells P.tells P.said) hall.now agents begun port.new result table.new.seats.items table.new.progress }
     ensures all { All (λ x. x.agent ≡ None) table.new.seats.items }
+    ensures rest { P.tells → P.rest port.new ≡ P.rest port.old }
+    ensures still { table.new.progress.state ≡ State.On → table.old.progress.state ≡ State.On }
 {
     let count = table.seats.len();
     for place in 0..count {
@@ -171,7 +179,6 @@ fn seat_all<S: Store>(
         rows: Vec::new(alloc),
         hand,
         awaits: None,
-        steps: 0,
     });
 }
 
@@ -183,10 +190,10 @@ fn greet<S: Store, P: Port<S>, R: AllocGlobal + Wait>(
     table: &mut Table<S>,
     port: &mut P,
 ) -> Watch<S>
-    requires serves { Serves (words S.opening S.entries S.keeps S.goes_on S.tells P.tells P.said) hall.now port.old watch table.old.seats.items table.old.progress }
+    requires silent { (agents : List Asked) × IsSilent (words S.opening S.entries S.keeps S.goes_on S.tells P.tells P.said) hall.now agents port.old watch table.old.seats.items table.old.progress }
     requires on { table.old.progress.state ≡ State.On }
-    ensures { (agents : List Asked) → IsServing (words S.opening S.entries S.keeps S.goes_on S.tells P.tells P.said) hall.now agents port.old port.old watch table.old.seats.items table.old.progress
-        → HasNoScripts agents → IsServing (words S.opening S.entries S.keeps S.goes_on S.tells P.tells P.said) hall.now agents port.old port.new result table.new.seats.items table.new.progress }
+    ensures { (agents : List Asked) → IsSilent (words S.opening S.entries S.keeps S.goes_on S.tells P.tells P.said) hall.now agents port.old watch table.old.seats.items table.old.progress
+        → IsServing (words S.opening S.entries S.keeps S.goes_on S.tells P.tells P.said) hall.now agents port.old port.new result table.new.seats.items table.new.progress }
 {
     let Ok(text) = ready_line(rt.alloc(), table.seats.len() as u64) else {
         table.progress.state = State::Short;
@@ -209,7 +216,6 @@ fn clear<S: Store>(seats: Vec<Seat<S>>)
             rows,
             hand: _,
             awaits: _,
-            steps: _,
         } = seat;
         rows.destroy_empty();
         let None = agent else {
@@ -231,6 +237,8 @@ fn finish<S: Store, P: Port<S>, R: AllocGlobal + Wait>(
     ensures opening { S.opening result.store ≡ hall.opening }
     ensures served { (agents : List Asked) (begun : P) → IsServing (words S.opening S.entries S.keeps S.goes_on S.tells P.tells P.said) hall agents begun port.old watch table.seats.items table.progress
         → IsServed (words S.opening S.entries S.keeps S.goes_on S.tells P.tells P.said) agents begun port.new result.store result.whole result.state }
+    ensures rest { P.tells → P.rest port.new ≡ P.rest port.old }
+    ensures still { result.state ≡ State.On → table.progress.state ≡ State.On }
 {
     let mut table = table;
     let idle = end_idle(rt, &hall, watch, &mut table, port);
@@ -265,6 +273,7 @@ pub fn serve<S: Store, P: Port<S>, R: AllocGlobal + Wait>(
     requires alone { HasNoScripts agents.now }
     ensures opening { IfOk result (λ served. S.opening served.store ≡ S.opening store) }
     ensures served { IfOk result (λ served. IsServed (words S.opening S.entries S.keeps S.goes_on S.tells P.tells P.said) agents.now port.old port.new served.store served.whole served.state) }
+    ensures all { IfOk result (λ served. served.state ≡ State.On → P.tells → P.rest port.new ≡ []) }
     ensures err { IfErr result (λ back. back ≡ store) }
     ensures none { IfErr result (λ back. port.new ≡ port.old) }
 {

@@ -17,6 +17,7 @@ use std::sync::Wait;
 fn tell_text<T, P: Port<T>>(port: &mut P, text: &[u8], at: Told<T>) -> State
     ensures on { result ≡ State.On → P.tells → WentOut text.now at.value (P.said port.old) (P.said port.new) }
     ensures off { P.tells → (P.said port.new ≡ P.said port.old) ⊎ WentOut text.now at.value (P.said port.old) (P.said port.new) }
+    ensures rest { P.tells → P.rest port.new ≡ P.rest port.old }
     ensures later { P.faults port.old ≤ P.faults port.new }
     ensures cause { result ≡ State.Failed → Rose (P.faults port.old) (P.faults port.new) }
 {
@@ -36,6 +37,7 @@ pub fn tell_entries<S: Store, P: Port<S>>(
 )
     ensures store { store.new ≡ store.old }
     ensures told { HasToldMore S.entries P.tells P.said store.new port.old port.new progress.old progress.new }
+    ensures rest { P.tells → P.rest port.new ≡ P.rest port.old }
     ensures later { P.faults port.old ≤ P.faults port.new }
     ensures cause { progress.new.state ≡ State.Failed → progress.old.state ≢ State.Failed → Rose (P.faults port.old) (P.faults port.new) }
 {
@@ -72,6 +74,7 @@ pub fn tell_turn<S: Store, P: Port<S>, R: AllocGlobal + Wait>(
     requires owner { watch.pass.agent ≡ 0 }
     ensures turned { HasTurned S.opening S.entries S.keeps S.goes_on hall.now watch result }
     ensures told { HasToldMore S.entries P.tells P.said result.last port.old port.new progress.old progress.new }
+    ensures rest { P.tells → P.rest port.new ≡ P.rest port.old }
     ensures later { P.faults port.old ≤ P.faults port.new }
     ensures cause { progress.new.state ≡ State.Failed → progress.old.state ≢ State.Failed → Rose (P.faults port.old) (P.faults port.new) }
 {

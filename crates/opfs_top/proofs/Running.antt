@@ -13,11 +13,12 @@ use Rattle.opfs_commands.proofs.Spelled.{asked_run, named}
 use Rattle.opfs_hist.specs.declared.entry.Entry.{Entry}
 use Rattle.opfs_outside.specs.declared.host.Host.{Ghosts as HostWords}
 use Rattle.opfs_outside.specs.Turns.{of_host, HostServed, HostTurn, ImageStays, Puts, ReadWhole, SinkTurn, SourceTurn}
+use Rattle.opfs_print.specs.declared.end.BadScript.{BadScript}
 use Rattle.opfs_script.specs.Reading.{reads}
 use Rattle.opfs_script.specs.Scripts.{Asked}
-use Rattle.opfs_print.specs.declared.end.BadScript.{BadScript}
 use Rattle.opfs_script.specs.declared.refusal.ScriptRefusal.{ScriptRefusal}
 use Rattle.opfs_script.specs.declared.refusal.ScriptRefusal.TheVariants as refused
+use Rattle.opfs_top.proofs.Telling.{told_wider}
 use Rattle.opfs_top.specs.Answers.{Behind, BytesRan, ImageEnded, IsTold, LoadEnded, RunEnded, SourceRan}
 use Rattle.opfs_top.specs.Doing.{most_bytes, told_as, Did, Ended, IsDone, IsEarly, IsRefusal, LeavesRun, Migrates, Names, OfSource, Printed, TakesImage, Tells}
 use Rattle.opfs_top.specs.Headline.{IsHeadline, LeavesOf, OfScript}
@@ -25,24 +26,6 @@ use Rattle.opfs_top.specs.Statuses.{status_of}
 use Rattle.opfs_top.specs.declared.answer.Answer.{Answer}
 use Rattle.opfs_top.specs.declared.status.Status.{Status}
 use Rattle.opfs_top.specs.declared.status.Status.TheVariants as status
-use Rattle.opfs_top.proofs.Telling.{told_wider}
-
--- ---- statuses for which the host was asked, whatever was put out before
-
-module _ (k : SinkTurn) (Begun : Text → Type 0) (End : Status → Text → Type 0) (late : (e : Status) (t : Text) → End e t → IsEarly e → ⊥) where
-  behind_late : (front : Text) (e : Status) (text : Text) → Behind k front End e text → IsEarly e → ⊥
-  behind_late front status.Done text is early = early
-  behind_late front status.Usage text is early = late status.Usage (front ++ text) is early
-  behind_late front status.Script text is early = late status.Script (front ++ text) is early
-  behind_late front status.Image text is early = early
-  behind_late front status.Host text is early = early
-  behind_late front status.Source text is early = late status.Source (front ++ text) is early
-  behind_late front status.Sink text is early = early
-  behind_late front status.Memory text is early = early
-
-  never_early : (r : Result Answer AllocError) → IsTold k Begun End r → (P : Type 0) → IfOk r (λ answer. IsEarly answer.status → P)
-  never_early (Ok a) told P = λ early. absurd (behind_late told.front a.status a.text told.ended early)
-  never_early (Err e) told P = tt
 
 -- ---- the agents ran, or not
 
@@ -119,20 +102,6 @@ module _ (h : HostTurn) (path : Text) (script : List Asked) where
   pub run_left : (k : SinkTurn) (r : Result ToolAnswer AllocError) → RanAt h k path script r → IsRunShort h path script
   run_left k (Ok a) ran = left_by k ran.front a.end a.text ran.ended
   run_left k (Err e) ran = ran.short
-
-  late_by : (ended : Status) (text : Text) → RunEnded h path script ended text → IsEarly ended → ⊥
-  late_by status.Done text is early = early
-  late_by status.Usage text is early = is
-  late_by status.Script text is early = is
-  late_by status.Image text is early = early
-  late_by status.Host text is early = early
-  late_by status.Source text is early = is
-  late_by status.Sink text is early = early
-  late_by status.Memory text is early = early
-
-  -- a run that has asked the host
-  pub run_late : (k : SinkTurn) (r : Result Answer AllocError) → IsTold k (IsRunText h path script) (RunEnded h path script) r → (P : Type 0) → IfOk r (λ answer. IsEarly answer.status → P)
-  run_late k r told P = never_early k (IsRunText h path script) (RunEnded h path script) late_by r told P
 
   -- the script is what bytes are
   module _ (bytes : Text) (read : reads bytes ≡ Ok script) where
@@ -250,18 +219,19 @@ module _ (words : List Text) (image : Text) (asked : IsAsked words (running imag
 
 -- ---- statuses for which the host was asked
 
-image_late : (h : HostTurn) (path : Text) (action : Action) (ended : Status) (text : Text) → ImageEnded h path action ended text → IsEarly ended → ⊥
-image_late h path action status.Done text is early = early
-image_late h path action status.Usage text is early = is
-image_late h path action status.Script text is early = is
-image_late h path action status.Image text is early = early
-image_late h path action status.Host text is early = early
-image_late h path action status.Source text is early = is
-image_late h path action status.Sink text is early = early
-image_late h path action status.Memory text is early = early
+image_late : (k : SinkTurn) (h : HostTurn) (path : Text) (action : Action) (front : Text) (ended : Status) (text : Text) → Behind k front (ImageEnded h path action) ended text → IsEarly ended → ⊥
+image_late k h path action front status.Done text is early = early
+image_late k h path action front status.Usage text is early = is
+image_late k h path action front status.Script text is early = is
+image_late k h path action front status.Image text is early = early
+image_late k h path action front status.Host text is early = early
+image_late k h path action front status.Source text is early = is
+image_late k h path action front status.Sink text is early = early
+image_late k h path action front status.Memory text is early = early
 
 pub image_never_early : (k : SinkTurn) (h : HostTurn) (path : Text) (action : Action) (Begun : Text → Type 0) (r : Result Answer AllocError) → IsTold k Begun (ImageEnded h path action) r → (P : Type 0) → IfOk r (λ answer. IsEarly answer.status → P)
-image_never_early k h path action Begun r told P = never_early k Begun (ImageEnded h path action) (image_late h path action) r told P
+image_never_early k h path action Begun (Ok a) told P = λ early. absurd (image_late k h path action told.front a.status a.text told.ended early)
+image_never_early k h path action Begun (Err e) told P = tt
 
 pub load_late : (h : HostTurn) (image from : Text) (ended : Status) (text : Text) → LoadEnded h image from ended text → IsEarly ended → ⊥
 load_late h image from status.Done text is early = early

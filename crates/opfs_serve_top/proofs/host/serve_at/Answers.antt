@@ -1,5 +1,6 @@
 use Rattle.opfs_commands.proofs.Hosting.{later_by}
 use Rattle.opfs_commands.proofs.RunHosts.{IsFetched}
+use Rattle.opfs_serve_top.proofs.Ends.{given-went}
 use Rattle.opfs_serve_top.proofs.Hosts.{ended-at, others-at, unserved-at}
 use Rattle.opfs_serve_top.proofs.host.serve_at.Goals as goal
 
@@ -22,7 +23,7 @@ returns-clause-ended g c =
       later = later_by _ _ _ c.fetch.ensures.later;
     } in
     ended-at g.H.Host g.H.D.Disk c.args.path.now c.args.host.now c.fetch.new.self c.end_at.new.host c.in-Ok.disk fetched g.P.Port.tells g.P.Port.said c.args.agents.now c.args.port.now c.serve_on-disk.new.port c.serve_on-disk.result.0 c.end_at.ensures.later c.end_at.ensures.back
-    c.serve_on-disk.result.1 c.end_at.result c.serve_on-disk.ensures c.end_at.ensures.kept
+    c.serve_on-disk.result.1 c.end_at.result c.serve_on-disk.ensures.ended c.end_at.ensures.kept
 
 pub returns-clause-unserved : goal.returns-clause-unserved
 returns-clause-unserved g c =
@@ -43,7 +44,7 @@ returns-clause-unserved g c =
       later = later_by _ _ _ c.fetch.ensures.later;
     } in
     unserved-at g.H.Host g.H.D.Disk c.args.path.now c.args.host.now c.fetch.new.self c.end_at.new.host c.in-Ok.disk fetched g.P.Port.tells g.P.Port.said c.args.agents.now c.args.port.now c.serve_on-disk.new.port c.serve_on-disk.result.0 c.end_at.ensures.later c.end_at.ensures.back
-    c.serve_on-disk.result.1 c.end_at.result c.serve_on-disk.ensures c.end_at.ensures.kept
+    c.serve_on-disk.result.1 c.end_at.result c.serve_on-disk.ensures.ended c.end_at.ensures.kept
 
 pub returns-clause-others : goal.returns-clause-others
 returns-clause-others g c =
@@ -65,3 +66,6 @@ returns-clause-others g c =
     } in
     others-at g.H.Host g.H.D.Disk c.args.path.now c.args.host.now c.fetch.new.self c.end_at.new.host c.in-Ok.disk fetched g.P.Port.tells g.P.Port.said c.args.agents.now c.args.port.now c.serve_on-disk.new.port c.serve_on-disk.result.0 c.end_at.ensures.later c.end_at.ensures.back
     c.serve_on-disk.result.1 c.end_at.result c.end_at.ensures.kept
+
+pub returns-clause-all : goal.returns-clause-all
+returns-clause-all g c = given-went _ _ c.serve_on-disk.result.1 c.end_at.result _ c.end_at.ensures.kept c.serve_on-disk.ensures.all

@@ -1,8 +1,8 @@
-use Rattle.std.proofs.Common.{length, refl, subst}
+use Rattle.std.proofs.Common.{[], refl, subst}
 use Rattle.opfs_serving.proofs.Replies.{kept-silent}
-use Rattle.opfs_serving.specs.Lines.{IsRefusal}
-use Rattle.opfs_serving.specs.Requests.{CouldAsk, IsRequest}
+use Rattle.opfs_serving.specs.Requests.{AsksNothing, IsRefusedAt, IsRequest}
 use Rattle.opfs_serving.specs.Served.{words}
+use Rattle.opfs_serving.specs.declared.requests.Trouble.TheVariants as trouble
 use Rattle.opfs_serving.proofs.answering.answer_line.Goals as goal
 
 pub returns-in-Ok : goal.returns-in-Ok
@@ -12,9 +12,22 @@ returns-in-Ok g c = λ before came.
 
 pub returns-in-Err-Refused : goal.returns-in-Err-Refused
 returns-in-Err-Refused g c = λ before came.
+    let seen = g.S.Chronicle.entries c.args.watch.last in
     c.refuse.ensures c.args.line.now before
-    (subst (λ seats. IsRefusal (length seats) c.args.line.now c.in-Err-Refused.why) c.as_slice.ensures.value
-    (subst (CouldAsk (length c.as_slice.result.now) c.args.line.now) c.in-Err-Refused.field-0-is c.in-Err-Refused.ensures.refused)) came
+    (subst (λ seats. IsRefusedAt seen c.args.line.now seats c.in-Err-Refused.why) c.as_slice.ensures.value
+    (subst (AsksNothing seen c.args.line.now c.as_slice.result.now) c.in-Err-Refused.field-0-is (c.in-Err-Refused.ensures.nothing seen))) came
+
+pub refuse_waiting-requires-clause-awaits : goal.refuse_waiting-requires-clause-awaits
+refuse_waiting-requires-clause-awaits g c =
+    let found = subst (λ seats. AsksNothing [] c.args.line.now seats (trouble.Waits c.in-Err-Waits.place)) c.as_slice.ensures.value
+    (subst (AsksNothing [] c.args.line.now c.as_slice.result.now) c.in-Err-Waits.field-0-is (c.in-Err-Waits.ensures.nothing [])) in
+    (c.args.line.now, found.0, found.1, found.2, found.3)
+
+pub returns-in-Err-Waits : goal.returns-in-Err-Waits
+returns-in-Err-Waits g c = λ before came.
+    let found = subst (λ seats. AsksNothing [] c.args.line.now seats (trouble.Waits c.in-Err-Waits.place)) c.as_slice.ensures.value
+    (subst (AsksNothing [] c.args.line.now c.as_slice.result.now) c.in-Err-Waits.field-0-is (c.in-Err-Waits.ensures.nothing [])) in
+    c.refuse_waiting.ensures c.args.line.now before found.0 found.1 found.2 found.3 came
 
 pub returns-in-Err-NoMemory : goal.returns-in-Err-NoMemory
 returns-in-Err-NoMemory g c = λ before came agents begun v.

@@ -21,5 +21,5 @@ returns g c = λ line before request came agents begun v.
     let seat = at-seat line c.args.table.now.seats.items c.args.place (asking.Step c.args.step.now) c.index_mut.result.now request c.index_mut.ensures.value in
     step-turned (words g.S.Chronicle.opening g.S.Chronicle.entries g.S.Store.keeps g.S.Chronicle.goes_on g.S.Store.tells g.P.Port.tells g.P.Port.said) g.S.Chronicle.lasts g.S.Chronicle.stays
     c.args.hall.now agents begun before c.args.port.now c.args.watch c.args.table.now.seats.items c.args.table.now.progress v c.requires.on line came
-    c.args.place c.args.step.now request c.index_mut.result.now c.step_turn-now.new.seat seat.0 seat.1
+    c.args.place c.args.step.now request c.index_mut.result.now c.step_turn-now.new.seat seat.0
     c.step_turn-now.new.port c.step_turn-now.result.0 c.step_turn-now.new.progress c.step_turn-now.result.1 c.step_turn-now.ensures.made c.step_turn-now.ensures.missed

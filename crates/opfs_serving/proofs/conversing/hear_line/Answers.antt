@@ -1,9 +1,15 @@
-use Rattle.std.proofs.Common.{refl}
-use Rattle.opfs_serving.specs.Lines.{long}
+use Rattle.std.proofs.Common.{[], ◌∷◌, ◌++◌, refl, sym, ap, ◌∙◌}
+use Rattle.opfs_port.specs.Said.{heard}
+use Rattle.opfs_serving.specs.Requests.{long}
 use Rattle.opfs_serving.specs.Served.{words}
 use Rattle.opfs_serving.proofs.Overlong.{overlong}
 use Rattle.opfs_serving.proofs.Polls.{serving-stops, serving-waits}
 use Rattle.opfs_serving.proofs.conversing.hear_line.Goals as goal
+
+pub returns-in-Ok-Line-clause-on_with : goal.returns-in-Ok-Line-clause-on_with
+returns-in-Ok-Line-clause-on_with g c =
+    c.answer_line.ensures c.args.port.now
+    (λ b. (c.in-Ok-Line.ensures.came c.in-Ok-Line.field-0-is b).said ∙ ap (λ l. g.P.Port.said c.args.port.now ++ heard l ∷ []) (sym c.as_slice.ensures.value))
 
 pub returns-in-Ok-TooLong-clause-on_with : goal.returns-in-Ok-TooLong-clause-on_with
 returns-in-Ok-TooLong-clause-on_with g c =

@@ -9,4 +9,6 @@ loop-place-preserved g c = (
       c.args.watch c.loop-place.watch c.poll_on-watch.result c.args.table.now.seats.items c.loop-place.table.seats.items c.poll_on-watch.new.table.seats.items
       c.args.table.now.progress c.loop-place.table.progress c.poll_on-watch.new.table.progress c.loop-place.invariant.0 c.poll_on-watch.ensures.on_with,
   c.poll_on-watch.ensures.count ∙ c.loop-place.invariant.1,
+  λ b. c.poll_on-watch.ensures.rest b ∙ c.loop-place.invariant.2 b,
+  λ on. c.loop-place.invariant.3 (c.poll_on-watch.ensures.still on),
 )

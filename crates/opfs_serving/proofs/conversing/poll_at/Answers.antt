@@ -1,8 +1,7 @@
-use Rattle.std.proofs.Common.{length, refl, None, ◌≡◌}
+use Rattle.std.proofs.Common.{length, refl, sym, ap, ◌∙◌, subst, slice_set}
 use Rattle.std.proofs.lemmas.Option.{slice_get_read}
-use Rattle.opfs_serving.specs.Seats.{SeatSeen}
-use Rattle.opfs_serving.specs.Served.{words}
-use Rattle.opfs_serving.proofs.Polls.{serving-midway, serving-polled, serving-stops, serving-tells, set-kept}
+use Rattle.opfs_serving.specs.Served.{IsServing, words}
+use Rattle.opfs_serving.proofs.Polls.{set-again, polled-at, polled-pass, serving-answered, serving-midway, serving-polled, serving-unpolled}
 use Rattle.opfs_serving.proofs.Seating.{get-set_other}
 use Rattle.opfs_serving.proofs.conversing.poll_at.Goals as goal
 
@@ -16,24 +15,54 @@ poll-requires g c =
           (slice_get_read seats (length seats) c.args.place c.index_mut.result.now refl c.requires.within c.index_mut.ensures.value) c.requires.on;
     }
 
+pub show-requires-clause-there : goal.show-requires-clause-there
+show-requires-clause-there g c =
+    let w = words g.S.Chronicle.opening g.S.Chronicle.entries g.S.Store.keeps g.S.Chronicle.goes_on g.S.Store.tells g.P.Port.tells g.P.Port.said in
+    let seats = c.args.table.now.seats.items in
+    let there = slice_get_read seats (length seats) c.args.place c.index_mut.result.now refl c.requires.within c.index_mut.ensures.value in
+    let again = set-again seats c.args.place c.index_mut.result.now c.poll.new.seat c.index_mut-in-Ok-true.result.now c.index_mut-in-Ok-true.result.now there c.index_mut-in-Ok-true.ensures.value refl in
+    let s = c.requires.serves in
+    let at = polled-at w g.S.Chronicle.lasts g.S.Chronicle.stays c.args.hall.now s.agents s.begun c.args.port.now c.args.watch c.args.watch seats c.args.table.now.progress s.is c.args.place c.index_mut.result.now there c.requires.on
+    c.poll.new.seat c.in-Ok-true.ensures.goes (c.in-Ok-true.ensures.there c.in-Ok-true.field-0-test) in
+    (at.1, ap (λ x. x.agent) again.0 ∙ at.2, at.3.hall)
+
+pub tell_turn-requires-clause-own : goal.tell_turn-requires-clause-own
+tell_turn-requires-clause-own g c =
+    let w = words g.S.Chronicle.opening g.S.Chronicle.entries g.S.Store.keeps g.S.Chronicle.goes_on g.S.Store.tells g.P.Port.tells g.P.Port.said in
+    let seats = c.args.table.now.seats.items in
+    let there = slice_get_read seats (length seats) c.args.place c.index_mut.result.now refl c.requires.within c.index_mut.ensures.value in
+    let again = set-again seats c.args.place c.index_mut.result.now c.poll.new.seat c.index_mut-in-Ok-true.result.now c.show.new.seat there c.index_mut-in-Ok-true.ensures.value c.show.ensures.same in
+    let s = c.requires.serves in
+    (polled-pass w g.S.Chronicle.lasts g.S.Chronicle.stays c.args.hall.now s.agents s.begun c.args.port.now c.args.watch c.show.new.watch seats c.args.table.now.progress s.is c.args.place c.index_mut.result.now there c.requires.on
+    c.poll.new.seat c.in-Ok-true.ensures.goes (c.in-Ok-true.ensures.there c.in-Ok-true.field-0-test)
+    (λ b is. c.show.ensures.noted b (ap (λ x. x.agent) again.0 ∙ is)) c.show.ensures.last).0
+
+pub tell_turn-requires-clause-owner : goal.tell_turn-requires-clause-owner
+tell_turn-requires-clause-owner g c =
+    let w = words g.S.Chronicle.opening g.S.Chronicle.entries g.S.Store.keeps g.S.Chronicle.goes_on g.S.Store.tells g.P.Port.tells g.P.Port.said in
+    let seats = c.args.table.now.seats.items in
+    let there = slice_get_read seats (length seats) c.args.place c.index_mut.result.now refl c.requires.within c.index_mut.ensures.value in
+    let again = set-again seats c.args.place c.index_mut.result.now c.poll.new.seat c.index_mut-in-Ok-true.result.now c.show.new.seat there c.index_mut-in-Ok-true.ensures.value c.show.ensures.same in
+    let s = c.requires.serves in
+    (polled-pass w g.S.Chronicle.lasts g.S.Chronicle.stays c.args.hall.now s.agents s.begun c.args.port.now c.args.watch c.show.new.watch seats c.args.table.now.progress s.is c.args.place c.index_mut.result.now there c.requires.on
+    c.poll.new.seat c.in-Ok-true.ensures.goes (c.in-Ok-true.ensures.there c.in-Ok-true.field-0-test)
+    (λ b is. c.show.ensures.noted b (ap (λ x. x.agent) again.0 ∙ is)) c.show.ensures.last).1
+
 pub returns-in-Ok-true-clause-on_with : goal.returns-in-Ok-true-clause-on_with
 returns-in-Ok-true-clause-on_with g c = λ agents begun v.
     let w = words g.S.Chronicle.opening g.S.Chronicle.entries g.S.Store.keeps g.S.Chronicle.goes_on g.S.Store.tells g.P.Port.tells g.P.Port.said in
     let seats = c.args.table.now.seats.items in
     let there = slice_get_read seats (length seats) c.args.place c.index_mut.result.now refl c.requires.within c.index_mut.ensures.value in
-    serving-tells w g.S.Chronicle.lasts g.S.Chronicle.stays c.args.hall.now agents begun c.args.port.now c.args.watch _ c.args.table.now.progress
-    (serving-polled w g.S.Chronicle.lasts g.S.Chronicle.stays c.args.hall.now agents begun c.args.port.now c.args.watch seats c.args.table.now.progress v c.args.place c.index_mut.result.now there c.requires.on
-    c.poll.new.seat c.in-Ok-true.ensures.goes c.in-Ok-true.ensures.gone)
-    c.tell_turn.new.port c.tell_turn.result c.tell_turn.new.progress c.tell_turn.ensures.turned c.tell_turn.ensures.told
+    let again = set-again seats c.args.place c.index_mut.result.now c.poll.new.seat c.index_mut-in-Ok-true.result.now c.show.new.seat there c.index_mut-in-Ok-true.ensures.value c.show.ensures.same in
+    subst (λ xs. IsServing w c.args.hall.now agents begun c.tell_turn.new.port c.tell_turn.result xs c.tell_turn.new.progress) (sym again.1)
+    (serving-answered w g.S.Chronicle.lasts g.S.Chronicle.stays c.args.hall.now agents begun c.args.port.now c.args.watch c.show.new.watch seats c.args.table.now.progress v c.args.place c.index_mut.result.now there c.requires.on
+    c.poll.new.seat c.in-Ok-true.ensures.goes (c.in-Ok-true.ensures.there c.in-Ok-true.field-0-test)
+    (λ b is. c.show.ensures.noted b (ap (λ x. x.agent) again.0 ∙ is)) c.show.ensures.last c.tell_turn.new.port c.tell_turn.result c.tell_turn.new.progress c.tell_turn.ensures.turned c.tell_turn.ensures.told)
 
 pub returns-in-Ok-true-clause-others : goal.returns-in-Ok-true-clause-others
-returns-in-Ok-true-clause-others g c = λ i other. get-set_other c.args.table.now.seats.items c.args.place i c.poll.new.seat other
-
-pub returns-in-Ok-true-clause-gone : goal.returns-in-Ok-true-clause-gone
-returns-in-Ok-true-clause-gone g c =
+returns-in-Ok-true-clause-others g c = λ i other.
     let seats = c.args.table.now.seats.items in
-    set-kept (λ (x : SeatSeen g.row.S-Opening.Denot). x.agent ≡ None) seats c.args.place c.index_mut.result.now c.poll.new.seat
-    (slice_get_read seats (length seats) c.args.place c.index_mut.result.now refl c.requires.within c.index_mut.ensures.value) c.in-Ok-true.ensures.gone
+    get-set_other (slice_set seats c.args.place c.poll.new.seat) c.args.place i c.show.new.seat other ∙ get-set_other seats c.args.place i c.poll.new.seat other
 
 pub returns-in-Ok-false-clause-on_with : goal.returns-in-Ok-false-clause-on_with
 returns-in-Ok-false-clause-on_with g c = λ agents begun v.
@@ -41,32 +70,18 @@ returns-in-Ok-false-clause-on_with g c = λ agents begun v.
     let seats = c.args.table.now.seats.items in
     serving-polled w g.S.Chronicle.lasts g.S.Chronicle.stays c.args.hall.now agents begun c.args.port.now c.args.watch seats c.args.table.now.progress v c.args.place c.index_mut.result.now
     (slice_get_read seats (length seats) c.args.place c.index_mut.result.now refl c.requires.within c.index_mut.ensures.value) c.requires.on
-    c.poll.new.seat c.in-Ok-false.ensures.goes c.in-Ok-false.ensures.gone
+    c.poll.new.seat c.in-Ok-false.ensures.goes c.in-Ok-false.ensures.gone (c.in-Ok-false.ensures.free c.in-Ok-false.field-0-test)
 
 pub returns-in-Ok-false-clause-others : goal.returns-in-Ok-false-clause-others
 returns-in-Ok-false-clause-others g c = λ i other. get-set_other c.args.table.now.seats.items c.args.place i c.poll.new.seat other
-
-pub returns-in-Ok-false-clause-gone : goal.returns-in-Ok-false-clause-gone
-returns-in-Ok-false-clause-gone g c =
-    let seats = c.args.table.now.seats.items in
-    set-kept (λ (x : SeatSeen g.row.S-Opening.Denot). x.agent ≡ None) seats c.args.place c.index_mut.result.now c.poll.new.seat
-    (slice_get_read seats (length seats) c.args.place c.index_mut.result.now refl c.requires.within c.index_mut.ensures.value) c.in-Ok-false.ensures.gone
 
 pub returns-in-Err-clause-on_with : goal.returns-in-Err-clause-on_with
 returns-in-Err-clause-on_with g c = λ agents begun v.
     let w = words g.S.Chronicle.opening g.S.Chronicle.entries g.S.Store.keeps g.S.Chronicle.goes_on g.S.Store.tells g.P.Port.tells g.P.Port.said in
     let seats = c.args.table.now.seats.items in
-    let there = slice_get_read seats (length seats) c.args.place c.index_mut.result.now refl c.requires.within c.index_mut.ensures.value in
-    serving-stops w g.S.Chronicle.lasts g.S.Chronicle.stays c.args.hall.now agents begun c.args.port.now c.args.watch _ c.args.table.now.progress
-    (serving-polled w g.S.Chronicle.lasts g.S.Chronicle.stays c.args.hall.now agents begun c.args.port.now c.args.watch seats c.args.table.now.progress v c.args.place c.index_mut.result.now there c.requires.on
-    c.poll.new.seat c.in-Err.ensures.goes c.in-Err.ensures.gone)
-    c.args.port.now _ (λ b. refl) (λ e. cc) refl
+    serving-unpolled w g.S.Chronicle.lasts g.S.Chronicle.stays c.args.hall.now agents begun c.args.port.now c.args.watch seats c.args.table.now.progress v c.args.place c.index_mut.result.now
+    (slice_get_read seats (length seats) c.args.place c.index_mut.result.now refl c.requires.within c.index_mut.ensures.value) c.requires.on
+    c.poll.new.seat c.in-Err.ensures.goes c.in-Err.ensures.gone _ refl
 
 pub returns-in-Err-clause-others : goal.returns-in-Err-clause-others
 returns-in-Err-clause-others g c = λ i other. get-set_other c.args.table.now.seats.items c.args.place i c.poll.new.seat other
-
-pub returns-in-Err-clause-gone : goal.returns-in-Err-clause-gone
-returns-in-Err-clause-gone g c =
-    let seats = c.args.table.now.seats.items in
-    set-kept (λ (x : SeatSeen g.row.S-Opening.Denot). x.agent ≡ None) seats c.args.place c.index_mut.result.now c.poll.new.seat
-    (slice_get_read seats (length seats) c.args.place c.index_mut.result.now refl c.requires.within c.index_mut.ensures.value) c.in-Err.ensures.gone

@@ -1,9 +1,12 @@
 use Rattle.std.proofs.Common.{sym, ◌∙◌}
-use Rattle.opfs_serving.proofs.Ends.{ends-agent, ends-run}
+use Rattle.opfs_serving.proofs.Ends.{ends-agent, ends-over, ends-run}
 use Rattle.opfs_serving.proofs.ending.end_agent.Goals as goal
 
 pub returns-clause-ran : goal.returns-clause-ran
 returns-clause-ran g c = ends-run g.S.Store.tells c.args.agent c.end_rows.new.agent c.end.result c.end_rows.ensures.same c.end.ensures c.args.hall.now c.args.rows.items c.end_rows.ensures.closes
+
+pub returns-clause-over : goal.returns-clause-over
+returns-clause-over g c = ends-over g.S.Store.tells c.args.agent c.end_rows.new.agent c.end.result c.end_rows.ensures.same c.end.ensures
 
 pub returns-clause-agent : goal.returns-clause-agent
 returns-clause-agent g c = ends-agent g.S.Store.tells c.args.agent c.end_rows.new.agent c.end.result c.end_rows.ensures.same c.end.ensures

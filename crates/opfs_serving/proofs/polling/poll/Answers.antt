@@ -40,3 +40,6 @@ returns-clause-goes g c = λ k asked a there at.
       c.in_ok-poll_agent.ensures.answered c.if-not-branch.false k asked _ _
           (in-parts g.S.Store.tells c.args.hall.now k asked _ c.args.seat.now a c.in-Some.agent.now (Some c.in-Some-as_ref.tag.now) c.seat.view_is there copied (sym (ap (λ x. x.awaits) c.seat.view_is) ∙ sym tagged) at),
     )
+
+pub returns-clause-there : goal.returns-clause-there
+returns-clause-there g c = λ is. (c.in-Some.agent.now, sym (ap (λ x. x.agent) c.seat.view_is) ∙ sym (sym (ap option_copied_mut c.in-Some.is) ∙ c.as_mut.ensures.value))

@@ -9,4 +9,6 @@ loop-place-preserved g c = (
       c.args.watch c.loop-place.watch c.end_free-watch.result c.args.table.now.seats.items c.loop-place.table.seats.items c.end_free-watch.new.table.seats.items
       c.args.table.now.progress c.loop-place.table.progress c.end_free-watch.new.table.progress c.loop-place.invariant.0 c.end_free-watch.ensures.on_with,
   c.end_free-watch.ensures.count ∙ c.loop-place.invariant.1,
+  λ b. c.end_free-watch.ensures.rest b ∙ c.loop-place.invariant.2 b,
+  λ on. c.loop-place.invariant.3 (c.end_free-watch.ensures.still on),
 )

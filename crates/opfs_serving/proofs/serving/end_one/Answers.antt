@@ -8,7 +8,7 @@ use Rattle.opfs_serving.proofs.Seating.{get-set, get-set_other}
 use Rattle.opfs_serving.proofs.serving.end_one.Goals as goal
 
 pub end_seat-watch-requires-clause-own : goal.end_seat-watch-requires-clause-own
-end_seat-watch-requires-clause-own g c = let s = c.requires.serves in (c.poll_on-watch.ensures.on_with s.agents s.begun s.is).hall
+end_seat-watch-requires-clause-own g c = let s = c.requires.serves in (c.poll_on-watch.ensures.on_with s.agents s.begun s.is).stands.hall
 
 pub end_seat-watch-requires-clause-may : goal.end_seat-watch-requires-clause-may
 end_seat-watch-requires-clause-may g c =

@@ -1,18 +1,18 @@
-use Rattle.std.proofs.Common.{refl, true}
+use Rattle.std.proofs.Common.{refl, true, ◌∙◌}
 use Rattle.opfs_serving.proofs.Starting.{serving-begins}
 use Rattle.opfs_serving.specs.Served.{words}
 use Rattle.opfs_serving.specs.declared.progress.State.TheVariants as state
 use Rattle.opfs_serving.proofs.serving.serve.Goals as goal
 
-pub greet-greeted-requires-clause-serves : goal.greet-greeted-requires-clause-serves
-greet-greeted-requires-clause-serves g c =
+pub greet-greeted-requires-clause-silent : goal.greet-greeted-requires-clause-silent
+greet-greeted-requires-clause-silent g c =
     let w = words g.S.Chronicle.opening g.S.Chronicle.entries g.S.Store.keeps g.S.Chronicle.goes_on g.S.Store.tells g.P.Port.tells g.P.Port.said in
     let started = c.in-Ok-begin_agents.started in
     let known = c.in-Ok-begin_agents.ensures in
     let begun =
     serving-begins w started.court c.args.agents.now started.agents.items c.in-Ok.hands.items c.seat_all.new.seats.items c.seat_all.ensures.seated c.in-Ok.ensures known.ready known.count c.requires.alone
     c.args.port.now c.begin-watch.result started.owner (record { count = 0; state = state.On; whole = true }) c.requires.few known.agents known.owner c.begin-watch.ensures.pass c.begin-watch.ensures.opening refl in
-    record { agents = c.args.agents.now; begun = c.args.port.now; is = begun }
+    (c.args.agents.now, begun)
 
 pub converse-spoken-requires : goal.converse-spoken-requires
 converse-spoken-requires g c =
@@ -22,7 +22,7 @@ converse-spoken-requires g c =
     let begun =
     serving-begins w started.court c.args.agents.now started.agents.items c.in-Ok.hands.items c.seat_all.new.seats.items c.seat_all.ensures.seated c.in-Ok.ensures known.ready known.count c.requires.alone
     c.args.port.now c.begin-watch.result started.owner (record { count = 0; state = state.On; whole = true }) c.requires.few known.agents known.owner c.begin-watch.ensures.pass c.begin-watch.ensures.opening refl in
-    record { serves = record { agents = c.args.agents.now; begun = c.args.port.now; is = c.greet-greeted.ensures c.args.agents.now begun c.requires.alone } }
+    record { serves = record { agents = c.args.agents.now; begun = c.args.port.now; is = c.greet-greeted.ensures c.args.agents.now begun } }
 
 pub finish-requires : goal.finish-requires
 finish-requires g c =
@@ -36,7 +36,7 @@ finish-requires g c =
       serves = record {
         agents = c.args.agents.now;
         begun = c.args.port.now;
-        is = c.converse-spoken.ensures c.args.agents.now c.args.port.now (c.greet-greeted.ensures c.args.agents.now begun c.requires.alone);
+        is = c.converse-spoken.ensures.on_with c.args.agents.now c.args.port.now (c.greet-greeted.ensures c.args.agents.now begun);
       };
     }
 
@@ -48,4 +48,7 @@ returns-clause-served g c =
     let begun =
     serving-begins w started.court c.args.agents.now started.agents.items c.in-Ok.hands.items c.seat_all.new.seats.items c.seat_all.ensures.seated c.in-Ok.ensures known.ready known.count c.requires.alone
     c.args.port.now c.begin-watch.result started.owner (record { count = 0; state = state.On; whole = true }) c.requires.few known.agents known.owner c.begin-watch.ensures.pass c.begin-watch.ensures.opening refl in
-    c.finish.ensures.served c.args.agents.now c.args.port.now (c.converse-spoken.ensures c.args.agents.now c.args.port.now (c.greet-greeted.ensures c.args.agents.now begun c.requires.alone))
+    c.finish.ensures.served c.args.agents.now c.args.port.now (c.converse-spoken.ensures.on_with c.args.agents.now c.args.port.now (c.greet-greeted.ensures c.args.agents.now begun))
+
+pub returns-clause-all : goal.returns-clause-all
+returns-clause-all g c = λ on b. c.finish.ensures.rest b ∙ c.converse-spoken.ensures.all (c.finish.ensures.still on) b
