@@ -1,3 +1,4 @@
 pub mod Ends
 pub mod Hosts
 pub mod Moved
+pub mod Others
