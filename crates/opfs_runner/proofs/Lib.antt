@@ -2,4 +2,5 @@ pub mod Counting
 pub mod Doing
 pub mod Endings
 pub mod Joining
+pub mod Pending
 pub mod Way

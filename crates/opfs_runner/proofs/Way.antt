@@ -14,7 +14,9 @@ use Rattle.opfs_hist.specs.declared.op.Op.{Op}
 use Rattle.opfs_hist.specs.declared.op.Op.TheVariants as op
 use Rattle.opfs_hist.specs.declared.reply.Reply.{Reply}
 use Rattle.opfs_hist.specs.declared.reply.Reply.TheVariants as reply
-use Rattle.opfs_turns.specs.Agents.{AgentSeen}
+use Rattle.opfs_turns.specs.Agents.{AgentSeen, IsAgent}
+use Rattle.opfs_turns.specs.Calls.{HasRoom}
+use Rattle.opfs_turns.specs.Entering.{HasEnteredPending}
 use Rattle.opfs_script_run.specs.declared.runs.hand.Hand.{Hand}
 use Rattle.opfs_script_run.specs.declared.runs.hand.Open.{Open}
 use Rattle.opfs_script_run.specs.Runs.Cuts.{Cuts}
@@ -27,12 +29,13 @@ use Rattle.opfs_runner.specs.RunLaws.Agreeing.{Agrees}
 use Rattle.opfs_runner.specs.RunLaws.Kinds as rows
 use Rattle.opfs_runner.specs.RunLaws.Kinds.{RowKind, kinds_changed, kinds_after, open_rows}
 use Rattle.opfs_runner.specs.RunLaws.Leaving.{row_left, snapshot_bound, kinds_without, kinds_stepped}
+use Rattle.opfs_runner.proofs.Pending.{pending-own, pending-table}
 use Rattle.opfs_runner.proofs.run_laws.StepOps.{waits}
 use Rattle.opfs_runner.proofs.run_laws.Stepped.{begins, goes, opened-then}
 use Rattle.opfs_runner.specs.AgentRows.Tables.{kind_of, kinds_of, HasTable}
 use Rattle.opfs_runner.specs.declared.agent_rows.agent_row.AgentRow.{AgentRow}
 use Rattle.opfs_runner.specs.Ending.{Closes}
-use Rattle.opfs_runner.specs.Stepping.{own_entries, IsWaitedFor, IsDone, IsNoted, IsPassed, IsStepped}
+use Rattle.opfs_runner.specs.Stepping.{own_entries, IsWaitedFor, IsDone, IsNoted, IsPassed, IsStepped, MayHaveEntered}
 
 -- So many steps were made, and their hand has taken note.
 pub record UnderWay {O : Type 0} (tells : Type 0) (asked : Asked) (start : PassSeen O Entry) (a : AgentSeen O) (agent_rows : List AgentRow) (h : Hand) (done : ℕ) : Type 0 where
@@ -259,3 +262,29 @@ module _ {O : Type 0} (tells : Type 0) (a b : AgentSeen O) (old new : List Agent
       let same = ap length l.kinds in
       let few_more = l.done.goes.few in
       (omega (arith, few, entries, few_more), omega (arith, few, rows, same, length-map old kind_of, length-map new kind_of))
+
+-- ---- the agent's local calls are entered
+
+module _ {O : Type 0} (tells : Type 0) (asked : Asked) (start : PassSeen O Entry) (a b : AgentSeen O) (rows : List AgentRow) (h : Hand) (done : ℕ) (way : UnderWay tells asked start a rows h done) where
+  entered : HasEnteredPending tells a b → IsAgent tells a → IsAgent tells b → UnderWay tells asked start b rows h done
+  entered e kept then =
+      let rest = e.rest in record {
+        cuts = subst (λ (es : List Entry). Cuts asked es h b.number false done (drop done asked.steps)) (sym (pending-own tells a b kept e))
+            (subst (λ (n : ℕ). Cuts asked (own_entries a) h n false done (drop done asked.steps)) (sym (ap (λ (x : AgentSeen O). x.number) rest)) way.cuts);
+        agrees = way.agrees;
+        hand_key = way.hand_key;
+        own_key = ap (λ (x : AgentSeen O). x.key) rest ∙ way.own_key;
+        table = pending-table tells a b kept e rows then way.table;
+        same = ap (λ (x : AgentSeen O). x.pass) rest ∙ ap (λ (p : PassSeen O Entry). record p { base = b.pass.base }) way.same;
+        entries = subst (λ (n : ℕ). n ≤ done + done) (sym (ap (λ (x : AgentSeen O). x.entries) rest)) way.entries;
+        rows = way.rows;
+      }
+
+  pub way-enters : MayHaveEntered tells a b → UnderWay tells asked start b rows h done
+  way-enters (inl same) = subst (λ (x : AgentSeen O). UnderWay tells asked start x rows h done) (sym same) way
+  way-enters (inr e) = entered e.0 e.1 e.2
+
+pub way-room : {O : Type 0} (tells : Type 0) (asked : Asked) (start : PassSeen O Entry) (a : AgentSeen O) (rows : List AgentRow) (h : Hand) (done : ℕ) → UnderWay tells asked start a rows h done → done ≤ 20000 → HasRoom a
+way-room tells asked start a rows h done way few =
+    let count = way.table.count in let made = way.rows in let entered = way.entries in
+    record { rows = omega (arith, count, made, few); entries = omega (arith, entered, few) }

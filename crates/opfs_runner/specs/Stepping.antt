@@ -8,7 +8,8 @@ use Rattle.opfs_hist.specs.declared.reply.Reply.{Reply}
 use Rattle.opfs_hist.specs.declared.reply.Reply.TheVariants as reply
 use Rattle.opfs_turns.specs.declared.asking.stop.Stop.{Stop}
 use Rattle.opfs_turns.specs.declared.asking.stop.Stop.TheVariants as stop
-use Rattle.opfs_turns.specs.Agents.{AgentSeen, known}
+use Rattle.opfs_turns.specs.Agents.{AgentSeen, IsAgent, known}
+use Rattle.opfs_turns.specs.Entering.{HasEnteredPending}
 use Rattle.opfs_script_run.specs.declared.runs.hand.Hand.{Hand}
 use Rattle.opfs_script_run.specs.Runs.Running.{entries_of, op_of, hand_then}
 use Rattle.opfs_script.specs.declared.step.Step.{Step}
@@ -99,3 +100,7 @@ pub record IsPassed {O : Type 0} (tells : Type 0) (a b : AgentSeen O) (old new :
 abbrev pub IsStepped : {O : Type 0} → Type 0 → AgentSeen O → AgentSeen O → List AgentRow → List AgentRow → Hand → Hand → Step → Bool → Type 0
 IsStepped tells a b old new h then_h s true = IsPassed tells a b old new h then_h s
 IsStepped tells a b old new h then_h s false = IsNoted tells a b old new h s ⊎ IsLeft tells a b old new h s
+
+-- Its pending calls were entered, or nothing was done.
+abbrev pub MayHaveEntered : {O : Type 0} → Type 0 → AgentSeen O → AgentSeen O → Type 0
+MayHaveEntered tells a b = (b ≡ a) ⊎ (HasEnteredPending tells a b × IsAgent tells a × IsAgent tells b)

@@ -9,7 +9,7 @@ ghost use Rattle.opfs_runner.specs.RunLaws.Kinds.{open_rows, MayPerform};
 ghost use Rattle.opfs_runner.specs.AgentRows.Tables.{kinds_of, HasTable};
 ghost use Rattle.opfs_runner.specs.Ending.{Closes};
 ghost use Rattle.opfs_runner.specs.Runs.{IsReady};
-ghost use Rattle.opfs_runner.specs.Stepping.{own_entries, reply_of, IsTaken, IsTried, IsStepped};
+ghost use Rattle.opfs_runner.specs.Stepping.{own_entries, reply_of, IsTaken, IsTried, IsStepped, MayHaveEntered};
 
 use crate::agent_rows::{AgentRow, forget, perform};
 use crate::snapshots::{row_left, snapshot_bound};
@@ -121,6 +121,20 @@ pub fn make_step<S: Store, R: Wait>(
     true
 }
 
+// Has the agent's local calls entered at each 64th step, so that few of them wait.
+fn enter_at<S: Store, R: Wait>(rt: &R, court: &Hall<S>, agent: &mut Agent<S>, number: u32)
+    requires own { agent.old.pass.hall ≡ court.now }
+    requires room { HasRoom agent.old }
+    ensures { MayHaveEntered S.tells agent.old agent.new }
+{
+    if number % 64 != 0 {
+        return;
+    }
+    agent.know_kept();
+    agent.enter_pending(rt, court);
+    agent.know_kept();
+}
+
 /// Makes the steps of a script, each with the gate round it, and tells whether all were made. Only want of memory leaves the others.
 pub fn run_steps<S: Store, R: Wait, G: Gate>(
     rt: &R,
@@ -154,6 +168,7 @@ pub fn run_steps<S: Store, R: Wait, G: Gate>(
         if !done {
             return false;
         }
+        enter_at(rt, court, agent, number);
     }
     true
 }

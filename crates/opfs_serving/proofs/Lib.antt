@@ -7,7 +7,6 @@ pub mod Midway
 pub mod Named
 pub mod Overlong
 pub mod Parts
-pub mod Pending
 pub mod Placing
 pub mod Polls
 pub mod Replies

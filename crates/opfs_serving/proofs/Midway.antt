@@ -27,7 +27,7 @@ use Rattle.opfs_turns.specs.Agents.{AgentSeen, IsAgent}
 use Rattle.opfs_turns.specs.Calls.{HasRoom}
 use Rattle.opfs_turns.specs.Entering.{HasEnteredPending}
 use Rattle.opfs_serving.specs.Seats.{IsMidway, MayEnd, open_step, slack, with_steps}
-use Rattle.opfs_serving.proofs.Pending.{pending-own, pending-table}
+use Rattle.opfs_runner.proofs.Pending.{pending-own, pending-table}
 
 -- A call that is done has its own entry.
 pub done-longer : {O : Type 0} (a b : AgentSeen O) (o : Op) (answered : Reply) → IsDone a b o answered → length (own_entries a) + 1 ≤ length (own_entries b)
