@@ -163,11 +163,18 @@ static void try_handles(opfs_ref root) {
     is("syncRead over the end", opfs_sync_read(one, handle, back, sizeof back, 1, &got), OPFS_OK);
     holds("its bytes", got == 69999 && !memcmp(back, big + 1, got));
     is("syncFlush", opfs_sync_flush(one, handle), OPFS_OK);
+    is("a write and a flush in one", opfs_sync_write_flush(one, handle, "both", 4, 100), OPFS_OK);
+    is("syncRead of it", opfs_sync_read(one, handle, back, 4, 100, &got), OPFS_OK);
+    holds("its bytes", got == 4 && !memcmp(back, "both", 4));
+    is("a write past the quota, and a flush", opfs_sync_write_flush(one, handle, "x", 1, 1ULL << 40), OPFS_QUOTA_EXCEEDED);
+    is("syncGetSize behind it", opfs_sync_get_size(one, handle, &size), OPFS_OK);
+    holds("its size", size == 70000);
     is("syncClose", opfs_sync_close(one, handle), OPFS_OK);
     is("syncClose again", opfs_sync_close(one, handle), OPFS_OK);
     is("syncFlush after it", opfs_sync_flush(one, handle), OPFS_INVALID_STATE);
     is("syncRead after it", opfs_sync_read(one, handle, back, 1, 0, &got), OPFS_INVALID_STATE);
     is("syncWrite after it", opfs_sync_write(one, handle, "x", 1, 0), OPFS_INVALID_STATE);
+    is("a write and a flush after it", opfs_sync_write_flush(one, handle, "x", 1, 0), OPFS_INVALID_STATE);
     is("syncGetSize after it", opfs_sync_get_size(one, handle, &size), OPFS_INVALID_STATE);
     is("a read-only handle", opfs_create_sync(one, file, true, &handle), OPFS_OK);
     is("a second one", opfs_create_sync(one, file, true, &again), OPFS_OK);

@@ -184,16 +184,35 @@ opfs_result opfs_sync_read(opfs_agent *agent, opfs_ref sync, void *bytes, size_t
     return read_pieces(agent, "syncRead", "sync", sync, bytes, length, at, got);
 }
 
-opfs_result opfs_sync_write(opfs_agent *agent, opfs_ref sync, const void *bytes, size_t length, uint64_t at) {
-    if (length > MOST_WRITTEN) return OPFS_BAD_SHAPE;
+static void begin_sync_write(opfs_agent *agent, opfs_ref sync, const void *bytes, size_t length, uint64_t at) {
     struct text *out = op_begin(agent, "syncWrite");
-    uint64_t done;
     op_ref(out, "sync", sync);
     if (at != OPFS_CURSOR) op_member_number(out, "at", at);
     op_member(out, "data");
     op_data(out, bytes, length);
+}
+
+opfs_result opfs_sync_write(opfs_agent *agent, opfs_ref sync, const void *bytes, size_t length, uint64_t at) {
+    if (length > MOST_WRITTEN) return OPFS_BAD_SHAPE;
+    uint64_t done;
+    begin_sync_write(agent, sync, bytes, length, at);
     opfs_result result = op_ask_number(agent, &done);
     return result ? result : op_sure(agent, done == length);
+}
+
+opfs_result opfs_sync_write_flush(opfs_agent *agent, opfs_ref sync, const void *bytes, size_t length, uint64_t at) {
+    if (length > MOST_WRITTEN) return OPFS_BAD_SHAPE;
+    uint64_t done;
+    begin_sync_write(agent, sync, bytes, length, at);
+    op_ref(op_begin_next(agent, "syncFlush"), "sync", sync);
+    opfs_result sent = op_send_step(agent);
+    if (sent) return sent;
+    opfs_result written = op_number_of(agent, op_answered(agent, "syncWrite"), &done);
+    if (!written) written = op_sure(agent, done == length);
+    if (agent->store->failed) return agent->store->failed;
+    opfs_result flushed = op_answered(agent, "syncFlush");
+    if (!flushed) flushed = op_sure(agent, !*agent->store->rest);
+    return written ? written : flushed;
 }
 
 opfs_result opfs_sync_truncate(opfs_agent *agent, opfs_ref sync, uint64_t size) {

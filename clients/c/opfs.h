@@ -96,6 +96,8 @@ opfs_result opfs_abort(opfs_agent *agent, opfs_ref stream);
 opfs_result opfs_create_sync(opfs_agent *agent, opfs_ref file, bool read_only, opfs_ref *as);
 opfs_result opfs_sync_read(opfs_agent *agent, opfs_ref sync, void *bytes, size_t length, uint64_t at, size_t *got);
 opfs_result opfs_sync_write(opfs_agent *agent, opfs_ref sync, const void *bytes, size_t length, uint64_t at);
+/* Writes and flushes; both lines go out at once, so it takes one round trip. It flushes also where the write is refused, and then gives that refusal. */
+opfs_result opfs_sync_write_flush(opfs_agent *agent, opfs_ref sync, const void *bytes, size_t length, uint64_t at);
 opfs_result opfs_sync_truncate(opfs_agent *agent, opfs_ref sync, uint64_t size);
 opfs_result opfs_sync_get_size(opfs_agent *agent, opfs_ref sync, uint64_t *size);
 opfs_result opfs_sync_flush(opfs_agent *agent, opfs_ref sync);

@@ -195,9 +195,14 @@ static bool write_all(int file, const char *bytes, size_t length) {
     return length == 0;
 }
 
-bool op_send(opfs *store, const char *line, size_t length) {
-    if (store->record && fputs("> ", store->record) >= 0) fwrite(line, 1, length, store->record);
-    return write_all(store->to, line, length);
+bool op_send(opfs *store, const char *lines, size_t length) {
+    for (const char *line = lines, *last = lines + length; store->record && line < last;) {
+        const char *end = memchr(line, '\n', (size_t)(last - line));
+        size_t size = (size_t)((end ? end + 1 : last) - line);
+        if (fputs("> ", store->record) >= 0) fwrite(line, 1, size, store->record);
+        line += size;
+    }
+    return write_all(store->to, lines, length);
 }
 
 /* Reads more of what the child tells. False at its end. */
@@ -334,16 +339,25 @@ char *op_hear_answer(opfs *store) {
 
 /* Steps. */
 
-struct text *op_begin(opfs_agent *agent, const char *word) {
+static struct text *put_word(opfs_agent *agent, const char *word) {
     struct text *out = &agent->store->out;
-    out->length = 0;
-    out->failed = false;
-    agent->store->word = word;
     put_number(out, agent->number);
     op_text(out, " {\"do\":\"");
     op_text(out, word);
     op_text(out, "\"");
     return out;
+}
+
+struct text *op_begin(opfs_agent *agent, const char *word) {
+    agent->store->out.length = 0;
+    agent->store->out.failed = false;
+    agent->store->word = word;
+    return put_word(agent, word);
+}
+
+struct text *op_begin_next(opfs_agent *agent, const char *word) {
+    op_text(&agent->store->out, "}\n");
+    return put_word(agent, word);
 }
 
 void op_member(struct text *out, const char *name) {
@@ -384,15 +398,19 @@ opfs_result op_send_step(opfs_agent *agent) {
     return op_send(store, store->out.at, store->out.length) ? OPFS_OK : op_give_up(store, OPFS_GONE);
 }
 
+/* What the child answers to a step that was sent. */
+opfs_result op_answered(opfs_agent *agent, const char *word) {
+    opfs *store = agent->store;
+    char *line = op_hear_answer(store);
+    if (!line) return store->failed;
+    opfs_result result = strncmp(line, "? ", 2) ? op_answer_in(agent, line, word) : op_result_in(line + 2, OPFS_NO_AGENT, OPFS_TOO_MANY, &store->rest);
+    return result == OPFS_ODD ? op_give_up(store, OPFS_ODD) : result;
+}
+
 /* Makes the call that was put together. */
 opfs_result op_ask(opfs_agent *agent) {
-    opfs *store = agent->store;
     opfs_result result = op_send_step(agent);
-    char *line = result ? NULL : op_hear_answer(store);
-    if (!line) return result ? result : store->failed;
-    if (!strncmp(line, "? ", 2)) result = op_result_in(line + 2, OPFS_NO_AGENT, OPFS_TOO_MANY, &store->rest);
-    else result = op_answer_in(agent, line, store->word);
-    return result == OPFS_ODD ? op_give_up(store, OPFS_ODD) : result;
+    return result ? result : op_answered(agent, agent->store->word);
 }
 
 /* The call is done, and its answer is right or odd. */
@@ -405,9 +423,12 @@ opfs_result op_ask_plain(opfs_agent *agent) {
     return result ? result : op_sure(agent, !*agent->store->rest);
 }
 
-opfs_result op_ask_number(opfs_agent *agent, uint64_t *number) {
-    opfs_result result = op_ask(agent);
+opfs_result op_number_of(opfs_agent *agent, opfs_result result, uint64_t *number) {
     return result ? result : op_sure(agent, op_number_in(&agent->store->rest, number) && !*agent->store->rest);
+}
+
+opfs_result op_ask_number(opfs_agent *agent, uint64_t *number) {
+    return op_number_of(agent, op_ask(agent), number);
 }
 
 opfs_result op_ask_flag(opfs_agent *agent, bool *flag) {

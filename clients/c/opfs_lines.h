@@ -47,7 +47,7 @@ void op_data(struct text *text, const unsigned char *bytes, size_t length);
 
 /* The child. A line that is heard stays until the next; NULL: none comes any more. */
 bool op_start(opfs *store, const char *serve, const char *image);
-bool op_send(opfs *store, const char *line, size_t length);
+bool op_send(opfs *store, const char *lines, size_t length);
 char *op_hear(opfs *store);
 int op_reap(opfs *store);
 void op_shut(int *file);
@@ -66,12 +66,16 @@ char *op_hear_answer(opfs *store);
 
 /* A step: its word, its members, and then the call, by what it answers. */
 struct text *op_begin(opfs_agent *agent, const char *word);
+/* Begins one more behind it, which is sent with it; op_answered() then gives the answer to each. */
+struct text *op_begin_next(opfs_agent *agent, const char *word);
 void op_member(struct text *out, const char *name);
 void op_ref(struct text *out, const char *name, opfs_ref ref);
 void op_member_text(struct text *out, const char *name, const char *text);
 void op_member_number(struct text *out, const char *name, uint64_t number);
 void op_true(struct text *out, const char *name);
 opfs_result op_send_step(opfs_agent *agent);
+opfs_result op_answered(opfs_agent *agent, const char *word);
+opfs_result op_number_of(opfs_agent *agent, opfs_result result, uint64_t *number);
 opfs_result op_ask(opfs_agent *agent);
 opfs_result op_ask_plain(opfs_agent *agent);
 opfs_result op_ask_number(opfs_agent *agent, uint64_t *number);

@@ -40,14 +40,13 @@ static double time_calls(opfs_agent *agent, opfs_ref handle, int calls) {
     return (now() - begun) / calls;
 }
 
-/* Pages that are written and flushed. */
+/* Pages that are written and flushed, in one round trip. */
 static double time_pages(opfs_agent *agent, opfs_ref handle, int pages) {
     char bytes[PAGE];
     double begun = now();
     for (int i = 0; i < pages; i++) {
         filled(bytes, PAGE, (unsigned)i);
-        need("a page was refused", opfs_sync_write(agent, handle, bytes, PAGE, (uint64_t)(i % PAGES_OF_FILE) * PAGE) == OPFS_OK);
-        need("a flush was refused", opfs_sync_flush(agent, handle) == OPFS_OK);
+        need("a page was refused", opfs_sync_write_flush(agent, handle, bytes, PAGE, (uint64_t)(i % PAGES_OF_FILE) * PAGE) == OPFS_OK);
     }
     return (now() - begun) / pages;
 }
