@@ -8,9 +8,9 @@ use mathlib.Core.Logic.{dite}
 use native.Mathlib.Decide.{ℕ_discrete}
 use Rattle.atomic_table.specs.Table.{State, Splits, Joins}
 use Rattle.opfs_hall.specs.declared.board.View.{View}
-use Rattle.opfs_hall.specs.History.{HasEnded}
+use Rattle.opfs_hall.specs.History.{HasEnded, IsPrefix}
 use Rattle.opfs_hall.specs.Seen.{HallSeen, PassSeen, new_pass, AreNew}
-use Rattle.opfs_hall.specs.Turns.{one_at, one_if_some, has_ticket, is_in, names, split_left, split_right, shadow, learned, followed, joined_view, spent_view, SameOwn, Kept}
+use Rattle.opfs_hall.specs.Turns.{one_at, one_if_some, has_ticket, is_in, names, split_left, split_right, shadow, learned, followed, joined_view, spent_view, SameOwn, Fits, Kept}
 use Rattle.opfs_hall.proofs.Keeping.{fits_with, fits_bare, kept_split, kept_join}
 use Rattle.opfs_hall.proofs.Views.{IfSome_at, is_in-of}
 
@@ -44,37 +44,32 @@ module _ {X O E : Type 0} (opening : X → O) (entries : X → List E) (owner : 
       fits
       (fits_bare (split_left v) fits.opened fits.begins fits.goes_on tt)
 
-  pub learns_kept : (id : ℕ) (v : View O E X) (other : ℕ) (u x : View O E X) → u ≡ shadow x → v.number ≡ Some 0 → v.inside ≡ false → Joins Rule id v other u (learned v u) spent_view
-  learns_kept id v other u x is owned_by out = subst (λ (z : View O E X). Joins Rule id v other z (learned v z) spent_view) (sym is)
-      (λ s kept at apart at'. kept_join kept id v other (shadow x) (learned v (shadow x)) at apart at'
+  -- a view takes this base and this last value of a seat that is no pass
+  takes_kept : (base : View O E X → List E) (last : View O E X → Option X) (id : ℕ) (v : View O E X) (other : ℕ) (u x : View O E X) → u ≡ shadow x → v.inside ≡ false
+      → ((served drawn n : ℕ) (value : X) (log : List E) → Fits owner goes most begun served drawn n value log v → Fits owner goes most begun served drawn n value log (shadow x)
+      → IsPrefix (base (shadow x)) log × IfSome (last (shadow x)) (λ y. goes y value) × IfSome v.number (λ k. SameOwn owner k log (base (shadow x))))
+      → Joins Rule id v other u (record v { base = base u; last = last u }) spent_view
+  takes_kept base last id v other u x is out fits = subst (λ (z : View O E X). Joins Rule id v other z (record v { base = base z; last = last z }) spent_view) (sym is)
+      (λ s kept at apart at'. kept_join kept id v other (shadow x) (record v { base = base (shadow x); last = last (shadow x) }) at apart at'
       record { line = omega arith; seated = omega arith; single = omega arith; one_each = λ t. omega arith; once = λ k. omega arith }
       (omega arith)
-      (λ mine theirs. record {
+      (λ mine theirs. let taken = fits kept.served kept.drawn kept.n kept.value kept.log mine theirs in record {
         opened = mine.opened;
-        begins = theirs.begins;
-        goes_on = mine.goes_on;
-        own = subst (λ (n : Option ℕ). IfSome n (λ k. SameOwn owner k kept.log x.base)) (sym owned_by) (λ real. absurd (real refl));
+        begins = taken.0;
+        goes_on = taken.1;
+        own = taken.2;
         ended = mine.ended;
         waits = mine.waits;
         inside = λ h. absurd (false≢true (sym out ∙ h));
         next = mine.next;
       }))
 
+  pub learns_kept : (id : ℕ) (v : View O E X) (other : ℕ) (u x : View O E X) → u ≡ shadow x → v.number ≡ Some 0 → v.inside ≡ false → Joins Rule id v other u (learned v u) spent_view
+  learns_kept id v other u x is owned_by out = takes_kept (λ z. z.base) (λ z. v.last) id v other u x is out
+      (λ served drawn n value log mine theirs. (theirs.begins, mine.goes_on, subst (λ (n : Option ℕ). IfSome n (λ k. SameOwn owner k log x.base)) (sym owned_by) (λ real. absurd (real refl))))
+
   pub follows_kept : (id : ℕ) (v : View O E X) (other : ℕ) (u x : View O E X) → u ≡ shadow x → v.inside ≡ false → Joins Rule id v other u (followed v u) spent_view
-  follows_kept id v other u x is out = subst (λ (z : View O E X). Joins Rule id v other z (followed v z) spent_view) (sym is)
-      (λ s kept at apart at'. kept_join kept id v other (shadow x) (followed v (shadow x)) at apart at'
-      record { line = omega arith; seated = omega arith; single = omega arith; one_each = λ t. omega arith; once = λ k. omega arith }
-      (omega arith)
-      (λ mine theirs. record {
-        opened = mine.opened;
-        begins = mine.begins;
-        goes_on = theirs.goes_on;
-        own = mine.own;
-        ended = mine.ended;
-        waits = mine.waits;
-        inside = λ h. absurd (false≢true (sym out ∙ h));
-        next = mine.next;
-      }))
+  follows_kept id v other u x is out = takes_kept (λ z. v.base) (λ z. z.last) id v other u x is out (λ served drawn n value log mine theirs. (mine.begins, theirs.goes_on, mine.own))
 
   module _ (u : View O E X) (k : ℕ) (number : u.number ≡ Some k) where
     is_number : unwrap_or u.number 0 ≡ k

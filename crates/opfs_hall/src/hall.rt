@@ -57,29 +57,6 @@ pub struct Turn<V: Chronicle> {
 }
 
 impl<V: Chronicle> Turn<V> {
-    // The turn of the owner's seat, which has taken it.
-    pub(crate) fn watched(value: V, seat: Place<V>, hall: Told<Hall<V>>) -> Turn<V>
-        requires placed { IsPlaced seat hall.value 0 }
-        requires inside { seat.me.0.inside ≡ true }
-        requires last { seat.me.0.last ≡ Some value }
-        ensures value { result.value ≡ value }
-        ensures came { result.came.value ≡ value }
-        ensures entered { result.entered.value ≡ pass_of None seat hall.value 0 }
-    {
-        let pass = Pass {
-            seat: None,
-            agent: 0,
-            hall,
-            lent: Told::of(&seat),
-        };
-        Turn {
-            came: Told::of(&value),
-            value,
-            entered: Told::of(&pass),
-            seat,
-        }
-    }
-
     // The value, and the seat that has the turn.
     pub(crate) fn apart(self) -> (V, Place<V>)
         ensures value { result.0 ≡ self.value }
@@ -207,6 +184,31 @@ impl<V: Chronicle> Hall<V> {
         take_out(top, seat)
     }
 
+    // Waits for the turn of an agent's pass with its seat, and takes it.
+    pub(crate) fn turn_of<R: Wait>(&self, rt: &R, seat: Place<V>, agent: u32) -> Turn<V>
+        requires placed { IsPlaced seat self.now agent }
+        requires idle { seat.me.0.inside ≡ false }
+        ensures taken { HasTaken V.opening V.entries V.owner (Onward V.entries V.goes_on) self.now seat result.seat result.value }
+        ensures grows { GrowsByOthers V.owner agent seat.me.0.base (V.entries result.value) }
+        ensures came { result.came.value ≡ result.value }
+        ensures entered { result.entered.value ≡ pass_of None result.seat self.now agent }
+    {
+        let mut seat = seat;
+        let value = self.take(rt, &mut seat);
+        let pass = Pass {
+            seat: None,
+            agent,
+            hall: Told::of(self),
+            lent: Told::of(&seat),
+        };
+        Turn {
+            came: Told::of(&value),
+            value,
+            entered: Told::of(&pass),
+            seat,
+        }
+    }
+
     // Hands the turn of a seat on.
     pub(crate) fn give(&self, seat: &mut Place<V>, value: V)
         requires { MayGive V.opening V.entries V.owner V.goes_on self.now seat.old value }
@@ -232,15 +234,10 @@ impl<V: Chronicle> Hall<V> {
         ensures entered { result.entered.value ≡ pass.new }
         ensures came { result.came.value ≡ result.value }
     {
-        let mut seat = pass.seat.take().unwrap();
-        let value = self.take(rt, &mut seat);
-        pass.lent = Told::of(&seat);
-        Turn {
-            came: Told::of(&value),
-            value,
-            entered: Told::of(pass),
-            seat,
-        }
+        let seat = pass.seat.take().unwrap();
+        let turn = self.turn_of(rt, seat, pass.agent);
+        pass.lent = Told::of(&turn.seat);
+        turn
     }
 
     /// The same behind a watch: the value has gone on from the one that the watch has seen last.
@@ -260,14 +257,9 @@ impl<V: Chronicle> Hall<V> {
         let mut seat = pass.seat.take().unwrap();
         let shadow = top.split_seat::<Shadow>(&mut watch.seat);
         top.join_seat::<Follow>(&mut seat, shadow);
-        let value = self.take(rt, &mut seat);
-        pass.lent = Told::of(&seat);
-        Turn {
-            came: Told::of(&value),
-            value,
-            entered: Told::of(pass),
-            seat,
-        }
+        let turn = self.turn_of(rt, seat, pass.agent);
+        pass.lent = Told::of(&turn.seat);
+        turn
     }
 
     /// Hands the turn on. The value's list is what the next pass finds.

@@ -63,12 +63,11 @@ impl<V: Chronicle> Watch<V> {
         ensures came { result.came.value ≡ result.value }
     {
         let Watch {
-            mut seat,
-            hall: of,
+            seat,
+            hall: _,
             last: _,
         } = self;
-        let value = hall.take(rt, &mut seat);
-        Turn::watched(value, seat, of)
+        hall.turn_of(rt, seat, 0)
     }
 
     /// Hands on a turn that was taken with a watch. The value is what the next pass finds.

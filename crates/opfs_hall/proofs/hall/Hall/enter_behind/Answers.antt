@@ -26,21 +26,16 @@ join_seat-requires g c =
       follows_kept g.V.Chronicle.opening g.V.Chronicle.entries g.V.Chronicle.owner (Onward g.V.Chronicle.entries g.V.Chronicle.goes_on) _ _ _ _ _ _ c.watch.inside.seat.me.0 (ap (λ m. m.0) split.4) (inside ∙ ap is_none is),
     )
 
-pub take-value-requires-clause-placed : goal.take-value-requires-clause-placed
-take-value-requires-clause-placed g c =
+pub turn_of-turn-requires-clause-placed : goal.turn_of-turn-requires-clause-placed
+turn_of-turn-requires-clause-placed g c =
     let is = sym c.take.ensures.value ∙ c.unwrap-seat.ensures in
     let mine = at-rest c.pass.inside.seat c.pass.inside.lent.value c.unwrap-seat.result c.pass.inside.hall.value c.pass.inside.agent is c.pass.invariant in
-    let joined = c.join_seat.ensures in (
-      c.pass.inside.agent,
-      placed-as _ _ _ _ _ (ap (λ p. p.hall) c.pass.view_is ∙ c.requires.own.0) refl (placed-behind _ _ _ _ _ joined.0 joined.2 mine),
-    )
+    let joined = c.join_seat.ensures in
+    placed-as _ _ _ _ _ (ap (λ p. p.hall) c.pass.view_is ∙ c.requires.own.0) refl (placed-behind _ _ _ _ _ joined.0 joined.2 mine)
 
 pub returns-clause-grows : goal.returns-clause-grows
 returns-clause-grows g c =
     let is = sym c.take.ensures.value ∙ c.unwrap-seat.ensures in
-    let mine = at-rest c.pass.inside.seat c.pass.inside.lent.value c.unwrap-seat.result c.pass.inside.hall.value c.pass.inside.agent is c.pass.invariant in
-    let joined = c.join_seat.ensures in
-    let seen = placed-as _ _ _ _ _ (ap (λ p. p.hall) c.pass.view_is ∙ c.requires.own.0) refl (placed-behind _ _ _ _ _ joined.0 joined.2 mine) in
     grows-seen g.V.Chronicle.owner c.pass.inside.seat c.pass.inside.lent.value c.unwrap-seat.result c.pass.inside.hall.value c.pass.inside.agent c.args.pass.now _ is c.pass.view_is
-    (subst (λ (base : List g.row.V-Entry.Denot). GrowsByOthers g.V.Chronicle.owner c.pass.inside.agent base (g.V.Chronicle.entries c.take-value.result)) (ap (λ m. m.0.base) joined.2)
-    (c.take-value.ensures.grows _ seen))
+    (subst (λ (base : List g.row.V-Entry.Denot). GrowsByOthers g.V.Chronicle.owner c.pass.inside.agent base (g.V.Chronicle.entries c.turn_of-turn.result.value)) (ap (λ m. m.0.base) c.join_seat.ensures.2)
+    c.turn_of-turn.ensures.grows)
