@@ -33,10 +33,10 @@ use Rattle.opfs_hist.specs.declared.op.Op.TheVariants as op
 use Rattle.opfs_hist.specs.declared.reply.Reply.TheVariants as reply
 use Rattle.opfs_turns.specs.Agents.{is_wait}
 use Rattle.opfs_turns.specs.Entering.{HasEnteredPending}
-use Rattle.opfs_turns.specs.Waiting.{HasWaitRoom, IsTurned, await_reply, planned}
+use Rattle.opfs_turns.specs.Waiting.{HasWaitRoom, IsNotDue, IsTurned, IsWaiting, IsLooking, await_reply, planned}
 use Rattle.opfs_turns.specs.declared.waiting.Plan.{Plan}
 use Rattle.opfs_turns.specs.declared.waiting.Plan.TheVariants as plan
-use Rattle.opfs_turns.proofs.Awaiting.{IsAsk, answered-facts, begun-facts, looks-by, await-ask, wait-ask}
+use Rattle.opfs_turns.proofs.Awaiting.{IsAsk, answered-facts, begun-facts, begins-by, looks-by, await-ask, wait-ask}
 use Rattle.opfs_turns.proofs.Beside.{pending-awaited, pending-agents}
 use Rattle.opfs_turns.proofs.Counts.{one_if}
 use Rattle.opfs_turns.proofs.Standing.{act-pending, after-more}
@@ -73,11 +73,8 @@ module _ {O : Type 0} (tells : Type 0) (opened : O → Opening) (pass : PassSeen
       same : record agent { pass = record pass { base = pass.base ++ more } } ≡ seen opened after (record notes { pending = pending })
       same = λ i. seen opened (((λ j. record pass { base = sym (new_is ∙ grows.1) j }) ∙ sym (rested new after after_is)) i) (record notes { pending = sym pending_is i })
 
-      pub unacted-agent : IsAgent tells (seen opened after (record notes { pending = pending }))
-      unacted-agent = subst (IsAgent tells) same (looked-agent tells agent kept more apart told-here)
-
-      pub unacted-looked : HasLooked agent (seen opened after (record notes { pending = pending }))
-      unacted-looked = subst (HasLooked agent) same (looked tells agent kept more apart told-here)
+      pub unacted : IsAgent tells (seen opened after (record notes { pending = pending })) × HasLooked agent (seen opened after (record notes { pending = pending }))
+      unacted = (subst (IsAgent tells) same (looked-agent tells agent kept more apart told-here), subst (HasLooked agent) same (looked tells agent kept more apart told-here))
 
     -- Its own calls may be taken in without a call.
     pub takes-in : HasRoom agent → MayTakePending tells o list notes.pending pass.agent
@@ -153,11 +150,30 @@ module _ {O : Type 0} (tells : Type 0) (opened : O → Opening) (pass : PassSeen
       pub wait-asks : IsAsk there pass.agent (op.Wait tag) reply.Done (Some tag)
       wait-asks = wait-ask there pass.agent tag
 
-      pub wait-first : planned stands begun_now ≡ plan.Begin → waits_for notes.waiting tag ≡ false
-      wait-first is = sym begun_is ∙ (begun-facts there pass.agent tag begun_now begun-there (plan-there plan.Begin is)).1
+      -- It begins to wait for a tag that is not due.
+      pub begins-waiting : (b : AgentSeen O) → planned stands begun_now ≡ plan.Begin → (t : IsTurned tells agent b (op.Wait tag) reply.Done) × (t.others ≡ more)
+          → b ≡ record agent { pass = record pass { base = b.pass.base }; pending = []; entries = notes.entries + 1; waiting = Some tag } → IsWaiting tells agent b tag
+      begins-waiting b is turned rest = record {
+        turned = turned.0;
+        first = sym begun_is ∙ (begun-facts there pass.agent tag begun_now begun-there (plan-there plan.Begin is)).1;
+        not_due =
+            subst (λ es. IsNotDue agent (pass.base ++ es) tag) (sym turned.1)
+            ((λ i. awaited (state_after (sym begun i) (sym grows.1 i)) pass.agent tag) ∙ sym stands_is ∙ begins-by stands begun_now is);
+        rest = rest;
+      }
 
-      pub look-waits : planned stands begun_now ≡ plan.Look → waits_for notes.waiting tag ≡ true
-      look-waits is = sym begun_is ∙ looks-by stands begun_now is
+      -- It goes on waiting for one.
+      pub goes-on-waiting : (after : PassSeen O Entry) → after ≡ record pass { base = list; busy = false } → planned stands begun_now ≡ plan.Look → HasLooked agent (seen opened after notes)
+          → IsLooking agent (seen opened after notes) tag
+      goes-on-waiting after after_is is looked = record {
+        looked = looked;
+        begun = sym begun_is ∙ (looks-by stands begun_now is).0;
+        not_due =
+            (λ i. awaited (state_after (opened (after_is i).hall.opening) (after_is i).base) (after_is i).agent tag)
+            ∙ (λ i. awaited (state_after (sym begun i) list) pass.agent tag)
+            ∙ sym stands_is
+            ∙ (looks-by stands begun_now is).1;
+      }
 
     -- The call was entered.
     module _ (called : Op) (answered : Reply) (new : List Entry) (acted : IsActed tells o list notes.pending (call called) answered new) where
@@ -208,11 +224,14 @@ module _ {O : Type 0} (tells : Type 0) (opened : O → Opening) (pass : PassSeen
               ask.stays next
               (asked-waits tells agent kept more apart told-here called answered acted.gone call-here right waiting ask))
 
-          pub ask-turned : IsTurned tells agent asked_then called right
+          abbrev Turned : AgentSeen O → Reply → Type 0
+          Turned b r = (t : IsTurned tells agent b called r) × (t.others ≡ more)
+
+          pub ask-turned : Turned asked_then right
           ask-turned =
-              subst (IsTurned tells agent asked_then called) (asked-reply tells agent kept more apart told-here called answered acted.gone call-here right waiting ask)
-              (subst (λ b. IsTurned tells agent b called answered) asked-same
-              (asked tells agent kept more apart told-here called answered acted.gone call-here number rows waiting))
+              subst (Turned asked_then) (asked-reply tells agent kept more apart told-here called answered acted.gone call-here right waiting ask)
+              (subst (λ b. Turned b answered) asked-same
+              (asked tells agent kept more apart told-here called answered acted.gone call-here number rows waiting, refl))
 
           pub ask-rest : rows ≡ length (agent_of (state_after o new) pass.agent).own
               → asked_then ≡ record agent { pass = record pass { base = asked_then.pass.base }; pending = []; number = number; entries = notes.entries + 1; waiting = waiting }

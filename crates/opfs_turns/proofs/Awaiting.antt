@@ -69,10 +69,15 @@ begun-by false true b h = absurd cc
 begun-by false false true h = absurd cc
 begun-by false false false h = (refl, (refl, refl))
 
-pub looks-by : (w : AwaitState) (b : Bool) → planned w b ≡ plan.Look → b ≡ true
-looks-by w true h = refl
-looks-by await.Posted false h = absurd cc
-looks-by await.Stuck false h = absurd cc
+pub begins-by : (w : AwaitState) (b : Bool) → planned w b ≡ plan.Begin → w ≡ await.Neither
+begins-by await.Posted b h = absurd cc
+begins-by await.Stuck b h = absurd cc
+begins-by await.Neither b h = refl
+
+pub looks-by : (w : AwaitState) (b : Bool) → planned w b ≡ plan.Look → (b ≡ true) × (w ≡ await.Neither)
+looks-by await.Posted b h = absurd cc
+looks-by await.Stuck b h = absurd cc
+looks-by await.Neither true h = (refl, refl)
 looks-by await.Neither false h = absurd cc
 
 module _ (s : State Text Own) (k : ℕ) (tag : Text) where

@@ -370,7 +370,7 @@ module _ {O : Type 0} (tells : Type 0) (a : AgentSeen O) (kept : IsAgent tells a
           waits = ap (λ t. (agent_of t a.pass.agent).waits) same ∙ waits;
         }
 
-    pub asked : (number rows : ℕ) (waiting : Option Text) → IsTurned tells a (asked_at number rows waiting) called answered
+    abbrev pub asked : (number rows : ℕ) (waiting : Option Text) → IsTurned tells a (asked_at number rows waiting) called answered
     asked number rows waiting = record { others = more; gone = gone; apart = apart; legal = told; grown = refl; call = call; own = own-same }
 
     real-reply : (right : Reply) (waiting : Option Text) → IsAsk s a.pass.agent called right waiting → call.real.reply ≡ right

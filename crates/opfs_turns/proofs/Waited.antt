@@ -9,7 +9,7 @@ use Rattle.opfs_machine.specs.Agents.{waits_for}
 use Rattle.opfs_laws.specs.Leaving.{seen_by}
 use Rattle.opfs_turns.specs.Agents.{AgentSeen, state_of}
 use Rattle.opfs_turns.specs.Calls.{HasRoom, HasLooked}
-use Rattle.opfs_turns.specs.Waiting.{HasWaitRoom, HasBegun, HasWaited, HasAwaited, IsWaiting, IsAwaited}
+use Rattle.opfs_turns.specs.Waiting.{HasWaitRoom, HasBegun, HasWaited, HasAwaited, IsLooking, IsWaiting, IsAwaited}
 
 module _ {O : Type 0} where
   pub looked-self : (a : AgentSeen O) → HasLooked a a
@@ -37,8 +37,8 @@ module _ {O : Type 0} where
     waited-looked a b c (inl looked) then_on = inl (looked-on a b c looked then_on)
     waited-looked a b c (inr h) then_on = inr (record { first = h.first; then_on = h.then_on; looked = h.looked; wait = h.wait; since = looked-on h.then_on b c h.since then_on })
 
-    pub waited-step : (a b c : AgentSeen O) → HasWaited tells a b tag → ((HasLooked b c × (waits_for c.waiting tag ≡ true)) ⊎ IsWaiting tells b c tag) → HasWaited tells a c tag
-    waited-step a b c h (inl looked) = waited-looked a b c h looked.0
+    pub waited-step : (a b c : AgentSeen O) → HasWaited tells a b tag → (IsLooking b c tag ⊎ IsWaiting tells b c tag) → HasWaited tells a c tag
+    waited-step a b c h (inl looked) = waited-looked a b c h looked.looked
     waited-step a b c (inl looked) (inr wait) = inr (record { first = b; then_on = c; looked = looked; wait = wait; since = looked-self c })
     waited-step a b c (inr h) (inr wait) = absurd (false≢true (sym wait.first ∙ begun-waits a b h))
 

@@ -14,7 +14,7 @@ use Rattle.opfs_laws.specs.Histories.Opened.{added}
 use Rattle.opfs_laws.specs.Histories.Unread.{IsTold}
 use Rattle.opfs_store.specs.declared.acts.acted.AwaitState.{AwaitState}
 use Rattle.opfs_store.specs.declared.acts.acted.AwaitState.TheVariants as state
-use Rattle.opfs_store.specs.Acts.Acting.{told_entry, IsCallFor}
+use Rattle.opfs_store.specs.Acts.Acting.{told_entry, IsCallFor, awaited}
 use Rattle.opfs_turns.specs.Agents.{AgentSeen, state_of}
 use Rattle.opfs_turns.specs.Calls.{call_of, before_call, HasLooked}
 use Rattle.opfs_turns.specs.declared.waiting.AwaitTurn.{AwaitTurn}
@@ -33,10 +33,15 @@ pub record IsTurned {O : Type 0} (tells : Type 0) (before after : AgentSeen O) (
   pub call : IsCallFor tells (state_after before.opening (before_call before others)) gone (told_entry (call_of before called) answered)
   pub own : seen_by (state_after before.opening (before_call before others)) before.pass.agent ≡ seen_by (state_of before) before.pass.agent
 
--- The agent begins to wait for a tag, for which it did not wait. Its next entry has the same number.
+-- After these entries a tag is not due for an agent: it was not posted, and somebody is left who could post it.
+abbrev pub IsNotDue : {O : Type 0} → AgentSeen O → List Entry → Text → Type 0
+IsNotDue a es tag = awaited (state_after a.opening es) a.pass.agent tag ≡ state.Neither
+
+-- The agent begins to wait for a tag, for which it did not wait, and which was not due. Its next entry has the same number.
 pub record IsWaiting {O : Type 0} (tells : Type 0) (before after : AgentSeen O) (tag : Text) : Type 0 where
   pub turned : IsTurned tells before after (Wait tag) reply.Done
   pub first : waits_for before.waiting tag ≡ false
+  pub not_due : IsNotDue before (before.pass.base ++ turned.others) tag
   pub rest : after ≡ record before { pass = record before.pass { base = after.pass.base }; pending = []; entries = before.entries + 1; waiting = Some tag }
 
 -- An await is answered: the agent waits no more.
@@ -78,8 +83,14 @@ planned state.Stuck begun = plan.Answer false
 planned state.Neither true = plan.Look
 planned state.Neither false = plan.Begin
 
+-- The agent goes on waiting for a tag: it looked, and the tag was not due.
+pub record IsLooking {O : Type 0} (before after : AgentSeen O) (tag : Text) : Type 0 where
+  pub looked : HasLooked before after
+  pub begun : waits_for after.waiting tag ≡ true
+  pub not_due : IsNotDue after after.pass.base tag
+
 -- What a turn of an await leaves.
 abbrev pub IsAwaitTurn : {O E : Type 0} → Type 0 → AgentSeen O → AgentSeen O → Text → Result AwaitTurn E → Type 0
 IsAwaitTurn tells before after tag (Ok (turn.Answered posted)) = IsAwaited tells before after tag (await_reply posted)
-IsAwaitTurn tells before after tag (Ok (turn.Waits heard)) = (HasLooked before after × (waits_for after.waiting tag ≡ true)) ⊎ IsWaiting tells before after tag
+IsAwaitTurn tells before after tag (Ok (turn.Waits heard)) = IsLooking before after tag ⊎ IsWaiting tells before after tag
 IsAwaitTurn tells before after tag (Err e) = HasLooked before after

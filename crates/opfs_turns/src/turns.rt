@@ -171,8 +171,9 @@ impl<S: Store> Turns<S> {
         await_turns(rt, self.alloc, court, &mut self.caller, tag)
     }
 
-    /// Makes one turn of an await, without sleep: it is answered, begins to wait, or goes on waiting. Its next await of the tag
-    /// goes on with that. Where there is no memory nothing is entered.
+    /// Makes one turn of an await, without sleep: it is answered, begins to wait, or goes on waiting. It waits only where, in
+    /// this turn, the tag was not posted and somebody was left who could post it. Its next await of the tag goes on with that.
+    /// Where there is no memory nothing is entered.
     pub fn await_once<R: Wait>(
         &mut self,
         rt: &R,

@@ -21,7 +21,8 @@ use std::sync::Wait;
 pub enum AwaitTurn {
     /// It was answered: true where the tag was posted, false where nobody is left who could post it.
     Answered(bool),
-    /// It is not answered yet, and the agent waits for the tag. The hall's bell told this in its turn.
+    /// It is not answered yet, and the agent waits for the tag: it was not posted, and somebody is left who could post it. The
+    /// hall's bell told this in its turn.
     Waits(u32),
 }
 

@@ -6,7 +6,7 @@ use Rattle.opfs_machine.specs.Histories.{state_after}
 use Rattle.opfs_laws.specs.Histories.Unread.{IsTold}
 use Rattle.opfs_store.specs.Acts.Acting.{IsActed, in_hand}
 use Rattle.opfs_store.specs.Acts.Asking.{MayAct}
-use Rattle.opfs_turns.proofs.Acted.{acts, unacted-agent, unacted-looked, acted-agent, acted-entered, adds}
+use Rattle.opfs_turns.proofs.Acted.{acts, unacted, acted-agent, acted-entered, adds}
 use Rattle.opfs_turns.specs.Agents.{seen}
 use Rattle.opfs_turns.proofs.Turning.{number-small}
 use Rattle.opfs_turns.proofs.turn.in_turn.Goals as goal
@@ -63,18 +63,18 @@ returns-in-Ok-clause-entered g c =
 
 pub returns-in-Err-clause-agent_err : goal.returns-in-Err-clause-agent_err
 returns-in-Err-clause-agent_err g c =
-    unacted-agent g.S.Store.tells g.S.Store.opened c.args.caller.now.pass c.args.caller.now.notes g.S.Chronicle.owner g.met.S.Store.owned c.requires.agent
+    (unacted g.S.Store.tells g.S.Store.opened c.args.caller.now.pass c.args.caller.now.notes g.S.Chronicle.owner g.met.S.Store.owned c.requires.agent
     (g.S.Store.opened (g.S.Chronicle.opening c.enter-turn.result.value)) (ap g.S.Store.opened (c.enter-turn.ensures.opening ∙ ap (λ h. h.opening) (sym c.requires.own)))
     (g.S.Chronicle.entries c.enter-turn.result.value) c.enter-turn.ensures.grows c.know_legal.ensures
     (g.S.Chronicle.entries c.act-acted.new.self) c.in-Err.ensures.unserved.entries
     c.leave.new.pass (c.leave.ensures ∙ ap (λ p. at_rest p (g.S.Chronicle.entries c.act-acted.new.self)) c.enter-turn.ensures.pass)
-    c.act-acted.new.pending c.in-Err.ensures.unserved.pending
+    c.act-acted.new.pending c.in-Err.ensures.unserved.pending).0
 
 pub returns-in-Err-clause-looked : goal.returns-in-Err-clause-looked
 returns-in-Err-clause-looked g c =
-    unacted-looked g.S.Store.tells g.S.Store.opened c.args.caller.now.pass c.args.caller.now.notes g.S.Chronicle.owner g.met.S.Store.owned c.requires.agent
+    (unacted g.S.Store.tells g.S.Store.opened c.args.caller.now.pass c.args.caller.now.notes g.S.Chronicle.owner g.met.S.Store.owned c.requires.agent
     (g.S.Store.opened (g.S.Chronicle.opening c.enter-turn.result.value)) (ap g.S.Store.opened (c.enter-turn.ensures.opening ∙ ap (λ h. h.opening) (sym c.requires.own)))
     (g.S.Chronicle.entries c.enter-turn.result.value) c.enter-turn.ensures.grows c.know_legal.ensures
     (g.S.Chronicle.entries c.act-acted.new.self) c.in-Err.ensures.unserved.entries
     c.leave.new.pass (c.leave.ensures ∙ ap (λ p. at_rest p (g.S.Chronicle.entries c.act-acted.new.self)) c.enter-turn.ensures.pass)
-    c.act-acted.new.pending c.in-Err.ensures.unserved.pending
+    c.act-acted.new.pending c.in-Err.ensures.unserved.pending).1

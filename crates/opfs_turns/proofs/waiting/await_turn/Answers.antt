@@ -12,7 +12,7 @@ use Rattle.opfs_store.specs.Acts.Acting.{IsActed, in_hand, awaited}
 use Rattle.opfs_store.specs.Acts.Asking.{MayAct, IsThere}
 use Rattle.opfs_turns.specs.Agents.{IsAgent, seen}
 use Rattle.opfs_turns.specs.Waiting.{IsWaiting, await_reply}
-use Rattle.opfs_turns.proofs.Acted.{agent-there, await-acts, wait-acts, await-asks, wait-asks, wait-first, look-waits, ask-agent, ask-turned, ask-rest, unacted-agent, unacted-looked, adds}
+use Rattle.opfs_turns.proofs.Acted.{agent-there, await-acts, wait-acts, await-asks, wait-asks, begins-waiting, goes-on-waiting, ask-agent, ask-turned, ask-rest, unacted, adds}
 use Rattle.opfs_turns.proofs.Turning.{number-small-waiting}
 use Rattle.opfs_turns.proofs.waiting.await_turn.Goals as goal
 
@@ -74,7 +74,7 @@ returns-in-Ok-clause-agent g c =
 pub returns-in-Ok-clause-turned : goal.returns-in-Ok-clause-turned
 returns-in-Ok-clause-turned g c = record {
   turned =
-      ask-turned g.S.Store.tells g.S.Store.opened c.args.caller.now.pass c.args.caller.now.notes g.S.Chronicle.owner g.met.S.Store.owned c.requires.agent
+      (ask-turned g.S.Store.tells g.S.Store.opened c.args.caller.now.pass c.args.caller.now.notes g.S.Chronicle.owner g.met.S.Store.owned c.requires.agent
       (g.S.Store.opened (g.S.Chronicle.opening c.enter-turn.result.value)) (ap g.S.Store.opened (c.enter-turn.ensures.opening ∙ ap (λ h. h.opening) (sym c.requires.own)))
       (g.S.Chronicle.entries c.enter-turn.result.value) c.enter-turn.ensures.grows c.know_legal.ensures
       (op.Await c.args.tag.now) c.in-Ok.acted.reply (g.S.Chronicle.entries c.act-acted.new.self)
@@ -88,7 +88,7 @@ returns-in-Ok-clause-turned g c = record {
       (g.S.Store.opened (g.S.Chronicle.opening c.enter-turn.result.value)) (ap g.S.Store.opened (c.enter-turn.ensures.opening ∙ ap (λ h. h.opening) (sym c.requires.own)))
       (g.S.Chronicle.entries c.enter-turn.result.value) c.enter-turn.ensures.grows c.know_legal.ensures
       c.args.tag.now c.await_state-stands.result (c.await_state-stands.ensures ∙ (λ i. awaited (state_after (g.S.Store.opened (g.S.Chronicle.opening c.enter-turn.result.value)) (g.S.Chronicle.entries c.enter-turn.result.value)) (c.agent-agent.ensures i) (c.as_str.ensures i))) c.waits_for-begun.result c.waits_for-begun.ensures
-      c.in-Answer.posted (sym c.plan_for.ensures ∙ c.in-Answer.is));
+      c.in-Answer.posted (sym c.plan_for.ensures ∙ c.in-Answer.is))).0;
   rest =
       ask-rest g.S.Store.tells g.S.Store.opened c.args.caller.now.pass c.args.caller.now.notes g.S.Chronicle.owner g.met.S.Store.owned c.requires.agent
       (g.S.Store.opened (g.S.Chronicle.opening c.enter-turn.result.value)) (ap g.S.Store.opened (c.enter-turn.ensures.opening ∙ ap (λ h. h.opening) (sym c.requires.own)))
@@ -109,20 +109,20 @@ returns-in-Ok-clause-turned g c = record {
 }
 
 pub returns-in-Answer-clause-agent : goal.returns-in-Answer-clause-agent
-returns-in-Answer-clause-agent g c = unacted-agent g.S.Store.tells g.S.Store.opened c.args.caller.now.pass c.args.caller.now.notes g.S.Chronicle.owner g.met.S.Store.owned c.requires.agent
+returns-in-Answer-clause-agent g c = (unacted g.S.Store.tells g.S.Store.opened c.args.caller.now.pass c.args.caller.now.notes g.S.Chronicle.owner g.met.S.Store.owned c.requires.agent
     (g.S.Store.opened (g.S.Chronicle.opening c.enter-turn.result.value)) (ap g.S.Store.opened (c.enter-turn.ensures.opening ∙ ap (λ h. h.opening) (sym c.requires.own)))
     (g.S.Chronicle.entries c.enter-turn.result.value) c.enter-turn.ensures.grows c.know_legal.ensures
     (g.S.Chronicle.entries c.act-acted.new.self) c.in-Err.ensures.unserved.entries
     c.leave.new.pass (c.leave.ensures ∙ ap (λ p. at_rest p (g.S.Chronicle.entries c.act-acted.new.self)) c.enter-turn.ensures.pass)
-    c.act-acted.new.pending c.in-Err.ensures.unserved.pending
+    c.act-acted.new.pending c.in-Err.ensures.unserved.pending).0
 
 pub returns-in-Answer-clause-turned : goal.returns-in-Answer-clause-turned
-returns-in-Answer-clause-turned g c = unacted-looked g.S.Store.tells g.S.Store.opened c.args.caller.now.pass c.args.caller.now.notes g.S.Chronicle.owner g.met.S.Store.owned c.requires.agent
+returns-in-Answer-clause-turned g c = (unacted g.S.Store.tells g.S.Store.opened c.args.caller.now.pass c.args.caller.now.notes g.S.Chronicle.owner g.met.S.Store.owned c.requires.agent
     (g.S.Store.opened (g.S.Chronicle.opening c.enter-turn.result.value)) (ap g.S.Store.opened (c.enter-turn.ensures.opening ∙ ap (λ h. h.opening) (sym c.requires.own)))
     (g.S.Chronicle.entries c.enter-turn.result.value) c.enter-turn.ensures.grows c.know_legal.ensures
     (g.S.Chronicle.entries c.act-acted.new.self) c.in-Err.ensures.unserved.entries
     c.leave.new.pass (c.leave.ensures ∙ ap (λ p. at_rest p (g.S.Chronicle.entries c.act-acted.new.self)) c.enter-turn.ensures.pass)
-    c.act-acted.new.pending c.in-Err.ensures.unserved.pending
+    c.act-acted.new.pending c.in-Err.ensures.unserved.pending).1
 
 pub act-acted-requires-in-Begin : goal.act-acted-requires-in-Begin
 act-acted-requires-in-Begin g c = record {
@@ -172,61 +172,57 @@ returns-in-Ok-acted-clause-agent g c =
 pub returns-in-Ok-acted-clause-turned : goal.returns-in-Ok-acted-clause-turned
 returns-in-Ok-acted-clause-turned g c =
     inr (subst (λ (n : Text). IsWaiting g.S.Store.tells (seen g.S.Store.opened c.args.caller.now.pass c.args.caller.now.notes) (seen g.S.Store.opened c.leave-in-Begin.new.pass (record c.args.caller.now.notes { pending = c.act-acted-in-Begin.new.pending; entries = c.args.caller.now.notes.entries + 1; rows = c.in-Ok-acted.acted.rows; waiting = Some n })) c.args.tag.now) (sym c.in_ok-room.ensures.1)
-    (record {
-      turned =
-          ask-turned g.S.Store.tells g.S.Store.opened c.args.caller.now.pass c.args.caller.now.notes g.S.Chronicle.owner g.met.S.Store.owned c.requires.agent
-          (g.S.Store.opened (g.S.Chronicle.opening c.enter-turn.result.value)) (ap g.S.Store.opened (c.enter-turn.ensures.opening ∙ ap (λ h. h.opening) (sym c.requires.own)))
-          (g.S.Chronicle.entries c.enter-turn.result.value) c.enter-turn.ensures.grows c.know_legal.ensures
-          (op.Wait c.args.tag.now) c.in-Ok-acted.acted.reply (g.S.Chronicle.entries c.act-acted-in-Begin.new.self)
-          (subst (λ (t : Text). IsActed g.S.Store.tells (g.S.Store.opened (g.S.Chronicle.opening c.enter-turn.result.value)) (g.S.Chronicle.entries c.enter-turn.result.value) c.args.caller.now.notes.pending (record { agent = c.args.caller.now.pass.agent; number = c.args.caller.now.notes.number; op = op.Wait t }) c.in-Ok-acted.acted.reply (g.S.Chronicle.entries c.act-acted-in-Begin.new.self)) c.in_ok-room.ensures.0
-          (subst (λ (k : ℕ). IsActed g.S.Store.tells (g.S.Store.opened (g.S.Chronicle.opening c.enter-turn.result.value)) (g.S.Chronicle.entries c.enter-turn.result.value) c.args.caller.now.notes.pending (record { agent = k; number = c.args.caller.now.notes.number; op = op.Wait c.in_ok-room.field-0.tag }) c.in-Ok-acted.acted.reply (g.S.Chronicle.entries c.act-acted-in-Begin.new.self)) c.agent-agent.ensures c.in-Ok-acted.ensures.served.acted))
-          (subst (λ o. IsTold g.S.Store.tells (g.S.Store.opened o) (g.S.Chronicle.entries c.act-acted-in-Begin.new.self)) c.act-acted-in-Begin.ensures.opening c.know_legal-in-Begin.ensures)
-          c.leave-in-Begin.new.pass (c.leave-in-Begin.ensures ∙ ap (λ p. at_rest p (g.S.Chronicle.entries c.act-acted-in-Begin.new.self)) c.enter-turn.ensures.pass)
-          c.act-acted-in-Begin.new.pending c.in-Ok-acted.ensures.served.taken c.in-Ok-acted.acted.rows
-          reply.Done (Some c.args.tag.now) c.args.caller.now.notes.number
-          (wait-asks g.S.Store.tells g.S.Store.opened c.args.caller.now.pass c.args.caller.now.notes g.S.Chronicle.owner g.met.S.Store.owned c.requires.agent
-          (g.S.Store.opened (g.S.Chronicle.opening c.enter-turn.result.value)) (ap g.S.Store.opened (c.enter-turn.ensures.opening ∙ ap (λ h. h.opening) (sym c.requires.own)))
-          (g.S.Chronicle.entries c.enter-turn.result.value) c.enter-turn.ensures.grows c.know_legal.ensures
-          c.args.tag.now c.await_state-stands.result (c.await_state-stands.ensures ∙ (λ i. awaited (state_after (g.S.Store.opened (g.S.Chronicle.opening c.enter-turn.result.value)) (g.S.Chronicle.entries c.enter-turn.result.value)) (c.agent-agent.ensures i) (c.as_str.ensures i))) c.waits_for-begun.result c.waits_for-begun.ensures);
-      first =
-          wait-first g.S.Store.tells g.S.Store.opened c.args.caller.now.pass c.args.caller.now.notes g.S.Chronicle.owner g.met.S.Store.owned c.requires.agent
-          (g.S.Store.opened (g.S.Chronicle.opening c.enter-turn.result.value)) (ap g.S.Store.opened (c.enter-turn.ensures.opening ∙ ap (λ h. h.opening) (sym c.requires.own)))
-          (g.S.Chronicle.entries c.enter-turn.result.value) c.enter-turn.ensures.grows c.know_legal.ensures
-          c.args.tag.now c.await_state-stands.result (c.await_state-stands.ensures ∙ (λ i. awaited (state_after (g.S.Store.opened (g.S.Chronicle.opening c.enter-turn.result.value)) (g.S.Chronicle.entries c.enter-turn.result.value)) (c.agent-agent.ensures i) (c.as_str.ensures i))) c.waits_for-begun.result c.waits_for-begun.ensures
-          (sym c.plan_for.ensures ∙ c.in-Begin.is);
-      rest =
-          ask-rest g.S.Store.tells g.S.Store.opened c.args.caller.now.pass c.args.caller.now.notes g.S.Chronicle.owner g.met.S.Store.owned c.requires.agent
-          (g.S.Store.opened (g.S.Chronicle.opening c.enter-turn.result.value)) (ap g.S.Store.opened (c.enter-turn.ensures.opening ∙ ap (λ h. h.opening) (sym c.requires.own)))
-          (g.S.Chronicle.entries c.enter-turn.result.value) c.enter-turn.ensures.grows c.know_legal.ensures
-          (op.Wait c.args.tag.now) c.in-Ok-acted.acted.reply (g.S.Chronicle.entries c.act-acted-in-Begin.new.self)
-          (subst (λ (t : Text). IsActed g.S.Store.tells (g.S.Store.opened (g.S.Chronicle.opening c.enter-turn.result.value)) (g.S.Chronicle.entries c.enter-turn.result.value) c.args.caller.now.notes.pending (record { agent = c.args.caller.now.pass.agent; number = c.args.caller.now.notes.number; op = op.Wait t }) c.in-Ok-acted.acted.reply (g.S.Chronicle.entries c.act-acted-in-Begin.new.self)) c.in_ok-room.ensures.0
-          (subst (λ (k : ℕ). IsActed g.S.Store.tells (g.S.Store.opened (g.S.Chronicle.opening c.enter-turn.result.value)) (g.S.Chronicle.entries c.enter-turn.result.value) c.args.caller.now.notes.pending (record { agent = k; number = c.args.caller.now.notes.number; op = op.Wait c.in_ok-room.field-0.tag }) c.in-Ok-acted.acted.reply (g.S.Chronicle.entries c.act-acted-in-Begin.new.self)) c.agent-agent.ensures c.in-Ok-acted.ensures.served.acted))
-          (subst (λ o. IsTold g.S.Store.tells (g.S.Store.opened o) (g.S.Chronicle.entries c.act-acted-in-Begin.new.self)) c.act-acted-in-Begin.ensures.opening c.know_legal-in-Begin.ensures)
-          c.leave-in-Begin.new.pass (c.leave-in-Begin.ensures ∙ ap (λ p. at_rest p (g.S.Chronicle.entries c.act-acted-in-Begin.new.self)) c.enter-turn.ensures.pass)
-          c.act-acted-in-Begin.new.pending c.in-Ok-acted.ensures.served.taken c.in-Ok-acted.acted.rows
-          reply.Done (Some c.args.tag.now) c.args.caller.now.notes.number
-          (wait-asks g.S.Store.tells g.S.Store.opened c.args.caller.now.pass c.args.caller.now.notes g.S.Chronicle.owner g.met.S.Store.owned c.requires.agent
-          (g.S.Store.opened (g.S.Chronicle.opening c.enter-turn.result.value)) (ap g.S.Store.opened (c.enter-turn.ensures.opening ∙ ap (λ h. h.opening) (sym c.requires.own)))
-          (g.S.Chronicle.entries c.enter-turn.result.value) c.enter-turn.ensures.grows c.know_legal.ensures
-          c.args.tag.now c.await_state-stands.result (c.await_state-stands.ensures ∙ (λ i. awaited (state_after (g.S.Store.opened (g.S.Chronicle.opening c.enter-turn.result.value)) (g.S.Chronicle.entries c.enter-turn.result.value)) (c.agent-agent.ensures i) (c.as_str.ensures i))) c.waits_for-begun.result c.waits_for-begun.ensures)
-          (c.in-Ok-acted.ensures.served.rows ∙ ap (λ (k : ℕ). length (agent_of (state_after (g.S.Store.opened (g.S.Chronicle.opening c.enter-turn.result.value)) (g.S.Chronicle.entries c.act-acted-in-Begin.new.self)) k).own) c.agent-agent.ensures);
-    }))
+    (begins-waiting g.S.Store.tells g.S.Store.opened c.args.caller.now.pass c.args.caller.now.notes g.S.Chronicle.owner g.met.S.Store.owned c.requires.agent
+    (g.S.Store.opened (g.S.Chronicle.opening c.enter-turn.result.value)) (ap g.S.Store.opened (c.enter-turn.ensures.opening ∙ ap (λ h. h.opening) (sym c.requires.own)))
+    (g.S.Chronicle.entries c.enter-turn.result.value) c.enter-turn.ensures.grows c.know_legal.ensures
+    c.args.tag.now c.await_state-stands.result (c.await_state-stands.ensures ∙ (λ i. awaited (state_after (g.S.Store.opened (g.S.Chronicle.opening c.enter-turn.result.value)) (g.S.Chronicle.entries c.enter-turn.result.value)) (c.agent-agent.ensures i) (c.as_str.ensures i))) c.waits_for-begun.result c.waits_for-begun.ensures
+    (seen g.S.Store.opened c.leave-in-Begin.new.pass (record c.args.caller.now.notes { pending = c.act-acted-in-Begin.new.pending; entries = c.args.caller.now.notes.entries + 1; rows = c.in-Ok-acted.acted.rows; waiting = Some c.args.tag.now }))
+    (sym c.plan_for.ensures ∙ c.in-Begin.is)
+    (ask-turned g.S.Store.tells g.S.Store.opened c.args.caller.now.pass c.args.caller.now.notes g.S.Chronicle.owner g.met.S.Store.owned c.requires.agent
+    (g.S.Store.opened (g.S.Chronicle.opening c.enter-turn.result.value)) (ap g.S.Store.opened (c.enter-turn.ensures.opening ∙ ap (λ h. h.opening) (sym c.requires.own)))
+    (g.S.Chronicle.entries c.enter-turn.result.value) c.enter-turn.ensures.grows c.know_legal.ensures
+    (op.Wait c.args.tag.now) c.in-Ok-acted.acted.reply (g.S.Chronicle.entries c.act-acted-in-Begin.new.self)
+    (subst (λ (t : Text). IsActed g.S.Store.tells (g.S.Store.opened (g.S.Chronicle.opening c.enter-turn.result.value)) (g.S.Chronicle.entries c.enter-turn.result.value) c.args.caller.now.notes.pending (record { agent = c.args.caller.now.pass.agent; number = c.args.caller.now.notes.number; op = op.Wait t }) c.in-Ok-acted.acted.reply (g.S.Chronicle.entries c.act-acted-in-Begin.new.self)) c.in_ok-room.ensures.0
+    (subst (λ (k : ℕ). IsActed g.S.Store.tells (g.S.Store.opened (g.S.Chronicle.opening c.enter-turn.result.value)) (g.S.Chronicle.entries c.enter-turn.result.value) c.args.caller.now.notes.pending (record { agent = k; number = c.args.caller.now.notes.number; op = op.Wait c.in_ok-room.field-0.tag }) c.in-Ok-acted.acted.reply (g.S.Chronicle.entries c.act-acted-in-Begin.new.self)) c.agent-agent.ensures c.in-Ok-acted.ensures.served.acted))
+    (subst (λ o. IsTold g.S.Store.tells (g.S.Store.opened o) (g.S.Chronicle.entries c.act-acted-in-Begin.new.self)) c.act-acted-in-Begin.ensures.opening c.know_legal-in-Begin.ensures)
+    c.leave-in-Begin.new.pass (c.leave-in-Begin.ensures ∙ ap (λ p. at_rest p (g.S.Chronicle.entries c.act-acted-in-Begin.new.self)) c.enter-turn.ensures.pass)
+    c.act-acted-in-Begin.new.pending c.in-Ok-acted.ensures.served.taken c.in-Ok-acted.acted.rows
+    reply.Done (Some c.args.tag.now) c.args.caller.now.notes.number
+    (wait-asks g.S.Store.tells g.S.Store.opened c.args.caller.now.pass c.args.caller.now.notes g.S.Chronicle.owner g.met.S.Store.owned c.requires.agent
+    (g.S.Store.opened (g.S.Chronicle.opening c.enter-turn.result.value)) (ap g.S.Store.opened (c.enter-turn.ensures.opening ∙ ap (λ h. h.opening) (sym c.requires.own)))
+    (g.S.Chronicle.entries c.enter-turn.result.value) c.enter-turn.ensures.grows c.know_legal.ensures
+    c.args.tag.now c.await_state-stands.result (c.await_state-stands.ensures ∙ (λ i. awaited (state_after (g.S.Store.opened (g.S.Chronicle.opening c.enter-turn.result.value)) (g.S.Chronicle.entries c.enter-turn.result.value)) (c.agent-agent.ensures i) (c.as_str.ensures i))) c.waits_for-begun.result c.waits_for-begun.ensures))
+    (ask-rest g.S.Store.tells g.S.Store.opened c.args.caller.now.pass c.args.caller.now.notes g.S.Chronicle.owner g.met.S.Store.owned c.requires.agent
+    (g.S.Store.opened (g.S.Chronicle.opening c.enter-turn.result.value)) (ap g.S.Store.opened (c.enter-turn.ensures.opening ∙ ap (λ h. h.opening) (sym c.requires.own)))
+    (g.S.Chronicle.entries c.enter-turn.result.value) c.enter-turn.ensures.grows c.know_legal.ensures
+    (op.Wait c.args.tag.now) c.in-Ok-acted.acted.reply (g.S.Chronicle.entries c.act-acted-in-Begin.new.self)
+    (subst (λ (t : Text). IsActed g.S.Store.tells (g.S.Store.opened (g.S.Chronicle.opening c.enter-turn.result.value)) (g.S.Chronicle.entries c.enter-turn.result.value) c.args.caller.now.notes.pending (record { agent = c.args.caller.now.pass.agent; number = c.args.caller.now.notes.number; op = op.Wait t }) c.in-Ok-acted.acted.reply (g.S.Chronicle.entries c.act-acted-in-Begin.new.self)) c.in_ok-room.ensures.0
+    (subst (λ (k : ℕ). IsActed g.S.Store.tells (g.S.Store.opened (g.S.Chronicle.opening c.enter-turn.result.value)) (g.S.Chronicle.entries c.enter-turn.result.value) c.args.caller.now.notes.pending (record { agent = k; number = c.args.caller.now.notes.number; op = op.Wait c.in_ok-room.field-0.tag }) c.in-Ok-acted.acted.reply (g.S.Chronicle.entries c.act-acted-in-Begin.new.self)) c.agent-agent.ensures c.in-Ok-acted.ensures.served.acted))
+    (subst (λ o. IsTold g.S.Store.tells (g.S.Store.opened o) (g.S.Chronicle.entries c.act-acted-in-Begin.new.self)) c.act-acted-in-Begin.ensures.opening c.know_legal-in-Begin.ensures)
+    c.leave-in-Begin.new.pass (c.leave-in-Begin.ensures ∙ ap (λ p. at_rest p (g.S.Chronicle.entries c.act-acted-in-Begin.new.self)) c.enter-turn.ensures.pass)
+    c.act-acted-in-Begin.new.pending c.in-Ok-acted.ensures.served.taken c.in-Ok-acted.acted.rows
+    reply.Done (Some c.args.tag.now) c.args.caller.now.notes.number
+    (wait-asks g.S.Store.tells g.S.Store.opened c.args.caller.now.pass c.args.caller.now.notes g.S.Chronicle.owner g.met.S.Store.owned c.requires.agent
+    (g.S.Store.opened (g.S.Chronicle.opening c.enter-turn.result.value)) (ap g.S.Store.opened (c.enter-turn.ensures.opening ∙ ap (λ h. h.opening) (sym c.requires.own)))
+    (g.S.Chronicle.entries c.enter-turn.result.value) c.enter-turn.ensures.grows c.know_legal.ensures
+    c.args.tag.now c.await_state-stands.result (c.await_state-stands.ensures ∙ (λ i. awaited (state_after (g.S.Store.opened (g.S.Chronicle.opening c.enter-turn.result.value)) (g.S.Chronicle.entries c.enter-turn.result.value)) (c.agent-agent.ensures i) (c.as_str.ensures i))) c.waits_for-begun.result c.waits_for-begun.ensures)
+    (c.in-Ok-acted.ensures.served.rows ∙ ap (λ (k : ℕ). length (agent_of (state_after (g.S.Store.opened (g.S.Chronicle.opening c.enter-turn.result.value)) (g.S.Chronicle.entries c.act-acted-in-Begin.new.self)) k).own) c.agent-agent.ensures))))
 
 pub returns-in-Begin-clause-agent : goal.returns-in-Begin-clause-agent
-returns-in-Begin-clause-agent g c = unacted-agent g.S.Store.tells g.S.Store.opened c.args.caller.now.pass c.args.caller.now.notes g.S.Chronicle.owner g.met.S.Store.owned c.requires.agent
+returns-in-Begin-clause-agent g c = (unacted g.S.Store.tells g.S.Store.opened c.args.caller.now.pass c.args.caller.now.notes g.S.Chronicle.owner g.met.S.Store.owned c.requires.agent
     (g.S.Store.opened (g.S.Chronicle.opening c.enter-turn.result.value)) (ap g.S.Store.opened (c.enter-turn.ensures.opening ∙ ap (λ h. h.opening) (sym c.requires.own)))
     (g.S.Chronicle.entries c.enter-turn.result.value) c.enter-turn.ensures.grows c.know_legal.ensures
     (g.S.Chronicle.entries c.act-acted-in-Begin.new.self) c.in-Err-acted.ensures.unserved.entries
     c.leave-in-Begin.new.pass (c.leave-in-Begin.ensures ∙ ap (λ p. at_rest p (g.S.Chronicle.entries c.act-acted-in-Begin.new.self)) c.enter-turn.ensures.pass)
-    c.act-acted-in-Begin.new.pending c.in-Err-acted.ensures.unserved.pending
+    c.act-acted-in-Begin.new.pending c.in-Err-acted.ensures.unserved.pending).0
 
 pub returns-in-Begin-clause-turned : goal.returns-in-Begin-clause-turned
-returns-in-Begin-clause-turned g c = unacted-looked g.S.Store.tells g.S.Store.opened c.args.caller.now.pass c.args.caller.now.notes g.S.Chronicle.owner g.met.S.Store.owned c.requires.agent
+returns-in-Begin-clause-turned g c = (unacted g.S.Store.tells g.S.Store.opened c.args.caller.now.pass c.args.caller.now.notes g.S.Chronicle.owner g.met.S.Store.owned c.requires.agent
     (g.S.Store.opened (g.S.Chronicle.opening c.enter-turn.result.value)) (ap g.S.Store.opened (c.enter-turn.ensures.opening ∙ ap (λ h. h.opening) (sym c.requires.own)))
     (g.S.Chronicle.entries c.enter-turn.result.value) c.enter-turn.ensures.grows c.know_legal.ensures
     (g.S.Chronicle.entries c.act-acted-in-Begin.new.self) c.in-Err-acted.ensures.unserved.entries
     c.leave-in-Begin.new.pass (c.leave-in-Begin.ensures ∙ ap (λ p. at_rest p (g.S.Chronicle.entries c.act-acted-in-Begin.new.self)) c.enter-turn.ensures.pass)
-    c.act-acted-in-Begin.new.pending c.in-Err-acted.ensures.unserved.pending
+    c.act-acted-in-Begin.new.pending c.in-Err-acted.ensures.unserved.pending).1
 
 pub leave-requires-in-Look-clause-adds : goal.leave-requires-in-Look-clause-adds
 leave-requires-in-Look-clause-adds g c = (
@@ -236,25 +232,24 @@ leave-requires-in-Look-clause-adds g c = (
 )
 
 pub returns-clause-agent : goal.returns-clause-agent
-returns-clause-agent g c = unacted-agent g.S.Store.tells g.S.Store.opened c.args.caller.now.pass c.args.caller.now.notes g.S.Chronicle.owner g.met.S.Store.owned c.requires.agent
+returns-clause-agent g c = (unacted g.S.Store.tells g.S.Store.opened c.args.caller.now.pass c.args.caller.now.notes g.S.Chronicle.owner g.met.S.Store.owned c.requires.agent
     (g.S.Store.opened (g.S.Chronicle.opening c.enter-turn.result.value)) (ap g.S.Store.opened (c.enter-turn.ensures.opening ∙ ap (λ h. h.opening) (sym c.requires.own)))
     (g.S.Chronicle.entries c.enter-turn.result.value) c.enter-turn.ensures.grows c.know_legal.ensures
     (g.S.Chronicle.entries c.enter-turn.result.value) refl
     c.leave-in-Look.new.pass (c.leave-in-Look.ensures ∙ ap (λ p. at_rest p (g.S.Chronicle.entries c.enter-turn.result.value)) c.enter-turn.ensures.pass)
-    c.args.caller.now.notes.pending refl
+    c.args.caller.now.notes.pending refl).0
 
 pub returns-clause-turned : goal.returns-clause-turned
 returns-clause-turned g c =
-    inl (
-      unacted-looked g.S.Store.tells g.S.Store.opened c.args.caller.now.pass c.args.caller.now.notes g.S.Chronicle.owner g.met.S.Store.owned c.requires.agent
-          (g.S.Store.opened (g.S.Chronicle.opening c.enter-turn.result.value)) (ap g.S.Store.opened (c.enter-turn.ensures.opening ∙ ap (λ h. h.opening) (sym c.requires.own)))
-          (g.S.Chronicle.entries c.enter-turn.result.value) c.enter-turn.ensures.grows c.know_legal.ensures
-          (g.S.Chronicle.entries c.enter-turn.result.value) refl
-          c.leave-in-Look.new.pass (c.leave-in-Look.ensures ∙ ap (λ p. at_rest p (g.S.Chronicle.entries c.enter-turn.result.value)) c.enter-turn.ensures.pass)
-          c.args.caller.now.notes.pending refl,
-      look-waits g.S.Store.tells g.S.Store.opened c.args.caller.now.pass c.args.caller.now.notes g.S.Chronicle.owner g.met.S.Store.owned c.requires.agent
-          (g.S.Store.opened (g.S.Chronicle.opening c.enter-turn.result.value)) (ap g.S.Store.opened (c.enter-turn.ensures.opening ∙ ap (λ h. h.opening) (sym c.requires.own)))
-          (g.S.Chronicle.entries c.enter-turn.result.value) c.enter-turn.ensures.grows c.know_legal.ensures
-          c.args.tag.now c.await_state-stands.result (c.await_state-stands.ensures ∙ (λ i. awaited (state_after (g.S.Store.opened (g.S.Chronicle.opening c.enter-turn.result.value)) (g.S.Chronicle.entries c.enter-turn.result.value)) (c.agent-agent.ensures i) (c.as_str.ensures i))) c.waits_for-begun.result c.waits_for-begun.ensures
-          (sym c.plan_for.ensures ∙ c.in-Look.is),
-    )
+    inl (goes-on-waiting g.S.Store.tells g.S.Store.opened c.args.caller.now.pass c.args.caller.now.notes g.S.Chronicle.owner g.met.S.Store.owned c.requires.agent
+    (g.S.Store.opened (g.S.Chronicle.opening c.enter-turn.result.value)) (ap g.S.Store.opened (c.enter-turn.ensures.opening ∙ ap (λ h. h.opening) (sym c.requires.own)))
+    (g.S.Chronicle.entries c.enter-turn.result.value) c.enter-turn.ensures.grows c.know_legal.ensures
+    c.args.tag.now c.await_state-stands.result (c.await_state-stands.ensures ∙ (λ i. awaited (state_after (g.S.Store.opened (g.S.Chronicle.opening c.enter-turn.result.value)) (g.S.Chronicle.entries c.enter-turn.result.value)) (c.agent-agent.ensures i) (c.as_str.ensures i))) c.waits_for-begun.result c.waits_for-begun.ensures
+    c.leave-in-Look.new.pass (c.leave-in-Look.ensures ∙ ap (λ p. at_rest p (g.S.Chronicle.entries c.enter-turn.result.value)) c.enter-turn.ensures.pass)
+    (sym c.plan_for.ensures ∙ c.in-Look.is)
+    ((unacted g.S.Store.tells g.S.Store.opened c.args.caller.now.pass c.args.caller.now.notes g.S.Chronicle.owner g.met.S.Store.owned c.requires.agent
+    (g.S.Store.opened (g.S.Chronicle.opening c.enter-turn.result.value)) (ap g.S.Store.opened (c.enter-turn.ensures.opening ∙ ap (λ h. h.opening) (sym c.requires.own)))
+    (g.S.Chronicle.entries c.enter-turn.result.value) c.enter-turn.ensures.grows c.know_legal.ensures
+    (g.S.Chronicle.entries c.enter-turn.result.value) refl
+    c.leave-in-Look.new.pass (c.leave-in-Look.ensures ∙ ap (λ p. at_rest p (g.S.Chronicle.entries c.enter-turn.result.value)) c.enter-turn.ensures.pass)
+    c.args.caller.now.notes.pending refl).1))
