@@ -1,6 +1,6 @@
 -- What is left of a directory's children above one of its names.
-use Rattle.std.proofs.Common.{◌≡◌, ◌&&◌, ◌++◌, Bool, true, false, cond, List, [], ◌∷◌, Option, Some, None, option_map, refl, sym, ap, ◌∙◌}
-use Rattle.std.specs.List.{AllByRecursion, cons_option, find}
+use Rattle.std.proofs.Common.{◌≡◌, ◌&&◌, ◌++◌, true, false, cond, List, [], ◌∷◌, Option, Some, None, option_map, refl, sym, ap, ◌∙◌}
+use Rattle.std.specs.List.{cons_option}
 use Rattle.std.specs.List.Sorted.{IsStrictlySortedBy}
 use Rattle.std.specs.Map.{keys_of}
 use Rattle.std.specs.Ordering.{is_eq, is_le, is_lt, ordering_then}

@@ -7,6 +7,7 @@ pub mod Orders
 pub mod Places
 pub mod Ranges
 pub mod Removals
+pub mod Sets
 pub mod Steps
 pub mod UnitSums
 pub mod Whole

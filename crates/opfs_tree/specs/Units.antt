@@ -1,6 +1,8 @@
 -- The rows of one unit, by their paths, and the rows of all units.
 use Rattle.std.specs.Prelude.{◌≡◌, ℕ, ◌+◌, ◌&&◌, Bool, true, false, not, List, [], ◌∷◌, ◌++◌, map, filter, Option, Some, None, option_map, is_some}
+use Rattle.std.specs.List as list
 use Rattle.std.specs.List.{list_any, filter_map}
+use Rattle.std.specs.BTreeSet.{BTreeSet, contains}
 use Rattle.std.specs.List.Sorted.{IsStrictlySortedBy}
 use Rattle.std.specs.Map.{keys_of}
 use Rattle.std.specs.FinMap.Entries.{find}
@@ -78,6 +80,14 @@ name_below dir path = only_name (rest_below dir path)
 
 abbrev pub children_in : List Text → UnitRows → List (Text × Kind)
 children_in dir es = filter_map (λ e. option_map (λ name. (name, kind_of e.1)) (name_below dir e.0)) es
+
+-- A set has the names of a list.
+abbrev pub IsSetOf : List Text → BTreeSet Text → Type 0
+IsSetOf names set = (x : Text) → contains text_cmp set x ≡ list_any (same_text x) names
+
+-- The first of these children whose name a set has not.
+abbrev pub find_outside : BTreeSet Text → List (Text × Kind) → Option (Text × Kind)
+find_outside set children = list.find (λ c. not (contains text_cmp set c.0)) children
 
 abbrev pub has_children_in : List Text → UnitRows → Bool
 has_children_in dir es = list_any (λ e. is_some (name_below dir e.0)) es

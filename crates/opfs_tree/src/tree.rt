@@ -167,7 +167,7 @@ impl Tree {
     ) -> Result<Option<(Name, Kind)>, AllocError>
         ensures { IfOk result (λ child. child ≡ least_not_in past.now (children_of (key.now, path.now) self.now)) }
     {
-        let Some((name, kind)) = self.least_child(key, path, past) else {
+        let Some((name, kind)) = self.least_child(alloc, key, path, past)? else {
             return Ok(None);
         };
         let name = name.copy(alloc)?;
@@ -175,10 +175,20 @@ impl Tree {
     }
 
     // The same child, not copied.
-    fn least_child(&self, key: &Key, path: &Path, past: &[Name]) -> Option<(&Name, Kind)>
-        ensures { option_map (λ c. (c.0.now, c.1)) result ≡ least_not_in past.now (children_of (key.now, path.now) self.now) }
+    fn least_child(
+        &self,
+        alloc: Global,
+        key: &Key,
+        path: &Path,
+        past: &[Name],
+    ) -> Result<Option<(&Name, Kind)>, AllocError>
+        ensures { IfOk result (λ child. option_map (λ c. (c.0.now, c.1)) child ≡ least_not_in past.now (children_of (key.now, path.now) self.now)) }
     {
-        self.unit(key)?.least_child(path, past)
+        let Some(unit) = self.unit(key) else {
+            return Ok(None);
+        };
+        let child = unit.least_child(alloc, path, past)?;
+        Ok(child)
     }
 
     /// The least child of a directory whose name is above another; None where there is none.

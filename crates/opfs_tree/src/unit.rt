@@ -1,6 +1,6 @@
 //! The rows of one unit.
 
-ghost use Rattle.std.specs.Prelude.{◌≡◌, ◌<◌, ◌^◌, ◌≤◌, ◌++◌, ◌==◌, Some, None, [], ◌∷◌, length, sum_by, is_some, option_map, IsSome, IfSome, OnOk, OnErr, IfNone, vec_capacity};
+ghost use Rattle.std.specs.Prelude.{◌≡◌, ◌<◌, ◌^◌, ◌≤◌, ◌++◌, ◌==◌, Some, None, [], ◌∷◌, length, sum_by, is_some, option_map, IsSome, IfSome, OnOk, OnErr, IfNone, IfOk, vec_capacity};
 ghost use Rattle.std.specs.List.{flat_map, slice_get};
 ghost use Rattle.std.specs.Option.{option_copied, option_to_list};
 ghost use Rattle.std.specs.FinMap.Entries.{find, put};
@@ -10,9 +10,9 @@ ghost use Rattle.opfs_locks.specs.Taking.{taken};
 ghost use Rattle.opfs_locks.specs.Holding.{IsTakenAs};
 ghost use Rattle.opfs_tree.specs.Rows.{kind_of, file_of, extents_of, first_taken, least_above, least_not_in, stored, written, locked, unlocked, present_blocks, durable_blocks};
 ghost use Rattle.opfs_tree.specs.Sums.{charge_in};
-ghost use Rattle.opfs_tree.specs.Units.{path_cmp, below, beside, from, front, values, children_in, has_children_in, above, change_in, first_key, taken_in, holds_at};
+ghost use Rattle.opfs_tree.specs.Units.{path_cmp, below, beside, from, front, values, children_in, has_children_in, above, change_in, first_key, taken_in, holds_at, find_outside};
 
-use crate::given::{first_not_below, is_given};
+use crate::given::{is_given, names_of};
 use crate::paths::{is_within, name_below};
 use crate::row::Row;
 use crate::sums::{Sums, row_charge};
@@ -205,19 +205,52 @@ impl Unit {
         }
     }
 
-    /// The first child of a path whose name is not among those given, in whatever order they are. Where they are in
-    /// order it reads them twice, and otherwise once more for each child that it passes.
-    pub(crate) fn least_child(&self, dir: &Path, past: &[Name]) -> Option<(&Name, Kind)>
-        ensures { option_map (λ c. (c.0.now, c.1)) result ≡ least_not_in past.now (children_in dir.now (below dir.now self.now)) }
+    /// The first child of a path whose name is not among those given, in whatever order they are. It makes a set of
+    /// those given where the first child is one of them.
+    pub(crate) fn least_child(
+        &self,
+        alloc: Global,
+        dir: &Path,
+        past: &[Name],
+    ) -> Result<Option<(&Name, Kind)>, AllocError>
+        ensures { IfOk result (λ child. option_map (λ c. (c.0.now, c.1)) child ≡ least_not_in past.now (children_in dir.now (below dir.now self.now))) }
     {
-        let mut skipped = 0;
+        if let Some(child) = self.first_child(dir, past) {
+            return Ok(Some(child));
+        }
+        let given = names_of(alloc, past)?;
+        let child = self.child_outside(dir, &given);
+        Ok(child)
+    }
+
+    // The first child of a path, where its name is not among those given.
+    fn first_child(&self, dir: &Path, past: &[Name]) -> Option<(&Name, Kind)>
+        ensures { IfSome result (λ c. Some (c.0.now, c.1) ≡ least_not_in past.now (children_in dir.now (below dir.now self.now))) }
+    {
         for (path, row) in self.from(dir) {
             if !is_within(dir, path) {
                 break;
             }
             if let Some(name) = name_below(dir, path) {
-                skipped = first_not_below(past, skipped, name);
-                if !is_given(past, skipped, name) {
+                if is_given(past, name) {
+                    break;
+                }
+                return Some((name, row.kind()));
+            }
+        }
+        None
+    }
+
+    // The first child of a path whose name a set has not.
+    fn child_outside(&self, dir: &Path, given: &BTreeSet<Name>) -> Option<(&Name, Kind)>
+        ensures { option_map (λ c. (c.0.now, c.1)) result ≡ find_outside given.now (children_in dir.now (below dir.now self.now)) }
+    {
+        for (path, row) in self.from(dir) {
+            if !is_within(dir, path) {
+                break;
+            }
+            if let Some(name) = name_below(dir, path) {
+                if !given.contains(name) {
                     return Some((name, row.kind()));
                 }
             }

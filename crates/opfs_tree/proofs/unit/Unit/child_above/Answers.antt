@@ -1,4 +1,4 @@
-use Rattle.std.proofs.Common.{ap, subst, sym, ◌∙◌}
+use Rattle.std.proofs.Common.{ap, ◌∙◌}
 use Rattle.opfs_tree.specs.Rows.{least_above}
 use Rattle.opfs_tree.specs.Units.{children_in, front, from}
 use Rattle.opfs_tree.proofs.Above.{above_here}
