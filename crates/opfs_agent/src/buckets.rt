@@ -132,7 +132,8 @@ impl<S: Store> Agent<S> {
     }
 
     /// Makes one turn of an await, and does not sleep (this project's own): it is answered, begins to wait, or goes on waiting.
-    /// The next await of the tag goes on with that. Where there is no memory nothing is entered.
+    /// It waits only where, in this turn, the tag was not posted and somebody was left who could post it. The next await of the
+    /// tag goes on with that. Where there is no memory nothing is entered.
     pub fn await_once<R: Wait>(
         &mut self,
         rt: &R,
