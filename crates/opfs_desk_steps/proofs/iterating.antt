@@ -1,6 +1,7 @@
 pub mod Asking
 pub mod Fewer
 pub mod Children
+pub mod Ends
 pub mod Gifts
 pub mod Known
 pub mod Names

@@ -9,8 +9,9 @@ use Rattle.std.specs.declared.cmp.Ordering.{Ordering}
 use Rattle.std.specs.declared.cmp.Ordering.TheVariants.{Less, Equal, Greater}
 use Rattle.opfs_store.specs.declared.acts.acted.Gift.{Gift}
 use Rattle.opfs_base.specs.Texts.{Text}
+use Rattle.opfs_hist.specs.declared.reply.Reply.{Reply}
 use Rattle.opfs_data.specs.Rows.{row_cmp}
-use Rattle.opfs_desk_steps.specs.Iterating.Known.{AreOthers, AreWith, IsFollowed, IsReachedBy, Lasts, last_of}
+use Rattle.opfs_desk_steps.specs.Iterating.Known.{AreOthers, AreWith, IsFollowed, IsKnownBy, Lasts, last_of}
 use Rattle.opfs_desk_steps.specs.declared.iterating.iterators.Followed.{Followed}
 
 equal-by : (o : Ordering) → is_eq o ≡ true → o ≡ Equal
@@ -55,17 +56,17 @@ module _ (agent row : ℕ) (old new : Lasts) where
   ]
 
 -- Nothing is left where a row may have been made.
-pub after-forgetting : (call : Followed) (given : Gift) (past : List Text) (old mid new : Lasts) → (call.makes ≡ true → mid ≡ []) → (call.makes ≡ false → mid ≡ old)
-    → IsFollowed (record call { makes = false }) given past mid new → IsFollowed call given past old new
-after-forgetting call given past old mid new all none followed k n last is = by-one (followed k n last is)
+pub after-forgetting : (call : Followed) (was : Option Text) (answered : Reply) (given : Gift) (past : List Text) (old mid new : Lasts) → (call.makes ≡ true → mid ≡ []) → (call.makes ≡ false → mid ≡ old)
+    → IsFollowed (record call { makes = false }) was answered given past mid new → IsFollowed call was answered given past old new
+after-forgetting call was answered given past old mid new all none followed k n last is = by-one (followed k n last is)
   where
-    was : last_of k n mid ≡ Some last → (call.makes ≡ false) × (last_of k n old ≡ Some last)
-    was there = elim (cases_Bool call.makes) [
+    before : last_of k n mid ≡ Some last → (call.makes ≡ false) × (last_of k n old ≡ Some last)
+    before there = elim (cases_Bool call.makes) [
       | inl makes ↦ absurd (no-name last (sym (ap (last_of k n) (all makes)) ∙ there))
       | inr leaves ↦ (leaves, sym (ap (last_of k n) (none leaves)) ∙ there)
     ]
 
-    by-one : ((k ≡ call.agent) × (n ≡ call.row) × IsReachedBy call.known given past last) ⊎ ((false ≡ false) × (last_of k n mid ≡ Some last))
-        → ((k ≡ call.agent) × (n ≡ call.row) × IsReachedBy call.known given past last) ⊎ ((call.makes ≡ false) × (last_of k n old ≡ Some last))
+    by-one : ((k ≡ call.agent) × (n ≡ call.row) × IsKnownBy call.row was answered given past last) ⊎ ((false ≡ false) × (last_of k n mid ≡ Some last))
+        → ((k ≡ call.agent) × (n ≡ call.row) × IsKnownBy call.row was answered given past last) ⊎ ((call.makes ≡ false) × (last_of k n old ≡ Some last))
     by-one (inl now) = inl now
-    by-one (inr before) = inr (was before.1)
+    by-one (inr still) = inr (before still.1)

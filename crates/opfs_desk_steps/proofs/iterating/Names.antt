@@ -1,5 +1,6 @@
 -- Names in order, and which of them were given.
-use Rattle.std.proofs.Common.{◌≡◌, ◌||◌, ◌++◌, Bool, true, false, not, cond, List, [], ◌∷◌, Option, Some, None, refl, sym, ap, ◌∙◌, subst, inl, inr}
+use Rattle.std.proofs.Common.{◌≡◌, ℕ, suc, ◌<◌, ◌||◌, ◌++◌, Bool, true, false, not, cond, List, [], ◌∷◌, length, get_or, drop, Option, Some, None, refl, sym, ap, ◌∙◌, subst, inl, inr}
+use Rattle.std.proofs.Math.Seq.{drop-cons}
 use Rattle.std.proofs.lemmas.Bool.{cases_Bool, false≢true, and_parts}
 use Rattle.std.specs.Cmp.Lexicographic.{slice_cmp, nat_list_cmp_total, texts_ties}
 use Rattle.std.specs.FinMap.Entries.{is_sorted, below_all}
@@ -12,6 +13,7 @@ use Rattle.opfs_base.specs.Places.{Place, child, child_name, only_name, place_cm
 use Rattle.opfs_base.specs.Texts.{Text, same_text}
 use Rattle.opfs_machine.specs.Contents.{next_of}
 use Rattle.opfs_state_rows.proofs.standing.Units.{same_unit, unit_itself}
+use Rattle.opfs_desk_steps.specs.Iterating.Below.{AreUpTo}
 use Rattle.opfs_desk_steps.specs.Iterating.Reached.{AreGivenUpTo, AreNotGivenAbove}
 
 abbrev pub text_cmp : Text → Text → Ordering
@@ -215,3 +217,57 @@ below-above past name (x ∷ xs) all = (λ lt. none past all (less-by (text_cmp 
     none [] h less = refl
     none (y ∷ ys) h less =
         ap (λ b. b || is_given ys x) (not-same y x (nat_list_cmp_total.trans y name x (less-by (text_cmp y name) h.0) less)) ∙ none ys h.1 less
+
+-- ---- where no name is left
+
+none-left : (past names : List Text) → next_of past names ≡ None → AllByRecursion (λ x. is_given past x ≡ true) names
+none-left past [] is = tt
+none-left past (x ∷ names) is = elim (cases_Bool (is_given past x)) [
+  | inl given ↦ (given, none-left past names (sym (ap (λ b. cond (not b) (Some x) (next_of past names)) given) ∙ is))
+  | inr new ↦ absurd (some-none (sym (ap (λ b. cond (not b) (Some x) (next_of past names)) new) ∙ is))
+]
+  where
+    some-none : ◌≡◌ {A = Option Text} (Some x) None → ⊥
+    some-none h = cc
+
+-- What was given is not above it.
+at-most : (past : List Text) (name x : Text) → AreUpTo name past → is_given past x ≡ true → is_lt (text_cmp name x) ≡ false
+at-most [] name x all is = absurd (false≢true is)
+at-most (y ∷ past) name x all is = elim (cases_Bool (same_text x y)) [
+  | inl same ↦ subst (λ (z : Text). is_lt (text_cmp name z) ≡ false) (sym (same_unit x y same)) all.0
+  | inr other ↦ at-most past name x all.1 (sym (ap (λ b. b || is_given past x) other) ∙ is)
+]
+
+-- Where no name is left, all are given up to any that none of those given is above.
+pub all-given : (past : List Text) (name : Text) (xs : List Text) → next_of past xs ≡ None → AreUpTo name past → AreGivenUpTo past name xs
+all-given past name xs none up = each xs (none-left past xs none)
+  where
+    each : (ys : List Text) → AllByRecursion (λ x. is_given past x ≡ true) ys → AreGivenUpTo past name ys
+    each [] all = tt
+    each (y ∷ ys) all = (all.0 ∙ sym (ap not (at-most past name y up all.0)), each ys all.1)
+
+-- ---- the greatest of names
+
+-- A name that is not below one is not below a lesser one.
+pub not-below : (x a b : Text) → is_lt (text_cmp x b) ≡ false → is_lt (text_cmp a b) ≡ true → is_lt (text_cmp x a) ≡ false
+not-below x a b level less = elim (cases_Bool (is_lt (text_cmp x a))) [
+  | inl lt ↦ absurd (false≢true (sym level ∙ ap is_lt (nat_list_cmp_total.trans x a b (less-by (text_cmp x a) lt) (less-by (text_cmp a b) less))))
+  | inr no_less ↦ no_less
+]
+
+-- What is not below the greater of two names is not below the other.
+pub not-below-less : (x most name : Text) → is_lt (text_cmp most name) ≡ false → is_lt (text_cmp x most) ≡ false → is_lt (text_cmp x name) ≡ false
+not-below-less x most name least level = by-order (text_cmp most name) refl
+  where
+    by-order : (o : Ordering) → text_cmp most name ≡ o → is_lt (text_cmp x name) ≡ false
+    by-order Less is = absurd (false≢true (sym least ∙ ap is_lt is))
+    by-order Equal is = subst (λ (z : Text). is_lt (text_cmp x z) ≡ false) (same_unit most name (texts_ties most name ∙ ap is_eq is)) level
+    by-order Greater is = not-below x name most level (ap is_lt (nat_list_cmp_total.antisymm name most ∙ ap ordering_reverse is))
+
+-- One name more.
+pub up-to-next : (past : List Text) (i : ℕ) (name x : Text) → i < length past → name ≡ get_or past i name → (AreUpTo x (drop i past) → AreUpTo x past) → is_lt (text_cmp x name) ≡ false
+    → AreUpTo x (drop (suc i) past) → AreUpTo x past
+up-to-next past i name x lt is so_far level rest = so_far (subst (AreUpTo x) (sym (drop-cons past i name lt ∙ ap (λ (y : Text). y ∷ drop (suc i) past) (sym is))) (level, rest))
+
+pub level-itself : (x : Text) → is_lt (text_cmp x x) ≡ false
+level-itself x = ap is_lt (equal-by (text_cmp x x) (text-itself x))

@@ -15,13 +15,17 @@ use Rattle.opfs_machine.specs.Openings.{Opening}
 use Rattle.opfs_machine.specs.Rows.{children_of}
 use Rattle.opfs_machine.specs.Runs.{Call}
 use Rattle.opfs_work.specs.Works.{WorkingCopy}
-use Rattle.opfs_desk_steps.specs.Iterating.Below.{AreBelow}
-use Rattle.opfs_desk_steps.specs.Iterating.Known.{AreReached, Lasts, last_of}
+use Rattle.opfs_desk_steps.specs.Iterating.Below.{AreBelow, AreUpTo}
+use Rattle.opfs_desk_steps.specs.Iterating.Known.{AreReached, IsAtEnd, Lasts, last_of}
 use Rattle.opfs_desk_steps.specs.Iterating.Reached.{HasReached, IsUpTo, asked_row, may_make}
 
 -- All was given up to another name, or all that was given is below this one.
 abbrev pub MayReach : Opening → List Entry → List Entry → Call → List Text → Text → Type 0
 MayReach o h calls c past name = ((last : Text) × IsUpTo (children_of (state_after o (h ++ calls))) c.op past (Some last)) ⊎ AreBelow name past
+
+-- All was given up to this name, or none of those given is above it.
+abbrev pub MayEnd : Opening → List Entry → List Entry → Call → List Text → Text → Type 0
+MayEnd o h calls c past name = IsUpTo (children_of (state_after o (h ++ calls))) c.op past (Some name) ⊎ AreUpTo name past
 
 -- Nothing is known of the iterator that a call asks.
 abbrev pub IsWithout : Call → Lasts → Type 0
@@ -38,3 +42,6 @@ pub record IteratorsGoOn (tells : Type 0) : Type 0 where
   pub given : (o : Opening) (h calls new : List Entry) (c : Call) (work : WorkingCopy) (past : List Text) (answered : Reply) (at : Locator) (name : Text) → IsWholeOpening o → IsTold tells o h
       → MayAct tells o h calls c work past → IsActed tells o h calls c answered new → IsGift tells (state_after o (h ++ calls)) c.op answered (gift.Child at name)
       → MayReach o h calls c past name → HasReached (state_after o new) c.agent (asked_row c.op) name
+  -- A next that found no further child has given all up to a name, where all was given up to it, or none of those given is above it.
+  pub ended : (o : Opening) (h calls new : List Entry) (c : Call) (work : WorkingCopy) (past : List Text) (answered : Reply) (name : Text) → MayAct tells o h calls c work past
+      → IsActed tells o h calls c answered new → IsAtEnd (asked_row c.op) answered → MayEnd o h calls c past name → HasReached (state_after o new) c.agent (asked_row c.op) name

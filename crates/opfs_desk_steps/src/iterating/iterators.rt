@@ -1,23 +1,22 @@
 //! What is known of many iterators.
 
-ghost use Rattle.std.specs.Prelude.{◌≡◌, ◌⊎◌, [], true, false, IfSome, IsTrue};
-ghost use Rattle.opfs_desk_steps.specs.Iterating.Below.{AreBelow};
-ghost use Rattle.opfs_desk_steps.specs.Iterating.Known.{AreOthers, AreWith, IsFollowed, IsReachedBy, last_of};
+ghost use Rattle.std.specs.Prelude.{◌≡◌, ◌⊎◌, [], true, false, Some, is_some, IfSome, IsTrue};
+ghost use Rattle.opfs_desk_steps.specs.Iterating.Below.{AreBelow, AreUpTo};
+ghost use Rattle.opfs_desk_steps.specs.Iterating.Known.{AreOthers, AreWith, IsAtEnd, IsFollowed, IsKnownBy, IsReachedBy, last_of};
 
 use opfs_base::Name;
-use opfs_store::Gift;
+use opfs_hist::Reply;
+use opfs_store::{Acted, Gift};
 use std::alloc::Global;
 use std::collections::BTreeMap;
 use std::marker::Model;
 
-/// A call that was made: its agent, the iterator that it asked, or 0, whether it may have made a row, and whether it was known up to
-/// which name its iterator had given all.
+/// A call that was made: its agent, the iterator that it asked, or 0, and whether it may have made a row.
 #[derive(Clone, Copy)]
 pub struct Followed {
     pub agent: u32,
     pub row: u32,
     pub makes: bool,
-    pub known: bool,
 }
 
 /// Up to which name each iterator has given all that its directory has, where that is known, each under its agent and its row.
@@ -68,12 +67,20 @@ impl Iterators {
         self.lasts.clear();
     }
 
-    /// Takes note of what a call gave. Where there is no memory nothing is known of its iterator.
-    pub fn follow(&mut self, alloc: Global, call: Followed, gift: &Gift, past: &[Name])
-        ensures { IsFollowed call gift.now past.now self.old self.new }
+    /// Takes note of what a call gave: of its child, or of the end of what it asked, where the name that was known before stays.
+    /// Where there is no memory nothing is known of its iterator.
+    pub fn follow(
+        &mut self,
+        alloc: Global,
+        call: Followed,
+        last: Option<Name>,
+        acted: &Acted,
+        past: &[Name],
+    )
+        ensures { IsFollowed call last acted.now.reply acted.now.gift past.now self.old self.new }
     {
         self.forget(call.makes);
-        self.reach(alloc, call, gift, past);
+        self.reach(alloc, call, last, acted, past);
     }
 
     // Nothing is known any more after a call that may have made a row.
@@ -86,11 +93,18 @@ impl Iterators {
         }
     }
 
-    // Takes note of the child that a call gave.
-    fn reach(&mut self, alloc: Global, call: Followed, gift: &Gift, past: &[Name])
-        ensures { IsFollowed (record call { makes = false }) gift.now past.now self.old self.new }
+    // Takes note of the name up to which all is given after a call.
+    fn reach(
+        &mut self,
+        alloc: Global,
+        call: Followed,
+        last: Option<Name>,
+        acted: &Acted,
+        past: &[Name],
+    )
+        ensures { IsFollowed (record call { makes = false }) last acted.now.reply acted.now.gift past.now self.old self.new }
     {
-        if let Some(name) = name_reached(alloc, call.known, gift, past) {
+        if let Some(name) = name_known(alloc, call.row, last, acted, past) {
             self.note(call.agent, call.row, name);
         }
     }
@@ -133,4 +147,56 @@ fn name_reached(alloc: Global, known: bool, gift: &Gift, past: &[Name]) -> Optio
         Ok(name) => Some(name),
         Err(_) => None,
     }
+}
+
+// Whether a call asked an iterator that has no further child.
+fn is_at_end(row: u32, reply: &Reply) -> bool
+    ensures { IsTrue result → IsAtEnd row reply.now }
+{
+    match reply {
+        Reply::Last => row != 0,
+        _ => false,
+    }
+}
+
+// The greatest of names.
+fn greatest(past: &[Name]) -> Option<&Name>
+    ensures { IfSome result (λ name. AreUpTo name.now past.now) }
+{
+    let mut most = past.first()?;
+    for name in past {
+        if most < name {
+            most = name;
+        }
+    }
+    Some(most)
+}
+
+// The name that was known, or else the greatest of those given.
+fn name_at_end(alloc: Global, last: Option<Name>, past: &[Name]) -> Option<Name>
+    ensures { IfSome result (λ name. (last ≡ Some name) ⊎ AreUpTo name past.now) }
+{
+    if let Some(name) = last {
+        return Some(name);
+    }
+    match greatest(past)?.copy(alloc) {
+        Ok(name) => Some(name),
+        Err(_) => None,
+    }
+}
+
+// The name up to which all is given after a call, if it is known.
+fn name_known(
+    alloc: Global,
+    row: u32,
+    last: Option<Name>,
+    acted: &Acted,
+    past: &[Name],
+) -> Option<Name>
+    ensures { IfSome result (λ name. IsKnownBy row last acted.now.reply acted.now.gift past.now name) }
+{
+    if is_at_end(row, &acted.reply) {
+        return name_at_end(alloc, last, past);
+    }
+    name_reached(alloc, last.is_some(), &acted.gift, past)
 }
