@@ -56,14 +56,9 @@ impl<D: Disk> Desk<D> {
             room,
         };
         let acted = act_call(&mut self.parts, call, pending, work, past, last.as_ref())?;
-        let followed = Followed {
-            agent,
-            row,
-            makes,
-            known: last.is_some(),
-        };
+        let followed = Followed { agent, row, makes };
         let alloc = self.parts.ledger.alloc;
-        self.iterators.follow(alloc, followed, &acted.gift, past);
+        self.iterators.follow(alloc, followed, last, &acted, past);
         Ok(acted)
     }
 }

@@ -56,7 +56,7 @@ invariant_of-self-2 g c =
       reached =
           reached-on g.D.Disk.tells c.iterators_go_on.ensures f.opening old.ledger.books.history c.args.pending.now call c.args.work.now c.args.past.now may c.self.inside.iterators c.take-last.new.self c.self.invariant.reached c.asked_row-row.result
           c.asked_row-row.ensures c.take-last.ensures.others c.self.invariant.rest.held.are.books.whole (is-told g.D.Disk f old c.self.invariant.rest) c.act_call.new.parts.ledger.books.history c.in_ok-acted.acted.reply c.in_ok-acted.acted.gift has.acted has.gift
-          (record { agent = c.args.agent; row = c.asked_row-row.result; makes = c.may_make-makes.result; known = c.is_some.result }) refl refl c.may_make-makes.ensures c.take-last.result c.take-last.ensures.name c.is_some.ensures c.follow.new.self c.follow.ensures;
+          (record { agent = c.args.agent; row = c.asked_row-row.result; makes = c.may_make-makes.result }) refl refl c.may_make-makes.ensures c.take-last.result c.take-last.ensures.name c.follow.new.self c.follow.ensures;
     }
 
 pub returns-clause-later : goal.returns-clause-later
