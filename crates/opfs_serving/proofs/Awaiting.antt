@@ -161,7 +161,7 @@ module _ {O : Type 0} (tells : Type 0) (of : HallSeen O) (k : ℕ) (asked : Aske
   is-answered E t is done = answered-midway (await_reply is.0) (subst (λ x. IsAwaitTurn {E = E} tells a b tag (Ok x)) is.1 done)
 
   by-waiting : (E : Type 0) (heard : ℕ) → IsAwaitTurn {E = E} tells a b tag (Ok (turn.Waits heard)) → IsMidway tells of k asked b rows h (Some tag)
-  by-waiting E heard (inl looked) = still-midway looked.0
+  by-waiting E heard (inl looked) = still-midway looked.looked
   by-waiting E heard (inr begun) = waiting-midway begun
 
   pub is-waiting : (E : Type 0) (t : AwaitTurn) → (heard : ℕ) × (t ≡ turn.Waits heard) → IsAwaitTurn {E = E} tells a b tag (Ok t) → IsMidway tells of k asked b rows h (Some tag)

@@ -59,7 +59,7 @@ module _ {T O P : Type 0} (w : Words T O P) (lasts : (u v x : T) → w.goes u v 
       let on : q.state ≡ state.On → p.state ≡ state.On = λ well. sym as_well ∙ well in
       let goes : w.goes watch.last after.last = subst (w.goes watch.last) (sym l.last) (stays watch.last) in
       let front : IsPrefix (w.entries watch.last) (w.entries after.last) = subst (λ t. IsPrefix (w.entries watch.last) (w.entries t)) (sym l.last) (prefix_refl (w.entries watch.last)) in
-      let talk = talk-stands w.entries w.keeps w.goes w.tells w.said agents begun lasts now now watch.last after.last (p.state ≡ state.On) (q.state ≡ state.On) v.scripts v.told v.talk (λ b. refl) goes front on in (
+      let talk = talk-stands (w.opened of.opening) w.entries w.keeps w.goes w.tells w.said agents begun lasts now now watch.last after.last (p.state ≡ state.On) (q.state ≡ state.On) v.scripts v.told v.talk (λ b. refl) goes front on in (
         record {
           scripts = v.scripts;
           told = v.told;
@@ -73,6 +73,7 @@ module _ {T O P : Type 0} (w : Words T O P) (lasts : (u v x : T) → w.goes u v 
           hall = ap (λ (r : PassSeen O Entry). r.hall) l.pass ∙ v.hall;
           owner = ap (λ (r : PassSeen O Entry). r.agent) l.pass ∙ v.owner;
           all = v.all;
+          people = v.people;
           few = v.few;
           opened = ap w.opening l.last ∙ v.opened;
         },

@@ -7,8 +7,10 @@ pub mod Midway
 pub mod Named
 pub mod Overlong
 pub mod Parts
+pub mod Peopled
 pub mod Placing
 pub mod Polls
+pub mod Quiet
 pub mod Replies
 pub mod Seating
 pub mod Showing

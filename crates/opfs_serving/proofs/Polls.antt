@@ -1,5 +1,5 @@
 -- A turn of the owner's pass in a conversation: an await that is looked after, and what is told.
-use Rattle.std.proofs.Common.{◌≡◌, ◌≢◌, ◌⊎◌, ℕ, zero, suc, ◌<◌, Bool, true, Some, None, Option, List, [], ◌∷◌, ◌++◌, length, length-append, drop, refl, sym, ap, ◌∙◌, subst, inl, inr, slice_index_or, slice_set, append-nil, false, arith}
+use Rattle.std.proofs.Common.{◌≡◌, ◌≢◌, ◌⊎◌, ℕ, zero, suc, ◌<◌, ◌≤◌, Bool, true, Some, None, Option, List, [], ◌∷◌, ◌++◌, length, length-append, drop, refl, sym, ap, ◌∙◌, subst, inl, inr, slice_index_or, slice_set, append-nil, false, arith}
 use Rattle.std.specs.Prelude.{slice_get}
 use Rattle.std.proofs.lemmas.Option.{get_or_from_slice_get}
 use Rattle.opfs_hall.proofs.Owned.{prefix_refl, prefix_trans}
@@ -29,6 +29,9 @@ some-same e = cc
 
 none-some : {X : Type 0} (o : Option X) (x : X) → o ≡ None → o ≡ Some x → ⊥
 none-some o x none some = cc
+
+no-line : {X : Type 0} {x : X} → None ≡ Some x → ⊥
+no-line e = cc
 
 failed-on : (s : State) → s ≡ state.Failed → s ≡ state.On → ⊥
 failed-on s failed on = cc
@@ -99,7 +102,7 @@ module _ {T O P : Type 0} (w : Words T O P) (lasts : (u v x : T) → w.goes u v 
         → (q.state ≡ state.On → p.state ≡ state.On) → (q.state ≡ state.On → q.count ≡ p.count) → (q.whole ≡ true → p.whole ≡ true)
         → (s : IsStanding w of agents begun later after seats q) × (s.told ≡ v.told) × (s.talk.talk ≡ v.talk.talk)
     stands-still later after q same m as_well count whole =
-        let talk = talk-stands w.entries w.keeps w.goes w.tells w.said agents begun lasts now later watch.last after.last (p.state ≡ state.On) (q.state ≡ state.On) v.scripts v.told v.talk same m.goes m.front as_well in (
+        let talk = talk-stands (w.opened of.opening) w.entries w.keeps w.goes w.tells w.said agents begun lasts now later watch.last after.last (p.state ≡ state.On) (q.state ≡ state.On) v.scripts v.told v.talk same m.goes m.front as_well in (
           record {
             scripts = v.scripts;
             told = v.told;
@@ -111,6 +114,7 @@ module _ {T O P : Type 0} (w : Words T O P) (lasts : (u v x : T) → w.goes u v 
             hall = m.hall ∙ v.hall;
             owner = m.owner ∙ v.owner;
             all = v.all;
+            people = v.people;
             few = v.few;
             opened = m.opened;
           },
@@ -138,12 +142,13 @@ module _ {T O P : Type 0} (w : Words T O P) (lasts : (u v x : T) → w.goes u v 
         front : IsPrefix v.told (w.entries after.last)
         front = prefix_trans v.told (w.entries watch.last) (w.entries after.last) v.talk.front turned.front
 
-        is-exchange : IsExchange w.entries w.keeps (length v.talk.talk) v.scripts v.told exchange
+        is-exchange : IsExchange (w.opened of.opening) w.entries w.keeps (length v.talk.talk) v.scripts v.told exchange
         is-exchange = record {
           asked = unasked what;
           first = λ none. let some = begins on in absurd (omega (arith, none, some));
           front = front-told v.told (w.entries after.last) p.count front (sym (v.counted on));
           kept = turned.kept;
+          looked = λ line is. absurd (no-line is);
           answered = tt;
         }
 
@@ -154,7 +159,7 @@ module _ {T O P : Type 0} (w : Words T O P) (lasts : (u v x : T) → w.goes u v 
         seated-after = subst (AreSeated w.reads of (q.state ≡ state.On) q.whole v.scripts seats) (sym (ap (λ (r : PassSeen O Entry). r.ended) turned.pass))
             (seated-weaker w.reads of (p.state ≡ state.On) (q.state ≡ state.On) p.whole q.whole v.scripts seats watch.pass.ended (λ e. on) as_whole v.seated)
 
-        stands-with : (es : List Entry) → IsTalk w.entries w.keeps w.goes w.tells w.said agents begun later after.last (q.state ≡ state.On) v.scripts es → (q.state ≡ state.On → q.count ≡ length es)
+        stands-with : (es : List Entry) → IsTalk (w.opened of.opening) w.entries w.keeps w.goes w.tells w.said agents begun later after.last (q.state ≡ state.On) v.scripts es → (q.state ≡ state.On → q.count ≡ length es)
             → IsStanding w of agents begun later after seats q
         stands-with es talk count =
             let m = gone-turned w of watch after turned in
@@ -168,13 +173,14 @@ module _ {T O P : Type 0} (w : Words T O P) (lasts : (u v x : T) → w.goes u v 
               hall = m.hall ∙ v.hall;
               owner = m.owner ∙ v.owner;
               all = v.all;
+              people = v.people;
               few = v.few;
               opened = m.opened;
             }
 
         went-out : q.state ≡ state.On → (w.tells → w.said later ≡ w.said now ++ told_by (entered what) after.last) → Stood
         went-out then said =
-            let talk = talk-more w.entries w.keeps w.goes w.tells w.said agents begun lasts stays now watch.last (p.state ≡ state.On) v.scripts v.told v.talk on later exchange (q.state ≡ state.On) said is-exchange
+            let talk = talk-more (w.opened of.opening) w.entries w.keeps w.goes w.tells w.said agents begun lasts stays now watch.last (p.state ≡ state.On) v.scripts v.told v.talk on later exchange (q.state ≡ state.On) said is-exchange
             turned.goes_on turned.front in
             let one = length-append v.talk.talk (exchange ∷ []) in
             let long = ap length talk.1 in (
@@ -188,6 +194,7 @@ module _ {T O P : Type 0} (w : Words T O P) (lasts : (u v x : T) → w.goes u v 
                 hall = ap (λ (r : PassSeen O Entry). r.hall) turned.pass ∙ v.hall;
                 owner = ap (λ (r : PassSeen O Entry). r.agent) turned.pass ∙ v.owner;
                 all = v.all;
+                people = v.people;
                 few = v.few;
                 opened = turned.opened;
               },
@@ -197,7 +204,7 @@ module _ {T O P : Type 0} (w : Words T O P) (lasts : (u v x : T) → w.goes u v 
         may-have : (q.state ≡ state.On → ⊥) → (w.tells → (w.said later ≡ w.said now) ⊎ (w.said later ≡ w.said now ++ told_by (entered what) after.last)) → Stood
         may-have ill said = (
           stands-with v.told
-              (talk-perhaps w.entries w.keeps w.goes w.tells w.said agents begun lasts stays now watch.last (p.state ≡ state.On) v.scripts v.told v.talk on later exchange (q.state ≡ state.On)
+              (talk-perhaps (w.opened of.opening) w.entries w.keeps w.goes w.tells w.said agents begun lasts stays now watch.last (p.state ≡ state.On) v.scripts v.told v.talk on later exchange (q.state ≡ state.On)
               (λ b. by (said b)) is-exchange turned.goes_on turned.front ill)
               (λ e. absurd (ill e)),
           λ e. absurd (ill e),
@@ -267,6 +274,7 @@ module _ {T O P : Type 0} (w : Words T O P) (lasts : (u v x : T) → w.goes u v 
                   hall = v.hall;
                   owner = v.owner;
                   all = v.all;
+                  people = v.people;
                   few = v.few;
                   opened = v.opened;
                 },
@@ -304,6 +312,10 @@ module _ {T O P : Type 0} (w : Words T O P) (lasts : (u v x : T) → w.goes u v 
     -- No more is told.
     pub serving-stops : (later : P) (q : Progress) → (w.tells → w.said later ≡ w.said now) → q.state ≢ state.On → q.whole ≡ p.whole → IsServing w of agents begun later watch seats q
     serving-stops later q same ill whole = serving-waits later q same (λ on. absurd (ill on)) (λ on. absurd (ill on)) (λ e. sym whole ∙ e)
+
+    -- There are few seats, each with an agent of the store.
+    pub serving-few : (length seats ≤ 64) × (length seats ≤ length (w.opened of.opening).agents)
+    serving-few = let count = v.stands.seated.count in let few = v.stands.few in let people = v.stands.people in (omega (arith, count, few), omega (arith, count, people))
 
     module _ (i : ℕ) (x : SeatSeen O) (seat-is : slice_get seats i ≡ Some x) where
       pub serving-midway : p.state ≡ state.On → (a : AgentSeen O) → x.agent ≡ Some a → (k : ℕ) × (asked : Asked) × IsAt w.reads of k asked x a
@@ -345,7 +357,7 @@ module _ {T O P : Type 0} (w : Words T O P) (lasts : (u v x : T) → w.goes u v 
               record {
                 scripts = s.scripts;
                 told = s.told;
-                talk = (talk-stands w.entries w.keeps w.goes w.tells w.said agents begun lasts now now watch.last watch.last (p.state ≡ state.On) (q.state ≡ state.On) s.scripts s.told s.talk (λ t. refl) (stays watch.last)
+                talk = (talk-stands (w.opened of.opening) w.entries w.keeps w.goes w.tells w.said agents begun lasts now now watch.last watch.last (p.state ≡ state.On) (q.state ≡ state.On) s.scripts s.told s.talk (λ t. refl) (stays watch.last)
                     (prefix_refl (w.entries watch.last)) (λ e. on)).0;
                 seated = seated-weaker w.reads of (p.state ≡ state.On) (q.state ≡ state.On) p.whole q.whole s.scripts xs watch.pass.ended (λ e. on) (λ e. sym whole ∙ e) s.seated;
                 emptied = s.emptied;
@@ -353,6 +365,7 @@ module _ {T O P : Type 0} (w : Words T O P) (lasts : (u v x : T) → w.goes u v 
                 hall = s.hall;
                 owner = s.owner;
                 all = s.all;
+                people = s.people;
                 few = s.few;
                 opened = s.opened;
               },
@@ -405,6 +418,12 @@ module _ {T O P : Type 0} (w : Words T O P) (lasts : (u v x : T) → w.goes u v 
 
 -- ---- from one moment to another
 
+-- It stands on where a turn was taken, and nothing was said.
+pub serving-turned : {T O P : Type 0} (w : Words T O P) (lasts : (u v x : T) → w.goes u v → w.goes v x → w.goes u x) (stays : (v : T) → w.goes v v) (of : HallSeen O) (now : P) (watch after : WatchSeen O Entry T)
+    (seats : List (SeatSeen O)) (p : Progress) → HasTurned w.opening w.entries w.keeps w.goes of watch after → ServesOn w of now now watch after seats seats p p
+serving-turned w lasts stays of now watch after seats p turned agents begun v =
+    serving-stands w lasts stays of agents begun now watch seats p v now after p (λ t. refl) (gone-turned w of watch after turned) (λ e. e) (λ e. refl) (λ e. e)
+
 -- It stands, and stands on since a moment.
 pub record GoesServing {T O P : Type 0} (w : Words T O P) (of : HallSeen O) (before now : P) (watch later : WatchSeen O Entry T) (seats then_seats : List (SeatSeen O)) (p q : Progress) : Type 0 where
   pub serves : Serves w of now later then_seats q
@@ -420,3 +439,9 @@ module _ {T O P : Type 0} (w : Words T O P) (of : HallSeen O) where
     serves = record { agents = g.serves.agents; begun = g.serves.begun; is = on g.serves.agents g.serves.begun g.serves.is };
     on_with = λ agents begun v. on agents begun (g.on_with agents begun v);
   }
+
+  -- A turn was taken, and nothing was said.
+  pub going-turned : ((u v x : T) → w.goes u v → w.goes v x → w.goes u x) → ((v : T) → w.goes v v) → (before now : P) (watch then later : WatchSeen O Entry T) (seats last : List (SeatSeen O)) (p q : Progress)
+      → GoesServing w of before now watch then seats last p q → HasTurned w.opening w.entries w.keeps w.goes of then later → GoesServing w of before now watch later seats last p q
+  going-turned lasts stays before now watch then later seats last p q g turned =
+      going-more before now now watch then later seats last last p q q g (serving-turned w lasts stays of now then later last q turned)

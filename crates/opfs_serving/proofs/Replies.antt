@@ -1,11 +1,12 @@
 -- How a conversation stands once a line was refused, an agent ended, or memory was wanting for an answer.
-use Rattle.std.proofs.Common.{◌≡◌, ℕ, suc, ◌-◌, ◌+◌, Bool, true, Option, Some, None, Ok, Err, List, [], ◌∷◌, ◌++◌, length, length-append, arith, refl, sym, ap, ◌∙◌, subst, append-nil, slice_index_or, slice_set}
+use Rattle.std.proofs.Common.{◌≡◌, ◌≢◌, ◌⊎◌, inl, inr, ℕ, suc, ◌-◌, ◌+◌, Bool, true, Option, Some, None, Ok, Err, List, [], ◌∷◌, ◌++◌, length, length-append, arith, refl, sym, ap, ◌∙◌, subst, append-nil, slice_index_or, slice_set}
 use Rattle.std.proofs.lemmas.Option.{get_or_from_slice_get}
 use Rattle.std.specs.Prelude.{codes, slice_get}
 use Rattle.opfs_base.specs.Texts.{Text}
 use Rattle.opfs_hall.specs.History.{IsPrefix}
 use Rattle.opfs_hall.specs.Seen.{HallSeen, PassSeen, WatchSeen}
 use Rattle.opfs_hist.specs.declared.entry.Entry.{Entry}
+use Rattle.opfs_machine.specs.Histories.{state_after}
 use Rattle.opfs_port.specs.Said.{Said, told}
 use Rattle.opfs_script.specs.Scripts.{Asked}
 use Rattle.opfs_script.specs.Lines.{named_agent}
@@ -17,8 +18,8 @@ use Rattle.opfs_serving.specs.Exchanges.{entered, refused}
 use Rattle.opfs_serving.specs.Lines.{IsAsked, IsRefusal, Names, ended, ends, has_end, long, nobody, refusal_text, refuses, too_many, unread, waiting}
 use Rattle.opfs_serving.specs.Requests.{IsAwaiting, IsFree, IsOf, IsRefusedAt, IsRequest}
 use Rattle.opfs_serving.specs.Requests as cause
-use Rattle.opfs_serving.specs.Seats.{AreSeated, EndsAt, IsAt, IsMidway, SeatSeen, open_step}
-use Rattle.opfs_serving.specs.Served.{AreTold, HasHeard, IsServing, IsStanding, Words}
+use Rattle.opfs_serving.specs.Seats.{AreSeated, EndsAt, HasBegunToWait, IsAt, IsMidway, SeatSeen, open_step}
+use Rattle.opfs_serving.specs.Served.{AreTold, HasHeard, IsQuiet, IsServing, IsStanding, Words, opens}
 use Rattle.opfs_serving.specs.Turns.{GoesOut, HasSaid, HasToldMore, HasTurned}
 use Rattle.opfs_serving.specs.declared.progress.Progress.{Progress}
 use Rattle.opfs_serving.specs.declared.progress.State.{State}
@@ -29,11 +30,14 @@ use Rattle.opfs_serving.proofs.Awaiting.{still-midway}
 use Rattle.opfs_serving.proofs.Leaves.{left-over}
 use Rattle.opfs_serving.proofs.Midway.{midway-whole}
 use Rattle.opfs_serving.proofs.Polls.{serving-polled, set-there, stands-midway}
-use Rattle.opfs_serving.proofs.Seating.{length-set, seated-ended, seated-script, seated-weaker}
+use Rattle.opfs_serving.proofs.Seating.{length-set, place, seated-ended, seated-script, seated-weaker}
 use Rattle.opfs_serving.proofs.Showing.{many-told, told-set}
-use Rattle.opfs_serving.proofs.Steps.{asks-next, emptied-set, not-first, number-grows, number-is, serves, short-on, talk-by, talk-entered, talk-silent}
+use Rattle.opfs_serving.proofs.Quiet.{number-grows, number-is, waits-on}
+use Rattle.opfs_serving.proofs.Steps.{asks-next, emptied-set, looked-after, not-first, serves, short-on, talk-by, talk-entered, talk-silent}
 use Rattle.opfs_serving.proofs.Talking.{front-none}
 use Rattle.opfs_hall.proofs.Owned.{prefix_trans}
+use Rattle.opfs_store.specs.Acts.Acting.{awaited}
+use Rattle.opfs_store.specs.declared.acts.acted.AwaitState.TheVariants as await
 use Rattle.opfs_turns.specs.Agents.{AgentSeen, IsAgent}
 use Rattle.opfs_turns.specs.Calls.{HasLooked}
 
@@ -98,7 +102,8 @@ module _ {T O P : Type 0} (w : Words T O P) (of : HallSeen O) (agents : List Ask
       (many-told full.agent (length x.rows) (entries_of (suc i) v.told) m.kept.counted m.fewer ((u.all_told on).shown i x full.agent of_line.there full.there full.free) full.many)
 
 module _ {T O P : Type 0} (w : Words T O P) (lasts : (a b c : T) → w.goes a b → w.goes b c → w.goes a c) (stays : (a : T) → w.goes a a) (of : HallSeen O) (agents : List Asked) (begun before port : P)
-    (watch : WatchSeen O Entry T) (seats : List (SeatSeen O)) (p : Progress) (u : IsServing w of agents begun before watch seats p) (on : p.state ≡ state.On) (line : Text) (came : HasHeard w line before port) where
+    (watch : WatchSeen O Entry T) (seats : List (SeatSeen O)) (p : Progress) (u : IsServing w of agents begun before watch seats p) (on : p.state ≡ state.On) (line : Text) (came : HasHeard w line before port)
+    (quiet : IsQuiet w watch seats) where
   abbrev here : IsStanding w of agents begun before watch seats p
   here = u.stands
 
@@ -111,8 +116,8 @@ module _ {T O P : Type 0} (w : Words T O P) (lasts : (a b c : T) → w.goes a b 
   pub kept-silent : (q : Progress) → q ≡ record p { state = state.Short } → IsServing w of agents begun port watch seats q
   kept-silent q is =
       let short : q.state ≡ state.Short = ap (λ (y : Progress). y.state) is in
-      serves w lasts stays of agents begun before port watch seats p u on line came port watch q seats None here.told
-      (talk-silent w lasts stays of agents begun before port watch seats p u on line came None q short)
+      serves w lasts stays of agents begun before port watch seats p u on line came quiet port watch q seats None here.told
+      (talk-silent w lasts stays of agents begun before port watch seats p u on line came quiet None q short)
       (seated-well (q.state ≡ state.On) q.whole watch.pass.ended (sym (ap (λ (y : Progress). y.whole) is)) refl)
       here.emptied (λ well. absurd (short-on q.state short well)) here.hall here.owner here.opened
 
@@ -120,17 +125,18 @@ module _ {T O P : Type 0} (w : Words T O P) (lasts : (a b c : T) → w.goes a b 
   pub line-refused : (why : LineRefusal) → IsRefusedAt (w.entries watch.last) line seats why → (now : P) (after : WatchSeen O Entry T) (q : Progress) (text : Text) → text ≡ codes "? " ++ refusal_text why
       → HasTurned w.opening w.entries w.keeps w.goes of watch after → HasSaid w.tells w.said text after.last port now p q → IsServing w of agents begun now after seats q
   line-refused why refusal now after q text is turned said =
-      let talk = talk-by w lasts stays of agents begun before port watch seats p u on line came now None (refused (refusal_text why)) after.last q
+      let talk = talk-by w lasts stays of agents begun before port watch seats p u on line came quiet now None (refused (refusal_text why)) after.last q
       (record {
         asked = refuses line why (refusal-is w of agents begun before watch seats p u on line why refusal);
-        first = λ none. not-first w lasts stays of agents begun before port watch seats p u on line came none;
+        first = λ none. not-first w lasts stays of agents begun before port watch seats p u on line came quiet none;
         front = front-none here.told (w.entries after.last) (prefix_trans here.told (w.entries watch.last) (w.entries after.last) here.talk.front turned.front);
         kept = turned.kept;
+        looked = λ heard is. looked-after w lasts stays of agents begun before port watch seats p u on line came quiet after.last turned.front;
         answered = tt;
       })
       turned.goes_on turned.front q.state refl
       (out-by w.tells w.said (codes "? " ++ refusal_text why) after.last port now p q (subst (λ t. HasSaid w.tells w.said t after.last port now p q) is said) q.state refl) in
-      serves w lasts stays of agents begun before port watch seats p u on line came now after q seats None talk.0 talk.1
+      serves w lasts stays of agents begun before port watch seats p u on line came quiet now after q seats None talk.0 talk.1
       (seated-well (q.state ≡ state.On) q.whole after.pass.ended (sym said.whole) (sym (ap (λ (y : PassSeen O Entry). y.ended) turned.pass)))
       here.emptied
       (λ well. let same : talk.0 ≡ here.told = (talk.2 well).1 ∙ append-nil here.told in (
@@ -162,16 +168,16 @@ module _ {T O P : Type 0} (w : Words T O P) (lasts : (a b c : T) → w.goes a b 
         let goes : w.goes watch.last after.last = subst (λ t. w.goes t after.last) l.last turned.goes_on in
         let front : IsPrefix (w.entries watch.last) (w.entries after.last) = subst (λ t. IsPrefix (w.entries t) (w.entries after.last)) l.last turned.front in
         let over : has_end (suc i) (w.entries after.last) ≡ true = left-over w.reads of i x free.agent watch left (w.entries after.last) l may.agent turned.noted in
-        let talk = talk-entered w lasts stays of agents begun before port watch seats p u on line came now None after.last q
+        let talk = talk-entered w lasts stays of agents begun before port watch seats p u on line came quiet now None after.last q
         (λ es is. asks es (subst (λ l. has_end (suc i) l ≡ true) (sym is) over)) turned.kept tt goes front more in
         let has = l.entries (suc i) script.0 true may in
         let gone : watch.pass.ended ++ (suc i, l.base) ∷ [] ≡ after.pass.ended =
         sym (ap (λ (y : PassSeen O Entry). y.ended) turned.pass ∙ ap (λ (y : PassSeen O Entry). y.ended) l.pass ∙ ap (λ k. watch.pass.ended ++ (k, l.base) ∷ []) may.agent) in
-        serves w lasts stays of agents begun before port watch seats p u on line came now after q (slice_set seats i x') None talk.0 talk.1
+        serves w lasts stays of agents begun before port watch seats p u on line came quiet now after q (slice_set seats i x') None talk.0 talk.1
         (subst (λ (y : Bool × List (ℕ × List Entry)). AreSeated w.reads of (q.state ≡ state.On) y.0 here.scripts (slice_set seats i x') y.1) (λ j. (sym more.whole j, gone j))
         (seated-ended w.reads of (p.state ≡ state.On) p.whole here.scripts seats watch.pass.ended here.seated i x free.agent script.0 there free.there script.1 (q.state ≡ state.On) p.whole (λ well. on) (λ e. e) x' l.base none
         (record { cut = has.cut; run = λ e. has.run refl })))
-        (emptied-set w lasts stays of agents begun before port watch seats p u on line came i x x' there (λ e. empty))
+        (emptied-set w lasts stays of agents begun before port watch seats p u on line came quiet i x x' there (λ e. empty))
         (λ well. let told = talk.2 well in (
           told.0,
           told.1,
@@ -219,6 +225,18 @@ module _ {T O P : Type 0} (w : Words T O P) (lasts : (a b c : T) → w.goes a b 
         (λ k asked a here at. let f = seen a here in (f.0, ap (λ (y : SeatSeen O). y.agent) f.1, looked-at w.reads of k asked x x' a f.0 awaits.tag awaits.awaits f.1 f.2 f.3 at))
         (λ none. absurd (none-some x.agent awaits.agent none awaits.there))
         (λ none. absurd (none-some x'.awaits awaits.tag none still-awaits))
+
+    pub quiet-looked : IsQuiet w watch seats → IsQuiet w watch (slice_set seats i x')
+    quiet-looked quiet = record { begun = λ k y at. waiting-at k y (place seats i x x' of_line.there k y at); not_due = λ k y a tag at there is. due-at k y a tag there is (place seats i x x' of_line.there k y at) }
+      where
+        waiting-at : (k : ℕ) (y : SeatSeen O) → ((k ≡ i) × (y ≡ x')) ⊎ ((k ≢ i) × (slice_get seats k ≡ Some y)) → HasBegunToWait y
+        waiting-at k y (inl same) = subst (λ (z : SeatSeen O). HasBegunToWait z) (sym same.1) (waits-on x x' awaits.agent found.0 awaits.there found.1 found.2 (quiet.begun i x of_line.there))
+        waiting-at k y (inr other) = quiet.begun k y other.1
+
+        due-at : (k : ℕ) (y : SeatSeen O) (a : AgentSeen O) (tag : Text) → y.agent ≡ Some a → y.awaits ≡ Some tag → ((k ≡ i) × (y ≡ x')) ⊎ ((k ≢ i) × (slice_get seats k ≡ Some y))
+            → awaited (state_after (opens w watch.last) (w.entries watch.last)) (suc k) tag ≡ await.Neither
+        due-at k y a tag there is (inl same) = quiet.not_due k x awaits.agent tag (ap (slice_get seats) same.0 ∙ of_line.there) awaits.there (ap (λ (z : SeatSeen O). z.awaits) (sym found.1 ∙ sym same.1) ∙ is)
+        due-at k y a tag there is (inr other) = quiet.not_due k y a tag other.1 there is
 
     pub refused-looked : IsRefusedAt (w.entries watch.last) line (slice_set seats i x') refusal.Waiting
     refused-looked =

@@ -4,11 +4,14 @@ use Rattle.std.specs.Prelude.{All, slice_get}
 use Rattle.std.proofs.lemmas.Bool.{false≢true}
 use Rattle.std.proofs.lemmas.List.Elements.{All-get_or}
 use Rattle.std.proofs.lemmas.Option.{get_or_from_slice_get, slice_get_within}
+use lib.ListN.{length-map}
 use Rattle.opfs_hall.specs.History.{IsPrefix}
 use Rattle.opfs_hall.specs.Seen.{HallSeen, PassSeen, WatchSeen, at_rest, new_pass}
 use Rattle.opfs_hist.specs.declared.entry.Entry.{Entry}
+use Rattle.opfs_machine.specs.Openings.{Opening}
 use Rattle.opfs_runner.proofs.Way.{no-table}
 use Rattle.opfs_runner.proofs.run_laws.Stepped.{begins}
+use Rattle.opfs_runner.specs.Run.Begun.{AreAgentsOf}
 use Rattle.opfs_runner.specs.Runs.{IsReady, IsReadyFor}
 use Rattle.opfs_runner.specs.Stepping.{own_entries}
 use Rattle.opfs_script.specs.Limits.{is_origin_key}
@@ -17,6 +20,7 @@ use Rattle.opfs_script.specs.declared.step.Step.{Step}
 use Rattle.opfs_script_run.proofs.runs.Cuts.{cuts_begin}
 use Rattle.opfs_script_run.specs.Runs.Cuts.{Cuts}
 use Rattle.opfs_script_run.specs.Runs.Running.{empty_hand, entries_of}
+use Rattle.opfs_script_run.specs.Stage.Openings.{who_of}
 use Rattle.opfs_script_run.specs.declared.runs.hand.Hand.{Hand}
 use Rattle.opfs_turns.specs.Agents.{AgentSeen, IsAgent}
 use Rattle.opfs_serving.specs.Seats.{AreSeated, EndsAt, IsAt, IsMidway, SeatSeen, with_steps}
@@ -34,7 +38,7 @@ some-same e = cc
 some-none : {X : Type 0} (o : Option X) (x : X) → o ≡ Some x → o ≡ None → ⊥
 some-none o x some none = cc
 
-get-within : {X : Type 0} (xs : List X) (i : ℕ) → i < length xs → (x : X) × (slice_get xs i ≡ Some x)
+pub get-within : {X : Type 0} (xs : List X) (i : ℕ) → i < length xs → (x : X) × (slice_get xs i ≡ Some x)
 get-within [] i less = absurd (omega (arith, less))
 get-within (x ∷ xs) zero less = (x, refl)
 get-within (x ∷ xs) (suc i) less = get-within xs i (omega (arith, less))
@@ -46,6 +50,10 @@ get-map f (y ∷ ys) (suc i) x is = get-map f ys i x is
 
 at-place : {X : Type 0} (P : X → Type 0) (xs : List X) (i : ℕ) (x : X) → All P xs → slice_get xs i ≡ Some x → P x
 at-place P xs i x all is = subst P (get_or_from_slice_get xs i x x is) (All-get_or P xs i x (slice_get_within xs i x is) all)
+
+-- There are as many agents as scripts.
+pub people-of : (o : Opening) (scripts : List Asked) → AreAgentsOf o scripts → length o.agents ≡ length scripts
+people-of o scripts are = ap length are ∙ length-map scripts who_of
 
 -- An agent without steps is midway.
 midway-begins : {O : Type 0} (tells : Type 0) (of : HallSeen O) (k : ℕ) (s : Asked) (a : AgentSeen O) → IsReady of s a → a.pass.agent ≡ k → IsAgent tells a → s.steps ≡ [] → is_origin_key s.key ≡ true
@@ -123,10 +131,10 @@ module _ {T O P : Type 0} (w : Words T O P) (of : HallSeen O) (scripts : List As
         subst (λ l. IsPrefix l []) (sym own) ([], refl);
   }
 
-  pub serving-begins : (port : P) (watch : WatchSeen O Entry T) (owner : PassSeen O Entry) (p : Progress) → length scripts ≤ 64 → of.agents ≡ length scripts → owner ≡ new_pass of 0 []
+  pub serving-begins : (port : P) (watch : WatchSeen O Entry T) (owner : PassSeen O Entry) (p : Progress) → length scripts ≤ 64 → of.agents ≡ length scripts → length (w.opened of.opening).agents ≡ length scripts → owner ≡ new_pass of 0 []
       → watch.pass ≡ at_rest owner (w.entries watch.last) → w.opening watch.last ≡ of.opening → p.count ≡ 0 → IsSilent w of scripts port watch seats p
-  serving-begins port watch owner p few all fresh rests opened none =
-      let talk = talk-begins w.entries w.keeps w.goes w.tells w.said scripts port port watch.last (p.state ≡ state.On) refl in
+  serving-begins port watch owner p few all people fresh rests opened none =
+      let talk = talk-begins (w.opened of.opening) w.entries w.keeps w.goes w.tells w.said scripts port port watch.last (p.state ≡ state.On) refl in
       record {
         stands = record {
           scripts = scripts;
@@ -139,6 +147,7 @@ module _ {T O P : Type 0} (w : Words T O P) (of : HallSeen O) (scripts : List As
           hall = ap (λ (x : PassSeen O Entry). x.hall) pass-is;
           owner = ap (λ (x : PassSeen O Entry). x.agent) pass-is;
           all = all;
+          people = people;
           few = few;
           opened = opened;
         };

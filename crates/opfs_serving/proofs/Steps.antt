@@ -1,14 +1,13 @@
 -- How a conversation stands once a step was made, or was not.
-use Rattle.std.proofs.Common.{◌≡◌, ◌⊎◌, ℕ, suc, ◌-◌, ◌+◌, ◌<◌, ◌≤◌, ◌==◌, ◌&&◌, not, Bool, true, false, Some, None, Option, Ok, List, [], ◌∷◌, ◌++◌, length, length-append, drop, refl, sym, ap, ◌∙◌, subst, inl, inr, arith, append_assoc, append-nil, slice_index_or, slice_set}
-use Rattle.std.specs.Prelude.{◌≢◌, count_by, slice_get}
-use Rattle.std.proofs.lemmas.List.Sums.{sum_by-append}
-use mathlib.Core.Bool.{cond}
+use Rattle.std.proofs.Common.{◌≡◌, ◌⊎◌, ℕ, suc, ◌-◌, ◌+◌, ◌<◌, ◌≤◌, Bool, true, false, Some, None, Option, Ok, List, [], ◌∷◌, ◌++◌, length, length-append, drop, refl, sym, ap, ◌∙◌, subst, inl, inr, arith, append_assoc, append-nil, slice_index_or, slice_set}
+use Rattle.std.specs.Prelude.{◌≢◌, slice_get}
 use Rattle.std.proofs.lemmas.Option.{get_or_from_slice_get}
 use Rattle.opfs_base.specs.Texts.{Text}
 use Rattle.opfs_hall.proofs.Owned.{prefix_refl, prefix_trans}
 use Rattle.opfs_hall.specs.History.{IsPrefix}
 use Rattle.opfs_hall.specs.Seen.{HallSeen, PassSeen, WatchSeen}
 use Rattle.opfs_hist.specs.declared.entry.Entry.{Entry}
+use Rattle.opfs_machine.specs.Histories.{state_after}
 use Rattle.opfs_port.specs.Said.{Said, heard}
 use Rattle.opfs_runner.specs.Stepping.{own_entries}
 use Rattle.opfs_script.specs.Lines.{asked_by}
@@ -23,18 +22,20 @@ use Rattle.opfs_serving.specs.Exchanges.{Answer, Call, Exchange, add_step, enter
 use Rattle.opfs_serving.specs.Lines.{AsksNext, IsAsked, IsAskedFor, Names, calls}
 use Rattle.opfs_serving.specs.Requests.{IsFree, IsOf, IsRequest}
 use Rattle.opfs_serving.specs.Seats.{AreSeated, IsAt, IsLeftOpen, SeatSeen, open_step, with_steps}
-use Rattle.opfs_serving.specs.Served.{AreTold, HasHeard, IsServing, IsStanding, Words}
+use Rattle.opfs_serving.specs.Served.{AreTold, HasHeard, IsQuiet, IsServing, IsStanding, Words}
 use Rattle.opfs_serving.specs.Stepping.{HasMade, HasMissed, noted}
-use Rattle.opfs_serving.specs.Talks.{HasAnswer, IsExchange, IsTalk}
+use Rattle.opfs_serving.specs.Talks.{AreLookedAfter, HasAnswer, IsExchange, IsTalk}
 use Rattle.opfs_serving.specs.Turns.{GoesOut, HasToldMore, HasTurned}
 use Rattle.opfs_serving.specs.declared.progress.Progress.{Progress}
 use Rattle.opfs_serving.specs.declared.progress.State.{State}
 use Rattle.opfs_serving.specs.declared.progress.State.TheVariants as state
 use Rattle.opfs_serving.proofs.Midway.{midway-ends}
+use Rattle.opfs_serving.proofs.Quiet.{none-due, number-grows, number-is}
 use Rattle.opfs_serving.proofs.Seating.{get-add_step, get-add_step_other, length-add_step, place, seated-asked, seated-put, seated-script, seated-weaker}
 use Rattle.opfs_serving.proofs.Showing.{shown-base, told-set}
 use Rattle.opfs_serving.proofs.Talking.{front-drop, talk-lost, talk-more, talk-perhaps, with_call-at}
-use Rattle.opfs_turns.specs.Agents.{AgentSeen, is_wait, next_number}
+use Rattle.opfs_store.specs.Acts.Acting.{awaited}
+use Rattle.opfs_turns.specs.Agents.{AgentSeen, next_number}
 
 some-same : {X : Type 0} {x y : X} → Some x ≡ Some y → x ≡ y
 some-same e = cc
@@ -47,22 +48,6 @@ short-on s short on = cc
 
 failed-on : (s : State) → s ≡ state.Failed → s ≡ state.On → ⊥
 failed-on s failed on = cc
-
--- ---- an agent's next number, as more is entered
-
-count-grows : {X : Type 0} (f : X → Bool) (xs ys : List X) → count_by f xs ≤ count_by f (xs ++ ys)
-count-grows f xs ys =
-    let both : count_by f (xs ++ ys) ≡ count_by f xs + count_by f ys = sum_by-append (λ x. cond (f x) 1 0) xs ys in
-    subst (λ n. count_by f xs ≤ n) (sym both) (omega arith)
-
-pub number-grows : (k : ℕ) (base list : List Entry) → IsPrefix base list → next_number k base ≤ next_number k list
-number-grows k base list front =
-    let more = count-grows (λ (e : Entry). (e.agent == k) && not (is_wait e.op)) base front.0 in
-    subst (λ l. next_number k base ≤ next_number k l) (sym front.1) (omega (arith, more))
-
--- The number of an agent that is midway is the next behind what it has seen.
-pub number-is : {O : Type 0} (tells : Type 0) (of : HallSeen O) (k : ℕ) (asked : Asked) (x : SeatSeen O) (b : AgentSeen O) → IsAt tells of k asked x b → b.number ≡ next_number k b.pass.base
-number-is tells of k asked x b at = at.kept.numbered ∙ (λ i. next_number (at.agent i) (b.pass.base ++ at.pending i)) ∙ ap (next_number k) (append-nil b.pass.base)
 
 -- What an agent that has made its steps, or awaits the last, has entered answers them.
 module _ {O : Type 0} (tells : Type 0) (of : HallSeen O) (k : ℕ) (asked : Asked) (s : Step) (x : SeatSeen O) (b : AgentSeen O) (base list : List Entry)
@@ -154,7 +139,8 @@ asks-next w of agents begun before watch seats p v on line i x rest free of_line
 -- ---- a conversation, once an answer was made
 
 module _ {T O P : Type 0} (w : Words T O P) (lasts : (a b c : T) → w.goes a b → w.goes b c → w.goes a c) (stays : (a : T) → w.goes a a) (of : HallSeen O) (agents : List Asked) (begun before port : P)
-    (watch : WatchSeen O Entry T) (seats : List (SeatSeen O)) (p : Progress) (u : IsServing w of agents begun before watch seats p) (on : p.state ≡ state.On) (line : Text) (came : HasHeard w line before port) where
+    (watch : WatchSeen O Entry T) (seats : List (SeatSeen O)) (p : Progress) (u : IsServing w of agents begun before watch seats p) (on : p.state ≡ state.On) (line : Text) (came : HasHeard w line before port)
+    (quiet : IsQuiet w watch seats) where
   -- as it stands before
   abbrev v : IsStanding w of agents begun before watch seats p
   v = u.stands
@@ -170,20 +156,29 @@ module _ {T O P : Type 0} (w : Words T O P) (lasts : (a b c : T) → w.goes a b 
   pub not-first : {X : Type 0} → many ≡ 0 → X
   not-first none = let some = u.greeted on in absurd (omega (arith, none, some))
 
+  -- Each await was looked after.
+  pub looked-after : (at : T) → IsPrefix (w.entries watch.last) (w.entries at) → AreLookedAfter (w.opened of.opening) v.scripts v.told (w.entries at)
+  looked-after at front k tag awaits = record {
+    front = w.entries watch.last;
+    all = v.talk.front;
+    before = front;
+    not_due = ap (λ o. awaited (state_after (w.opened o) (w.entries watch.last)) k tag) (sym v.opened) ∙ none-due w of agents begun before watch seats p u on quiet k tag awaits;
+  }
+
   then-told : (now : P) (more : List (Said T)) → w.tells → w.said now ≡ w.said port ++ more → w.said now ≡ w.said before ++ (heard line ∷ more)
   then-told now more t is = is ∙ ap (λ l. l ++ more) (came t) ∙ append_assoc (w.said before) (heard line ∷ []) more
 
   -- What was told then, and that something was said.
   abbrev pub Talked : P → Option Call → Answer → T → Progress → Type 0
-  Talked now call answer at q = (told : List Entry) × (t : IsTalk w.entries w.keeps w.goes w.tells w.said agents begun now at (q.state ≡ state.On) (with_call v.scripts call) told)
+  Talked now call answer at q = (told : List Entry) × (t : IsTalk (w.opened of.opening) w.entries w.keeps w.goes w.tells w.said agents begun now at (q.state ≡ state.On) (with_call v.scripts call) told)
       × (q.state ≡ state.On → (0 < length t.talk) × (told ≡ v.told ++ entries_told answer))
 
-  perhaps : (now : P) (call : Option Call) (answer : Answer) (at : T) (q : Progress) → IsExchange w.entries w.keeps many v.scripts v.told (exchange call answer at)
+  perhaps : (now : P) (call : Option Call) (answer : Answer) (at : T) (q : Progress) → IsExchange (w.opened of.opening) w.entries w.keeps many v.scripts v.told (exchange call answer at)
       → w.goes watch.last at → IsPrefix (w.entries watch.last) (w.entries at) → (q.state ≡ state.On → ⊥)
       → (w.tells → (w.said now ≡ w.said port) ⊎ (w.said now ≡ w.said port ++ told_by answer at)) → Talked now call answer at q
   perhaps now call answer at q one goes front ill out = (
     v.told,
-    talk-perhaps w.entries w.keeps w.goes w.tells w.said agents begun lasts stays before watch.last (p.state ≡ state.On) v.scripts v.told v.talk on now (exchange call answer at) (q.state ≡ state.On)
+    talk-perhaps (w.opened of.opening) w.entries w.keeps w.goes w.tells w.said agents begun lasts stays before watch.last (p.state ≡ state.On) v.scripts v.told v.talk on now (exchange call answer at) (q.state ≡ state.On)
         (λ t. by t (out t)) one goes front ill,
     λ well. absurd (ill well),
   )
@@ -194,10 +189,10 @@ module _ {T O P : Type 0} (w : Words T O P) (lasts : (a b c : T) → w.goes a b 
       by t (inr is) = inr (then-told now (told_by answer at) t is)
 
   -- The answer went out, where all is well; else it may have.
-  pub talk-by : (now : P) (call : Option Call) (answer : Answer) (at : T) (q : Progress) → IsExchange w.entries w.keeps many v.scripts v.told (exchange call answer at)
+  pub talk-by : (now : P) (call : Option Call) (answer : Answer) (at : T) (q : Progress) → IsExchange (w.opened of.opening) w.entries w.keeps many v.scripts v.told (exchange call answer at)
       → w.goes watch.last at → IsPrefix (w.entries watch.last) (w.entries at) → (s : State) → q.state ≡ s → GoesOut w.tells w.said (told_by answer at) port now s → Talked now call answer at q
   talk-by now call answer at q one goes front state.On is out =
-      let talk = talk-more w.entries w.keeps w.goes w.tells w.said agents begun lasts stays before watch.last (p.state ≡ state.On) v.scripts v.told v.talk on now (exchange call answer at) (q.state ≡ state.On)
+      let talk = talk-more (w.opened of.opening) w.entries w.keeps w.goes w.tells w.said agents begun lasts stays before watch.last (p.state ≡ state.On) v.scripts v.told v.talk on now (exchange call answer at) (q.state ≡ state.On)
       (λ t. then-told now (told_by answer at) t (out t)) one goes front in
       let long = ap length talk.1 ∙ length-append v.talk.talk (exchange call answer at ∷ []) in
       (v.told ++ entries_told answer, talk.0, λ well. (omega (arith, long), refl))
@@ -206,9 +201,9 @@ module _ {T O P : Type 0} (w : Words T O P) (lasts : (a b c : T) → w.goes a b 
 
   -- Nothing of an answer went out.
   pub talk-silent : (call : Option Call) (q : Progress) → q.state ≡ state.Short
-      → IsTalk w.entries w.keeps w.goes w.tells w.said agents begun port watch.last (q.state ≡ state.On) (with_call v.scripts call) v.told
+      → IsTalk (w.opened of.opening) w.entries w.keeps w.goes w.tells w.said agents begun port watch.last (q.state ≡ state.On) (with_call v.scripts call) v.told
   talk-silent call q is =
-      talk-lost w.entries w.keeps w.goes w.tells w.said agents begun lasts stays before watch.last (p.state ≡ state.On) v.scripts v.told v.talk on port (exchange call (entered []) watch.last) (q.state ≡ state.On)
+      talk-lost (w.opened of.opening) w.entries w.keeps w.goes w.tells w.said agents begun lasts stays before watch.last (p.state ≡ state.On) v.scripts v.told v.talk on port (exchange call (entered []) watch.last) (q.state ≡ state.On)
       came (stays watch.last) (prefix_refl (w.entries watch.last)) (short-on q.state is)
 
   -- All entries were told that there are.
@@ -217,7 +212,7 @@ module _ {T O P : Type 0} (w : Words T O P) (lasts : (a b c : T) → w.goes a b 
 
   -- What was told then, all that there is.
   abbrev pub Entered : P → Option Call → T → Progress → Type 0
-  Entered now call at q = (told : List Entry) × (t : IsTalk w.entries w.keeps w.goes w.tells w.said agents begun now at (q.state ≡ state.On) (with_call v.scripts call) told)
+  Entered now call at q = (told : List Entry) × (t : IsTalk (w.opened of.opening) w.entries w.keeps w.goes w.tells w.said agents begun now at (q.state ≡ state.On) (with_call v.scripts call) told)
       × (q.state ≡ state.On → (q.count ≡ length told) × (0 < length t.talk) × IsPrefix v.told told × (told ≡ w.entries at))
 
   pub talk-entered : (now : P) (call : Option Call) (at : T) (q : Progress) → ((es : List Entry) → v.told ++ es ≡ w.entries at → IsAsked many v.scripts v.told (Some line) call (entered es)) → w.keeps at
@@ -232,6 +227,7 @@ module _ {T O P : Type 0} (w : Words T O P) (lasts : (a b c : T) → w.goes a b 
         first = λ none. not-first none;
         front = subst (λ l. IsPrefix l list) (sym whole) (prefix_refl list);
         kept = kept;
+        looked = λ heard is. looked-after at front;
         answered = subst (HasAnswer (with_call v.scripts call) call) (sym whole) answered;
       })
       goes front q.state refl (more.told on) in
@@ -239,7 +235,7 @@ module _ {T O P : Type 0} (w : Words T O P) (lasts : (a b c : T) → w.goes a b 
 
   -- What holds of the seats, the pass and the talk, as one.
   pub serves : (now : P) (after : WatchSeen O Entry T) (q : Progress) (then : List (SeatSeen O)) (call : Option Call) (told : List Entry)
-      → (t : IsTalk w.entries w.keeps w.goes w.tells w.said agents begun now after.last (q.state ≡ state.On) (with_call v.scripts call) told)
+      → (t : IsTalk (w.opened of.opening) w.entries w.keeps w.goes w.tells w.said agents begun now after.last (q.state ≡ state.On) (with_call v.scripts call) told)
       → AreSeated w.reads of (q.state ≡ state.On) q.whole (with_call v.scripts call) then after.pass.ended
       → ((i : ℕ) (x : SeatSeen O) → slice_get then i ≡ Some x → x.agent ≡ None → x.rows ≡ []) → (q.state ≡ state.On → (q.count ≡ length told) × (0 < length t.talk) × AreTold then told)
       → after.pass.hall ≡ of → after.pass.agent ≡ 0 → w.opening after.last ≡ of.opening
@@ -255,6 +251,7 @@ module _ {T O P : Type 0} (w : Words T O P) (lasts : (a b c : T) → w.goes a b 
       hall = hall;
       owner = owner;
       all = v.all ∙ sym (length-with_call v.scripts call);
+      people = v.people ∙ sym (length-with_call v.scripts call);
       few = subst (λ n. n ≤ 64) (sym (length-with_call v.scripts call)) v.few;
       opened = opened;
     };

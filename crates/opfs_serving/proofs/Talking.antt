@@ -6,6 +6,7 @@ use Rattle.std.proofs.lemmas.List.Elements.{All-push, All-weaker}
 use Rattle.opfs_hall.proofs.Owned.{prefix_refl, prefix_trans}
 use Rattle.opfs_hall.specs.History.{IsPrefix}
 use Rattle.opfs_hist.specs.declared.entry.Entry.{Entry}
+use Rattle.opfs_machine.specs.Openings.{Opening}
 use Rattle.opfs_port.specs.Said.{Said}
 use Rattle.opfs_script.specs.Scripts.{Asked}
 use Rattle.opfs_script.specs.declared.step.Step.{Step}
@@ -37,29 +38,29 @@ spoken-one x = append-nil (heard_by x.line ++ told_by x.answer x.at)
 pub all_told-push : {T : Type 0} (xs : List (Exchange T)) (x : Exchange T) → all_told (xs ++ x ∷ []) ≡ all_told xs ++ entries_told x.answer
 all_told-push xs x = all_told-append xs (x ∷ []) ∙ ap (λ l. all_told xs ++ l) (append-nil (entries_told x.answer))
 
-module _ {T : Type 0} (entries : T → List Entry) (keeps : T → Type 0) where
+module _ {T : Type 0} (o : Opening) (entries : T → List Entry) (keeps : T → Type 0) where
   -- The one behind them has the number of all before it.
-  pub exchanges-push : (count n : ℕ) (scripts : List Asked) (told : List Entry) (xs : List (Exchange T)) (x : Exchange T) → AreExchanges entries keeps count scripts told xs → n ≡ count + length xs
-      → IsExchange entries keeps n (scripts_after scripts xs) (told ++ all_told xs) x → AreExchanges entries keeps count scripts told (xs ++ x ∷ [])
+  pub exchanges-push : (count n : ℕ) (scripts : List Asked) (told : List Entry) (xs : List (Exchange T)) (x : Exchange T) → AreExchanges o entries keeps count scripts told xs → n ≡ count + length xs
+      → IsExchange o entries keeps n (scripts_after scripts xs) (told ++ all_told xs) x → AreExchanges o entries keeps count scripts told (xs ++ x ∷ [])
   exchanges-push count n scripts told [] x all is one =
       let same : n ≡ count = omega (arith, is) in
-      (subst (λ (y : ℕ × List Entry). IsExchange entries keeps y.0 scripts y.1 x) (λ i. (same i, append-nil told i)) one, tt)
+      (subst (λ (y : ℕ × List Entry). IsExchange o entries keeps y.0 scripts y.1 x) (λ i. (same i, append-nil told i)) one, tt)
   exchanges-push count n scripts told (y ∷ ys) x all is one = (
     all.0,
     exchanges-push (suc count) n (with_call scripts y.call) (told ++ entries_told y.answer) ys x all.1 (omega (arith, is))
-        (subst (λ es. IsExchange entries keeps n (scripts_after (with_call scripts y.call) ys) es x) (sym (append_assoc told (entries_told y.answer) (all_told ys))) one),
+        (subst (λ es. IsExchange o entries keeps n (scripts_after (with_call scripts y.call) ys) es x) (sym (append_assoc told (entries_told y.answer) (all_told ys))) one),
   )
 
 -- ---- a conversation
 
-module _ {T P : Type 0} (entries : T → List Entry) (keeps : T → Type 0) (goes : T → T → Type 0) (tells : Type 0) (said : P → List (Said T)) (agents : List Asked) (begun : P) where
+module _ {T P : Type 0} (o : Opening) (entries : T → List Entry) (keeps : T → Type 0) (goes : T → T → Type 0) (tells : Type 0) (said : P → List (Said T)) (agents : List Asked) (begun : P) where
   -- What stood at each answer begins what stands later.
   begun-by : (last later : T) (talk : List (Exchange T)) → IsPrefix (entries last) (entries later) → All (λ x. IsPrefix (entries x.at) (entries last)) talk → All (λ x. IsPrefix (entries x.at) (entries later)) talk
   begun-by last later talk front all =
       All-weaker (λ (x : Exchange T). IsPrefix (entries x.at) (entries last)) (λ (x : Exchange T). IsPrefix (entries x.at) (entries later)) (λ x h. prefix_trans (entries x.at) (entries last) (entries later) h front) talk all
 
   -- Nothing was said yet.
-  pub talk-begins : (now : P) (last : T) (sound : Type 0) → said now ≡ said begun → (t : IsTalk entries keeps goes tells said agents begun now last sound agents []) × (t.talk ≡ [])
+  pub talk-begins : (now : P) (last : T) (sound : Type 0) → said now ≡ said begun → (t : IsTalk o entries keeps goes tells said agents begun now last sound agents []) × (t.talk ≡ [])
   talk-begins now last sound same = (
     record {
       talk = [];
@@ -83,14 +84,14 @@ module _ {T P : Type 0} (entries : T → List Entry) (keeps : T → Type 0) (goe
     gone-by last later talk on all = All-weaker (λ (x : Exchange T). goes x.at last) (λ (x : Exchange T). goes x.at later) (λ x h. lasts x.at last later h on) talk all
 
     -- Nothing more was said, and the store went on.
-    module _ (before now : P) (last later : T) (sound sound' : Type 0) (scripts : List Asked) (told : List Entry) (t : IsTalk entries keeps goes tells said agents begun before last sound scripts told)
+    module _ (before now : P) (last later : T) (sound sound' : Type 0) (scripts : List Asked) (told : List Entry) (t : IsTalk o entries keeps goes tells said agents begun before last sound scripts told)
         (same : tells → said now ≡ said before) (on : goes last later) (front : IsPrefix (entries last) (entries later)) (as_well : sound' → sound) where
-      said-by : tells → (said before ≡ said begun ++ (spoken t.talk ++ unanswered t.left)) ⊎ ((said before ≡ said begun ++ (spoken t.talk ++ spoken t.left)) × AreExchanges entries keeps 0 agents [] (t.talk ++ t.left))
-          → (said now ≡ said begun ++ (spoken t.talk ++ unanswered t.left)) ⊎ ((said now ≡ said begun ++ (spoken t.talk ++ spoken t.left)) × AreExchanges entries keeps 0 agents [] (t.talk ++ t.left))
+      said-by : tells → (said before ≡ said begun ++ (spoken t.talk ++ unanswered t.left)) ⊎ ((said before ≡ said begun ++ (spoken t.talk ++ spoken t.left)) × AreExchanges o entries keeps 0 agents [] (t.talk ++ t.left))
+          → (said now ≡ said begun ++ (spoken t.talk ++ unanswered t.left)) ⊎ ((said now ≡ said begun ++ (spoken t.talk ++ spoken t.left)) × AreExchanges o entries keeps 0 agents [] (t.talk ++ t.left))
       said-by b (inl is) = inl (same b ∙ is)
       said-by b (inr is) = inr (same b ∙ is.0, is.1)
 
-      pub talk-stands : (u : IsTalk entries keeps goes tells said agents begun now later sound' scripts told) × (u.talk ≡ t.talk)
+      pub talk-stands : (u : IsTalk o entries keeps goes tells said agents begun now later sound' scripts told) × (u.talk ≡ t.talk)
       talk-stands = (
         record {
           talk = t.talk;
@@ -108,7 +109,7 @@ module _ {T P : Type 0} (entries : T → List Entry) (keeps : T → Type 0) (goe
         refl,
       )
 
-    module _ (stays : (v : T) → goes v v) (before : P) (last : T) (sound : Type 0) (scripts : List Asked) (told : List Entry) (t : IsTalk entries keeps goes tells said agents begun before last sound scripts told) (well : sound) where
+    module _ (stays : (v : T) → goes v v) (before : P) (last : T) (sound : Type 0) (scripts : List Asked) (told : List Entry) (t : IsTalk o entries keeps goes tells said agents begun before last sound scripts told) (well : sound) where
       -- where all went out, nothing is left
       all-out : t.talk ++ t.left ≡ t.talk
       all-out = ap (λ l. t.talk ++ l) (t.whole well) ∙ append-nil t.talk
@@ -119,7 +120,7 @@ module _ {T P : Type 0} (entries : T → List Entry) (keeps : T → Type 0) (goe
           none : t.left ≡ []
           none = t.whole well
 
-          by : (said before ≡ said begun ++ (spoken t.talk ++ unanswered t.left)) ⊎ ((said before ≡ said begun ++ (spoken t.talk ++ spoken t.left)) × AreExchanges entries keeps 0 agents [] (t.talk ++ t.left))
+          by : (said before ≡ said begun ++ (spoken t.talk ++ unanswered t.left)) ⊎ ((said before ≡ said begun ++ (spoken t.talk ++ spoken t.left)) × AreExchanges o entries keeps 0 agents [] (t.talk ++ t.left))
               → said before ≡ said begun ++ spoken t.talk
           by (inl is) = is ∙ ap (λ l. said begun ++ (spoken t.talk ++ unanswered l)) none ∙ ap (λ l. said begun ++ l) (append-nil (spoken t.talk))
           by (inr is) = is.0 ∙ ap (λ l. said begun ++ (spoken t.talk ++ spoken l)) none ∙ ap (λ l. said begun ++ l) (append-nil (spoken t.talk))
@@ -133,9 +134,9 @@ module _ {T P : Type 0} (entries : T → List Entry) (keeps : T → Type 0) (goe
       then-said : (now : P) (more : List (Said T)) → tells → said now ≡ said before ++ more → said now ≡ said begun ++ (spoken t.talk ++ more)
       then-said now more b is = is ∙ ap (λ l. l ++ more) (said-before b) ∙ append_assoc (said begun) (spoken t.talk) more
 
-      then-right : (x : Exchange T) → IsExchange entries keeps (length t.talk) scripts told x → AreExchanges entries keeps 0 agents [] (t.talk ++ x ∷ [])
-      then-right x one = exchanges-push entries keeps 0 (length t.talk) agents [] t.talk x t.right (omega arith)
-          (subst (λ s. IsExchange entries keeps (length t.talk) s (all_told t.talk) x) scripts-are (subst (λ es. IsExchange entries keeps (length t.talk) scripts es x) t.told_is one))
+      then-right : (x : Exchange T) → IsExchange o entries keeps (length t.talk) scripts told x → AreExchanges o entries keeps 0 agents [] (t.talk ++ x ∷ [])
+      then-right x one = exchanges-push o entries keeps 0 (length t.talk) agents [] t.talk x t.right (omega arith)
+          (subst (λ s. IsExchange o entries keeps (length t.talk) s (all_told t.talk) x) scripts-are (subst (λ es. IsExchange o entries keeps (length t.talk) scripts es x) t.told_is one))
 
       then-begins : (x : Exchange T) → IsPrefix (entries last) (entries x.at) → All (λ y. IsPrefix (entries y.at) (entries x.at)) (t.talk ++ x ∷ [])
       then-begins x front = All-push (λ y. IsPrefix (entries y.at) (entries x.at)) t.talk x
@@ -146,8 +147,8 @@ module _ {T P : Type 0} (entries : T → List Entry) (keeps : T → Type 0) (goe
 
       -- A line was answered.
       pub talk-more : (now : P) (x : Exchange T) (sound' : Type 0) → (tells → said now ≡ said before ++ (heard_by x.line ++ told_by x.answer x.at))
-          → IsExchange entries keeps (length t.talk) scripts told x → goes last x.at → IsPrefix (entries last) (entries x.at)
-          → (u : IsTalk entries keeps goes tells said agents begun now x.at sound' (with_call scripts x.call) (told ++ entries_told x.answer)) × (u.talk ≡ t.talk ++ x ∷ [])
+          → IsExchange o entries keeps (length t.talk) scripts told x → goes last x.at → IsPrefix (entries last) (entries x.at)
+          → (u : IsTalk o entries keeps goes tells said agents begun now x.at sound' (with_call scripts x.call) (told ++ entries_told x.answer)) × (u.talk ≡ t.talk ++ x ∷ [])
       talk-more now x sound' more one on front = (
         record {
           talk = t.talk ++ x ∷ [];
@@ -171,7 +172,7 @@ module _ {T P : Type 0} (entries : T → List Entry) (keeps : T → Type 0) (goe
       -- A line was heard, and no answer of it went out.
       pub talk-lost : (now : P) (x : Exchange T) (sound' : Type 0) → (tells → said now ≡ said before ++ heard_by x.line)
           → goes last x.at → IsPrefix (entries last) (entries x.at) → (sound' → ⊥)
-          → IsTalk entries keeps goes tells said agents begun now x.at sound' (with_call scripts x.call) told
+          → IsTalk o entries keeps goes tells said agents begun now x.at sound' (with_call scripts x.call) told
       talk-lost now x sound' more on front ill = record {
         talk = t.talk;
         left = x ∷ [];
@@ -189,8 +190,8 @@ module _ {T P : Type 0} (entries : T → List Entry) (keeps : T → Type 0) (goe
       -- A line was heard, and its answer may have gone out.
       pub talk-perhaps : (now : P) (x : Exchange T) (sound' : Type 0)
           → (tells → (said now ≡ said before ++ heard_by x.line) ⊎ (said now ≡ said before ++ (heard_by x.line ++ told_by x.answer x.at)))
-          → IsExchange entries keeps (length t.talk) scripts told x → goes last x.at → IsPrefix (entries last) (entries x.at) → (sound' → ⊥)
-          → IsTalk entries keeps goes tells said agents begun now x.at sound' (with_call scripts x.call) told
+          → IsExchange o entries keeps (length t.talk) scripts told x → goes last x.at → IsPrefix (entries last) (entries x.at) → (sound' → ⊥)
+          → IsTalk o entries keeps goes tells said agents begun now x.at sound' (with_call scripts x.call) told
       talk-perhaps now x sound' more one on front ill = record {
         talk = t.talk;
         left = x ∷ [];
@@ -206,7 +207,7 @@ module _ {T P : Type 0} (entries : T → List Entry) (keeps : T → Type 0) (goe
       }
         where
           by : tells → (said now ≡ said before ++ heard_by x.line) ⊎ (said now ≡ said before ++ (heard_by x.line ++ told_by x.answer x.at))
-              → (said now ≡ said begun ++ (spoken t.talk ++ unanswered (x ∷ []))) ⊎ ((said now ≡ said begun ++ (spoken t.talk ++ spoken (x ∷ []))) × AreExchanges entries keeps 0 agents [] (t.talk ++ x ∷ []))
+              → (said now ≡ said begun ++ (spoken t.talk ++ unanswered (x ∷ []))) ⊎ ((said now ≡ said begun ++ (spoken t.talk ++ spoken (x ∷ []))) × AreExchanges o entries keeps 0 agents [] (t.talk ++ x ∷ []))
           by b (inl is) = inl (then-said now (heard_by x.line) b is ∙ ap (λ l. said begun ++ (spoken t.talk ++ l)) (sym (append-nil (heard_by x.line))))
           by b (inr is) = inr (
             then-said now (heard_by x.line ++ told_by x.answer x.at) b is ∙ ap (λ l. said begun ++ (spoken t.talk ++ l)) (sym (spoken-one x)),

@@ -1,5 +1,5 @@
 -- What a line asks, and why it is refused. This project's own.
-use Rattle.std.specs.Prelude.{◌≡◌, ◌<◌, ◌≤◌, ◌==◌, ◌&&◌, ℕ, ◌+◌, ◌-◌, Bool, true, List, [], ◌∷◌, ◌++◌, length, Option, Some, None, Ok, Err, codes, slice_get}
+use Rattle.std.specs.Prelude.{◌≡◌, ◌<◌, ◌≤◌, ◌==◌, ◌&&◌, ℕ, ◌+◌, ◌-◌, Bool, true, false, List, [], ◌∷◌, ◌++◌, length, Option, Some, None, Ok, Err, codes, slice_get}
 use Rattle.std.specs.List.{list_any}
 use Rattle.opfs_base.specs.Texts.{Text}
 use Rattle.opfs_hist.specs.declared.entry.Entry.{Entry}
@@ -62,6 +62,16 @@ has_end k es = list_any (λ e. (e.agent == k) && is_end e.op) es
 -- How many entries an agent has.
 abbrev pub count_of : ℕ → List Entry → ℕ
 count_of k es = length (entries_of k es)
+
+-- An agent awaits what it was asked for last, where these entries were told: it has not ended, and no answer was told.
+pub record Awaits (scripts : List Asked) (told : List Entry) (k : ℕ) (tag : Text) : Type 0 where
+  pub real : 0 < k
+  pub asked : Asked
+  pub done : List Step
+  pub of : IsAskedFor scripts k asked
+  pub steps : asked.steps ≡ done ++ step.Await tag ∷ []
+  pub stays : has_end k told ≡ false
+  pub unanswered : next_number k told ≤ length asked.steps
 
 -- Why a line is refused, where agents were asked for these scripts and these entries were told: it is too long; it names no agent; what it asks of one
 -- is refused as its next step; or its agent awaits what it was asked for last, of which no answer was told; or its end was told; or too many of its

@@ -27,6 +27,10 @@ pub record SeatSeen (O : Type 0) : Type 0 where
   pub hand : Hand
   pub awaits : Option Text
 
+-- Where it awaits a tag, its agent waits for that.
+abbrev pub HasBegunToWait : {O : Type 0} → SeatSeen O → Type 0
+HasBegunToWait {O} x = (a : AgentSeen O) (tag : Text) → x.agent ≡ Some a → x.awaits ≡ Some tag → waits_for a.waiting tag ≡ true
+
 -- A script of other steps.
 abbrev pub with_steps : Asked → List Step → Asked
 with_steps asked steps = record asked { steps = steps }

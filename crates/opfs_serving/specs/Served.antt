@@ -4,16 +4,20 @@ use Rattle.opfs_base.specs.Texts.{Text}
 use Rattle.opfs_hall.specs.History.{IsPrefix}
 use Rattle.opfs_hall.specs.Seen.{HallSeen, WatchSeen}
 use Rattle.opfs_hist.specs.declared.entry.Entry.{Entry}
+use Rattle.opfs_machine.specs.Histories.{state_after}
+use Rattle.opfs_machine.specs.Openings.{Opening}
 use Rattle.opfs_port.specs.Said.{Said, heard}
 use Rattle.opfs_runner.specs.Stepping.{own_entries}
 use Rattle.opfs_script.specs.Limits.{is_origin_key}
 use Rattle.opfs_script.specs.Scripts.{Asked}
 use Rattle.opfs_script_run.specs.Runs.Running.{entries_of}
 use Rattle.opfs_script_run.specs.declared.runs.hand.Hand.{Hand}
+use Rattle.opfs_store.specs.Acts.Acting.{awaited}
+use Rattle.opfs_store.specs.declared.acts.acted.AwaitState.TheVariants as await
 use Rattle.opfs_turns.specs.Agents.{AgentSeen, IsAgent}
 use Rattle.opfs_script_run.specs.Stage.Runs.{EachCut, EachRuns}
 use Rattle.opfs_serving.specs.Lines.{has_end}
-use Rattle.opfs_serving.specs.Seats.{AreSeated, SeatSeen}
+use Rattle.opfs_serving.specs.Seats.{AreSeated, HasBegunToWait, SeatSeen}
 use Rattle.opfs_serving.specs.Talks.{IsTalk}
 use Rattle.opfs_serving.specs.declared.progress.Progress.{Progress}
 use Rattle.opfs_serving.specs.declared.progress.State.{State}
@@ -22,6 +26,7 @@ use Rattle.opfs_serving.specs.declared.progress.State.TheVariants as state
 -- What a store and a port mean, of which a conversation is said.
 pub record Words (T O P : Type 0) : Type 1 where
   pub opening : T → O
+  pub opened : O → Opening
   pub entries : T → List Entry
   pub keeps : T → Type 0
   pub goes : T → T → Type 0
@@ -29,8 +34,12 @@ pub record Words (T O P : Type 0) : Type 1 where
   pub tells : Type 0
   pub said : P → List (Said T)
 
-abbrev pub words : {T O P : Type 0} → (T → O) → (T → List Entry) → (T → Type 0) → (T → T → Type 0) → Type 0 → Type 0 → (P → List (Said T)) → Words T O P
-words opening entries keeps goes reads tells said = record { opening = opening; entries = entries; keeps = keeps; goes = goes; reads = reads; tells = tells; said = said }
+abbrev pub words : {T O P : Type 0} → (T → O) → (O → Opening) → (T → List Entry) → (T → Type 0) → (T → T → Type 0) → Type 0 → Type 0 → (P → List (Said T)) → Words T O P
+words opening opened entries keeps goes reads tells said = record { opening = opening; opened = opened; entries = entries; keeps = keeps; goes = goes; reads = reads; tells = tells; said = said }
+
+-- The machine's opening of a store.
+abbrev pub opens : {T O P : Type 0} → Words T O P → T → Opening
+opens w t = w.opened (w.opening t)
 
 -- Where no answer is lost: of an agent that has ended the end was told, and of one that awaits nothing all entries were.
 pub record AreTold {O : Type 0} (seats : List (SeatSeen O)) (told : List Entry) : Type 0 where
@@ -41,13 +50,14 @@ pub record AreTold {O : Type 0} (seats : List (SeatSeen O)) (told : List Entry) 
 pub record IsStanding {T O P : Type 0} (w : Words T O P) (of : HallSeen O) (agents : List Asked) (begun now : P) (watch : WatchSeen O Entry T) (seats : List (SeatSeen O)) (progress : Progress) : Type 0 where
   pub scripts : List Asked
   pub told : List Entry
-  pub talk : IsTalk w.entries w.keeps w.goes w.tells w.said agents begun now watch.last (progress.state ≡ state.On) scripts told
+  pub talk : IsTalk (w.opened of.opening) w.entries w.keeps w.goes w.tells w.said agents begun now watch.last (progress.state ≡ state.On) scripts told
   pub seated : AreSeated w.reads of (progress.state ≡ state.On) progress.whole scripts seats watch.pass.ended
   pub emptied : (i : ℕ) (x : SeatSeen O) → slice_get seats i ≡ Some x → x.agent ≡ None → x.rows ≡ []
   pub counted : progress.state ≡ state.On → progress.count ≡ length told
   pub hall : watch.pass.hall ≡ of
   pub owner : watch.pass.agent ≡ 0
   pub all : of.agents ≡ length scripts
+  pub people : length (w.opened of.opening).agents ≡ length scripts
   pub few : length scripts ≤ 64
   pub opened : w.opening watch.last ≡ of.opening
 
@@ -74,6 +84,20 @@ pub record Serves {T O P : Type 0} (w : Words T O P) (of : HallSeen O) (now : P)
   pub begun : P
   pub is : IsServing w of agents begun now watch seats p
 
+-- No agent of a seat awaits what is due after these entries: a tag that was posted, or that nobody is left to post.
+abbrev pub AreNotDue : {O : Type 0} → Opening → List Entry → List (SeatSeen O) → Type 0
+AreNotDue {O} o es seats =
+    (i : ℕ) (x : SeatSeen O) (a : AgentSeen O) (tag : Text) → slice_get seats i ≡ Some x → x.agent ≡ Some a → x.awaits ≡ Some tag → awaited (state_after o es) (suc i) tag ≡ await.Neither
+
+-- Each agent of a seat waits for what it awaits.
+abbrev pub AreWaiting : {O : Type 0} → List (SeatSeen O) → Type 0
+AreWaiting {O} seats = (i : ℕ) (x : SeatSeen O) → slice_get seats i ≡ Some x → HasBegunToWait x
+
+-- A line may be heard: each agent waits for what it awaits, and none of that is due after all that the owner's pass has seen.
+pub record IsQuiet {T O P : Type 0} (w : Words T O P) (watch : WatchSeen O Entry T) (seats : List (SeatSeen O)) : Type 0 where
+  pub begun : AreWaiting seats
+  pub not_due : AreNotDue (opens w watch.last) (w.entries watch.last) seats
+
 -- A line was heard since a moment, and no more.
 abbrev pub HasHeard : {T O P : Type 0} → Words T O P → Text → P → P → Type 0
 HasHeard w line before now = w.tells → w.said now ≡ w.said before ++ heard line ∷ []
@@ -83,7 +107,7 @@ HasHeard w line before now = w.tells → w.said now ≡ w.said before ++ heard l
 pub record IsServed {T O P : Type 0} (w : Words T O P) (agents : List Asked) (begun now : P) (store : T) (whole : Bool) (told_all : State) : Type 0 where
   pub scripts : List Asked
   pub told : List Entry
-  pub talk : IsTalk w.entries w.keeps w.goes w.tells w.said agents begun now store (told_all ≡ state.On) scripts told
+  pub talk : IsTalk (opens w store) w.entries w.keeps w.goes w.tells w.said agents begun now store (told_all ≡ state.On) scripts told
   pub greeted : told_all ≡ state.On → 0 < length talk.talk
   pub cut : EachCut scripts (w.entries store)
   pub runs : whole ≡ true → EachRuns scripts (w.entries store)

@@ -3,12 +3,16 @@ use Rattle.std.specs.Prelude.{◌≡◌, ◌⊎◌, ℕ, suc, ◌-◌, ◌<◌, 
 use Rattle.opfs_base.specs.Texts.{Text}
 use Rattle.opfs_hall.specs.History.{IsPrefix}
 use Rattle.opfs_hist.specs.declared.entry.Entry.{Entry}
+use Rattle.opfs_machine.specs.Histories.{state_after}
+use Rattle.opfs_machine.specs.Openings.{Opening}
 use Rattle.opfs_port.specs.Said.{Said}
 use Rattle.opfs_script.specs.Scripts.{Asked}
 use Rattle.opfs_script.specs.declared.step.Step.TheVariants as step
+use Rattle.opfs_store.specs.Acts.Acting.{awaited}
+use Rattle.opfs_store.specs.declared.acts.acted.AwaitState.TheVariants as await
 use Rattle.opfs_turns.specs.Agents.{next_number}
 use Rattle.opfs_serving.specs.Exchanges.{Call, Exchange, all_told, entries_told, ready, scripts_after, spoken, unanswered, with_call}
-use Rattle.opfs_serving.specs.Lines.{IsAsked}
+use Rattle.opfs_serving.specs.Lines.{Awaits, IsAsked}
 
 -- Of the agent that was asked, the entries that are told by now have all that it was asked for, but for the last where it awaits.
 abbrev pub HasAnswer : List Asked → Option Call → List Entry → Type 0
@@ -17,7 +21,19 @@ HasAnswer scripts (Some c) told =
     (a : Asked) → slice_get scripts (c.agent - 1) ≡ Some a
     → (length a.steps < next_number c.agent told) ⊎ ((tag : Text) × (c.step ≡ step.Await tag) × (length a.steps ≤ next_number c.agent told))
 
-module _ {T : Type 0} (entries : T → List Entry) (keeps : T → Type 0) where
+-- An await was looked after: at a moment at which all that was told had been entered, and no entry but these, its tag was neither posted nor was nobody
+-- left who could post it.
+pub record IsLookedAfter (o : Opening) (told last : List Entry) (k : ℕ) (tag : Text) : Type 0 where
+  pub front : List Entry
+  pub all : IsPrefix told front
+  pub before : IsPrefix front last
+  pub not_due : awaited (state_after o front) k tag ≡ await.Neither
+
+-- So was each await.
+abbrev pub AreLookedAfter : Opening → List Asked → List Entry → List Entry → Type 0
+AreLookedAfter o scripts told last = (k : ℕ) (tag : Text) → Awaits scripts told k tag → IsLookedAfter o told last k tag
+
+module _ {T : Type 0} (o : Opening) (entries : T → List Entry) (keeps : T → Type 0) where
   -- One exchange, where so many were before, agents were asked for these scripts, and these entries were told.
   pub record IsExchange (count : ℕ) (scripts : List Asked) (told : List Entry) (x : Exchange T) : Type 0 where
     -- what the line asks, and its answer
@@ -28,6 +44,8 @@ module _ {T : Type 0} (entries : T → List Entry) (keeps : T → Type 0) where
     pub front : IsPrefix (told ++ entries_told x.answer) (entries x.at)
     -- what the store keeps at that moment
     pub kept : keeps x.at
+    -- where a line is heard, each await that is not answered was looked after
+    pub looked : (line : Text) → x.line ≡ Some line → AreLookedAfter o scripts told (entries x.at)
     -- the step has its answer
     pub answered : HasAnswer (with_call scripts x.call) x.call (told ++ entries_told x.answer)
 
@@ -39,15 +57,15 @@ module _ {T : Type 0} (entries : T → List Entry) (keeps : T → Type 0) where
 -- A conversation so far: what was said since its beginning; the scripts that were asked for, the entries that were told, which the store has, and how
 -- the store has gone on since each answer, with all that it had then. Where all is well each answer went out; else there may be one that did not, or was
 -- not made at all.
-pub record IsTalk {T P : Type 0} (entries : T → List Entry) (keeps : T → Type 0) (goes : T → T → Type 0) (tells : Type 0) (said : P → List (Said T)) (agents : List Asked) (begun now : P) (last : T)
+pub record IsTalk {T P : Type 0} (o : Opening) (entries : T → List Entry) (keeps : T → Type 0) (goes : T → T → Type 0) (tells : Type 0) (said : P → List (Said T)) (agents : List Asked) (begun now : P) (last : T)
     (sound : Type 0) (scripts : List Asked) (told : List Entry) : Type 0 where
   pub talk : List (Exchange T)
   pub left : List (Exchange T)
   pub few : length left ≤ 1
   pub whole : sound → left ≡ []
   pub said_is : tells → (said now ≡ said begun ++ (spoken talk ++ unanswered left))
-      ⊎ ((said now ≡ said begun ++ (spoken talk ++ spoken left)) × AreExchanges entries keeps 0 agents [] (talk ++ left))
-  pub right : AreExchanges entries keeps 0 agents [] talk
+      ⊎ ((said now ≡ said begun ++ (spoken talk ++ spoken left)) × AreExchanges o entries keeps 0 agents [] (talk ++ left))
+  pub right : AreExchanges o entries keeps 0 agents [] talk
   pub scripts_are : scripts ≡ scripts_after agents (talk ++ left)
   pub told_is : told ≡ all_told talk
   pub front : IsPrefix told (entries last)

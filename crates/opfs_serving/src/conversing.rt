@@ -1,9 +1,11 @@
 //! A conversation, line by line.
 
-ghost use Rattle.std.specs.Prelude.{◌≡◌, ◌≢◌, ◌<◌, ℕ, false, [], length, slice_get};
-ghost use Rattle.opfs_serving.specs.Served.{Serves, ServesOn, words};
+ghost use Rattle.std.specs.Prelude.{◌≡◌, ◌≢◌, ◌<◌, ℕ, false, [], length, slice_get, Some};
+ghost use Rattle.opfs_serving.specs.Seats.{HasBegunToWait, SeatSeen};
+ghost use Rattle.opfs_serving.specs.Served.{AreWaiting, IsQuiet, Serves, ServesOn, words};
 
 use crate::answering::{answer_line, refuse, show};
+use crate::looking::look_turn;
 use crate::polling::poll;
 use crate::progress::State;
 use crate::refusal::LineRefusal;
@@ -27,11 +29,12 @@ fn poll_at<S: Store, P: Port<S>, R: AllocGlobal + Wait>(
     port: &mut P,
 ) -> Watch<S>
     requires within { place < length table.old.seats.items }
-    requires serves { Serves (words S.opening S.entries S.keeps S.goes_on S.tells P.tells P.said) hall.now port.old watch table.old.seats.items table.old.progress }
+    requires serves { Serves (words S.opening S.opened S.entries S.keeps S.goes_on S.tells P.tells P.said) hall.now port.old watch table.old.seats.items table.old.progress }
     requires on { table.old.progress.state ≡ State.On }
-    ensures on_with { ServesOn (words S.opening S.entries S.keeps S.goes_on S.tells P.tells P.said) hall.now port.old port.new watch result table.old.seats.items table.new.seats.items table.old.progress table.new.progress }
+    ensures on_with { ServesOn (words S.opening S.opened S.entries S.keeps S.goes_on S.tells P.tells P.said) hall.now port.old port.new watch result table.old.seats.items table.new.seats.items table.old.progress table.new.progress }
     ensures count { length table.new.seats.items ≡ length table.old.seats.items }
     ensures whole { table.new.progress.whole ≡ table.old.progress.whole }
+    ensures begun { table.new.progress.state ≡ State.On → (x : SeatSeen S.Opening) → slice_get table.new.seats.items place ≡ Some x → HasBegunToWait x }
     ensures others { (i : ℕ) → i ≢ place → slice_get table.new.seats.items i ≡ slice_get table.old.seats.items i }
     ensures rest { P.tells → P.rest port.new ≡ P.rest port.old }
     ensures still { table.new.progress.state ≡ State.On → table.old.progress.state ≡ State.On }
@@ -60,10 +63,11 @@ pub fn poll_on<S: Store, P: Port<S>, R: AllocGlobal + Wait>(
     port: &mut P,
 ) -> Watch<S>
     requires within { place < length table.old.seats.items }
-    requires serves { Serves (words S.opening S.entries S.keeps S.goes_on S.tells P.tells P.said) hall.now port.old watch table.old.seats.items table.old.progress }
-    ensures on_with { ServesOn (words S.opening S.entries S.keeps S.goes_on S.tells P.tells P.said) hall.now port.old port.new watch result table.old.seats.items table.new.seats.items table.old.progress table.new.progress }
+    requires serves { Serves (words S.opening S.opened S.entries S.keeps S.goes_on S.tells P.tells P.said) hall.now port.old watch table.old.seats.items table.old.progress }
+    ensures on_with { ServesOn (words S.opening S.opened S.entries S.keeps S.goes_on S.tells P.tells P.said) hall.now port.old port.new watch result table.old.seats.items table.new.seats.items table.old.progress table.new.progress }
     ensures count { length table.new.seats.items ≡ length table.old.seats.items }
     ensures whole { table.new.progress.whole ≡ table.old.progress.whole }
+    ensures begun { table.new.progress.state ≡ State.On → (x : SeatSeen S.Opening) → slice_get table.new.seats.items place ≡ Some x → HasBegunToWait x }
     ensures others { (i : ℕ) → i ≢ place → slice_get table.new.seats.items i ≡ slice_get table.old.seats.items i }
     ensures rest { P.tells → P.rest port.new ≡ P.rest port.old }
     ensures still { table.new.progress.state ≡ State.On → table.old.progress.state ≡ State.On }
@@ -82,8 +86,9 @@ fn poll_all<S: Store, P: Port<S>, R: AllocGlobal + Wait>(
     table: &mut Table<S>,
     port: &mut P,
 ) -> Watch<S>
-    requires serves { Serves (words S.opening S.entries S.keeps S.goes_on S.tells P.tells P.said) hall.now port.old watch table.old.seats.items table.old.progress }
-    ensures on_with { ServesOn (words S.opening S.entries S.keeps S.goes_on S.tells P.tells P.said) hall.now port.old port.new watch result table.old.seats.items table.new.seats.items table.old.progress table.new.progress }
+    requires serves { Serves (words S.opening S.opened S.entries S.keeps S.goes_on S.tells P.tells P.said) hall.now port.old watch table.old.seats.items table.old.progress }
+    ensures on_with { ServesOn (words S.opening S.opened S.entries S.keeps S.goes_on S.tells P.tells P.said) hall.now port.old port.new watch result table.old.seats.items table.new.seats.items table.old.progress table.new.progress }
+    ensures begun { table.new.progress.state ≡ State.On → AreWaiting table.new.seats.items }
     ensures rest { P.tells → P.rest port.new ≡ P.rest port.old }
     ensures still { table.new.progress.state ≡ State.On → table.old.progress.state ≡ State.On }
 {
@@ -92,6 +97,32 @@ fn poll_all<S: Store, P: Port<S>, R: AllocGlobal + Wait>(
         watch = poll_on(rt, hall, watch, table, place, port);
     }
     watch
+}
+
+// Looks after all awaits until none is due, or no answers are told any more.
+fn settle<S: Store, P: Port<S>, R: AllocGlobal + Wait>(
+    rt: &R,
+    hall: &Hall<S>,
+    mut watch: Watch<S>,
+    table: &mut Table<S>,
+    port: &mut P,
+) -> Watch<S>
+    requires serves { Serves (words S.opening S.opened S.entries S.keeps S.goes_on S.tells P.tells P.said) hall.now port.old watch table.old.seats.items table.old.progress }
+    ensures on_with { ServesOn (words S.opening S.opened S.entries S.keeps S.goes_on S.tells P.tells P.said) hall.now port.old port.new watch result table.old.seats.items table.new.seats.items table.old.progress table.new.progress }
+    ensures quiet { table.new.progress.state ≡ State.On → IsQuiet (words S.opening S.opened S.entries S.keeps S.goes_on S.tells P.tells P.said) result table.new.seats.items }
+{
+    for _ in rt.forever() {
+        watch = poll_all(rt, hall, watch, table, port);
+        if table.progress.state != State::On {
+            return watch;
+        }
+        let (now, due) = look_turn(rt, hall, watch, table.seats.as_slice());
+        watch = now;
+        if !due {
+            return watch;
+        }
+    }
+    unreachable!()
 }
 
 // What is left to tell after a fault of the port.
@@ -112,9 +143,10 @@ fn hear_line<S: Store, P: Port<S>, R: AllocGlobal + Wait>(
     table: &mut Table<S>,
     port: &mut P,
 ) -> (Watch<S>, bool)
-    requires serves { Serves (words S.opening S.entries S.keeps S.goes_on S.tells P.tells P.said) hall.now port.old watch table.old.seats.items table.old.progress }
+    requires serves { Serves (words S.opening S.opened S.entries S.keeps S.goes_on S.tells P.tells P.said) hall.now port.old watch table.old.seats.items table.old.progress }
     requires on { table.old.progress.state ≡ State.On }
-    ensures on_with { ServesOn (words S.opening S.entries S.keeps S.goes_on S.tells P.tells P.said) hall.now port.old port.new watch result.0 table.old.seats.items table.new.seats.items table.old.progress table.new.progress }
+    requires quiet { IsQuiet (words S.opening S.opened S.entries S.keeps S.goes_on S.tells P.tells P.said) watch table.old.seats.items }
+    ensures on_with { ServesOn (words S.opening S.opened S.entries S.keeps S.goes_on S.tells P.tells P.said) hall.now port.old port.new watch result.0 table.old.seats.items table.new.seats.items table.old.progress table.new.progress }
     ensures end { result.1 ≡ false → table.new.progress.state ≡ State.On → P.tells → P.rest port.new ≡ [] }
 {
     let mut line = Vec::new(rt.alloc());
@@ -135,7 +167,7 @@ fn hear_line<S: Store, P: Port<S>, R: AllocGlobal + Wait>(
     }
 }
 
-/// Hears lines and answers each, and looks after the awaits behind it, to the end of the lines, or until the port fails or memory is wanting.
+/// Hears lines and answers each, once no await is due, to the end of the lines, or until the port fails or memory is wanting.
 pub fn converse<S: Store, P: Port<S>, R: AllocGlobal + Wait>(
     rt: &R,
     hall: &Hall<S>,
@@ -143,16 +175,17 @@ pub fn converse<S: Store, P: Port<S>, R: AllocGlobal + Wait>(
     table: &mut Table<S>,
     port: &mut P,
 ) -> Watch<S>
-    requires serves { Serves (words S.opening S.entries S.keeps S.goes_on S.tells P.tells P.said) hall.now port.old watch table.old.seats.items table.old.progress }
-    ensures on_with { ServesOn (words S.opening S.entries S.keeps S.goes_on S.tells P.tells P.said) hall.now port.old port.new watch result table.old.seats.items table.new.seats.items table.old.progress table.new.progress }
+    requires serves { Serves (words S.opening S.opened S.entries S.keeps S.goes_on S.tells P.tells P.said) hall.now port.old watch table.old.seats.items table.old.progress }
+    ensures on_with { ServesOn (words S.opening S.opened S.entries S.keeps S.goes_on S.tells P.tells P.said) hall.now port.old port.new watch result table.old.seats.items table.new.seats.items table.old.progress table.new.progress }
     ensures all { table.new.progress.state ≡ State.On → P.tells → P.rest port.new ≡ [] }
 {
     for _ in rt.forever() {
+        watch = settle(rt, hall, watch, table, port);
         if table.progress.state != State::On {
             return watch;
         }
         let (now, more) = hear_line(rt, hall, watch, table, port);
-        watch = poll_all(rt, hall, now, table, port);
+        watch = now;
         if !more {
             return watch;
         }

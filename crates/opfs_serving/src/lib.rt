@@ -7,6 +7,7 @@ mod answering;
 mod asking;
 mod conversing;
 mod ending;
+mod looking;
 mod polling;
 mod progress;
 mod refusal;

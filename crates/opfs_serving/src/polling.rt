@@ -1,10 +1,11 @@
 //! An await that is looked after.
 
 ghost use Rattle.std.specs.Prelude.{◌≡◌, ℕ, Bool, true, false, None, Some, List, IfOk, OnErr};
+ghost use Rattle.opfs_machine.specs.Agents.{waits_for};
 ghost use Rattle.opfs_runner.specs.declared.agent_rows.agent_row.AgentRow.{AgentRow as Row};
 ghost use Rattle.opfs_script.specs.Scripts.{Asked};
 ghost use Rattle.opfs_script_run.specs.declared.runs.hand.Hand.{Hand};
-ghost use Rattle.opfs_serving.specs.Seats.{IsAt, IsMidway};
+ghost use Rattle.opfs_serving.specs.Seats.{HasBegunToWait, IsAt, IsMidway};
 ghost use Rattle.opfs_turns.specs.Agents.{AgentSeen};
 
 use crate::seat::Seat;
@@ -38,6 +39,7 @@ fn poll_agent<S: Store, R: Wait>(
         → IsMidway S.tells hall.now k asked agent.new rows hand None) }
     ensures waits { IfOk result (λ done. done ≡ false → (k : ℕ) (asked : Asked) (rows : List Row) (hand : Hand) → IsMidway S.tells hall.now k asked agent.old rows hand (Some tag.now)
         → IsMidway S.tells hall.now k asked agent.new rows hand (Some tag.now)) }
+    ensures begun { IfOk result (λ done. done ≡ false → waits_for agent.new.waiting tag.now ≡ true) }
     ensures err { OnErr result ((k : ℕ) (asked : Asked) (rows : List Row) (hand : Hand) → IsMidway S.tells hall.now k asked agent.old rows hand (Some tag.now)
         → IsMidway S.tells hall.now k asked agent.new rows hand (Some tag.now)) }
 {
@@ -60,6 +62,7 @@ pub fn poll<S: Store, R: Wait>(
         → (b : AgentSeen S.Opening) × (seat.new.agent ≡ Some b) × IsAt S.tells hall.now k asked seat.new b }
     ensures gone { seat.old.agent ≡ None → seat.new ≡ seat.old }
     ensures there { IfOk result (λ done. done ≡ true → (a : AgentSeen S.Opening) × (seat.old.agent ≡ Some a)) }
+    ensures begun { IfOk result (λ done. HasBegunToWait seat.new) }
     ensures free { IfOk result (λ done. done ≡ false → seat.new.awaits ≡ None → seat.new ≡ seat.old) }
 {
     let Some(agent) = seat.agent.as_mut() else {

@@ -1,9 +1,9 @@
 use Rattle.std.proofs.Common.{sym, subst, slice_set}
 use Rattle.opfs_hall.specs.Seen.{WatchSeen}
 use Rattle.opfs_hist.specs.declared.entry.Entry.{Entry}
-use Rattle.opfs_serving.proofs.Replies.{HasSeen, awaits-there, of-seat, refused-looked, serving-looked}
+use Rattle.opfs_serving.proofs.Replies.{HasSeen, awaits-there, of-seat, quiet-looked, refused-looked, serving-looked}
 use Rattle.opfs_serving.specs.Requests.{IsRefusedAt}
-use Rattle.opfs_serving.specs.Served.{IsServing, words}
+use Rattle.opfs_serving.specs.Served.{IsQuiet, IsServing, words}
 use Rattle.opfs_serving.specs.declared.refusal.LineRefusal.TheVariants as refusal
 use Rattle.opfs_serving.proofs.answering.refuse_waiting.Goals as goal
 
@@ -12,7 +12,7 @@ look-requires-clause-own g c = let s = c.requires.serves in s.1.is.stands.hall
 
 pub look-requires-clause-there : goal.look-requires-clause-there
 look-requires-clause-there g c =
-    let w = words g.S.Chronicle.opening g.S.Chronicle.entries g.S.Store.keeps g.S.Chronicle.goes_on g.S.Store.tells g.P.Port.tells g.P.Port.said in
+    let w = words g.S.Chronicle.opening g.S.Store.opened g.S.Chronicle.entries g.S.Store.keeps g.S.Chronicle.goes_on g.S.Store.tells g.P.Port.tells g.P.Port.said in
     let s = c.requires.serves in
     let r = c.requires.awaits in
     awaits-there w g.S.Chronicle.lasts g.S.Chronicle.stays c.args.hall.now s.1.agents s.1.begun s.0 c.args.watch c.args.table.now.seats.items c.args.table.now.progress s.1.is c.requires.on r.0
@@ -20,7 +20,7 @@ look-requires-clause-there g c =
 
 pub refuse-requires-clause-serves : goal.refuse-requires-clause-serves
 refuse-requires-clause-serves g c =
-    let w = words g.S.Chronicle.opening g.S.Chronicle.entries g.S.Store.keeps g.S.Chronicle.goes_on g.S.Store.tells g.P.Port.tells g.P.Port.said in
+    let w = words g.S.Chronicle.opening g.S.Store.opened g.S.Chronicle.entries g.S.Store.keeps g.S.Chronicle.goes_on g.S.Store.tells g.P.Port.tells g.P.Port.said in
     let s = c.requires.serves in
     let r = c.requires.awaits in
     let same = of-seat r.0 c.args.table.now.seats.items c.args.place r.1 c.index_mut.result.now r.2 r.3 c.index_mut.ensures.value in (
@@ -34,9 +34,19 @@ refuse-requires-clause-serves g c =
       },
     )
 
+pub refuse-requires-clause-quiet : goal.refuse-requires-clause-quiet
+refuse-requires-clause-quiet g c =
+    let w = words g.S.Chronicle.opening g.S.Store.opened g.S.Chronicle.entries g.S.Store.keeps g.S.Chronicle.goes_on g.S.Store.tells g.P.Port.tells g.P.Port.said in
+    let s = c.requires.serves in
+    let r = c.requires.awaits in
+    let same = of-seat r.0 c.args.table.now.seats.items c.args.place r.1 c.index_mut.result.now r.2 r.3 c.index_mut.ensures.value in
+    subst (λ t. IsQuiet w t (slice_set c.args.table.now.seats.items c.args.place c.look.new.seat)) (sym c.look.ensures.same)
+    (quiet-looked w g.S.Chronicle.lasts g.S.Chronicle.stays c.args.hall.now s.1.agents s.1.begun s.0 c.args.watch c.args.table.now.seats.items c.args.table.now.progress s.1.is c.requires.on r.0
+    c.args.place r.1 c.look.new.seat r.2 r.3 r.4 (subst (λ y. HasSeen w c.args.watch y c.look.new.seat) (sym same) c.look.ensures.looked) c.requires.quiet)
+
 pub returns : goal.returns
 returns g c = λ line before x rest of_line awaits came agents begun v.
-    let w = words g.S.Chronicle.opening g.S.Chronicle.entries g.S.Store.keeps g.S.Chronicle.goes_on g.S.Store.tells g.P.Port.tells g.P.Port.said in
+    let w = words g.S.Chronicle.opening g.S.Store.opened g.S.Chronicle.entries g.S.Store.keeps g.S.Chronicle.goes_on g.S.Store.tells g.P.Port.tells g.P.Port.said in
     let seats = c.args.table.now.seats.items in
     let same = of-seat line seats c.args.place x c.index_mut.result.now rest of_line c.index_mut.ensures.value in
     let seen = subst (λ y. HasSeen w c.args.watch y c.look.new.seat) (sym same) c.look.ensures.looked in

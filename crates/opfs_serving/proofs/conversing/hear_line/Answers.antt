@@ -18,12 +18,12 @@ returns-in-Ok-TooLong-clause-on_with g c =
 
 pub returns-in-Ok-End-clause-on_with : goal.returns-in-Ok-End-clause-on_with
 returns-in-Ok-End-clause-on_with g c = λ agents begun v.
-    let w = words g.S.Chronicle.opening g.S.Chronicle.entries g.S.Store.keeps g.S.Chronicle.goes_on g.S.Store.tells g.P.Port.tells g.P.Port.said in
+    let w = words g.S.Chronicle.opening g.S.Store.opened g.S.Chronicle.entries g.S.Store.keeps g.S.Chronicle.goes_on g.S.Store.tells g.P.Port.tells g.P.Port.said in
     serving-waits w g.S.Chronicle.lasts g.S.Chronicle.stays c.args.hall.now agents begun c.args.port.now c.args.watch c.args.table.now.seats.items c.args.table.now.progress v
     c.hear.new.self c.args.table.now.progress (λ b. (c.in-Ok-End.ensures.end c.in-Ok-End.field-0-is b).0) (λ on. on) (λ on. refl) (λ is. is)
 
 pub returns-clause-on_with : goal.returns-clause-on_with
 returns-clause-on_with g c = λ agents begun v.
-    let w = words g.S.Chronicle.opening g.S.Chronicle.entries g.S.Store.keeps g.S.Chronicle.goes_on g.S.Store.tells g.P.Port.tells g.P.Port.said in
+    let w = words g.S.Chronicle.opening g.S.Store.opened g.S.Chronicle.entries g.S.Store.keeps g.S.Chronicle.goes_on g.S.Store.tells g.P.Port.tells g.P.Port.said in
     serving-stops w g.S.Chronicle.lasts g.S.Chronicle.stays c.args.hall.now agents begun c.args.port.now c.args.watch c.args.table.now.seats.items c.args.table.now.progress v
     c.hear.new.self _ (λ b. (c.in-Err.ensures.stays b).0) c.state_of-table.ensures refl

@@ -1,37 +1,40 @@
-use Rattle.std.proofs.Common.{refl, true, ◌∙◌}
-use Rattle.opfs_serving.proofs.Starting.{serving-begins}
+use Rattle.std.proofs.Common.{ap, length, refl, true, ◌∙◌}
+use Rattle.opfs_serving.proofs.Starting.{people-of, serving-begins}
 use Rattle.opfs_serving.specs.Served.{words}
 use Rattle.opfs_serving.specs.declared.progress.State.TheVariants as state
 use Rattle.opfs_serving.proofs.serving.serve.Goals as goal
 
 pub greet-greeted-requires-clause-silent : goal.greet-greeted-requires-clause-silent
 greet-greeted-requires-clause-silent g c =
-    let w = words g.S.Chronicle.opening g.S.Chronicle.entries g.S.Store.keeps g.S.Chronicle.goes_on g.S.Store.tells g.P.Port.tells g.P.Port.said in
+    let w = words g.S.Chronicle.opening g.S.Store.opened g.S.Chronicle.entries g.S.Store.keeps g.S.Chronicle.goes_on g.S.Store.tells g.P.Port.tells g.P.Port.said in
     let started = c.in-Ok-begin_agents.started in
     let known = c.in-Ok-begin_agents.ensures in
+    let people = ap (λ o. length (g.S.Store.opened o).agents) known.opening ∙ people-of (g.S.Store.opened (g.S.Chronicle.opening c.args.store)) c.args.agents.now c.requires.agents in
     let begun =
     serving-begins w started.court c.args.agents.now started.agents.items c.in-Ok.hands.items c.seat_all.new.seats.items c.seat_all.ensures.seated c.in-Ok.ensures known.ready known.count c.requires.alone
-    c.args.port.now c.begin-watch.result started.owner (record { count = 0; state = state.On; whole = true }) c.requires.few known.agents known.owner c.begin-watch.ensures.pass c.begin-watch.ensures.opening refl in
+    c.args.port.now c.begin-watch.result started.owner (record { count = 0; state = state.On; whole = true }) c.requires.few known.agents people known.owner c.begin-watch.ensures.pass c.begin-watch.ensures.opening refl in
     (c.args.agents.now, begun)
 
 pub converse-spoken-requires : goal.converse-spoken-requires
 converse-spoken-requires g c =
-    let w = words g.S.Chronicle.opening g.S.Chronicle.entries g.S.Store.keeps g.S.Chronicle.goes_on g.S.Store.tells g.P.Port.tells g.P.Port.said in
+    let w = words g.S.Chronicle.opening g.S.Store.opened g.S.Chronicle.entries g.S.Store.keeps g.S.Chronicle.goes_on g.S.Store.tells g.P.Port.tells g.P.Port.said in
     let started = c.in-Ok-begin_agents.started in
     let known = c.in-Ok-begin_agents.ensures in
+    let people = ap (λ o. length (g.S.Store.opened o).agents) known.opening ∙ people-of (g.S.Store.opened (g.S.Chronicle.opening c.args.store)) c.args.agents.now c.requires.agents in
     let begun =
     serving-begins w started.court c.args.agents.now started.agents.items c.in-Ok.hands.items c.seat_all.new.seats.items c.seat_all.ensures.seated c.in-Ok.ensures known.ready known.count c.requires.alone
-    c.args.port.now c.begin-watch.result started.owner (record { count = 0; state = state.On; whole = true }) c.requires.few known.agents known.owner c.begin-watch.ensures.pass c.begin-watch.ensures.opening refl in
+    c.args.port.now c.begin-watch.result started.owner (record { count = 0; state = state.On; whole = true }) c.requires.few known.agents people known.owner c.begin-watch.ensures.pass c.begin-watch.ensures.opening refl in
     record { serves = record { agents = c.args.agents.now; begun = c.args.port.now; is = c.greet-greeted.ensures c.args.agents.now begun } }
 
 pub finish-requires : goal.finish-requires
 finish-requires g c =
-    let w = words g.S.Chronicle.opening g.S.Chronicle.entries g.S.Store.keeps g.S.Chronicle.goes_on g.S.Store.tells g.P.Port.tells g.P.Port.said in
+    let w = words g.S.Chronicle.opening g.S.Store.opened g.S.Chronicle.entries g.S.Store.keeps g.S.Chronicle.goes_on g.S.Store.tells g.P.Port.tells g.P.Port.said in
     let started = c.in-Ok-begin_agents.started in
     let known = c.in-Ok-begin_agents.ensures in
+    let people = ap (λ o. length (g.S.Store.opened o).agents) known.opening ∙ people-of (g.S.Store.opened (g.S.Chronicle.opening c.args.store)) c.args.agents.now c.requires.agents in
     let begun =
     serving-begins w started.court c.args.agents.now started.agents.items c.in-Ok.hands.items c.seat_all.new.seats.items c.seat_all.ensures.seated c.in-Ok.ensures known.ready known.count c.requires.alone
-    c.args.port.now c.begin-watch.result started.owner (record { count = 0; state = state.On; whole = true }) c.requires.few known.agents known.owner c.begin-watch.ensures.pass c.begin-watch.ensures.opening refl in
+    c.args.port.now c.begin-watch.result started.owner (record { count = 0; state = state.On; whole = true }) c.requires.few known.agents people known.owner c.begin-watch.ensures.pass c.begin-watch.ensures.opening refl in
     record {
       serves = record {
         agents = c.args.agents.now;
@@ -42,12 +45,13 @@ finish-requires g c =
 
 pub returns-clause-served : goal.returns-clause-served
 returns-clause-served g c =
-    let w = words g.S.Chronicle.opening g.S.Chronicle.entries g.S.Store.keeps g.S.Chronicle.goes_on g.S.Store.tells g.P.Port.tells g.P.Port.said in
+    let w = words g.S.Chronicle.opening g.S.Store.opened g.S.Chronicle.entries g.S.Store.keeps g.S.Chronicle.goes_on g.S.Store.tells g.P.Port.tells g.P.Port.said in
     let started = c.in-Ok-begin_agents.started in
     let known = c.in-Ok-begin_agents.ensures in
+    let people = ap (λ o. length (g.S.Store.opened o).agents) known.opening ∙ people-of (g.S.Store.opened (g.S.Chronicle.opening c.args.store)) c.args.agents.now c.requires.agents in
     let begun =
     serving-begins w started.court c.args.agents.now started.agents.items c.in-Ok.hands.items c.seat_all.new.seats.items c.seat_all.ensures.seated c.in-Ok.ensures known.ready known.count c.requires.alone
-    c.args.port.now c.begin-watch.result started.owner (record { count = 0; state = state.On; whole = true }) c.requires.few known.agents known.owner c.begin-watch.ensures.pass c.begin-watch.ensures.opening refl in
+    c.args.port.now c.begin-watch.result started.owner (record { count = 0; state = state.On; whole = true }) c.requires.few known.agents people known.owner c.begin-watch.ensures.pass c.begin-watch.ensures.opening refl in
     c.finish.ensures.served c.args.agents.now c.args.port.now (c.converse-spoken.ensures.on_with c.args.agents.now c.args.port.now (c.greet-greeted.ensures c.args.agents.now begun))
 
 pub returns-clause-all : goal.returns-clause-all
