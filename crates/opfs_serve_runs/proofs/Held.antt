@@ -31,7 +31,7 @@ use Rattle.opfs_serve_runs.proofs.Talked.{after-who, conversation}
 module _ {D P : Type 0} (w : DiskWords D) (tells : Type 0) (said : P → List (Said (DeskSeen D))) (agents : List Asked) (begun now : P) (from : Recovered D w) (run : Completion D) (ended : State) where
   module _ (reads : w.crashes → (d : D) → w.since d (w.moment d) (w.content d)) (store : DeskSeen D) (whole : Bool) (callers : List Who) (same : map caller_by callers ≡ map who_of agents)
       (fixed : store.fixed ≡ fixed_by w from callers) (scripts : List Asked) (told : List Entry)
-      (talk : IsTalk entries_of (KeepsAll w) (StaysKept w) tells said agents begun now store (ended ≡ state.On) scripts told) where
+      (talk : IsTalk store.fixed.opening entries_of (KeepsAll w) (StaysKept w) tells said agents begun now store (ended ≡ state.On) scripts told) where
     -- the scripts are of the same agents
     who : map caller_by callers ≡ map who_of scripts
     who = same ∙ sym (ap (λ (l : List Asked). map who_of l) talk.scripts_are ∙ after-who (talk.talk ++ talk.left) agents)

@@ -13,7 +13,7 @@ use Rattle.opfs_script.specs.Scripts.{Asked}
 use Rattle.opfs_script.specs.declared.step.Step.{Step}
 use Rattle.opfs_script_run.specs.Stage.Openings.{who_of}
 use Rattle.opfs_serving.specs.Exchanges.{Call, Exchange, add_step, entries_told, scripts_after, spoken, unanswered, with_call}
-use Rattle.opfs_serving.specs.Talks.{AreExchanges, IsTalk}
+use Rattle.opfs_serving.specs.Talks.{AreExchanges, AreLookedAfter, IsTalk}
 use Rattle.opfs_serving.specs.declared.progress.State.{State}
 use Rattle.opfs_serving.specs.declared.progress.State.TheVariants as state
 use Rattle.opfs_serve_runs.specs.Conversations.{AreExchangesOn, IsConversation}
@@ -41,7 +41,7 @@ front-all P (x ∷ xs) ys all = All-cons P x xs (All-head P x (xs ++ ys) all) (f
 -- ---- the exchanges, as the run's end has them
 
 module _ {D : Type 0} (w : DiskWords D) (store : DeskSeen D) (disk : D) (ends : EndsKeeping w store disk) (o : Opening) (history : List Entry) (opens : store.fixed.opening ≡ o) (same : history ≡ entries_of store) where
-  exchanges-on : (count : ℕ) (scripts : List Asked) (told : List Entry) (xs : List (Exchange (DeskSeen D))) → AreExchanges entries_of (KeepsAll w) count scripts told xs → All (λ x. IsPrefix (entries_of x.at) (entries_of store)) xs
+  exchanges-on : (count : ℕ) (scripts : List Asked) (told : List Entry) (xs : List (Exchange (DeskSeen D))) → AreExchanges store.fixed.opening entries_of (KeepsAll w) count scripts told xs → All (λ x. IsPrefix (entries_of x.at) (entries_of store)) xs
       → All (λ x. StaysKept w x.at store) xs → AreExchangesOn w o history w.tells (w.moment disk) (w.since disk) count scripts told xs
   exchanges-on count scripts told [] are begins goes = tt
   exchanges-on count scripts told (x ∷ xs) are begins goes = (
@@ -50,6 +50,7 @@ module _ {D : Type 0} (w : DiskWords D) (store : DeskSeen D) (disk : D) (ends : 
       first = are.0.first;
       front = are.0.front;
       begins = subst (λ (es : List Entry). IsPrefix (entries_of x.at) es) (sym same) (All-head (λ (y : Exchange (DeskSeen D)). IsPrefix (entries_of y.at) (entries_of store)) x xs begins);
+      looked = λ line is. subst (λ (y : Opening). AreLookedAfter y scripts told (entries_of x.at)) opens (are.0.looked line is);
       answered = are.0.answered;
       kept = has-kept w store disk ends o history opens same x.at are.0.kept (All-head (λ (y : Exchange (DeskSeen D)). StaysKept w y.at store) x xs goes);
     },
@@ -58,7 +59,7 @@ module _ {D : Type 0} (w : DiskWords D) (store : DeskSeen D) (disk : D) (ends : 
   )
 
   pub conversation : {P : Type 0} (tells : Type 0) (said : P → List (Said (DeskSeen D))) (agents : List Asked) (begun now : P) (ended : State) (scripts : List Asked) (told : List Entry)
-      → (t : IsTalk entries_of (KeepsAll w) (StaysKept w) tells said agents begun now store (ended ≡ state.On) scripts told) → (ended ≡ state.On → 0 < length t.talk) → (ended ≡ state.On → told ≡ entries_of store)
+      → (t : IsTalk store.fixed.opening entries_of (KeepsAll w) (StaysKept w) tells said agents begun now store (ended ≡ state.On) scripts told) → (ended ≡ state.On → 0 < length t.talk) → (ended ≡ state.On → told ≡ entries_of store)
       → IsConversation w o history w.tells (w.moment disk) (w.since disk) tells said agents begun now ended scripts
   conversation {P} tells said agents begun now ended scripts told t greeted all = record {
     talk = t.talk;
@@ -72,7 +73,7 @@ module _ {D : Type 0} (w : DiskWords D) (store : DeskSeen D) (disk : D) (ends : 
     all = λ well. (t.whole well, sym t.told_is ∙ all well ∙ sym same);
   }
     where
-      by : (said now ≡ said begun ++ (spoken t.talk ++ unanswered t.left)) ⊎ ((said now ≡ said begun ++ (spoken t.talk ++ spoken t.left)) × AreExchanges entries_of (KeepsAll w) 0 agents [] (t.talk ++ t.left))
+      by : (said now ≡ said begun ++ (spoken t.talk ++ unanswered t.left)) ⊎ ((said now ≡ said begun ++ (spoken t.talk ++ spoken t.left)) × AreExchanges store.fixed.opening entries_of (KeepsAll w) 0 agents [] (t.talk ++ t.left))
           → (said now ≡ said begun ++ (spoken t.talk ++ unanswered t.left))
           ⊎ ((said now ≡ said begun ++ (spoken t.talk ++ spoken t.left)) × AreExchangesOn w o history w.tells (w.moment disk) (w.since disk) 0 agents [] (t.talk ++ t.left))
       by (inl is) = inl is

@@ -1,5 +1,5 @@
 -- A conversation over an image: what was said, the history, and what each image has since an answer went out. This project's own.
-use Rattle.std.specs.Prelude.{◌≡◌, ◌⊎◌, ℕ, suc, ◌<◌, ◌≤◌, List, [], ◌∷◌, ◌++◌, length, take}
+use Rattle.std.specs.Prelude.{◌≡◌, ◌⊎◌, ℕ, suc, ◌<◌, ◌≤◌, List, [], ◌∷◌, ◌++◌, length, take, Some}
 use Rattle.opfs_base.specs.Texts.{Text}
 use Rattle.opfs_books.specs.Laws.Fronts.{IsShownOnce}
 use Rattle.opfs_desk.specs.Seen.{DeskSeen, disk_of, entries_of}
@@ -15,7 +15,7 @@ use Rattle.opfs_port.specs.Said.{Said}
 use Rattle.opfs_script.specs.Scripts.{Asked}
 use Rattle.opfs_serving.specs.Exchanges.{Exchange, all_told, entries_told, ready, scripts_after, spoken, unanswered, with_call}
 use Rattle.opfs_serving.specs.Lines.{IsAsked}
-use Rattle.opfs_serving.specs.Talks.{HasAnswer}
+use Rattle.opfs_serving.specs.Talks.{AreLookedAfter, HasAnswer}
 use Rattle.opfs_serving.specs.declared.progress.State.{State}
 use Rattle.opfs_serving.specs.declared.progress.State.TheVariants as state
 
@@ -40,6 +40,8 @@ module _ {D : Type 0} (w : DiskWords D) (o : Opening) (history : List Entry) (Kn
     -- all that is told was entered when it went out, and what was entered then begins the history
     pub front : IsPrefix (told ++ entries_told x.answer) (entries_of x.at)
     pub begins : IsPrefix (entries_of x.at) history
+    -- where a line is heard, each await that is not answered was looked after
+    pub looked : (line : Text) → x.line ≡ Some line → AreLookedAfter o scripts told (entries_of x.at)
     -- the step has its answer
     pub answered : HasAnswer (with_call scripts x.call) x.call (told ++ entries_told x.answer)
     -- from the moment when it went out on, each image that a stop may leave has all that was entered by then

@@ -19,7 +19,7 @@ module _ {D : Type 0} (w : DiskWords D) (o : Opening) (history : List Entry) (Kn
   exchanges-on : (count : ℕ) (scripts : List Asked) (told : List Entry) (xs : List (Exchange (DeskSeen D))) → AreExchangesOn w o history Known last left count scripts told xs → AreExchangesOn w o history Known' last' left' count scripts told xs
   exchanges-on count scripts told [] is = tt
   exchanges-on count scripts told (x ∷ xs) is = (
-    record { asked = is.0.asked; first = is.0.first; front = is.0.front; begins = is.0.begins; answered = is.0.answered; kept = λ k. kept-on _ _ k (is.0.kept (known k)) },
+    record { asked = is.0.asked; first = is.0.first; front = is.0.front; begins = is.0.begins; looked = is.0.looked; answered = is.0.answered; kept = λ k. kept-on _ _ k (is.0.kept (known k)) },
     exchanges-on (suc count) (with_call scripts x.call) (told ++ entries_told x.answer) xs is.1,
   )
 
