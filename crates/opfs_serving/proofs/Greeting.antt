@@ -19,6 +19,7 @@ use Rattle.opfs_serving.specs.declared.progress.Progress.{Progress}
 use Rattle.opfs_serving.specs.declared.progress.State.{State}
 use Rattle.opfs_serving.specs.declared.progress.State.TheVariants as state
 use Rattle.opfs_serving.proofs.Cleared.{IsGone}
+use Rattle.opfs_serving.proofs.Faulted.{faulted-more, faulted-none, faults-said, faults-told}
 use Rattle.opfs_serving.proofs.Seating.{none-there, seated-cut, seated-has_all, seated-run, seated-weaker}
 use Rattle.opfs_serving.proofs.Talking.{front-drop, front-none, front-told, talk-more, talk-perhaps, talk-stands}
 
@@ -35,6 +36,12 @@ failed-not-on e = cc
 
 short-not-on : state.Short ≡ state.On → ⊥
 short-not-on e = cc
+
+short-not-failed : state.Short ≡ state.Failed → ⊥
+short-not-failed e = cc
+
+on-not-failed : (s : State) → s ≡ state.On → s ≡ state.Failed → ⊥
+on-not-failed s on failed = cc
 
 module _ {T O P : Type 0} (w : Words T O P) (lasts : (u v x : T) → w.goes u v → w.goes v x → w.goes u x) (stays : (v : T) → w.goes v v) (of : HallSeen O) (agents : List Asked) (now : P)
     (watch : WatchSeen O Entry T) (seats : List (SeatSeen O)) (p : Progress) (u : IsSilent w of agents now watch seats p) where
@@ -61,12 +68,13 @@ module _ {T O P : Type 0} (w : Words T O P) (lasts : (u v x : T) → w.goes u v 
     };
     greeted = λ well. absurd (short-not-on well);
     all_told = λ well. absurd (short-not-on well);
+    faulted = faulted-none (w.faults now) state.Short short-not-failed;
   }
 
   -- ---- how many agents there are
 
   module _ (on : p.state ≡ state.On) (then : P) (later : WatchSeen O Entry T) (q : Progress) (text : Text) (n : ℕ) (count : n ≡ length seats) (text-is : text ≡ codes "ready " ++ decimal n)
-      (turned : HasTurned w.opening w.entries w.keeps w.goes of watch later) (said : HasSaid w.tells w.said text later.last now then p q) where
+      (turned : HasTurned w.opening w.entries w.keeps w.goes of watch later) (said : HasSaid w.tells w.said w.faults text later.last now then p q) where
     -- It stands on, with what was said in a turn.
     serving-turned : (told : List Entry) (t : IsTalk (w.opened of.opening) w.entries w.keeps w.goes w.tells w.said agents now then later.last (q.state ≡ state.On) v.scripts told)
         → (q.state ≡ state.On → (q.count ≡ length told) × (0 < length t.talk) × (told ≡ v.told)) → IsServing w of agents now then later seats q
@@ -89,6 +97,8 @@ module _ {T O P : Type 0} (w : Words T O P) (lasts : (u v x : T) → w.goes u v 
       };
       greeted = λ is. (well is).1;
       all_told = λ is. subst (AreTold seats) (sym (well is).2) u.all_told;
+      faulted = faulted-more (w.faults now) (w.faults now) (w.faults then) p.state q.state (faulted-none (w.faults now) p.state (on-not-failed p.state on))
+          (faults-said w.tells w.said w.faults text later.last now then p q said);
     }
 
     abbrev greeted : Exchange T
@@ -151,7 +161,7 @@ module _ {T O P : Type 0} (w : Words T O P) (lasts : (u v x : T) → w.goes u v 
       serving-has_all = seated-has_all w.reads of (p.state ≡ state.On) p.whole s.scripts seats watch.pass.ended s.seated gone-there watch.pass s.hall s.owner s.all refl
 
       module _ (store : T) (opening : w.opening store ≡ of.opening) (goes : w.goes watch.last store) (front : IsPrefix (w.entries watch.last) (w.entries store)) (kept : w.keeps store)
-          (ended : All (HasEnded (λ (e : Entry). e.agent) (w.entries store)) watch.pass.ended) (then : P) (q : Progress) (more : HasToldMore w.entries w.tells w.said store now then p q) where
+          (ended : All (HasEnded (λ (e : Entry). e.agent) (w.entries store)) watch.pass.ended) (then : P) (q : Progress) (more : HasToldMore w.entries w.tells w.said w.faults store now then p q) where
         abbrev ServedFrom : Opening → List Entry → Type 0
         ServedFrom o told = (t : IsTalk o w.entries w.keeps w.goes w.tells w.said agents begun then store (q.state ≡ state.On) s.scripts told) × (q.state ≡ state.On → (0 < length t.talk) × (told ≡ w.entries store))
 
@@ -232,12 +242,13 @@ module _ {T O P : Type 0} (w : Words T O P) (lasts : (u v x : T) → w.goes u v 
               cut = seated-cut w.reads of (p.state ≡ state.On) p.whole s.scripts seats watch.pass.ended s.seated gone-there (w.entries store) ended;
               runs = λ whole. seated-run w.reads of (p.state ≡ state.On) p.whole s.scripts seats watch.pass.ended s.seated gone-there (w.entries store) ended (sym more.whole ∙ whole);
               all = λ well. (held.1 well).1;
+              faulted = faulted-more (w.faults begun) (w.faults now) (w.faults then) p.state q.state u.faulted (faults-told w.entries w.tells w.said w.faults store now then p q more);
             }
 
       -- The store that the hall gave is the one that told what was left.
       pub serving-ends : (closed store : T) → store ≡ closed → w.opening closed ≡ of.opening → w.goes watch.last closed → IsPrefix (w.entries watch.last) (w.entries closed) → w.keeps closed
-          → All (HasEnded (λ (e : Entry). e.agent) (w.entries closed)) watch.pass.ended → (then : P) (q : Progress) → HasToldMore w.entries w.tells w.said store now then p q
+          → All (HasEnded (λ (e : Entry). e.agent) (w.entries closed)) watch.pass.ended → (then : P) (q : Progress) → HasToldMore w.entries w.tells w.said w.faults store now then p q
           → IsServed w agents begun then store q.whole q.state
       serving-ends closed store same opening goes front kept ended then q more =
           subst (λ v. IsServed w agents begun then v q.whole q.state) (sym same)
-          (served-here closed opening goes front kept ended then q (subst (λ v. HasToldMore w.entries w.tells w.said v now then p q) same more))
+          (served-here closed opening goes front kept ended then q (subst (λ v. HasToldMore w.entries w.tells w.said w.faults v now then p q) same more))

@@ -19,6 +19,7 @@ use Rattle.opfs_serving.specs.Turns.{HasToldMore, HasTurned}
 use Rattle.opfs_serving.specs.declared.progress.Progress.{Progress}
 use Rattle.opfs_serving.specs.declared.progress.State.TheVariants as state
 use Rattle.opfs_turns.specs.Agents.{AgentSeen}
+use Rattle.opfs_serving.proofs.Faulted.{faulted-more, faults-told}
 use Rattle.opfs_serving.proofs.Midway.{midway-whole}
 use Rattle.opfs_serving.proofs.Polls.{gone-none, set-same, stands-midway, stands-still, stands-told}
 use Rattle.opfs_serving.proofs.Seating.{place, seated-ended, seated-script}
@@ -106,7 +107,7 @@ module _ {T O P : Type 0} (w : Words T O P) (lasts : (u v x : T) → w.goes u v 
     (watch : WatchSeen O Entry T) (seats : List (SeatSeen O)) (p : Progress) (v : IsServing w of agents begun now watch seats p) (i : ℕ) (x : SeatSeen O) (seat-is : slice_get seats i ≡ Some x) where
   pub serving-left_told : (y x' : SeatSeen O) → slice_get seats i ≡ Some y → x'.agent ≡ None → (b : Bool) → (b ≡ true → (p.whole ≡ true) × (p.state ≡ state.On) × (y.awaits ≡ None)) → (after : WatchSeen O Entry T)
       → ((a : AgentSeen O) → x.agent ≡ Some a → x'.rows ≡ []) → (x.agent ≡ None → (after ≡ watch) × (x' ≡ x)) → ((a : AgentSeen O) → x.agent ≡ Some a → HasLeft w.reads of x a watch after)
-      → (later : P) (last : WatchSeen O Entry T) (q : Progress) → HasTurned w.opening w.entries w.keeps w.goes of after last → HasToldMore w.entries w.tells w.said last.last now later (record p { whole = b }) q
+      → (later : P) (last : WatchSeen O Entry T) (q : Progress) → HasTurned w.opening w.entries w.keeps w.goes of after last → HasToldMore w.entries w.tells w.said w.faults last.last now later (record p { whole = b }) q
       → IsServing w of agents begun later last (slice_set seats i x') q
   serving-left_told y x' same left b whole after rows none has later last q turned told =
       let same : y ≡ x = some-same (sym same ∙ seat-is) in
@@ -118,6 +119,8 @@ module _ {T O P : Type 0} (w : Words T O P) (lasts : (u v x : T) → w.goes u v 
       record {
         stands = then.0;
         greeted = λ on. (then.1 on).1;
+        faulted = faulted-more (w.faults begun) (w.faults now) (w.faults later) p.state q.state v.faulted
+            (faults-told w.entries w.tells w.said w.faults last.last now later (record p { whole = b }) q told);
         all_told = λ on. told-set v.stands.told then.0.told (front on) seats (v.all_told (then.1 on).0) i x x' seat-is
             (λ gone. over-by (then.1 on).0 then.0.told (front on) (subst (λ l. IsPrefix after.pass.base l) (sym (then.1 on).3) turned.noted) x.agent refl)
             (λ a here free. absurd (none-some x'.agent a left here));

@@ -1,6 +1,7 @@
 pub mod Awaiting
 pub mod Cleared
 pub mod Ends
+pub mod Faulted
 pub mod Greeting
 pub mod Leaves
 pub mod Midway

@@ -19,6 +19,7 @@ use Rattle.opfs_serving.specs.declared.progress.Progress.{Progress}
 use Rattle.opfs_serving.specs.declared.progress.State.{State}
 use Rattle.opfs_serving.specs.declared.progress.State.TheVariants as state
 use Rattle.opfs_turns.specs.Agents.{AgentSeen}
+use Rattle.opfs_serving.proofs.Faulted.{FaultsOn, faulted-more, faults-same, faults-short, faults-told}
 use Rattle.opfs_serving.proofs.Midway.{midway-ends}
 use Rattle.opfs_serving.proofs.Seating.{place, seated-polled, seated-script, seated-weaker}
 use Rattle.opfs_serving.proofs.Showing.{shown-base, told-set}
@@ -124,7 +125,7 @@ module _ {T O P : Type 0} (w : Words T O P) (lasts : (u v x : T) → w.goes u v 
 
     -- What was entered is told in a turn.
     module _ (later : P) (after : WatchSeen O Entry T) (q : Progress) (begins : p.state ≡ state.On → 0 < length v.talk.talk)
-        (turned : HasTurned w.opening w.entries w.keeps w.goes of watch after) (told : HasToldMore w.entries w.tells w.said after.last now later p q) where
+        (turned : HasTurned w.opening w.entries w.keeps w.goes of watch after) (told : HasToldMore w.entries w.tells w.said w.faults after.last now later p q) where
       -- It stands, and all is told.
       abbrev pub Stood : Type 0
       Stood = (s : IsStanding w of agents begun later after seats q) × (q.state ≡ state.On → (p.state ≡ state.On) × (0 < length s.talk.talk) × IsPrefix v.told s.told × (s.told ≡ w.entries after.last))
@@ -293,25 +294,28 @@ module _ {T O P : Type 0} (w : Words T O P) (lasts : (u v x : T) → w.goes u v 
     -- It stands on, and no more was said.
     as-told : (later : P) (after : WatchSeen O Entry T) (then_seats : List (SeatSeen O)) (q : Progress) → (q.state ≡ state.On → p.state ≡ state.On)
         → (s : IsStanding w of agents begun later after then_seats q) × (s.told ≡ v.stands.told) × (s.talk.talk ≡ v.stands.talk.talk)
-        → (q.state ≡ state.On → AreTold then_seats v.stands.told) → IsServing w of agents begun later after then_seats q
-    as-told later after then_seats q as_well s told = record {
+        → (q.state ≡ state.On → AreTold then_seats v.stands.told) → FaultsOn (w.faults now) (w.faults later) p.state q.state → IsServing w of agents begun later after then_seats q
+    as-told later after then_seats q as_well s told faults = record {
       stands = s.0;
       greeted = λ on. subst (λ (l : List (Exchange T)). 0 < length l) (sym s.2) (v.greeted (as_well on));
       all_told = λ on. subst (AreTold then_seats) (sym s.1) (told on);
+      faulted = faulted-more (w.faults begun) (w.faults now) (w.faults later) p.state q.state v.faulted faults;
     }
 
     pub serving-stands : (later : P) (after : WatchSeen O Entry T) (q : Progress) → (w.tells → w.said later ≡ w.said now) → HasGone w of watch after
-        → (q.state ≡ state.On → p.state ≡ state.On) → (q.state ≡ state.On → q.count ≡ p.count) → (q.whole ≡ true → p.whole ≡ true) → IsServing w of agents begun later after seats q
-    serving-stands later after q same m as_well count whole = as-told later after seats q as_well (stands-still v.stands later after q same m as_well count whole) (λ on. v.all_told (as_well on))
+        → (q.state ≡ state.On → p.state ≡ state.On) → (q.state ≡ state.On → q.count ≡ p.count) → (q.whole ≡ true → p.whole ≡ true) → FaultsOn (w.faults now) (w.faults later) p.state q.state
+        → IsServing w of agents begun later after seats q
+    serving-stands later after q same m as_well count whole faults = as-told later after seats q as_well (stands-still v.stands later after q same m as_well count whole) (λ on. v.all_told (as_well on)) faults
 
     -- The same, in no turn.
     pub serving-waits : (later : P) (q : Progress) → (w.tells → w.said later ≡ w.said now) → (q.state ≡ state.On → p.state ≡ state.On) → (q.state ≡ state.On → q.count ≡ p.count) → (q.whole ≡ true → p.whole ≡ true)
-        → IsServing w of agents begun later watch seats q
-    serving-waits later q same as_well count whole = serving-stands later watch q same (gone-none w of stays watch v.stands.opened) as_well count whole
+        → FaultsOn (w.faults now) (w.faults later) p.state q.state → IsServing w of agents begun later watch seats q
+    serving-waits later q same as_well count whole faults = serving-stands later watch q same (gone-none w of stays watch v.stands.opened) as_well count whole faults
 
     -- No more is told.
-    pub serving-stops : (later : P) (q : Progress) → (w.tells → w.said later ≡ w.said now) → q.state ≢ state.On → q.whole ≡ p.whole → IsServing w of agents begun later watch seats q
-    serving-stops later q same ill whole = serving-waits later q same (λ on. absurd (ill on)) (λ on. absurd (ill on)) (λ e. sym whole ∙ e)
+    pub serving-stops : (later : P) (q : Progress) → (w.tells → w.said later ≡ w.said now) → q.state ≢ state.On → q.whole ≡ p.whole → FaultsOn (w.faults now) (w.faults later) p.state q.state
+        → IsServing w of agents begun later watch seats q
+    serving-stops later q same ill whole faults = serving-waits later q same (λ on. absurd (ill on)) (λ on. absurd (ill on)) (λ e. sym whole ∙ e) faults
 
     -- There are few seats, each with an agent of the store.
     pub serving-few : (length seats ≤ 64) × (length seats ≤ length (w.opened of.opening).agents)
@@ -340,6 +344,7 @@ module _ {T O P : Type 0} (w : Words T O P) (lasts : (u v x : T) → w.goes u v 
         serving-polled same = as-told now watch (slice_set seats i x') p (λ e. e) (stands-polled v.stands i x seat-is on x' goes gone)
             (λ e. told-set v.stands.told v.stands.told (prefix_refl v.stands.told) seats (v.all_told on) i x x' seat-is over-there
             (λ a here free. (v.all_told on).shown i x a seat-is (ap (λ (y : SeatSeen O). y.agent) (sym (same free)) ∙ here) (ap (λ (y : SeatSeen O). y.awaits) (sym (same free)) ∙ free)))
+            (faults-same (w.faults now) p.state)
 
         -- There was no memory for that.
         pub serving-unpolled : (q : Progress) → q ≡ record p { state = state.Short } → IsServing w of agents begun now watch (slice_set seats i x') q
@@ -350,6 +355,7 @@ module _ {T O P : Type 0} (w : Words T O P) (lasts : (u v x : T) → w.goes u v 
               stands = (stands-still' (slice_set seats i x') s.0 q (λ e. ill e) (ap (λ (r : Progress). r.whole) is)).0;
               greeted = λ e. absurd (ill e);
               all_told = λ e. absurd (ill e);
+              faulted = faulted-more (w.faults begun) (w.faults now) (w.faults now) p.state q.state v.faulted (faults-short (w.faults now) p.state q.state (ap (λ (r : Progress). r.state) is));
             }
           where
             stands-still' : (xs : List (SeatSeen O)) (s : IsStanding w of agents begun now watch xs p) (q : Progress) → (q.state ≡ state.On → ⊥) → q.whole ≡ p.whole → (u : IsStanding w of agents begun now watch xs q) × (u.told ≡ s.told)
@@ -397,7 +403,7 @@ module _ {T O P : Type 0} (w : Words T O P) (lasts : (u v x : T) → w.goes u v 
     pub polled-pass : (shown.pass.hall ≡ of) × (shown.pass.agent ≡ 0)
     polled-pass = (gone-noted.hall ∙ v.stands.hall, gone-noted.owner ∙ v.stands.owner)
 
-    pub serving-answered : (later : P) (after : WatchSeen O Entry T) (q : Progress) → HasTurned w.opening w.entries w.keeps w.goes of shown after → HasToldMore w.entries w.tells w.said after.last now later p q
+    pub serving-answered : (later : P) (after : WatchSeen O Entry T) (q : Progress) → HasTurned w.opening w.entries w.keeps w.goes of shown after → HasToldMore w.entries w.tells w.said w.faults after.last now later p q
         → IsServing w of agents begun later after (slice_set seats i x') q
     serving-answered later after q turned told =
         let polled = stands-polled w lasts stays of agents begun now watch seats p v.stands i x seat-is on x' goes (λ none. absurd (none-some x.agent here.0 none here.1)) in
@@ -410,6 +416,7 @@ module _ {T O P : Type 0} (w : Words T O P) (lasts : (u v x : T) → w.goes u v 
         record {
           stands = then.0;
           greeted = λ e. (then.1 e).1;
+          faulted = faulted-more (w.faults begun) (w.faults now) (w.faults later) p.state q.state v.faulted (faults-told w.entries w.tells w.said w.faults after.last now later p q told);
           all_told = λ e. told-set v.stands.told then.0.told (subst (λ l. IsPrefix l then.0.told) same (then.1 e).2) seats (v.all_told on) i x x' seat-is (λ none. absurd (none-some x'.agent at.1 none at.2))
               (λ a is free. subst (λ (b : AgentSeen O). IsPrefix (own_entries b) (entries_of (suc i) then.0.told)) (some-same (sym at.2 ∙ is))
               (shown-base (suc i) at.1 at.1.pass.base then.0.told at.3.pending at.3.agent refl
@@ -422,7 +429,7 @@ module _ {T O P : Type 0} (w : Words T O P) (lasts : (u v x : T) → w.goes u v 
 pub serving-turned : {T O P : Type 0} (w : Words T O P) (lasts : (u v x : T) → w.goes u v → w.goes v x → w.goes u x) (stays : (v : T) → w.goes v v) (of : HallSeen O) (now : P) (watch after : WatchSeen O Entry T)
     (seats : List (SeatSeen O)) (p : Progress) → HasTurned w.opening w.entries w.keeps w.goes of watch after → ServesOn w of now now watch after seats seats p p
 serving-turned w lasts stays of now watch after seats p turned agents begun v =
-    serving-stands w lasts stays of agents begun now watch seats p v now after p (λ t. refl) (gone-turned w of watch after turned) (λ e. e) (λ e. refl) (λ e. e)
+    serving-stands w lasts stays of agents begun now watch seats p v now after p (λ t. refl) (gone-turned w of watch after turned) (λ e. e) (λ e. refl) (λ e. e) (faults-same (w.faults now) p.state)
 
 -- It stands, and stands on since a moment.
 pub record GoesServing {T O P : Type 0} (w : Words T O P) (of : HallSeen O) (before now : P) (watch later : WatchSeen O Entry T) (seats then_seats : List (SeatSeen O)) (p q : Progress) : Type 0 where

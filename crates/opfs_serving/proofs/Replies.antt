@@ -27,6 +27,7 @@ use Rattle.opfs_serving.specs.declared.progress.State.TheVariants as state
 use Rattle.opfs_serving.specs.declared.refusal.LineRefusal.{LineRefusal}
 use Rattle.opfs_serving.specs.declared.refusal.LineRefusal.TheVariants as refusal
 use Rattle.opfs_serving.proofs.Awaiting.{still-midway}
+use Rattle.opfs_serving.proofs.Faulted.{faults-said, faults-short, faults-told}
 use Rattle.opfs_serving.proofs.Leaves.{left-over}
 use Rattle.opfs_serving.proofs.Midway.{midway-whole}
 use Rattle.opfs_serving.proofs.Polls.{serving-polled, set-there, stands-midway}
@@ -45,11 +46,11 @@ none-some : {X : Type 0} (o : Option X) (x : X) → o ≡ None → o ≡ Some x 
 none-some o x none some = cc
 
 -- What is said of a text that was told, by how all stands.
-out-by : {T P : Type 0} (tells : Type 0) (said : P → List (Said T)) (text : Text) (at : T) (old new : P) (p q : Progress) → HasSaid tells said text at old new p q → (s : State) → q.state ≡ s
+out-by : {T P : Type 0} (tells : Type 0) (said : P → List (Said T)) (faults : P → ℕ) (text : Text) (at : T) (old new : P) (p q : Progress) → HasSaid tells said faults text at old new p q → (s : State) → q.state ≡ s
     → GoesOut tells said (told text at ∷ []) old new s
-out-by tells said text at old new p q h state.On is = h.on is
-out-by tells said text at old new p q h state.Failed is = h.off
-out-by tells said text at old new p q h state.Short is = h.off
+out-by tells said faults text at old new p q h state.On is = h.on is
+out-by tells said faults text at old new p q h state.Failed is = h.off
+out-by tells said faults text at old new p q h state.Short is = h.off
 
 -- The agent of a seat that is free may end, with all of its script.
 module _ {O : Type 0} (tells : Type 0) (of : HallSeen O) (k : ℕ) (asked : Asked) (x : SeatSeen O) (a : AgentSeen O) where
@@ -119,11 +120,11 @@ module _ {T O P : Type 0} (w : Words T O P) (lasts : (a b c : T) → w.goes a b 
       serves w lasts stays of agents begun before port watch seats p u on line came quiet port watch q seats None here.told
       (talk-silent w lasts stays of agents begun before port watch seats p u on line came quiet None q short)
       (seated-well (q.state ≡ state.On) q.whole watch.pass.ended (sym (ap (λ (y : Progress). y.whole) is)) refl)
-      here.emptied (λ well. absurd (short-on q.state short well)) here.hall here.owner here.opened
+      here.emptied (λ well. absurd (short-on q.state short well)) here.hall here.owner here.opened (faults-short (w.faults port) p.state q.state short)
 
   -- The line was refused.
   pub line-refused : (why : LineRefusal) → IsRefusedAt (w.entries watch.last) line seats why → (now : P) (after : WatchSeen O Entry T) (q : Progress) (text : Text) → text ≡ codes "? " ++ refusal_text why
-      → HasTurned w.opening w.entries w.keeps w.goes of watch after → HasSaid w.tells w.said text after.last port now p q → IsServing w of agents begun now after seats q
+      → HasTurned w.opening w.entries w.keeps w.goes of watch after → HasSaid w.tells w.said w.faults text after.last port now p q → IsServing w of agents begun now after seats q
   line-refused why refusal now after q text is turned said =
       let talk = talk-by w lasts stays of agents begun before port watch seats p u on line came quiet now None (refused (refusal_text why)) after.last q
       (record {
@@ -135,7 +136,7 @@ module _ {T O P : Type 0} (w : Words T O P) (lasts : (a b c : T) → w.goes a b 
         answered = tt;
       })
       turned.goes_on turned.front q.state refl
-      (out-by w.tells w.said (codes "? " ++ refusal_text why) after.last port now p q (subst (λ t. HasSaid w.tells w.said t after.last port now p q) is said) q.state refl) in
+      (out-by w.tells w.said w.faults (codes "? " ++ refusal_text why) after.last port now p q (subst (λ t. HasSaid w.tells w.said w.faults t after.last port now p q) is said) q.state refl) in
       serves w lasts stays of agents begun before port watch seats p u on line came quiet now after q seats None talk.0 talk.1
       (seated-well (q.state ≡ state.On) q.whole after.pass.ended (sym said.whole) (sym (ap (λ (y : PassSeen O Entry). y.ended) turned.pass)))
       here.emptied
@@ -147,6 +148,7 @@ module _ {T O P : Type 0} (w : Words T O P) (lasts : (a b c : T) → w.goes a b 
       (ap (λ (y : PassSeen O Entry). y.hall) turned.pass ∙ here.hall)
       (ap (λ (y : PassSeen O Entry). y.agent) turned.pass ∙ here.owner)
       turned.opened
+      (faults-said w.tells w.said w.faults text after.last port now p q said)
 
   -- ---- the agent at a place has ended
 
@@ -163,7 +165,7 @@ module _ {T O P : Type 0} (w : Words T O P) (lasts : (a b c : T) → w.goes a b 
     may = free-ends w.reads of (suc i) script.0 x free.agent (here.seated.midway on i x free.agent script.0 there free.there script.1) free.free
 
     pub agent-ended : (left after : WatchSeen O Entry T) (now : P) (q : Progress) → HasLeft w.reads of x free.agent watch left → x'.agent ≡ None → x'.rows ≡ []
-        → HasTurned w.opening w.entries w.keeps w.goes of left after → HasToldMore w.entries w.tells w.said after.last port now p q → IsServing w of agents begun now after (slice_set seats i x') q
+        → HasTurned w.opening w.entries w.keeps w.goes of left after → HasToldMore w.entries w.tells w.said w.faults after.last port now p q → IsServing w of agents begun now after (slice_set seats i x') q
     agent-ended left after now q l none empty turned more =
         let goes : w.goes watch.last after.last = subst (λ t. w.goes t after.last) l.last turned.goes_on in
         let front : IsPrefix (w.entries watch.last) (w.entries after.last) = subst (λ t. IsPrefix (w.entries t) (w.entries after.last)) l.last turned.front in
@@ -186,6 +188,7 @@ module _ {T O P : Type 0} (w : Words T O P) (lasts : (a b c : T) → w.goes a b 
         (ap (λ (y : PassSeen O Entry). y.hall) turned.pass ∙ ap (λ (y : PassSeen O Entry). y.hall) l.pass ∙ here.hall)
         (ap (λ (y : PassSeen O Entry). y.agent) turned.pass ∙ ap (λ (y : PassSeen O Entry). y.agent) l.pass ∙ here.owner)
         turned.opened
+        (faults-told w.entries w.tells w.said w.faults after.last port now p q more)
 
 -- ---- an agent that awaits, and has looked
 

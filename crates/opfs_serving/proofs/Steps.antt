@@ -29,6 +29,7 @@ use Rattle.opfs_serving.specs.Turns.{GoesOut, HasToldMore, HasTurned}
 use Rattle.opfs_serving.specs.declared.progress.Progress.{Progress}
 use Rattle.opfs_serving.specs.declared.progress.State.{State}
 use Rattle.opfs_serving.specs.declared.progress.State.TheVariants as state
+use Rattle.opfs_serving.proofs.Faulted.{FaultsOn, faulted-more, faults-on, faults-short, faults-told}
 use Rattle.opfs_serving.proofs.Midway.{midway-ends}
 use Rattle.opfs_serving.proofs.Quiet.{none-due, number-grows, number-is}
 use Rattle.opfs_serving.proofs.Seating.{get-add_step, get-add_step_other, length-add_step, place, seated-asked, seated-put, seated-script, seated-weaker}
@@ -79,7 +80,7 @@ module _ {T O P : Type 0} (w : Words T O P) (of : HallSeen O) (s : Step) (old mi
 
   pub has-made : (k : ℕ) (asked : Asked) (a : AgentSeen O) → old.agent ≡ Some a → IsAt w.reads of k asked old a → Goes → new ≡ mid
       → ((b : AgentSeen O) → mid.agent ≡ Some b → shown.pass ≡ record before.pass { base = b.pass.base }) → shown.last ≡ before.last → IsLeftOpen s mid.awaits
-      → HasTurned w.opening w.entries w.keeps w.goes of shown after → HasToldMore w.entries w.tells w.said after.last port now p q
+      → HasTurned w.opening w.entries w.keeps w.goes of shown after → HasToldMore w.entries w.tells w.said w.faults after.last port now p q
       → HasMade w of s old new before after port now p q
   has-made k asked a there at goes same shows last awaits turned told =
       let first = goes k asked a there at in
@@ -166,7 +167,7 @@ module _ {T O P : Type 0} (w : Words T O P) (lasts : (a b c : T) → w.goes a b 
   }
 
   then-told : (now : P) (more : List (Said T)) → w.tells → w.said now ≡ w.said port ++ more → w.said now ≡ w.said before ++ (heard line ∷ more)
-  then-told now more t is = is ∙ ap (λ l. l ++ more) (came t) ∙ append_assoc (w.said before) (heard line ∷ []) more
+  then-told now more t is = is ∙ ap (λ l. l ++ more) (came.said t) ∙ append_assoc (w.said before) (heard line ∷ []) more
 
   -- What was told then, and that something was said.
   abbrev pub Talked : P → Option Call → Answer → T → Progress → Type 0
@@ -185,7 +186,7 @@ module _ {T O P : Type 0} (w : Words T O P) (lasts : (a b c : T) → w.goes a b 
     where
       by : w.tells → (w.said now ≡ w.said port) ⊎ (w.said now ≡ w.said port ++ told_by answer at)
           → (w.said now ≡ w.said before ++ heard line ∷ []) ⊎ (w.said now ≡ w.said before ++ (heard line ∷ told_by answer at))
-      by t (inl is) = inl (is ∙ came t)
+      by t (inl is) = inl (is ∙ came.said t)
       by t (inr is) = inr (then-told now (told_by answer at) t is)
 
   -- The answer went out, where all is well; else it may have.
@@ -204,7 +205,7 @@ module _ {T O P : Type 0} (w : Words T O P) (lasts : (a b c : T) → w.goes a b 
       → IsTalk (w.opened of.opening) w.entries w.keeps w.goes w.tells w.said agents begun port watch.last (q.state ≡ state.On) (with_call v.scripts call) v.told
   talk-silent call q is =
       talk-lost (w.opened of.opening) w.entries w.keeps w.goes w.tells w.said agents begun lasts stays before watch.last (p.state ≡ state.On) v.scripts v.told v.talk on port (exchange call (entered []) watch.last) (q.state ≡ state.On)
-      came (stays watch.last) (prefix_refl (w.entries watch.last)) (short-on q.state is)
+      came.said (stays watch.last) (prefix_refl (w.entries watch.last)) (short-on q.state is)
 
   -- All entries were told that there are.
   pub all-told : (list : List Entry) → IsPrefix (w.entries watch.last) list → v.told ++ drop p.count list ≡ list
@@ -216,7 +217,7 @@ module _ {T O P : Type 0} (w : Words T O P) (lasts : (a b c : T) → w.goes a b 
       × (q.state ≡ state.On → (q.count ≡ length told) × (0 < length t.talk) × IsPrefix v.told told × (told ≡ w.entries at))
 
   pub talk-entered : (now : P) (call : Option Call) (at : T) (q : Progress) → ((es : List Entry) → v.told ++ es ≡ w.entries at → IsAsked many v.scripts v.told (Some line) call (entered es)) → w.keeps at
-      → HasAnswer (with_call v.scripts call) call (w.entries at) → w.goes watch.last at → IsPrefix (w.entries watch.last) (w.entries at) → HasToldMore w.entries w.tells w.said at port now p q
+      → HasAnswer (with_call v.scripts call) call (w.entries at) → w.goes watch.last at → IsPrefix (w.entries watch.last) (w.entries at) → HasToldMore w.entries w.tells w.said w.faults at port now p q
       → Entered now call at q
   talk-entered now call at q asks kept answered goes front more =
       let list = w.entries at in
@@ -238,9 +239,9 @@ module _ {T O P : Type 0} (w : Words T O P) (lasts : (a b c : T) → w.goes a b 
       → (t : IsTalk (w.opened of.opening) w.entries w.keeps w.goes w.tells w.said agents begun now after.last (q.state ≡ state.On) (with_call v.scripts call) told)
       → AreSeated w.reads of (q.state ≡ state.On) q.whole (with_call v.scripts call) then after.pass.ended
       → ((i : ℕ) (x : SeatSeen O) → slice_get then i ≡ Some x → x.agent ≡ None → x.rows ≡ []) → (q.state ≡ state.On → (q.count ≡ length told) × (0 < length t.talk) × AreTold then told)
-      → after.pass.hall ≡ of → after.pass.agent ≡ 0 → w.opening after.last ≡ of.opening
+      → after.pass.hall ≡ of → after.pass.agent ≡ 0 → w.opening after.last ≡ of.opening → FaultsOn (w.faults port) (w.faults now) p.state q.state
       → IsServing w of agents begun now after then q
-  serves now after q then call told talk seated emptied well hall owner opened = record {
+  serves now after q then call told talk seated emptied well hall owner opened faults = record {
     stands = record {
       scripts = with_call v.scripts call;
       told = told;
@@ -257,6 +258,8 @@ module _ {T O P : Type 0} (w : Words T O P) (lasts : (a b c : T) → w.goes a b 
     };
     greeted = λ is. (well is).1;
     all_told = λ is. (well is).2;
+    faulted = faulted-more (w.faults begun) (w.faults port) (w.faults now) p.state q.state
+        (faulted-more (w.faults begun) (w.faults before) (w.faults port) p.state p.state u.faulted (faults-on (w.faults before) (w.faults port) p.state p.state came.later on)) faults;
   }
 
   -- The seats without an agent have no rows, where another seat is at a place.
@@ -323,6 +326,7 @@ module _ {T O P : Type 0} (w : Words T O P) (lasts : (a b c : T) → w.goes a b 
         (ap (λ (y : PassSeen O Entry). y.hall) m.turned.pass ∙ v.hall)
         (ap (λ (y : PassSeen O Entry). y.agent) m.turned.pass ∙ v.owner)
         m.turned.opened
+        (faults-told w.entries w.tells w.said w.faults after.last port now p q m.told)
 
     pub step-missed : (now : P) (after : WatchSeen O Entry T) (q : Progress) → HasMissed w of s x x' watch after port now p q → IsServing w of agents begun now after (slice_set seats i x') q
     step-missed now after q m =
@@ -336,7 +340,7 @@ module _ {T O P : Type 0} (w : Words T O P) (lasts : (a b c : T) → w.goes a b 
         (λ well. on) (λ e. same ∙ e) (length-add_step i s v.scripts) (get-add_step i s v.scripts script.0 script.1) (λ k other. get-add_step_other i s v.scripts k other)
         found.1 found.2 (λ well. absurd (short-on q.state short well))))
         (emptied-set i x x' there (λ none. absurd (some-none x'.agent found.0 none found.1)))
-        (λ well. absurd (short-on q.state short well)) v.hall v.owner v.opened)
+        (λ well. absurd (short-on q.state short well)) v.hall v.owner v.opened (faults-short (w.faults port) p.state q.state short))
 
     -- One or the other.
     pub step-turned : (now : P) (after : WatchSeen O Entry T) (q : Progress) (done : Bool) → (done ≡ true → HasMade w of s x x' watch after port now p q) → (done ≡ false → HasMissed w of s x x' watch after port now p q)

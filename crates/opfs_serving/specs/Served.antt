@@ -6,6 +6,7 @@ use Rattle.opfs_hall.specs.Seen.{HallSeen, WatchSeen}
 use Rattle.opfs_hist.specs.declared.entry.Entry.{Entry}
 use Rattle.opfs_machine.specs.Histories.{state_after}
 use Rattle.opfs_machine.specs.Openings.{Opening}
+use Rattle.opfs_outside.specs.Faults.{Rose}
 use Rattle.opfs_port.specs.Said.{Said, heard}
 use Rattle.opfs_runner.specs.Stepping.{own_entries}
 use Rattle.opfs_script.specs.Limits.{is_origin_key}
@@ -33,9 +34,10 @@ pub record Words (T O P : Type 0) : Type 1 where
   pub reads : Type 0
   pub tells : Type 0
   pub said : P → List (Said T)
+  pub faults : P → ℕ
 
-abbrev pub words : {T O P : Type 0} → (T → O) → (O → Opening) → (T → List Entry) → (T → Type 0) → (T → T → Type 0) → Type 0 → Type 0 → (P → List (Said T)) → Words T O P
-words opening opened entries keeps goes reads tells said = record { opening = opening; opened = opened; entries = entries; keeps = keeps; goes = goes; reads = reads; tells = tells; said = said }
+abbrev pub words : {T O P : Type 0} → (T → O) → (O → Opening) → (T → List Entry) → (T → Type 0) → (T → T → Type 0) → Type 0 → Type 0 → (P → List (Said T)) → (P → ℕ) → Words T O P
+words opening opened entries keeps goes reads tells said faults = record { opening = opening; opened = opened; entries = entries; keeps = keeps; goes = goes; reads = reads; tells = tells; said = said; faults = faults }
 
 -- The machine's opening of a store.
 abbrev pub opens : {T O P : Type 0} → Words T O P → T → Opening
@@ -61,6 +63,11 @@ pub record IsStanding {T O P : Type 0} (w : Words T O P) (of : HallSeen O) (agen
   pub few : length scripts ≤ 64
   pub opened : w.opening watch.last ≡ of.opening
 
+-- A port's count of faults has not fallen since a moment, and where answers are told no more since the port failed, it has risen.
+pub record IsFaulted (begun now : ℕ) (s : State) : Type 0 where
+  pub later : begun ≤ now
+  pub failed : s ≡ state.Failed → Rose begun now
+
 -- How it stands before its first answer.
 pub record IsSilent {T O P : Type 0} (w : Words T O P) (of : HallSeen O) (agents : List Asked) (now : P) (watch : WatchSeen O Entry T) (seats : List (SeatSeen O)) (progress : Progress) : Type 0 where
   pub stands : IsStanding w of agents now now watch seats progress
@@ -72,6 +79,7 @@ pub record IsServing {T O P : Type 0} (w : Words T O P) (of : HallSeen O) (agent
   pub stands : IsStanding w of agents begun now watch seats progress
   pub greeted : progress.state ≡ state.On → 0 < length stands.talk.talk
   pub all_told : progress.state ≡ state.On → AreTold seats stands.told
+  pub faulted : IsFaulted (w.faults begun) (w.faults now) progress.state
 
 -- It stands on from one moment to another, whatever it began with.
 abbrev pub ServesOn : {T O P : Type 0} → Words T O P → HallSeen O → P → P → WatchSeen O Entry T → WatchSeen O Entry T → List (SeatSeen O) → List (SeatSeen O) → Progress → Progress → Type 0
@@ -99,8 +107,9 @@ pub record IsQuiet {T O P : Type 0} (w : Words T O P) (watch : WatchSeen O Entry
   pub not_due : AreNotDue (opens w watch.last) (w.entries watch.last) seats
 
 -- A line was heard since a moment, and no more.
-abbrev pub HasHeard : {T O P : Type 0} → Words T O P → Text → P → P → Type 0
-HasHeard w line before now = w.tells → w.said now ≡ w.said before ++ heard line ∷ []
+pub record HasHeard {T O P : Type 0} (w : Words T O P) (line : Text) (before now : P) : Type 0 where
+  pub said : w.tells → w.said now ≡ w.said before ++ heard line ∷ []
+  pub later : w.faults before ≤ w.faults now
 
 -- A conversation leaves a store: what was said; and in the store's history the entries of each agent are those of the script that it was asked for,
 -- or of a front of it where memory was short, or it awaited at the end. Where all went out, the first answer did, and all entries were told.
@@ -112,6 +121,7 @@ pub record IsServed {T O P : Type 0} (w : Words T O P) (agents : List Asked) (be
   pub cut : EachCut scripts (w.entries store)
   pub runs : whole ≡ true → EachRuns scripts (w.entries store)
   pub all : told_all ≡ state.On → told ≡ w.entries store
+  pub faulted : IsFaulted (w.faults begun) (w.faults now) told_all
 
 -- Agents that were asked for nothing yet.
 abbrev pub HasNoScripts : List Asked → Type 0

@@ -23,7 +23,7 @@ pub record HasMade {T O P : Type 0} (w : Words T O P) (of : HallSeen O) (s : Ste
       → (b : AgentSeen O) × (new.agent ≡ Some b) × IsAt w.reads of k (with_steps asked (asked.steps ++ s ∷ [])) new b × (b.pass.base ≡ base)
   pub awaits : IsLeftOpen s new.awaits
   pub turned : HasTurned w.opening w.entries w.keeps w.goes of (noted base before) after
-  pub told : HasToldMore w.entries w.tells w.said after.last port now p q
+  pub told : HasToldMore w.entries w.tells w.said w.faults after.last port now p q
 
 -- There was no memory for it: its agent may end, and nothing was told.
 pub record HasMissed {T O P : Type 0} (w : Words T O P) (of : HallSeen O) (s : Step) (old new : SeatSeen O) (before after : WatchSeen O Entry T) (port now : P) (p q : Progress) : Type 0 where

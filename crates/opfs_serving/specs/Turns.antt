@@ -1,9 +1,10 @@
 -- What a turn of the owner's pass leaves, and what was told in it. This project's own.
-use Rattle.std.specs.Prelude.{◌≡◌, ◌⊎◌, false, List, ◌++◌, drop, length}
+use Rattle.std.specs.Prelude.{◌≡◌, ◌≢◌, ◌⊎◌, ◌≤◌, ℕ, false, List, ◌++◌, drop, length}
 use Rattle.opfs_base.specs.Texts.{Text}
 use Rattle.opfs_hall.specs.History.{IsPrefix}
 use Rattle.opfs_hall.specs.Seen.{HallSeen, WatchSeen}
 use Rattle.opfs_hist.specs.declared.entry.Entry.{Entry}
+use Rattle.opfs_outside.specs.Faults.{Rose}
 use Rattle.opfs_port.specs.Said.{Said, WentOut}
 use Rattle.opfs_serving.specs.Exchanges.{entered, told_by}
 use Rattle.opfs_serving.specs.declared.progress.Progress.{Progress}
@@ -25,16 +26,20 @@ abbrev pub GoesOut : {T P : Type 0} → Type 0 → (P → List (Said T)) → Lis
 GoesOut tells said more old new state.On = tells → said new ≡ said old ++ more
 GoesOut tells said more old new off = tells → (said new ≡ said old) ⊎ (said new ≡ said old ++ more)
 
--- The lines of all entries of a store behind so many as were told before were told, with the store as it was then.
-pub record HasToldMore {T P : Type 0} (entries : T → List Entry) (tells : Type 0) (said : P → List (Said T)) (store : T) (old new : P) (before after : Progress) : Type 0 where
+-- The lines of all entries of a store behind so many as were told before were told, with the store as it was then. Where that failed, the port has.
+pub record HasToldMore {T P : Type 0} (entries : T → List Entry) (tells : Type 0) (said : P → List (Said T)) (faults : P → ℕ) (store : T) (old new : P) (before after : Progress) : Type 0 where
   pub told : before.state ≡ state.On → GoesOut tells said (told_by (entered (drop before.count (entries store))) store) old new after.state
   pub count : before.state ≡ state.On → after.state ≡ state.On → after.count ≡ length (entries store)
   pub off : (before.state ≡ state.On → ⊥) → (new ≡ old) × (after ≡ before)
   pub whole : after.whole ≡ before.whole
+  pub later : faults old ≤ faults new
+  pub cause : after.state ≡ state.Failed → before.state ≢ state.Failed → Rose (faults old) (faults new)
 
--- A text was told.
-pub record HasSaid {T P : Type 0} (tells : Type 0) (said : P → List (Said T)) (text : Text) (at : T) (old new : P) (before after : Progress) : Type 0 where
+-- A text was told. Where that failed, the port has.
+pub record HasSaid {T P : Type 0} (tells : Type 0) (said : P → List (Said T)) (faults : P → ℕ) (text : Text) (at : T) (old new : P) (before after : Progress) : Type 0 where
   pub on : after.state ≡ state.On → tells → WentOut text at (said old) (said new)
   pub off : tells → (said new ≡ said old) ⊎ WentOut text at (said old) (said new)
   pub count : after.count ≡ before.count
   pub whole : after.whole ≡ before.whole
+  pub later : faults old ≤ faults new
+  pub cause : after.state ≡ state.Failed → Rose (faults old) (faults new)

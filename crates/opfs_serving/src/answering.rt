@@ -56,8 +56,8 @@ fn step_turn<S: Store, P: Port<S>, R: AllocGlobal + Wait>(
     requires free { IsFree seat.old }
     requires midway { (a : AgentSeen S.Opening) → seat.old.agent ≡ Some a → (k : ℕ) × (asked : Asked) × IsAt S.tells hall.now k asked seat.old a }
     requires bounds { keeps_bounds step.now ≡ true }
-    ensures made { result.1 ≡ true → HasMade (words S.opening S.opened S.entries S.keeps S.goes_on S.tells P.tells P.said) hall.now step.now seat.old seat.new watch result.0 port.old port.new progress.old progress.new }
-    ensures missed { result.1 ≡ false → HasMissed (words S.opening S.opened S.entries S.keeps S.goes_on S.tells P.tells P.said) hall.now step.now seat.old seat.new watch result.0 port.old port.new progress.old progress.new }
+    ensures made { result.1 ≡ true → HasMade (words S.opening S.opened S.entries S.keeps S.goes_on S.tells P.tells P.said P.faults) hall.now step.now seat.old seat.new watch result.0 port.old port.new progress.old progress.new }
+    ensures missed { result.1 ≡ false → HasMissed (words S.opening S.opened S.entries S.keeps S.goes_on S.tells P.tells P.said P.faults) hall.now step.now seat.old seat.new watch result.0 port.old port.new progress.old progress.new }
 {
     if !ask(rt, hall, seat, step) {
         progress.state = State::Short;
@@ -79,11 +79,11 @@ fn step_at<S: Store, P: Port<S>, R: AllocGlobal + Wait>(
     port: &mut P,
 ) -> Watch<S>
     requires asked { (line : Text) × IsRequest line table.old.seats.items place (asking.Step step.now) }
-    requires serves { (before : P) × Serves (words S.opening S.opened S.entries S.keeps S.goes_on S.tells P.tells P.said) hall.now before watch table.old.seats.items table.old.progress }
+    requires serves { (before : P) × Serves (words S.opening S.opened S.entries S.keeps S.goes_on S.tells P.tells P.said P.faults) hall.now before watch table.old.seats.items table.old.progress }
     requires on { table.old.progress.state ≡ State.On }
-    requires quiet { IsQuiet (words S.opening S.opened S.entries S.keeps S.goes_on S.tells P.tells P.said) watch table.old.seats.items }
-    ensures { (line : Text) (before : P) → IsRequest line table.old.seats.items place (asking.Step step.now) → HasHeard (words S.opening S.opened S.entries S.keeps S.goes_on S.tells P.tells P.said) line before port.old
-        → ServesOn (words S.opening S.opened S.entries S.keeps S.goes_on S.tells P.tells P.said) hall.now before port.new watch result table.old.seats.items table.new.seats.items table.old.progress table.new.progress }
+    requires quiet { IsQuiet (words S.opening S.opened S.entries S.keeps S.goes_on S.tells P.tells P.said P.faults) watch table.old.seats.items }
+    ensures { (line : Text) (before : P) → IsRequest line table.old.seats.items place (asking.Step step.now) → HasHeard (words S.opening S.opened S.entries S.keeps S.goes_on S.tells P.tells P.said P.faults) line before port.old
+        → ServesOn (words S.opening S.opened S.entries S.keeps S.goes_on S.tells P.tells P.said P.faults) hall.now before port.new watch result table.old.seats.items table.new.seats.items table.old.progress table.new.progress }
 {
     let (now, _) = step_turn(
         rt,
@@ -107,11 +107,11 @@ fn end_at<S: Store, P: Port<S>, R: AllocGlobal + Wait>(
     port: &mut P,
 ) -> Watch<S>
     requires asked { (line : Text) × IsRequest line table.old.seats.items place asking.End }
-    requires serves { (before : P) × Serves (words S.opening S.opened S.entries S.keeps S.goes_on S.tells P.tells P.said) hall.now before watch table.old.seats.items table.old.progress }
+    requires serves { (before : P) × Serves (words S.opening S.opened S.entries S.keeps S.goes_on S.tells P.tells P.said P.faults) hall.now before watch table.old.seats.items table.old.progress }
     requires on { table.old.progress.state ≡ State.On }
-    requires quiet { IsQuiet (words S.opening S.opened S.entries S.keeps S.goes_on S.tells P.tells P.said) watch table.old.seats.items }
-    ensures { (line : Text) (before : P) → IsRequest line table.old.seats.items place asking.End → HasHeard (words S.opening S.opened S.entries S.keeps S.goes_on S.tells P.tells P.said) line before port.old
-        → ServesOn (words S.opening S.opened S.entries S.keeps S.goes_on S.tells P.tells P.said) hall.now before port.new watch result table.old.seats.items table.new.seats.items table.old.progress table.new.progress }
+    requires quiet { IsQuiet (words S.opening S.opened S.entries S.keeps S.goes_on S.tells P.tells P.said P.faults) watch table.old.seats.items }
+    ensures { (line : Text) (before : P) → IsRequest line table.old.seats.items place asking.End → HasHeard (words S.opening S.opened S.entries S.keeps S.goes_on S.tells P.tells P.said P.faults) line before port.old
+        → ServesOn (words S.opening S.opened S.entries S.keeps S.goes_on S.tells P.tells P.said P.faults) hall.now before port.new watch result table.old.seats.items table.new.seats.items table.old.progress table.new.progress }
 {
     let watch = end_seat(rt, hall, watch, &mut table.seats[place]);
     tell_turn(rt, hall, watch, port, &mut table.progress)
@@ -126,11 +126,11 @@ pub fn refuse<S: Store, P: Port<S>, R: AllocGlobal + Wait>(
     why: LineRefusal,
     port: &mut P,
 ) -> Watch<S>
-    requires serves { (before : P) × Serves (words S.opening S.opened S.entries S.keeps S.goes_on S.tells P.tells P.said) hall.now before watch table.old.seats.items table.old.progress }
+    requires serves { (before : P) × Serves (words S.opening S.opened S.entries S.keeps S.goes_on S.tells P.tells P.said P.faults) hall.now before watch table.old.seats.items table.old.progress }
     requires on { table.old.progress.state ≡ State.On }
-    requires quiet { IsQuiet (words S.opening S.opened S.entries S.keeps S.goes_on S.tells P.tells P.said) watch table.old.seats.items }
-    ensures { (line : Text) (before : P) → IsRefusedAt (S.entries watch.last) line table.old.seats.items why → HasHeard (words S.opening S.opened S.entries S.keeps S.goes_on S.tells P.tells P.said) line before port.old
-        → ServesOn (words S.opening S.opened S.entries S.keeps S.goes_on S.tells P.tells P.said) hall.now before port.new watch result table.old.seats.items table.new.seats.items table.old.progress table.new.progress }
+    requires quiet { IsQuiet (words S.opening S.opened S.entries S.keeps S.goes_on S.tells P.tells P.said P.faults) watch table.old.seats.items }
+    ensures { (line : Text) (before : P) → IsRefusedAt (S.entries watch.last) line table.old.seats.items why → HasHeard (words S.opening S.opened S.entries S.keeps S.goes_on S.tells P.tells P.said P.faults) line before port.old
+        → ServesOn (words S.opening S.opened S.entries S.keeps S.goes_on S.tells P.tells P.said P.faults) hall.now before port.new watch result table.old.seats.items table.new.seats.items table.old.progress table.new.progress }
 {
     let Ok(text) = refusal_line(rt.alloc(), why) else {
         table.progress.state = State::Short;
@@ -164,12 +164,12 @@ fn refuse_waiting<S: Store, P: Port<S>, R: AllocGlobal + Wait>(
     port: &mut P,
 ) -> Watch<S>
     requires awaits { (line : Text) × (x : SeatSeen S.Opening) × (rest : Text) × IsOf line table.old.seats.items place x rest × IsAwaiting x }
-    requires serves { (before : P) × Serves (words S.opening S.opened S.entries S.keeps S.goes_on S.tells P.tells P.said) hall.now before watch table.old.seats.items table.old.progress }
+    requires serves { (before : P) × Serves (words S.opening S.opened S.entries S.keeps S.goes_on S.tells P.tells P.said P.faults) hall.now before watch table.old.seats.items table.old.progress }
     requires on { table.old.progress.state ≡ State.On }
-    requires quiet { IsQuiet (words S.opening S.opened S.entries S.keeps S.goes_on S.tells P.tells P.said) watch table.old.seats.items }
+    requires quiet { IsQuiet (words S.opening S.opened S.entries S.keeps S.goes_on S.tells P.tells P.said P.faults) watch table.old.seats.items }
     ensures { (line : Text) (before : P) (x : SeatSeen S.Opening) (rest : Text) → IsOf line table.old.seats.items place x rest → IsAwaiting x
-        → HasHeard (words S.opening S.opened S.entries S.keeps S.goes_on S.tells P.tells P.said) line before port.old
-        → ServesOn (words S.opening S.opened S.entries S.keeps S.goes_on S.tells P.tells P.said) hall.now before port.new watch result table.old.seats.items table.new.seats.items table.old.progress table.new.progress }
+        → HasHeard (words S.opening S.opened S.entries S.keeps S.goes_on S.tells P.tells P.said P.faults) line before port.old
+        → ServesOn (words S.opening S.opened S.entries S.keeps S.goes_on S.tells P.tells P.said P.faults) hall.now before port.new watch result table.old.seats.items table.new.seats.items table.old.progress table.new.progress }
 {
     look(rt, hall, &mut table.seats[place], &mut watch);
     refuse(rt, hall, watch, table, LineRefusal::Waiting, port)
@@ -185,11 +185,11 @@ fn answer_request<S: Store, P: Port<S>, R: AllocGlobal + Wait>(
     port: &mut P,
 ) -> Watch<S>
     requires asked { (line : Text) × IsRequest line table.old.seats.items request.place request.asking }
-    requires serves { (before : P) × Serves (words S.opening S.opened S.entries S.keeps S.goes_on S.tells P.tells P.said) hall.now before watch table.old.seats.items table.old.progress }
+    requires serves { (before : P) × Serves (words S.opening S.opened S.entries S.keeps S.goes_on S.tells P.tells P.said P.faults) hall.now before watch table.old.seats.items table.old.progress }
     requires on { table.old.progress.state ≡ State.On }
-    requires quiet { IsQuiet (words S.opening S.opened S.entries S.keeps S.goes_on S.tells P.tells P.said) watch table.old.seats.items }
-    ensures { (line : Text) (before : P) → IsRequest line table.old.seats.items request.place request.asking → HasHeard (words S.opening S.opened S.entries S.keeps S.goes_on S.tells P.tells P.said) line before port.old
-        → ServesOn (words S.opening S.opened S.entries S.keeps S.goes_on S.tells P.tells P.said) hall.now before port.new watch result table.old.seats.items table.new.seats.items table.old.progress table.new.progress }
+    requires quiet { IsQuiet (words S.opening S.opened S.entries S.keeps S.goes_on S.tells P.tells P.said P.faults) watch table.old.seats.items }
+    ensures { (line : Text) (before : P) → IsRequest line table.old.seats.items request.place request.asking → HasHeard (words S.opening S.opened S.entries S.keeps S.goes_on S.tells P.tells P.said P.faults) line before port.old
+        → ServesOn (words S.opening S.opened S.entries S.keeps S.goes_on S.tells P.tells P.said P.faults) hall.now before port.new watch result table.old.seats.items table.new.seats.items table.old.progress table.new.progress }
 {
     let Request { place, asking } = request;
     match asking {
@@ -211,11 +211,11 @@ pub fn answer_line<S: Store, P: Port<S>, R: AllocGlobal + Wait>(
     line: &[u8],
     port: &mut P,
 ) -> Watch<S>
-    requires serves { (before : P) × Serves (words S.opening S.opened S.entries S.keeps S.goes_on S.tells P.tells P.said) hall.now before watch table.old.seats.items table.old.progress }
+    requires serves { (before : P) × Serves (words S.opening S.opened S.entries S.keeps S.goes_on S.tells P.tells P.said P.faults) hall.now before watch table.old.seats.items table.old.progress }
     requires on { table.old.progress.state ≡ State.On }
-    requires quiet { IsQuiet (words S.opening S.opened S.entries S.keeps S.goes_on S.tells P.tells P.said) watch table.old.seats.items }
-    ensures { (before : P) → HasHeard (words S.opening S.opened S.entries S.keeps S.goes_on S.tells P.tells P.said) line.now before port.old
-        → ServesOn (words S.opening S.opened S.entries S.keeps S.goes_on S.tells P.tells P.said) hall.now before port.new watch result table.old.seats.items table.new.seats.items table.old.progress table.new.progress }
+    requires quiet { IsQuiet (words S.opening S.opened S.entries S.keeps S.goes_on S.tells P.tells P.said P.faults) watch table.old.seats.items }
+    ensures { (before : P) → HasHeard (words S.opening S.opened S.entries S.keeps S.goes_on S.tells P.tells P.said P.faults) line.now before port.old
+        → ServesOn (words S.opening S.opened S.entries S.keeps S.goes_on S.tells P.tells P.said P.faults) hall.now before port.new watch result table.old.seats.items table.new.seats.items table.old.progress table.new.progress }
 {
     match request_of(rt.alloc(), line, table.seats.as_slice()) {
         Ok(request) => answer_request(rt, hall, watch, table, request, port),

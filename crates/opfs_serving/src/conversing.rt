@@ -29,9 +29,9 @@ fn poll_at<S: Store, P: Port<S>, R: AllocGlobal + Wait>(
     port: &mut P,
 ) -> Watch<S>
     requires within { place < length table.old.seats.items }
-    requires serves { Serves (words S.opening S.opened S.entries S.keeps S.goes_on S.tells P.tells P.said) hall.now port.old watch table.old.seats.items table.old.progress }
+    requires serves { Serves (words S.opening S.opened S.entries S.keeps S.goes_on S.tells P.tells P.said P.faults) hall.now port.old watch table.old.seats.items table.old.progress }
     requires on { table.old.progress.state ≡ State.On }
-    ensures on_with { ServesOn (words S.opening S.opened S.entries S.keeps S.goes_on S.tells P.tells P.said) hall.now port.old port.new watch result table.old.seats.items table.new.seats.items table.old.progress table.new.progress }
+    ensures on_with { ServesOn (words S.opening S.opened S.entries S.keeps S.goes_on S.tells P.tells P.said P.faults) hall.now port.old port.new watch result table.old.seats.items table.new.seats.items table.old.progress table.new.progress }
     ensures count { length table.new.seats.items ≡ length table.old.seats.items }
     ensures whole { table.new.progress.whole ≡ table.old.progress.whole }
     ensures begun { table.new.progress.state ≡ State.On → (x : SeatSeen S.Opening) → slice_get table.new.seats.items place ≡ Some x → HasBegunToWait x }
@@ -63,8 +63,8 @@ pub fn poll_on<S: Store, P: Port<S>, R: AllocGlobal + Wait>(
     port: &mut P,
 ) -> Watch<S>
     requires within { place < length table.old.seats.items }
-    requires serves { Serves (words S.opening S.opened S.entries S.keeps S.goes_on S.tells P.tells P.said) hall.now port.old watch table.old.seats.items table.old.progress }
-    ensures on_with { ServesOn (words S.opening S.opened S.entries S.keeps S.goes_on S.tells P.tells P.said) hall.now port.old port.new watch result table.old.seats.items table.new.seats.items table.old.progress table.new.progress }
+    requires serves { Serves (words S.opening S.opened S.entries S.keeps S.goes_on S.tells P.tells P.said P.faults) hall.now port.old watch table.old.seats.items table.old.progress }
+    ensures on_with { ServesOn (words S.opening S.opened S.entries S.keeps S.goes_on S.tells P.tells P.said P.faults) hall.now port.old port.new watch result table.old.seats.items table.new.seats.items table.old.progress table.new.progress }
     ensures count { length table.new.seats.items ≡ length table.old.seats.items }
     ensures whole { table.new.progress.whole ≡ table.old.progress.whole }
     ensures begun { table.new.progress.state ≡ State.On → (x : SeatSeen S.Opening) → slice_get table.new.seats.items place ≡ Some x → HasBegunToWait x }
@@ -86,8 +86,8 @@ fn poll_all<S: Store, P: Port<S>, R: AllocGlobal + Wait>(
     table: &mut Table<S>,
     port: &mut P,
 ) -> Watch<S>
-    requires serves { Serves (words S.opening S.opened S.entries S.keeps S.goes_on S.tells P.tells P.said) hall.now port.old watch table.old.seats.items table.old.progress }
-    ensures on_with { ServesOn (words S.opening S.opened S.entries S.keeps S.goes_on S.tells P.tells P.said) hall.now port.old port.new watch result table.old.seats.items table.new.seats.items table.old.progress table.new.progress }
+    requires serves { Serves (words S.opening S.opened S.entries S.keeps S.goes_on S.tells P.tells P.said P.faults) hall.now port.old watch table.old.seats.items table.old.progress }
+    ensures on_with { ServesOn (words S.opening S.opened S.entries S.keeps S.goes_on S.tells P.tells P.said P.faults) hall.now port.old port.new watch result table.old.seats.items table.new.seats.items table.old.progress table.new.progress }
     ensures begun { table.new.progress.state ≡ State.On → AreWaiting table.new.seats.items }
     ensures rest { P.tells → P.rest port.new ≡ P.rest port.old }
     ensures still { table.new.progress.state ≡ State.On → table.old.progress.state ≡ State.On }
@@ -107,9 +107,9 @@ fn settle<S: Store, P: Port<S>, R: AllocGlobal + Wait>(
     table: &mut Table<S>,
     port: &mut P,
 ) -> Watch<S>
-    requires serves { Serves (words S.opening S.opened S.entries S.keeps S.goes_on S.tells P.tells P.said) hall.now port.old watch table.old.seats.items table.old.progress }
-    ensures on_with { ServesOn (words S.opening S.opened S.entries S.keeps S.goes_on S.tells P.tells P.said) hall.now port.old port.new watch result table.old.seats.items table.new.seats.items table.old.progress table.new.progress }
-    ensures quiet { table.new.progress.state ≡ State.On → IsQuiet (words S.opening S.opened S.entries S.keeps S.goes_on S.tells P.tells P.said) result table.new.seats.items }
+    requires serves { Serves (words S.opening S.opened S.entries S.keeps S.goes_on S.tells P.tells P.said P.faults) hall.now port.old watch table.old.seats.items table.old.progress }
+    ensures on_with { ServesOn (words S.opening S.opened S.entries S.keeps S.goes_on S.tells P.tells P.said P.faults) hall.now port.old port.new watch result table.old.seats.items table.new.seats.items table.old.progress table.new.progress }
+    ensures quiet { table.new.progress.state ≡ State.On → IsQuiet (words S.opening S.opened S.entries S.keeps S.goes_on S.tells P.tells P.said P.faults) result table.new.seats.items }
 {
     for _ in rt.forever() {
         watch = poll_all(rt, hall, watch, table, port);
@@ -127,7 +127,8 @@ fn settle<S: Store, P: Port<S>, R: AllocGlobal + Wait>(
 
 // What is left to tell after a fault of the port.
 fn state_of(fault: PortFault) -> State
-    ensures { result ≢ State.On }
+    ensures off { result ≢ State.On }
+    ensures cause { result ≡ State.Failed → fault ≡ PortFault.Stream }
 {
     match fault {
         PortFault::Stream => State::Failed,
@@ -143,10 +144,10 @@ fn hear_line<S: Store, P: Port<S>, R: AllocGlobal + Wait>(
     table: &mut Table<S>,
     port: &mut P,
 ) -> (Watch<S>, bool)
-    requires serves { Serves (words S.opening S.opened S.entries S.keeps S.goes_on S.tells P.tells P.said) hall.now port.old watch table.old.seats.items table.old.progress }
+    requires serves { Serves (words S.opening S.opened S.entries S.keeps S.goes_on S.tells P.tells P.said P.faults) hall.now port.old watch table.old.seats.items table.old.progress }
     requires on { table.old.progress.state ≡ State.On }
-    requires quiet { IsQuiet (words S.opening S.opened S.entries S.keeps S.goes_on S.tells P.tells P.said) watch table.old.seats.items }
-    ensures on_with { ServesOn (words S.opening S.opened S.entries S.keeps S.goes_on S.tells P.tells P.said) hall.now port.old port.new watch result.0 table.old.seats.items table.new.seats.items table.old.progress table.new.progress }
+    requires quiet { IsQuiet (words S.opening S.opened S.entries S.keeps S.goes_on S.tells P.tells P.said P.faults) watch table.old.seats.items }
+    ensures on_with { ServesOn (words S.opening S.opened S.entries S.keeps S.goes_on S.tells P.tells P.said P.faults) hall.now port.old port.new watch result.0 table.old.seats.items table.new.seats.items table.old.progress table.new.progress }
     ensures end { result.1 ≡ false → table.new.progress.state ≡ State.On → P.tells → P.rest port.new ≡ [] }
 {
     let mut line = Vec::new(rt.alloc());
@@ -175,8 +176,8 @@ pub fn converse<S: Store, P: Port<S>, R: AllocGlobal + Wait>(
     table: &mut Table<S>,
     port: &mut P,
 ) -> Watch<S>
-    requires serves { Serves (words S.opening S.opened S.entries S.keeps S.goes_on S.tells P.tells P.said) hall.now port.old watch table.old.seats.items table.old.progress }
-    ensures on_with { ServesOn (words S.opening S.opened S.entries S.keeps S.goes_on S.tells P.tells P.said) hall.now port.old port.new watch result table.old.seats.items table.new.seats.items table.old.progress table.new.progress }
+    requires serves { Serves (words S.opening S.opened S.entries S.keeps S.goes_on S.tells P.tells P.said P.faults) hall.now port.old watch table.old.seats.items table.old.progress }
+    ensures on_with { ServesOn (words S.opening S.opened S.entries S.keeps S.goes_on S.tells P.tells P.said P.faults) hall.now port.old port.new watch result table.old.seats.items table.new.seats.items table.old.progress table.new.progress }
     ensures all { table.new.progress.state ≡ State.On → P.tells → P.rest port.new ≡ [] }
 {
     for _ in rt.forever() {

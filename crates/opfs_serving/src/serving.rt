@@ -1,6 +1,7 @@
 //! A conversation with a store, from its agents to their ends.
 
 ghost use Rattle.std.specs.Prelude.{◌≡◌, ◌≢◌, ◌≤◌, ◌<◌, ℕ, List, [], length, map, slice_get, Some, None, IfOk, IfErr, All, true, false, vec_capacity};
+ghost use Rattle.opfs_outside.specs.Faults.{Rose};
 ghost use Rattle.opfs_runner.specs.Run.Begun.{AreAgentsOf};
 ghost use Rattle.opfs_script.specs.Scripts.{Asked};
 ghost use Rattle.opfs_script_run.specs.Runs.Running.{empty_hand};
@@ -62,9 +63,9 @@ fn end_one<S: Store, P: Port<S>, R: AllocGlobal + Wait>(
     port: &mut P,
 ) -> Watch<S>
     requires within { place < length table.old.seats.items }
-    requires serves { Serves (words S.opening S.opened S.entries S.keeps S.goes_on S.tells P.tells P.said) hall.now port.old watch table.old.seats.items table.old.progress }
-    ensures on_with { (agents : List Asked) (begun : P) → IsServing (words S.opening S.opened S.entries S.keeps S.goes_on S.tells P.tells P.said) hall.now agents begun port.old watch table.old.seats.items table.old.progress
-        → IsServing (words S.opening S.opened S.entries S.keeps S.goes_on S.tells P.tells P.said) hall.now agents begun port.new result table.new.seats.items table.new.progress }
+    requires serves { Serves (words S.opening S.opened S.entries S.keeps S.goes_on S.tells P.tells P.said P.faults) hall.now port.old watch table.old.seats.items table.old.progress }
+    ensures on_with { (agents : List Asked) (begun : P) → IsServing (words S.opening S.opened S.entries S.keeps S.goes_on S.tells P.tells P.said P.faults) hall.now agents begun port.old watch table.old.seats.items table.old.progress
+        → IsServing (words S.opening S.opened S.entries S.keeps S.goes_on S.tells P.tells P.said P.faults) hall.now agents begun port.new result table.new.seats.items table.new.progress }
     ensures count { length table.new.seats.items ≡ length table.old.seats.items }
     ensures ended { (x : SeatSeen S.Opening) → slice_get table.new.seats.items place ≡ Some x → x.agent ≡ None }
     ensures others { (i : ℕ) → i ≢ place → slice_get table.new.seats.items i ≡ slice_get table.old.seats.items i }
@@ -87,9 +88,9 @@ fn end_free<S: Store, P: Port<S>, R: AllocGlobal + Wait>(
     port: &mut P,
 ) -> Watch<S>
     requires within { place < length table.old.seats.items }
-    requires serves { Serves (words S.opening S.opened S.entries S.keeps S.goes_on S.tells P.tells P.said) hall.now port.old watch table.old.seats.items table.old.progress }
-    ensures on_with { (agents : List Asked) (begun : P) → IsServing (words S.opening S.opened S.entries S.keeps S.goes_on S.tells P.tells P.said) hall.now agents begun port.old watch table.old.seats.items table.old.progress
-        → IsServing (words S.opening S.opened S.entries S.keeps S.goes_on S.tells P.tells P.said) hall.now agents begun port.new result table.new.seats.items table.new.progress }
+    requires serves { Serves (words S.opening S.opened S.entries S.keeps S.goes_on S.tells P.tells P.said P.faults) hall.now port.old watch table.old.seats.items table.old.progress }
+    ensures on_with { (agents : List Asked) (begun : P) → IsServing (words S.opening S.opened S.entries S.keeps S.goes_on S.tells P.tells P.said P.faults) hall.now agents begun port.old watch table.old.seats.items table.old.progress
+        → IsServing (words S.opening S.opened S.entries S.keeps S.goes_on S.tells P.tells P.said P.faults) hall.now agents begun port.new result table.new.seats.items table.new.progress }
     ensures count { length table.new.seats.items ≡ length table.old.seats.items }
     ensures rest { P.tells → P.rest port.new ≡ P.rest port.old }
     ensures still { table.new.progress.state ≡ State.On → table.old.progress.state ≡ State.On }
@@ -108,9 +109,9 @@ fn end_idle<S: Store, P: Port<S>, R: AllocGlobal + Wait>(
     table: &mut Table<S>,
     port: &mut P,
 ) -> Watch<S>
-    requires serves { Serves (words S.opening S.opened S.entries S.keeps S.goes_on S.tells P.tells P.said) hall.now port.old watch table.old.seats.items table.old.progress }
-    ensures on_with { (agents : List Asked) (begun : P) → IsServing (words S.opening S.opened S.entries S.keeps S.goes_on S.tells P.tells P.said) hall.now agents begun port.old watch table.old.seats.items table.old.progress
-        → IsServing (words S.opening S.opened S.entries S.keeps S.goes_on S.tells P.tells P.said) hall.now agents begun port.new result table.new.seats.items table.new.progress }
+    requires serves { Serves (words S.opening S.opened S.entries S.keeps S.goes_on S.tells P.tells P.said P.faults) hall.now port.old watch table.old.seats.items table.old.progress }
+    ensures on_with { (agents : List Asked) (begun : P) → IsServing (words S.opening S.opened S.entries S.keeps S.goes_on S.tells P.tells P.said P.faults) hall.now agents begun port.old watch table.old.seats.items table.old.progress
+        → IsServing (words S.opening S.opened S.entries S.keeps S.goes_on S.tells P.tells P.said P.faults) hall.now agents begun port.new result table.new.seats.items table.new.progress }
     ensures rest { P.tells → P.rest port.new ≡ P.rest port.old }
     ensures still { table.new.progress.state ≡ State.On → table.old.progress.state ≡ State.On }
 {
@@ -129,9 +130,9 @@ fn end_all<S: Store, P: Port<S>, R: AllocGlobal + Wait>(
     table: &mut Table<S>,
     port: &mut P,
 ) -> Watch<S>
-    requires serves { Serves (words S.opening S.opened S.entries S.keeps S.goes_on S.tells P.tells P.said) hall.now port.old watch table.old.seats.items table.old.progress }
-    ensures on_with { (agents : List Asked) (begun : P) → IsServing (words S.opening S.opened S.entries S.keeps S.goes_on S.tells P.tells P.said) hall.now agents begun port.old watch table.old.seats.items table.old.progress
-        → IsServing (words S.opening S.opened S.entries S.keeps S.goes_on S.tells P.tells P.said) hall.now agents begun port.new result table.new.seats.items table.new.progress }
+    requires serves { Serves (words S.opening S.opened S.entries S.keeps S.goes_on S.tells P.tells P.said P.faults) hall.now port.old watch table.old.seats.items table.old.progress }
+    ensures on_with { (agents : List Asked) (begun : P) → IsServing (words S.opening S.opened S.entries S.keeps S.goes_on S.tells P.tells P.said P.faults) hall.now agents begun port.old watch table.old.seats.items table.old.progress
+        → IsServing (words S.opening S.opened S.entries S.keeps S.goes_on S.tells P.tells P.said P.faults) hall.now agents begun port.new result table.new.seats.items table.new.progress }
     ensures all { All (λ x. x.agent ≡ None) table.new.seats.items }
     ensures rest { P.tells → P.rest port.new ≡ P.rest port.old }
     ensures still { table.new.progress.state ≡ State.On → table.old.progress.state ≡ State.On }
@@ -190,10 +191,10 @@ fn greet<S: Store, P: Port<S>, R: AllocGlobal + Wait>(
     table: &mut Table<S>,
     port: &mut P,
 ) -> Watch<S>
-    requires silent { (agents : List Asked) × IsSilent (words S.opening S.opened S.entries S.keeps S.goes_on S.tells P.tells P.said) hall.now agents port.old watch table.old.seats.items table.old.progress }
+    requires silent { (agents : List Asked) × IsSilent (words S.opening S.opened S.entries S.keeps S.goes_on S.tells P.tells P.said P.faults) hall.now agents port.old watch table.old.seats.items table.old.progress }
     requires on { table.old.progress.state ≡ State.On }
-    ensures { (agents : List Asked) → IsSilent (words S.opening S.opened S.entries S.keeps S.goes_on S.tells P.tells P.said) hall.now agents port.old watch table.old.seats.items table.old.progress
-        → IsServing (words S.opening S.opened S.entries S.keeps S.goes_on S.tells P.tells P.said) hall.now agents port.old port.new result table.new.seats.items table.new.progress }
+    ensures { (agents : List Asked) → IsSilent (words S.opening S.opened S.entries S.keeps S.goes_on S.tells P.tells P.said P.faults) hall.now agents port.old watch table.old.seats.items table.old.progress
+        → IsServing (words S.opening S.opened S.entries S.keeps S.goes_on S.tells P.tells P.said P.faults) hall.now agents port.old port.new result table.new.seats.items table.new.progress }
 {
     let Ok(text) = ready_line(rt.alloc(), table.seats.len() as u64) else {
         table.progress.state = State::Short;
@@ -233,10 +234,10 @@ fn finish<S: Store, P: Port<S>, R: AllocGlobal + Wait>(
     table: Table<S>,
     port: &mut P,
 ) -> Served<S>
-    requires serves { Serves (words S.opening S.opened S.entries S.keeps S.goes_on S.tells P.tells P.said) hall port.old watch table.seats.items table.progress }
+    requires serves { Serves (words S.opening S.opened S.entries S.keeps S.goes_on S.tells P.tells P.said P.faults) hall port.old watch table.seats.items table.progress }
     ensures opening { S.opening result.store ≡ hall.opening }
-    ensures served { (agents : List Asked) (begun : P) → IsServing (words S.opening S.opened S.entries S.keeps S.goes_on S.tells P.tells P.said) hall agents begun port.old watch table.seats.items table.progress
-        → IsServed (words S.opening S.opened S.entries S.keeps S.goes_on S.tells P.tells P.said) agents begun port.new result.store result.whole result.state }
+    ensures served { (agents : List Asked) (begun : P) → IsServing (words S.opening S.opened S.entries S.keeps S.goes_on S.tells P.tells P.said P.faults) hall agents begun port.old watch table.seats.items table.progress
+        → IsServed (words S.opening S.opened S.entries S.keeps S.goes_on S.tells P.tells P.said P.faults) agents begun port.new result.store result.whole result.state }
     ensures rest { P.tells → P.rest port.new ≡ P.rest port.old }
     ensures still { result.state ≡ State.On → table.progress.state ≡ State.On }
 {
@@ -259,8 +260,8 @@ fn finish<S: Store, P: Port<S>, R: AllocGlobal + Wait>(
 }
 
 /// Holds a conversation with a store over a port: its agents, each without steps before, make the step of each line once it is heard. When
-/// no line comes any more, or the port fails, or memory is wanting, each agent ends. Where there is no memory to begin, it gives the store
-/// back, and nothing was heard or told.
+/// no line comes any more, or the port fails, or memory is wanting, each agent ends. Its state is that the port failed only where a call of
+/// the port did. Where there is no memory to begin, it gives the store back, and nothing was heard or told.
 pub fn serve<S: Store, P: Port<S>, R: AllocGlobal + Wait>(
     rt: &R,
     store: S,
@@ -272,8 +273,10 @@ pub fn serve<S: Store, P: Port<S>, R: AllocGlobal + Wait>(
     requires agents { AreAgentsOf (S.opened (S.opening store)) agents.now }
     requires alone { HasNoScripts agents.now }
     ensures opening { IfOk result (λ served. S.opening served.store ≡ S.opening store) }
-    ensures served { IfOk result (λ served. IsServed (words S.opening S.opened S.entries S.keeps S.goes_on S.tells P.tells P.said) agents.now port.old port.new served.store served.whole served.state) }
+    ensures served { IfOk result (λ served. IsServed (words S.opening S.opened S.entries S.keeps S.goes_on S.tells P.tells P.said P.faults) agents.now port.old port.new served.store served.whole served.state) }
     ensures all { IfOk result (λ served. served.state ≡ State.On → P.tells → P.rest port.new ≡ []) }
+    ensures failed { IfOk result (λ served. served.state ≡ State.Failed → Rose (P.faults port.old) (P.faults port.new)) }
+    ensures later { P.faults port.old ≤ P.faults port.new }
     ensures err { IfErr result (λ back. back ≡ store) }
     ensures none { IfErr result (λ back. port.new ≡ port.old) }
 {

@@ -1,6 +1,6 @@
 //! What is told in a turn.
 
-ghost use Rattle.std.specs.Prelude.{◌≡◌, ◌≢◌, ◌⊎◌, ◌≤◌};
+ghost use Rattle.std.specs.Prelude.{◌≡◌, ◌⊎◌, ◌≤◌};
 ghost use Rattle.opfs_outside.specs.Faults.{Rose};
 ghost use Rattle.opfs_port.specs.Said.{WentOut};
 ghost use Rattle.opfs_serving.specs.Turns.{HasSaid, HasToldMore, HasTurned};
@@ -36,10 +36,8 @@ pub fn tell_entries<S: Store, P: Port<S>>(
     progress: &mut Progress,
 )
     ensures store { store.new ≡ store.old }
-    ensures told { HasToldMore S.entries P.tells P.said store.new port.old port.new progress.old progress.new }
+    ensures told { HasToldMore S.entries P.tells P.said P.faults store.new port.old port.new progress.old progress.new }
     ensures rest { P.tells → P.rest port.new ≡ P.rest port.old }
-    ensures later { P.faults port.old ≤ P.faults port.new }
-    ensures cause { progress.new.state ≡ State.Failed → progress.old.state ≢ State.Failed → Rose (P.faults port.old) (P.faults port.new) }
 {
     if progress.state != State::On {
         return;
@@ -73,10 +71,8 @@ pub fn tell_turn<S: Store, P: Port<S>, R: AllocGlobal + Wait>(
     requires own { watch.pass.hall ≡ hall.now }
     requires owner { watch.pass.agent ≡ 0 }
     ensures turned { HasTurned S.opening S.entries S.keeps S.goes_on hall.now watch result }
-    ensures told { HasToldMore S.entries P.tells P.said result.last port.old port.new progress.old progress.new }
+    ensures told { HasToldMore S.entries P.tells P.said P.faults result.last port.old port.new progress.old progress.new }
     ensures rest { P.tells → P.rest port.new ≡ P.rest port.old }
-    ensures later { P.faults port.old ≤ P.faults port.new }
-    ensures cause { progress.new.state ≡ State.Failed → progress.old.state ≢ State.Failed → Rose (P.faults port.old) (P.faults port.new) }
 {
     let mut turn = watch.enter(rt, hall);
     turn.value.know_kept();
@@ -96,9 +92,7 @@ pub fn say_turn<S: Store, P: Port<S>, R: Wait>(
     requires own { watch.pass.hall ≡ hall.now }
     requires owner { watch.pass.agent ≡ 0 }
     ensures turned { HasTurned S.opening S.entries S.keeps S.goes_on hall.now watch result }
-    ensures said { HasSaid P.tells P.said text.now result.last port.old port.new progress.old progress.new }
-    ensures later { P.faults port.old ≤ P.faults port.new }
-    ensures cause { progress.new.state ≡ State.Failed → Rose (P.faults port.old) (P.faults port.new) }
+    ensures said { HasSaid P.tells P.said P.faults text.now result.last port.old port.new progress.old progress.new }
 {
     let mut turn = watch.enter(rt, hall);
     turn.value.know_kept();

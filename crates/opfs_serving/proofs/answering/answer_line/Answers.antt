@@ -31,6 +31,6 @@ returns-in-Err-Waits g c = λ before came.
 
 pub returns-in-Err-NoMemory : goal.returns-in-Err-NoMemory
 returns-in-Err-NoMemory g c = λ before came agents begun v.
-    kept-silent (words g.S.Chronicle.opening g.S.Store.opened g.S.Chronicle.entries g.S.Store.keeps g.S.Chronicle.goes_on g.S.Store.tells g.P.Port.tells g.P.Port.said) g.S.Chronicle.lasts g.S.Chronicle.stays
+    kept-silent (words g.S.Chronicle.opening g.S.Store.opened g.S.Chronicle.entries g.S.Store.keeps g.S.Chronicle.goes_on g.S.Store.tells g.P.Port.tells g.P.Port.said g.P.Port.faults) g.S.Chronicle.lasts g.S.Chronicle.stays
     c.args.hall.now agents begun before c.args.port.now c.args.watch c.args.table.now.seats.items c.args.table.now.progress v c.requires.on c.args.line.now came c.requires.quiet
     _ refl

@@ -12,7 +12,7 @@ look-requires-clause-own g c = let s = c.requires.serves in s.1.is.stands.hall
 
 pub look-requires-clause-there : goal.look-requires-clause-there
 look-requires-clause-there g c =
-    let w = words g.S.Chronicle.opening g.S.Store.opened g.S.Chronicle.entries g.S.Store.keeps g.S.Chronicle.goes_on g.S.Store.tells g.P.Port.tells g.P.Port.said in
+    let w = words g.S.Chronicle.opening g.S.Store.opened g.S.Chronicle.entries g.S.Store.keeps g.S.Chronicle.goes_on g.S.Store.tells g.P.Port.tells g.P.Port.said g.P.Port.faults in
     let s = c.requires.serves in
     let r = c.requires.awaits in
     awaits-there w g.S.Chronicle.lasts g.S.Chronicle.stays c.args.hall.now s.1.agents s.1.begun s.0 c.args.watch c.args.table.now.seats.items c.args.table.now.progress s.1.is c.requires.on r.0
@@ -20,7 +20,7 @@ look-requires-clause-there g c =
 
 pub refuse-requires-clause-serves : goal.refuse-requires-clause-serves
 refuse-requires-clause-serves g c =
-    let w = words g.S.Chronicle.opening g.S.Store.opened g.S.Chronicle.entries g.S.Store.keeps g.S.Chronicle.goes_on g.S.Store.tells g.P.Port.tells g.P.Port.said in
+    let w = words g.S.Chronicle.opening g.S.Store.opened g.S.Chronicle.entries g.S.Store.keeps g.S.Chronicle.goes_on g.S.Store.tells g.P.Port.tells g.P.Port.said g.P.Port.faults in
     let s = c.requires.serves in
     let r = c.requires.awaits in
     let same = of-seat r.0 c.args.table.now.seats.items c.args.place r.1 c.index_mut.result.now r.2 r.3 c.index_mut.ensures.value in (
@@ -36,7 +36,7 @@ refuse-requires-clause-serves g c =
 
 pub refuse-requires-clause-quiet : goal.refuse-requires-clause-quiet
 refuse-requires-clause-quiet g c =
-    let w = words g.S.Chronicle.opening g.S.Store.opened g.S.Chronicle.entries g.S.Store.keeps g.S.Chronicle.goes_on g.S.Store.tells g.P.Port.tells g.P.Port.said in
+    let w = words g.S.Chronicle.opening g.S.Store.opened g.S.Chronicle.entries g.S.Store.keeps g.S.Chronicle.goes_on g.S.Store.tells g.P.Port.tells g.P.Port.said g.P.Port.faults in
     let s = c.requires.serves in
     let r = c.requires.awaits in
     let same = of-seat r.0 c.args.table.now.seats.items c.args.place r.1 c.index_mut.result.now r.2 r.3 c.index_mut.ensures.value in
@@ -46,7 +46,7 @@ refuse-requires-clause-quiet g c =
 
 pub returns : goal.returns
 returns g c = λ line before x rest of_line awaits came agents begun v.
-    let w = words g.S.Chronicle.opening g.S.Store.opened g.S.Chronicle.entries g.S.Store.keeps g.S.Chronicle.goes_on g.S.Store.tells g.P.Port.tells g.P.Port.said in
+    let w = words g.S.Chronicle.opening g.S.Store.opened g.S.Chronicle.entries g.S.Store.keeps g.S.Chronicle.goes_on g.S.Store.tells g.P.Port.tells g.P.Port.said g.P.Port.faults in
     let seats = c.args.table.now.seats.items in
     let same = of-seat line seats c.args.place x c.index_mut.result.now rest of_line c.index_mut.ensures.value in
     let seen = subst (λ y. HasSeen w c.args.watch y c.look.new.seat) (sym same) c.look.ensures.looked in

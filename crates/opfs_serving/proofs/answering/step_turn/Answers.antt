@@ -43,7 +43,7 @@ pub returns-clause-made : goal.returns-clause-made
 returns-clause-made g c = λ is.
     let free = c.requires.free in
     let at = c.requires.midway free.agent free.there in
-    has-made (words g.S.Chronicle.opening g.S.Store.opened g.S.Chronicle.entries g.S.Store.keeps g.S.Chronicle.goes_on g.S.Store.tells g.P.Port.tells g.P.Port.said)
+    has-made (words g.S.Chronicle.opening g.S.Store.opened g.S.Chronicle.entries g.S.Store.keeps g.S.Chronicle.goes_on g.S.Store.tells g.P.Port.tells g.P.Port.said g.P.Port.faults)
     c.args.hall.now c.args.step.now c.args.seat.now c.ask.new.seat c.show.new.seat c.args.watch c.show.new.watch c.tell_turn-now.result c.args.port.now c.tell_turn-now.new.port
     c.args.progress.now c.tell_turn-now.new.progress at.0 at.1 free.agent free.there at.2
     (c.ask.ensures.goes c.if-not-ask.false) c.show.ensures.same c.show.ensures.noted c.show.ensures.last (c.ask.ensures.awaits c.if-not-ask.false) c.tell_turn-now.ensures.turned c.tell_turn-now.ensures.told

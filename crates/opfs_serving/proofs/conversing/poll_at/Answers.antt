@@ -10,7 +10,7 @@ use Rattle.opfs_serving.proofs.conversing.poll_at.Goals.{After-show}
 
 pub poll-requires : goal.poll-requires
 poll-requires g c =
-    let w = words g.S.Chronicle.opening g.S.Store.opened g.S.Chronicle.entries g.S.Store.keeps g.S.Chronicle.goes_on g.S.Store.tells g.P.Port.tells g.P.Port.said in
+    let w = words g.S.Chronicle.opening g.S.Store.opened g.S.Chronicle.entries g.S.Store.keeps g.S.Chronicle.goes_on g.S.Store.tells g.P.Port.tells g.P.Port.said g.P.Port.faults in
     let seats = c.args.table.now.seats.items in
     let s = c.requires.serves in
     record {
@@ -20,7 +20,7 @@ poll-requires g c =
 
 pub show-requires-clause-there : goal.show-requires-clause-there
 show-requires-clause-there g c =
-    let w = words g.S.Chronicle.opening g.S.Store.opened g.S.Chronicle.entries g.S.Store.keeps g.S.Chronicle.goes_on g.S.Store.tells g.P.Port.tells g.P.Port.said in
+    let w = words g.S.Chronicle.opening g.S.Store.opened g.S.Chronicle.entries g.S.Store.keeps g.S.Chronicle.goes_on g.S.Store.tells g.P.Port.tells g.P.Port.said g.P.Port.faults in
     let seats = c.args.table.now.seats.items in
     let there = slice_get_read seats (length seats) c.args.place c.index_mut.result.now refl c.requires.within c.index_mut.ensures.value in
     let again = set-again seats c.args.place c.index_mut.result.now c.poll.new.seat c.index_mut-in-Ok-true.result.now c.index_mut-in-Ok-true.result.now there c.index_mut-in-Ok-true.ensures.value refl in
@@ -32,7 +32,7 @@ show-requires-clause-there g c =
 -- The owner's pass, as it took note, is of the hall, and the owner's.
 noted : (g : Over) (c : After-show g) → (c.show.new.watch.pass.hall ≡ c.args.hall.now) × (c.show.new.watch.pass.agent ≡ 0)
 noted g c =
-    let w = words g.S.Chronicle.opening g.S.Store.opened g.S.Chronicle.entries g.S.Store.keeps g.S.Chronicle.goes_on g.S.Store.tells g.P.Port.tells g.P.Port.said in
+    let w = words g.S.Chronicle.opening g.S.Store.opened g.S.Chronicle.entries g.S.Store.keeps g.S.Chronicle.goes_on g.S.Store.tells g.P.Port.tells g.P.Port.said g.P.Port.faults in
     let seats = c.args.table.now.seats.items in
     let there = slice_get_read seats (length seats) c.args.place c.index_mut.result.now refl c.requires.within c.index_mut.ensures.value in
     let again = set-again seats c.args.place c.index_mut.result.now c.poll.new.seat c.index_mut-in-Ok-true.result.now c.show.new.seat there c.index_mut-in-Ok-true.ensures.value c.show.ensures.same in
@@ -49,7 +49,7 @@ tell_turn-requires-clause-owner g c = (noted g (goal.at.tell_turn-requires-claus
 
 pub returns-in-Ok-true-clause-on_with : goal.returns-in-Ok-true-clause-on_with
 returns-in-Ok-true-clause-on_with g c = λ agents begun v.
-    let w = words g.S.Chronicle.opening g.S.Store.opened g.S.Chronicle.entries g.S.Store.keeps g.S.Chronicle.goes_on g.S.Store.tells g.P.Port.tells g.P.Port.said in
+    let w = words g.S.Chronicle.opening g.S.Store.opened g.S.Chronicle.entries g.S.Store.keeps g.S.Chronicle.goes_on g.S.Store.tells g.P.Port.tells g.P.Port.said g.P.Port.faults in
     let seats = c.args.table.now.seats.items in
     let there = slice_get_read seats (length seats) c.args.place c.index_mut.result.now refl c.requires.within c.index_mut.ensures.value in
     let again = set-again seats c.args.place c.index_mut.result.now c.poll.new.seat c.index_mut-in-Ok-true.result.now c.show.new.seat there c.index_mut-in-Ok-true.ensures.value c.show.ensures.same in
@@ -65,7 +65,7 @@ returns-in-Ok-true-clause-others g c = λ i other.
 
 pub returns-in-Ok-false-clause-on_with : goal.returns-in-Ok-false-clause-on_with
 returns-in-Ok-false-clause-on_with g c = λ agents begun v.
-    let w = words g.S.Chronicle.opening g.S.Store.opened g.S.Chronicle.entries g.S.Store.keeps g.S.Chronicle.goes_on g.S.Store.tells g.P.Port.tells g.P.Port.said in
+    let w = words g.S.Chronicle.opening g.S.Store.opened g.S.Chronicle.entries g.S.Store.keeps g.S.Chronicle.goes_on g.S.Store.tells g.P.Port.tells g.P.Port.said g.P.Port.faults in
     let seats = c.args.table.now.seats.items in
     serving-polled w g.S.Chronicle.lasts g.S.Chronicle.stays c.args.hall.now agents begun c.args.port.now c.args.watch seats c.args.table.now.progress v c.args.place c.index_mut.result.now
     (slice_get_read seats (length seats) c.args.place c.index_mut.result.now refl c.requires.within c.index_mut.ensures.value) c.requires.on
@@ -76,7 +76,7 @@ returns-in-Ok-false-clause-others g c = λ i other. get-set_other c.args.table.n
 
 pub returns-in-Err-clause-on_with : goal.returns-in-Err-clause-on_with
 returns-in-Err-clause-on_with g c = λ agents begun v.
-    let w = words g.S.Chronicle.opening g.S.Store.opened g.S.Chronicle.entries g.S.Store.keeps g.S.Chronicle.goes_on g.S.Store.tells g.P.Port.tells g.P.Port.said in
+    let w = words g.S.Chronicle.opening g.S.Store.opened g.S.Chronicle.entries g.S.Store.keeps g.S.Chronicle.goes_on g.S.Store.tells g.P.Port.tells g.P.Port.said g.P.Port.faults in
     let seats = c.args.table.now.seats.items in
     serving-unpolled w g.S.Chronicle.lasts g.S.Chronicle.stays c.args.hall.now agents begun c.args.port.now c.args.watch seats c.args.table.now.progress v c.args.place c.index_mut.result.now
     (slice_get_read seats (length seats) c.args.place c.index_mut.result.now refl c.requires.within c.index_mut.ensures.value) c.requires.on

@@ -7,22 +7,22 @@ use Rattle.opfs_serving.proofs.conversing.settle.Goals.{After-look_turn-now, Aft
 
 -- It stands once all was polled,
 polled : (g : Over) (c : After-poll_all-watch g)
-    → GoesServing (words g.S.Chronicle.opening g.S.Store.opened g.S.Chronicle.entries g.S.Store.keeps g.S.Chronicle.goes_on g.S.Store.tells g.P.Port.tells g.P.Port.said) c.args.hall.now c.args.port.now c.poll_all-watch.new.port c.args.watch c.poll_all-watch.result
+    → GoesServing (words g.S.Chronicle.opening g.S.Store.opened g.S.Chronicle.entries g.S.Store.keeps g.S.Chronicle.goes_on g.S.Store.tells g.P.Port.tells g.P.Port.said g.P.Port.faults) c.args.hall.now c.args.port.now c.poll_all-watch.new.port c.args.watch c.poll_all-watch.result
     c.args.table.now.seats.items c.poll_all-watch.new.table.seats.items c.args.table.now.progress c.poll_all-watch.new.table.progress
 polled g c =
-    let w = words g.S.Chronicle.opening g.S.Store.opened g.S.Chronicle.entries g.S.Store.keeps g.S.Chronicle.goes_on g.S.Store.tells g.P.Port.tells g.P.Port.said in
+    let w = words g.S.Chronicle.opening g.S.Store.opened g.S.Chronicle.entries g.S.Store.keeps g.S.Chronicle.goes_on g.S.Store.tells g.P.Port.tells g.P.Port.said g.P.Port.faults in
     going-more w c.args.hall.now c.args.port.now c.loop.port c.poll_all-watch.new.port c.args.watch c.loop.watch c.poll_all-watch.result
     c.args.table.now.seats.items c.loop.table.seats.items c.poll_all-watch.new.table.seats.items c.args.table.now.progress c.loop.table.progress c.poll_all-watch.new.table.progress
     c.loop.invariant c.poll_all-watch.ensures.on_with
 
 -- and once the owner's pass has looked.
 looked : (g : Over) (c : After-look_turn-now g)
-    → GoesServing (words g.S.Chronicle.opening g.S.Store.opened g.S.Chronicle.entries g.S.Store.keeps g.S.Chronicle.goes_on g.S.Store.tells g.P.Port.tells g.P.Port.said) c.args.hall.now c.args.port.now c.poll_all-watch.new.port c.args.watch c.poll_all-watch.result
+    → GoesServing (words g.S.Chronicle.opening g.S.Store.opened g.S.Chronicle.entries g.S.Store.keeps g.S.Chronicle.goes_on g.S.Store.tells g.P.Port.tells g.P.Port.said g.P.Port.faults) c.args.hall.now c.args.port.now c.poll_all-watch.new.port c.args.watch c.poll_all-watch.result
     c.args.table.now.seats.items c.poll_all-watch.new.table.seats.items c.args.table.now.progress c.poll_all-watch.new.table.progress
-    → GoesServing (words g.S.Chronicle.opening g.S.Store.opened g.S.Chronicle.entries g.S.Store.keeps g.S.Chronicle.goes_on g.S.Store.tells g.P.Port.tells g.P.Port.said) c.args.hall.now c.args.port.now c.poll_all-watch.new.port c.args.watch c.look_turn-now.result.0
+    → GoesServing (words g.S.Chronicle.opening g.S.Store.opened g.S.Chronicle.entries g.S.Store.keeps g.S.Chronicle.goes_on g.S.Store.tells g.P.Port.tells g.P.Port.said g.P.Port.faults) c.args.hall.now c.args.port.now c.poll_all-watch.new.port c.args.watch c.look_turn-now.result.0
     c.args.table.now.seats.items c.poll_all-watch.new.table.seats.items c.args.table.now.progress c.poll_all-watch.new.table.progress
 looked g c before =
-    let w = words g.S.Chronicle.opening g.S.Store.opened g.S.Chronicle.entries g.S.Store.keeps g.S.Chronicle.goes_on g.S.Store.tells g.P.Port.tells g.P.Port.said in
+    let w = words g.S.Chronicle.opening g.S.Store.opened g.S.Chronicle.entries g.S.Store.keeps g.S.Chronicle.goes_on g.S.Store.tells g.P.Port.tells g.P.Port.said g.P.Port.faults in
     going-turned w c.args.hall.now g.S.Chronicle.lasts g.S.Chronicle.stays c.args.port.now c.poll_all-watch.new.port c.args.watch c.poll_all-watch.result c.look_turn-now.result.0
     c.args.table.now.seats.items c.poll_all-watch.new.table.seats.items c.args.table.now.progress c.poll_all-watch.new.table.progress
     before c.look_turn-now.ensures.turned
@@ -31,7 +31,7 @@ looked g c before =
 few : (g : Over) (c : After-poll_all-watch g)
     → (length c.poll_all-watch.new.table.seats.items ≤ 64) × (length c.poll_all-watch.new.table.seats.items ≤ length (g.S.Store.opened c.args.hall.now.opening).agents)
 few g c =
-    let w = words g.S.Chronicle.opening g.S.Store.opened g.S.Chronicle.entries g.S.Store.keeps g.S.Chronicle.goes_on g.S.Store.tells g.P.Port.tells g.P.Port.said in
+    let w = words g.S.Chronicle.opening g.S.Store.opened g.S.Chronicle.entries g.S.Store.keeps g.S.Chronicle.goes_on g.S.Store.tells g.P.Port.tells g.P.Port.said g.P.Port.faults in
     let s = (polled g c).serves in
     serving-few w g.S.Chronicle.lasts g.S.Chronicle.stays c.args.hall.now s.agents s.begun c.poll_all-watch.new.port c.poll_all-watch.result c.poll_all-watch.new.table.seats.items c.poll_all-watch.new.table.progress s.is
 

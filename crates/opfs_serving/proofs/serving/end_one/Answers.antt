@@ -12,7 +12,7 @@ end_seat-watch-requires-clause-own g c = let s = c.requires.serves in (c.poll_on
 
 pub end_seat-watch-requires-clause-may : goal.end_seat-watch-requires-clause-may
 end_seat-watch-requires-clause-may g c =
-    let w = words g.S.Chronicle.opening g.S.Store.opened g.S.Chronicle.entries g.S.Store.keeps g.S.Chronicle.goes_on g.S.Store.tells g.P.Port.tells g.P.Port.said in
+    let w = words g.S.Chronicle.opening g.S.Store.opened g.S.Chronicle.entries g.S.Store.keeps g.S.Chronicle.goes_on g.S.Store.tells g.P.Port.tells g.P.Port.said g.P.Port.faults in
     let s = c.requires.serves in
     let seats = c.poll_on-watch.new.table.seats.items in
     let within = c.requires.within in
@@ -23,7 +23,7 @@ end_seat-watch-requires-clause-may g c =
 
 pub tell_turn-requires-clause-own : goal.tell_turn-requires-clause-own
 tell_turn-requires-clause-own g c =
-    let w = words g.S.Chronicle.opening g.S.Store.opened g.S.Chronicle.entries g.S.Store.keeps g.S.Chronicle.goes_on g.S.Store.tells g.P.Port.tells g.P.Port.said in
+    let w = words g.S.Chronicle.opening g.S.Store.opened g.S.Chronicle.entries g.S.Store.keeps g.S.Chronicle.goes_on g.S.Store.tells g.P.Port.tells g.P.Port.said g.P.Port.faults in
     let s = c.requires.serves in
     let seats = c.poll_on-watch.new.table.seats.items in
     (left-hall w g.S.Chronicle.lasts g.S.Chronicle.stays c.args.hall.now s.agents s.begun c.poll_on-watch.new.port c.poll_on-watch.result seats c.poll_on-watch.new.table.progress
@@ -33,7 +33,7 @@ tell_turn-requires-clause-own g c =
 
 pub returns-clause-on_with : goal.returns-clause-on_with
 returns-clause-on_with g c = λ agents begun v.
-    let w = words g.S.Chronicle.opening g.S.Store.opened g.S.Chronicle.entries g.S.Store.keeps g.S.Chronicle.goes_on g.S.Store.tells g.P.Port.tells g.P.Port.said in
+    let w = words g.S.Chronicle.opening g.S.Store.opened g.S.Chronicle.entries g.S.Store.keeps g.S.Chronicle.goes_on g.S.Store.tells g.P.Port.tells g.P.Port.said g.P.Port.faults in
     let seats = c.poll_on-watch.new.table.seats.items in
     serving-left_told w g.S.Chronicle.lasts g.S.Chronicle.stays c.args.hall.now agents begun c.poll_on-watch.new.port c.poll_on-watch.result seats c.poll_on-watch.new.table.progress
     (c.poll_on-watch.ensures.on_with agents begun v) c.args.place c.index_mut.result.now

@@ -10,7 +10,7 @@ end_all-last-requires g c =
 
 pub clear-requires : goal.clear-requires
 clear-requires g c =
-    let w = words g.S.Chronicle.opening g.S.Store.opened g.S.Chronicle.entries g.S.Store.keeps g.S.Chronicle.goes_on g.S.Store.tells g.P.Port.tells g.P.Port.said in
+    let w = words g.S.Chronicle.opening g.S.Store.opened g.S.Chronicle.entries g.S.Store.keeps g.S.Chronicle.goes_on g.S.Store.tells g.P.Port.tells g.P.Port.said g.P.Port.faults in
     let s = c.requires.serves in
     let last = c.end_all-last.ensures.on_with s.agents s.begun (c.end_idle-idle.ensures.on_with s.agents s.begun s.is) in
     record {
@@ -24,14 +24,14 @@ close-store-requires-clause-own g c =
 
 pub close-store-requires-clause-all : goal.close-store-requires-clause-all
 close-store-requires-clause-all g c =
-    let w = words g.S.Chronicle.opening g.S.Store.opened g.S.Chronicle.entries g.S.Store.keeps g.S.Chronicle.goes_on g.S.Store.tells g.P.Port.tells g.P.Port.said in
+    let w = words g.S.Chronicle.opening g.S.Store.opened g.S.Chronicle.entries g.S.Store.keeps g.S.Chronicle.goes_on g.S.Store.tells g.P.Port.tells g.P.Port.said g.P.Port.faults in
     let s = c.requires.serves in
     let last = c.end_all-last.ensures.on_with s.agents s.begun (c.end_idle-idle.ensures.on_with s.agents s.begun s.is) in
     serving-has_all w g.S.Chronicle.lasts g.S.Chronicle.stays c.args.hall s.agents s.begun c.end_all-last.new.port c.end_all-last.result c.end_all-last.new.table.seats.items c.end_all-last.new.table.progress last c.end_all-last.ensures.all
 
 pub returns-clause-served : goal.returns-clause-served
 returns-clause-served g c = λ agents begun is.
-    let w = words g.S.Chronicle.opening g.S.Store.opened g.S.Chronicle.entries g.S.Store.keeps g.S.Chronicle.goes_on g.S.Store.tells g.P.Port.tells g.P.Port.said in
+    let w = words g.S.Chronicle.opening g.S.Store.opened g.S.Chronicle.entries g.S.Store.keeps g.S.Chronicle.goes_on g.S.Store.tells g.P.Port.tells g.P.Port.said g.P.Port.faults in
     let last = c.end_all-last.ensures.on_with agents begun (c.end_idle-idle.ensures.on_with agents begun is) in
     serving-ends w g.S.Chronicle.lasts g.S.Chronicle.stays c.args.hall agents begun c.end_all-last.new.port c.end_all-last.result c.end_all-last.new.table.seats.items c.end_all-last.new.table.progress last c.end_all-last.ensures.all
     c.close-store.result c.tell_entries.new.store c.tell_entries.ensures.store c.close-store.ensures.opening c.close-store.ensures.goes c.close-store.ensures.kept c.know_kept.ensures
