@@ -31,8 +31,8 @@ fn disk_of<D: Disk>(from: Recovered<D>) -> D
     journal.give_back()
 }
 
-/// Holds a conversation of agents over an image that was recovered, and ends the run. Where there is no memory to begin, it gives the
-/// disk back, which it has not called, and nothing was heard or told.
+/// Holds a conversation of agents over an image that was recovered, and ends the run. Its state is that the port failed only where a call
+/// of the port did. Where there is no memory to begin, it gives the disk back, which it has not called, and nothing was heard or told.
 pub fn serve_image<D: Disk, P: Port<Desk<D>>, R: AllocGlobal + Wait>(
     rt: &R,
     from: Recovered<D>,
@@ -43,6 +43,8 @@ pub fn serve_image<D: Disk, P: Port<Desk<D>>, R: AllocGlobal + Wait>(
     requires alone { HasNoScripts agents.now }
     ensures served { IfOk result (λ served. IsServedOver D.Disk P.tells P.said agents.now port.old port.new from served.run served.state) }
     ensures all { IfOk result (λ served. served.state ≡ State.On → P.tells → P.rest port.new ≡ []) }
+    ensures failed { IfOk result (λ served. served.state ≡ State.Failed → Rose (P.faults port.old) (P.faults port.new)) }
+    ensures later { P.faults port.old ≤ P.faults port.new }
     ensures err { IfErr result (λ disk. disk ≡ from.journal.disk) }
     ensures none { IfErr result (λ disk. port.new ≡ port.old) }
 {
@@ -78,6 +80,8 @@ pub fn serve_disk<D: Disk, P: Port<Desk<D>>, R: AllocGlobal + Wait>(
     requires alone { HasNoScripts agents.now }
     ensures served { IfOk result (λ served. IsServedOn D.Disk P.tells P.said agents.now port.old port.new disk served.run served.state) }
     ensures all { IfOk result (λ served. served.state ≡ State.On → P.tells → P.rest port.new ≡ []) }
+    ensures failed { IfOk result (λ served. served.state ≡ State.Failed → Rose (P.faults port.old) (P.faults port.new)) }
+    ensures later { P.faults port.old ≤ P.faults port.new }
     ensures only { IfErr result (λ err. OnlyRead D.Disk disk err.0) }
     ensures refused { IfErr result (λ err. err.1 ≢ ImageRefusal.DiskFault → err.1 ≢ ImageRefusal.NoMemory → D.tells → read_as New New (D.content disk) ≡ Err err.1) }
     ensures cause { IfErr result (λ err. err.1 ≡ ImageRefusal.DiskFault → Rose (D.faults disk) (D.faults err.0)) }
