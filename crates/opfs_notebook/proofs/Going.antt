@@ -16,9 +16,8 @@ use Rattle.opfs_turns.specs.Asking.Rows.{HandleSeen, HasClosedHandle, HasHandle}
 use Rattle.opfs_turns.specs.declared.asking.stop.Stop.{Stop}
 use Rattle.opfs_turns.specs.declared.asking.stop.Stop.TheVariants as stop
 use Rattle.opfs_turns.proofs.asking.Rowed.{entered-moved, own_agent, stopped-own}
-use Rattle.opfs_hall.specs.Seen.{HallSeen, PassSeen}
+use Rattle.opfs_hall.specs.Seen.{HallSeen}
 use Rattle.opfs_hist.specs.Sums.{asks_for_row}
-use Rattle.opfs_hist.specs.declared.entry.Entry.{Entry}
 use Rattle.opfs_hist.specs.declared.op.Mode.TheVariants as mode
 use Rattle.opfs_hist.specs.declared.op.Op.{Op}
 use Rattle.opfs_hist.specs.declared.op.Op.TheVariants as op
@@ -41,8 +40,8 @@ use Rattle.opfs_sync_files.proofs.Behind.{entered-goes}
 use Rattle.opfs_sync_files.proofs.Resting.{rest-entered, rest-shared, rests-closed, rests-more, rests-on}
 use Rattle.opfs_sync_files.proofs.Served.{shared-goes}
 use Rattle.opfs_turns.specs.Agents.{AgentSeen, IsAgent, own_row}
-use Rattle.opfs_turns.specs.Calls.{HasEnded, HasLooked, HasRoom, IsEntered}
-use Rattle.opfs_notebook.specs.Ready.{Goes, HasMade, Holds, HoldsNotes, IsMine, IsPassOf, IsReady}
+use Rattle.opfs_turns.specs.Calls.{HasLooked, HasRoom, IsEntered}
+use Rattle.opfs_notebook.specs.Ready.{Goes, HasMade, Holds, HoldsNotes, IsMine, IsReady}
 
 -- ---- what is an agent's own
 
@@ -189,7 +188,7 @@ module _ {O : Type 0} (tells : Type 0) (hall : HallSeen O) (a b : AgentSeen O) (
       }
 
   -- One that makes a row.
-  made-ready : (called : Op) (answered : Reply) (given : Gift) → row_used called ≡ 0 → IsEntered tells a b called answered given → IsReady hall a 0 → IsReady hall b b.rows
+  pub made-ready : (called : Op) (answered : Reply) (given : Gift) → row_used called ≡ 0 → IsEntered tells a b called answered given → IsReady hall a 0 → IsReady hall b b.rows
   made-ready called answered given used e ready = record {
     own = ap (λ (x : AgentSeen O). x.pass.hall) e.rest ∙ ready.own;
     origin = ready.origin;
@@ -198,7 +197,7 @@ module _ {O : Type 0} (tells : Type 0) (hall : HallSeen O) (a b : AgentSeen O) (
     rests = rests-more tells a b kept later (entered-more called answered given e).rows (subst (LeavesRest tells a b) used (rest-entered tells a b kept later called answered given e)) ready.rests;
   }
 
-  closed-ready : (n : ℕ) (c : Own) → own_row b n ≡ Some c → is_open_row (outline_of c) ≡ false → IsReady hall b n → IsReady hall b 0
+  pub closed-ready : (n : ℕ) (c : Own) → own_row b n ≡ Some c → is_open_row (outline_of c) ≡ false → IsReady hall b n → IsReady hall b 0
   closed-ready n c there closed ready = record {
     own = ready.own;
     origin = ready.origin;
@@ -277,12 +276,3 @@ module _ {O : Type 0} (tells : Type 0) (hall : HallSeen O) (a b : AgentSeen O) (
 
 pub given-back : {O : Type 0} (tells : Type 0) (hall : HallSeen O) (a : AgentSeen O) (kv : KvSeen) → HoldsNotes tells hall a kv → Holds tells hall a kv.handle
 given-back tells hall a kv h = record { ready = h.ready; has = h.stands.has; writes = h.stands.writes }
-
--- ---- the end
-
-pub ended-pass : {O : Type 0} (tells : Type 0) (hall : HallSeen O) (a : AgentSeen O) (pass : PassSeen O Entry) → IsAgent tells a → IsReady hall a 0 → HasEnded tells a pass → IsPassOf hall a.pass.agent pass
-ended-pass {O} tells hall a pass kept ready h = record {
-  own = ap (λ (p : PassSeen O Entry). p.hall) h.rest ∙ ready.own;
-  agent = ap (λ (p : PassSeen O Entry). p.agent) h.rest;
-  idle = ap (λ (p : PassSeen O Entry). p.busy) h.rest ∙ kept.idle;
-}

@@ -90,8 +90,8 @@ fn read<S: Store, R: Wait>(
     }
 }
 
-// An access handle on the file of a name of the agent's default bucket.
-fn handle_of<S: Store, R: Wait>(
+/// An access handle on the file of a name of the agent's default bucket.
+pub fn handle_of<S: Store, R: Wait>(
     rt: &R,
     court: &Hall<S>,
     agent: &mut Agent<S>,

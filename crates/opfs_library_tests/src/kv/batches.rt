@@ -1,57 +1,23 @@
 //! Changes that are made as one, on a file that compacts at a flush.
 
-ghost use Rattle.std.specs.Prelude.{◌↔◌, IfOk, IsTrue, OnErr};
-ghost use Rattle.opfs_library_tests.specs.Kv.Ready.{Holds, HoldsKv, IsReady};
+ghost use Rattle.std.specs.Prelude.{◌↔◌, IsTrue};
 ghost use Rattle.opfs_kv.specs.Records.Records.{IsKey, IsValue};
+ghost use Rattle.opfs_notebook.specs.Ready.{Goes, HasMade, HoldsNotes, IsIdle};
 
 use crate::kv::cases::{after, has_bytes};
-use crate::kv::example::{discard, image, open_file};
-use crate::kv::kvs::give_up;
 use crate::kv::steps::{Step, is_value};
 use crate::kv::visits::{Ending, Visit, run_batch};
+use crate::pipe::running::{SIZES, image};
 use opfs_agent::Agent;
-use opfs_agent::handle_calls::SyncHandle;
 use opfs_base::Bytes;
 use opfs_hall::Hall;
-use opfs_kv::{Batch, Kv, KvReply, KvStop, Tidying};
+use opfs_kv::{Batch, Kv, KvReply, KvStop};
 use opfs_memory::RamDisk;
+use opfs_notebook::notes::{give_up, open, store, write};
 use opfs_store::Store;
 use std::alloc::{AllocError, Global};
 use std::sync::Wait;
 use std::test::Fail;
-
-// Opens a file of records that compacts at a flush. Where it does not open, its handle is discarded.
-fn read_tidy<S: Store, R: Wait>(
-    rt: &R,
-    court: &Hall<S>,
-    agent: &mut Agent<S>,
-    handle: SyncHandle,
-) -> Result<Kv, KvStop>
-    requires { Holds S.tells court.now 3 agent.old handle }
-    ensures holds { IfOk result (λ kv. HoldsKv S.tells court.now 2000 agent.new kv) }
-    ensures err { OnErr result (IsReady S.tells court.now 2000000 0 agent.new) }
-{
-    agent.know_kept();
-    match Kv::open_with(rt, court, agent, handle, Tidying::AtFlush) {
-        Ok(kv) => Ok(kv),
-        Err((handle, stop)) => {
-            discard(rt, court, agent, handle);
-            Err(stop)
-        }
-    }
-}
-
-// The same of the store's file.
-fn open_tidy<S: Store, R: Wait>(rt: &R, court: &Hall<S>, agent: &mut Agent<S>) -> Result<Kv, KvStop>
-    requires { IsReady S.tells court.now 0 0 agent.old }
-    ensures holds { IfOk result (λ kv. HoldsKv S.tells court.now 2000 agent.new kv) }
-    ensures err { OnErr result (IsReady S.tells court.now 2000000 0 agent.new) }
-{
-    match open_file(rt, court, agent, "store") {
-        Ok(handle) => read_tidy(rt, court, agent, handle),
-        Err(stop) => Err(KvStop::Agent(stop)),
-    }
-}
 
 // Makes changes as one, and stores the file for good.
 fn apply_and_flush<S: Store, R: Wait>(
@@ -61,27 +27,26 @@ fn apply_and_flush<S: Store, R: Wait>(
     kv: &mut Kv,
     batch: &Batch,
 ) -> Result<(), KvStop>
-    requires { HoldsKv S.tells court.now 2000 agent.old kv.old }
-    ensures { HoldsKv S.tells court.now 1500000 agent.new kv.new }
+    requires holds { HoldsNotes S.tells court.now agent.old kv.old }
+    requires few { HasMade agent.old 45000000 }
+    ensures holds { HoldsNotes S.tells court.now agent.new kv.new }
+    ensures goes { Goes agent.old agent.new 8 }
 {
-    agent.know_kept();
-    kv.apply(rt, court, agent, batch)?;
-    agent.know_kept();
-    kv.flush(rt, court, agent)?;
-    Ok(())
+    write(rt, court, agent, kv, batch)?;
+    store(rt, court, agent, kv)
 }
 
-/// The same with the store's file, which is given up then.
+/// The same with the store's file, which compacts at the flush and is given up then.
 pub fn use_batch<S: Store, R: Wait>(
     rt: &R,
     court: &Hall<S>,
     agent: &mut Agent<S>,
     batch: &Batch,
 ) -> Result<(), KvStop>
-    requires { IsReady S.tells court.now 0 0 agent.old }
-    ensures { IsReady S.tells court.now 2000000 0 agent.new }
+    requires { IsIdle court.now agent.old 1 0 }
+    ensures { IsIdle court.now agent.new 1 500000 }
 {
-    let mut kv = open_tidy(rt, court, agent)?;
+    let mut kv = open(rt, court, agent, "store")?;
     let done = apply_and_flush(rt, court, agent, &mut kv, batch);
     give_up(rt, court, agent, kv);
     done
@@ -199,8 +164,8 @@ fn stores_all<R: AllocGlobal + Wait>(rt: &R) -> Result<bool, AllocError> {
         Step::Put("c", "3"),
     ];
     let one = batch_of(alloc, &[Step::Put("a", "1")])?;
-    let (_, few, _) = visit(rt, image(alloc)?, &one)?;
-    let (disk, entries, done) = visit(rt, image(alloc)?, &batch_of(alloc, &steps)?)?;
+    let (_, few, _) = visit(rt, image(alloc, SIZES)?, &one)?;
+    let (disk, entries, done) = visit(rt, image(alloc, SIZES)?, &batch_of(alloc, &steps)?)?;
     let log =
         b"\x01\x01a\x01\x00\x00\x001\x01\x01b\x01\x00\x00\x002\x02\x01a\x01\x01c\x01\x00\x00\x003";
     let (disk, stored) = has_bytes(rt, disk, log)?;
@@ -222,7 +187,12 @@ fn beside<R: AllocGlobal + Wait>(
 ) -> Result<(Result<(), KvStop>, bool), AllocError> {
     let alloc = rt.alloc();
     let batch = long_batch(alloc, last)?;
-    let (disk, _) = after(rt, image(alloc)?, &[Step::Put("a", "1")], Ending::Close)?;
+    let (disk, _) = after(
+        rt,
+        image(alloc, SIZES)?,
+        &[Step::Put("a", "1")],
+        Ending::Close,
+    )?;
     let (disk, _, done) = visit(rt, disk, &batch)?;
     let (_, alone) = has_bytes(rt, disk, b"\x01\x01a\x01\x00\x00\x001")?;
     Ok((done, alone))
@@ -240,7 +210,7 @@ fn a_batch_without_room_changes_nothing(rt: HostRuntime) -> Result<(), Fail> {
 // Whether the file has these bytes behind a batch and its flush.
 fn leaves<R: AllocGlobal + Wait>(rt: &R, steps: &[Step], bytes: &[u8]) -> Result<bool, AllocError> {
     let alloc = rt.alloc();
-    let (disk, _, done) = visit(rt, image(alloc)?, &batch_of(alloc, steps)?)?;
+    let (disk, _, done) = visit(rt, image(alloc, SIZES)?, &batch_of(alloc, steps)?)?;
     let (_, left) = has_bytes(rt, disk, bytes)?;
     Ok(done.is_ok() && left)
 }

@@ -1,8 +1,8 @@
 //! Files with few records, as they are answered, as they are stored, and as they are refused.
 
-use crate::kv::example::image;
 use crate::kv::steps::{Step, is_value, ops_of};
 use crate::kv::visits::{Ending, Visit, bytes_in, list_keys, run_visit, use_example, with_bytes};
+use crate::pipe::running::{SIZES, image};
 use opfs_base::{Bytes, Data};
 use opfs_kv::{KvReply, KvStop};
 use opfs_memory::RamDisk;
@@ -44,7 +44,7 @@ pub fn has_bytes<R: AllocGlobal + Wait>(
 
 // What the example finds of a key to which it gives this value, and whether that was there when it was taken out.
 fn example<R: AllocGlobal + Wait>(rt: &R) -> Result<bool, AllocError> {
-    let disk = image(rt.alloc())?;
+    let disk = image(rt.alloc(), SIZES)?;
     let key = Bytes::copy_of(rt.alloc(), b"a")?;
     let value = Bytes::copy_of(rt.alloc(), b"1")?;
     let Ok(Visit { found, .. }) = use_example(rt, disk, &key, &value) else {
@@ -70,7 +70,7 @@ fn packs<R: AllocGlobal + Wait>(rt: &R) -> Result<bool, AllocError> {
         Step::Delete("b"),
         Step::Get("a"),
     ];
-    let disk = image(rt.alloc())?;
+    let disk = image(rt.alloc(), SIZES)?;
     let (disk, replies) = after(rt, disk, &steps, Ending::Close)?;
     let two = b"\x01\x01a\x01\x00\x00\x001\x01\x01a\x01\x00\x00\x002";
     let (disk, long) = has_bytes(rt, disk, two)?;
@@ -98,7 +98,7 @@ fn a_compact_leaves_one_record_a_key(rt: HostRuntime) -> Result<(), Fail> {
 // Of what was put before a flush and behind it, the first is there when the file is given up.
 fn stops_behind_a_flush<R: AllocGlobal + Wait>(rt: &R) -> Result<bool, AllocError> {
     let steps = [Step::Put("a", "2"), Step::Flush, Step::Put("c", "3")];
-    let disk = image(rt.alloc())?;
+    let disk = image(rt.alloc(), SIZES)?;
     let (disk, _) = after(rt, disk, &steps, Ending::GiveUp)?;
     let (_, replies) = after(rt, disk, &[Step::Get("a"), Step::Get("c")], Ending::Close)?;
     Ok(is_value(replies.first(), Some("2")) && is_value(replies.last(), None))
@@ -117,7 +117,7 @@ fn written<R: AllocGlobal + Wait>(rt: &R, bytes: &[u8]) -> Result<RamDisk, Alloc
     }
     let alloc = rt.alloc();
     let data = Data::given(alloc, Bytes::copy_of(alloc, bytes)?)?;
-    match with_bytes(rt, image(alloc)?, &data) {
+    match with_bytes(rt, image(alloc, SIZES)?, &data) {
         Ok(visit) => Ok(visit.disk),
         Err(_) => Err(AllocError),
     }
@@ -158,7 +158,7 @@ fn is_alone(keys: &[Bytes], key: &Bytes) -> bool {
 // The keys "a" and "b" are put, and those from "b" on are listed.
 fn lists<R: AllocGlobal + Wait>(rt: &R) -> Result<bool, AllocError> {
     let alloc = rt.alloc();
-    let disk = image(alloc)?;
+    let disk = image(alloc, SIZES)?;
     let key = Bytes::copy_of(alloc, b"a")?;
     let other = Bytes::copy_of(alloc, b"b")?;
     let value = Bytes::copy_of(alloc, b"1")?;

@@ -1,61 +1,24 @@
-//! A store as a program makes it: an image in memory, a desk of one agent and its hall, a file of the agent, and the end.
+//! A store as a program makes it: a desk of one agent and its hall, and the end.
 
-ghost use Rattle.std.specs.Prelude.{◌≡◌, [], ◌∷◌, false, Some, length, IfErr, IfOk, OnErr};
+ghost use Rattle.std.specs.Prelude.{◌≡◌, [], ◌∷◌, false, Some, IfErr, IfOk};
 ghost use Rattle.opfs_codec.specs.Spelling.{IsText, is_origin_text};
 ghost use Rattle.opfs_desk.specs.Seen.{entries_of};
 ghost use Rattle.opfs_hall.specs.Seen.{AreNew, new_pass};
-ghost use Rattle.opfs_library_tests.specs.Kv.Ready.{Holds, IsBegun, IsOfAgent, IsOneAgent, IsReady};
+ghost use Rattle.opfs_library_tests.specs.Kv.Sessions.{IsBegun, IsOneAgent};
+ghost use Rattle.opfs_notebook.specs.Ready.{IsIdle};
 
 use opfs_agent::Agent;
-use opfs_agent::handle_calls::SyncHandle;
-use opfs_base::{Key, Locator, Text};
+use opfs_base::Key;
 use opfs_desk::Desk;
 use opfs_hall::{Hall, Pass};
-use opfs_hist::{Mode, Room};
-use opfs_image::{Geometry, format, recover};
-use opfs_memory::RamDisk;
+use opfs_hist::Room;
+use opfs_image::recover;
 use opfs_outside::Disk;
 use opfs_register::Who;
 use opfs_store::Store;
 use opfs_sync_files::a_resting_agent_may_end;
-use opfs_turns::Stop;
 use std::alloc::{AllocError, Global};
 use std::sync::Wait;
-
-// A disk in memory of so many bytes.
-fn blank(alloc: Global, bytes: u64) -> Result<RamDisk, AllocError>
-    ensures { IfOk result (λ disk. length disk ≡ bytes) }
-{
-    let disk = RamDisk::make(alloc, bytes)?;
-    Ok(disk)
-}
-
-/// An image that holds nothing, on a disk in memory.
-pub fn image(alloc: Global) -> Result<RamDisk, AllocError> {
-    let mut disk = blank(alloc, 69_210_112)?;
-    let sizes = Geometry {
-        areas: 256,
-        blocks: 16_384,
-        quota: 8_192,
-    };
-    match format(&mut disk, sizes) {
-        Ok(()) => Ok(disk),
-        Err(_) => Err(AllocError),
-    }
-}
-
-/// The key of a URL's origin.
-pub fn origin(alloc: Global, url: &str) -> Result<Key, AllocError>
-    ensures { IfOk result (λ key. IsText is_origin_text key) }
-{
-    match Key::of_url(alloc, url) {
-        Ok(key) => {
-            let _text = key.as_str();
-            Ok(key)
-        }
-        Err(_) => Err(AllocError),
-    }
-}
 
 /// One agent of an origin, which has no grant.
 pub fn one_agent(alloc: Global, key: &Key) -> Result<Vec<Who>, AllocError>
@@ -110,7 +73,7 @@ pub fn begin<S: Store, R: AllocGlobal>(rt: &R, store: S, key: Key) -> Result<Ses
     requires empty { S.entries store ≡ [] }
     requires agent { IsOneAgent (S.opened (S.opening store)) key }
     requires key { IsText is_origin_text key }
-    ensures begun { IfOk result (λ session. IsBegun S.tells session.court session.owner session.agent) }
+    ensures begun { IfOk result (λ session. IsBegun session.court session.owner session.agent) }
     ensures err { IfErr result (λ back. back ≡ store) }
 {
     let alloc = rt.alloc();
@@ -127,99 +90,11 @@ pub fn begin<S: Store, R: AllocGlobal>(rt: &R, store: S, key: Key) -> Result<Ses
     })
 }
 
-/// The root of a bucket, which is made where it is missing.
-pub fn bucket_root<S: Store, R: Wait>(
-    rt: &R,
-    court: &Hall<S>,
-    agent: &mut Agent<S>,
-    bucket: &Text,
-) -> Result<Locator, Stop>
-    requires { IsReady S.tells court.now 0 0 agent.old }
-    ensures ready { IsReady S.tells court.now 1 0 agent.new }
-    ensures own { IfOk result (λ root. IsOfAgent agent.new root) }
-{
-    agent.know_kept();
-    match agent.get_directory(rt, court, bucket) {
-        Ok(root) => Ok(root),
-        Err(stop) => Err(stop),
-    }
-}
-
-/// A file of a directory, which is made where it is missing.
-pub fn child_file<S: Store, R: Wait>(
-    rt: &R,
-    court: &Hall<S>,
-    agent: &mut Agent<S>,
-    dir: &Locator,
-    name: &Text,
-) -> Result<Locator, Stop>
-    requires ready { IsReady S.tells court.now 1 0 agent.old }
-    requires own { IsOfAgent agent.old dir.now }
-    ensures ready { IsReady S.tells court.now 2 0 agent.new }
-    ensures own { IfOk result (λ file. IsOfAgent agent.new file) }
-{
-    agent.know_kept();
-    match agent.get_file_handle(rt, court, dir, name, true) {
-        Ok(file) => Ok(file),
-        Err(stop) => Err(stop),
-    }
-}
-
-/// A file of the default bucket.
-pub fn file_at<S: Store, R: Wait>(
-    rt: &R,
-    court: &Hall<S>,
-    agent: &mut Agent<S>,
-    name: &str,
-) -> Result<Locator, Stop>
-    requires { IsReady S.tells court.now 0 0 agent.old }
-    ensures ready { IsReady S.tells court.now 2 0 agent.new }
-    ensures own { IfOk result (λ file. IsOfAgent agent.new file) }
-{
-    let Ok(bucket) = Text::copy_of(agent.alloc(), "default") else {
-        return Err(Stop::NoMemory);
-    };
-    let Ok(name) = Text::copy_of(agent.alloc(), name) else {
-        return Err(Stop::NoMemory);
-    };
-    let root = bucket_root(rt, court, agent, &bucket)?;
-    let file = child_file(rt, court, agent, &root, &name)?;
-    Ok(file)
-}
-
-/// An access handle on such a file, which may write.
-pub fn open_file<S: Store, R: Wait>(
-    rt: &R,
-    court: &Hall<S>,
-    agent: &mut Agent<S>,
-    name: &str,
-) -> Result<SyncHandle, Stop>
-    requires { IsReady S.tells court.now 0 0 agent.old }
-    ensures holds { IfOk result (λ handle. Holds S.tells court.now 3 agent.new handle) }
-    ensures err { OnErr result (IsReady S.tells court.now 2000000 0 agent.new) }
-{
-    let file = file_at(rt, court, agent, name)?;
-    agent.know_kept();
-    match agent.create_sync(rt, court, &file, Mode::ReadWrite) {
-        Ok(handle) => Ok(handle),
-        Err(stop) => Err(stop),
-    }
-}
-
-/// Discards an access handle: its file has again what was last stored.
-pub fn discard<S: Store, R: Wait>(rt: &R, court: &Hall<S>, agent: &mut Agent<S>, handle: SyncHandle)
-    requires { Holds S.tells court.now 1500000 agent.old handle }
-    ensures { IsReady S.tells court.now 2000000 0 agent.new }
-{
-    agent.know_kept();
-    let _closed = agent.discard_sync(rt, court, handle);
-}
-
 /// Ends the one agent, of which nothing is open, and then its hall, and gives the store.
 pub fn end<S: Store, R: Wait>(rt: &R, court: Hall<S>, mut owner: Pass<S>, agent: Agent<S>) -> S
     requires owner { owner ≡ new_pass court 0 [] }
     requires one { court.agents ≡ 1 }
-    requires ready { IsReady S.tells court 2000000 0 agent }
+    requires idle { IsIdle court agent 1 50000000 }
 {
     agent.know_kept();
     a_resting_agent_may_end(&agent);

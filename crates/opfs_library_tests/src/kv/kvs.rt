@@ -1,55 +1,140 @@
 //! A key-value file as a program uses it.
 
-ghost use Rattle.std.specs.Prelude.{IfOk, OnErr};
-ghost use Rattle.opfs_library_tests.specs.Kv.Ready.{Holds, HoldsKv, IsReady};
+ghost use Rattle.std.specs.Prelude.{IfErr, IfOk};
 ghost use Rattle.opfs_kv.specs.Records.Records.{IsKey, IsValue};
+ghost use Rattle.opfs_notebook.specs.Ready.{Goes, HasMade, Holds, HoldsNotes, IsReady};
 
-use crate::kv::example::{discard, open_file};
 use opfs_agent::Agent;
 use opfs_agent::handle_calls::SyncHandle;
 use opfs_base::Bytes;
 use opfs_hall::Hall;
 use opfs_kv::{Kv, KvStop};
+use opfs_notebook::files::discard;
+use opfs_notebook::notes::{handle_of, note, store};
 use opfs_store::Store;
 use opfs_turns::Stop;
 use std::sync::Wait;
 
-/// Opens a file of records. Where it does not open, its handle is discarded.
-pub fn open_kv<S: Store, R: Wait>(
-    rt: &R,
-    court: &Hall<S>,
-    agent: &mut Agent<S>,
-    name: &str,
-) -> Result<Kv, KvStop>
-    requires { IsReady S.tells court.now 0 0 agent.old }
-    ensures holds { IfOk result (λ kv. HoldsKv S.tells court.now 2000 agent.new kv) }
-    ensures err { OnErr result (IsReady S.tells court.now 2000000 0 agent.new) }
-{
-    match open_file(rt, court, agent, name) {
-        Ok(handle) => read_kv(rt, court, agent, handle),
-        Err(stop) => Err(KvStop::Agent(stop)),
-    }
-}
-
-/// The same of an access handle.
+/// Opens a file of records through an access handle. Where it does not open, the handle is discarded.
 pub fn read_kv<S: Store, R: Wait>(
     rt: &R,
     court: &Hall<S>,
     agent: &mut Agent<S>,
     handle: SyncHandle,
 ) -> Result<Kv, KvStop>
-    requires { Holds S.tells court.now 3 agent.old handle }
-    ensures holds { IfOk result (λ kv. HoldsKv S.tells court.now 2000 agent.new kv) }
-    ensures err { OnErr result (IsReady S.tells court.now 2000000 0 agent.new) }
+    requires holds { Holds S.tells court.now agent.old handle }
+    requires few { HasMade agent.old 50000001 }
+    ensures goes { Goes agent.old agent.new 262 }
+    ensures holds { IfOk result (λ kv. HoldsNotes S.tells court.now agent.new kv) }
+    ensures not { IfErr result (λ _. IsReady court.now agent.new 0) }
 {
     agent.know_kept();
-    match Kv::open(rt, court, agent, handle) {
+    let opened = Kv::open(rt, court, agent, handle);
+    agent.know_kept();
+    match opened {
         Ok(kv) => Ok(kv),
         Err((handle, stop)) => {
             discard(rt, court, agent, handle);
             Err(stop)
         }
     }
+}
+
+/// The same of the file of a name of the agent's default bucket, which is made where it is missing.
+pub fn open_kv<S: Store, R: Wait>(
+    rt: &R,
+    court: &Hall<S>,
+    agent: &mut Agent<S>,
+    name: &str,
+) -> Result<Kv, KvStop>
+    requires ready { IsReady court.now agent.old 0 }
+    requires few { HasMade agent.old 40000000 }
+    ensures goes { Goes agent.old agent.new 265 }
+    ensures holds { IfOk result (λ kv. HoldsNotes S.tells court.now agent.new kv) }
+    ensures not { IfErr result (λ _. IsReady court.now agent.new 0) }
+{
+    match handle_of(rt, court, agent, name) {
+        Ok(handle) => read_kv(rt, court, agent, handle),
+        Err(stop) => Err(KvStop::Agent(stop)),
+    }
+}
+
+/// Gives a key a value.
+pub fn put<S: Store, R: Wait>(
+    rt: &R,
+    court: &Hall<S>,
+    agent: &mut Agent<S>,
+    kv: &mut Kv,
+    key: &Bytes,
+    value: &Bytes,
+) -> Result<(), KvStop>
+    requires holds { HoldsNotes S.tells court.now agent.old kv.old }
+    requires few { HasMade agent.old 50000000 }
+    requires key { IsKey key.now }
+    requires value { IsValue value.now }
+    ensures holds { HoldsNotes S.tells court.now agent.new kv.new }
+    ensures goes { Goes agent.old agent.new 2 }
+{
+    agent.know_kept();
+    let done = kv.put(rt, court, agent, key, value);
+    agent.know_kept();
+    done
+}
+
+/// Takes out a key, and tells whether it was there.
+pub fn delete<S: Store, R: Wait>(
+    rt: &R,
+    court: &Hall<S>,
+    agent: &mut Agent<S>,
+    kv: &mut Kv,
+    key: &Bytes,
+) -> Result<bool, KvStop>
+    requires holds { HoldsNotes S.tells court.now agent.old kv.old }
+    requires few { HasMade agent.old 50000000 }
+    requires key { IsKey key.now }
+    ensures holds { HoldsNotes S.tells court.now agent.new kv.new }
+    ensures goes { Goes agent.old agent.new 2 }
+{
+    agent.know_kept();
+    let done = kv.delete(rt, court, agent, key);
+    agent.know_kept();
+    done
+}
+
+/// Writes the file anew.
+pub fn compact<S: Store, R: Wait>(
+    rt: &R,
+    court: &Hall<S>,
+    agent: &mut Agent<S>,
+    kv: &mut Kv,
+) -> Result<(), KvStop>
+    requires holds { HoldsNotes S.tells court.now agent.old kv.old }
+    requires few { HasMade agent.old 50000000 }
+    ensures holds { HoldsNotes S.tells court.now agent.new kv.new }
+    ensures goes { Goes agent.old agent.new 4 }
+{
+    agent.know_kept();
+    let done = kv.compact(rt, court, agent);
+    agent.know_kept();
+    done
+}
+
+/// The same where more than half of the file's bytes are dead: it tells whether they were.
+pub fn tidy<S: Store, R: Wait>(
+    rt: &R,
+    court: &Hall<S>,
+    agent: &mut Agent<S>,
+    kv: &mut Kv,
+) -> Result<bool, KvStop>
+    requires holds { HoldsNotes S.tells court.now agent.old kv.old }
+    requires few { HasMade agent.old 50000000 }
+    ensures holds { HoldsNotes S.tells court.now agent.new kv.new }
+    ensures goes { Goes agent.old agent.new 4 }
+{
+    agent.know_kept();
+    let done = kv.tidy(rt, court, agent);
+    agent.know_kept();
+    done
 }
 
 /// Gives a key a value, stores the file for good, and reads the value.
@@ -61,18 +146,16 @@ pub fn put_and_get<S: Store, R: Wait>(
     key: &Bytes,
     value: &Bytes,
 ) -> Result<Option<Bytes>, KvStop>
-    requires holds { HoldsKv S.tells court.now 2000 agent.old kv.old }
+    requires holds { HoldsNotes S.tells court.now agent.old kv.old }
+    requires few { HasMade agent.old 45000000 }
     requires key { IsKey key.now }
     requires value { IsValue value.now }
-    ensures { HoldsKv S.tells court.now 3000 agent.new kv.new }
+    ensures holds { HoldsNotes S.tells court.now agent.new kv.new }
+    ensures goes { Goes agent.old agent.new 9 }
 {
-    agent.know_kept();
-    kv.put(rt, court, agent, key, value)?;
-    agent.know_kept();
-    kv.flush(rt, court, agent)?;
-    agent.know_kept();
-    let found = kv.get(rt, court, agent, key)?;
-    Ok(found)
+    put(rt, court, agent, kv, key, value)?;
+    store(rt, court, agent, kv)?;
+    note(rt, court, agent, kv, key)
 }
 
 /// Takes out a key, and writes the file anew.
@@ -83,14 +166,14 @@ pub fn take_out<S: Store, R: Wait>(
     kv: &mut Kv,
     key: &Bytes,
 ) -> Result<bool, KvStop>
-    requires holds { HoldsKv S.tells court.now 3000 agent.old kv.old }
+    requires holds { HoldsNotes S.tells court.now agent.old kv.old }
+    requires few { HasMade agent.old 45000000 }
     requires key { IsKey key.now }
-    ensures { HoldsKv S.tells court.now 1000000 agent.new kv.new }
+    ensures holds { HoldsNotes S.tells court.now agent.new kv.new }
+    ensures goes { Goes agent.old agent.new 6 }
 {
-    agent.know_kept();
-    let was = kv.delete(rt, court, agent, key)?;
-    agent.know_kept();
-    kv.compact(rt, court, agent)?;
+    let was = delete(rt, court, agent, kv, key)?;
+    compact(rt, court, agent, kv)?;
     Ok(was)
 }
 
@@ -103,16 +186,15 @@ pub fn put_tidily<S: Store, R: Wait>(
     key: &Bytes,
     value: &Bytes,
 ) -> Result<bool, KvStop>
-    requires holds { HoldsKv S.tells court.now 3000 agent.old kv.old }
+    requires holds { HoldsNotes S.tells court.now agent.old kv.old }
+    requires few { HasMade agent.old 45000000 }
     requires key { IsKey key.now }
     requires value { IsValue value.now }
-    ensures { HoldsKv S.tells court.now 1000000 agent.new kv.new }
+    ensures holds { HoldsNotes S.tells court.now agent.new kv.new }
+    ensures goes { Goes agent.old agent.new 6 }
 {
-    agent.know_kept();
-    kv.put(rt, court, agent, key, value)?;
-    agent.know_kept();
-    let did = kv.tidy(rt, court, agent)?;
-    Ok(did)
+    put(rt, court, agent, kv, key, value)?;
+    tidy(rt, court, agent, kv)
 }
 
 /// The keys from one on, in order, and how many keys there are.
@@ -124,34 +206,5 @@ pub fn keys_on<S: Store>(
     match kv.keys_from(agent, from) {
         Ok(keys) => Ok((keys, kv.len(agent))),
         Err(_) => Err(KvStop::Agent(Stop::NoMemory)),
-    }
-}
-
-/// Gives the file up: what was not flushed is gone.
-pub fn give_up<S: Store, R: Wait>(rt: &R, court: &Hall<S>, agent: &mut Agent<S>, kv: Kv)
-    requires { HoldsKv S.tells court.now 1500000 agent.old kv }
-    ensures { IsReady S.tells court.now 2000000 0 agent.new }
-{
-    let handle = kv.give_back();
-    discard(rt, court, agent, handle);
-}
-
-/// Closes the file, which is stored for good. Where that is refused it is given up.
-pub fn close_kv<S: Store, R: Wait>(
-    rt: &R,
-    court: &Hall<S>,
-    agent: &mut Agent<S>,
-    kv: Kv,
-) -> Result<(), Stop>
-    requires { HoldsKv S.tells court.now 1000000 agent.old kv }
-    ensures { IsReady S.tells court.now 2000000 0 agent.new }
-{
-    agent.know_kept();
-    match kv.close(rt, court, agent) {
-        Ok(_) => Ok(()),
-        Err((kv, stop)) => {
-            give_up(rt, court, agent, kv);
-            Err(stop)
-        }
     }
 }

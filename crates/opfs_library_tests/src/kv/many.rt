@@ -1,7 +1,7 @@
 //! A file with many records: each get adds one entry at most.
 
-use crate::kv::example::image;
 use crate::kv::visits::{Ending, Visit, run_visit};
+use crate::pipe::running::{SIZES, image};
 use opfs_base::Bytes;
 use opfs_kv::{KvOp, KvReply};
 use opfs_memory::RamDisk;
@@ -72,7 +72,7 @@ fn are_values(replies: &[KvReply]) -> bool {
 
 // Whether all that was put is got, and each get adds one entry at most.
 fn finds_all<R: AllocGlobal + Wait>(rt: &R) -> Result<bool, AllocError> {
-    let disk = image(rt.alloc())?;
+    let disk = image(rt.alloc(), SIZES)?;
     let (disk, _, puts) = visit_of(rt, disk, COUNT, true)?;
     let (disk, none, _) = visit_of(rt, disk, 0, false)?;
     let (_, some, gets) = visit_of(rt, disk, COUNT, false)?;

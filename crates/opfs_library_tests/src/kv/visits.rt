@@ -1,21 +1,25 @@
 //! One agent that comes to a store over a disk, uses a file of it, and goes: what it found, and the disk.
 
-ghost use Rattle.std.specs.Prelude.{◌≡◌, ◌≤◌, ◌∷◌, [], All, length, true, IfOk, OnErr};
-ghost use Rattle.opfs_store.specs.Acts.Asking.{IsSmallData};
+ghost use Rattle.std.specs.Prelude.{◌≡◌, ◌≤◌, [], All, length, true, IfOk};
 ghost use Rattle.opfs_hall.specs.Seen.{new_pass};
 ghost use Rattle.opfs_kv.specs.Commands.Runs.{IsOp};
-ghost use Rattle.opfs_library_tests.specs.Kv.Ready.{Holds, HoldsKv, IsBegun, IsReady};
 ghost use Rattle.opfs_kv.specs.Records.Records.{IsKey, IsValue};
+ghost use Rattle.opfs_library_tests.specs.Kv.Sessions.{IsBegun};
+ghost use Rattle.opfs_notebook.specs.Ready.{Goes, HasMade, Holds, HoldsNotes, IsIdle, IsReady};
+ghost use Rattle.opfs_store.specs.Acts.Asking.{IsSmallData};
 
 use crate::kv::batches::use_batch;
-use crate::kv::example::{Session, begin, desk_over, discard, end, open_file, origin};
-use crate::kv::kvs::{close_kv, give_up, keys_on, open_kv, put_and_get, put_tidily, take_out};
+use crate::kv::example::{Session, begin, desk_over, end};
+use crate::kv::kvs::{keys_on, open_kv, put_and_get, put_tidily, take_out};
 use opfs_agent::Agent;
 use opfs_agent::handle_calls::SyncHandle;
 use opfs_base::{Bytes, Data};
 use opfs_desk::Desk;
 use opfs_hall::{Hall, Pass};
 use opfs_kv::{Batch, Kv, KvOp, KvReplies, KvStop, kv_run};
+use opfs_notebook::agents::origin_of;
+use opfs_notebook::files::discard;
+use opfs_notebook::notes::{self, give_up, handle_of};
 use opfs_outside::Disk;
 use opfs_store::Store;
 use opfs_sync_files::{close, read, write};
@@ -41,10 +45,10 @@ pub enum Ending {
 
 // Comes to a store over a disk.
 fn enter<D: Disk, R: AllocGlobal>(rt: &R, disk: D) -> Result<Session<Desk<D>>, D>
-    ensures { IfOk result (λ session. IsBegun D.tells session.court session.owner session.agent) }
+    ensures { IfOk result (λ session. IsBegun session.court session.owner session.agent) }
 {
     let alloc = rt.alloc();
-    let Ok(key) = origin(alloc, "https://a.example") else {
+    let Ok(key) = origin_of(alloc, "https://a.example") else {
         return Err(disk);
     };
     let desk = desk_over(alloc, disk, &key)?;
@@ -64,7 +68,7 @@ fn leave<D: Disk, R: Wait, T>(
 ) -> Visit<D, T>
     requires owner { owner ≡ new_pass court 0 [] }
     requires one { court.agents ≡ 1 }
-    requires ready { IsReady D.tells court 2000000 0 agent }
+    requires idle { IsIdle court agent 1 500000 }
 {
     let desk = end(rt, court, owner, agent);
     let (disk, history, _) = desk.finish();
@@ -82,12 +86,14 @@ fn end_kv<S: Store, R: Wait>(
     agent: &mut Agent<S>,
     kv: Kv,
     ending: Ending,
-) -> Result<(), Stop>
-    requires { HoldsKv S.tells court.now 1000000 agent.old kv }
-    ensures { IsReady S.tells court.now 2000000 0 agent.new }
+) -> Result<(), KvStop>
+    requires holds { HoldsNotes S.tells court.now agent.old kv }
+    requires few { HasMade agent.old 50000000 }
+    ensures ready { IsReady court.now agent.new 0 }
+    ensures goes { Goes agent.old agent.new 3 }
 {
     match ending {
-        Ending::Close => close_kv(rt, court, agent, kv),
+        Ending::Close => notes::close(rt, court, agent, kv),
         Ending::GiveUp => {
             give_up(rt, court, agent, kv);
             Ok(())
@@ -126,13 +132,17 @@ fn run_ops<S: Store, R: Wait>(
     kv: &mut Kv,
     ops: &[KvOp],
 ) -> Result<KvReplies, KvStop>
-    requires holds { HoldsKv S.tells court.now 2000 agent.old kv.old }
+    requires holds { HoldsNotes S.tells court.now agent.old kv.old }
+    requires few { HasMade agent.old 50000000 }
     requires ops { All IsOp ops.now }
     requires many { length ops.now ≤ 100000 }
-    ensures { HoldsKv S.tells court.now 1000000 agent.new kv.new }
+    ensures holds { HoldsNotes S.tells court.now agent.new kv.new }
+    ensures goes { Goes agent.old agent.new 400000 }
 {
     agent.know_kept();
-    match kv_run(rt, court, agent, kv, ops) {
+    let ran = kv_run(rt, court, agent, kv, ops);
+    agent.know_kept();
+    match ran {
         Ok(replies) => Ok(replies),
         Err(_) => Err(KvStop::Agent(Stop::NoMemory)),
     }
@@ -146,10 +156,10 @@ fn run_file<S: Store, R: Wait>(
     ops: &[KvOp],
     ending: Ending,
 ) -> Result<KvReplies, KvStop>
-    requires ready { IsReady S.tells court.now 0 0 agent.old }
+    requires idle { IsIdle court.now agent.old 1 0 }
     requires ops { All IsOp ops.now }
     requires many { length ops.now ≤ 100000 }
-    ensures { IsReady S.tells court.now 2000000 0 agent.new }
+    ensures { IsIdle court.now agent.new 1 500000 }
 {
     let mut kv = open_kv(rt, court, agent, "store")?;
     let replies = run_ops(rt, court, agent, &mut kv, ops);
@@ -165,8 +175,8 @@ fn run_fine<S: Store, R: Wait>(
     ops: &[KvOp],
     ending: Ending,
 ) -> Result<KvReplies, KvStop>
-    requires ready { IsReady S.tells court.now 0 0 agent.old }
-    ensures { IsReady S.tells court.now 2000000 0 agent.new }
+    requires idle { IsIdle court.now agent.old 1 0 }
+    ensures { IsIdle court.now agent.new 1 500000 }
 {
     if ops.len() > 100_000 {
         return Err(KvStop::Agent(Stop::NoMemory));
@@ -200,17 +210,41 @@ fn close_file<S: Store, R: Wait>(
     agent: &mut Agent<S>,
     handle: SyncHandle,
 ) -> Result<(), Stop>
-    requires { Holds S.tells court.now 4 agent.old handle }
-    ensures { IsReady S.tells court.now 2000000 0 agent.new }
+    requires holds { Holds S.tells court.now agent.old handle }
+    requires few { HasMade agent.old 50000000 }
+    ensures ready { IsReady court.now agent.new 0 }
+    ensures goes { Goes agent.old agent.new 2 }
 {
     agent.know_kept();
-    match close(rt, court, agent, handle) {
+    let done = close(rt, court, agent, handle);
+    agent.know_kept();
+    match done {
         Ok(_) => Ok(()),
         Err((handle, stop)) => {
             discard(rt, court, agent, handle);
             Err(stop)
         }
     }
+}
+
+// Writes bytes at the start of a file.
+fn write_first<S: Store, R: Wait>(
+    rt: &R,
+    court: &Hall<S>,
+    agent: &mut Agent<S>,
+    handle: &mut SyncHandle,
+    bytes: &Data,
+) -> Result<(), Stop>
+    requires holds { Holds S.tells court.now agent.old handle.old }
+    requires few { HasMade agent.old 50000000 }
+    requires bytes { IsSmallData bytes.now }
+    ensures holds { Holds S.tells court.now agent.new handle.new }
+    ensures goes { Goes agent.old agent.new 1 }
+{
+    agent.know_kept();
+    let done = write(rt, court, agent, handle, bytes, 0);
+    agent.know_kept();
+    done
 }
 
 // Writes bytes into the store's file.
@@ -220,13 +254,12 @@ fn write_file<S: Store, R: Wait>(
     agent: &mut Agent<S>,
     bytes: &Data,
 ) -> Result<(), Stop>
-    requires ready { IsReady S.tells court.now 0 0 agent.old }
+    requires idle { IsIdle court.now agent.old 1 0 }
     requires bytes { IsSmallData bytes.now }
-    ensures { IsReady S.tells court.now 2000000 0 agent.new }
+    ensures { IsIdle court.now agent.new 1 500000 }
 {
-    let mut handle = open_file(rt, court, agent, "store")?;
-    agent.know_kept();
-    let written = write(rt, court, agent, &mut handle, bytes, 0);
+    let mut handle = handle_of(rt, court, agent, "store")?;
+    let written = write_first(rt, court, agent, &mut handle, bytes);
     let closed = close_file(rt, court, agent, handle);
     written.and(closed)
 }
@@ -248,18 +281,35 @@ pub fn with_bytes<D: Disk, R: AllocGlobal + Wait>(
     Ok(leave(rt, court, owner, agent, found))
 }
 
-// The first 64 bytes of the store's file.
+// The first 64 bytes of a file.
+fn read_first<S: Store, R: Wait>(
+    rt: &R,
+    court: &Hall<S>,
+    agent: &mut Agent<S>,
+    handle: &mut SyncHandle,
+) -> Result<Bytes, Stop>
+    requires holds { Holds S.tells court.now agent.old handle.old }
+    requires few { HasMade agent.old 50000000 }
+    ensures holds { Holds S.tells court.now agent.new handle.new }
+    ensures goes { Goes agent.old agent.new 1 }
+{
+    agent.know_kept();
+    let bytes = read(rt, court, agent, handle, 64, 0);
+    agent.know_kept();
+    bytes
+}
+
+// The same of the store's file.
 fn read_file<S: Store, R: Wait>(
     rt: &R,
     court: &Hall<S>,
     agent: &mut Agent<S>,
 ) -> Result<Bytes, Stop>
-    requires ready { IsReady S.tells court.now 0 0 agent.old }
-    ensures { IsReady S.tells court.now 2000000 0 agent.new }
+    requires { IsIdle court.now agent.old 1 0 }
+    ensures { IsIdle court.now agent.new 1 500000 }
 {
-    let mut handle = open_file(rt, court, agent, "store")?;
-    agent.know_kept();
-    let bytes = read(rt, court, agent, &mut handle, 64, 0);
+    let mut handle = handle_of(rt, court, agent, "store")?;
+    let bytes = read_first(rt, court, agent, &mut handle);
     discard(rt, court, agent, handle);
     bytes
 }
@@ -286,15 +336,15 @@ fn use_file<S: Store, R: Wait>(
     key: &Bytes,
     value: &Bytes,
 ) -> Result<(Option<Bytes>, bool), KvStop>
-    requires ready { IsReady S.tells court.now 0 0 agent.old }
+    requires idle { IsIdle court.now agent.old 1 0 }
     requires key { IsKey key.now }
     requires value { IsValue value.now }
-    ensures { IsReady S.tells court.now 2000000 0 agent.new }
+    ensures { IsIdle court.now agent.new 1 500000 }
 {
     let mut kv = open_kv(rt, court, agent, "store")?;
     let found = put_and_get(rt, court, agent, &mut kv, key, value);
     let was = take_out(rt, court, agent, &mut kv, key);
-    let _closed = close_kv(rt, court, agent, kv);
+    let _closed = notes::close(rt, court, agent, kv);
     Ok((found?, was?))
 }
 
@@ -326,17 +376,17 @@ fn use_keys<S: Store, R: Wait>(
     other: &Bytes,
     value: &Bytes,
 ) -> Result<(bool, Vec<Bytes>, usize), KvStop>
-    requires ready { IsReady S.tells court.now 0 0 agent.old }
+    requires idle { IsIdle court.now agent.old 1 0 }
     requires key { IsKey key.now }
     requires other { IsKey other.now }
     requires value { IsValue value.now }
-    ensures { IsReady S.tells court.now 2000000 0 agent.new }
+    ensures { IsIdle court.now agent.new 1 500000 }
 {
     let mut kv = open_kv(rt, court, agent, "store")?;
     let put = put_and_get(rt, court, agent, &mut kv, key, value);
     let did = put_tidily(rt, court, agent, &mut kv, other, value);
     let listed = keys_on(agent, &kv, other);
-    let _closed = close_kv(rt, court, agent, kv);
+    let _closed = notes::close(rt, court, agent, kv);
     put?;
     let (keys, count) = listed?;
     Ok((did?, keys, count))

@@ -4,7 +4,7 @@ ghost use Rattle.std.specs.Prelude.{◌≡◌, ◌≤◌, true};
 ghost use Rattle.opfs_image.specs.Superblock.{is_in_range};
 
 use crate::pipe::driving::{run, set_quota};
-use crate::pipe::running::image;
+use crate::pipe::running::{SIZES, image};
 use crate::pipe::tasks::Task;
 use opfs_base::Bytes;
 use opfs_image::Geometry;
@@ -12,13 +12,6 @@ use opfs_turns::Stop;
 use std::alloc::AllocError;
 use std::sync::Wait;
 use std::thread::Threads;
-
-// The sizes of a store of 64 MiB.
-const SIZES: Geometry = Geometry {
-    areas: 256,
-    blocks: 16_384,
-    quota: 8_192,
-};
 
 /// The sizes of a store of 160 MiB.
 pub const LARGE: Geometry = Geometry {

@@ -4,12 +4,14 @@ ghost use Rattle.std.specs.Prelude.{◌≡◌, ◌∷◌, []};
 ghost use Rattle.opfs_codec.specs.Spelling.{IsText, is_origin_text};
 ghost use Rattle.opfs_desk.specs.Seen.{entries_of};
 ghost use Rattle.opfs_hall.specs.Seen.{new_pass};
-ghost use Rattle.opfs_library_tests.specs.Pipe.Ready.{IsTask, Stands, asks};
+ghost use Rattle.opfs_library_tests.specs.Pipe.Tasks.{IsTask};
+ghost use Rattle.opfs_notebook.specs.Ready.{IsIdle, asks};
 
-use crate::pipe::running::{Meeting, Starter, desk_of, meet, part, starters};
+use crate::pipe::running::desk_of;
 use crate::pipe::tasks::{Task, perform};
 use opfs_base::Bytes;
 use opfs_desk::Desk;
+use opfs_notebook::agents::{Meeting, Starter, meet, part, starters};
 use opfs_outside::{Disk, Failed};
 use opfs_store::Store;
 use opfs_turns::Stop;
@@ -25,23 +27,23 @@ fn run_meeting<S: Store + Send, R: Threads + Wait + Sync>(
     requires task { IsTask task }
     requires owner { meeting.owner ≡ new_pass meeting.court 0 [] }
     requires agents { meeting.court.agents ≡ 2 }
-    requires reader { Stands meeting.court meeting.reader 1 0 }
-    requires writer { Stands meeting.court meeting.writer 2 0 }
+    requires left { IsIdle meeting.court meeting.left 1 0 }
+    requires right { IsIdle meeting.court meeting.right 2 0 }
 {
     let Meeting {
         court,
         owner,
-        mut reader,
-        mut writer,
+        mut left,
+        mut right,
     } = meeting;
-    let told = perform(rt, &court, &mut reader, &mut writer, task);
+    let told = perform(rt, &court, &mut left, &mut right, task);
     let store = part(
         rt,
         Meeting {
             court,
             owner,
-            reader,
-            writer,
+            left,
+            right,
         },
     );
     (store, told)

@@ -4,86 +4,17 @@ ghost use Rattle.std.specs.Prelude.{◌≡◌, ◌≤◌, [], IfErr, IfOk};
 ghost use Rattle.opfs_store.specs.Acts.Asking.{IsSmall, IsSmallData};
 ghost use Rattle.opfs_turns.specs.Asking.Rows.{HasSnapshot, HasStream};
 ghost use Rattle.opfs_pipe.specs.Streams.{stream_bytes, stream_offset};
-ghost use Rattle.opfs_library_tests.specs.Pipe.Ready.{Goes, HasMade, IsMine, IsReady};
+ghost use Rattle.opfs_notebook.specs.Ready.{Goes, HasMade, IsMine, IsReady};
 
 use opfs_agent::stream_calls::Writable;
 use opfs_agent::{Agent, Snapshot};
-use opfs_base::{Bytes, Data, Locator, Text};
+use opfs_base::{Bytes, Data, Locator};
 use opfs_hall::Hall;
 use opfs_pipe::{Range, open_target, pipe};
 use opfs_store::Store;
 use opfs_turns::Stop;
-use std::alloc::Global;
 use std::sync::Wait;
 use std::thread::Threads;
-
-// A text in memory of its own.
-fn text(alloc: Global, text: &str) -> Result<Text, Stop>
-    ensures { IfOk result (λ copy. copy ≡ text.now) }
-{
-    match Text::copy_of(alloc, text) {
-        Ok(copy) => Ok(copy),
-        Err(_) => Err(Stop::NoMemory),
-    }
-}
-
-/// The root of the agent's default bucket.
-pub fn root<S: Store, R: Wait>(
-    rt: &R,
-    court: &Hall<S>,
-    agent: &mut Agent<S>,
-) -> Result<Locator, Stop>
-    requires ready { IsReady court.now agent.old 0 }
-    requires few { HasMade agent.old 50000000 }
-    ensures ready { IsReady court.now agent.new 0 }
-    ensures goes { Goes agent.old agent.new 1 }
-    ensures mine { IfOk result (λ at. IsMine agent.new at) }
-{
-    let bucket = text(agent.alloc(), "default")?;
-    agent.know_kept();
-    let root = agent.get_directory(rt, court, &bucket);
-    agent.know_kept();
-    root
-}
-
-/// A file of a directory, which is made where it is missing.
-pub fn child<S: Store, R: Wait>(
-    rt: &R,
-    court: &Hall<S>,
-    agent: &mut Agent<S>,
-    dir: &Locator,
-    name: &str,
-) -> Result<Locator, Stop>
-    requires ready { IsReady court.now agent.old 0 }
-    requires few { HasMade agent.old 50000000 }
-    requires mine { IsMine agent.old dir.now }
-    ensures ready { IsReady court.now agent.new 0 }
-    ensures goes { Goes agent.old agent.new 1 }
-    ensures mine { IfOk result (λ at. IsMine agent.new at) }
-{
-    let name = text(agent.alloc(), name)?;
-    agent.know_kept();
-    let file = agent.get_file_handle(rt, court, dir, &name, true);
-    agent.know_kept();
-    file
-}
-
-/// A file of the agent's default bucket, which is made where it is missing.
-pub fn new_file<S: Store, R: Wait>(
-    rt: &R,
-    court: &Hall<S>,
-    agent: &mut Agent<S>,
-    name: &str,
-) -> Result<Locator, Stop>
-    requires ready { IsReady court.now agent.old 0 }
-    requires few { HasMade agent.old 40000000 }
-    ensures ready { IsReady court.now agent.new 0 }
-    ensures goes { Goes agent.old agent.new 2 }
-    ensures mine { IfOk result (λ at. IsMine agent.new at) }
-{
-    let root = root(rt, court, agent)?;
-    child(rt, court, agent, &root, name)
-}
 
 /// Aborts a stream: its file is as it was.
 pub fn give_up<S: Store, R: Wait>(rt: &R, court: &Hall<S>, agent: &mut Agent<S>, stream: Writable)

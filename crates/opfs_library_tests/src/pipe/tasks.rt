@@ -2,16 +2,18 @@
 
 ghost use Rattle.std.specs.Prelude.{◌≤◌};
 ghost use Rattle.opfs_turns.specs.Asking.Rows.{HasStream};
-ghost use Rattle.opfs_library_tests.specs.Pipe.Ready.{Goes, HasMade, IsMine, IsReady, Stands, IsTask};
+ghost use Rattle.opfs_library_tests.specs.Pipe.Tasks.{IsTask};
+ghost use Rattle.opfs_notebook.specs.Ready.{Goes, HasMade, IsIdle, IsMine, IsReady};
 
 use crate::pipe::example::{
-    Parcel, deliver, give_up, new_file, read_file, save, send, snapshot, target_of, write_file,
+    Parcel, deliver, give_up, read_file, save, send, snapshot, target_of, write_file,
 };
 use opfs_agent::Agent;
 use opfs_agent::stream_calls::Writable;
-use opfs_base::{Bytes, Data, Locator};
+use opfs_base::{Bytes, Data};
 use opfs_hall::Hall;
 use opfs_hist::Refusal;
+use opfs_notebook::files::new_file;
 use opfs_pipe::Range;
 use opfs_store::Store;
 use opfs_turns::Stop;
@@ -38,8 +40,8 @@ fn write<S: Store, R: Wait>(
     count: u64,
 ) -> Result<Bytes, Stop>
     requires few { (zeros ≤ 268435456) × (count ≤ 16777216) }
-    requires reader { Stands court.now reader.old 1 0 }
-    ensures reader { Stands court.now reader.new 1 66000 }
+    requires reader { IsIdle court.now reader.old 1 0 }
+    ensures reader { IsIdle court.now reader.new 1 66000 }
 {
     let source = new_file(rt, court, reader, "source")?;
     write_file(rt, court, reader, &source, zeros, &Data::filled(65, count))?;
@@ -56,10 +58,10 @@ fn send_range<S: Store + Send, R: Threads + Wait + Sync>(
     len: u64,
 ) -> Result<Bytes, Stop>
     requires len { len ≤ 268435456 }
-    requires reader { Stands court.now reader.old 1 0 }
-    requires writer { Stands court.now writer.old 2 0 }
-    ensures reader { Stands court.now reader.new 1 66000 }
-    ensures writer { Stands court.now writer.new 2 66000 }
+    requires reader { IsIdle court.now reader.old 1 0 }
+    requires writer { IsIdle court.now writer.old 2 0 }
+    ensures reader { IsIdle court.now reader.new 1 66000 }
+    ensures writer { IsIdle court.now writer.new 2 66000 }
 {
     let source = new_file(rt, court, reader, "source")?;
     let target = new_file(rt, court, writer, "target")?;
@@ -137,10 +139,10 @@ fn refuse<S: Store + Send, R: Threads + Wait + Sync>(
     len: u64,
 ) -> Result<Bytes, Stop>
     requires len { len ≤ 268435456 }
-    requires reader { Stands court.now reader.old 1 0 }
-    requires writer { Stands court.now writer.old 2 0 }
-    ensures reader { Stands court.now reader.new 1 66000 }
-    ensures writer { Stands court.now writer.new 2 66000 }
+    requires reader { IsIdle court.now reader.old 1 0 }
+    requires writer { IsIdle court.now writer.old 2 0 }
+    ensures reader { IsIdle court.now reader.new 1 66000 }
+    ensures writer { IsIdle court.now writer.new 2 66000 }
 {
     let source = new_file(rt, court, reader, "source")?;
     let target = new_file(rt, court, writer, "target")?;
@@ -163,10 +165,10 @@ pub fn perform<S: Store + Send, R: Threads + Wait + Sync>(
     task: Task,
 ) -> Result<Bytes, Stop>
     requires task { IsTask task }
-    requires reader { Stands court.now reader.old 1 0 }
-    requires writer { Stands court.now writer.old 2 0 }
-    ensures reader { Stands court.now reader.new 1 66000 }
-    ensures writer { Stands court.now writer.new 2 66000 }
+    requires reader { IsIdle court.now reader.old 1 0 }
+    requires writer { IsIdle court.now writer.old 2 0 }
+    ensures reader { IsIdle court.now reader.new 1 66000 }
+    ensures writer { IsIdle court.now writer.new 2 66000 }
 {
     match task {
         Task::Write(zeros, count) => write(rt, court, reader, zeros, count),

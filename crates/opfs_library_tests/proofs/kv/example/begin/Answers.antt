@@ -1,13 +1,14 @@
-use Rattle.std.proofs.Common.{rules, sym, subst}
-use Rattle.opfs_library_tests.proofs.kv.Begun.{may-begin, ready-new}
-use Rattle.opfs_library_tests.specs.Kv.Ready.{IsOneAgent, IsReady}
+use Rattle.std.proofs.Common.{rules}
+use Rattle.opfs_library_tests.specs.Kv.Sessions.{IsOneAgent}
+use Rattle.opfs_library_tests.proofs.kv.Begun.{alone-of}
+use Rattle.opfs_notebook.proofs.Beginning.{may-begin, stands-new}
 use Rattle.opfs_library_tests.proofs.kv.example.begin.Goals as goal
 
 pub begin-agent-requires : goal.begin-agent-requires
 begin-agent-requires g c =
     let of = c.in_ok-court.court in
     let one : IsOneAgent (g.S.Store.opened of.opening) c.args.key = search rules in
-    may-begin g.S.Store.tells g.S.Store.opened of c.args.key one _ (search rules)
+    may-begin g.S.Store.opened of 1 c.args.key (alone-of (g.S.Store.opened of.opening) c.args.key one c.requires.key) _ (search rules)
 
 pub returns-clause-begun : goal.returns-clause-begun
 returns-clause-begun g c =
@@ -16,5 +17,5 @@ returns-clause-begun g c =
     record {
       owns = search rules;
       one = search rules;
-      ready = subst (IsReady g.S.Store.tells of 0 0) (sym c.begin-agent.ensures) (ready-new g.S.Store.tells g.S.Store.opened of c.args.key one _ (search rules) c.requires.key);
+      idle = stands-new g.S.Store.opened of 1 c.args.key (alone-of (g.S.Store.opened of.opening) c.args.key one c.requires.key) _ c.begin-agent.result (search rules) c.begin-agent.ensures;
     }

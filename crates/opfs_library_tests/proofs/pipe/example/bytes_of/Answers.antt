@@ -2,7 +2,8 @@ use Rattle.std.proofs.Common.{refl, arith}
 use Rattle.opfs_hist.specs.declared.op.Op.TheVariants as op
 use Rattle.opfs_pipe.proofs.Joined.{GivesRead}
 use Rattle.opfs_splice.specs.Splicing.{window}
-use Rattle.opfs_library_tests.proofs.pipe.Going.{local-on, local-ready, room-of}
+use Rattle.opfs_notebook.proofs.Going.{room-of}
+use Rattle.opfs_library_tests.proofs.pipe.Streams.{local-on, local-ready}
 use Rattle.opfs_library_tests.proofs.pipe.example.bytes_of.Goals as goal
 
 pub slice-bytes-requires-clause-room : goal.slice-bytes-requires-clause-room

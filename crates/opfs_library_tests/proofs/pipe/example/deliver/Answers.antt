@@ -1,7 +1,8 @@
 use Rattle.std.proofs.Common.{sym, subst, arith}
 use Rattle.opfs_turns.proofs.asking.Plains.{window-length}
-use Rattle.opfs_library_tests.specs.Pipe.Ready.{IsReady}
-use Rattle.opfs_library_tests.proofs.pipe.Going.{ready-closed, ready-on}
+use Rattle.opfs_notebook.specs.Ready.{IsReady}
+use Rattle.opfs_notebook.proofs.Going.{ready-on}
+use Rattle.opfs_library_tests.proofs.pipe.Streams.{ready-closed}
 use Rattle.opfs_library_tests.proofs.pipe.example.deliver.Goals as goal
 
 pub pipe-piped-requires-clause-range : goal.pipe-piped-requires-clause-range

@@ -1,5 +1,5 @@
 use Rattle.std.proofs.Common.{arith}
-use Rattle.opfs_library_tests.proofs.pipe.Going.{goes-then, made-then}
+use Rattle.opfs_notebook.proofs.Going.{goes-then, made-then}
 use Rattle.opfs_library_tests.proofs.pipe.example.fill.Goals as goal
 
 pub save-requires-clause-few : goal.save-requires-clause-few

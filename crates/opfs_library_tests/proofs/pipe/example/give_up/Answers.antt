@@ -1,6 +1,7 @@
 use Rattle.std.proofs.Common.{refl, arith}
 use Rattle.opfs_hist.specs.declared.op.Op.TheVariants as op
-use Rattle.opfs_library_tests.proofs.pipe.Going.{room-of, spent-more, spent-ready}
+use Rattle.opfs_notebook.proofs.Going.{room-of}
+use Rattle.opfs_library_tests.proofs.pipe.Streams.{spent-more, spent-ready}
 use Rattle.opfs_library_tests.proofs.pipe.example.give_up.Goals as goal
 
 pub abort-closed-requires-clause-room : goal.abort-closed-requires-clause-room

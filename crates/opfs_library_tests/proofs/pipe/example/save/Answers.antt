@@ -1,6 +1,7 @@
 use Rattle.std.proofs.Common.{refl, arith}
 use Rattle.opfs_hist.specs.declared.op.Op.TheVariants as op
-use Rattle.opfs_library_tests.proofs.pipe.Going.{back-more, back-ready, goes-most, goes-then, made-then, room-of, spent-more, spent-ready}
+use Rattle.opfs_notebook.proofs.Going.{goes-most, goes-then, made-then, room-of}
+use Rattle.opfs_library_tests.proofs.pipe.Streams.{back-more, back-ready, spent-more, spent-ready}
 use Rattle.opfs_library_tests.proofs.pipe.example.save.Goals as goal
 
 pub close_writable-done-requires-clause-room : goal.close_writable-done-requires-clause-room

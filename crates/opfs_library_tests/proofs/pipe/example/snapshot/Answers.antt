@@ -1,6 +1,7 @@
 use Rattle.std.proofs.Common.{arith}
 use Rattle.opfs_hist.specs.declared.op.Op.TheVariants as op
-use Rattle.opfs_library_tests.proofs.pipe.Going.{GivesSnapshot, own-mine, room-of, shared-more, taken-has, taken-ready}
+use Rattle.opfs_notebook.proofs.Going.{own-mine, room-of, shared-more}
+use Rattle.opfs_library_tests.proofs.pipe.Streams.{GivesSnapshot, taken-has, taken-ready}
 use Rattle.opfs_library_tests.proofs.pipe.example.snapshot.Goals as goal
 
 pub get_file-taken-requires-clause-room : goal.get_file-taken-requires-clause-room

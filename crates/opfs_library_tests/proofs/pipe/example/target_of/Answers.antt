@@ -1,7 +1,8 @@
 use Rattle.std.proofs.Common.{false, arith}
 use Rattle.opfs_hist.specs.declared.op.Op.TheVariants as op
 use Rattle.opfs_pipe.proofs.Opened.{GivesStream}
-use Rattle.opfs_library_tests.proofs.pipe.Going.{opened-has, opened-not, opened-ready, own-mine, room-of, shared-more}
+use Rattle.opfs_notebook.proofs.Going.{own-mine, room-of, shared-more}
+use Rattle.opfs_library_tests.proofs.pipe.Streams.{opened-has, opened-not, opened-ready}
 use Rattle.opfs_library_tests.proofs.pipe.example.target_of.Goals as goal
 
 pub open_target-opened-requires-clause-room : goal.open_target-opened-requires-clause-room

@@ -2,8 +2,9 @@ use Rattle.std.proofs.Common.{◌≡◌, Some, sym, subst, refl, arith}
 use Rattle.opfs_hist.specs.declared.op.Op.TheVariants as op
 use Rattle.opfs_hist.specs.declared.reply.Reply.TheVariants as reply
 use Rattle.opfs_pipe.proofs.Rows.{IsDone}
-use Rattle.opfs_library_tests.specs.Pipe.Ready.{IsReady}
-use Rattle.opfs_library_tests.proofs.pipe.Going.{room-of, shared-on, shared-ready, local-on, local-used}
+use Rattle.opfs_notebook.specs.Ready.{IsReady}
+use Rattle.opfs_notebook.proofs.Going.{room-of, shared-on, shared-ready}
+use Rattle.opfs_library_tests.proofs.pipe.Streams.{local-on, local-used}
 use Rattle.opfs_library_tests.proofs.pipe.example.write_at.Goals as goal
 
 pub write_within-near-requires-clause-room : goal.write_within-near-requires-clause-room

@@ -1,6 +1,6 @@
 use Rattle.opfs_books.specs.Openings.Openings.{caller_by}
-use Rattle.opfs_library_tests.specs.Pipe.Ready.{asks}
-use Rattle.opfs_library_tests.proofs.pipe.Beginning.{few-two, two-keys}
+use Rattle.opfs_notebook.specs.Ready.{asks}
+use Rattle.opfs_notebook.proofs.Beginning.{few-two, two-keys}
 use Rattle.opfs_library_tests.proofs.pipe.running.desk_of.Goals as goal
 
 pub make-requires-clause-few : goal.make-requires-clause-few

@@ -1,0 +1,18 @@
+use Rattle.std.proofs.Common.{arith}
+use Rattle.opfs_notebook.proofs.Going.{places-of, served-more, served-notes}
+use Rattle.opfs_library_tests.proofs.kv.kvs.compact.Goals as goal
+
+pub compact-done-requires-clause-few : goal.compact-done-requires-clause-few
+compact-done-requires-clause-few g c = places-of c.args.agent.now 50000000 (omega arith) c.requires.few
+
+pub compact-done-requires-clause-own : goal.compact-done-requires-clause-own
+compact-done-requires-clause-own g c = c.requires.holds.ready.own
+
+pub compact-done-requires-clause-stands : goal.compact-done-requires-clause-stands
+compact-done-requires-clause-stands g c = c.requires.holds.stands
+
+pub returns-clause-holds : goal.returns-clause-holds
+returns-clause-holds g c = served-notes g.S.Store.tells c.args.court.now c.args.agent.now c.compact-done.new.agent c.know_kept.ensures c.know_kept-2.ensures c.args.kv.now c.compact-done.new.self 4 _ c.compact-done.ensures.serves c.requires.holds
+
+pub returns-clause-goes : goal.returns-clause-goes
+returns-clause-goes g c = served-more g.S.Store.tells c.args.court.now c.args.agent.now c.compact-done.new.agent c.know_kept.ensures c.know_kept-2.ensures c.args.kv.now c.compact-done.new.self 4 _ c.compact-done.ensures.serves

@@ -1,0 +1,13 @@
+use Rattle.std.proofs.Common.{arith}
+use Rattle.opfs_notebook.proofs.Going.{room-of}
+use Rattle.opfs_library_tests.proofs.kv.Held.{still-holds, still-more}
+use Rattle.opfs_library_tests.proofs.kv.visits.write_first.Goals as goal
+
+pub write-done-requires-clause-room : goal.write-done-requires-clause-room
+write-done-requires-clause-room g c = room-of c.args.agent.now 50000000 (omega arith) c.requires.few
+
+pub returns-clause-holds : goal.returns-clause-holds
+returns-clause-holds g c = still-holds g.S.Store.tells c.args.court.now c.args.agent.now c.write-done.new.agent c.know_kept.ensures c.know_kept-2.ensures c.args.handle.now c.write-done.new.handle _ c.write-done.ensures.still c.requires.holds
+
+pub returns-clause-goes : goal.returns-clause-goes
+returns-clause-goes g c = still-more g.S.Store.tells c.args.court.now c.args.agent.now c.write-done.new.agent c.know_kept.ensures c.know_kept-2.ensures c.args.handle.now c.write-done.new.handle _ c.write-done.ensures.still

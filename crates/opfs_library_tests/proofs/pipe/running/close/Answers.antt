@@ -1,9 +1,0 @@
-use Rattle.std.proofs.Common.{sym, ap, ◌∙◌, subst}
-use Rattle.opfs_hall.specs.Seen.{HasAll, joined}
-use Rattle.opfs_library_tests.proofs.pipe.Beginning.{all-joined}
-use Rattle.opfs_library_tests.proofs.pipe.running.close.Goals as goal
-
-pub close-requires-clause-all : goal.close-requires-clause-all
-close-requires-clause-all g c =
-    subst HasAll (sym (c.join-2.ensures ∙ ap (λ p. joined p c.args.second) c.join.ensures))
-    (all-joined c.args.court c.args.owner c.args.first c.args.second c.requires.owner c.requires.agents c.requires.first c.requires.second)
