@@ -11,8 +11,7 @@ use Rattle.opfs_machine.specs.Openings.{Map}
 use Rattle.opfs_image.specs.Filling.{StandsOld}
 use Rattle.opfs_migrate.specs.Migrating.{StandsEither}
 use Rattle.opfs_outside.specs.declared.host.Host.{Ghosts as HostWords}
-use Rattle.opfs_outside.specs.Turns.{of_host, GivenBack, HostTurn, ImageStays, OthersAsBefore}
-use Rattle.opfs_commands.specs.Kinds.{NoneFailed}
+use Rattle.opfs_outside.specs.Turns.{of_host, GivenBack, ImageStays, OthersAsBefore}
 use Rattle.opfs_commands.specs.Telling.{IsAnswer, IsStoodFor}
 use Rattle.opfs_commands.specs.declared.answers.ToolAnswer.{ToolAnswer}
 use Rattle.opfs_commands.specs.declared.answers.ToolEnd.{ToolEnd}
@@ -22,17 +21,6 @@ use Rattle.opfs_commands.specs.declared.answers.ToolEnd.TheVariants as tool_end
 pub rose_later : (old mid new : ℕ) → old ≤ mid → Rose mid new → Rose old new
 rose_later old mid new le (inl h) = inl (omega (arith, le, h))
 rose_later old mid new le (inr h) = inr h
-
--- where no call failed, the disk was given back
-pub was_given : (h : HostTurn) (tells Back : Type 0) (mid : ℕ) (r first : Result ToolAnswer AllocError) → tells → h.own ≤ mid → (tells → (Rose mid h.own_after → ⊥) → Back)
-    → IfOk r (λ a. ((first ≡ Ok a) × (tells → Back)) ⊎ (Rose mid h.own_after × (a.end ≡ tool_end.Host) × (a.text ≡ status_text end.Host))) → NoneFailed h r → Back
-was_given h tells Back mid r first told le back kept none = elim none [
-  | inl quiet ↦ back told (λ rose. quiet (rose_later h.own mid h.own_after le rose))
-  | inr is ↦ elim (subst (λ x. IfOk x (λ a. ((first ≡ Ok a) × (tells → Back)) ⊎ (Rose mid h.own_after × (a.end ≡ tool_end.Host) × (a.text ≡ status_text end.Host)))) is.1 kept) [
-    | inl given ↦ given.1 told
-    | inr fault ↦ absurd (is.2 fault.1)
-  ]
-]
 
 -- where the image was refused, the disk was given back
 pub refused_back : (tells Back Stays P : Type 0) (mid new : ℕ) (r first : Result ToolAnswer AllocError) → (tells → Back → Stays → P) → IfOk first (λ a. a.end ≡ tool_end.Image → Stays)

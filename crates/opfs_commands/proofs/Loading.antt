@@ -25,7 +25,7 @@ use Rattle.opfs_print.specs.Status.{status_text}
 use Rattle.opfs_print.specs.declared.end.End.TheVariants as end
 use Rattle.opfs_script.specs.Reading.{json_of}
 use Rattle.opfs_commands.proofs.Hosting.{rose_later}
-use Rattle.opfs_commands.specs.Kinds.{FaultsLater, LeavesText, NoneFailed}
+use Rattle.opfs_commands.specs.Kinds.{FaultsLater, LeavesText}
 use Rattle.opfs_commands.specs.Telling.{IsAnswer, IsDumpAt, IsLaid, IsNoDump}
 use Rattle.opfs_commands.specs.declared.answers.ToolAnswer.{ToolAnswer}
 use Rattle.opfs_commands.specs.declared.answers.ToolEnd.{ToolEnd}
@@ -70,12 +70,6 @@ module _ {H D M : Type 0} (w : HostWords H D M) (old mid new : H) (first : Fault
   failed_on (inl own) = inl (rose_later (w.own_faults old) (w.own_faults mid) (w.own_faults new) first.own own)
   failed_on (inr all) = inr (rose_on (w.faults old) (w.faults mid) (w.faults new) (2 ^ 64 - 1) first.all counted refl all)
 
-  pub none_on : (r : Result ToolAnswer AllocError) → NoneFailed (of_host w old new) r → NoneFailed (of_host w mid new) r
-  none_on r none = elim none [
-    | inl quiet ↦ inl (λ rose. quiet (rose_later (w.own_faults old) (w.own_faults mid) (w.own_faults new) first.own rose))
-    | inr is ↦ inr is
-  ]
-
 -- a path that was left alone twice, and one that was read and then left alone
 module _ {H D M : Type 0} (w : HostWords H D M) (old mid new : H) where
   pub before_on : (path : Text) → AsBefore (of_host w old mid) path → AsBefore (of_host w mid new) path → AsBefore (of_host w old new) path
@@ -84,10 +78,10 @@ module _ {H D M : Type 0} (w : HostWords H D M) (old mid new : H) where
   pub stays_on : (path : Text) → ImageStays (of_host w old mid) path → AsBefore (of_host w mid new) path → ImageStays (of_host w old new) path
   stays_on path a b = record { image = b.image ∙ a.image; trail = λ c x. a.trail c ((b.trail c).0 x) }
 
--- what is so where no call failed is so where a text was refused
-pub refused_stays : (h : HostTurn) (P : Type 0) (r : Result ToolAnswer AllocError) → (NoneFailed h r → P) → IfOk r (λ a. a.end ≡ tool_end.Image → P)
-refused_stays h P (Ok a) to = λ same. to (inr (a, refl, λ host. let e : tool_end.Image ≡ tool_end.Host = sym same ∙ host in absurd (cc e)))
-refused_stays h P (Err e) to = tt
+-- what is so anyway is so where a text was refused
+pub refused_stays : (P : Type 0) (r : Result ToolAnswer AllocError) → P → IfOk r (λ a. a.end ≡ tool_end.Image → P)
+refused_stays P (Ok a) is = λ same. is
+refused_stays P (Err e) is = tt
 
 -- where an image is made, no text is refused
 pub never_refused : (tells Cause P : Type 0) (Done : Text → Type 0) (r : Result ToolAnswer AllocError) → IfOk r (λ a. IsAnswer tells Done (λ t. ⊥) Cause a.end a.text) → IfOk r (λ a. a.end ≡ tool_end.Image → tells → P)

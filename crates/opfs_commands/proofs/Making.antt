@@ -1,5 +1,5 @@
 -- An image that is made beside a path, and takes its place or is thrown away.
-use Rattle.std.proofs.Common.{◌≡◌, ◌⊎◌, ◌↔◌, ◌≤◌, inl, inr, refl, sym, ◌∙◌, subst}
+use Rattle.std.proofs.Common.{◌≡◌, ◌⊎◌, ◌↔◌, ℕ, ◌≤◌, inl, inr, refl, sym, ◌∙◌, subst}
 use Rattle.std.specs.Prelude.{Option, Some, Result, Ok, IfOk}
 use Rattle.std.proofs.lemmas.Result.{IfOk-weaker}
 use Rattle.std.specs.declared.alloc.AllocError.{AllocError}
@@ -12,7 +12,7 @@ use Rattle.opfs_outside.specs.Turns.{AsBefore, HostServed, HostTurn, ImageStays,
 use Rattle.opfs_outside.specs.declared.host.Host.{Ghosts as HostWords}
 use Rattle.opfs_print.specs.Status.{status_text}
 use Rattle.opfs_print.specs.declared.end.End.TheVariants as end
-use Rattle.opfs_commands.proofs.Hosting.{rose_later}
+use Rattle.opfs_commands.proofs.Hosting.{rose_later, one_since}
 use Rattle.opfs_commands.specs.Kinds.{IsDoneBy, LeavesMade, LeavesText}
 use Rattle.opfs_commands.specs.Telling.{IsAnswer, IsFormatted, IsLaid, IsDumpAt, StandsForText}
 use Rattle.opfs_dump.specs.Text.Reading.{Dump}
@@ -79,7 +79,7 @@ module _ {H D M : Type 0} (w : HostWords H D M) (old mid new : H) (path : Text) 
   }
 
   -- a disk that was fetched, only read, and given back or not
-  pub read_returned : (content back : Text) (left : Text → Type 0) → ((p : Text) → w.image mid p ≡ w.image old p) → ((p c : Text) → w.trail mid p c ↔ w.trail old p c) → w.image mid path ≡ Some content → back ≡ content → ((c : Text) → left c → c ≡ content)
+  read_returned : (content back : Text) (left : Text → Type 0) → ((p : Text) → w.image mid p ≡ w.image old p) → ((p c : Text) → w.trail mid p c ↔ w.trail old p c) → w.image mid path ≡ Some content → back ≡ content → ((c : Text) → left c → c ≡ content)
       → IsReturned (of_host w mid new) path back left → LeavesText (of_host w old new) path
   read_returned content back left images trails there same only is = record {
     stays = record {
@@ -94,6 +94,11 @@ module _ {H D M : Type 0} (w : HostWords H D M) (old mid new : H) (path : Text) 
       trail = λ c. (λ x. (trails p c).0 (((is.others p other).trail c).0 x), λ x. ((is.others p other).trail c).1 ((trails p c).1 x));
     };
   }
+
+  -- the same, where each image since it was fetched is the one that it had then
+  pub read_back : (content back : Text) (moment : ℕ) (since0 since1 : ℕ → Text → Type 0) → ((p : Text) → w.image mid p ≡ w.image old p) → ((p c : Text) → w.trail mid p c ↔ w.trail old p c) → w.image mid path ≡ Some content
+      → moment ≡ 0 → ((c : Text) → since0 0 c → c ≡ content) → back ≡ content → ((c : Text) → since1 moment c → since0 moment c) → IsReturned (of_host w mid new) path back (since1 0) → LeavesText (of_host w old new) path
+  read_back content back moment since0 since1 images trails there first one same moves is = read_returned content back (since1 0) images trails there same (one_since content moment since0 since1 first one moves) is
 
 -- ---- the answer over the disk is the answer over the host, where the disk takes its place
 

@@ -13,7 +13,7 @@ use Rattle.opfs_journal.specs.Walking.{OnlyRead}
 use Rattle.opfs_machine.specs.Changes.{changes, durable}
 use Rattle.opfs_machine.specs.Openings.{Opening}
 use Rattle.opfs_outside.specs.Faults.{Rose, RoseBy}
-use Rattle.opfs_outside.specs.Turns.{of_host, of_sink, GivenBack, HostFailed, HostServed, HostTurn, ImageStays, OthersAsBefore, SinkFailed, SinkTurn, Took, TookFront, TookNothing}
+use Rattle.opfs_outside.specs.Turns.{of_host, of_sink, GivenBack, HostFailed, HostServed, HostTurn, IsReturned, OthersAsBefore, SinkFailed, SinkTurn, Took, TookFront, TookNothing}
 use Rattle.opfs_outside.specs.declared.disk.Disk.{Ghosts as DiskWords}
 use Rattle.opfs_outside.specs.declared.host.Host.{Ghosts as HostWords}
 use Rattle.opfs_outside.specs.declared.stream.Sink.{Ghosts as SinkWords}
@@ -21,14 +21,15 @@ use Rattle.opfs_print.specs.Lines.{text_of}
 use Rattle.opfs_print.specs.Status.{status_text}
 use Rattle.opfs_print.specs.declared.end.End.TheVariants as end
 use Rattle.opfs_script.specs.Scripts.{Asked}
-use Rattle.opfs_commands.specs.Ran.{HasImage, IsAnswerOf, IsFaultLine, IsFaultOf, IsGivenOr, IsNoRun, IsNotRun, IsRunAt, IsRunDone, IsRunFailed, IsRunShort, IsRunText, LeavesFronts, RanAt, RanBehind, RanOn, RanTo}
+use Rattle.opfs_commands.specs.Ran.{HasImage, IsAnswerOf, IsFaultLine, IsFaultOf, IsGivenOr, IsNoRun, IsNotRun, IsOldOrLeft, IsRunAt, IsRunDone, IsRunFailed, IsRunShort, IsRunText, LeavesFronts, RanAt, RanBehind, RanOn, RanTo}
 use Rattle.opfs_commands.specs.Telling.{IsBegun}
 use Rattle.opfs_commands.specs.declared.answers.ToolAnswer.{ToolAnswer}
 use Rattle.opfs_commands.specs.declared.answers.ToolEnd.{ToolEnd}
 use Rattle.opfs_commands.specs.declared.answers.ToolEnd.TheVariants as tool_end
 use Rattle.opfs_commands.specs.declared.runs.RunEnd.{RunEnd}
 use Rattle.opfs_commands.specs.declared.runs.RunEnd.TheVariants as run_end
-use Rattle.opfs_commands.proofs.Hosting.{host_rose, one_since, only_read, others_stay, rose_later}
+use Rattle.opfs_commands.proofs.Hosting.{host_rose, others_stay, rose_later}
+use Rattle.opfs_commands.proofs.Making.{read_back}
 
 -- ---- counts
 
@@ -83,7 +84,7 @@ told-less tells dtells to whole o script h is = record {
 module _ {H D M K : Type 0} (h : HostWords H D M) (s : SinkWords K) (sink : K) (path : Text) (script : List Asked) (old new : H) (images : h.tells → (p : Text) → h.image new p ≡ h.image old p)
     (trails : h.tells → (p c : Text) → h.trail new p c ↔ h.trail old p c) where
   not-fetched : IsNotRun (of_host h old new) path
-  not-fetched t quiet = record { image = images t path; trail = λ c left. inl ((trails t path c).0 left) }
+  not-fetched t = record { image = images t path; trail = λ c left. inl ((trails t path c).0 left) }
 
   none-put : IsBegun (of_sink s sink sink) (IsRunText (of_host h old new) path script) []
   none-put = record { took = λ t. sym (append-nil (s.written sink)); begun = inl refl }
@@ -117,7 +118,7 @@ pub record IsFetched {H D M : Type 0} (h : HostWords H D M) (w : DiskWords D) (p
   pub later : (h.faults old ≤ h.faults mid) ⊎ (h.faults mid ≡ 2 ^ 64 - 1)
 
 module _ {H D M : Type 0} (h : HostWords H D M) (w : DiskWords D) (k : SinkTurn) (path : Text) (script : List Asked) (old mid new : H) (first now : D) (fetched : IsFetched h w path old mid first)
-    (later : RoseBy (w.faults now + (h.own_faults new - h.own_faults mid)) (h.faults mid) (h.faults new)) where
+    (later : RoseBy (w.faults now + (h.own_faults new - h.own_faults mid)) (h.faults mid) (h.faults new)) (returned : h.tells → IsReturned (of_host h mid new) path (w.content now) (w.since now 0)) where
   abbrev turn : HostTurn
   turn = of_host h old new
 
@@ -145,15 +146,11 @@ module _ {H D M : Type 0} (h : HostWords H D M) (w : DiskWords D) (k : SinkTurn)
 
   -- ---- the disk was only read
 
-  module _ (only : OnlyRead w first now) (back : h.tells → HostServed (of_host h mid new) → GivenBack (of_host h mid new) path (w.content now) (w.moment now) (w.since now)) where
-    stays-by : h.tells → GivenBack (of_host h mid new) path (w.content now) (w.moment now) (w.since now) → ImageStays turn path
-    stays-by t given =
-        let read = only.told (fetched.to_disk t) in
-        only_read h old mid new path (w.content first) (w.content now) (w.moment now) (w.since now) (fetched.images t) (fetched.trails t) (fetched.there t) read.same
-        (one_since (w.content first) (w.moment first) (w.since first) (w.since now) fetched.first (fetched.one (fetched.to_disk t)) read.moments) given
-
-    not-run : IsNotRun turn path
-    not-run t quiet = stays-by t (back t (served quiet))
+  not-run : OnlyRead w first now → IsNotRun turn path
+  not-run only t =
+      let read = only.told (fetched.to_disk t) in
+      (read_back h old mid new path (w.content first) (w.content now) (w.moment first) (w.since first) (w.since now) (fetched.images t) (fetched.trails t) (fetched.there t)
+      fetched.first (fetched.one (fetched.to_disk t)) read.same read.moments (returned t)).stays
 
   -- ---- the agents ran
 
@@ -173,6 +170,23 @@ module _ {H D M : Type 0} (h : HostWords H D M) (w : DiskWords D) (k : SinkTurn)
         subst (λ (x : Text). IsShownOnce o 0 run.history x) (sym (fetched.one (fetched.to_disk t) c left))
         (first-shown on.geometry on.before script run.history (w.content first) (on.stood (fetched.to_disk t)))
 
+    -- what may have been left of the disk is a front
+    since-front : h.tells → (c : Text) → w.since now 0 c → IsShownOnce o 0 run.history c
+    since-front t c since = elim ((on.over.stops (fetched.to_disk t)).fronts 0 c (omega arith) (subst (λ (d : D). w.since d 0 c) (sym same) since)) [
+      | inl at ↦ first-front t c at
+      | inr front ↦ front
+    ]
+
+    -- what stands at the path, also where the disk was not given back
+    old-or-left : h.tells → IsOldOrLeft turn path o run.history
+    old-or-left t = record {
+      image = elim (returned t).image [
+        | inl stays ↦ inl (stays ∙ fetched.images t path)
+        | inr back ↦ inr (w.content now, back, image-now (λ c. IsLeft o run.history c) (on.over.left (fetched.to_disk t) (fetched.crashes t)))
+      ];
+      trail = λ c trail. elim ((returned t).trail c trail) [ inl was ↦ inl ((fetched.trails t path c).0 was) | inr since ↦ inr (since-front t c since) ];
+    }
+
     module _ (Back : Type 0) (given : h.tells → Back → GivenBack (of_host h mid new) path (w.content now) (w.moment now) (w.since now)) where
       stands-by : h.tells → Back → IsImageOf on.geometry (durable o (changes o run.history)) (w.content run.disk) → HasImage on.geometry (durable o (changes o run.history)) (h.image new path)
       stands-by t back is = (w.content now, (given t back).image, image-now (IsImageOf on.geometry (durable o (changes o run.history))) is)
@@ -191,13 +205,7 @@ module _ {H D M : Type 0} (h : HostWords H D M) (w : DiskWords D) (k : SinkTurn)
           let left = on.over.stops (fetched.to_disk t) in
           let g = given t back in
           record {
-            fronts = λ c trail. elim ((g.trail c).0 trail) [
-              | inl was ↦ inl ((fetched.trails t path c).0 was)
-              | inr since ↦ elim (left.fronts 0 c (omega arith) (subst (λ (d : D). w.since d 0 c) (sym same) since)) [
-                | inl at ↦ inr (first-front t c at)
-                | inr front ↦ inr front
-              ]
-            ];
+            fronts = (old-or-left t).trail;
             moments = λ at c since. (g.trail c).1 (inr (fetched.falls (fetched.to_disk t) now 0 at c (omega arith) ((g.since at c).0 since)));
             keeps = λ n content. kept-at g n (disk-now (λ (d : D). IsKeptSince (w.moment d) (w.since d) o run.history n) (left.keeps (fetched.crashes t) n content));
           }
@@ -208,6 +216,7 @@ module _ {H D M : Type 0} (h : HostWords H D M) (w : DiskWords D) (k : SinkTurn)
         before = on.before;
         stood = λ t. (w.content first, sym (fetched.images t path) ∙ fetched.there t, on.stood (fetched.to_disk t));
         is = told-less h.tells w.tells fetched.to_disk whole o script run.history (subst (λ (b : Bool). IsHistoryOf w.tells b o script run.history) is on.over.history);
+        anyway = old-or-left;
         left = λ t back. (w.content now, (given t back).image, image-now (λ c. IsLeft o run.history c) (on.over.left (fetched.to_disk t) (fetched.crashes t)));
         stands = λ t back never.
             stands-by t back
@@ -275,8 +284,8 @@ module _ {H D M : Type 0} (h : HostWords H D M) (w : DiskWords D) (k : SinkTurn)
     short (Ok run_end.Done) is = run-short is.run is.same is.on back
     short (Ok run_end.Failed) is = run-short is.run is.same is.on back
     short (Ok run_end.Cut) is = run-short is.run is.same is.on back
-    short (Ok (run_end.Before a)) is = inl (not-run is.0.only back)
-    short (Err e) is = elim is [ inl only ↦ inl (not-run only.0 back) | inr ran ↦ run-short ran.run ran.same ran.on back ]
+    short (Ok (run_end.Before a)) is = inl (not-run is.0.only)
+    short (Err e) is = elim is [ inl only ↦ inl (not-run only.0) | inr ran ↦ run-short ran.run ran.same ran.on back ]
 
     -- ---- what was put out
 
@@ -329,14 +338,14 @@ module _ {H D M : Type 0} (h : HostWords H D M) (w : DiskWords D) (k : SinkTurn)
         cut-behind : (a : ToolAnswer) → SinkFailed k → (a.end ≡ tool_end.Sink) × (a.text ≡ []) → ((ended : ToolEnd) × (left : Text) × RanTo turn path script ended (put.front ++ left)) → RanBehind turn k path script put.front a.end a.text
         cut-behind a failed is would = subst (λ (e : ToolEnd). RanBehind turn k path script put.front e a.text) (sym is.0) (failed, is.1, would)
 
-    no-run : (given : Given) (only : OnlyRead w first now) (e : ToolEnd) (text : Text) → IsNoRun w first now e text → RanBehind turn k path script [] e text
-    no-run given only tool_end.Done text is = absurd is
-    no-run given only tool_end.Image text is = record {
+    no-run : (only : OnlyRead w first now) (e : ToolEnd) (text : Text) → IsNoRun w first now e text → RanBehind turn k path script [] e text
+    no-run only tool_end.Done text is = absurd is
+    no-run only tool_end.Image text is = record {
       refused = λ t. record { image = w.content first; there = sym (fetched.images t path) ∙ fetched.there t; kind = is (fetched.to_disk t) };
-      stays = λ t. stays-by only back t (given t);
+      stays = not-run only;
     }
-    no-run given only tool_end.Host text is = inl (record { not = not-run only back; failed = inr (disk-rose is.0); line = is.1 })
-    no-run given only tool_end.Sink text is = absurd is
+    no-run only tool_end.Host text is = inl (record { not = not-run only; failed = inr (disk-rose is.0); line = is.1 })
+    no-run only tool_end.Sink text is = absurd is
 
     answered : (e : RunEnd) (a : ToolAnswer) (is : RanOn w k script first now (Ok e)) → (Given × IsAnswerOf e a) ⊎ (Fault × IsFaultOf e a) → (front : Text) × Begun front × RanBehind turn k path script front a.end a.text
     answered run_end.Done a is how = (
@@ -364,8 +373,8 @@ module _ {H D M : Type 0} (h : HostWords H D M) (w : DiskWords D) (k : SinkTurn)
       [],
       none-begun is.1,
       elim how [
-        | inl given ↦ subst (λ (x : ToolAnswer). RanBehind turn k path script [] x.end x.text) (sym given.1) (no-run given.0 is.0.only b.end b.text is.0.answer)
-        | inr fault ↦ subst (λ (e : ToolEnd). RanBehind turn k path script [] e a.text) (sym fault.1.0) (inl (record { not = not-run is.0.only back; failed = inl (own-rose fault.0); line = fault.1.1 }))
+        | inl given ↦ subst (λ (x : ToolAnswer). RanBehind turn k path script [] x.end x.text) (sym given.1) (no-run is.0.only b.end b.text is.0.answer)
+        | inr fault ↦ subst (λ (e : ToolEnd). RanBehind turn k path script [] e a.text) (sym fault.1.0) (inl (record { not = not-run is.0.only; failed = inl (own-rose fault.0); line = fault.1.1 }))
       ],
     )
 
@@ -379,5 +388,5 @@ module _ {H D M : Type 0} (h : HostWords H D M) (w : DiskWords D) (k : SinkTurn)
         record { front = told.0; begun = told.1; ended = tt; short = short e is }
 
   -- the other paths
-  pub others-at : h.tells → OthersAsBefore (of_host h mid new) path → OthersAsBefore turn path
-  others-at t others = others_stay h old mid new path (λ p other. record { image = fetched.images t p; trail = fetched.trails t p }) others
+  pub others-at : h.tells → OthersAsBefore turn path
+  others-at t = others_stay h old mid new path (λ p other. record { image = fetched.images t p; trail = fetched.trails t p }) (returned t).others

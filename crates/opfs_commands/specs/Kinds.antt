@@ -78,10 +78,6 @@ pub record FaultsLater (h : HostTurn) : Type 0 where
   pub own : h.own ≤ h.own_after
   pub all : (h.faults ≤ h.faults_after) ⊎ (h.faults_after ≡ 2 ^ 64 - 1)
 
--- No call of the host failed: its own count did not rise, or the command was answered, and not with a fault.
-abbrev pub NoneFailed : HostTurn → Result ToolAnswer AllocError → Type 0
-NoneFailed h result = HostServed h ⊎ ((answer : ToolAnswer) × (result ≡ Ok answer) × (answer.end ≢ tool_end.Host))
-
 -- The answer says that all was done; or it does not.
 pub record IsDoneBy (result : Result ToolAnswer AllocError) : Type 0 where
   pub answer : ToolAnswer

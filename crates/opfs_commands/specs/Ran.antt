@@ -139,12 +139,20 @@ pub record LeavesFronts (h : HostTurn) (path : Text) (o : Opening) (history : Li
   pub moments : (t : ℕ) (c : Text) → h.since_after path t c → h.trail_after path c
   pub keeps : (n : ℕ) → IsContentAt (changes o history) n → IsKeptSince (h.moment_after path) (h.since_after path) o history n
 
--- A run over the image at a path: its history over what the image stood for; and where the disk was given back, what is left there.
+-- What stands at a path however a run ended, also where its disk was not given back: the image that was there, or one that the run may
+-- have left; and a stop may have left nothing there but what it may have left before, and fronts of the history.
+pub record IsOldOrLeft (h : HostTurn) (path : Text) (o : Opening) (history : List Entry) : Type 0 where
+  pub image : (h.image_after path ≡ h.image path) ⊎ HasLeft o history (h.image_after path)
+  pub trail : (c : Text) → h.trail_after path c → h.trail path c ⊎ IsShownOnce o 0 history c
+
+-- A run over the image at a path: its history over what the image stood for; what stands there however it ended; and what is left there
+-- where the disk was given back.
 pub record IsRunAt (h : HostTurn) (path : Text) (Back : Type 0) (whole : Bool) (script : List Asked) (history : List Entry) : Type 0 where
   pub geometry : Geometry
   pub before : Map
   pub stood : h.tells → HasImage geometry before (h.image path)
   pub is : IsRunHistory h.tells whole (run_opening geometry before script) script history
+  pub anyway : h.tells → IsOldOrLeft h path (run_opening geometry before script) history
   pub left : h.tells → Back → HasLeft (run_opening geometry before script) history (h.image_after path)
   pub stands : h.tells → Back → (Rose h.faults h.faults_after → ⊥) → HasImage geometry (durable (run_opening geometry before script) (changes (run_opening geometry before script) history)) (h.image_after path)
   pub stops : h.tells → Back → LeavesFronts h path (run_opening geometry before script) history
@@ -166,9 +174,9 @@ pub record IsRunFailed (h : HostTurn) (path : Text) (script : List Asked) (text 
   pub failed : HostFailed h
   pub counted : RoseBy (disk_faults history + 1) h.faults h.faults_after ⊎ (h.own_after ≡ 2 ^ 64 - 1)
 
--- The agents did not run: the path has its image still, where the host itself did not fail.
+-- The agents did not run: the path has its image still.
 abbrev pub IsNotRun : HostTurn → Text → Type 0
-IsNotRun h path = h.tells → HostServed h → ImageStays h path
+IsNotRun h path = h.tells → ImageStays h path
 
 -- The agents did not run, and a disk or the host failed.
 pub record IsRunFault (h : HostTurn) (path : Text) (text : Text) : Type 0 where

@@ -7,7 +7,6 @@ ghost use Rattle.opfs_outside.specs.Faults.{Rose};
 ghost use Rattle.opfs_outside.specs.Turns.{of_host, of_sink, HostFailed, ImageStays, OthersAsBefore};
 ghost use Rattle.opfs_print.specs.Status.{status_text};
 ghost use Rattle.opfs_print.specs.declared.end.End.TheVariants as end;
-ghost use Rattle.opfs_commands.specs.Kinds.{NoneFailed};
 ghost use Rattle.opfs_commands.specs.Telling.{IsDumped, IsImageLine, IsOfImage, IsPut, IsRefusedLine};
 
 use crate::answers::{ToolAnswer, ToolEnd, bare_answer, host_answer, refused_answer};
@@ -73,8 +72,8 @@ pub fn dump_at<H: Host, K: Sink>(
 ) -> Result<ToolAnswer, AllocError>
     ensures put { IsPut (of_sink K.Sink sink.old sink.new) (λ text. H.tells → IsOfImage IsDumped (H.image host.old path.now) text) (λ text. H.tells → IsOfImage IsDumped (H.image host.old path.now) text) (λ text. H.tells → IsOfImage IsRefusedLine (H.image host.old path.now) text) (HostFailed (of_host H.Host host.old host.new)) result }
     ensures later { K.faults sink.old ≤ K.faults sink.new }
-    ensures others { H.tells → NoneFailed (of_host H.Host host.old host.new) result → OthersAsBefore (of_host H.Host host.old host.new) path.now }
-    ensures reads { H.tells → NoneFailed (of_host H.Host host.old host.new) result → ImageStays (of_host H.Host host.old host.new) path.now }
+    ensures others { H.tells → OthersAsBefore (of_host H.Host host.old host.new) path.now }
+    ensures reads { H.tells → ImageStays (of_host H.Host host.old host.new) path.now }
 {
     let disk = match host.fetch(path) {
         Ok(disk) => disk,

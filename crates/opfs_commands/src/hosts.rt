@@ -9,7 +9,7 @@ ghost use Rattle.opfs_machine.specs.Openings.{Map, empty_map};
 ghost use Rattle.opfs_migrate.specs.Migrating.{StandsEither};
 ghost use Rattle.opfs_image.specs.Superblock.{is_in_range};
 ghost use Rattle.opfs_outside.specs.Turns.{of_host, AsBefore, GivenBack, HostFailed, HostServed, ImageStays, IsOldOrNew, IsReturned, OthersAsBefore};
-ghost use Rattle.opfs_commands.specs.Kinds.{IsDoneBy, IsUnmade, LeavesMade, NoneFailed};
+ghost use Rattle.opfs_commands.specs.Kinds.{IsDoneBy, IsUnmade, LeavesMade};
 ghost use Rattle.opfs_commands.specs.Telling.{IsTold, IsRefusedLine, IsOfImage, IsFormatted, IsMigrated, IsNotMigrated, IsStoodFor, IsAnswer};
 
 use crate::answers::{ReadTool, ToolAnswer, ToolEnd, host_answer};
@@ -99,8 +99,8 @@ pub fn read_at<H: Host>(
     tool: ReadTool,
 ) -> Result<ToolAnswer, AllocError>
     ensures answer { IfOk result (λ answer. IsAnswer H.tells (IsOfImage (IsTold tool) (H.image host.old path.now)) (IsOfImage IsRefusedLine (H.image host.old path.now)) (HostFailed (of_host H.Host host.old host.new)) answer.end answer.text) }
-    ensures others { H.tells → NoneFailed (of_host H.Host host.old host.new) result → OthersAsBefore (of_host H.Host host.old host.new) path.now }
-    ensures reads { H.tells → NoneFailed (of_host H.Host host.old host.new) result → ImageStays (of_host H.Host host.old host.new) path.now }
+    ensures others { H.tells → OthersAsBefore (of_host H.Host host.old host.new) path.now }
+    ensures reads { H.tells → ImageStays (of_host H.Host host.old host.new) path.now }
 {
     let disk = match host.fetch(path) {
         Ok(disk) => disk,
@@ -140,9 +140,9 @@ pub fn migrate_at<H: Host>(
     path: &str,
 ) -> Result<ToolAnswer, AllocError>
     ensures answer { IfOk result (λ answer. IsAnswer H.tells (IsMigrated (H.image host.old path.now) (H.image host.new path.now)) (IsOfImage IsNotMigrated (H.image host.old path.now)) (HostFailed (of_host H.Host host.old host.new)) answer.end answer.text) }
-    ensures others { H.tells → NoneFailed (of_host H.Host host.old host.new) result → OthersAsBefore (of_host H.Host host.old host.new) path.now }
+    ensures others { H.tells → OthersAsBefore (of_host H.Host host.old host.new) path.now }
     ensures refused { IfOk result (λ answer. answer.end ≡ ToolEnd.Image → H.tells → ImageStays (of_host H.Host host.old host.new) path.now) }
-    ensures trail { H.tells → NoneFailed (of_host H.Host host.old host.new) result → (m : Map) → IsStoodFor m (H.image host.old path.now) → (c : Text) → H.trail host.new path.now c → H.trail host.old path.now c ⊎ StandsEither m c }
+    ensures trail { H.tells → (m : Map) → IsStoodFor m (H.image host.old path.now) → (c : Text) → H.trail host.new path.now c → H.trail host.old path.now c ⊎ StandsEither m c }
 {
     let disk = match host.fetch(path) {
         Ok(disk) => disk,

@@ -11,7 +11,7 @@ ghost use Rattle.opfs_outside.specs.Faults.{Rose, RoseBy};
 ghost use Rattle.opfs_outside.specs.Turns.{of_host, AsBefore, GivenBack, HostFailed, ImageStays, IsReturned, OthersAsBefore};
 ghost use Rattle.opfs_print.specs.Status.{status_text};
 ghost use Rattle.opfs_print.specs.declared.end.End.TheVariants as end;
-ghost use Rattle.opfs_commands.specs.Kinds.{FaultsLater, IsUnmade, LeavesMade, LeavesText, NoneFailed};
+ghost use Rattle.opfs_commands.specs.Kinds.{FaultsLater, IsUnmade, LeavesMade, LeavesText};
 ghost use Rattle.opfs_commands.specs.Telling.{IsAnswer, IsDumpAt, IsLaid, StandsForText, IsLoaded, IsNoDump, IsOfImage};
 
 use crate::answers::{ToolAnswer, ToolEnd, host_answer};
@@ -192,8 +192,8 @@ pub fn load_at<H: Host>(
     text: &str,
 ) -> Result<ToolAnswer, AllocError>
     ensures answer { IfOk result (λ answer. IsAnswer H.tells (IsLoaded (H.image host.old text.now) (H.image host.new image.now)) (IsOfImage IsNoDump (H.image host.old text.now)) (HostFailed (of_host H.Host host.old host.new)) answer.end answer.text) }
-    ensures others { H.tells → NoneFailed (of_host H.Host host.old host.new) result → (path : Text) → path ≢ image.now → path ≢ text.now → AsBefore (of_host H.Host host.old host.new) path }
-    ensures reads { H.tells → NoneFailed (of_host H.Host host.old host.new) result → text.now ≢ image.now → ImageStays (of_host H.Host host.old host.new) text.now }
+    ensures others { H.tells → (path : Text) → path ≢ image.now → path ≢ text.now → AsBefore (of_host H.Host host.old host.new) path }
+    ensures reads { H.tells → text.now ≢ image.now → ImageStays (of_host H.Host host.old host.new) text.now }
     ensures refused { IfOk result (λ answer. answer.end ≡ ToolEnd.Image → H.tells → (path : Text) → ImageStays (of_host H.Host host.old host.new) path) }
     ensures made { H.tells → LeavesMade (of_host H.Host host.old host.new) image.now (StandsForText (H.image host.old text.now)) (IsUnmade result) }
 {

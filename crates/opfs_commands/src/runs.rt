@@ -1,8 +1,7 @@
 //! A run of a script over the image at a path of a host.
 ghost use Rattle.std.specs.Prelude.{◌≡◌, ◌+◌, ◌-◌, ◌≤◌, IfOk};
 ghost use Rattle.opfs_outside.specs.Faults.{Rose, RoseBy};
-ghost use Rattle.opfs_outside.specs.Turns.{of_host, of_sink, GivenBack, HostServed, OthersAsBefore};
-ghost use Rattle.opfs_commands.specs.Kinds.{NoneFailed};
+ghost use Rattle.opfs_outside.specs.Turns.{of_host, of_sink, GivenBack, HostServed, IsReturned, OthersAsBefore};
 ghost use Rattle.opfs_commands.specs.Ran.{IsAnswerOf, IsEndOf, IsFaultOf, IsGivenOr, IsRefusedEnd, RanAt, RanOn};
 
 use crate::answers::{ToolAnswer, ToolEnd, bare_answer, host_answer, refused_answer};
@@ -118,7 +117,7 @@ fn end_at<H: Host>(
 ) -> Result<ToolAnswer, AllocError>
     ensures kept { IsGivenOr (H.tells → GivenBack (of_host H.Host host.old host.new) path.now (H.D.content disk) (H.D.moment disk) (H.D.since disk)) (Rose (H.own_faults host.old) (H.own_faults host.new)) end result }
     ensures back { H.tells → HostServed (of_host H.Host host.old host.new) → GivenBack (of_host H.Host host.old host.new) path.now (H.D.content disk) (H.D.moment disk) (H.D.since disk) }
-    ensures others { H.tells → OthersAsBefore (of_host H.Host host.old host.new) path.now }
+    ensures returned { H.tells → IsReturned (of_host H.Host host.old host.new) path.now (H.D.content disk) (H.D.since disk 0) }
     ensures own_later { H.own_faults host.old ≤ H.own_faults host.new }
     ensures later { RoseBy (H.D.faults disk + (H.own_faults host.new - H.own_faults host.old)) (H.faults host.old) (H.faults host.new) }
 {
@@ -132,6 +131,8 @@ fn end_at<H: Host>(
 
 /// Runs the agents of a script over the image at a path of a host, each on a thread of its own, and puts their transcript out while they
 /// run. Where a disk or the host failed only in the end, the answer's text is the line of a fault, which stands behind the transcript.
+/// However it ends, every other path is as before. The path has its image still where the agents did not run; where they did, also where
+/// the disk was not given back, it has that image or one that the run may have left.
 pub fn run_at<R: AllocGlobal + Threads + Wait + Sync, H: Host, G: Gate, K: Sink + Send>(
     rt: &R,
     host: &mut H,
@@ -141,7 +142,7 @@ pub fn run_at<R: AllocGlobal + Threads + Wait + Sync, H: Host, G: Gate, K: Sink 
     sink: &mut K,
 ) -> Result<ToolAnswer, AllocError>
     ensures ran { RanAt (of_host H.Host host.old host.new) (of_sink K.Sink sink.old sink.new) path.now script.now result }
-    ensures others { H.tells → NoneFailed (of_host H.Host host.old host.new) result → OthersAsBefore (of_host H.Host host.old host.new) path.now }
+    ensures others { H.tells → OthersAsBefore (of_host H.Host host.old host.new) path.now }
     ensures later { K.faults sink.old ≤ K.faults sink.new }
 {
     let alloc = rt.alloc();

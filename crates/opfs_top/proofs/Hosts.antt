@@ -1,11 +1,10 @@
 -- What a command leaves of a host, as its words ask.
-use Rattle.std.proofs.Common.{◌≡◌, ◌≢◌, ◌⊎◌, ◌++◌, [], inl, inr, refl, sym, ◌∙◌, ap, subst}
-use Rattle.std.specs.Prelude.{List, Result, Ok, Err, IfOk, IsErr, is_err, true, false}
+use Rattle.std.proofs.Common.{◌≡◌, ◌≢◌, ◌⊎◌, ◌++◌, [], inl, inr, refl, sym, ap, subst}
+use Rattle.std.specs.Prelude.{List, Result, Ok, Err, IfOk, IsErr, true, false}
 use Rattle.std.specs.declared.alloc.AllocError.{AllocError}
 use Rattle.opfs_base.specs.Texts.{Text}
 use Rattle.opfs_commands.specs.Commands.{Command, trial, judgement, generating, on_image, loading, Asks, AsksNothing, IsAsked}
 use Rattle.opfs_commands.specs.Kinds.{IsDumping, IsReading, IsMigration}
-use Rattle.opfs_commands.specs.Kinds.{NoneFailed as ToolNoneFailed}
 use Rattle.opfs_commands.specs.Telling.{IsAnswer, IsBehind, IsLoaded, IsNoDump, IsOfImage, IsPut}
 use Rattle.opfs_commands.specs.Kinds.{DoneKind, RefusedKind}
 use Rattle.opfs_commands.specs.declared.answers.ToolAnswer.{ToolAnswer}
@@ -18,8 +17,8 @@ use Rattle.opfs_gen.specs.Summing.{gen_text}
 use Rattle.opfs_outside.specs.Turns.{HostFailed, HostTurn, SinkTurn, SourceTurn}
 use Rattle.opfs_print.specs.declared.end.End.TheVariants as end
 use Rattle.opfs_print.specs.Status.{status_text}
-use Rattle.opfs_top.specs.Answers.{Behind, ImageEnded, IsTold, LoadEnded, NoneFailedBy}
-use Rattle.opfs_top.specs.Doing.{Did, Dumped, Ended, IsFrontOf, IsTool, IsTooLong, Migrates, Names, NoneFailed, OfSource, RefusedScript, TakesImage, TakesScript, TaskDone, TaskEnded, TaskRefused, Tells, ToolEnded}
+use Rattle.opfs_top.specs.Answers.{Behind, ImageEnded, IsTold, LoadEnded}
+use Rattle.opfs_top.specs.Doing.{Did, Dumped, Ended, IsFrontOf, IsTool, IsTooLong, Migrates, Names, OfSource, RefusedScript, TakesImage, TakesScript, TaskDone, TaskEnded, TaskRefused, Tells, ToolEnded}
 use Rattle.opfs_top.specs.Statuses.{status_of}
 use Rattle.opfs_top.specs.declared.answer.Answer.{Answer}
 use Rattle.opfs_top.specs.declared.answer.Task.{Task}
@@ -231,44 +230,3 @@ module _ (words : List Text) (image from : Text) (asked : IsAsked words (loading
 
   pub not_text : (path : Text) → (Asks words (Names path) → ⊥) → path ≢ from
   not_text path none same = none (record { command = loading image from; asked = asked; holds = inr same })
-
--- ---- no call failed, told from above
-
-status_in : Status → Result Answer AllocError → Status
-status_in other (Ok a) = a.status
-status_in other (Err e) = other
-
-pub by_run : (h : HostTurn) (r : Result ToolAnswer AllocError) (a : ToolAnswer) (result : Result Answer AllocError) (b : Answer) → r ≡ Ok a → result ≡ Ok b → b.status ≡ status_of a.end → NoneFailedBy h result → ToolNoneFailed h r
-unfolding status_in
-by_run h r a result b is same told none = elim none [
-  | inl quiet ↦ inl quiet
-  | inr found ↦ inr (a, is, λ fault. found.2 (ap (status_in status.Host) (sym found.1 ∙ same) ∙ told ∙ ap status_of fault))
-]
-
-pub by_error : (h : HostTurn) (r : Result ToolAnswer AllocError) (result : Result Answer AllocError) → IsErr result → NoneFailedBy h result → ToolNoneFailed h r
-by_error h r result err none = elim none [
-  | inl quiet ↦ inl quiet
-  | inr found ↦ let never : true ≡ false = sym err ∙ ap (λ x. is_err x) found.1 in absurd (cc never)
-]
-
--- an error that is passed on
-pub passed_on : (h : HostTurn) (r result : Result Answer AllocError) → IsErr result → NoneFailedBy h result → NoneFailedBy h r
-passed_on h r result err none = elim none [
-  | inl quiet ↦ inl quiet
-  | inr found ↦ let never : true ≡ false = sym err ∙ ap (λ x. is_err x) found.1 in absurd (cc never)
-]
-
-pub by_memory : (h : HostTurn) (r : Result Answer AllocError) → NoneFailed h status.Memory → NoneFailedBy h r
-by_memory h r (inl quiet) = inl quiet
-by_memory h r (inr (inl done)) = absurd (cc done)
-by_memory h r (inr (inr image)) = absurd (cc image)
-
-pub by_sink : (h : HostTurn) (r : Result Answer AllocError) → NoneFailed h status.Sink → NoneFailedBy h r
-by_sink h r (inl quiet) = inl quiet
-by_sink h r (inr (inl done)) = absurd (cc done)
-by_sink h r (inr (inr image)) = absurd (cc image)
-
-pub by_status : (h : HostTurn) (r : Result Answer AllocError) (a : Answer) → r ≡ Ok a → NoneFailed h a.status → NoneFailedBy h r
-by_status h r a is (inl quiet) = inl quiet
-by_status h r a is (inr (inl done)) = inr (a, is, λ host. let e : status.Done ≡ status.Host = sym done ∙ host in absurd (cc e))
-by_status h r a is (inr (inr image)) = inr (a, is, λ host. let e : status.Image ≡ status.Host = sym image ∙ host in absurd (cc e))

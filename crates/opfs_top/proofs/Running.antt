@@ -80,6 +80,7 @@ module _ (h : HostTurn) (path : Text) (script : List Asked) where
     before = at.before;
     stood = at.stood;
     is = at.is;
+    anyway = at.anyway;
     left = λ t served. at.left t tt;
     stands = λ t served quiet. at.stands t tt quiet;
     stops = λ t served. at.stops t tt;
@@ -88,7 +89,7 @@ module _ (h : HostTurn) (path : Text) (script : List Asked) where
 
   left_to : (e : ToolEnd) (text : Text) → RanTo h path script e text → IsRunShort h path script
   left_to tool_end.Done text is = inr (true, is.history, where_served is.history is.at)
-  left_to tool_end.Image text is = inl (λ t served. is.stays t)
+  left_to tool_end.Image text is = inl is.stays
   left_to tool_end.Host text (inl fault) = inl fault.not
   left_to tool_end.Host text (inr failed) = inr (true, failed.history, failed.at)
   left_to tool_end.Sink text is = absurd is
@@ -151,7 +152,7 @@ module _ (s : SourceTurn) (h : HostTurn) (path bytes : Text) (read : ReadWhole s
 
 -- a host that was not asked
 pub not_run : {H D M : Type 0} (w : HostWords H D M) (host : H) (path : Text) → IsNotRun (of_host w host host) path
-not_run w host path = λ t served. record { image = refl; trail = λ c x. inl x }
+not_run w host path = λ t. record { image = refl; trail = λ c x. inl x }
 
 -- ---- as the words ask
 

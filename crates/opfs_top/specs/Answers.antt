@@ -1,8 +1,8 @@
 -- What is said of a command before its text is put out. This project's own.
-use Rattle.std.specs.Prelude.{◌≡◌, ◌≢◌, ◌⊎◌, ◌++◌, [], List, Result, Ok, Err, IfOk}
+use Rattle.std.specs.Prelude.{◌≡◌, ◌⊎◌, ◌++◌, [], List, Result, Ok, Err, IfOk}
 use Rattle.std.specs.declared.alloc.AllocError.{AllocError}
 use Rattle.opfs_base.specs.Texts.{Text}
-use Rattle.opfs_outside.specs.Turns.{HostTurn, HostFailed, HostServed, SinkFailed, SinkTurn, SourceFailed, SourceTurn, Took}
+use Rattle.opfs_outside.specs.Turns.{HostTurn, HostFailed, SinkFailed, SinkTurn, SourceFailed, SourceTurn, Took}
 use Rattle.opfs_commands.specs.Kinds.{DoneKind, IsDumping, RefusedKind}
 use Rattle.opfs_commands.specs.Ran.{IsRunRefused}
 use Rattle.opfs_commands.specs.Telling.{IsLoaded, IsNoDump, IsOfImage}
@@ -72,10 +72,6 @@ SourceRan s h path status.Image text = OfSource s (OfScript (IsRefusedRun h path
 SourceRan s h path status.Host text = OfSource s (OfScript (IsRunStopped h path)) text
 SourceRan s h path status.Source text = SourceFailed s × (text ≡ status_text end.Source)
 SourceRan s h path ended text = ⊥
-
--- No call of the host failed: its own count did not rise, or the command was answered without a fault.
-abbrev pub NoneFailedBy : HostTurn → Result Answer AllocError → Type 0
-NoneFailedBy h result = HostServed h ⊎ ((answer : Answer) × (result ≡ Ok answer) × (answer.status ≢ status.Host))
 
 -- The answer says that no image was made, or there is none.
 abbrev pub IsUnmadeBy : Result Answer AllocError → Type 0

@@ -12,7 +12,7 @@ use Rattle.opfs_hist.specs.declared.entry.Entry.{Entry}
 use Rattle.opfs_judge.specs.declared.verdict.Verdict.{Verdict}
 use Rattle.opfs_judge.specs.declared.verdict.Verdict.TheVariants as verdict
 use Rattle.opfs_judge.specs.Verdicts.{IsJudged}
-use Rattle.opfs_outside.specs.Turns.{HostTurn, SinkTurn, SourceTurn, HostFailed, HostServed, SourceFailed, ReadWhole, ReadTooFar, Took}
+use Rattle.opfs_outside.specs.Turns.{HostTurn, SinkTurn, SourceTurn, HostFailed, SourceFailed, ReadWhole, ReadTooFar, Took}
 use Rattle.opfs_print.specs.declared.end.BadScript.{BadScript}
 use Rattle.opfs_print.specs.declared.end.BadScript.TheVariants as bad
 use Rattle.opfs_print.specs.declared.end.End.TheVariants as end
@@ -356,14 +356,10 @@ IsUnmade ended = Unit {0}
 abbrev pub LeavesNew : List Text → HostTurn → Text → Type 0 → Type 0
 LeavesNew words h path Unmade = LeavesMade h path (λ c. Asks words (λ command. MadeOf command h c)) Unmade
 
--- What a run leaves of its path, however it ends: its image still, where its agents did not run, unless a call of the host itself
--- failed; else what one history of the script's agents leaves there.
+-- What a run leaves of its path, however it ends: its image still, where its agents did not run; else that image, or what one history
+-- of the script's agents leaves there.
 abbrev pub LeavesRun : SourceTurn → HostTurn → Text → Type 0
 LeavesRun s h path = IsNotRun h path ⊎ ((bytes : Text) × ReadWhole s most_bytes bytes × HasRun h path bytes)
-
--- No call of the host failed: its own count did not rise, or the command was answered without a fault.
-abbrev pub NoneFailed : HostTurn → Status → Type 0
-NoneFailed h ended = HostServed h ⊎ (ended ≡ status.Done) ⊎ (ended ≡ status.Image)
 
 -- The status says that the host was not asked for anything.
 abbrev pub IsEarly : Status → Type 0

@@ -73,7 +73,7 @@ pub record HasRun (h : HostTurn) (path bytes : Text) : Type 0 where
   pub history : List Entry
   pub at : IsRunAt h path (HostServed h) whole script history
 
--- What a run leaves of its path that has read these bytes, however it ends: its image still, where the agents did not run; or
--- what one history of theirs leaves.
+-- What a run leaves of its path that has read these bytes, however it ends: its image still, where the agents did not run; else
+-- that image, or what one history of theirs leaves.
 abbrev pub LeavesOf : HostTurn → Text → Text → Type 0
 LeavesOf h path bytes = IsNotRun h path ⊎ HasRun h path bytes

@@ -7,7 +7,7 @@ ghost use Rattle.opfs_commands.specs.Telling.{IsStoodFor};
 ghost use Rattle.opfs_machine.specs.Openings.{Map};
 ghost use Rattle.opfs_migrate.specs.Migrating.{StandsEither};
 ghost use Rattle.opfs_outside.specs.Turns.{of_host, of_sink, of_source, AsBefore, ImageStays, Puts, PutsFront, SinkFailed};
-ghost use Rattle.opfs_top.specs.Doing.{DidWithImage, IsDone, IsUsage, IsBadScript, IsBadImage, IsEarly, IsFault, IsHostFault, IsNoTool, IsSourceFault, IsSomeEnd, IsSomeToolEnd, IsTool, IsUnmade, LeavesNew, LeavesRun, Makes, Migrates, Names, NoneFailed, OfSource, RefusedWithImage, TakesImage, Tells, TookDumped, TookPrinted};
+ghost use Rattle.opfs_top.specs.Doing.{DidWithImage, IsDone, IsUsage, IsBadScript, IsBadImage, IsEarly, IsFault, IsHostFault, IsNoTool, IsSourceFault, IsSomeEnd, IsSomeToolEnd, IsTool, IsUnmade, LeavesNew, LeavesRun, Makes, Migrates, Names, OfSource, RefusedWithImage, TakesImage, Tells, TookDumped, TookPrinted};
 ghost use Rattle.opfs_top.specs.Headline.{IsHeadline, OfScript};
 
 use crate::answer::Answer;
@@ -36,10 +36,10 @@ pub fn opfs_tool<H: Host, K: Sink>(
     ensures memory { result ≡ Status.Memory → TookDumped (of_sink K.Sink sink.old sink.new) words.now (of_host H.Host host.old host.new) }
     ensures no_script { result ≢ Status.Script }
     ensures no_source { result ≢ Status.Source }
-    ensures others { H.tells → NoneFailed (of_host H.Host host.old host.new) result → (path : Text) → (Asks words.now (Names path) → ⊥) → AsBefore (of_host H.Host host.old host.new) path }
-    ensures reads { H.tells → NoneFailed (of_host H.Host host.old host.new) result → (path : Text) → Asks words.now (Tells path) → ImageStays (of_host H.Host host.old host.new) path }
+    ensures others { H.tells → (path : Text) → (Asks words.now (Names path) → ⊥) → AsBefore (of_host H.Host host.old host.new) path }
+    ensures reads { H.tells → (path : Text) → Asks words.now (Tells path) → ImageStays (of_host H.Host host.old host.new) path }
     ensures refused { result ≡ Status.Image → H.tells → (path : Text) → Asks words.now (Names path) → ImageStays (of_host H.Host host.old host.new) path }
-    ensures trail { H.tells → NoneFailed (of_host H.Host host.old host.new) result → (path : Text) → Asks words.now (Migrates path) → (m : Map) → IsStoodFor m (H.image host.old path) → (c : Text) → H.trail host.new path c → H.trail host.old path c ⊎ StandsEither m c }
+    ensures trail { H.tells → (path : Text) → Asks words.now (Migrates path) → (m : Map) → IsStoodFor m (H.image host.old path) → (c : Text) → H.trail host.new path c → H.trail host.old path c ⊎ StandsEither m c }
     ensures made { H.tells → (path : Text) → Asks words.now (Makes path) → LeavesNew words.now (of_host H.Host host.old host.new) path (IsUnmade result) }
     ensures none { (Asks words.now IsTool → ⊥) → host.new ≡ host.old }
 {
@@ -64,7 +64,7 @@ pub fn opfs_tool<H: Host, K: Sink>(
 /// The headline says what a run over an image prints and leaves, however its threads are scheduled; and however a run ends, it
 /// leaves its image as it was, or what one history of the script's agents leaves there.
 ///
-/// Where no call of the host failed, every path but those of the command is as before; a path whose image, or whose text, is
+/// However it ends, every path but those of the command is as before; a path whose image, or whose text, is
 /// refused, or is only listed, checked, dumped or loaded from, has its image still; a text that is refused leaves the image
 /// that was to be made from it as it was; and a stop within a migration leaves the old image or the new one. A command that
 /// names no image, or that ends before it asks the host, leaves the host as it is.
@@ -89,10 +89,10 @@ pub fn opfs<R: AllocGlobal + Threads + Wait + Sync, H: Host, S: Source, K: Sink 
     ensures sink { result ≡ Status.Sink → PutsFront (of_sink K.Sink sink.old sink.new) (IsSomeEnd words.now (of_source S.Source source.old source.new) (of_host H.Host host.old host.new)) }
     ensures sink_cause { result ≡ Status.Sink → SinkFailed (of_sink K.Sink sink.old sink.new) }
     ensures memory { result ≡ Status.Memory → TookPrinted (of_sink K.Sink sink.old sink.new) words.now (of_source S.Source source.old source.new) (of_host H.Host host.old host.new) }
-    ensures others { H.tells → NoneFailed (of_host H.Host host.old host.new) result → (path : Text) → (Asks words.now (Names path) → ⊥) → AsBefore (of_host H.Host host.old host.new) path }
-    ensures reads { H.tells → NoneFailed (of_host H.Host host.old host.new) result → (path : Text) → Asks words.now (Tells path) → ImageStays (of_host H.Host host.old host.new) path }
+    ensures others { H.tells → (path : Text) → (Asks words.now (Names path) → ⊥) → AsBefore (of_host H.Host host.old host.new) path }
+    ensures reads { H.tells → (path : Text) → Asks words.now (Tells path) → ImageStays (of_host H.Host host.old host.new) path }
     ensures refused { result ≡ Status.Image → H.tells → (path : Text) → Asks words.now (Names path) → ImageStays (of_host H.Host host.old host.new) path }
-    ensures trail { H.tells → NoneFailed (of_host H.Host host.old host.new) result → (path : Text) → Asks words.now (Migrates path) → (m : Map) → IsStoodFor m (H.image host.old path) → (c : Text) → H.trail host.new path c → H.trail host.old path c ⊎ StandsEither m c }
+    ensures trail { H.tells → (path : Text) → Asks words.now (Migrates path) → (m : Map) → IsStoodFor m (H.image host.old path) → (c : Text) → H.trail host.new path c → H.trail host.old path c ⊎ StandsEither m c }
     ensures made { H.tells → (path : Text) → Asks words.now (Makes path) → LeavesNew words.now (of_host H.Host host.old host.new) path (IsUnmade result) }
     ensures left { (path : Text) → words.now ≡ spelled (running path) → LeavesRun (of_source S.Source source.old source.new) (of_host H.Host host.old host.new) path }
     ensures early { IsEarly result → host.new ≡ host.old }

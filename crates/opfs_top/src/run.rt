@@ -3,7 +3,7 @@
 ghost use Rattle.std.specs.Prelude.{◌≡◌, ◌≤◌, IfOk};
 ghost use Rattle.opfs_commands.specs.Ran.{IsRunShort, IsRunText};
 ghost use Rattle.opfs_outside.specs.Turns.{of_host, of_sink, of_source, OthersAsBefore};
-ghost use Rattle.opfs_top.specs.Answers.{BytesRan, IsTold, NoneFailedBy, RunEnded, SourceRan};
+ghost use Rattle.opfs_top.specs.Answers.{BytesRan, IsTold, RunEnded, SourceRan};
 ghost use Rattle.opfs_top.specs.Doing.{IsEarly, LeavesRun, OfSource};
 ghost use Rattle.opfs_top.specs.Headline.{LeavesOf, OfScript};
 
@@ -30,7 +30,7 @@ fn run_agents<R: AllocGlobal + Threads + Wait + Sync, H: Host, G: Gate, K: Sink 
     ensures told { IsTold (of_sink K.Sink sink.old sink.new) (IsRunText (of_host H.Host host.old host.new) path.now script.now) (RunEnded (of_host H.Host host.old host.new) path.now script.now) result }
     ensures later { K.faults sink.old ≤ K.faults sink.new }
     ensures left { IsRunShort (of_host H.Host host.old host.new) path.now script.now }
-    ensures others { H.tells → NoneFailedBy (of_host H.Host host.old host.new) result → OthersAsBefore (of_host H.Host host.old host.new) path.now }
+    ensures others { H.tells → OthersAsBefore (of_host H.Host host.old host.new) path.now }
 {
     let answer = run_at(rt, host, path, script, gate, sink)?;
     Ok(Answer {
@@ -51,7 +51,7 @@ fn run_bytes<R: AllocGlobal + Threads + Wait + Sync, H: Host, G: Gate, K: Sink +
     ensures told { IsTold (of_sink K.Sink sink.old sink.new) (OfScript (IsRunText (of_host H.Host host.old host.new) path.now) bytes.now) (BytesRan (of_host H.Host host.old host.new) path.now bytes.now) result }
     ensures later { K.faults sink.old ≤ K.faults sink.new }
     ensures left { LeavesOf (of_host H.Host host.old host.new) path.now bytes.now }
-    ensures others { H.tells → NoneFailedBy (of_host H.Host host.old host.new) result → OthersAsBefore (of_host H.Host host.old host.new) path.now }
+    ensures others { H.tells → OthersAsBefore (of_host H.Host host.old host.new) path.now }
     ensures early { IfOk result (λ answer. IsEarly answer.status → host.new ≡ host.old) }
 {
     match read_script(rt.alloc(), bytes) {
@@ -84,7 +84,7 @@ pub fn run_script_at<
     ensures told { IsTold (of_sink K.Sink sink.old sink.new) (OfSource (of_source S.Source source.old source.new) (OfScript (IsRunText (of_host H.Host host.old host.new) path.now))) (SourceRan (of_source S.Source source.old source.new) (of_host H.Host host.old host.new) path.now) result }
     ensures later { K.faults sink.old ≤ K.faults sink.new }
     ensures left { LeavesRun (of_source S.Source source.old source.new) (of_host H.Host host.old host.new) path.now }
-    ensures others { H.tells → NoneFailedBy (of_host H.Host host.old host.new) result → OthersAsBefore (of_host H.Host host.old host.new) path.now }
+    ensures others { H.tells → OthersAsBefore (of_host H.Host host.old host.new) path.now }
     ensures early { IfOk result (λ answer. IsEarly answer.status → host.new ≡ host.old) }
 {
     let alloc = rt.alloc();

@@ -8,7 +8,7 @@ ghost use Rattle.opfs_commands.specs.Telling.{IsStoodFor, StandsForText};
 ghost use Rattle.opfs_machine.specs.Openings.{Map};
 ghost use Rattle.opfs_migrate.specs.Migrating.{StandsEither};
 ghost use Rattle.opfs_outside.specs.Turns.{of_host, of_sink, of_source, AsBefore, ImageStays, OthersAsBefore};
-ghost use Rattle.opfs_top.specs.Answers.{ImageEnded, IsTold, IsUnmadeBy, LoadEnded, NoneFailedBy};
+ghost use Rattle.opfs_top.specs.Answers.{ImageEnded, IsTold, IsUnmadeBy, LoadEnded};
 ghost use Rattle.opfs_top.specs.Doing.{Dumped, Ended, IsEarly, IsTool, LeavesNew, LeavesRun, Makes, Migrates, Names, Printed, TakesImage, Tells, ToolEnded};
 
 use crate::answer::{Answer, Task, answer_large_run, answer_nothing, answer_script};
@@ -31,10 +31,10 @@ fn answer_image<H: Host, K: Sink>(
 ) -> Result<Answer, AllocError>
     requires { InRange action }
     ensures told { IsTold (of_sink K.Sink sink.old sink.new) (λ text. IsDumping action × (H.tells → DoneKind action (H.image host.old path.now) (H.image host.new path.now) text)) (ImageEnded (of_host H.Host host.old host.new) path.now action) result }
-    ensures others { H.tells → NoneFailedBy (of_host H.Host host.old host.new) result → OthersAsBefore (of_host H.Host host.old host.new) path.now }
-    ensures reads { IsReading action → H.tells → NoneFailedBy (of_host H.Host host.old host.new) result → ImageStays (of_host H.Host host.old host.new) path.now }
+    ensures others { H.tells → OthersAsBefore (of_host H.Host host.old host.new) path.now }
+    ensures reads { IsReading action → H.tells → ImageStays (of_host H.Host host.old host.new) path.now }
     ensures refused { IfOk result (λ answer. answer.status ≡ Status.Image → H.tells → ImageStays (of_host H.Host host.old host.new) path.now) }
-    ensures trail { IsMigration action → H.tells → NoneFailedBy (of_host H.Host host.old host.new) result → (m : Map) → IsStoodFor m (H.image host.old path.now) → (c : Text) → H.trail host.new path.now c → H.trail host.old path.now c ⊎ StandsEither m c }
+    ensures trail { IsMigration action → H.tells → (m : Map) → IsStoodFor m (H.image host.old path.now) → (c : Text) → H.trail host.new path.now c → H.trail host.old path.now c ⊎ StandsEither m c }
     ensures made { IsMaking action → H.tells → LeavesMade (of_host H.Host host.old host.new) path.now (MadeKind action) (IsUnmadeBy result) }
     ensures later { K.faults sink.old ≤ K.faults sink.new }
 {
@@ -53,8 +53,8 @@ fn answer_load<H: Host>(
     text: &str,
 ) -> Result<Answer, AllocError>
     ensures ended { IfOk result (λ answer. LoadEnded (of_host H.Host host.old host.new) image.now text.now answer.status answer.text) }
-    ensures others { H.tells → NoneFailedBy (of_host H.Host host.old host.new) result → (path : Text) → path ≢ image.now → path ≢ text.now → AsBefore (of_host H.Host host.old host.new) path }
-    ensures reads { H.tells → NoneFailedBy (of_host H.Host host.old host.new) result → text.now ≢ image.now → ImageStays (of_host H.Host host.old host.new) text.now }
+    ensures others { H.tells → (path : Text) → path ≢ image.now → path ≢ text.now → AsBefore (of_host H.Host host.old host.new) path }
+    ensures reads { H.tells → text.now ≢ image.now → ImageStays (of_host H.Host host.old host.new) text.now }
     ensures refused { IfOk result (λ answer. answer.status ≡ Status.Image → H.tells → (path : Text) → ImageStays (of_host H.Host host.old host.new) path) }
     ensures made { H.tells → LeavesMade (of_host H.Host host.old host.new) image.now (StandsForText (H.image host.old text.now)) (IsUnmadeBy result) }
 {
@@ -73,10 +73,10 @@ pub fn answer_tool<H: Host, K: Sink>(
     sink: &mut K,
 ) -> Result<Answer, AllocError>
     ensures told { IsTold (of_sink K.Sink sink.old sink.new) (λ text. Asks words.now (λ command. Dumped command (of_host H.Host host.old host.new) text)) (ToolEnded words.now (of_host H.Host host.old host.new)) result }
-    ensures others { H.tells → NoneFailedBy (of_host H.Host host.old host.new) result → (path : Text) → (Asks words.now (Names path) → ⊥) → AsBefore (of_host H.Host host.old host.new) path }
-    ensures reads { H.tells → NoneFailedBy (of_host H.Host host.old host.new) result → (path : Text) → Asks words.now (Tells path) → ImageStays (of_host H.Host host.old host.new) path }
+    ensures others { H.tells → (path : Text) → (Asks words.now (Names path) → ⊥) → AsBefore (of_host H.Host host.old host.new) path }
+    ensures reads { H.tells → (path : Text) → Asks words.now (Tells path) → ImageStays (of_host H.Host host.old host.new) path }
     ensures refused { IfOk result (λ answer. answer.status ≡ Status.Image → H.tells → (path : Text) → Asks words.now (Names path) → ImageStays (of_host H.Host host.old host.new) path) }
-    ensures trail { H.tells → NoneFailedBy (of_host H.Host host.old host.new) result → (path : Text) → Asks words.now (Migrates path) → (m : Map) → IsStoodFor m (H.image host.old path) → (c : Text) → H.trail host.new path c → H.trail host.old path c ⊎ StandsEither m c }
+    ensures trail { H.tells → (path : Text) → Asks words.now (Migrates path) → (m : Map) → IsStoodFor m (H.image host.old path) → (c : Text) → H.trail host.new path c → H.trail host.old path c ⊎ StandsEither m c }
     ensures made { H.tells → (path : Text) → Asks words.now (Makes path) → LeavesNew words.now (of_host H.Host host.old host.new) path (IsUnmadeBy result) }
     ensures none { (Asks words.now IsTool → ⊥) → host.new ≡ host.old }
     ensures later { K.faults sink.old ≤ K.faults sink.new }
@@ -108,10 +108,10 @@ pub fn answer_to<
     gate: &G,
 ) -> Result<Answer, AllocError>
     ensures told { IsTold (of_sink K.Sink sink.old sink.new) (λ text. Asks words.now (λ command. Printed command (of_source S.Source source.old source.new) (of_host H.Host host.old host.new) text)) (Ended words.now (of_source S.Source source.old source.new) (of_host H.Host host.old host.new)) result }
-    ensures others { H.tells → NoneFailedBy (of_host H.Host host.old host.new) result → (path : Text) → (Asks words.now (Names path) → ⊥) → AsBefore (of_host H.Host host.old host.new) path }
-    ensures reads { H.tells → NoneFailedBy (of_host H.Host host.old host.new) result → (path : Text) → Asks words.now (Tells path) → ImageStays (of_host H.Host host.old host.new) path }
+    ensures others { H.tells → (path : Text) → (Asks words.now (Names path) → ⊥) → AsBefore (of_host H.Host host.old host.new) path }
+    ensures reads { H.tells → (path : Text) → Asks words.now (Tells path) → ImageStays (of_host H.Host host.old host.new) path }
     ensures refused { IfOk result (λ answer. answer.status ≡ Status.Image → H.tells → (path : Text) → Asks words.now (Names path) → ImageStays (of_host H.Host host.old host.new) path) }
-    ensures trail { H.tells → NoneFailedBy (of_host H.Host host.old host.new) result → (path : Text) → Asks words.now (Migrates path) → (m : Map) → IsStoodFor m (H.image host.old path) → (c : Text) → H.trail host.new path c → H.trail host.old path c ⊎ StandsEither m c }
+    ensures trail { H.tells → (path : Text) → Asks words.now (Migrates path) → (m : Map) → IsStoodFor m (H.image host.old path) → (c : Text) → H.trail host.new path c → H.trail host.old path c ⊎ StandsEither m c }
     ensures made { H.tells → (path : Text) → Asks words.now (Makes path) → LeavesNew words.now (of_host H.Host host.old host.new) path (IsUnmadeBy result) }
     ensures left { (path : Text) → words.now ≡ spelled (running path) → LeavesRun (of_source S.Source source.old source.new) (of_host H.Host host.old host.new) path }
     ensures early { IfOk result (λ answer. IsEarly answer.status → host.new ≡ host.old) }

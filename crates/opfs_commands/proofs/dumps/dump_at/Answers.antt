@@ -2,8 +2,12 @@ use Rattle.std.proofs.Common.{◌≡◌, inl, sym, ◌∙◌}
 use Rattle.std.specs.Prelude.{Some, Err}
 use Rattle.opfs_outside.specs.Turns.{of_host, of_sink}
 use Rattle.opfs_commands.proofs.Dumping.{put_back, put_fault, put_none}
-use Rattle.opfs_commands.proofs.Hosting.{rose_later, host_rose, later_by, was_given, others_stay, only_read, one_since}
+use Rattle.opfs_commands.proofs.Hosting.{rose_later, host_rose, later_by}
+use Rattle.opfs_commands.proofs.Making.{read_back}
+use Rattle.opfs_commands.proofs.dumps.dump_at.Given.{Over}
 use Rattle.opfs_commands.proofs.dumps.dump_at.Goals as goal
+use Rattle.opfs_commands.proofs.dumps.dump_at.Goals.{After-give_back}
+use Rattle.opfs_commands.specs.Kinds.{LeavesText}
 
 pub returns-in-Err-Failed-clause-put : goal.returns-in-Err-Failed-clause-put
 returns-in-Err-Failed-clause-put g c =
@@ -23,19 +27,16 @@ returns-clause-put g c =
     (λ rose. host_rose _ _ _ _ _ _ c.in-Ok.ensures.fresh (later_by _ _ _ c.fetch.ensures.later) c.give_back.ensures.later (g.met.H.Host.counted _) (g.met.H.Host.counted _) (laws.counted _) rose)
     c.give_back.result c.dump_disk-disk.result.1 _ _ (λ rose. inl (rose_later _ _ _ c.fetch.ensures.own_later rose)) c.dump_disk-disk.ensures.put c.give_back.ensures.kept
 
+-- the path was only read, however the command ends
+left : (g : Over) (c : After-give_back g) → g.H.Host.tells → LeavesText (of_host g.H.Host c.args.host.now c.give_back.new.host) c.args.path.now
+left g c told =
+    let dtold = g.met.H.Host.disk_tells told in
+    let read = c.dump_disk-disk.ensures.only.told dtold in
+    read_back g.H.Host c.args.host.now c.fetch.new.self c.give_back.new.host c.args.path.now (g.H.D.Disk.content c.in-Ok.disk) (g.H.D.Disk.content c.dump_disk-disk.result.0) (g.H.D.Disk.moment c.in-Ok.disk) (g.H.D.Disk.since c.in-Ok.disk) (g.H.D.Disk.since c.dump_disk-disk.result.0)
+    (c.fetch.ensures.images_stay told) (c.fetch.ensures.trails_stay told) (c.in-Ok.ensures.content told) c.in-Ok.ensures.first (c.in-Ok.ensures.one_image dtold) read.same read.moments (c.give_back.ensures.returned told)
+
 pub returns-clause-others : goal.returns-clause-others
-returns-clause-others g c = λ told none.
-    let back = was_given (of_host g.H.Host c.args.host.now c.give_back.new.host) g.H.Host.tells _ (g.H.Host.own_faults c.fetch.new.self)
-    c.give_back.result c.dump_disk-disk.result.1 told c.fetch.ensures.own_later c.give_back.ensures.back c.give_back.ensures.kept none in
-    others_stay g.H.Host c.args.host.now c.fetch.new.self c.give_back.new.host c.args.path.now
-    (λ p other. record { image = c.fetch.ensures.images_stay told p; trail = c.fetch.ensures.trails_stay told p }) back.others
+returns-clause-others g c = λ told. (left g (goal.at.returns-clause-others g c).After-give_back told).others
 
 pub returns-clause-reads : goal.returns-clause-reads
-returns-clause-reads g c = λ told none.
-    let dtold = g.met.H.Host.disk_tells told in
-    let back = was_given (of_host g.H.Host c.args.host.now c.give_back.new.host) g.H.Host.tells _ (g.H.Host.own_faults c.fetch.new.self)
-    c.give_back.result c.dump_disk-disk.result.1 told c.fetch.ensures.own_later c.give_back.ensures.back c.give_back.ensures.kept none in
-    let read = c.dump_disk-disk.ensures.only.told dtold in
-    only_read g.H.Host c.args.host.now c.fetch.new.self c.give_back.new.host c.args.path.now (g.H.D.Disk.content c.in-Ok.disk) (g.H.D.Disk.content c.dump_disk-disk.result.0) (g.H.D.Disk.moment c.dump_disk-disk.result.0) (g.H.D.Disk.since c.dump_disk-disk.result.0)
-    (c.fetch.ensures.images_stay told) (c.fetch.ensures.trails_stay told) (c.in-Ok.ensures.content told) read.same
-    (one_since (g.H.D.Disk.content c.in-Ok.disk) (g.H.D.Disk.moment c.in-Ok.disk) (g.H.D.Disk.since c.in-Ok.disk) (g.H.D.Disk.since c.dump_disk-disk.result.0) c.in-Ok.ensures.first (c.in-Ok.ensures.one_image dtold) read.moments) back
+returns-clause-reads g c = λ told. (left g (goal.at.returns-clause-reads g c).After-give_back told).stays

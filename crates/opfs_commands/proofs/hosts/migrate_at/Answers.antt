@@ -1,7 +1,6 @@
 use Rattle.std.proofs.Common.{◌≡◌, inl, inr, sym, ◌∙◌}
 use Rattle.std.specs.Prelude.{Some}
-use Rattle.opfs_outside.specs.Turns.{of_host}
-use Rattle.opfs_commands.proofs.Hosting.{stood_for, since_fetched, one_since, rose_later, host_rose, later_by, given_back, was_given, refused_back, others_stay, only_read}
+use Rattle.opfs_commands.proofs.Hosting.{stood_for, since_fetched, one_since, rose_later, host_rose, later_by, given_back, refused_back, others_stay, only_read}
 use Rattle.opfs_commands.proofs.hosts.migrate_at.Goals as goal
 
 pub returns-clause-answer : goal.returns-clause-answer
@@ -15,11 +14,9 @@ returns-clause-answer g c =
     c.give_back.result c.migrate_disk-disk.result.1 _ (λ rose. inl (rose_later _ _ _ c.fetch.ensures.own_later rose)) c.migrate_disk-disk.ensures.answer c.give_back.ensures.kept
 
 pub returns-clause-others : goal.returns-clause-others
-returns-clause-others g c = λ told none.
-    let back = was_given (of_host g.H.Host c.args.host.now c.give_back.new.host) g.H.Host.tells _ (g.H.Host.own_faults c.fetch.new.self)
-    c.give_back.result c.migrate_disk-disk.result.1 told c.fetch.ensures.own_later c.give_back.ensures.back c.give_back.ensures.kept none in
+returns-clause-others g c = λ told.
     others_stay g.H.Host c.args.host.now c.fetch.new.self c.give_back.new.host c.args.path.now
-    (λ p other. record { image = c.fetch.ensures.images_stay told p; trail = c.fetch.ensures.trails_stay told p }) back.others
+    (λ p other. record { image = c.fetch.ensures.images_stay told p; trail = c.fetch.ensures.trails_stay told p }) (c.give_back.ensures.returned told).others
 
 pub returns-clause-refused : goal.returns-clause-refused
 returns-clause-refused g c =
@@ -33,12 +30,10 @@ returns-clause-refused g c =
     c.migrate_disk-disk.ensures.refused c.give_back.ensures.kept
 
 pub returns-clause-trail : goal.returns-clause-trail
-returns-clause-trail g c = λ told none m is c' left.
+returns-clause-trail g c = λ told m is c' left.
     let dtold = g.met.H.Host.disk_tells told in
-    let back = was_given (of_host g.H.Host c.args.host.now c.give_back.new.host) g.H.Host.tells _ (g.H.Host.own_faults c.fetch.new.self)
-    c.give_back.result c.migrate_disk-disk.result.1 told c.fetch.ensures.own_later c.give_back.ensures.back c.give_back.ensures.kept none in
     let stands = stood_for (g.H.D.Disk.content c.in-Ok.disk) m (g.H.Host.image c.args.host.now c.args.path.now) (g.H.Host.image c.fetch.new.self c.args.path.now) (c.in-Ok.ensures.content told) (c.fetch.ensures.images_stay told c.args.path.now) is in
-    elim ((back.trail c').0 left) [
+    elim ((c.give_back.ensures.returned told).trail c' left) [
       | inl was ↦ inl ((c.fetch.ensures.trails_stay told c.args.path.now c').0 was)
       | inr since ↦ inr (since_fetched m (g.H.D.Disk.content c.in-Ok.disk) (g.H.D.Disk.moment c.in-Ok.disk) (g.H.D.Disk.since c.in-Ok.disk) (g.H.D.Disk.since c.migrate_disk-disk.result.0) c.in-Ok.ensures.first (c.in-Ok.ensures.one_image dtold) stands (c.migrate_disk-disk.ensures.moments dtold m stands) c' since)
     ]

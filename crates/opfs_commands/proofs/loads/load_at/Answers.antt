@@ -9,12 +9,12 @@ returns-in-Ok-clause-answer g c =
     (λ failed. failed_on g.H.Host c.args.host.now c.text_at.new.host c.lay_at.new.host c.text_at.ensures.later (g.met.H.Host.counted _) failed) c.lay_at.result c.lay_at.ensures.answer
 
 pub returns-in-Ok-clause-others : goal.returns-in-Ok-clause-others
-returns-in-Ok-clause-others g c = λ told none path image text.
+returns-in-Ok-clause-others g c = λ told path image text.
     before_on g.H.Host c.args.host.now c.text_at.new.host c.lay_at.new.host path ((c.text_at.ensures.stays told).others path text)
     (c.lay_at.ensures.others told path image)
 
 pub returns-in-Ok-clause-reads : goal.returns-in-Ok-clause-reads
-returns-in-Ok-clause-reads g c = λ told none apart.
+returns-in-Ok-clause-reads g c = λ told apart.
     stays_on g.H.Host c.args.host.now c.text_at.new.host c.lay_at.new.host c.args.text.now (c.text_at.ensures.stays told).stays
     (c.lay_at.ensures.others told c.args.text.now apart)
 
@@ -26,15 +26,15 @@ returns-in-Err-clause-answer g c =
     wider_answer g.H.Host.tells _ _ _ _ _ _ (λ told t never. absurd never) (λ told t is. is) (λ failed. failed) c.in-Err.answer c.in-Err.ensures.not
 
 pub returns-in-Err-clause-others : goal.returns-in-Err-clause-others
-returns-in-Err-clause-others g c = λ told none path image text. (c.text_at.ensures.stays told).others path text
+returns-in-Err-clause-others g c = λ told path image text. (c.text_at.ensures.stays told).others path text
 
 pub returns-in-Err-clause-reads : goal.returns-in-Err-clause-reads
-returns-in-Err-clause-reads g c = λ told none apart. (c.text_at.ensures.stays told).stays
+returns-in-Err-clause-reads g c = λ told apart. (c.text_at.ensures.stays told).stays
 
 pub returns-in-Err-clause-refused : goal.returns-in-Err-clause-refused
 returns-in-Err-clause-refused g c =
-    refused_stays (of_host g.H.Host c.args.host.now c.text_at.new.host) _ c.in-Err.answer
-    (λ none told path. all_stay (of_host g.H.Host c.args.host.now c.text_at.new.host) c.args.text.now (c.text_at.ensures.stays told) path)
+    refused_stays _ c.in-Err.answer
+    (λ told path. all_stay (of_host g.H.Host c.args.host.now c.text_at.new.host) c.args.text.now (c.text_at.ensures.stays told) path)
 
 pub returns-in-Ok-clause-made : goal.returns-in-Ok-clause-made
 returns-in-Ok-clause-made g c = λ told.

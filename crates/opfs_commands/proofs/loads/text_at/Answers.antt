@@ -1,9 +1,9 @@
 use Rattle.std.proofs.Common.{◌≡◌, inl, sym, ◌∙◌, arith}
 use Rattle.std.specs.Prelude.{Some}
 use Rattle.opfs_outside.specs.Turns.{of_host, HostFailed}
-use Rattle.opfs_commands.proofs.Hosting.{rose_later, host_rose, later_by, given_back, one_since}
+use Rattle.opfs_commands.proofs.Hosting.{rose_later, host_rose, later_by, given_back}
 use Rattle.opfs_commands.proofs.Loading.{dump_at_told, err_at, ok_at, failed_told, later_twice}
-use Rattle.opfs_commands.proofs.Making.{read_returned}
+use Rattle.opfs_commands.proofs.Making.{read_back}
 use Rattle.opfs_commands.proofs.loads.text_at.Goals as goal
 
 pub returns-in-Err-clause-not : goal.returns-in-Err-clause-not
@@ -20,17 +20,15 @@ pub returns-in-Err-clause-stays : goal.returns-in-Err-clause-stays
 returns-in-Err-clause-stays g c = λ told.
     let dtold = g.met.H.Host.disk_tells told in
     let read = c.text_on-disk.ensures.only.told dtold in
-    read_returned g.H.Host c.args.host.now c.fetch.new.self c.give_back.new.host c.args.path.now (g.H.D.Disk.content c.in-Ok.disk) (g.H.D.Disk.content c.text_on-disk.result.0) (g.H.D.Disk.since c.text_on-disk.result.0 0)
-    (c.fetch.ensures.images_stay told) (c.fetch.ensures.trails_stay told) (c.in-Ok.ensures.content told) read.same
-    (one_since (g.H.D.Disk.content c.in-Ok.disk) (g.H.D.Disk.moment c.in-Ok.disk) (g.H.D.Disk.since c.in-Ok.disk) (g.H.D.Disk.since c.text_on-disk.result.0) c.in-Ok.ensures.first (c.in-Ok.ensures.one_image dtold) read.moments) (c.give_back.ensures.returned told)
+    read_back g.H.Host c.args.host.now c.fetch.new.self c.give_back.new.host c.args.path.now (g.H.D.Disk.content c.in-Ok.disk) (g.H.D.Disk.content c.text_on-disk.result.0) (g.H.D.Disk.moment c.in-Ok.disk) (g.H.D.Disk.since c.in-Ok.disk) (g.H.D.Disk.since c.text_on-disk.result.0)
+    (c.fetch.ensures.images_stay told) (c.fetch.ensures.trails_stay told) (c.in-Ok.ensures.content told) c.in-Ok.ensures.first (c.in-Ok.ensures.one_image dtold) read.same read.moments (c.give_back.ensures.returned told)
 
 pub returns-in-Ok-read-clause-stays : goal.returns-in-Ok-read-clause-stays
 returns-in-Ok-read-clause-stays g c = λ told.
     let dtold = g.met.H.Host.disk_tells told in
     let read = c.text_on-disk.ensures.only.told dtold in
-    read_returned g.H.Host c.args.host.now c.fetch.new.self c.give_text_back.new.host c.args.path.now (g.H.D.Disk.content c.in-Ok.disk) (g.H.D.Disk.content c.text_on-disk.result.0) (g.H.D.Disk.since c.text_on-disk.result.0 0)
-    (c.fetch.ensures.images_stay told) (c.fetch.ensures.trails_stay told) (c.in-Ok.ensures.content told) read.same
-    (one_since (g.H.D.Disk.content c.in-Ok.disk) (g.H.D.Disk.moment c.in-Ok.disk) (g.H.D.Disk.since c.in-Ok.disk) (g.H.D.Disk.since c.text_on-disk.result.0) c.in-Ok.ensures.first (c.in-Ok.ensures.one_image dtold) read.moments) (c.give_text_back.ensures.returned told)
+    read_back g.H.Host c.args.host.now c.fetch.new.self c.give_text_back.new.host c.args.path.now (g.H.D.Disk.content c.in-Ok.disk) (g.H.D.Disk.content c.text_on-disk.result.0) (g.H.D.Disk.moment c.in-Ok.disk) (g.H.D.Disk.since c.in-Ok.disk) (g.H.D.Disk.since c.text_on-disk.result.0)
+    (c.fetch.ensures.images_stay told) (c.fetch.ensures.trails_stay told) (c.in-Ok.ensures.content told) c.in-Ok.ensures.first (c.in-Ok.ensures.one_image dtold) read.same read.moments (c.give_text_back.ensures.returned told)
 
 pub returns-in-Ok-read-clause-read : goal.returns-in-Ok-read-clause-read
 returns-in-Ok-read-clause-read g c =

@@ -19,4 +19,4 @@ returns-in-Dump-clause-put g c = rw c.in-Dump.is
     (put_wider (of_sink g.K.Sink c.args.sink.now c.dump_at.new.sink) _ _ _ _ _ _ _ _ (λ t is. (tt, is)) (λ t is. is) (λ t is. is) (λ rose. rose) c.dump_at.result c.dump_at.ensures.put)
 
 pub returns-in-Format-clause-others : goal.returns-in-Format-clause-others
-returns-in-Format-clause-others g c = λ told none. c.format_at.ensures.others told
+returns-in-Format-clause-others g c = c.format_at.ensures.others

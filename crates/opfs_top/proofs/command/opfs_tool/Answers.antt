@@ -1,5 +1,4 @@
 use Rattle.opfs_outside.specs.Turns.{of_host}
-use Rattle.opfs_top.proofs.Hosts.{by_memory, by_sink, by_status}
 use Rattle.opfs_top.proofs.Telling.{cause_as, cut_as, front_as, never_as, puts_as, sink_after}
 use Rattle.opfs_top.specs.declared.status.Status.TheVariants as status
 use Rattle.opfs_top.proofs.Made.{leaves_wider, unmade_none, unmade_status}
@@ -7,15 +6,6 @@ use Rattle.opfs_top.proofs.command.opfs_tool.Goals as goal
 
 pub returns-in_default-clause-memory : goal.returns-in_default-clause-memory
 returns-in_default-clause-memory g c = λ is. record { front = c.answer_tool.ensures.told.front; took = c.answer_tool.ensures.told.took; begun = c.answer_tool.ensures.told.begun }
-
-pub returns-in_default-clause-others : goal.returns-in_default-clause-others
-returns-in_default-clause-others g c = λ told none. c.answer_tool.ensures.others told (by_memory (of_host g.H.Host c.args.host.now c.answer_tool.new.host) c.answer_tool.result none)
-
-pub returns-in_default-clause-reads : goal.returns-in_default-clause-reads
-returns-in_default-clause-reads g c = λ told none. c.answer_tool.ensures.reads told (by_memory (of_host g.H.Host c.args.host.now c.answer_tool.new.host) c.answer_tool.result none)
-
-pub returns-in_default-clause-trail : goal.returns-in_default-clause-trail
-returns-in_default-clause-trail g c = λ told none. c.answer_tool.ensures.trail told (by_memory (of_host g.H.Host c.args.host.now c.answer_tool.new.host) c.answer_tool.result none)
 
 pub returns-in-Ok-put_all-clause-done : goal.returns-in-Ok-put_all-clause-done
 returns-in-Ok-put_all-clause-done g c = λ is. puts_as g.K.Sink c.args.sink.now c.answer_tool.new.sink c.put_all.new.sink _ _ c.answer_tool.result c.answer_tool.ensures.told c.in-Ok.field-0 c.in-Ok.is _ c.as_slice.ensures status.Done (λ x. cc x) c.in-Ok-put_all.ensures.ok is
@@ -44,29 +34,11 @@ returns-in-Ok-put_all-clause-no_script g c = λ is. absurd (never_as g.K.Sink c.
 pub returns-in-Ok-put_all-clause-no_source : goal.returns-in-Ok-put_all-clause-no_source
 returns-in-Ok-put_all-clause-no_source g c = λ is. absurd (never_as g.K.Sink c.args.sink.now c.answer_tool.new.sink c.put_all.new.sink _ _ c.answer_tool.result c.answer_tool.ensures.told c.in-Ok.field-0 c.in-Ok.is _ c.as_slice.ensures status.Source (λ x. cc x) is)
 
-pub returns-in-Ok-put_all-clause-others : goal.returns-in-Ok-put_all-clause-others
-returns-in-Ok-put_all-clause-others g c = λ told none. c.answer_tool.ensures.others told (by_status (of_host g.H.Host c.args.host.now c.answer_tool.new.host) c.answer_tool.result c.in-Ok.field-0 c.in-Ok.is none)
-
-pub returns-in-Ok-put_all-clause-reads : goal.returns-in-Ok-put_all-clause-reads
-returns-in-Ok-put_all-clause-reads g c = λ told none. c.answer_tool.ensures.reads told (by_status (of_host g.H.Host c.args.host.now c.answer_tool.new.host) c.answer_tool.result c.in-Ok.field-0 c.in-Ok.is none)
-
-pub returns-in-Ok-put_all-clause-trail : goal.returns-in-Ok-put_all-clause-trail
-returns-in-Ok-put_all-clause-trail g c = λ told none. c.answer_tool.ensures.trail told (by_status (of_host g.H.Host c.args.host.now c.answer_tool.new.host) c.answer_tool.result c.in-Ok.field-0 c.in-Ok.is none)
-
 pub returns-clause-sink : goal.returns-clause-sink
 returns-clause-sink g c = λ is. cut_as g.K.Sink c.args.sink.now c.answer_tool.new.sink c.put_all.new.sink _ _ c.answer_tool.result c.answer_tool.ensures.told c.in-Ok.field-0 c.in-Ok.is _ c.as_slice.ensures _ (λ e t x. record { status = e; ended = x }) c.in-Err.ensures.err
 
 pub returns-clause-sink_cause : goal.returns-clause-sink_cause
 returns-clause-sink_cause g c = λ is. sink_after g.K.Sink c.args.sink.now c.answer_tool.new.sink c.put_all.new.sink c.answer_tool.ensures.later c.in-Err.ensures.cause
-
-pub returns-clause-others : goal.returns-clause-others
-returns-clause-others g c = λ told none. c.answer_tool.ensures.others told (by_sink (of_host g.H.Host c.args.host.now c.answer_tool.new.host) c.answer_tool.result none)
-
-pub returns-clause-reads : goal.returns-clause-reads
-returns-clause-reads g c = λ told none. c.answer_tool.ensures.reads told (by_sink (of_host g.H.Host c.args.host.now c.answer_tool.new.host) c.answer_tool.result none)
-
-pub returns-clause-trail : goal.returns-clause-trail
-returns-clause-trail g c = λ told none. c.answer_tool.ensures.trail told (by_sink (of_host g.H.Host c.args.host.now c.answer_tool.new.host) c.answer_tool.result none)
 
 pub returns-in_default-clause-made : goal.returns-in_default-clause-made
 returns-in_default-clause-made g c = λ told path is. leaves_wider (of_host g.H.Host c.args.host.now c.answer_tool.new.host) path _ _ _ _ (λ d made. made) (λ u. unmade_none c.answer_tool.result c.in_default.not-Ok) (c.answer_tool.ensures.made told path is)

@@ -1,7 +1,6 @@
 use Rattle.std.proofs.Common.{Ok}
 use Rattle.opfs_outside.specs.Turns.{of_host, of_sink}
 use Rattle.opfs_top.specs.Answers.{BytesRan}
-use Rattle.opfs_top.proofs.Hosts.{passed_on}
 use Rattle.opfs_top.proofs.Running.{bytes_left, bytes_refused, bytes_told}
 use Rattle.opfs_top.proofs.Telling.{told_none, told_nothing, told_on, told_short}
 use Rattle.opfs_top.proofs.run.run_bytes.Goals as goal
@@ -19,9 +18,6 @@ returns-in_ok-answer-in-Err-clause-told g c =
 
 pub returns-in_err-answer-in-Err-clause-told : goal.returns-in_err-answer-in-Err-clause-told
 returns-in_err-answer-in-Err-clause-told g c = told_none g.K.Sink c.args.sink.now _ _ c.from_residual-in_err-answer-in-Err.result c.from_residual-in_err-answer-in-Err.ensures.0
-
-pub returns-in_err-answer-in-Ok-clause-others : goal.returns-in_err-answer-in-Ok-clause-others
-returns-in_err-answer-in-Ok-clause-others g c = λ told none. c.run_agents.ensures.others told (passed_on (of_host g.H.Host c.args.host.now c.run_agents.new.host) c.run_agents.result c.from_residual.result c.from_residual.ensures.0 none)
 
 pub returns-in_ok-answer-in-Ok-clause-left : goal.returns-in_ok-answer-in-Ok-clause-left
 returns-in_ok-answer-in-Ok-clause-left g c = bytes_left (of_host g.H.Host c.args.host.now c.run_agents.new.host) c.args.path.now _ c.args.bytes.now c.in-Ok.ensures.script c.run_agents.ensures.left

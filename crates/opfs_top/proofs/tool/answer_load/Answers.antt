@@ -1,22 +1,10 @@
 use Rattle.std.proofs.Common.{Ok, refl, subst, sym}
 use Rattle.opfs_outside.specs.Turns.{of_host}
 use Rattle.opfs_top.specs.Answers.{LoadEnded}
-use Rattle.opfs_top.proofs.Hosts.{by_error, by_run, load_ended}
+use Rattle.opfs_top.proofs.Hosts.{load_ended}
 use Rattle.opfs_top.specs.declared.answer.Answer.{Answer}
 use Rattle.opfs_top.proofs.Made.{leaves_wider, unmade_error, unmade_run}
 use Rattle.opfs_top.proofs.tool.answer_load.Goals as goal
-
-pub returns-in_err-answer-clause-others : goal.returns-in_err-answer-clause-others
-returns-in_err-answer-clause-others g c = λ told none. c.load_at.ensures.others told (by_error (of_host g.H.Host c.args.host.now c.load_at.new.host) c.load_at.result c.from_residual.result c.from_residual.ensures.0 none)
-
-pub returns-in_err-answer-clause-reads : goal.returns-in_err-answer-clause-reads
-returns-in_err-answer-clause-reads g c = λ told none. c.load_at.ensures.reads told (by_error (of_host g.H.Host c.args.host.now c.load_at.new.host) c.load_at.result c.from_residual.result c.from_residual.ensures.0 none)
-
-pub returns-clause-others : goal.returns-clause-others
-returns-clause-others g c = λ told none. c.load_at.ensures.others told (by_run (of_host g.H.Host c.args.host.now c.load_at.new.host) c.load_at.result c.in_ok-answer.answer _ _ c.in_ok-answer.was refl c.status_of.ensures none)
-
-pub returns-clause-reads : goal.returns-clause-reads
-returns-clause-reads g c = λ told none. c.load_at.ensures.reads told (by_run (of_host g.H.Host c.args.host.now c.load_at.new.host) c.load_at.result c.in_ok-answer.answer _ _ c.in_ok-answer.was refl c.status_of.ensures none)
 
 pub returns-clause-ended : goal.returns-clause-ended
 returns-clause-ended g c =

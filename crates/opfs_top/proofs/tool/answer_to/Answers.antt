@@ -20,18 +20,18 @@ returns-in-Some-OnImage-clause-told g c =
     c.answer_image.result c.answer_image.ensures.told
 
 pub returns-in-Some-OnImage-clause-others : goal.returns-in-Some-OnImage-clause-others
-returns-in-Some-OnImage-clause-others g c = λ told none path other. c.answer_image.ensures.others told none path (not_named c.args.words.now c.in-Some-OnImage.path.now c.in-Some-OnImage.action (subst (λ r. IsAsked c.args.words.now (meant r)) c.in-Some-OnImage.field-0-is c.in-Some-OnImage.ensures.some) path other)
+returns-in-Some-OnImage-clause-others g c = λ told path other. c.answer_image.ensures.others told path (not_named c.args.words.now c.in-Some-OnImage.path.now c.in-Some-OnImage.action (subst (λ r. IsAsked c.args.words.now (meant r)) c.in-Some-OnImage.field-0-is c.in-Some-OnImage.ensures.some) path other)
 
 pub returns-in-Some-OnImage-clause-reads : goal.returns-in-Some-OnImage-clause-reads
-returns-in-Some-OnImage-clause-reads g c = λ told none path is.
+returns-in-Some-OnImage-clause-reads g c = λ told path is.
     let asked = image_told c.args.words.now c.in-Some-OnImage.path.now c.in-Some-OnImage.action (subst (λ r. IsAsked c.args.words.now (meant r)) c.in-Some-OnImage.field-0-is c.in-Some-OnImage.ensures.some) path is in
-    subst (λ p. ImageStays (of_host g.H.Host c.args.host.now c.answer_image.new.host) p) (sym asked.0) (c.answer_image.ensures.reads asked.1 told none)
+    subst (λ p. ImageStays (of_host g.H.Host c.args.host.now c.answer_image.new.host) p) (sym asked.0) (c.answer_image.ensures.reads asked.1 told)
 
 pub returns-in-Some-OnImage-clause-trail : goal.returns-in-Some-OnImage-clause-trail
-returns-in-Some-OnImage-clause-trail g c = λ told none path is m stood c' left.
+returns-in-Some-OnImage-clause-trail g c = λ told path is m stood c' left.
     let asked = image_migrated c.args.words.now c.in-Some-OnImage.path.now c.in-Some-OnImage.action (subst (λ r. IsAsked c.args.words.now (meant r)) c.in-Some-OnImage.field-0-is c.in-Some-OnImage.ensures.some) path is in
     subst (λ p. g.H.Host.trail c.answer_image.new.host p c' → g.H.Host.trail c.args.host.now p c' ⊎ StandsEither m c') (sym asked.0)
-    (λ l. c.answer_image.ensures.trail asked.1 told none m (subst (λ p. IsStoodFor m (g.H.Host.image c.args.host.now p)) asked.0 stood) c' l) left
+    (λ l. c.answer_image.ensures.trail asked.1 told m (subst (λ p. IsStoodFor m (g.H.Host.image c.args.host.now p)) asked.0 stood) c' l) left
 
 pub returns-in-Some-OnImage-clause-refused : goal.returns-in-Some-OnImage-clause-refused
 returns-in-Some-OnImage-clause-refused g c =
@@ -55,18 +55,18 @@ returns-in-Some-Load-clause-told g c =
     (IfOk-weaker c.answer_load.result _ _ (λ a is. load_ends c.args.words.now (of_source g.S.Source c.args.source.now c.args.source.now) (of_host g.H.Host c.args.host.now c.answer_load.new.host) c.in-Some-Load.image.now c.in-Some-Load.text.now (subst (λ r. IsAsked c.args.words.now (meant r)) c.in-Some-Load.field-0-is c.in-Some-Load.ensures.some) a.status a.text is) c.answer_load.ensures.ended)
 
 pub returns-in-Some-Load-clause-others : goal.returns-in-Some-Load-clause-others
-returns-in-Some-Load-clause-others g c = λ told none path other. c.answer_load.ensures.others told none path (not_image c.args.words.now c.in-Some-Load.image.now c.in-Some-Load.text.now (subst (λ r. IsAsked c.args.words.now (meant r)) c.in-Some-Load.field-0-is c.in-Some-Load.ensures.some) path other) (not_text c.args.words.now c.in-Some-Load.image.now c.in-Some-Load.text.now (subst (λ r. IsAsked c.args.words.now (meant r)) c.in-Some-Load.field-0-is c.in-Some-Load.ensures.some) path other)
+returns-in-Some-Load-clause-others g c = λ told path other. c.answer_load.ensures.others told path (not_image c.args.words.now c.in-Some-Load.image.now c.in-Some-Load.text.now (subst (λ r. IsAsked c.args.words.now (meant r)) c.in-Some-Load.field-0-is c.in-Some-Load.ensures.some) path other) (not_text c.args.words.now c.in-Some-Load.image.now c.in-Some-Load.text.now (subst (λ r. IsAsked c.args.words.now (meant r)) c.in-Some-Load.field-0-is c.in-Some-Load.ensures.some) path other)
 
 pub returns-in-Some-Load-clause-reads : goal.returns-in-Some-Load-clause-reads
-returns-in-Some-Load-clause-reads g c = λ told none path is.
+returns-in-Some-Load-clause-reads g c = λ told path is.
     let asked = load_told c.args.words.now c.in-Some-Load.image.now c.in-Some-Load.text.now (subst (λ r. IsAsked c.args.words.now (meant r)) c.in-Some-Load.field-0-is c.in-Some-Load.ensures.some) path is in
-    subst (λ p. ImageStays (of_host g.H.Host c.args.host.now c.answer_load.new.host) p) (sym asked.0) (c.answer_load.ensures.reads told none asked.1)
+    subst (λ p. ImageStays (of_host g.H.Host c.args.host.now c.answer_load.new.host) p) (sym asked.0) (c.answer_load.ensures.reads told asked.1)
 
 pub returns-in-Some-Load-clause-refused : goal.returns-in-Some-Load-clause-refused
 returns-in-Some-Load-clause-refused g c = IfOk-weaker c.answer_load.result _ _ (λ a is same told path asked. is same told path) c.answer_load.ensures.refused
 
 pub returns-in-Some-Load-clause-trail : goal.returns-in-Some-Load-clause-trail
-returns-in-Some-Load-clause-trail g c = λ told none path is. absurd (load_no_migration c.args.words.now c.in-Some-Load.image.now c.in-Some-Load.text.now (subst (λ r. IsAsked c.args.words.now (meant r)) c.in-Some-Load.field-0-is c.in-Some-Load.ensures.some) path is)
+returns-in-Some-Load-clause-trail g c = λ told path is. absurd (load_no_migration c.args.words.now c.in-Some-Load.image.now c.in-Some-Load.text.now (subst (λ r. IsAsked c.args.words.now (meant r)) c.in-Some-Load.field-0-is c.in-Some-Load.ensures.some) path is)
 
 pub returns-in-Some-Load-clause-none : goal.returns-in-Some-Load-clause-none
 returns-in-Some-Load-clause-none g c = λ none. absurd (none (takes_load c.args.words.now c.in-Some-Load.image.now c.in-Some-Load.text.now (subst (λ r. IsAsked c.args.words.now (meant r)) c.in-Some-Load.field-0-is c.in-Some-Load.ensures.some)))
@@ -81,10 +81,10 @@ pub returns-in-Some-Run-clause-told : goal.returns-in-Some-Run-clause-told
 returns-in-Some-Run-clause-told g c = run_told c.args.words.now (of_source g.S.Source c.args.source.now c.run_script_at.new.source) (of_host g.H.Host c.args.host.now c.run_script_at.new.host) (of_sink g.K.Sink c.args.sink.now c.run_script_at.new.sink) c.in-Some-Run.path.now (subst (λ r. IsAsked c.args.words.now (meant r)) c.in-Some-Run.field-0-is c.in-Some-Run.ensures.some) c.run_script_at.result c.run_script_at.ensures.told
 
 pub returns-in-Some-Run-clause-others : goal.returns-in-Some-Run-clause-others
-returns-in-Some-Run-clause-others g c = λ told none path other. c.run_script_at.ensures.others told none path (not_run_path c.args.words.now c.in-Some-Run.path.now (subst (λ r. IsAsked c.args.words.now (meant r)) c.in-Some-Run.field-0-is c.in-Some-Run.ensures.some) path other)
+returns-in-Some-Run-clause-others g c = λ told path other. c.run_script_at.ensures.others told path (not_run_path c.args.words.now c.in-Some-Run.path.now (subst (λ r. IsAsked c.args.words.now (meant r)) c.in-Some-Run.field-0-is c.in-Some-Run.ensures.some) path other)
 
 pub returns-in-Some-Run-clause-reads : goal.returns-in-Some-Run-clause-reads
-returns-in-Some-Run-clause-reads g c = λ told none path is. absurd (run_tells_none c.args.words.now c.in-Some-Run.path.now (subst (λ r. IsAsked c.args.words.now (meant r)) c.in-Some-Run.field-0-is c.in-Some-Run.ensures.some) path is)
+returns-in-Some-Run-clause-reads g c = λ told path is. absurd (run_tells_none c.args.words.now c.in-Some-Run.path.now (subst (λ r. IsAsked c.args.words.now (meant r)) c.in-Some-Run.field-0-is c.in-Some-Run.ensures.some) path is)
 
 pub returns-in-Some-Run-clause-refused : goal.returns-in-Some-Run-clause-refused
 returns-in-Some-Run-clause-refused g c =
@@ -93,7 +93,7 @@ returns-in-Some-Run-clause-refused g c =
     (refused_stays (of_source g.S.Source c.args.source.now c.run_script_at.new.source) (of_host g.H.Host c.args.host.now c.run_script_at.new.host) (of_sink g.K.Sink c.args.sink.now c.run_script_at.new.sink) c.in-Some-Run.path.now c.run_script_at.result c.run_script_at.ensures.told)
 
 pub returns-in-Some-Run-clause-trail : goal.returns-in-Some-Run-clause-trail
-returns-in-Some-Run-clause-trail g c = λ told none path is. absurd (run_no_migration c.args.words.now c.in-Some-Run.path.now (subst (λ r. IsAsked c.args.words.now (meant r)) c.in-Some-Run.field-0-is c.in-Some-Run.ensures.some) path is)
+returns-in-Some-Run-clause-trail g c = λ told path is. absurd (run_no_migration c.args.words.now c.in-Some-Run.path.now (subst (λ r. IsAsked c.args.words.now (meant r)) c.in-Some-Run.field-0-is c.in-Some-Run.ensures.some) path is)
 
 pub returns-in-Some-Run-clause-left : goal.returns-in-Some-Run-clause-left
 returns-in-Some-Run-clause-left g c = left_of_run c.args.words.now (of_source g.S.Source c.args.source.now c.run_script_at.new.source) (of_host g.H.Host c.args.host.now c.run_script_at.new.host) c.in-Some-Run.path.now (subst (λ r. IsAsked c.args.words.now (meant r)) c.in-Some-Run.field-0-is c.in-Some-Run.ensures.some) c.run_script_at.ensures.left
