@@ -4,9 +4,10 @@ use Rattle.std.specs.Prelude.{Result, Ok, Err, IsOk, IsErr, IfOk, OnOk, OnErr}
 use Rattle.std.specs.declared.alloc.AllocError.{AllocError}
 use Rattle.opfs_base.specs.Texts.{Text}
 use Rattle.opfs_books.specs.Laws.Fronts.{IsShownOnce}
-use Rattle.opfs_commands.proofs.Hosting.{one_since, only_read, others_stay, rose_later}
+use Rattle.opfs_commands.proofs.Hosting.{rose_later}
+use Rattle.opfs_commands.proofs.Making.{read_back}
 use Rattle.opfs_commands.proofs.RunHosts.{IsFetched}
-use Rattle.opfs_commands.specs.Ran.{IsRunAt, LeavesFronts}
+use Rattle.opfs_commands.specs.Ran.{IsNotRun, IsOldOrLeft, IsRunAt, LeavesFronts}
 use Rattle.opfs_desk.specs.Seen.{DeskSeen}
 use Rattle.opfs_desk_runs.proofs.Fronts.{first-shown}
 use Rattle.opfs_desk_runs.specs.Runs.{IsHistoryOf, IsKeptSince, IsRunOn, opening_in}
@@ -16,14 +17,14 @@ use Rattle.opfs_hist.specs.declared.entry.Entry.{Entry}
 use Rattle.opfs_journal.specs.Walking.{OnlyRead}
 use Rattle.opfs_machine.specs.Openings.{Opening}
 use Rattle.opfs_outside.specs.Faults.{Rose, RoseBy}
-use Rattle.opfs_outside.specs.Turns.{of_host, GivenBack, HostFailed, HostServed, HostTurn, ImageStays, OthersAsBefore}
+use Rattle.opfs_outside.specs.Turns.{of_host, GivenBack, HostFailed, HostServed, HostTurn, IsReturned}
 use Rattle.opfs_outside.specs.declared.disk.Disk.{Ghosts as DiskWords}
 use Rattle.opfs_outside.specs.declared.host.Host.{Ghosts as HostWords}
 use Rattle.opfs_port.specs.Said.{Said}
 use Rattle.opfs_script.specs.Scripts.{Asked}
 use Rattle.opfs_serve_runs.specs.Conversations.{IsServedOn}
 use Rattle.opfs_serve_top.proofs.Moved.{talked-on}
-use Rattle.opfs_serve_top.specs.Endings.{IsEnding, IsServedAt, IsUnserved, NoneFailed}
+use Rattle.opfs_serve_top.specs.Endings.{IsEnding, IsServedAt, IsUnserved}
 use Rattle.opfs_serve_top.specs.Ends.{broken_end, EndedOn, HasNotHeld, IsGivenOr}
 use Rattle.opfs_serve_top.specs.declared.host.Ending.{Ending}
 use Rattle.opfs_serve_top.specs.declared.host.Ending.TheVariants as ending
@@ -83,6 +84,9 @@ module _ {H D M : Type 0} (h : HostWords H D M) (w : DiskWords D) (path : Text) 
   abbrev Backs : D → Type 0
   Backs now = h.tells → HostServed (of_host h mid new) → Given now
 
+  abbrev Returned : D → Type 0
+  Returned now = h.tells → IsReturned (of_host h mid new) path (w.content now) (w.since now 0)
+
   counted : (now : D) → Later now → (n : ℕ) → RoseBy n (w.faults first) (w.faults now) → RoseBy n (h.faults old) (h.faults new)
   counted now later n disk = on-host n (w.faults first) (w.faults now) (h.own_faults new - h.own_faults mid) (h.faults old) (h.faults mid) (h.faults new) fetched.fresh fetched.later (fetched.counted new) disk later
 
@@ -91,14 +95,14 @@ module _ {H D M : Type 0} (h : HostWords H D M) (w : DiskWords D) (path : Text) 
 
   -- ---- the disk was only read
 
-  stays : (now : D) → OnlyRead w first now → h.tells → Given now → ImageStays turn path
-  stays now only t given =
+  stays : (now : D) → OnlyRead w first now → Returned now → IsNotRun turn path
+  stays now only returned t =
       let read = only.told (fetched.to_disk t) in
-      only_read h old mid new path (w.content first) (w.content now) (w.moment now) (w.since now) (fetched.images t) (fetched.trails t) (fetched.there t) read.same
-      (one_since (w.content first) (w.moment first) (w.since first) (w.since now) fetched.first (fetched.one (fetched.to_disk t)) read.moments) given
+      (read_back h old mid new path (w.content first) (w.content now) (w.moment first) (w.since first) (w.since now) (fetched.images t) (fetched.trails t) (fetched.there t)
+      fetched.first (fetched.one (fetched.to_disk t)) read.same read.moments (returned t)).stays
 
-  unserved : {P : Type 0} (begun last : P) (now : D) (Why : Type 0) → Backs now → HasNotHeld w begun last first now Why → IsUnserved turn path begun last
-  unserved begun last now Why back is = record { not = λ t quiet. stays now is.only t (back t (λ rose. quiet (own-rose rose))); unsaid = is.unsaid }
+  unserved : {P : Type 0} (begun last : P) (now : D) (Why : Type 0) → Returned now → HasNotHeld w begun last first now Why → IsUnserved turn path begun last
+  unserved begun last now Why returned is = record { not = stays now is.only returned; unsaid = is.unsaid }
 
   -- ---- a conversation was held
 
@@ -117,27 +121,38 @@ module _ {H D M : Type 0} (h : HostWords H D M) (w : DiskWords D) (path : Text) 
     since = λ c left. is.since c ((g.since is.moment c).0 left);
   }
 
-  stops-by : (run : Completion D) (script : List Asked) (on : IsRunOn w script first run) → h.tells → Given run.disk → LeavesFronts turn path (opening_in on.geometry on.before script) run.history
-  stops-by run script on t g =
+  -- what stands at the path, also where the disk was not given back
+  old-or-left : (run : Completion D) → Returned run.disk → (script : List Asked) (on : IsRunOn w script first run) → h.tells → IsOldOrLeft turn path (opening_in on.geometry on.before script) run.history
+  old-or-left run returned script on t = record {
+    image = elim (returned t).image [
+      | inl stays ↦ inl (stays ∙ fetched.images t path)
+      | inr back ↦ inr (w.content run.disk, back, on.over.left (fetched.to_disk t) (fetched.crashes t))
+    ];
+    trail = λ c trail. elim ((returned t).trail c trail) [
+      | inl was ↦ inl ((fetched.trails t path c).0 was)
+      | inr since ↦ elim ((on.over.stops (fetched.to_disk t)).fronts 0 c (omega arith) since) [
+        | inl at ↦ inr (first-front run script on t c at)
+        | inr front ↦ inr front
+      ]
+    ];
+  }
+
+  stops-by : (run : Completion D) → Returned run.disk → (script : List Asked) (on : IsRunOn w script first run) → h.tells → Given run.disk → LeavesFronts turn path (opening_in on.geometry on.before script) run.history
+  stops-by run returned script on t g =
       let left = on.over.stops (fetched.to_disk t) in
       record {
-        fronts = λ c trail. elim ((g.trail c).0 trail) [
-          | inl was ↦ inl ((fetched.trails t path c).0 was)
-          | inr since ↦ elim (left.fronts 0 c (omega arith) since) [
-            | inl at ↦ inr (first-front run script on t c at)
-            | inr front ↦ inr front
-          ]
-        ];
+        fronts = (old-or-left run returned script on t).trail;
         moments = λ at c since. (g.trail c).1 (inr (fetched.falls (fetched.to_disk t) run.disk 0 at c (omega arith) ((g.since at c).0 since)));
         keeps = λ n content. kept-at run.disk (opening_in on.geometry on.before script) run.history g n (left.keeps (fetched.crashes t) n content);
       }
 
-  run-at : (run : Completion D) (later : Later run.disk) (Back : Type 0) (given : h.tells → Back → Given run.disk) (script : List Asked) (on : IsRunOn w script first run) → IsRunAt turn path Back run.whole script run.history
-  run-at run later Back given script on = record {
+  run-at : (run : Completion D) (later : Later run.disk) (returned : Returned run.disk) (Back : Type 0) (given : h.tells → Back → Given run.disk) (script : List Asked) (on : IsRunOn w script first run) → IsRunAt turn path Back run.whole script run.history
+  run-at run later returned Back given script on = record {
     geometry = on.geometry;
     before = on.before;
     stood = λ t. (w.content first, sym (fetched.images t path) ∙ fetched.there t, on.stood (fetched.to_disk t));
     is = told-less h.tells w.tells fetched.to_disk run.whole (opening_in on.geometry on.before script) script run.history on.over.history;
+    anyway = old-or-left run returned script on;
     left = λ t back. (w.content run.disk, (given t back).image, on.over.left (fetched.to_disk t) (fetched.crashes t));
     stands = λ t back never. (
       w.content run.disk,
@@ -145,34 +160,34 @@ module _ {H D M : Type 0} (h : HostWords H D M) (w : DiskWords D) (path : Text) 
       unless-err run.done on.over.stands on.over.failed
           (λ failed. never (by_rose (disk_faults run.history) (h.faults old) (h.faults new) (counted run.disk later (disk_faults run.history + 1) failed))) (fetched.to_disk t),
     );
-    stops = λ t back. stops-by run script on t (given t back);
+    stops = λ t back. stops-by run returned script on t (given t back);
     faults = counted run.disk later (disk_faults run.history) on.over.faults;
   }
 
   module _ {P : Type 0} (tells : Type 0) (said : P → List (Said (DeskSeen D))) (agents : List Asked) (begun last : P) where
-    served-at : (run : Completion D) (later : Later run.disk) (Back : Type 0) (given : h.tells → Back → Given run.disk) (ended : State) → IsServedOn w tells said agents begun last first run ended
+    served-at : (run : Completion D) (later : Later run.disk) (returned : Returned run.disk) (Back : Type 0) (given : h.tells → Back → Given run.disk) (ended : State) → IsServedOn w tells said agents begun last first run ended
         → IsServedAt w turn path Back tells said agents begun last run.whole ended
     unfolding run-at
-    served-at run later Back given ended is = record {
+    served-at run later returned Back given ended is = record {
       scripts = is.scripts;
       history = run.history;
-      at = run-at run later Back given is.scripts is.on;
+      at = run-at run later returned Back given is.scripts is.on;
       talked = talked-on w (opening_in is.on.geometry is.on.before is.scripts) run.history w.tells (h.tells × Back) (w.moment run.disk) (h.moment new path) (w.since run.disk) (h.since new path)
           (λ k. fetched.to_disk k.0) (λ k. (given k.0 k.1).moment) (λ k t c. ((given k.0 k.1).since t c).0) tells said agents begun last ended is.scripts is.talked;
     }
 
-    held : (run : Completion D) → Later run.disk → (h.tells → Given run.disk) → (ended : State) → IsServedOn w tells said agents begun last first run ended → IsOk run.done → IsEnding w turn path tells said agents begun last (ending.Held ended)
+    held : (run : Completion D) → Later run.disk → Returned run.disk → (h.tells → Given run.disk) → (ended : State) → IsServedOn w tells said agents begun last first run ended → IsOk run.done → IsEnding w turn path tells said agents begun last (ending.Held ended)
     unfolding run-at served-at
-    held run later given ended is ok = record {
+    held run later returned given ended is ok = record {
       whole = run.whole;
-      served = served-at run later (Unit {0}) (λ t x. given t) ended is;
+      served = served-at run later returned (Unit {0}) (λ t x. given t) ended is;
       stands = λ t. (w.content run.disk, (given t).image, ok-of run.done ok is.on.over.stands (fetched.to_disk t));
     }
 
-    broken : (run : Completion D) → Later run.disk → Backs run.disk → (ended : State) → IsServedOn w tells said agents begun last first run ended → HostFailed turn → IsEnding w turn path tells said agents begun last (ending.Broken ended)
-    broken run later back ended is failed = record {
+    broken : (run : Completion D) → Later run.disk → Returned run.disk → Backs run.disk → (ended : State) → IsServedOn w tells said agents begun last first run ended → HostFailed turn → IsEnding w turn path tells said agents begun last (ending.Broken ended)
+    broken run later returned back ended is failed = record {
       whole = run.whole;
-      served = served-at run later (HostServed turn) (λ t quiet. back t (λ rose. quiet (own-rose rose))) ended is;
+      served = served-at run later returned (HostServed turn) (λ t quiet. back t (λ rose. quiet (own-rose rose))) ended is;
       failed = failed;
     }
 
@@ -181,7 +196,7 @@ module _ {H D M : Type 0} (h : HostWords H D M) (w : DiskWords D) (path : Text) 
 
     -- ---- by how it ended
 
-    module _ (now : D) (later : Later now) (back : Backs now) where
+    module _ (now : D) (later : Later now) (returned : Returned now) (back : Backs now) where
       abbrev Fault : Type 0
       Fault = Rose (h.own_faults mid) (h.own_faults new)
 
@@ -190,24 +205,24 @@ module _ {H D M : Type 0} (h : HostWords H D M) (w : DiskWords D) (path : Text) 
 
       -- the disk was given back
       given-end : (h.tells → Given now) → (e : Ending) → Ended (Ok e) → IsEnding w turn path tells said agents begun last e
-      given-end given (ending.Held ended) is = held is.run (subst Later (sym is.same) later) (λ t. subst Given (sym is.same) (given t)) ended is.on is.done
+      given-end given (ending.Held ended) is = held is.run (subst Later (sym is.same) later) (subst Returned (sym is.same) returned) (λ t. subst Given (sym is.same) (given t)) ended is.on is.done
       given-end given (ending.Broken ended) is =
           let later' = subst Later (sym is.same) later in
-          broken is.run later' (subst Backs (sym is.same) back) ended is.on (end-fault is.run is.on.scripts later' is.on.on is.done)
+          broken is.run later' (subst Returned (sym is.same) returned) (subst Backs (sym is.same) back) ended is.on (end-fault is.run is.on.scripts later' is.on.on is.done)
       given-end given (ending.Refused why) is = record {
-        unserved = unserved begun last now _ back is;
-        stays = λ t. stays now is.only t (given t);
+        unserved = unserved begun last now _ returned is;
+        stays = stays now is.only returned;
         refused = λ t. (w.content first, sym (fetched.images t path) ∙ fetched.there t, is.why (fetched.to_disk t));
       }
-      given-end given ending.Failed is = (unserved begun last now _ back is, inr (by_rose 0 (h.faults old) (h.faults new) (counted now later 1 (by_one (w.faults first) (w.faults now) is.why))))
+      given-end given ending.Failed is = (unserved begun last now _ returned is, inr (by_rose 0 (h.faults old) (h.faults new) (counted now later 1 (by_one (w.faults first) (w.faults now) is.why))))
 
       -- it was not
       fault-end : Fault → (r : Result Ending AllocError) → Ended r → IsEnding w turn path tells said agents begun last (broken_end r)
-      fault-end rose (Ok (ending.Held ended)) is = broken is.run (subst Later (sym is.same) later) (subst Backs (sym is.same) back) ended is.on (inl (own-rose rose))
-      fault-end rose (Ok (ending.Broken ended)) is = broken is.run (subst Later (sym is.same) later) (subst Backs (sym is.same) back) ended is.on (inl (own-rose rose))
-      fault-end rose (Ok (ending.Refused why)) is = (unserved begun last now _ back is, inl (own-rose rose))
-      fault-end rose (Ok ending.Failed) is = (unserved begun last now _ back is, inl (own-rose rose))
-      fault-end rose (Err e) is = (unserved begun last now _ back is, inl (own-rose rose))
+      fault-end rose (Ok (ending.Held ended)) is = broken is.run (subst Later (sym is.same) later) (subst Returned (sym is.same) returned) (subst Backs (sym is.same) back) ended is.on (inl (own-rose rose))
+      fault-end rose (Ok (ending.Broken ended)) is = broken is.run (subst Later (sym is.same) later) (subst Returned (sym is.same) returned) (subst Backs (sym is.same) back) ended is.on (inl (own-rose rose))
+      fault-end rose (Ok (ending.Refused why)) is = (unserved begun last now _ returned is, inl (own-rose rose))
+      fault-end rose (Ok ending.Failed) is = (unserved begun last now _ returned is, inl (own-rose rose))
+      fault-end rose (Err e) is = (unserved begun last now _ returned is, inl (own-rose rose))
 
       abbrev IsDone : Result Ending AllocError → Type 0
       IsDone r = IfOk r (λ e. IsEnding w turn path tells said agents begun last e)
@@ -227,25 +242,10 @@ module _ {H D M : Type 0} (h : HostWords H D M) (w : DiskWords D) (path : Text) 
 
       none-by : (r : Result Ending AllocError) → Ended r → IsNone r
       none-by (Ok e) is = tt
-      none-by (Err x) is = unserved begun last now _ back is
+      none-by (Err x) is = unserved begun last now _ returned is
 
       pub unserved-at : (r s : Result Ending AllocError) → Ended r → IsGivenOr (h.tells → Given now) Fault r s → IsNone s
       unserved-at r s is how = elim how [
         | inl given ↦ subst IsNone (sym given.0) (none-by r is)
         | inr fault ↦ subst IsNone (sym fault.1) tt
       ]
-
-      quiet-by : (r : Result Ending AllocError) → NoneFailed turn (Ok (broken_end r)) → HostServed turn
-      quiet-by (Ok (ending.Held ended)) is = is
-      quiet-by (Ok (ending.Broken ended)) is = is
-      quiet-by (Ok (ending.Refused why)) is = is
-      quiet-by (Ok ending.Failed) is = is
-      quiet-by (Err e) is = is
-
-      pub others-at : (r s : Result Ending AllocError) → IsGivenOr (h.tells → Given now) Fault r s → h.tells → NoneFailed turn s → OthersAsBefore turn path
-      others-at r s how t none =
-          let given : Given now = elim how [
-            | inl is ↦ is.1 t
-            | inr fault ↦ back t (λ rose. quiet-by r (subst (λ (x : Result Ending AllocError). NoneFailed turn x) fault.1 none) (own-rose rose))
-          ] in
-          others_stay h old mid new path (λ p other. record { image = fetched.images t p; trail = fetched.trails t p }) given.others

@@ -1,6 +1,5 @@
 -- How a conversation over the image at a path ends. This project's own.
-use Rattle.std.specs.Prelude.{◌≡◌, Bool, List, Some, Result, Ok, Err}
-use Rattle.std.specs.declared.alloc.AllocError.{AllocError}
+use Rattle.std.specs.Prelude.{◌≡◌, Bool, List, Some, Err}
 use Rattle.opfs_base.specs.Texts.{Text}
 use Rattle.opfs_codec.specs.declared.change.Format.TheVariants.{New}
 use Rattle.opfs_commands.specs.Ran.{HasImage, IsNotRun, IsRunAt, run_opening}
@@ -18,8 +17,8 @@ use Rattle.opfs_serve_top.specs.declared.host.Ending.{Ending}
 use Rattle.opfs_serve_top.specs.declared.host.Ending.TheVariants as ending
 use Rattle.opfs_serving.specs.declared.progress.State.{State}
 
--- A conversation over the image at a path of a host: one history of what its agents were asked for, and what was said. What is left there is known where the
--- disk was given back.
+-- A conversation over the image at a path of a host: one history of what its agents were asked for, and what was said. However it ended, what is left there
+-- is the image that was there, or one that the history may have left; which one is known where the disk was given back.
 pub record IsServedAt {D P : Type 0} (w : DiskWords D) (h : HostTurn) (path : Text) (Back : Type 0) (tells : Type 0) (said : P → List (Said (DeskSeen D))) (agents : List Asked) (begun now : P) (whole : Bool) (ended : State) : Type 0 where
   pub scripts : List Asked
   pub history : List Entry
@@ -38,7 +37,7 @@ pub record IsBroken {D P : Type 0} (w : DiskWords D) (h : HostTurn) (path : Text
   pub served : IsServedAt w h path (HostServed h) tells said agents begun now whole ended
   pub failed : HostFailed h
 
--- It was not held: nothing was heard or told, and the path has its image still, where the host itself did not fail.
+-- It was not held: nothing was heard or told, and the path has its image still.
 pub record IsUnserved {P : Type 0} (h : HostTurn) (path : Text) (begun now : P) : Type 0 where
   pub not : IsNotRun h path
   pub unsaid : now ≡ begun
@@ -53,9 +52,3 @@ IsEnding w h path tells said agents begun now (ending.Held ended) = IsHeld w h p
 IsEnding w h path tells said agents begun now (ending.Broken ended) = IsBroken w h path tells said agents begun now ended
 IsEnding w h path tells said agents begun now (ending.Refused why) = IsRefusedBy h path begun now why
 IsEnding w h path tells said agents begun now ending.Failed = IsUnserved h path begun now × HostFailed h
-
--- No call of the host failed: its own count did not rise, or it was answered so.
-abbrev pub NoneFailed : HostTurn → Result Ending AllocError → Type 0
-NoneFailed h (Ok (ending.Held ended)) = Unit {0}
-NoneFailed h (Ok (ending.Refused why)) = Unit {0}
-NoneFailed h r = HostServed h

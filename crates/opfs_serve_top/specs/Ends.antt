@@ -17,7 +17,6 @@ use Rattle.opfs_serve_runs.specs.Conversations.{IsServedOn}
 use Rattle.opfs_serve_top.specs.declared.host.Ending.{Ending}
 use Rattle.opfs_serve_top.specs.declared.host.Ending.TheVariants as ending
 use Rattle.opfs_serving.specs.declared.progress.State.{State}
-use Rattle.opfs_serving.specs.declared.progress.State.TheVariants as state
 
 -- It was held, and its end went like this.
 pub record HasHeld {D P : Type 0} (w : DiskWords D) (tells : Type 0) (said : P → List (Said (DeskSeen D))) (agents : List Asked) (begun now : P) (old new : D) (ended : State) (End : Result (Unit {0}) DiskFault → Type 0) : Type 0 where
@@ -39,12 +38,12 @@ EndedOn w tells said agents begun now old new (Ok (ending.Refused why)) = HasNot
 EndedOn w tells said agents begun now old new (Ok ending.Failed) = HasNotHeld w begun now old new (Rose (w.faults old) (w.faults new))
 EndedOn w tells said agents begun now old new (Err e) = HasNotHeld w begun now old new (Unit {0})
 
--- All answers went out.
-abbrev pub AllWentOut : Ending → Type 0
-AllWentOut (ending.Held ended) = ended ≡ state.On
-AllWentOut (ending.Broken ended) = ended ≡ state.On
-AllWentOut (ending.Refused why) = ⊥
-AllWentOut ending.Failed = ⊥
+-- It was held, and its answers were told so: all of them, or as far as the output, or memory, went.
+abbrev pub WasTold : State → Ending → Type 0
+WasTold how (ending.Held ended) = ended ≡ how
+WasTold how (ending.Broken ended) = ended ≡ how
+WasTold how (ending.Refused why) = ⊥
+WasTold how ending.Failed = ⊥
 
 -- How one ended that was held.
 abbrev pub IsHeldEnd : Result (Unit {0}) DiskFault → State → Ending → Type 0

@@ -1,6 +1,5 @@
 -- How a conversation over the image at a path ends, by its status. This project's own.
-use Rattle.std.specs.Prelude.{◌≡◌, ◌≢◌, ◌⊎◌, ℕ, List, [], ◌∷◌, Result, Ok}
-use Rattle.std.specs.declared.alloc.AllocError.{AllocError}
+use Rattle.std.specs.Prelude.{◌≡◌, ◌⊎◌, ℕ, List, [], ◌∷◌}
 use Rattle.opfs_base.specs.Texts.{Text}
 use Rattle.opfs_commands.specs.Commands.{IsPath}
 use Rattle.opfs_commands.specs.Ran.{IsNotRun}
@@ -8,7 +7,7 @@ use Rattle.opfs_commands.specs.Telling.{IsLineOf}
 use Rattle.opfs_desk.specs.Seen.{DeskSeen}
 use Rattle.opfs_image.specs.declared.refusal.ImageRefusal.{ImageRefusal}
 use Rattle.opfs_outside.specs.Faults.{Rose}
-use Rattle.opfs_outside.specs.Turns.{HostFailed, HostServed, HostTurn}
+use Rattle.opfs_outside.specs.Turns.{HostFailed, HostTurn}
 use Rattle.opfs_outside.specs.declared.disk.Disk.{Ghosts as DiskWords}
 use Rattle.opfs_port.specs.Said.{Said}
 use Rattle.opfs_print.specs.Status.{status_text}
@@ -19,7 +18,6 @@ use Rattle.opfs_serve_top.specs.Endings.{IsBroken, IsHeld, IsRefusedBy, IsUnserv
 use Rattle.opfs_serve_top.specs.Hearing.{HasToldNothing, IsNoFirst, NamesAgents}
 use Rattle.opfs_serve_top.specs.declared.host.Ending.{Ending}
 use Rattle.opfs_serve_top.specs.declared.host.Ending.TheVariants as ending
-use Rattle.opfs_serve_top.specs.declared.top.Reply.{Reply}
 use Rattle.opfs_serving.specs.declared.progress.State.{State}
 use Rattle.opfs_serving.specs.declared.progress.State.TheVariants as state
 use Rattle.opfs_top.specs.Doing.{IsRefusal}
@@ -47,10 +45,6 @@ IsReplyTo (ending.Held ended) by line = (by ≡ status_of ended) × (line ≡ []
 IsReplyTo (ending.Broken ended) by line = (by ≡ status.Host) × (line ≡ status_text end.Host)
 IsReplyTo (ending.Refused why) by line = (by ≡ status.Image) × IsLineOf why line
 IsReplyTo ending.Failed by line = (by ≡ status.Host) × (line ≡ status_text end.Host)
-
--- No call of the host failed: its own count did not rise, or it was answered without a fault.
-abbrev pub NoneFailedBy : HostTurn → Result Reply AllocError → Type 0
-NoneFailedBy h result = HostServed h ⊎ ((reply : Reply) × (result ≡ Ok reply) × (reply.status ≢ status.Host))
 
 -- The image is refused, and the line says why.
 pub record IsRefusedWith {P : Type 0} (h : HostTurn) (path : Text) (first now : P) (line : Text) : Type 0 where
@@ -122,7 +116,7 @@ module _ {D P : Type 0} (w : DiskWords D) (h : HostTurn) (tells : Type 0) (said 
   abbrev pub EndsBy : List Text → Status → Text → Type 0
   EndsBy words by line = EndsUnasked words by line ⊎ EndsAsked words by line
 
--- There was no memory to begin: nothing was told, and the path has its image still, where the host itself did not fail.
+-- There was no memory to begin: nothing was told, and the path has its image still.
 pub record IsUnanswered {T P : Type 0} (h : HostTurn) (tells : Type 0) (said : P → List (Said T)) (rest : P → List Text) (begun now : P) (path : Text) : Type 0 where
   pub not : IsNotRun h path
   pub quiet : HasToldNothing tells said rest begun now

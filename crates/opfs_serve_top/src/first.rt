@@ -1,5 +1,6 @@
 //! The first line of a conversation.
 
+ghost use Rattle.std.specs.Prelude.{◌≤◌};
 ghost use Rattle.opfs_serve_top.specs.Hearing.{IsFirst, IsFirstOf};
 
 use opfs_port::{Heard, Port, PortFault};
@@ -36,7 +37,8 @@ fn first_of(alloc: Global, line: &[u8]) -> First
 
 /// Hears the first line, and reads the agents that it names. Where no line comes it is refused as an empty one.
 pub fn hear_first<T, P: Port<T>>(alloc: Global, port: &mut P) -> First
-    ensures { IsFirst P.tells P.said P.rest port.old port.new P.faults result }
+    ensures first { IsFirst P.tells P.said P.rest port.old port.new P.faults result }
+    ensures later { P.faults port.old ≤ P.faults port.new }
 {
     let mut line = Vec::new(alloc);
     match port.hear(&mut line, MOST_BYTES) {

@@ -2,9 +2,9 @@
 
 ghost use Rattle.std.specs.Prelude.{◌≡◌, ◌+◌, ◌-◌, ◌≤◌, [], length, true, false, Ok, IfOk, OnErr};
 ghost use Rattle.opfs_outside.specs.Faults.{Rose, RoseBy};
-ghost use Rattle.opfs_outside.specs.Turns.{of_host, GivenBack, HostServed, OthersAsBefore};
-ghost use Rattle.opfs_serve_top.specs.Endings.{IsEnding, IsUnserved, NoneFailed};
-ghost use Rattle.opfs_serve_top.specs.Ends.{AllWentOut, broken_end, EndedOn, IsGivenOr, IsHeldEnd, IsRefusedEnd};
+ghost use Rattle.opfs_outside.specs.Turns.{of_host, GivenBack, HostServed, IsReturned, OthersAsBefore};
+ghost use Rattle.opfs_serve_top.specs.Endings.{IsEnding, IsUnserved};
+ghost use Rattle.opfs_serve_top.specs.Ends.{broken_end, EndedOn, IsGivenOr, IsHeldEnd, IsRefusedEnd, WasTold};
 ghost use Rattle.opfs_serving.specs.Served.{HasNoScripts};
 
 use opfs_desk::Desk;
@@ -81,7 +81,8 @@ fn serve_on<D: Disk, P: Port<Desk<D>>, R: AllocGlobal + Wait>(
     requires few { length agents.now ≤ 64 }
     requires alone { HasNoScripts agents.now }
     ensures ended { EndedOn D.Disk P.tells P.said agents.now port.old port.new disk result.0 result.1 }
-    ensures all { IfOk result.1 (λ ending. AllWentOut ending → P.tells → P.rest port.new ≡ []) }
+    ensures all { IfOk result.1 (λ ending. WasTold State.On ending → P.tells → P.rest port.new ≡ []) }
+    ensures failed { IfOk result.1 (λ ending. WasTold State.Failed ending → Rose (P.faults port.old) (P.faults port.new)) }
 {
     match serve_disk(rt, disk, agents, port) {
         Ok(served) => {
@@ -114,6 +115,7 @@ fn end_at<H: Host>(
 ) -> Result<Ending, AllocError>
     ensures kept { IsGivenOr (H.tells → GivenBack (of_host H.Host host.old host.new) path.now (H.D.content disk) (H.D.moment disk) (H.D.since disk)) (Rose (H.own_faults host.old) (H.own_faults host.new)) end result }
     ensures back { H.tells → HostServed (of_host H.Host host.old host.new) → GivenBack (of_host H.Host host.old host.new) path.now (H.D.content disk) (H.D.moment disk) (H.D.since disk) }
+    ensures returned { H.tells → IsReturned (of_host H.Host host.old host.new) path.now (H.D.content disk) (H.D.since disk 0) }
     ensures own_later { H.own_faults host.old ≤ H.own_faults host.new }
     ensures later { RoseBy (H.D.faults disk + (H.own_faults host.new - H.own_faults host.old)) (H.faults host.old) (H.faults host.new) }
 {
@@ -124,6 +126,8 @@ fn end_at<H: Host>(
 }
 
 /// Holds a conversation of agents over the image at a path of a host. Where there is no memory to begin, nothing was heard or told.
+/// However it ends, every other path is as before. The path has its image still where no conversation was held; where one was, also
+/// where the disk was not given back, it has that image or one that the history may have left.
 pub fn serve_at<H: Host, P: Port<Desk<H::D>>, R: AllocGlobal + Wait>(
     rt: &R,
     host: &mut H,
@@ -135,8 +139,9 @@ pub fn serve_at<H: Host, P: Port<Desk<H::D>>, R: AllocGlobal + Wait>(
     requires alone { HasNoScripts agents.now }
     ensures ended { IfOk result (λ ending. IsEnding H.D.Disk (of_host H.Host host.old host.new) path.now P.tells P.said agents.now port.old port.new ending) }
     ensures unserved { OnErr result (IsUnserved (of_host H.Host host.old host.new) path.now port.old port.new) }
-    ensures all { IfOk result (λ ending. AllWentOut ending → P.tells → P.rest port.new ≡ []) }
-    ensures others { H.tells → NoneFailed (of_host H.Host host.old host.new) result → OthersAsBefore (of_host H.Host host.old host.new) path.now }
+    ensures all { IfOk result (λ ending. WasTold State.On ending → P.tells → P.rest port.new ≡ []) }
+    ensures failed { IfOk result (λ ending. WasTold State.Failed ending → Rose (P.faults port.old) (P.faults port.new)) }
+    ensures others { H.tells → OthersAsBefore (of_host H.Host host.old host.new) path.now }
 {
     let disk = match host.fetch(path) {
         Ok(disk) => disk,

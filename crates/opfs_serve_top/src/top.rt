@@ -4,11 +4,12 @@ ghost use Rattle.std.specs.Prelude.{◌≡◌, ◌∷◌, ◌≤◌, [], length,
 ghost use Rattle.std.specs.Option.{IfNone};
 ghost use Rattle.opfs_commands.specs.Telling.{IsLineOf};
 ghost use Rattle.opfs_image.specs.declared.refusal.ImageRefusal.{ImageRefusal as ARefusal};
+ghost use Rattle.opfs_outside.specs.Faults.{Rose};
 ghost use Rattle.opfs_outside.specs.Turns.{of_host, AsBefore, OthersAsBefore};
 ghost use Rattle.opfs_print.specs.Status.{status_text};
 ghost use Rattle.opfs_print.specs.declared.end.End.TheVariants as end;
 ghost use Rattle.opfs_serve_top.specs.Endings.{IsUnserved};
-ghost use Rattle.opfs_serve_top.specs.Headline.{Asks, AsksNothing, EndsAt, EndsBy, EndsFor, IsReplyTo, IsUnanswered, NoneFailedBy, status_of};
+ghost use Rattle.opfs_serve_top.specs.Headline.{Asks, AsksNothing, EndsAt, EndsBy, EndsFor, IsReplyTo, IsUnanswered, status_of};
 ghost use Rattle.opfs_serving.specs.Served.{HasNoScripts};
 ghost use Rattle.opfs_top.specs.Doing.{IsEarly, IsRefusal};
 
@@ -190,7 +191,8 @@ fn serve_agents<H: Host, P: Port<Desk<H::D>>, R: AllocGlobal + Wait>(
     ensures ended { IfOk result (λ reply. EndsFor H.D.Disk (of_host H.Host host.old host.new) path.now P.tells P.said agents.now port.old port.new reply.status reply.line) }
     ensures unserved { OnErr result (IsUnserved (of_host H.Host host.old host.new) path.now port.old port.new) }
     ensures all { IfOk result (λ reply. reply.status ≡ Status.Done → P.tells → P.rest port.new ≡ []) }
-    ensures others { H.tells → NoneFailedBy (of_host H.Host host.old host.new) result → OthersAsBefore (of_host H.Host host.old host.new) path.now }
+    ensures sink_cause { IfOk result (λ reply. reply.status ≡ Status.Sink → Rose (P.faults port.old) (P.faults port.new)) }
+    ensures others { H.tells → OthersAsBefore (of_host H.Host host.old host.new) path.now }
 {
     let ending = serve_at(rt, host, path, agents, port)?;
     let reply = reply_to(rt.alloc(), ending, fault)?;
@@ -207,8 +209,9 @@ fn serve_path<H: Host, P: Port<Desk<H::D>>, R: AllocGlobal + Wait>(
     ensures ended { IfOk result (λ reply. EndsAt H.D.Disk (of_host H.Host host.old host.new) P.tells P.said P.rest P.faults port.old port.new path.now reply.status reply.line) }
     ensures unanswered { OnErr result (IsUnanswered (of_host H.Host host.old host.new) P.tells P.said P.rest port.old port.new path.now) }
     ensures all { IfOk result (λ reply. reply.status ≡ Status.Done → P.tells → P.rest port.new ≡ []) }
+    ensures sink_cause { IfOk result (λ reply. reply.status ≡ Status.Sink → Rose (P.faults port.old) (P.faults port.new)) }
     ensures early { IfOk result (λ reply. IsEarly reply.status → host.new ≡ host.old) }
-    ensures others { H.tells → NoneFailedBy (of_host H.Host host.old host.new) result → OthersAsBefore (of_host H.Host host.old host.new) path.now }
+    ensures others { H.tells → OthersAsBefore (of_host H.Host host.old host.new) path.now }
 {
     let alloc = rt.alloc();
     let fault = line_of(alloc, End::Host)?;
@@ -232,6 +235,9 @@ fn serve_path<H: Host, P: Port<Desk<H::D>>, R: AllocGlobal + Wait>(
 /// Answers each line as it hears it. The one word is the path of an image. The first line names the agents; its answer is `ready N`. Each further
 /// line is a step of one of them, or its end, and is answered by the lines of what was entered then. When no line comes any more, or the port fails, each
 /// agent ends. The status and its line are those of `opfs run`. Where there is no memory to begin, nothing is answered.
+///
+/// However it ends, every other path is as before. The path has its image still where no conversation was held; where one was, also where a call of
+/// the host failed, it has that image or one that the history may have left.
 pub fn opfs_serve<H: Host, P: Port<Desk<H::D>>, R: AllocGlobal + Wait>(
     rt: &R,
     words: &Words,
@@ -241,8 +247,9 @@ pub fn opfs_serve<H: Host, P: Port<Desk<H::D>>, R: AllocGlobal + Wait>(
     ensures ended { IfOk result (λ reply. EndsBy H.D.Disk (of_host H.Host host.old host.new) P.tells P.said P.rest P.faults port.old port.new words.now reply.status reply.line) }
     ensures unanswered { OnErr result ((path : List ℕ) → Asks words.now path → IsUnanswered (of_host H.Host host.old host.new) P.tells P.said P.rest port.old port.new path) }
     ensures all { IfOk result (λ reply. reply.status ≡ Status.Done → P.tells → P.rest port.new ≡ []) }
+    ensures sink_cause { IfOk result (λ reply. reply.status ≡ Status.Sink → Rose (P.faults port.old) (P.faults port.new)) }
     ensures early { IfOk result (λ reply. IsEarly reply.status → host.new ≡ host.old) }
-    ensures others { H.tells → NoneFailedBy (of_host H.Host host.old host.new) result → (path : List ℕ) → (Asks words.now path → ⊥) → AsBefore (of_host H.Host host.old host.new) path }
+    ensures others { H.tells → (path : List ℕ) → (Asks words.now path → ⊥) → AsBefore (of_host H.Host host.old host.new) path }
 {
     let Some(path) = path_of(words) else {
         let reply = unasked(rt.alloc())?;
