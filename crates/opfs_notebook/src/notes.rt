@@ -4,6 +4,7 @@ ghost use Rattle.std.specs.Prelude.{◌≡◌, ◌↔◌, ◌++◌, ◌∷◌, [
 ghost use Rattle.opfs_kv.specs.Records.Maps.{found};
 ghost use Rattle.opfs_kv.specs.Records.Records.{IsKey, IsValue, after_all};
 ghost use Rattle.opfs_kv.specs.Seen.{map_in};
+ghost use Rattle.opfs_kv.specs.declared.tidying.Tidying.TheVariants as when;
 ghost use Rattle.opfs_notebook.specs.Ready.{Goes, HasMade, Holds, HoldsNotes, IsReady};
 
 use crate::files::{discard, new_file, open_file};
@@ -71,15 +72,17 @@ fn read<S: Store, R: Wait>(
     court: &Hall<S>,
     agent: &mut Agent<S>,
     handle: SyncHandle,
+    tidying: Tidying,
 ) -> Result<Kv, KvStop>
     requires holds { Holds S.tells court.now agent.old handle }
     requires few { HasMade agent.old 50000001 }
     ensures goes { Goes agent.old agent.new 262 }
     ensures holds { IfOk result (λ kv. HoldsNotes S.tells court.now agent.new kv) }
+    ensures setting { IfOk result (λ kv. kv.tidying ≡ tidying) }
     ensures not { IfErr result (λ _. IsReady court.now agent.new 0) }
 {
     agent.know_kept();
-    let opened = Kv::open_with(rt, court, agent, handle, Tidying::AtFlush);
+    let opened = Kv::open_with(rt, court, agent, handle, tidying);
     agent.know_kept();
     match opened {
         Ok(kv) => Ok(kv),
@@ -118,10 +121,29 @@ pub fn open<S: Store, R: Wait>(
     requires few { HasMade agent.old 40000000 }
     ensures goes { Goes agent.old agent.new 265 }
     ensures holds { IfOk result (λ kv. HoldsNotes S.tells court.now agent.new kv) }
+    ensures setting { IfOk result (λ kv. kv.tidying ≡ when.AtFlush) }
+    ensures not { IfErr result (λ _. IsReady court.now agent.new 0) }
+{
+    open_with(rt, court, agent, name, Tidying::AtFlush)
+}
+
+/// The same, with when it compacts by itself.
+pub fn open_with<S: Store, R: Wait>(
+    rt: &R,
+    court: &Hall<S>,
+    agent: &mut Agent<S>,
+    name: &str,
+    tidying: Tidying,
+) -> Result<Kv, KvStop>
+    requires ready { IsReady court.now agent.old 0 }
+    requires few { HasMade agent.old 40000000 }
+    ensures goes { Goes agent.old agent.new 265 }
+    ensures holds { IfOk result (λ kv. HoldsNotes S.tells court.now agent.new kv) }
+    ensures setting { IfOk result (λ kv. kv.tidying ≡ tidying) }
     ensures not { IfErr result (λ _. IsReady court.now agent.new 0) }
 {
     match handle_of(rt, court, agent, name) {
-        Ok(handle) => read(rt, court, agent, handle),
+        Ok(handle) => read(rt, court, agent, handle, tidying),
         Err(stop) => Err(KvStop::Agent(stop)),
     }
 }

@@ -1,26 +1,22 @@
 -- A row that is taken from its place, changed, and put back.
-use Rattle.std.proofs.Common.{◌≡◌, ℕ, zero, suc, ◌-◌, ◌<◌, ◌≤◌, List, [], ◌∷◌, length, take, slice_set, Option, Some, None, refl, sym, ap, subst, ◌∙◌, arith}
+use Rattle.std.proofs.Common.{◌≡◌, ℕ, zero, suc, List, [], ◌∷◌, slice_set, Option, Some, None, refl, sym, ap, subst, ◌∙◌, arith}
 use Rattle.std.specs.Prelude.{slice_get}
 use Rattle.std.proofs.lemmas.List.{length-set, set-set, take-set}
 use Rattle.opfs_base.specs.Places.{Place}
 use Rattle.opfs_base.specs.Texts.{Text}
 use Rattle.opfs_machine.specs.declared.own.Own.{Own}
 use Rattle.opfs_machine.specs.declared.own.Own.TheVariants as own
-use Rattle.opfs_machine.specs.declared.state.Agent.{Agent}
 use Rattle.opfs_machine.specs.declared.state.FileRow.{FileRow}
 use Rattle.opfs_machine.specs.declared.state.Row.{Row}
 use Rattle.opfs_machine.specs.declared.state.State.{State}
-use Rattle.opfs_machine.specs.Agents.{agent_of, own_of, with_agent, with_own}
+use Rattle.opfs_machine.specs.Agents.{agent_of, own_of, with_own}
 use Rattle.opfs_machine.specs.Contents.{advanced_row, next_of}
 use Rattle.opfs_machine.specs.Effects.{with_changed}
 use Rattle.opfs_machine.specs.Replies.{given_in}
 use Rattle.opfs_machine.specs.Rows.{Rows, with_file, change_at, changed_row}
-use Rattle.opfs_laws.proofs.Numbers.{agent-set}
-use Rattle.opfs_rulings.specs.Known.{IsAgent, IsOwn}
 use Rattle.opfs_rulings.specs.Spots.{IsThere, IsBehind}
-use Rattle.opfs_plain.specs.Changing.{given_row}
+use Rattle.opfs_rulings.specs.Courses.{given_row}
 use Rattle.opfs_rulings.proofs.Rising.{change_there}
-use Rattle.opfs_rulings.proofs.Totals.{number_of}
 
 set_get : {X : Type 0} (n : ℕ) (old new : X) (xs : List X) → slice_get xs n ≡ Some old → slice_get (slice_set xs n new) n ≡ Some new
 set_get n old new [] is = cc
@@ -45,34 +41,21 @@ module _ (p : Place) (n : ℕ) (s mid : State Text Own) (r held : Row Text) (the
       ∙ ap (λ (t : State Text Own). record t { rows = slice_set t.rows n (p, now) }) taken
       ∙ ap (λ (es : Rows Text). record s { rows = es }) (set-set s.rows n (p, held) (p, now) ∙ ap (λ (x : Row Text). slice_set s.rows n (p, x)) is ∙ sym (change_there p change n r s.rows was there.behind))
 
-module _ (s mid : State Text Own) (k n : ℕ) (held : Own) (agent : IsAgent s k) (taken : mid ≡ with_own s k n held) where
-  abbrev left : Agent Own
-  left = record (agent_of s k) { own = slice_set (agent_of s k).own (n - 1) held }
-
-  left_is : agent_of mid k ≡ left
-  left_is = ap (λ (t : State Text Own). agent_of t k) taken ∙ agent-set s k left (number_of s k agent)
-
-  pub still_agent : IsAgent mid k
-  still_agent = subst (λ (t : State Text Own). IsAgent t k) (sym taken) (record { above = agent.above; within = omega (arith, agent.within, length-set s.agents (k - 1) left) })
-
-  pub still_own : IsOwn (agent_of s k) n → IsOwn (agent_of mid k) n
-  still_own own = subst (λ (a : Agent Own). IsOwn a n) (sym left_is) (record { above = own.above; within = omega (arith, own.within, length-set (agent_of s k).own (n - 1) held) })
-
-  put_back : (now : Own) → with_own mid k n now ≡ with_own s k n now
-  put_back now =
-      ap (λ (a : Agent Own). with_agent mid k (record a { own = slice_set a.own (n - 1) now })) left_is
-      ∙ ap (λ (t : State Text Own). with_agent t k (record (agent_of s k) { own = slice_set (slice_set (agent_of s k).own (n - 1) held) (n - 1) now })) taken
-      ∙ (λ i. record s { agents = set-set s.agents (k - 1) left (record (agent_of s k) { own = set-set (agent_of s k).own (n - 1) held now i }) i })
-
-  pub own_changed : (change : Own → Own) (r now : Own) (new : State Text Own) → own_of (agent_of s k) n ≡ Some r → now ≡ change r → new ≡ with_own mid k n now → new ≡ with_changed s k n change
-  unfolding with_changed
-  own_changed change r now new was is put =
-      put ∙ put_back now ∙ ap (with_own s k n) is
-      ∙ sym (ap (λ (o : Option Own). elim o [ Some x ↦ with_own s k n (change x) | None ↦ s ]) was)
-
 -- Where no row is found, none is changed.
 pub nothing_changed : (s : State Text Own) (p : Place) (change : FileRow Text → FileRow Text) → s.rows ≡ change_at p change s.rows → s ≡ with_file s p change
 nothing_changed s p change is = ap (λ (es : Rows Text). record s { rows = es }) is
+
+-- What is changed alike is the same.
+pub changed_alike : (s : State Text Own) (k n : ℕ) (f g : Own → Own) → ((r : Own) → own_of (agent_of s k) n ≡ Some r → f r ≡ g r) → with_changed s k n f ≡ with_changed s k n g
+unfolding with_changed
+changed_alike s k n f g alike = by (own_of (agent_of s k) n) alike
+  where
+    changed : (Own → Own) → Option Own → State Text Own
+    changed h o = elim o [ Some x ↦ with_own s k n (h x) | None ↦ s ]
+
+    by : (o : Option Own) → ((r : Own) → o ≡ Some r → f r ≡ g r) → changed f o ≡ changed g o
+    by (Some r) same = ap (with_own s k n) (same r refl)
+    by None same = refl
 
 -- An iterator that was given the next name has gone on.
 pub given_advanced : (r : Own) (o : Option Own) (name : Option Text) (names : List Text) → o ≡ Some r → name ≡ next_of (given_in o) names → given_row r name ≡ advanced_row r names

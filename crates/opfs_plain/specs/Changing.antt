@@ -1,21 +1,14 @@
 -- What the plain machine's parts say of what they change.
-use Rattle.std.specs.Prelude.{ℕ, Option, IsTrue}
+use Rattle.std.specs.Prelude.{ℕ, IsTrue}
 use Rattle.opfs_base.specs.Names.{is_valid_name}
 use Rattle.opfs_base.specs.Texts.{Text}
 use Rattle.opfs_hist.specs.declared.op.Op.{Op}
 use Rattle.opfs_hist.specs.declared.op.Op.TheVariants.{GetDirectoryHandle, GetFileHandle, RemoveEntry, Next, Write, Seek, Truncate, Close, Abort, SyncRead, SyncWrite, SyncTruncate, SyncFlush, SyncClose, Discard}
 use Rattle.opfs_machine.specs.declared.own.Own.{Own}
-use Rattle.opfs_machine.specs.declared.own.Own.TheVariants as own
 use Rattle.opfs_machine.specs.declared.state.Agent.{Agent}
 use Rattle.opfs_machine.specs.declared.state.State.{State}
 use Rattle.opfs_machine.specs.Agents.{agent_of}
-use Rattle.opfs_machine.specs.Contents.{and_given}
 use Rattle.opfs_rulings.specs.Known.{IsOwn}
-
--- An iterator that has given one more name, or none.
-abbrev pub given_row : Own → Option Text → Own
-given_row (own.Iterator i) name = own.Iterator (record i { given = and_given i.given name })
-given_row r name = r
 
 -- What a call that is not refused tells of its name and of the agent's row: a child's name is valid, and the row is there.
 unfoldable pub IsFittingFor : Agent Own → Op → Type 0

@@ -10,7 +10,6 @@ ghost use Rattle.opfs_machine.specs.Contents.{in_bytes, advanced_row};
 ghost use Rattle.opfs_machine.specs.Effects.{made, opens_bucket, new_row, moment_of, takes_snapshot, with_changed};
 ghost use Rattle.opfs_machine.specs.Rows.{row_at, without, file_at, children_of};
 ghost use Rattle.opfs_rulings.specs.Known.{IsAgent, IsOwn};
-ghost use Rattle.opfs_plain.specs.Changing.{given_row};
 
 use crate::splicing::no_bytes;
 use opfs_base::{Kind, Locator, Name, SharedBytes, Text};
@@ -33,7 +32,7 @@ pub fn open_bucket(
         return Ok(());
     };
     let root = root_of(alloc, origin, bucket)?;
-    state.make_row(root, Row::Directory)
+    state.make_row(alloc, root, Row::Directory)
 }
 
 /// The row that a call makes.
@@ -71,7 +70,7 @@ pub fn make_child(
 {
     let place = child_place(alloc, dir, name)?;
     let row = new_row(alloc, kind, agent(state, number).moment)?;
-    state.make_row(place, row)
+    state.make_row(alloc, place, row)
 }
 
 /// removeEntry.
@@ -118,16 +117,6 @@ pub fn add_iterator(
     state.add_own(number, Own::Iterator(IteratorRow { dir, given }))
 }
 
-/// An iterator that gives one more name, or the end.
-fn give_row(row: &mut Own, name: Option<Name>) -> Result<(), AllocError>
-    ensures { OnOk result (row.new ≡ given_row row.old name) }
-{
-    if let (Own::Iterator(iterator), Some(name)) = (row, name) {
-        iterator.given.items.push(name)?;
-    }
-    Ok(())
-}
-
 /// A copy of a name that may be there.
 fn copy_name(alloc: Global, name: Option<&Name>) -> Result<Option<Name>, AllocError>
     ensures { IfOk result (λ copy. copy ≡ option_copied name.entry) }
@@ -151,9 +140,8 @@ pub fn advance(
     ensures { OnOk result (state.new ≡ with_changed state.old number row (λ r. advanced_row r (children_of state.old (place_of dir.now)))) }
 {
     let place = place_of(alloc, dir)?;
+    state.follow(alloc, number, row, &place);
     let name = copy_name(alloc, next_given(alloc, state, number, row, &place)?)?;
-    let mut own = state.swap_own(number, row, Own::ClosedStream);
-    give_row(&mut own, name)?;
-    state.swap_own(number, row, own);
+    state.give(alloc, number, row, name)?;
     Ok(())
 }

@@ -14,6 +14,9 @@ use opfs_hall::Told;
 use std::alloc::{AllocError, Global};
 use std::io::{BufReader, Read, Write};
 
+/// As many bytes as a pipe holds, so that a line with a page's digits, and the next, take one read.
+const READ_AHEAD: usize = 65_536;
+
 /// A reader and a writer as a port. It tells no content, and counts its errors. Where hearing or telling failed once it fails
 /// from then on, so that no part of a line is taken for a line.
 #[derive(Drop)]
@@ -36,7 +39,7 @@ impl<R, W> StreamPort<R, W> {
         ensures input { IfOk result (λ port. stream_input R.remaining port ≡ R.remaining reader) }
         ensures output { IfOk result (λ port. stream_output W.contents port ≡ W.contents writer) }
     {
-        match BufReader::new(alloc, reader) {
+        match BufReader::with_capacity(alloc, READ_AHEAD, reader) {
             Ok(reader) => Ok(StreamPort {
                 reader,
                 writer,

@@ -1,10 +1,12 @@
 pub mod Adding
 pub mod Cleared
 pub mod Clearing
+pub mod Courses
 pub mod Fronts
 pub mod Here
 pub mod Rising
 pub mod Roots
+pub mod Swaps
 pub mod Taking
 pub mod Totals
 pub mod Uses

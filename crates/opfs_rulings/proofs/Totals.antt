@@ -1,5 +1,5 @@
 -- What a change of rows does to a tally.
-use Rattle.std.proofs.Common.{◌≡◌, ℕ, zero, suc, ◌+◌, ◌-◌, ◌*◌, ◌<◌, ◌≤◌, Bool, true, false, cond, not, List, [], ◌∷◌, ◌++◌, map, flat_map, filter, length, take, drop, get_or, sum_by, slice_set, Option, Some, None, IfSome, IsSomeAnd, refl, sym, ap, subst, ◌∙◌, arith}
+use Rattle.std.proofs.Common.{◌≡◌, ℕ, zero, suc, ◌+◌, ◌*◌, ◌<◌, ◌≤◌, Bool, true, false, cond, not, List, [], ◌∷◌, ◌++◌, map, flat_map, filter, length, take, drop, get_or, sum_by, slice_set, Option, Some, None, IfSome, IsSomeAnd, refl, sym, ap, subst, ◌∙◌, arith}
 use Rattle.std.specs.Prelude.{slice_get}
 use Rattle.std.specs.List.{AllByRecursion}
 use Rattle.std.specs.FinMap.Entries.{find, by_order}
@@ -11,7 +11,7 @@ use Rattle.std.specs.declared.cmp.Ordering.TheVariants.{Less, Equal, Greater}
 use Rattle.std.proofs.lemmas.List.{drop_all}
 use Rattle.std.proofs.lemmas.List.Sums.{sum_by-cons, sum_by-append, sum_by-take-drop}
 use Rattle.opfs_base.specs.Measures.{mode_charge}
-use Rattle.opfs_base.specs.Places.{Place, place_cmp, is_within}
+use Rattle.opfs_base.specs.Places.{Place, is_within}
 use Rattle.opfs_base.specs.Texts.{Text, same_text}
 use Rattle.opfs_base.specs.Units.{origin_of}
 use Rattle.opfs_laws.proofs.Numbers.{IsNumber}
@@ -30,7 +30,7 @@ use Rattle.opfs_rulings.specs.declared.tally.Tally.{Tally}
 use Rattle.opfs_rulings.specs.declared.tally.Weight.{Weight}
 use Rattle.opfs_rulings.proofs.Here.{drop_here}
 use Rattle.opfs_rulings.proofs.Rising.{rising_filter, rising_set, rising_insert}
-use Rattle.opfs_rulings.specs.Known.{IsAgent, IsOwn}
+use Rattle.opfs_rulings.specs.Known.{IsAgent}
 use Rattle.opfs_rulings.specs.Spots.{AreRising, IsMissing}
 use Rattle.opfs_rulings.specs.Tallies.{Count, Pool, Charge, Usage, row_weight, own_weight, rest_of, total, given, IsTallyOf, IsRaised, IsRowWeight, IsOwnWeight, own_origin, AreKept}
 

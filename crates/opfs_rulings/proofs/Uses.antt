@@ -1,5 +1,5 @@
 -- A list that is changed item by item.
-use Rattle.std.proofs.Common.{◌≡◌, ℕ, zero, suc, ◌<◌, List, [], ◌∷◌, ◌++◌, map, length, take, drop, get_or, slice_set, refl, sym, ap, subst, ◌∙◌, arith}
+use Rattle.std.proofs.Common.{◌≡◌, ℕ, zero, suc, ◌<◌, List, [], ◌∷◌, ◌++◌, map, length, take, drop, get_or, slice_set, ap, subst, ◌∙◌, arith}
 
 module _ {X : Type 0} (f : X → X) (d x : X) where
   raised : (i : ℕ) (old : List X) → i < length (map f (take i old) ++ drop i old) → x ≡ f (get_or (map f (take i old) ++ drop i old) i d)

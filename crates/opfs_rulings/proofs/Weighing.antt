@@ -1,11 +1,10 @@
 -- What an own row weighs.
-use Rattle.std.proofs.Common.{◌≡◌, ℕ, zero, Bool, true, false, if◌then◌else◌, [], refl, sym, ap, ◌∙◌}
+use Rattle.std.proofs.Common.{◌≡◌, ℕ, zero, Bool, true, false, if◌then◌else◌, [], refl, ap}
 use Rattle.opfs_base.specs.Texts.{Text, same_text}
 use Rattle.opfs_machine.specs.declared.own.Own.{Own}
 use Rattle.opfs_machine.specs.declared.own.Own.TheVariants as own
-use Rattle.opfs_machine.specs.Contents.{in_bytes, outline_of}
+use Rattle.opfs_machine.specs.Contents.{outline_of}
 use Rattle.opfs_machine.specs.Sums.{reserve_of, row_reserve}
-use Rattle.opfs_rulings.specs.declared.tally.Weight.{Weight}
 use Rattle.opfs_rulings.specs.Tallies.{Count, Pool, Charge, Usage, given, own_weight, own_origin, stream_part}
 
 module _ (other : Text) (u : ℕ) (is : u ≡ 0) where

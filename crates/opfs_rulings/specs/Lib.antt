@@ -1,3 +1,4 @@
+pub mod Courses
 pub mod Known
 pub mod Sets
 pub mod Spots

@@ -1,4 +1,4 @@
-//! The state that calls change, whose rows are kept in order and counted.
+//! The state that calls change, whose rows are kept in order and counted, and what one iterator gives next.
 
 ghost use Rattle.std.specs.Prelude.{◌≡◌, ◌+◌, ◌++◌, ◌∷◌, [], None, Some, true, false, IfOk, OnOk, IfSome, IfNone, IsSomeAnd, flat_map, slice_get, slice_set};
 ghost use Rattle.std.specs.Ordering.{nat_cmp};
@@ -6,32 +6,40 @@ ghost use Rattle.std.specs.Cmp.Lexicographic.{slice_cmp};
 ghost use Rattle.std.specs.Option.{option_copied};
 ghost use Rattle.opfs_base.specs.Texts.{Text};
 ghost use Rattle.opfs_machine.specs.Agents.{agent_of, own_of, with_agent, with_own, adds_own, counted};
-ghost use Rattle.opfs_machine.specs.Contents.{in_bytes};
-ghost use Rattle.opfs_machine.specs.Effects.{made, with_waiting};
+ghost use Rattle.opfs_machine.specs.Contents.{in_bytes, next_of};
+ghost use Rattle.opfs_machine.specs.Effects.{made, with_changed, with_waiting};
 ghost use Rattle.opfs_machine.specs.Ordered.{insert_by};
-ghost use Rattle.opfs_machine.specs.Rows.{row_at, without, change_at};
+ghost use Rattle.opfs_machine.specs.Replies.{given_in};
+ghost use Rattle.opfs_machine.specs.Rows.{row_at, without, change_at, children_of};
 ghost use Rattle.opfs_machine.specs.Sums.{usage, pool, charge};
 ghost use Rattle.opfs_machine.specs.declared.state.FileRow.{FileRow};
 ghost use Rattle.opfs_rulings.specs.Known.{IsAgent, IsOwn};
 ghost use Rattle.opfs_rulings.specs.Spots.{IsThere};
 ghost use Rattle.opfs_rulings.specs.Tallies.{given, IsRaised};
+ghost use Rattle.opfs_rulings.specs.Courses.{IsCourse, given_row};
 
+use crate::course::{Course, course_of, given_by, is_of, of_other, with_row, without_row};
 use crate::parts::{
     add_own, count, end, exchange_own, exchange_row, insert_mode, insert_row, lowered_in,
     remove_in, row_in, set_moment, set_waiting, spot_in,
 };
 use crate::tally::{Tally, Weight, lowered, no_uses, raised, use_of};
 use crate::weights::{own_origin, weigh_own, weigh_row};
-use opfs_base::{Bytes, Key, Path, SharedBytes, mode_charge, origin_of, plus, times};
+use opfs_base::{Bytes, Key, Name, Path, SharedBytes, mode_charge, origin_of, plus, times};
 use opfs_machine::{Own, Place, Posted, Row, State};
 use std::alloc::{AllocError, Global};
 use std::marker::Model;
 
-/// A state whose rows stand in the order of their places, and what they come to, unless a count became too large.
+/// An iterator is followed once it has given so many names.
+const MANY: usize = 64;
+
+/// A state whose rows stand in the order of their places; what they come to, unless a count became too large; and the course of the
+/// iterator that is followed.
 #[derive(Drop)]
 pub struct Board {
     state: State<SharedBytes, Own>,
     tally: Option<Tally>,
+    course: Option<Course>,
 }
 
 impl Model for Board {
@@ -43,9 +51,9 @@ impl Model for Board {
 
     ghost view = { λ board. board.state };
 
-    ghost use Rattle.opfs_rulings.specs.Tallies.{AreKept};
+    ghost use Rattle.opfs_rulings.specs.Courses.{IsBoard};
 
-    ghost invariant = { λ board. AreKept board.state.rows board.state.agents board.state.persistent board.tally };
+    ghost invariant = { λ board. IsBoard board.state board.tally board.course };
 }
 
 impl Board {
@@ -62,7 +70,11 @@ impl Board {
             charge: 0,
             uses,
         });
-        Ok(Board { state, tally })
+        Ok(Board {
+            state,
+            tally,
+            course: None,
+        })
     }
 
     /// What is held.
@@ -127,8 +139,40 @@ impl Board {
         }
     }
 
+    /// The name that an iterator over a directory gives next, where it is followed.
+    pub fn next_followed(&self, number: u32, row: u32, dir: &Place) -> Option<Option<&Name>>
+        ensures { IfSome result (λ name. option_copied name ≡ next_of (given_in (own_of (agent_of self.now number) row)) (children_of self.now dir.now)) }
+    {
+        let Some(course) = &self.course else {
+            return None;
+        };
+        if !is_of(course, number, row, dir) {
+            return None;
+        }
+        match course.left.first() {
+            Some(name) => Some(Some(name)),
+            None => Some(None),
+        }
+    }
+
+    /// Follows an iterator over a directory, where it has given many names.
+    pub fn follow(&mut self, alloc: Global, number: u32, row: u32, dir: &Place)
+        requires agent { IsAgent self.old number }
+        requires row { IsOwn (agent_of self.old number) row }
+        ensures { self.new ≡ self.old }
+    {
+        if self.next_followed(number, row, dir).is_none() {
+            self.course = course_in(alloc, &self.state, number, row, dir);
+        }
+    }
+
     /// Makes a row, where none is there.
-    pub fn make_row(&mut self, place: Place, row: Row<SharedBytes>) -> Result<(), AllocError>
+    pub fn make_row(
+        &mut self,
+        alloc: Global,
+        place: Place,
+        row: Row<SharedBytes>,
+    ) -> Result<(), AllocError>
         ensures { OnOk result (self.new ≡ made self.old place row) }
     {
         let at = match spot_in(&self.state, &place.0, &place.1) {
@@ -136,9 +180,12 @@ impl Board {
             Err(at) => at,
         };
         let old = self.tally.take();
+        let followed = self.course.take();
         let tally = raised(old, origin_of(place.0.as_bytes()), weigh_row(&place, &row));
+        let course = with_row(alloc, followed, &place);
         insert_row(&mut self.state, at, place, row)?;
         self.tally = tally;
+        self.course = course;
         Ok(())
     }
 
@@ -147,9 +194,12 @@ impl Board {
         ensures { self.new ≡ without self.old place.now }
     {
         let old = self.tally.take();
+        let followed = self.course.take();
         let tally = lowered_in(old, &self.state, place);
+        let course = without_row(followed, place);
         remove_in(&mut self.state, place);
         self.tally = tally;
+        self.course = course;
     }
 
     /// Puts another row in the place of one, and gives that.
@@ -189,10 +239,34 @@ impl Board {
         ensures old { own_of (agent_of self.old number) row ≡ Some result }
     {
         let old = self.tally.take();
+        let followed = self.course.take();
         let tally = raised(old, own_origin(&own), Some(weigh_own(&own)));
+        let course = of_other(followed, number, row);
         let gone = exchange_own(&mut self.state, number, row, own);
         self.tally = lowered(tally, own_origin(&gone), Some(weigh_own(&gone)));
+        self.course = course;
         gone
+    }
+
+    /// Puts a name behind those that an iterator has given, if there is one.
+    pub fn give(
+        &mut self,
+        alloc: Global,
+        number: u32,
+        row: u32,
+        name: Option<Name>,
+    ) -> Result<(), AllocError>
+        requires agent { IsAgent self.old number }
+        requires row { IsOwn (agent_of self.old number) row }
+        ensures { OnOk result (self.new ≡ with_changed self.old number row (λ r. given_row r name)) }
+    {
+        let followed = self.course.take();
+        let course = given_by(alloc, followed, number, row, &name);
+        let mut own = self.swap_own(number, row, Own::ClosedStream);
+        give_row(&mut own, name)?;
+        self.swap_own(number, row, own);
+        self.course = course;
+        Ok(())
     }
 
     /// Sets an agent's clock, in milliseconds.
@@ -200,6 +274,7 @@ impl Board {
         requires { IsAgent self.old number }
         ensures { self.new ≡ with_agent self.old number (record (agent_of self.old number) { moment = moment }) }
     {
+        self.course = None;
         set_moment(&mut self.state, number, moment);
     }
 
@@ -208,6 +283,7 @@ impl Board {
         requires { IsAgent self.old number }
         ensures { self.new ≡ with_waiting self.old number tag }
     {
+        self.course = None;
         set_waiting(&mut self.state, number, tag);
     }
 
@@ -216,6 +292,7 @@ impl Board {
         requires { IsAgent self.old number }
         ensures { self.new ≡ with_agent self.old number (record (agent_of self.old number) { live = false; waits = None }) }
     {
+        self.course = None;
         end(&mut self.state, number);
     }
 
@@ -250,8 +327,10 @@ impl Board {
     {
         let charge = mode_charge(&unit)?;
         let old = self.tally.take();
+        let followed = self.course.take();
         let is_new = insert_mode(&mut self.state, unit)?;
         self.tally = with_mode(old, charge, is_new);
+        self.course = followed;
         Ok(())
     }
 }
@@ -270,4 +349,40 @@ fn with_mode(tally: Option<Tally>, charge: u64, is_new: bool) -> Option<Tally>
         usage: 0,
     };
     raised(tally, &[], Some(weight))
+}
+
+/// An iterator that gives one more name, or the end.
+fn give_row(row: &mut Own, name: Option<Name>) -> Result<(), AllocError>
+    ensures { OnOk result (row.new ≡ given_row row.old name) }
+{
+    if let (Own::Iterator(iterator), Some(name)) = (row, name) {
+        iterator.given.items.push(name)?;
+    }
+    Ok(())
+}
+
+/// The course of an iterator that has given many names.
+fn course_in(
+    alloc: Global,
+    state: &State<SharedBytes, Own>,
+    number: u32,
+    row: u32,
+    dir: &Place,
+) -> Option<Course>
+    requires agent { IsAgent state.now number }
+    requires row { IsOwn (agent_of state.now number) row }
+    ensures { IfSome result (IsCourse state.now) }
+{
+    let agent = &state.agents.items[number as usize - 1];
+    let Own::Iterator(iterator) = &agent.own.items[row as usize - 1] else {
+        return None;
+    };
+    let given = iterator.given.items.as_slice();
+    if given.len() < MANY {
+        return None;
+    }
+    match course_of(alloc, state.rows.items.as_slice(), number, row, dir, given) {
+        Ok(course) => Some(course),
+        Err(_) => None,
+    }
 }

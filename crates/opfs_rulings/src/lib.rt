@@ -6,6 +6,7 @@
 pub mod agents;
 pub mod board;
 mod bucket_rulings;
+mod course;
 pub mod disk;
 pub mod handle_rulings;
 pub mod judging;

@@ -273,6 +273,9 @@ pub fn next_given<'a>(
     requires { IsAgent state.now number }
     ensures { IfOk result (λ name. option_copied name ≡ next_of (given_in (own_of (agent_of state.now number) row)) (children_of state.now place.now)) }
 {
+    if let Some(name) = state.next_followed(number, row, place) {
+        return Ok(name);
+    }
     let given = given_names(state, number, row);
     let name = next_name(alloc, state.held().rows.items.as_slice(), place, given)?;
     Ok(name)

@@ -18,14 +18,14 @@ use Rattle.opfs_script.specs.declared.step.Step.TheVariants as step
 use Rattle.opfs_script_run.specs.Runs.Running.{entries_of}
 use Rattle.opfs_serving.specs.Lines.{Awaits}
 use Rattle.opfs_serving.specs.Seats.{HasBegunToWait, IsAt, SeatSeen, open_step}
-use Rattle.opfs_serving.specs.Served.{AreNotDue, AreWaiting, IsQuiet, IsServing, IsStanding, Words, opens}
+use Rattle.opfs_serving.specs.Served.{AreNotDue, AreWaiting, IsNotDue, IsQuiet, IsServing, IsStanding, Words, opens}
 use Rattle.opfs_serving.specs.declared.progress.Progress.{Progress}
 use Rattle.opfs_serving.specs.declared.progress.State.TheVariants as state
 use Rattle.opfs_store.specs.Acts.Acting.{awaited}
 use Rattle.opfs_store.specs.declared.acts.acted.AwaitState.TheVariants as await
 use Rattle.opfs_turns.specs.Agents.{AgentSeen, is_wait, next_number}
 use Rattle.opfs_turns.specs.Calls.{HasLooked}
-use Rattle.opfs_serving.proofs.Starting.{get-within}
+use Rattle.opfs_serving.proofs.Seating.{get-within}
 
 -- ---- an agent's next number, as more is entered
 
@@ -113,7 +113,7 @@ module _ {T O P : Type 0} (w : Words T O P) (of : HallSeen O) (agents : List Ask
     waits b here (Some other) awaits =
         let m : IsAt w.reads of (suc i) a.asked x b = v.seated.midway on i x b a.asked seat here script in
         let same : other ≡ tag = await-same (last-same m.done a.done (step.Await other) (step.Await tag) (sym (m.steps ∙ ap (λ o. m.done ++ open_step o) awaits) ∙ a.steps)) in
-        subst (NotDue (suc i)) same (quiet.not_due i x b other seat here awaits)
+        subst (NotDue (suc i)) same (quiet.not_due i x seat b other here awaits)
 
     by-agent : (o : Option (AgentSeen O)) → x.agent ≡ o → NotDue (suc i) tag
     by-agent None gone = absurd (false≢true (sym a.stays ∙ (u.all_told on).over i x seat gone))
@@ -132,25 +132,27 @@ module _ {T O P : Type 0} (w : Words T O P) (of : HallSeen O) (agents : List Ask
 
 -- ---- seat by seat
 
--- What agents of the first seats await is not due after these entries.
+-- No agent of the first seats awaits what is due after these entries.
 abbrev pub AreNotDueBelow : {O : Type 0} → Opening → List Entry → List (SeatSeen O) → ℕ → Type 0
-AreNotDueBelow {O} o es seats k =
-    (i : ℕ) (x : SeatSeen O) (a : AgentSeen O) (tag : Text) → i < k → slice_get seats i ≡ Some x → x.agent ≡ Some a → x.awaits ≡ Some tag → awaited (state_after o es) (suc i) tag ≡ await.Neither
+AreNotDueBelow {O} o es seats k = (i : ℕ) (x : SeatSeen O) → i < k → slice_get seats i ≡ Some x → IsNotDue o es (suc i) x
 
 module _ {O : Type 0} (o : Opening) (es : List Entry) (seats : List (SeatSeen O)) where
-  pub not-due-more : (k : ℕ) (x : SeatSeen O) → slice_get seats k ≡ Some x → AreNotDueBelow o es seats k
-      → ((a : AgentSeen O) (tag : Text) → x.agent ≡ Some a → x.awaits ≡ Some tag → awaited (state_after o es) (k + 1) tag ≡ await.Neither) → AreNotDueBelow o es seats (k + 1)
-  not-due-more k x there below one i y a tag less at here awaits = by (cases_eq i k)
+  pub not-due-more : (k : ℕ) (x : SeatSeen O) → slice_get seats k ≡ Some x → AreNotDueBelow o es seats k → IsNotDue o es (k + 1) x → AreNotDueBelow o es seats (k + 1)
+  not-due-more k x there below one i y less at = by (cases_eq i k)
     where
-      by : (i ≡ k) ⊎ (i ≢ k) → awaited (state_after o es) (suc i) tag ≡ await.Neither
+      by : (i ≡ k) ⊎ (i ≢ k) → IsNotDue o es (suc i) y
       by (inl same) =
           let number : k + 1 ≡ suc i = omega (arith, same) in
-          let seat : y ≡ x = some-same (sym at ∙ ap (slice_get seats) same ∙ there) in
-          subst (λ n. awaited (state_after o es) n tag ≡ await.Neither) number (one a tag (ap (λ (z : SeatSeen O). z.agent) (sym seat) ∙ here) (ap (λ (z : SeatSeen O). z.awaits) (sym seat) ∙ awaits))
-      by (inr other) = below i y a tag (omega (arith, less, other)) at here awaits
+          let seat : x ≡ y = some-same (sym there ∙ ap (slice_get seats) (sym same) ∙ at) in
+          subst (IsNotDue o es (suc i)) seat (subst (λ n. IsNotDue o es n x) number one)
+      by (inr other) = below i y (omega (arith, less, other)) at
 
   pub not-due-all : (k : ℕ) → length seats ≤ k → AreNotDueBelow o es seats k → AreNotDue o es seats
-  not-due-all k long below i x a tag at here awaits = let within = slice_get_within seats i x at in below i x a tag (omega (arith, long, within)) at here awaits
+  not-due-all k long below i x at = let within = slice_get_within seats i x at in below i x (omega (arith, long, within)) at
+
+  -- Where no agent awaits what is due, that of a seat does not.
+  pub not-due-at : (i k : ℕ) (x : SeatSeen O) → slice_get seats i ≡ Some x → k ≡ suc i → AreNotDue o es seats → IsNotDue o es k x
+  not-due-at i k x at number none = subst (λ n. IsNotDue o es n x) (sym number) (none i x at)
 
 -- Each of the first seats has begun to wait, where one more has.
 pub begun-more : {O : Type 0} (seats next : List (SeatSeen O)) (k : ℕ) → ((i : ℕ) (x : SeatSeen O) → i < k → slice_get seats i ≡ Some x → HasBegunToWait x)

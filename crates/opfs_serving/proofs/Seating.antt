@@ -71,12 +71,12 @@ module _ {X : Type 0} where
       by (inl same) = inl (same, get-set xs i x y z there (ap (slice_get (slice_set xs i y)) (sym same) ∙ is))
       by (inr other) = inr (other, sym (get-set_other xs i k y other) ∙ is)
 
-  get-within : (xs : List X) (i : ℕ) → i < length xs → (x : X) × (slice_get xs i ≡ Some x)
+  pub get-within : (xs : List X) (i : ℕ) → i < length xs → (x : X) × (slice_get xs i ≡ Some x)
   get-within [] i less = absurd (omega (arith, less))
   get-within (x ∷ xs) zero less = (x, refl)
   get-within (x ∷ xs) (suc i) less = get-within xs i (omega (arith, less))
 
-  at-place : (P : X → Type 0) (xs : List X) (i : ℕ) (x : X) → All P xs → slice_get xs i ≡ Some x → P x
+  pub at-place : (P : X → Type 0) (xs : List X) (i : ℕ) (x : X) → All P xs → slice_get xs i ≡ Some x → P x
   at-place P xs i x all is = subst P (get_or_from_slice_get xs i x x is) (All-get_or P xs i x (slice_get_within xs i x is) all)
 
 -- Less is said where fewer are whole.

@@ -2,8 +2,7 @@
 use Rattle.std.proofs.Common.{◌≡◌, ℕ, zero, suc, ◌<◌, ◌≤◌, true, false, Option, Some, None, List, [], ◌∷◌, ◌++◌, length, map, refl, sym, ap, ◌∙◌, subst, arith}
 use Rattle.std.specs.Prelude.{All, slice_get}
 use Rattle.std.proofs.lemmas.Bool.{false≢true}
-use Rattle.std.proofs.lemmas.List.Elements.{All-get_or}
-use Rattle.std.proofs.lemmas.Option.{get_or_from_slice_get, slice_get_within}
+use Rattle.std.proofs.lemmas.Option.{slice_get_within}
 use lib.ListN.{length-map}
 use Rattle.opfs_hall.specs.History.{IsPrefix}
 use Rattle.opfs_hall.specs.Seen.{HallSeen, PassSeen, WatchSeen, at_rest, new_pass}
@@ -28,7 +27,7 @@ use Rattle.opfs_serving.specs.Served.{AreSeatsOf, AreTold, HasNoScripts, IsSilen
 use Rattle.opfs_serving.specs.declared.progress.Progress.{Progress}
 use Rattle.opfs_serving.specs.declared.progress.State.TheVariants as state
 use Rattle.opfs_serving.proofs.Midway.{midway-ends}
-use Rattle.opfs_serving.proofs.Seating.{seated-begins}
+use Rattle.opfs_serving.proofs.Seating.{at-place, get-within, seated-begins}
 use Rattle.opfs_serving.proofs.Placing.{new_seat}
 use Rattle.opfs_serving.proofs.Talking.{talk-begins}
 
@@ -38,18 +37,10 @@ some-same e = cc
 some-none : {X : Type 0} (o : Option X) (x : X) → o ≡ Some x → o ≡ None → ⊥
 some-none o x some none = cc
 
-pub get-within : {X : Type 0} (xs : List X) (i : ℕ) → i < length xs → (x : X) × (slice_get xs i ≡ Some x)
-get-within [] i less = absurd (omega (arith, less))
-get-within (x ∷ xs) zero less = (x, refl)
-get-within (x ∷ xs) (suc i) less = get-within xs i (omega (arith, less))
-
 get-map : {A B : Type 0} (f : A → B) (xs : List A) (i : ℕ) (x : A) → slice_get xs i ≡ Some x → slice_get (map f xs) i ≡ Some (f x)
 get-map f [] i x is = absurd cc
 get-map f (y ∷ ys) zero x is = ap (λ z. Some (f z)) (some-same is)
 get-map f (y ∷ ys) (suc i) x is = get-map f ys i x is
-
-at-place : {X : Type 0} (P : X → Type 0) (xs : List X) (i : ℕ) (x : X) → All P xs → slice_get xs i ≡ Some x → P x
-at-place P xs i x all is = subst P (get_or_from_slice_get xs i x x is) (All-get_or P xs i x (slice_get_within xs i x is) all)
 
 -- There are as many agents as scripts.
 pub people-of : (o : Opening) (scripts : List Asked) → AreAgentsOf o scripts → length o.agents ≡ length scripts

@@ -92,10 +92,13 @@ pub record Serves {T O P : Type 0} (w : Words T O P) (of : HallSeen O) (now : P)
   pub begun : P
   pub is : IsServing w of agents begun now watch seats p
 
--- No agent of a seat awaits what is due after these entries: a tag that was posted, or that nobody is left to post.
+-- The agent of a seat, which has this number, awaits nothing that is due after these entries: a tag that was posted, or that nobody is left to post.
+abbrev pub IsNotDue : {O : Type 0} → Opening → List Entry → ℕ → SeatSeen O → Type 0
+IsNotDue {O} o es k x = (a : AgentSeen O) (tag : Text) → x.agent ≡ Some a → x.awaits ≡ Some tag → awaited (state_after o es) k tag ≡ await.Neither
+
+-- That of no seat does.
 abbrev pub AreNotDue : {O : Type 0} → Opening → List Entry → List (SeatSeen O) → Type 0
-AreNotDue {O} o es seats =
-    (i : ℕ) (x : SeatSeen O) (a : AgentSeen O) (tag : Text) → slice_get seats i ≡ Some x → x.agent ≡ Some a → x.awaits ≡ Some tag → awaited (state_after o es) (suc i) tag ≡ await.Neither
+AreNotDue {O} o es seats = (i : ℕ) (x : SeatSeen O) → slice_get seats i ≡ Some x → IsNotDue o es (suc i) x
 
 -- Each agent of a seat waits for what it awaits.
 abbrev pub AreWaiting : {O : Type 0} → List (SeatSeen O) → Type 0

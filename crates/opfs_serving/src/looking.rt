@@ -1,13 +1,10 @@
 //! Whether what agents await is due.
 
-ghost use Rattle.std.specs.Prelude.{◌≡◌, ◌≤◌, false, length, Some};
-ghost use Rattle.opfs_base.specs.Texts.{Text};
+ghost use Rattle.std.specs.Prelude.{◌≡◌, ◌≤◌, false, length};
 ghost use Rattle.opfs_machine.specs.Histories.{state_after};
-ghost use Rattle.opfs_serving.specs.Served.{AreNotDue};
+ghost use Rattle.opfs_serving.specs.Served.{AreNotDue, IsNotDue};
 ghost use Rattle.opfs_serving.specs.Turns.{HasTurned};
-ghost use Rattle.opfs_store.specs.Acts.Acting.{awaited};
 ghost use Rattle.opfs_store.specs.Acts.Asking.{IsThere};
-ghost use Rattle.opfs_turns.specs.Agents.{AgentSeen};
 
 use crate::seat::Seat;
 use opfs_hall::{Hall, Watch};
@@ -17,7 +14,8 @@ use std::sync::Wait;
 // Whether the agent of a seat, which has this number, awaits what is due.
 fn is_due<S: Store>(store: &S, seat: &Seat<S>, agent: u32) -> bool
     requires { IsThere (state_after (S.opened (S.opening store.now)) (S.entries store.now)) agent }
-    ensures { result ≡ false → (a : AgentSeen S.Opening) (tag : Text) → seat.now.agent ≡ Some a → seat.now.awaits ≡ Some tag → awaited (state_after (S.opened (S.opening store.now)) (S.entries store.now)) agent tag ≡ AwaitState.Neither }
+    ensures none { result ≡ false → IsNotDue (S.opened (S.opening store.now)) (S.entries store.now) agent seat.now }
+    ensures due { IsNotDue (S.opened (S.opening store.now)) (S.entries store.now) agent seat.now → result ≡ false }
 {
     if seat.agent.is_none() {
         return false;
@@ -32,7 +30,8 @@ fn is_due<S: Store>(store: &S, seat: &Seat<S>, agent: u32) -> bool
 fn is_any_due<S: Store>(store: &S, seats: &[Seat<S>]) -> bool
     requires few { length seats.now ≤ 64 }
     requires there { length seats.now ≤ length (state_after (S.opened (S.opening store.now)) (S.entries store.now)).agents }
-    ensures { result ≡ false → AreNotDue (S.opened (S.opening store.now)) (S.entries store.now) seats.now }
+    ensures none { result ≡ false → AreNotDue (S.opened (S.opening store.now)) (S.entries store.now) seats.now }
+    ensures due { AreNotDue (S.opened (S.opening store.now)) (S.entries store.now) seats.now → result ≡ false }
 {
     for place in 0..seats.len() {
         if is_due(store, &seats[place], place as u32 + 1) {
@@ -55,6 +54,7 @@ pub fn look_turn<S: Store, R: Wait>(
     requires all { length seats.now ≤ length (S.opened hall.now.opening).agents }
     ensures turned { HasTurned S.opening S.entries S.keeps S.goes_on hall.now watch result.0 }
     ensures quiet { result.1 ≡ false → AreNotDue (S.opened (S.opening result.0.last)) (S.entries result.0.last) seats.now }
+    ensures due { AreNotDue (S.opened (S.opening result.0.last)) (S.entries result.0.last) seats.now → result.1 ≡ false }
 {
     let turn = watch.enter(rt, hall);
     turn.value.know_kept();

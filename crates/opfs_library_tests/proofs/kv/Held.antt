@@ -35,21 +35,29 @@ ops-few [] = omega arith
 ops-few (o ∷ ops) = let one = op-few o in let more = ops-few ops in omega (arith, one, more, sum_by-cons entries_of o ops)
 
 module _ {O : Type 0} (tells : Type 0) (hall : HallSeen O) (a b : AgentSeen O) (kept : IsAgent tells a) (later : IsAgent tells b) where
+  -- ---- one call of an agent on its rows
+
+  ready-one : (n : ℕ) → GoesOn a b 1 → LeavesRest tells a b n → IsReady hall a n → IsReady hall b n
+  ready-one n goes left = ready-on tells hall a b kept later n 1 goes left
+
+  pub goes-one : (count n : ℕ) → 1 ≤ count → GoesOn a b 1 → LeavesRest tells a b n → Goes a b count
+  goes-one count n less goes left = goes-on tells hall a b kept later n 1 count less goes left
+
   -- ---- a call on an access handle
 
   pub still-holds : (old new : HandleSeen) (May : Text → Type 0) → IsStill tells a b old new May → Holds tells hall a old → Holds tells hall b new
   still-holds old new May s h = record {
-    ready = subst (IsReady hall b) (sym s.row) (ready-on tells hall a b kept later old.row 1 s.goes s.others h.ready);
+    ready = subst (IsReady hall b) (sym s.row) (ready-one old.row s.goes s.others h.ready);
     has = s.has;
     writes = s.mode_is ∙ h.writes;
   }
 
   pub still-more : (old new : HandleSeen) (May : Text → Type 0) → IsStill tells a b old new May → Goes a b 1
-  still-more old new May s = goes-on tells hall a b kept later old.row 1 1 (omega arith) s.goes s.others
+  still-more old new May s = goes-one 1 old.row (omega arith) s.goes s.others
 
   -- Its close.
   pub shut-ready : (row : ℕ) (old : HandleSeen) → (row ≡ old.row) × HasClosedHandle b row → GoesOn a b 1 → LeavesRest tells a b old.row → Holds tells hall a old → IsReady hall b 0
-  shut-ready row old closed goes left h = ready-closed tells hall a b kept later old.row row closed.0 closed.1 (ready-on tells hall a b kept later old.row 1 goes left h.ready)
+  shut-ready row old closed goes left h = ready-closed tells hall a b kept later old.row row closed.0 closed.1 (ready-one old.row goes left h.ready)
 
   -- ---- a list of commands
 

@@ -1,63 +1,16 @@
 //! A key-value file as a program uses it.
 
-ghost use Rattle.std.specs.Prelude.{IfErr, IfOk};
 ghost use Rattle.opfs_kv.specs.Records.Records.{IsKey, IsValue};
-ghost use Rattle.opfs_notebook.specs.Ready.{Goes, HasMade, Holds, HoldsNotes, IsReady};
+ghost use Rattle.opfs_notebook.specs.Ready.{Goes, HasMade, HoldsNotes};
 
 use opfs_agent::Agent;
-use opfs_agent::handle_calls::SyncHandle;
 use opfs_base::Bytes;
 use opfs_hall::Hall;
 use opfs_kv::{Kv, KvStop};
-use opfs_notebook::files::discard;
-use opfs_notebook::notes::{handle_of, note, store};
+use opfs_notebook::notes::{note, store};
 use opfs_store::Store;
 use opfs_turns::Stop;
 use std::sync::Wait;
-
-/// Opens a file of records through an access handle. Where it does not open, the handle is discarded.
-pub fn read_kv<S: Store, R: Wait>(
-    rt: &R,
-    court: &Hall<S>,
-    agent: &mut Agent<S>,
-    handle: SyncHandle,
-) -> Result<Kv, KvStop>
-    requires holds { Holds S.tells court.now agent.old handle }
-    requires few { HasMade agent.old 50000001 }
-    ensures goes { Goes agent.old agent.new 262 }
-    ensures holds { IfOk result (λ kv. HoldsNotes S.tells court.now agent.new kv) }
-    ensures not { IfErr result (λ _. IsReady court.now agent.new 0) }
-{
-    agent.know_kept();
-    let opened = Kv::open(rt, court, agent, handle);
-    agent.know_kept();
-    match opened {
-        Ok(kv) => Ok(kv),
-        Err((handle, stop)) => {
-            discard(rt, court, agent, handle);
-            Err(stop)
-        }
-    }
-}
-
-/// The same of the file of a name of the agent's default bucket, which is made where it is missing.
-pub fn open_kv<S: Store, R: Wait>(
-    rt: &R,
-    court: &Hall<S>,
-    agent: &mut Agent<S>,
-    name: &str,
-) -> Result<Kv, KvStop>
-    requires ready { IsReady court.now agent.old 0 }
-    requires few { HasMade agent.old 40000000 }
-    ensures goes { Goes agent.old agent.new 265 }
-    ensures holds { IfOk result (λ kv. HoldsNotes S.tells court.now agent.new kv) }
-    ensures not { IfErr result (λ _. IsReady court.now agent.new 0) }
-{
-    match handle_of(rt, court, agent, name) {
-        Ok(handle) => read_kv(rt, court, agent, handle),
-        Err(stop) => Err(KvStop::Agent(stop)),
-    }
-}
 
 /// Gives a key a value.
 pub fn put<S: Store, R: Wait>(

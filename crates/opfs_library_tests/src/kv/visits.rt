@@ -10,13 +10,13 @@ ghost use Rattle.opfs_store.specs.Acts.Asking.{IsSmallData};
 
 use crate::kv::batches::use_batch;
 use crate::kv::example::{Session, begin, desk_over, end};
-use crate::kv::kvs::{keys_on, open_kv, put_and_get, put_tidily, take_out};
+use crate::kv::kvs::{keys_on, put_and_get, put_tidily, take_out};
 use opfs_agent::Agent;
 use opfs_agent::handle_calls::SyncHandle;
 use opfs_base::{Bytes, Data};
 use opfs_desk::Desk;
 use opfs_hall::{Hall, Pass};
-use opfs_kv::{Batch, Kv, KvOp, KvReplies, KvStop, kv_run};
+use opfs_kv::{Batch, Kv, KvOp, KvReplies, KvStop, Tidying, kv_run};
 use opfs_notebook::agents::origin_of;
 use opfs_notebook::files::discard;
 use opfs_notebook::notes::{self, give_up, handle_of};
@@ -161,7 +161,7 @@ fn run_file<S: Store, R: Wait>(
     requires many { length ops.now ≤ 100000 }
     ensures { IsIdle court.now agent.new 1 500000 }
 {
-    let mut kv = open_kv(rt, court, agent, "store")?;
+    let mut kv = notes::open_with(rt, court, agent, "store", Tidying::Never)?;
     let replies = run_ops(rt, court, agent, &mut kv, ops);
     let _stored = end_kv(rt, court, agent, kv, ending);
     replies
@@ -341,7 +341,7 @@ fn use_file<S: Store, R: Wait>(
     requires value { IsValue value.now }
     ensures { IsIdle court.now agent.new 1 500000 }
 {
-    let mut kv = open_kv(rt, court, agent, "store")?;
+    let mut kv = notes::open_with(rt, court, agent, "store", Tidying::Never)?;
     let found = put_and_get(rt, court, agent, &mut kv, key, value);
     let was = take_out(rt, court, agent, &mut kv, key);
     let _closed = notes::close(rt, court, agent, kv);
@@ -382,7 +382,7 @@ fn use_keys<S: Store, R: Wait>(
     requires value { IsValue value.now }
     ensures { IsIdle court.now agent.new 1 500000 }
 {
-    let mut kv = open_kv(rt, court, agent, "store")?;
+    let mut kv = notes::open_with(rt, court, agent, "store", Tidying::Never)?;
     let put = put_and_get(rt, court, agent, &mut kv, key, value);
     let did = put_tidily(rt, court, agent, &mut kv, other, value);
     let listed = keys_on(agent, &kv, other);

@@ -1,6 +1,6 @@
 use Rattle.opfs_machine.specs.Contents.{moved_row}
 use Rattle.opfs_machine.specs.declared.own.Own.TheVariants.{ClosedHandle}
-use Rattle.opfs_plain.proofs.Swapped.{own_changed}
+use Rattle.opfs_rulings.proofs.Swaps.{own_changed}
 use Rattle.opfs_plain.proofs.handles.move_handle.Goals as goal
 
 pub returns : goal.returns

@@ -1,6 +1,6 @@
 use Rattle.opfs_machine.specs.Contents.{sought_row}
 use Rattle.opfs_machine.specs.declared.own.Own.TheVariants.{ClosedStream}
-use Rattle.opfs_plain.proofs.Swapped.{own_changed}
+use Rattle.opfs_rulings.proofs.Swaps.{own_changed}
 use Rattle.opfs_plain.proofs.streams.seek.Goals as goal
 
 pub returns : goal.returns

@@ -1,6 +1,6 @@
 use Rattle.opfs_machine.specs.Contents.{written_row}
 use Rattle.opfs_machine.specs.declared.own.Own.TheVariants.{ClosedStream}
-use Rattle.opfs_plain.proofs.Swapped.{still_own, own_changed}
+use Rattle.opfs_rulings.proofs.Swaps.{still_own, own_changed}
 use Rattle.opfs_plain.proofs.streams.write.Goals as goal
 
 pub swap_own-requires-clause-row : goal.swap_own-requires-clause-row

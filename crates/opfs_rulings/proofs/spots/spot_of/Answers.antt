@@ -1,5 +1,4 @@
-use Rattle.std.proofs.Common.{arith, sym, ap, ◌∙◌}
-use Rattle.std.specs.Ordering.{is_eq, is_lt}
+use Rattle.std.proofs.Common.{arith, sym, ◌∙◌}
 use Rattle.opfs_rulings.proofs.Rising.{there_from, lower_from, higher_from}
 use Rattle.opfs_rulings.proofs.spots.spot_of.Goals as goal
 

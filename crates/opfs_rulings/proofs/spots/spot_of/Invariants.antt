@@ -1,4 +1,4 @@
-use Rattle.std.proofs.Common.{ℕ, ◌-◌, ◌≤◌, length, take, drop}
+use Rattle.std.proofs.Common.{◌-◌, ◌≤◌, length, take, drop}
 use Rattle.opfs_rulings.specs.Spots.{IsBehind, IsBefore}
 use Rattle.opfs_rulings.proofs.spots.spot_of.Given as goal
 

@@ -1,4 +1,4 @@
-use Rattle.std.proofs.Common.{◌≡◌, ℕ, ◌+◌, not, filter, sum_by, drop, IfSome}
+use Rattle.std.proofs.Common.{ℕ, ◌+◌, not, filter, sum_by, drop, IfSome}
 use Rattle.opfs_base.specs.Places.{is_within}
 use Rattle.opfs_rulings.specs.Tallies.{Count, row_weight, IsTallyOf}
 use Rattle.opfs_rulings.proofs.weights.lowered_within.Given as goal

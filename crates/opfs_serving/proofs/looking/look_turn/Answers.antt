@@ -20,4 +20,9 @@ leave-requires-clause-adds g c = (
 
 pub returns-clause-quiet : goal.returns-clause-quiet
 returns-clause-quiet g c = λ is.
-    subst (λ v. AreNotDue (g.S.Store.opened (g.S.Chronicle.opening v)) (g.S.Chronicle.entries v) c.args.seats.now) (sym c.leave.ensures.last) (c.is_any_due-due.ensures is)
+    subst (λ v. AreNotDue (g.S.Store.opened (g.S.Chronicle.opening v)) (g.S.Chronicle.entries v) c.args.seats.now) (sym c.leave.ensures.last) (c.is_any_due-due.ensures.none is)
+
+pub returns-clause-due : goal.returns-clause-due
+returns-clause-due g c = λ none.
+    c.is_any_due-due.ensures.due
+    (subst (λ v. AreNotDue (g.S.Store.opened (g.S.Chronicle.opening v)) (g.S.Chronicle.entries v) c.args.seats.now) c.leave.ensures.last none)

@@ -7,4 +7,4 @@ use Rattle.opfs_rulings.proofs.board.Board.end.Goals as goal
 pub invariant_of-self : goal.invariant_of-self
 invariant_of-self c =
     let agent : IsAgent c.self.inside.state c.args.number = rw c.self.view_is c.requires in
-    kept_agent c.self.inside.state c.end.new.state c.args.number agent _ c.self.invariant (record (agent_of c.self.inside.state c.args.number) { live = false; waits = None }) c.end.ensures refl
+    record { kept = kept_agent c.self.inside.state c.end.new.state c.args.number agent _ c.self.invariant.kept (record (agent_of c.self.inside.state c.args.number) { live = false; waits = None }) c.end.ensures refl; courses = tt }

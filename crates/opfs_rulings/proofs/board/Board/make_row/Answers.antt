@@ -6,17 +6,21 @@ use Rattle.opfs_machine.specs.declared.state.State.{State}
 use Rattle.opfs_machine.specs.Effects.{made}
 use Rattle.opfs_rulings.proofs.Rising.{made_there, made_missing}
 use Rattle.opfs_rulings.proofs.Totals.{kept_made, kept_rows}
+use Rattle.opfs_rulings.proofs.Courses.{courses-made}
 use Rattle.opfs_rulings.proofs.board.Board.make_row.Goals as goal
 
 pub returns-in-Ok : goal.returns-in-Ok
 returns-in-Ok c = sym c.self.view_is ∙ made_there c.self.inside.state c.args.place c.args.row _ c.in-Ok.ensures.there ∙ ap (λ (s : State Text Own). made s c.args.place c.args.row) c.self.view_is
 
 pub invariant_of-self-2 : goal.invariant_of-self-2
-invariant_of-self-2 c =
-    kept_rows c.self.inside.state c.insert_row.new.state _ _ c.in_ok-insert_row.ensures.ok
-    (kept_made c.self.inside.state.rows _ c.self.inside.state.agents c.self.inside.state.persistent c.self.inside.tally c.take-old.result c.self.invariant c.take-old.ensures.value
-    c.args.place c.args.row _ c.origin_of.result.now c.weigh_row.result c.raised-tally.result c.in-Err.ensures.missing refl
-    (c.origin_of.ensures ∙ ap origin_of c.as_bytes.ensures) c.weigh_row.ensures c.raised-tally.ensures)
+invariant_of-self-2 c = record {
+  kept =
+      kept_rows c.self.inside.state c.insert_row.new.state _ _ c.in_ok-insert_row.ensures.ok
+      (kept_made c.self.inside.state.rows _ c.self.inside.state.agents c.self.inside.state.persistent c.self.inside.tally c.take-old.result c.self.invariant.kept c.take-old.ensures.value
+      c.args.place c.args.row _ c.origin_of.result.now c.weigh_row.result c.raised-tally.result c.in-Err.ensures.missing refl
+      (c.origin_of.ensures ∙ ap origin_of c.as_bytes.ensures) c.weigh_row.ensures c.raised-tally.ensures);
+  courses = courses-made c.self.inside.state c.insert_row.new.state c.self.inside.course c.take-followed.result c.with_row-course.result c.self.invariant.courses c.take-followed.ensures.value c.args.place c.args.row c.in-Err.at c.in_ok-insert_row.ensures.ok c.with_row-course.ensures;
+}
 
 pub returns : goal.returns
 returns c = c.in_ok-insert_row.ensures.ok ∙ made_missing c.self.inside.state c.args.place c.args.row _ c.in-Err.ensures.missing ∙ ap (λ (s : State Text Own). made s c.args.place c.args.row) c.self.view_is

@@ -1,12 +1,18 @@
-use Rattle.opfs_machine.specs.Agents.{agent_of, own_of}
-use Rattle.opfs_rulings.specs.Known.{IsAgent}
+use Rattle.opfs_machine.specs.Agents.{agent_of}
+use Rattle.opfs_rulings.specs.Known.{IsAgent, IsOwn}
 use Rattle.opfs_rulings.proofs.Totals.{kept_exchanged}
+use Rattle.opfs_rulings.proofs.Courses.{courses-swapped}
 use Rattle.opfs_rulings.proofs.board.Board.swap_own.Goals as goal
 
 pub invariant_of-self : goal.invariant_of-self
 invariant_of-self c =
     let agent : IsAgent c.self.inside.state c.args.number = rw c.self.view_is c.requires.agent in
-    kept_exchanged c.self.inside.state c.exchange_own-gone.new.state c.args.number agent c.self.inside.tally c.self.invariant c.args.row c.args.own c.exchange_own-gone.result
-    c.own_origin.result.now c.own_origin-2.result.now c.weigh_own.result c.weigh_own-2.result c.take-old.result c.raised-tally.result c.lowered.result
-    c.take-old.ensures.value c.exchange_own-gone.ensures.state c.exchange_own-gone.ensures.old
-    c.own_origin.ensures c.weigh_own.ensures c.raised-tally.ensures c.own_origin-2.ensures c.weigh_own-2.ensures c.lowered.ensures
+    let own : IsOwn (agent_of c.self.inside.state c.args.number) c.args.row = rw c.self.view_is c.requires.row in
+    record {
+      kept =
+          kept_exchanged c.self.inside.state c.exchange_own-gone.new.state c.args.number agent c.self.inside.tally c.self.invariant.kept c.args.row c.args.own c.exchange_own-gone.result
+          c.own_origin.result.now c.own_origin-2.result.now c.weigh_own.result c.weigh_own-2.result c.take-old.result c.raised-tally.result c.lowered.result
+          c.take-old.ensures.value c.exchange_own-gone.ensures.state c.exchange_own-gone.ensures.old
+          c.own_origin.ensures c.weigh_own.ensures c.raised-tally.ensures c.own_origin-2.ensures c.weigh_own-2.ensures c.lowered.ensures;
+      courses = courses-swapped c.self.inside.state c.exchange_own-gone.new.state c.self.inside.course c.take-followed.result c.of_other-course.result c.self.invariant.courses c.take-followed.ensures.value c.args.number agent c.args.row own.above c.args.own c.exchange_own-gone.ensures.state c.of_other-course.ensures;
+    }

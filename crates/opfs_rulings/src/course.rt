@@ -1,0 +1,169 @@
+//! What an iterator gives next, found by one look-up.
+
+ghost use Rattle.std.specs.Prelude.{◌≡◌, IfOk, IfSome, IsSomeAnd, IsTrue, OnOk};
+ghost use Rattle.opfs_base.specs.Places.{child_name};
+ghost use Rattle.opfs_rulings.specs.Sets.{IsSetOf};
+ghost use Rattle.opfs_rulings.specs.Courses.{HasChild, HasGiven, HasLess, HasMore, HasOthers, IsGivenBy, IsOther, names_in};
+
+use crate::rows::PlacedRow;
+use crate::sets::names_of;
+use opfs_base::{Name, child_name, compare_places, copy_place};
+use opfs_machine::Place;
+use std::alloc::{AllocError, Global};
+use std::collections::BTreeSet;
+
+/// Of an iterator over a directory: the names that it has given, and those of the children that it has not.
+#[derive(Drop)]
+pub struct Course {
+    pub agent: u32,
+    pub row: u32,
+    pub dir: Place,
+    pub given: BTreeSet<Name>,
+    pub left: BTreeSet<Name>,
+}
+
+/// Adds the name of what stands at a place to those that are left, if it is a child and was not given.
+fn add_child(
+    alloc: Global,
+    left: &mut BTreeSet<Name>,
+    dir: &Place,
+    place: &Place,
+    given: &BTreeSet<Name>,
+) -> Result<(), AllocError>
+    ensures { OnOk result (HasChild (child_name dir.now place.now) given.now left.old left.new) }
+{
+    let Some(name) = child_name(&dir.0, &dir.1, place) else {
+        return Ok(());
+    };
+    if given.contains(name) {
+        return Ok(());
+    }
+    left.insert(name.copy(alloc)?)?;
+    Ok(())
+}
+
+/// The names of the children that were not given.
+fn left_of(
+    alloc: Global,
+    rows: &[PlacedRow],
+    dir: &Place,
+    given: &BTreeSet<Name>,
+) -> Result<BTreeSet<Name>, AllocError>
+    ensures { IfOk result (HasOthers (names_in dir.now rows.now) given.now) }
+{
+    let mut left = BTreeSet::new(alloc);
+    for entry in rows {
+        add_child(alloc, &mut left, dir, &entry.0, given)?;
+    }
+    Ok(left)
+}
+
+/// The course of an iterator that has given these names.
+pub fn course_of(
+    alloc: Global,
+    rows: &[PlacedRow],
+    agent: u32,
+    row: u32,
+    dir: &Place,
+    given: &[Name],
+) -> Result<Course, AllocError>
+    ensures whose { IfOk result (λ course. (course.agent ≡ agent) × (course.row ≡ row) × (course.dir ≡ dir.now)) }
+    ensures past { IfOk result (λ course. IsSetOf given.now course.given) }
+    ensures next { IfOk result (λ course. HasOthers (names_in dir.now rows.now) course.given course.left) }
+{
+    let given = names_of(alloc, given)?;
+    let left = left_of(alloc, rows, dir, &given)?;
+    let dir = copy_place(alloc, &dir.0, &dir.1)?;
+    Ok(Course {
+        agent,
+        row,
+        dir,
+        given,
+        left,
+    })
+}
+
+/// A course with what stands at a place now; none where memory is short.
+fn with_child(alloc: Global, mut course: Course, place: &Place) -> Option<Course>
+    ensures { IfSome result (HasMore place.now course) }
+{
+    if add_child(alloc, &mut course.left, &course.dir, place, &course.given).is_err() {
+        return None;
+    }
+    Some(course)
+}
+
+/// A course once a row was made at a place; none where memory is short.
+pub fn with_row(alloc: Global, course: Option<Course>, place: &Place) -> Option<Course>
+    ensures { IfSome result (λ new. IsSomeAnd course (λ old. HasMore place.now old new)) }
+{
+    with_child(alloc, course?, place)
+}
+
+/// A course without the child at a place; none where that is no child of its directory.
+fn without_child(mut course: Course, place: &Place) -> Option<Course>
+    ensures { IfSome result (HasLess place.now course) }
+{
+    let Some(name) = child_name(&course.dir.0, &course.dir.1, place) else {
+        return None;
+    };
+    course.left.remove(name);
+    Some(course)
+}
+
+/// A course once the row at a place and all below it went; none where that was no child of its directory.
+pub fn without_row(course: Option<Course>, place: &Place) -> Option<Course>
+    ensures { IfSome result (λ new. IsSomeAnd course (λ old. HasLess place.now old new)) }
+{
+    without_child(course?, place)
+}
+
+/// A course whose iterator has given a name.
+fn with_given(alloc: Global, mut course: Course, name: &Name) -> Result<Course, AllocError>
+    ensures { IfOk result (HasGiven name.now course) }
+{
+    course.given.insert(name.copy(alloc)?)?;
+    course.left.remove(name);
+    Ok(course)
+}
+
+/// The same of an iterator that may be another one, of which then there is none, and may be at its end.
+pub fn given_by(
+    alloc: Global,
+    course: Option<Course>,
+    agent: u32,
+    row: u32,
+    name: &Option<Name>,
+) -> Option<Course>
+    ensures { IfSome result (λ new. IsSomeAnd course (λ old. IsGivenBy agent row name.now old new)) }
+{
+    let course = course?;
+    if course.agent != agent || course.row != row {
+        return None;
+    }
+    match name {
+        None => Some(course),
+        Some(name) => with_given(alloc, course, name).ok(),
+    }
+}
+
+/// A course, where it is not that of an own row.
+pub fn of_other(course: Option<Course>, agent: u32, row: u32) -> Option<Course>
+    ensures { IfSome result (λ new. IsSomeAnd course (λ old. (new ≡ old) × IsOther agent row new)) }
+{
+    let course = course?;
+    if course.agent == agent && course.row == row {
+        return None;
+    }
+    Some(course)
+}
+
+/// Whether a course is that of an iterator over a directory.
+pub fn is_of(course: &Course, agent: u32, row: u32, dir: &Place) -> bool
+    ensures { IsTrue result → (course.now.agent ≡ agent) × (course.now.row ≡ row) × (course.now.dir ≡ dir.now) }
+{
+    if course.agent != agent || course.row != row {
+        return false;
+    }
+    compare_places(&dir.0, &dir.1, &course.dir).is_eq()
+}
