@@ -13,7 +13,7 @@ use Rattle.std.proofs.lemmas.List.Folds.{list_any-append}
 use Rattle.opfs_base.specs.Places.{Place, begins_with, child, child_name, is_within, only_name, place_cmp, rest_below}
 use Rattle.opfs_base.specs.Texts.{Text, same_text}
 use Rattle.opfs_laws.proofs.Numbers.{agent-other, agent-set, filter_map-set}
-use Rattle.opfs_machine.specs.Agents.{adds_own, agent_in, agent_of, own_of, with_own}
+use Rattle.opfs_machine.specs.Agents.{adds_own, agent_in, agent_of, own_of, with_agent, with_own}
 use Rattle.opfs_machine.specs.Contents.{next_of}
 use Rattle.opfs_machine.specs.Replies.{given_in}
 use Rattle.opfs_machine.specs.Rows.{Rows}
@@ -24,7 +24,7 @@ use Rattle.opfs_machine.specs.declared.state.Row.{Row}
 use Rattle.opfs_machine.specs.declared.state.State.{State}
 use Rattle.opfs_rulings.specs.Known.{IsAgent}
 use Rattle.opfs_rulings.specs.Spots.{AreRising, IsBefore}
-use Rattle.opfs_rulings.specs.Courses.{HasChild, HasGone, HasLess, HasMore, HasNot, IsGivenBy, IsOther, IsCourse, given_row, has, is_named, names_in}
+use Rattle.opfs_rulings.specs.Courses.{HasChild, HasGone, HasLess, HasLost, HasMore, HasNot, IsGivenBy, IsOther, IsCourse, given_row, has, is_named, names_in}
 use Rattle.opfs_rulings.specs.declared.course.Course.{Course}
 use Rattle.opfs_rulings.proofs.Adding.{key_is}
 use Rattle.opfs_rulings.proofs.Totals.{number_of}
@@ -168,6 +168,10 @@ child-is dir place name is = elim (cases_Bool (same_text dir.0 place.0)) [
   | inr other ↦ absurd (none-some (sym (ap (λ t. elim t as (λ y. Option Text) [ true ↦ only_name (rest_below dir.1 place.1) | false ↦ None ]) other) ∙ is))
 ]
 
+and-false : (b : Bool) → (b && false) ≡ false
+and-false true = refl
+and-false false = refl
+
 and-all : (b : Bool) → (b && true) ≡ b
 and-all true = refl
 and-all false = refl
@@ -244,6 +248,51 @@ module _ (dir p : Place) (name : Text) (is : child_name dir p ≡ Some name) (x 
           ∙ ap (λ b. b && not (same_text x name)) (sym (among-cons dir x e rows ∙ ap (λ (o : Option Text). is_named o x || among dir x rows) none))
       by rest (Some y) at = elim (cases_Bool (same_text name y)) [ inl same ↦ gone rest y at same | inr apart ↦ kept rest y at apart ]
 
+-- A row that is no child, and neither the directory nor above it: no child is within its place.
+begins-apart : (path names : List Text) (x : Text) → only_name (rest_below path names) ≡ None → begins_with names path ≡ false → begins_with names (path ++ x ∷ []) ≡ false
+begins-apart [] [] x none above = absurd (false≢true (sym above))
+begins-apart [] (a ∷ []) x none above = absurd (none-some (sym none))
+begins-apart [] (a ∷ b ∷ names) x none above = and-false (same_text a x)
+begins-apart (b ∷ path) [] x none above = absurd (false≢true (sym above))
+begins-apart (b ∷ path) (a ∷ names) x none above = elim (cases_Bool (same_text a b)) [
+  | inl same ↦
+      let turned : same_text b a ≡ true = nat_list_eq_equiv.symm b a ∙ same in
+      ap (λ t. t && begins_with names (path ++ x ∷ [])) same
+      ∙ begins-apart path names x
+      (sym (ap (λ t. only_name (elim t as (λ y. Option (List Text)) [ true ↦ rest_below path names | false ↦ None ])) turned) ∙ none)
+      (sym (ap (λ t. t && begins_with names path) same) ∙ above)
+  | inr other ↦ ap (λ t. t && begins_with names (path ++ x ∷ [])) other
+]
+
+within-apart : (dir p : Place) (x : Text) → child_name dir p ≡ None → is_within p dir ≡ false → is_within p (child dir x) ≡ false
+within-apart dir p x none above = elim (cases_Bool (same_text p.0 dir.0)) [
+  | inl same ↦
+      let turned : same_text dir.0 p.0 ≡ true = nat_list_eq_equiv.symm dir.0 p.0 ∙ same in
+      ap (λ t. t && begins_with p.1 (dir.1 ++ x ∷ [])) same
+      ∙ begins-apart dir.1 p.1 x
+      (sym (ap (λ t. elim t as (λ y. Option Text) [ true ↦ only_name (rest_below dir.1 p.1) | false ↦ None ]) turned) ∙ none)
+      (sym (ap (λ t. t && begins_with p.1 dir.1) same) ∙ above)
+  | inr other ↦ ap (λ t. t && begins_with p.1 (dir.1 ++ x ∷ [])) other
+]
+
+module _ (dir p : Place) (none : child_name dir p ≡ None) (above : is_within p dir ≡ false) where
+  abbrev left_in : Place × Row Text → Bool
+  left_in e = not (is_within p e.0)
+
+  pub names-apart : (rows : Rows Text) → names_in dir (filter left_in rows) ≡ names_in dir rows
+  names-apart [] = refl
+  names-apart (e ∷ rows) = by (names-apart rows) (child_name dir e.0) refl
+    where
+      dropped : child_name dir e.0 ≡ None → (b : Bool) → names_in dir (cond b (e ∷ filter left_in rows) (filter left_in rows)) ≡ names_in dir (filter left_in rows)
+      dropped bare true = ap (λ (o : Option Text). cons_option o (names_in dir (filter left_in rows))) bare
+      dropped bare false = refl
+
+      by : (names_in dir (filter left_in rows) ≡ names_in dir rows) → (o : Option Text) → child_name dir e.0 ≡ o → names_in dir (filter left_in (e ∷ rows)) ≡ names_in dir (e ∷ rows)
+      by rest None bare = dropped bare (left_in e) ∙ rest ∙ ap (λ (o : Option Text). cons_option o (names_in dir rows)) (sym bare)
+      by rest (Some x) at =
+          ap (λ b. names_in dir (cond (not b) (e ∷ filter left_in rows) (filter left_in rows))) (ap (λ (q : Place). is_within p q) (child-is dir e.0 x at) ∙ within-apart dir p x none above)
+          ∙ ap (λ (xs : List Text). cons_option (child_name dir e.0) xs) rest
+
 -- ---- the loop over rows
 
 add-left : (b n g a : Bool) → ((b || (n && not g)) || (a && not g)) ≡ (b || ((n || a) && not g))
@@ -319,6 +368,13 @@ module _ (s : State Text Own) (rows : Rows Text) (v : Course) (h : IsCourse s v)
             ∙ sets-less (among v.dir x s.rows) (has v.given x) (same_text x less.name) (among v.dir x rows) (names x);
       })
 
+-- The row at a place went, and all below it.
+pub course-lost : (s : State Text Own) (p : Place) (v w : Course) → HasLost p v w → IsCourse s v → IsCourse (record s { rows = filter (λ e. not (is_within p e.0)) s.rows }) w
+course-lost s p v w (inl less) h = course-less s (filter (λ e. not (is_within p e.0)) s.rows) v h p w less (λ x. among-without v.dir p less.name less.child x s.rows)
+course-lost s p v w (inr apart) h =
+    let rows : Rows Text = filter (λ e. not (is_within p e.0)) s.rows in
+    subst (λ (y : Course). IsCourse (record s { rows = rows }) y) (sym apart.rest) (course-named s rows v h (names-apart v.dir p apart.child apart.within s.rows))
+
 -- Another state, in which its iterator stands and its directory has the same children.
 pub course-kept : (s t : State Text Own) (w : Course) → IsCourse s w → t.rows ≡ s.rows → own_of (agent_of t w.agent) w.row ≡ own_of (agent_of s w.agent) w.row → IsCourse t w
 course-kept s t w h rows own = record {
@@ -359,7 +415,23 @@ own-set : (a : Agent Own) (r x : Own) (n : ℕ) → own_of a n ≡ Some x → ow
 own-set a r x zero is = absurd (none-some is)
 own-set a r x (suc n) is = ap (λ m. slice_get (slice_set a.own m r) n) (omega arith) ∙ get-set a.own n x r is
 
+own-same : (a b : Agent Own) (n : ℕ) → a.own ≡ b.own → own_of a n ≡ own_of b n
+own-same a b zero same = refl
+own-same a b (suc n) same = ap (λ (rows : List Own). slice_get rows n) same
+
 module _ (s : State Text Own) (k : ℕ) (agent : IsAgent s k) where
+  -- An agent that has the same own rows.
+  pub course-agent : (a : Agent Own) (w : Course) → a.own ≡ (agent_of s k).own → IsCourse s w → IsCourse (with_agent s k a) w
+  course-agent a w rows h = course-kept s (with_agent s k a) w h refl (by (cases_eq w.agent k))
+    where
+      by : (w.agent ≡ k) ⊎ (w.agent ≢ k) → own_of (agent_of (with_agent s k a) w.agent) w.row ≡ own_of (agent_of s w.agent) w.row
+      by (inl same) =
+          ap (λ j. own_of (agent_of (with_agent s k a) j) w.row) same
+          ∙ ap (λ (b : Agent Own). own_of b w.row) (agent-set s k a (number_of s k agent))
+          ∙ own-same a (agent_of s k) w.row rows
+          ∙ ap (λ j. own_of (agent_of s j) w.row) (sym same)
+      by (inr other) = ap (λ (b : Agent Own). own_of b w.row) (agent-other s k w.agent a (number_of s k agent) other)
+
   pub course-added : (r : Own) (w : Course) → IsCourse s w → IsCourse (adds_own s k r) w
   course-added r w h = course-kept s (adds_own s k r) w h refl (by (cases_eq w.agent k))
     where
@@ -573,11 +645,11 @@ module _ (s t : State Text Own) (held taken new : Option Course) (courses : IfSo
       in-state (record s { rows = rows }) is
       (both-some (IsCourse s) (IsCourse (record s { rows = rows })) (HasMore p) (λ v w more h. course-more s rows v h p w (λ x. among-insert v.dir x p r n s.rows) more) taken new from-taken told)
 
-  pub courses-removed : (p : Place) → t ≡ record s { rows = filter (λ e. not (is_within p e.0)) s.rows } → IfSome new (λ w. IsSomeAnd taken (λ v. HasLess p v w)) → IfSome new (IsCourse t)
+  pub courses-removed : (p : Place) → t ≡ record s { rows = filter (λ e. not (is_within p e.0)) s.rows } → IfSome new (λ w. IsSomeAnd taken (λ v. HasLost p v w)) → IfSome new (IsCourse t)
   courses-removed p is told =
       let rows : Rows Text = filter (λ e. not (is_within p e.0)) s.rows in
       in-state (record s { rows = rows }) is
-      (both-some (IsCourse s) (IsCourse (record s { rows = rows })) (HasLess p) (λ v w less h. course-less s rows v h p w less (λ x. among-without v.dir p less.name less.child x s.rows)) taken new from-taken told)
+      (both-some (IsCourse s) (IsCourse (record s { rows = rows })) (HasLost p) (λ v w lost h. course-lost s p v w lost h) taken new from-taken told)
 
   pub courses-swapped : (k : ℕ) → IsAgent s k → (n : ℕ) → 0 < n → (r : Own) → t ≡ with_own s k n r → IfSome new (λ w. IsSomeAnd taken (λ v. (w ≡ v) × IsOther k n w)) → IfSome new (IsCourse t)
   courses-swapped k agent n real r is told =
@@ -599,6 +671,10 @@ module _ (s t : State Text Own) (held : Option Course) (courses : IfSome held (I
   pub courses-added : (k : ℕ) → IsAgent s k → (r : Own) → t ≡ adds_own s k r → IfSome held (IsCourse t)
   courses-added k agent r is =
       subst (λ (x : State Text Own). IfSome held (IsCourse x)) (sym is) (each-some (IsCourse s) (IsCourse (adds_own s k r)) (λ w h. course-added s k agent r w h) held courses)
+
+  pub courses-agent : (k : ℕ) → IsAgent s k → (a : Agent Own) → t ≡ with_agent s k a → a.own ≡ (agent_of s k).own → IfSome held (IsCourse t)
+  courses-agent k agent a is rows =
+      subst (λ (x : State Text Own). IfSome held (IsCourse x)) (sym is) (each-some (IsCourse s) (IsCourse (with_agent s k a)) (λ w h. course-agent s k agent a w rows h) held courses)
 
   -- Where rows and agents are the same.
   pub courses-same : t.rows ≡ s.rows → t.agents ≡ s.agents → IfSome held (IsCourse t)

@@ -4,7 +4,7 @@ use Rattle.std.specs.BTreeSet.{BTreeSet, contains}
 use Rattle.std.specs.Cmp.Lexicographic.{slice_cmp}
 use Rattle.std.specs.List.{filter_map, list_any}
 use Rattle.std.specs.Ordering.{nat_cmp}
-use Rattle.opfs_base.specs.Places.{Place, child_name}
+use Rattle.opfs_base.specs.Places.{Place, child_name, is_within}
 use Rattle.opfs_base.specs.Texts.{Text, same_text}
 use Rattle.opfs_machine.specs.Agents.{agent_of, own_of}
 use Rattle.opfs_machine.specs.Contents.{and_given}
@@ -61,6 +61,16 @@ pub record HasLess (place : Place) (old new : Course) : Type 0 where
   pub child : child_name old.dir place ≡ Some name
   pub rest : new ≡ record old { left = new.left }
   pub left : HasNot name old.left new.left
+
+-- A row went that is no child of the directory, and neither that nor above it.
+pub record IsApart (place : Place) (old new : Course) : Type 0 where
+  pub rest : new ≡ old
+  pub child : child_name old.dir place ≡ None
+  pub within : is_within place old.dir ≡ false
+
+-- The row at a place went, and all below it.
+abbrev pub HasLost : Place → Course → Course → Type 0
+HasLost place old new = HasLess place old new ⊎ IsApart place old new
 
 -- A name was given.
 pub record HasGiven (name : Text) (old new : Course) : Type 0 where

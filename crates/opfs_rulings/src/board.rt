@@ -274,7 +274,6 @@ impl Board {
         requires { IsAgent self.old number }
         ensures { self.new ≡ with_agent self.old number (record (agent_of self.old number) { moment = moment }) }
     {
-        self.course = None;
         set_moment(&mut self.state, number, moment);
     }
 
@@ -283,7 +282,6 @@ impl Board {
         requires { IsAgent self.old number }
         ensures { self.new ≡ with_waiting self.old number tag }
     {
-        self.course = None;
         set_waiting(&mut self.state, number, tag);
     }
 
@@ -292,7 +290,6 @@ impl Board {
         requires { IsAgent self.old number }
         ensures { self.new ≡ with_agent self.old number (record (agent_of self.old number) { live = false; waits = None }) }
     {
-        self.course = None;
         end(&mut self.state, number);
     }
 

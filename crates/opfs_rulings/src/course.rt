@@ -3,11 +3,11 @@
 ghost use Rattle.std.specs.Prelude.{◌≡◌, IfOk, IfSome, IsSomeAnd, IsTrue, OnOk};
 ghost use Rattle.opfs_base.specs.Places.{child_name};
 ghost use Rattle.opfs_rulings.specs.Sets.{IsSetOf};
-ghost use Rattle.opfs_rulings.specs.Courses.{HasChild, HasGiven, HasLess, HasMore, HasOthers, IsGivenBy, IsOther, names_in};
+ghost use Rattle.opfs_rulings.specs.Courses.{HasChild, HasGiven, HasLost, HasMore, HasOthers, IsGivenBy, IsOther, names_in};
 
 use crate::rows::PlacedRow;
 use crate::sets::names_of;
-use opfs_base::{Name, child_name, compare_places, copy_place};
+use opfs_base::{Name, child_name, compare_places, copy_place, is_within};
 use opfs_machine::Place;
 use std::alloc::{AllocError, Global};
 use std::collections::BTreeSet;
@@ -100,22 +100,25 @@ pub fn with_row(alloc: Global, course: Option<Course>, place: &Place) -> Option<
     with_child(alloc, course?, place)
 }
 
-/// A course without the child at a place; none where that is no child of its directory.
-fn without_child(mut course: Course, place: &Place) -> Option<Course>
-    ensures { IfSome result (HasLess place.now course) }
+/// A course without what stood at a place and below it; none where that is its directory, or above it.
+fn without_place(mut course: Course, place: &Place) -> Option<Course>
+    ensures { IfSome result (HasLost place.now course) }
 {
-    let Some(name) = child_name(&course.dir.0, &course.dir.1, place) else {
+    if is_within(&place.0, &place.1, &course.dir) {
         return None;
+    }
+    let Some(name) = child_name(&course.dir.0, &course.dir.1, place) else {
+        return Some(course);
     };
     course.left.remove(name);
     Some(course)
 }
 
-/// A course once the row at a place and all below it went; none where that was no child of its directory.
+/// A course once the row at a place and all below it went; none where its directory went.
 pub fn without_row(course: Option<Course>, place: &Place) -> Option<Course>
-    ensures { IfSome result (λ new. IsSomeAnd course (λ old. HasLess place.now old new)) }
+    ensures { IfSome result (λ new. IsSomeAnd course (λ old. HasLost place.now old new)) }
 {
-    without_child(course?, place)
+    without_place(course?, place)
 }
 
 /// A course whose iterator has given a name.

@@ -1,10 +1,15 @@
 use Rattle.std.proofs.Common.{refl}
 use Rattle.opfs_machine.specs.Agents.{agent_of}
+use Rattle.opfs_machine.specs.declared.own.Own.{Own}
+use Rattle.opfs_machine.specs.declared.state.Agent.{Agent}
 use Rattle.opfs_rulings.specs.Known.{IsAgent}
 use Rattle.opfs_rulings.proofs.Totals.{kept_agent}
+use Rattle.opfs_rulings.proofs.Courses.{courses-agent}
 use Rattle.opfs_rulings.proofs.board.Board.set_moment.Goals as goal
 
 pub invariant_of-self : goal.invariant_of-self
 invariant_of-self c =
     let agent : IsAgent c.self.inside.state c.args.number = rw c.self.view_is c.requires in
-    record { kept = kept_agent c.self.inside.state c.set_moment.new.state c.args.number agent _ c.self.invariant.kept (record (agent_of c.self.inside.state c.args.number) { moment = c.args.moment }) c.set_moment.ensures refl; courses = tt }
+    let s = c.self.inside.state in
+    let a : Agent Own = record (agent_of s c.args.number) { moment = c.args.moment } in
+    record { kept = kept_agent s c.set_moment.new.state c.args.number agent _ c.self.invariant.kept a c.set_moment.ensures refl; courses = courses-agent s c.set_moment.new.state c.self.inside.course c.self.invariant.courses c.args.number agent a c.set_moment.ensures refl }
