@@ -1,6 +1,6 @@
 -- The two sets of an iterator, as rows and own rows change, and what it gives next.
 use Rattle.std.proofs.Common.{◌≡◌, ◌≢◌, ◌⊎◌, inl, inr, ℕ, zero, suc, ◌-◌, ◌<◌, ◌&&◌, ◌||◌, Bool, true, false, cond, not, List, [], ◌∷◌, ◌++◌, filter, length, take, drop, slice_set, Option, Some, None, refl, sym, ap, subst, ◌∙◌, arith}
-use Rattle.std.specs.Prelude.{IfSome, IsSomeAnd, IsTrue, slice_get}
+use Rattle.std.specs.Prelude.{IsTrue, slice_get}
 use Rattle.std.specs.BTreeMap.{is_at}
 use Rattle.std.specs.BTreeSet.{BTreeSet}
 use Rattle.std.specs.Cmp.Lexicographic.{slice_cmp, nat_list_cmp_total, nat_list_eq_equiv, texts_ties, same_text as equal_texts}
@@ -24,9 +24,10 @@ use Rattle.opfs_machine.specs.declared.state.Row.{Row}
 use Rattle.opfs_machine.specs.declared.state.State.{State}
 use Rattle.opfs_rulings.specs.Known.{IsAgent}
 use Rattle.opfs_rulings.specs.Spots.{AreRising, IsBefore}
-use Rattle.opfs_rulings.specs.Courses.{HasChild, HasGone, HasLess, HasLost, HasMore, HasNot, IsGivenBy, IsOther, IsCourse, given_row, has, is_named, names_in}
+use Rattle.opfs_rulings.specs.Courses.{AreFrom, GivesOrStays, HasChild, HasGone, HasLess, HasLost, HasMore, HasNot, IsCourse, IsGivenBy, IsOther, StaysBeside, given_row, has, is_named, names_in}
 use Rattle.opfs_rulings.specs.declared.course.Course.{Course}
 use Rattle.opfs_rulings.proofs.Adding.{key_is}
+use Rattle.opfs_rulings.proofs.Moving.{all-each, all-from}
 use Rattle.opfs_rulings.proofs.Totals.{number_of}
 
 abbrev text_cmp : Text → Text → Ordering
@@ -489,6 +490,13 @@ module _ (s : State Text Own) (k : ℕ) (agent : IsAgent s k) where
                 ∙ ap (λ b. among v.dir x s.rows && not b) (sym (g.given x));
           })
 
+  pub course-beside : (n : ℕ) (r : Own) (c d : Course) → 0 < n → StaysBeside k n c d → IsCourse s c → IsCourse (with_own s k n r) d
+  course-beside n r c d real stays h = course-swapped n r d real stays.1 (subst (IsCourse s) (sym stays.0) h)
+
+  pub course-passed : (n : ℕ) (r : Own) (name : Option Text) (c d : Course) → 0 < n → own_of (agent_of s k) n ≡ Some r → GivesOrStays k n name c d → IsCourse s c → IsCourse (with_own s k n (given_row r name)) d
+  course-passed n r name c d real was (inl by) h = course-gone n r name c d was by h
+  course-passed n r name c d real was (inr stays) h = course-beside n (given_row r name) c d real stays h
+
 -- ---- what is given next
 
 then-equal : (o : Ordering) → ordering_then o Equal ≡ o
@@ -621,62 +629,46 @@ module _ (s : State Text Own) (rising : AreRising s.rows) (w : Course) (h : IsCo
         | inr fresh ↦ absurd (false≢true (sym (ap (λ (ks : List Text). list_any (is_at (text_cmp x)) ks) empty) ∙ left-is x ∙ ap (λ b. b && not (is_in past x)) is ∙ ap not fresh))
       ]
 
--- ---- a course that may be there
+-- ---- courses, as their state changes
 
-pub each-some : {X : Type 0} (P Q : X → Type 0) → ((x : X) → P x → Q x) → (o : Option X) → IfSome o P → IfSome o Q
-each-some P Q on None h = tt
-each-some P Q on (Some x) h = on x h
+module _ (s t : State Text Own) (held taken new : List Course) (followed : AllByRecursion (IsCourse s) held) (same : taken ≡ held) where
+  from-taken : (u : State Text Own) (R : Course → Course → Type 0) → ((c d : Course) → R c d → IsCourse s c → IsCourse u d) → t ≡ u → AreFrom R taken new → AllByRecursion (IsCourse t) new
+  from-taken u R on is told =
+      subst (λ (x : State Text Own). AllByRecursion (IsCourse x) new) (sym is)
+      (all-from (IsCourse s) (IsCourse u) R on taken new (subst (λ (cs : List Course). AllByRecursion (IsCourse s) cs) (sym same) followed) told)
 
-pub both-some : {X : Type 0} (P Q : X → Type 0) (R : X → X → Type 0) → ((v w : X) → R v w → P v → Q w) → (old new : Option X) → IfSome old P → IfSome new (λ w. IsSomeAnd old (λ v. R v w)) → IfSome new Q
-both-some P Q R on old None h told = tt
-both-some P Q R on None (Some w) h told = absurd told
-both-some P Q R on (Some v) (Some w) h told = on v w told h
-
-module _ (s t : State Text Own) (held taken new : Option Course) (courses : IfSome held (IsCourse s)) (same : taken ≡ held) where
-  from-taken : IfSome taken (IsCourse s)
-  from-taken = subst (λ (o : Option Course). IfSome o (IsCourse s)) (sym same) courses
-
-  in-state : (u : State Text Own) → t ≡ u → IfSome new (IsCourse u) → IfSome new (IsCourse t)
-  in-state u is h = subst (λ (x : State Text Own). IfSome new (IsCourse x)) (sym is) h
-
-  pub courses-made : (p : Place) (r : Row Text) (n : ℕ) → t ≡ record s { rows = take n s.rows ++ (p, r) ∷ drop n s.rows } → IfSome new (λ w. IsSomeAnd taken (λ v. HasMore p v w)) → IfSome new (IsCourse t)
+  pub courses-made : (p : Place) (r : Row Text) (n : ℕ) → t ≡ record s { rows = take n s.rows ++ (p, r) ∷ drop n s.rows } → AreFrom (HasMore p) taken new → AllByRecursion (IsCourse t) new
   courses-made p r n is told =
       let rows : Rows Text = take n s.rows ++ (p, r) ∷ drop n s.rows in
-      in-state (record s { rows = rows }) is
-      (both-some (IsCourse s) (IsCourse (record s { rows = rows })) (HasMore p) (λ v w more h. course-more s rows v h p w (λ x. among-insert v.dir x p r n s.rows) more) taken new from-taken told)
+      from-taken (record s { rows = rows }) (HasMore p) (λ c d more h. course-more s rows c h p d (λ x. among-insert c.dir x p r n s.rows) more) is told
 
-  pub courses-removed : (p : Place) → t ≡ record s { rows = filter (λ e. not (is_within p e.0)) s.rows } → IfSome new (λ w. IsSomeAnd taken (λ v. HasLost p v w)) → IfSome new (IsCourse t)
+  pub courses-removed : (p : Place) → t ≡ record s { rows = filter (λ e. not (is_within p e.0)) s.rows } → AreFrom (HasLost p) taken new → AllByRecursion (IsCourse t) new
   courses-removed p is told =
-      let rows : Rows Text = filter (λ e. not (is_within p e.0)) s.rows in
-      in-state (record s { rows = rows }) is
-      (both-some (IsCourse s) (IsCourse (record s { rows = rows })) (HasLost p) (λ v w lost h. course-lost s p v w lost h) taken new from-taken told)
+      from-taken (record s { rows = filter (λ e. not (is_within p e.0)) s.rows }) (HasLost p) (λ c d lost h. course-lost s p c d lost h) is told
 
-  pub courses-swapped : (k : ℕ) → IsAgent s k → (n : ℕ) → 0 < n → (r : Own) → t ≡ with_own s k n r → IfSome new (λ w. IsSomeAnd taken (λ v. (w ≡ v) × IsOther k n w)) → IfSome new (IsCourse t)
-  courses-swapped k agent n real r is told =
-      in-state (with_own s k n r) is
-      (both-some (IsCourse s) (IsCourse (with_own s k n r)) (λ v w. (w ≡ v) × IsOther k n w) (λ v w other h. course-swapped s k agent n r w real other.1 (subst (IsCourse s) (sym other.0) h)) taken new from-taken told)
+  pub courses-swapped : (k : ℕ) → IsAgent s k → (n : ℕ) → 0 < n → (r : Own) → t ≡ with_own s k n r → AreFrom (StaysBeside k n) taken new → AllByRecursion (IsCourse t) new
+  courses-swapped k agent n real r is told = from-taken (with_own s k n r) (StaysBeside k n) (λ c d stays h. course-beside s k agent n r c d real stays h) is told
 
-  pub courses-gone : (k : ℕ) → IsAgent s k → (n : ℕ) (r : Own) (name : Option Text) → own_of (agent_of s k) n ≡ Some r → t ≡ with_own s k n (given_row r name) → IfSome new (λ w. IsSomeAnd taken (λ v. IsGivenBy k n name v w)) → IfSome new (IsCourse t)
-  courses-gone k agent n r name was is told =
-      in-state (with_own s k n (given_row r name)) is
-      (both-some (IsCourse s) (IsCourse (with_own s k n (given_row r name))) (IsGivenBy k n name) (λ v w by h. course-gone s k agent n r name v w was by h) taken new from-taken told)
+  pub courses-gone : (k : ℕ) → IsAgent s k → (n : ℕ) → 0 < n → (r : Own) (name : Option Text) → own_of (agent_of s k) n ≡ Some r → t ≡ with_own s k n (given_row r name) → AreFrom (GivesOrStays k n name) taken new → AllByRecursion (IsCourse t) new
+  courses-gone k agent n real r name was is told =
+      from-taken (with_own s k n (given_row r name)) (GivesOrStays k n name) (λ c d gives h. course-passed s k agent n r name c d real was gives h) is told
 
-module _ (s t : State Text Own) (held : Option Course) (courses : IfSome held (IsCourse s)) where
-  pub courses-set : (p : Place) (old new : Row Text) (n : ℕ) → slice_get s.rows n ≡ Some (p, old) → t ≡ record s { rows = slice_set s.rows n (p, new) } → IfSome held (IsCourse t)
+module _ (s t : State Text Own) (held : List Course) (followed : AllByRecursion (IsCourse s) held) where
+  in-state : (u : State Text Own) → t ≡ u → ((c : Course) → IsCourse s c → IsCourse u c) → AllByRecursion (IsCourse t) held
+  in-state u is on = subst (λ (x : State Text Own). AllByRecursion (IsCourse x) held) (sym is) (all-each (IsCourse s) (IsCourse u) on held followed)
+
+  pub courses-set : (p : Place) (old new : Row Text) (n : ℕ) → slice_get s.rows n ≡ Some (p, old) → t ≡ record s { rows = slice_set s.rows n (p, new) } → AllByRecursion (IsCourse t) held
   courses-set p old new n at is =
       let rows : Rows Text = slice_set s.rows n (p, new) in
-      subst (λ (x : State Text Own). IfSome held (IsCourse x)) (sym is)
-      (each-some (IsCourse s) (IsCourse (record s { rows = rows })) (λ w h. course-named s rows w h (names-set w.dir p old new n s.rows at)) held courses)
+      in-state (record s { rows = rows }) is (λ c h. course-named s rows c h (names-set c.dir p old new n s.rows at))
 
-  pub courses-added : (k : ℕ) → IsAgent s k → (r : Own) → t ≡ adds_own s k r → IfSome held (IsCourse t)
-  courses-added k agent r is =
-      subst (λ (x : State Text Own). IfSome held (IsCourse x)) (sym is) (each-some (IsCourse s) (IsCourse (adds_own s k r)) (λ w h. course-added s k agent r w h) held courses)
+  pub courses-added : (k : ℕ) → IsAgent s k → (r : Own) → t ≡ adds_own s k r → AllByRecursion (IsCourse t) held
+  courses-added k agent r is = in-state (adds_own s k r) is (λ c h. course-added s k agent r c h)
 
-  pub courses-agent : (k : ℕ) → IsAgent s k → (a : Agent Own) → t ≡ with_agent s k a → a.own ≡ (agent_of s k).own → IfSome held (IsCourse t)
-  courses-agent k agent a is rows =
-      subst (λ (x : State Text Own). IfSome held (IsCourse x)) (sym is) (each-some (IsCourse s) (IsCourse (with_agent s k a)) (λ w h. course-agent s k agent a w rows h) held courses)
+  pub courses-agent : (k : ℕ) → IsAgent s k → (a : Agent Own) → t ≡ with_agent s k a → a.own ≡ (agent_of s k).own → AllByRecursion (IsCourse t) held
+  courses-agent k agent a is rows = in-state (with_agent s k a) is (λ c h. course-agent s k agent a c rows h)
 
   -- Where rows and agents are the same.
-  pub courses-same : t.rows ≡ s.rows → t.agents ≡ s.agents → IfSome held (IsCourse t)
+  pub courses-same : t.rows ≡ s.rows → t.agents ≡ s.agents → AllByRecursion (IsCourse t) held
   courses-same rows agents =
-      each-some (IsCourse s) (IsCourse t) (λ w h. course-kept s t w h rows (ap (λ (list : List (Agent Own)). own_of (agent_in list w.agent) w.row) agents)) held courses
+      all-each (IsCourse s) (IsCourse t) (λ c h. course-kept s t c h rows (ap (λ (list : List (Agent Own)). own_of (agent_in list c.agent) c.row) agents)) held followed

@@ -4,6 +4,7 @@ pub mod Clearing
 pub mod Courses
 pub mod Fronts
 pub mod Here
+pub mod Moving
 pub mod Rising
 pub mod Roots
 pub mod Swaps

@@ -236,6 +236,13 @@ module _ (s new : State Text Own) (k : ℕ) (agent : IsAgent s k) (old : Option 
         uses = uses_same (λ o. total s.rows s.agents s.persistent (Usage o)) (λ o. total s.rows (with_agent s k a).agents s.persistent (Usage o)) (λ o. sym (total_same s k a agent own (Usage o))) t.uses h.uses;
       }
 
+-- What is kept where nothing is counted any more.
+pub kept_short : (rows new : Rows Text) (agents later : List (Agent Own)) (modes more : List Text) (old tally : Option Tally) → AreKept rows agents modes old → new ≡ rows → tally ≡ None → AreKept new later more tally
+kept_short rows new agents later modes more old tally kept same none = record {
+  rising = subst (λ (es : Rows Text). AreRising es) (sym same) kept.rising;
+  tallied = subst (λ (t : Option Tally). IfSome t (IsTallyOf (total new later more))) (sym none) tt;
+}
+
 -- A part of an option that is there.
 pub held_at : {X : Type 0} (P : X → Type 0) (o : Option X) (x : X) → o ≡ Some x → IfSome o P → P x
 held_at P None x is h = cc

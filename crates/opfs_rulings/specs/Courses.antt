@@ -1,8 +1,8 @@
 -- An iterator's names in two sets: those that it has given, and the children of its directory that it has not. This project's own.
-use Rattle.std.specs.Prelude.{◌≡◌, ◌≢◌, ◌⊎◌, ℕ, ◌&&◌, ◌||◌, Bool, false, not, List, Option, None, Some, IfSome}
+use Rattle.std.specs.Prelude.{◌≡◌, ◌≢◌, ◌⊎◌, ℕ, ◌&&◌, ◌||◌, Bool, false, not, List, [], ◌∷◌, ◌++◌, Option, None, Some, IsSomeAnd}
 use Rattle.std.specs.BTreeSet.{BTreeSet, contains}
 use Rattle.std.specs.Cmp.Lexicographic.{slice_cmp}
-use Rattle.std.specs.List.{filter_map, list_any}
+use Rattle.std.specs.List.{AllByRecursion, filter_map, list_any}
 use Rattle.std.specs.Ordering.{nat_cmp}
 use Rattle.opfs_base.specs.Places.{Place, child_name, is_within}
 use Rattle.opfs_base.specs.Texts.{Text, same_text}
@@ -22,7 +22,7 @@ use Rattle.opfs_rulings.specs.declared.course.Course.{Course}
 abbrev pub has : BTreeSet Text → Text → Bool
 has set x = contains (slice_cmp nat_cmp) set x
 
--- Whether a name is given, and is this one.
+-- Whether there is a name, and it is this text.
 abbrev pub is_named : Option Text → Text → Bool
 is_named None x = false
 is_named (Some name) x = same_text x name
@@ -44,11 +44,11 @@ abbrev pub HasNot : Text → BTreeSet Text → BTreeSet Text → Type 0
 HasNot name old new = (x : Text) → has new x ≡ (has old x && not (same_text x name))
 
 -- A course is that of an iterator, over its directory as it stands.
-pub record IsCourse (s : State Text Own) (w : Course) : Type 0 where
+pub record IsCourse (s : State Text Own) (c : Course) : Type 0 where
   pub iterator : IteratorRow
-  pub is : own_of (agent_of s w.agent) w.row ≡ Some (own.Iterator iterator)
-  pub past : IsSetOf iterator.given w.given
-  pub next : HasOthers (names_in w.dir s.rows) w.given w.left
+  pub is : own_of (agent_of s c.agent) c.row ≡ Some (own.Iterator iterator)
+  pub past : IsSetOf iterator.given c.given
+  pub next : HasOthers (names_in c.dir s.rows) c.given c.left
 
 -- A row was made at a place.
 pub record HasMore (place : Place) (old new : Course) : Type 0 where
@@ -91,7 +91,28 @@ pub record IsGivenBy (k n : ℕ) (name : Option Text) (old new : Course) : Type 
 
 -- A course is not that of this own row.
 abbrev pub IsOther : ℕ → ℕ → Course → Type 0
-IsOther k n w = (w.agent ≢ k) ⊎ (w.row ≢ n)
+IsOther k n c = (c.agent ≢ k) ⊎ (c.row ≢ n)
+
+-- A course stays that is not of this own row.
+abbrev pub StaysBeside : ℕ → ℕ → Course → Course → Type 0
+StaysBeside k n old new = (new ≡ old) × IsOther k n new
+
+-- This iterator gave a name, or the end; the course of another one stays.
+abbrev pub GivesOrStays : ℕ → ℕ → Option Text → Course → Course → Type 0
+GivesOrStays k n name old new = IsGivenBy k n name old new ⊎ StaysBeside k n old new
+
+-- A course comes from one of these.
+abbrev pub IsFrom : (Course → Course → Type 0) → List Course → Course → Type 0
+IsFrom R [] new = ⊥
+IsFrom R (old ∷ rest) new = R old new ⊎ IsFrom R rest new
+
+-- Each of the new courses comes from one of the old ones.
+abbrev pub AreFrom : (Course → Course → Type 0) → List Course → List Course → Type 0
+AreFrom R old new = AllByRecursion (IsFrom R old) new
+
+-- There are the same courses, or one more.
+abbrev pub MayAdd : Option Course → List Course → List Course → Type 0
+MayAdd course old new = (new ≡ old) ⊎ IsSomeAnd course (λ c. new ≡ old ++ c ∷ [])
 
 -- An iterator that has given one more name, or none.
 abbrev pub given_row : Own → Option Text → Own
@@ -99,6 +120,6 @@ given_row (own.Iterator i) name = own.Iterator (record i { given = and_given i.g
 given_row r name = r
 
 -- What a board keeps of its state.
-pub record IsBoard (s : State Text Own) (tally : Option Tally) (course : Option Course) : Type 0 where
+pub record IsBoard (s : State Text Own) (tally : Option Tally) (courses : List Course) : Type 0 where
   pub kept : AreKept s.rows s.agents s.persistent tally
-  pub courses : IfSome course (IsCourse s)
+  pub followed : AllByRecursion (IsCourse s) courses

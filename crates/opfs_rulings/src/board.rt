@@ -1,4 +1,4 @@
-//! The state that calls change, whose rows are kept in order and counted, and what one iterator gives next.
+//! The state that calls change, whose rows are kept in order and counted, and what a few iterators give next.
 
 ghost use Rattle.std.specs.Prelude.{◌≡◌, ◌+◌, ◌++◌, ◌∷◌, [], None, Some, true, false, IfOk, OnOk, IfSome, IfNone, IsSomeAnd, flat_map, slice_get, slice_set};
 ghost use Rattle.std.specs.Ordering.{nat_cmp};
@@ -13,12 +13,14 @@ ghost use Rattle.opfs_machine.specs.Replies.{given_in};
 ghost use Rattle.opfs_machine.specs.Rows.{row_at, without, change_at, children_of};
 ghost use Rattle.opfs_machine.specs.Sums.{usage, pool, charge};
 ghost use Rattle.opfs_machine.specs.declared.state.FileRow.{FileRow};
+ghost use Rattle.opfs_rulings.specs.Courses.{IsCourse, given_row};
 ghost use Rattle.opfs_rulings.specs.Known.{IsAgent, IsOwn};
 ghost use Rattle.opfs_rulings.specs.Spots.{IsThere};
 ghost use Rattle.opfs_rulings.specs.Tallies.{given, IsRaised};
-ghost use Rattle.opfs_rulings.specs.Courses.{IsCourse, given_row};
 
-use crate::course::{Course, course_of, given_by, is_of, of_other, with_row, without_row};
+use crate::course::{
+    Course, course_of, find_course, given_by, keep, of_others, with_row, without_row,
+};
 use crate::parts::{
     add_own, count, end, exchange_own, exchange_row, insert_mode, insert_row, lowered_in,
     remove_in, row_in, set_moment, set_waiting, spot_in,
@@ -29,17 +31,26 @@ use opfs_base::{Bytes, Key, Name, Path, SharedBytes, mode_charge, origin_of, plu
 use opfs_machine::{Own, Place, Posted, Row, State};
 use std::alloc::{AllocError, Global};
 use std::marker::Model;
+use std::mem;
 
 /// An iterator is followed once it has given so many names.
 const MANY: usize = 64;
 
-/// A state whose rows stand in the order of their places; what they come to, unless a count became too large; and the course of the
-/// iterator that is followed.
+/// So many iterators are followed at most.
+const MOST: usize = 16;
+
+/// After so many names of iterators for which there was no room, all courses end.
+const MISSES: u32 = 1024;
+
+/// A state whose rows stand in the order of their places; what they come to, unless a count became too large; the courses of the
+/// iterators that are followed; and how many names others gave since there is no room for one more.
 #[derive(Drop)]
 pub struct Board {
     state: State<SharedBytes, Own>,
     tally: Option<Tally>,
-    course: Option<Course>,
+    courses: Vec<Course>,
+    missed: u32,
+    alloc: Global,
 }
 
 impl Model for Board {
@@ -53,7 +64,7 @@ impl Model for Board {
 
     ghost use Rattle.opfs_rulings.specs.Courses.{IsBoard};
 
-    ghost invariant = { λ board. IsBoard board.state board.tally board.course };
+    ghost invariant = { λ board. IsBoard board.state board.tally board.courses.items };
 }
 
 impl Board {
@@ -70,10 +81,13 @@ impl Board {
             charge: 0,
             uses,
         });
+        let courses = Vec::new(alloc);
         Ok(Board {
             state,
             tally,
-            course: None,
+            courses,
+            missed: 0,
+            alloc,
         })
     }
 
@@ -143,27 +157,39 @@ impl Board {
     pub fn next_followed(&self, number: u32, row: u32, dir: &Place) -> Option<Option<&Name>>
         ensures { IfSome result (λ name. option_copied name ≡ next_of (given_in (own_of (agent_of self.now number) row)) (children_of self.now dir.now)) }
     {
-        let Some(course) = &self.course else {
+        let Some(course) = find_course(self.courses.as_slice(), number, row, dir) else {
             return None;
         };
-        if !is_of(course, number, row, dir) {
-            return None;
-        }
         match course.left.first() {
             Some(name) => Some(Some(name)),
             None => Some(None),
         }
     }
 
-    /// Follows an iterator over a directory, where it has given many names.
+    /// Follows an iterator over a directory, where it has given many names and few others are followed.
     pub fn follow(&mut self, alloc: Global, number: u32, row: u32, dir: &Place)
         requires agent { IsAgent self.old number }
         requires row { IsOwn (agent_of self.old number) row }
         ensures { self.new ≡ self.old }
     {
-        if self.next_followed(number, row, dir).is_none() {
-            self.course = course_in(alloc, &self.state, number, row, dir);
+        if self.next_followed(number, row, dir).is_some() {
+            return;
         }
+        if !has_given_many(&self.state, number, row) {
+            return;
+        }
+        if self.courses.len() < MOST {
+            let course = course_in(alloc, &self.state, number, row, dir);
+            keep(&mut self.courses, course);
+            return;
+        }
+        // If each new course ended another one, many iterators in turn would build one at each call.
+        self.missed = self.missed.saturating_add(1);
+        if self.missed < MISSES {
+            return;
+        }
+        self.missed = 0;
+        self.courses.clear();
     }
 
     /// Makes a row, where none is there.
@@ -180,12 +206,12 @@ impl Board {
             Err(at) => at,
         };
         let old = self.tally.take();
-        let followed = self.course.take();
+        let followed = mem::replace(&mut self.courses, Vec::new(alloc));
         let tally = raised(old, origin_of(place.0.as_bytes()), weigh_row(&place, &row));
-        let course = with_row(alloc, followed, &place);
+        let courses = with_row(alloc, followed, &place);
         insert_row(&mut self.state, at, place, row)?;
         self.tally = tally;
-        self.course = course;
+        self.courses = courses;
         Ok(())
     }
 
@@ -194,12 +220,12 @@ impl Board {
         ensures { self.new ≡ without self.old place.now }
     {
         let old = self.tally.take();
-        let followed = self.course.take();
+        let followed = mem::replace(&mut self.courses, Vec::new(self.alloc));
         let tally = lowered_in(old, &self.state, place);
-        let course = without_row(followed, place);
+        let courses = without_row(self.alloc, followed, place);
         remove_in(&mut self.state, place);
         self.tally = tally;
-        self.course = course;
+        self.courses = courses;
     }
 
     /// Puts another row in the place of one, and gives that.
@@ -239,12 +265,12 @@ impl Board {
         ensures old { own_of (agent_of self.old number) row ≡ Some result }
     {
         let old = self.tally.take();
-        let followed = self.course.take();
+        let followed = mem::replace(&mut self.courses, Vec::new(self.alloc));
         let tally = raised(old, own_origin(&own), Some(weigh_own(&own)));
-        let course = of_other(followed, number, row);
+        let courses = of_others(self.alloc, followed, number, row);
         let gone = exchange_own(&mut self.state, number, row, own);
         self.tally = lowered(tally, own_origin(&gone), Some(weigh_own(&gone)));
-        self.course = course;
+        self.courses = courses;
         gone
     }
 
@@ -260,12 +286,12 @@ impl Board {
         requires row { IsOwn (agent_of self.old number) row }
         ensures { OnOk result (self.new ≡ with_changed self.old number row (λ r. given_row r name)) }
     {
-        let followed = self.course.take();
-        let course = given_by(alloc, followed, number, row, &name);
+        let followed = mem::replace(&mut self.courses, Vec::new(alloc));
+        let courses = given_by(alloc, followed, number, row, &name);
         let mut own = self.swap_own(number, row, Own::ClosedStream);
         give_row(&mut own, name)?;
         self.swap_own(number, row, own);
-        self.course = course;
+        self.courses = courses;
         Ok(())
     }
 
@@ -324,10 +350,10 @@ impl Board {
     {
         let charge = mode_charge(&unit)?;
         let old = self.tally.take();
-        let followed = self.course.take();
+        let followed = mem::replace(&mut self.courses, Vec::new(self.alloc));
         let is_new = insert_mode(&mut self.state, unit)?;
         self.tally = with_mode(old, charge, is_new);
-        self.course = followed;
+        self.courses = followed;
         Ok(())
     }
 }
@@ -358,7 +384,19 @@ fn give_row(row: &mut Own, name: Option<Name>) -> Result<(), AllocError>
     Ok(())
 }
 
-/// The course of an iterator that has given many names.
+/// Whether an own row is an iterator that has given many names.
+fn has_given_many(state: &State<SharedBytes, Own>, number: u32, row: u32) -> bool
+    requires agent { IsAgent state.now number }
+    requires row { IsOwn (agent_of state.now number) row }
+{
+    let agent = &state.agents.items[number as usize - 1];
+    match &agent.own.items[row as usize - 1] {
+        Own::Iterator(iterator) => iterator.given.items.len() >= MANY,
+        _ => false,
+    }
+}
+
+/// The course of an iterator, where memory is not short.
 fn course_in(
     alloc: Global,
     state: &State<SharedBytes, Own>,
@@ -375,11 +413,8 @@ fn course_in(
         return None;
     };
     let given = iterator.given.items.as_slice();
-    if given.len() < MANY {
+    let Ok(course) = course_of(alloc, state.rows.items.as_slice(), number, row, dir, given) else {
         return None;
-    }
-    match course_of(alloc, state.rows.items.as_slice(), number, row, dir, given) {
-        Ok(course) => Some(course),
-        Err(_) => None,
-    }
+    };
+    Some(course)
 }

@@ -1,9 +1,9 @@
-//! What an iterator gives next, found by one look-up.
+//! What iterators give next, each found by one look-up.
 
-ghost use Rattle.std.specs.Prelude.{◌≡◌, IfOk, IfSome, IsSomeAnd, IsTrue, OnOk};
+ghost use Rattle.std.specs.Prelude.{◌≡◌, Contains, IfOk, IfSome, IsTrue, OnOk};
 ghost use Rattle.opfs_base.specs.Places.{child_name};
 ghost use Rattle.opfs_rulings.specs.Sets.{IsSetOf};
-ghost use Rattle.opfs_rulings.specs.Courses.{HasChild, HasGiven, HasLost, HasMore, HasOthers, IsGivenBy, IsOther, names_in};
+ghost use Rattle.opfs_rulings.specs.Courses.{AreFrom, GivesOrStays, HasChild, HasGiven, HasLost, HasMore, HasOthers, IsGivenBy, MayAdd, StaysBeside, names_in};
 
 use crate::rows::PlacedRow;
 use crate::sets::names_of;
@@ -93,11 +93,26 @@ fn with_child(alloc: Global, mut course: Course, place: &Place) -> Option<Course
     Some(course)
 }
 
-/// A course once a row was made at a place; none where memory is short.
-pub fn with_row(alloc: Global, course: Option<Course>, place: &Place) -> Option<Course>
-    ensures { IfSome result (λ new. IsSomeAnd course (λ old. HasMore place.now old new)) }
+/// Puts a course behind others, where there is one and memory is not short.
+pub fn keep(courses: &mut Vec<Course>, course: Option<Course>)
+    ensures { MayAdd course courses.old.items courses.new.items }
 {
-    with_child(alloc, course?, place)
+    let Some(course) = course else {
+        return;
+    };
+    let _ = courses.push(course);
+}
+
+/// Courses once a row was made at a place.
+pub fn with_row(alloc: Global, courses: Vec<Course>, place: &Place) -> Vec<Course>
+    ensures { AreFrom (HasMore place.now) courses.items result.items }
+{
+    let mut left = courses;
+    let mut moved = Vec::new(alloc);
+    while let Some(course) = left.pop() {
+        keep(&mut moved, with_child(alloc, course, place));
+    }
+    moved
 }
 
 /// A course without what stood at a place and below it; none where that is its directory, or above it.
@@ -114,11 +129,16 @@ fn without_place(mut course: Course, place: &Place) -> Option<Course>
     Some(course)
 }
 
-/// A course once the row at a place and all below it went; none where its directory went.
-pub fn without_row(course: Option<Course>, place: &Place) -> Option<Course>
-    ensures { IfSome result (λ new. IsSomeAnd course (λ old. HasLost place.now old new)) }
+/// Courses once the row at a place and all below it went, but for those whose directory went.
+pub fn without_row(alloc: Global, courses: Vec<Course>, place: &Place) -> Vec<Course>
+    ensures { AreFrom (HasLost place.now) courses.items result.items }
 {
-    without_place(course?, place)
+    let mut left = courses;
+    let mut moved = Vec::new(alloc);
+    while let Some(course) = left.pop() {
+        keep(&mut moved, without_place(course, place));
+    }
+    moved
 }
 
 /// A course whose iterator has given a name.
@@ -130,17 +150,16 @@ fn with_given(alloc: Global, mut course: Course, name: &Name) -> Result<Course, 
     Ok(course)
 }
 
-/// The same of an iterator that may be another one, of which then there is none, and may be at its end.
-pub fn given_by(
+/// The same of an iterator that may be at its end; none of another one.
+fn with_end(
     alloc: Global,
-    course: Option<Course>,
+    course: Course,
     agent: u32,
     row: u32,
     name: &Option<Name>,
 ) -> Option<Course>
-    ensures { IfSome result (λ new. IsSomeAnd course (λ old. IsGivenBy agent row name.now old new)) }
+    ensures { IfSome result (IsGivenBy agent row name.now course) }
 {
-    let course = course?;
     if course.agent != agent || course.row != row {
         return None;
     }
@@ -150,23 +169,86 @@ pub fn given_by(
     }
 }
 
-/// A course, where it is not that of an own row.
-pub fn of_other(course: Option<Course>, agent: u32, row: u32) -> Option<Course>
-    ensures { IfSome result (λ new. IsSomeAnd course (λ old. (new ≡ old) × IsOther agent row new)) }
+/// The same of an iterator that may be another one, whose course stays.
+fn passed(
+    alloc: Global,
+    course: Course,
+    agent: u32,
+    row: u32,
+    name: &Option<Name>,
+) -> Option<Course>
+    ensures { IfSome result (GivesOrStays agent row name.now course) }
 {
-    let course = course?;
+    if course.agent != agent || course.row != row {
+        return Some(course);
+    }
+    with_end(alloc, course, agent, row, name)
+}
+
+/// Courses once an iterator has given a name, or the end.
+pub fn given_by(
+    alloc: Global,
+    courses: Vec<Course>,
+    agent: u32,
+    row: u32,
+    name: &Option<Name>,
+) -> Vec<Course>
+    ensures { AreFrom (GivesOrStays agent row name.now) courses.items result.items }
+{
+    let mut left = courses;
+    let mut moved = Vec::new(alloc);
+    while let Some(course) = left.pop() {
+        keep(&mut moved, passed(alloc, course, agent, row, name));
+    }
+    moved
+}
+
+/// A course, where it is not that of an own row.
+fn other(course: Course, agent: u32, row: u32) -> Option<Course>
+    ensures { IfSome result (StaysBeside agent row course) }
+{
     if course.agent == agent && course.row == row {
         return None;
     }
     Some(course)
 }
 
+/// Courses, but for that of an own row.
+pub fn of_others(alloc: Global, courses: Vec<Course>, agent: u32, row: u32) -> Vec<Course>
+    ensures { AreFrom (StaysBeside agent row) courses.items result.items }
+{
+    let mut left = courses;
+    let mut moved = Vec::new(alloc);
+    while let Some(course) = left.pop() {
+        keep(&mut moved, other(course, agent, row));
+    }
+    moved
+}
+
 /// Whether a course is that of an iterator over a directory.
-pub fn is_of(course: &Course, agent: u32, row: u32, dir: &Place) -> bool
+fn is_of(course: &Course, agent: u32, row: u32, dir: &Place) -> bool
     ensures { IsTrue result → (course.now.agent ≡ agent) × (course.now.row ≡ row) × (course.now.dir ≡ dir.now) }
 {
     if course.agent != agent || course.row != row {
         return false;
     }
     compare_places(&dir.0, &dir.1, &course.dir).is_eq()
+}
+
+/// The course of an iterator over a directory, where it is among some.
+pub fn find_course<'a>(
+    courses: &'a [Course],
+    agent: u32,
+    row: u32,
+    dir: &Place,
+) -> Option<&'a Course>
+    ensures whose { IfSome result (λ course. (course.now.agent ≡ agent) × (course.now.row ≡ row) × (course.now.dir ≡ dir.now)) }
+    ensures among { IfSome result (λ course. Contains courses.now course.now) }
+{
+    for course in courses {
+        if is_of(course, agent, row, dir) {
+            return Some(course);
+        }
+    }
+    None
 }

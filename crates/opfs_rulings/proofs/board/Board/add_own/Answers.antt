@@ -9,5 +9,5 @@ invariant_of-self-2 c =
     record {
       kept = kept_added c.self.inside.state c.add_own.new.state c.args.number agent c.self.inside.tally c.self.invariant.kept c.args.row c.own_origin.result.now c.weigh_own.result
           c.take-old.result c.raised-tally.result c.take-old.ensures.value c.in_ok-add_own.ensures.ok c.own_origin.ensures c.weigh_own.ensures c.raised-tally.ensures;
-      courses = courses-added c.self.inside.state c.add_own.new.state c.self.inside.course c.self.invariant.courses c.args.number agent c.args.row c.in_ok-add_own.ensures.ok;
+      followed = courses-added c.self.inside.state c.add_own.new.state c.self.inside.courses.items c.self.invariant.followed c.args.number agent c.args.row c.in_ok-add_own.ensures.ok;
     }

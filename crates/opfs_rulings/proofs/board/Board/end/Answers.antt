@@ -12,4 +12,4 @@ invariant_of-self c =
     let agent : IsAgent c.self.inside.state c.args.number = rw c.self.view_is c.requires in
     let s = c.self.inside.state in
     let a : Agent Own = record (agent_of s c.args.number) { live = false; waits = None } in
-    record { kept = kept_agent s c.end.new.state c.args.number agent _ c.self.invariant.kept a c.end.ensures refl; courses = courses-agent s c.end.new.state c.self.inside.course c.self.invariant.courses c.args.number agent a c.end.ensures refl }
+    record { kept = kept_agent s c.end.new.state c.args.number agent _ c.self.invariant.kept a c.end.ensures refl; followed = courses-agent s c.end.new.state c.self.inside.courses.items c.self.invariant.followed c.args.number agent a c.end.ensures refl }

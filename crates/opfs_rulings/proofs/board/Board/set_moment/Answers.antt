@@ -12,4 +12,4 @@ invariant_of-self c =
     let agent : IsAgent c.self.inside.state c.args.number = rw c.self.view_is c.requires in
     let s = c.self.inside.state in
     let a : Agent Own = record (agent_of s c.args.number) { moment = c.args.moment } in
-    record { kept = kept_agent s c.set_moment.new.state c.args.number agent _ c.self.invariant.kept a c.set_moment.ensures refl; courses = courses-agent s c.set_moment.new.state c.self.inside.course c.self.invariant.courses c.args.number agent a c.set_moment.ensures refl }
+    record { kept = kept_agent s c.set_moment.new.state c.args.number agent _ c.self.invariant.kept a c.set_moment.ensures refl; followed = courses-agent s c.set_moment.new.state c.self.inside.courses.items c.self.invariant.followed c.args.number agent a c.set_moment.ensures refl }

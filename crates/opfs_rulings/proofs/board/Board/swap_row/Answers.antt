@@ -14,5 +14,5 @@ invariant_of-self c =
           c.exchange_row-gone.ensures.old refl
           (c.origin_of.ensures ∙ ap origin_of c.as_bytes.ensures) c.weigh_row.ensures c.raised-tally.ensures
           (c.origin_of-2.ensures ∙ ap origin_of c.as_bytes-2.ensures) c.weigh_row-2.ensures c.lowered.ensures);
-      courses = courses-set c.self.inside.state c.exchange_row-gone.new.state c.self.inside.course c.self.invariant.courses c.args.place.now c.exchange_row-gone.result c.args.row c.args.at c.exchange_row-gone.ensures.old c.exchange_row-gone.ensures.rows;
+      followed = courses-set c.self.inside.state c.exchange_row-gone.new.state c.self.inside.courses.items c.self.invariant.followed c.args.place.now c.exchange_row-gone.result c.args.row c.args.at c.exchange_row-gone.ensures.old c.exchange_row-gone.ensures.rows;
     }

@@ -1,0 +1,10 @@
+use Rattle.std.proofs.Common.{vec_len}
+use Rattle.opfs_rulings.specs.Courses.{StaysBeside}
+use Rattle.opfs_rulings.proofs.Moving.{Moves}
+use Rattle.opfs_rulings.proofs.course.of_others.Given as goal
+
+abbrev pub invariant-loop-course : goal.invariant-loop-course
+invariant-loop-course l = Moves (StaysBeside l.agent l.row) l.initial.left.items l.left.items l.moved.items
+
+abbrev pub decreases-loop-course : goal.decreases-loop-course
+decreases-loop-course l = vec_len l.left
