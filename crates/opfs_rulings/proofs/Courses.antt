@@ -30,7 +30,7 @@ use Rattle.opfs_rulings.proofs.Adding.{key_is}
 use Rattle.opfs_rulings.proofs.Moving.{all-each, all-from}
 use Rattle.opfs_rulings.proofs.Totals.{number_of}
 
-abbrev text_cmp : Text → Text → Ordering
+abbrev pub text_cmp : Text → Text → Ordering
 text_cmp = slice_cmp nat_cmp
 
 some-same : {X : Type 0} {x y : X} → Some x ≡ Some y → x ≡ y
@@ -51,10 +51,10 @@ or-all false = refl
 
 -- ---- texts
 
-same-is : (a b : Text) → same_text a b ≡ true → a ≡ b
+pub same-is : (a b : Text) → same_text a b ≡ true → a ≡ b
 same-is a b told = equal_texts a b (sym told)
 
-same-itself : (a : Text) → same_text a a ≡ true
+pub same-itself : (a : Text) → same_text a a ≡ true
 same-itself a = nat_list_eq_equiv.refl a
 
 same-at : (k name x : Text) → k ≡ name → is_at (text_cmp k) x ≡ same_text x name
@@ -161,7 +161,7 @@ rest-is (a ∷ path) (b ∷ names) name is = elim (cases_Bool (same_text a b)) [
 pair-is : (a b : Place) → a.0 ≡ b.0 → a.1 ≡ b.1 → a ≡ b
 pair-is (x, xs) (y, ys) first second = ap (λ (z : Text). (z, xs)) first ∙ ap (λ (zs : List Text). (y, zs)) second
 
-child-is : (dir place : Place) (name : Text) → child_name dir place ≡ Some name → place ≡ child dir name
+pub child-is : (dir place : Place) (name : Text) → child_name dir place ≡ Some name → place ≡ child dir name
 child-is dir place name is = elim (cases_Bool (same_text dir.0 place.0)) [
   | inl same ↦
       pair-is place (child dir name) (sym (same-is dir.0 place.0 same))
@@ -509,10 +509,10 @@ equal-by Less h = absurd cc
 equal-by Equal h = refl
 equal-by Greater h = absurd cc
 
-text-itself : (x : Text) → text_cmp x x ≡ Equal
+pub text-itself : (x : Text) → text_cmp x x ≡ Equal
 text-itself x = equal-by (text_cmp x x) (sym (texts_ties x x) ∙ same-itself x)
 
-abbrev path_cmp : List Text → List Text → Ordering
+abbrev pub path_cmp : List Text → List Text → Ordering
 path_cmp = slice_cmp (slice_cmp nat_cmp)
 
 paths-by : (path : List Text) (a b : Text) → path_cmp (path ++ a ∷ []) (path ++ b ∷ []) ≡ text_cmp a b
@@ -592,7 +592,7 @@ pub no-keys : (keys : List Text) → (0 < length keys → ⊥) → keys ≡ []
 no-keys [] none = refl
 no-keys (k ∷ keys) none = absurd (none (omega arith))
 
-and-first : (a b : Bool) → (a && b) ≡ true → a ≡ true
+pub and-first : (a b : Bool) → (a && b) ≡ true → a ≡ true
 and-first true b h = refl
 and-first false b h = absurd (false≢true h)
 

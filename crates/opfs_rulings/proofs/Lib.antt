@@ -12,3 +12,4 @@ pub mod Taking
 pub mod Totals
 pub mod Uses
 pub mod Weighing
+pub mod Within

@@ -1,6 +1,7 @@
 -- Where a place stands among rows in their order.
-use Rattle.std.specs.Prelude.{◌≡◌, ℕ, ◌<◌, ◌≤◌, [], ◌∷◌, length, take, drop, slice_get, Some}
+use Rattle.std.specs.Prelude.{◌≡◌, ℕ, ◌<◌, ◌≤◌, false, [], ◌∷◌, length, take, drop, slice_get, Some}
 use Rattle.std.specs.List.{AllByRecursion}
+use Rattle.std.specs.Ordering.{is_gt}
 use Rattle.std.specs.declared.cmp.Ordering.TheVariants.{Less, Greater}
 use Rattle.opfs_base.specs.Places.{Place, place_cmp}
 use Rattle.opfs_base.specs.Texts.{Text}
@@ -31,3 +32,13 @@ pub record IsMissing (place : Place) (rows : Rows Text) (at : ℕ) : Type 0 wher
   pub within : at ≤ length rows
   pub behind : IsBehind place (take at rows)
   pub before : IsBefore place (drop at rows)
+
+-- A place is not behind any of these rows.
+abbrev pub IsUpto : Place → Rows Text → Type 0
+IsUpto place rows = AllByRecursion (λ e. is_gt (place_cmp place e.0) ≡ false) rows
+
+-- From this index on the rows are not before a place, and those in front of it are.
+pub record IsFirst (place : Place) (rows : Rows Text) (at : ℕ) : Type 0 where
+  pub within : at ≤ length rows
+  pub behind : IsBehind place (take at rows)
+  pub upto : IsUpto place (drop at rows)

@@ -13,7 +13,7 @@ ghost use Rattle.opfs_machine.specs.Replies.{given_in};
 ghost use Rattle.opfs_machine.specs.Rows.{row_at, without, change_at, children_of};
 ghost use Rattle.opfs_machine.specs.Sums.{usage, pool, charge};
 ghost use Rattle.opfs_machine.specs.declared.state.FileRow.{FileRow};
-ghost use Rattle.opfs_rulings.specs.Courses.{IsCourse, given_row};
+ghost use Rattle.opfs_rulings.specs.Courses.{IsCourse, given_row, names_in};
 ghost use Rattle.opfs_rulings.specs.Known.{IsAgent, IsOwn};
 ghost use Rattle.opfs_rulings.specs.Spots.{IsThere};
 ghost use Rattle.opfs_rulings.specs.Tallies.{given, IsRaised};
@@ -25,6 +25,8 @@ use crate::parts::{
     add_own, count, end, exchange_own, exchange_row, insert_mode, insert_row, lowered_in,
     remove_in, row_in, set_moment, set_waiting, spot_in,
 };
+use crate::rows::PlacedRow;
+use crate::spots::rows_within;
 use crate::tally::{Tally, Weight, lowered, no_uses, raised, use_of};
 use crate::weights::{own_origin, weigh_own, weigh_row};
 use opfs_base::{Bytes, Key, Name, Path, SharedBytes, mode_charge, origin_of, plus, times};
@@ -114,6 +116,13 @@ impl Board {
             Ok(at) => Some(at),
             Err(_) => None,
         }
+    }
+
+    /// The row of a directory and those below it, among which its children stand.
+    pub fn rows_within(&self, dir: &Place) -> &[PlacedRow]
+        ensures { names_in dir.now result.now ≡ children_of self.now dir.now }
+    {
+        rows_within(self.state.rows.items.as_slice(), dir)
     }
 
     /// The pool.

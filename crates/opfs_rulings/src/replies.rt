@@ -277,7 +277,7 @@ pub fn next_given<'a>(
         return Ok(name);
     }
     let given = given_names(state, number, row);
-    let name = next_name(alloc, state.held().rows.items.as_slice(), place, given)?;
+    let name = next_name(alloc, state.rows_within(place), place, given)?;
     Ok(name)
 }
 

@@ -1,10 +1,11 @@
 //! Where a place stands among rows in their order.
 
-ghost use Rattle.std.specs.Prelude.{◌≡◌, not, filter, IfOk, IfErr};
+ghost use Rattle.std.specs.Prelude.{◌≡◌, ◌≤◌, not, filter, length, take, IfOk, IfErr};
 ghost use Rattle.std.specs.Option.{option_copied};
 ghost use Rattle.std.specs.FinMap.Entries.{find};
 ghost use Rattle.opfs_base.specs.Places.{place_cmp, is_within};
-ghost use Rattle.opfs_rulings.specs.Spots.{AreRising, IsThere, IsMissing};
+ghost use Rattle.opfs_rulings.specs.Courses.{names_in};
+ghost use Rattle.opfs_rulings.specs.Spots.{AreRising, IsFirst, IsThere, IsMissing, IsUpto};
 
 use crate::rows::PlacedRow;
 use opfs_base::{Key, Path, SharedBytes, compare_places, is_within};
@@ -42,6 +43,58 @@ pub fn find_row<'a>(rows: &'a [PlacedRow], key: &Key, path: &Path) -> Option<&'a
         Ok(at) => Some(&rows[at].1),
         Err(_) => None,
     }
+}
+
+/// The index of the first row that is not before a place.
+fn first_from(rows: &[PlacedRow], place: &Place) -> usize
+    requires { AreRising rows.now }
+    ensures { IsFirst place.now rows.now result }
+{
+    match spot_of(rows, &place.0, &place.1) {
+        Ok(at) => at,
+        Err(at) => at,
+    }
+}
+
+/// The rows that are not before a place.
+fn rows_from<'a>(rows: &'a [PlacedRow], place: &Place) -> &'a [PlacedRow]
+    requires { AreRising rows.now }
+    ensures rising { AreRising result.now }
+    ensures upto { IsUpto place.now result.now }
+    ensures names { names_in place.now result.now ≡ names_in place.now rows.now }
+{
+    let at = first_from(rows, place);
+    &rows[at..]
+}
+
+/// How many rows, none of them before a place, stand in front of the first that is not within it.
+fn end_within(rows: &[PlacedRow], place: &Place) -> usize
+    requires rising { AreRising rows.now }
+    requires upto { IsUpto place.now rows.now }
+    ensures within { result ≤ length rows.now }
+    ensures names { names_in place.now (take result rows.now) ≡ names_in place.now rows.now }
+{
+    let mut low = 0;
+    let mut high = rows.len();
+    while low < high {
+        let middle = low + (high - low) / 2;
+        if is_within(&place.0, &place.1, &rows[middle].0) {
+            low = middle + 1;
+        } else {
+            high = middle;
+        }
+    }
+    high
+}
+
+/// The row at a place and those below it.
+pub fn rows_within<'a>(rows: &'a [PlacedRow], place: &Place) -> &'a [PlacedRow]
+    requires { AreRising rows.now }
+    ensures { names_in place.now result.now ≡ names_in place.now rows.now }
+{
+    let rest = rows_from(rows, place);
+    let end = end_within(rest, place);
+    &rest[..end]
 }
 
 /// Takes out the row at a place and all below it.
