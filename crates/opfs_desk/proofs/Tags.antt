@@ -12,7 +12,7 @@ use Rattle.opfs_laws.proofs.lengths.Readers.{agent-on}
 use Rattle.opfs_machine.specs.Contents.{outline_of}
 use Rattle.opfs_machine.specs.declared.own.Own.{Own}
 use Rattle.opfs_machine.specs.declared.state.State.{State}
-use Rattle.opfs_machine.specs.Agents.{is_posted, others_stuck, party_of, party_with}
+use Rattle.opfs_machine.specs.Agents.{agent_of, is_posted, others_stuck, party_of, party_with, waits_for}
 use Rattle.opfs_space.specs.Room.{Machine}
 use Rattle.opfs_state.specs.Verdicts.Callers.{IsAgent}
 
@@ -46,3 +46,7 @@ module _ (decide : LengthsDecideEachRuling) (s : State Text Own) (m : Machine) (
 
 pub agent-there : (s : State Text Own) (m : Machine) (k : ℕ) → m ≡ in_lengths_of s → IsThere s k → IsAgent m k
 agent-there s m k machine there = record { above = there.above; within = omega (arith, there.within, ap (λ (x : Machine). length x.agents) machine, length-map s.agents (on_agent outline_of)) }
+
+-- What an agent waits for.
+pub waits-is : (s : State Text Own) (m : Machine) (k : ℕ) (tag : Text) → m ≡ in_lengths_of s → waits_for (agent_of m k).waits tag ≡ waits_for (agent_of s k).waits tag
+waits-is s m k tag machine = ap (λ (x : Machine). waits_for (agent_of x k).waits tag) machine ∙ ap (λ a. waits_for a.waits tag) (agent-on length outline_of s k)

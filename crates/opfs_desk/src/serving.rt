@@ -44,6 +44,10 @@ impl<D: Disk> Store for Desk<D> {
         Desk::await_state(self, agent, tag)
     }
 
+    fn waits_for(&self, agent: u32, tag: &str) -> bool {
+        Desk::waits_for(self, agent, tag)
+    }
+
     fn give_out(&mut self) -> Given {
         Desk::give_out(self)
     }

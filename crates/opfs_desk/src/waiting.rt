@@ -4,6 +4,7 @@ ghost use Rattle.std.specs.Prelude.{◌≡◌};
 ghost use Rattle.opfs_store.specs.Acts.Acting.{awaited};
 ghost use Rattle.opfs_store.specs.Acts.Asking.{IsThere};
 ghost use Rattle.opfs_desk.specs.Seen.{entries_of};
+ghost use Rattle.opfs_machine.specs.Agents.{agent_of, waits_for};
 ghost use Rattle.opfs_machine.specs.Histories.{state_after};
 
 use crate::desk::Desk;
@@ -26,5 +27,14 @@ impl<D: Disk> Desk<D> {
         } else {
             AwaitState::Neither
         }
+    }
+
+    /// Whether an agent waits for a tag (this project's own). Takes no memory.
+    pub fn waits_for(&self, agent: u32, tag: &str) -> bool
+        requires { IsThere (state_after self.now.fixed.opening (entries_of self.now)) agent }
+        ensures { result ≡ waits_for (agent_of (state_after self.now.fixed.opening (entries_of self.now)) agent).waits tag.now }
+    {
+        let state = &self.parts.ledger.books.state;
+        state.waits_for(agent, tag.as_bytes())
     }
 }

@@ -151,6 +151,10 @@ impl<'a, S: Store, K: Sink> Store for Teller<'a, S, K> {
         self.store.await_state(agent, tag)
     }
 
+    fn waits_for(&self, agent: u32, tag: &str) -> bool {
+        self.store.waits_for(agent, tag)
+    }
+
     fn give_out(&mut self) -> Given {
         self.store.give_out()
     }

@@ -12,6 +12,7 @@ pub trait Store: Chronicle<Entry = Entry> {
     ghost use Rattle.std.specs.Prelude.{◌≡◌, [], ◌++◌, ◌+◌, ◌^◌, ◌<◌, ◌≤◌, ℕ, drop, length, IfOk, OnErr, is_ok, IsTrue, true};
     ghost use Rattle.opfs_hist.specs.Faults.{disk_faults};
     ghost use Rattle.opfs_hist.specs.declared.entry.Entry.{Entry};
+    ghost use Rattle.opfs_machine.specs.Agents.{agent_of, waits_for};
     ghost use Rattle.opfs_machine.specs.Histories.{state_after};
     ghost use Rattle.opfs_machine.specs.Openings.{Opening};
     ghost use Rattle.opfs_laws.specs.Histories.Unread.{IsTold};
@@ -70,6 +71,11 @@ pub trait Store: Chronicle<Entry = Entry> {
     fn await_state(&self, agent: u32, tag: &str) -> AwaitState
         requires { IsThere (state_after (opened (Self.opening self.now)) (Self.entries self.now)) agent }
         ensures { result ≡ awaited (state_after (opened (Self.opening self.now)) (Self.entries self.now)) agent tag.now };
+
+    /// Whether an agent waits for a tag (this project's own). Takes no memory.
+    fn waits_for(&self, agent: u32, tag: &str) -> bool
+        requires { IsThere (state_after (opened (Self.opening self.now)) (Self.entries self.now)) agent }
+        ensures { result ≡ waits_for (agent_of (state_after (opened (Self.opening self.now)) (Self.entries self.now)) agent).waits tag.now };
 
     /// Gives out the entries that were not given out before. It stands for the same history, and no longer holds them. Takes no
     /// memory.
