@@ -1,7 +1,8 @@
 -- The agent of a seat ends in a conversation.
-use Rattle.std.proofs.Common.{◌≡◌, ◌≢◌, ◌⊎◌, ℕ, suc, Bool, true, false, Some, None, Option, List, [], ◌∷◌, ◌++◌, refl, sym, ap, ◌∙◌, subst, inl, inr, slice_set, slice_index_or, length, ◌<◌, ◌+◌, arith}
+use Rattle.std.proofs.Common.{◌≡◌, ◌≢◌, ◌⊎◌, ℕ, suc, Bool, true, false, Some, None, Option, List, [], ◌∷◌, ◌++◌, refl, sym, ap, ◌∙◌, subst, inl, inr, slice_set, slice_index_or, length, ◌<◌, ◌+◌, arith, append_assoc, drop}
 use Rattle.std.specs.Prelude.{All, slice_get}
 use Rattle.std.proofs.lemmas.Bool.{cases_eq}
+use Rattle.std.proofs.lemmas.List.{drop_at}
 use Rattle.std.proofs.lemmas.Option.{slice_get-get_or}
 use Rattle.opfs_hall.proofs.Owned.{prefix_refl}
 use Rattle.opfs_hall.specs.History.{IsPrefix}
@@ -10,7 +11,7 @@ use Rattle.opfs_hist.specs.declared.entry.Entry.{Entry}
 use Rattle.opfs_runner.specs.Runs.{HasEntries}
 use Rattle.opfs_script.specs.Scripts.{Asked}
 use Rattle.opfs_script_run.specs.Runs.Running.{entries_of}
-use Rattle.opfs_serving.specs.Endings.{HasLeft}
+use Rattle.opfs_serving.specs.Endings.{EndsBehind, HasLeft}
 use Rattle.opfs_serving.specs.Exchanges.{Exchange}
 use Rattle.opfs_serving.specs.Lines.{has_end}
 use Rattle.opfs_serving.specs.Seats.{AreSeated, EndsAt, IsMidway, SeatSeen}
@@ -23,7 +24,7 @@ use Rattle.opfs_serving.proofs.Faulted.{faulted-more, faults-told}
 use Rattle.opfs_serving.proofs.Midway.{midway-whole}
 use Rattle.opfs_serving.proofs.Polls.{gone-none, set-same, stands-midway, stands-still, stands-told}
 use Rattle.opfs_serving.proofs.Seating.{place, seated-ended, seated-script}
-use Rattle.opfs_serving.proofs.Showing.{over-more, told-set}
+use Rattle.opfs_serving.proofs.Showing.{over-behind, over-more, told-set}
 use Rattle.opfs_serving.proofs.Talking.{talk-stands}
 
 some-same : {X : Type 0} {x y : X} → Some x ≡ Some y → x ≡ y
@@ -37,7 +38,7 @@ module _ {T O P : Type 0} (w : Words T O P) (lasts : (u v x : T) → w.goes u v 
     (i : ℕ) (x x' : SeatSeen O) (seat-is : slice_get seats i ≡ Some x) (left : x'.agent ≡ None)
     (as_well : q.state ≡ p.state) (count : q.count ≡ p.count) (whole : q.whole ≡ true → (p.whole ≡ true) × (p.state ≡ state.On) × (x.awaits ≡ None)) where
   -- Its entries are those of its script, or of a front of it where it is not whole.
-  has-entries : (a : AgentSeen O) → x.agent ≡ Some a → (s : Asked) → slice_get v.scripts i ≡ Some s → HasLeft w.reads of x a watch after → (base : List Entry)
+  has-entries : (a : AgentSeen O) → x.agent ≡ Some a → (s : Asked) → slice_get v.scripts i ≡ Some s → HasLeft w.entries w.reads of x a watch after → (base : List Entry)
       → ((k : ℕ) (asked : Asked) (b : Bool) → EndsAt w.reads of k asked b x a → HasEntries asked b (entries_of k base)) → (b : Bool) → q.whole ≡ b → HasEntries s b (entries_of (suc i) base)
   has-entries a here s script l base entries false is = entries (suc i) s false (v.seated.ends i x a s seat-is here script)
   has-entries a here s script l base entries true is =
@@ -53,7 +54,7 @@ module _ {T O P : Type 0} (w : Words T O P) (lasts : (u v x : T) → w.goes u v 
   abbrev pub Stood : Type 0
   Stood = (s : IsStanding w of agents begun now after (slice_set seats i x') q) × (s.told ≡ v.told) × (s.talk.talk ≡ v.talk.talk)
 
-  leaves : ((a : AgentSeen O) → x.agent ≡ Some a → x'.rows ≡ []) → (a : AgentSeen O) → x.agent ≡ Some a → HasLeft w.reads of x a watch after → Stood
+  leaves : ((a : AgentSeen O) → x.agent ≡ Some a → x'.rows ≡ []) → (a : AgentSeen O) → x.agent ≡ Some a → HasLeft w.entries w.reads of x a watch after → Stood
   leaves rows a here l =
       let s = seated-script w.reads of (p.state ≡ state.On) p.whole v.scripts seats watch.pass.ended v.seated i x seat-is in
       let e = v.seated.ends i x a s.0 seat-is here s.1 in
@@ -89,24 +90,42 @@ module _ {T O P : Type 0} (w : Words T O P) (lasts : (u v x : T) → w.goes u v 
       (sym (λ i'. (same.0 i', (ap (slice_set seats i) same.1 ∙ set-same seats i x seat-is) i')))
       (stands-still w lasts stays of agents begun now watch seats p v now watch q (λ b. refl) (gone-none w of stays watch v.opened) (λ on. sym as_well ∙ on) (λ on. count) (λ is. (whole is).0))
 
-  pub stands-left : ((a : AgentSeen O) → x.agent ≡ Some a → x'.rows ≡ []) → (x.agent ≡ None → (after ≡ watch) × (x' ≡ x)) → ((a : AgentSeen O) → x.agent ≡ Some a → HasLeft w.reads of x a watch after) → Stood
+  pub stands-left : ((a : AgentSeen O) → x.agent ≡ Some a → x'.rows ≡ []) → (x.agent ≡ None → (after ≡ watch) × (x' ≡ x)) → ((a : AgentSeen O) → x.agent ≡ Some a → HasLeft w.entries w.reads of x a watch after) → Stood
   stands-left rows none has = by x.agent refl
     where
       by : (o : Option (AgentSeen O)) → x.agent ≡ o → Stood
       by (Some a) here = leaves rows a here (has a here)
       by None gone = stays-gone (none gone)
 
--- Its end is among what is told behind that.
-pub left-over : {T O : Type 0} (tells : Type 0) (of : HallSeen O) (i : ℕ) (x : SeatSeen O) (a : AgentSeen O) (before after : WatchSeen O Entry T) (list : List Entry) → HasLeft tells of x a before after
-    → a.pass.agent ≡ suc i → IsPrefix after.pass.base list → has_end (suc i) list ≡ true
-left-over {T} {O} tells of i x a before after list l agent front =
-    over-more (suc i) l.base list (subst (λ es. IsPrefix es list) (ap (λ (r : PassSeen O Entry). r.base) l.pass) front) (subst (λ k. has_end k l.base ≡ true) agent l.over)
+-- Its end is among what is told behind that, and behind what was told before.
+module _ {T O : Type 0} (entries : T → List Entry) (tells : Type 0) (of : HallSeen O) (i : ℕ) (x : SeatSeen O) (a : AgentSeen O) (before after : WatchSeen O Entry T) (list : List Entry)
+    (l : HasLeft entries tells of x a before after) (agent : a.pass.agent ≡ suc i) (noted : IsPrefix after.pass.base list) where
+  over : EndsBehind (entries before.last) (suc i) l.base
+  over = subst (λ k. EndsBehind (entries before.last) k l.base) agent l.over
+
+  later : IsPrefix l.base list
+  later = subst (λ es. IsPrefix es list) (ap (λ (r : PassSeen O Entry). r.base) l.pass) noted
+
+  pub left-over : has_end (suc i) list ≡ true
+  left-over = over-more (suc i) l.base list later (ap (has_end (suc i)) over.1 ∙ over-behind (suc i) (entries before.last) over.0 over.2)
+
+  pub left-told : (told es : List Entry) → IsPrefix told (entries before.last) → told ++ es ≡ list → has_end (suc i) es ≡ true
+  left-told told es seen is =
+      let more = over.0 ++ later.0 in
+      let whole : list ≡ told ++ (seen.0 ++ more) =
+      later.1
+      ∙ ap (λ xs. xs ++ later.0) over.1
+      ∙ append_assoc (entries before.last) over.0 later.0
+      ∙ ap (λ xs. xs ++ more) seen.1
+      ∙ append_assoc told seen.0 more in
+      let same : es ≡ seen.0 ++ more = sym (drop_at told es (length told) refl) ∙ ap (drop (length told)) (is ∙ whole) ∙ drop_at told (seen.0 ++ more) (length told) refl in
+      ap (has_end (suc i)) same ∙ over-behind (suc i) seen.0 more (over-more (suc i) over.0 more (later.0, refl) over.2)
 
 -- Then what was entered is told. Of the seat it was asked whether its agent awaits.
 module _ {T O P : Type 0} (w : Words T O P) (lasts : (u v x : T) → w.goes u v → w.goes v x → w.goes u x) (stays : (v : T) → w.goes v v) (of : HallSeen O) (agents : List Asked) (begun now : P)
     (watch : WatchSeen O Entry T) (seats : List (SeatSeen O)) (p : Progress) (v : IsServing w of agents begun now watch seats p) (i : ℕ) (x : SeatSeen O) (seat-is : slice_get seats i ≡ Some x) where
   pub serving-left_told : (y x' : SeatSeen O) → slice_get seats i ≡ Some y → x'.agent ≡ None → (b : Bool) → (b ≡ true → (p.whole ≡ true) × (p.state ≡ state.On) × (y.awaits ≡ None)) → (after : WatchSeen O Entry T)
-      → ((a : AgentSeen O) → x.agent ≡ Some a → x'.rows ≡ []) → (x.agent ≡ None → (after ≡ watch) × (x' ≡ x)) → ((a : AgentSeen O) → x.agent ≡ Some a → HasLeft w.reads of x a watch after)
+      → ((a : AgentSeen O) → x.agent ≡ Some a → x'.rows ≡ []) → (x.agent ≡ None → (after ≡ watch) × (x' ≡ x)) → ((a : AgentSeen O) → x.agent ≡ Some a → HasLeft w.entries w.reads of x a watch after)
       → (later : P) (last : WatchSeen O Entry T) (q : Progress) → HasTurned w.opening w.entries w.keeps w.goes of after last → HasToldMore w.entries w.tells w.said w.faults last.last now later (record p { whole = b }) q
       → IsServing w of agents begun later last (slice_set seats i x') q
   serving-left_told y x' same left b whole after rows none has later last q turned told =
@@ -129,11 +148,11 @@ module _ {T O P : Type 0} (w : Words T O P) (lasts : (u v x : T) → w.goes u v 
       over-by : p.state ≡ state.On → (list : List Entry) → IsPrefix v.stands.told list → IsPrefix after.pass.base list → (o : Option (AgentSeen O)) → x.agent ≡ o → has_end (suc i) list ≡ true
       over-by on list front noted (Some a) here =
           let m = stands-midway w lasts stays of agents begun now watch seats p v.stands i x seat-is on a here in
-          left-over w.reads of i x a watch after list (has a here) m.2.agent noted
+          left-over w.entries w.reads of i x a watch after list (has a here) m.2.agent noted
       over-by on list front noted None gone = over-more (suc i) v.stands.told list front ((v.all_told on).over i x seat-is gone)
 
   -- The owner's pass stays of its hall, and the owner's.
-  pub left-hall : (x' : SeatSeen O) (after : WatchSeen O Entry T) → (x.agent ≡ None → (after ≡ watch) × (x' ≡ x)) → ((a : AgentSeen O) → x.agent ≡ Some a → HasLeft w.reads of x a watch after)
+  pub left-hall : (x' : SeatSeen O) (after : WatchSeen O Entry T) → (x.agent ≡ None → (after ≡ watch) × (x' ≡ x)) → ((a : AgentSeen O) → x.agent ≡ Some a → HasLeft w.entries w.reads of x a watch after)
       → (after.pass.hall ≡ of) × (after.pass.agent ≡ 0)
   left-hall x' after none has = by x.agent refl
     where

@@ -6,7 +6,6 @@ use Rattle.opfs_base.specs.Texts.{Text}
 use Rattle.opfs_hall.specs.History.{IsPrefix}
 use Rattle.opfs_hall.specs.Seen.{HallSeen, PassSeen, WatchSeen}
 use Rattle.opfs_hist.specs.declared.entry.Entry.{Entry}
-use Rattle.opfs_machine.specs.Histories.{state_after}
 use Rattle.opfs_port.specs.Said.{Said, told}
 use Rattle.opfs_script.specs.Scripts.{Asked}
 use Rattle.opfs_script.specs.Lines.{named_agent}
@@ -28,7 +27,7 @@ use Rattle.opfs_serving.specs.declared.refusal.LineRefusal.{LineRefusal}
 use Rattle.opfs_serving.specs.declared.refusal.LineRefusal.TheVariants as refusal
 use Rattle.opfs_serving.proofs.Awaiting.{still-midway}
 use Rattle.opfs_serving.proofs.Faulted.{faults-said, faults-short, faults-told}
-use Rattle.opfs_serving.proofs.Leaves.{left-over}
+use Rattle.opfs_serving.proofs.Leaves.{left-over, left-told}
 use Rattle.opfs_serving.proofs.Midway.{midway-whole}
 use Rattle.opfs_serving.proofs.Polls.{serving-polled, set-there, stands-midway}
 use Rattle.opfs_serving.proofs.Seating.{length-set, place, seated-ended, seated-script, seated-weaker}
@@ -37,8 +36,6 @@ use Rattle.opfs_serving.proofs.Quiet.{number-grows, number-is, waits-on}
 use Rattle.opfs_serving.proofs.Steps.{asks-next, emptied-set, looked-after, not-first, serves, short-on, talk-by, talk-entered, talk-silent}
 use Rattle.opfs_serving.proofs.Talking.{front-none}
 use Rattle.opfs_hall.proofs.Owned.{prefix_trans}
-use Rattle.opfs_store.specs.Acts.Acting.{awaited}
-use Rattle.opfs_store.specs.declared.acts.acted.AwaitState.TheVariants as await
 use Rattle.opfs_turns.specs.Agents.{AgentSeen, IsAgent}
 use Rattle.opfs_turns.specs.Calls.{HasLooked}
 
@@ -66,8 +63,8 @@ may-end w of agents begun before watch seats p v on i x a there here free =
     (suc i, script.0, true, free-ends w.reads of (suc i) script.0 x a (v.stands.seated.midway on i x a script.0 there here script.1) free)
 
 -- The pass that has collected one is of the same hall.
-pub left-hall : {T O : Type 0} (tells : Type 0) (of : HallSeen O) (x : SeatSeen O) (a : AgentSeen O) (before after : WatchSeen O Entry T) → HasLeft tells of x a before after → before.pass.hall ≡ of → after.pass.hall ≡ of
-left-hall {T} {O} tells of x a before after l hall = ap (λ (y : PassSeen O Entry). y.hall) l.pass ∙ hall
+pub left-hall : {T O : Type 0} (list : T → List Entry) (tells : Type 0) (of : HallSeen O) (x : SeatSeen O) (a : AgentSeen O) (before after : WatchSeen O Entry T) → HasLeft list tells of x a before after → before.pass.hall ≡ of → after.pass.hall ≡ of
+left-hall {T} {O} list tells of x a before after l hall = ap (λ (y : PassSeen O Entry). y.hall) l.pass ∙ hall
 
 -- ---- a line is refused for its cause
 
@@ -156,7 +153,7 @@ module _ {T O P : Type 0} (w : Words T O P) (lasts : (a b c : T) → w.goes a b 
     script : (t : Asked) × (slice_get here.scripts i ≡ Some t)
     script = seated-script w.reads of (p.state ≡ state.On) p.whole here.scripts seats watch.pass.ended here.seated i x there
 
-    asks : (es : List Entry) → has_end (suc i) (here.told ++ es) ≡ true → IsAsked (length here.talk.talk) here.scripts here.told (Some line) None (entered es)
+    asks : (es : List Entry) → has_end (suc i) es ≡ true → IsAsked (length here.talk.talk) here.scripts here.told (Some line) None (entered es)
     asks es over =
         let n = asks-next w of agents begun before watch seats p here on line i r.seat r.rest r.free r.at (Ok asking.End) r.asks in
         ends line (suc i) n.0 r.rest es n.1 n.2 n.3 over
@@ -164,14 +161,14 @@ module _ {T O P : Type 0} (w : Words T O P) (lasts : (a b c : T) → w.goes a b 
     may : EndsAt w.reads of (suc i) script.0 true x free.agent
     may = free-ends w.reads of (suc i) script.0 x free.agent (here.seated.midway on i x free.agent script.0 there free.there script.1) free.free
 
-    pub agent-ended : (left after : WatchSeen O Entry T) (now : P) (q : Progress) → HasLeft w.reads of x free.agent watch left → x'.agent ≡ None → x'.rows ≡ []
+    pub agent-ended : (left after : WatchSeen O Entry T) (now : P) (q : Progress) → HasLeft w.entries w.reads of x free.agent watch left → x'.agent ≡ None → x'.rows ≡ []
         → HasTurned w.opening w.entries w.keeps w.goes of left after → HasToldMore w.entries w.tells w.said w.faults after.last port now p q → IsServing w of agents begun now after (slice_set seats i x') q
     agent-ended left after now q l none empty turned more =
         let goes : w.goes watch.last after.last = subst (λ t. w.goes t after.last) l.last turned.goes_on in
         let front : IsPrefix (w.entries watch.last) (w.entries after.last) = subst (λ t. IsPrefix (w.entries t) (w.entries after.last)) l.last turned.front in
-        let over : has_end (suc i) (w.entries after.last) ≡ true = left-over w.reads of i x free.agent watch left (w.entries after.last) l may.agent turned.noted in
+        let over : has_end (suc i) (w.entries after.last) ≡ true = left-over w.entries w.reads of i x free.agent watch left (w.entries after.last) l may.agent turned.noted in
         let talk = talk-entered w lasts stays of agents begun before port watch seats p u on line came quiet now None after.last q
-        (λ es is. asks es (subst (λ l. has_end (suc i) l ≡ true) (sym is) over)) turned.kept tt goes front more in
+        (λ es is. asks es (left-told w.entries w.reads of i x free.agent watch left (w.entries after.last) l may.agent turned.noted here.told es here.talk.front is)) turned.kept tt goes front more in
         let has = l.entries (suc i) script.0 true may in
         let gone : watch.pass.ended ++ (suc i, l.base) ∷ [] ≡ after.pass.ended =
         sym (ap (λ (y : PassSeen O Entry). y.ended) turned.pass ∙ ap (λ (y : PassSeen O Entry). y.ended) l.pass ∙ ap (λ k. watch.pass.ended ++ (k, l.base) ∷ []) may.agent) in

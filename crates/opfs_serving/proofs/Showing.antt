@@ -1,5 +1,5 @@
 -- What was told of agents, as more is told.
-use Rattle.std.proofs.Common.{◌≡◌, ◌≢◌, ◌⊎◌, ℕ, suc, ◌+◌, ◌<◌, ◌≤◌, ◌==◌, ◌&&◌, ◌||◌, true, Some, None, List, [], ◌∷◌, ◌++◌, append-nil, length, refl, sym, ap, ◌∙◌, subst, inl, inr, arith, slice_set}
+use Rattle.std.proofs.Common.{◌≡◌, ◌≢◌, ◌⊎◌, ℕ, suc, ◌+◌, ◌<◌, ◌≤◌, ◌==◌, ◌&&◌, ◌||◌, Bool, true, false, Some, None, List, [], ◌∷◌, ◌++◌, append-nil, length, refl, sym, ap, ◌∙◌, subst, inl, inr, arith, slice_set}
 use Rattle.std.specs.Prelude.{slice_get}
 use Rattle.std.proofs.lemmas.List.Elements.{filter-append}
 use Rattle.std.proofs.lemmas.List.Folds.{list_any-append}
@@ -18,9 +18,19 @@ use Rattle.opfs_turns.specs.Agents.{AgentSeen, known, entries_of as count_entrie
 
 -- ---- an end, and an agent's own entries, in a list that grows
 
+or-true : (b : Bool) → (b || true) ≡ true
+or-true true = refl
+or-true false = refl
+
 pub over-more : (k : ℕ) (told later : List Entry) → IsPrefix told later → has_end k told ≡ true → has_end k later ≡ true
 over-more k told later front is =
     ap (has_end k) front.1 ∙ list_any-append (λ (e : Entry). (e.agent == k) && is_end e.op) told front.0 ∙ ap (λ b. b || has_end k front.0) is
+
+pub over-behind : (k : ℕ) (front later : List Entry) → has_end k later ≡ true → has_end k (front ++ later) ≡ true
+over-behind k [] later is = is
+over-behind k (e ∷ front) later is =
+    let here = (e.agent == k) && is_end e.op in
+    ap (λ b. here || b) (over-behind k front later is) ∙ or-true here
 
 pub own-more : (k : ℕ) (base list : List Entry) → IsPrefix base list → IsPrefix (entries_of k base) (entries_of k list)
 own-more k base list front = (entries_of k front.0, ap (entries_of k) front.1 ∙ filter-append (λ (e : Entry). e.agent == k) base front.0)

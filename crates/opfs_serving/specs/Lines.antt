@@ -87,12 +87,12 @@ pub data IsRefusal (scripts : List Asked) (told : List Entry) (text : Text) : Li
   too_many : (k : ℕ) (rest : Text) → Names (length scripts) text k rest → 59900000 < count_of k told + count_of k told → IsRefusal scripts told text line.TooMany
 
 -- A line, the step that it asks for, and its answer, where so many answers went out before and these entries were told. The first tells of how many
--- agents there are; it has no line. What else is told without a line was entered since. An agent's end is told behind its line.
+-- agents there are; it has no line. What else is told without a line was entered since. The answer to a line that asks for an end has that end.
 pub data IsAsked (count : ℕ) (scripts : List Asked) (told : List Entry) : Option Text → Option Call → Answer → Type 0 where
   begins : count ≡ 0 → IsAsked count scripts told None None (ready (length scripts))
   unasked : (es : List Entry) → IsAsked count scripts told None None (entered es)
   refuses : (text : Text) (why : LineRefusal) → IsRefusal scripts told text why → IsAsked count scripts told (Some text) None (refused (refusal_text why))
   ends : (text : Text) (k : ℕ) (asked : Asked) (rest : Text) (es : List Entry) → Names (length scripts) text k rest → IsAskedFor scripts k asked → AsksNext k asked rest (Ok asking.End)
-      → has_end k (told ++ es) ≡ true → IsAsked count scripts told (Some text) None (entered es)
+      → has_end k es ≡ true → IsAsked count scripts told (Some text) None (entered es)
   calls : (text : Text) (k : ℕ) (asked : Asked) (rest : Text) (s : Step) (es : List Entry) → Names (length scripts) text k rest → IsAskedFor scripts k asked
       → AsksNext k asked rest (Ok (asking.Step s)) → IsAsked count scripts told (Some text) (Some (record { agent = k; step = s })) (entered es)

@@ -17,7 +17,7 @@ tell_turn-requires-clause-own g c =
     let r = c.requires.asked in
     let s = c.requires.serves in
     let seat = at-seat r.0 c.args.table.now.seats.items c.args.place asking.End c.index_mut.result.now r.1 c.index_mut.ensures.value in
-    left-hall g.S.Store.tells c.args.hall.now c.index_mut.result.now seat.1.agent c.args.watch c.end_seat-watch.result (c.end_seat-watch.ensures.left seat.1.agent seat.1.there) s.1.is.stands.hall
+    left-hall g.S.Chronicle.entries g.S.Store.tells c.args.hall.now c.index_mut.result.now seat.1.agent c.args.watch c.end_seat-watch.result (c.end_seat-watch.ensures.left seat.1.agent seat.1.there) s.1.is.stands.hall
 
 pub returns : goal.returns
 returns g c = λ line before request came agents begun v.
