@@ -33,10 +33,11 @@ use Rattle.opfs_hist.specs.declared.op.Op.TheVariants as op
 use Rattle.opfs_hist.specs.declared.reply.Reply.TheVariants as reply
 use Rattle.opfs_turns.specs.Agents.{is_wait}
 use Rattle.opfs_turns.specs.Entering.{HasEnteredPending}
-use Rattle.opfs_turns.specs.Waiting.{HasWaitRoom, IsNotDue, IsTurned, IsWaiting, IsLooking, await_reply, planned}
+use Rattle.opfs_turns.specs.Waiting.{HasWaitRoom, IsNotDue, IsTurned, IsWaiting, IsLooking, IsAwaitTurn, await_reply, planned, op_by, noted_by, turn_by}
+use Rattle.opfs_turns.specs.declared.waiting.AwaitTurn.{AwaitTurn}
 use Rattle.opfs_turns.specs.declared.waiting.Plan.{Plan}
 use Rattle.opfs_turns.specs.declared.waiting.Plan.TheVariants as plan
-use Rattle.opfs_turns.proofs.Awaiting.{IsAsk, answered-facts, begun-facts, begins-by, looks-by, await-ask, wait-ask}
+use Rattle.opfs_turns.proofs.Awaiting.{IsAsk, answered-facts, begun-facts, begins-by, looks-by, op-same, op-none, await-ask, wait-ask}
 use Rattle.opfs_turns.proofs.Beside.{pending-awaited, pending-agents}
 use Rattle.opfs_turns.proofs.Counts.{one_if}
 use Rattle.opfs_turns.proofs.Standing.{act-pending, after-more}
@@ -64,6 +65,13 @@ module _ {O : Type 0} (tells : Type 0) (opened : O → Opening) (pass : PassSeen
         subst (λ p. MayAct tells p list notes.pending (call called) work past) (sym begun)
         (subst (λ l. MayAct tells (opened pass.hall.opening) l notes.pending (call called) work past) (sym grows.1)
         (act-may tells agent kept more apart told-here called work past room may))
+
+    -- Its own calls are such where they are taken in.
+    pub pending-there : ArePendingFor tells (state_after o list) pass.agent notes.pending
+    pending-there =
+        subst (λ p. ArePendingFor tells (state_after p list) pass.agent notes.pending) (sym begun)
+        (subst (λ l. ArePendingFor tells (state_after (opened pass.hall.opening) l) pass.agent notes.pending) (sym grows.1)
+        (act-pending tells (opened pass.hall.opening) pass.base more pass.agent told-here apart notes.pending kept.local))
 
     rested : (new : List Entry) (after : PassSeen O Entry) → after ≡ record pass { base = new; busy = false } → after ≡ record pass { base = new }
     rested new after is = is ∙ (λ i. record pass { base = new; busy = sym kept.idle i })
@@ -134,24 +142,30 @@ module _ {O : Type 0} (tells : Type 0) (opened : O → Opening) (pass : PassSeen
           subst (λ p. MayAct tells p list notes.pending (call called) work []) (sym begun)
           (subst (λ l. MayAct tells (opened pass.hall.opening) l notes.pending (call called) work []) (sym grows.1) may)
 
-      pub await-acts : (posted : Bool) (work : WorkingCopy) → work ≡ fresh_work → HasWaitRoom agent → planned stands begun_now ≡ plan.Answer posted → MayAct tells o list notes.pending (call (op.Await tag)) work []
+      await-acts : (posted : Bool) (work : WorkingCopy) → work ≡ fresh_work → HasWaitRoom agent → planned stands begun_now ≡ plan.Answer posted → MayAct tells o list notes.pending (call (op.Await tag)) work []
       await-acts posted work fresh room is =
           to-act (op.Await tag) work
           (await-may tells agent kept more apart told-here tag work fresh room (answered-facts there pass.agent tag begun_now posted (plan-there (plan.Answer posted) is)).1)
 
-      pub wait-acts : (work : WorkingCopy) → work ≡ fresh_work → HasWaitRoom agent → planned stands begun_now ≡ plan.Begin → MayAct tells o list notes.pending (call (op.Wait tag)) work []
+      wait-acts : (work : WorkingCopy) → work ≡ fresh_work → HasWaitRoom agent → planned stands begun_now ≡ plan.Begin → MayAct tells o list notes.pending (call (op.Wait tag)) work []
       wait-acts work fresh room is =
           to-act (op.Wait tag) work
           (wait-may tells agent kept more apart told-here tag work fresh room (begun-facts there pass.agent tag begun_now begun-there (plan-there plan.Begin is)).0)
 
-      pub await-asks : (posted : Bool) → planned stands begun_now ≡ plan.Answer posted → IsAsk there pass.agent (op.Await tag) (await_reply posted) None
+      -- What is entered by its plan may be entered.
+      pub plan-acts : (p : Plan) (called : Op) (work : WorkingCopy) → planned stands begun_now ≡ p → op_by p tag ≡ Some called → work ≡ fresh_work → HasWaitRoom agent → MayAct tells o list notes.pending (call called) work []
+      plan-acts (plan.Answer posted) called work is entered fresh room = subst (λ (x : Op). MayAct tells o list notes.pending (call x) work []) (op-same entered) (await-acts posted work fresh room is)
+      plan-acts plan.Begin called work is entered fresh room = subst (λ (x : Op). MayAct tells o list notes.pending (call x) work []) (op-same entered) (wait-acts work fresh room is)
+      plan-acts plan.Look called work is entered fresh room = absurd (op-none entered)
+
+      await-asks : (posted : Bool) → planned stands begun_now ≡ plan.Answer posted → IsAsk there pass.agent (op.Await tag) (await_reply posted) None
       await-asks posted is = await-ask there pass.agent tag posted (answered-facts there pass.agent tag begun_now posted (plan-there (plan.Answer posted) is)).0
 
-      pub wait-asks : IsAsk there pass.agent (op.Wait tag) reply.Done (Some tag)
+      wait-asks : IsAsk there pass.agent (op.Wait tag) reply.Done (Some tag)
       wait-asks = wait-ask there pass.agent tag
 
       -- It begins to wait for a tag that is not due.
-      pub begins-waiting : (b : AgentSeen O) → planned stands begun_now ≡ plan.Begin → (t : IsTurned tells agent b (op.Wait tag) reply.Done) × (t.others ≡ more)
+      begins-waiting : (b : AgentSeen O) → planned stands begun_now ≡ plan.Begin → (t : IsTurned tells agent b (op.Wait tag) reply.Done) × (t.others ≡ more)
           → b ≡ record agent { pass = record pass { base = b.pass.base }; pending = []; entries = notes.entries + 1; waiting = Some tag } → IsWaiting tells agent b tag
       begins-waiting b is turned rest = record {
         turned = turned.0;
@@ -215,7 +229,7 @@ module _ {O : Type 0} (tells : Type 0) (opened : O → Opening) (pass : PassSeen
           asked-same : asked_at tells agent kept more apart told-here called answered acted.gone call-here number rows waiting ≡ asked_then
           asked-same = λ i. seen opened (((λ j. record pass { base = sym new-is j }) ∙ sym (rested new after after_is)) i) (record notes { pending = sym none i; number = number; entries = notes.entries + 1; rows = rows; waiting = waiting })
 
-          pub ask-agent : rows ≡ length (agent_of (state_after o new) pass.agent).own → number ≡ notes.number + one_if (not (is_wait called)) → IsAgent tells asked_then
+          ask-agent : rows ≡ length (agent_of (state_after o new) pass.agent).own → number ≡ notes.number + one_if (not (is_wait called)) → IsAgent tells asked_then
           ask-agent made next =
               subst (IsAgent tells) asked-same
               (asked-agent tells agent kept more apart told-here called answered acted.gone call-here number rows waiting
@@ -227,13 +241,13 @@ module _ {O : Type 0} (tells : Type 0) (opened : O → Opening) (pass : PassSeen
           abbrev Turned : AgentSeen O → Reply → Type 0
           Turned b r = (t : IsTurned tells agent b called r) × (t.others ≡ more)
 
-          pub ask-turned : Turned asked_then right
+          ask-turned : Turned asked_then right
           ask-turned =
               subst (Turned asked_then) (asked-reply tells agent kept more apart told-here called answered acted.gone call-here right waiting ask)
               (subst (λ b. Turned b answered) asked-same
               (asked tells agent kept more apart told-here called answered acted.gone call-here number rows waiting, refl))
 
-          pub ask-rest : rows ≡ length (agent_of (state_after o new) pass.agent).own
+          ask-rest : rows ≡ length (agent_of (state_after o new) pass.agent).own
               → asked_then ≡ record agent { pass = record pass { base = asked_then.pass.base }; pending = []; number = number; entries = notes.entries + 1; waiting = waiting }
           ask-rest made =
               subst (λ b. b ≡ record agent { pass = record pass { base = b.pass.base }; pending = []; number = number; entries = notes.entries + 1; rows = b.rows; waiting = waiting }) asked-same refl
@@ -243,6 +257,46 @@ module _ {O : Type 0} (tells : Type 0) (opened : O → Opening) (pass : PassSeen
               same =
                   asked-rows tells agent kept more apart told-here called answered acted.gone call-here right waiting rows ask
                   (made ∙ (λ i. length (agent_of (state_after (begun i) (new-is i)) pass.agent).own))
+
+    -- The turn of an await has entered what its plan says.
+    module _ (tag : Text) (stands : AwaitState) (stands_is : stands ≡ awaited (state_after o list) pass.agent tag) (begun_now : Bool) (begun_is : begun_now ≡ waits_for notes.waiting tag) (called : Op) (answered : Reply) (new : List Entry) (acted : IsActed tells o list notes.pending (call called) answered new) (told_new : IsTold tells o new) (after : PassSeen O Entry) (after_is : after ≡ record pass { base = new; busy = false }) (pending : List Entry) (none : pending ≡ []) (rows : ℕ) (made : rows ≡ length (agent_of (state_after o new) pass.agent).own) where
+      abbrev then_by : ℕ → Option Text → AgentSeen O
+      then_by number waiting = seen opened after (record notes { pending = pending; number = number; entries = notes.entries + 1; rows = rows; waiting = waiting })
+
+      abbrev Left : Type 0 → Notes → AwaitTurn → Type 0
+      Left E n t = IsAgent tells (seen opened after n) × IsAwaitTurn {E = E} tells agent (seen opened after n) tag (Ok t)
+
+      left-by : (E : Type 0) (p : Plan) (heard : ℕ) → planned stands begun_now ≡ p → op_by p tag ≡ Some called → Left E (noted_by p (record notes { pending = pending }) rows tag) (turn_by p heard)
+      left-by E (plan.Answer posted) heard is entered =
+          let same : op.Await tag ≡ called = op-same entered in
+          let ask = subst (λ (x : Op). IsAsk there pass.agent x (await_reply posted) None) same (await-asks tag stands stands_is begun_now begun_is posted is) in
+          let next = subst (λ (x : Op). notes.number + 1 ≡ notes.number + one_if (not (is_wait x))) same refl in
+          let turned = ask-turned called answered new acted told_new after after_is pending none rows (await_reply posted) None (notes.number + 1) ask in (
+            ask-agent called answered new acted told_new after after_is pending none rows (await_reply posted) None (notes.number + 1) ask made next,
+            record {
+              turned = subst (λ (x : Op). IsTurned tells agent (then_by (notes.number + 1) None) x (await_reply posted)) (sym same) turned.0;
+              rest = ask-rest called answered new acted told_new after after_is pending none rows (await_reply posted) None (notes.number + 1) ask made;
+            },
+          )
+      left-by E plan.Begin heard is entered =
+          let same : op.Wait tag ≡ called = op-same entered in
+          let ask = subst (λ (x : Op). IsAsk there pass.agent x reply.Done (Some tag)) same (wait-asks tag stands stands_is begun_now begun_is) in
+          let no_number : notes.number ≡ notes.number + one_if (not (is_wait (op.Wait tag))) = omega arith in
+          let next = subst (λ (x : Op). notes.number ≡ notes.number + one_if (not (is_wait x))) same no_number in
+          let turned = ask-turned called answered new acted told_new after after_is pending none rows reply.Done (Some tag) notes.number ask in (
+            ask-agent called answered new acted told_new after after_is pending none rows reply.Done (Some tag) notes.number ask made next,
+            inr
+                (begins-waiting tag stands stands_is begun_now begun_is (then_by notes.number (Some tag)) is
+                (subst (λ (x : Op). (t : IsTurned tells agent (then_by notes.number (Some tag)) x reply.Done) × (t.others ≡ more)) (sym same) turned)
+                (ask-rest called answered new acted told_new after after_is pending none rows reply.Done (Some tag) notes.number ask made)),
+          )
+      left-by E plan.Look heard is entered = absurd (op-none entered)
+
+      pub plan-left : (E : Type 0) (p : Plan) (heard : ℕ) (n : Notes) (t : AwaitTurn) → planned stands begun_now ≡ p → op_by p tag ≡ Some called
+          → n ≡ noted_by p (record notes { pending = pending }) rows tag → t ≡ turn_by p heard → Left E n t
+      plan-left E p heard n t is entered n_is t_is =
+          subst (λ (x : Notes). Left E x t) (sym n_is)
+          (subst (λ (x : AwaitTurn). Left E (noted_by p (record notes { pending = pending }) rows tag) x) (sym t_is) (left-by E p heard is entered))
 
 -- ---- what is added is the agent's own, or nobody's
 

@@ -29,7 +29,8 @@ use Rattle.opfs_store.specs.declared.acts.acted.AwaitState.{AwaitState}
 use Rattle.opfs_store.specs.declared.acts.acted.AwaitState.TheVariants as await
 use Rattle.opfs_store.specs.Acts.Acting.{awaited}
 use Rattle.opfs_store.specs.Acts.Asking.{HasSmallNumbers}
-use Rattle.opfs_turns.specs.Waiting.{await_reply, planned}
+use Rattle.opfs_turns.specs.Waiting.{await_reply, planned, op_by}
+use Rattle.opfs_turns.specs.declared.waiting.Plan.{Plan}
 use Rattle.opfs_turns.specs.declared.waiting.Plan.TheVariants as plan
 use Rattle.opfs_turns.proofs.Beside.{StateBy}
 
@@ -79,6 +80,17 @@ looks-by await.Posted b h = absurd cc
 looks-by await.Stuck b h = absurd cc
 looks-by await.Neither true h = (refl, refl)
 looks-by await.Neither false h = absurd cc
+
+pub looks-alone : (p : Plan) (tag : Text) → op_by p tag ≡ None → p ≡ plan.Look
+looks-alone (plan.Answer posted) tag h = absurd cc
+looks-alone plan.Begin tag h = absurd cc
+looks-alone plan.Look tag h = refl
+
+pub op-same : {x y : Op} → Some x ≡ Some y → x ≡ y
+op-same h = cc
+
+pub op-none : {x : Op} → None ≡ Some x → ⊥
+op-none h = cc
 
 module _ (s : State Text Own) (k : ℕ) (tag : Text) where
   pub answered-facts : (b posted : Bool) → planned (awaited s k tag) b ≡ plan.Answer posted → (posted ≡ is_posted s (party_of s k) tag) × IsTrue (may_enter s k (op.Await tag))

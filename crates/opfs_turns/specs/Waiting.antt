@@ -1,5 +1,5 @@
 -- An await, turn by turn. This project's own.
-use Rattle.std.specs.Prelude.{◌≡◌, ◌≢◌, ◌⊎◌, ◌+◌, ◌≤◌, Bool, true, false, List, [], ◌++◌, All, Some, None, Result, Ok, Err}
+use Rattle.std.specs.Prelude.{◌≡◌, ◌≢◌, ◌⊎◌, ◌+◌, ◌≤◌, Bool, true, false, List, [], ◌++◌, All, ℕ, Option, Some, None, Result, Ok, Err}
 use Rattle.opfs_base.specs.Texts.{Text}
 use Rattle.opfs_hist.specs.declared.entry.Entry.{Entry}
 use Rattle.opfs_hist.specs.declared.op.Op.{Op}
@@ -17,6 +17,7 @@ use Rattle.opfs_store.specs.declared.acts.acted.AwaitState.TheVariants as state
 use Rattle.opfs_store.specs.Acts.Acting.{told_entry, IsCallFor, awaited}
 use Rattle.opfs_turns.specs.Agents.{AgentSeen, state_of}
 use Rattle.opfs_turns.specs.Calls.{call_of, before_call, HasLooked}
+use Rattle.opfs_turns.specs.declared.notes.Notes.{Notes}
 use Rattle.opfs_turns.specs.declared.waiting.AwaitTurn.{AwaitTurn}
 use Rattle.opfs_turns.specs.declared.waiting.AwaitTurn.TheVariants as turn
 use Rattle.opfs_turns.specs.declared.waiting.Plan.{Plan}
@@ -82,6 +83,22 @@ planned state.Posted begun = plan.Answer true
 planned state.Stuck begun = plan.Answer false
 planned state.Neither true = plan.Look
 planned state.Neither false = plan.Begin
+
+-- What it enters by that: its own call, or that it waits.
+abbrev pub op_by : Plan → Text → Option Op
+op_by (plan.Answer posted) tag = Some (Await tag)
+op_by plan.Begin tag = Some (Wait tag)
+op_by plan.Look tag = None
+
+-- What the agent notes of what was entered: an answer has a number of its own and ends the wait.
+abbrev pub noted_by : Plan → Notes → ℕ → Text → Notes
+noted_by (plan.Answer posted) notes rows tag = record notes { number = notes.number + 1; entries = notes.entries + 1; rows = rows; waiting = None }
+noted_by _ notes rows tag = record notes { entries = notes.entries + 1; rows = rows; waiting = Some tag }
+
+-- How the await stands then.
+abbrev pub turn_by : Plan → ℕ → AwaitTurn
+turn_by (plan.Answer posted) heard = turn.Answered posted
+turn_by _ heard = turn.Waits heard
 
 -- The agent goes on waiting for a tag: it looked, and the tag was not due.
 pub record IsLooking {O : Type 0} (before after : AgentSeen O) (tag : Text) : Type 0 where

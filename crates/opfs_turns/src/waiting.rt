@@ -1,13 +1,13 @@
 //! An await, turn by turn (this project's own).
 
-ghost use Rattle.std.specs.Prelude.{◌≡◌, ◌⊎◌, Bool, IfOk, OnErr};
+ghost use Rattle.std.specs.Prelude.{◌≡◌, ◌⊎◌, ◌≤◌, Bool, IfOk, OnErr};
 ghost use Rattle.opfs_machine.specs.Agents.{waits_for};
 ghost use Rattle.opfs_laws.specs.Histories.Unread.{IsTold};
 ghost use Rattle.opfs_turns.specs.Agents.{IsAgent, seen};
 ghost use Rattle.opfs_turns.specs.Calls.{HasRoom, HasLooked};
-ghost use Rattle.opfs_turns.specs.Waiting.{HasWaitRoom, HasWaited, HasAwaited, IsAwaitTurn, await_reply, planned};
+ghost use Rattle.opfs_turns.specs.Waiting.{HasWaitRoom, HasWaited, HasAwaited, IsAwaitTurn, await_reply, planned, op_by, noted_by, turn_by};
 
-use crate::notes::Caller;
+use crate::notes::{Caller, Notes};
 use opfs_base::Text;
 use opfs_hall::Hall;
 use opfs_hist::{Op, Room};
@@ -45,6 +45,52 @@ fn plan_for(state: AwaitState, begun: bool) -> Plan
         AwaitState::Posted => Plan::Answer(true),
         AwaitState::Stuck => Plan::Answer(false),
         AwaitState::Neither => { if begun { Plan::Look } else { Plan::Begin } }
+    }
+}
+
+// What an await enters in its turn, by its plan: its own call, or that it waits. A look enters nothing.
+fn op_of(plan: Plan, tag: Text) -> Option<Op>
+    ensures { result ≡ op_by plan tag }
+{
+    match plan {
+        Plan::Answer(_) => Some(Op::Await { tag }),
+        Plan::Begin => Some(Op::Wait { tag }),
+        Plan::Look => None,
+    }
+}
+
+// Notes what was entered by a plan: an answer has a number of its own and ends the wait, and another waits for this tag.
+fn note(notes: &mut Notes, plan: Plan, rows: u32, tag: Text)
+    requires number { notes.old.number ≤ 60000002 }
+    requires entries { notes.old.entries ≤ 60000001 }
+    ensures { notes.new ≡ noted_by plan notes.old rows tag }
+{
+    notes.entries += 1;
+    notes.rows = rows;
+    match plan {
+        Plan::Answer(_) => {
+            notes.number += 1;
+            notes.waiting = None;
+        }
+        Plan::Begin | Plan::Look => notes.waiting = Some(tag),
+    }
+}
+
+// How an await stands after what it did by its plan.
+fn turn_of(plan: Plan, heard: u32) -> AwaitTurn
+    ensures { result ≡ turn_by plan heard }
+{
+    match plan {
+        Plan::Answer(posted) => AwaitTurn::Answered(posted),
+        Plan::Begin | Plan::Look => AwaitTurn::Waits(heard),
+    }
+}
+
+// Rings the hall's bell where an await begins to wait: another's may be stuck by that.
+fn ring_by<S: Store>(court: &Hall<S>, plan: Plan) {
+    match plan {
+        Plan::Begin => court.ring(),
+        Plan::Answer(_) | Plan::Look => (),
     }
 }
 
@@ -102,59 +148,29 @@ pub(crate) fn await_turn<S: Store, R: Wait>(
     turn.value.know_legal();
     let heard = court.heard();
     let stands = turn.value.await_state(agent, tag.as_str());
-    match plan_for(stands, begun) {
-        Plan::Answer(posted) => {
-            let op = Op::Await { tag: asked };
-            let acted = turn.value.act(
-                agent,
-                number,
-                &mut caller.notes.pending,
-                room,
-                op,
-                &mut work,
-                &[],
-            );
-            turn.value.know_legal();
-            court.leave(&mut caller.pass, turn);
-            match acted {
-                Ok(acted) => {
-                    caller.notes.number += 1;
-                    caller.notes.entries += 1;
-                    caller.notes.rows = acted.rows;
-                    caller.notes.waiting = None;
-                    Ok(AwaitTurn::Answered(posted))
-                }
-                Err(error) => Err(error),
-            }
+    let plan = plan_for(stands, begun);
+    let Some(op) = op_of(plan, asked) else {
+        court.leave(&mut caller.pass, turn);
+        return Ok(AwaitTurn::Waits(heard));
+    };
+    let acted = turn.value.act(
+        agent,
+        number,
+        &mut caller.notes.pending,
+        room,
+        op,
+        &mut work,
+        &[],
+    );
+    turn.value.know_legal();
+    court.leave(&mut caller.pass, turn);
+    ring_by(court, plan);
+    match acted {
+        Ok(acted) => {
+            note(&mut caller.notes, plan, acted.rows, noted);
+            Ok(turn_of(plan, heard))
         }
-        Plan::Begin => {
-            let op = Op::Wait { tag: asked };
-            let acted = turn.value.act(
-                agent,
-                number,
-                &mut caller.notes.pending,
-                room,
-                op,
-                &mut work,
-                &[],
-            );
-            turn.value.know_legal();
-            court.leave(&mut caller.pass, turn);
-            court.ring();
-            match acted {
-                Ok(acted) => {
-                    caller.notes.entries += 1;
-                    caller.notes.rows = acted.rows;
-                    caller.notes.waiting = Some(noted);
-                    Ok(AwaitTurn::Waits(heard))
-                }
-                Err(error) => Err(error),
-            }
-        }
-        Plan::Look => {
-            court.leave(&mut caller.pass, turn);
-            Ok(AwaitTurn::Waits(heard))
-        }
+        Err(error) => Err(error),
     }
 }
 

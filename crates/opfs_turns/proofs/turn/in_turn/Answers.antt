@@ -6,7 +6,7 @@ use Rattle.opfs_machine.specs.Histories.{state_after}
 use Rattle.opfs_laws.specs.Histories.Unread.{IsTold}
 use Rattle.opfs_store.specs.Acts.Acting.{IsActed, in_hand}
 use Rattle.opfs_store.specs.Acts.Asking.{MayAct}
-use Rattle.opfs_turns.proofs.Acted.{acts, unacted, acted-agent, acted-entered, adds}
+use Rattle.opfs_turns.proofs.Acted.{acts, pending-there, unacted, acted-agent, acted-entered, adds}
 use Rattle.opfs_turns.specs.Agents.{seen}
 use Rattle.opfs_turns.proofs.Turning.{number-small}
 use Rattle.opfs_turns.proofs.turn.in_turn.Goals as goal
@@ -28,10 +28,9 @@ leave-requires-clause-adds g c =
     (adds g.S.Chronicle.owner g.met.S.Store.owned c.args.caller.now.pass.agent g.S.Store.tells (g.S.Store.opened (g.S.Chronicle.opening c.enter-turn.result.value))
     (in_hand (g.S.Chronicle.entries c.enter-turn.result.value) (g.S.Store.faults c.enter-turn.result.value) c.args.caller.now.notes.pending c.args.work.now) (in_hand (g.S.Chronicle.entries c.act-acted.new.self) (g.S.Store.faults c.act-acted.new.self) c.act-acted.new.pending c.act-acted.new.work)
     (record { agent = c.agent-agent.result; number = c.args.caller.now.notes.number; op = c.args.op }) c.agent-agent.ensures c.act-acted.result
-    (acts g.S.Store.tells g.S.Store.opened c.args.caller.now.pass c.args.caller.now.notes g.S.Chronicle.owner g.met.S.Store.owned c.requires.agent
+    (pending-there g.S.Store.tells g.S.Store.opened c.args.caller.now.pass c.args.caller.now.notes g.S.Chronicle.owner g.met.S.Store.owned c.requires.agent
     (g.S.Store.opened (g.S.Chronicle.opening c.enter-turn.result.value)) (ap g.S.Store.opened (c.enter-turn.ensures.opening ∙ ap (λ h. h.opening) (sym c.requires.own)))
-    (g.S.Chronicle.entries c.enter-turn.result.value) c.enter-turn.ensures.grows c.know_legal.ensures
-    c.args.op c.args.work.now c.args.past.now c.requires.room c.requires.may).pending
+    (g.S.Chronicle.entries c.enter-turn.result.value) c.enter-turn.ensures.grows c.know_legal.ensures)
     c.act-acted.ensures.served c.act-acted.ensures.unserved)
 
 pub overflow_add-caller : goal.overflow_add-caller
