@@ -1,4 +1,4 @@
--- What is awaited while all is quiet: no await is due.
+-- What is awaited while all is quiet: each agent waits for what is not due.
 use Rattle.std.proofs.Common.{◌≡◌, ◌≢◌, ◌⊎◌, inl, inr, ℕ, zero, suc, ◌-◌, ◌+◌, ◌<◌, ◌≤◌, ◌==◌, ◌&&◌, not, Bool, true, false, Some, None, Option, List, [], ◌∷◌, ◌++◌, filter, length, length-append, refl, sym, ap, ◌∙◌, subst, arith, append-nil}
 use Rattle.std.specs.Prelude.{count_by, slice_get}
 use Rattle.std.proofs.lemmas.Bool.{cases_eq, false≢true}
@@ -18,11 +18,10 @@ use Rattle.opfs_script.specs.declared.step.Step.TheVariants as step
 use Rattle.opfs_script_run.specs.Runs.Running.{entries_of}
 use Rattle.opfs_serving.specs.Lines.{Awaits}
 use Rattle.opfs_serving.specs.Seats.{HasBegunToWait, IsAt, SeatSeen, open_step}
-use Rattle.opfs_serving.specs.Served.{AreNotDue, AreWaiting, IsNotDue, IsQuiet, IsServing, IsStanding, Words, opens}
+use Rattle.opfs_serving.specs.Served.{AreAtRest, AreWaiting, IsAtRest, IsQuiet, IsServing, IsStanding, Words, opens}
+use Rattle.opfs_serving.specs.Talks.{WaitsFor}
 use Rattle.opfs_serving.specs.declared.progress.Progress.{Progress}
 use Rattle.opfs_serving.specs.declared.progress.State.TheVariants as state
-use Rattle.opfs_store.specs.Acts.Acting.{awaited}
-use Rattle.opfs_store.specs.declared.acts.acted.AwaitState.TheVariants as await
 use Rattle.opfs_turns.specs.Agents.{AgentSeen, is_wait, next_number}
 use Rattle.opfs_turns.specs.Calls.{HasLooked}
 use Rattle.opfs_serving.proofs.Seating.{get-within}
@@ -89,8 +88,8 @@ module _ {T O P : Type 0} (w : Words T O P) (of : HallSeen O) (agents : List Ask
   abbrev v : IsStanding w of agents begun before watch seats p
   v = u.stands
 
-  abbrev NotDue : ℕ → Text → Type 0
-  NotDue k tag = awaited (state_after (opens w watch.last) (w.entries watch.last)) k tag ≡ await.Neither
+  abbrev Rests : ℕ → Text → Type 0
+  Rests k tag = WaitsFor (state_after (opens w watch.last) (w.entries watch.last)) k tag
 
   module _ (i : ℕ) (tag : Text) (a : Awaits v.scripts v.told (suc i) tag) (x : SeatSeen O) (seat : slice_get seats i ≡ Some x) (script : slice_get v.scripts i ≡ Some a.asked) where
     -- It awaits nothing: its answers were told.
@@ -108,21 +107,21 @@ module _ {T O P : Type 0} (w : Words T O P) (of : HallSeen O) (agents : List Ask
         let few = a.unanswered in
         omega (arith, steps, number, next, grows, seen, told, few)
 
-    waits : (b : AgentSeen O) → x.agent ≡ Some b → (o : Option Text) → x.awaits ≡ o → NotDue (suc i) tag
+    waits : (b : AgentSeen O) → x.agent ≡ Some b → (o : Option Text) → x.awaits ≡ o → Rests (suc i) tag
     waits b here None free = absurd (answered b here free)
     waits b here (Some other) awaits =
         let m : IsAt w.reads of (suc i) a.asked x b = v.seated.midway on i x b a.asked seat here script in
         let same : other ≡ tag = await-same (last-same m.done a.done (step.Await other) (step.Await tag) (sym (m.steps ∙ ap (λ o. m.done ++ open_step o) awaits) ∙ a.steps)) in
-        subst (NotDue (suc i)) same (quiet.not_due i x seat b other here awaits)
+        subst (Rests (suc i)) same (quiet.rest i x seat b other here awaits)
 
-    by-agent : (o : Option (AgentSeen O)) → x.agent ≡ o → NotDue (suc i) tag
+    by-agent : (o : Option (AgentSeen O)) → x.agent ≡ o → Rests (suc i) tag
     by-agent None gone = absurd (false≢true (sym a.stays ∙ (u.all_told on).over i x seat gone))
     by-agent (Some b) here = waits b here x.awaits refl
 
-  -- What an agent awaits is not due.
-  pub none-due : (k : ℕ) (tag : Text) → Awaits v.scripts v.told k tag → NotDue k tag
-  none-due zero tag a = let real = a.real in absurd (omega (arith, real))
-  none-due (suc i) tag a =
+  -- An agent waits for what it awaits, which is not due.
+  pub at-rest : (k : ℕ) (tag : Text) → Awaits v.scripts v.told k tag → Rests k tag
+  at-rest zero tag a = let real = a.real in absurd (omega (arith, real))
+  at-rest (suc i) tag a =
       let first : suc i - 1 ≡ i = omega arith in
       let script : slice_get v.scripts i ≡ Some a.asked = ap (slice_get v.scripts) (sym first) ∙ a.of in
       let within = slice_get_within v.scripts i a.asked script in
@@ -132,27 +131,27 @@ module _ {T O P : Type 0} (w : Words T O P) (of : HallSeen O) (agents : List Ask
 
 -- ---- seat by seat
 
--- No agent of the first seats awaits what is due after these entries.
-abbrev pub AreNotDueBelow : {O : Type 0} → Opening → List Entry → List (SeatSeen O) → ℕ → Type 0
-AreNotDueBelow {O} o es seats k = (i : ℕ) (x : SeatSeen O) → i < k → slice_get seats i ≡ Some x → IsNotDue o es (suc i) x
+-- Each of the first seats is at rest after these entries.
+abbrev pub AreAtRestBelow : {O : Type 0} → Opening → List Entry → List (SeatSeen O) → ℕ → Type 0
+AreAtRestBelow {O} o es seats k = (i : ℕ) (x : SeatSeen O) → i < k → slice_get seats i ≡ Some x → IsAtRest o es (suc i) x
 
 module _ {O : Type 0} (o : Opening) (es : List Entry) (seats : List (SeatSeen O)) where
-  pub not-due-more : (k : ℕ) (x : SeatSeen O) → slice_get seats k ≡ Some x → AreNotDueBelow o es seats k → IsNotDue o es (k + 1) x → AreNotDueBelow o es seats (k + 1)
-  not-due-more k x there below one i y less at = by (cases_eq i k)
+  pub rest-more : (k : ℕ) (x : SeatSeen O) → slice_get seats k ≡ Some x → AreAtRestBelow o es seats k → IsAtRest o es (k + 1) x → AreAtRestBelow o es seats (k + 1)
+  rest-more k x there below one i y less at = by (cases_eq i k)
     where
-      by : (i ≡ k) ⊎ (i ≢ k) → IsNotDue o es (suc i) y
+      by : (i ≡ k) ⊎ (i ≢ k) → IsAtRest o es (suc i) y
       by (inl same) =
           let number : k + 1 ≡ suc i = omega (arith, same) in
           let seat : x ≡ y = some-same (sym there ∙ ap (slice_get seats) (sym same) ∙ at) in
-          subst (IsNotDue o es (suc i)) seat (subst (λ n. IsNotDue o es n x) number one)
+          subst (IsAtRest o es (suc i)) seat (subst (λ n. IsAtRest o es n x) number one)
       by (inr other) = below i y (omega (arith, less, other)) at
 
-  pub not-due-all : (k : ℕ) → length seats ≤ k → AreNotDueBelow o es seats k → AreNotDue o es seats
-  not-due-all k long below i x at = let within = slice_get_within seats i x at in below i x (omega (arith, long, within)) at
+  pub rest-all : (k : ℕ) → length seats ≤ k → AreAtRestBelow o es seats k → AreAtRest o es seats
+  rest-all k long below i x at = let within = slice_get_within seats i x at in below i x (omega (arith, long, within)) at
 
-  -- Where no agent awaits what is due, that of a seat does not.
-  pub not-due-at : (i k : ℕ) (x : SeatSeen O) → slice_get seats i ≡ Some x → k ≡ suc i → AreNotDue o es seats → IsNotDue o es k x
-  not-due-at i k x at number none = subst (λ n. IsNotDue o es n x) (sym number) (none i x at)
+  -- Where each is at rest, one is.
+  pub rest-at : (i k : ℕ) (x : SeatSeen O) → slice_get seats i ≡ Some x → k ≡ suc i → AreAtRest o es seats → IsAtRest o es k x
+  rest-at i k x at number none = subst (λ n. IsAtRest o es n x) (sym number) (none i x at)
 
 -- Each of the first seats has begun to wait, where one more has.
 pub begun-more : {O : Type 0} (seats next : List (SeatSeen O)) (k : ℕ) → ((i : ℕ) (x : SeatSeen O) → i < k → slice_get seats i ≡ Some x → HasBegunToWait x)

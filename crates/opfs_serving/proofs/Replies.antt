@@ -18,7 +18,7 @@ use Rattle.opfs_serving.specs.Lines.{IsAsked, IsRefusal, Names, ended, ends, has
 use Rattle.opfs_serving.specs.Requests.{IsAwaiting, IsFree, IsOf, IsRefusedAt, IsRequest}
 use Rattle.opfs_serving.specs.Requests as cause
 use Rattle.opfs_serving.specs.Seats.{AreSeated, EndsAt, HasBegunToWait, IsAt, IsMidway, SeatSeen, open_step}
-use Rattle.opfs_serving.specs.Served.{AreTold, HasHeard, IsNotDue, IsQuiet, IsServing, IsStanding, Words, opens}
+use Rattle.opfs_serving.specs.Served.{AreTold, HasHeard, IsAtRest, IsQuiet, IsServing, IsStanding, Words, opens}
 use Rattle.opfs_serving.specs.Turns.{GoesOut, HasSaid, HasToldMore, HasTurned}
 use Rattle.opfs_serving.specs.declared.progress.Progress.{Progress}
 use Rattle.opfs_serving.specs.declared.progress.State.{State}
@@ -227,16 +227,16 @@ module _ {T O P : Type 0} (w : Words T O P) (lasts : (a b c : T) → w.goes a b 
         (λ none. absurd (none-some x'.awaits awaits.tag none still-awaits))
 
     pub quiet-looked : IsQuiet w watch seats → IsQuiet w watch (slice_set seats i x')
-    quiet-looked quiet = record { begun = λ k y at. waiting-at k y (place seats i x x' of_line.there k y at); not_due = λ k y at. due-at k y (place seats i x x' of_line.there k y at) }
+    quiet-looked quiet = record { begun = λ k y at. waiting-at k y (place seats i x x' of_line.there k y at); rest = λ k y at. rest-at k y (place seats i x x' of_line.there k y at) }
       where
         waiting-at : (k : ℕ) (y : SeatSeen O) → ((k ≡ i) × (y ≡ x')) ⊎ ((k ≢ i) × (slice_get seats k ≡ Some y)) → HasBegunToWait y
         waiting-at k y (inl same) = subst (λ (z : SeatSeen O). HasBegunToWait z) (sym same.1) (waits-on x x' awaits.agent found.0 awaits.there found.1 found.2 (quiet.begun i x of_line.there))
         waiting-at k y (inr other) = quiet.begun k y other.1
 
-        due-at : (k : ℕ) (y : SeatSeen O) → ((k ≡ i) × (y ≡ x')) ⊎ ((k ≢ i) × (slice_get seats k ≡ Some y)) → IsNotDue (opens w watch.last) (w.entries watch.last) (suc k) y
-        due-at k y (inl same) =
-            λ a tag there is. quiet.not_due k x (ap (slice_get seats) same.0 ∙ of_line.there) awaits.agent tag awaits.there (ap (λ (z : SeatSeen O). z.awaits) (sym found.1 ∙ sym same.1) ∙ is)
-        due-at k y (inr other) = quiet.not_due k y other.1
+        rest-at : (k : ℕ) (y : SeatSeen O) → ((k ≡ i) × (y ≡ x')) ⊎ ((k ≢ i) × (slice_get seats k ≡ Some y)) → IsAtRest (opens w watch.last) (w.entries watch.last) (suc k) y
+        rest-at k y (inl same) =
+            λ a tag there is. quiet.rest k x (ap (slice_get seats) same.0 ∙ of_line.there) awaits.agent tag awaits.there (ap (λ (z : SeatSeen O). z.awaits) (sym found.1 ∙ sym same.1) ∙ is)
+        rest-at k y (inr other) = quiet.rest k y other.1
 
     pub refused-looked : IsRefusedAt (w.entries watch.last) line (slice_set seats i x') refusal.Waiting
     refused-looked =

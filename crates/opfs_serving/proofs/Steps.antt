@@ -24,18 +24,17 @@ use Rattle.opfs_serving.specs.Requests.{IsFree, IsOf, IsRequest}
 use Rattle.opfs_serving.specs.Seats.{AreSeated, IsAt, IsLeftOpen, SeatSeen, open_step, with_steps}
 use Rattle.opfs_serving.specs.Served.{AreTold, HasHeard, IsQuiet, IsServing, IsStanding, Words}
 use Rattle.opfs_serving.specs.Stepping.{HasMade, HasMissed, noted}
-use Rattle.opfs_serving.specs.Talks.{AreLookedAfter, HasAnswer, IsExchange, IsTalk}
+use Rattle.opfs_serving.specs.Talks.{AreLookedAfter, HasAnswer, IsExchange, IsTalk, WaitsFor}
 use Rattle.opfs_serving.specs.Turns.{GoesOut, HasToldMore, HasTurned}
 use Rattle.opfs_serving.specs.declared.progress.Progress.{Progress}
 use Rattle.opfs_serving.specs.declared.progress.State.{State}
 use Rattle.opfs_serving.specs.declared.progress.State.TheVariants as state
 use Rattle.opfs_serving.proofs.Faulted.{FaultsOn, faulted-more, faults-on, faults-short, faults-told}
 use Rattle.opfs_serving.proofs.Midway.{midway-ends}
-use Rattle.opfs_serving.proofs.Quiet.{none-due, number-grows, number-is}
+use Rattle.opfs_serving.proofs.Quiet.{at-rest, number-grows, number-is}
 use Rattle.opfs_serving.proofs.Seating.{get-add_step, get-add_step_other, length-add_step, place, seated-asked, seated-put, seated-script, seated-weaker}
 use Rattle.opfs_serving.proofs.Showing.{shown-base, told-set}
 use Rattle.opfs_serving.proofs.Talking.{front-drop, talk-lost, talk-more, talk-perhaps, with_call-at}
-use Rattle.opfs_store.specs.Acts.Acting.{awaited}
 use Rattle.opfs_turns.specs.Agents.{AgentSeen, next_number}
 
 some-same : {X : Type 0} {x y : X} → Some x ≡ Some y → x ≡ y
@@ -163,7 +162,7 @@ module _ {T O P : Type 0} (w : Words T O P) (lasts : (a b c : T) → w.goes a b 
     front = w.entries watch.last;
     all = v.talk.front;
     before = front;
-    not_due = ap (λ o. awaited (state_after (w.opened o) (w.entries watch.last)) k tag) (sym v.opened) ∙ none-due w of agents begun before watch seats p u on quiet k tag awaits;
+    waits = subst (λ o. WaitsFor (state_after (w.opened o) (w.entries watch.last)) k tag) v.opened (at-rest w of agents begun before watch seats p u on quiet k tag awaits);
   }
 
   then-told : (now : P) (more : List (Said T)) → w.tells → w.said now ≡ w.said port ++ more → w.said now ≡ w.said before ++ (heard line ∷ more)

@@ -13,13 +13,11 @@ use Rattle.opfs_script.specs.Limits.{is_origin_key}
 use Rattle.opfs_script.specs.Scripts.{Asked}
 use Rattle.opfs_script_run.specs.Runs.Running.{entries_of}
 use Rattle.opfs_script_run.specs.declared.runs.hand.Hand.{Hand}
-use Rattle.opfs_store.specs.Acts.Acting.{awaited}
-use Rattle.opfs_store.specs.declared.acts.acted.AwaitState.TheVariants as await
 use Rattle.opfs_turns.specs.Agents.{AgentSeen, IsAgent}
 use Rattle.opfs_script_run.specs.Stage.Runs.{EachCut, EachRuns}
 use Rattle.opfs_serving.specs.Lines.{has_end}
 use Rattle.opfs_serving.specs.Seats.{AreSeated, HasBegunToWait, SeatSeen}
-use Rattle.opfs_serving.specs.Talks.{IsTalk}
+use Rattle.opfs_serving.specs.Talks.{IsTalk, WaitsFor}
 use Rattle.opfs_serving.specs.declared.progress.Progress.{Progress}
 use Rattle.opfs_serving.specs.declared.progress.State.{State}
 use Rattle.opfs_serving.specs.declared.progress.State.TheVariants as state
@@ -92,22 +90,22 @@ pub record Serves {T O P : Type 0} (w : Words T O P) (of : HallSeen O) (now : P)
   pub begun : P
   pub is : IsServing w of agents begun now watch seats p
 
--- The agent of a seat, which has this number, awaits nothing that is due after these entries: a tag that was posted, or that nobody is left to post.
-abbrev pub IsNotDue : {O : Type 0} → Opening → List Entry → ℕ → SeatSeen O → Type 0
-IsNotDue {O} o es k x = (a : AgentSeen O) (tag : Text) → x.agent ≡ Some a → x.awaits ≡ Some tag → awaited (state_after o es) k tag ≡ await.Neither
+-- The agent of a seat, which has this number, waits after these entries for what it awaits, if it awaits anything, and that is not due.
+abbrev pub IsAtRest : {O : Type 0} → Opening → List Entry → ℕ → SeatSeen O → Type 0
+IsAtRest {O} o es k x = (a : AgentSeen O) (tag : Text) → x.agent ≡ Some a → x.awaits ≡ Some tag → WaitsFor (state_after o es) k tag
 
--- That of no seat does.
-abbrev pub AreNotDue : {O : Type 0} → Opening → List Entry → List (SeatSeen O) → Type 0
-AreNotDue {O} o es seats = (i : ℕ) (x : SeatSeen O) → slice_get seats i ≡ Some x → IsNotDue o es (suc i) x
+-- So does that of each seat.
+abbrev pub AreAtRest : {O : Type 0} → Opening → List Entry → List (SeatSeen O) → Type 0
+AreAtRest {O} o es seats = (i : ℕ) (x : SeatSeen O) → slice_get seats i ≡ Some x → IsAtRest o es (suc i) x
 
 -- Each agent of a seat waits for what it awaits.
 abbrev pub AreWaiting : {O : Type 0} → List (SeatSeen O) → Type 0
 AreWaiting {O} seats = (i : ℕ) (x : SeatSeen O) → slice_get seats i ≡ Some x → HasBegunToWait x
 
--- A line may be heard: each agent waits for what it awaits, and none of that is due after all that the owner's pass has seen.
+-- A line may be heard: each agent knows that it waits for what it awaits, and does so after all that the owner's pass has seen, when it is not due.
 pub record IsQuiet {T O P : Type 0} (w : Words T O P) (watch : WatchSeen O Entry T) (seats : List (SeatSeen O)) : Type 0 where
   pub begun : AreWaiting seats
-  pub not_due : AreNotDue (opens w watch.last) (w.entries watch.last) seats
+  pub rest : AreAtRest (opens w watch.last) (w.entries watch.last) seats
 
 -- A line was heard since a moment, and no more.
 pub record HasHeard {T O P : Type 0} (w : Words T O P) (line : Text) (before now : P) : Type 0 where

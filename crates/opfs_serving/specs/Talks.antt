@@ -3,8 +3,11 @@ use Rattle.std.specs.Prelude.{◌≡◌, ◌⊎◌, ℕ, suc, ◌-◌, ◌<◌, 
 use Rattle.opfs_base.specs.Texts.{Text}
 use Rattle.opfs_hall.specs.History.{IsPrefix}
 use Rattle.opfs_hist.specs.declared.entry.Entry.{Entry}
+use Rattle.opfs_machine.specs.Agents.{agent_of, waits_for}
 use Rattle.opfs_machine.specs.Histories.{state_after}
 use Rattle.opfs_machine.specs.Openings.{Opening}
+use Rattle.opfs_machine.specs.declared.own.Own.{Own}
+use Rattle.opfs_machine.specs.declared.state.State.{State}
 use Rattle.opfs_port.specs.Said.{Said}
 use Rattle.opfs_script.specs.Scripts.{Asked}
 use Rattle.opfs_script.specs.declared.step.Step.TheVariants as step
@@ -21,13 +24,18 @@ HasAnswer scripts (Some c) told =
     (a : Asked) → slice_get scripts (c.agent - 1) ≡ Some a
     → (length a.steps < next_number c.agent told) ⊎ ((tag : Text) × (c.step ≡ step.Await tag) × (length a.steps ≤ next_number c.agent told))
 
--- An await was looked after: at a moment at which all that was told had been entered, and no entry but these, its tag was neither posted nor was nobody
--- left who could post it.
+-- An agent waits for a tag that is not due: it was not posted, and somebody is left who could post it.
+pub record WaitsFor (s : State Text Own) (k : ℕ) (tag : Text) : Type 0 where
+  pub waits : waits_for (agent_of s k).waits tag ≡ true
+  pub not_due : awaited s k tag ≡ await.Neither
+
+-- An await was looked after: at a moment at which all that was told had been entered, and no entry but these, its agent waited for its tag, which was
+-- not due.
 pub record IsLookedAfter (o : Opening) (told last : List Entry) (k : ℕ) (tag : Text) : Type 0 where
   pub front : List Entry
   pub all : IsPrefix told front
   pub before : IsPrefix front last
-  pub not_due : awaited (state_after o front) k tag ≡ await.Neither
+  pub waits : WaitsFor (state_after o front) k tag
 
 -- So was each await.
 abbrev pub AreLookedAfter : Opening → List Asked → List Entry → List Entry → Type 0

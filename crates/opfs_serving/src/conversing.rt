@@ -99,7 +99,7 @@ fn poll_all<S: Store, P: Port<S>, R: AllocGlobal + Wait>(
     watch
 }
 
-// Looks after all awaits until none is due, or no answers are told any more.
+// Looks after all awaits until each is at rest, or no answers are told any more.
 fn settle<S: Store, P: Port<S>, R: AllocGlobal + Wait>(
     rt: &R,
     hall: &Hall<S>,
@@ -116,9 +116,9 @@ fn settle<S: Store, P: Port<S>, R: AllocGlobal + Wait>(
         if table.progress.state != State::On {
             return watch;
         }
-        let (now, due) = look_turn(rt, hall, watch, table.seats.as_slice());
+        let (now, look) = look_turn(rt, hall, watch, table.seats.as_slice());
         watch = now;
-        if !due {
+        if !look {
             return watch;
         }
     }
@@ -168,7 +168,7 @@ fn hear_line<S: Store, P: Port<S>, R: AllocGlobal + Wait>(
     }
 }
 
-/// Hears lines and answers each, once no await is due, to the end of the lines, or until the port fails or memory is wanting.
+/// Hears lines and answers each, once all awaits are at rest, to the end of the lines, or until the port fails or memory is wanting.
 pub fn converse<S: Store, P: Port<S>, R: AllocGlobal + Wait>(
     rt: &R,
     hall: &Hall<S>,

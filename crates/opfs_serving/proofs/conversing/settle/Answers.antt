@@ -1,5 +1,5 @@
 use Rattle.std.proofs.Common.{◌≤◌, length, sym, subst}
-use Rattle.opfs_serving.specs.Served.{AreNotDue, words}
+use Rattle.opfs_serving.specs.Served.{AreAtRest, words}
 use Rattle.opfs_serving.proofs.Polls.{GoesServing, going-more, going-turned, serving-few}
 use Rattle.opfs_serving.proofs.conversing.settle.Given.{Over}
 use Rattle.opfs_serving.proofs.conversing.settle.Goals as goal
@@ -51,14 +51,14 @@ look_turn-now-requires-clause-all g c =
 pub loop-preserved : goal.loop-preserved
 loop-preserved g c = looked g (goal.at.loop-preserved g c).After-look_turn-now (polled g (goal.at.loop-preserved g c).After-poll_all-watch)
 
-pub returns-then-not-due-clause-on_with : goal.returns-then-not-due-clause-on_with
-returns-then-not-due-clause-on_with g c =
-    (looked g (goal.at.returns-then-not-due-clause-on_with g c).After-look_turn-now (polled g (goal.at.returns-then-not-due-clause-on_with g c).After-poll_all-watch)).on_with
+pub returns-then-not-look-clause-on_with : goal.returns-then-not-look-clause-on_with
+returns-then-not-look-clause-on_with g c =
+    (looked g (goal.at.returns-then-not-look-clause-on_with g c).After-look_turn-now (polled g (goal.at.returns-then-not-look-clause-on_with g c).After-poll_all-watch)).on_with
 
-pub returns-then-not-due-clause-quiet : goal.returns-then-not-due-clause-quiet
-returns-then-not-due-clause-quiet g c = λ on. record {
+pub returns-then-not-look-clause-quiet : goal.returns-then-not-look-clause-quiet
+returns-then-not-look-clause-quiet g c = λ on. record {
   begun = c.poll_all-watch.ensures.begun on;
-  not_due =
-      subst (λ xs. AreNotDue (g.S.Store.opened (g.S.Chronicle.opening c.look_turn-now.result.0.last)) (g.S.Chronicle.entries c.look_turn-now.result.0.last) xs) c.as_slice.ensures.value
-      (c.look_turn-now.ensures.quiet c.if-not-due.true);
+  rest =
+      subst (λ xs. AreAtRest (g.S.Store.opened (g.S.Chronicle.opening c.look_turn-now.result.0.last)) (g.S.Chronicle.entries c.look_turn-now.result.0.last) xs) c.as_slice.ensures.value
+      (c.look_turn-now.ensures.quiet c.if-not-look.true);
 }
