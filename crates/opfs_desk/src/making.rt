@@ -12,6 +12,7 @@ use opfs_data::Swap;
 use opfs_desk_steps::{DeskParts, Iterators, Ledger, OpenPages};
 use opfs_hall::Told;
 use opfs_image::Recovered;
+use opfs_journal::Journal;
 use opfs_outside::Disk;
 use opfs_pages::handles_stay_whole;
 use opfs_register::Who;
@@ -26,6 +27,29 @@ fn make_freed(alloc: Global, count: u32) -> Result<Vec<Extent>, AllocError>
     let mut freed = Vec::new(alloc);
     freed.reserve(count as usize)?;
     Ok(freed)
+}
+
+// A desk's parts where it begins: no bytes of an open row are kept.
+fn parts_of<D: Disk>(
+    alloc: Global,
+    journal: Journal<D>,
+    books: Books<State>,
+    freed: Vec<Extent>,
+    space: Space,
+    base: u64,
+) -> DeskParts<D>
+    ensures { result ≡ record { ledger = record { journal = journal; books = books; freed = freed; alloc = alloc }; pages = record { swap = []; space = space; base = base } } }
+{
+    let swap = Swap::make(alloc);
+    DeskParts {
+        ledger: Ledger {
+            journal,
+            books,
+            freed,
+            alloc,
+        },
+        pages: OpenPages { swap, space, base },
+    }
 }
 
 impl<D: Disk> Desk<D> {
@@ -66,19 +90,7 @@ impl<D: Disk> Desk<D> {
         };
         match Books::make(alloc, &mut journal, limits.area, state) {
             Ok(books) => Ok(Desk {
-                parts: DeskParts {
-                    ledger: Ledger {
-                        journal,
-                        books,
-                        freed,
-                        alloc,
-                    },
-                    pages: OpenPages {
-                        swap: Swap::make(alloc),
-                        space,
-                        base: geometry.data_base(),
-                    },
-                },
+                parts: parts_of(alloc, journal, books, freed, space, geometry.data_base()),
                 from: told,
                 agents: who,
                 iterators: Iterators::make(alloc),

@@ -1,5 +1,5 @@
 -- What a conversation has come to. This project's own.
-use Rattle.std.specs.Prelude.{◌≡◌, ◌⊎◌, ℕ, suc, ◌-◌, ◌<◌, ◌≤◌, List, [], ◌∷◌, ◌++◌, length, All, Option, Some, None, slice_get}
+use Rattle.std.specs.Prelude.{◌≡◌, ◌⊎◌, ℕ, suc, ◌-◌, ◌<◌, ◌≤◌, true, List, [], ◌∷◌, ◌++◌, length, All, Option, Some, None, slice_get}
 use Rattle.opfs_base.specs.Texts.{Text}
 use Rattle.opfs_hall.specs.History.{IsPrefix}
 use Rattle.opfs_hist.specs.declared.entry.Entry.{Entry}

@@ -1,4 +1,4 @@
-use Rattle.std.proofs.Common.{◌≡◌, ◌∙◌, [], Option, Some, None, sym, ap, subst}
+use Rattle.std.proofs.Common.{◌≡◌, ◌∙◌, [], Option, Some, None, refl, sym, ap, subst}
 use Rattle.opfs_base.specs.Texts.{Text}
 use Rattle.opfs_books.specs.Opened.{IsOpened}
 use Rattle.opfs_image.specs.Agreeing.{built_in}
@@ -14,6 +14,7 @@ use Rattle.opfs_state.specs.Applied.{StateSeen, opened}
 use Rattle.opfs_tree.specs.Rows.{Rows as Tree}
 use Rattle.opfs_pages.specs.HistoryLaws.Handles.{AreHandlesWhole}
 use Rattle.opfs_desk_steps.specs.Parts.Held.{AreHeld}
+use Rattle.opfs_desk_steps.specs.declared.parts.parts.DeskParts.{DeskParts}
 use Rattle.opfs_desk_steps.specs.declared.parts.parts.Ledger.{Ledger}
 use Rattle.opfs_desk_steps.specs.declared.parts.parts.OpenPages.{OpenPages}
 use Rattle.opfs_desk.specs.Resting.{IsResting}
@@ -35,7 +36,7 @@ invariant_of-result g c =
     let from = c.args.from in
     let agents = c.args.agents.items in
     let l : Ledger g.row.D.Denot = record { journal = c.make-3.new.journal; books = c.in-Ok-make-3.books; freed = c.in-Ok.freed; alloc = c.args.alloc } in
-    let p : OpenPages = record { swap = c.make-in-Ok-make-3.result; space = c.in-Ok-make.space; base = c.data_base.result } in
+    let p : OpenPages = record { swap = []; space = c.in-Ok-make.space; base = c.data_base.result } in
     let state = c.in-Ok-make-2.state in
     let limits = c.limits_of-limits.ensures in
     let opens = c.a_recovered_image_opens_a_run.ensures.opened agents in
@@ -51,11 +52,11 @@ invariant_of-result g c =
     let held : AreHeld g.D.Disk f (record { ledger = l; pages = p }) =
     made-held g.D.Disk from agents l p c.first_blocks_are_right.ensures opens c.requires.keys c.requires.few (done.books f (built_in from.tree from.shed) here) done.history
     (ap (λ (s : StateSeen). s.store.machine) same ∙ machine) (ap (λ (s : StateSeen). s.store.tree) same ∙ tree) (ap (λ (s : StateSeen). s.store.prepared.place) same ∙ c.in-Ok-make-2.ensures.place)
-    (ap (λ (j : Seen g.row.D.Denot). j.disk) done.journal) c.in-Ok.ensures c.make-in-Ok-make-3.ensures c.in-Ok-make.ensures.used c.in-Ok-make.ensures.own c.data_base.ensures.same in
+    (ap (λ (j : Seen g.row.D.Denot). j.disk) done.journal) c.in-Ok.ensures refl c.in-Ok-make.ensures.used c.in-Ok-make.ensures.own c.data_base.ensures.same in
     let whole : AreHandlesWhole f.opening l.books.history = subst (AreHandlesWhole f.opening) (sym done.history) (c.handles_stay_whole.ensures.begun f.opening) in
     let none : AreReached (state_after f.opening l.books.history) [] = λ k n last is. absurd (no-name last is) in
-    subst (λ (x : Recovered g.row.D.Denot g.D.Disk). IsResting g.D.Disk (fixed_by g.D.Disk x c.of-who.result.value.items) (record { ledger = l; pages = p }) c.make-in-Ok-make-3-2.result) (sym c.of-told.ensures)
-    (rw (c.of-who.ensures) (record {
+    subst (λ (x : Recovered g.row.D.Denot g.D.Disk). IsResting g.D.Disk (fixed_by g.D.Disk x c.of-who.result.value.items) c.parts_of.result c.make-in-Ok-make-3.result) (sym c.of-told.ensures)
+    (rw (c.of-who.ensures) (subst (λ (x : DeskParts g.row.D.Denot). IsResting g.D.Disk f x c.make-in-Ok-make-3.result) (sym c.parts_of.ensures) (record {
       rest = record {
         held = held;
         whole = whole;
@@ -65,8 +66,8 @@ invariant_of-result g c =
             (once-now g.D.Disk f l c.the_books_show_their_images.ensures held.recorded (state_after f.opening l.books.history) [] held.are.books t);
         keeps = λ t. keeps-none g.D.Disk f.opening l.books.history l.journal.disk done.history;
       };
-      reached = subst (AreReached (state_after f.opening l.books.history)) (sym c.make-in-Ok-make-3-2.ensures) none;
-    }))
+      reached = subst (AreReached (state_after f.opening l.books.history)) (sym c.make-in-Ok-make-3.ensures) none;
+    })))
   where
     no-name : (last : Text) → ◌≡◌ {A = Option Text} None (Some last) → ⊥
     no-name last h = cc
