@@ -1,3 +1,4 @@
+use Rattle.std.proofs.Common.{rules}
 use Rattle.opfs_serving.specs.Served.{words}
 use Rattle.opfs_serving.proofs.Polls.{GoesServing, going-more}
 use Rattle.opfs_serving.proofs.conversing.converse.Given.{Over}
@@ -35,3 +36,6 @@ loop-preserved g c = heard g (goal.at.loop-preserved g c).After-hear_line-now (s
 pub returns-then-not-more-clause-on_with : goal.returns-then-not-more-clause-on_with
 returns-then-not-more-clause-on_with g c =
     (heard g (goal.at.returns-then-not-more-clause-on_with g c).After-hear_line-now (settled g (goal.at.returns-then-not-more-clause-on_with g c).After-settle-watch)).on_with
+
+pub hear_line-now-requires-clause-quiet : goal.hear_line-now-requires-clause-quiet
+hear_line-now-requires-clause-quiet g c = c.settle-watch.ensures.quiet (search rules)
