@@ -17,6 +17,8 @@ use Rattle.opfs_rulings.specs.Sets.{IsSetOf}
 use Rattle.opfs_rulings.specs.Tallies.{AreKept}
 use Rattle.opfs_rulings.specs.declared.tally.Tally.{Tally}
 use Rattle.opfs_rulings.specs.declared.course.Course.{Course}
+use Rattle.opfs_rulings.specs.declared.course.Event.{Event}
+use Rattle.opfs_rulings.specs.declared.course.Event.TheVariants as event
 
 -- Whether a set has a name.
 abbrev pub has : BTreeSet Text → Text → Bool
@@ -100,6 +102,13 @@ StaysBeside k n old new = (new ≡ old) × IsOther k n new
 -- This iterator gave a name, or the end; the course of another one stays.
 abbrev pub GivesOrStays : ℕ → ℕ → Option Text → Course → Course → Type 0
 GivesOrStays k n name old new = IsGivenBy k n name old new ⊎ StaysBeside k n old new
+
+-- What a course becomes by what happens.
+abbrev pub Becomes : Event → Course → Course → Type 0
+Becomes (event.Made place) = HasMore place.now
+Becomes (event.Removed place) = HasLost place.now
+Becomes (event.Gave k n name) = GivesOrStays k n name.now
+Becomes (event.Swapped k n) = StaysBeside k n
 
 -- A course comes from one of these.
 abbrev pub IsFrom : (Course → Course → Type 0) → List Course → Course → Type 0

@@ -18,9 +18,7 @@ ghost use Rattle.opfs_rulings.specs.Known.{IsAgent, IsOwn};
 ghost use Rattle.opfs_rulings.specs.Spots.{IsThere};
 ghost use Rattle.opfs_rulings.specs.Tallies.{given, IsRaised};
 
-use crate::course::{
-    Course, course_of, find_course, given_by, keep, of_others, with_row, without_row,
-};
+use crate::course::{Course, Event, course_of, courses_after, find_course, keep};
 use crate::parts::{
     add_own, count, end, exchange_own, exchange_row, insert_mode, insert_row, lowered_in,
     remove_in, row_in, set_moment, set_waiting, spot_in,
@@ -217,7 +215,7 @@ impl Board {
         let old = self.tally.take();
         let followed = mem::replace(&mut self.courses, Vec::new(alloc));
         let tally = raised(old, origin_of(place.0.as_bytes()), weigh_row(&place, &row));
-        let courses = with_row(alloc, followed, &place);
+        let courses = courses_after(alloc, followed, &Event::Made(&place));
         insert_row(&mut self.state, at, place, row)?;
         self.tally = tally;
         self.courses = courses;
@@ -231,7 +229,7 @@ impl Board {
         let old = self.tally.take();
         let followed = mem::replace(&mut self.courses, Vec::new(self.alloc));
         let tally = lowered_in(old, &self.state, place);
-        let courses = without_row(self.alloc, followed, place);
+        let courses = courses_after(self.alloc, followed, &Event::Removed(place));
         remove_in(&mut self.state, place);
         self.tally = tally;
         self.courses = courses;
@@ -276,7 +274,7 @@ impl Board {
         let old = self.tally.take();
         let followed = mem::replace(&mut self.courses, Vec::new(self.alloc));
         let tally = raised(old, own_origin(&own), Some(weigh_own(&own)));
-        let courses = of_others(self.alloc, followed, number, row);
+        let courses = courses_after(self.alloc, followed, &Event::Swapped(number, row));
         let gone = exchange_own(&mut self.state, number, row, own);
         self.tally = lowered(tally, own_origin(&gone), Some(weigh_own(&gone)));
         self.courses = courses;
@@ -296,7 +294,7 @@ impl Board {
         ensures { OnOk result (self.new ≡ with_changed self.old number row (λ r. given_row r name)) }
     {
         let followed = mem::replace(&mut self.courses, Vec::new(alloc));
-        let courses = given_by(alloc, followed, number, row, &name);
+        let courses = courses_after(alloc, followed, &Event::Gave(number, row, &name));
         let mut own = self.swap_own(number, row, Own::ClosedStream);
         give_row(&mut own, name)?;
         self.swap_own(number, row, own);

@@ -3,7 +3,7 @@
 ghost use Rattle.std.specs.Prelude.{◌≡◌, Contains, IfOk, IfSome, IsTrue, OnOk};
 ghost use Rattle.opfs_base.specs.Places.{child_name};
 ghost use Rattle.opfs_rulings.specs.Sets.{IsSetOf};
-ghost use Rattle.opfs_rulings.specs.Courses.{AreFrom, GivesOrStays, HasChild, HasGiven, HasLost, HasMore, HasOthers, IsGivenBy, MayAdd, StaysBeside, names_in};
+ghost use Rattle.opfs_rulings.specs.Courses.{AreFrom, Becomes, GivesOrStays, HasChild, HasGiven, HasLost, HasMore, HasOthers, IsGivenBy, MayAdd, StaysBeside, names_in};
 
 use crate::rows::PlacedRow;
 use crate::sets::names_of;
@@ -20,6 +20,19 @@ pub struct Course {
     pub dir: Place,
     pub given: BTreeSet<Name>,
     pub left: BTreeSet<Name>,
+}
+
+/// What happens to a board, as far as iterators see it.
+#[derive(Drop)]
+pub enum Event<'a> {
+    /// A row was made at a place.
+    Made(&'a Place),
+    /// The row at a place went, and all below it.
+    Removed(&'a Place),
+    /// The iterator of this agent in this own row gave a name, or the end.
+    Gave(u32, u32, &'a Option<Name>),
+    /// This agent has another own row in the place of one.
+    Swapped(u32, u32),
 }
 
 /// Adds the name of what stands at a place to those that are left, if it is a child and was not given.
@@ -103,18 +116,6 @@ pub fn keep(courses: &mut Vec<Course>, course: Option<Course>)
     let _ = courses.push(course);
 }
 
-/// Courses once a row was made at a place.
-pub fn with_row(alloc: Global, courses: Vec<Course>, place: &Place) -> Vec<Course>
-    ensures { AreFrom (HasMore place.now) courses.items result.items }
-{
-    let mut left = courses;
-    let mut moved = Vec::new(alloc);
-    while let Some(course) = left.pop() {
-        keep(&mut moved, with_child(alloc, course, place));
-    }
-    moved
-}
-
 /// A course without what stood at a place and below it; none where that is its directory, or above it.
 fn without_place(mut course: Course, place: &Place) -> Option<Course>
     ensures { IfSome result (HasLost place.now course) }
@@ -127,18 +128,6 @@ fn without_place(mut course: Course, place: &Place) -> Option<Course>
     };
     course.left.remove(name);
     Some(course)
-}
-
-/// Courses once the row at a place and all below it went, but for those whose directory went.
-pub fn without_row(alloc: Global, courses: Vec<Course>, place: &Place) -> Vec<Course>
-    ensures { AreFrom (HasLost place.now) courses.items result.items }
-{
-    let mut left = courses;
-    let mut moved = Vec::new(alloc);
-    while let Some(course) = left.pop() {
-        keep(&mut moved, without_place(course, place));
-    }
-    moved
 }
 
 /// A course whose iterator has given a name.
@@ -185,24 +174,6 @@ fn passed(
     with_end(alloc, course, agent, row, name)
 }
 
-/// Courses once an iterator has given a name, or the end.
-pub fn given_by(
-    alloc: Global,
-    courses: Vec<Course>,
-    agent: u32,
-    row: u32,
-    name: &Option<Name>,
-) -> Vec<Course>
-    ensures { AreFrom (GivesOrStays agent row name.now) courses.items result.items }
-{
-    let mut left = courses;
-    let mut moved = Vec::new(alloc);
-    while let Some(course) = left.pop() {
-        keep(&mut moved, passed(alloc, course, agent, row, name));
-    }
-    moved
-}
-
 /// A course, where it is not that of an own row.
 fn other(course: Course, agent: u32, row: u32) -> Option<Course>
     ensures { IfSome result (StaysBeside agent row course) }
@@ -213,14 +184,26 @@ fn other(course: Course, agent: u32, row: u32) -> Option<Course>
     Some(course)
 }
 
-/// Courses, but for that of an own row.
-pub fn of_others(alloc: Global, courses: Vec<Course>, agent: u32, row: u32) -> Vec<Course>
-    ensures { AreFrom (StaysBeside agent row) courses.items result.items }
+// A course once something happened; none where it ends by that, or memory is short.
+fn course_after(alloc: Global, course: Course, event: &Event<'_>) -> Option<Course>
+    ensures { IfSome result (Becomes event.now course) }
+{
+    match event {
+        Event::Made(place) => with_child(alloc, course, place),
+        Event::Removed(place) => without_place(course, place),
+        Event::Gave(agent, row, name) => passed(alloc, course, *agent, *row, name),
+        Event::Swapped(agent, row) => other(course, *agent, *row),
+    }
+}
+
+/// Courses once something happened, but for those that end by it, or for which memory is short.
+pub fn courses_after(alloc: Global, courses: Vec<Course>, event: &Event<'_>) -> Vec<Course>
+    ensures { AreFrom (Becomes event.now) courses.items result.items }
 {
     let mut left = courses;
     let mut moved = Vec::new(alloc);
     while let Some(course) = left.pop() {
-        keep(&mut moved, other(course, agent, row));
+        keep(&mut moved, course_after(alloc, course, event));
     }
     moved
 }

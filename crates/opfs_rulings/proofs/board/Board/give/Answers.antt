@@ -31,9 +31,9 @@ invariant_of-self-2 c =
     let own : IsOwn (agent_of s c.args.number) c.args.row = rw c.self.view_is c.requires.row in
     record {
       kept = c.self-2.invariant.kept;
-      followed = courses-gone s c.self-2.inside.state c.self.inside.courses.items c.replace-followed.result.items c.given_by-courses.result.items c.self.invariant.followed (ap (λ x. x.items) c.replace-followed.ensures.value) c.args.number agent c.args.row own.above
+      followed = courses-gone s c.self-2.inside.state c.self.inside.courses.items c.replace-followed.result.items c.courses_after-courses.result.items c.self.invariant.followed (ap (λ x. x.items) c.replace-followed.ensures.value) c.args.number agent c.args.row own.above
           c.swap_own-own.result c.args.name c.swap_own-own.ensures.old
           (c.self-2.view_is ∙ c.swap_own.ensures.state ∙ put_back s c.swap_own-own.new.self c.args.number c.args.row ClosedStream agent c.swap_own-own.ensures.state c.give_row.new.row
           ∙ ap (with_own s c.args.number c.args.row) c.in_ok-give_row.ensures)
-          c.given_by-courses.ensures;
+          c.courses_after-courses.ensures;
     }

@@ -29,7 +29,7 @@ invariant_of-self-2 c = record {
       (kept_made c.self.inside.state.rows _ c.self.inside.state.agents c.self.inside.state.persistent c.self.inside.tally c.take-old.result c.self.invariant.kept c.take-old.ensures.value
       c.args.place c.args.row _ c.origin_of.result.now c.weigh_row.result c.raised-tally.result c.in-Err.ensures.missing refl
       (c.origin_of.ensures ∙ ap origin_of c.as_bytes.ensures) c.weigh_row.ensures c.raised-tally.ensures);
-  followed = courses-made c.self.inside.state c.insert_row.new.state c.self.inside.courses.items c.replace-followed.result.items c.with_row-courses.result.items c.self.invariant.followed (ap (λ x. x.items) c.replace-followed.ensures.value) c.args.place c.args.row c.in-Err.at c.in_ok-insert_row.ensures.ok c.with_row-courses.ensures;
+  followed = courses-made c.self.inside.state c.insert_row.new.state c.self.inside.courses.items c.replace-followed.result.items c.courses_after-courses.result.items c.self.invariant.followed (ap (λ x. x.items) c.replace-followed.ensures.value) c.args.place c.args.row c.in-Err.at c.in_ok-insert_row.ensures.ok c.courses_after-courses.ensures;
 }
 
 pub returns : goal.returns

@@ -15,5 +15,5 @@ invariant_of-self c =
           c.own_origin.result.now c.own_origin-2.result.now c.weigh_own.result c.weigh_own-2.result c.take-old.result c.raised-tally.result c.lowered.result
           c.take-old.ensures.value c.exchange_own-gone.ensures.state c.exchange_own-gone.ensures.old
           c.own_origin.ensures c.weigh_own.ensures c.raised-tally.ensures c.own_origin-2.ensures c.weigh_own-2.ensures c.lowered.ensures;
-      followed = courses-swapped c.self.inside.state c.exchange_own-gone.new.state c.self.inside.courses.items c.replace-followed.result.items c.of_others-courses.result.items c.self.invariant.followed (ap (λ x. x.items) c.replace-followed.ensures.value) c.args.number agent c.args.row own.above c.args.own c.exchange_own-gone.ensures.state c.of_others-courses.ensures;
+      followed = courses-swapped c.self.inside.state c.exchange_own-gone.new.state c.self.inside.courses.items c.replace-followed.result.items c.courses_after-courses.result.items c.self.invariant.followed (ap (λ x. x.items) c.replace-followed.ensures.value) c.args.number agent c.args.row own.above c.args.own c.exchange_own-gone.ensures.state c.courses_after-courses.ensures;
     }
