@@ -81,11 +81,6 @@ looks-by await.Stuck b h = absurd cc
 looks-by await.Neither true h = (refl, refl)
 looks-by await.Neither false h = absurd cc
 
-pub looks-alone : (p : Plan) (tag : Text) → op_by p tag ≡ None → p ≡ plan.Look
-looks-alone (plan.Answer posted) tag h = absurd cc
-looks-alone plan.Begin tag h = absurd cc
-looks-alone plan.Look tag h = refl
-
 pub op-same : {x y : Op} → Some x ≡ Some y → x ≡ y
 op-same h = cc
 

@@ -1,6 +1,6 @@
 //! An await, turn by turn (this project's own).
 
-ghost use Rattle.std.specs.Prelude.{◌≡◌, ◌⊎◌, ◌≤◌, Bool, IfOk, OnErr};
+ghost use Rattle.std.specs.Prelude.{◌≡◌, ◌≢◌, ◌⊎◌, ◌≤◌, Bool, Some, IfOk, OnErr};
 ghost use Rattle.opfs_machine.specs.Agents.{waits_for};
 ghost use Rattle.opfs_laws.specs.Histories.Unread.{IsTold};
 ghost use Rattle.opfs_turns.specs.Agents.{IsAgent, seen};
@@ -27,7 +27,7 @@ pub enum AwaitTurn {
 }
 
 /// What an await does in its turn.
-#[derive(Clone, Copy, PartialEq, Eq)]
+#[derive(Clone, Copy)]
 pub(crate) enum Plan {
     /// It is answered: whether the tag was posted.
     Answer(bool),
@@ -49,13 +49,14 @@ fn plan_for(state: AwaitState, begun: bool) -> Plan
 }
 
 // What an await enters in its turn, by its plan: its own call, or that it waits. A look enters nothing.
-fn op_of(plan: Plan, tag: Text) -> Option<Op>
-    ensures { result ≡ op_by plan tag }
+fn op_of(plan: Plan, tag: Text) -> Op
+    requires enters { plan ≢ Plan.Look }
+    ensures { op_by plan tag ≡ Some result }
 {
     match plan {
-        Plan::Answer(_) => Some(Op::Await { tag }),
-        Plan::Begin => Some(Op::Wait { tag }),
-        Plan::Look => None,
+        Plan::Answer(_) => Op::Await { tag },
+        Plan::Begin => Op::Wait { tag },
+        Plan::Look => unreachable!(),
     }
 }
 
@@ -149,10 +150,11 @@ pub(crate) fn await_turn<S: Store, R: Wait>(
     let heard = court.heard();
     let stands = turn.value.await_state(agent, tag.as_str());
     let plan = plan_for(stands, begun);
-    let Some(op) = op_of(plan, asked) else {
+    if let Plan::Look = plan {
         court.leave(&mut caller.pass, turn);
         return Ok(AwaitTurn::Waits(heard));
-    };
+    }
+    let op = op_of(plan, asked);
     let acted = turn.value.act(
         agent,
         number,

@@ -79,6 +79,9 @@ pub fn act_call<D: Disk>(
                 }
             }
         }
-        Err(error) => Err(error),
+        Err(error) => {
+            drop(op);
+            Err(error)
+        }
     }
 }

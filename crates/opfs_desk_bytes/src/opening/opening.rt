@@ -117,6 +117,7 @@ pub fn act_open<D: Disk>(
         row,
         &call.op,
     ) else {
+        drop(call);
         return Err(AllocError);
     };
     let agent = call.agent;

@@ -195,6 +195,9 @@ pub fn act_get_file<D: Disk>(
     ) {
         Ok(read) => Ok(enter_get_file(parts, call, read, pending, work)),
         Err(DataRefusal::DiskFault) => Ok(fail_reading(parts, call, pending)),
-        Err(DataRefusal::NoMemory) => Err(AllocError),
+        Err(DataRefusal::NoMemory) => {
+            drop(call);
+            Err(AllocError)
+        }
     }
 }

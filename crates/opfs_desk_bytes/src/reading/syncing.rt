@@ -176,6 +176,9 @@ pub fn act_sync_read<D: Disk>(
     ) {
         Ok(read) => Ok(enter_sync_read(parts, call, read, pending, work)),
         Err(DataRefusal::DiskFault) => Ok(fail_reading(parts, call, pending)),
-        Err(DataRefusal::NoMemory) => Err(AllocError),
+        Err(DataRefusal::NoMemory) => {
+            drop(call);
+            Err(AllocError)
+        }
     }
 }

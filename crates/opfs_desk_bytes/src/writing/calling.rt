@@ -86,7 +86,10 @@ fn put_bytes<D: Disk>(
     ) {
         Ok(planned) => Ok(enter_call(parts, call, target, planned, given, pending, work)),
         Err(DataRefusal::DiskFault) => Ok(fail_reading(parts, call, pending)),
-        Err(DataRefusal::NoMemory) => Err(AllocError),
+        Err(DataRefusal::NoMemory) => {
+            drop(call);
+            Err(AllocError)
+        }
     }
 }
 
@@ -129,11 +132,20 @@ pub fn act_put<D: Disk>(
     ensures idle { OnErr result ((f : Fixed D) (recorded : Built) → AreHeldWhole D.Disk f recorded parts.old.ledger parts.old.pages → IsUnacted D.Disk f parts.old parts.new) }
 {
     size_laws::<D>();
-    let held = bytes_held(&call.op)?;
+    let held = match bytes_held(&call.op) {
+        Ok(held) => held,
+        Err(error) => {
+            drop(call);
+            return Err(error);
+        }
+    };
     match held.told() {
         Told::Given(bytes) => put_bytes(parts, call, bytes, pending, work),
         Told::Fill(byte, count) => {
-            let bytes = spelled_out(parts.ledger.alloc, byte, count)?;
+            let Ok(bytes) = spelled_out(parts.ledger.alloc, byte, count) else {
+                drop(call);
+                return Err(AllocError);
+            };
             put_bytes(parts, call, bytes.as_slice(), pending, work)
         }
     }

@@ -190,6 +190,9 @@ pub(crate) fn act_pages<D: Disk>(
     match plan_content(parts, call.agent, row, work) {
         Ok(plan) => Ok(enter_pages(parts, call, plan, row, pending, work)),
         Err(DataRefusal::DiskFault) => Ok(fail_reading(parts, call, pending)),
-        Err(DataRefusal::NoMemory) => Err(AllocError),
+        Err(DataRefusal::NoMemory) => {
+            drop(call);
+            Err(AllocError)
+        }
     }
 }

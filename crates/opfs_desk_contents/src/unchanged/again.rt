@@ -128,6 +128,7 @@ pub fn act_store_same_blocks<D: Disk>(
     let row = row_of(&call.op);
     let ends = is_last(&call.op);
     let Ok(again) = plan_again(&parts.ledger, agent, row) else {
+        drop(call);
         return Err(AllocError);
     };
     take_in(&mut parts.ledger, agent, pending);

@@ -88,6 +88,7 @@ pub fn act_persisted<D: Disk>(
         call.agent,
         &call.op,
     ) else {
+        drop(call);
         return Err(AllocError);
     };
     let rows = tell(parts, call, pending, Reply::Flag(flag));

@@ -158,6 +158,7 @@ pub fn act_next<D: Disk>(
         past,
         last,
     ) else {
+        drop(call);
         return Err(AllocError);
     };
     let NextChild { reply, told, gift } = next;

@@ -88,6 +88,7 @@ pub fn act_persist<D: Disk>(
     let agent = call.agent;
     let key = parts.ledger.books.state.key(agent);
     let Ok(unit) = unit_in(parts.ledger.alloc, key, &call.op) else {
+        drop(call);
         return Err(AllocError);
     };
     take_in(&mut parts.ledger, agent, pending);

@@ -91,6 +91,7 @@ pub fn act_keep_back<D: Disk>(
     let agent = call.agent;
     let key = parts.ledger.books.state.key(agent);
     let Ok(place) = entry_of(parts.ledger.alloc, key, &call.op) else {
+        drop(call);
         return Err(AllocError);
     };
     take_in(&mut parts.ledger, agent, pending);

@@ -32,6 +32,7 @@ pub fn ask<S: Store, R: Wait>(
     ensures { Shared S.tells turns.old turns.new op (λ acted answered given. (acted.reply ≡ answered) × (acted.gift ≡ given)) result }
 {
     let Ok(room) = Room::make(alloc) else {
+        drop(op);
         return Err(Stop::NoMemory);
     };
     let mut work = Work::fresh(alloc);
@@ -54,6 +55,7 @@ pub fn ask_past<S: Store, R: Wait>(
     ensures { Shared S.tells turns.old turns.new op (λ acted answered given. (acted.reply ≡ answered) × (acted.gift ≡ given)) result }
 {
     let Ok(room) = Room::make(alloc) else {
+        drop(op);
         return Err(Stop::NoMemory);
     };
     let mut work = Work::fresh(alloc);
@@ -80,6 +82,7 @@ pub fn ask_work<S: Store, R: Wait>(
     ensures same { OnErr result (IsSameCopy work.old work.new) }
 {
     let Ok(room) = Room::make(alloc) else {
+        drop(op);
         return Err(Stop::NoMemory);
     };
     let acted = turns.call(rt, court, room, op, work, &[]);

@@ -27,6 +27,8 @@ pub fn keep_call<S: Store>(
     ensures { Local S.tells turns.old turns.new op made (λ _ answered. answered ≡ reply) result }
 {
     let Ok(room) = Room::make(alloc) else {
+        drop(op);
+        drop(reply);
         return Err(Stop::NoMemory);
     };
     turns.keep(room, op, reply, made);
@@ -41,6 +43,7 @@ pub fn keep_refusal<S: Store>(alloc: Global, turns: &mut Turns<S>, op: Op, refus
     ensures why { IsWhy result refusal }
 {
     let Ok(room) = Room::make(alloc) else {
+        drop(op);
         return Stop::NoMemory;
     };
     turns.keep(room, op, Reply::No(refusal), 0);

@@ -11,7 +11,6 @@ use Rattle.opfs_turns.specs.Agents.{IsAgent, seen}
 use Rattle.opfs_turns.specs.Calls.{HasLooked}
 use Rattle.opfs_turns.specs.Waiting.{IsAwaitTurn, op_by, noted_by}
 use Rattle.opfs_turns.proofs.Acted.{agent-there, pending-there, plan-acts, plan-left, goes-on-waiting, unacted, adds}
-use Rattle.opfs_turns.proofs.Awaiting.{looks-alone}
 use Rattle.opfs_turns.proofs.Turning.{number-small-waiting}
 use Rattle.opfs_turns.proofs.waiting.await_turn.Given.{Over}
 use Rattle.opfs_turns.proofs.waiting.await_turn.Goals as goal
@@ -43,28 +42,28 @@ looks g c =
     c.leave.new.pass (c.leave.ensures ∙ ap (λ p. at_rest p (g.S.Chronicle.entries c.enter-turn.result.value)) c.enter-turn.ensures.pass)
     c.args.caller.now.notes.pending refl
 
-pub returns-in_default-clause-agent : goal.returns-in_default-clause-agent
-returns-in_default-clause-agent g c = (looks g (goal.at.returns-in_default-clause-agent g c).After-leave).0
+pub returns-in-Look-clause-agent : goal.returns-in-Look-clause-agent
+returns-in-Look-clause-agent g c = (looks g (goal.at.returns-in-Look-clause-agent g c).After-leave).0
 
-pub returns-in_default-clause-turned : goal.returns-in_default-clause-turned
-returns-in_default-clause-turned g c =
+pub returns-in-Look-clause-turned : goal.returns-in-Look-clause-turned
+returns-in-Look-clause-turned g c =
     inl (goes-on-waiting g.S.Store.tells g.S.Store.opened c.args.caller.now.pass c.args.caller.now.notes g.S.Chronicle.owner g.met.S.Store.owned c.requires.agent
     (g.S.Store.opened (g.S.Chronicle.opening c.enter-turn.result.value)) (ap g.S.Store.opened (c.enter-turn.ensures.opening ∙ ap (λ h. h.opening) (sym c.requires.own)))
     (g.S.Chronicle.entries c.enter-turn.result.value) c.enter-turn.ensures.grows c.know_legal.ensures
     c.args.tag.now c.await_state-stands.result (c.await_state-stands.ensures ∙ (λ i. awaited (state_after (g.S.Store.opened (g.S.Chronicle.opening c.enter-turn.result.value)) (g.S.Chronicle.entries c.enter-turn.result.value)) (c.agent-agent.ensures i) (c.as_str.ensures i))) c.waits_for-begun.result c.waits_for-begun.ensures
     c.leave.new.pass (c.leave.ensures ∙ ap (λ p. at_rest p (g.S.Chronicle.entries c.enter-turn.result.value)) c.enter-turn.ensures.pass)
-    (sym c.plan_for-plan.ensures ∙ looks-alone c.plan_for-plan.result c.in_ok-room.field-0.tag (sym c.in_default.ensures))
-    (looks g (goal.at.returns-in_default-clause-turned g c).After-leave).1)
+    (sym c.plan_for-plan.ensures ∙ c.in-Look.is)
+    (looks g (goal.at.returns-in-Look-clause-turned g c).After-leave).1)
 
 pub act-acted-requires : goal.act-acted-requires
 act-acted-requires g c = record {
   may =
-      subst (λ (k : ℕ). MayAct g.S.Store.tells (g.S.Store.opened (g.S.Chronicle.opening c.enter-turn.result.value)) (g.S.Chronicle.entries c.enter-turn.result.value) c.args.caller.now.notes.pending (record { agent = k; number = c.args.caller.now.notes.number; op = c.in-Some.op }) c.fresh-work.result []) (sym c.agent-agent.ensures)
+      subst (λ (k : ℕ). MayAct g.S.Store.tells (g.S.Store.opened (g.S.Chronicle.opening c.enter-turn.result.value)) (g.S.Chronicle.entries c.enter-turn.result.value) c.args.caller.now.notes.pending (record { agent = k; number = c.args.caller.now.notes.number; op = c.op_of-op.result }) c.fresh-work.result []) (sym c.agent-agent.ensures)
       (plan-acts g.S.Store.tells g.S.Store.opened c.args.caller.now.pass c.args.caller.now.notes g.S.Chronicle.owner g.met.S.Store.owned c.requires.agent
       (g.S.Store.opened (g.S.Chronicle.opening c.enter-turn.result.value)) (ap g.S.Store.opened (c.enter-turn.ensures.opening ∙ ap (λ h. h.opening) (sym c.requires.own)))
       (g.S.Chronicle.entries c.enter-turn.result.value) c.enter-turn.ensures.grows c.know_legal.ensures
       c.args.tag.now c.await_state-stands.result (c.await_state-stands.ensures ∙ (λ i. awaited (state_after (g.S.Store.opened (g.S.Chronicle.opening c.enter-turn.result.value)) (g.S.Chronicle.entries c.enter-turn.result.value)) (c.agent-agent.ensures i) (c.as_str.ensures i))) c.waits_for-begun.result c.waits_for-begun.ensures
-      c.plan_for-plan.result c.in-Some.op c.fresh-work.result (sym c.plan_for-plan.ensures) (sym (c.in-Some.ensures ∙ ap (op_by c.plan_for-plan.result) c.in_ok-room.ensures.0)) c.fresh-work.ensures c.requires.room);
+      c.plan_for-plan.result c.op_of-op.result c.fresh-work.result (sym c.plan_for-plan.ensures) (ap (op_by c.plan_for-plan.result) (sym c.in_ok-room.ensures.0) ∙ c.op_of-op.ensures) c.fresh-work.ensures c.requires.room);
 }
 
 pub leave-requires-2-clause-adds : goal.leave-requires-2-clause-adds
@@ -72,7 +71,7 @@ leave-requires-2-clause-adds g c =
     subst (λ p. Adds g.S.Chronicle.owner p.agent p.base (g.S.Chronicle.entries c.act-acted.new.self)) (sym c.enter-turn.ensures.pass)
     (adds g.S.Chronicle.owner g.met.S.Store.owned c.args.caller.now.pass.agent g.S.Store.tells (g.S.Store.opened (g.S.Chronicle.opening c.enter-turn.result.value))
     (in_hand (g.S.Chronicle.entries c.enter-turn.result.value) (g.S.Store.faults c.enter-turn.result.value) c.args.caller.now.notes.pending c.fresh-work.result) (in_hand (g.S.Chronicle.entries c.act-acted.new.self) (g.S.Store.faults c.act-acted.new.self) c.act-acted.new.pending c.act-acted.new.work)
-    (record { agent = c.agent-agent.result; number = c.args.caller.now.notes.number; op = c.in-Some.op }) c.agent-agent.ensures c.act-acted.result
+    (record { agent = c.agent-agent.result; number = c.args.caller.now.notes.number; op = c.op_of-op.result }) c.agent-agent.ensures c.act-acted.result
     (pending-there g.S.Store.tells g.S.Store.opened c.args.caller.now.pass c.args.caller.now.notes g.S.Chronicle.owner g.met.S.Store.owned c.requires.agent
     (g.S.Store.opened (g.S.Chronicle.opening c.enter-turn.result.value)) (ap g.S.Store.opened (c.enter-turn.ensures.opening ∙ ap (λ h. h.opening) (sym c.requires.own)))
     (g.S.Chronicle.entries c.enter-turn.result.value) c.enter-turn.ensures.grows c.know_legal.ensures)
@@ -90,14 +89,14 @@ left g c =
     (g.S.Store.opened (g.S.Chronicle.opening c.enter-turn.result.value)) (ap g.S.Store.opened (c.enter-turn.ensures.opening ∙ ap (λ h. h.opening) (sym c.requires.own)))
     (g.S.Chronicle.entries c.enter-turn.result.value) c.enter-turn.ensures.grows c.know_legal.ensures
     c.args.tag.now c.await_state-stands.result (c.await_state-stands.ensures ∙ (λ i. awaited (state_after (g.S.Store.opened (g.S.Chronicle.opening c.enter-turn.result.value)) (g.S.Chronicle.entries c.enter-turn.result.value)) (c.agent-agent.ensures i) (c.as_str.ensures i))) c.waits_for-begun.result c.waits_for-begun.ensures
-    c.in-Some.op c.in-Ok.acted.reply (g.S.Chronicle.entries c.act-acted.new.self)
-    (subst (λ (k : ℕ). IsActed g.S.Store.tells (g.S.Store.opened (g.S.Chronicle.opening c.enter-turn.result.value)) (g.S.Chronicle.entries c.enter-turn.result.value) c.args.caller.now.notes.pending (record { agent = k; number = c.args.caller.now.notes.number; op = c.in-Some.op }) c.in-Ok.acted.reply (g.S.Chronicle.entries c.act-acted.new.self)) c.agent-agent.ensures c.in-Ok.ensures.served.acted)
+    c.op_of-op.result c.in-Ok.acted.reply (g.S.Chronicle.entries c.act-acted.new.self)
+    (subst (λ (k : ℕ). IsActed g.S.Store.tells (g.S.Store.opened (g.S.Chronicle.opening c.enter-turn.result.value)) (g.S.Chronicle.entries c.enter-turn.result.value) c.args.caller.now.notes.pending (record { agent = k; number = c.args.caller.now.notes.number; op = c.op_of-op.result }) c.in-Ok.acted.reply (g.S.Chronicle.entries c.act-acted.new.self)) c.agent-agent.ensures c.in-Ok.ensures.served.acted)
     (subst (λ o. IsTold g.S.Store.tells (g.S.Store.opened o) (g.S.Chronicle.entries c.act-acted.new.self)) c.act-acted.ensures.opening c.know_legal-2.ensures)
     c.leave-2.new.pass (c.leave-2.ensures ∙ ap (λ p. at_rest p (g.S.Chronicle.entries c.act-acted.new.self)) c.enter-turn.ensures.pass)
     c.act-acted.new.pending c.in-Ok.ensures.served.taken c.in-Ok.acted.rows
     (c.in-Ok.ensures.served.rows ∙ ap (λ (k : ℕ). length (agent_of (state_after (g.S.Store.opened (g.S.Chronicle.opening c.enter-turn.result.value)) (g.S.Chronicle.entries c.act-acted.new.self)) k).own) c.agent-agent.ensures)
     (Unit {0}) c.plan_for-plan.result c.heard-heard.result c.note.new.notes c.turn_of.result
-    (sym c.plan_for-plan.ensures) (sym (c.in-Some.ensures ∙ ap (op_by c.plan_for-plan.result) c.in_ok-room.ensures.0))
+    (sym c.plan_for-plan.ensures) (ap (op_by c.plan_for-plan.result) (sym c.in_ok-room.ensures.0) ∙ c.op_of-op.ensures)
     (c.note.ensures ∙ ap (noted_by c.plan_for-plan.result (record c.args.caller.now.notes { pending = c.act-acted.new.pending }) c.in-Ok.acted.rows) c.in_ok-room.ensures.1) c.turn_of.ensures
 
 pub returns-in-Ok-clause-agent : goal.returns-in-Ok-clause-agent

@@ -1,5 +1,8 @@
-use Rattle.opfs_turns.proofs.asking.Shares.{shared-by}
+use Rattle.opfs_turns.proofs.asking.Shares.{looked_none, shared-by}
 use Rattle.opfs_turns.proofs.asking.asking.ask.Goals as goal
+
+pub returns-in_default : goal.returns-in_default
+returns-in_default g c = looked_none c.args.turns.now
 
 pub returns : goal.returns
 returns g c =

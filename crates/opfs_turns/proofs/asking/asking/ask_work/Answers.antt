@@ -1,6 +1,9 @@
 use Rattle.opfs_turns.specs.Calls.{call_of}
-use Rattle.opfs_turns.proofs.asking.Shares.{shared-by, same-by, left-by}
+use Rattle.opfs_turns.proofs.asking.Shares.{looked_none, shared-by, same-by, left-by}
 use Rattle.opfs_turns.proofs.asking.asking.ask_work.Goals as goal
+
+pub returns-in_default-clause-shared : goal.returns-in_default-clause-shared
+returns-in_default-clause-shared g c = looked_none c.args.turns.now
 
 pub returns-clause-shared : goal.returns-clause-shared
 returns-clause-shared g c =
