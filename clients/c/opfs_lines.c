@@ -73,12 +73,17 @@ void op_json(struct text *text, const char *bytes, size_t length) {
     text->length = (size_t)(to - text->at);
 }
 
+/* By arithmetic, without a table, so that a compiler may take many at once. */
+static char hex_digit(unsigned value) {
+    return (char)(value + '0' + (value > 9 ? 'a' - '0' - 10 : 0));
+}
+
 static void put_hex(struct text *text, const unsigned char *bytes, size_t length) {
     if (!op_grow(text, 2 * length)) return;
     char *to = text->at + text->length;
     for (size_t i = 0; i < length; i++) {
-        *to++ = "0123456789abcdef"[bytes[i] >> 4];
-        *to++ = "0123456789abcdef"[bytes[i] & 15];
+        to[2 * i] = hex_digit(bytes[i] >> 4);
+        to[2 * i + 1] = hex_digit(bytes[i] & 15u);
     }
     text->length += 2 * length;
 }

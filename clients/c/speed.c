@@ -1,4 +1,5 @@
-/* Times calls of a store beside what its disk takes, for tools/serve_speed: microseconds of each, a line a repetition.
+/* Times calls of a store beside what its disk takes, for tools/serve_speed: microseconds of each, a line a repetition: a call, a page of bytes of all
+   kinds, which goes as digits, a page of plain text, and the floor.
 
    usage: speed IMAGE FLOOR CALLS PAGES REPETITIONS     FLOOR is a file to be made on the same disk */
 #define _POSIX_C_SOURCE 200809L
@@ -29,6 +30,10 @@ static void filled(char *bytes, size_t length, unsigned from) {
     for (size_t i = 0; i < length; i++) bytes[i] = (char)(from * 31 + i * 7);
 }
 
+static void filled_plainly(char *bytes, size_t length, unsigned from) {
+    for (size_t i = 0; i < length; i++) bytes[i] = (char)('a' + ((from + i) & 15));
+}
+
 /* Short writes, each asked for when the one before is answered. */
 static double time_calls(opfs_agent *agent, opfs_ref handle, int calls) {
     char bytes[100];
@@ -41,11 +46,11 @@ static double time_calls(opfs_agent *agent, opfs_ref handle, int calls) {
 }
 
 /* Pages that are written and flushed, in one round trip. */
-static double time_pages(opfs_agent *agent, opfs_ref handle, int pages) {
+static double time_pages(opfs_agent *agent, opfs_ref handle, int pages, void (*fill)(char *, size_t, unsigned)) {
     char bytes[PAGE];
     double begun = now();
     for (int i = 0; i < pages; i++) {
-        filled(bytes, PAGE, (unsigned)i);
+        fill(bytes, PAGE, (unsigned)i);
         need("a page was refused", opfs_sync_write_flush(agent, handle, bytes, PAGE, (uint64_t)(i % PAGES_OF_FILE) * PAGE) == OPFS_OK);
     }
     return (now() - begun) / pages;
@@ -87,7 +92,8 @@ int main(int count, char **words) {
     need("no handle", opfs_create_sync(agent, file, false, &handle) == OPFS_OK);
     for (int i = 0; i < atoi(words[5]); i++) {
         double calls = time_calls(agent, handle, atoi(words[3])), by_hand = time_floor(floor, atoi(words[4]));
-        printf("%.2f %.2f %.2f\n", calls, time_pages(agent, handle, atoi(words[4])), by_hand);
+        double bytes = time_pages(agent, handle, atoi(words[4]), filled);
+        printf("%.2f %.2f %.2f %.2f\n", calls, bytes, time_pages(agent, handle, atoi(words[4]), filled_plainly), by_hand);
     }
     need("the end failed", opfs_close(store) == OPFS_OK);
     return 0;
