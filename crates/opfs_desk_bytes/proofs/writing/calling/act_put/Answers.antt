@@ -1,5 +1,4 @@
 use Rattle.std.proofs.Common.{[]}
-use Rattle.opfs_data.proofs.SwapLemmas.{on_err}
 use Rattle.opfs_desk_bytes.proofs.writing.Small.{small, unacted}
 use Rattle.opfs_desk_bytes.proofs.writing.calling.act_put.Goals as goal
 
@@ -17,8 +16,8 @@ put_bytes-requires-in-Fill-clause-small g c =
     small g.D.Disk laws.reads laws.counts laws.goes_on laws.make laws.decide laws.room laws.inside may.fixed may.recorded c.args.parts.now.ledger c.args.parts.now.pages c.args.pending.now c.args.call c.args.work.now []
     may.are may.asked c.requires.word
 
-pub returns-in_err-held-clause-idle : goal.returns-in_err-held-clause-idle
-returns-in_err-held-clause-idle g c = on_err c.from_residual.result _ (λ f recorded held. unacted g.D.Disk f recorded c.args.parts.now held)
+pub returns-in-Err-clause-idle : goal.returns-in-Err-clause-idle
+returns-in-Err-clause-idle g c f recorded held = unacted g.D.Disk f recorded c.args.parts.now held
 
-pub returns-in_err-bytes-in-Fill-clause-idle : goal.returns-in_err-bytes-in-Fill-clause-idle
-returns-in_err-bytes-in-Fill-clause-idle g c = on_err c.from_residual-in_err-bytes-in-Fill.result _ (λ f recorded held. unacted g.D.Disk f recorded c.args.parts.now held)
+pub returns-in_default-clause-idle : goal.returns-in_default-clause-idle
+returns-in_default-clause-idle g c f recorded held = unacted g.D.Disk f recorded c.args.parts.now held
