@@ -5,11 +5,7 @@ mod silent;
 pub use examples::{FORMAT_1, FORMAT_2, areas_of_both, format_1, format_2};
 pub use silent::SilentDisk;
 
-#[cfg(test)]
 mod hosts;
-#[cfg(test)]
 mod journals;
-#[cfg(test)]
 mod memory;
-#[cfg(test)]
 mod stops;

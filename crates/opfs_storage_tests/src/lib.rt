@@ -5,11 +5,15 @@
 //! `opfs_work` and `opfs_data`.
 #![tactic(auto)]
 
+#[cfg(test)]
 mod codec;
+#[cfg(test)]
 mod data;
+#[cfg(test)]
 mod files;
+#[cfg(test)]
 mod journal;
+#[cfg(test)]
 mod stores;
+#[cfg(test)]
 mod tree;
-
-pub use journal::{FORMAT_1, FORMAT_2, SilentDisk, areas_of_both, format_1, format_2};

@@ -2,10 +2,13 @@
 
 ghost use Rattle.std.specs.Prelude.{◌≡◌, [], ◌∷◌, ℕ, List, length, IfOk};
 ghost use Rattle.opfs_data.specs.Writes.{page_writes, AreWithin};
+ghost use Rattle.opfs_storage_tests.specs.Data.OneRow.{IsReady};
 
 use crate::data::disks::{BASE, begun};
 use opfs_base::Extent;
-use opfs_data::{PageWrites, PagedRow};
+use opfs_data::{DataRefusal, PageWrites, PagedRow};
+use opfs_journal::Journal;
+use opfs_memory::MemDisk;
 use std::alloc::{AllocError, Global};
 use std::test::Fail;
 
@@ -20,21 +23,28 @@ pub fn one_page(alloc: Global, bytes: &[u8]) -> Result<PageWrites, AllocError>
     Ok(writes)
 }
 
-#[test]
-fn a_page_is_written_and_read(rt: HostRuntime) -> Result<(), Fail> {
-    let alloc = rt.alloc();
-    let mut journal = begun(alloc, &[])?;
+// What is seen of a page: its first and last byte, its block, how many pages are kept, and how many there are.
+type Seen = ([u8; 2], Option<u32>, u64, u64);
+
+// Writes the first page of a row, and looks at it.
+fn write_and_look(alloc: Global, journal: &mut Journal<MemDisk>) -> Result<Seen, DataRefusal>
+    requires { IsReady journal.old }
+{
     let mut row = PagedRow::make(alloc, &[])?;
     let bytes = vec![in alloc; 65u8; 4096]?;
     let writes = one_page(alloc, &bytes)?;
-    row.prepare(alloc, &mut journal, BASE, 1, &writes)?;
-    row.write(&mut journal, BASE, 1, &writes, &[])?;
+    row.prepare(alloc, journal, BASE, 1, &writes)?;
+    row.write(journal, BASE, 1, &writes, &[])?;
     let mut into = [0; 4096];
-    row.read(&mut journal, BASE, 0, &mut into)?;
-    assert!(rt; into[0] == 65 && into[4095] == 65);
-    assert_eq!(rt; row.block(0), Some(0));
-    assert_eq!(rt; row.kept(), 0);
-    assert_eq!(rt; row.len(), 1);
+    row.read(journal, BASE, 0, &mut into)?;
+    Ok(([into[0], into[4095]], row.block(0), row.kept(), row.len()))
+}
+
+#[test]
+fn a_page_is_written_and_read(rt: HostRuntime) -> Result<(), Fail> {
+    let mut journal = begun(rt.alloc(), &[])?;
+    let seen = write_and_look(rt.alloc(), &mut journal)?;
+    assert_eq!(rt; seen, ([65, 65], Some(0), 0, 1));
     Ok(())
 }
 

@@ -83,17 +83,21 @@ fn look(swap: &Swap, journal: &mut Journal<MemDisk>) -> Result<PageView, DiskFau
     })
 }
 
-// The views after each of the writes, and whether the second and the third were done. To begin takes four calls of the
-// disk, each write and each read one, and the second write reads before: its put is the eighth call.
-fn three_writes(alloc: Global) -> Result<([PageView; 3], [bool; 2]), Fail> {
-    let mut journal = begun(alloc, &[8])?;
-    let mut swap = one_row(alloc)?;
-    put_first(alloc, &mut swap, &mut journal, 65)?;
-    let first = look(&swap, &mut journal)?;
-    let failed = put_again(alloc, &mut swap, &mut journal, 66)?;
-    let second = look(&swap, &mut journal)?;
-    let done = put_again(alloc, &mut swap, &mut journal, 66)?;
-    let third = look(&swap, &mut journal)?;
+// The views after each of the writes, and whether the second and the third were done.
+fn three_writes(
+    alloc: Global,
+    swap: &mut Swap,
+    journal: &mut Journal<MemDisk>,
+) -> Result<([PageView; 3], [bool; 2]), DataRefusal>
+    requires none { HasNone swap.old }
+    requires ready { IsReady journal.old }
+{
+    put_first(alloc, swap, journal, 65)?;
+    let first = look(swap, journal)?;
+    let failed = put_again(alloc, swap, journal, 66)?;
+    let second = look(swap, journal)?;
+    let done = put_again(alloc, swap, journal, 66)?;
+    let third = look(swap, journal)?;
     Ok(([first, second, third], [failed, done]))
 }
 
@@ -107,7 +111,10 @@ fn seen(kept: u64, byte: u8) -> PageView {
 
 #[test]
 fn a_write_that_fails_keeps_the_page(rt: HostRuntime) -> Result<(), Fail> {
-    let (views, done) = three_writes(rt.alloc())?;
+    // To begin takes four calls of the disk, each write and each read one, and the second write reads before: its put is the eighth call.
+    let mut journal = begun(rt.alloc(), &[8])?;
+    let mut swap = one_row(rt.alloc())?;
+    let (views, done) = three_writes(rt.alloc(), &mut swap, &mut journal)?;
     assert_eq!(rt; done, [false, true]);
     assert_eq!(rt; views, [seen(0, 65), seen(1, 65), seen(0, 66)]);
     Ok(())

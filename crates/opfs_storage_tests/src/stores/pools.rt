@@ -5,19 +5,23 @@ use opfs_pool::{Keys, Pool};
 use std::alloc::{AllocError, Global};
 use std::test::Fail;
 
-#[test]
-fn blocks_are_kept_and_given_back(rt: HostRuntime) -> Result<(), Fail> {
-    let key = Key::of_text(rt.alloc(), "https://a.example")?;
-    let mut pool = Pool::make(rt.alloc(), 4);
+// How many blocks a unit keeps where three are added, one is given back, and all are; and whether one and two more have room behind the first.
+fn keep_and_give_back(alloc: Global) -> Result<([u64; 3], [bool; 2]), AllocError> {
+    let key = Key::of_text(alloc, "https://a.example")?;
+    let mut pool = Pool::make(alloc, 4);
     pool.touch(&key)?;
     pool.raise(&key, 3);
-    assert_eq!(rt; pool.count(), 3);
-    assert!(rt; pool.room(1));
-    assert!(rt; !pool.room(2));
+    let raised = pool.count();
+    let rooms = [pool.room(1), pool.room(2)];
     pool.lower(&key, 1);
-    assert_eq!(rt; pool.count(), 2);
+    let lowered = pool.count();
     pool.clear(&key);
-    assert_eq!(rt; pool.count(), 0);
+    Ok(([raised, lowered, pool.count()], rooms))
+}
+
+#[test]
+fn blocks_are_kept_and_given_back(rt: HostRuntime) -> Result<(), Fail> {
+    assert_eq!(rt; keep_and_give_back(rt.alloc())?, ([3, 2, 0], [true, false]));
     Ok(())
 }
 
@@ -103,12 +107,18 @@ fn three(alloc: Global) -> Result<Pool, AllocError> {
     filled(alloc, &first, &second, &third)
 }
 
+// Whether needs of one and three blocks have the victims that they should, and one of four has none.
+fn go_by_last_use(alloc: Global, pool: &Pool) -> Result<[bool; 3], AllocError> {
+    let caller = Key::of_text(alloc, "c")?;
+    let one = gives(alloc, pool, &caller, 1, &[])?;
+    let three = gives(alloc, pool, &caller, 3, &["b", "a"])?;
+    let four = gives_none(alloc, pool, &caller, 4)?;
+    Ok([one, three, four])
+}
+
 #[test]
 fn victims_go_by_last_use(rt: HostRuntime) -> Result<(), Fail> {
     let pool = three(rt.alloc())?;
-    let caller = Key::of_text(rt.alloc(), "c")?;
-    assert!(rt; gives(rt.alloc(), &pool, &caller, 1, &[])?);
-    assert!(rt; gives(rt.alloc(), &pool, &caller, 3, &["b", "a"])?);
-    assert!(rt; gives_none(rt.alloc(), &pool, &caller, 4)?);
+    assert_eq!(rt; go_by_last_use(rt.alloc(), &pool)?, [true; 3]);
     Ok(())
 }
