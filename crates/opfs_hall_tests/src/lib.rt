@@ -3,12 +3,12 @@
 //! It stands on `opfs_hall`.
 #![tactic(auto)]
 
+#[cfg(test)]
 mod agents;
 mod marks;
+#[cfg(test)]
 mod meeting;
 #[cfg(test)]
 mod tests;
 
-pub use agents::{leave_mark, run_hall};
 pub use marks::{Mark, Marks, Start};
-pub use meeting::{Meeting, meet};
