@@ -3,6 +3,9 @@
 //! It stands on `opfs_memory`, `opfs_commit` and `opfs_dump`.
 #![tactic(auto)]
 
+#[cfg(test)]
 mod commits;
+#[cfg(test)]
 mod dumps;
+#[cfg(test)]
 mod snapshots;

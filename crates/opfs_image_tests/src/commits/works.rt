@@ -11,7 +11,7 @@ ghost use Rattle.opfs_records.specs.Replay.Sums.{persistent_in};
 use opfs_codec::{Change, ChangeRef, Format, read};
 use opfs_commit::Commits;
 use opfs_image::{Geometry, Recovered, format, recover};
-use opfs_journal::Journal;
+use opfs_journal::{Journal, JournalRefusal};
 use opfs_memory::MemDisk;
 use opfs_records::{Rebuilt, Replay};
 use opfs_tree::ReadyTree;
@@ -122,6 +122,14 @@ fn rebuilt(alloc: Global, changes: usize) -> Result<Rebuilt, AllocError>
     replay.finish()
 }
 
+// That a commit is made, or not.
+fn ended(done: Result<(), JournalRefusal>) -> Result<(), AllocError> {
+    match done {
+        Ok(()) => Ok(()),
+        Err(_) => Err(AllocError),
+    }
+}
+
 // Commits a change by one record more.
 fn add_change(
     commits: &mut Commits,
@@ -134,7 +142,7 @@ fn add_change(
     ensures { commits.new.room ≤ journal.new.spare }
 {
     let own = borrowed(own);
-    commits.add(journal, &own).map_err(|_| AllocError)
+    ended(commits.add(journal, &own))
 }
 
 // Commits a change by a snapshot after it, of the rows after so many changes.
@@ -153,9 +161,7 @@ fn replace_with(
     let before = rebuilt(alloc, changes)?;
     let own = borrowed(own);
     let tree = ReadyTree::make(alloc, before.tree);
-    commits
-        .replace(journal, &tree, &before.shed, &own)
-        .map_err(|_| AllocError)
+    ended(commits.replace(journal, &tree, &before.shed, &own))
 }
 
 // Commits a change in one of both ways.
@@ -178,6 +184,25 @@ fn write_own(
     replace_with(alloc, commits, journal, changes, own)
 }
 
+// Commits the change that bytes spell in one of both ways.
+fn write_spelled(
+    alloc: Global,
+    commits: &mut Commits,
+    journal: &mut Journal<MemDisk>,
+    way: Way,
+    changes: usize,
+    bytes: &[u8],
+) -> Result<(), AllocError>
+    requires settled { journal.old.in_doubt ≡ false }
+    requires spare { commits.old.room ≤ journal.old.spare }
+    ensures { commits.new.room ≤ journal.new.spare }
+{
+    let own = change(alloc, bytes)?;
+    let written = write_own(alloc, commits, journal, way, changes, &own);
+    drop(own);
+    written
+}
+
 // Writes the record of a commit.
 fn write_record(
     alloc: Global,
@@ -191,14 +216,23 @@ fn write_record(
     ensures { commits.new.room ≤ journal.new.spare }
 {
     if way == Way::Alone {
-        return commits.add_kept(journal).map_err(|_| AllocError);
+        return ended(commits.add_kept(journal));
     }
     let before = changes.saturating_sub(1);
     let Some(bytes) = CHANGES.get(before) else {
         return Err(AllocError);
     };
+    write_spelled(alloc, commits, journal, way, before, bytes)
+}
+
+// Keeps the change that bytes spell back.
+fn keep_spelled(alloc: Global, commits: &mut Commits, bytes: &[u8]) -> Result<(), AllocError>
+    ensures { commits.new.room ≡ commits.old.room }
+{
     let own = change(alloc, bytes)?;
-    write_own(alloc, commits, journal, way, before, &own)
+    let kept = keep(commits, &own);
+    drop(own);
+    kept
 }
 
 // Keeps the changes of a commit back that are not its own, once.
@@ -206,7 +240,7 @@ fn keep_back(alloc: Global, commits: &mut Commits, from: usize, to: usize) -> Re
     ensures { commits.new.room ≡ commits.old.room }
 {
     for bytes in CHANGES.iter().take(to).skip(from) {
-        keep(commits, &change(alloc, bytes)?)?;
+        keep_spelled(alloc, commits, bytes)?;
     }
     Ok(())
 }
@@ -228,21 +262,23 @@ fn settle_and_write(
     }
 }
 
-/// Does the work over a disk, each commit once more where it fails at first, until one fails twice. Gives the disk, how many
-/// changes are committed up to the last content that is, and how many are committed or tried.
-pub fn work(alloc: Global, disk: MemDisk) -> Result<(MemDisk, usize, usize), AllocError> {
-    let Ok(Recovered { mut journal, .. }) = recover(alloc, disk) else {
-        return Err(AllocError);
-    };
-    let mut commits = Commits::make(alloc, &mut journal, 4096)?;
+// Makes each commit, once more where it fails at first, until one fails twice. Gives how many changes are committed up to the
+// last content that is, and how many are committed or tried.
+fn commit_all(
+    alloc: Global,
+    commits: &mut Commits,
+    journal: &mut Journal<MemDisk>,
+) -> Result<(usize, usize), AllocError>
+    requires spare { commits.old.room ≤ journal.old.spare }
+{
     let mut floor = 0;
     let mut told = 0;
     for (way, changes) in COMMITS {
         let own = if way == Way::Alone { 0 } else { 1 };
-        keep_back(alloc, &mut commits, told, changes.saturating_sub(own))?;
+        keep_back(alloc, commits, told, changes.saturating_sub(own))?;
         told = changes;
-        if settle_and_write(alloc, &mut commits, &mut journal, way, changes).is_err()
-            && settle_and_write(alloc, &mut commits, &mut journal, way, changes).is_err()
+        if settle_and_write(alloc, commits, journal, way, changes).is_err()
+            && settle_and_write(alloc, commits, journal, way, changes).is_err()
         {
             break;
         }
@@ -250,5 +286,31 @@ pub fn work(alloc: Global, disk: MemDisk) -> Result<(MemDisk, usize, usize), All
             floor = changes;
         }
     }
-    Ok((journal.give_back(), floor, told))
+    Ok((floor, told))
+}
+
+// The same over a journal to which nothing is kept back.
+fn commit_to(alloc: Global, journal: &mut Journal<MemDisk>) -> Result<(usize, usize), AllocError> {
+    let mut commits = Commits::make(alloc, journal, 4096)?;
+    let done = commit_all(alloc, &mut commits, journal);
+    drop(commits);
+    done
+}
+
+/// The journal of the image that a disk holds.
+pub fn journal_of(alloc: Global, disk: MemDisk) -> Result<Journal<MemDisk>, AllocError> {
+    match recover(alloc, disk) {
+        Ok(Recovered { journal, .. }) => Ok(journal),
+        Err(_) => Err(AllocError),
+    }
+}
+
+/// Does the work over a disk. Gives the disk, how many changes are committed up to the last content that is, and how many are
+/// committed or tried.
+pub fn work(alloc: Global, disk: MemDisk) -> Result<(MemDisk, usize, usize), AllocError> {
+    let mut journal = journal_of(alloc, disk)?;
+    match commit_to(alloc, &mut journal) {
+        Ok((floor, told)) => Ok((journal.give_back(), floor, told)),
+        Err(error) => Err(error),
+    }
 }

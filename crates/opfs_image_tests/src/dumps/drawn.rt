@@ -34,14 +34,8 @@ fn add_folder(alloc: Global, rows: &mut String, key: &str, path: &str) -> Result
     rows.push_str(row.as_str())
 }
 
-// Adds a file of drawn bytes.
-fn add_file(
-    alloc: Global,
-    rows: &mut String,
-    key: &str,
-    path: &str,
-    state: &mut u64,
-) -> Result<(), AllocError> {
+// The drawn bytes of a file, as digits.
+fn drawn_digits(alloc: Global, state: &mut u64) -> Result<String, AllocError> {
     let mut digits = String::new(alloc);
     let count = if draw(state, 6) == 0 {
         draw(state, 5000)
@@ -52,6 +46,18 @@ fn add_file(
         let digit = format!(in alloc; "{:02x}", draw(state, 256))?;
         digits.push_str(digit.as_str())?;
     }
+    Ok(digits)
+}
+
+// Adds a file of drawn bytes.
+fn add_file(
+    alloc: Global,
+    rows: &mut String,
+    key: &str,
+    path: &str,
+    state: &mut u64,
+) -> Result<(), AllocError> {
+    let digits = drawn_digits(alloc, state)?;
     let stamp = draw(state, 2_000_000_000);
     let row = format!(in alloc;
         r#",{{"hex":"{}","key":"{key}","path":[{path}],"stamp":{stamp}}}"#,
@@ -84,23 +90,39 @@ fn add_unit(
     Ok(())
 }
 
+// Adds a unit that is persistent.
+fn add_persistent(alloc: Global, persistent: &mut String, key: &str) -> Result<(), AllocError> {
+    if !persistent.is_empty() {
+        persistent.push_str(",")?;
+    }
+    let unit = format!(in alloc; "\"{key}\"")?;
+    persistent.push_str(unit.as_str())
+}
+
+// Adds what is drawn of each unit.
+fn add_units(
+    alloc: Global,
+    rows: &mut String,
+    persistent: &mut String,
+    state: &mut u64,
+) -> Result<(), AllocError> {
+    for key in UNITS {
+        if draw(state, 3) < 2 {
+            add_unit(alloc, rows, key, state)?;
+        }
+        if draw(state, 4) == 0 {
+            add_persistent(alloc, persistent, key)?;
+        }
+    }
+    Ok(())
+}
+
 // The text of the image with a number.
 fn drawn(alloc: Global, number: u64) -> Result<String, AllocError> {
     let mut state = number;
     let mut rows = String::new(alloc);
     let mut persistent = String::new(alloc);
-    for key in UNITS {
-        if draw(&mut state, 3) < 2 {
-            add_unit(alloc, &mut rows, key, &mut state)?;
-        }
-        if draw(&mut state, 4) == 0 {
-            if !persistent.is_empty() {
-                persistent.push_str(",")?;
-            }
-            let unit = format!(in alloc; "\"{key}\"")?;
-            persistent.push_str(unit.as_str())?;
-        }
-    }
+    add_units(alloc, &mut rows, &mut persistent, &mut state)?;
     let (areas, quota) = (1 + draw(&mut state, 5), 1 + draw(&mut state, 65_536));
     format!(in alloc;
         "{{\"areas\":{areas},\"blocks\":40,\"persistent\":[{}],\"quota\":{quota},\"rows\":[{}],\"version\":2}}\n",
