@@ -14,6 +14,12 @@ fn patched(alloc: Global, position: u64, new: &[u8]) -> Result<Vec<u8>, AllocErr
     Ok(bytes)
 }
 
+// Whether `abc` is so after a write.
+fn is_patched(alloc: Global, position: u64, new: &[u8], wanted: &[u8]) -> Result<bool, AllocError> {
+    let bytes = patched(alloc, position, new)?;
+    Ok(bytes.as_slice() == wanted)
+}
+
 #[test]
 fn writes_stand_at_their_position(rt: HostRuntime) -> Result<(), AllocError> {
     let cases: [(u64, &[u8], &[u8]); 6] = [
@@ -25,28 +31,50 @@ fn writes_stand_at_their_position(rt: HostRuntime) -> Result<(), AllocError> {
         (1, b"", b"abc"),
     ];
     for (position, new, wanted) in cases {
-        assert_eq!(rt;
-            patched(rt.alloc(), position, new)?.as_slice(),
-            wanted,
+        assert!(rt;
+            is_patched(rt.alloc(), position, new, wanted)?,
             "{position}"
         );
     }
     Ok(())
 }
 
+// `abc` of another size.
+fn resized(alloc: Global, size: u64) -> Result<Vec<u8>, AllocError> {
+    let mut bytes = Vec::with_capacity(alloc, 16)?;
+    bytes.extend_from_slice(b"abc")?;
+    bytes.reserve(16)?;
+    if size <= 8 {
+        resize(&mut bytes, size);
+    }
+    Ok(bytes)
+}
+
+// Whether `abc` is so in another size.
+fn is_resized(alloc: Global, size: u64, wanted: &[u8]) -> Result<bool, AllocError> {
+    let bytes = resized(alloc, size)?;
+    Ok(bytes.as_slice() == wanted)
+}
+
 #[test]
 fn sizes_cut_and_fill(rt: HostRuntime) -> Result<(), AllocError> {
     let cases: [(u64, &[u8]); 4] = [(0, b""), (2, b"ab"), (3, b"abc"), (5, b"abc\0\0")];
     for (size, wanted) in cases {
-        let mut bytes = Vec::with_capacity(rt.alloc(), 16)?;
-        bytes.extend_from_slice(b"abc")?;
-        bytes.reserve(16)?;
-        if size <= 8 {
-            resize(&mut bytes, size);
-        }
-        assert_eq!(rt; bytes.as_slice(), wanted, "{size}");
+        assert!(rt; is_resized(rt.alloc(), size, wanted)?, "{size}");
     }
     Ok(())
+}
+
+// Whether a window of `abcd` is so, copied and borrowed.
+fn are_windows(
+    alloc: Global,
+    start: u64,
+    len: u64,
+    wanted: &[u8],
+) -> Result<[bool; 2], AllocError> {
+    let copied = window(alloc, b"abcd", start, len)?;
+    let borrowed = window_of(b"abcd", start, len);
+    Ok([copied.as_slice() == wanted, borrowed == wanted])
 }
 
 #[test]
@@ -60,11 +88,10 @@ fn windows_end_at_the_end(rt: HostRuntime) -> Result<(), AllocError> {
     ];
     for (start, len, wanted) in cases {
         assert_eq!(rt;
-            window(rt.alloc(), b"abcd", start, len)?.as_slice(),
-            wanted,
+            are_windows(rt.alloc(), start, len, wanted)?,
+            [true; 2],
             "{start}"
         );
-        assert_eq!(rt; window_of(b"abcd", start, len), wanted, "{start}");
     }
     Ok(())
 }

@@ -45,20 +45,31 @@ fn appended(alloc: Global, data: &Data) -> Result<Vec<u8>, AllocError> {
     Ok(into)
 }
 
-// How data that is shared is told, a part of it, and its ends.
+// How data is told, a part of it, and its ends.
+fn seen_of(alloc: Global, data: &Data) -> Result<String, AllocError> {
+    let told = told_text(alloc, data)?;
+    let ends = appended(alloc, data)?;
+    format!(in alloc;
+        "{} {:?} {:?} {}",
+        told.as_str(),
+        copied(data),
+        ends.as_slice(),
+        crosses(data)
+    )
+}
+
+// The same of data that is shared.
 fn seen(alloc: Global, fill: bool) -> Result<String, AllocError> {
     let first = three(alloc, fill)?;
     let shared = first.share()?;
     drop(first);
-    let told = told_text(alloc, &shared)?;
-    let ends = appended(alloc, &shared)?;
-    format!(in alloc;
-        "{} {:?} {:?} {}",
-        told.as_str(),
-        copied(&shared),
-        ends.as_slice(),
-        crosses(&shared)
-    )
+    seen_of(alloc, &shared)
+}
+
+// Whether data that is shared is told so.
+fn is_seen(alloc: Global, fill: bool, wanted: &str) -> Result<bool, AllocError> {
+    let text = seen(alloc, fill)?;
+    Ok(text.as_str() == wanted)
 }
 
 #[test]
@@ -68,7 +79,7 @@ fn shared_data_is_told_alike(rt: HostRuntime) -> Result<(), AllocError> {
         (true, "3 x 120 [120, 120] [120, 120] true"),
     ];
     for (fill, wanted) in cases {
-        assert_eq!(rt; seen(rt.alloc(), fill)?.as_str(), wanted);
+        assert!(rt; is_seen(rt.alloc(), fill, wanted)?, "{wanted}");
     }
     Ok(())
 }

@@ -14,15 +14,25 @@ fn path_of(alloc: Global, names: &[&str]) -> Result<Path, AllocError> {
     Ok(Path::from_vec(path))
 }
 
-// The charges of a mode, and of a directory and a file at a path.
-fn charges(alloc: Global, unit: &str, names: &[&str]) -> Result<[u64; 3], AllocError> {
+// A place in a unit.
+fn place_of(alloc: Global, unit: &str, names: &[&str]) -> Result<(Key, Path), AllocError> {
     let unit = Key::of_text(alloc, unit)?;
     let path = path_of(alloc, names)?;
-    let mode = mode_charge(&unit)?;
-    let place = (unit, path);
-    let directory = place_charge(Kind::Directory, &place)?;
-    let file = place_charge(Kind::File, &place)?;
+    Ok((unit, path))
+}
+
+// The charges of a mode, and of a directory and a file at a place.
+fn charges_at(place: &(Key, Path)) -> Result<[u64; 3], AllocError> {
+    let mode = mode_charge(&place.0)?;
+    let directory = place_charge(Kind::Directory, place)?;
+    let file = place_charge(Kind::File, place)?;
     Ok([mode, directory, file])
+}
+
+// The same of a unit and a path in it.
+fn charges(alloc: Global, unit: &str, names: &[&str]) -> Result<[u64; 3], AllocError> {
+    let place = place_of(alloc, unit, names)?;
+    charges_at(&place)
 }
 
 #[test]
@@ -55,14 +65,31 @@ fn blocks_hold_4096_bytes(rt: HostRuntime) -> Result<(), AllocError> {
     Ok(())
 }
 
+// How a place stands to a directory.
+fn standing_in(
+    alloc: Global,
+    dir: &(Key, Path),
+    place: &(Key, Path),
+) -> Result<String, AllocError> {
+    let within = is_within(&dir.0, &dir.1, place);
+    let child = match child_name(&dir.0, &dir.1, place) {
+        Some(name) => name.as_str(),
+        None => "none",
+    };
+    format!(in alloc; "{within} {child}")
+}
+
 // How a place stands to `/a`: whether it is within, and the name of the child that it is.
 fn standing(alloc: Global, unit: &str, names: &[&str]) -> Result<String, AllocError> {
-    let dir_unit = Key::of_text(alloc, "https://a.example")?;
-    let dir = path_of(alloc, &["a"])?;
-    let place = (Key::of_text(alloc, unit)?, path_of(alloc, names)?);
-    let within = is_within(&dir_unit, &dir, &place);
-    let child = child_name(&dir_unit, &dir, &place).map_or("none", |name| name.as_str());
-    format!(in alloc; "{within} {child}")
+    let dir = place_of(alloc, "https://a.example", &["a"])?;
+    let place = place_of(alloc, unit, names)?;
+    standing_in(alloc, &dir, &place)
+}
+
+// Whether a place stands so to `/a`.
+fn stands(alloc: Global, unit: &str, names: &[&str], wanted: &str) -> Result<bool, AllocError> {
+    let text = standing(alloc, unit, names)?;
+    Ok(text.as_str() == wanted)
 }
 
 #[test]
@@ -75,11 +102,7 @@ fn children_stand_one_name_below(rt: HostRuntime) -> Result<(), AllocError> {
         ("https://b.example", &["a", "b"], "false none"),
     ];
     for (unit, names, wanted) in cases {
-        assert_eq!(rt;
-            standing(rt.alloc(), unit, names)?.as_str(),
-            wanted,
-            "{unit}"
-        );
+        assert!(rt; stands(rt.alloc(), unit, names, wanted)?, "{unit} {wanted}");
     }
     Ok(())
 }

@@ -145,14 +145,62 @@ fn play(alloc: Global, hand: &mut Hand, step: &Step, accepted: bool) -> Result<(
     }
 }
 
+// Plays steps, all accepted, or all refused.
+fn play_all(
+    alloc: Global,
+    hand: &mut Hand,
+    steps: &[Step],
+    accepted: bool,
+) -> Result<(), AllocError> {
+    for step in steps {
+        play(alloc, hand, step, accepted)?;
+    }
+    Ok(())
+}
+
 // A hand that went through steps, all accepted, or all refused.
 fn played(alloc: Global, steps: &[Step], accepted: bool) -> Result<Hand, AllocError> {
     let key = Key::of_text(alloc, "https://a.example")?;
     let mut hand = Hand::make(alloc, Some(key));
-    for step in steps {
-        play(alloc, &mut hand, step, accepted)?;
+    match play_all(alloc, &mut hand, steps, accepted) {
+        Ok(()) => Ok(hand),
+        Err(error) => Err(error),
     }
-    Ok(hand)
+}
+
+// A hand that went through the first agent's steps, all accepted, or all refused.
+fn hand_after(alloc: Global, accepted: bool) -> Result<Hand, AllocError> {
+    let script = script(alloc)?;
+    let hand = played(alloc, steps_of(&script, 0), accepted);
+    drop(script);
+    hand
+}
+
+// What the second agent's steps ask of such a hand.
+fn asked_after(alloc: Global, accepted: bool) -> Result<Vec<Option<(Word, u32)>>, AllocError> {
+    let script = script(alloc)?;
+    let asked = match played(alloc, steps_of(&script, 0), accepted) {
+        Ok(hand) => all_asked(alloc, &hand, steps_of(&script, 1)),
+        Err(error) => Err(error),
+    };
+    drop(script);
+    asked
+}
+
+// How many rows such a hand has.
+fn rows_after(alloc: Global, accepted: bool) -> Result<u32, AllocError> {
+    let hand = hand_after(alloc, accepted)?;
+    let rows = hand.rows;
+    drop(hand);
+    Ok(rows)
+}
+
+// Which rows of such a hand are open.
+fn opened_after(alloc: Global, accepted: bool) -> Result<Vec<Open>, AllocError> {
+    let hand = hand_after(alloc, accepted)?;
+    let opened = hand.opened().to_vec(alloc);
+    drop(hand);
+    opened
 }
 
 // The unit of the file that a variable names, as its text; empty where it names none.
@@ -163,22 +211,26 @@ fn unit_of<'a>(hand: &'a Hand, variable: &Text) -> &'a str {
     }
 }
 
+// The same of a hand whose steps were accepted.
+fn unit_after(alloc: Global, variable: &str) -> Result<String, AllocError> {
+    let variable = Text::copy_of(alloc, variable)?;
+    let hand = hand_after(alloc, true)?;
+    let unit = String::from_str(alloc, unit_of(&hand, &variable));
+    drop(hand);
+    unit
+}
+
 #[test]
 fn steps_ask_of_what_their_variables_name(rt: HostRuntime) -> Result<(), AllocError> {
-    let script = script(rt.alloc())?;
-    let hand = played(rt.alloc(), steps_of(&script, 0), true)?;
-    let all = all_asked(rt.alloc(), &hand, steps_of(&script, 1))?;
-    assert_eq!(rt; all.as_slice(), ASKED.as_slice());
+    assert_eq!(rt; asked_after(rt.alloc(), true)?.as_slice(), ASKED.as_slice());
     Ok(())
 }
 
 #[test]
 fn rows_are_numbered_and_open(rt: HostRuntime) -> Result<(), AllocError> {
-    let script = script(rt.alloc())?;
-    let hand = played(rt.alloc(), steps_of(&script, 0), true)?;
-    assert_eq!(rt; hand.rows, 4);
+    assert_eq!(rt; rows_after(rt.alloc(), true)?, 4);
     assert_eq!(rt;
-        hand.opened(),
+        opened_after(rt.alloc(), true)?.as_slice(),
         [Open::Stream(1), Open::Handle(2)].as_slice()
     );
     Ok(())
@@ -186,19 +238,17 @@ fn rows_are_numbered_and_open(rt: HostRuntime) -> Result<(), AllocError> {
 
 #[test]
 fn files_are_bound_in_their_unit(rt: HostRuntime) -> Result<(), AllocError> {
-    let script = script(rt.alloc())?;
-    let hand = played(rt.alloc(), steps_of(&script, 0), true)?;
-    let variable = Text::copy_of(rt.alloc(), "f")?;
-    assert_eq!(rt; unit_of(&hand, &variable), "https://a.example#drafts");
+    let unit = unit_after(rt.alloc(), "f")?;
+    assert_eq!(rt; unit.as_str(), "https://a.example#drafts");
     Ok(())
 }
 
 #[test]
 fn a_refused_call_binds_nothing(rt: HostRuntime) -> Result<(), AllocError> {
-    let script = script(rt.alloc())?;
-    let hand = played(rt.alloc(), steps_of(&script, 0), false)?;
-    let all = all_asked(rt.alloc(), &hand, steps_of(&script, 1))?;
-    assert_eq!(rt; all.as_slice(), [None; 16].as_slice());
-    assert_eq!(rt; hand.rows, 0);
+    assert_eq!(rt;
+        asked_after(rt.alloc(), false)?.as_slice(),
+        [None; 16].as_slice()
+    );
+    assert_eq!(rt; rows_after(rt.alloc(), false)?, 0);
     Ok(())
 }
