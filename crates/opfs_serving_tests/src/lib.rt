@@ -5,8 +5,7 @@
 
 #[cfg(test)]
 mod stops;
+#[cfg(test)]
 mod talking;
 #[cfg(test)]
 mod tests;
-
-pub use talking::{Talk, answers_blanks, begins, breaks_off, disk_of, held, is_held, lines_of};

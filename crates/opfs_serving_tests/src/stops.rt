@@ -6,7 +6,7 @@ use opfs_desk::Desk;
 use opfs_image::{Geometry, format, recover};
 use opfs_memory::MemDisk;
 use opfs_outside::Disk;
-use opfs_port::MemoryPort;
+use opfs_port::{MemoryPort, Spoken};
 use opfs_serve_runs::{ServedRun, first_agents, serve_disk};
 use std::alloc::{AllocError, Global};
 use std::sync::Wait;
@@ -72,25 +72,30 @@ fn later(stamp: u64, line: &[u8]) -> u64 {
     }
 }
 
+// The last stamp that is acknowledged in a conversation, 0 where none is.
+fn last_stamp(spoken: &[Spoken<Desk<MemDisk>>]) -> u64 {
+    let mut stamp = 0;
+    for word in spoken {
+        if word.is_told() {
+            stamp = later(stamp, word.line());
+        }
+    }
+    stamp
+}
+
 // The conversation over a disk: the last stamp that is acknowledged, 0 where none is, and the disk then.
 fn talk<R: AllocGlobal + Wait>(rt: &R, disk: MemDisk) -> Result<(u64, MemDisk), AllocError> {
     let alloc = rt.alloc();
+    let lines = lines_of(alloc, LINES)?;
     let Ok(script) = first_agents(alloc, FIRST.as_bytes()) else {
         return Err(AllocError);
     };
-    let lines = lines_of(alloc, LINES)?;
     let mut port = MemoryPort::<Desk<MemDisk>>::make(alloc, lines, Vec::new(alloc));
     let left = match serve_disk(rt, disk, script.agents(), &mut port) {
         Ok(ServedRun { run, state: _ }) => disk_of(run),
         Err((disk, _)) => disk,
     };
-    let mut stamp = 0;
-    for word in port.spoken() {
-        if word.is_told() {
-            stamp = later(stamp, word.line());
-        }
-    }
-    Ok((stamp, left))
+    Ok((last_stamp(port.spoken()), left))
 }
 
 // The same over a disk whose calls of these numbers fail, and those after `stop`.
@@ -113,17 +118,25 @@ fn run<R: AllocGlobal + Wait>(
 
 // The stamp of the file in an image: 0 where it is not there or was never stored; None where the image is refused.
 fn stamp_in(alloc: Global, image: Vec<u8>) -> Result<Option<u64>, AllocError> {
-    let disk = MemDisk::make(alloc, image, Vec::new(alloc), None, 64, 64)?;
-    let Ok(found) = recover(alloc, disk) else {
+    let Some((Change::MakeFile(unit, path, _), _)) = read(alloc, FILE, 0)? else {
         return Ok(None);
     };
-    let Some((Change::MakeFile(unit, path, _), _)) = read(alloc, FILE, 0)? else {
+    let disk = MemDisk::make(alloc, image, Vec::new(alloc), None, 64, 64)?;
+    let Ok(found) = recover(alloc, disk) else {
         return Ok(None);
     };
     Ok(match found.tree.file(&unit, &path) {
         Some(file) => Some(file.stamp),
         None => Some(0),
     })
+}
+
+// Whether a stamp, or a later one, was found.
+fn is_kept(stamp: u64, found: Option<u64>) -> bool {
+    match found {
+        Some(found) => stamp <= found,
+        None => false,
+    }
 }
 
 // Whether what a crash leaves of a disk after so many calls has a stamp, or a later one.
@@ -138,7 +151,8 @@ fn has<R: AllocGlobal>(
         return Ok(false);
     }
     let image = disk.image(rt.alloc(), calls.min(disk.calls()), choice)?;
-    Ok(stamp_in(rt.alloc(), image)?.is_some_and(|found| stamp <= found))
+    let found = stamp_in(rt.alloc(), image)?;
+    Ok(is_kept(stamp, found))
 }
 
 // The same of a disk that stops within a call: the bytes written since the last sync are not there, are there, or are others.
@@ -163,15 +177,20 @@ fn what_is_answered_stands_where_the_disk_stops(rt: HostRuntime) -> Result<(), F
     Ok(())
 }
 
+// Whether the image that a disk has behind a call that failed, and those behind a stop that follows, have what was answered.
+fn keeps<R: AllocGlobal + Wait>(rt: &R, call: u64) -> Result<[bool; 2], AllocError> {
+    let (stamp, disk) = run(rt, &[call], None)?;
+    let left = disk.content().to_vec(rt.alloc())?;
+    let found = stamp_in(rt.alloc(), left)?;
+    let stands = stands(rt, &[call], call.saturating_add(3))?;
+    Ok([is_kept(stamp, found), stands])
+}
+
 #[test]
 fn what_is_answered_stands_where_a_call_fails(rt: HostRuntime) -> Result<(), Fail> {
     let (_, whole) = run(&rt, &[], None)?;
     for call in 1..whole.calls() {
-        let (stamp, disk) = run(&rt, &[call], None)?;
-        let left = disk.content().to_vec(rt.alloc())?;
-        let found = stamp_in(rt.alloc(), left)?;
-        assert!(rt; found.is_some_and(|found| stamp <= found), "{call}");
-        assert!(rt; stands(&rt, &[call], call.saturating_add(3))?, "{call}");
+        assert_eq!(rt; keeps(&rt, call)?, [true; 2], "{call}");
     }
     Ok(())
 }

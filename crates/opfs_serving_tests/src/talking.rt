@@ -94,10 +94,10 @@ pub fn held<R: AllocGlobal + Wait>(
     fails: Vec<u64>,
 ) -> Result<(Vec<u8>, State), AllocError> {
     let alloc = rt.alloc();
+    let disk = image(alloc, SIZES)?;
     let Ok(script) = first_agents(alloc, first) else {
         return Err(AllocError);
     };
-    let disk = image(alloc, SIZES)?;
     let mut port = MemoryPort::<Desk<RamDisk>>::make(alloc, lines, fails);
     let Ok(ServedRun { run, state }) = serve_disk(rt, disk, script.agents(), &mut port) else {
         return Err(AllocError);

@@ -319,93 +319,30 @@ evict https://a.example
 "#,
 };
 
-#[test]
-fn writes(rt: HostRuntime) -> Result<(), Fail> {
-    assert!(rt; is_held(&rt, &WRITES)?);
-    Ok(())
-}
+// All of them, each by what it shows.
+const TALKS: [(&str, &Talk); 15] = [
+    ("a file that one agent writes and another reads", &WRITES),
+    ("no line", &NOTHING),
+    ("an await that is posted later", &WAITS),
+    ("an await of what was posted", &POSTED),
+    ("lines that are refused", &REFUSED),
+    ("an agent that ends", &ENDS),
+    ("what is open at the end", &OPEN),
+    ("an await of an agent alone", &STUCK),
+    ("an await at the end", &STUCK_LAST),
+    ("an await behind the other's end", &STUCK_BY_END),
+    ("two that wait", &BOTH_WAIT),
+    ("a post that wakes two", &TWO_WOKEN),
+    ("two origins", &APART),
+    ("an agent without a key", &NO_KEY),
+    ("an eviction", &EVICTS),
+];
 
 #[test]
-fn nothing(rt: HostRuntime) -> Result<(), Fail> {
-    assert!(rt; is_held(&rt, &NOTHING)?);
-    Ok(())
-}
-
-#[test]
-fn waits(rt: HostRuntime) -> Result<(), Fail> {
-    assert!(rt; is_held(&rt, &WAITS)?);
-    Ok(())
-}
-
-#[test]
-fn posted(rt: HostRuntime) -> Result<(), Fail> {
-    assert!(rt; is_held(&rt, &POSTED)?);
-    Ok(())
-}
-
-#[test]
-fn refused(rt: HostRuntime) -> Result<(), Fail> {
-    assert!(rt; is_held(&rt, &REFUSED)?);
-    Ok(())
-}
-
-#[test]
-fn ends(rt: HostRuntime) -> Result<(), Fail> {
-    assert!(rt; is_held(&rt, &ENDS)?);
-    Ok(())
-}
-
-#[test]
-fn open(rt: HostRuntime) -> Result<(), Fail> {
-    assert!(rt; is_held(&rt, &OPEN)?);
-    Ok(())
-}
-
-#[test]
-fn stuck(rt: HostRuntime) -> Result<(), Fail> {
-    assert!(rt; is_held(&rt, &STUCK)?);
-    Ok(())
-}
-
-#[test]
-fn stuck_last(rt: HostRuntime) -> Result<(), Fail> {
-    assert!(rt; is_held(&rt, &STUCK_LAST)?);
-    Ok(())
-}
-
-#[test]
-fn stuck_by_end(rt: HostRuntime) -> Result<(), Fail> {
-    assert!(rt; is_held(&rt, &STUCK_BY_END)?);
-    Ok(())
-}
-
-#[test]
-fn both_wait(rt: HostRuntime) -> Result<(), Fail> {
-    assert!(rt; is_held(&rt, &BOTH_WAIT)?);
-    Ok(())
-}
-
-#[test]
-fn two_woken(rt: HostRuntime) -> Result<(), Fail> {
-    assert!(rt; is_held(&rt, &TWO_WOKEN)?);
-    Ok(())
-}
-
-#[test]
-fn apart(rt: HostRuntime) -> Result<(), Fail> {
-    assert!(rt; is_held(&rt, &APART)?);
-    Ok(())
-}
-
-#[test]
-fn no_key(rt: HostRuntime) -> Result<(), Fail> {
-    assert!(rt; is_held(&rt, &NO_KEY)?);
-    Ok(())
-}
-
-#[test]
-fn evicts(rt: HostRuntime) -> Result<(), Fail> {
-    assert!(rt; is_held(&rt, &EVICTS)?);
+fn each_conversation_is_held_word_by_word(rt: HostRuntime) -> Result<(), Fail> {
+    for (what, talk) in TALKS {
+        assert!(rt; is_held(&rt, talk)?, "{what}");
+    }
     Ok(())
 }
 
