@@ -1,8 +1,16 @@
 //! Tests of the pipe between two agents of a store, over a disk in memory.
-pub mod checks;
-pub mod driving;
-pub mod example;
+#[cfg(test)]
+mod checks;
+#[cfg(test)]
+mod driving;
+#[cfg(test)]
+mod example;
+#[cfg(test)]
 pub mod running;
-pub mod tasks;
+mod task;
+#[cfg(test)]
+mod tasks;
 #[cfg(test)]
 mod tests;
+
+pub use task::Task;

@@ -1,7 +1,7 @@
 -- What the agents do in the tests. This project's own.
 use Rattle.std.specs.Prelude.{◌≤◌}
-use Rattle.opfs_library_tests.specs.declared.pipe.tasks.Task.{Task}
-use Rattle.opfs_library_tests.specs.declared.pipe.tasks.Task.TheVariants as task
+use Rattle.opfs_library_tests.specs.declared.pipe.task.Task.{Task}
+use Rattle.opfs_library_tests.specs.declared.pipe.task.Task.TheVariants as task
 
 -- A task of so few bytes.
 abbrev pub IsTask : Task → Type 0

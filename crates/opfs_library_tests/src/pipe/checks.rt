@@ -3,9 +3,9 @@
 ghost use Rattle.std.specs.Prelude.{◌≡◌, ◌≤◌, true};
 ghost use Rattle.opfs_image.specs.Superblock.{is_in_range};
 
+use crate::pipe::Task;
 use crate::pipe::driving::{run, set_quota};
 use crate::pipe::running::{SIZES, image};
-use crate::pipe::tasks::Task;
 use opfs_base::Bytes;
 use opfs_image::Geometry;
 use opfs_turns::Stop;

@@ -7,8 +7,9 @@ ghost use Rattle.opfs_hall.specs.Seen.{new_pass};
 ghost use Rattle.opfs_library_tests.specs.Pipe.Tasks.{IsTask};
 ghost use Rattle.opfs_notebook.specs.Ready.{IsIdle, asks};
 
+use crate::pipe::Task;
 use crate::pipe::running::desk_of;
-use crate::pipe::tasks::{Task, perform};
+use crate::pipe::tasks::perform;
 use opfs_base::Bytes;
 use opfs_desk::Desk;
 use opfs_notebook::agents::{Meeting, Starter, meet, part, starters};

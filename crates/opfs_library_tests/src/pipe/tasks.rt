@@ -5,6 +5,7 @@ ghost use Rattle.opfs_turns.specs.Asking.Rows.{HasStream};
 ghost use Rattle.opfs_library_tests.specs.Pipe.Tasks.{IsTask};
 ghost use Rattle.opfs_notebook.specs.Ready.{Goes, HasMade, IsIdle, IsMine, IsReady};
 
+use crate::pipe::Task;
 use crate::pipe::example::{
     Parcel, deliver, give_up, read_file, save, send, snapshot, target_of, write_file,
 };
@@ -19,17 +20,6 @@ use opfs_store::Store;
 use opfs_turns::Stop;
 use std::sync::Wait;
 use std::thread::Threads;
-
-/// What the agents do.
-#[derive(Clone, Copy)]
-pub enum Task {
-    /// The reader makes its file of so many zeros and so many bytes `A`, and gives its bytes.
-    Write(u64, u64),
-    /// It sends a range of it to the writer's file, whose bytes are given then.
-    Send(u64, u64),
-    /// The same with a range that the quota of one block refuses: the writer keeps what was written.
-    Refuse(u64, u64),
-}
 
 // Makes the reader's file.
 fn write<S: Store, R: Wait>(
